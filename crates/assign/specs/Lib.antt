@@ -1,0 +1,5 @@
+pub mod Sets
+pub mod SetLemmas
+pub mod Assignment
+pub mod Cells
+pub mod Events

@@ -1,0 +1,13 @@
+//! Variables, the values that a question gives them, and the events that a session records.
+//!
+//! A `VarSet` is seen as the strictly rising list of its members, each below 128. A `Partial` is seen as a list of
+//! options, one for each variable in vocabulary order. No call takes memory.
+#![tactic(auto)]
+
+mod assignment;
+mod events;
+mod sets;
+
+pub use assignment::{MOST_VARIABLES, Partial};
+pub use events::{Event, Plan};
+pub use sets::VarSet;

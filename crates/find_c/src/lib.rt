@@ -1,0 +1,2 @@
+//! Telling the relations on a scope apart by questions about single tuples.
+#![tactic(auto)]

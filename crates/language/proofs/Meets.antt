@@ -1,0 +1,86 @@
+-- The intersection of two candidates on a scope is a candidate there.
+use Rattle.std.proofs.Common.{◌≡◌, ℕ, zero, suc, Bool, true, false, ◌||◌, ◌&&◌, not, List, [], ◌∷◌, ◌++◌, length, refl, sym, ◌∙◌, ap, subst}
+use Rattle.std.specs.Prelude.{Contains, slice_index_or}
+use Rattle.std.proofs.lemmas.List.Elements.{All-append, All-cons}
+use Rattle.std.proofs.lemmas.List.{get_or_default}
+use Rattle.language.specs.declared.candidates.Candidate.{Candidate}
+use Rattle.assign.specs.Assignment.{covers, tuple_on}
+use Rattle.rel_table.specs.Relation.{Relation, place, meet, meet_all, IsIntersection}
+use Rattle.language.specs.Language.{Language, IsLanguage, IsCandidate, relations_of}
+use Rattle.language.specs.Laws.{IsMeetOf, CandidatesAreClosed}
+
+pub meet_at : (r q : Relation) (k : ℕ) → slice_index_or (meet r q) k false ≡ (slice_index_or r k false && slice_index_or q k false)
+meet_at [] q k = refl
+meet_at (x ∷ r) [] zero = no x
+  where
+    no : (b : Bool) → false ≡ (b && false)
+    no true = refl
+    no false = refl
+meet_at (x ∷ r) [] (suc k) = no (slice_index_or r k false)
+  where
+    no : (b : Bool) → false ≡ (b && false)
+    no true = refl
+    no false = refl
+meet_at (x ∷ r) (y ∷ q) zero = refl
+meet_at (x ∷ r) (y ∷ q) (suc k) = meet_at r q k
+
+and_assoc : (a b c : Bool) → ((a && b) && c) ≡ (a && (b && c))
+and_assoc true b c = refl
+and_assoc false b c = refl
+
+pub meet_assoc : (r q s : Relation) → meet (meet r q) s ≡ meet r (meet q s)
+meet_assoc [] q s = refl
+meet_assoc (x ∷ r) [] s = refl
+meet_assoc (x ∷ r) (y ∷ q) [] = refl
+meet_assoc (x ∷ r) (y ∷ q) (z ∷ s) = λ i. and_assoc x y z i ∷ meet_assoc r q s i
+
+meet_all-meet : (r q : Relation) (more : List Relation) → meet_all (meet r q) more ≡ meet r (meet_all q more)
+meet_all-meet r q [] = refl
+meet_all-meet r q (s ∷ more) = ap (λ x. meet_all x more) (meet_assoc r q s) ∙ meet_all-meet r (meet q s) more
+
+meet_all-append : (r q : Relation) (more others : List Relation) → meet_all r (more ++ q ∷ others) ≡ meet (meet_all r more) (meet_all q others)
+meet_all-append r q [] others = meet_all-meet r q others
+meet_all-append r q (s ∷ more) others = meet_all-append (meet r s) q more others
+
+-- two intersections meet in an intersection
+pub intersections_meet : (file : List Relation) (r q : Relation) → IsIntersection file r → IsIntersection file q → IsIntersection file (meet r q)
+intersections_meet file r q a b = record {
+  first = a.first;
+  more = a.more ++ b.first ∷ b.more;
+  first_given = a.first_given;
+  more_given = All-append (Contains file) a.more (b.first ∷ b.more) a.more_given (All-cons (Contains file) b.first b.more b.first_given b.more_given);
+  is = (λ i. meet (a.is i) (b.is i)) ∙ sym (meet_all-append a.first b.first a.more b.more);
+}
+
+cut : (g a b : Bool) → (g && not (a && b)) ≡ ((g && not a) || (g && not b))
+cut true true b = refl
+cut true false b = refl
+cut false a b = refl
+
+-- two relations of a scope by their numbers
+on_one_scope : (l : Language) → IsLanguage l → (s r q : ℕ) →
+    IsCandidate l (record { scope = s; rel = r }) → IsCandidate l (record { scope = s; rel = q }) →
+    (m : Candidate) × IsMeetOf l (record { scope = s; rel = r }) (record { scope = s; rel = q }) m
+on_one_scope l lawful s r q c d =
+    let scope : List ℕ = slice_index_or l.scopes s [] in
+    let rels : List Relation = relations_of l (length scope) in
+    let is_scope = lawful.scopes s [] c.scope in
+    let closing = lawful.closed (length scope) is_scope.not_empty is_scope.short in
+    let met = closing.every _ (intersections_meet _ _ _ (closing.each r [] c.rel) (closing.each q [] d.rel)) in
+    let is : slice_index_or rels met.0 [] ≡ meet (slice_index_or rels r []) (slice_index_or rels q []) =
+    get_or_default rels met.0 [] _ met.1 ∙ met.2 in (
+      record { scope = s; rel = met.0 },
+      record {
+        candidate = record { scope = c.scope; rel = met.1 };
+        scope = refl;
+        is = λ e.
+            let p : ℕ = place l.value_count (tuple_on e scope) in
+            ap (λ b. covers e scope && not b) (ap (λ x. slice_index_or x p false) is ∙ meet_at (slice_index_or rels r []) (slice_index_or rels q []) p)
+            ∙ cut (covers e scope) (slice_index_or (slice_index_or rels r []) p false) (slice_index_or (slice_index_or rels q []) p false);
+      },
+    )
+
+pub closed_candidates : CandidatesAreClosed
+closed_candidates l lawful c d is_c is_d same =
+    subst (λ (s : ℕ). IsCandidate l (record { scope = s; rel = d.rel }) → (m : Candidate) × IsMeetOf l c (record { scope = s; rel = d.rel }) m)
+    same (on_one_scope l lawful c.scope c.rel d.rel is_c) is_d

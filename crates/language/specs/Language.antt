@@ -1,0 +1,134 @@
+-- The language: the variables, the values, the scopes and the relations that a network may use.
+use Rattle.std.specs.Prelude.{ℕ, ℤ, pos, negsuc, ◌+ℤ◌, ◌≤ℤ◌, ◌-◌, ◌^◌, ◌<◌, ◌≤◌, ◌≡◌, ◌≢◌, Bool, true, not, ◌&&◌, IsTrue, IsFalse, List, [], length, map, filter, All, AllPairs, slice_index_or, ◌==◌, nat_lt, nat_le}
+use Rattle.std.specs.Option.{option_map_or}
+use Rattle.std.specs.List.{flat_map, list_all}
+use Rattle.std.specs.List.Sorted.{IsStrictlyIncreasing}
+use Rattle.assign.specs.Sets.{numbers, is_within}
+use Rattle.assign.specs.Assignment.{Assignment, covers, tuple_on, is_complete, IsAssignment}
+use Rattle.rel_table.specs.Relation.{Relation, holds, IsClosing}
+use Rattle.language.specs.declared.candidates.Candidate.{Candidate}
+
+-- a relation of the vocabulary
+pub record Given : Type 0 where
+  pub name : List ℕ
+  pub arity : ℕ
+  pub relation : Relation
+
+pub record Language : Type 0 where
+  pub names : List (List ℕ)
+  pub least_value : ℤ
+  pub value_count : ℕ
+  -- the vocabulary's relations, in its order
+  pub given : List Given
+  pub scopes : List (List ℕ)
+  -- the relations of arity 1, those of arity 2, and so on
+  pub relations : List (List Relation)
+
+-- how many variables there are
+abbrev pub variable_count : Language → ℕ
+variable_count l = length l.names
+
+-- the vocabulary's relations of an arity
+abbrev pub given_of : Language → ℕ → List Given
+given_of l arity = filter (λ (g : Given). g.arity == arity) l.given
+
+-- the relations of an arity
+abbrev pub relations_of : Language → ℕ → List Relation
+relations_of l arity = slice_index_or l.relations (arity - 1) []
+
+-- the variables of the scope of this number
+abbrev pub scope_at : Language → ℕ → List ℕ
+scope_at l s = slice_index_or l.scopes s []
+
+-- the relations on the scope of this number
+abbrev pub relations_on : Language → ℕ → List Relation
+relations_on l s = relations_of l (length (scope_at l s))
+
+-- a candidate's variables, and its relation
+abbrev pub scope_of : Language → Candidate → List ℕ
+scope_of l c = slice_index_or l.scopes c.scope []
+
+abbrev pub relation_of : Language → Candidate → Relation
+relation_of l c = slice_index_or (relations_of l (length (scope_of l c))) c.rel []
+
+-- all candidates on the scope of this number, by relation
+abbrev pub candidates_on : Language → ℕ → List Candidate
+candidates_on l s = map (λ r. record { scope = s; rel = r }) (numbers (length (relations_of l (length (slice_index_or l.scopes s [])))))
+
+-- all candidates, by scope and then by relation
+abbrev pub candidates : Language → List Candidate
+candidates l = flat_map (candidates_on l) (numbers (length l.scopes))
+
+-- the numbers are those of a scope and of a relation of its arity
+pub record IsCandidate (l : Language) (c : Candidate) : Type 0 where
+  pub scope : c.scope < length l.scopes
+  pub rel : c.rel < length (relations_of l (length (scope_of l c)))
+
+-- the scope lies within the assigned variables, and the relation is false at the tuple there
+abbrev pub violates : Language → Candidate → Assignment → Bool
+violates l c e = covers e (scope_of l c) && not (holds l.value_count (relation_of l c) (tuple_on e (scope_of l c)))
+
+-- no candidate of the network is violated
+abbrev pub accepts : Language → List Candidate → Assignment → Bool
+accepts l network e = list_all (λ c. not (violates l c e)) network
+
+-- a byte that a name may have: visible, and neither `=` nor `&`
+abbrev pub is_name_byte : ℕ → Bool
+is_name_byte b = nat_le 33 b && nat_le b 126 && not (b == 61) && not (b == 38)
+
+-- 1 to 64 such bytes
+abbrev pub is_name : List ℕ → Bool
+is_name name = nat_le 1 (length name) && nat_le (length name) 64 && list_all is_name_byte name
+
+-- names of this form, no two of them equal
+pub record AreNames (names : List (List ℕ)) : Type 0 where
+  pub formed : IsTrue (list_all is_name names)
+  pub apart : AllPairs (λ a b. a ≢ b) names
+
+-- a scope of 1 to 4 variables of n, rising
+pub record IsScope (n : ℕ) (scope : List ℕ) : Type 0 where
+  pub rising : IsStrictlyIncreasing scope
+  pub not_empty : 1 ≤ length scope
+  pub short : length scope ≤ 4
+  pub known : All (λ v. v < n) scope
+
+-- neither lies within the other
+pub record AreApart (s u : List ℕ) : Type 0 where
+  pub left : IsFalse (is_within s u)
+  pub right : IsFalse (is_within u s)
+
+-- The relations of each arity are the intersections of the vocabulary's, and the scopes are apart.
+pub record IsLanguage (l : Language) : Type 0 where
+  pub some_variable : 1 ≤ length l.names
+  pub few_variables : length l.names ≤ 128
+  pub names : AreNames l.names
+  pub some_value : 1 ≤ l.value_count
+  pub few_values : l.value_count ≤ 64
+  pub low : negsuc 999999 ≤ℤ l.least_value
+  pub high : (l.least_value +ℤ pos l.value_count) ≤ℤ pos 1000001
+  pub relation_names : AreNames (map (λ (g : Given). g.name) l.given)
+  pub given_sized : All (λ (g : Given). length g.relation ≡ l.value_count ^ g.arity) l.given
+  pub few_scopes : length l.scopes ≤ 8192
+  pub scopes : All (IsScope (length l.names)) l.scopes
+  pub apart : AllPairs AreApart l.scopes
+  pub closed : (arity : ℕ) → 1 ≤ arity → arity ≤ 4 → IsClosing (map (λ (g : Given). g.relation) (given_of l arity)) (relations_of l arity)
+  pub sized : (arity : ℕ) → 1 ≤ arity → arity ≤ 4 → All (λ r. length r ≡ l.value_count ^ arity) (relations_of l arity)
+  pub few_relations : (arity : ℕ) → 1 ≤ arity → arity ≤ 4 → length (relations_of l arity) ≤ 64
+  pub small : All (λ scope. l.value_count ^ length scope ≤ 65536) l.scopes
+  pub used : All (λ scope. 1 ≤ length (relations_of l (length scope))) l.scopes
+
+-- an assignment of the language's variables to its values
+abbrev pub IsQuestion : Language → Assignment → Type 0
+IsQuestion l e = IsAssignment (variable_count l) l.value_count e
+
+-- whether it is one
+abbrev pub is_question : Language → Assignment → Bool
+is_question l e = (length e == variable_count l) && list_all (λ o. option_map_or (λ x. nat_lt x l.value_count) o true) e
+
+-- the same solutions: each complete assignment is accepted by both or by neither
+abbrev pub HasSameSolutions : Language → List Candidate → List Candidate → Type 0
+HasSameSolutions l network other = (e : Assignment) → IsQuestion l e → IsTrue (is_complete e) → accepts l network e ≡ accepts l other e
+
+-- each solution of the network satisfies the candidate
+abbrev pub IsImplied : Language → List Candidate → Candidate → Type 0
+IsImplied l network c = (e : Assignment) → IsQuestion l e → IsTrue (is_complete e) → IsTrue (accepts l network e) → IsFalse (violates l c e)

@@ -1,0 +1,26 @@
+-- Laws over the definitions alone.
+use Rattle.std.specs.Prelude.{◌≡◌, ◌||◌, List}
+use Rattle.language.specs.declared.candidates.Candidate.{Candidate}
+use Rattle.assign.specs.Assignment.{Assignment}
+use Rattle.language.specs.Language.{Language, IsLanguage, IsCandidate, violates}
+use Rattle.assign.specs.Events.{Answer}
+use Rattle.language.specs.Answers.{IsNetwork, IsCovered, IsConverged}
+
+-- a candidate that is violated wherever one of two is
+pub record IsMeetOf (l : Language) (c d m : Candidate) : Type 0 where
+  pub candidate : IsCandidate l m
+  pub scope : m.scope ≡ c.scope
+  pub is : (e : Assignment) → violates l m e ≡ (violates l c e || violates l d e)
+
+-- two candidates on one scope have an intersection among the candidates there
+abbrev pub HasMeets : Language → Type 0
+HasMeets l = (c d : Candidate) → IsCandidate l c → IsCandidate l d → c.scope ≡ d.scope → (m : Candidate) × IsMeetOf l c d m
+
+abbrev pub CandidatesAreClosed : Type 0
+CandidatesAreClosed = (l : Language) → IsLanguage l → HasMeets l
+
+-- a covered network is the one that the answers converge on
+abbrev pub CoveredIsConverged : Type 0
+CoveredIsConverged =
+    (l : Language) (network : List Candidate) (t : List Answer) →
+    IsLanguage l → IsNetwork l network → IsCovered l network t → IsConverged l network t

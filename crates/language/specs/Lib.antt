@@ -1,0 +1,6 @@
+pub mod Language
+pub mod Answers
+pub mod Search
+pub mod Laws
+pub mod Texts
+pub mod Inside

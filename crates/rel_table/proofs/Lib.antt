@@ -1,0 +1,5 @@
+pub mod Powers
+pub mod Meets
+pub mod Same
+pub mod Marking
+pub mod Tables

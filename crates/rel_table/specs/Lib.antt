@@ -1,0 +1,4 @@
+pub mod Relation
+pub mod Table
+pub mod Inside
+pub mod Made

@@ -1,0 +1,6 @@
+//! Relations as tables: a truth value for each tuple.
+#![tactic(auto)]
+
+mod table;
+
+pub use table::{MOST_PLACES, Memory, Table, TableFault, place_of, table_size};

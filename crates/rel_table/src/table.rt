@@ -1,0 +1,324 @@
+ghost use Rattle.std.specs.Prelude.{◌≡◌, ℕ, ◌+◌, ◌-◌, ◌*◌, ◌^◌, ◌<◌, ◌≤◌, ◌≢◌, ◌↔◌, ℤ, pos, negsuc, ◌≤ℤ◌, ◌<ℤ◌, ◌+ℤ◌, length, replicate, map, IsTrue, IfOk, IfErr, OnOk, OnErr, MatchResult, slice_index, slice_index_or, Option, Some, None, Ok, Err, Bool, false, true, if◌then◌else◌, All, vec_len};
+ghost use Rattle.std.specs.List.{list_any, list_all, zip};
+ghost use Rattle.rel_table.specs.Relation.{place, holds, meet};
+ghost use Rattle.rel_table.specs.Table.{truth_at, IsTable};
+ghost use Rattle.rel_table.specs.Made.{arity_of, size_for, size_of, is_shown, index_of, place_of_shown, tuple_fault, first_fault, refusal_of, IsMade, Marks, lists};
+
+use std::alloc::{AllocError, Global};
+use std::marker::Model;
+
+/// Want of memory.
+#[derive(Clone, Copy, Debug, PartialEq, Eq)]
+pub struct Memory;
+
+/// Why no table was made.
+#[derive(Clone, Copy, Debug, PartialEq, Eq)]
+pub enum TableFault {
+    BadArity,
+    TupleLength(u32),
+    ValueOut(u32),
+    TooLarge,
+    Memory,
+}
+
+/// The most places that a table has.
+pub const MOST_PLACES: u32 = 65536;
+
+/// An arity of 1 to 4.
+fn small_arity(arity: i64) -> Option<u8>
+    ensures { result ≡ arity_of arity }
+{
+    match arity {
+        1 => Some(1),
+        2 => Some(2),
+        3 => Some(3),
+        4 => Some(4),
+        _ => None,
+    }
+}
+
+/// The number of tuples of this length over d values, where it is small enough.
+fn power(d: u32, a: u8) -> Result<u32, TableFault>
+    ensures is { result ≡ size_for (Some a) d }
+    ensures size { IfOk result (λ size. size ≡ d ^ a) }
+    ensures fits { IfOk result (λ size. size ≤ 65536) }
+{
+    let mut size = 1u64;
+    for _ in 0..a {
+        size *= u64::from(d);
+        if size > 65536 {
+            return Err(TableFault::TooLarge);
+        }
+    }
+    Ok(size as u32)
+}
+
+/// The number of tuples of this arity over d values.
+pub fn table_size(arity: i64, d: u32) -> Result<u32, TableFault>
+    ensures { result ≡ size_of arity d }
+{
+    match small_arity(arity) {
+        Some(a) => power(d, a),
+        None => Err(TableFault::BadArity),
+    }
+}
+
+/// The place of a tuple, where its values are below d.
+pub fn place_of(d: u8, tuple: &[u8]) -> usize
+    requires values { All (λ x. x < d) tuple.now }
+    requires fits { d ^ length tuple.now ≤ 65536 }
+    requires some { 1 ≤ d }
+    ensures is { result ≡ place d tuple.now }
+    ensures below { result < d ^ length tuple.now }
+{
+    let mut place = 0usize;
+    for x in tuple {
+        place = place * d as usize + *x as usize;
+    }
+    place
+}
+
+/// A relation: a truth value for each tuple.
+#[derive(Drop)]
+pub struct Table {
+    arity: u8,
+    value_count: u8,
+    truth: Vec<bool>,
+}
+
+impl Model for Table {
+    ghost use Rattle.rel_table.specs.Table.{TruthTable};
+
+    ghost Value = { TruthTable };
+
+    ghost use Rattle.rel_table.specs.Inside.{seen, IsSound};
+
+    ghost view = { seen };
+
+    ghost invariant = { IsSound };
+}
+
+impl Table {
+    /// The relation that accepts exactly these tuples of shown values.
+    pub fn from_tuples(
+        alloc: Global,
+        arity: i64,
+        lo: i64,
+        d: u32,
+        tuples: &[Vec<i64>],
+    ) -> Result<Table, TableFault>
+        requires values { 1 ≤ d }
+        requires few_values { d ≤ 64 }
+        requires low { negsuc 999999 ≤ℤ lo }
+        requires high { lo ≤ℤ pos 1000000 }
+        requires few { length tuples.now < 2 ^ 32 }
+        ensures made { IfOk result (λ t. IsMade arity lo d (lists tuples.now) t) }
+        ensures refused { IfErr result (λ e. e ≢ TableFault.Memory → refusal_of arity lo d (lists tuples.now) ≡ Some e) }
+    {
+        let Some(a) = small_arity(arity) else {
+            return Err(TableFault::BadArity);
+        };
+        let size = power(d, a)?;
+        let Ok(truth) = all_false(alloc, size) else {
+            return Err(TableFault::Memory);
+        };
+        match mark_all(a, lo, d, tuples, truth) {
+            Err(fault) => Err(fault),
+            Ok(truth) => Ok(Table {
+                arity: a,
+                value_count: d as u8,
+                truth,
+            }),
+        }
+    }
+
+    pub fn arity(&self) -> u8
+        ensures is { result ≡ self.now.arity }
+        ensures lawful { IsTable self.now }
+    {
+        self.arity
+    }
+
+    pub fn value_count(&self) -> u8
+        ensures is { result ≡ self.now.value_count }
+        ensures lawful { IsTable self.now }
+    {
+        self.value_count
+    }
+
+    pub fn size(&self) -> u32
+        ensures is { result ≡ length self.now.truth }
+        ensures lawful { IsTable self.now }
+    {
+        self.truth.len() as u32
+    }
+
+    pub fn at(&self, place: u32) -> bool
+        requires { place < length self.now.truth }
+        ensures { result ≡ truth_at self.now place }
+    {
+        self.truth[place as usize]
+    }
+
+    pub fn accepts(&self, tuple: &[u8]) -> bool
+        requires long { length tuple.now ≡ self.now.arity }
+        requires values { All (λ x. x < self.now.value_count) tuple.now }
+        ensures { result ≡ holds self.now.value_count self.now.truth tuple.now }
+    {
+        self.truth[place_of(self.value_count, tuple)]
+    }
+
+    pub fn equals(&self, o: &Table) -> bool
+        ensures { IsTrue result ↔ (self.now ≡ o.now) }
+    {
+        if self.arity != o.arity || self.value_count != o.value_count {
+            return false;
+        }
+        self.truth == o.truth
+    }
+
+    /// The intersection.
+    pub fn meet(&self, alloc: Global, o: &Table) -> Result<Table, Memory>
+        requires arity { self.now.arity ≡ o.now.arity }
+        requires values { self.now.value_count ≡ o.now.value_count }
+        ensures arity { IfOk result (λ t. t.arity ≡ self.now.arity) }
+        ensures values { IfOk result (λ t. t.value_count ≡ self.now.value_count) }
+        ensures truth { IfOk result (λ t. t.truth ≡ meet self.now.truth o.now.truth) }
+    {
+        let Ok(truth) = meet_of(alloc, &self.truth, &o.truth) else {
+            return Err(Memory);
+        };
+        Ok(Table {
+            arity: self.arity,
+            value_count: self.value_count,
+            truth,
+        })
+    }
+
+    /// Whether each tuple that this relation accepts is accepted by the other.
+    pub fn within(&self, o: &Table) -> bool
+        ensures { result ≡ list_all (λ (p : Bool × Bool). if p.0 then p.1 else true) (zip self.now.truth o.now.truth) }
+    {
+        self.truth
+            .iter()
+            .zip(o.truth.iter())
+            .all(|(a, b)| if *a { *b } else { true })
+    }
+}
+
+/// Whether a shown value is in the domain.
+fn is_shown(lo: i64, d: u32, x: i64) -> bool
+    requires small { d ≤ 64 }
+    requires low { negsuc 999999 ≤ℤ lo }
+    requires high { lo ≤ℤ pos 1000000 }
+    ensures { result ≡ is_shown lo d x }
+{
+    lo <= x && x < lo + i64::from(d)
+}
+
+/// The number of a shown value.
+fn index_of(lo: i64, d: u32, x: i64) -> usize
+    requires small { d ≤ 64 }
+    requires low { negsuc 999999 ≤ℤ lo }
+    requires high { lo ≤ℤ pos 1000000 }
+    requires shown { is_shown lo d x ≡ true }
+    ensures is { result ≡ index_of lo x }
+    ensures below { result < d }
+{
+    (x - lo) as usize
+}
+
+/// Whether each shown value is in the domain.
+fn are_shown(lo: i64, d: u32, tuple: &[i64]) -> bool
+    requires small { d ≤ 64 }
+    requires low { negsuc 999999 ≤ℤ lo }
+    requires high { lo ≤ℤ pos 1000000 }
+    ensures { result ≡ list_all (is_shown lo d) tuple.now }
+{
+    tuple.iter().all(|x| is_shown(lo, d, *x))
+}
+
+/// What is wrong with tuple i.
+fn fault_of(a: u8, lo: i64, d: u32, i: u32, tuple: &[i64]) -> Option<TableFault>
+    requires small { d ≤ 64 }
+    requires low { negsuc 999999 ≤ℤ lo }
+    requires high { lo ≤ℤ pos 1000000 }
+    ensures { result ≡ tuple_fault a lo d i tuple.now }
+{
+    if tuple.len() != a as usize {
+        return Some(TableFault::TupleLength(i));
+    }
+    if are_shown(lo, d, tuple) {
+        None
+    } else {
+        Some(TableFault::ValueOut(i))
+    }
+}
+
+fn all_false(alloc: Global, size: u32) -> Result<Vec<bool>, AllocError>
+    ensures { IfOk result (λ v. v.items ≡ replicate size false) }
+{
+    vec![in alloc; false; size as usize]
+}
+
+/// The place of a tuple of shown values.
+fn place_of_shown(lo: i64, d: u32, tuple: &[i64]) -> usize
+    requires low { negsuc 999999 ≤ℤ lo }
+    requires high { lo ≤ℤ pos 1000000 }
+    requires some { 1 ≤ d }
+    requires small { d ≤ 64 }
+    requires values { list_all (is_shown lo d) tuple.now ≡ true }
+    requires fits { d ^ length tuple.now ≤ 65536 }
+    ensures is { result ≡ place_of_shown lo d tuple.now }
+    ensures below { result < d ^ length tuple.now }
+{
+    let mut place = 0usize;
+    for x in tuple {
+        place = place * d as usize + index_of(lo, d, *x);
+    }
+    place
+}
+
+/// Marks the place of each tuple, up to the first that is wrong.
+fn mark_all(
+    a: u8,
+    lo: i64,
+    d: u32,
+    tuples: &[Vec<i64>],
+    mut truth: Vec<bool>,
+) -> Result<Vec<bool>, TableFault>
+    requires low { negsuc 999999 ≤ℤ lo }
+    requires high { lo ≤ℤ pos 1000000 }
+    requires some { 1 ≤ d }
+    requires small { d ≤ 64 }
+    requires few { length tuples.now < 2 ^ 32 }
+    requires size { length truth.items ≡ d ^ a }
+    requires fits { length truth.items ≤ 65536 }
+    requires blank { truth.items ≡ replicate (length truth.items) false }
+    ensures right { OnOk result (first_fault a lo d 0 (lists tuples.now) ≡ None) }
+    ensures size { IfOk result (λ v. length v.items ≡ d ^ a) }
+    ensures marks { IfOk result (λ v. Marks lo d (lists tuples.now) v.items) }
+    ensures fault { IfErr result (λ e. first_fault a lo d 0 (lists tuples.now) ≡ Some e) }
+{
+    for (i, tuple) in tuples.iter().enumerate() {
+        if let Some(fault) = fault_of(a, lo, d, i as u32, tuple) {
+            return Err(fault);
+        }
+        let place = place_of_shown(lo, d, tuple);
+        truth[place] = true;
+    }
+    Ok(truth)
+}
+
+/// The places that both accept.
+fn meet_of(alloc: Global, a: &[bool], b: &[bool]) -> Result<Vec<bool>, AllocError>
+    requires { length a.now ≡ length b.now }
+    ensures is { IfOk result (λ v. v.items ≡ meet a.now b.now) }
+    ensures len { IfOk result (λ v. vec_len v ≡ length a.now) }
+{
+    let mut truth = Vec::new(alloc);
+    for i in 0..a.len() {
+        truth.push(a[i] && b[i])?;
+    }
+    Ok(truth)
+}

@@ -1,0 +1,4 @@
+pub mod Walk
+pub mod Session
+pub mod Bound
+pub mod Laws

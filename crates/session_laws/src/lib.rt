@@ -1,0 +1,2 @@
+//! A session as a fold over its answers, and the laws of it.
+#![tactic(auto)]
