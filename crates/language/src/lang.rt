@@ -1,7 +1,7 @@
-ghost use Rattle.std.specs.Prelude.{◌≡◌, ◌<◌, ◌≤◌, length};
-ghost use Rattle.language.specs.Language.{variable_count, scope_at, relations_on, IsLanguage};
+ghost use Rattle.std.specs.Prelude.{◌≡◌, ◌<◌, ◌≤◌, ◌^◌, length, slice_index_or, []};
+ghost use Rattle.language.specs.Language.{variable_count, scope_at, relations_on, violates, IsLanguage, IsScope, IsCandidate, IsQuestion};
 
-use crate::candidates::ScopeId;
+use crate::candidates::{Candidate, ScopeId};
 use crate::parts::RelPart;
 use rel_table::Table;
 use std::marker::Model;
@@ -62,5 +62,38 @@ impl Language {
         ensures lawful { IsLanguage self.now }
     {
         self.scopes.len() as u32
+    }
+
+    /// The variables of a scope, strictly rising.
+    pub fn scope(&self, s: ScopeId) -> &[u8]
+        requires { s < length self.now.scopes }
+        ensures is { result.now ≡ scope_at self.now s }
+        ensures scope { IsScope (variable_count self.now) result.now }
+    {
+        let scope = &self.scopes[s as usize];
+        &scope.variables[..scope.size as usize]
+    }
+
+    /// How many relations there are on a scope.
+    pub fn relations_on(&self, s: ScopeId) -> u8
+        requires { s < length self.now.scopes }
+        ensures is { result ≡ length (relations_on self.now s) }
+        ensures few { result ≤ 64 }
+        ensures lawful { IsLanguage self.now }
+    {
+        let arity = self.scope(s).len();
+        self.relations[arity - 1].len() as u8
+    }
+
+    /// Relation r on a scope, as a table.
+    pub fn table_on(&self, s: ScopeId, r: u8) -> &Table
+        requires scope { s < length self.now.scopes }
+        requires rel { r < length (relations_on self.now s) }
+        ensures is { result.now.truth ≡ slice_index_or (relations_on self.now s) r [] }
+        ensures arity { result.now.arity ≡ length (scope_at self.now s) }
+        ensures values { result.now.value_count ≡ self.now.value_count }
+    {
+        let arity = self.scope(s).len();
+        &self.relations[arity - 1][r as usize]
     }
 }
