@@ -1,5 +1,5 @@
 -- The language that the fields stand for.
-use Rattle.std.specs.Prelude.{ℕ, List, map, take, String, string_bytes, Vec}
+use Rattle.std.specs.Prelude.{ℕ, ◌-◌, ◌≤◌, ◌≡◌, List, [], length, map, take, All, slice_index_or, String, string_bytes, Vec}
 use Rattle.std.specs.declared.alloc.Global.{Global}
 use Rattle.rel_table.specs.Table.{TruthTable}
 use Rattle.language.specs.Language.{Language, Given, IsLanguage}
@@ -24,5 +24,20 @@ seen a = record {
   relations = map (λ (tables : Vec TruthTable Global). map (λ (t : TruthTable). t.truth) tables.items) a.relations.items;
 }
 
-abbrev pub IsSound : Inside → Type 0
-IsSound a = IsLanguage (seen a)
+-- a table of this arity over so many values
+pub record IsOfKind (arity d : ℕ) (table : TruthTable) : Type 0 where
+  pub long : table.arity ≡ arity
+  pub values : table.value_count ≡ d
+
+-- the tables are of the arities 1, 2, 3 and 4, in this order
+pub record AreByArity (d : ℕ) (tables : List (List TruthTable)) : Type 0 where
+  pub four : length tables ≡ 4
+  pub kinds : (arity : ℕ) → 1 ≤ arity → arity ≤ 4 → All (IsOfKind arity d) (slice_index_or tables (arity - 1) [])
+
+abbrev pub tables_in : Inside → List (List TruthTable)
+tables_in a = map (λ (tables : Vec TruthTable Global). tables.items) a.relations.items
+
+pub record IsSound (a : Inside) : Type 0 where
+  pub lawful : IsLanguage (seen a)
+  pub short : All (λ (scope : Scope). scope.size ≤ 4) a.scopes.items
+  pub kinds : AreByArity a.value_count (tables_in a)

@@ -4,3 +4,4 @@ pub mod Search
 pub mod Laws
 pub mod Texts
 pub mod Inside
+pub mod Building

@@ -1,4 +1,4 @@
-use rel_table::Table;
+use rel_table::{CloseFault, Table};
 
 /// Why there is no language.
 #[derive(Clone, Copy, Debug, PartialEq, Eq)]
@@ -7,7 +7,9 @@ pub enum LangFault {
     TooManyVariables,
     BadDomain,
     NoRelations,
+    /// The relations of this arity aren't closed under intersection.
     NotClosed(u8),
+    Closing(CloseFault),
     Memory,
 }
 

@@ -3,4 +3,4 @@
 
 mod table;
 
-pub use table::{MOST_PLACES, Memory, Table, TableFault, place_of, table_size};
+pub use table::{CloseFault, MOST_PLACES, Memory, Table, TableFault, place_of, table_size};

@@ -21,6 +21,14 @@ pub enum TableFault {
     Memory,
 }
 
+/// Why relations can't be closed under intersection.
+#[derive(Clone, Copy, Debug, PartialEq, Eq)]
+pub enum CloseFault {
+    /// There are more than 64 intersections of this arity.
+    TooMany(u8),
+    Memory,
+}
+
 /// The most places that a table has.
 pub const MOST_PLACES: u32 = 65536;
 

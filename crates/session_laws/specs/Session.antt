@@ -9,6 +9,7 @@ use Rattle.language.specs.Language.{is_question, Language, variable_count, relat
 use Rattle.assign.specs.Events.{Answer}
 use Rattle.language.specs.Answers.{kept, has_scope}
 use Rattle.find_scope.specs.Halving.{Halved, Wants, Got, halve}
+use Rattle.find_c.specs.Scenes.{scene_of, on_scope, free_choices, violated_choices}
 use Rattle.find_c.specs.Choosing.{Choice, Scene, splitting_tuple, after_reply, remaining}
 use Rattle.session_laws.specs.Walk.{Walk, WalkEnd, Turn, Asks, Ends, next_turn, violates_some}
 
@@ -28,16 +29,6 @@ pub data State : Type 0 where
 abbrev pub MOST_SETS : ℕ
 MOST_SETS = 4096
 
--- what the choices on a scope are about
-abbrev pub scene_of : Language → ℕ → Scene
-scene_of l s =
-    let scope : List ℕ = slice_index_or l.scopes s [] in
-    record { value_count = l.value_count; arity = length scope; relations = relations_of l (length scope) }
-
--- a tuple as an assignment of exactly the scope of this number
-abbrev pub on_scope : Language → ℕ → List ℕ → Assignment
-on_scope l s tuple = assigned (variable_count l) (slice_index_or l.scopes s []) tuple
-
 abbrev pub wanted_set : Halved → Option (List ℕ)
 wanted_set (Wants set) = Some set
 wanted_set (Got set replies) = None
@@ -51,10 +42,6 @@ open_question l (Walking set walk network) = Some (restrict walk.example set)
 open_question l (Over network) = None
 
 -- ---- What a question may be, where none is open
-
--- the kept candidates on a scope, and none
-abbrev pub free_choices : List Candidate → ℕ → List Choice
-free_choices live s = map (λ c. Some c.rel) (filter (λ c. c.scope == s) live) ++ None ∷ []
 
 -- the first scope where nothing is learned and the choices differ
 abbrev pub next_scope : Language → List Candidate → List Candidate → Option ℕ
@@ -96,10 +83,6 @@ chosen l t s choices network walk None = go_on l t (learn network s (remaining c
 -- choices that don't differ any more are at their end
 abbrev pub settle_choices : Language → List Answer → ℕ → List Choice → List Candidate → Option Walk → State
 settle_choices l t s choices network walk = chosen l t s choices network walk (splitting_tuple (scene_of l s) choices)
-
--- the kept candidates on a scope that e violates
-abbrev pub violated_choices : Language → List Candidate → Assignment → ℕ → List Choice
-violated_choices l live e s = map (λ c. Some c.rel) (filter (λ c. (c.scope == s) && violates l c e) live)
 
 abbrev pub begin_choosing : Language → List Answer → ℕ → List Choice → List Candidate → Option Walk → State
 begin_choosing l t s [] network walk = Over network
