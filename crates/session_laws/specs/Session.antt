@@ -43,9 +43,13 @@ open_question l (Over network) = None
 
 -- ---- What a question may be, where none is open
 
--- the first scope where nothing is learned and the choices differ
+-- nothing is learned on a scope, and its choices differ
+abbrev pub is_undecided : Language → List Candidate → List Candidate → ℕ → Bool
+is_undecided l live network s = not (has_scope network s) && is_some (splitting_tuple (scene_of l s) (free_choices live s))
+
+-- the first such scope
 abbrev pub next_scope : Language → List Candidate → List Candidate → Option ℕ
-next_scope l live network = find (λ s. not (has_scope network s) && is_some (splitting_tuple (scene_of l s) (free_choices live s))) (numbers (length l.scopes))
+next_scope l live network = find (is_undecided l live network) (numbers (length l.scopes))
 
 -- the first question of that scope
 abbrev pub scope_question : Language → List Candidate → List Candidate → Option Assignment

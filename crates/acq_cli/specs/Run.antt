@@ -1,0 +1,84 @@
+-- What a run writes, how it ends, which answers stand after it, and what it leaves.
+use Rattle.std.specs.Prelude.{◌≡◌, ℕ, zero, suc, ◌+◌, List, [], ◌∷◌, ◌++◌, length, Bool, Option, Some, None}
+use Rattle.std.specs.Option.{option_map, option_map_or}
+use Rattle.assign.specs.Assignment.{Assignment}
+use Rattle.assign.specs.Events.{Answer}
+use Rattle.assign.specs.declared.events.Plan.TheVariants.{Scopes}
+use Rattle.language.specs.declared.candidates.Candidate.{Candidate}
+use Rattle.language.specs.Language.{Language}
+use Rattle.language.specs.Answers.{kept}
+use Rattle.session_laws.specs.Session.{State, Idle, Halving, Choosing, Walking, Over, Reading, At, Stray, open_question, scope_question, state_after}
+use Rattle.target_oracle.specs.Turns.{Turns, Turned, Reply, Said, Ended, Unread, Heard}
+
+-- how a run ends
+pub data Closing : Type 0 where
+  Converged : Closing
+  Collapsed : Closing
+  Suspended : Closing
+  Unreadable : Closing
+
+-- what comes next in a run
+pub data Next : Type 0 where
+  Puts : Assignment → Next
+  Ends : Closing → Next
+
+abbrev pub puts_or : Closing → Option Assignment → Next
+puts_or closing None = Ends closing
+puts_or closing (Some q) = Puts q
+
+-- what a state has next, in plan Scopes: the first question of the next scope where nothing is open, and else the open one
+abbrev pub next_at : Language → List Answer → State → Next
+next_at l t (Idle network end) = puts_or Converged (scope_question l (kept l t network) network)
+next_at l t (Halving e set replies network walk) = puts_or Collapsed (open_question l (Halving e set replies network walk))
+next_at l t (Choosing s choices network walk) = puts_or Collapsed (open_question l (Choosing s choices network walk))
+next_at l t (Walking set walk network) = puts_or Collapsed (open_question l (Walking set walk network))
+next_at l t (Over network) = Ends Collapsed
+
+abbrev pub next_in : Language → List Answer → Reading → Option Next
+next_in l t (Stray number) = None
+next_in l t (At state) = Some (next_at l t state)
+
+-- what comes next after these answers, if they can be answers
+abbrev pub next_after : Language → List Answer → Option Next
+next_after l t = next_in l t (state_after l Scopes t)
+
+-- what a run has written, how it ended, the answers that stand after it, and the bytes that it left
+pub record Ran : Type 0 where
+  pub text : List ℕ
+  pub closing : Closing
+  pub answers : List Answer
+  pub rest : List ℕ
+
+abbrev pub after_text : List ℕ → Ran → Ran
+after_text text run = record run { text = text ++ run.text }
+
+abbrev pub answer : Assignment → Bool → Answer
+answer q reply = record { question = q; yes = reply }
+
+abbrev pub ended : Closing → List Answer → List ℕ → Ran
+ended closing t rest = record { text = []; closing = closing; answers = t; rest = rest }
+
+-- how it goes on after what was heard
+abbrev pub heard_on : (List Answer → List ℕ → Option Ran) → List Answer → Assignment → List ℕ → Reply → Option Ran
+heard_on again t q rest (Said reply) = again (t ++ answer q reply ∷ []) rest
+heard_on again t q rest Ended = Some (ended Suspended t rest)
+heard_on again t q rest Unread = Some (ended Unreadable t rest)
+
+abbrev pub turned_on : (List Answer → List ℕ → Option Ran) → List Answer → Assignment → Turned → Option Ran
+turned_on again t q turned = option_map (after_text turned.text) (heard_on again t q turned.heard.rest turned.heard.reply)
+
+abbrev pub next_on : (Assignment → Option Ran) → List Answer → List ℕ → Option Next → Option Ran
+next_on put t bytes None = None
+next_on put t bytes (Some (Ends closing)) = Some (ended closing t bytes)
+next_on put t bytes (Some (Puts q)) = put q
+
+-- The run of at most so many turns; none where it takes more. Question number m + 1 comes after m answers.
+unfoldable pub ran : Turns → Language → ℕ → List Answer → List ℕ → Option Ran
+ran turns l zero t bytes = None
+ran turns l (suc count) t bytes =
+    next_on (λ q. turned_on (ran turns l count) t q (turns l (length t + 1) q bytes)) t bytes (next_after l t)
+
+-- the run of some number of turns
+pub record Runs (turns : Turns) (l : Language) (t : List Answer) (bytes : List ℕ) (run : Ran) : Type 0 where
+  pub count : ℕ
+  pub is : ran turns l count t bytes ≡ Some run

@@ -1,0 +1,40 @@
+use voc_read::VocFault;
+
+/// Why the words are refused.
+#[derive(Clone, Copy, Debug, PartialEq, Eq)]
+pub enum UsageFault {
+    /// They are no list of words that the program takes.
+    Words,
+}
+
+/// How the program ended. The number is that of the answers that stand.
+#[derive(Clone, Copy, Debug, PartialEq, Eq)]
+pub enum Ending {
+    /// Each network that agrees with the answers has the solutions of the printed one.
+    Converged(u32),
+    Usage(UsageFault),
+    VocRefused(VocFault),
+    /// The input ended before a whole answer line.
+    Suspended(u32),
+    /// A line is no answer.
+    Unreadable,
+    ReadFault,
+    WriteFault,
+    Memory,
+}
+
+impl Ending {
+    /// The program's exit status.
+    pub fn status(&self) -> u8 {
+        match self {
+            Ending::Converged(_) => 0,
+            Ending::Usage(_) => 1,
+            Ending::VocRefused(_) => 2,
+            Ending::Suspended(_) => 6,
+            Ending::Unreadable => 7,
+            Ending::ReadFault => 8,
+            Ending::WriteFault => 9,
+            Ending::Memory => 11,
+        }
+    }
+}

@@ -1,0 +1,10 @@
+//! The program as one call: the words, the vocabulary and the answers in, the questions and the network out.
+#![tactic(auto)]
+
+mod driving;
+mod ending;
+mod top;
+
+pub use driving::{Drove, drive};
+pub use ending::{Ending, UsageFault};
+pub use top::acquire;

@@ -1,0 +1,28 @@
+-- A session beside its events.
+use Rattle.std.specs.Prelude.{◌≡◌, ◌-◌, ℕ, pos, IsTrue, Bool, List, [], ◌∷◌, ◌++◌, length, replicate, Option, Some, None}
+use Rattle.assign.specs.Sets.{MOST}
+use Rattle.assign.specs.Assignment.{Assignment}
+use Rattle.assign.specs.Events.{Answer}
+use Rattle.assign.specs.declared.events.Event.{Event}
+use Rattle.assign.specs.declared.events.Event.TheVariants as events
+use Rattle.assign.specs.declared.events.Plan.{Plan}
+use Rattle.language.specs.declared.candidates.Candidate.{Candidate}
+use Rattle.language.specs.Language.{Language}
+use Rattle.language.specs.Answers.{kept}
+use Rattle.session_laws.specs.Session.{At, Idle, is_lawful, state_after}
+use Rattle.session_laws.specs.Walk.{WalkEnd}
+
+-- a question as an event holds it: with empty options behind its own
+abbrev pub widened : Assignment → Assignment
+widened q = q ++ replicate (MOST - length q) None
+
+-- the event of an answer
+abbrev pub answer_event : Assignment → Bool → Event
+answer_event q reply = events.Answer (widened q) reply
+
+-- after these answers nothing is open, and the question may be put
+pub record IsLawfulAfter (l : Language) (plan : Plan) (t : List Answer) (q : Assignment) : Type 0 where
+  pub network : List Candidate
+  pub end : Option WalkEnd
+  pub idle : state_after l plan t ≡ At (Idle network end)
+  pub lawful : IsTrue (is_lawful l plan (kept l t network) network q)

@@ -1,0 +1,24 @@
+-- A turn: what is written for a question, and what is heard.
+use Rattle.std.specs.Prelude.{ℕ, Bool, List}
+use Rattle.assign.specs.Assignment.{Assignment}
+use Rattle.language.specs.Language.{Language}
+
+-- what a reply says: an answer, the end of the input, or no answer
+pub data Reply : Type 0 where
+  Said : Bool → Reply
+  Ended : Reply
+  Unread : Reply
+
+-- a reply, and the bytes after it
+pub record Heard : Type 0 where
+  pub reply : Reply
+  pub rest : List ℕ
+
+-- a text, and what is heard after it
+pub record Turned : Type 0 where
+  pub text : List ℕ
+  pub heard : Heard
+
+-- the turn for a question of this number, given the bytes that are left
+abbrev pub Turns : Type 0
+Turns = Language → ℕ → Assignment → List ℕ → Turned
