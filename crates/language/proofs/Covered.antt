@@ -10,7 +10,6 @@ use Rattle.std.proofs.lemmas.Bool.{eqb-true, eq-eqb, cases_eq, cases_order, case
 use Rattle.language.specs.declared.candidates.Candidate.{Candidate}
 use Rattle.assign.specs.Sets.{is_within}
 use Rattle.assign.specs.Assignment.{Assignment, covers, value_of, variables_of, is_complete}
-use Rattle.rel_table.specs.Relation.{Relation}
 use Rattle.language.specs.Language.{Language, IsLanguage, IsCandidate, IsQuestion, IsImplied, scope_of, violates, accepts}
 use Rattle.assign.specs.Events.{Answer}
 use Rattle.language.specs.Answers.{IsNetwork, IsNoOn, IsCovered, has_scope, agrees, is_struck}

@@ -1,3 +1,4 @@
 pub mod Meets
 pub mod Covered
 pub mod Members
+pub mod Fields

@@ -1,9 +1,9 @@
 -- Answers to questions, and what they say of networks.
-use Rattle.std.specs.Prelude.{ℕ, ◌==◌, ◌≡◌, ◌⊎◌, Bool, false, not, ◌&&◌, IsTrue, List, [], ◌∷◌, All, Any, AllPairs, filter}
+use Rattle.std.specs.Prelude.{ℕ, ◌==◌, ◌≡◌, ◌⊎◌, Bool, false, not, ◌&&◌, IsTrue, List, All, Any, AllPairs, filter}
 use Rattle.std.specs.Bool.{beq}
 use Rattle.std.specs.List.{list_any, list_all}
 use Rattle.language.specs.declared.candidates.Candidate.{Candidate}
-use Rattle.assign.specs.Assignment.{Assignment, variables_of}
+use Rattle.assign.specs.Assignment.{variables_of}
 use Rattle.assign.specs.Events.{Answer, standing, cut_to}
 use Rattle.assign.specs.declared.events.Event.{Event}
 use Rattle.language.specs.Language.{Language, variable_count, IsCandidate, candidates, violates, accepts, scope_of, HasSameSolutions, IsImplied}

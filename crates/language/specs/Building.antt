@@ -1,10 +1,10 @@
 -- Which languages can be built, and of what.
-use Rattle.std.specs.Prelude.{ℕ, ℤ, pos, negsuc, ◌+◌, ◌≡◌, Bool, true, false, not, ◌&&◌, List, [], ◌∷◌, length, map, filter, Option, Some, None, if◌then◌else◌, ◌==◌, nat_lt, nat_le, int_le, ◌+ℤ◌, ◌-ℤ◌, unsigned_abs}
+use Rattle.std.specs.Prelude.{ℕ, ℤ, pos, negsuc, ◌+◌, ◌≡◌, Bool, true, false, ◌&&◌, List, [], ◌∷◌, length, map, filter, Option, Some, None, if◌then◌else◌, ◌==◌, nat_lt, nat_le, int_le, ◌-ℤ◌, unsigned_abs}
 use Rattle.std.specs.List.{list_all, list_any, flat_map}
 use Rattle.std.specs.Bool.{beq}
 use Rattle.rel_table.specs.Relation.{Relation, tuples, meet}
 use Rattle.rel_table.specs.declared.table.CloseFault.TheVariants.{TooMany}
-use Rattle.language.specs.Language.{Language, Given, IsLanguage, AreNames}
+use Rattle.language.specs.Language.{Language, Given, IsLanguage}
 use Rattle.language.specs.declared.parts.LangFault.{LangFault}
 use Rattle.language.specs.declared.parts.LangFault.TheVariants.{NoVariables, TooManyVariables, BadDomain, NoRelations, NotClosed, Closing}
 

@@ -1,6 +1,7 @@
 -- The language that the fields stand for.
 use Rattle.std.specs.Prelude.{ℕ, ◌-◌, ◌≤◌, ◌≡◌, List, [], length, map, take, All, slice_index_or, String, string_bytes, Vec}
 use Rattle.std.specs.declared.alloc.Global.{Global}
+use Rattle.rel_table.specs.Relation.{Relation}
 use Rattle.rel_table.specs.Table.{TruthTable}
 use Rattle.language.specs.Language.{Language, Given, IsLanguage}
 use Rattle.language.specs.declared.parts.RelPart.{RelPart}
@@ -14,6 +15,10 @@ given_by part = record { name = string_bytes part.name; arity = part.table.arity
 abbrev pub variables_in : Scope → List ℕ
 variables_in scope = take scope.size scope.variables
 
+-- the relations that tables hold
+abbrev pub truths : Vec TruthTable Global → List Relation
+truths tables = map (λ (t : TruthTable). t.truth) tables.items
+
 abbrev pub seen : Inside → Language
 seen a = record {
   names = map (λ (s : String Global). string_bytes s) a.names.items;
@@ -21,7 +26,7 @@ seen a = record {
   value_count = a.value_count;
   given = map given_by a.given.items;
   scopes = map variables_in a.scopes.items;
-  relations = map (λ (tables : Vec TruthTable Global). map (λ (t : TruthTable). t.truth) tables.items) a.relations.items;
+  relations = map truths a.relations.items;
 }
 
 -- a table of this arity over so many values

@@ -1,6 +1,6 @@
 -- The search for a complete question that the network accepts and that violates a candidate.
-use Rattle.std.specs.Prelude.{ℕ, zero, suc, ◌==◌, Bool, true, false, not, ◌&&◌, List, [], ◌∷◌, ◌++◌, length, map, take, find, filter, filter_map, Option, Some, None, slice_index, slice_index_or, nat_le}
-use Rattle.std.specs.List.{flat_map, list_any, list_all}
+use Rattle.std.specs.Prelude.{ℕ, zero, suc, Bool, not, ◌&&◌, List, [], ◌∷◌, ◌++◌, length, map, filter}
+use Rattle.std.specs.List.{flat_map}
 use Rattle.language.specs.declared.candidates.Candidate.{Candidate}
 use Rattle.assign.specs.Sets.{numbers, has}
 use Rattle.assign.specs.Assignment.{Assignment, assigned, covers, tuple_on}

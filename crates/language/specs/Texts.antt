@@ -1,5 +1,5 @@
 -- The texts of questions and candidates.
-use Rattle.std.specs.Prelude.{ℕ, ℤ, pos, ◌+ℤ◌, Bool, true, not, ◌||◌, List, [], ◌∷◌, ◌++◌, map, filter, Option, Some, None, slice_index_or}
+use Rattle.std.specs.Prelude.{ℕ, ℤ, pos, ◌+ℤ◌, Bool, not, ◌||◌, List, [], ◌∷◌, ◌++◌, map, filter, Option, Some, None, slice_index_or}
 use Rattle.std.specs.List.{list_all, zip, flat_map}
 use Rattle.std.specs.Fmt.{decimal, signed_decimal}
 use Rattle.assign.specs.Assignment.{Assignment}

@@ -1,0 +1,5 @@
+use Rattle.language.proofs.Fields.{scope_here}
+use Rattle.language.proofs.lang.Language.scope.Goals as goal
+
+pub returns-clause-scope : goal.returns-clause-scope
+returns-clause-scope c = scope_here c.self.inside c.self.invariant c.args.self.now c.self.view_is c.args.s c.index-scope.result.now c.requires c.index-scope.ensures
