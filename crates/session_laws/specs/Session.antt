@@ -1,11 +1,11 @@
 -- A session as a fold over its answers.
-use Rattle.std.specs.Prelude.{ℕ, zero, suc, ◌+◌, ◌*◌, ◌==◌, Bool, true, false, not, ◌&&◌, List, [], ◌∷◌, ◌++◌, length, map, find, filter, position, Option, Some, None, is_some, slice_index_or, option_and_then, option_map, if◌then◌else◌}
+use Rattle.std.specs.Prelude.{ℕ, zero, suc, ◌+◌, ◌*◌, Bool, true, false, not, ◌&&◌, List, [], ◌∷◌, ◌++◌, length, find, position, Option, Some, None, is_some, option_and_then, option_map, if◌then◌else◌}
 use Rattle.language.specs.declared.candidates.Candidate.{Candidate}
 use Rattle.assign.specs.declared.events.Plan.{Plan}
 use Rattle.assign.specs.declared.events.Plan.TheVariants.{Scopes, Quacq, Multi}
 use Rattle.assign.specs.Sets.{numbers, is_same}
-use Rattle.assign.specs.Assignment.{Assignment, restrict, is_complete, is_same_assignment, assigned}
-use Rattle.language.specs.Language.{is_question, Language, variable_count, relations_of, violates, accepts}
+use Rattle.assign.specs.Assignment.{Assignment, restrict, is_complete, is_same_assignment}
+use Rattle.language.specs.Language.{is_question, Language, variable_count, accepts}
 use Rattle.assign.specs.Events.{Answer}
 use Rattle.language.specs.Answers.{kept, has_scope}
 use Rattle.find_scope.specs.Halving.{Halved, Wants, Got, halve}

@@ -1,2 +1,4 @@
 //! A session as a fold over its answers, and the laws of it.
 #![tactic(auto)]
+
+pub mod laws;

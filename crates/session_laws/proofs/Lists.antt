@@ -1,0 +1,56 @@
+-- Lists: what some or all of their members pass.
+use Rattle.std.proofs.Common.{◌≡◌, ℕ, zero, suc, ◌+◌, ◌<◌, ◌≤◌, Bool, true, false, cond, ◌||◌, List, [], ◌∷◌, ◌++◌, length, map, Option, Some, None, refl, sym, ◌∙◌, ap, subst, arith, length-append}
+use Rattle.std.specs.Prelude.{All, Any, is_some, find}
+use Rattle.std.specs.List.{list_any, filter, range_with_len, flat_map}
+use Rattle.std.proofs.lemmas.List.{get_or_append_left}
+use Rattle.std.proofs.lemmas.List.Elements.{All-head, All-tail, All-append, All-cons, All-nil, All-map, All-weaker}
+use Rattle.std.proofs.lemmas.Bool.{both_ways}
+use Rattle.assign.specs.Sets.{numbers}
+use Rattle.rel_table.specs.Relation.{tuples}
+
+pub any_more : {X : Type 0} (P : X → Type 0) (xs : List X) (y : X) → Any P xs → Any P (xs ++ y ∷ [])
+any_more P xs y (k, x, low, at, p) = (k, x, omega (arith, length-append xs (y ∷ [])), get_or_append_left xs (y ∷ []) x k low ∙ at, p)
+
+pub some_left : {X : Type 0} (t : X → Bool) (xs : List X) → list_any t xs ≡ true → 1 ≤ length (filter t xs)
+some_left t [] h = absurd (both_ways _ refl h)
+some_left t (x ∷ xs) h = go (t x) refl (some_left t xs)
+  where
+    go : (b : Bool) → t x ≡ b → (list_any t xs ≡ true → 1 ≤ length (filter t xs)) → 1 ≤ length (cond b (x ∷ filter t xs) (filter t xs))
+    go true on rest = omega arith
+    go false off rest = rest (sym (ap (λ b. b || list_any t xs) off) ∙ h)
+
+pub All-flat_map : {X Y : Type 0} (Q : Y → Type 0) (f : X → List Y) (xs : List X) → ((x : X) → All Q (f x)) → All Q (flat_map f xs)
+All-flat_map Q f [] h = All-nil Q
+All-flat_map Q f (x ∷ xs) h = All-append Q (f x) (flat_map f xs) (h x) (All-flat_map Q f xs h)
+
+pub all_flat_map : {X Y : Type 0} (Q : Y → Type 0) (f : X → List Y) (xs : List X) → All (λ x. All Q (f x)) xs → All Q (flat_map f xs)
+all_flat_map Q f [] h = All-nil Q
+all_flat_map Q f (x ∷ xs) h = All-append Q (f x) (flat_map f xs) (All-head (λ x. All Q (f x)) x xs h) (all_flat_map Q f xs (All-tail (λ x. All Q (f x)) x xs h))
+
+pub tuples_long : (d a : ℕ) → All (λ u. length u ≡ a) (tuples d a)
+tuples_long d zero = All-cons (λ (u : List ℕ). length u ≡ 0) [] [] refl (All-nil (λ (u : List ℕ). length u ≡ 0))
+tuples_long d (suc a) = All-flat_map (λ (u : List ℕ). length u ≡ suc a) (λ x. map (λ u. x ∷ u) (tuples d a)) (numbers d) (λ x.
+    All-map (λ (u : List ℕ). length u ≡ suc a) (λ u. x ∷ u) (tuples d a) (All-weaker (λ (u : List ℕ). length u ≡ a) (λ (u : List ℕ). suc (length u) ≡ suc a) (λ u h. ap suc h) (tuples d a) (tuples_long d a)))
+
+pub find_all : {X : Type 0} (Q : X → Type 0) (p : X → Bool) (xs : List X) (y : X) → All Q xs → find p xs ≡ Some y → Q y
+find_all Q p [] y all h = cc
+find_all Q p (x ∷ xs) y all h = go (p x) refl (find_all Q p xs y (All-tail Q x xs all))
+  where
+    go : (b : Bool) → p x ≡ b → (find p xs ≡ Some y → Q y) → Q y
+    go true on rest = let e : Some x ≡ Some y = ap (λ b. cond b (Some x) (find p xs)) (sym on) ∙ h in let same : x ≡ y = cc in subst Q same (All-head Q x xs all)
+    go false off rest = rest (ap (λ b. cond b (Some x) (find p xs)) (sym off) ∙ h)
+
+pub all_numbers : (P : ℕ → Type 0) (a n : ℕ) → ((v : ℕ) → a ≤ v → v < a + n → P v) → All P (range_with_len a n)
+all_numbers P a zero h = All-nil P
+all_numbers P a (suc n) h = All-cons P a (range_with_len (a + 1) n) (h a (omega arith) (omega arith)) (all_numbers P (a + 1) n (λ v low high. h v (omega arith) (omega arith)))
+
+pub all_below : (P : ℕ → Type 0) (n : ℕ) → ((v : ℕ) → v < n → P v) → All P (numbers n)
+all_below P n h = all_numbers P 0 n (λ v low high. h v (omega arith))
+
+pub any_same : {X : Type 0} (p q : X → Bool) (xs : List X) → ((x : X) → p x ≡ q x) → list_any p xs ≡ list_any q xs
+any_same p q [] h = refl
+any_same p q (x ∷ xs) h = λ i. h x i || any_same p q xs h i
+
+pub is_none_option : {X : Type 0} (o : Option X) → is_some o ≡ false → o ≡ None
+is_none_option None h = refl
+is_none_option (Some x) h = cc
