@@ -3,3 +3,10 @@ pub mod Lists
 pub mod OnScope
 pub mod Choices
 pub mod ScopeByScope
+pub mod Fuel
+pub mod Steps
+pub mod Restrict
+pub mod Halving
+pub mod FoundScope
+pub mod States
+pub mod Places

@@ -1,15 +1,66 @@
 //! Laws of the sessions, as contracts of functions that do nothing.
 
-ghost use Rattle.session_laws.specs.Laws.{OneAnswerMore, ScopesAreCovered, ScopesNeverOver};
+ghost use Rattle.session_laws.specs.Laws.{FuelIsEnough, HalvingAsks, IdleIsInStep, ImpliedIsCovered, KeptSteps, NeverStuck, OneAnswerMore, OverMeansNone, QuestionsHavePlaces, ScopesAreCovered, ScopesNeverOver, SettleSteps};
+
+// ---- One answer, and its place
 
 /// One answer more is one step more.
 pub fn one_answer_more()
     ensures { OneAnswerMore }
 {}
 
+/// Each question that may be put has a place, whatever the reply.
+pub fn questions_have_places()
+    ensures { QuestionsHavePlaces }
+{}
+
+/// A session that halves, chooses or walks has an open question.
+pub fn never_stuck()
+    ensures { NeverStuck }
+{}
+
+// ---- What an answer does, as equations for a program's loop
+
+/// What an answer makes of the kept candidates.
+pub fn kept_steps()
+    ensures { KeptSteps }
+{}
+
+/// A quiet halving goes on, and another one stands.
+pub fn settle_steps()
+    ensures { SettleSteps }
+{}
+
+/// The quiet replies come to an end before their fuel does.
+pub fn fuel_is_enough()
+    ensures { FuelIsEnough }
+{}
+
+// ---- What a state says
+
+/// A session that halves has an open question, and it violates a kept candidate.
+pub fn halving_asks()
+    ensures { HalvingAsks }
+{}
+
+/// Where nothing is open, the network gives each answer.
+pub fn idle_is_in_step()
+    ensures { IdleIsInStep }
+{}
+
+/// Where nothing is open and each kept candidate is implied, the network is covered.
+pub fn implied_is_covered()
+    ensures { ImpliedIsCovered }
+{}
+
 /// In plan Scopes, where no scope is next, the network is covered.
 pub fn scopes_are_covered()
     ensures { ScopesAreCovered }
+{}
+
+/// A session is over only where no network agrees with the answers.
+pub fn over_means_none()
+    ensures { OverMeansNone }
 {}
 
 /// In plan Scopes a session is never over.
