@@ -1,5 +1,5 @@
 -- What the fields of a language say of the language that they stand for.
-use Rattle.std.proofs.Common.{◌≡◌, ℕ, ◌-◌, ◌<◌, List, [], length, sym, ◌∙◌, ap, subst, arith, Vec}
+use Rattle.std.proofs.Common.{◌≡◌, ℕ, ◌-◌, ◌<◌, List, [], length, sym, ◌∙◌, ap, subst, arith, Vec, ◌^◌}
 use Rattle.std.specs.Prelude.{slice_index_or}
 use Rattle.std.specs.declared.alloc.Global.{Global}
 use Rattle.std.proofs.lemmas.List.{get_or-map, length-map}
@@ -17,9 +17,15 @@ scope_here a sound l view s scope low is =
     let at : slice_index_or (seen a).scopes s [] ≡ variables_in scope = get_or-map variables_in a.scopes.items s scope [] short ∙ ap variables_in (sym is) in
     subst (λ (x : Language). IsScope (variable_count x) (variables_in scope)) view (subst (IsScope (variable_count (seen a))) at known)
 
+-- the table of relation r on scope s
+pub record IsTableOn (l : Language) (s r : ℕ) (table : TruthTable) : Type 0 where
+  pub arity : table.arity ≡ length (scope_at l s)
+  pub values : table.value_count ≡ l.value_count
+  pub size : length table.truth ≡ l.value_count ^ length (scope_at l s)
+
 table_seen : (a : Inside) → IsSound a → (s r size : ℕ) (tables : Vec TruthTable Global) (table : TruthTable) → s < length (seen a).scopes →
     r < length (relations_on (seen a) s) → size ≡ length (scope_at (seen a) s) → tables ≡ slice_index_or a.relations.items (size - 1) tables →
-    table ≡ slice_index_or tables.items r table → IsOfKind (length (scope_at (seen a) s)) (seen a).value_count table
+    table ≡ slice_index_or tables.items r table → IsTableOn (seen a) s r table
 table_seen a sound s r size tables table low few is at here =
     let scope : IsScope (variable_count (seen a)) (scope_at (seen a) s) = sound.lawful.scopes s [] low in
     let some = scope.not_empty in
@@ -28,16 +34,21 @@ table_seen a sound s r size tables table low few is at here =
     let within : size - 1 < length a.relations.items = omega arith in
     let listed : slice_index_or (tables_in a) (size - 1) [] ≡ tables.items = get_or-map (λ (v : Vec TruthTable Global). v.items) a.relations.items (size - 1) tables [] within ∙ ap (λ (v : Vec TruthTable Global). v.items) (sym at) in
     let truth : slice_index_or (seen a).relations (size - 1) [] ≡ truths tables = get_or-map truths a.relations.items (size - 1) tables [] within ∙ ap truths (sym at) in
-    let low_size : r < length (slice_index_or (seen a).relations (size - 1) []) = subst (λ (n : ℕ). r < length (slice_index_or (seen a).relations (n - 1) [])) (sym is) few in
-    let low_rel : r < length tables.items = omega (arith, subst (λ xs. r < length xs) truth low_size, length-map tables.items (λ (t : TruthTable). t.truth)) in
+    let relations : relations_on (seen a) s ≡ truths tables = ap (λ n. slice_index_or (seen a).relations (n - 1) []) (sym is) ∙ truth in
+    let low_rel : r < length tables.items = omega (arith, subst (λ xs. r < length xs) relations few, length-map tables.items (λ (t : TruthTable). t.truth)) in
     let kinds = sound.kinds.kinds size (omega arith) (omega arith) in
     let kind : IsOfKind size (seen a).value_count (slice_index_or tables.items r table) = subst (λ xs. IsOfKind size (seen a).value_count (slice_index_or xs r table)) listed (kinds r table (subst (λ (xs : List TruthTable). r < length xs) (sym listed) low_rel)) in
-    subst (λ (n : ℕ). IsOfKind n (seen a).value_count table) is (subst (IsOfKind size (seen a).value_count) (sym here) kind)
+    let same : slice_index_or (relations_on (seen a) s) r [] ≡ table.truth =
+    ap (λ xs. slice_index_or xs r []) relations ∙ get_or-map (λ (t : TruthTable). t.truth) tables.items r table [] low_rel ∙ ap (λ (t : TruthTable). t.truth) (sym here) in
+    record {
+      arity = ap (λ (t : TruthTable). t.arity) here ∙ kind.long ∙ is;
+      values = ap (λ (t : TruthTable). t.value_count) here ∙ kind.values;
+      size = ap length (sym same) ∙ sound.lawful.sized (length (scope_at (seen a) s)) some short r [] few;
+    }
 
--- a table of a scope's arity
 pub table_here : (a : Inside) → IsSound a → (l : Language) → seen a ≡ l → (s r size : ℕ) (tables : Vec TruthTable Global) (table : TruthTable) → s < length l.scopes →
     r < length (relations_on l s) → size ≡ length (scope_at l s) → tables ≡ slice_index_or a.relations.items (size - 1) tables →
-    table ≡ slice_index_or tables.items r table → IsOfKind (length (scope_at l s)) l.value_count table
+    table ≡ slice_index_or tables.items r table → IsTableOn l s r table
 table_here a sound l view s r size tables table =
     subst (λ (x : Language). s < length x.scopes → r < length (relations_on x s) → size ≡ length (scope_at x s) → tables ≡ slice_index_or a.relations.items (size - 1) tables →
-    table ≡ slice_index_or tables.items r table → IsOfKind (length (scope_at x s)) x.value_count table) view (table_seen a sound s r size tables table)
+    table ≡ slice_index_or tables.items r table → IsTableOn x s r table) view (table_seen a sound s r size tables table)

@@ -2,3 +2,4 @@ pub mod Meets
 pub mod Covered
 pub mod Members
 pub mod Fields
+pub mod Placing

@@ -1,11 +1,11 @@
 -- The language: the variables, the values, the scopes and the relations that a network may use.
-use Rattle.std.specs.Prelude.{ℕ, ℤ, pos, negsuc, ◌+ℤ◌, ◌≤ℤ◌, ◌-◌, ◌^◌, ◌<◌, ◌≤◌, ◌≡◌, ◌≢◌, Bool, true, not, ◌&&◌, IsTrue, IsFalse, List, [], length, map, filter, All, AllPairs, slice_index_or, ◌==◌, nat_lt, nat_le}
+use Rattle.std.specs.Prelude.{ℕ, ℤ, pos, negsuc, ◌+ℤ◌, ◌≤ℤ◌, ◌-◌, ◌^◌, ◌<◌, ◌≤◌, ◌≡◌, ◌≢◌, Bool, true, not, ◌&&◌, IsTrue, IsFalse, List, [], length, map, filter, All, AllPairs, slice_index_or, ◌==◌, nat_lt, nat_le, Option, Some, None, if◌then◌else◌}
 use Rattle.std.specs.Option.{option_map_or}
 use Rattle.std.specs.List.{flat_map, list_all}
 use Rattle.std.specs.List.Sorted.{IsStrictlyIncreasing}
 use Rattle.assign.specs.Sets.{numbers, is_within}
 use Rattle.assign.specs.Assignment.{Assignment, covers, tuple_on, is_complete, IsAssignment}
-use Rattle.rel_table.specs.Relation.{Relation, holds, IsClosing}
+use Rattle.rel_table.specs.Relation.{Relation, place, holds, IsClosing}
 use Rattle.language.specs.declared.candidates.Candidate.{Candidate}
 
 -- a relation of the vocabulary
@@ -43,6 +43,10 @@ scope_at l s = slice_index_or l.scopes s []
 -- the relations on the scope of this number
 abbrev pub relations_on : Language → ℕ → List Relation
 relations_on l s = relations_of l (length (scope_at l s))
+
+-- where e's tuple on the scope of this number stands, if e covers the scope
+abbrev pub place_on : Language → ℕ → Assignment → Option ℕ
+place_on l s e = if covers e (scope_at l s) then Some (place l.value_count (tuple_on e (scope_at l s))) else None
 
 -- a candidate's variables, and its relation
 abbrev pub scope_of : Language → Candidate → List ℕ

@@ -1,8 +1,10 @@
-ghost use Rattle.std.specs.Prelude.{◌≡◌, ◌<◌, ◌≤◌, ◌^◌, length, slice_index_or, []};
-ghost use Rattle.language.specs.Language.{variable_count, scope_at, relations_on, violates, IsLanguage, IsScope, IsCandidate, IsQuestion};
+ghost use Rattle.std.specs.Prelude.{◌≡◌, ◌<◌, ◌≤◌, ◌^◌, length, slice_index_or, [], IfSome};
+ghost use Rattle.language.specs.Language.{variable_count, scope_at, relations_on, place_on, violates, IsLanguage, IsScope, IsCandidate, IsQuestion};
 
 use crate::candidates::{Candidate, ScopeId};
 use crate::parts::RelPart;
+use crate::places::place_of_values;
+use assign::Partial;
 use rel_table::Table;
 use std::marker::Model;
 
@@ -92,8 +94,32 @@ impl Language {
         ensures is { result.now.truth ≡ slice_index_or (relations_on self.now s) r [] }
         ensures arity { result.now.arity ≡ length (scope_at self.now s) }
         ensures values { result.now.value_count ≡ self.now.value_count }
+        ensures size { length result.now.truth ≡ self.now.value_count ^ length (scope_at self.now s) }
     {
         let arity = self.scope(s).len();
         &self.relations[arity - 1][r as usize]
+    }
+
+    /// The place of a question's tuple on a scope, where the question gives each variable there a value.
+    pub fn place_on(&self, s: ScopeId, q: &Partial) -> Option<u32>
+        requires scope { s < length self.now.scopes }
+        requires question { IsQuestion self.now q.now }
+        ensures is { result ≡ place_on self.now s q.now }
+        ensures below { IfSome result (λ at. at < self.now.value_count ^ length (scope_at self.now s)) }
+        ensures small { self.now.value_count ^ length (scope_at self.now s) ≤ 65536 }
+    {
+        place_of_values(self.value_count, self.scope(s), q)
+    }
+
+    /// Whether a question gives each variable of the candidate's scope a value, and the relation rejects them.
+    pub fn candidate_violated(&self, c: Candidate, q: &Partial) -> bool
+        requires candidate { IsCandidate self.now c }
+        requires question { IsQuestion self.now q.now }
+        ensures { result ≡ violates self.now c q.now }
+    {
+        match self.place_on(c.scope, q) {
+            None => false,
+            Some(place) => !self.table_on(c.scope, c.rel).at(place),
+        }
     }
 }

@@ -6,6 +6,7 @@ mod candidates;
 mod lang;
 pub mod laws;
 mod parts;
+mod places;
 
 pub use candidates::{Candidate, ScopeId};
 pub use lang::Language;
