@@ -1,4 +1,5 @@
 pub mod Powers
+pub mod PlaceLemmas
 pub mod Meets
 pub mod Same
 pub mod Marking

@@ -1,4 +1,4 @@
-use Rattle.std.proofs.Common.{◌≡◌, ℕ, zero, suc, ◌+◌, ◌<◌, ◌≤◌, List, [], ◌∷◌, ◌++◌, Bool, false, ◌&&◌, length, take, get_or, arith, sym, ◌∙◌, ap, refl}
+use Rattle.std.proofs.Common.{◌≡◌, ℕ, suc, ◌+◌, ◌<◌, List, [], ◌∷◌, ◌++◌, Bool, false, ◌&&◌, length, take, get_or, arith, ap, refl}
 use Rattle.std.proofs.lemmas.List.{take_more, length-take}
 use Rattle.rel_table.specs.Relation.{meet}
 

@@ -1,4 +1,4 @@
-use Rattle.std.proofs.Common.{◌≡◌, ℕ, List, [], ◌∷◌, Bool, true, false, ◌&&◌, ap, sym, ◌∙◌, refl}
+use Rattle.std.proofs.Common.{◌≡◌, ℕ, List, Bool, true, false, ap, ◌∙◌, refl}
 use Rattle.std.proofs.Math.Bool.{beq}
 use lib.Pointwise.{pointwise, pointwise_decides}
 use Rattle.rel_table.specs.Table.{TruthTable}

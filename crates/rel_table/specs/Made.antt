@@ -1,12 +1,12 @@
 -- Which tables can be made of tuples, and what they accept.
-use Rattle.std.specs.Prelude.{◌≡◌, ℕ, ◌+◌, ◌^◌, ◌≤◌, ◌<◌, List, [], ◌∷◌, length, map, slice_index_or, Bool, true, false, ◌&&◌, nat_eq, nat_le, if◌then◌else◌, ℤ, pos, negsuc, ◌-ℤ◌, ◌+ℤ◌, int_lt, int_le, unsigned_abs, Option, Some, None, Result, Ok, Err, Vec}
+use Rattle.std.specs.Prelude.{◌≡◌, ℕ, ◌+◌, ◌^◌, ◌<◌, List, [], ◌∷◌, length, map, slice_index_or, Bool, false, ◌&&◌, nat_eq, nat_le, if◌then◌else◌, ℤ, pos, negsuc, ◌-ℤ◌, ◌+ℤ◌, int_lt, int_le, unsigned_abs, Option, Some, None, Result, Ok, Err, Vec}
 use Rattle.std.specs.List.{list_all, list_any}
 use Rattle.std.specs.Option.{option_or}
 use Rattle.std.specs.declared.alloc.Global.{Global}
 use Rattle.rel_table.specs.Relation.{place}
 use Rattle.rel_table.specs.Table.{TruthTable}
 use Rattle.rel_table.specs.declared.table.TableFault.{TableFault}
-use Rattle.rel_table.specs.declared.table.TableFault.TheVariants.{BadArity, TupleLength, ValueOut, TooLarge, Memory}
+use Rattle.rel_table.specs.declared.table.TableFault.TheVariants.{BadArity, TupleLength, ValueOut, TooLarge}
 
 -- an arity of 1 to 4
 abbrev pub arity_of : ℤ → Option ℕ

@@ -1,5 +1,5 @@
 -- Relations: a relation of arity a over d values is the list of its d^a truth values, one for each tuple.
-use Rattle.std.specs.Prelude.{ℕ, ◌+◌, ◌*◌, zero, suc, Bool, true, false, ◌&&◌, IsTrue, ◌≡◌, List, [], ◌∷◌, map, slice_index_or, All, Contains, AllPairs}
+use Rattle.std.specs.Prelude.{ℕ, ◌+◌, ◌*◌, ◌/◌, ◌%◌, ◌^◌, zero, suc, Bool, true, false, ◌&&◌, IsTrue, ◌≡◌, List, [], ◌∷◌, map, slice_index_or, All, Contains, AllPairs}
 use Rattle.std.specs.List.{fold, flat_map, range_with_len, zip}
 
 abbrev pub Relation : Type 0
@@ -17,6 +17,11 @@ holds d r tuple = slice_index_or r (place d tuple) false
 abbrev pub tuples : ℕ → ℕ → List (List ℕ)
 tuples d zero = [] ∷ []
 tuples d (suc a) = flat_map (λ x. map (λ tuple. x ∷ tuple) (tuples d a)) (range_with_len 0 d)
+
+-- the tuple of an arity that stands at a place, its first value first
+abbrev pub tuple_at : ℕ → ℕ → ℕ → List ℕ
+tuple_at d zero at = []
+tuple_at d (suc a) at = (at / d ^ a) ∷ tuple_at d a (at % d ^ a)
 
 -- the tuples that are in both
 abbrev pub meet : Relation → Relation → Relation

@@ -1,6 +1,6 @@
 -- What a table is seen as: a relation with its arity and how many values there are.
-use Rattle.std.specs.Prelude.{◌≡◌, ℕ, ◌^◌, ◌≤◌, List, length, Bool, false, slice_index_or}
-use Rattle.rel_table.specs.Relation.{Relation, place}
+use Rattle.std.specs.Prelude.{◌≡◌, ℕ, ◌^◌, ◌≤◌, length, Bool, false, slice_index_or}
+use Rattle.rel_table.specs.Relation.{Relation}
 
 pub record TruthTable : Type 0 where
   pub arity : ℕ

@@ -1,7 +1,6 @@
-use Rattle.std.proofs.Common.{sym, ◌∙◌, ap, ◌≡◌, ◌<◌, ◌^◌, arith, length, get_or, [], subst, ℕ, ℤ, w64, Some, Option, true, Bool}
+use Rattle.std.proofs.Common.{sym, ◌∙◌, ap, ◌≡◌, ◌<◌, ◌^◌, arith, length, subst, ℤ, w64, Some, true}
 use Rattle.std.proofs.lemmas.Int.{to_z-of_z}
 use Rattle.std.proofs.lemmas.List.{length-set}
-use Rattle.rel_table.specs.declared.table.TableFault.{TableFault}
 use Rattle.rel_table.specs.Made.{lists, place_of_shown, first_fault}
 use Rattle.rel_table.proofs.Marking.{fault_here, fault_next, long_tuple, mark_more, lists_at, length-lists}
 use Rattle.rel_table.proofs.table.mark_all.Goals as goal

@@ -1,6 +1,5 @@
-use Rattle.std.proofs.Common.{◌∙◌, ap, arith, length, take, sym, ◌≡◌, false, Bool, ◌&&◌}
+use Rattle.std.proofs.Common.{arith}
 use Rattle.std.proofs.lemmas.Grind.{common_steps}
-use Rattle.rel_table.specs.Relation.{meet}
 use Rattle.rel_table.proofs.Meets.{meet_more, length-meet}
 use Rattle.rel_table.proofs.table.meet_of.Goals as goal
 use Rattle.rel_table.proofs.table.meet_of.Goals.{then-a-i, else-a-i}
