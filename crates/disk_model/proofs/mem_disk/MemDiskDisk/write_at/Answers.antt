@@ -1,0 +1,22 @@
+use Rattle.std.proofs.Common.{◌≡◌, [], ◌∷◌, ◌++◌, ap, ◌∙◌}
+use Rattle.disk_model.specs.Record.{Wrote}
+use Rattle.disk_model.specs.Images.{elapses-to, leaves-write}
+use Rattle.disk_model.specs.MemDisk.{start_of, steps_in}
+use Rattle.disk_model.specs.Tape.{tape_steps}
+use Rattle.disk_model.proofs.mem_disk.MemDiskDisk.write_at.Goals as goal
+
+pub returns-clause-crash : goal.returns-clause-crash
+returns-clause-crash c f left =
+    let d = c.args.self.now in
+    let t = c.write.new.self in
+    let start : t.start.items ≡ start_of d = c.write.ensures.start ∙ ap (λ s. s.start.items) c.begin.ensures.kept in
+    let steps : tape_steps t ≡ steps_in d ++ Wrote c.args.at c.args.bytes.now ∷ [] = c.write.ensures.steps ∙ ap (λ s. tape_steps s ++ Wrote c.args.at c.args.bytes.now ∷ []) c.begin.ensures.kept in
+    leaves-write (start_of d) t.start.items (steps_in d) (tape_steps t) c.args.at c.args.bytes.now f start steps left
+
+pub returns-clause-time : goal.returns-clause-time
+returns-clause-time c =
+    let d = c.args.self.now in
+    let t = c.write.new.self in
+    let start : t.start.items ≡ start_of d = c.write.ensures.start ∙ ap (λ s. s.start.items) c.begin.ensures.kept in
+    let steps : tape_steps t ≡ steps_in d ++ Wrote c.args.at c.args.bytes.now ∷ [] = c.write.ensures.steps ∙ ap (λ s. tape_steps s ++ Wrote c.args.at c.args.bytes.now ∷ []) c.begin.ensures.kept in
+    elapses-to (start_of d) t.start.items (steps_in d) (tape_steps t) (Wrote c.args.at c.args.bytes.now) start steps

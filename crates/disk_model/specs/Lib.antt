@@ -1,0 +1,7 @@
+pub mod Disk
+pub mod Moments
+pub mod Record
+pub mod Images
+pub mod Tape
+pub mod MemDisk
+pub mod FuseDisk

@@ -1,0 +1,52 @@
+-- A record of the writes and syncs of a file, and what it says of the file: what a read gives, and what a crash may leave.
+use Rattle.std.specs.Prelude.{ℕ, ◌+◌, ◌≤◌, ◌≡◌, Bool, true, nat_le, ◌&&◌, List, [], ◌∷◌, ◌++◌, length, take, drop}
+use Rattle.disk_model.specs.Disk.{Torn}
+use Rattle.disk_model.specs.declared.tape.Mark.{Mark}
+use Rattle.disk_model.specs.declared.tape.Mark.TheVariants.{Write, Sync}
+
+-- a write of these bytes at this place, or a sync
+pub data Step : Type 0 where
+  Wrote : ℕ → List ℕ → Step
+  Synced : Step
+
+-- these bytes in the place of those that stand there, or past the end
+abbrev pub put : List ℕ → ℕ → List ℕ → List ℕ
+put old at bytes = take at old ++ bytes ++ drop (at + length bytes) old
+
+-- what a read gives after the steps
+abbrev pub content_after : List ℕ → List Step → List ℕ
+content_after now [] = now
+content_after now (Wrote at bytes ∷ steps) = content_after (put now at bytes) steps
+content_after now (Synced ∷ steps) = content_after now steps
+
+-- what a crash may leave after the steps, where it might have left what has P before them
+abbrev pub IsImage : (List ℕ → Type 0) → List ℕ → List Step → List ℕ → Type 0
+IsImage P now [] c = P c
+IsImage P now (Wrote at bytes ∷ steps) c = IsImage (λ d. (e : List ℕ) × P e × Torn at (length bytes) e d) (put now at bytes) steps c
+IsImage P now (Synced ∷ steps) c = IsImage (λ d. d ≡ now) now steps c
+
+-- each write begins within the file or at its end
+abbrev pub are_within : List ℕ → List Step → Bool
+are_within now [] = true
+are_within now (Wrote at bytes ∷ steps) = nat_le at (length now) && are_within (put now at bytes) steps
+are_within now (Synced ∷ steps) = are_within now steps
+
+-- the marks, each with its bytes
+abbrev pub steps_of : List Mark → List ℕ → List Step
+steps_of [] written = []
+steps_of (Write at len ∷ marks) written = Wrote at (take len written) ∷ steps_of marks (drop len written)
+steps_of (Sync ∷ marks) written = Synced ∷ steps_of marks written
+
+-- how many bytes the marks speak of
+abbrev pub bytes_in : List Mark → ℕ
+bytes_in [] = 0
+bytes_in (Write at len ∷ marks) = len + bytes_in marks
+bytes_in (Sync ∷ marks) = bytes_in marks
+
+-- what a crash may leave now
+abbrev pub Leaves : List ℕ → List Step → List ℕ → Type 0
+Leaves start steps = IsImage (λ c. c ≡ start) start steps
+
+-- what a crash might have left after the step with this number, or a later one
+abbrev pub LeftSince : List ℕ → List Step → ℕ → List ℕ → Type 0
+LeftSince start steps t c = (k : ℕ) × (t ≤ k) × (k ≤ length steps) × Leaves start (take k steps) c

@@ -1,0 +1,202 @@
+//! A disk in memory. It keeps a record of its writes and syncs, so what a crash may leave is real data.
+
+ghost use Rattle.std.specs.Prelude.{◌≡◌, ◌≤◌, ◌<◌, ◌+◌, ◌-◌, ◌⊎◌, ◌↔◌, ◌++◌, [], ◌∷◌, ℕ, min, Some, None, List, Bool, IsTrue, IsFalse, IsErr, is_err, IfOk, OnOk, OnErr, All, length, take, drop};
+ghost use Rattle.std.specs.Option.{ForSome, ForNone};
+ghost use Rattle.disk_model.specs.Disk.{Torn, IsWritten, Follows, Only, AddsNothing, Elapses, HasCause};
+ghost use Rattle.disk_model.specs.Record.{Wrote, Synced, Leaves};
+
+use crate::tape::Tape;
+use crate::{Disk, Failed, Memory};
+use std::alloc::Global;
+
+/// How much a disk in memory holds: the bytes of its file, which also bound the bytes of all its writes together, and the
+/// number of its writes and syncs.
+#[derive(Clone, Copy, Debug, PartialEq, Eq)]
+pub struct Room {
+    pub bytes: u32,
+    pub calls: u32,
+}
+
+/// A disk in memory that tells everything.
+///
+/// A call fails exactly where its number, from 0, is one of those that fail, or where no room is left for it. A call that
+/// fails changes nothing but the counts. No call takes memory.
+#[derive(Drop)]
+pub struct MemDisk {
+    tape: Tape,
+    /// The numbers of the calls that fail.
+    fails: Vec<u32>,
+    /// How many calls were made, those that failed among them.
+    calls: u64,
+    /// How many of them failed.
+    faults: u64,
+}
+
+impl MemDisk {
+    ghost use Rattle.disk_model.specs.MemDisk.{content_of, start_of, steps_in, moment_of, room_of, IsFresh, IsDue, HasSameRecord, IsCounted, Outgrows, IsWornOut};
+
+    /// A disk with these bytes, all of them durable, whose calls with these numbers fail. All memory is taken here.
+    pub fn new(
+        alloc: Global,
+        content: Vec<u8>,
+        fails: Vec<u32>,
+        room: Room,
+    ) -> Result<MemDisk, Memory>
+        requires { length content.items ≤ room.bytes }
+        ensures { IfOk result (IsFresh content.items fails.items room) }
+    {
+        let tape = Tape::new(alloc, content, room)?;
+        Ok(MemDisk {
+            tape,
+            fails,
+            calls: 0,
+            faults: 0,
+        })
+    }
+
+    /// The bytes of the file.
+    pub fn content(&self) -> &[u8]
+        ensures { result.now ≡ content_of self.now }
+    {
+        &self.tape.content
+    }
+
+    /// Begins a call: it is counted, and fails where its number is one of those that fail, or where it has no room.
+    fn begin(&mut self, has_room: bool) -> Result<(), Failed>
+        ensures exact { IsErr result ↔ (IsDue self.old ⊎ IsFalse has_room) }
+        ensures counted { IsCounted self.old self.new (is_err result) }
+        ensures kept { HasSameRecord self.old self.new }
+    {
+        let number = self.calls;
+        let is_due = self.fails.iter().any(|k| u64::from(*k) == number);
+        self.calls = self.calls.saturating_add(1);
+        if is_due || !has_room {
+            self.faults = self.faults.saturating_add(1);
+            return Err(Failed);
+        }
+        Ok(())
+    }
+
+    fn has_room_to_sync(&self) -> bool
+        ensures { IsFalse result ↔ IsWornOut self.now }
+    {
+        self.tape.marks.len() < self.tape.room.calls as usize
+    }
+
+    fn has_room_to_write(&self, at: u64, len: usize) -> bool
+        ensures { IsFalse result ↔ (Outgrows self.now at len ⊎ IsWornOut self.now) }
+    {
+        let most = self.tape.room.bytes as usize;
+        len <= most
+            && at <= (most - len) as u64
+            && self.tape.written.len() <= most - len
+            && self.has_room_to_sync()
+    }
+}
+
+impl Disk for MemDisk {
+    ghost use Rattle.disk_model.specs.MemDisk.{content_of, start_of, steps_in, images_of, moment_of, left_of, faults_of, IsDue, IsWornOut, Outgrows, HasSameRecord, IsCounted, tells_truth, counts, only};
+
+    ghost content = { λ d. Some (content_of d) };
+
+    ghost may_leave = { images_of };
+
+    ghost moment = { moment_of };
+
+    ghost left_since = { left_of };
+
+    ghost faults = { faults_of };
+
+    ghost reads_true = { tells_truth };
+
+    ghost counts_now = { counts };
+
+    ghost only_now = { only };
+
+    fn len(&mut self) -> Result<u64, Failed>
+        ensures told { ForSome (Some (content_of self.old)) (λ bytes. IfOk result (λ n. n ≡ length bytes)) }
+        ensures same { Some (content_of self.new) ≡ Some (content_of self.old) }
+        ensures crash { AddsNothing (images_of self.old) (images_of self.new) }
+        ensures time { Elapses (moment_of self.old) (moment_of self.new) (left_of self.old) (left_of self.new) (images_of self.new) }
+        ensures cause { HasCause (faults_of self.old) (faults_of self.new) result }
+
+        // It fails exactly where its number is one of those, and changes nothing but the counts.
+        ensures exact { IsErr result ↔ IsDue self.old }
+        ensures counted { IsCounted self.old self.new (is_err result) }
+        ensures kept { HasSameRecord self.old self.new }
+    {
+        self.begin(true)?;
+        Ok(self.tape.content.len() as u64)
+    }
+
+    fn read(&mut self, at: u64, buf: &mut [u8]) -> Result<usize, Failed>
+        ensures told { ForSome (Some (content_of self.old)) (λ bytes. IfOk result (λ n. (n ≡ min (length buf.old) (length bytes - at)) × (buf.new ≡ take n (drop at bytes) ++ drop n buf.old))) }
+        ensures fits { IfOk result (λ n. n ≤ length buf.old) }
+        ensures same { Some (content_of self.new) ≡ Some (content_of self.old) }
+        ensures crash { AddsNothing (images_of self.old) (images_of self.new) }
+        ensures time { Elapses (moment_of self.old) (moment_of self.new) (left_of self.old) (left_of self.new) (images_of self.new) }
+        ensures cause { HasCause (faults_of self.old) (faults_of self.new) result }
+
+        // It fails exactly where its number is one of those, and changes nothing but the counts.
+        ensures exact { IsErr result ↔ IsDue self.old }
+        ensures counted { IsCounted self.old self.new (is_err result) }
+        ensures kept { HasSameRecord self.old self.new }
+        ensures unread { OnErr result (buf.new ≡ buf.old) }
+    {
+        self.begin(true)?;
+        Ok(copy_from(&self.tape.content, at, buf))
+    }
+
+    fn write_at(&mut self, at: u64, bytes: &[u8]) -> Result<(), Failed>
+        requires { ForSome (Some (content_of self.old)) (λ old. at ≤ length old) }
+        ensures written { ForSome (Some (content_of self.old)) (λ old. IsWritten at bytes.now old (Some (content_of self.new)) result) }
+        ensures silent { ForNone (Some (content_of self.old)) (Some (content_of self.new) ≡ None) }
+        ensures crash { Follows (Torn at (length bytes.now)) (images_of self.old) (images_of self.new) }
+        ensures time { Elapses (moment_of self.old) (moment_of self.new) (left_of self.old) (left_of self.new) (images_of self.new) }
+        ensures cause { HasCause (faults_of self.old) (faults_of self.new) result }
+
+        // It fails exactly where its number is one of those, or no room is left, and then changes nothing but the counts.
+        ensures exact { IsErr result ↔ (IsDue self.old ⊎ Outgrows self.old at (length bytes.now) ⊎ IsWornOut self.old) }
+        ensures counted { IsCounted self.old self.new (is_err result) }
+        ensures kept { OnErr result (HasSameRecord self.old self.new) }
+        ensures start { start_of self.new ≡ start_of self.old }
+        ensures noted { OnOk result (steps_in self.new ≡ steps_in self.old ++ Wrote at bytes.now ∷ []) }
+    {
+        self.begin(self.has_room_to_write(at, bytes.len()))?;
+        self.tape.write(at as usize, bytes);
+        Ok(())
+    }
+
+    fn sync(&mut self) -> Result<(), Failed>
+        ensures durable { ForSome (Some (content_of self.old)) (λ bytes. OnOk result (Only bytes (images_of self.new))) }
+        ensures same { Some (content_of self.new) ≡ Some (content_of self.old) }
+        ensures crash { AddsNothing (images_of self.old) (images_of self.new) }
+        ensures time { Elapses (moment_of self.old) (moment_of self.new) (left_of self.old) (left_of self.new) (images_of self.new) }
+        ensures cause { HasCause (faults_of self.old) (faults_of self.new) result }
+
+        // It fails exactly where its number is one of those, or no room is left, and then changes nothing but the counts.
+        ensures exact { IsErr result ↔ (IsDue self.old ⊎ IsWornOut self.old) }
+        ensures counted { IsCounted self.old self.new (is_err result) }
+        ensures kept { OnErr result (HasSameRecord self.old self.new) }
+        ensures start { start_of self.new ≡ start_of self.old }
+        ensures noted { OnOk result (steps_in self.new ≡ steps_in self.old ++ Synced ∷ []) }
+    {
+        self.begin(self.has_room_to_sync())?;
+        self.tape.sync();
+        Ok(())
+    }
+}
+
+/// Copies the bytes from a place on into the buffer, as many as it takes or there are.
+fn copy_from(bytes: &[u8], at: u64, buf: &mut [u8]) -> usize
+    ensures count { result ≡ min (length buf.old) (length bytes.now - at) }
+    ensures copied { buf.new ≡ take result (drop at bytes.now) ++ drop result buf.old }
+{
+    if at >= bytes.len() as u64 {
+        return 0;
+    }
+    let rest = &bytes[at as usize..];
+    let count = rest.len().min(buf.len());
+    buf[..count].copy_from_slice(&rest[..count]);
+    count
+}
