@@ -1,7 +1,11 @@
 -- What the loop has done, by how it ended.
 use Rattle.std.specs.Prelude.{◌≡◌, ℕ, ◌+◌, List, [], ◌∷◌, ◌++◌, length, Option, Some, None}
 use Rattle.assign.specs.Events.{Answer}
+use Rattle.assign.specs.declared.events.Plan.TheVariants.{Scopes}
+use Rattle.language.specs.declared.candidates.Candidate.{Candidate}
 use Rattle.language.specs.Language.{Language}
+use Rattle.language.specs.Answers.{IsCovered, IsConverged}
+use Rattle.session_laws.specs.Session.{Idle, At, state_after}
 use Rattle.target_oracle.specs.Turns.{Turns}
 use Rattle.target_oracle.specs.Tells.{Front}
 use Rattle.acq_cli.specs.Run.{Closing, Converged, Collapsed, Suspended, Unreadable, Ran, Runs, after_text}
@@ -27,10 +31,10 @@ abbrev pub StepsTo : Turns → Language → Place → Place → Type 0
 StepsTo turns l old new = (bytes before : List ℕ) → old.left ≡ Some bytes → old.written ≡ Some before → IsBegun turns l bytes before old new
 
 -- the run with this closing is what was written and left, and its answers stand
-pub record IsRun (turns : Turns) (l : Language) (bytes before : List ℕ) (closing : Closing) (old new : Place) : Type 0 where
+pub record IsRun (turns : Turns) (l : Language) (bytes before : List ℕ) (end : Closing) (old new : Place) : Type 0 where
   pub run : Ran
   pub runs : Runs turns l old.answers bytes run
-  pub closing : run.closing ≡ closing
+  pub closing : run.closing ≡ end
   pub answers : run.answers ≡ new.answers
   pub left : new.left ≡ Some run.rest
   pub written : new.written ≡ Some (before ++ run.text)
@@ -49,9 +53,17 @@ pub record IsCut (turns : Turns) (l : Language) (bytes before : List ℕ) (old n
 abbrev pub CutOff : Turns → Language → Place → Place → Type 0
 CutOff turns l old new = (bytes before : List ℕ) → old.left ≡ Some bytes → old.written ≡ Some before → IsCut turns l bytes before old new
 
--- the loop ends so only in this way
+-- nothing is left to ask, and the answers converge on what was learned
+pub record IsDone (l : Language) (t : List Answer) : Type 0 where
+  pub network : List Candidate
+  pub idle : state_after l Scopes t ≡ At (Idle network None)
+  pub covered : IsCovered l network t
+  pub converged : IsConverged l network t
+
+-- The loop ends so only in this way. In plan Scopes it never collapses.
 abbrev pub Drives : Turns → Language → Place → Place → Drove → Type 0
-Drives turns l old new (drove.Converged m) = (m ≡ length new.answers) × RanTo turns l Converged old new
+Drives turns l old new (drove.Converged m) = (m ≡ length new.answers) × IsDone l new.answers × RanTo turns l Converged old new
+Drives turns l old new (drove.Collapsed m) = ⊥
 Drives turns l old new (drove.Suspended m) = (m ≡ length new.answers) × RanTo turns l Suspended old new
 Drives turns l old new drove.Unreadable = RanTo turns l Unreadable old new
 Drives turns l old new drove.ReadFault = CutOff turns l old new

@@ -1,0 +1,164 @@
+-- Runs, one turn at a time.
+use Rattle.std.proofs.Common.{◌≡◌, ℕ, zero, suc, ◌+◌, ◌≤◌, ◌<◌, List, [], ◌∷◌, ◌++◌, Bool, length, ap, sym, ◌∙◌, refl, Option, Some, None, subst, arith, append_assoc, length-append}
+use Rattle.std.proofs.lemmas.List.{append-nil}
+use Rattle.std.specs.Option.{option_map}
+use Rattle.assign.specs.Assignment.{Assignment}
+use Rattle.assign.specs.Events.{Answer}
+use Rattle.assign.specs.declared.events.Plan.TheVariants.{Scopes}
+use Rattle.language.specs.declared.candidates.Candidate.{Candidate}
+use Rattle.language.specs.Language.{Language, IsLanguage}
+use Rattle.language.specs.Answers.{kept}
+use Rattle.session_laws.specs.Session.{State, Idle, Halving, Choosing, Walking, Over, Reading, At, Stray, open_question, scope_question, state_after}
+use Rattle.session_laws.specs.Bound.{most_answers}
+use Rattle.session_laws.specs.Walk.{WalkEnd}
+use Rattle.session_laws.specs.Laws.{OneAnswerMore, QuestionsHavePlaces, AnswersAreAtMost}
+use Rattle.target_oracle.specs.Turns.{Turns, Turned, Reply, Said, Ended, Unread, Heard}
+use Rattle.acq_cli.specs.Run.{Closing, Suspended, Unreadable, Collapsed, Converged, Next, Puts, Ends, puts_or, next_at, next_in, next_after, Ran, after_text, answer, ended, heard_on, turned_on, next_on, ran, Runs}
+
+-- ---- a turn and what follows
+
+pub text_after : (x y : List ℕ) (run : Ran) → after_text x (after_text y run) ≡ after_text (x ++ y) run
+text_after x y run = ap (λ (t : List ℕ). let r : Ran = record run { text = t } in r) (sym (append_assoc x y run.text))
+
+-- a turn that heard an answer
+pub runs_said : (turns : Turns) (l : Language) (t : List Answer) (bytes : List ℕ) (q : Assignment) (reply : Bool) (run : Ran) →
+    next_after l t ≡ Some (Puts q) → (turns l (length t + 1) q bytes).heard.reply ≡ Said reply →
+    Runs turns l (t ++ answer q reply ∷ []) (turns l (length t + 1) q bytes).heard.rest run →
+    Runs turns l t bytes (after_text (turns l (length t + 1) q bytes).text run)
+unfolding ran
+runs_said turns l t bytes q reply run due heard runs =
+    let turned : Turned = turns l (length t + 1) q bytes in
+    record {
+      count = suc runs.count;
+      is = ap (next_on (λ p. turned_on (ran turns l runs.count) t p (turns l (length t + 1) p bytes)) t bytes) due
+        ∙ ap (λ r. option_map (after_text turned.text) (heard_on (ran turns l runs.count) t q turned.heard.rest r)) heard
+        ∙ ap (option_map (after_text turned.text)) runs.is;
+    }
+
+-- a turn that heard the end of the input, or no answer
+pub runs_ended : (turns : Turns) (l : Language) (t : List Answer) (bytes : List ℕ) (q : Assignment) →
+    next_after l t ≡ Some (Puts q) → (turns l (length t + 1) q bytes).heard.reply ≡ Ended →
+    Runs turns l t bytes (after_text (turns l (length t + 1) q bytes).text (ended Suspended t (turns l (length t + 1) q bytes).heard.rest))
+unfolding ran
+runs_ended turns l t bytes q due heard =
+    let turned : Turned = turns l (length t + 1) q bytes in
+    record {
+      count = 1;
+      is = ap (next_on (λ p. turned_on (ran turns l 0) t p (turns l (length t + 1) p bytes)) t bytes) due
+        ∙ ap (λ r. option_map (after_text turned.text) (heard_on (ran turns l 0) t q turned.heard.rest r)) heard;
+    }
+
+pub runs_unread : (turns : Turns) (l : Language) (t : List Answer) (bytes : List ℕ) (q : Assignment) →
+    next_after l t ≡ Some (Puts q) → (turns l (length t + 1) q bytes).heard.reply ≡ Unread →
+    Runs turns l t bytes (after_text (turns l (length t + 1) q bytes).text (ended Unreadable t (turns l (length t + 1) q bytes).heard.rest))
+unfolding ran
+runs_unread turns l t bytes q due heard =
+    let turned : Turned = turns l (length t + 1) q bytes in
+    record {
+      count = 1;
+      is = ap (next_on (λ p. turned_on (ran turns l 0) t p (turns l (length t + 1) p bytes)) t bytes) due
+        ∙ ap (λ r. option_map (after_text turned.text) (heard_on (ran turns l 0) t q turned.heard.rest r)) heard;
+    }
+
+-- nothing is put any more
+pub runs_end : (turns : Turns) (l : Language) (t : List Answer) (bytes : List ℕ) (closing : Closing) →
+    next_after l t ≡ Some (Ends closing) → Runs turns l t bytes (ended closing t bytes)
+unfolding ran
+runs_end turns l t bytes closing due = record {
+  count = 1;
+  is = ap (next_on (λ p. turned_on (ran turns l 0) t p (turns l (length t + 1) p bytes)) t bytes) due;
+}
+
+-- ---- each run comes to an end
+
+abbrev pub IsReached : Language → List Answer → Type 0
+IsReached l t = (state : State) × (state_after l Scopes t ≡ At state)
+
+-- what comes next is put, so its answer has a place
+puts_is : (closing : Closing) (o : Option Assignment) (q : Assignment) → puts_or closing o ≡ Puts q → o ≡ Some q
+puts_is closing None q h = cc
+puts_is closing (Some p) q h = cc
+
+place_at : QuestionsHavePlaces → OneAnswerMore → (l : Language) (t : List Answer) (state : State) (q : Assignment) (reply : Bool) →
+    state_after l Scopes t ≡ At state → next_at l t state ≡ Puts q → IsReached l (t ++ answer q reply ∷ [])
+place_at places more l t (Idle network end) q reply at h =
+    let next = places.scoped l t network end q reply (puts_is Converged _ q h) in (next.0, more l Scopes t (answer q reply) (Idle network end) next.0 at next.1)
+place_at places more l t (Halving e set replies network walk) q reply at h =
+    let next = places.opened l Scopes t (Halving e set replies network walk) q reply (puts_is Collapsed _ q h) in
+    (next.0, more l Scopes t (answer q reply) (Halving e set replies network walk) next.0 at next.1)
+place_at places more l t (Choosing s choices network walk) q reply at h =
+    let next = places.opened l Scopes t (Choosing s choices network walk) q reply (puts_is Collapsed _ q h) in
+    (next.0, more l Scopes t (answer q reply) (Choosing s choices network walk) next.0 at next.1)
+place_at places more l t (Walking set walk network) q reply at h =
+    let next = places.opened l Scopes t (Walking set walk network) q reply (puts_is Collapsed _ q h) in
+    (next.0, more l Scopes t (answer q reply) (Walking set walk network) next.0 at next.1)
+place_at places more l t (Over network) q reply at h = cc
+
+pub placed : QuestionsHavePlaces → OneAnswerMore → (l : Language) (t : List Answer) (q : Assignment) (reply : Bool) →
+    IsReached l t → next_after l t ≡ Some (Puts q) → IsReached l (t ++ answer q reply ∷ [])
+placed places more l t q reply (state, at) h =
+    place_at places more l t state q reply at (let e : Some (next_at l t state) ≡ Some (Puts q) = sym (ap (next_in l t) at) ∙ h in let same : next_at l t state ≡ Puts q = cc in same)
+
+-- a run from these answers and bytes, which only adds answers
+pub record HasRun (turns : Turns) (l : Language) (t : List Answer) (bytes : List ℕ) : Type 0 where
+  pub run : Ran
+  pub runs : Runs turns l t bytes run
+  pub later : List Answer
+  pub extends : run.answers ≡ t ++ later
+
+-- a run whose text begins with that of this question's turn
+pub record HasTurn (turns : Turns) (l : Language) (t : List Answer) (bytes : List ℕ) (q : Assignment) : Type 0 where
+  pub has : HasRun turns l t bytes
+  pub more : List ℕ
+  pub begins : has.run.text ≡ (turns l (length t + 1) q bytes).text ++ more
+
+-- a turn, by what was heard
+turn_heard : (turns : Turns) (l : Language) (t : List Answer) (bytes : List ℕ) (q : Assignment) → next_after l t ≡ Some (Puts q) →
+    (reply : Reply) → (turns l (length t + 1) q bytes).heard.reply ≡ reply →
+    ((said : Bool) (rest : List ℕ) → HasRun turns l (t ++ answer q said ∷ []) rest) → HasTurn turns l t bytes q
+turn_heard turns l t bytes q due (Said said) heard next =
+    let later = next said (turns l (length t + 1) q bytes).heard.rest in
+    record {
+      has = record { run = _; runs = runs_said turns l t bytes q said later.run due heard later.runs; later = answer q said ∷ later.later; extends = later.extends ∙ append_assoc t (answer q said ∷ []) later.later };
+      more = later.run.text;
+      begins = refl;
+    }
+turn_heard turns l t bytes q due Ended heard next = record {
+  has = record { run = _; runs = runs_ended turns l t bytes q due heard; later = []; extends = sym (append-nil t) };
+  more = [];
+  begins = refl;
+}
+turn_heard turns l t bytes q due Unread heard next = record {
+  has = record { run = _; runs = runs_unread turns l t bytes q due heard; later = []; extends = sym (append-nil t) };
+  more = [];
+  begins = refl;
+}
+
+run_next : (turns : Turns) (l : Language) (t : List Answer) (bytes : List ℕ) (next : Next) → next_after l t ≡ Some next →
+    ((q : Assignment) → next_after l t ≡ Some (Puts q) → HasTurn turns l t bytes q) → HasRun turns l t bytes
+run_next turns l t bytes (Puts q) due go = (go q due).has
+run_next turns l t bytes (Ends closing) due go = record { run = _; runs = runs_end turns l t bytes closing due; later = []; extends = sym (append-nil t) }
+
+-- the laws that a run's end rests on
+pub record RunLaws : Type 0 where
+  pub places : QuestionsHavePlaces
+  pub more : OneAnswerMore
+  pub most : AnswersAreAtMost
+
+run_from : RunLaws → (turns : Turns) (l : Language) → IsLanguage l → (left : ℕ) (t : List Answer) (bytes : List ℕ) → IsReached l t → most_answers l < length t + left → HasRun turns l t bytes
+run_from laws turns l lawful zero t bytes (state, at) above = absurd (let most = laws.most l Scopes t state lawful at in omega arith)
+run_from laws turns l lawful (suc left) t bytes (state, at) above =
+    run_next turns l t bytes (next_at l t state) (ap (next_in l t) at)
+    (λ q due. turn_heard turns l t bytes q due (turns l (length t + 1) q bytes).heard.reply refl
+        (λ said rest. run_from laws turns l lawful left (t ++ answer q said ∷ []) rest (placed laws.places laws.more l t q said (state, at) due)
+            (omega (arith, length-append t (answer q said ∷ [])))))
+
+-- from answers that have a place there is a run, whatever the bytes
+pub run_exists : RunLaws → (turns : Turns) (l : Language) → IsLanguage l → (t : List Answer) (bytes : List ℕ) → IsReached l t → HasRun turns l t bytes
+run_exists laws turns l lawful t bytes reached = run_from laws turns l lawful (most_answers l + 1) t bytes reached (omega arith)
+
+-- where a question comes next there is one that begins with its turn
+pub turn_exists : RunLaws → (turns : Turns) (l : Language) → IsLanguage l → (t : List Answer) (bytes : List ℕ) (q : Assignment) → IsReached l t → next_after l t ≡ Some (Puts q) → HasTurn turns l t bytes q
+turn_exists laws turns l lawful t bytes q reached due =
+    turn_heard turns l t bytes q due (turns l (length t + 1) q bytes).heard.reply refl
+    (λ said rest. run_exists laws turns l lawful (t ++ answer q said ∷ []) rest (placed laws.places laws.more l t q said reached due))

@@ -1,0 +1,163 @@
+-- What the loop has done after a turn, and after many.
+use Rattle.std.proofs.Common.{◌≡◌, ℕ, ◌+◌, List, [], ◌∷◌, ◌++◌, Bool, length, ap, sym, ◌∙◌, refl, Option, Some, None, subst, append_assoc}
+use Rattle.std.proofs.lemmas.List.{append-nil}
+use Rattle.assign.specs.Assignment.{Assignment}
+use Rattle.assign.specs.Events.{Answer}
+use Rattle.language.specs.Language.{Language, IsLanguage}
+use Rattle.target_oracle.specs.Turns.{Turns, Turned, Reply, Said, Ended, Unread}
+use Rattle.target_oracle.specs.Tells.{Turn, Front}
+use Rattle.acq_cli.specs.Run.{Closing, Converged, Suspended, Unreadable, Ran, Runs, Puts, Ends, next_after, after_text, answer, ended}
+use Rattle.acq_cli.specs.Driven.{Place, IsBegun, StepsTo, IsRun, RanTo, IsCut, CutOff, IsDone, Drives}
+use Rattle.acq_cli.specs.declared.driving.Drove.{Drove}
+use Rattle.acq_cli.specs.declared.driving.Drove.TheVariants as drove
+use Rattle.acq_cli.proofs.Running.{text_after, runs_said, runs_ended, runs_unread, runs_end, IsReached, RunLaws, HasTurn, turn_exists}
+
+some_text : (x y : List ℕ) → x ≡ y → (let a : Option (List ℕ) = Some x in a) ≡ Some y
+some_text x y e = ap (λ (t : List ℕ). let a : Option (List ℕ) = Some t in a) e
+
+-- ---- many turns
+
+pub steps_none : (turns : Turns) (l : Language) (a : Place) → StepsTo turns l a a
+steps_none turns l a bytes before left written = record {
+  rest = bytes;
+  done = [];
+  left = left;
+  written = written ∙ some_text _ _ (sym (append-nil before));
+  begins = λ run runs. runs;
+}
+
+pub steps_on : (turns : Turns) (l : Language) (a b c : Place) → StepsTo turns l a b → StepsTo turns l b c → StepsTo turns l a c
+steps_on turns l a b c first second bytes before left written =
+    let f = first bytes before left written in
+    let s = second f.rest (before ++ f.done) f.left f.written in
+    record {
+      rest = s.rest;
+      done = f.done ++ s.done;
+      left = s.left;
+      written = s.written ∙ some_text _ _ (append_assoc before f.done s.done);
+      begins = λ run runs. subst (Runs turns l a.answers bytes) (text_after f.done s.done run) (f.begins (after_text s.done run) (s.begins run runs));
+    }
+
+steps_ran : (turns : Turns) (l : Language) (closing : Closing) (a b c : Place) → StepsTo turns l a b → RanTo turns l closing b c → RanTo turns l closing a c
+steps_ran turns l closing a b c first second bytes before left written =
+    let f = first bytes before left written in
+    let s = second f.rest (before ++ f.done) f.left f.written in
+    record {
+      run = after_text f.done s.run;
+      runs = f.begins s.run s.runs;
+      closing = s.closing;
+      answers = s.answers;
+      left = s.left;
+      written = s.written ∙ some_text _ _ (append_assoc before f.done s.run.text);
+    }
+
+steps_cut : (turns : Turns) (l : Language) (a b c : Place) → StepsTo turns l a b → CutOff turns l b c → CutOff turns l a c
+steps_cut turns l a b c first second bytes before left written =
+    let f = first bytes before left written in
+    let s = second f.rest (before ++ f.done) f.left f.written in
+    record {
+      run = after_text f.done s.run;
+      runs = f.begins s.run s.runs;
+      text = record {
+        front = f.done ++ s.text.front;
+        back = s.text.back;
+        parts = ap (λ x. f.done ++ x) s.text.parts ∙ sym (append_assoc f.done s.text.front s.text.back);
+        put = s.text.put ∙ some_text _ _ (append_assoc before f.done s.text.front);
+      };
+      later = s.later;
+      answers = s.answers;
+    }
+
+pub steps_end : (turns : Turns) (l : Language) (a b c : Place) (end : Drove) → StepsTo turns l a b → Drives turns l b c end → Drives turns l a c end
+steps_end turns l a b c (drove.Converged m) steps e = (e.0, e.1, steps_ran turns l Converged a b c steps e.2)
+steps_end turns l a b c (drove.Collapsed m) steps e = e
+steps_end turns l a b c (drove.Suspended m) steps e = (e.0, steps_ran turns l Suspended a b c steps e.1)
+steps_end turns l a b c drove.Unreadable steps e = steps_ran turns l Unreadable a b c steps e
+steps_end turns l a b c drove.ReadFault steps e = steps_cut turns l a b c steps e
+steps_end turns l a b c drove.WriteFault steps e = steps_cut turns l a b c steps e
+steps_end turns l a b c drove.Memory steps e = steps_cut turns l a b c steps e
+
+-- ---- one turn
+
+-- where both tell, the turn's reply is this one
+abbrev pub ToldSo : Turns → Language → ℕ → Assignment → Place → Place → Reply → Type 0
+ToldSo turns l k q a b reply = (bytes before : List ℕ) → a.left ≡ Some bytes → a.written ≡ Some before → Turn (turns l k q bytes) before b.left b.written reply
+
+-- where both tell, a front of the turn's text was written
+abbrev pub FrontSo : Turns → Language → ℕ → Assignment → Place → Place → Type 0
+FrontSo turns l k q a b = (bytes before : List ℕ) → a.left ≡ Some bytes → a.written ≡ Some before → Front (turns l k q bytes).text before b.written
+
+-- the turn's text, whole
+pub front_of_turn : (turns : Turns) (l : Language) (k : ℕ) (q : Assignment) (a b : Place) (reply : Reply) → ToldSo turns l k q a b reply → FrontSo turns l k q a b
+front_of_turn turns l k q a b reply told bytes before left written =
+    let t = told bytes before left written in
+    record { front = (turns l k q bytes).text; back = []; parts = sym (append-nil (turns l k q bytes).text); put = t.text }
+
+-- nothing is put
+pub ran_end : (turns : Turns) (l : Language) (closing : Closing) (a : Place) → next_after l a.answers ≡ Some (Ends closing) → RanTo turns l closing a a
+ran_end turns l closing a due bytes before left written = record {
+  run = ended closing a.answers bytes;
+  runs = runs_end turns l a.answers bytes closing due;
+  closing = refl;
+  answers = refl;
+  left = left;
+  written = written ∙ some_text _ _ (sym (append-nil before));
+}
+
+pub step_said : (turns : Turns) (l : Language) (q : Assignment) (said : Bool) (a b : Place) → next_after l a.answers ≡ Some (Puts q) →
+    b.answers ≡ a.answers ++ answer q said ∷ [] → ToldSo turns l (length a.answers + 1) q a b (Said said) → StepsTo turns l a b
+step_said turns l q said a b due added told bytes before left written =
+    let t = told bytes before left written in
+    let turned = turns l (length a.answers + 1) q bytes in
+    record {
+      rest = turned.heard.rest;
+      done = turned.text;
+      left = t.rest;
+      written = t.text;
+      begins = λ run runs. runs_said turns l a.answers bytes q said run due t.heard (let P : List Answer → Type 0 = λ xs. Runs turns l xs turned.heard.rest run in subst P added runs);
+    }
+
+pub ran_ended : (turns : Turns) (l : Language) (q : Assignment) (a b : Place) → next_after l a.answers ≡ Some (Puts q) → b.answers ≡ a.answers →
+    ToldSo turns l (length a.answers + 1) q a b Ended → RanTo turns l Suspended a b
+ran_ended turns l q a b due same told bytes before left written =
+    let t = told bytes before left written in
+    record {
+      run = _;
+      runs = runs_ended turns l a.answers bytes q due t.heard;
+      closing = refl;
+      answers = sym same;
+      left = t.rest;
+      written = t.text ∙ some_text _ _ (ap (λ x. before ++ x) (sym (append-nil _)));
+    }
+
+pub ran_unread : (turns : Turns) (l : Language) (q : Assignment) (a b : Place) → next_after l a.answers ≡ Some (Puts q) → b.answers ≡ a.answers →
+    ToldSo turns l (length a.answers + 1) q a b Unread → RanTo turns l Unreadable a b
+ran_unread turns l q a b due same told bytes before left written =
+    let t = told bytes before left written in
+    record {
+      run = _;
+      runs = runs_unread turns l a.answers bytes q due t.heard;
+      closing = refl;
+      answers = sym same;
+      left = t.rest;
+      written = t.text ∙ some_text _ _ (ap (λ x. before ++ x) (sym (append-nil _)));
+    }
+
+-- a turn that was cut off
+pub cut_turn : RunLaws → (turns : Turns) (l : Language) → IsLanguage l → (q : Assignment) (a b : Place) → IsReached l a.answers → next_after l a.answers ≡ Some (Puts q) →
+    b.answers ≡ a.answers → FrontSo turns l (length a.answers + 1) q a b → CutOff turns l a b
+cut_turn laws turns l lawful q a b reached due same told bytes before left written =
+    let f = told bytes before left written in
+    let turn = turn_exists laws turns l lawful a.answers bytes q reached due in
+    record {
+      run = turn.has.run;
+      runs = turn.has.runs;
+      text = record {
+        front = f.front;
+        back = f.back ++ turn.more;
+        parts = turn.begins ∙ ap (λ x. x ++ turn.more) f.parts ∙ append_assoc f.front f.back turn.more;
+        put = f.put;
+      };
+      later = turn.has.later;
+      answers = turn.has.extends ∙ ap (λ x. x ++ turn.has.later) (sym same);
+    }
