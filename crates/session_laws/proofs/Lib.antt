@@ -10,3 +10,9 @@ pub mod Halving
 pub mod FoundScope
 pub mod States
 pub mod Places
+pub mod Gone
+pub mod Lengths
+pub mod Noes
+pub mod Counts
+pub mod Counted
+pub mod Limits

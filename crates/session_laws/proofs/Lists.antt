@@ -1,10 +1,11 @@
 -- Lists: what some or all of their members pass.
-use Rattle.std.proofs.Common.{◌≡◌, ℕ, zero, suc, ◌+◌, ◌<◌, ◌≤◌, Bool, true, false, cond, ◌||◌, List, [], ◌∷◌, ◌++◌, length, map, Option, Some, None, refl, sym, ◌∙◌, ap, subst, arith, length-append}
+use Rattle.std.proofs.Common.{◌≡◌, ℕ, zero, suc, ◌+◌, ◌<◌, ◌≤◌, Bool, true, false, cond, ◌||◌, ◌&&◌, not, List, [], ◌∷◌, ◌++◌, length, map, Option, Some, None, refl, sym, ◌∙◌, ap, subst, arith, inl, inr, ◌⊎◌, length-append}
 use Rattle.std.specs.Prelude.{All, Any, is_some, find}
 use Rattle.std.specs.List.{list_any, filter, range_with_len, flat_map}
 use Rattle.std.proofs.lemmas.List.{get_or_append_left}
 use Rattle.std.proofs.lemmas.List.Elements.{All-head, All-tail, All-append, All-cons, All-nil, All-map, All-weaker}
-use Rattle.std.proofs.lemmas.Bool.{both_ways}
+use Rattle.std.proofs.lemmas.Bool.{both_ways, or_cases, or_left, or_right, or_from}
+use Rattle.std.proofs.lemmas.List.Filters.{length-filter_both}
 use Rattle.assign.specs.Sets.{numbers}
 use Rattle.rel_table.specs.Relation.{tuples}
 
@@ -54,3 +55,42 @@ any_same p q (x ∷ xs) h = λ i. h x i || any_same p q xs h i
 pub is_none_option : {X : Type 0} (o : Option X) → is_some o ≡ false → o ≡ None
 is_none_option None h = refl
 is_none_option (Some x) h = cc
+
+pub any_imp : {X : Type 0} (p q : X → Bool) (xs : List X) → ((x : X) → p x ≡ true → q x ≡ true) → list_any p xs ≡ true → list_any q xs ≡ true
+any_imp p q [] h at = absurd (both_ways _ refl at)
+any_imp p q (x ∷ xs) h at = go (or_cases (p x) (list_any p xs) at) (any_imp p q xs h)
+  where
+    go : (p x ≡ true) ⊎ (list_any p xs ≡ true) → (list_any p xs ≡ true → list_any q xs ≡ true) → (q x || list_any q xs) ≡ true
+    go (inl here) rest = or_left _ _ (h x here)
+    go (inr there) rest = or_right _ _ (rest there)
+
+pub any_never : {X : Type 0} (p : X → Bool) (xs : List X) → ((x : X) → p x ≡ false) → list_any p xs ≡ false
+any_never p [] h = refl
+any_never p (x ∷ xs) h = or_from _ _ (h x) (any_never p xs h)
+
+-- ---- how many pass
+
+pub fewer_in : {X : Type 0} (P : X → Type 0) (g k : X → Bool) (cs : List X) → All P cs → ((c : X) → P c → g c ≡ true → k c ≡ true) → length (filter g cs) ≤ length (filter k cs)
+fewer_in P g k [] all h = omega arith
+fewer_in P g k (c ∷ cs) all h = go (g c) (k c) (h c (All-head P c cs all)) (fewer_in P g k cs (All-tail P c cs all) h)
+  where
+    go : (a b : Bool) → (a ≡ true → b ≡ true) → length (filter g cs) ≤ length (filter k cs) → length (cond a (c ∷ filter g cs) (filter g cs)) ≤ length (cond b (c ∷ filter k cs) (filter k cs))
+    go true true h rest = omega arith
+    go true false h rest = absurd (both_ways _ refl (h refl))
+    go false true h rest = omega arith
+    go false false h rest = rest
+
+pub more_in : {X : Type 0} (P : X → Type 0) (g k : X → Bool) (cs : List X) → All P cs → ((c : X) → P c → g c ≡ true → k c ≡ true) → list_any (λ c. not (g c) && k c) cs ≡ true →
+    suc (length (filter g cs)) ≤ length (filter k cs)
+more_in P g k [] all h at = absurd (both_ways _ refl at)
+more_in P g k (c ∷ cs) all h at = go (g c) (k c) (h c (All-head P c cs all)) at (more_in P g k cs (All-tail P c cs all) h) (fewer_in P g k cs (All-tail P c cs all) h)
+  where
+    go : (a b : Bool) → (a ≡ true → b ≡ true) → ((not a && b) || list_any (λ c. not (g c) && k c) cs) ≡ true → (list_any (λ c. not (g c) && k c) cs ≡ true → suc (length (filter g cs)) ≤ length (filter k cs)) →
+        length (filter g cs) ≤ length (filter k cs) → suc (length (cond a (c ∷ filter g cs) (filter g cs))) ≤ length (cond b (c ∷ filter k cs) (filter k cs))
+    go true true h at rest low = (let more = rest at in omega arith)
+    go true false h at rest low = absurd (both_ways _ refl (h refl))
+    go false true h at rest low = omega arith
+    go false false h at rest low = rest at
+
+pub count_all : {X : Type 0} (p : X → Bool) (xs : List X) → length (filter p xs) ≤ length xs
+count_all p xs = omega (arith, length-filter_both p (λ x. not (p x)) (λ x. refl) xs)

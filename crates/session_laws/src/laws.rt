@@ -1,6 +1,6 @@
 //! Laws of the sessions, as contracts of functions that do nothing.
 
-ghost use Rattle.session_laws.specs.Laws.{FuelIsEnough, HalvingAsks, IdleIsInStep, ImpliedIsCovered, KeptSteps, NeverStuck, OneAnswerMore, OverMeansNone, QuestionsHavePlaces, ScopesAreCovered, ScopesNeverOver, SettleSteps};
+ghost use Rattle.session_laws.specs.Laws.{AnswersAreAtMost, AnswersAreFew, AnswersFit, FuelIsEnough, HalvingAsks, IdleIsInStep, ImpliedIsCovered, KeptSteps, LearnedAreFew, NeverStuck, OneAnswerMore, OverMeansNone, QuestionsHavePlaces, ScopesAreCovered, ScopesNeverOver, SettleSteps};
 
 // ---- One answer, and its place
 
@@ -66,4 +66,26 @@ pub fn over_means_none()
 /// In plan Scopes a session is never over.
 pub fn scopes_never_over()
     ensures { ScopesNeverOver }
+{}
+
+// ---- How many answers there are
+
+/// Where nothing is open, the answers are at most as many as the bound says.
+pub fn answers_are_few()
+    ensures { AnswersAreFew }
+{}
+
+/// At any time there are at most so many answers.
+pub fn answers_are_at_most()
+    ensures { AnswersAreAtMost }
+{}
+
+/// That number fits in 32 bits.
+pub fn answers_fit()
+    ensures { AnswersFit }
+{}
+
+/// Where some network agrees, no more candidates are learned than it has scopes.
+pub fn learned_are_few()
+    ensures { LearnedAreFew }
 {}

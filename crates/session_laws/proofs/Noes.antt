@@ -1,0 +1,66 @@
+-- The noes of a halving: quiet replies add none, and none is left where a set is got.
+use Rattle.std.proofs.Common.{◌≡◌, ℕ, zero, suc, Bool, true, false, cond, not, List, [], ◌∷◌, ◌++◌, length, refl, sym, ◌∙◌, ap, arith, inl, inr, ◌⊎◌}
+use Rattle.std.proofs.lemmas.Bool.{both_ways}
+use Rattle.language.specs.declared.candidates.Candidate.{Candidate}
+use Rattle.assign.specs.Assignment.{Assignment}
+use Rattle.language.specs.Language.{Language}
+use Rattle.find_scope.specs.Halving.{Halved, Wants, Got, halve}
+use Rattle.session_laws.specs.Session.{is_quiet, with_quiet_replies}
+use Rattle.find_scope.proofs.Runs.{IsUsed, more_replies, used}
+use Rattle.std.proofs.lemmas.List.Sums.{sum_by-append}
+use Rattle.find_scope.specs.Bound.{noes}
+use Rattle.session_laws.proofs.Halving.{parted}
+use Rattle.find_scope.proofs.Runs.{IsUsed, more_replies, used}
+
+-- the last reply was wanted
+abbrev pub IsLive : List ℕ → List Bool → Type 0
+IsLive set replies = (replies ≡ []) ⊎ ((before : List Bool) × (r : Bool) × (replies ≡ before ++ r ∷ []) × (w : List ℕ) × (halve set before ≡ Wants w))
+
+pub noes_yes : (replies : List Bool) → noes (replies ++ true ∷ []) ≡ noes replies
+noes_yes replies = omega (arith, sum_by-append (λ r. cond (not r) 1 0) replies (true ∷ []))
+
+pub noes_no : (replies : List Bool) → noes (replies ++ false ∷ []) ≡ suc (noes replies)
+noes_no replies = omega (arith, sum_by-append (λ r. cond (not r) 1 0) replies (false ∷ []))
+
+quiet_wants : (l : Language) (live : List Candidate) (e : Assignment) (h : Halved) → is_quiet l live e h ≡ true → (w : List ℕ) × (h ≡ Wants w)
+quiet_wants l live e (Wants w) quiet = (w, refl)
+quiet_wants l live e (Got s left) quiet = absurd (both_ways _ refl quiet)
+
+pub quiet_counts : (l : Language) (live : List Candidate) (e : Assignment) (set : List ℕ) (most : ℕ) (replies : List Bool) → IsLive set replies →
+    IsLive set (with_quiet_replies l live e set most replies) × (noes (with_quiet_replies l live e set most replies) ≡ noes replies)
+unfolding with_quiet_replies
+quiet_counts l live e set zero replies is = (is, refl)
+quiet_counts l live e set (suc most) replies is = go (is_quiet l live e (halve set replies)) refl (quiet_counts l live e set most (replies ++ true ∷ []))
+  where
+    more : List Bool
+    more = with_quiet_replies l live e set most (replies ++ true ∷ [])
+
+    go : (b : Bool) → is_quiet l live e (halve set replies) ≡ b → (IsLive set (replies ++ true ∷ []) → IsLive set more × (noes more ≡ noes (replies ++ true ∷ []))) →
+        IsLive set (cond b more replies) × (noes (cond b more replies) ≡ noes replies)
+    go false loud rest = (is, refl)
+    go true quiet rest =
+        let wants = quiet_wants l live e (halve set replies) quiet in
+        let done = rest (inr (replies, true, refl, wants.0, wants.1)) in
+        (done.0, done.1 ∙ noes_yes replies)
+
+pub nothing_left : (set : List ℕ) (replies : List Bool) (s : List ℕ) (left : List Bool) → IsLive set replies → halve set replies ≡ Got s left → noes left ≡ 0
+nothing_left set replies s left live got = go left live (used (length set) [] set false replies s left got)
+  where
+    end : (u left : List Bool) → [] ≡ u ++ left → noes left ≡ 0
+    end [] left e = ap noes (sym e)
+    end (x ∷ u) left e = cc
+
+    clash : (w : List ℕ) (before : List Bool) (left : List Bool) → halve set before ≡ Wants w → halve set before ≡ Got s left → ⊥
+    clash w before left h k = wants_got w left (sym h ∙ k)
+      where
+        wants_got : (w : List ℕ) (left : List Bool) → Wants w ≡ Got s left → ⊥
+        wants_got w left e = cc
+
+    go : (left : List Bool) → IsLive set replies → IsUsed (halve set) replies s left → noes left ≡ 0
+    go left (inl none) (u, parts, h) = end u left (sym none ∙ parts)
+    go [] (inr (before, r, is, w, wants)) (u, parts, h) = refl
+    go (x ∷ left) (inr (before, r, is, w, wants)) (u, parts, h) = pick (parted before r u x left (sym is ∙ parts))
+      where
+        pick : ((rest : List Bool) × (before ≡ u ++ x ∷ rest)) ⊎ ((before ≡ u) × (r ≡ x)) → noes (x ∷ left) ≡ 0
+        pick (inl (rest, e)) = absurd (clash w before (x ∷ rest) wants (ap (halve set) e ∙ more_replies (length set) [] set false u (x ∷ rest) s [] h))
+        pick (inr (e, k)) = absurd (clash w before [] wants (ap (halve set) e ∙ h))
