@@ -1,0 +1,27 @@
+-- What sources and sinks tell of their bytes, and how their faults are counted.
+use Rattle.std.specs.Prelude.{◌≡◌, ℕ, ◌+◌, ◌-◌, ◌^◌, ◌≤◌, min, List, [], ◌++◌, Option}
+use Rattle.std.specs.Option.{option_map}
+
+-- a count that is raised by one, and stays at its type's last value
+abbrev pub raised : ℕ → ℕ
+raised count = min (count + 1) (2 ^ 64 - 1)
+
+-- the count has risen, or stands at its last value
+abbrev pub Rose : ℕ → ℕ → Type 0
+Rose before now = raised before ≤ now
+
+-- where the bytes are told, this piece was taken from their front
+abbrev pub Takes : Option (List ℕ) → Option (List ℕ) → List ℕ → Type 0
+Takes before now piece = before ≡ option_map (λ rest. piece ++ rest) now
+
+-- where the bytes are told, there were none
+abbrev pub WasEmpty : Option (List ℕ) → Type 0
+WasEmpty before = before ≡ option_map (λ _. []) before
+
+-- where the bytes are told, this piece was added at their end
+abbrev pub Adds : Option (List ℕ) → Option (List ℕ) → List ℕ → Type 0
+Adds before now piece = now ≡ option_map (λ written. written ++ piece) before
+
+-- where the bytes are told, a front of this piece was added at their end
+abbrev pub AddsFront : Option (List ℕ) → Option (List ℕ) → List ℕ → Type 0
+AddsFront before now piece = (front : List ℕ) × (back : List ℕ) × (piece ≡ front ++ back) × Adds before now front

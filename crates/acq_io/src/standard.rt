@@ -1,0 +1,104 @@
+ghost use Rattle.std.specs.Prelude.{◌≡◌, ◌≤◌, length, IfOk};
+
+use crate::streams::{Failed, Put, Sink, Source};
+use std::io::{ErrorKind, Read, Write};
+use std::marker::Model;
+
+/// A reader of std with a count of its faults. It tells nothing of the bytes. Each call is one read of the reader, so
+/// one that is asked byte by byte is best buffered.
+#[derive(Drop)]
+pub struct StdSource<R> {
+    inner: R,
+    faults: u64,
+}
+
+impl<R> Model for StdSource<R> {
+    ghost use Rattle.std.specs.Prelude.{ℕ};
+
+    ghost Value = { ℕ };
+
+    ghost view = { λ s. s.faults };
+}
+
+impl<R: Read> StdSource<R> {
+    pub fn new(inner: R) -> StdSource<R>
+        ensures no_faults { ⟦<StdSource<R> as Source>⟧.faults result ≡ 0 }
+    {
+        StdSource { inner, faults: 0 }
+    }
+}
+
+impl<R: Read> Source for StdSource<R> {
+    ghost use Rattle.std.specs.Prelude.{None};
+
+    ghost left = { λ _. None };
+
+    ghost faults = { λ s. s };
+
+    fn read(&mut self, buf: &mut [u8]) -> Result<usize, Failed> {
+        match read_uninterrupted(&mut self.inner, buf) {
+            Ok(count) => Ok(count),
+            Err(Failed) => {
+                self.faults = self.faults.saturating_add(1);
+                Err(Failed)
+            }
+        }
+    }
+}
+
+/// One read, tried again where a signal interrupts it, as std's own loops do.
+fn read_uninterrupted<R: Read>(reader: &mut R, buf: &mut [u8]) -> Result<usize, Failed>
+    ensures { IfOk result (λ n. n ≤ length buf.new) }
+{
+    for _ in 0..u64::MAX {
+        match reader.read(buf) {
+            Ok(count) => return Ok(count),
+            Err(error) if error.kind() == ErrorKind::Interrupted => {}
+            Err(_) => return Err(Failed),
+        }
+    }
+    Err(Failed)
+}
+
+/// A writer of std with a count of its faults. It tells nothing of the bytes. Each piece is flushed.
+#[derive(Drop)]
+pub struct StdSink<W> {
+    inner: W,
+    faults: u64,
+}
+
+impl<W> Model for StdSink<W> {
+    ghost use Rattle.std.specs.Prelude.{ℕ};
+
+    ghost Value = { ℕ };
+
+    ghost view = { λ s. s.faults };
+}
+
+impl<W: Write> StdSink<W> {
+    pub fn new(inner: W) -> StdSink<W>
+        ensures no_faults { ⟦<StdSink<W> as Sink>⟧.faults result ≡ 0 }
+    {
+        StdSink { inner, faults: 0 }
+    }
+}
+
+impl<W: Write> Sink for StdSink<W> {
+    ghost use Rattle.std.specs.Prelude.{None};
+
+    ghost written = { λ _. None };
+
+    ghost faults = { λ s. s };
+
+    fn write(&mut self, piece: &[u8]) -> Result<(), Put> {
+        if self.inner.write_all(piece).is_err() {
+            self.faults = self.faults.saturating_add(1);
+            return Err(Put::Failed);
+        }
+        if self.inner.flush().is_err() {
+            self.faults = self.faults.saturating_add(1);
+            return Err(Put::Failed);
+        }
+        Ok(())
+    }
+}
