@@ -1,9 +1,34 @@
 -- What a session relies on, whatever its answers.
-use Rattle.std.specs.Prelude.{◌≡◌, ℕ, ◌<◌, false, List, length}
+use Rattle.std.specs.Prelude.{◌≡◌, ℕ, ◌<◌, false, true, List, length, Option, Some, None}
 use Rattle.language.specs.declared.candidates.Candidate.{Candidate}
 use Rattle.language.specs.Language.{Language}
-use Rattle.session_laws.specs.Session.{is_undecided}
+use Rattle.language.specs.Answers.{has_scope}
+use Rattle.find_c.specs.Run.{Run, IsRun}
+use Rattle.find_c.specs.Scenes.{free_choices}
+use Rattle.session_laws.specs.Session.{is_undecided, next_scope}
 
 -- no scope before this one is undecided
 abbrev pub NoneBefore : Language → List Candidate → List Candidate → ℕ → Type 0
 NoneBefore l live network next = (s : ℕ) → s < next → is_undecided l live network s ≡ false
+
+-- a run that begins on this scope
+pub record IsNew (l : Language) (live network : List Candidate) (s : ℕ) (run : Run) : Type 0 where
+  pub sound : IsRun l run
+  pub scope : run.scope ≡ s
+  pub choices : run.choices ≡ free_choices live s
+  pub free : has_scope network s ≡ false
+
+-- the scope is decided, or a run begins on it
+abbrev pub RunsOn : Language → List Candidate → List Candidate → ℕ → Option Run → Type 0
+RunsOn l live network s None = is_undecided l live network s ≡ false
+RunsOn l live network s (Some run) = IsNew l live network s run × (is_undecided l live network s ≡ true)
+
+-- a run that begins on the first undecided scope
+pub record IsFirst (l : Language) (live network : List Candidate) (run : Run) : Type 0 where
+  pub new : IsNew l live network run.scope run
+  pub before : NoneBefore l live network run.scope
+  pub next : next_scope l live network ≡ Some run.scope
+
+abbrev pub FirstRun : Language → List Candidate → List Candidate → Option Run → Type 0
+FirstRun l live network None = next_scope l live network ≡ None
+FirstRun l live network (Some run) = IsFirst l live network run

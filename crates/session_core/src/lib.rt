@@ -6,7 +6,10 @@
 #![tactic(auto)]
 
 mod knowledge;
+mod moves;
+mod scopes;
 mod session;
+mod shown;
 
-pub use knowledge::Knowledge;
-pub use session::{Asking, Collapsed, Idle, Session, begin};
+pub use moves::begin;
+pub use session::{Asking, Collapsed, Idle, Session};

@@ -1,0 +1,77 @@
+-- A scope that is decided stays so while candidates go and the network grows.
+use Rattle.std.proofs.Common.{◌≡◌, ℕ, ◌<◌, Bool, true, false, ◌||◌, ◌&&◌, not, List, [], ◌∷◌, ◌++◌, map, refl, sym, ◌∙◌, ap, arith, inl, inr, ◌⊎◌, Option, Some, None, cond}
+use Rattle.std.specs.Prelude.{find, is_some, filter, ◌==◌}
+use Rattle.std.specs.List.{list_any}
+use Rattle.std.proofs.lemmas.List.Folds.{list_any-append}
+use Rattle.std.proofs.lemmas.Bool.{and_parts, and_from, or_left, or_right, cases_Bool, both_ways}
+use Rattle.language.specs.declared.candidates.Candidate.{Candidate}
+use Rattle.language.specs.Language.{Language}
+use Rattle.language.specs.Answers.{has_scope}
+use Rattle.language.proofs.Members.{any-filter, any-map, find_none}
+use Rattle.rel_table.specs.Relation.{tuples}
+use Rattle.find_c.specs.Choosing.{Choice, Scene, allows, tells_apart, splitting_tuple}
+use Rattle.find_c.specs.Scenes.{scene_of, free_choices}
+use Rattle.session_laws.specs.Session.{is_undecided, learn}
+use Rattle.session_core.specs.Sound.{NoneBefore}
+
+-- what some member passes, some member passes of a weaker test
+any_weaker : {X : Type 0} (p q : X → Bool) (xs : List X) → ((x : X) → p x ≡ true → q x ≡ true) → list_any p xs ≡ true → list_any q xs ≡ true
+any_weaker p q [] h at = at
+any_weaker p q (x ∷ xs) h at = go (p x) refl (any_weaker p q xs h)
+  where
+    go : (b : Bool) → p x ≡ b → (list_any p xs ≡ true → list_any q xs ≡ true) → list_any q (x ∷ xs) ≡ true
+    go true here rest = or_left (q x) (list_any q xs) (h x here)
+    go false here rest = or_right (q x) (list_any q xs) (rest (ap (λ b. b || list_any p xs) (sym here) ∙ at))
+
+found_any : {X : Type 0} (p : X → Bool) (xs : List X) → is_some (find p xs) ≡ list_any p xs
+found_any p [] = refl
+found_any p (x ∷ xs) = elim (p x) as (λ b. is_some (cond b (Some x) (find p xs)) ≡ (b || list_any p xs)) [ true ↦ refl | false ↦ found_any p xs ]
+
+-- a choice that is left after a strike was one before
+choice_before : (test : Choice → Bool) (p : Candidate → Bool) (live : List Candidate) (s : ℕ) → list_any test (free_choices (filter p live) s) ≡ true → list_any test (free_choices live s) ≡ true
+choice_before test p live s at =
+    let on_s : Candidate → Bool = λ (c : Candidate). c.scope == s in
+    let number : Candidate → Choice = λ (c : Candidate). Some c.rel in
+    let left : List Candidate → Bool = λ cs. list_any test (map number (filter on_s cs)) in
+    let few : left (filter p live) ≡ list_any (λ c. p c && (on_s c && test (number c))) live =
+        any-map test number (filter on_s (filter p live)) ∙ any-filter (λ c. test (number c)) on_s (filter p live) ∙ any-filter (λ c. on_s c && test (number c)) p live in
+    let all : left live ≡ list_any (λ c. on_s c && test (number c)) live =
+        any-map test number (filter on_s live) ∙ any-filter (λ c. test (number c)) on_s live in
+    let none : Bool = list_any test (None ∷ []) in
+    let before : (list_any (λ c. p c && (on_s c && test (number c))) live || none) ≡ true =
+        sym (ap (λ b. b || none) few) ∙ sym (list_any-append test (map number (filter on_s (filter p live))) (None ∷ [])) ∙ at in
+    list_any-append test (map number (filter on_s live)) (None ∷ []) ∙ ap (λ b. b || none) all
+    ∙ go (list_any (λ c. p c && (on_s c && test (number c))) live) refl none before
+  where
+    go : (b : Bool) → list_any (λ (c : Candidate). p c && ((c.scope == s) && test (Some c.rel))) live ≡ b → (none : Bool) → (b || none) ≡ true →
+        (list_any (λ (c : Candidate). (c.scope == s) && test (Some c.rel)) live || none) ≡ true
+    go true some none h = or_left _ none (any_weaker (λ (c : Candidate). p c && ((c.scope == s) && test (Some c.rel))) (λ (c : Candidate). (c.scope == s) && test (Some c.rel)) live
+        (λ c both. (and_parts (p c) ((c.scope == s) && test (Some c.rel)) both).1) some)
+    go false some none h = or_right _ none h
+
+undecided_before : (l : Language) (p : Candidate → Bool) (live network more : List Candidate) (s : ℕ) → (has_scope more s ≡ false → has_scope network s ≡ false) →
+    is_undecided l (filter p live) more s ≡ true → is_undecided l live network s ≡ true
+undecided_before l p live network more s free at =
+    let scene : Scene = scene_of l s in
+    let us : List (List ℕ) = tuples scene.value_count scene.arity in
+    let parts = and_parts (not (has_scope more s)) (is_some (splitting_tuple scene (free_choices (filter p live) s))) at in
+    let was : list_any (tells_apart scene (free_choices live s)) us ≡ true =
+        any_weaker (tells_apart scene (free_choices (filter p live) s)) (tells_apart scene (free_choices live s)) us
+        (λ u told.
+            let both = and_parts (list_any (allows scene u) (free_choices (filter p live) s)) (list_any (λ c. not (allows scene u c)) (free_choices (filter p live) s)) told in
+            and_from _ _ (choice_before (allows scene u) p live s both.0) (choice_before (λ c. not (allows scene u c)) p live s both.1))
+        (sym (found_any (tells_apart scene (free_choices (filter p live) s)) us) ∙ parts.1) in
+    and_from _ _ (ap not (free (unlearned (has_scope more s) parts.0))) (found_any (tells_apart scene (free_choices live s)) us ∙ was)
+  where
+    unlearned : (b : Bool) → not b ≡ true → b ≡ false
+    unlearned true h = cc
+    unlearned false h = refl
+
+-- a decided scope stays decided
+pub stays_decided : (l : Language) (p : Candidate → Bool) (live network more : List Candidate) (s : ℕ) → (has_scope more s ≡ false → has_scope network s ≡ false) →
+    is_undecided l live network s ≡ false → is_undecided l (filter p live) more s ≡ false
+stays_decided l p live network more s free off = go (is_undecided l (filter p live) more s) refl
+  where
+    go : (b : Bool) → is_undecided l (filter p live) more s ≡ b → is_undecided l (filter p live) more s ≡ false
+    go true on = absurd (both_ways _ off (undecided_before l p live network more s free on))
+    go false on = on
