@@ -1,13 +1,20 @@
 -- What the fields of a language say of the language that they stand for.
-use Rattle.std.proofs.Common.{◌≡◌, ℕ, ◌-◌, ◌<◌, List, [], length, sym, ◌∙◌, ap, subst, arith, Vec, ◌^◌}
-use Rattle.std.specs.Prelude.{slice_index_or}
+use Rattle.std.proofs.Common.{◌≡◌, ℕ, ◌-◌, ◌^◌, ◌<◌, ◌≤◌, ◌++◌, ◌∷◌, List, [], length, map, true, sym, ◌∙◌, ap, subst, arith, Vec}
+use Rattle.std.specs.Prelude.{slice_index_or, string_bytes, All}
+use Rattle.std.specs.List.{flat_map}
 use Rattle.std.specs.declared.alloc.Global.{Global}
 use Rattle.std.proofs.lemmas.List.{get_or-map, length-map}
+use Rattle.std.proofs.lemmas.List.Sums.{AllPass-from_list_all}
+use Rattle.std.proofs.lemmas.Bool.{leb-true, and_parts}
 use Rattle.rel_table.specs.Table.{TruthTable}
-use Rattle.language.specs.Language.{Language, variable_count, scope_at, relations_on, IsScope}
+use Rattle.rel_table.specs.Relation.{Relation}
+use Rattle.language.specs.Language.{Language, Given, variable_count, scope_at, relations_on, is_name, IsScope}
+use Rattle.language.specs.Texts.{joined, names_containing, candidate_text}
+use Rattle.language.specs.declared.candidates.Candidate.{Candidate}
+use Rattle.language.specs.declared.parts.RelPart.{RelPart}
 use Rattle.language.specs.declared.lang.Scope.{Scope}
 use Rattle.language.specs.declared.lang.Language.TheInside.{Inside}
-use Rattle.language.specs.Inside.{seen, variables_in, tables_in, truths, IsOfKind, IsSound}
+use Rattle.language.specs.Inside.{seen, given_by, variables_in, tables_in, truths, IsOfKind, IsSound}
 
 pub scope_here : (a : Inside) → IsSound a → (l : Language) → seen a ≡ l → (s : ℕ) (scope : Scope) → s < length l.scopes →
     scope ≡ slice_index_or a.scopes.items s scope → IsScope (variable_count l) (variables_in scope)
@@ -52,3 +59,28 @@ pub table_here : (a : Inside) → IsSound a → (l : Language) → seen a ≡ l 
 table_here a sound l view s r size tables table =
     subst (λ (x : Language). s < length x.scopes → r < length (relations_on x s) → size ≡ length (scope_at x s) → tables ≡ slice_index_or a.relations.items (size - 1) tables →
     table ≡ slice_index_or tables.items r table → IsTableOn x s r table) view (table_seen a sound s r size tables table)
+
+not_empty : (name : List ℕ) → is_name name ≡ true → 1 ≤ length name
+not_empty name h = leb-true 1 (length name) (and_parts _ _ (and_parts _ _ h).0).0
+
+-- each relation of the vocabulary has a name that isn't empty
+pub some_name : (a : Inside) → IsSound a → (parts : List RelPart) → parts ≡ a.given.items → All (λ (part : RelPart). 1 ≤ length (string_bytes part.name)) parts
+some_name a sound parts same k d low =
+    let low_given : k < length a.given.items = subst (λ (ps : List RelPart). k < length ps) same low in
+    let given = map given_by a.given.items in
+    let n = map (λ (g : Given). g.name) given in
+    let low_name : k < length n = omega (arith, low_given, length-map given (λ (g : Given). g.name), length-map a.given.items given_by) in
+    let formed : is_name (slice_index_or n k []) ≡ true = AllPass-from_list_all is_name n sound.lawful.relation_names.formed k [] low_name in
+    let at : slice_index_or n k [] ≡ string_bytes (slice_index_or a.given.items k d).name =
+    get_or-map (λ (g : Given). g.name) given k (given_by d) [] (omega (arith, low_given, length-map a.given.items given_by))
+    ∙ ap (λ (g : Given). g.name) (get_or-map given_by a.given.items k d (given_by d) low_given) in
+    subst (λ (ps : List RelPart). 1 ≤ length (string_bytes (slice_index_or ps k d).name)) (sym same)
+    (subst (λ name. 1 ≤ length name) at (not_empty (slice_index_or n k []) formed))
+
+-- the text of a candidate, by what the accessors give
+pub text_here : (l : Language) (c : Candidate) (arity : ℕ) (truth : Relation) (scope : List ℕ) (given : List Given) (names : List (List ℕ)) (text : List ℕ) →
+    arity ≡ length (scope_at l c.scope) → truth ≡ slice_index_or (relations_on l c.scope) c.rel [] → scope ≡ scope_at l c.scope → given ≡ l.given → names ≡ l.names →
+    text ≡ joined 38 (names_containing arity truth given) ++ flat_map (λ name. 32 ∷ name) (map (λ (v : ℕ). slice_index_or names v []) scope) →
+    text ≡ candidate_text l c
+text_here l c arity truth scope given names text a t s g n is =
+    is ∙ (λ i. joined 38 (names_containing (a i) (t i) (g i)) ++ flat_map (λ name. 32 ∷ name) (map (λ (v : ℕ). slice_index_or (n i) v []) (s i)))

@@ -3,3 +3,4 @@ pub mod Covered
 pub mod Members
 pub mod Fields
 pub mod Placing
+pub mod Wording

@@ -1,12 +1,11 @@
 -- The texts of questions and candidates.
-use Rattle.std.specs.Prelude.{ℕ, ℤ, pos, ◌+ℤ◌, Bool, not, ◌||◌, List, [], ◌∷◌, ◌++◌, map, filter, Option, Some, None, slice_index_or}
+use Rattle.std.specs.Prelude.{ℕ, ℤ, pos, ◌+ℤ◌, Bool, not, ◌||◌, List, [], ◌∷◌, ◌++◌, map, filter, Option, Some, None, slice_index_or, ◌==◌, length}
 use Rattle.std.specs.List.{list_all, zip, flat_map}
 use Rattle.std.specs.Fmt.{decimal, signed_decimal}
 use Rattle.assign.specs.Assignment.{Assignment}
 use Rattle.rel_table.specs.Relation.{Relation}
-use Rattle.language.specs.Language.{Language, Given, given_of, scope_of, relation_of}
+use Rattle.language.specs.Language.{Language, Given, scope_of, relation_of}
 use Rattle.language.specs.declared.candidates.Candidate.{Candidate}
-use Rattle.std.specs.Prelude.{length}
 
 -- a space, the name, `=` and the shown value, where the variable has one
 abbrev pub value_text : ℤ → List ℕ → Option ℕ → List ℕ
@@ -33,9 +32,13 @@ joined between [] = []
 joined between (piece ∷ []) = piece
 joined between (piece ∷ next ∷ pieces) = piece ++ between ∷ joined between (next ∷ pieces)
 
+-- the names of those of an arity that contain a relation
+abbrev pub names_containing : ℕ → Relation → List Given → List (List ℕ)
+names_containing arity r given = map (λ (g : Given). g.name) (filter (λ (g : Given). is_part r g.relation) (filter (λ (g : Given). g.arity == arity) given))
+
 -- the vocabulary's relations of an arity that contain a relation
 abbrev pub containing : Language → ℕ → Relation → List (List ℕ)
-containing l arity r = map (λ (g : Given). g.name) (filter (λ (g : Given). is_part r g.relation) (given_of l arity))
+containing l arity r = names_containing arity r l.given
 
 -- the names of a scope's variables
 abbrev pub scope_names : Language → List ℕ → List (List ℕ)

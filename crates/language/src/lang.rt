@@ -1,11 +1,14 @@
-ghost use Rattle.std.specs.Prelude.{◌≡◌, ◌<◌, ◌≤◌, ◌^◌, length, slice_index_or, [], IfSome};
+ghost use Rattle.std.specs.Prelude.{◌≡◌, ◌<◌, ◌≤◌, ◌^◌, length, slice_index_or, [], IfSome, IfOk, string_bytes};
+ghost use Rattle.language.specs.Texts.{question_text, candidate_text};
 ghost use Rattle.language.specs.Language.{variable_count, scope_at, relations_on, place_on, violates, IsLanguage, IsScope, IsCandidate, IsQuestion};
 
 use crate::candidates::{Candidate, ScopeId};
 use crate::parts::RelPart;
 use crate::places::place_of_values;
+use crate::texts::{text_of_candidate, text_of_question};
 use assign::Partial;
-use rel_table::Table;
+use rel_table::{Memory, Table};
+use std::alloc::Global;
 use std::marker::Model;
 
 /// The variables of a scope.
@@ -120,6 +123,29 @@ impl Language {
         match self.place_on(c.scope, q) {
             None => false,
             Some(place) => !self.table_on(c.scope, c.rel).at(place),
+        }
+    }
+
+    /// The text of question k: `q1 a=1 b=2`, with the shown values of the variables that have one.
+    pub fn question_text(&self, alloc: Global, k: u32, q: &Partial) -> Result<String, Memory>
+        ensures { IfOk result (λ t. string_bytes t ≡ question_text self.now k q.now) }
+    {
+        match text_of_question(alloc, k, self.least_value, &self.names, q) {
+            Ok(text) => Ok(text),
+            Err(_) => Err(Memory),
+        }
+    }
+
+    /// The names of the relations that contain the candidate's, and those of its variables: `eq&ne a b`.
+    pub fn candidate_text(&self, alloc: Global, c: Candidate) -> Result<String, Memory>
+        requires { IsCandidate self.now c }
+        ensures { IfOk result (λ t. string_bytes t ≡ candidate_text self.now c) }
+    {
+        let table = self.table_on(c.scope, c.rel);
+        let scope = self.scope(c.scope);
+        match text_of_candidate(alloc, &self.given, table, &self.names, scope) {
+            Ok(text) => Ok(text),
+            Err(_) => Err(Memory),
         }
     }
 }

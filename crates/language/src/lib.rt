@@ -7,6 +7,7 @@ mod lang;
 pub mod laws;
 mod parts;
 mod places;
+mod texts;
 
 pub use candidates::{Candidate, ScopeId};
 pub use lang::Language;

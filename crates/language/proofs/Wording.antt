@@ -1,0 +1,131 @@
+-- Texts that grow by one piece after another.
+use Rattle.std.proofs.Common.{◌≡◌, ℕ, zero, suc, ◌+◌, ◌<◌, ◌≤◌, ◌++◌, ◌==◌, ◌&&◌, Bool, true, false, cond, List, [], ◌∷◌, length, map, drop, Option, ℤ, negsuc, pos, ◌≤ℤ◌, w64, refl, sym, ◌∙◌, ap, arith, rules, append_assoc, append-nil, length-append}
+use Rattle.std.specs.Prelude.{slice_index_or, All, string_bytes}
+use Rattle.std.specs.List.{filter}
+use mir.Val.{SFits}
+use Rattle.std.proofs.Math.Seq.{drop-cons}
+use Rattle.std.proofs.lemmas.Int.{ints}
+use Rattle.std.proofs.lemmas.Bool.{ne_eqb}
+use Rattle.std.proofs.lemmas.List.Elements.{All-head, All-map, All-filter}
+use Rattle.assign.specs.Assignment.{Assignment, value_of}
+use Rattle.rel_table.specs.Relation.{Relation}
+use Rattle.language.specs.Language.{Given}
+use Rattle.language.specs.declared.parts.RelPart.{RelPart}
+use Rattle.language.specs.Inside.{given_by}
+use Rattle.language.specs.Texts.{value_text, values_text, is_part, joined, names_containing}
+
+-- one more piece is written
+pub one_more : (whole before after piece rest next : List ℕ) → whole ≡ before ++ rest → after ≡ before ++ piece → rest ≡ piece ++ next → whole ≡ after ++ next
+one_more whole before after piece rest next h k s = h ∙ ap (λ r. before ++ r) s ∙ sym (append_assoc before piece next) ∙ ap (λ r. r ++ next) (sym k)
+
+-- nothing is left to write
+pub all_written : (whole before rest : List ℕ) → whole ≡ before ++ rest → rest ≡ [] → before ≡ whole
+all_written whole before rest h e = sym (h ∙ ap (λ r. before ++ r) e ∙ append-nil before)
+
+no_values : (least : ℤ) (names : List (List ℕ)) → values_text least names [] ≡ []
+no_values least [] = refl
+no_values least (name ∷ names) = refl
+
+pub no_names : (least : ℤ) (names : List (List ℕ)) (v : ℕ) (q : Assignment) → length names ≤ v → values_text least (drop v names) q ≡ []
+no_names least [] zero q h = refl
+no_names least [] (suc v) q h = refl
+no_names least (name ∷ names) zero q h = absurd (omega arith)
+no_names least (name ∷ names) (suc v) q h = no_names least names v q (omega arith)
+
+pub next_value : (least : ℤ) (names : List (List ℕ)) (q : Assignment) (v : ℕ) → v < length names →
+    values_text least (drop v names) (drop v q) ≡ value_text least (slice_index_or names v []) (value_of q v) ++ values_text least (drop (suc v) names) (drop (suc v) q)
+next_value least [] q v low = absurd (omega arith)
+next_value least (name ∷ names) [] zero low = sym (no_values least names)
+next_value least (name ∷ names) [] (suc v) low = no_values least (drop v names) ∙ sym (no_values least (drop (suc v) names))
+next_value least (name ∷ names) (value ∷ q) zero low = refl
+next_value least (name ∷ names) (value ∷ q) (suc v) low = next_value least names q v (omega arith)
+
+-- the name and the value of one more variable are written
+pub value_written : (least : ℤ) (names : List (List ℕ)) (q : Assignment) (v : ℕ) (whole before after name : List ℕ) (value : Option ℕ) → v < length names →
+    name ≡ slice_index_or names v [] → value ≡ value_of q v → after ≡ before ++ value_text least name value →
+    whole ≡ before ++ values_text least (drop v names) (drop v q) → whole ≡ after ++ values_text least (drop (v + 1) names) (drop (v + 1) q)
+value_written least names q v whole before after name value low name_is value_is more is =
+    one_more whole before after _ _ _ is (more ∙ (λ i. before ++ value_text least (name_is i) (value_is i)))
+    (next_value least names q v low ∙ ap (λ k. value_text least (slice_index_or names v []) (value_of q v) ++ values_text least (drop k names) (drop k q)) (let n : suc v ≡ v + 1 = omega arith in n))
+
+-- a value within the limit fits 64 bits
+pub small_fits : (z : ℤ) → negsuc 999999 ≤ℤ z → z ≤ℤ pos 1000000 → SFits w64 z
+small_fits z a b = search (rules, ints)
+
+-- the names that are written after some text, each after a `&` but the first
+abbrev pub joined_from : List ℕ → List (List ℕ) → List ℕ
+joined_from text [] = text
+joined_from text (name ∷ names) = joined_from (cond (length text == 0) name (text ++ 38 ∷ name)) names
+
+ands : List (List ℕ) → List ℕ
+ands [] = []
+ands (name ∷ names) = 38 ∷ (name ++ ands names)
+
+joined-cons : (name : List ℕ) (names : List (List ℕ)) → joined 38 (name ∷ names) ≡ name ++ ands names
+unfolding ands
+joined-cons name [] = sym (append-nil name)
+joined-cons name (next ∷ names) = ap (λ text. name ++ 38 ∷ text) (joined-cons next names)
+
+some_text : (text : List ℕ) → 1 ≤ length text → (length text == 0) ≡ false
+some_text [] h = absurd (omega arith)
+some_text (x ∷ text) h = ne_eqb (length (x ∷ text)) 0 (λ e. omega arith)
+
+joined_after : (text : List ℕ) (names : List (List ℕ)) → 1 ≤ length text → joined_from text names ≡ text ++ ands names
+unfolding ands
+joined_after text [] h = sym (append-nil text)
+joined_after text (name ∷ names) h =
+    ap (λ b. joined_from (cond b name (text ++ 38 ∷ name)) names) (some_text text h)
+    ∙ joined_after (text ++ 38 ∷ name) names (simp length-append (omega arith))
+    ∙ append_assoc text (38 ∷ name) (ands names)
+
+-- from no text
+pub joined-from_none : (names : List (List ℕ)) → All (λ name. 1 ≤ length name) names → joined 38 names ≡ joined_from [] names
+joined-from_none [] h = refl
+joined-from_none (name ∷ names) h = joined-cons name names ∙ sym (joined_after name names (All-head (λ (n : List ℕ). 1 ≤ length n) name names h))
+
+map_cond : (f : Given → List ℕ) (b : Bool) (g : Given) (given : List Given) → map f (cond b (g ∷ given) given) ≡ cond b (f g ∷ map f given) (map f given)
+map_cond f true g given = refl
+map_cond f false g given = refl
+
+filter_cond : (f : Given → List ℕ) (p : Given → Bool) (b : Bool) (g : Given) (given : List Given) →
+    map f (filter p (cond b (g ∷ given) given)) ≡ cond (b && p g) (f g ∷ map f (filter p given)) (map f (filter p given))
+filter_cond f p true g given = map_cond f (p g) g (filter p given)
+filter_cond f p false g given = refl
+
+-- the names of those parts that contain a relation of an arity
+abbrev pub names_of : ℕ → Relation → List RelPart → List (List ℕ)
+names_of arity r parts = names_containing arity r (map given_by parts)
+
+names_of-cons : (arity : ℕ) (r : Relation) (part : RelPart) (parts : List RelPart) →
+    names_of arity r (part ∷ parts) ≡ cond ((part.table.arity == arity) && is_part r part.table.truth) (string_bytes part.name ∷ names_of arity r parts) (names_of arity r parts)
+names_of-cons arity r part parts =
+    filter_cond (λ (g : Given). g.name) (λ (g : Given). is_part r g.relation) (part.table.arity == arity) (given_by part) (filter (λ (g : Given). g.arity == arity) (map given_by parts))
+
+pub some_names : (arity : ℕ) (r : Relation) (parts : List RelPart) → All (λ (part : RelPart). 1 ≤ length (string_bytes part.name)) parts → All (λ (name : List ℕ). 1 ≤ length name) (names_of arity r parts)
+some_names arity r parts h =
+    let nonempty : Given → Type 0 = λ g. 1 ≤ length g.name in
+    All-map (λ (name : List ℕ). 1 ≤ length name) (λ (g : Given). g.name) _
+    (All-filter (λ (g : Given). is_part r g.relation) nonempty _ (All-filter (λ (g : Given). g.arity == arity) nonempty _ (All-map nonempty given_by parts h)))
+
+names_of-drop : (arity : ℕ) (r : Relation) (parts : List RelPart) (i : ℕ) (part : RelPart) (b : Bool) → i < length parts → part ≡ slice_index_or parts i part →
+    ((part.table.arity == arity) && is_part r part.table.truth) ≡ b →
+    names_of arity r (drop i parts) ≡ cond b (string_bytes part.name ∷ names_of arity r (drop (i + 1) parts)) (names_of arity r (drop (i + 1) parts))
+names_of-drop arity r parts i part b low is test =
+    let next : suc i ≡ i + 1 = omega arith in
+    ap (names_of arity r) (drop-cons parts i part low ∙ (λ j. sym is j ∷ drop (next j) parts))
+    ∙ names_of-cons arity r part (drop (i + 1) parts)
+    ∙ ap (λ t. cond t (string_bytes part.name ∷ names_of arity r (drop (i + 1) parts)) (names_of arity r (drop (i + 1) parts))) test
+
+pub name_written : (arity : ℕ) (r : Relation) (parts : List RelPart) (i : ℕ) (part : RelPart) (whole before after name : List ℕ) (b : Bool) → i < length parts → part ≡ slice_index_or parts i part →
+    b ≡ ((part.table.arity == arity) && is_part r part.table.truth) → b ≡ true → name ≡ string_bytes part.name → after ≡ cond (length before == 0) name (before ++ 38 ∷ name) →
+    whole ≡ joined_from before (names_of arity r (drop i parts)) → whole ≡ joined_from after (names_of arity r (drop (i + 1) parts))
+name_written arity r parts i part whole before after name b low is test on name_is more so_far =
+    so_far ∙ ap (joined_from before) (names_of-drop arity r parts i part true low is (sym test ∙ on))
+    ∙ ap (λ n. joined_from (cond (length before == 0) n (before ++ 38 ∷ n)) (names_of arity r (drop (i + 1) parts))) (sym name_is)
+    ∙ ap (λ t. joined_from t (names_of arity r (drop (i + 1) parts))) (sym more)
+
+pub name_left_out : (arity : ℕ) (r : Relation) (parts : List RelPart) (i : ℕ) (part : RelPart) (whole before after : List ℕ) (b : Bool) → i < length parts → part ≡ slice_index_or parts i part →
+    b ≡ ((part.table.arity == arity) && is_part r part.table.truth) → b ≡ false → after ≡ before →
+    whole ≡ joined_from before (names_of arity r (drop i parts)) → whole ≡ joined_from after (names_of arity r (drop (i + 1) parts))
+name_left_out arity r parts i part whole before after b low is test off same so_far =
+    so_far ∙ (λ j. joined_from (sym same j) (names_of-drop arity r parts i part false low is (sym test ∙ off) j))

@@ -1,0 +1,8 @@
+use Rattle.std.proofs.Common.{◌≡◌, ◌++◌, ◌∷◌, drop, map}
+use Rattle.std.specs.Prelude.{string_bytes}
+use Rattle.std.specs.Fmt.{decimal}
+use Rattle.language.specs.Texts.{values_text}
+use Rattle.language.proofs.texts.text_of_question.Given as goal
+
+abbrev pub invariant-loop-v : goal.invariant-loop-v
+invariant-loop-v l = 113 ∷ (decimal l.fn.k ++ values_text l.fn.least_value (map string_bytes l.names) l.q) ≡ string_bytes l.text ++ values_text l.fn.least_value (drop l.v (map string_bytes l.names)) (drop l.v l.q)

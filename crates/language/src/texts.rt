@@ -1,0 +1,101 @@
+ghost use Rattle.std.specs.Prelude.{◌≡◌, ◌<◌, ◌≤◌, ℕ, ◌++◌, ◌∷◌, ◌&&◌, ◌==◌, pos, negsuc, ◌≤ℤ◌, List, [], length, map, All, OnOk, IfOk, string_bytes, if◌then◌else◌, slice_index_or};
+ghost use Rattle.std.specs.List.{flat_map};
+ghost use Rattle.std.specs.Fmt.{decimal};
+ghost use Rattle.language.specs.Inside.{given_by};
+ghost use Rattle.language.specs.Texts.{value_text, values_text, is_part, joined, names_containing};
+
+use crate::parts::RelPart;
+use assign::Partial;
+use rel_table::Table;
+use std::alloc::{AllocError, Global};
+
+/// Adds a space, the name, `=` and the shown value, where the variable has a value.
+fn add_value(
+    text: &mut String,
+    least_value: i64,
+    name: &str,
+    value: Option<u8>,
+) -> Result<(), AllocError>
+    requires low { negsuc 999999 ≤ℤ least_value }
+    requires high { least_value ≤ℤ pos 1000000 }
+    ensures { OnOk result (string_bytes text.new ≡ string_bytes text.old ++ value_text least_value name.now value) }
+{
+    match value {
+        None => Ok(()),
+        Some(value) => {
+            let shown = least_value + i64::from(value);
+            write!(text, " {name}={shown}")
+        }
+    }
+}
+
+/// `q1 a=1 b=2`
+pub(crate) fn text_of_question(
+    alloc: Global,
+    k: u32,
+    least_value: i64,
+    names: &[String],
+    q: &Partial,
+) -> Result<String, AllocError>
+    requires low { negsuc 999999 ≤ℤ least_value }
+    requires high { least_value ≤ℤ pos 1000000 }
+    requires few { length names.now ≤ 128 }
+    ensures { IfOk result (λ t. string_bytes t ≡ 113 ∷ (decimal k ++ values_text least_value (map string_bytes names.now) q.now)) }
+{
+    let mut text = format!(in alloc; "q{k}")?;
+    for v in 0..names.len() {
+        add_value(&mut text, least_value, names[v].as_str(), q.get(v as u8))?;
+    }
+    Ok(text)
+}
+
+/// Whether the relation has the table's arity and contains it.
+fn contains(part: &RelPart, table: &Table) -> bool
+    ensures { result ≡ ((part.now.table.arity == table.now.arity) && is_part table.now.truth part.now.table.truth) }
+{
+    part.table.arity() == table.arity() && table.within(&part.table)
+}
+
+/// Adds a name to others, with `&` between them.
+fn add_name(text: &mut String, name: &str) -> Result<(), AllocError>
+    ensures { OnOk result (string_bytes text.new ≡ (if length (string_bytes text.old) == 0 then name.now else string_bytes text.old ++ 38 ∷ name.now)) }
+{
+    if text.is_empty() {
+        return text.push_str(name);
+    }
+    write!(text, "&{name}")
+}
+
+/// `eq&ne`
+fn name_of(alloc: Global, given: &[RelPart], table: &Table) -> Result<String, AllocError>
+    requires names { All (λ part. 1 ≤ length (string_bytes part.name)) given.now }
+    ensures { IfOk result (λ t. string_bytes t ≡ joined 38 (names_containing table.now.arity table.now.truth (map given_by given.now))) }
+{
+    let mut text = String::new(alloc);
+    for part in given {
+        if contains(part, table) {
+            add_name(&mut text, part.name.as_str())?;
+        }
+    }
+    Ok(text)
+}
+
+/// `eq&ne a b`
+pub(crate) fn text_of_candidate(
+    alloc: Global,
+    given: &[RelPart],
+    table: &Table,
+    names: &[String],
+    scope: &[u8],
+) -> Result<String, AllocError>
+    requires names { All (λ part. 1 ≤ length (string_bytes part.name)) given.now }
+    requires known { All (λ v. v < length names.now) scope.now }
+    ensures { IfOk result (λ t. string_bytes t ≡ joined 38 (names_containing table.now.arity table.now.truth (map given_by given.now)) ++ flat_map (λ name. 32 ∷ name) (map (λ (v : ℕ). slice_index_or (map string_bytes names.now) v []) scope.now)) }
+{
+    let mut text = name_of(alloc, given, table)?;
+    for v in scope {
+        let name = names[*v as usize].as_str();
+        write!(text, " {name}")?;
+    }
+    Ok(text)
+}
