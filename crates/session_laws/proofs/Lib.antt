@@ -16,3 +16,4 @@ pub mod Noes
 pub mod Counts
 pub mod Counted
 pub mod Limits
+pub mod ExampleLanguages

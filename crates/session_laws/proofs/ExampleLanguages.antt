@@ -1,0 +1,163 @@
+-- Two example languages are languages, so the laws speak of something.
+use Rattle.std.proofs.Common.{◌≡◌, ℕ, zero, suc, ◌<◌, ◌≤◌, ◌^◌, List, [], ◌∷◌, length, map, false, refl, sym, ◌∙◌, ap, subst, arith}
+use Rattle.std.specs.Prelude.{All, AllPairs, Contains, IsTrue, ◌≢◌, codes}
+use Rattle.std.specs.List.Sorted.{IsStrictlyIncreasing}
+use Rattle.std.proofs.lemmas.List.Elements.{All-nil, All-cons}
+use Rattle.std.proofs.lemmas.List.Kept.{AllPairs-cons}
+use Rattle.std.proofs.lemmas.Int.{ints}
+use Rattle.std.proofs.lemmas.Bool.{both_ways}
+use Rattle.assign.specs.Sets.{is_same}
+use Rattle.rel_table.specs.Relation.{Relation, meet, meet_all, IsIntersection, IsClosing, is_above}
+use Rattle.language.specs.Language.{Given, IsLanguage, IsScope, AreApart, given_of, relations_of}
+use Rattle.session_laws.specs.Examples.{eq, ne, none, binary, equal_or_not, three_equal}
+use Rattle.session_laws.proofs.Restrict.{list_same}
+
+-- ---- by cases
+
+one_of : {X : Type 0} (P : X → Type 0) (x : X) → P x → All P (x ∷ [])
+one_of P x p = All-cons P x [] p (All-nil P)
+
+three_of : {X : Type 0} (P : X → Type 0) (x y z : X) → P x → P y → P z → All P (x ∷ y ∷ z ∷ [])
+three_of P x y z a b c = All-cons P x (y ∷ z ∷ []) a (All-cons P y (z ∷ []) b (one_of P z c))
+
+none_apart : {X : Type 0} (R : X → X → Type 0) → AllPairs R []
+none_apart R = λ i j d h k. absurd (omega arith)
+
+one_apart : {X : Type 0} (R : X → X → Type 0) (x : X) → AllPairs R (x ∷ [])
+one_apart R x = AllPairs-cons R x [] (All-nil (R x)) (none_apart R)
+
+three_apart : {X : Type 0} (R : X → X → Type 0) (x y z : X) → R x y → R x z → R y z → AllPairs R (x ∷ y ∷ z ∷ [])
+three_apart R x y z a b c = AllPairs-cons R x (y ∷ z ∷ []) (All-cons (R x) y (z ∷ []) a (one_of (R x) z b)) (AllPairs-cons R y (z ∷ []) (one_of (R y) z c) (one_apart R z))
+
+by_arity : (P : ℕ → Type 0) → P 1 → P 2 → P 3 → P 4 → (arity : ℕ) → 1 ≤ arity → arity ≤ 4 → P arity
+by_arity P one two three four zero h k = absurd (omega arith)
+by_arity P one two three four (suc zero) h k = one
+by_arity P one two three four (suc (suc zero)) h k = two
+by_arity P one two three four (suc (suc (suc zero))) h k = three
+by_arity P one two three four (suc (suc (suc (suc zero)))) h k = four
+by_arity P one two three four (suc (suc (suc (suc (suc a))))) h k = absurd (omega arith)
+
+pair_rises : (a b : ℕ) → a < b → IsStrictlyIncreasing (a ∷ b ∷ [])
+pair_rises a b low zero h = low
+pair_rises a b low (suc k) h = absurd (omega arith)
+
+pair_scope : (n a b : ℕ) → a < b → b < n → IsScope n (a ∷ b ∷ [])
+pair_scope n a b low high = record {
+  rising = pair_rises a b low;
+  not_empty = omega arith;
+  short = omega arith;
+  known = All-cons (λ v. v < n) a (b ∷ []) (omega arith) (one_of (λ v. v < n) b high);
+}
+
+differ : (xs ys : List ℕ) → is_same xs ys ≡ false → xs ≢ ys
+differ xs ys off = λ e. both_ways _ off (ap (is_same xs) (sym e) ∙ list_same xs)
+
+none_closes : IsClosing [] []
+none_closes = record {
+  each = All-nil (IsIntersection []);
+  every = λ r is. absurd (let low = is.first_given.1 in omega arith);
+  falling = none_apart (λ r q. IsTrue (is_above r q));
+}
+
+-- ---- eq, ne and none: the intersections are these three again
+
+abbrev all : List Relation
+all = eq ∷ ne ∷ none ∷ []
+
+one_is : (P : Relation → Type 0) (r : Relation) → Contains all r → P eq → P ne → P none → P r
+one_is P r (zero, low, at) p q s = subst P at p
+one_is P r (suc zero, low, at) p q s = subst P at q
+one_is P r (suc (suc zero), low, at) p q s = subst P at s
+one_is P r (suc (suc (suc k)), low, at) p q s = absurd (omega arith)
+
+first : Contains all eq
+first = (0, omega arith, refl)
+
+second : Contains all ne
+second = (1, omega arith, refl)
+
+third : Contains all none
+third = (2, omega arith, refl)
+
+meets : (r q : Relation) → Contains all r → Contains all q → Contains all (meet r q)
+meets r q here given =
+    one_is (λ x. Contains all (meet x q)) r here
+    (one_is (λ x. Contains all (meet eq x)) q given first third third)
+    (one_is (λ x. Contains all (meet ne x)) q given third second third)
+    (one_is (λ x. Contains all (meet none x)) q given third third third)
+
+meets_all : (r : Relation) (more : List Relation) → Contains all r → All (Contains all) more → Contains all (meet_all r more)
+meets_all r [] here given = here
+meets_all r (q ∷ more) here given = meets_all (meet r q) more (meets r q here (given 0 q (omega arith))) (λ k d h. given (suc k) d (omega arith))
+
+itself : (file : List Relation) (r : Relation) → Contains file r → IsIntersection file r
+itself file r is = record { first = r; more = []; first_given = is; more_given = All-nil (Contains file); is = refl }
+
+three_close : IsClosing all all
+three_close = record {
+  each = three_of (IsIntersection all) eq ne none (itself all eq first) (itself all ne second) (itself all none third);
+  every = λ r is. subst (Contains all) (sym is.is) (meets_all is.first is.more is.first_given is.more_given);
+  falling = three_apart (λ r q. IsTrue (is_above r q)) eq ne none refl refl refl;
+}
+
+abbrev IsSized : Given → Type 0
+IsSized g = length g.relation ≡ 2 ^ g.arity
+
+pub equal_or_not_is : IsLanguage equal_or_not
+equal_or_not_is = record {
+  some_variable = omega arith;
+  few_variables = omega arith;
+  names = record { formed = refl; apart = AllPairs-cons (λ a b. a ≢ b) (codes "a") (codes "b" ∷ []) (one_of (λ b. codes "a" ≢ b) (codes "b") (differ (codes "a") (codes "b") refl)) (one_apart (λ a b. a ≢ b) (codes "b")) };
+  some_value = omega arith;
+  few_values = omega arith;
+  low = omega (arith, ints);
+  high = omega (arith, ints);
+  relation_names = record { formed = refl; apart = three_apart (λ a b. a ≢ b) (codes "eq") (codes "ne") (codes "none") (differ (codes "eq") (codes "ne") refl) (differ (codes "eq") (codes "none") refl) (differ (codes "ne") (codes "none") refl) };
+  given_sized = three_of IsSized (binary (codes "eq") eq) (binary (codes "ne") ne) (binary (codes "none") none) refl refl refl;
+  few_scopes = omega arith;
+  scopes = one_of (IsScope 2) (0 ∷ 1 ∷ []) (pair_scope 2 0 1 (omega arith) (omega arith));
+  apart = one_apart AreApart (0 ∷ 1 ∷ []);
+  closed = by_arity (λ arity. IsClosing (map (λ (g : Given). g.relation) (given_of equal_or_not arity)) (relations_of equal_or_not arity)) none_closes three_close none_closes none_closes;
+  sized = by_arity (λ arity. All (λ r. length r ≡ 2 ^ arity) (relations_of equal_or_not arity)) (All-nil (λ (r : Relation). length r ≡ 2)) (three_of (λ (r : Relation). length r ≡ 4) eq ne none refl refl refl) (All-nil (λ (r : Relation). length r ≡ 8)) (All-nil (λ (r : Relation). length r ≡ 16));
+  few_relations = by_arity (λ arity. length (relations_of equal_or_not arity) ≤ 64) (omega arith) (omega arith) (omega arith) (omega arith);
+  small = one_of (λ (scope : List ℕ). 2 ^ length scope ≤ 65536) (0 ∷ 1 ∷ []) (omega arith);
+  used = one_of (λ scope. 1 ≤ length (relations_of equal_or_not (length scope))) (0 ∷ 1 ∷ []) (omega arith);
+}
+
+-- ---- eq alone over three variables
+
+only_eq : (P : Relation → Type 0) (r : Relation) → Contains (eq ∷ []) r → P eq → P r
+only_eq P r (zero, low, at) p = subst P at p
+only_eq P r (suc k, low, at) p = absurd (omega arith)
+
+eq_again : (r : Relation) (more : List Relation) → r ≡ eq → All (Contains (eq ∷ [])) more → meet_all r more ≡ eq
+eq_again r [] is given = is
+eq_again r (q ∷ more) is given = eq_again (meet r q) more (ap (λ x. meet x q) is ∙ only_eq (λ x. meet eq x ≡ eq) q (given 0 q (omega arith)) refl) (λ k d h. given (suc k) d (omega arith))
+
+eq_closes : IsClosing (eq ∷ []) (eq ∷ [])
+eq_closes = record {
+  each = one_of (IsIntersection (eq ∷ [])) eq (itself (eq ∷ []) eq (0, omega arith, refl));
+  every = λ r is. (0, omega arith, sym (is.is ∙ eq_again is.first is.more (only_eq (λ x. x ≡ eq) is.first is.first_given refl) is.more_given));
+  falling = one_apart (λ r q. IsTrue (is_above r q)) eq;
+}
+
+pub three_equal_is : IsLanguage three_equal
+three_equal_is = record {
+  some_variable = omega arith;
+  few_variables = omega arith;
+  names = record { formed = refl; apart = three_apart (λ a b. a ≢ b) (codes "a") (codes "b") (codes "c") (differ (codes "a") (codes "b") refl) (differ (codes "a") (codes "c") refl) (differ (codes "b") (codes "c") refl) };
+  some_value = omega arith;
+  few_values = omega arith;
+  low = omega (arith, ints);
+  high = omega (arith, ints);
+  relation_names = record { formed = refl; apart = one_apart (λ a b. a ≢ b) (codes "eq") };
+  given_sized = one_of IsSized (binary (codes "eq") eq) refl;
+  few_scopes = omega arith;
+  scopes = three_of (IsScope 3) (0 ∷ 1 ∷ []) (0 ∷ 2 ∷ []) (1 ∷ 2 ∷ []) (pair_scope 3 0 1 (omega arith) (omega arith)) (pair_scope 3 0 2 (omega arith) (omega arith)) (pair_scope 3 1 2 (omega arith) (omega arith));
+  apart = three_apart AreApart (0 ∷ 1 ∷ []) (0 ∷ 2 ∷ []) (1 ∷ 2 ∷ []) (record { left = refl; right = refl }) (record { left = refl; right = refl }) (record { left = refl; right = refl });
+  closed = by_arity (λ arity. IsClosing (map (λ (g : Given). g.relation) (given_of three_equal arity)) (relations_of three_equal arity)) none_closes eq_closes none_closes none_closes;
+  sized = by_arity (λ arity. All (λ r. length r ≡ 2 ^ arity) (relations_of three_equal arity)) (All-nil (λ (r : Relation). length r ≡ 2)) (one_of (λ (r : Relation). length r ≡ 4) eq refl) (All-nil (λ (r : Relation). length r ≡ 8)) (All-nil (λ (r : Relation). length r ≡ 16));
+  few_relations = by_arity (λ arity. length (relations_of three_equal arity) ≤ 64) (omega arith) (omega arith) (omega arith) (omega arith);
+  small = three_of (λ (scope : List ℕ). 2 ^ length scope ≤ 65536) (0 ∷ 1 ∷ []) (0 ∷ 2 ∷ []) (1 ∷ 2 ∷ []) (omega arith) (omega arith) (omega arith);
+  used = three_of (λ scope. 1 ≤ length (relations_of three_equal (length scope))) (0 ∷ 1 ∷ []) (0 ∷ 2 ∷ []) (1 ∷ 2 ∷ []) (omega arith) (omega arith) (omega arith);
+}
