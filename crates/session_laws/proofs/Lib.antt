@@ -17,3 +17,4 @@ pub mod Counts
 pub mod Counted
 pub mod Limits
 pub mod ExampleLanguages
+pub mod NetworkHalves

@@ -1,6 +1,6 @@
 //! Laws of the sessions, as contracts of functions that do nothing.
 
-ghost use Rattle.session_laws.specs.Laws.{AnswersAreAtMost, AnswersAreFew, AnswersFit, FuelIsEnough, HalvingAsks, IdleIsInStep, ImpliedIsCovered, KeptSteps, LearnedAreFew, NeverStuck, OneAnswerMore, OverMeansNone, QuestionsHavePlaces, ScopesAreCovered, ScopesNeverOver, SettleSteps};
+ghost use Rattle.session_laws.specs.Laws.{AnswersAreAtMost, AnswersAreFew, AnswersFit, FuelIsEnough, HalvingAsks, IdleIsInStep, ImpliedIsCovered, KeptSteps, LearnedAreFew, NetworkHalves, NeverStuck, OneAnswerMore, OverMeansNone, QuestionsHavePlaces, ScopesAreCovered, ScopesNeverOver, SettleSteps};
 
 // ---- One answer, and its place
 
@@ -88,4 +88,12 @@ pub fn answers_fit()
 /// Where some network agrees, no more candidates are learned than it has scopes.
 pub fn learned_are_few()
     ensures { LearnedAreFew }
+{}
+
+// ---- A halving that one network answers
+
+/// Where each reply is a network's and it rejects the whole, it rejects the found set and accepts it without any one
+/// variable, and the found set is the scope of one of its candidates.
+pub fn network_halves()
+    ensures { NetworkHalves }
 {}
