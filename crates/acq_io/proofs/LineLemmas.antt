@@ -1,0 +1,112 @@
+-- A line is found at its newline, ends with the source, or is too long.
+use Rattle.std.proofs.Common.{◌≡◌, ◌≢◌, ℕ, ◌+◌, ◌<◌, ◌≤◌, true, false, ◌||◌, ◌==◌, nat_lt, nat_le, List, [], ◌∷◌, ◌++◌, length, take, drop, ap, sym, ◌∙◌, refl, arith, append_assoc, append-nil, Ok, Err}
+use Rattle.std.specs.List.{position_or_len}
+use Rattle.std.proofs.lemmas.Grind.{common_steps}
+use Rattle.std.proofs.lemmas.Bool.Decides.{nat_tests}
+use Rattle.std.proofs.lemmas.List.{length-append, take_at, drop_at, length_push}
+use Rattle.std.proofs.lemmas.List.Folds.{list_any_none, list_any-append}
+use Rattle.std.proofs.Math.Seq.{take-append-add, drop-append-add}
+use Rattle.acq_io.specs.Lines.{LacksNewline, newline, before_newline, after_newline, has_newline, line_of, lined}
+use Rattle.acq_io.specs.Whole.{all_of, first_line_of, gathered}
+use Rattle.acq_io.specs.declared.lines.LineGot.TheVariants.{Line, End, TooLong}
+use Rattle.acq_io.specs.declared.whole.AllFault.TheVariants.{TooLong as Longer}
+
+is_no_newline : (b : ℕ) → b ≢ newline → (b == newline) ≡ false
+is_no_newline b h = grind (arith, nat_tests, h)
+
+LacksNewline-tail : (x : ℕ) (xs : List ℕ) → LacksNewline (x ∷ xs) → LacksNewline xs
+LacksNewline-tail x xs h k d lt = let here = h (k + 1) d (grind (arith, common_steps)) in grind (arith, common_steps)
+
+-- past bytes that are no newline, the first newline is that of the rest
+position_past : (xs ys : List ℕ) → LacksNewline xs → position_or_len (λ b. b == newline) (xs ++ ys) ≡ length xs + position_or_len (λ b. b == newline) ys
+position_past [] ys h = omega arith
+position_past (x ∷ xs) ys h =
+    let head : (x == newline) ≡ false = is_no_newline x (h 0 0 (grind (arith, common_steps))) in
+    let rest = position_past xs ys (LacksNewline-tail x xs h) in rw (head, rest) (omega arith)
+
+pub before_newline_past : (xs ys : List ℕ) → LacksNewline xs → before_newline (xs ++ ys) ≡ xs ++ before_newline ys
+before_newline_past xs ys h = rw (position_past xs ys h) (take-append-add xs ys _)
+
+pub after_newline_past : (xs ys : List ℕ) → LacksNewline xs → after_newline (xs ++ ys) ≡ after_newline ys
+after_newline_past xs ys h =
+    let at : position_or_len (λ b. b == newline) (xs ++ ys) + 1 ≡ length xs + (position_or_len (λ b. b == newline) ys + 1) = rw (position_past xs ys h) (omega arith) in
+    ap (λ n. drop n (xs ++ ys)) at ∙ drop-append-add xs ys _
+
+pub has_newline_past : (xs ys : List ℕ) → LacksNewline xs → has_newline (xs ++ ys) ≡ has_newline ys
+has_newline_past xs ys h = list_any-append (λ b. b == newline) xs ys ∙ ap (λ found. found || has_newline ys) (list_any_none (λ b. b == newline) xs (λ k d lt. is_no_newline _ (h k d lt)))
+
+-- the same where nothing else comes
+pub before_newline_none : (xs : List ℕ) → LacksNewline xs → before_newline xs ≡ xs
+before_newline_none xs h = ap before_newline (sym (append-nil xs)) ∙ before_newline_past xs [] h ∙ append-nil xs
+
+pub has_newline_none : (xs : List ℕ) → LacksNewline xs → has_newline xs ≡ false
+has_newline_none xs h = list_any_none (λ b. b == newline) xs (λ k d lt. is_no_newline _ (h k d lt))
+
+not_more : (a b : ℕ) → b ≤ a → nat_lt a b ≡ false
+not_more a b h = grind (arith, nat_tests)
+
+is_more : (a b : ℕ) → a < b → nat_lt a b ≡ true
+is_more a b h = grind (arith, nat_tests)
+
+is_at_most : (a b : ℕ) → a ≤ b → nat_le a b ≡ true
+is_at_most a b h = grind (arith, nat_tests)
+
+is_above : (a b : ℕ) → b < a → nat_le a b ≡ false
+is_above a b h = grind (arith, nat_tests)
+
+-- one byte more than the most, and none is a newline
+before_newline_long : (line rest : List ℕ) (b most : ℕ) → LacksNewline (line ++ b ∷ []) → length line ≡ most → most < length (before_newline ((line ++ b ∷ []) ++ rest))
+before_newline_long line rest b most h full =
+    let long : length (before_newline ((line ++ b ∷ []) ++ rest)) ≡ length ((line ++ b ∷ []) ++ before_newline rest) = ap length (before_newline_past (line ++ b ∷ []) rest h) in
+    omega (arith, long, length-append (line ++ b ∷ []) (before_newline rest), length_push line b)
+
+pub line_of-line : (line rest : List ℕ) → LacksNewline line → length line ≤ 256 → line_of ((line ++ newline ∷ []) ++ rest) ≡ lined Line line rest
+unfolding line_of
+line_of-line line rest h short =
+    let whole : (line ++ newline ∷ []) ++ rest ≡ line ++ newline ∷ rest = append_assoc line (newline ∷ []) rest in
+    let before : before_newline (line ++ newline ∷ rest) ≡ line = before_newline_past line (newline ∷ rest) h ∙ append-nil line in
+    let after : after_newline (line ++ newline ∷ rest) ≡ rest = after_newline_past line (newline ∷ rest) h in
+    let found : has_newline (line ++ newline ∷ rest) ≡ true = has_newline_past line (newline ∷ rest) h in
+    rw (whole, before, after, found, not_more 256 (length line) short) refl
+
+pub line_of-end : (line : List ℕ) → LacksNewline line → length line ≤ 256 → line_of line ≡ lined End line []
+unfolding line_of
+line_of-end line h short = rw (before_newline_none line h, has_newline_none line h, not_more 256 (length line) short) refl
+
+pub line_of-too_long : (line rest : List ℕ) (b : ℕ) → LacksNewline (line ++ b ∷ []) → length line ≡ 256 → line_of ((line ++ b ∷ []) ++ rest) ≡ lined TooLong line rest
+unfolding line_of
+line_of-too_long line rest b h full =
+    let front : take 256 ((line ++ b ∷ []) ++ rest) ≡ line = ap (take 256) (append_assoc line (b ∷ []) rest) ∙ take_at line (b ∷ rest) 256 full in
+    let back : drop 257 ((line ++ b ∷ []) ++ rest) ≡ rest = drop_at (line ++ b ∷ []) rest 257 (length_push line b ∙ ap (λ n. n + 1) full) in
+    rw (is_more 256 _ (before_newline_long line rest b 256 h full), front, back) refl
+
+pub first_line_of-line : (most : ℕ) (line rest : List ℕ) → LacksNewline line → length line ≤ most → first_line_of most ((line ++ newline ∷ []) ++ rest) ≡ gathered (Ok line) rest
+unfolding first_line_of
+first_line_of-line most line rest h few =
+    let whole : (line ++ newline ∷ []) ++ rest ≡ line ++ newline ∷ rest = append_assoc line (newline ∷ []) rest in
+    let before : before_newline (line ++ newline ∷ rest) ≡ line = before_newline_past line (newline ∷ rest) h ∙ append-nil line in
+    let after : after_newline (line ++ newline ∷ rest) ≡ rest = after_newline_past line (newline ∷ rest) h in
+    rw (whole, before, after, is_at_most (length line) most few) refl
+
+pub first_line_of-end : (most : ℕ) (line : List ℕ) → LacksNewline line → length line ≤ most → first_line_of most line ≡ gathered (Ok line) []
+unfolding first_line_of
+first_line_of-end most line h few =
+    let after : after_newline line ≡ [] = ap after_newline (sym (append-nil line)) ∙ after_newline_past line [] h in
+    rw (before_newline_none line h, after, is_at_most (length line) most few) refl
+
+pub first_line_of-too_long : (most : ℕ) (line rest : List ℕ) (b : ℕ) → LacksNewline (line ++ b ∷ []) → length line ≡ most → first_line_of most ((line ++ b ∷ []) ++ rest) ≡ gathered (Err Longer) rest
+unfolding first_line_of
+first_line_of-too_long most line rest b h full =
+    let back : drop (most + 1) ((line ++ b ∷ []) ++ rest) ≡ rest = drop_at (line ++ b ∷ []) rest (most + 1) (length_push line b ∙ ap (λ n. n + 1) full) in
+    rw (is_above _ most (before_newline_long line rest b most h full), back) refl
+
+pub all_of-end : (most : ℕ) (all : List ℕ) → length all ≤ most → all_of most all ≡ gathered (Ok all) []
+unfolding all_of
+all_of-end most all few = rw (is_at_most (length all) most few) refl
+
+pub all_of-too_long : (most : ℕ) (all rest : List ℕ) → length all ≡ most + 1 → all_of most (all ++ rest) ≡ gathered (Err Longer) rest
+unfolding all_of
+all_of-too_long most all rest full =
+    let many : most < length (all ++ rest) = omega (arith, length-append all rest) in
+    let back : drop (most + 1) (all ++ rest) ≡ rest = drop_at all rest (most + 1) full in
+    rw (is_above _ most many, back) refl

@@ -1,0 +1,15 @@
+use Rattle.std.proofs.Common.{◌≤◌, ◌-◌, length}
+use Rattle.acq_io.specs.Streams.{Takes}
+use Rattle.acq_io.specs.Lines.{LacksNewline}
+use Rattle.acq_io.proofs.lines.read_line.Given as goal
+
+abbrev pub invariant-loop-byte : goal.invariant-loop-byte
+invariant-loop-byte g l = record {
+  taken : Takes (g.S.Source.left l.initial.source) (g.S.Source.left l.source) l.line;
+  one_line : LacksNewline l.line;
+  short : length l.line ≤ 256;
+  later : g.S.Source.faults l.initial.source ≤ g.S.Source.faults l.source;
+}
+
+abbrev pub decreases-loop-byte : goal.decreases-loop-byte
+decreases-loop-byte g l = 256 - length l.line

@@ -1,0 +1,16 @@
+use Rattle.std.proofs.Common.{ap, arith, Ok, Option, Result, ℕ}
+use Rattle.acq_io.specs.declared.streams.Failed.{Failed}
+use Rattle.acq_io.proofs.ReadLemmas.{gives_line, gives_last_line, gives_long_line}
+use Rattle.acq_io.proofs.whole.read_first_line.Goals as goal
+
+pub returns-in-Ok-None-clause-line : goal.returns-in-Ok-None-clause-line
+returns-in-Ok-None-clause-line g c = let kept = c.loop-line.invariant in
+    gives_last_line _ _ _ _ _ kept.taken (rw c.in-Ok-None.field-0-is at c.in-Ok-None.ensures.bytes) (c.in-Ok-None.ensures.end (ap (λ (o : Option ℕ). let r : Result (Option ℕ) Failed = Ok o in r) c.in-Ok-None.field-0-is)) kept.one_line kept.few
+
+pub returns-in-Ok-Some-eq10-clause-line : goal.returns-in-Ok-Some-eq10-clause-line
+returns-in-Ok-Some-eq10-clause-line g c = let kept = c.loop-line.invariant in let got = c.in-Ok-Some-eq10 in
+    gives_line _ _ _ _ _ kept.taken (rw (got.field-0-is, got.field-0-0-test) at got.ensures.bytes) kept.one_line kept.few
+
+pub returns-then-len-most-clause-too_long : goal.returns-then-len-most-clause-too_long
+returns-then-len-most-clause-too_long g c _ = let kept = c.loop-line.invariant in let got = c.in-Ok-Some in
+    gives_long_line _ _ _ _ _ got.byte kept.taken (rw got.field-0-is at got.ensures.bytes) kept.one_line got.byte-test.1 (omega arith)
