@@ -4,3 +4,4 @@ pub mod Members
 pub mod Fields
 pub mod Placing
 pub mod Wording
+pub mod Refusals

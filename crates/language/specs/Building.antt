@@ -1,10 +1,10 @@
 -- Which languages can be built, and of what.
-use Rattle.std.specs.Prelude.{ℕ, ℤ, pos, negsuc, ◌+◌, ◌≡◌, Bool, true, false, ◌&&◌, List, [], ◌∷◌, length, map, filter, Option, Some, None, if◌then◌else◌, ◌==◌, nat_lt, nat_le, int_le, ◌-ℤ◌, unsigned_abs}
+use Rattle.std.specs.Prelude.{ℕ, ℤ, pos, negsuc, ◌+◌, ◌≡◌, Bool, true, false, ◌&&◌, List, [], ◌∷◌, length, map, filter, Option, Some, None, if◌then◌else◌, ◌==◌, nat_lt, nat_le, int_le, ◌≤◌, ◌≤ℤ◌, ◌+ℤ◌, ◌-ℤ◌, unsigned_abs}
 use Rattle.std.specs.List.{list_all, list_any, flat_map}
 use Rattle.std.specs.Bool.{beq}
 use Rattle.rel_table.specs.Relation.{Relation, tuples, meet}
 use Rattle.rel_table.specs.declared.table.CloseFault.TheVariants.{TooMany}
-use Rattle.language.specs.Language.{Language, Given, IsLanguage}
+use Rattle.language.specs.Language.{Language, Given, IsLanguage, AreNames}
 use Rattle.language.specs.declared.parts.LangFault.{LangFault}
 use Rattle.language.specs.declared.parts.LangFault.TheVariants.{NoVariables, TooManyVariables, BadDomain, NoRelations, NotClosed, Closing}
 
@@ -13,6 +13,16 @@ pub record Frame : Type 0 where
   pub names : List (List ℕ)
   pub least_value : ℤ
   pub value_count : ℕ
+
+-- 1 to 128 variables, each with a name, and 1 to 64 values within a million
+pub record IsFrame (f : Frame) : Type 0 where
+  pub some_variable : 1 ≤ length f.names
+  pub few_variables : length f.names ≤ 128
+  pub names : AreNames f.names
+  pub some_value : 1 ≤ f.value_count
+  pub few_values : f.value_count ≤ 64
+  pub low : negsuc 999999 ≤ℤ f.least_value
+  pub high : (f.least_value +ℤ pos f.value_count) ≤ℤ pos 1000001
 
 -- the lowest value, the highest value: 1 to 64 values, each within a million
 abbrev pub is_domain : ℤ → ℤ → Bool

@@ -5,3 +5,4 @@ pub mod Laws
 pub mod Texts
 pub mod Inside
 pub mod Building
+pub mod Framing

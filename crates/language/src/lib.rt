@@ -3,6 +3,7 @@
 #![tactic(auto)]
 
 mod candidates;
+mod frame;
 mod lang;
 pub mod laws;
 mod parts;
@@ -10,6 +11,7 @@ mod places;
 mod texts;
 
 pub use candidates::{Candidate, ScopeId};
+pub use frame::Frame;
 pub use lang::Language;
-pub use parts::{Frame, LangFault, RelPart, ScopePart};
+pub use parts::{LangFault, RelPart, ScopePart};
 pub use rel_table::Memory;

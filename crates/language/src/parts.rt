@@ -13,14 +13,6 @@ pub enum LangFault {
     Memory,
 }
 
-/// The variables' names and the domain.
-#[derive(Drop)]
-pub struct Frame {
-    pub(crate) names: Vec<String>,
-    pub(crate) least_value: i64,
-    pub(crate) value_count: u8,
-}
-
 /// A relation of the vocabulary.
 #[derive(Drop)]
 pub struct RelPart {

@@ -1,0 +1,119 @@
+-- The relations of a mask: of none, of the first ones, of those that pass a test, and how many they are.
+use Rattle.std.proofs.Common.{◌≡◌, ℕ, zero, suc, ◌+◌, ◌-◌, ◌<◌, ◌≤◌, ◌^◌, Bool, true, false, cond, ◌&&◌, ◌||◌, not, List, [], ◌∷◌, length, refl, sym, ◌∙◌, ap, subst, arith, inl, inr, ◌⊎◌, lit≤}
+use Rattle.std.specs.Prelude.{◌==◌, bit_and, min, count_ones}
+use Rattle.std.specs.List.{filter, range_with_len}
+use Rattle.std.specs.Int.{bit_at, bit_not, w64}
+use Rattle.std.proofs.lemmas.Bool.{cases_lt, eqb-true, eq-eqb}
+use Rattle.std.proofs.Math.Nat.{pow-le-pow_right}
+use Rattle.std.proofs.lemmas.Nat.{zero_from_ones}
+use Rattle.std.proofs.lemmas.Nat.Bits.{bit_at-lt, bit_at_and, bit_at_not, bit_at_above}
+use Rattle.assign.specs.Sets.{numbers, has, set_where, members_of}
+use Rattle.assign.specs.SetLemmas.{filter_agree_from, is_one, has-members_of, has-set_where_above}
+use Rattle.assign.proofs.Masks.{members_of-ones, length-members_of}
+use Rattle.language.proofs.Members.{any_number}
+use Rattle.bias_store.specs.Masks.{ones_of}
+
+-- ---- a mask of 64 bits as one of 128
+
+filter_nothing : (p : ℕ → Bool) (a n : ℕ) → ((v : ℕ) → a ≤ v → p v ≡ false) → filter p (range_with_len a n) ≡ []
+filter_nothing p a zero h = refl
+filter_nothing p a (suc n) h = rw (h a (omega arith)) (filter_nothing p (a + 1) n (λ v low. h v (omega arith)))
+
+filter_front : (p : ℕ → Bool) (a n k : ℕ) → n ≤ k → ((v : ℕ) → a + n ≤ v → p v ≡ false) → filter p (range_with_len a k) ≡ filter p (range_with_len a n)
+filter_front p a zero k le h = filter_nothing p a k (λ v low. h v (omega arith))
+filter_front p a (suc n) zero le h = absurd (omega arith)
+filter_front p a (suc n) (suc k) le h = ap (λ xs. cond (p a) (a ∷ xs) xs) (filter_front p (a + 1) n k (omega arith) (λ v low. h v (omega arith)))
+
+pub ones_of-members_of : (mask : ℕ) → mask < 2 ^ 64 → ones_of mask ≡ members_of mask
+unfolding ones_of set_where
+ones_of-members_of mask h = sym (filter_front (is_one mask) 0 64 128 (lit≤ tt) (λ v low. ap (λ x. x == 1) (bit_at_above mask 64 v h (omega arith))))
+
+pub ones_of-zero : ones_of 0 ≡ []
+unfolding ones_of
+ones_of-zero = refl
+
+pub ones_of-first : (n : ℕ) → n ≤ 64 → ones_of (2 ^ n - 1) ≡ numbers n
+ones_of-first n h = let few : 2 ^ n ≤ 2 ^ 64 = pow-le-pow_right (lit≤ tt) h in ones_of-members_of (2 ^ n - 1) (omega arith) ∙ members_of-ones n (omega arith)
+
+pub length-ones_of : (mask : ℕ) → mask < 2 ^ 64 → length (ones_of mask) ≡ count_ones mask
+length-ones_of mask h = ap length (ones_of-members_of mask h) ∙ length-members_of mask (omega arith)
+
+-- a mask without ones is 0
+pub no_ones : (mask : ℕ) → mask < 2 ^ 64 → ones_of mask ≡ [] → mask ≡ 0
+no_ones mask h none = zero_from_ones mask (sym (length-ones_of mask h) ∙ ap length none)
+
+-- ---- bits as tests
+
+filter_and : (p q : ℕ → Bool) (xs : List ℕ) → filter (λ r. p r && q r) xs ≡ filter q (filter p xs)
+filter_and p q [] = refl
+filter_and p q (x ∷ xs) = go (p x) (filter_and p q xs)
+  where
+    go : (b : Bool) → filter (λ r. p r && q r) xs ≡ filter q (filter p xs) → cond (b && q x) (x ∷ filter (λ r. p r && q r) xs) (filter (λ r. p r && q r) xs) ≡ filter q (cond b (x ∷ filter p xs) (filter p xs))
+    go true rest = ap (λ ys. cond (q x) (x ∷ ys) ys) rest
+    go false rest = rest
+
+-- the ones of a mask are those of another that pass a test
+pub ones_of-passing : (mask other : ℕ) (ok : ℕ → Bool) → ((r : ℕ) → r < 64 → is_one mask r ≡ (is_one other r && ok r)) → ones_of mask ≡ filter ok (ones_of other)
+unfolding ones_of
+ones_of-passing mask other ok h = filter_agree_from (is_one mask) (λ r. is_one other r && ok r) 0 64 (λ v low high. h v (omega arith)) ∙ filter_and (is_one other) ok (numbers 64)
+
+has_cond : (b : Bool) (x r : ℕ) (xs : List ℕ) → has (cond b (x ∷ xs) xs) r ≡ ((b && (x == r)) || has xs r)
+has_cond true x r xs = refl
+has_cond false x r xs = refl
+
+has-filter : (ok : ℕ → Bool) (xs : List ℕ) (r : ℕ) → has (filter ok xs) r ≡ (has xs r && ok r)
+has-filter ok [] r = refl
+has-filter ok (x ∷ xs) r = has_cond (ok x) x r (filter ok xs) ∙ ap (λ b. (ok x && (x == r)) || b) (has-filter ok xs r) ∙ go (x == r) refl
+  where
+    both : (a b c : Bool) → ((a && true) || (b && a)) ≡ ((true || b) && a)
+    both true b c = refl
+    both false true c = refl
+    both false false c = refl
+
+    other : (a b c : Bool) → ((a && false) || (b && c)) ≡ ((false || b) && c)
+    other true b c = refl
+    other false b c = refl
+
+    go : (e : Bool) → (x == r) ≡ e → ((ok x && e) || (has xs r && ok r)) ≡ ((e || has xs r) && ok r)
+    go true same = let at : x ≡ r = eqb-true x r same in subst (λ (y : ℕ). ((ok x && true) || (has xs r && ok y)) ≡ ((true || has xs r) && ok y)) at (both (ok x) (has xs r) (ok x))
+    go false same = other (ok x) (has xs r) (ok r)
+
+pub has-ones_of : (mask r : ℕ) → r < 64 → has (ones_of mask) r ≡ is_one mask r
+unfolding ones_of
+has-ones_of mask r low = has-filter (is_one mask) (numbers 64) r ∙ ap (λ b. b && is_one mask r) (any_number (λ x. x == r) 64 r low (eq-eqb r r refl))
+
+pub has_above : (mask r : ℕ) → mask < 2 ^ 64 → 64 ≤ r → has (ones_of mask) r ≡ false
+has_above mask r h high = ap (λ xs. has xs r) (ones_of-members_of mask h) ∙ go (cases_lt r 128)
+  where
+    go : (r < 128) ⊎ (128 ≤ r) → has (members_of mask) r ≡ false
+    go (inl low) = has-members_of mask r low ∙ ap (λ x. x == 1) (bit_at_above mask 64 r h high)
+    go (inr far) = has-set_where_above (is_one mask) r far
+
+-- where the ones of a mask are those of another that pass, its bits are so
+is_one-passing : (mask other : ℕ) (ok : ℕ → Bool) (r : ℕ) → r < 64 → ones_of mask ≡ filter ok (ones_of other) → is_one mask r ≡ (is_one other r && ok r)
+is_one-passing mask other ok r low is =
+    sym (has-ones_of mask r low) ∙ ap (λ xs. has xs r) is ∙ has-filter ok (ones_of other) r ∙ ap (λ b. b && ok r) (has-ones_of other r low)
+
+and_bits : (x y : ℕ) → x < 2 → y < 2 → (min x (1 - y) == 1) ≡ ((x == 1) && not (y == 1))
+and_bits zero zero h k = refl
+and_bits zero (suc zero) h k = refl
+and_bits (suc zero) zero h k = refl
+and_bits (suc zero) (suc zero) h k = refl
+and_bits zero (suc (suc y)) h k = absurd (omega arith)
+and_bits (suc zero) (suc (suc y)) h k = absurd (omega arith)
+and_bits (suc (suc x)) y h k = absurd (omega arith)
+
+is_one-and_not : (a b r : ℕ) → b < 2 ^ 64 → r < 64 → is_one (bit_and a (bit_not w64 b)) r ≡ (is_one a r && not (is_one b r))
+is_one-and_not a b r h low =
+    ap (λ x. x == 1) (bit_at_and a (bit_not w64 b) r ∙ ap (min (bit_at a r)) (bit_at_not w64 b r h low))
+    ∙ and_bits (bit_at a r) (bit_at b r) (bit_at-lt a r) (bit_at-lt b r)
+
+rest_of : (one fails : Bool) → (one && not (one && fails)) ≡ (one && not fails)
+rest_of true fails = refl
+rest_of false fails = refl
+
+-- without those that fail a test, those that pass it are left
+pub ones_of-and_not : (relations failing : ℕ) (fails : ℕ → Bool) → failing < 2 ^ 64 → ones_of failing ≡ filter fails (ones_of relations) →
+    ones_of (bit_and relations (bit_not w64 failing)) ≡ filter (λ r. not (fails r)) (ones_of relations)
+ones_of-and_not relations failing fails small is = ones_of-passing _ relations (λ r. not (fails r)) (λ r low.
+    is_one-and_not relations failing r small low ∙ ap (λ b. is_one relations r && not b) (is_one-passing failing relations fails r low is) ∙ rest_of (is_one relations r) (fails r))

@@ -1,0 +1,5 @@
+use Rattle.bias_store.proofs.Filled.{IsFilled}
+use Rattle.bias_store.proofs.kept.Kept.reset.Given as goal
+
+abbrev pub invariant-loop-s : goal.invariant-loop-s
+invariant-loop-s l = IsFilled l.fn.lang l.self-inside.relations.items l.s l.self-inside.count

@@ -1,0 +1,57 @@
+use Rattle.std.proofs.Common.{◌≡◌, ℕ, ◌+◌, ◌-◌, ◌≤◌, not, length, ◌∙◌, ap, subst, sym, arith}
+use Rattle.std.specs.Prelude.{slice_set, bit_and, All}
+use Rattle.std.specs.List.{filter}
+use Rattle.std.specs.Int.{bit_not, w64}
+use Rattle.language.specs.Language.{violates, IsCandidate}
+use Rattle.bias_store.specs.KeptSet.{KeptSet}
+use Rattle.bias_store.specs.Inside.{members_from}
+use Rattle.bias_store.proofs.Members.{read_at}
+use Rattle.bias_store.proofs.Struck.{IsStruck, enough, struck_more, struck_all, known_relations, made_still}
+use Rattle.bias_store.proofs.kept.Kept.strike.Goals as goal
+
+pub violated_on-violated-requires-clause-known : goal.violated_on-violated-requires-clause-known
+violated_on-violated-requires-clause-known c =
+    let old = c.self.inside.relations.items in
+    let now = c.loop-s.self-inside.relations.items in
+    let scopes = ap (λ (k : KeptSet). k.scopes) c.self.view_is in
+    let made = c.requires.made.scopes in
+    let long = c.loop-s.invariant.long in
+    known_relations c.args.lang.now old c.loop-s.s c.index-relations.result.now (subst (λ (k : KeptSet). All (IsCandidate c.args.lang.now) k.members) (sym c.self.view_is) c.requires.made.known) (omega arith)
+    (read_at now c.loop-s.s c.from.result c.index-relations.result.now (omega arith) c.from.ensures c.index-relations.ensures ∙ c.loop-s.invariant.rest c.loop-s.s (omega arith))
+
+pub overflow_sub-self : goal.overflow_sub-self
+overflow_sub-self c =
+    let old = c.self.inside.relations.items in
+    let now = c.loop-s.self-inside.relations.items in
+    let scopes = ap (λ (k : KeptSet). k.scopes) c.self.view_is in
+    let made = c.requires.made.scopes in
+    let long = c.loop-s.invariant.long in
+    enough (λ b. violates c.args.lang.now b c.args.q.now) old now c.loop-s.s c.self.inside.count c.loop-s.self-inside.count c.index-relations.result.now c.violated_on-violated.result c.relation_count.result c.loop-s.invariant (omega arith)
+    (read_at now c.loop-s.s c.from.result c.index-relations.result.now (omega arith) c.from.ensures c.index-relations.ensures) c.violated_on-violated.type_inv c.violated_on-violated.ensures c.relation_count.ensures
+
+pub loop-s-preserved : goal.loop-s-preserved
+loop-s-preserved c =
+    let old = c.self.inside.relations.items in
+    let now = c.loop-s.self-inside.relations.items in
+    let scopes = ap (λ (k : KeptSet). k.scopes) c.self.view_is in
+    let made = c.requires.made.scopes in
+    let long = c.loop-s.invariant.long in
+    subst
+    (λ (i : ℕ). IsStruck (λ b. violates c.args.lang.now b c.args.q.now) old (slice_set now i (bit_and c.index-relations.result.now (bit_not w64 c.violated_on-violated.result))) (c.loop-s.s + 1) c.self.inside.count
+    (c.loop-s.self-inside.count - c.relation_count.result)) (sym c.from-in-loop-s.ensures)
+    (struck_more (λ b. violates c.args.lang.now b c.args.q.now) old now c.loop-s.s c.self.inside.count c.loop-s.self-inside.count c.index-relations.result.now c.violated_on-violated.result c.relation_count.result c.loop-s.invariant (omega arith)
+    (read_at now c.loop-s.s c.from.result c.index-relations.result.now (omega arith) c.from.ensures c.index-relations.ensures) c.violated_on-violated.type_inv c.violated_on-violated.ensures c.relation_count.ensures)
+
+struck : (c : goal.After-loop-s) → members_from 0 c.loop-s.self-inside.relations.items ≡ filter (λ b. not (violates c.args.lang.now b c.args.q.now)) c.args.self.now.members
+struck c =
+    let scopes = ap (λ (k : KeptSet). k.scopes) c.self.view_is in
+    let made = c.requires.made.scopes in
+    let end : length c.self.inside.relations.items ≤ c.loop-s.s = omega arith in
+    struck_all (λ b. violates c.args.lang.now b c.args.q.now) c.self.inside.relations.items c.loop-s.self-inside.relations.items c.loop-s.s c.self.inside.count c.loop-s.self-inside.count c.loop-s.invariant end
+    ∙ ap (λ (k : KeptSet). filter (λ b. not (violates c.args.lang.now b c.args.q.now)) k.members) c.self.view_is
+
+pub returns-clause-kept : goal.returns-clause-kept
+returns-clause-kept c = struck c
+
+pub returns-clause-made : goal.returns-clause-made
+returns-clause-made c = made_still c.args.lang.now c.args.self.now _ (λ b. not (violates c.args.lang.now b c.args.q.now)) c.requires.made (c.loop-s.invariant.long ∙ ap (λ (k : KeptSet). k.scopes) c.self.view_is) (struck c)

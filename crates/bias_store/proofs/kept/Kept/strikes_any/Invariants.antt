@@ -1,0 +1,9 @@
+use Rattle.std.proofs.Common.{◌≡◌, ℕ, ◌<◌, false}
+use Rattle.std.specs.Prelude.{slice_index_or}
+use Rattle.std.specs.List.{list_any}
+use Rattle.language.specs.Language.{violates}
+use Rattle.bias_store.specs.Masks.{ones_of}
+use Rattle.bias_store.proofs.kept.Kept.strikes_any.Given as goal
+
+abbrev pub invariant-loop-s : goal.invariant-loop-s
+invariant-loop-s l = (k : ℕ) → k < l.s → list_any (λ r. violates l.fn.lang (record { scope = k; rel = r }) l.fn.q) (ones_of (slice_index_or l.self-inside.relations.items k 0)) ≡ false

@@ -1,0 +1,14 @@
+use Rattle.std.proofs.Common.{◌<◌, ◌-◌, ◌∙◌, ap, sym, arith, lit≤}
+use Rattle.std.proofs.lemmas.Nat.{one_shl}
+use Rattle.assign.specs.Sets.{numbers}
+use Rattle.bias_store.specs.Masks.{ones_of}
+use Rattle.bias_store.proofs.Ones.{ones_of-first}
+use Rattle.bias_store.proofs.masks.first_relations.Goals as goal
+
+pub returns-then-count-eq64 : goal.returns-then-count-eq64
+returns-then-count-eq64 c = ones_of-first 64 (lit≤ tt) ∙ ap numbers (sym c.if-count-eq64.true)
+
+pub returns-else-count-eq64 : goal.returns-else-count-eq64
+returns-else-count-eq64 c =
+    let small : c.args.count < 64 = (let differs = c.if-count-eq64.false in omega arith) in
+    ap (λ x. ones_of (x - 1)) (one_shl c.args.count 64 small) ∙ ones_of-first c.args.count c.requires

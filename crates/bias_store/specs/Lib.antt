@@ -1,0 +1,3 @@
+pub mod Masks
+pub mod KeptSet
+pub mod Inside

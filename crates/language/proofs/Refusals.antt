@@ -1,0 +1,13 @@
+-- Why there is no frame or no language.
+use Rattle.std.proofs.Common.{◌≡◌, ℕ, ◌≤◌, ℤ, List, [], ◌∷◌, length, Bool, false, Some, cond, arith}
+use Rattle.std.proofs.lemmas.Bool.{le-ltb}
+use Rattle.language.specs.declared.parts.LangFault.TheVariants.{TooManyVariables, BadDomain}
+use Rattle.language.specs.Building.{is_domain, frame_refusal}
+use Rattle.std.specs.Prelude.{None}
+
+no_domain : (many domain : Bool) → many ≡ false → domain ≡ false → cond many (Some TooManyVariables) (cond domain None (Some BadDomain)) ≡ Some BadDomain
+no_domain many domain few bad = λ i. cond (few i) (Some TooManyVariables) (cond (bad i) None (Some BadDomain))
+
+pub bad_domain : (names : List (List ℕ)) (lo hi : ℤ) → 1 ≤ length names → length names ≤ 128 → is_domain lo hi ≡ false → frame_refusal names lo hi ≡ Some BadDomain
+bad_domain [] lo hi some few bad = absurd (omega arith)
+bad_domain (name ∷ names) lo hi some few bad = no_domain _ _ (le-ltb 128 (length (name ∷ names)) few) bad

@@ -1,0 +1,97 @@
+ghost use Rattle.std.specs.Prelude.{◌≡◌, ◌<◌, ◌≤◌, ◌+ℤ◌, ◌-ℤ◌, ◌≤ℤ◌, pos, negsuc, map, true, string_bytes, IfOk, IfErr, OnOk, Some, None};
+ghost use Rattle.language.specs.Language.{AreNames};
+ghost use Rattle.language.specs.Building.{is_domain, values_between, frame_refusal, IsFrame};
+
+use crate::parts::LangFault;
+use assign::MOST_VARIABLES;
+use std::marker::Model;
+
+/// No value lies further than this from 0.
+const VALUE_LIMIT: i64 = 1_000_000;
+
+/// The most values that a variable may have.
+const MOST_VALUES: i64 = 64;
+
+/// The variables' names and the domain.
+#[derive(Drop)]
+pub struct Frame {
+    pub(crate) names: Vec<String>,
+    pub(crate) least_value: i64,
+    pub(crate) value_count: u8,
+}
+
+impl Model for Frame {
+    ghost use Rattle.language.specs.Building.{Frame};
+
+    ghost Value = { Frame };
+
+    ghost use Rattle.language.specs.Framing.{seen, IsSound};
+
+    ghost view = { seen };
+
+    ghost invariant = { IsSound };
+}
+
+/// Whether values from lo to hi are a domain.
+fn is_domain(lo: i64, hi: i64) -> bool
+    ensures { result ≡ is_domain lo hi }
+{
+    lo <= hi && -VALUE_LIMIT <= lo && hi <= VALUE_LIMIT && hi - lo < MOST_VALUES
+}
+
+/// How many values there are from lo to hi.
+fn values_between(lo: i64, hi: i64) -> u8
+    requires { is_domain lo hi ≡ true }
+    ensures is { result ≡ values_between lo hi }
+    ensures some { 1 ≤ result }
+    ensures few { result ≤ 64 }
+    ensures low { negsuc 999999 ≤ℤ lo }
+    ensures high { (lo +ℤ pos result) ≤ℤ pos 1000001 }
+{
+    (hi - lo) as u8 + 1
+}
+
+impl Frame {
+    /// The frame of these variables and of the values from lo to hi: `NoVariables` where no name is given,
+    /// `TooManyVariables` for more than 128, `BadDomain` where hi is below lo, a bound lies outside a million or there
+    /// are more than 64 values.
+    pub fn new(names: Vec<String>, lo: i64, hi: i64) -> Result<Frame, LangFault>
+        requires names { AreNames (map string_bytes names.items) }
+        ensures names { IfOk result (λ f. f.names ≡ map string_bytes names.items) }
+        ensures least { IfOk result (λ f. f.least_value ≡ lo) }
+        ensures values { IfOk result (λ f. f.value_count ≡ values_between lo hi) }
+        ensures made { OnOk result (frame_refusal (map string_bytes names.items) lo hi ≡ None) }
+        ensures refused { IfErr result (λ e. frame_refusal (map string_bytes names.items) lo hi ≡ Some e) }
+    {
+        if names.is_empty() {
+            return Err(LangFault::NoVariables);
+        }
+        if names.len() > MOST_VARIABLES as usize {
+            return Err(LangFault::TooManyVariables);
+        }
+        if !is_domain(lo, hi) {
+            return Err(LangFault::BadDomain);
+        }
+        Ok(Frame {
+            names,
+            least_value: lo,
+            value_count: values_between(lo, hi),
+        })
+    }
+
+    /// The lowest value.
+    pub fn lo(&self) -> i64
+        ensures is { result ≡ self.now.least_value }
+        ensures lawful { IsFrame self.now }
+    {
+        self.least_value
+    }
+
+    /// How many values each variable may have.
+    pub fn d(&self) -> u8
+        ensures is { result ≡ self.now.value_count }
+        ensures lawful { IsFrame self.now }
+    {
+        self.value_count
+    }
+}
