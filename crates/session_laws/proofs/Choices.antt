@@ -118,9 +118,6 @@ agrees_more l network t a old new = list_all-append (λ (b : Answer). beq (accep
 pub beq_is : (a b c : Bool) → a ≡ b → beq b c ≡ true → beq a c ≡ true
 beq_is a b c e h = ap (λ x. beq x c) e ∙ h
 
-pub beq_true : (a : Bool) → a ≡ true → beq a true ≡ true
-beq_true a h = ap (λ x. beq x true) h
-
 pub beq_false : (a : Bool) → a ≡ false → beq a false ≡ true
 beq_false a h = ap (λ x. beq x false) h
 

@@ -23,12 +23,14 @@ pub data State : Type 0 where
   Choosing : ℕ → List Choice → List Candidate → Option Walk → State
   -- the set that is asked about
   Walking : List ℕ → Walk → List Candidate → State
+  -- no further answer has a place
   Over : List Candidate → State
 
 -- the sets that one walk may take
 abbrev pub MOST_SETS : ℕ
 MOST_SETS = 4096
 
+-- the set that a halving asks about, while it does
 abbrev pub wanted_set : Halved → Option (List ℕ)
 wanted_set (Wants set) = Some set
 wanted_set (Got set replies) = None
@@ -55,6 +57,7 @@ next_scope l live network = find (is_undecided l live network) (numbers (length 
 abbrev pub scope_question : Language → List Candidate → List Candidate → Option Assignment
 scope_question l live network = option_and_then (λ s. option_map (on_scope l s) (splitting_tuple (scene_of l s) (free_choices live s))) (next_scope l live network)
 
+-- whether a question is there, and is this one
 abbrev pub is_just : Option Assignment → Assignment → Bool
 is_just None q = false
 is_just (Some e) q = is_same_assignment e q
@@ -67,6 +70,7 @@ is_lawful l Multi live network q = is_question l q && is_complete q && accepts l
 
 -- ---- What an answer does. Below, t are the entries up to this one.
 
+-- where a walk stands after a turn
 abbrev pub at_turn : List Candidate → Turn → State
 at_turn network (Asks set walk) = Walking set walk network
 at_turn network (Ends end) = Idle network (Some end)
@@ -76,10 +80,12 @@ abbrev pub go_on : Language → List Answer → List Candidate → Option Walk �
 go_on l t network None = Idle network None
 go_on l t network (Some walk) = at_turn network (next_turn l network (kept l t network) walk.example walk.left walk.waiting)
 
+-- the network with a choice learned, of which none adds nothing
 abbrev pub learn : List Candidate → ℕ → Choice → List Candidate
 learn network s None = network
 learn network s (Some r) = network ++ record { scope = s; rel = r } ∷ []
 
+-- choices are told apart by a tuple, or else what remains is learned
 abbrev pub chosen : Language → List Answer → ℕ → List Choice → List Candidate → Option Walk → Option (List ℕ) → State
 chosen l t s choices network walk (Some tuple) = Choosing s choices network walk
 chosen l t s choices network walk None = go_on l t (learn network s (remaining choices)) walk
@@ -88,6 +94,7 @@ chosen l t s choices network walk None = go_on l t (learn network s (remaining c
 abbrev pub settle_choices : Language → List Answer → ℕ → List Choice → List Candidate → Option Walk → State
 settle_choices l t s choices network walk = chosen l t s choices network walk (splitting_tuple (scene_of l s) choices)
 
+-- some choices begin, and no choice at all is the end
 abbrev pub begin_choosing : Language → List Answer → ℕ → List Choice → List Candidate → Option Walk → State
 begin_choosing l t s [] network walk = Over network
 begin_choosing l t s (c ∷ choices) network walk = settle_choices l t s (c ∷ choices) network walk
@@ -97,6 +104,7 @@ abbrev pub found : Language → List Answer → Assignment → List Candidate �
 found l t e network walk None = Over network
 found l t e network walk (Some s) = begin_choosing l t s (violated_choices l (kept l t network) e s) network walk
 
+-- whether the halving asks about a part that violates no kept candidate
 abbrev pub is_quiet : Language → List Candidate → Assignment → Halved → Bool
 is_quiet l live e (Wants set) = not (violates_some l live (restrict e set))
 is_quiet l live e (Got set replies) = false
@@ -108,15 +116,18 @@ with_quiet_replies l live e set (suc most) replies =
     let more : List Bool = with_quiet_replies l live e set most (replies ++ true ∷ []) in
     if is_quiet l live e (halve set replies) then more else replies
 
+-- a set that is wanted is asked about, and a set that is got is looked up among the scopes
 abbrev pub halved : Language → List Answer → Assignment → List ℕ → List Bool → List Candidate → Option Walk → Halved → State
 halved l t e set replies network walk (Wants asked) = Halving e set replies network walk
 halved l t e set replies network walk (Got last left) = found l t e network walk (position (is_same last) l.scopes)
 
+-- a halving goes on by itself as long as its questions are quiet
 abbrev pub settle_halving : Language → List Answer → Assignment → List ℕ → List Bool → List Candidate → Option Walk → State
 settle_halving l t e set replies network walk =
     let all : List Bool = with_quiet_replies l (kept l t network) e set (2 * length set) replies in
     halved l t e set all network walk (halve set all)
 
+-- the choices that agree with a reply about the tuple that told them apart
 abbrev pub replied_tuple : Scene → Bool → List Choice → Option (List ℕ) → List Choice
 replied_tuple scene reply choices None = choices
 replied_tuple scene reply choices (Some tuple) = after_reply scene tuple reply choices
@@ -132,6 +143,7 @@ replied l t true (Walking set walk network) = go_on l t network (Some walk)
 replied l t false (Walking set walk network) =
     settle_halving l t walk.example set [] network (Some (record walk { waiting = set ∷ walk.waiting }))
 
+-- the first reply about a scope
 abbrev pub on_scope_asked : Language → List Answer → Bool → List Candidate → List Candidate → Option ℕ → State
 on_scope_asked l t reply live network None = Idle network None
 on_scope_asked l t reply live network (Some s) = replied l t reply (Choosing s (free_choices live s) network None)
@@ -143,6 +155,7 @@ begun l Quacq t live network q false = settle_halving l t q (numbers (variable_c
 begun l Multi t live network q reply = replied l t reply (at_turn network (next_turn l network live q MOST_SETS (numbers (variable_count l) ∷ [])))
 begun l Scopes t live network q reply = on_scope_asked l t reply live network (next_scope l live network)
 
+-- the state, where a test passes
 abbrev pub if_passes : Bool → State → Option State
 if_passes true state = Some state
 if_passes false state = None
@@ -160,6 +173,7 @@ pub data Reading : Type 0 where
   At : State → Reading
   Stray : ℕ → Reading
 
+-- on from a state, or a stray answer where there is none
 abbrev pub then_on : ℕ → Option State → (State → Reading) → Reading
 then_on number None next = Stray number
 then_on number (Some state) next = next state

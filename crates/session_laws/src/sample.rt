@@ -12,6 +12,11 @@ pub fn scopes_converge()
     ensures converged { IsConverged equal_or_not (record { scope = 0; rel = 1 } ∷ []) (says (pair 0 0) false ∷ says (pair 0 1) true ∷ []) }
 {}
 
+/// So do the answers yes and no of plan Quacq: nothing else is kept that could be asked about.
+pub fn examples_converge()
+    ensures { IsConverged equal_or_not (record { scope = 0; rel = 1 } ∷ []) (says (pair 0 1) true ∷ says (pair 0 0) false ∷ []) }
+{}
+
 /// `eq` over three variables is a language, and no network gives the untrue answers.
 pub fn nothing_agrees()
     ensures language { IsLanguage three_equal }
