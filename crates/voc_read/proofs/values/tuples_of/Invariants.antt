@@ -1,0 +1,9 @@
+use Rattle.std.proofs.Common.{◌≡◌, ◌++◌, drop}
+use Rattle.std.specs.Option.{option_map}
+use Rattle.serde_json.specs.View.{items_view}
+use Rattle.rel_table.specs.Made.{lists}
+use Rattle.voc_read.specs.Values.{number_list, each_of}
+use Rattle.voc_read.proofs.values.tuples_of.Given as goal
+
+abbrev pub invariant-loop-value : goal.invariant-loop-value
+invariant-loop-value l = option_map (λ more. lists l.tuples.items ++ more) (each_of number_list (items_view (drop l.value-index l.list))) ≡ each_of number_list (items_view l.list)
