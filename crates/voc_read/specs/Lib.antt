@@ -1,2 +1,4 @@
 pub mod Answers
 pub mod Values
+pub mod Texts
+pub mod Keys

@@ -2,6 +2,7 @@
 #![tactic(auto)]
 
 mod fault;
+mod keys;
 mod values;
 
 pub use fault::{Spot, VocFault};

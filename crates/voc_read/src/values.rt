@@ -1,10 +1,12 @@
 // JSON values read as what a vocabulary holds.
-ghost use Rattle.std.specs.Prelude.{◌≡◌, map, IfOk, string_bytes};
+ghost use Rattle.std.specs.Prelude.{◌≡◌};
 ghost use Rattle.std.specs.Option.{ok_or};
 ghost use Rattle.serde_json.specs.View.{view, items_view};
 ghost use Rattle.rel_table.specs.Made.{lists};
 ghost use Rattle.voc_read.specs.Answers.{Reads};
-ghost use Rattle.voc_read.specs.Values.{whole_number, each_of, number_list, tuple_list};
+ghost use Rattle.serde_json.specs.Find.{as_str};
+ghost use Rattle.voc_read.specs.Values.{whole_number, each_of, text_list, number_list, tuple_list, both_of, number_pair};
+ghost use Rattle.voc_read.specs.Texts.{texts_of};
 
 use crate::fault::{Spot, VocFault};
 use serde_json::Value;
@@ -55,4 +57,46 @@ pub fn tuple_list(alloc: Global, value: &Value, spot: Spot) -> Result<Vec<Vec<i6
 {
     let list = value.as_array().ok_or(VocFault::WrongKind(spot))?;
     tuples_of(alloc, list, spot)
+}
+
+/// Two numbers.
+fn both_of(numbers: &[i64]) -> Option<(i64, i64)>
+    ensures { result ≡ both_of numbers.now }
+{
+    match numbers {
+        [low, high] => Some((*low, *high)),
+        _ => None,
+    }
+}
+
+/// An array of two whole numbers.
+pub fn number_pair(alloc: Global, value: &Value, spot: Spot) -> Result<(i64, i64), VocFault>
+    ensures { Reads (λ pair. pair) (ok_or (number_pair (view value.now)) (VocFault.WrongKind spot)) result }
+{
+    let numbers = number_list(alloc, value, spot)?;
+    both_of(&numbers).ok_or(VocFault::WrongKind(spot))
+}
+
+/// The strings of a list.
+fn texts_in<'a>(alloc: Global, list: &'a [Value], spot: Spot) -> Result<Vec<&'a str>, VocFault>
+    ensures { Reads (λ v. texts_of v.items) (ok_or (each_of as_str (items_view list.entry.now)) (VocFault.WrongKind spot)) result }
+{
+    let mut texts = Vec::new(alloc);
+    for value in list {
+        let text = value.as_str().ok_or(VocFault::WrongKind(spot))?;
+        texts.push(text)?;
+    }
+    Ok(texts)
+}
+
+/// An array of strings.
+pub fn text_list<'a>(
+    alloc: Global,
+    value: &'a Value,
+    spot: Spot,
+) -> Result<Vec<&'a str>, VocFault>
+    ensures { Reads (λ v. texts_of v.items) (ok_or (text_list (view value.entry.now)) (VocFault.WrongKind spot)) result }
+{
+    let list = value.as_array().ok_or(VocFault::WrongKind(spot))?;
+    texts_in(alloc, list, spot)
 }

@@ -1,0 +1,30 @@
+// The keys of an object.
+ghost use Rattle.std.specs.Prelude.{◌≡◌, not, map, string_bytes};
+ghost use Rattle.std.specs.List.{list_any};
+ghost use Rattle.std.specs.Str.{bytes_eq};
+ghost use Rattle.serde_json.specs.View.{members_view};
+ghost use Rattle.voc_read.specs.Keys.{has_other_key};
+ghost use Rattle.voc_read.specs.Texts.{texts_of};
+
+use serde_json::{Map, Value};
+
+/// Whether a key is one of the known ones.
+fn is_known(known: &[&str], key: &str) -> bool
+    ensures { result ≡ list_any (λ name. bytes_eq name.now key.now) known.now }
+{
+    known.iter().any(|name| *name == key)
+}
+
+/// Whether some key is none of the known ones.
+fn some_unknown(members: &Map<String, Value>, known: &[&str]) -> bool
+    ensures { result ≡ list_any (λ key. not (list_any (λ name. bytes_eq name.now (string_bytes key)) known.now)) (map (λ entry. entry.0) members.now.entries) }
+{
+    members.keys().any(|key| !is_known(known, key.as_str()))
+}
+
+/// Whether an object has another key than the known ones.
+pub fn has_other_key(members: &Map<String, Value>, known: &[&str]) -> bool
+    ensures { result ≡ has_other_key (texts_of known.now) (members_view members.now.entries) }
+{
+    some_unknown(members, known)
+}
