@@ -1,1 +1,2 @@
 pub mod MemberKeys
+pub mod Repeats

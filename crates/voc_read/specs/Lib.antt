@@ -2,3 +2,4 @@ pub mod Answers
 pub mod Values
 pub mod Texts
 pub mod Keys
+pub mod Names
