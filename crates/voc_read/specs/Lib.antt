@@ -3,3 +3,4 @@ pub mod Values
 pub mod Texts
 pub mod Keys
 pub mod Names
+pub mod Outline

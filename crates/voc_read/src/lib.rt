@@ -4,6 +4,7 @@
 mod fault;
 mod keys;
 mod names;
+mod outline;
 mod values;
 
 pub use fault::{Spot, VocFault};
