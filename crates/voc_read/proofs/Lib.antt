@@ -1,2 +1,3 @@
 pub mod MemberKeys
 pub mod Repeats
+pub mod NameForms

@@ -1,10 +1,12 @@
 // The names of variables and of relations.
-ghost use Rattle.std.specs.Prelude.{◌≡◌, ◌<◌, ◌^◌, not, length, position, IfOk};
+ghost use Rattle.std.specs.Prelude.{◌≡◌, ◌<◌, ◌^◌, not, length, position, IfOk, OnOk};
 ghost use Rattle.std.specs.List.{list_all};
-ghost use Rattle.language.specs.Language.{is_name, is_name_byte};
-ghost use Rattle.voc_read.specs.Names.{first_repeat};
+ghost use Rattle.language.specs.Language.{is_name, is_name_byte, AreNames};
+ghost use Rattle.voc_read.specs.Names.{first_repeat, names_refusal};
+ghost use Rattle.voc_read.specs.Answers.{Refuses};
 ghost use Rattle.voc_read.specs.Texts.{texts_of};
 
+use crate::fault::VocFault;
 use indexmap::IndexSet;
 use std::alloc::{AllocError, Global};
 
@@ -49,4 +51,19 @@ pub fn first_repeat(alloc: Global, names: &[&str]) -> Result<Option<(u32, u32)>,
         }
     }
     Ok(None)
+}
+
+/// Refuses names of variables that don't have the form of names, or that repeat another.
+pub fn check_names(alloc: Global, names: &[&str]) -> Result<(), VocFault>
+    requires { length names.now < 2 ^ 32 }
+    ensures refused { Refuses (names_refusal (texts_of names.now)) result }
+    ensures names { OnOk result (AreNames (texts_of names.now)) }
+{
+    if let Some(i) = first_bad(names) {
+        return Err(VocFault::BadName(i as u32));
+    }
+    if let Some((i, j)) = first_repeat(alloc, names)? {
+        return Err(VocFault::NameRepeated(i, j));
+    }
+    Ok(())
 }
