@@ -4,3 +4,4 @@ pub mod Texts
 pub mod Keys
 pub mod Names
 pub mod Outline
+pub mod Relations

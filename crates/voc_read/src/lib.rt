@@ -5,6 +5,7 @@ mod fault;
 mod keys;
 mod names;
 mod outline;
+mod relations;
 mod values;
 
 pub use fault::{Spot, VocFault};

@@ -13,7 +13,7 @@ use serde_json::Value;
 use std::alloc::Global;
 
 /// A whole number of 64 bits.
-fn whole_number(value: &Value, spot: Spot) -> Result<i64, VocFault>
+pub fn whole_number(value: &Value, spot: Spot) -> Result<i64, VocFault>
     ensures { result ≡ ok_or (whole_number (view value.now)) (VocFault.WrongKind spot) }
 {
     value.as_i64().ok_or(VocFault::WrongKind(spot))
