@@ -5,3 +5,4 @@ pub mod Keys
 pub mod Names
 pub mod Outline
 pub mod Relations
+pub mod Widest

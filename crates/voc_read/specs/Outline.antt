@@ -69,5 +69,5 @@ outline_data outline = record {
   names = texts_of outline.names.items;
   least_value = outline.least_value;
   greatest_value = outline.greatest_value;
-  relations = items_view outline.relations.now.items;
+  relations = items_view outline.relations.now;
 }

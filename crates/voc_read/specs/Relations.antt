@@ -1,15 +1,17 @@
 -- The relations of a vocabulary.
-use Rattle.std.specs.Prelude.{◌≡◌, ℕ, ◌+◌, ◌^◌, ℤ, pos, unsigned_abs, List, [], ◌∷◌, map, codes, nat_eq, Option, Some, None, Result, Ok, Err, if◌then◌else◌}
+use Rattle.std.specs.Prelude.{◌≡◌, ℕ, ◌+◌, ◌^◌, ℤ, pos, unsigned_abs, List, [], ◌∷◌, map, codes, nat_eq, Option, Some, None, Result, Ok, Err, if◌then◌else◌, true, string_bytes}
 use Rattle.std.specs.List.{list_any, range_with_len}
 use Rattle.std.specs.Option.{ok_or, option_map}
 use Rattle.std.specs.Ordering.{int_eq}
 use Rattle.serde_json.specs.Data.{Data, Items, no_items, item}
 use Rattle.serde_json.specs.Find.{as_str}
 use Rattle.rel_table.specs.Relation.{Relation}
+use Rattle.rel_table.specs.Table.{TruthTable}
 use Rattle.rel_table.specs.Made.{place_of_shown, refusal_of, lists}
 use Rattle.rel_table.specs.declared.table.TableFault.{TableFault}
 use Rattle.rel_table.specs.declared.table.TableFault.TheVariants.{BadArity}
 use Rattle.language.specs.Language.{Given, is_name}
+use Rattle.language.specs.declared.parts.RelPart.{RelPart}
 use Rattle.voc_read.specs.declared.fault.Spot.{Spot}
 use Rattle.voc_read.specs.declared.fault.VocFault.{VocFault}
 use Rattle.voc_read.specs.declared.fault.VocFault.TheVariants.{WrongKind, BadRelName, RelRepeated, Table}
@@ -54,6 +56,12 @@ abbrev pub table_refusal : ℤ → ℕ → RelationData → Option TableFault
 table_refusal least_value value_count relation =
     if int_eq relation.arity (pos 2) then refusal_of relation.arity least_value value_count relation.tuples else Some BadArity
 
+-- the table accepts exactly the tuples
+pub record IsTableOf (least_value : ℤ) (value_count : ℕ) (relation : RelationData) (table : TruthTable) : Type 0 where
+  pub arity : table.arity ≡ 2
+  pub values : table.value_count ≡ value_count
+  pub truth : table.truth ≡ accepting least_value value_count 2 relation.tuples
+
 -- why relation i is refused by its name
 abbrev pub name_refusal : ℕ → List ℕ → Option VocFault
 name_refusal i name = if is_name name then None else Some (BadRelName i)
@@ -84,3 +92,9 @@ relations_from i least_value value_count (item value values) =
 -- why the relations are refused by their names together
 abbrev pub relation_names_refusal : List (List ℕ) → Option VocFault
 relation_names_refusal names = option_map (λ pair. RelRepeated pair.0 pair.1) (first_repeat names)
+
+-- a relation of two places over so many values, whose name has the form of one
+pub record IsOfTwo (value_count : ℕ) (part : RelPart) : Type 0 where
+  pub arity : part.table.arity ≡ 2
+  pub values : part.table.value_count ≡ value_count
+  pub named : is_name (string_bytes part.name) ≡ true

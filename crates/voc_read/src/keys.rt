@@ -1,11 +1,12 @@
 // The keys of an object.
-ghost use Rattle.std.specs.Prelude.{◌≡◌, not, map, string_bytes};
+ghost use Rattle.std.specs.Prelude.{◌≡◌, ◌≤◌, not, IfOk, map, string_bytes};
 ghost use Rattle.std.specs.List.{list_any};
 ghost use Rattle.std.specs.Str.{bytes_eq};
 ghost use Rattle.serde_json.specs.View.{view, members_view};
 ghost use Rattle.voc_read.specs.Answers.{Reads, Refuses};
 ghost use Rattle.voc_read.specs.Keys.{has_other_key, keys_refusal, under};
 ghost use Rattle.voc_read.specs.Texts.{texts_of};
+ghost use Rattle.voc_read.specs.Widest.{widest};
 
 use crate::fault::{Spot, VocFault};
 use serde_json::{Map, Value};
@@ -44,7 +45,8 @@ pub fn check_keys(value: &Value, known: &[&str], spot: Spot) -> Result<(), VocFa
 
 /// The value under a key.
 pub fn under<'a>(value: &'a Value, key: &str, spot: Spot) -> Result<&'a Value, VocFault>
-    ensures { Reads (λ found. view found.now) (under key.entry.now spot (view value.entry.now)) result }
+    ensures part { IfOk result (λ found. widest (view found.now) ≤ widest (view value.entry.now)) }
+    ensures is { Reads (λ found. view found.now) (under key.entry.now spot (view value.entry.now)) result }
 {
     value.get(key).ok_or(VocFault::Missing(spot))
 }

@@ -1,18 +1,20 @@
 // What a vocabulary holds, before its relations are read.
-ghost use Rattle.std.specs.Prelude.{◌≡◌};
-ghost use Rattle.serde_json.specs.View.{view};
+ghost use Rattle.std.specs.Prelude.{◌≡◌, ◌≤◌, length, IfOk};
+ghost use Rattle.serde_json.specs.View.{view, items_view};
 ghost use Rattle.voc_read.specs.Answers.{Reads};
 ghost use Rattle.voc_read.specs.Outline.{held_by, held_data, is_all, outline_of, outline_data};
+ghost use Rattle.voc_read.specs.Widest.{widest, items_widest};
 
 use crate::fault::{Spot, VocFault};
 use crate::keys::{check_keys, under};
-use crate::values::{number_pair, text_list};
+use crate::values::{items_of, number_pair, text_list};
 use serde_json::Value;
 use std::alloc::Global;
 
 static KEYS: [&str; 4] = ["variables", "domain", "relations", "scopes"];
 
 /// The values under the keys of a vocabulary.
+#[derive(Clone, Copy)]
 pub struct Held<'a> {
     pub variables: &'a Value,
     pub domain: &'a Value,
@@ -22,7 +24,9 @@ pub struct Held<'a> {
 
 /// The values that an object holds under exactly these keys.
 pub fn held_by<'a>(whole: &'a Value) -> Result<Held<'a>, VocFault>
-    ensures { Reads held_data (held_by (view whole.entry.now)) result }
+    ensures variables { IfOk result (λ held. widest (view held.variables.now) ≤ widest (view whole.entry.now)) }
+    ensures relations { IfOk result (λ held. widest (view held.relations.now) ≤ widest (view whole.entry.now)) }
+    ensures is { Reads held_data (held_by (view whole.entry.now)) result }
 {
     check_keys(whole, &KEYS, Spot::Whole)?;
     let variables = under(whole, "variables", Spot::Variables)?;
@@ -43,7 +47,7 @@ pub struct Outline<'a> {
     pub names: Vec<&'a str>,
     pub least_value: i64,
     pub greatest_value: i64,
-    pub relations: &'a Vec<Value>,
+    pub relations: &'a [Value],
 }
 
 /// Whether the scopes are the string `all`.
@@ -58,14 +62,14 @@ fn is_all(scopes: &Value) -> bool
 
 /// What the values are, where each is of its kind.
 pub fn outline_of<'a>(alloc: Global, held: &Held<'a>) -> Result<Outline<'a>, VocFault>
-    ensures { Reads outline_data (outline_of (held_data held.entry.now)) result }
+    ensures few { IfOk result (λ outline. length outline.names.items ≤ widest (view held.entry.now.variables.now)) }
+    ensures few_relations { IfOk result (λ outline. length outline.relations.now ≤ widest (view held.entry.now.relations.now)) }
+    ensures parts { IfOk result (λ outline. items_widest (items_view outline.relations.now) ≤ widest (view held.entry.now.relations.now)) }
+    ensures is { Reads outline_data (outline_of (held_data held.entry.now)) result }
 {
     let names = text_list(alloc, held.variables, Spot::Variables)?;
     let (least_value, greatest_value) = number_pair(alloc, held.domain, Spot::Domain)?;
-    let relations = held
-        .relations
-        .as_array()
-        .ok_or(VocFault::WrongKind(Spot::Relations))?;
+    let relations = items_of(held.relations, Spot::Relations)?;
     if !is_all(held.scopes) {
         return Err(VocFault::WrongKind(Spot::Scopes));
     }

@@ -1,16 +1,29 @@
 // JSON values read as what a vocabulary holds.
-ghost use Rattle.std.specs.Prelude.{◌≡◌};
+ghost use Rattle.std.specs.Prelude.{◌≡◌, ◌≤◌, length, IfOk};
 ghost use Rattle.std.specs.Option.{ok_or};
 ghost use Rattle.serde_json.specs.View.{view, items_view};
 ghost use Rattle.rel_table.specs.Made.{lists};
 ghost use Rattle.voc_read.specs.Answers.{Reads};
-ghost use Rattle.serde_json.specs.Find.{as_str};
+ghost use Rattle.serde_json.specs.Find.{as_array, as_str};
 ghost use Rattle.voc_read.specs.Values.{whole_number, each_of, text_list, number_list, tuple_list, both_of, number_pair};
 ghost use Rattle.voc_read.specs.Texts.{texts_of};
+ghost use Rattle.voc_read.specs.Widest.{widest, items_widest};
 
 use crate::fault::{Spot, VocFault};
 use serde_json::Value;
 use std::alloc::Global;
+
+/// The values of an array.
+pub fn items_of<'a>(value: &'a Value, spot: Spot) -> Result<&'a [Value], VocFault>
+    ensures few { IfOk result (λ list. length list.now ≤ widest (view value.entry.now)) }
+    ensures parts { IfOk result (λ list. items_widest (items_view list.now) ≤ widest (view value.entry.now)) }
+    ensures is { Reads (λ list. items_view list.now) (ok_or (as_array (view value.entry.now)) (VocFault.WrongKind spot)) result }
+{
+    match value.as_array() {
+        Some(list) => Ok(list.as_slice()),
+        None => Err(VocFault::WrongKind(spot)),
+    }
+}
 
 /// A whole number of 64 bits.
 pub fn whole_number(value: &Value, spot: Spot) -> Result<i64, VocFault>
@@ -35,13 +48,14 @@ fn numbers_of(alloc: Global, list: &[Value], spot: Spot) -> Result<Vec<i64>, Voc
 pub fn number_list(alloc: Global, value: &Value, spot: Spot) -> Result<Vec<i64>, VocFault>
     ensures { Reads (λ v. v.items) (ok_or (number_list (view value.now)) (VocFault.WrongKind spot)) result }
 {
-    let list = value.as_array().ok_or(VocFault::WrongKind(spot))?;
+    let list = items_of(value, spot)?;
     numbers_of(alloc, list, spot)
 }
 
 /// The tuples of a list.
 fn tuples_of(alloc: Global, list: &[Value], spot: Spot) -> Result<Vec<Vec<i64>>, VocFault>
-    ensures { Reads (λ v. lists v.items) (ok_or (each_of number_list (items_view list.now)) (VocFault.WrongKind spot)) result }
+    ensures each { IfOk result (λ v. length v.items ≡ length list.now) }
+    ensures is { Reads (λ v. lists v.items) (ok_or (each_of number_list (items_view list.now)) (VocFault.WrongKind spot)) result }
 {
     let mut tuples = Vec::new(alloc);
     for value in list {
@@ -53,9 +67,10 @@ fn tuples_of(alloc: Global, list: &[Value], spot: Spot) -> Result<Vec<Vec<i64>>,
 
 /// An array of arrays of whole numbers.
 pub fn tuple_list(alloc: Global, value: &Value, spot: Spot) -> Result<Vec<Vec<i64>>, VocFault>
-    ensures { Reads (λ v. lists v.items) (ok_or (tuple_list (view value.now)) (VocFault.WrongKind spot)) result }
+    ensures few { IfOk result (λ v. length v.items ≤ widest (view value.now)) }
+    ensures is { Reads (λ v. lists v.items) (ok_or (tuple_list (view value.now)) (VocFault.WrongKind spot)) result }
 {
-    let list = value.as_array().ok_or(VocFault::WrongKind(spot))?;
+    let list = items_of(value, spot)?;
     tuples_of(alloc, list, spot)
 }
 
@@ -79,7 +94,8 @@ pub fn number_pair(alloc: Global, value: &Value, spot: Spot) -> Result<(i64, i64
 
 /// The strings of a list.
 fn texts_in<'a>(alloc: Global, list: &'a [Value], spot: Spot) -> Result<Vec<&'a str>, VocFault>
-    ensures { Reads (λ v. texts_of v.items) (ok_or (each_of as_str (items_view list.entry.now)) (VocFault.WrongKind spot)) result }
+    ensures each { IfOk result (λ v. length v.items ≡ length list.entry.now) }
+    ensures is { Reads (λ v. texts_of v.items) (ok_or (each_of as_str (items_view list.entry.now)) (VocFault.WrongKind spot)) result }
 {
     let mut texts = Vec::new(alloc);
     for value in list {
@@ -95,8 +111,9 @@ pub fn text_list<'a>(
     value: &'a Value,
     spot: Spot,
 ) -> Result<Vec<&'a str>, VocFault>
-    ensures { Reads (λ v. texts_of v.items) (ok_or (text_list (view value.entry.now)) (VocFault.WrongKind spot)) result }
+    ensures few { IfOk result (λ v. length v.items ≤ widest (view value.entry.now)) }
+    ensures is { Reads (λ v. texts_of v.items) (ok_or (text_list (view value.entry.now)) (VocFault.WrongKind spot)) result }
 {
-    let list = value.as_array().ok_or(VocFault::WrongKind(spot))?;
+    let list = items_of(value, spot)?;
     texts_in(alloc, list, spot)
 }
