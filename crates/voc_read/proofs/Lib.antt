@@ -1,0 +1,5 @@
+pub mod MemberKeys
+pub mod Repeats
+pub mod NameForms
+pub mod TablesRead
+pub mod Widths

@@ -1,0 +1,65 @@
+-- The names that a table of numbers holds, one more at a time.
+use Rattle.std.proofs.Common.{◌≡◌, ◌≢◌, ℕ, zero, suc, ◌+◌, ◌<◌, ◌≤◌, ◌++◌, ◌||◌, true, false, not, cond, List, [], ◌∷◌, length, take, drop, get_or, map, Option, Some, None, Bor, refl, sym, ap, ap₂, ◌∙◌, arith}
+use Rattle.std.proofs.Math.Seq.{drop-cons}
+use Rattle.std.proofs.lemmas.List.{take_more, take_all, length-take, length-map, get_or-map}
+use Rattle.std.specs.List.{list_any, position_or_len}
+use Rattle.std.specs.Str.{bytes_eq}
+use Rattle.voc_read.specs.Names.{repeat_after, first_repeat}
+use Rattle.voc_read.specs.Texts.{texts_of}
+
+any_text : (text : List ℕ) (keys : List (Bor (List ℕ))) → list_any (λ key. bytes_eq text key.now) keys ≡ list_any (bytes_eq text) (texts_of keys)
+any_text text [] = refl
+any_text text (key ∷ keys) = ap (λ rest. bytes_eq text key.now || rest) (any_text text keys)
+
+place_of_text : (text : List ℕ) (keys : List (Bor (List ℕ))) → position_or_len (λ key. bytes_eq text key.now) keys ≡ position_or_len (bytes_eq text) (texts_of keys)
+place_of_text text [] = refl
+place_of_text text (key ∷ keys) = ap (λ rest. cond (not (bytes_eq text key.now)) (1 + rest) 0) (place_of_text text keys)
+
+texts_of-append : (keys : List (Bor (List ℕ))) (key : Bor (List ℕ)) → texts_of (keys ++ key ∷ []) ≡ texts_of keys ++ key.now ∷ []
+texts_of-append [] key = refl
+texts_of-append (first ∷ keys) key = ap (λ rest. first.now ∷ rest) (texts_of-append keys key)
+
+-- the names from j on begin with that one
+from_here : (names : List (Bor (List ℕ))) (j : ℕ) (d : Bor (List ℕ)) → j < length names → drop j (texts_of names) ≡ (get_or names j d).now ∷ drop (j + 1) (texts_of names)
+from_here names j d within =
+    let next : j + 1 ≡ suc j = omega arith in
+    let inside : j < length (texts_of names) = rw (length-map names (λ (name : Bor (List ℕ)). name.now)) within in
+    rw (next, drop-cons (texts_of names) j d.now inside, get_or-map (λ (name : Bor (List ℕ)). name.now) names j d d.now within) refl
+
+-- name j stands among the keys, at place i
+pub repeats : (keys names : List (Bor (List ℕ))) (i j : ℕ) (d : Bor (List ℕ)) → j < length names → texts_of keys ≡ take j (texts_of names)
+    → list_any (λ key. bytes_eq (get_or names j d).now key.now) keys ≡ true → i ≡ position_or_len (λ key. bytes_eq (get_or names j d).now key.now) keys
+    → repeat_after (texts_of keys) (drop j (texts_of names)) ≡ Some (i, j)
+unfolding repeat_after
+repeats keys names i j d within seen found at =
+    let found_in : list_any (bytes_eq (get_or names j d).now) (texts_of keys) ≡ true = sym (any_text (get_or names j d).now keys) ∙ found in
+    let at_in : i ≡ position_or_len (bytes_eq (get_or names j d).now) (texts_of keys) = at ∙ place_of_text (get_or names j d).now keys in
+    let inside : j < length (texts_of names) = rw (length-map names (λ (name : Bor (List ℕ)). name.now)) within in
+    let count : length (texts_of keys) ≡ j = ap length seen ∙ grind (arith, length-take) in
+    rw (from_here names j d within, found_in) (ap₂ (λ a b. Some (a, b)) (sym at_in) count)
+
+-- name j doesn't stand among the keys
+pub goes_on : (keys names : List (Bor (List ℕ))) (j : ℕ) (d : Bor (List ℕ)) → j < length names → texts_of keys ≡ take j (texts_of names)
+    → list_any (λ key. bytes_eq (get_or names j d).now key.now) keys ≡ false
+    → (texts_of (keys ++ get_or names j d ∷ []) ≡ take (j + 1) (texts_of names))
+    × (repeat_after (texts_of keys) (drop j (texts_of names)) ≡ repeat_after (texts_of (keys ++ get_or names j d ∷ [])) (drop (j + 1) (texts_of names)))
+unfolding repeat_after
+goes_on keys names j d within seen new =
+    let new_in : list_any (bytes_eq (get_or names j d).now) (texts_of keys) ≡ false = sym (any_text (get_or names j d).now keys) ∙ new in
+    let inside : j < length (texts_of names) = rw (length-map names (λ (name : Bor (List ℕ)). name.now)) within in
+    let here : get_or (texts_of names) j d.now ≡ (get_or names j d).now = get_or-map (λ (name : Bor (List ℕ)). name.now) names j d d.now within in
+    let more : take (j + 1) (texts_of names) ≡ take j (texts_of names) ++ (get_or names j d).now ∷ [] = take_more (texts_of names) j d.now inside ∙ ap (λ text. take j (texts_of names) ++ text ∷ []) here in
+    (texts_of-append keys (get_or names j d) ∙ ap (λ texts. texts ++ (get_or names j d).now ∷ []) seen ∙ sym more, rw (from_here names j d within, new_in, texts_of-append keys (get_or names j d)) refl)
+
+drop_past : {X : Type 0} (xs : List X) (j : ℕ) → length xs ≤ j → drop j xs ≡ []
+drop_past [] zero h = refl
+drop_past [] (suc j) h = refl
+drop_past (x ∷ xs) zero h = absurd (omega arith)
+drop_past (x ∷ xs) (suc j) h = drop_past xs j (omega arith)
+
+-- no name is left
+pub all_are_new : (keys names : List (Bor (List ℕ))) (j : ℕ) → length names ≤ j → repeat_after (texts_of keys) (drop j (texts_of names)) ≡ None
+unfolding repeat_after
+all_are_new keys names j past =
+    let none : drop j (texts_of names) ≡ [] = drop_past (texts_of names) j (rw (length-map names (λ (name : Bor (List ℕ)). name.now)) past) in
+    rw none refl

@@ -1,0 +1,73 @@
+-- What a vocabulary holds, before its relations are read.
+use Rattle.std.specs.Prelude.{ℕ, ℤ, Bool, false, List, [], ◌∷◌, codes, Result, Ok, Err, if◌then◌else◌}
+use Rattle.std.specs.Option.{ok_or, option_map_or}
+use Rattle.std.specs.Str.{bytes_eq}
+use Rattle.serde_json.specs.Data.{Data, Items}
+use Rattle.serde_json.specs.Find.{as_array, as_str}
+use Rattle.serde_json.specs.View.{view, items_view}
+use Rattle.voc_read.specs.declared.fault.VocFault.{VocFault}
+use Rattle.voc_read.specs.declared.fault.VocFault.TheVariants.{WrongKind}
+use Rattle.voc_read.specs.declared.fault.Spot.TheVariants.{Whole, Variables, Domain, Relations, Scopes}
+use Rattle.voc_read.specs.declared.outline.Held.{Held}
+use Rattle.voc_read.specs.declared.outline.Outline.{Outline}
+use Rattle.voc_read.specs.Answers.{then_on, unless}
+use Rattle.voc_read.specs.Keys.{keys_refusal, under}
+use Rattle.voc_read.specs.Texts.{texts_of}
+use Rattle.voc_read.specs.Values.{text_list, number_pair}
+
+-- the values under the keys of a vocabulary
+pub record HeldData : Type 0 where
+  pub variables : Data
+  pub domain : Data
+  pub relations : Data
+  pub scopes : Data
+
+abbrev pub vocabulary_keys : List (List ℕ)
+vocabulary_keys = codes "variables" ∷ codes "domain" ∷ codes "relations" ∷ codes "scopes" ∷ []
+
+-- the values that an object holds under exactly these keys
+abbrev pub held_by : Data → Result HeldData VocFault
+held_by whole =
+    unless (keys_refusal vocabulary_keys Whole whole) (
+    then_on (under (codes "variables") Variables whole) (λ variables.
+    then_on (under (codes "domain") Domain whole) (λ domain.
+    then_on (under (codes "relations") Relations whole) (λ relations.
+    then_on (under (codes "scopes") Scopes whole) (λ scopes.
+    Ok (record { variables = variables; domain = domain; relations = relations; scopes = scopes }))))))
+
+abbrev pub held_data : Held → HeldData
+held_data held = record {
+  variables = view held.variables.now;
+  domain = view held.domain.now;
+  relations = view held.relations.now;
+  scopes = view held.scopes.now;
+}
+
+-- the names and the domain, with the relations that are still to be read
+pub record OutlineData : Type 0 where
+  pub names : List (List ℕ)
+  pub least_value : ℤ
+  pub greatest_value : ℤ
+  pub relations : Items
+
+-- the string `all`
+abbrev pub is_all : Data → Bool
+is_all scopes = option_map_or (λ text. bytes_eq text (codes "all")) (as_str scopes) false
+
+-- what the values are, where each is of its kind
+abbrev pub outline_of : HeldData → Result OutlineData VocFault
+outline_of held =
+    then_on (ok_or (text_list held.variables) (WrongKind Variables)) (λ names.
+    then_on (ok_or (number_pair held.domain) (WrongKind Domain)) (λ bounds.
+    then_on (ok_or (as_array held.relations) (WrongKind Relations)) (λ relations.
+    if is_all held.scopes
+    then Ok (record { names = names; least_value = bounds.0; greatest_value = bounds.1; relations = relations })
+    else Err (WrongKind Scopes))))
+
+abbrev pub outline_data : Outline → OutlineData
+outline_data outline = record {
+  names = texts_of outline.names.items;
+  least_value = outline.least_value;
+  greatest_value = outline.greatest_value;
+  relations = items_view outline.relations.now;
+}

@@ -1,0 +1,11 @@
+//! Reading a vocabulary: from the bytes of a JSON text to the language that they describe, or to the first fault.
+#![tactic(auto)]
+
+mod fault;
+mod keys;
+mod names;
+mod outline;
+mod relations;
+mod values;
+
+pub use fault::{Spot, VocFault};

@@ -1,0 +1,69 @@
+// The names of variables and of relations.
+ghost use Rattle.std.specs.Prelude.{◌≡◌, ◌<◌, ◌^◌, not, length, position, IfOk, OnOk};
+ghost use Rattle.std.specs.List.{list_all};
+ghost use Rattle.language.specs.Language.{is_name, is_name_byte, AreNames};
+ghost use Rattle.voc_read.specs.Names.{first_repeat, names_refusal};
+ghost use Rattle.voc_read.specs.Answers.{Refuses};
+ghost use Rattle.voc_read.specs.Texts.{texts_of};
+
+use crate::fault::VocFault;
+use indexmap::IndexSet;
+use std::alloc::{AllocError, Global};
+
+/// A byte that a name may have.
+fn is_name_byte(byte: u8) -> bool
+    ensures { result ≡ is_name_byte byte }
+{
+    byte.is_ascii_graphic() && byte != b'=' && byte != b'&'
+}
+
+/// Whether each byte may stand in a name.
+fn are_name_bytes(bytes: &[u8]) -> bool
+    ensures { result ≡ list_all is_name_byte bytes.now }
+{
+    bytes.iter().all(|byte| is_name_byte(*byte))
+}
+
+/// Whether a text has the form of a name.
+pub fn is_name(name: &str) -> bool
+    ensures { result ≡ is_name name.now }
+{
+    !name.is_empty() && name.len() <= 64 && are_name_bytes(name.as_bytes())
+}
+
+/// The number of the first name that doesn't have the form of one.
+pub fn first_bad(names: &[&str]) -> Option<usize>
+    ensures { result ≡ position (λ name. not (is_name name.now)) names.now }
+{
+    names.iter().position(|name| !is_name(name))
+}
+
+/// The first name that repeats an earlier one: the number of that one, and its own.
+pub fn first_repeat(alloc: Global, names: &[&str]) -> Result<Option<(u32, u32)>, AllocError>
+    requires { length names.now < 2 ^ 32 }
+    ensures { IfOk result (λ found. found ≡ first_repeat (texts_of names.now)) }
+{
+    let mut numbers = IndexSet::new(alloc);
+    for (j, name) in names.iter().enumerate() {
+        let (i, is_new) = numbers.insert_full(*name)?;
+        if !is_new {
+            return Ok(Some((i as u32, j as u32)));
+        }
+    }
+    Ok(None)
+}
+
+/// Refuses names of variables that don't have the form of names, or that repeat another.
+pub fn check_names(alloc: Global, names: &[&str]) -> Result<(), VocFault>
+    requires { length names.now < 2 ^ 32 }
+    ensures refused { Refuses (names_refusal (texts_of names.now)) result }
+    ensures names { OnOk result (AreNames (texts_of names.now)) }
+{
+    if let Some(i) = first_bad(names) {
+        return Err(VocFault::BadName(i as u32));
+    }
+    if let Some((i, j)) = first_repeat(alloc, names)? {
+        return Err(VocFault::NameRepeated(i, j));
+    }
+    Ok(())
+}

@@ -1,0 +1,82 @@
+// What a vocabulary holds, before its relations are read.
+ghost use Rattle.std.specs.Prelude.{◌≡◌, ◌≤◌, length, IfOk};
+ghost use Rattle.serde_json.specs.View.{view, items_view};
+ghost use Rattle.voc_read.specs.Answers.{Reads};
+ghost use Rattle.voc_read.specs.Outline.{held_by, held_data, is_all, outline_of, outline_data};
+ghost use Rattle.voc_read.specs.Widest.{widest, items_widest};
+
+use crate::fault::{Spot, VocFault};
+use crate::keys::{check_keys, under};
+use crate::values::{items_of, number_pair, text_list};
+use serde_json::Value;
+use std::alloc::Global;
+
+static KEYS: [&str; 4] = ["variables", "domain", "relations", "scopes"];
+
+/// The values under the keys of a vocabulary.
+#[derive(Clone, Copy)]
+pub struct Held<'a> {
+    pub variables: &'a Value,
+    pub domain: &'a Value,
+    pub relations: &'a Value,
+    pub scopes: &'a Value,
+}
+
+/// The values that an object holds under exactly these keys.
+pub fn held_by<'a>(whole: &'a Value) -> Result<Held<'a>, VocFault>
+    ensures variables { IfOk result (λ held. widest (view held.variables.now) ≤ widest (view whole.entry.now)) }
+    ensures relations { IfOk result (λ held. widest (view held.relations.now) ≤ widest (view whole.entry.now)) }
+    ensures is { Reads held_data (held_by (view whole.entry.now)) result }
+{
+    check_keys(whole, &KEYS, Spot::Whole)?;
+    let variables = under(whole, "variables", Spot::Variables)?;
+    let domain = under(whole, "domain", Spot::Domain)?;
+    let relations = under(whole, "relations", Spot::Relations)?;
+    let scopes = under(whole, "scopes", Spot::Scopes)?;
+    Ok(Held {
+        variables,
+        domain,
+        relations,
+        scopes,
+    })
+}
+
+/// The names and the domain, with the relations that are still to be read.
+#[derive(Drop)]
+pub struct Outline<'a> {
+    pub names: Vec<&'a str>,
+    pub least_value: i64,
+    pub greatest_value: i64,
+    pub relations: &'a [Value],
+}
+
+/// Whether the scopes are the string `all`.
+fn is_all(scopes: &Value) -> bool
+    ensures { result ≡ is_all (view scopes.now) }
+{
+    match scopes.as_str() {
+        Some(text) => text == "all",
+        None => false,
+    }
+}
+
+/// What the values are, where each is of its kind.
+pub fn outline_of<'a>(alloc: Global, held: &Held<'a>) -> Result<Outline<'a>, VocFault>
+    ensures few { IfOk result (λ outline. length outline.names.items ≤ widest (view held.entry.now.variables.now)) }
+    ensures few_relations { IfOk result (λ outline. length outline.relations.now ≤ widest (view held.entry.now.relations.now)) }
+    ensures parts { IfOk result (λ outline. items_widest (items_view outline.relations.now) ≤ widest (view held.entry.now.relations.now)) }
+    ensures is { Reads outline_data (outline_of (held_data held.entry.now)) result }
+{
+    let names = text_list(alloc, held.variables, Spot::Variables)?;
+    let (least_value, greatest_value) = number_pair(alloc, held.domain, Spot::Domain)?;
+    let relations = items_of(held.relations, Spot::Relations)?;
+    if !is_all(held.scopes) {
+        return Err(VocFault::WrongKind(Spot::Scopes));
+    }
+    Ok(Outline {
+        names,
+        least_value,
+        greatest_value,
+        relations,
+    })
+}
