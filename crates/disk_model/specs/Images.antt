@@ -1,6 +1,6 @@
 -- What one write or sync more does to the record of a file.
 use Rattle.std.proofs.Common.{ℕ, ◌+◌, ◌-◌, ◌≤◌, ◌<◌, ◌≡◌, ◌⊎◌, List, [], ◌∷◌, ◌++◌, length, take, drop, true, IsTrue, nat_le, refl, sym, ◌∙◌, ap, subst, inl, inr, arith, append_assoc, take_all, length-append, length-drop, length-take-le, take_at, drop_at, le-leb, leb-true}
-use Rattle.std.proofs.lemmas.List.{take-append-le, drop-append-le}
+use Rattle.std.proofs.lemmas.List.{take-append-le, drop-append-le, drop-drop}
 use Rattle.std.proofs.lemmas.Bool.{and_parts, and_from}
 use Rattle.disk_model.specs.declared.tape.Mark.{Mark}
 use Rattle.disk_model.specs.declared.tape.Mark.TheVariants.{Write, Sync}
@@ -56,19 +56,26 @@ within-sync now (Wrote a b ∷ steps) all =
     and_from (nat_le a (length now)) _ parts.0 (within-sync (put now a b) steps parts.1)
 within-sync now (Synced ∷ steps) all = within-sync now steps all
 
--- a write that is made whole is one of those that a crash may leave
-pub torn-put : (now : List ℕ) (at : ℕ) (bytes : List ℕ) → at ≤ length now → Torn at (length bytes) now (put now at bytes)
-torn-put now at bytes fits =
+-- a write of n bytes of which these are there, or other ones, is one of those that a crash may leave
+pub torn-part : (now : List ℕ) (at n : ℕ) (bytes : List ℕ) → at ≤ length now → length bytes ≤ n → Torn at n now (put now at bytes)
+torn-part now at n bytes fits few =
     let front : length (take at now) ≡ at = length-take-le at now fits in
     let back = drop (at + length bytes) now in
     let size : length (put now at bytes) ≡ at + length bytes + (length now - (at + length bytes)) =
     omega (arith, front, length-append (take at now ++ bytes) back, length-append (take at now) bytes, length-drop (at + length bytes) now) in
+    let behind : drop (at + length bytes) (put now at bytes) ≡ back = drop_at (take at now ++ bytes) back (at + length bytes) (omega (arith, front, length-append (take at now) bytes)) in
+    let rest : at + length bytes + (n - length bytes) ≡ at + n = omega arith in
     record {
       before = ap (λ (l : List ℕ). take at l) (append_assoc (take at now) bytes back) ∙ take_at (take at now) (bytes ++ back) at front;
-      after = drop_at (take at now ++ bytes) back (at + length bytes) (omega (arith, front, length-append (take at now) bytes));
+      after = subst (λ (m : ℕ). drop m (put now at bytes) ≡ drop m now) rest
+          (sym (drop-drop (n - length bytes) (at + length bytes) (put now at bytes)) ∙ ap (λ (l : List ℕ). drop (n - length bytes) l) behind ∙ drop-drop (n - length bytes) (at + length bytes) now);
       no_shorter = omega (arith, size);
       no_longer = omega (arith, size);
     }
+
+-- a write that is made whole is one of them
+pub torn-put : (now : List ℕ) (at : ℕ) (bytes : List ℕ) → at ≤ length now → Torn at (length bytes) now (put now at bytes)
+torn-put now at bytes fits = torn-part now at (length bytes) bytes fits (omega arith)
 
 -- a write that isn't made is one too
 pub torn-same : (now : List ℕ) (at n : ℕ) → Torn at n now now
@@ -83,6 +90,17 @@ pub image-sync : (P : List ℕ → Type 0) (now : List ℕ) (steps : List Step) 
 image-sync P now [] c left = left
 image-sync P now (Wrote a b ∷ steps) c left = image-sync (λ d. (e : List ℕ) × P e × Torn a (length b) e d) (put now a b) steps c left
 image-sync P now (Synced ∷ steps) c left = image-sync (λ d. d ≡ now) now steps c left
+
+-- the same the other way round
+pub image-torn : (P : List ℕ → Type 0) (now : List ℕ) (steps : List Step) (at : ℕ) (bytes d c : List ℕ) → IsImage P now steps d → Torn at (length bytes) d c → IsImage P now (steps ++ Wrote at bytes ∷ []) c
+image-torn P now [] at bytes d c left torn = (d, left, torn)
+image-torn P now (Wrote a b ∷ steps) at bytes d c left torn = image-torn (λ f. (e : List ℕ) × P e × Torn a (length b) e f) (put now a b) steps at bytes d c left torn
+image-torn P now (Synced ∷ steps) at bytes d c left torn = image-torn (λ f. f ≡ now) now steps at bytes d c left torn
+
+pub image-synced : (P : List ℕ → Type 0) (now : List ℕ) (steps : List Step) (c : List ℕ) → c ≡ content_after now steps → IsImage P now (steps ++ Synced ∷ []) c
+image-synced P now [] c is = is
+image-synced P now (Wrote a b ∷ steps) c is = image-synced (λ d. (e : List ℕ) × P e × Torn a (length b) e d) (put now a b) steps c is
+image-synced P now (Synced ∷ steps) c is = image-synced (λ d. d ≡ now) now steps c is
 
 -- what a read gives may be left
 pub image-content : (P : List ℕ → Type 0) (now : List ℕ) (steps : List Step) → P now → IsTrue (are_within now steps) → IsImage P now steps (content_after now steps)

@@ -64,7 +64,7 @@ IsDue d = Any (λ k. k ≡ calls_of d) (fails_of d)
 
 -- as many writes and syncs were made as there is room for
 abbrev pub IsWornOut : MemDisk → Type 0
-IsWornOut d = (room_of d).calls ≤ length d.tape.marks.items
+IsWornOut d = (room_of d).calls ≤ moment_of d
 
 -- a write of n bytes at this place outgrows the room of the file, or that of all bytes that are written
 abbrev pub Outgrows : MemDisk → ℕ → ℕ → Type 0

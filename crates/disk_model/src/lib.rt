@@ -10,6 +10,7 @@
 //! `MemDisk` keeps a record of its writes and syncs, so what a crash may leave of it can be listed.
 #![tactic(auto)]
 
+mod crash;
 mod disk;
 mod fault;
 mod fuse_disk;

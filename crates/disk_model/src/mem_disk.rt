@@ -3,7 +3,8 @@
 ghost use Rattle.std.specs.Prelude.{◌≡◌, ◌≤◌, ◌<◌, ◌+◌, ◌-◌, ◌⊎◌, ◌↔◌, ◌++◌, [], ◌∷◌, ℕ, min, Some, None, List, Bool, IsTrue, IsFalse, IsErr, is_err, IfOk, OnOk, OnErr, All, length, take, drop};
 ghost use Rattle.std.specs.Option.{ForSome, ForNone};
 ghost use Rattle.disk_model.specs.Disk.{Torn, IsWritten, Follows, Only, AddsNothing, Elapses, HasCause};
-ghost use Rattle.disk_model.specs.Record.{Wrote, Synced, Leaves};
+ghost use Rattle.disk_model.specs.Record.{Wrote, Synced};
+ghost use Rattle.disk_model.specs.Crash.{AreImages};
 
 use crate::tape::Tape;
 use crate::{Disk, Failed, Memory};
@@ -61,6 +62,30 @@ impl MemDisk {
         &self.tape.content
     }
 
+    /// How many writes and syncs were made. They part the time of the disk into moments: after none, after the first, ..
+    #[tactic(auto, using(crate::proofs::Replays::steps_count))]
+    pub fn moments(&self) -> usize
+        ensures { result ≡ moment_of self.now }
+    {
+        self.tape.marks.len()
+    }
+
+    /// For tests: contents that a crash right after so many writes and syncs may leave. Of each write since the last sync
+    /// before it there are: nothing, its first bytes, for each number of them, with what stood there before behind them or
+    /// with garbage in the place of the others, and all of it; and of writes in a row each with each.
+    #[tactic(auto, using(crate::proofs::Replays::steps_count))]
+    pub fn images_at(
+        &self,
+        alloc: Global,
+        moment: usize,
+        garbage: u8,
+    ) -> Result<Vec<Vec<u8>>, Memory>
+        requires { moment ≤ moment_of self.now }
+        ensures { IfOk result (λ images. AreImages (start_of self.now) (take moment (steps_in self.now)) images.items) }
+    {
+        Ok(self.tape.images_at(alloc, moment, garbage)?)
+    }
+
     /// Begins a call: it is counted, and fails where its number is one of those that fail, or where it has no room.
     fn begin(&mut self, has_room: bool) -> Result<(), Failed>
         ensures exact { IsErr result ↔ (IsDue self.old ⊎ IsFalse has_room) }
@@ -77,6 +102,7 @@ impl MemDisk {
         Ok(())
     }
 
+    #[tactic(auto, using(crate::proofs::Replays::steps_count))]
     fn has_room_to_sync(&self) -> bool
         ensures { IsFalse result ↔ IsWornOut self.now }
     {

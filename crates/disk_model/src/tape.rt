@@ -58,11 +58,12 @@ impl Tape {
         })
     }
 
+    #[tactic(auto, using(crate::proofs::Replays::steps_count))]
     pub(crate) fn write(&mut self, at: usize, bytes: &[u8])
         requires within { at ≤ length self.old.content.items }
         requires fits { at + length bytes.now ≤ self.old.room.bytes }
         requires written_fits { length self.old.written.items + length bytes.now ≤ self.old.room.bytes }
-        requires marks_fit { length self.old.marks.items < self.old.room.calls }
+        requires marks_fit { length (tape_steps self.old) < self.old.room.calls }
         ensures start { self.new.start.items ≡ self.old.start.items }
         ensures room { self.new.room ≡ self.old.room }
         ensures steps { tape_steps self.new ≡ tape_steps self.old ++ Wrote at bytes.now ∷ [] }
@@ -78,8 +79,9 @@ impl Tape {
         self.marks.push(mark).unwrap();
     }
 
+    #[tactic(auto, using(crate::proofs::Replays::steps_count))]
     pub(crate) fn sync(&mut self)
-        requires marks_fit { length self.old.marks.items < self.old.room.calls }
+        requires marks_fit { length (tape_steps self.old) < self.old.room.calls }
         ensures start { self.new.start.items ≡ self.old.start.items }
         ensures room { self.new.room ≡ self.old.room }
         ensures steps { tape_steps self.new ≡ tape_steps self.old ++ Synced ∷ [] }

@@ -1,9 +1,21 @@
-use Rattle.std.proofs.Common.{◌≡◌, [], ◌∷◌, ◌++◌, ap, ◌∙◌}
-use Rattle.disk_model.specs.Record.{Wrote}
-use Rattle.disk_model.specs.Images.{elapses-to, leaves-write}
-use Rattle.disk_model.specs.MemDisk.{start_of, steps_in}
+use Rattle.std.proofs.Common.{◌≡◌, [], ◌∷◌, ◌++◌, ◌∙◌, ℕ, List, length, ap, sym, subst, refl}
+use Rattle.disk_model.specs.Disk.{Torn}
+use Rattle.disk_model.specs.Record.{put, Wrote}
+use Rattle.disk_model.specs.Images.{elapses-to, leaves-write, torn-put}
+use Rattle.disk_model.specs.MemDisk.{content_of, start_of, steps_in}
 use Rattle.disk_model.specs.Tape.{tape_steps}
 use Rattle.disk_model.proofs.mem_disk.MemDiskDisk.write_at.Goals as goal
+
+pub returns-clause-written : goal.returns-clause-written
+returns-clause-written c old told =
+    let there : content_of c.args.self.now ≡ old = cc in
+    let is : c.write.new.self.content.items ≡ put old c.args.at c.args.bytes.now = c.write.ensures.content ∙ ap (λ t. put t.content.items c.args.at c.args.bytes.now) c.begin.ensures.kept ∙ ap (λ (l : List ℕ). put l c.args.at c.args.bytes.now) there in
+    record {
+      now = c.write.new.self.content.items;
+      tells = refl;
+      torn = subst (λ (l : List ℕ). Torn c.args.at (length c.args.bytes.now) old l) (sym is) (torn-put old c.args.at c.args.bytes.now (c.requires old told));
+      whole = is;
+    }
 
 pub returns-clause-crash : goal.returns-clause-crash
 returns-clause-crash c f left =

@@ -3,6 +3,7 @@ use Rattle.std.proofs.lemmas.Bool.{cond-true}
 use Rattle.disk_model.specs.declared.tape.Mark.{Mark}
 use Rattle.disk_model.specs.declared.tape.Mark.TheVariants.{Write}
 use Rattle.disk_model.specs.Record.{put, content_after, are_within, steps_of, bytes_in, Wrote, Step}
+use Rattle.disk_model.proofs.Replays.{steps_count}
 use Rattle.disk_model.specs.Images.{steps_of-write, bytes_in-write, content-write, within-write, torn-put}
 use Rattle.disk_model.proofs.tape.Tape.write.Goals as goal
 
@@ -13,7 +14,7 @@ invariant_of-self c =
     let extended : c.extend_from_slice.new.self.items ≡ t.written.items ++ bytes =
     c.extend_from_slice.ensures.items ∙ cond-true _ _ _ (c.extend_from_slice.ensures.succeeds (omega (arith, c.requires.written_fits, t.written_room))) in
     let pushed : c.push.new.self.items ≡ t.marks.items ++ Write c.args.at (length bytes) ∷ [] =
-    c.push.ensures.items ∙ cond-true _ _ _ (c.push.ensures.succeeds (omega (arith, c.requires.marks_fit, t.marks_room))) in
+    c.push.ensures.items ∙ cond-true _ _ _ (c.push.ensures.succeeds (omega (arith, c.requires.marks_fit, steps_count t.marks.items t.written.items, t.marks_room))) in
     let old = steps_of t.marks.items t.written.items in
     let steps : steps_of c.push.new.self.items c.extend_from_slice.new.self.items ≡ old ++ Wrote c.args.at bytes ∷ [] =
     ap₂ (λ (l : List Mark) (w : List ℕ). steps_of l w) pushed extended ∙ steps_of-write t.marks.items t.written.items c.args.at (length bytes) bytes t.counted (omega arith) in
@@ -25,7 +26,7 @@ invariant_of-self c =
       content_room = omega (arith, c.overwrite.ensures.capacity, t.content_room);
       written_fits = omega (arith, ap length extended, length-append t.written.items bytes, c.requires.written_fits);
       written_room = omega (arith, c.extend_from_slice.ensures.capacity, t.written_room);
-      marks_fit = omega (arith, ap length pushed, length-append t.marks.items (Write c.args.at (length bytes) ∷ []), c.requires.marks_fit);
+      marks_fit = omega (arith, ap length pushed, length-append t.marks.items (Write c.args.at (length bytes) ∷ []), c.requires.marks_fit, steps_count t.marks.items t.written.items);
       marks_room = omega (arith, c.push.ensures.capacity, t.marks_room);
     }
 
@@ -36,5 +37,5 @@ returns-clause-steps c =
     let extended : c.extend_from_slice.new.self.items ≡ t.written.items ++ bytes =
     c.extend_from_slice.ensures.items ∙ cond-true _ _ _ (c.extend_from_slice.ensures.succeeds (omega (arith, c.requires.written_fits, t.written_room))) in
     let pushed : c.push.new.self.items ≡ t.marks.items ++ Write c.args.at (length bytes) ∷ [] =
-    c.push.ensures.items ∙ cond-true _ _ _ (c.push.ensures.succeeds (omega (arith, c.requires.marks_fit, t.marks_room))) in
+    c.push.ensures.items ∙ cond-true _ _ _ (c.push.ensures.succeeds (omega (arith, c.requires.marks_fit, steps_count t.marks.items t.written.items, t.marks_room))) in
     ap₂ (λ (l : List Mark) (w : List ℕ). steps_of l w) pushed extended ∙ steps_of-write t.marks.items t.written.items c.args.at (length bytes) bytes t.counted (omega arith)
