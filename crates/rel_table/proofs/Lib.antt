@@ -3,3 +3,4 @@ pub mod Meets
 pub mod Same
 pub mod Marking
 pub mod Tables
+pub mod Places
