@@ -1,6 +1,6 @@
 -- The choices that a telling apart begins with.
-use Rattle.std.proofs.Common.{◌≡◌, ℕ, ◌<◌, Bool, true, false, cond, ◌&&◌, not, List, [], ◌∷◌, ◌++◌, length, map, get_or, Some, None, refl, sym, ◌∙◌, ap, subst}
-use Rattle.std.specs.Prelude.{◌==◌, ◌≢◌, All, find, is_none}
+use Rattle.std.proofs.Common.{◌≡◌, ℕ, zero, suc, ◌<◌, Bool, true, false, cond, ◌&&◌, not, List, [], ◌∷◌, ◌++◌, length, map, get_or, Some, None, refl, sym, ◌∙◌, ap, subst, arith}
+use Rattle.std.specs.Prelude.{◌==◌, ◌≢◌, All, Contains, find, is_none}
 use Rattle.std.specs.Bool.{beq}
 use Rattle.std.specs.List.{filter, list_any}
 use Rattle.std.proofs.lemmas.Bool.{eqb-true, and_parts}
@@ -117,23 +117,33 @@ module _ (l : Language) (live : List Candidate) (e : Assignment) (s : ℕ) where
           ∙ (λ i. sym covered.0 i && not (get_or (get_or (relations_on l s) c.rel []) (sym covered.1 i) false))
           ∙ ap (λ k. covers e (scope_at l k) && not (holds l.value_count (get_or (relations_on l k) c.rel []) (tuple_on e (scope_at l k)))) (sym (eqb-true c.scope s on))
 
--- ---- where none of them is free
+-- ---- none of the relations
 
-no_none_of : (cs : List Candidate) → list_any is_none (map (λ (c : Candidate). let x : Choice = Some c.rel in x) cs) ≡ false
-no_none_of [] = refl
-no_none_of (c ∷ cs) = no_none_of cs
+some_none : (cs : List Choice) → list_any is_none cs ≡ true → Contains cs None
+some_none [] h = cc
+some_none (None ∷ cs) h = (0, omega arith, refl)
+some_none (Some r ∷ cs) h = let there = some_none cs h in (suc there.0, (let low = there.1 in omega arith), there.2)
 
--- a relation remains
-some_remains : (cs : List Candidate) → map (λ (c : Candidate). let x : Choice = Some c.rel in x) cs ≢ [] → remaining (map (λ (c : Candidate). Some c.rel) cs) ≢ None
-some_remains [] some none = some refl
-some_remains (c ∷ cs) some none =
-    let is : Some c.rel ≡ None = sym (ap (λ b. let x : Choice = cond b None (Some c.rel) in x) (no_none_of cs)) ∙ none in
-    cc
+-- where it remains of some choices, it is among them
+pub none_among : (cs : List Choice) → cs ≢ [] → remaining cs ≡ None → Contains cs None
+none_among [] some none = absurd (some refl)
+none_among (None ∷ cs) some none = (0, omega arith, refl)
+none_among (Some r ∷ cs) some none = go (list_any is_none cs) refl none
+  where
+    go : (b : Bool) → list_any is_none cs ≡ b → cond b None (Some r) ≡ None → Contains (Some r ∷ cs) None
+    go true on h = some_none (Some r ∷ cs) on
+    go false off h = cc
 
+not_among : (cs : List Candidate) → Contains (map (λ (c : Candidate). let x : Choice = Some c.rel in x) cs) None → ⊥
+not_among [] (k, low, e) = omega arith
+not_among (c ∷ cs) (zero, low, e) = cc
+not_among (c ∷ cs) (suc k, low, e) = not_among cs (k, omega arith, e)
+
+-- it isn't free where each choice is a relation
 pub not_free : (l : Language) (s : ℕ) (cs : List Candidate) (next : RelNext) → IsSettled l s (map (λ (c : Candidate). Some c.rel) cs) next → next ≢ Free
 not_free l s cs next settled is =
     let free : IsFree l s (map (λ (c : Candidate). Some c.rel) cs) = subst (IsSettled l s (map (λ (c : Candidate). Some c.rel) cs)) is settled in
-    some_remains cs free.some free.remains
+    not_among cs free.among
 
 -- where there are none, it stands at none
 pub nothing_stands : (l : Language) (s : ℕ) (more : List Bool) → Got None ≡ choose (scene_of l s) [] more

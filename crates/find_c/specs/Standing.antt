@@ -1,5 +1,5 @@
 -- Where a telling apart stands.
-use Rattle.std.specs.Prelude.{ℕ, ◌≡◌, ◌≢◌, ◌⊎◌, Bool, List, [], ◌++◌, Some, None}
+use Rattle.std.specs.Prelude.{ℕ, ◌≡◌, ◌⊎◌, Bool, List, Contains, [], ◌++◌, Some, None}
 use Rattle.language.specs.declared.candidates.Candidate.{Candidate}
 use Rattle.language.specs.Language.{Language, IsCandidate}
 use Rattle.find_c.specs.declared.run.RelNext.{RelNext}
@@ -33,10 +33,10 @@ pub record IsFound (l : Language) (s : ℕ) (choices : List Choice) (c : Candida
   pub settled : splitting_tuple (scene_of l s) choices ≡ None
   pub remains : remaining choices ≡ Some c.rel
 
--- there are choices, they don't differ, and none remains
+-- the choices don't differ, and none of the relations is among them and remains
 pub record IsFree (l : Language) (s : ℕ) (choices : List Choice) : Type 0 where
-  pub some : choices ≢ []
   pub settled : splitting_tuple (scene_of l s) choices ≡ None
+  pub among : Contains choices None
   pub remains : remaining choices ≡ None
 
 -- where these choices on a scope stand: there are none, they differ, or one remains
