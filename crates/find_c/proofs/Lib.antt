@@ -1,0 +1,9 @@
+pub mod Marks
+pub mod Spelling
+pub mod Accepting
+pub mod Lawful
+pub mod Splitting
+pub mod Replies
+pub mod Filling
+pub mod Starting
+pub mod Told

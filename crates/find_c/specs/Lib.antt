@@ -1,2 +1,5 @@
 pub mod Choosing
 pub mod Scenes
+pub mod Choices
+pub mod Run
+pub mod Standing

@@ -1,0 +1,80 @@
+-- What a reply makes of choices.
+use Rattle.std.proofs.Common.{◌≡◌, ℕ, ◌^◌, ◌≤◌, Bool, true, false, cond, List, [], ◌∷◌, ◌++◌, length, Some, None, refl, sym, ◌∙◌, ap, subst, append_assoc}
+use Rattle.std.specs.Prelude.{◌≢◌, All, find}
+use Rattle.std.specs.Bool.{beq}
+use Rattle.std.specs.List.{list_any}
+use Rattle.std.proofs.lemmas.Bool.{and_parts, both_ways}
+use Rattle.std.proofs.lemmas.List.Elements.{All-head, All-tail, All-filter}
+use Rattle.language.specs.Language.{Language, IsLanguage, scope_at}
+use Rattle.language.proofs.Members.{find_some}
+use Rattle.rel_table.specs.Relation.{tuples}
+use Rattle.rel_table.proofs.Places.{IsTuple, tuples_fit}
+use Rattle.find_c.specs.Choosing.{Choice, Scene, Got, allows, tells_apart, splitting_tuple, after_reply, remaining, choose}
+use Rattle.find_c.specs.Choosing.{Wants as WantsReply}
+use Rattle.find_c.specs.Scenes.{scene_of}
+use Rattle.find_c.specs.Run.{Run, IsRun, IsChoiceOn}
+use Rattle.find_c.specs.Standing.{StandsAt}
+use Rattle.find_c.specs.declared.run.RelNext.{RelNext}
+use Rattle.find_c.specs.declared.run.RelNext.TheVariants.{Wants}
+use Rattle.find_c.proofs.Lawful.{few_places}
+use Rattle.find_c.proofs.Marks.{none_pass, beq_true, beq_false}
+
+-- ---- the choice after replies
+
+-- choices that don't differ are at their end
+pub choose_ended : (scene : Scene) (cs : List Choice) → splitting_tuple scene cs ≡ None → (more : List Bool) → choose scene cs more ≡ Got (remaining cs)
+unfolding choose
+choose_ended scene cs none [] = rw none
+choose_ended scene cs none (reply ∷ more) = rw none
+
+-- where they differ without a reply, the tuple is wanted
+pub choose_wants : (scene : Scene) (cs : List Choice) (u : List ℕ) → splitting_tuple scene cs ≡ Some u → choose scene cs [] ≡ WantsReply u
+unfolding choose
+choose_wants scene cs u some = rw some
+
+-- and a reply leaves those that agree
+pub choose_on : (scene : Scene) (cs : List Choice) (u : List ℕ) → splitting_tuple scene cs ≡ Some u → (reply : Bool) (more : List Bool) → choose scene cs (reply ∷ more) ≡ choose scene (after_reply scene u reply cs) more
+unfolding choose
+choose_on scene cs u some reply more = rw some
+
+-- where a run stands after replies, what stands where its choices do after one more stands after all of them
+pub stands_after : (l : Language) (run : Run) → IsRun l run → (s : ℕ) (next : RelNext) (reply : Bool) → s ≡ run.scope → StandsAt l s (after_reply (scene_of l run.scope) run.tuple reply run.choices) [] next →
+    (choices : List Choice) (replies : List Bool) → StandsAt l run.scope choices replies (Wants run) → StandsAt l run.scope choices (replies ++ reply ∷ []) next
+stands_after l run is s next reply same now choices replies before more =
+    now more ∙ ap (λ t. choose (scene_of l t) (after_reply (scene_of l run.scope) run.tuple reply run.choices) more) same
+    ∙ sym (choose_on (scene_of l run.scope) run.choices run.tuple is.tuple reply more)
+    ∙ before (reply ∷ more) ∙ ap (choose (scene_of l run.scope) choices) (sym (append_assoc replies (reply ∷ []) more))
+
+-- ---- the tuple of a run
+
+find_all : {X : Type 0} (Q : X → Type 0) (p : X → Bool) (xs : List X) (y : X) → All Q xs → find p xs ≡ Some y → Q y
+find_all Q p [] y all h = cc
+find_all Q p (x ∷ xs) y all h = go (p x) refl (find_all Q p xs y (All-tail Q x xs all))
+  where
+    go : (b : Bool) → p x ≡ b → (find p xs ≡ Some y → Q y) → Q y
+    go true on rest = let e : Some x ≡ Some y = ap (λ b. cond b (Some x) (find p xs)) (sym on) ∙ h in let same : x ≡ y = cc in subst Q same (All-head Q x xs all)
+    go false off rest = rest (ap (λ b. cond b (Some x) (find p xs)) (sym off) ∙ h)
+
+module _ (l : Language) (lawful : IsLanguage l) (run : Run) (is : IsRun l run) where
+  pub run_tuple : IsTuple l.value_count (length (scope_at l run.scope)) run.tuple
+  run_tuple = find_all (IsTuple l.value_count (length (scope_at l run.scope))) (tells_apart (scene_of l run.scope) run.choices) (tuples l.value_count (length (scope_at l run.scope))) run.tuple
+      (tuples_fit l.value_count (length (scope_at l run.scope))) is.tuple
+
+  pub run_places : l.value_count ^ length run.tuple ≤ 65536
+  run_places = subst (λ n. l.value_count ^ n ≤ 65536) (sym run_tuple.long) (few_places l lawful run.scope is.scope)
+
+-- ---- the choices that are left
+
+-- a reply about a tuple that tells them apart leaves some
+pub some_after : (scene : Scene) (cs : List Choice) (u : List ℕ) → tells_apart scene cs u ≡ true → (reply : Bool) → after_reply scene u reply cs ≢ []
+some_after scene cs u splits true none =
+    both_ways _ (sym (λ i. list_any (λ c. beq_true (allows scene u c) i) cs) ∙ none_pass _ cs none) (and_parts (list_any (allows scene u) cs) _ splits).0
+some_after scene cs u splits false none =
+    both_ways _ (sym (λ i. list_any (λ c. beq_false (allows scene u c) i) cs) ∙ none_pass _ cs none) (and_parts (list_any (allows scene u) cs) _ splits).1
+
+pub run_leaves_some : (l : Language) (run : Run) → IsRun l run → (reply : Bool) → after_reply (scene_of l run.scope) run.tuple reply run.choices ≢ []
+run_leaves_some l run is reply = some_after (scene_of l run.scope) run.choices run.tuple
+    (find_some (tells_apart (scene_of l run.scope) run.choices) (tuples l.value_count (length (scope_at l run.scope))) run.tuple is.tuple) reply
+
+pub known_after : (l : Language) (run : Run) → IsRun l run → (reply : Bool) → All (IsChoiceOn l run.scope) (after_reply (scene_of l run.scope) run.tuple reply run.choices)
+known_after l run is reply = All-filter (λ c. beq (allows (scene_of l run.scope) run.tuple c) reply) (IsChoiceOn l run.scope) run.choices is.choices

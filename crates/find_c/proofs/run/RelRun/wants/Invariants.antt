@@ -1,0 +1,7 @@
+use Rattle.std.proofs.Common.{◌≡◌, take}
+use Rattle.assign.specs.Assignment.{assigned}
+use Rattle.language.specs.Language.{variable_count, scope_at}
+use Rattle.find_c.proofs.run.RelRun.wants.Given as goal
+
+abbrev pub invariant-loop-i : goal.invariant-loop-i
+invariant-loop-i l = l.question ≡ assigned (variable_count l.lang) (scope_at l.lang l.self.scope) (take l.i l.self.tuple)

@@ -1,0 +1,10 @@
+use Rattle.std.proofs.Common.{◌≡◌, drop, length}
+use Rattle.std.specs.Prelude.{find}
+use Rattle.language.specs.Language.{scope_at}
+use Rattle.rel_table.specs.Relation.{tuples}
+use Rattle.find_c.specs.Choosing.{tells_apart, splitting_tuple}
+use Rattle.find_c.specs.Scenes.{scene_of}
+use Rattle.find_c.proofs.run.splitting_tuple.Given as goal
+
+abbrev pub invariant-loop-place : goal.invariant-loop-place
+invariant-loop-place l = find (tells_apart (scene_of l.lang l.s) l.choices) (drop l.place (tuples l.lang.value_count (length (scope_at l.lang l.s)))) ≡ splitting_tuple (scene_of l.lang l.s) l.choices

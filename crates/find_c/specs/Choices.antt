@@ -1,0 +1,18 @@
+-- Choices as the relations of a mask, with the choice of none or without it.
+use Rattle.std.specs.Prelude.{ℕ, ◌==◌, Bool, true, false, List, [], ◌∷◌, ◌++◌, map, Some, None, slice_index_or, if◌then◌else◌}
+use Rattle.std.specs.Int.{bit_at}
+use Rattle.bias_store.specs.Masks.{ones_of}
+use Rattle.find_c.specs.Choosing.{Choice, Scene}
+
+abbrev pub choices_of : ℕ → Bool → List Choice
+choices_of relations free = map (λ r. Some r) (ones_of relations) ++ (if free then None ∷ [] else [])
+
+-- whether a choice accepts a tuple, given the mask of the relations that do
+abbrev pub is_accepting : ℕ → Choice → Bool
+is_accepting accepting None = true
+is_accepting accepting (Some r) = bit_at accepting r == 1
+
+-- whether a choice accepts the tuple at a place
+abbrev pub allows_at : Scene → ℕ → Choice → Bool
+allows_at scene place None = true
+allows_at scene place (Some r) = slice_index_or (slice_index_or scene.relations r []) place false

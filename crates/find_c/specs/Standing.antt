@@ -1,0 +1,63 @@
+-- Where a telling apart stands.
+use Rattle.std.specs.Prelude.{ℕ, ◌≡◌, ◌⊎◌, Bool, List, Contains, [], ◌++◌, Some, None}
+use Rattle.language.specs.declared.candidates.Candidate.{Candidate}
+use Rattle.language.specs.Language.{Language, IsCandidate}
+use Rattle.find_c.specs.declared.run.RelNext.{RelNext}
+use Rattle.find_c.specs.declared.run.RelNext.TheVariants.{Nothing, Wants, Found, Free}
+use Rattle.find_c.specs.Choosing.{Choice, Chosen, Got, choose, splitting_tuple, remaining}
+use Rattle.find_c.specs.Choosing.{Wants as WantsReply}
+use Rattle.find_c.specs.Scenes.{scene_of}
+use Rattle.find_c.specs.Run.{Run, IsRun}
+
+-- what comes of further replies
+abbrev pub left_of : Language → RelNext → List Bool → Chosen
+left_of l Nothing replies = Got None
+left_of l (Wants run) replies = choose (scene_of l run.scope) run.choices replies
+left_of l (Found c) replies = Got (Some c.rel)
+left_of l Free replies = Got None
+
+-- it makes of further replies what the choices on a scope make of all of them
+abbrev pub StandsAt : Language → ℕ → List Choice → List Bool → RelNext → Type 0
+StandsAt l s choices replies next = (more : List Bool) → left_of l next more ≡ choose (scene_of l s) choices (replies ++ more)
+
+-- a run on the scope, with just these choices left
+pub record IsRunOn (l : Language) (s : ℕ) (left : List Choice) (run : Run) : Type 0 where
+  pub sound : IsRun l run
+  pub scope : run.scope ≡ s
+  pub choices : run.choices ≡ left
+
+-- the choices don't differ, and this candidate on the scope remains
+pub record IsFound (l : Language) (s : ℕ) (choices : List Choice) (c : Candidate) : Type 0 where
+  pub known : IsCandidate l c
+  pub scope : c.scope ≡ s
+  pub settled : splitting_tuple (scene_of l s) choices ≡ None
+  pub remains : remaining choices ≡ Some c.rel
+
+-- the choices don't differ, and none of the relations is among them and remains
+pub record IsFree (l : Language) (s : ℕ) (choices : List Choice) : Type 0 where
+  pub settled : splitting_tuple (scene_of l s) choices ≡ None
+  pub among : Contains choices None
+  pub remains : remaining choices ≡ None
+
+-- where these choices on a scope stand: there are none, they differ, or one remains
+abbrev pub IsSettled : Language → ℕ → List Choice → RelNext → Type 0
+IsSettled l s choices Nothing = choices ≡ []
+IsSettled l s choices (Wants run) = IsRunOn l s choices run
+IsSettled l s choices (Found c) = IsFound l s choices c
+IsSettled l s choices Free = IsFree l s choices
+
+-- Where a telling apart stands tells what is chosen, and the other way round.
+pub record IsTold (s : ℕ) (told : Chosen) (next : RelNext) : Type 0 where
+  -- the tuple of a run is the one that is wanted
+  pub waits : (run : Run) → next ≡ Wants run → told ≡ WantsReply run.tuple
+  pub wanted : (tuple : List ℕ) → told ≡ WantsReply tuple → (run : Run) × (next ≡ Wants run) × (run.tuple ≡ tuple)
+  -- the candidate that was found is the one that is got
+  pub found : (c : Candidate) → next ≡ Found c → told ≡ Got (Some c.rel)
+  pub got : (r : ℕ) → told ≡ Got (Some r) → next ≡ Found (record { scope = s; rel = r })
+  -- none is got where it is free, or where there was nothing
+  pub free : next ≡ Free → told ≡ Got None
+  pub none : told ≡ Got None → (next ≡ Free) ⊎ (next ≡ Nothing)
+
+abbrev pub StandingTells : Type 0
+StandingTells = (l : Language) (s : ℕ) (choices left : List Choice) (replies : List Bool) (next : RelNext) →
+    StandsAt l s choices replies next → IsSettled l s left next → IsTold s (choose (scene_of l s) choices replies) next

@@ -1,0 +1,183 @@
+//! Telling the choices on a scope apart, a reply at a time.
+
+ghost use Rattle.std.specs.Prelude.{◌≡◌, ◌≢◌, ◌↔◌, ◌^◌, ◌<◌, Bool, List, [], ◌∷◌, ◌++◌, length, All, IsTrue};
+ghost use Rattle.language.specs.Language.{scope_at, IsQuestion};
+ghost use Rattle.bias_store.specs.KeptSet.{IsMadeFor};
+ghost use Rattle.find_c.specs.Choosing.{Choice, splitting_tuple, after_reply};
+ghost use Rattle.find_c.specs.Scenes.{scene_of, on_scope, free_choices, violated_choices};
+ghost use Rattle.find_c.specs.Choices.{is_accepting, allows_at};
+ghost use Rattle.find_c.specs.Run.{IsRun, IsChoiceOn};
+ghost use Rattle.find_c.specs.Standing.{IsSettled, StandsAt};
+
+use crate::choices::Choices;
+use crate::tuples::Tuple;
+use assign::Partial;
+use bias_store::Kept;
+use language::{Candidate, Language, ScopeId};
+use rel_table::place_of;
+use std::marker::Model;
+
+/// A telling apart that waits for a reply.
+#[derive(Drop)]
+pub struct RelRun {
+    scope: ScopeId,
+    /// Those that agree with the replies so far.
+    choices: Choices,
+    /// What the open question is about: the least tuple on which two choices differ.
+    tuple: Tuple,
+}
+
+impl Model for RelRun {
+    ghost use Rattle.find_c.specs.Run.{Run};
+
+    ghost Value = { Run };
+
+    ghost view = { λ r. record { scope = r.scope; choices = r.choices; tuple = r.tuple } };
+}
+
+/// Where a telling apart stands.
+#[derive(Drop)]
+pub enum RelNext {
+    /// There was nothing to choose from.
+    Nothing,
+    Wants(RelRun),
+    Found(Candidate),
+    /// None of the relations.
+    Free,
+}
+
+impl RelRun {
+    /// Begins with the kept candidates on a scope that an assignment violates.
+    pub fn start(lang: &Language, kept: &Kept, s: ScopeId, e: &Partial) -> RelNext
+        requires made { IsMadeFor lang.now kept.now }
+        requires scope { s < length lang.now.scopes }
+        requires question { IsQuestion lang.now e.now }
+        ensures settled { IsSettled lang.now s (violated_choices lang.now kept.now.members e.now s) result }
+        ensures stands { StandsAt lang.now s (violated_choices lang.now kept.now.members e.now s) [] result }
+        ensures nothing { (result ≡ RelNext.Nothing) ↔ (violated_choices lang.now kept.now.members e.now s ≡ []) }
+        ensures no_free { result ≢ RelNext.Free }
+    {
+        settle(lang, s, violated_choices(lang, kept, s, e))
+    }
+
+    /// Begins with all kept candidates on a scope, and none of them as a further choice.
+    pub fn start_free(lang: &Language, kept: &Kept, s: ScopeId) -> RelNext
+        requires made { IsMadeFor lang.now kept.now }
+        requires scope { s < length lang.now.scopes }
+        ensures settled { IsSettled lang.now s (free_choices kept.now.members s) result }
+        ensures stands { StandsAt lang.now s (free_choices kept.now.members s) [] result }
+        ensures some { result ≢ RelNext.Nothing }
+    {
+        settle(lang, s, Choices::new(kept.on_scope(s), true))
+    }
+
+    /// The scope whose relations are told apart.
+    pub fn scope(&self) -> ScopeId
+        ensures { result ≡ self.now.scope }
+    {
+        self.scope
+    }
+
+    /// The question: a tuple as an assignment of exactly the scope.
+    pub fn wants(&self, lang: &Language) -> Partial
+        requires { IsRun lang.now self.now }
+        ensures is { result ≡ on_scope lang.now self.now.scope self.now.tuple }
+        ensures fits { IsQuestion lang.now result }
+    {
+        let values = self.tuple.values();
+        let mut question = Partial::blank(lang.n());
+        for (i, v) in lang.scope(self.scope).iter().enumerate() {
+            question.set(*v, values[i]);
+        }
+        question
+    }
+
+    /// Takes the reply: whether the question is a solution.
+    pub fn reply(self, lang: &Language, yes: bool) -> RelNext
+        requires { IsRun lang.now self }
+        ensures settled { IsSettled lang.now self.scope (after_reply (scene_of lang.now self.scope) self.tuple «yes» self.choices) result }
+        ensures stands { (choices : List Choice) (replies : List Bool) →
+            StandsAt lang.now self.scope choices replies (RelNext.Wants self) →
+            StandsAt lang.now self.scope choices (replies ++ yes ∷ []) result }
+        ensures some { result ≢ RelNext.Nothing }
+    {
+        let RelRun {
+            scope,
+            choices,
+            tuple,
+        } = self;
+        let place = place_of(lang.d(), tuple.values()) as u32;
+        settle(
+            lang,
+            scope,
+            choices.agreeing(accepting(lang, scope, place), yes),
+        )
+    }
+}
+
+/// The kept candidates on a scope that an assignment violates: none, where it lacks a value there.
+fn violated_choices(lang: &Language, kept: &Kept, s: ScopeId, e: &Partial) -> Choices
+    requires made { IsMadeFor lang.now kept.now }
+    requires scope { s < length lang.now.scopes }
+    requires question { IsQuestion lang.now e.now }
+    ensures { result ≡ violated_choices lang.now kept.now.members e.now s }
+{
+    match lang.place_on(s, e) {
+        None => Choices::new(0, false),
+        Some(place) => {
+            Choices::new(kept.on_scope(s), false).agreeing(accepting(lang, s, place), false)
+        }
+    }
+}
+
+/// Where choices on a scope stand.
+fn settle(lang: &Language, scope: ScopeId, choices: Choices) -> RelNext
+    requires scope { scope < length lang.now.scopes }
+    requires known { All (IsChoiceOn lang.now scope) choices }
+    ensures settled { IsSettled lang.now scope choices result }
+    ensures stands { StandsAt lang.now scope choices [] result }
+    ensures nothing { (result ≡ RelNext.Nothing) ↔ (choices ≡ []) }
+{
+    if choices.is_empty() {
+        return RelNext::Nothing;
+    }
+    if let Some(tuple) = splitting_tuple(lang, scope, &choices) {
+        return RelNext::Wants(RelRun {
+            scope,
+            choices,
+            tuple,
+        });
+    }
+    match choices.remaining() {
+        Some(rel) => RelNext::Found(Candidate { scope, rel }),
+        None => RelNext::Free,
+    }
+}
+
+/// The least tuple on which two choices differ.
+fn splitting_tuple(lang: &Language, s: ScopeId, choices: &Choices) -> Option<Tuple>
+    requires { s < length lang.now.scopes }
+    ensures { result ≡ splitting_tuple (scene_of lang.now s) choices.now }
+{
+    let value_count = u32::from(lang.d());
+    let size = lang.scope(s).len() as u32;
+    for place in 0..value_count.pow(size) {
+        if choices.differ(accepting(lang, s, place)) {
+            return Some(Tuple::at(value_count, size, place));
+        }
+    }
+    None
+}
+
+/// The relations on a scope that accept the tuple at a place: bit r is 1 exactly where relation r does.
+fn accepting(lang: &Language, s: ScopeId, place: u32) -> u64
+    requires scope { s < length lang.now.scopes }
+    requires place { place < lang.now.value_count ^ length (scope_at lang.now s) }
+    ensures { (c : Choice) → is_accepting result c ≡ allows_at (scene_of lang.now s) place c }
+{
+    let mut relations = 0;
+    for r in 0..lang.relations_on(s) {
+        relations |= u64::from(lang.table_on(s, r).at(place)) << r;
+    }
+    relations
+}
