@@ -1,0 +1,5 @@
+pub mod Room
+pub mod Cutting
+pub mod Naming
+pub mod Parts
+pub mod Telling

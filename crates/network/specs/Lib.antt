@@ -1,0 +1,4 @@
+pub mod Learned
+pub mod Inside
+pub mod Texts
+pub mod Laws
