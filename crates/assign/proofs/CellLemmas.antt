@@ -1,8 +1,9 @@
-use Rattle.std.proofs.Common.{◌≡◌, ℕ, ◌-◌, ◌≤◌, ◌<◌, List, Option, Some, None, length, take, drop, set, replicate, sym, ◌∙◌, ap, arith, refl, Bool, true, false, nat_eq}
+use Rattle.std.proofs.Common.{◌≡◌, ℕ, ◌≤◌, List, Option, Some, None, length, take, drop, replicate, sym, ◌∙◌, ap, arith, refl, lit≤, true, nat_eq}
 use lib.Pointwise.{pointwise, pointwise_decides}
 use Rattle.std.specs.Option.{option_eq}
-use Rattle.std.proofs.lemmas.List.{take-replicate, drop-replicate, take-set, length-replicate}
+use Rattle.std.proofs.lemmas.List.{take-replicate, drop-replicate, length-replicate, take_all, drop_all}
 use Rattle.assign.specs.declared.assignment.Partial.TheInside.{Inside}
+use Rattle.assign.specs.Assignment.{widened}
 use Rattle.assign.specs.Cells.{IsCells, seen, cells_of, cells_of-seen, made}
 
 pub blank_cells : (n : ℕ) (cells : List (Option ℕ)) → 1 ≤ n → n ≤ 128 → cells ≡ replicate 128 None → IsCells (record { n = n; cells = cells })
@@ -31,3 +32,15 @@ same_cells = pointwise_decides same_option
 
 pub same_inside : (a b : Inside) → a.n ≡ b.n → a.cells ≡ b.cells → a ≡ b
 same_inside a b e f = made a.n a.cells b e f
+
+-- with 128 variables, those past the present ones without a value
+pub wide_cells : (a : Inside) → IsCells a → IsCells (record { n = 128; cells = a.cells })
+wide_cells a h = record {
+  some = lit≤ tt;
+  fits = lit≤ tt;
+  whole = h.whole;
+  past = drop_all 128 a.cells (let w = h.whole in omega arith);
+}
+
+pub wide_seen : (a : Inside) → IsCells a → take 128 a.cells ≡ widened (seen a)
+wide_seen a h = take_all 128 a.cells (let w = h.whole in omega arith) ∙ sym (ap (λ (b : Inside). b.cells) (cells_of-seen a h))

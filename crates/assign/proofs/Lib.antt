@@ -1,2 +1,5 @@
 pub mod Masks
+pub mod Fronts
+pub mod Valued
 pub mod CellLemmas
+pub mod EventLemmas

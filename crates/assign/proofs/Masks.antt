@@ -1,15 +1,16 @@
 -- What the operations on a mask make of its members.
-use Rattle.std.proofs.Common.{◌≡◌, ℕ, zero, suc, ◌+◌, ◌-◌, ◌/◌, ◌<◌, ◌≤◌, ◌^◌, Bool, true, false, cond, ◌||◌, ◌&&◌, not, List, [], ◌∷◌, ◌++◌, length, take, drop, refl, sym, ◌∙◌, ap, subst, arith, inl, inr, ◌⊎◌, Some, None, nat_lt, add-one, pow-suc, lit≤}
+use Rattle.std.proofs.Common.{◌≡◌, ℕ, zero, suc, ◌+◌, ◌-◌, ◌/◌, ◌<◌, ◌≤◌, ◌^◌, Bool, true, false, cond, ◌||◌, ◌&&◌, not, List, [], ◌∷◌, length, take, drop, refl, sym, ◌∙◌, ap, arith, inl, inr, ◌⊎◌, Some, nat_eq, nat_lt, add-one, pow-suc, lit≤}
 use Rattle.std.specs.Prelude.{◌==◌, ◌≢◌, bit_or, bit_and, min}
 use Rattle.std.specs.List.{list_all, filter, range_with_len}
 use Rattle.std.specs.Int.{bit_at, bit_not, w128}
 use Rattle.std.proofs.lemmas.Bool.{ne_eqb, eq-eqb, cases_eq, cases_lt, cases_Bool, lt-ltb, le-ltb, and_parts, both_ways, eqb-true, or_from, or_left}
 use Rattle.std.proofs.lemmas.Nat.Bits.{bit_at-lt, bit_at_and, bit_at-zero, bit_at_not, bit_at_ones, bit_at_ones_above, bit_at-suc, bit_at_lowest, bit_at_above}
 use Rattle.std.proofs.lemmas.Nat.{and_le_l}
-use Rattle.std.proofs.lemmas.List.Folds.{list_any-append}
 use lib.Count.{ones, ones_step}
-use Rattle.assign.specs.Sets.{numbers, has, set_where, minus, with_member, without, is_within, least_of, members_of, Rises}
-use Rattle.assign.specs.SetLemmas.{filter_agree_from, set_where-same, is_one, is_one-or, is_one-pow, has-members_of, same_masks}
+use Rattle.assign.specs.Sets.{numbers, has, set_where, minus, with_member, without, is_within, least_of, members_of, mask_of, Rises}
+use Rattle.assign.specs.SetLemmas.{filter_agree_from, set_where-same, is_one, is_one-or, is_one-pow, has-members_of, same_masks, mask_of-members_of}
+use Rattle.std.specs.Cmp.Lexicographic.{pointwise}
+use Rattle.std.proofs.lemmas.Slice.Eq.{bytes_eq-Decides}
 
 -- ---- no member, the first n, one more, one less
 
@@ -28,7 +29,7 @@ filter_lt_none : (n a k : ℕ) → n ≤ a → filter (λ v. nat_lt v n) (range_
 filter_lt_none n a zero h = refl
 filter_lt_none n a (suc k) h = rw (le-ltb a n h) (filter_lt_none n (a + 1) k (omega arith))
 
-filter_lt : (n a k m : ℕ) → m + a ≡ n → m ≤ k → filter (λ v. nat_lt v n) (range_with_len a k) ≡ range_with_len a m
+pub filter_lt : (n a k m : ℕ) → m + a ≡ n → m ≤ k → filter (λ v. nat_lt v n) (range_with_len a k) ≡ range_with_len a m
 filter_lt n a zero zero e h = refl
 filter_lt n a zero (suc m) e h = absurd (omega arith)
 filter_lt n a (suc k) zero e h = filter_lt_none n a (suc k) (omega arith)
@@ -218,46 +219,14 @@ pub rises_members : (mask : ℕ) → Rises 0 (members_of mask)
 unfolding set_where
 rises_members mask = rises_filter (is_one mask) 0 128 (lit≤ tt)
 
--- ---- the next member
-
-take_next : (k : ℕ) (xs : List ℕ) (v : ℕ) → least_of (drop k xs) ≡ Some v → take (suc k) xs ≡ take k xs ++ v ∷ []
-take_next zero [] v h = cc
-take_next zero (x ∷ xs) v h = let e : x ≡ v = cc in ap (λ y. y ∷ []) e
-take_next (suc k) [] v h = cc
-take_next (suc k) (x ∷ xs) v h = ap (λ ys. x ∷ ys) (take_next k xs v h)
-
-drop_next : (k : ℕ) (xs : List ℕ) (v : ℕ) → least_of (drop k xs) ≡ Some v → drop k xs ≡ v ∷ drop (suc k) xs
-drop_next zero [] v h = cc
-drop_next zero (x ∷ xs) v h = let e : x ≡ v = cc in ap (λ y. y ∷ xs) e
-drop_next (suc k) [] v h = cc
-drop_next (suc k) (x ∷ xs) v h = drop_next k xs v h
-
-pub with_next : (k : ℕ) (xs : List ℕ) (v : ℕ) → Rises 0 xs → least_of (drop k xs) ≡ Some v → with_member (take k xs) v ≡ take (k + 1) xs
-with_next k xs v r h =
-    set_where-same _ _ (λ w low. sym (list_any-append (λ x. x == w) (take k xs) (v ∷ [])) ∙ ap (λ ys. has ys w) (sym (take_next k xs v h)))
-    ∙ canonical (take (suc k) xs) (rises_take 0 (suc k) xs r) ∙ ap (λ n. take n xs) (sym (add-one k))
-
-only_others : (b h : Bool) → (b ≡ true → h ≡ false) → ((b || h) && not (b || false)) ≡ h
-only_others true h f = sym (f refl)
-only_others false true f = refl
-only_others false false f = refl
-
-without_first : (v : ℕ) (xs : List ℕ) → Rises 0 (v ∷ xs) → without (v ∷ xs) v ≡ xs
-without_first v xs r =
-    set_where-same _ _ (λ w low. only_others (v == w) (has xs w) (λ same. lacks (v + 1) w xs (let e = eqb-true v w same in omega arith) r.2))
-    ∙ canonical xs (rises_lower 0 (v + 1) xs (omega arith) r.2)
-
-pub without_next : (k : ℕ) (xs : List ℕ) (v : ℕ) → Rises 0 xs → least_of (drop k xs) ≡ Some v → without (drop k xs) v ≡ drop (k + 1) xs
-without_next k xs v r h =
-    ap (λ ys. without ys v) (drop_next k xs v h)
-    ∙ without_first v (drop (suc k) xs) (subst (Rises 0) (drop_next k xs v h) (rises_drop 0 k xs r)) ∙ ap (λ n. drop n xs) (sym (add-one k))
-
-pub some_next : (k : ℕ) (xs : List ℕ) → k < length xs → least_of (drop k xs) ≡ None → ⊥
-some_next k [] h none = omega arith
-some_next zero (x ∷ xs) h none = cc
-some_next (suc k) (x ∷ xs) h none = some_next k xs (omega arith) none
-
 -- a set has at most 128 members
 pub rises_few : (a : ℕ) (xs : List ℕ) → a ≤ 128 → Rises a xs → length xs + a ≤ 128
 rises_few a [] h r = omega arith
 rises_few a (x ∷ xs) h r = let low = r.0 in let below = r.1 in let rest = rises_few (x + 1) xs (omega arith) r.2 in omega arith
+
+-- ---- the same set
+
+pub same_mask_is : (a b : ℕ) → a < 2 ^ 128 → b < 2 ^ 128 → (a == b) ≡ pointwise nat_eq (members_of a) (members_of b)
+same_mask_is a b h k = both_true _ _
+    (λ same. (bytes_eq-Decides (members_of a) (members_of b)).1 (ap members_of (eqb-true a b same)))
+    (λ same. eq-eqb a b (sym (mask_of-members_of a h) ∙ ap mask_of ((bytes_eq-Decides (members_of a) (members_of b)).0 same) ∙ mask_of-members_of b k))

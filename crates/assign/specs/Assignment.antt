@@ -1,10 +1,10 @@
--- Assignment assignments: for each variable its value, if it has one.
-use Rattle.std.specs.Prelude.{ℕ, ◌==◌, Bool, true, false, ◌&&◌, ◌≡◌, ◌<◌, List, [], ◌∷◌, length, map, Option, Some, None, is_some, unwrap_or, if◌then◌else◌, slice_index_or, All}
+-- Partial assignments: for each variable its value, if it has one.
+use Rattle.std.specs.Prelude.{ℕ, ◌==◌, Bool, true, false, ◌&&◌, ◌≡◌, ◌<◌, List, [], ◌∷◌, ◌++◌, ◌-◌, length, map, replicate, Option, Some, None, is_some, unwrap_or, if◌then◌else◌, slice_index_or, All}
 use Rattle.std.specs.List.{list_all}
 use Rattle.std.specs.Option.{ForSome}
-use Rattle.assign.specs.Sets.{numbers, has, set_where}
+use Rattle.assign.specs.Sets.{MOST, numbers, has, set_where}
 
--- for each variable in vocabulary order its value, if it has one
+-- in vocabulary order, an option of a value for each variable
 abbrev pub Assignment : Type 0
 Assignment = List (Option ℕ)
 
@@ -19,6 +19,10 @@ variables_of e = set_where (λ v. is_some (value_of e v))
 -- e on the set w alone
 abbrev pub restrict : Assignment → List ℕ → Assignment
 restrict e w = map (λ v. if has w v then value_of e v else None) (numbers (length e))
+
+-- e with 128 options: its own, and then empty ones
+abbrev pub widened : Assignment → Assignment
+widened e = e ++ replicate (MOST - length e) None
 
 -- whether each variable has a value
 abbrev pub is_complete : Assignment → Bool
@@ -42,13 +46,14 @@ value_beside (w ∷ vars) (x ∷ values) v = if w == v then Some x else value_be
 abbrev pub assigned : ℕ → List ℕ → List ℕ → Assignment
 assigned n vars values = map (value_beside vars values) (numbers n)
 
+-- whether two options are the same
 abbrev pub is_same_value : Option ℕ → Option ℕ → Bool
 is_same_value None None = true
 is_same_value None (Some y) = false
 is_same_value (Some x) None = false
 is_same_value (Some x) (Some y) = x == y
 
--- whether two are the same
+-- whether two assignments are the same
 abbrev pub is_same_assignment : Assignment → Assignment → Bool
 is_same_assignment [] [] = true
 is_same_assignment [] (y ∷ ys) = false

@@ -1,5 +1,6 @@
-use Rattle.std.specs.Prelude.{◌≡◌, ℕ, ◌+◌, ◌-◌, ◌<◌, ◌≤◌, List, [], ◌∷◌, ◌++◌, length, take, drop, replicate, Option, Some, None}
-use Rattle.std.proofs.Common.{sym, ◌∙◌, ap, arith, refl}
+-- The fields of a partial assignment as the options that they stand for.
+use Rattle.std.specs.Prelude.{◌≡◌, ℕ, ◌-◌, ◌≤◌, List, ◌++◌, length, take, drop, replicate, Option, None}
+use Rattle.std.proofs.Common.{sym, ◌∙◌, ap, arith}
 use Rattle.std.proofs.lemmas.List.{length-take, take-append-drop}
 use Rattle.assign.specs.declared.assignment.Partial.TheInside.{Inside}
 
@@ -14,6 +15,7 @@ pub record IsCells (a : Inside) : Type 0 where
   pub whole : length a.cells ≡ 128
   pub past : drop a.n a.cells ≡ replicate (128 - a.n) None
 
+-- the fields that stand for these options
 abbrev pub cells_of : List (Option ℕ) → Inside
 cells_of xs = record { n = length xs; cells = xs ++ replicate (128 - length xs) None }
 

@@ -1,15 +1,20 @@
-ghost use Rattle.std.specs.Prelude.{◌≡◌, ℕ, ◌-◌, ◌<◌, ◌≤◌, ◌↔◌, IsTrue, Option, Some, None, length, replicate, slice_set};
-ghost use Rattle.assign.specs.Assignment.{value_of};
+ghost use Rattle.std.specs.Prelude.{◌≡◌, ℕ, ◌-◌, ◌<◌, ◌≤◌, ◌↔◌, IsTrue, Option, Some, None, length, replicate, slice_set, take};
+ghost use Rattle.assign.specs.Assignment.{value_of, variables_of, restrict, is_complete, widened};
 
+use crate::sets::VarSet;
 use std::marker::Model;
 
 /// The most variables that an assignment has.
 pub const MOST_VARIABLES: u8 = 128;
 
-/// Values for some of the variables: an option of a value for each.
-#[derive(Clone, Copy, Debug)]
+/// Values for some of the variables: an option of a value for each, in vocabulary order.
+///
+/// There are 1 to 128 variables. A value is an index, from 0.
+#[derive(Clone, Copy, Debug, PartialEq, Eq)]
 pub struct Partial {
+    /// How many variables there are.
     n: u8,
+    /// Their options, and then empty ones.
     cells: [Option<u8>; 128],
 }
 
@@ -30,7 +35,7 @@ impl Model for Partial {
 }
 
 impl Partial {
-    /// The assignment that gives no variable a value.
+    /// The assignment of n variables that gives none of them a value.
     pub fn blank(n: u8) -> Partial
         requires some { 1 ≤ n }
         requires fits { n ≤ 128 }
@@ -42,6 +47,7 @@ impl Partial {
         }
     }
 
+    /// How many variables there are, with a value or without.
     pub fn len(&self) -> u8
         ensures len { result ≡ length self.now }
         ensures some { 1 ≤ result }
@@ -50,6 +56,7 @@ impl Partial {
         self.n
     }
 
+    /// The value of a variable. A number past the variables has none.
     pub fn get(&self, v: u8) -> Option<u8>
         ensures { result ≡ value_of self.now v }
     {
@@ -60,6 +67,7 @@ impl Partial {
         }
     }
 
+    /// Gives a variable this value, in place of the one that it may have.
     pub fn set(&mut self, v: u8, value: u8)
         requires { v < length self.old }
         ensures { self.new ≡ slice_set self.old v (Some value) }
@@ -67,9 +75,94 @@ impl Partial {
         self.cells[v as usize] = Some(value);
     }
 
-    pub fn equals(&self, o: &Partial) -> bool
-        ensures { IsTrue result ↔ (self.now ≡ o.now) }
+    /// The variables that have a value.
+    pub fn vars(&self) -> VarSet
+        ensures { result ≡ variables_of self.now }
     {
-        self.n == o.n && self.cells == o.cells
+        let mut valued = VarSet::empty();
+        for v in 0..self.n {
+            if self.get(v).is_some() {
+                valued = valued.with(v);
+            }
+        }
+        valued
+    }
+
+    /// The values on the set w alone: the other variables have none.
+    pub fn restrict(&self, w: VarSet) -> Partial
+        ensures { result ≡ restrict self.now w }
+    {
+        let mut kept = Partial::blank(self.n);
+        for v in 0..self.n {
+            if w.has(v)
+                && let Some(value) = self.get(v)
+            {
+                kept.set(v, value);
+            }
+        }
+        kept
+    }
+
+    /// Whether each variable has a value.
+    pub fn is_complete(&self) -> bool
+        ensures { result ≡ is_complete self.now }
+    {
+        self.cells[..self.n as usize]
+            .iter()
+            .all(|value| value.is_some())
+    }
+
+    /// Whether both have the same variables with the same values.
+    pub fn equals(&self, other: &Partial) -> bool
+        ensures { IsTrue result ↔ (self.now ≡ other.now) }
+    {
+        self.n == other.n && self.cells == other.cells
+    }
+
+    /// The same with 128 variables, as an event holds it: the further ones have no value.
+    pub fn widened(&self) -> Partial
+        ensures { result ≡ widened self.now }
+    {
+        Partial {
+            n: MOST_VARIABLES,
+            cells: self.cells,
+        }
+    }
+
+    /// The first n variables alone, as a session sees an event's question.
+    pub fn cut_to(&self, n: u8) -> Partial
+        requires some { 1 ≤ n }
+        requires within { n ≤ length self.now }
+        ensures { result ≡ take n self.now }
+    {
+        let mut cells = self.cells;
+        cells[n as usize..].fill(None);
+        Partial { n, cells }
+    }
+}
+
+#[cfg(test)]
+mod tests {
+    use super::*;
+
+    #[test]
+    fn keeps_what_is_asked_about(rt: HostRuntime) {
+        // a=1 b=2 c=1 of three variables, as value indices
+        let mut example = Partial::blank(3);
+        example.set(0, 0);
+        example.set(1, 1);
+        example.set(2, 0);
+        assert!(rt; example.is_complete());
+        let asked = example.restrict(VarSet::all(128).without(0));
+        assert_eq!(rt;
+            [asked.get(0), asked.get(1), asked.get(2), asked.get(3)],
+            [None, Some(1), Some(0), None]
+        );
+        assert_eq!(rt; asked.vars(), VarSet::empty().with(1).with(2));
+        assert!(rt; !asked.is_complete());
+        let recorded = asked.widened();
+        assert_eq!(rt; recorded.len(), 128);
+        assert!(rt; recorded.cut_to(3).equals(&asked));
+        assert!(rt; !recorded.equals(&asked));
     }
 }

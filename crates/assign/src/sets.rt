@@ -1,14 +1,14 @@
-//! Sets of variables in one word.
-#![tactic(auto)]
-
-ghost use Rattle.std.specs.Prelude.{◌≡◌, ◌<◌, ◌≤◌, ◌+◌, ◌/◌, ℕ, List, [], length, IfSome};
+ghost use Rattle.std.specs.Prelude.{◌≡◌, ◌<◌, ◌≤◌, ◌+◌, ◌/◌, ℕ, List, [], length, IfSome, filter, nat_eq, nat_lt};
+ghost use Rattle.std.specs.Cmp.{partial_equiv_from_equiv};
+ghost use Rattle.std.specs.Cmp.Lexicographic.{pointwise, nat_list_eq_equiv};
 ghost use Rattle.assign.specs.Sets.{numbers, has, union, minus, with_member, without, is_within, first_half, least_of, IsSet};
 
 use std::marker::Model;
 
-/// A set of variables, each below 128.
+/// A set of variables, each a number below 128.
 #[derive(Clone, Copy, Debug)]
 pub struct VarSet {
+    /// Bit v is 1 where v is a member.
     mask: u128,
 }
 
@@ -30,6 +30,7 @@ impl Model for VarSet {
 }
 
 impl VarSet {
+    /// The set without members.
     pub fn empty() -> VarSet
         ensures { result ≡ [] }
     {
@@ -50,6 +51,7 @@ impl VarSet {
         }
     }
 
+    /// Whether v is a member.
     pub fn has(self, v: u8) -> bool
         requires { v < 128 }
         ensures { result ≡ has self v }
@@ -57,6 +59,7 @@ impl VarSet {
         (self.mask >> v) & 1 == 1
     }
 
+    /// The members, and v.
     pub fn with(self, v: u8) -> VarSet
         requires { v < 128 }
         ensures { result ≡ with_member self v }
@@ -66,6 +69,7 @@ impl VarSet {
         }
     }
 
+    /// The members other than v.
     pub fn without(self, v: u8) -> VarSet
         requires { v < 128 }
         ensures { result ≡ without self v }
@@ -75,6 +79,7 @@ impl VarSet {
         }
     }
 
+    /// The members of one or both.
     pub fn union(self, other: VarSet) -> VarSet
         ensures { result ≡ union self other }
     {
@@ -83,6 +88,7 @@ impl VarSet {
         }
     }
 
+    /// The members that the other set lacks.
     pub fn minus(self, other: VarSet) -> VarSet
         ensures { result ≡ minus self other }
     {
@@ -91,13 +97,14 @@ impl VarSet {
         }
     }
 
+    /// Whether each member is one of the other set.
     pub fn within(self, other: VarSet) -> bool
         ensures { result ≡ is_within self other }
     {
         self.mask & !other.mask == 0
     }
 
-    /// How many there are. As each set of this kind, it rises.
+    /// How many members there are. As each set of this kind, the list of them rises.
     pub fn len(self) -> u8
         ensures count { result ≡ length self }
         ensures few { length self ≤ 128 }
@@ -106,6 +113,7 @@ impl VarSet {
         self.mask.count_ones() as u8
     }
 
+    /// The least member. Only the empty set has none.
     pub fn least(self) -> Option<u8>
         ensures least { result ≡ least_of self }
         ensures within { IfSome result (λ v. v < 128) }
@@ -117,20 +125,92 @@ impl VarSet {
         }
     }
 
-    /// The least half of the members, rounded up.
+    /// The least half of the members, rounded up: the least ceil(len / 2) of them.
+    ///
+    /// A bisection for the place below which so many members stand: at most 8 counts, also for 128 members.
     pub fn first_half(self) -> VarSet
         ensures { result ≡ first_half self }
     {
-        let _mask = self.mask;
-        let want = self.len().div_ceil(2);
-        let mut half = VarSet::empty();
-        let mut rest = self;
-        for _i in 0..want {
-            if let Some(v) = rest.least() {
-                half = half.with(v);
-                rest = rest.without(v);
+        let half = self.len().div_ceil(2);
+        let mut low = 0;
+        let mut high = 128;
+        while low < high {
+            let middle = (low + high) / 2;
+            if self.below(middle).len() < half {
+                low = middle + 1;
+            } else {
+                high = middle;
             }
         }
-        half
+        self.below(low)
+    }
+
+    /// The members below a place.
+    fn below(self, place: u8) -> VarSet
+        requires { place ≤ 128 }
+        ensures { result ≡ filter (λ v. nat_lt v place) self }
+    {
+        VarSet {
+            mask: self.mask & VarSet::all(place).mask,
+        }
+    }
+}
+
+impl PartialEq for VarSet {
+    ghost eq = { pointwise nat_eq };
+
+    ghost laws = { partial_equiv_from_equiv nat_list_eq_equiv };
+
+    fn eq(&self, other: &VarSet) -> bool {
+        self.mask == other.mask
+    }
+}
+
+impl Eq for VarSet {
+    ghost laws = { nat_list_eq_equiv };
+}
+
+#[cfg(test)]
+mod tests {
+    use super::*;
+    use std::process::Abort;
+
+    fn set_of(rt: &impl Abort, members: &[u8]) -> VarSet {
+        let mut set = VarSet::empty();
+        for member in members {
+            assert!(rt; *member < 128);
+            set = set.with(*member);
+        }
+        set
+    }
+
+    #[test]
+    fn halves_are_rounded_up(rt: HostRuntime) {
+        let rows: [(&[u8], &[u8], &[u8]); 6] = [
+            (&[], &[], &[]),
+            (&[5], &[5], &[]),
+            (&[0, 1], &[0], &[1]),
+            (&[0, 1, 2], &[0, 1], &[2]),
+            (&[0, 1, 2, 3], &[0, 1], &[2, 3]),
+            (&[3, 64, 126, 127], &[3, 64], &[126, 127]),
+        ];
+        for (members, first, second) in rows {
+            let set = set_of(&rt, members);
+            assert_eq!(rt; set.first_half(), set_of(&rt, first), "of {members:?}");
+            assert_eq!(rt;
+                set.minus(set.first_half()),
+                set_of(&rt, second),
+                "of {members:?}"
+            );
+            assert_eq!(rt; set.least(), members.first().copied(), "of {members:?}");
+        }
+    }
+
+    #[test]
+    fn halves_of_all_variables(rt: HostRuntime) {
+        for (n, half) in [(128, 64), (127, 64), (65, 33), (1, 1)] {
+            assert_eq!(rt; VarSet::all(n).len(), n);
+            assert_eq!(rt; VarSet::all(n).first_half(), VarSet::all(half), "of {n}");
+        }
     }
 }

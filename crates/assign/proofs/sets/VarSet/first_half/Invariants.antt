@@ -1,11 +1,9 @@
-use Rattle.std.proofs.Common.{◌≡◌, ◌≤◌, length, take, drop}
-use Rattle.assign.specs.Sets.{Rises}
+use Rattle.std.proofs.Common.{◌-◌}
+use Rattle.assign.proofs.Fronts.{IsBetween}
 use Rattle.assign.proofs.sets.VarSet.first_half.Given as goal
 
-abbrev pub invariant-loop-i : goal.invariant-loop-i
-invariant-loop-i l = record {
-  rising : Rises 0 l.fn.self;
-  enough : l.want ≤ length l.fn.self;
-  taken : l.half ≡ take l._i l.fn.self;
-  left : l.rest ≡ drop l._i l.fn.self;
-}
+abbrev pub invariant-loop-low : goal.invariant-loop-low
+invariant-loop-low l = IsBetween l.fn.self l.half l.low l.high
+
+abbrev pub decreases-loop-low : goal.decreases-loop-low
+decreases-loop-low l = l.high - l.low

@@ -1,0 +1,26 @@
+-- What a further answer adds to those that stand.
+use Rattle.std.proofs.Common.{◌≡◌, ℕ, ◌-◌, Bool, List, [], ◌∷◌, ◌++◌, length, take, replicate, None, refl, ◌∙◌, ap}
+use Rattle.std.proofs.lemmas.List.{take_at, map-append}
+use Rattle.assign.specs.Assignment.{Assignment, widened}
+use Rattle.assign.specs.Events.{Answer, standing, cut_to}
+use Rattle.assign.specs.declared.events.Event.{Event}
+use Rattle.assign.specs.declared.events.Event.TheVariants as events
+
+-- the variables of an assignment, after it was widened
+pub take-widened : (e : Assignment) (n : ℕ) → length e ≡ n → take n (widened e) ≡ e
+take-widened e n size = take_at e (replicate (128 - length e) None) n size
+
+pub standing-push : (past : List Event) (question : Assignment) (reply : Bool) →
+    standing (past ++ events.Answer question reply ∷ []) ≡ standing past ++ (let a : Answer = record { question = question; yes = reply } in a) ∷ []
+standing-push [] question reply = refl
+standing-push (events.Answer q y ∷ more) question reply =
+    ap (λ answers. (let a : Answer = record { question = q; yes = y } in a) ∷ answers) (standing-push more question reply)
+
+-- an answer that is recorded stands after those before it, its question as it was asked
+pub cut_to-standing-push : (n : ℕ) (past : List Event) (question : Assignment) (reply : Bool) → length question ≡ n →
+    cut_to n (standing (past ++ events.Answer (widened question) reply ∷ []))
+    ≡ cut_to n (standing past) ++ (let a : Answer = record { question = question; yes = reply } in a) ∷ []
+cut_to-standing-push n past question reply size =
+    ap (cut_to n) (standing-push past (widened question) reply)
+    ∙ map-append (λ (a : Answer). record { question = take n a.question; yes = a.yes }) (standing past) _
+    ∙ ap (λ q. cut_to n (standing past) ++ (let a : Answer = record { question = q; yes = reply } in a) ∷ []) (take-widened question n size)
