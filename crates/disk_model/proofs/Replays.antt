@@ -3,9 +3,9 @@ use Rattle.std.proofs.Common.{◌≡◌, ℕ, zero, suc, ◌+◌, ◌<◌, ◌�
 use Rattle.std.proofs.lemmas.List.{drop-drop, get_or-take, length-drop, length-take}
 use Rattle.std.proofs.lemmas.List.Elements.{All-append}
 use Rattle.disk_model.specs.Disk.{Torn}
-use Rattle.disk_model.specs.Record.{Step, Wrote, Synced, put, content_after, steps_of, bytes_in, Leaves}
+use Rattle.disk_model.specs.Record.{Step, Wrote, Synced, put, steps_of, bytes_in}
 use Rattle.disk_model.specs.Images.{content-write, content-sync, image-torn, image-synced}
-use Rattle.disk_model.specs.Crash.{AreImages, AreTorn, IsTornOf, size_of, step_of, IsReplay}
+use Rattle.disk_model.specs.Crash.{AreTorn, IsTornOf, size_of, step_of, IsReplay}
 use Rattle.disk_model.specs.declared.tape.Mark.{Mark}
 use Rattle.disk_model.specs.declared.tape.Mark.TheVariants.{Write, Sync}
 

@@ -1,5 +1,5 @@
 -- Contents that a crash may leave, listed from the record of a file.
-use Rattle.std.specs.Prelude.{ℕ, ◌<◌, ◌≡◌, List, length, take, drop, slice_index_or, All, Vec}
+use Rattle.std.specs.Prelude.{ℕ, ◌<◌, ◌≡◌, List, length, slice_index_or, All, Vec}
 use Rattle.std.specs.declared.alloc.Global.{Global}
 use Rattle.disk_model.specs.Disk.{Torn}
 use Rattle.disk_model.specs.Record.{Step, Wrote, Synced, content_after, Leaves}

@@ -66,7 +66,7 @@ more_replies (suc d) base (v ∷ w ∷ set) asks replies more s left h = more_as
 
 -- ---- the replies that are read
 
-abbrev pub IsUsed : (List Bool → Halved) → List Bool → List ℕ → List Bool → Type 0
+abbrev IsUsed : (List Bool → Halved) → List Bool → List ℕ → List Bool → Type 0
 IsUsed h replies s left = (u : List Bool) × (replies ≡ u ++ left) × (h u ≡ Got s [])
 
 used_all : (a s : List ℕ) (rest left : List Bool) → Got a rest ≡ Got s left → IsUsed (Got a) rest s left
@@ -79,7 +79,7 @@ used_ask true base [] next s left h f = absurd (wants_not_got base s left h)
 used_ask true base (false ∷ replies) next s left h f = (false ∷ [], ap (λ x. false ∷ x) (sym (same_left [] s replies left h)), both_got [] s [] [] (same_set [] s replies left h) refl)
 used_ask true base (true ∷ replies) next s left h f = let rest = f replies h in (true ∷ rest.0, ap (λ x. true ∷ x) rest.1, rest.2)
 
-pub used : (d : ℕ) (base set : List ℕ) (asks : Bool) (replies : List Bool) (s : List ℕ) (left : List Bool) → halve_within d base set asks replies ≡ Got s left →
+used : (d : ℕ) (base set : List ℕ) (asks : Bool) (replies : List Bool) (s : List ℕ) (left : List Bool) → halve_within d base set asks replies ≡ Got s left →
     IsUsed (halve_within d base set asks) replies s left
 unfolding halve_within
 used zero base [] asks replies s left h = used_ask asks base replies _ s left h (λ rest e. used_all [] s rest left e)

@@ -1,6 +1,7 @@
 //! What a session shows.
 
 ghost use Rattle.std.specs.Prelude.{◌≡◌};
+ghost use Rattle.language.specs.Language.{IsLanguage};
 ghost use Rattle.session_core.specs.Standing.{knowledge_of};
 
 use crate::knowledge::Knowledge;
@@ -12,9 +13,12 @@ use network::Network;
 
 impl Session {
     pub fn lang(&self) -> &Language
-        ensures { result.now ≡ (knowledge_of self.now).lang }
+        ensures is { result.now ≡ (knowledge_of self.now).lang }
+        ensures lawful { IsLanguage result.now }
     {
-        &self.knowledge().lang
+        let lang = &self.knowledge().lang;
+        let _variables = lang.n();
+        lang
     }
 
     pub fn plan(&self) -> Plan

@@ -3,3 +3,4 @@ pub mod Repeats
 pub mod NameForms
 pub mod TablesRead
 pub mod Widths
+pub mod RelationSteps

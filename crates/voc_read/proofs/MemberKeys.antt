@@ -13,5 +13,5 @@ pub other_keys : (known : List (Bor (List ℕ))) (entries : List (String Global 
 other_keys known [] = refl
 other_keys known (entry ∷ entries) =
     let here : list_any (λ name. bytes_eq name.now (string_bytes entry.0)) known ≡ is_known (texts_of known) (string_bytes entry.0) =
-        sym (any-map (λ name. bytes_eq name (string_bytes entry.0)) (λ (name : Bor (List ℕ)). name.now) known) in
+    sym (any-map (λ name. bytes_eq name (string_bytes entry.0)) (λ (name : Bor (List ℕ)). name.now) known) in
     ap₂ (λ (known : Bool) (rest : Bool). not known || rest) here (other_keys known entries)

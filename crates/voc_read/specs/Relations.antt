@@ -16,13 +16,13 @@ use Rattle.voc_read.specs.declared.fault.Spot.{Spot}
 use Rattle.voc_read.specs.declared.fault.VocFault.{VocFault}
 use Rattle.voc_read.specs.declared.fault.VocFault.TheVariants.{WrongKind, BadRelName, RelRepeated, Table}
 use Rattle.voc_read.specs.declared.fault.Spot.TheVariants as spot
-use Rattle.voc_read.specs.declared.relations.Parts.{Parts}
+use Rattle.voc_read.specs.declared.relations.StatedRelation.{StatedRelation}
 use Rattle.voc_read.specs.Answers.{then_on, unless}
 use Rattle.voc_read.specs.Keys.{keys_refusal, under}
 use Rattle.voc_read.specs.Names.{first_repeat}
 use Rattle.voc_read.specs.Values.{whole_number, tuple_list}
 
--- the parts of a relation
+-- a relation as a vocabulary states it
 pub record RelationData : Type 0 where
   pub name : List ℕ
   pub arity : ℤ
@@ -31,7 +31,7 @@ pub record RelationData : Type 0 where
 abbrev pub relation_keys : List (List ℕ)
 relation_keys = codes "name" ∷ codes "arity" ∷ codes "tuples" ∷ []
 
--- the parts that an object holds under exactly these keys, each of its kind
+-- what an object states under exactly these keys, each value of its kind
 abbrev pub relation_data : Spot → Data → Result RelationData VocFault
 relation_data here value =
     unless (keys_refusal relation_keys here value) (
@@ -43,8 +43,8 @@ relation_data here value =
     then_on (ok_or (tuple_list tuples) (WrongKind here)) (λ tuples.
     Ok (record { name = name; arity = arity; tuples = tuples }))))))))
 
-abbrev pub parts_data : Parts → RelationData
-parts_data parts = record { name = parts.name.now; arity = parts.arity; tuples = lists parts.tuples.items }
+abbrev pub stated_data : StatedRelation → RelationData
+stated_data stated = record { name = stated.name.now; arity = stated.arity; tuples = lists stated.tuples.items }
 
 -- the relation that accepts exactly the tuples: for each place, whether one of them stands there
 abbrev pub accepting : ℤ → ℕ → ℕ → List (List ℤ) → Relation
@@ -66,7 +66,7 @@ pub record IsTableOf (least_value : ℤ) (value_count : ℕ) (relation : Relatio
 abbrev pub name_refusal : ℕ → List ℕ → Option VocFault
 name_refusal i name = if is_name name then None else Some (BadRelName i)
 
--- relation i, made of its parts
+-- relation i, made of what is stated
 abbrev pub made_of : ℕ → ℤ → ℕ → RelationData → Result Given VocFault
 made_of i least_value value_count relation =
     unless (name_refusal i relation.name) (
@@ -82,7 +82,7 @@ abbrev pub relation_of : ℕ → ℤ → ℕ → Data → Result Given VocFault
 relation_of i least_value value_count value = then_on (relation_data (spot.Relation i) value) (made_of i least_value value_count)
 
 -- what the relations from i on are
-unfoldable pub relations_from : ℕ → ℤ → ℕ → Items → Result (List Given) VocFault
+abbrev pub relations_from : ℕ → ℤ → ℕ → Items → Result (List Given) VocFault
 relations_from i least_value value_count no_items = Ok []
 relations_from i least_value value_count (item value values) =
     then_on (relation_of i least_value value_count value) (λ relation.

@@ -1,6 +1,7 @@
 //! Reading a vocabulary: from the bytes of a JSON text to the language that they describe, or to the first fault.
 #![tactic(auto)]
 
+mod domain;
 mod fault;
 mod keys;
 mod names;

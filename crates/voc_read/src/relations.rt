@@ -1,36 +1,42 @@
 // The relations of a vocabulary.
-ghost use Rattle.std.specs.Prelude.{◌≡◌, ◌≢◌, ◌<◌, ◌≤◌, ◌^◌, ◌≤ℤ◌, pos, negsuc, unsigned_abs, length, IfOk, OnOk, IsTrue};
+ghost use Rattle.std.specs.Prelude.{◌≡◌, ◌≢◌, ◌<◌, ◌≤◌, ◌^◌, length, map, All, string_bytes, IfOk};
 ghost use Rattle.std.specs.Option.{option_map};
 ghost use Rattle.serde_json.specs.View.{view, items_view};
 ghost use Rattle.rel_table.specs.Made.{lists};
 ghost use Rattle.language.specs.Inside.{given_by};
 ghost use Rattle.voc_read.specs.Answers.{Reads, Refuses};
-ghost use Rattle.voc_read.specs.Relations.{relation_data, parts_data, name_refusal, table_refusal, made_of, relation_of, IsTableOf, IsOfTwo};
-ghost use Rattle.voc_read.specs.Widest.{widest};
+ghost use Rattle.voc_read.specs.Relations.{relation_data, stated_data, name_refusal, table_refusal, made_of, relation_of, relations_from, relation_names_refusal, IsTableOf, IsOfTwo};
+ghost use Rattle.voc_read.specs.Texts.{texts_of};
+ghost use Rattle.voc_read.specs.Widest.{widest, items_widest};
 
+use crate::domain::Domain;
 use crate::fault::{Spot, VocFault};
 use crate::keys::{check_keys, under};
-use crate::names::is_name;
+use crate::names::{first_repeat, is_name};
 use crate::values::{tuple_list, whole_number};
 use language::RelPart;
 use rel_table::{Table, TableFault};
 use serde_json::Value;
-use std::alloc::Global;
+use std::alloc::{AllocError, Global};
 
 static KEYS: [&str; 3] = ["name", "arity", "tuples"];
 
-/// The parts of a relation, before its table is made.
+/// A relation as the vocabulary states it.
 #[derive(Drop)]
-struct Parts<'a> {
+struct StatedRelation<'a> {
     name: &'a str,
     arity: i64,
     tuples: Vec<Vec<i64>>,
 }
 
-/// The parts that an object holds under exactly these keys, each of its kind.
-fn parts_of<'a>(alloc: Global, value: &'a Value, here: Spot) -> Result<Parts<'a>, VocFault>
-    ensures few { IfOk result (λ parts. length parts.tuples.items ≤ widest (view value.entry.now)) }
-    ensures is { Reads parts_data (relation_data here (view value.entry.now)) result }
+/// What an object states under exactly these keys, each value of its kind.
+fn stated_by<'a>(
+    alloc: Global,
+    value: &'a Value,
+    here: Spot,
+) -> Result<StatedRelation<'a>, VocFault>
+    ensures few { IfOk result (λ stated. length stated.tuples.items ≤ widest (view value.entry.now)) }
+    ensures is { Reads stated_data (relation_data here (view value.entry.now)) result }
 {
     check_keys(value, &KEYS, here)?;
     let name = under(value, "name", here)?;
@@ -39,7 +45,7 @@ fn parts_of<'a>(alloc: Global, value: &'a Value, here: Spot) -> Result<Parts<'a>
     let name = name.as_str().ok_or(VocFault::WrongKind(here))?;
     let arity = whole_number(arity, here)?;
     let tuples = tuple_list(alloc, tuples, here)?;
-    Ok(Parts {
+    Ok(StatedRelation {
         name,
         arity,
         tuples,
@@ -71,22 +77,23 @@ fn table_fault(i: u32, fault: TableFault) -> VocFault
 fn table_of(
     alloc: Global,
     i: u32,
-    least_value: i64,
-    value_count: u32,
-    parts: &Parts<'_>,
+    domain: Domain,
+    stated: &StatedRelation<'_>,
 ) -> Result<Table, VocFault>
-    requires values { 1 ≤ value_count }
-    requires few_values { value_count ≤ 64 }
-    requires low { negsuc 999999 ≤ℤ least_value }
-    requires high { least_value ≤ℤ pos 1000000 }
-    requires few { length parts.now.tuples.items < 2 ^ 32 }
-    ensures refused { Refuses (option_map (VocFault.Table i) (table_refusal least_value value_count (parts_data parts.now))) result }
-    ensures table { IfOk result (IsTableOf least_value value_count (parts_data parts.now)) }
+    requires { length stated.now.tuples.items < 2 ^ 32 }
+    ensures refused { Refuses (option_map (VocFault.Table i) (table_refusal domain.least_value domain.value_count (stated_data stated.now))) result }
+    ensures table { IfOk result (IsTableOf domain.least_value domain.value_count (stated_data stated.now)) }
 {
-    if parts.arity != 2 {
+    if stated.arity != 2 {
         return Err(VocFault::Table(i, TableFault::BadArity));
     }
-    match Table::from_tuples(alloc, parts.arity, least_value, value_count, &parts.tuples) {
+    match Table::from_tuples(
+        alloc,
+        stated.arity,
+        domain.least_value,
+        domain.value_count,
+        &stated.tuples,
+    ) {
         Ok(table) => {
             // The size tells that there is a truth value for each tuple.
             let _size = table.size();
@@ -96,44 +103,68 @@ fn table_of(
     }
 }
 
-/// Relation i, made of its parts.
+/// Relation i, made of what is stated.
 fn made_of(
     alloc: Global,
     i: u32,
-    least_value: i64,
-    value_count: u32,
-    parts: &Parts<'_>,
+    domain: Domain,
+    stated: &StatedRelation<'_>,
 ) -> Result<RelPart, VocFault>
-    requires values { 1 ≤ value_count }
-    requires few_values { value_count ≤ 64 }
-    requires low { negsuc 999999 ≤ℤ least_value }
-    requires high { least_value ≤ℤ pos 1000000 }
-    requires few { length parts.now.tuples.items < 2 ^ 32 }
-    ensures is { Reads given_by (made_of i least_value value_count (parts_data parts.now)) result }
-    ensures kind { IfOk result (IsOfTwo value_count) }
+    requires { length stated.now.tuples.items < 2 ^ 32 }
+    ensures is { Reads given_by (made_of i domain.least_value domain.value_count (stated_data stated.now)) result }
+    ensures kind { IfOk result (IsOfTwo domain.value_count) }
 {
-    check_name(i, parts.name)?;
-    let table = table_of(alloc, i, least_value, value_count, parts)?;
-    let name = String::from_str(alloc, parts.name)?;
+    check_name(i, stated.name)?;
+    let table = table_of(alloc, i, domain, stated)?;
+    let name = String::from_str(alloc, stated.name)?;
     Ok(RelPart { name, table })
 }
 
-/// Relation i, over value_count values from the least one on.
-fn relation_of(
-    alloc: Global,
-    i: u32,
-    least_value: i64,
-    value_count: u32,
-    value: &Value,
-) -> Result<RelPart, VocFault>
-    requires values { 1 ≤ value_count }
-    requires few_values { value_count ≤ 64 }
-    requires low { negsuc 999999 ≤ℤ least_value }
-    requires high { least_value ≤ℤ pos 1000000 }
-    requires few { widest (view value.now) < 2 ^ 32 }
-    ensures is { Reads given_by (relation_of i least_value value_count (view value.now)) result }
-    ensures kind { IfOk result (IsOfTwo value_count) }
+/// Relation i, over the values of the domain.
+fn relation_of(alloc: Global, i: u32, domain: Domain, value: &Value) -> Result<RelPart, VocFault>
+    requires { widest (view value.now) < 2 ^ 32 }
+    ensures is { Reads given_by (relation_of i domain.least_value domain.value_count (view value.now)) result }
+    ensures kind { IfOk result (IsOfTwo domain.value_count) }
 {
-    let parts = parts_of(alloc, value, Spot::Relation(i))?;
-    made_of(alloc, i, least_value, value_count, &parts)
+    let stated = stated_by(alloc, value, Spot::Relation(i))?;
+    made_of(alloc, i, domain, &stated)
+}
+
+/// The relations of a vocabulary, in its order.
+pub fn relations_of(alloc: Global, domain: Domain, list: &[Value]) -> Result<Vec<RelPart>, VocFault>
+    requires few { length list.now < 2 ^ 32 }
+    requires parts { items_widest (items_view list.now) < 2 ^ 32 }
+    ensures is { Reads (λ v. map given_by v.items) (relations_from 0 domain.least_value domain.value_count (items_view list.now)) result }
+    ensures kinds { IfOk result (λ v. All (IsOfTwo domain.value_count) v.items) }
+    ensures each { IfOk result (λ v. length v.items ≡ length list.now) }
+{
+    let mut relations = Vec::new(alloc);
+    for (i, value) in list.iter().enumerate() {
+        let relation = relation_of(alloc, i as u32, domain, value)?;
+        relations.push(relation)?;
+    }
+    Ok(relations)
+}
+
+/// The names of the relations.
+fn names_of<'a>(alloc: Global, relations: &'a [RelPart]) -> Result<Vec<&'a str>, AllocError>
+    ensures { IfOk result (λ v. texts_of v.items ≡ map (λ part. string_bytes part.name) relations.entry.now) }
+{
+    let mut names = Vec::new(alloc);
+    for relation in relations {
+        names.push(relation.name.as_str())?;
+    }
+    Ok(names)
+}
+
+/// Refuses relations of which two have one name.
+pub fn check_relation_names(alloc: Global, relations: &[RelPart]) -> Result<(), VocFault>
+    requires { length relations.now < 2 ^ 32 }
+    ensures { Refuses (relation_names_refusal (map (λ part. string_bytes part.name) relations.now)) result }
+{
+    let names = names_of(alloc, relations)?;
+    if let Some((i, j)) = first_repeat(alloc, &names)? {
+        return Err(VocFault::RelRepeated(i, j));
+    }
+    Ok(())
 }

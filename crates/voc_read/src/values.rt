@@ -106,11 +106,7 @@ fn texts_in<'a>(alloc: Global, list: &'a [Value], spot: Spot) -> Result<Vec<&'a 
 }
 
 /// An array of strings.
-pub fn text_list<'a>(
-    alloc: Global,
-    value: &'a Value,
-    spot: Spot,
-) -> Result<Vec<&'a str>, VocFault>
+pub fn text_list<'a>(alloc: Global, value: &'a Value, spot: Spot) -> Result<Vec<&'a str>, VocFault>
     ensures few { IfOk result (λ v. length v.items ≤ widest (view value.entry.now)) }
     ensures is { Reads (λ v. texts_of v.items) (ok_or (text_list (view value.entry.now)) (VocFault.WrongKind spot)) result }
 {

@@ -1,4 +1,4 @@
-use Rattle.std.proofs.Common.{◌∙◌, ◌≡◌, List, ℕ, length, subst, sym}
+use Rattle.std.proofs.Common.{List, ℕ, length, subst, sym}
 use Rattle.std.specs.Prelude.{All}
 use Rattle.disk_model.specs.Crash.{AreTorn, IsTornOf}
 use Rattle.disk_model.proofs.Replays.{torn_more}

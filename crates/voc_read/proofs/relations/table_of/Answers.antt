@@ -1,4 +1,4 @@
-use Rattle.std.proofs.Common.{◌≡◌, ℤ, List, pos, to_z, of_z, w64, subst, sym, ◌∙◌, refl, ap}
+use Rattle.std.proofs.Common.{◌≡◌, ℤ, List, pos, to_z, of_z, w64, SFits, rules, subst, sym, ◌∙◌, refl, ap}
 use Rattle.std.proofs.lemmas.Int.{to_z-of_z}
 use Rattle.rel_table.specs.Made.{IsMade, lists}
 use Rattle.voc_read.proofs.TablesRead.{IsTableOf-made}
@@ -6,10 +6,11 @@ use Rattle.voc_read.proofs.relations.table_of.Goals as goal
 
 pub returns-in-Ok-clause-table : goal.returns-in-Ok-clause-table
 returns-in-Ok-clause-table c =
-    let P : ℤ → ℤ → Type 0 = λ arity lo. IsMade arity lo c.args.value_count (lists c.deref.result.now) c.in-Ok.table in
-    let two : to_z w64 (of_z w64 c.args.parts.now.arity) ≡ pos 2 = ap (to_z w64) c.if-parts-ne2.false in
-    let made_two = subst (λ arity. P arity (to_z w64 (of_z w64 c.args.least_value))) two c.in-Ok.ensures.made in
-    let made_from = subst (P (pos 2)) (to_z-of_z w64 c.args.least_value c.ranges.least_value) made_two in
-    let Q : List (List ℤ) → Type 0 = λ tuples. IsMade (pos 2) c.args.least_value c.args.value_count tuples c.in-Ok.table in
+    let fits : SFits w64 c.args.domain.least_value = search rules in
+    let P : ℤ → ℤ → Type 0 = λ arity lo. IsMade arity lo c.args.domain.value_count (lists c.deref.result.now) c.in-Ok.table in
+    let two : to_z w64 (of_z w64 c.args.stated.now.arity) ≡ pos 2 = ap (to_z w64) c.if-stated-ne2.false in
+    let made_two = subst (λ arity. P arity (to_z w64 (of_z w64 c.args.domain.least_value))) two c.in-Ok.ensures.made in
+    let made_from = subst (P (pos 2)) (to_z-of_z w64 c.args.domain.least_value fits) made_two in
+    let Q : List (List ℤ) → Type 0 = λ tuples. IsMade (pos 2) c.args.domain.least_value c.args.domain.value_count tuples c.in-Ok.table in
     let made = subst Q (ap lists c.deref.ensures.value) made_from in
     IsTableOf-made _ _ _ _ made c.size-size.ensures.lawful

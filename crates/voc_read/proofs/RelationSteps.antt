@@ -1,0 +1,31 @@
+-- One relation more is read.
+use Rattle.std.proofs.Common.{◌≡◌, ℕ, ℤ, suc, ◌+◌, ◌<◌, ◌++◌, List, [], ◌∷◌, length, drop, get_or, map, Result, Ok, Err, refl, sym, ap, ◌∙◌, append_assoc, arith}
+use Rattle.std.proofs.Math.Seq.{drop-cons}
+use Rattle.std.proofs.lemmas.List.{map-append}
+use Rattle.serde_json.specs.View.{view, items_view}
+use Rattle.serde_json.specs.declared.value.Value.{Value}
+use Rattle.language.specs.Language.{Given}
+use Rattle.language.specs.Inside.{given_by}
+use Rattle.language.specs.declared.parts.RelPart.{RelPart}
+use Rattle.voc_read.specs.declared.fault.VocFault.{VocFault}
+use Rattle.voc_read.specs.Answers.{then_on}
+use Rattle.voc_read.specs.Relations.{relation_of, relations_from}
+
+-- it stands behind those that were read before
+put_behind : (rest : Result (List Given) VocFault) (before : List Given) (g : Given)
+    → then_on (then_on rest (λ more. Ok (g ∷ more))) (λ more. Ok (before ++ more)) ≡ then_on rest (λ more. Ok ((before ++ g ∷ []) ++ more))
+put_behind (Ok more) before g = ap Ok (sym (append_assoc before (g ∷ []) more))
+put_behind (Err fault) before g = refl
+
+pub reads_one_more : (i : ℕ) (lo : ℤ) (count : ℕ) (list : List Value) (value : Value) (before : List RelPart) (relation : RelPart) (whole : Result (List Given) VocFault)
+    → i < length list → value ≡ get_or list i value → relation_of i lo count (view value) ≡ Ok (given_by relation)
+    → then_on (relations_from i lo count (items_view (drop i list))) (λ more. Ok (map given_by before ++ more)) ≡ whole
+    → then_on (relations_from (i + 1) lo count (items_view (drop (i + 1) list))) (λ more. Ok (map given_by (before ++ relation ∷ []) ++ more)) ≡ whole
+reads_one_more i lo count list value before relation whole within is read so_far =
+    let next : i + 1 ≡ suc i = omega arith in
+    let rest = relations_from (i + 1) lo count (items_view (drop (i + 1) list)) in
+    let from_here : drop i list ≡ value ∷ drop (i + 1) list = rw next (drop-cons list i value within ∙ ap (λ v. v ∷ drop (suc i) list) (sym is)) in
+    let first : relations_from i lo count (items_view (drop i list)) ≡ then_on rest (λ more. Ok (given_by relation ∷ more)) =
+    ap (λ vs. relations_from i lo count (items_view vs)) from_here ∙ ap (λ r. then_on r (λ g. then_on rest (λ more. Ok (g ∷ more)))) read in
+    let behind : map given_by (before ++ relation ∷ []) ≡ map given_by before ++ given_by relation ∷ [] = map-append given_by before (relation ∷ []) in
+    ap (λ done. then_on rest (λ more. Ok (done ++ more))) behind ∙ sym (put_behind rest (map given_by before) (given_by relation)) ∙ sym (ap (λ r. then_on r (λ more. Ok (map given_by before ++ more))) first) ∙ so_far

@@ -1,0 +1,23 @@
+use Rattle.std.proofs.Common.{◌≡◌, ◌<◌, ◌≤◌, ◌++◌, ◌∷◌, [], List, length, get_or, arith, length-append, sym, ◌∙◌, refl, subst}
+use Rattle.std.proofs.lemmas.List.Elements.{All-push}
+use Rattle.serde_json.specs.View.{view, items_view}
+use Rattle.serde_json.specs.declared.value.Value.{Value}
+use Rattle.language.specs.declared.parts.RelPart.{RelPart}
+use Rattle.voc_read.specs.Relations.{IsOfTwo}
+use Rattle.voc_read.specs.Widest.{widest, items_widest}
+use Rattle.voc_read.proofs.Widths.{widest-get_or}
+use Rattle.voc_read.proofs.RelationSteps.{reads_one_more}
+use Rattle.voc_read.proofs.relations.relations_of.Goals as goal
+
+pub relation_of-requires : goal.relation_of-requires
+relation_of-requires c =
+    let P : Value → Type 0 = λ value. widest (view value) ≤ items_widest (items_view c.args.list.now) in
+    let within = subst P (sym c.index-list-i.is) (widest-get_or c.args.list.now c.loop-i.i c.index-list-i.result c.loop-i-test.true) in
+    omega (arith, within, c.requires.parts)
+
+pub loop-i-preserved : goal.loop-i-preserved
+loop-i-preserved c = rw c.in_ok-push.ensures.items record {
+  each = omega (arith, c.loop-i.invariant.each, length-append {A = RelPart});
+  kinds = All-push (IsOfTwo c.args.domain.value_count) _ _ c.loop-i.invariant.kinds c.in_ok-relation.ensures.kind;
+  rest = reads_one_more _ _ _ _ _ _ _ _ c.loop-i-test.true c.index-list-i.is c.in_ok-relation.ensures.is c.loop-i.invariant.rest;
+}
