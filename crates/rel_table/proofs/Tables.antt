@@ -35,7 +35,7 @@ blocks b m i (suc n) =
 regroup : (s d m : ℕ) → (s * d + 0) * m ≡ s * (m * d)
 regroup s d m = omega arith
 
-places_from : (d a start : ℕ) → map (λ u. fold (λ at x. at * d + x) start u) (tuples d a) ≡ range_with_len (start * d ^ a) (d ^ a)
+pub places_from : (d a start : ℕ) → map (λ u. fold (λ at x. at * d + x) start u) (tuples d a) ≡ range_with_len (start * d ^ a) (d ^ a)
 places_from d zero start =
     let one_value : d ^ 0 ≡ 1 = pow-zero d in
     λ i. range_with_len (sym (ap (λ x. start * x) one_value ∙ (let e : start * 1 ≡ start = omega arith in e)) i) (sym one_value i)
