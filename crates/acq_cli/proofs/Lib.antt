@@ -1,2 +1,4 @@
 pub mod Running
 pub mod Turning
+pub mod Standings
+pub mod Answered

@@ -161,3 +161,12 @@ cut_turn laws turns l lawful q a b reached due same told bytes before left writt
       later = turn.has.later;
       answers = turn.has.extends ∙ ap (λ x. x ++ turn.has.later) (sym same);
     }
+
+-- the same turn, by its language and number
+pub told_as : (turns : Turns) (l m : Language) (k n : ℕ) (q : Assignment) (a b : Place) (reply : Reply) → l ≡ m → k ≡ n → ToldSo turns l k q a b reply → ToldSo turns m n q a b reply
+told_as turns l m k n q a b reply e f h =
+    let P : Language → Type 0 = λ x. ToldSo turns x n q a b reply in let Q : ℕ → Type 0 = λ x. ToldSo turns l x q a b reply in subst P e (subst Q f h)
+
+pub front_as : (turns : Turns) (l m : Language) (k n : ℕ) (q : Assignment) (a b : Place) → l ≡ m → k ≡ n → FrontSo turns l k q a b → FrontSo turns m n q a b
+front_as turns l m k n q a b e f h =
+    let P : Language → Type 0 = λ x. FrontSo turns x n q a b in let Q : ℕ → Type 0 = λ x. FrontSo turns l x q a b in subst P e (subst Q f h)

@@ -1,2 +1,4 @@
 pub mod Run
 pub mod Driven
+pub mod Due
+pub mod Places
