@@ -8,7 +8,7 @@ use Rattle.std.proofs.lemmas.List.Elements.{All-head, All-tail, All-filter}
 use Rattle.language.specs.Language.{Language, IsLanguage, scope_at}
 use Rattle.language.proofs.Members.{find_some}
 use Rattle.rel_table.specs.Relation.{tuples}
-use Rattle.rel_table.proofs.Places.{IsTuple, tuples_fit}
+use Rattle.rel_table.proofs.TupleOrder.{IsTuple, tuples_fit}
 use Rattle.find_c.specs.Choosing.{Choice, Scene, Got, allows, tells_apart, splitting_tuple, after_reply, remaining, choose}
 use Rattle.find_c.specs.Choosing.{Wants as WantsReply}
 use Rattle.find_c.specs.Scenes.{scene_of}

@@ -7,7 +7,7 @@ use Rattle.std.proofs.lemmas.List.Sums.{fold-append}
 use Rattle.std.proofs.lemmas.List.Elements.{All-push, All-nil}
 use Rattle.std.proofs.lemmas.Grind.{take-set_at}
 use Rattle.rel_table.specs.Relation.{place, tuples}
-use Rattle.rel_table.proofs.Places.{IsTuple, tuple_at_place}
+use Rattle.rel_table.proofs.TupleOrder.{IsTuple, tuple_at_place}
 
 -- The first i values are those of the tuple at place p, and the rest of the place is below the unit of the last of them.
 pub record IsSpelt (d size p i unit rest : ℕ) (values : List ℕ) : Type 0 where

@@ -5,7 +5,7 @@ use Rattle.std.specs.Bool.{beq}
 use Rattle.std.specs.List.{filter, list_any}
 use Rattle.std.proofs.lemmas.List.{drop_all}
 use Rattle.rel_table.specs.Relation.{place, tuples}
-use Rattle.rel_table.proofs.Places.{length-tuples, place_of_tuple}
+use Rattle.rel_table.proofs.TupleOrder.{length-tuples, place_of_tuple}
 use Rattle.find_c.specs.Choosing.{Choice, Scene, allows, tells_apart, after_reply}
 use Rattle.find_c.specs.Choices.{is_accepting, allows_at}
 
