@@ -1,2 +1,4 @@
 pub mod Deciding
 pub mod Answering
+pub mod Moving
+pub mod Putting

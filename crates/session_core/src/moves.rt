@@ -1,8 +1,9 @@
 //! How a session moves: a question is put, an answer is given.
 
-ghost use Rattle.std.specs.Prelude.{◌≡◌, ◌++◌, ◌∷◌, [], List, IfOk, IfSome, IsTrue, Some, Ok};
+ghost use Rattle.std.specs.Prelude.{◌≡◌, ◌+◌, ◌-◌, ◌^◌, min, ◌&&◌, not, filter, ◌++◌, ◌∷◌, [], List, IfOk, IfSome, IsTrue, Some};
 ghost use Rattle.assign.specs.Events.{Answer};
-ghost use Rattle.language.specs.Language.{IsQuestion};
+ghost use Rattle.language.specs.Language.{IsLanguage, IsQuestion, violates};
+ghost use Rattle.bias_store.specs.KeptSet.{IsMadeFor};
 ghost use Rattle.session_laws.specs.Session.{is_lawful, scope_question};
 ghost use Rattle.session_core.specs.Standing.{Stands, knowledge_of, open_in};
 
@@ -35,6 +36,28 @@ pub fn begin(alloc: Global, lang: Language, plan: Plan) -> Result<Session, Memor
         },
         next: 0,
     }))
+}
+
+/// The count after an answer. No session of a language has so many that it stops.
+fn one_more(lang: &Language, answers: u32) -> u32
+    ensures is { result ≡ min (answers + 1) (2 ^ 32 - 1) }
+    ensures lawful { IsLanguage lang.now }
+{
+    let _variables = lang.n();
+    answers.saturating_add(1)
+}
+
+/// The candidates that are kept after an answer.
+fn kept_after(lang: &Language, mut kept: Kept, q: &Partial, yes: bool) -> Kept
+    requires made { IsMadeFor lang.now kept }
+    requires question { IsQuestion lang.now q.now }
+    ensures kept { result.members ≡ filter (λ c. not («yes» && violates lang.now c q.now)) kept.members }
+    ensures made { IsMadeFor lang.now result }
+{
+    if yes {
+        kept.strike(lang, q);
+    }
+    kept
 }
 
 impl Idle {
@@ -107,33 +130,51 @@ impl Asking {
         ensures stands { (t : List Answer) (q : _) → open_in (Session.Asking self) ≡ Some q → Stands (Session.Asking self) t
             → Stands result (t ++ record { question = q; yes = «yes» } ∷ []) }
     {
-        let Asking {
-            mut knowledge,
-            run,
-            ..
-        } = self;
+        let Asking { knowledge, run, .. } = self;
+        let Knowledge {
+            lang,
+            plan,
+            kept,
+            mut network,
+            answers,
+        } = knowledge;
         let scope = run.scope();
-        if yes {
-            let q = run.wants(&knowledge.lang);
-            knowledge.kept.strike(&knowledge.lang, &q);
-        }
-        knowledge.answers = knowledge.answers.saturating_add(1);
-        match run.reply(&knowledge.lang, yes) {
+        let mut kept = kept_after(&lang, kept, &run.wants(&lang), yes);
+        let answers = one_more(&lang, answers);
+        match run.reply(&lang, yes) {
             RelNext::Wants(run) => Session::Asking(Asking {
-                knowledge,
+                knowledge: Knowledge {
+                    lang,
+                    plan,
+                    kept,
+                    network,
+                    answers,
+                },
                 run,
                 is_new: false,
             }),
             RelNext::Found(c) => {
-                knowledge.kept.drop_scope(scope);
-                knowledge.network.learn(c);
+                kept.drop_scope(scope);
+                network.learn(c);
                 Session::Idle(Idle {
-                    knowledge,
+                    knowledge: Knowledge {
+                        lang,
+                        plan,
+                        kept,
+                        network,
+                        answers,
+                    },
                     next: u32::from(scope),
                 })
             }
             RelNext::Free => Session::Idle(Idle {
-                knowledge,
+                knowledge: Knowledge {
+                    lang,
+                    plan,
+                    kept,
+                    network,
+                    answers,
+                },
                 next: u32::from(scope),
             }),
             RelNext::Nothing => unreachable!(),
