@@ -1,6 +1,6 @@
 //! How a session moves: a question is put, an answer is given.
 
-ghost use Rattle.std.specs.Prelude.{◌≡◌, ◌+◌, ◌-◌, ◌^◌, min, ◌&&◌, not, filter, ◌++◌, ◌∷◌, [], List, IfOk, IfSome, IsTrue, Some};
+ghost use Rattle.std.specs.Prelude.{◌≡◌, ◌+◌, ◌-◌, ◌^◌, min, ◌&&◌, not, filter, ◌++◌, ◌∷◌, [], List, IfOk, IfSome, IsTrue, Some, None};
 ghost use Rattle.assign.specs.Events.{Answer};
 ghost use Rattle.language.specs.Language.{IsLanguage, IsQuestion, violates};
 ghost use Rattle.bias_store.specs.KeptSet.{IsMadeFor};
@@ -21,6 +21,7 @@ use std::alloc::Global;
 pub fn begin(alloc: Global, lang: Language, plan: Plan) -> Result<Session, Memory>
     requires { plan ≡ Plan.Scopes }
     ensures stands { IfOk result (λ session. Stands session []) }
+    ensures idle { IfOk result (λ session. open_in session ≡ None) }
     ensures lang { IfOk result (λ session. (knowledge_of session).lang ≡ lang) }
     ensures plan { IfOk result (λ session. (knowledge_of session).plan ≡ plan) }
 {
