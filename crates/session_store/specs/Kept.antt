@@ -1,7 +1,6 @@
 -- A session beside its events.
-use Rattle.std.specs.Prelude.{◌≡◌, ◌-◌, ℕ, pos, IsTrue, Bool, List, [], ◌∷◌, ◌++◌, length, replicate, Option, Some, None}
-use Rattle.assign.specs.Sets.{MOST}
-use Rattle.assign.specs.Assignment.{Assignment}
+use Rattle.std.specs.Prelude.{◌≡◌, IsTrue, Bool, List, Option}
+use Rattle.assign.specs.Assignment.{Assignment, widened}
 use Rattle.assign.specs.Events.{Answer}
 use Rattle.assign.specs.declared.events.Event.{Event}
 use Rattle.assign.specs.declared.events.Event.TheVariants as events
@@ -12,11 +11,7 @@ use Rattle.language.specs.Answers.{kept}
 use Rattle.session_laws.specs.Session.{At, Idle, is_lawful, state_after}
 use Rattle.session_laws.specs.Walk.{WalkEnd}
 
--- a question as an event holds it: with empty options behind its own
-abbrev pub widened : Assignment → Assignment
-widened q = q ++ replicate (MOST - length q) None
-
--- the event of an answer
+-- the event of an answer, whose question has empty options behind its own
 abbrev pub answer_event : Assignment → Bool → Event
 answer_event q reply = events.Answer (widened q) reply
 

@@ -1,5 +1,5 @@
 -- What a session in memory is.
-use Rattle.std.specs.Prelude.{◌≡◌, pos, List, [], Option, Some, None}
+use Rattle.std.specs.Prelude.{pos, List, [], Option, Some, None}
 use Rattle.assign.specs.Assignment.{Assignment}
 use Rattle.assign.specs.declared.events.Event.{Event}
 use Rattle.assign.specs.declared.events.Plan.{Plan}
@@ -11,15 +11,15 @@ use Rattle.session_core.specs.declared.session.Session.{Session}
 use Rattle.session_store.specs.declared.loose.Loose.{Loose}
 
 -- the language, the plan and the question of a session that is there
-abbrev lang_in : Option Session → Language
+abbrev pub lang_in : Option Session → Language
 lang_in None = record { names = []; least_value = pos 0; value_count = 0; given = []; scopes = []; relations = [] }
 lang_in (Some session) = (knowledge_of session).lang
 
-abbrev plan_in : Option Session → Plan
+abbrev pub plan_in : Option Session → Plan
 plan_in None = Scopes
 plan_in (Some session) = (knowledge_of session).plan
 
-abbrev question_in : Option Session → Option Assignment
+abbrev pub question_in : Option Session → Option Assignment
 question_in None = None
 question_in (Some session) = open_in session
 
@@ -33,7 +33,7 @@ abbrev pub question_of : Loose → Option Assignment
 question_of loose = question_in loose.session
 
 -- the session is there, and stands where the events lead
-abbrev StandsIn : Option Session → List Event → Type 0
+abbrev pub StandsIn : Option Session → List Event → Type 0
 StandsIn None events = ⊥
 StandsIn (Some session) events = Stands session (standing_on (knowledge_of session).lang events)
 

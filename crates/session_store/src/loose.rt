@@ -62,12 +62,16 @@ impl Keep for Loose {
         match self.session.take() {
             Some(Session::Asking(asking)) => {
                 let question = asking.question().widened();
-                if self.events.push(Event::Answer { question, yes }).is_err() {
-                    self.session = Some(Session::Asking(asking));
-                    return Err(Memory);
+                match self.events.push(Event::Answer { question, yes }) {
+                    Ok(()) => {
+                        self.session = Some(asking.answer(yes));
+                        Ok(())
+                    }
+                    Err(_) => {
+                        self.session = Some(Session::Asking(asking));
+                        Err(Memory)
+                    }
                 }
-                self.session = Some(asking.answer(yes));
-                Ok(())
             }
             Some(Session::Idle(_)) | Some(Session::Over(_)) | None => unreachable!(),
         }
