@@ -76,6 +76,7 @@ impl Kept {
         self.count
     }
 
+    /// Whether the candidate is kept.
     pub fn is_kept(&self, c: Candidate) -> bool
         ensures { IsTrue result ↔ Contains self.now.members c }
     {

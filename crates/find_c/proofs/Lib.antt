@@ -1,5 +1,4 @@
 pub mod Marks
-pub mod Spelling
 pub mod Accepting
 pub mod Lawful
 pub mod Splitting

@@ -1,14 +1,14 @@
 -- What a reply makes of choices.
-use Rattle.std.proofs.Common.{◌≡◌, ℕ, ◌^◌, ◌≤◌, Bool, true, false, cond, List, [], ◌∷◌, ◌++◌, length, Some, None, refl, sym, ◌∙◌, ap, subst, append_assoc}
+use Rattle.std.proofs.Common.{◌≡◌, ℕ, ◌^◌, ◌<◌, ◌≤◌, arith, Bool, true, false, cond, List, [], ◌∷◌, ◌++◌, length, Some, None, refl, sym, ◌∙◌, ap, subst, append_assoc}
 use Rattle.std.specs.Prelude.{◌≢◌, All, find}
 use Rattle.std.specs.Bool.{beq}
 use Rattle.std.specs.List.{list_any}
 use Rattle.std.proofs.lemmas.Bool.{and_parts, both_ways}
-use Rattle.std.proofs.lemmas.List.Elements.{All-head, All-tail, All-filter}
+use Rattle.std.proofs.lemmas.List.Elements.{All-head, All-tail, All-filter, All-from_get_or}
 use Rattle.language.specs.Language.{Language, IsLanguage, scope_at}
 use Rattle.language.proofs.Members.{find_some}
 use Rattle.rel_table.specs.Relation.{tuples}
-use Rattle.rel_table.proofs.TupleOrder.{IsTuple, tuples_fit}
+use Rattle.rel_table.proofs.PlaceLemmas.{length-tuples, get_or-tuples, length-tuple_at, tuple_at-below}
 use Rattle.find_c.specs.Choosing.{Choice, Scene, Got, allows, tells_apart, splitting_tuple, after_reply, remaining, choose}
 use Rattle.find_c.specs.Choosing.{Wants as WantsReply}
 use Rattle.find_c.specs.Scenes.{scene_of}
@@ -46,6 +46,16 @@ stands_after l run is s next reply same now choices replies before more =
     ∙ before (reply ∷ more) ∙ ap (choose (scene_of l run.scope) choices) (sym (append_assoc replies (reply ∷ []) more))
 
 -- ---- the tuple of a run
+
+-- a tuple of this length, of values below d
+pub record IsTuple (d a : ℕ) (u : List ℕ) : Type 0 where
+  pub long : length u ≡ a
+  pub values : All (λ x. x < d) u
+
+tuples_fit : (d a : ℕ) → All (IsTuple d a) (tuples d a)
+tuples_fit d a = All-from_get_or (IsTuple d a) (tuples d a) [] (λ i low.
+    let within : i < d ^ a = omega (arith, low, length-tuples d a) in
+    subst (IsTuple d a) (sym (get_or-tuples d a i within)) (record { long = length-tuple_at d a i; values = tuple_at-below d a i within }))
 
 find_all : {X : Type 0} (Q : X → Type 0) (p : X → Bool) (xs : List X) (y : X) → All Q xs → find p xs ≡ Some y → Q y
 find_all Q p [] y all h = cc

@@ -5,7 +5,7 @@ use Rattle.std.specs.Bool.{beq}
 use Rattle.std.specs.List.{filter, list_any}
 use Rattle.std.proofs.lemmas.List.{drop_all}
 use Rattle.rel_table.specs.Relation.{place, tuples}
-use Rattle.rel_table.proofs.TupleOrder.{length-tuples, place_of_tuple}
+use Rattle.rel_table.proofs.PlaceLemmas.{length-tuples, get_or-tuples, place-tuple_at}
 use Rattle.find_c.specs.Choosing.{Choice, Scene, allows, tells_apart, after_reply}
 use Rattle.find_c.specs.Choices.{is_accepting, allows_at}
 
@@ -24,6 +24,9 @@ pub agreeing_is : (scene : Scene) (cs next : List Choice) (u : List ℕ) (p mask
     next ≡ filter (λ c. beq (is_accepting mask c) reply) cs → next ≡ after_reply scene u reply cs
 agreeing_is scene cs next u p mask reply e each is = is ∙ (λ i. filter (λ c. beq ((each c ∙ allows_there scene u p e c) i) reply) cs)
 
+there : (d a p : ℕ) → p < d ^ a → place d (get_or (tuples d a) p []) ≡ p
+there d a p low = ap (place d) (get_or-tuples d a p low) ∙ place-tuple_at d a p low
+
 find_from : {X : Type 0} (t : X → Bool) (xs : List X) (k : ℕ) (x : X) → k < length xs → find t (drop k xs) ≡ cond (t (get_or xs k x)) (Some (get_or xs k x)) (find t (drop (k + 1) xs))
 find_from t xs k x low = ap (find t) (drop-cons xs k x low) ∙ ap (λ j. cond (t (get_or xs k x)) (Some (get_or xs k x)) (find t (drop j xs))) (let e : suc k ≡ k + 1 = omega arith in e)
 
@@ -33,7 +36,7 @@ module _ (scene : Scene) (cs : List Choice) (p mask : ℕ) (low : p < scene.valu
   within = omega (arith, low, length-tuples scene.value_count scene.arity)
 
   here : is ≡ tells_apart scene cs (get_or (tuples scene.value_count scene.arity) p [])
-  here = tells ∙ differ_there scene cs (get_or (tuples scene.value_count scene.arity) p []) p mask (place_of_tuple scene.value_count scene.arity p low) each
+  here = tells ∙ differ_there scene cs (get_or (tuples scene.value_count scene.arity) p []) p mask (there scene.value_count scene.arity p low) each
 
   -- the tuple at this place tells them apart
   pub found_here : is ≡ true → find (tells_apart scene cs) (drop p (tuples scene.value_count scene.arity)) ≡ Some (get_or (tuples scene.value_count scene.arity) p [])

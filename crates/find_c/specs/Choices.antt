@@ -4,6 +4,7 @@ use Rattle.std.specs.Int.{bit_at}
 use Rattle.bias_store.specs.Masks.{ones_of}
 use Rattle.find_c.specs.Choosing.{Choice, Scene}
 
+-- the relations of a mask as choices, and none where it is one
 abbrev pub choices_of : ℕ → Bool → List Choice
 choices_of relations free = map (λ r. Some r) (ones_of relations) ++ (if free then None ∷ [] else [])
 

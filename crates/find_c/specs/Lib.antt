@@ -3,3 +3,4 @@ pub mod Scenes
 pub mod Choices
 pub mod Run
 pub mod Standing
+pub mod Rows

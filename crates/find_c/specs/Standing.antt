@@ -33,7 +33,7 @@ pub record IsFound (l : Language) (s : ℕ) (choices : List Choice) (c : Candida
   pub settled : splitting_tuple (scene_of l s) choices ≡ None
   pub remains : remaining choices ≡ Some c.rel
 
--- the choices don't differ, and none of the relations is among them and remains
+-- the choices don't differ, and the choice of none is among them and remains
 pub record IsFree (l : Language) (s : ℕ) (choices : List Choice) : Type 0 where
   pub settled : splitting_tuple (scene_of l s) choices ≡ None
   pub among : Contains choices None
@@ -58,6 +58,7 @@ pub record IsTold (s : ℕ) (told : Chosen) (next : RelNext) : Type 0 where
   pub free : next ≡ Free → told ≡ Got None
   pub none : told ≡ Got None → (next ≡ Free) ⊎ (next ≡ Nothing)
 
+-- so of each answer of a call, where it stands after replies
 abbrev pub StandingTells : Type 0
 StandingTells = (l : Language) (s : ℕ) (choices left : List Choice) (replies : List Bool) (next : RelNext) →
     StandsAt l s choices replies next → IsSettled l s left next → IsTold s (choose (scene_of l s) choices replies) next

@@ -1,6 +1,6 @@
 //! The choices that are left on a scope.
 
-ghost use Rattle.std.specs.Prelude.{◌≡◌, ◌&&◌, ◌↔◌, ◌^◌, ◌<◌, not, List, [], IsTrue};
+ghost use Rattle.std.specs.Prelude.{◌≡◌, ◌&&◌, ◌↔◌, not, [], IsTrue};
 ghost use Rattle.std.specs.List.{list_any, filter};
 ghost use Rattle.std.specs.Bool.{beq};
 ghost use Rattle.find_c.specs.Choosing.{remaining};

@@ -11,7 +11,10 @@
 
 mod choices;
 pub mod laws;
+pub mod rows;
 mod run;
+#[cfg(test)]
+mod tests;
 mod tuples;
 
 pub use run::{RelNext, RelRun};

@@ -1,6 +1,6 @@
 //! Telling the choices on a scope apart, a reply at a time.
 
-ghost use Rattle.std.specs.Prelude.{◌≡◌, ◌≢◌, ◌↔◌, ◌^◌, ◌<◌, Bool, List, [], ◌∷◌, ◌++◌, length, All, IsTrue};
+ghost use Rattle.std.specs.Prelude.{◌≡◌, ◌≢◌, ◌↔◌, ◌^◌, ◌<◌, Bool, List, [], ◌∷◌, ◌++◌, length, All};
 ghost use Rattle.language.specs.Language.{scope_at, IsQuestion};
 ghost use Rattle.bias_store.specs.KeptSet.{IsMadeFor};
 ghost use Rattle.find_c.specs.Choosing.{Choice, splitting_tuple, after_reply};
@@ -159,9 +159,9 @@ fn splitting_tuple(lang: &Language, s: ScopeId, choices: &Choices) -> Option<Tup
     requires { s < length lang.now.scopes }
     ensures { result ≡ splitting_tuple (scene_of lang.now s) choices.now }
 {
-    let value_count = u32::from(lang.d());
-    let size = lang.scope(s).len() as u32;
-    for place in 0..value_count.pow(size) {
+    let value_count = lang.d();
+    let size = lang.scope(s).len() as u8;
+    for place in 0..u32::from(value_count).pow(u32::from(size)) {
         if choices.differ(accepting(lang, s, place)) {
             return Some(Tuple::at(value_count, size, place));
         }

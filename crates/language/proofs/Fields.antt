@@ -12,9 +12,10 @@ use Rattle.language.specs.Language.{Language, Given, variable_count, scope_at, r
 use Rattle.language.specs.Texts.{joined, names_containing, candidate_text}
 use Rattle.language.specs.declared.candidates.Candidate.{Candidate}
 use Rattle.language.specs.declared.parts.RelPart.{RelPart}
-use Rattle.language.specs.declared.lang.Scope.{Scope}
+use Rattle.language.specs.declared.scopes.Scope.{Scope}
 use Rattle.language.specs.declared.lang.Language.TheInside.{Inside}
-use Rattle.language.specs.Inside.{seen, given_by, variables_in, tables_in, truths, IsOfKind, IsSound}
+use Rattle.language.specs.Scopes.{variables_in}
+use Rattle.language.specs.Inside.{seen, given_by, tables_in, truths, IsOfKind, IsSound}
 
 pub scope_here : (a : Inside) → IsSound a → (l : Language) → seen a ≡ l → (s : ℕ) (scope : Scope) → s < length l.scopes →
     scope ≡ slice_index_or a.scopes.items s scope → IsScope (variable_count l) (variables_in scope)

@@ -5,3 +5,12 @@ pub mod Fields
 pub mod Placing
 pub mod Wording
 pub mod Refusals
+pub mod Falling
+pub mod Rising
+pub mod Built
+pub mod Intersections
+pub mod PairScopes
+pub mod Closing
+pub mod Pairwise
+pub mod Repeats
+pub mod Inserting

@@ -1,5 +1,5 @@
 -- Texts that grow by one piece after another.
-use Rattle.std.proofs.Common.{◌≡◌, ℕ, zero, suc, ◌+◌, ◌<◌, ◌≤◌, ◌++◌, ◌==◌, ◌&&◌, Bool, true, false, cond, List, [], ◌∷◌, length, map, drop, Option, ℤ, negsuc, pos, ◌≤ℤ◌, w64, refl, sym, ◌∙◌, ap, arith, rules, append_assoc, append-nil, length-append}
+use Rattle.std.proofs.Common.{◌≡◌, ℕ, zero, suc, ◌+◌, ◌<◌, ◌≤◌, ◌++◌, ◌==◌, ◌&&◌, Bool, true, false, cond, List, [], ◌∷◌, length, map, drop, Option, ℤ, negsuc, pos, ◌≤ℤ◌, ◌+ℤ◌, w64, refl, sym, ◌∙◌, ap, arith, rules, append_assoc, append-nil, length-append}
 use Rattle.std.specs.Prelude.{slice_index_or, All, string_bytes}
 use Rattle.std.specs.List.{filter}
 use mir.Val.{SFits}
@@ -51,6 +51,10 @@ value_written least names q v whole before after name value low name_is value_is
 -- a value within the limit fits 64 bits
 pub small_fits : (z : ℤ) → negsuc 999999 ≤ℤ z → z ≤ℤ pos 1000000 → SFits w64 z
 small_fits z a b = search (rules, ints)
+
+-- so does a lowest value
+pub least_fits : (z : ℤ) (d : ℕ) → 1 ≤ d → negsuc 999999 ≤ℤ z → (z +ℤ pos d) ≤ℤ pos 1000001 → SFits w64 z
+least_fits z d some low high = small_fits z low (let most : z ≤ℤ pos 1000000 = omega (arith, ints, high, some) in most)
 
 -- the names that are written after some text, each after a `&` but the first
 abbrev pub joined_from : List ℕ → List (List ℕ) → List ℕ

@@ -6,6 +6,7 @@ use Rattle.rel_table.specs.Relation.{Relation, tuples, meet}
 use Rattle.rel_table.specs.declared.table.CloseFault.TheVariants.{TooMany}
 use Rattle.language.specs.Language.{Language, Given, IsLanguage, AreNames}
 use Rattle.language.specs.declared.parts.LangFault.{LangFault}
+use Rattle.language.specs.declared.parts.RelPart.{RelPart}
 use Rattle.language.specs.declared.parts.LangFault.TheVariants.{NoVariables, TooManyVariables, BadDomain, NoRelations, NotClosed, Closing}
 
 -- the variables' names and the values
@@ -73,11 +74,20 @@ abbrev pub without_repeats : List Relation → List Relation
 without_repeats [] = []
 without_repeats (r ∷ relations) = if is_listed relations r then without_repeats relations else r ∷ without_repeats relations
 
+-- a relation of arity 2 over d values
+pub record IsBinary (d : ℕ) (part : RelPart) : Type 0 where
+  pub arity : part.table.arity ≡ 2
+  pub values : part.table.value_count ≡ d
+
+-- the relations of the vocabulary
+abbrev pub relations_given : List Given → List Relation
+relations_given given = map (λ (g : Given). g.relation) given
+
 -- why there is no language of these relations of arity 2
 abbrev pub build_refusal : List Given → Option LangFault
 build_refusal [] = Some NoRelations
 build_refusal (g ∷ given) =
-    let relations : List Relation = map (λ (x : Given). x.relation) (g ∷ given) in
+    let relations = relations_given (g ∷ given) in
     if is_closed relations then (if nat_le (length (without_repeats relations)) 64 then None else Some (Closing (TooMany 2)))
     else Some (NotClosed 2)
 

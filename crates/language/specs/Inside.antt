@@ -1,19 +1,17 @@
 -- The language that the fields stand for.
-use Rattle.std.specs.Prelude.{ℕ, ◌-◌, ◌≤◌, ◌≡◌, List, [], length, map, take, All, slice_index_or, String, string_bytes, Vec}
+use Rattle.std.specs.Prelude.{ℕ, ◌-◌, ◌^◌, ◌≤◌, ◌≡◌, List, [], length, map, All, slice_index_or, String, string_bytes, Vec}
 use Rattle.std.specs.declared.alloc.Global.{Global}
 use Rattle.rel_table.specs.Relation.{Relation}
 use Rattle.rel_table.specs.Table.{TruthTable}
 use Rattle.language.specs.Language.{Language, Given, IsLanguage}
 use Rattle.language.specs.declared.parts.RelPart.{RelPart}
-use Rattle.language.specs.declared.lang.Scope.{Scope}
+use Rattle.language.specs.declared.scopes.Scope.{Scope}
+use Rattle.language.specs.Scopes.{variables_in}
 use Rattle.language.specs.declared.lang.Language.TheInside.{Inside}
 
 -- a relation of the vocabulary, with its name
 abbrev pub given_by : RelPart → Given
 given_by part = record { name = string_bytes part.name; arity = part.table.arity; relation = part.table.truth }
-
-abbrev pub variables_in : Scope → List ℕ
-variables_in scope = take scope.size scope.variables
 
 -- the relations that tables hold
 abbrev pub truths : Vec TruthTable Global → List Relation
@@ -33,6 +31,7 @@ seen a = record {
 pub record IsOfKind (arity d : ℕ) (table : TruthTable) : Type 0 where
   pub long : table.arity ≡ arity
   pub values : table.value_count ≡ d
+  pub size : length table.truth ≡ d ^ arity
 
 -- the tables are of the arities 1, 2, 3 and 4, in this order
 pub record AreByArity (d : ℕ) (tables : List (List TruthTable)) : Type 0 where

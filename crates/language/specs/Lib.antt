@@ -3,6 +3,8 @@ pub mod Answers
 pub mod Search
 pub mod Laws
 pub mod Texts
+pub mod Scopes
 pub mod Inside
 pub mod Building
 pub mod Framing
+pub mod InOrder

@@ -5,31 +5,27 @@ ghost use Rattle.language.specs.Language.{variable_count, scope_at, relations_on
 use crate::candidates::{Candidate, ScopeId};
 use crate::parts::RelPart;
 use crate::places::place_of_values;
+use crate::scopes::Scope;
 use crate::texts::{text_of_candidate, text_of_question};
 use assign::Partial;
 use rel_table::{Memory, Table};
 use std::alloc::Global;
 use std::marker::Model;
 
-/// The variables of a scope.
-#[derive(Clone, Copy, Debug)]
-struct Scope {
-    size: u8,
-    /// In vocabulary order; those from `size` on have no meaning.
-    variables: [u8; 4],
-}
-
 /// What can be asked about and learned.
 #[derive(Drop)]
 pub struct Language {
-    names: Vec<String>,
-    least_value: i64,
-    value_count: u8,
+    /// The variables' names, in vocabulary order.
+    pub(crate) names: Vec<String>,
+    /// Value 0 is shown as this, value 1 as the next number, and so on.
+    pub(crate) least_value: i64,
+    pub(crate) value_count: u8,
     /// The vocabulary's relations, in its order.
-    given: Vec<RelPart>,
-    scopes: Vec<Scope>,
+    pub(crate) given: Vec<RelPart>,
+    /// A scope's number is its place here.
+    pub(crate) scopes: Vec<Scope>,
     /// The relations of arity 1, those of arity 2, and so on, in falling order of their truth values.
-    relations: Vec<Vec<Table>>,
+    pub(crate) relations: Vec<Vec<Table>>,
 }
 
 impl Model for Language {
@@ -149,3 +145,13 @@ impl Language {
         }
     }
 }
+
+// A missing proof that threads may share a language, or hand one over, would show here.
+fn may_cross(l: &Language) {
+    is_sync(l);
+    is_send(l);
+}
+
+fn is_sync<T: Sync>(_value: &T) {}
+
+fn is_send<T: Send>(_value: &T) {}

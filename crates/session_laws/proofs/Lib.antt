@@ -12,6 +12,7 @@ pub mod States
 pub mod Places
 pub mod Gone
 pub mod Lengths
+pub mod LastReply
 pub mod Noes
 pub mod Counts
 pub mod Counted

@@ -1,16 +1,14 @@
 -- The noes of a halving: quiet replies add none, and none is left where a set is got.
-use Rattle.std.proofs.Common.{◌≡◌, ℕ, zero, suc, Bool, true, false, cond, not, List, [], ◌∷◌, ◌++◌, length, refl, sym, ◌∙◌, ap, arith, inl, inr, ◌⊎◌}
+use Rattle.std.proofs.Common.{◌≡◌, ℕ, zero, suc, Bool, true, false, cond, not, List, [], ◌∷◌, ◌++◌, refl, sym, ◌∙◌, ap, arith, inl, inr, ◌⊎◌}
 use Rattle.std.proofs.lemmas.Bool.{both_ways}
 use Rattle.language.specs.declared.candidates.Candidate.{Candidate}
 use Rattle.assign.specs.Assignment.{Assignment}
 use Rattle.language.specs.Language.{Language}
 use Rattle.find_scope.specs.Halving.{Halved, Wants, Got, halve}
 use Rattle.session_laws.specs.Session.{is_quiet, with_quiet_replies}
-use Rattle.find_scope.proofs.Runs.{IsUsed, more_replies, used}
+use Rattle.session_laws.proofs.LastReply.{nothing_at_first, nothing_after_last}
 use Rattle.std.proofs.lemmas.List.Sums.{sum_by-append}
 use Rattle.find_scope.specs.Bound.{noes}
-use Rattle.session_laws.proofs.Halving.{parted}
-use Rattle.find_scope.proofs.Runs.{IsUsed, more_replies, used}
 
 -- the last reply was wanted
 abbrev pub IsLive : List ℕ → List Bool → Type 0
@@ -44,23 +42,5 @@ quiet_counts l live e set (suc most) replies is = go (is_quiet l live e (halve s
         (done.0, done.1 ∙ noes_yes replies)
 
 pub nothing_left : (set : List ℕ) (replies : List Bool) (s : List ℕ) (left : List Bool) → IsLive set replies → halve set replies ≡ Got s left → noes left ≡ 0
-nothing_left set replies s left live got = go left live (used (length set) [] set false replies s left got)
-  where
-    end : (u left : List Bool) → [] ≡ u ++ left → noes left ≡ 0
-    end [] left e = ap noes (sym e)
-    end (x ∷ u) left e = cc
-
-    clash : (w : List ℕ) (before : List Bool) (left : List Bool) → halve set before ≡ Wants w → halve set before ≡ Got s left → ⊥
-    clash w before left h k = wants_got w left (sym h ∙ k)
-      where
-        wants_got : (w : List ℕ) (left : List Bool) → Wants w ≡ Got s left → ⊥
-        wants_got w left e = cc
-
-    go : (left : List Bool) → IsLive set replies → IsUsed (halve set) replies s left → noes left ≡ 0
-    go left (inl none) (u, parts, h) = end u left (sym none ∙ parts)
-    go [] (inr (before, r, is, w, wants)) (u, parts, h) = refl
-    go (x ∷ left) (inr (before, r, is, w, wants)) (u, parts, h) = pick (parted before r u x left (sym is ∙ parts))
-      where
-        pick : ((rest : List Bool) × (before ≡ u ++ x ∷ rest)) ⊎ ((before ≡ u) × (r ≡ x)) → noes (x ∷ left) ≡ 0
-        pick (inl (rest, e)) = absurd (clash w before (x ∷ rest) wants (ap (halve set) e ∙ more_replies (length set) [] set false u (x ∷ rest) s [] h))
-        pick (inr (e, k)) = absurd (clash w before [] wants (ap (halve set) e ∙ h))
+nothing_left set replies s left (inl none) got = ap noes (nothing_at_first set s left (ap (halve set) (sym none) ∙ got))
+nothing_left set replies s left (inr (before, r, is, w, wants)) got = ap noes (nothing_after_last set before r w s left wants (ap (halve set) (sym is) ∙ got))

@@ -4,3 +4,7 @@ pub mod NameForms
 pub mod TablesRead
 pub mod Widths
 pub mod RelationSteps
+pub mod TokenCounts
+pub mod ReadSizes
+pub mod TextsRead
+pub mod RelationNames

@@ -6,3 +6,5 @@ pub mod Names
 pub mod Outline
 pub mod Relations
 pub mod Widest
+pub mod Vocabulary
+pub mod FaultTexts

@@ -51,7 +51,7 @@ abbrev pub accepting : ℤ → ℕ → ℕ → List (List ℤ) → Relation
 accepting least_value value_count arity tuples =
     map (λ at. list_any (λ tuple. nat_eq (place_of_shown least_value value_count tuple) at) tuples) (range_with_len 0 (value_count ^ arity))
 
--- why there is no table of the tuples, where relations have two places
+-- why there is no table of the tuples, where relations have arity 2
 abbrev pub table_refusal : ℤ → ℕ → RelationData → Option TableFault
 table_refusal least_value value_count relation =
     if int_eq relation.arity (pos 2) then refusal_of relation.arity least_value value_count relation.tuples else Some BadArity
@@ -89,12 +89,19 @@ relations_from i least_value value_count (item value values) =
     then_on (relations_from (i + 1) least_value value_count values) (λ relations.
     Ok (relation ∷ relations)))
 
--- why the relations are refused by their names together
-abbrev pub relation_names_refusal : List (List ℕ) → Option VocFault
-relation_names_refusal names = option_map (λ pair. RelRepeated pair.0 pair.1) (first_repeat names)
+-- its name has the form of one
+abbrev pub IsNamed : RelPart → Type 0
+IsNamed part = is_name (string_bytes part.name) ≡ true
 
--- a relation of two places over so many values, whose name has the form of one
-pub record IsOfTwo (value_count : ℕ) (part : RelPart) : Type 0 where
-  pub arity : part.table.arity ≡ 2
-  pub values : part.table.value_count ≡ value_count
-  pub named : is_name (string_bytes part.name) ≡ true
+-- the names of relations
+abbrev pub given_names : List Given → List (List ℕ)
+given_names given = map (λ (g : Given). g.name) given
+
+-- why the relations are refused by their names together
+abbrev pub relation_names_refusal : List Given → Option VocFault
+relation_names_refusal given = option_map (λ pair. RelRepeated pair.0 pair.1) (first_repeat (given_names given))
+
+-- relations over so many values from the least one on, no two of one name
+abbrev pub given_of : ℤ → ℕ → Items → Result (List Given) VocFault
+given_of least_value value_count relations =
+    then_on (relations_from 0 least_value value_count relations) (λ given. unless (relation_names_refusal given) (Ok given))

@@ -4,9 +4,15 @@
 mod domain;
 mod fault;
 mod keys;
+mod making;
 mod names;
 mod outline;
+mod parsing;
+mod reading;
 mod relations;
+mod text;
 mod values;
 
 pub use fault::{Spot, VocFault};
+pub use reading::read_vocabulary;
+pub use text::voc_text;

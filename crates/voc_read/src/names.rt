@@ -1,5 +1,5 @@
 // The names of variables and of relations.
-ghost use Rattle.std.specs.Prelude.{◌≡◌, ◌<◌, ◌^◌, not, length, position, IfOk, OnOk};
+ghost use Rattle.std.specs.Prelude.{◌≡◌, ◌<◌, ◌^◌, not, length, map, string_bytes, position, IfOk, OnOk};
 ghost use Rattle.std.specs.List.{list_all};
 ghost use Rattle.language.specs.Language.{is_name, is_name_byte, AreNames};
 ghost use Rattle.voc_read.specs.Names.{first_repeat, names_refusal};
@@ -66,4 +66,15 @@ pub fn check_names(alloc: Global, names: &[&str]) -> Result<(), VocFault>
         return Err(VocFault::NameRepeated(i, j));
     }
     Ok(())
+}
+
+/// Copies of the names.
+pub fn copied(alloc: Global, names: &[&str]) -> Result<Vec<String>, AllocError>
+    ensures { IfOk result (λ v. map string_bytes v.items ≡ texts_of names.now) }
+{
+    let mut copies = Vec::new(alloc);
+    for name in names {
+        copies.push(String::from_str(alloc, name)?)?;
+    }
+    Ok(copies)
 }

@@ -4,8 +4,10 @@ ghost use Rattle.std.specs.Option.{option_map};
 ghost use Rattle.serde_json.specs.View.{view, items_view};
 ghost use Rattle.rel_table.specs.Made.{lists};
 ghost use Rattle.language.specs.Inside.{given_by};
+ghost use Rattle.language.specs.Building.{IsBinary};
+ghost use Rattle.language.specs.Language.{AreNames};
 ghost use Rattle.voc_read.specs.Answers.{Reads, Refuses};
-ghost use Rattle.voc_read.specs.Relations.{relation_data, stated_data, name_refusal, table_refusal, made_of, relation_of, relations_from, relation_names_refusal, IsTableOf, IsOfTwo};
+ghost use Rattle.voc_read.specs.Relations.{relation_data, stated_data, name_refusal, table_refusal, made_of, relation_of, relations_from, given_names, relation_names_refusal, given_of, IsTableOf, IsNamed};
 ghost use Rattle.voc_read.specs.Texts.{texts_of};
 ghost use Rattle.voc_read.specs.Widest.{widest, items_widest};
 
@@ -112,7 +114,8 @@ fn made_of(
 ) -> Result<RelPart, VocFault>
     requires { length stated.now.tuples.items < 2 ^ 32 }
     ensures is { Reads given_by (made_of i domain.least_value domain.value_count (stated_data stated.now)) result }
-    ensures kind { IfOk result (IsOfTwo domain.value_count) }
+    ensures kind { IfOk result (IsBinary domain.value_count) }
+    ensures named { IfOk result IsNamed }
 {
     check_name(i, stated.name)?;
     let table = table_of(alloc, i, domain, stated)?;
@@ -124,18 +127,20 @@ fn made_of(
 fn relation_of(alloc: Global, i: u32, domain: Domain, value: &Value) -> Result<RelPart, VocFault>
     requires { widest (view value.now) < 2 ^ 32 }
     ensures is { Reads given_by (relation_of i domain.least_value domain.value_count (view value.now)) result }
-    ensures kind { IfOk result (IsOfTwo domain.value_count) }
+    ensures kind { IfOk result (IsBinary domain.value_count) }
+    ensures named { IfOk result IsNamed }
 {
     let stated = stated_by(alloc, value, Spot::Relation(i))?;
     made_of(alloc, i, domain, &stated)
 }
 
 /// The relations of a vocabulary, in its order.
-pub fn relations_of(alloc: Global, domain: Domain, list: &[Value]) -> Result<Vec<RelPart>, VocFault>
+fn relations_of(alloc: Global, domain: Domain, list: &[Value]) -> Result<Vec<RelPart>, VocFault>
     requires few { length list.now < 2 ^ 32 }
     requires parts { items_widest (items_view list.now) < 2 ^ 32 }
     ensures is { Reads (λ v. map given_by v.items) (relations_from 0 domain.least_value domain.value_count (items_view list.now)) result }
-    ensures kinds { IfOk result (λ v. All (IsOfTwo domain.value_count) v.items) }
+    ensures kinds { IfOk result (λ v. All (IsBinary domain.value_count) v.items) }
+    ensures named { IfOk result (λ v. All IsNamed v.items) }
     ensures each { IfOk result (λ v. length v.items ≡ length list.now) }
 {
     let mut relations = Vec::new(alloc);
@@ -148,7 +153,7 @@ pub fn relations_of(alloc: Global, domain: Domain, list: &[Value]) -> Result<Vec
 
 /// The names of the relations.
 fn names_of<'a>(alloc: Global, relations: &'a [RelPart]) -> Result<Vec<&'a str>, AllocError>
-    ensures { IfOk result (λ v. texts_of v.items ≡ map (λ part. string_bytes part.name) relations.entry.now) }
+    ensures { IfOk result (λ v. texts_of v.items ≡ given_names (map given_by relations.entry.now)) }
 {
     let mut names = Vec::new(alloc);
     for relation in relations {
@@ -158,13 +163,26 @@ fn names_of<'a>(alloc: Global, relations: &'a [RelPart]) -> Result<Vec<&'a str>,
 }
 
 /// Refuses relations of which two have one name.
-pub fn check_relation_names(alloc: Global, relations: &[RelPart]) -> Result<(), VocFault>
+fn check_names_apart(alloc: Global, relations: &[RelPart]) -> Result<(), VocFault>
     requires { length relations.now < 2 ^ 32 }
-    ensures { Refuses (relation_names_refusal (map (λ part. string_bytes part.name) relations.now)) result }
+    ensures { Refuses (relation_names_refusal (map given_by relations.now)) result }
 {
     let names = names_of(alloc, relations)?;
     if let Some((i, j)) = first_repeat(alloc, &names)? {
         return Err(VocFault::RelRepeated(i, j));
     }
     Ok(())
+}
+
+/// The relations of a vocabulary, no two of one name.
+pub fn given_of(alloc: Global, domain: Domain, list: &[Value]) -> Result<Vec<RelPart>, VocFault>
+    requires few { length list.now < 2 ^ 32 }
+    requires parts { items_widest (items_view list.now) < 2 ^ 32 }
+    ensures is { Reads (λ v. map given_by v.items) (given_of domain.least_value domain.value_count (items_view list.now)) result }
+    ensures kinds { IfOk result (λ v. All (IsBinary domain.value_count) v.items) }
+    ensures names { IfOk result (λ v. AreNames (given_names (map given_by v.items))) }
+{
+    let given = relations_of(alloc, domain, list)?;
+    check_names_apart(alloc, &given)?;
+    Ok(given)
 }

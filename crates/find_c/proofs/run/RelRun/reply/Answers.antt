@@ -31,7 +31,7 @@ left l inside next d values p mask reply same at is each agree =
 pub place_of-place-requires-clause-values : goal.place_of-place-requires-clause-values
 place_of-place-requires-clause-values c =
     let tuple = run_tuple c.args.lang.now c.d.ensures.lawful _ (sound _ c.self.inside _ c.self.view_is c.requires) in
-    subst (λ xs. All (λ x. x < c.d.result) xs) (sym c.values.ensures) (subst (λ n. All (λ x. x < n) c.self.inside.tuple) (sym c.d.ensures.is) tuple.small)
+    subst (λ xs. All (λ x. x < c.d.result) xs) (sym c.values.ensures) (subst (λ n. All (λ x. x < n) c.self.inside.tuple) (sym c.d.ensures.is) tuple.values)
 
 pub place_of-place-requires-clause-fits : goal.place_of-place-requires-clause-fits
 place_of-place-requires-clause-fits c =

@@ -47,4 +47,4 @@ returns-clause-fits c =
     let tuple = run_tuple c.args.lang.now c.n.ensures.lawful c.args.self.now c.requires in
     subst (IsAssignment (variable_count c.args.lang.now) c.args.lang.now.value_count)
     (sym (c.loop-i.invariant ∙ ap (assigned (variable_count c.args.lang.now) (scope_at c.args.lang.now c.args.self.now.scope)) (take_all c.loop-i.i c.args.self.now.tuple (omega (arith, scope, tuple.long)))))
-    (assigned_fits c.args.lang.now.value_count (variable_count c.args.lang.now) (scope_at c.args.lang.now c.args.self.now.scope) c.args.self.now.tuple tuple.small)
+    (assigned_fits c.args.lang.now.value_count (variable_count c.args.lang.now) (scope_at c.args.lang.now c.args.self.now.scope) c.args.self.now.tuple tuple.values)

@@ -1,0 +1,10 @@
+mod Gate
+mod Append
+mod ReadPairs
+mod Payloads
+mod EventLoop
+mod WholeFile
+mod Sizes
+mod Emptied
+mod OnlyRead
+mod PieceLemmas

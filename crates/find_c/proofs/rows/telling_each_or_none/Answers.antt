@@ -1,0 +1,7 @@
+use Rattle.std.proofs.Common.{refl}
+use Rattle.find_c.specs.Choosing.{choose}
+use Rattle.find_c.proofs.rows.telling_each_or_none.Goals as goal
+
+pub returns : goal.returns
+unfolding choose
+returns c = record { first = refl; second = refl; unequal = refl; never = refl; equal = refl; free = refl }

@@ -1,0 +1,7 @@
+use Rattle.std.proofs.Common.{refl}
+use Rattle.find_c.specs.Choosing.{choose}
+use Rattle.find_c.proofs.rows.telling_one.Goals as goal
+
+pub returns : goal.returns
+unfolding choose
+returns c = record { one = refl; none = refl }

@@ -1,0 +1,28 @@
+-- Relations whose names nothing refuses have names, and no two of them are equal.
+use Rattle.std.proofs.Common.{◌≡◌, ℕ, zero, suc, ◌+◌, ◌<◌, ◌≤◌, ◌&&◌, true, List, [], ◌∷◌, length, get_or, map, All, Option, Some, None, refl, arith, string_bytes}
+use Rattle.std.specs.List.{list_all}
+use Rattle.std.specs.Option.{option_map}
+use Rattle.language.specs.Language.{is_name, AreNames}
+use Rattle.language.specs.Inside.{given_by}
+use Rattle.language.specs.declared.parts.RelPart.{RelPart}
+use Rattle.voc_read.specs.declared.fault.VocFault.{VocFault}
+use Rattle.voc_read.specs.declared.fault.VocFault.TheVariants.{RelRepeated}
+use Rattle.voc_read.specs.Names.{first_repeat}
+use Rattle.voc_read.specs.Relations.{given_names, relation_names_refusal, IsNamed}
+use Rattle.voc_read.proofs.NameForms.{apart}
+
+all_named : (parts : List RelPart) → All IsNamed parts → list_all is_name (given_names (map given_by parts)) ≡ true
+all_named [] h = refl
+all_named (part ∷ parts) h =
+    let here : is_name (string_bytes part.name) ≡ true = h 0 part (omega arith) in
+    rw here (all_named parts (λ k d within. h (suc k) d (omega arith)))
+
+no_repeat : (pair : Option (ℕ × ℕ)) → option_map (λ p. RelRepeated p.0 p.1) pair ≡ None → pair ≡ None
+no_repeat None h = refl
+no_repeat (Some p) h = absurd (cc)
+
+pub AreNames-given_names : (parts : List RelPart) → All IsNamed parts → relation_names_refusal (map given_by parts) ≡ None → AreNames (given_names (map given_by parts))
+AreNames-given_names parts named accepted = record {
+  formed = all_named parts named;
+  apart = apart (given_names (map given_by parts)) (no_repeat (first_repeat (given_names (map given_by parts))) accepted);
+}

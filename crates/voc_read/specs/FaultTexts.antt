@@ -1,0 +1,64 @@
+-- The text of each fault.
+use Rattle.std.specs.Prelude.{ℕ, List, ◌++◌, codes}
+use Rattle.std.specs.Fmt.{decimal}
+use Rattle.rel_table.specs.declared.table.CloseFault.{CloseFault}
+use Rattle.rel_table.specs.declared.table.CloseFault.TheVariants as closing
+use Rattle.rel_table.specs.declared.table.TableFault.{TableFault}
+use Rattle.rel_table.specs.declared.table.TableFault.TheVariants as table
+use Rattle.language.specs.declared.parts.LangFault.{LangFault}
+use Rattle.language.specs.declared.parts.LangFault.TheVariants as lang
+use Rattle.voc_read.specs.declared.fault.Spot.{Spot}
+use Rattle.voc_read.specs.declared.fault.Spot.TheVariants.{Whole, Variables, Domain, Relations, Relation, Scopes}
+use Rattle.voc_read.specs.declared.fault.VocFault.{VocFault}
+use Rattle.voc_read.specs.declared.fault.VocFault.TheVariants.{TooLong, NotJson, Missing, WrongKind, UnknownKey, BadName, NameRepeated, BadRelName, RelRepeated, Table, Lang, Memory}
+
+-- where a fault is
+abbrev pub spot_text : Spot → List ℕ
+spot_text Whole = codes "whole"
+spot_text Variables = codes "variables"
+spot_text Domain = codes "domain"
+spot_text Relations = codes "relations"
+spot_text (Relation i) = codes "relation " ++ decimal i
+spot_text Scopes = codes "scopes"
+
+-- two numbers
+abbrev pub pair_text : ℕ → ℕ → List ℕ
+pair_text i j = decimal i ++ (codes " " ++ decimal j)
+
+-- why there is no table
+abbrev pub table_text : TableFault → List ℕ
+table_text table.BadArity = codes "bad arity"
+table_text (table.TupleLength t) = codes "tuple length " ++ decimal t
+table_text (table.ValueOut t) = codes "value out " ++ decimal t
+table_text table.TooLarge = codes "too large"
+table_text table.Memory = codes "memory"
+
+-- why relations have no closing
+abbrev pub closing_text : CloseFault → List ℕ
+closing_text (closing.TooMany arity) = codes "too many relations " ++ decimal arity
+closing_text closing.Memory = codes "memory"
+
+-- why there is no language
+abbrev pub lang_text : LangFault → List ℕ
+lang_text lang.NoVariables = codes "no variables"
+lang_text lang.TooManyVariables = codes "too many variables"
+lang_text lang.BadDomain = codes "bad domain"
+lang_text lang.NoRelations = codes "no relations"
+lang_text (lang.NotClosed arity) = codes "not closed " ++ decimal arity
+lang_text (lang.Closing fault) = closing_text fault
+lang_text lang.Memory = codes "memory"
+
+-- why a vocabulary is refused
+abbrev pub fault_text : VocFault → List ℕ
+fault_text TooLong = codes "too long"
+fault_text NotJson = codes "not json"
+fault_text (Missing spot) = codes "missing " ++ spot_text spot
+fault_text (WrongKind spot) = codes "wrong kind " ++ spot_text spot
+fault_text (UnknownKey spot) = codes "unknown key " ++ spot_text spot
+fault_text (BadName i) = codes "bad name " ++ decimal i
+fault_text (NameRepeated i j) = codes "name repeated " ++ pair_text i j
+fault_text (BadRelName i) = codes "bad relation name " ++ decimal i
+fault_text (RelRepeated i j) = codes "relation repeated " ++ pair_text i j
+fault_text (Table i fault) = codes "relation " ++ (decimal i ++ (codes " table " ++ table_text fault))
+fault_text (Lang fault) = lang_text fault
+fault_text Memory = codes "memory"

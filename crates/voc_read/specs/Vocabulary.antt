@@ -1,0 +1,76 @@
+-- What a vocabulary's bytes mean: the parts of a language, or the first fault.
+use Rattle.std.specs.Prelude.{◌≡◌, ℕ, ℤ, List, length, nat_lt, Option, Some, None, Result, Ok, Err, if◌then◌else◌}
+use Rattle.std.specs.Option.{ok_or, option_map}
+use Rattle.std.specs.Str.{is_utf8}
+use Rattle.serde_json.specs.Data.{Data}
+use Rattle.serde_json.specs.Read.{read}
+use Rattle.language.specs.Language.{Language, Given}
+use Rattle.language.specs.Building.{Frame, values_between, frame_refusal, build_refusal, IsBuilt}
+use Rattle.voc_read.specs.declared.fault.VocFault.{VocFault}
+use Rattle.voc_read.specs.declared.fault.VocFault.TheVariants.{TooLong, NotJson, Lang}
+use Rattle.voc_read.specs.Answers.{then_on, unless}
+use Rattle.voc_read.specs.Names.{names_refusal}
+use Rattle.voc_read.specs.Outline.{OutlineData, held_by, outline_of}
+use Rattle.voc_read.specs.Relations.{given_of}
+
+-- the parts that a language is built of
+pub record Parts : Type 0 where
+  pub names : List (List ℕ)
+  pub least_value : ℤ
+  pub greatest_value : ℤ
+  pub given : List Given
+
+-- why the names and the domain are no frame of a language
+abbrev pub outline_refusal : OutlineData → Option VocFault
+outline_refusal outline = option_map Lang (frame_refusal outline.names outline.least_value outline.greatest_value)
+
+-- the frame of the names and the domain
+pub record IsFrameOf (outline : OutlineData) (frame : Frame) : Type 0 where
+  pub names : frame.names ≡ outline.names
+  pub least_value : frame.least_value ≡ outline.least_value
+  pub value_count : frame.value_count ≡ values_between outline.least_value outline.greatest_value
+
+-- the parts, where the names, the domain and the relations are right, in this order
+abbrev pub parts_from : OutlineData → Result Parts VocFault
+parts_from outline =
+    unless (names_refusal outline.names) (
+    unless (outline_refusal outline) (
+    then_on (given_of outline.least_value (values_between outline.least_value outline.greatest_value) outline.relations) (λ given.
+    Ok (record { names = outline.names; least_value = outline.least_value; greatest_value = outline.greatest_value; given = given }))))
+
+-- the parts that a JSON value holds
+abbrev pub parts_in : Data → Result Parts VocFault
+parts_in whole = then_on (held_by whole) (λ held. then_on (outline_of held) parts_from)
+
+-- the JSON value that a text is
+abbrev pub json_of : List ℕ → Option Data
+json_of bytes = if is_utf8 bytes then read bytes else None
+
+-- the parts that the bytes hold
+unfoldable pub parts_of : List ℕ → Result Parts VocFault
+parts_of bytes = if nat_lt 4194304 (length bytes) then Err TooLong else then_on (ok_or (json_of bytes) NotJson) parts_in
+
+-- the names and the values
+abbrev pub frame_of : Parts → Frame
+frame_of parts = record { names = parts.names; least_value = parts.least_value; value_count = values_between parts.least_value parts.greatest_value }
+
+-- why the parts that were read make no language, or why none were read
+abbrev pub refusal_after : Result Parts VocFault → Option VocFault
+refusal_after (Err fault) = Some fault
+refusal_after (Ok parts) = option_map Lang (build_refusal parts.given)
+
+-- why a vocabulary is refused
+unfoldable pub refusal_of_vocabulary : List ℕ → Option VocFault
+refusal_of_vocabulary bytes = refusal_after (parts_of bytes)
+
+-- the language that is built of the parts, where some were read
+pub record IsLanguageOf (stated : Result Parts VocFault) (l : Language) : Type 0 where
+  pub parts : Parts
+  pub read : stated ≡ Ok parts
+  pub framed : frame_refusal parts.names parts.least_value parts.greatest_value ≡ None
+  pub buildable : build_refusal parts.given ≡ None
+  pub built : IsBuilt (frame_of parts) parts.given l
+
+-- the language that a vocabulary's bytes describe
+abbrev pub IsVocabulary : List ℕ → Language → Type 0
+IsVocabulary bytes l = IsLanguageOf (parts_of bytes) l
