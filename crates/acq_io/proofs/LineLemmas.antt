@@ -1,15 +1,15 @@
 -- A line is found at its newline, ends with the source, or is too long.
-use Rattle.std.proofs.Common.{◌≡◌, ◌≢◌, ℕ, ◌+◌, ◌<◌, ◌≤◌, true, false, ◌||◌, ◌==◌, nat_lt, nat_le, List, [], ◌∷◌, ◌++◌, length, take, drop, ap, sym, ◌∙◌, refl, arith, append_assoc, append-nil, Ok, Err}
+use Rattle.std.proofs.Common.{◌≡◌, ◌≢◌, ℕ, ◌+◌, ◌<◌, ◌≤◌, true, false, ◌||◌, ◌==◌, nat_lt, nat_le, List, [], ◌∷◌, ◌++◌, length, take, drop, ap, sym, ◌∙◌, refl, arith, append-nil, Ok, Err}
 use Rattle.std.specs.List.{position_or_len}
 use Rattle.std.proofs.lemmas.Grind.{common_steps}
 use Rattle.std.proofs.lemmas.Bool.Decides.{nat_tests}
-use Rattle.std.proofs.lemmas.List.{length-append, take_at, drop_at, length_push}
+use Rattle.std.proofs.lemmas.List.{length-append, drop_at, take-append-le}
 use Rattle.std.proofs.lemmas.List.Folds.{list_any_none, list_any-append}
 use Rattle.std.proofs.Math.Seq.{take-append-add, drop-append-add}
-use Rattle.acq_io.specs.Lines.{LacksNewline, newline, before_newline, after_newline, has_newline, line_of, lined}
+use Rattle.acq_io.specs.Lines.{LacksNewline, newline, before_newline, after_newline, has_newline, line_of}
 use Rattle.acq_io.specs.Whole.{all_of, first_line_of, gathered}
-use Rattle.acq_io.specs.declared.lines.LineGot.TheVariants.{Line, End, TooLong}
-use Rattle.acq_io.specs.declared.whole.AllFault.TheVariants.{TooLong as Longer}
+use Rattle.acq_io.specs.Laws.{LinesAreRead, CutLinesEnd, LongLinesAreRefused, FirstLinesAreRead, OnlyLinesAreRead, LongFirstLinesAreRefused}
+use Rattle.acq_io.specs.declared.whole.AllFault.TheVariants.{TooLong as TooManyBytes}
 
 is_no_newline : (b : ℕ) → b ≢ newline → (b == newline) ≡ false
 is_no_newline b h = grind (arith, nat_tests, h)
@@ -55,58 +55,56 @@ is_above : (a b : ℕ) → b < a → nat_le a b ≡ false
 is_above a b h = grind (arith, nat_tests)
 
 -- one byte more than the most, and none is a newline
-before_newline_long : (line rest : List ℕ) (b most : ℕ) → LacksNewline (line ++ b ∷ []) → length line ≡ most → most < length (before_newline ((line ++ b ∷ []) ++ rest))
-before_newline_long line rest b most h full =
-    let long : length (before_newline ((line ++ b ∷ []) ++ rest)) ≡ length ((line ++ b ∷ []) ++ before_newline rest) = ap length (before_newline_past (line ++ b ∷ []) rest h) in
-    omega (arith, long, length-append (line ++ b ∷ []) (before_newline rest), length_push line b)
+before_newline_long : (piece rest : List ℕ) (most : ℕ) → LacksNewline piece → length piece ≡ most + 1 → most < length (before_newline (piece ++ rest))
+before_newline_long piece rest most h full =
+    let long : length (before_newline (piece ++ rest)) ≡ length (piece ++ before_newline rest) = ap length (before_newline_past piece rest h) in
+    omega (arith, long, length-append piece (before_newline rest))
 
-pub line_of-line : (line rest : List ℕ) → LacksNewline line → length line ≤ 256 → line_of ((line ++ newline ∷ []) ++ rest) ≡ lined Line line rest
+pub line_of-line : LinesAreRead
 unfolding line_of
 line_of-line line rest h short =
-    let whole : (line ++ newline ∷ []) ++ rest ≡ line ++ newline ∷ rest = append_assoc line (newline ∷ []) rest in
     let before : before_newline (line ++ newline ∷ rest) ≡ line = before_newline_past line (newline ∷ rest) h ∙ append-nil line in
     let after : after_newline (line ++ newline ∷ rest) ≡ rest = after_newline_past line (newline ∷ rest) h in
     let found : has_newline (line ++ newline ∷ rest) ≡ true = has_newline_past line (newline ∷ rest) h in
-    rw (whole, before, after, found, not_more 256 (length line) short) refl
+    rw (before, after, found, not_more 256 (length line) short) refl
 
-pub line_of-end : (line : List ℕ) → LacksNewline line → length line ≤ 256 → line_of line ≡ lined End line []
+pub line_of-cut : CutLinesEnd
 unfolding line_of
-line_of-end line h short = rw (before_newline_none line h, has_newline_none line h, not_more 256 (length line) short) refl
+line_of-cut line h short = rw (before_newline_none line h, has_newline_none line h, not_more 256 (length line) short) refl
 
-pub line_of-too_long : (line rest : List ℕ) (b : ℕ) → LacksNewline (line ++ b ∷ []) → length line ≡ 256 → line_of ((line ++ b ∷ []) ++ rest) ≡ lined TooLong line rest
+pub line_of-long : LongLinesAreRefused
 unfolding line_of
-line_of-too_long line rest b h full =
-    let front : take 256 ((line ++ b ∷ []) ++ rest) ≡ line = ap (take 256) (append_assoc line (b ∷ []) rest) ∙ take_at line (b ∷ rest) 256 full in
-    let back : drop 257 ((line ++ b ∷ []) ++ rest) ≡ rest = drop_at (line ++ b ∷ []) rest 257 (length_push line b ∙ ap (λ n. n + 1) full) in
-    rw (is_more 256 _ (before_newline_long line rest b 256 h full), front, back) refl
+line_of-long piece rest h full =
+    let front : take 256 (piece ++ rest) ≡ take 256 piece = take-append-le 256 piece rest (omega arith) in
+    let back : drop 257 (piece ++ rest) ≡ rest = drop_at piece rest 257 full in
+    rw (is_more 256 _ (before_newline_long piece rest 256 h full), front, back) refl
 
-pub first_line_of-line : (most : ℕ) (line rest : List ℕ) → LacksNewline line → length line ≤ most → first_line_of most ((line ++ newline ∷ []) ++ rest) ≡ gathered (Ok line) rest
+pub first_line_of-line : FirstLinesAreRead
 unfolding first_line_of
 first_line_of-line most line rest h few =
-    let whole : (line ++ newline ∷ []) ++ rest ≡ line ++ newline ∷ rest = append_assoc line (newline ∷ []) rest in
     let before : before_newline (line ++ newline ∷ rest) ≡ line = before_newline_past line (newline ∷ rest) h ∙ append-nil line in
     let after : after_newline (line ++ newline ∷ rest) ≡ rest = after_newline_past line (newline ∷ rest) h in
-    rw (whole, before, after, is_at_most (length line) most few) refl
+    rw (before, after, is_at_most (length line) most few) refl
 
-pub first_line_of-end : (most : ℕ) (line : List ℕ) → LacksNewline line → length line ≤ most → first_line_of most line ≡ gathered (Ok line) []
+pub first_line_of-only : OnlyLinesAreRead
 unfolding first_line_of
-first_line_of-end most line h few =
+first_line_of-only most line h few =
     let after : after_newline line ≡ [] = ap after_newline (sym (append-nil line)) ∙ after_newline_past line [] h in
     rw (before_newline_none line h, after, is_at_most (length line) most few) refl
 
-pub first_line_of-too_long : (most : ℕ) (line rest : List ℕ) (b : ℕ) → LacksNewline (line ++ b ∷ []) → length line ≡ most → first_line_of most ((line ++ b ∷ []) ++ rest) ≡ gathered (Err Longer) rest
+pub first_line_of-long : LongFirstLinesAreRefused
 unfolding first_line_of
-first_line_of-too_long most line rest b h full =
-    let back : drop (most + 1) ((line ++ b ∷ []) ++ rest) ≡ rest = drop_at (line ++ b ∷ []) rest (most + 1) (length_push line b ∙ ap (λ n. n + 1) full) in
-    rw (is_above _ most (before_newline_long line rest b most h full), back) refl
+first_line_of-long most piece rest h full =
+    let back : drop (most + 1) (piece ++ rest) ≡ rest = drop_at piece rest (most + 1) full in
+    rw (is_above _ most (before_newline_long piece rest most h full), back) refl
 
-pub all_of-end : (most : ℕ) (all : List ℕ) → length all ≤ most → all_of most all ≡ gathered (Ok all) []
+pub all_of-few : (most : ℕ) (all : List ℕ) → length all ≤ most → all_of most all ≡ gathered (Ok all) []
 unfolding all_of
-all_of-end most all few = rw (is_at_most (length all) most few) refl
+all_of-few most all few = rw (is_at_most (length all) most few) refl
 
-pub all_of-too_long : (most : ℕ) (all rest : List ℕ) → length all ≡ most + 1 → all_of most (all ++ rest) ≡ gathered (Err Longer) rest
+pub all_of-many : (most : ℕ) (piece rest : List ℕ) → length piece ≡ most + 1 → all_of most (piece ++ rest) ≡ gathered (Err TooManyBytes) rest
 unfolding all_of
-all_of-too_long most all rest full =
-    let many : most < length (all ++ rest) = omega (arith, length-append all rest) in
-    let back : drop (most + 1) (all ++ rest) ≡ rest = drop_at all rest (most + 1) full in
+all_of-many most piece rest full =
+    let many : most < length (piece ++ rest) = omega (arith, length-append piece rest) in
+    let back : drop (most + 1) (piece ++ rest) ≡ rest = drop_at piece rest (most + 1) full in
     rw (is_above _ most many, back) refl

@@ -18,6 +18,8 @@ mod order;
 mod parts;
 mod places;
 mod scopes;
+#[cfg(test)]
+mod tests;
 mod texts;
 
 pub use candidates::{Candidate, ScopeId};

@@ -1,11 +1,11 @@
 use Rattle.std.proofs.Common.{ap, arith, Ok, Option, Result, ℕ}
 use Rattle.acq_io.specs.declared.streams.Failed.{Failed}
-use Rattle.acq_io.proofs.ReadLemmas.{gives_line, gives_last_line, gives_long_line}
+use Rattle.acq_io.proofs.ReadLemmas.{gives_line, gives_only_line, gives_long_line}
 use Rattle.acq_io.proofs.whole.read_first_line.Goals as goal
 
 pub returns-in-Ok-None-clause-line : goal.returns-in-Ok-None-clause-line
 returns-in-Ok-None-clause-line g c = let kept = c.loop-line.invariant in
-    gives_last_line _ _ _ _ _ kept.taken (rw c.in-Ok-None.field-0-is at c.in-Ok-None.ensures.bytes) (c.in-Ok-None.ensures.end (ap (λ (o : Option ℕ). let r : Result (Option ℕ) Failed = Ok o in r) c.in-Ok-None.field-0-is)) kept.one_line kept.few
+    gives_only_line _ _ _ _ _ kept.taken (rw c.in-Ok-None.field-0-is at c.in-Ok-None.ensures.bytes) (c.in-Ok-None.ensures.end (ap (λ (o : Option ℕ). let r : Result (Option ℕ) Failed = Ok o in r) c.in-Ok-None.field-0-is)) kept.one_line kept.few
 
 pub returns-in-Ok-Some-eq10-clause-line : goal.returns-in-Ok-Some-eq10-clause-line
 returns-in-Ok-Some-eq10-clause-line g c = let kept = c.loop-line.invariant in let got = c.in-Ok-Some-eq10 in
