@@ -34,12 +34,12 @@ choice_before test p live s at =
     let number : Candidate → Choice = λ (c : Candidate). Some c.rel in
     let left : List Candidate → Bool = λ cs. list_any test (map number (filter on_s cs)) in
     let few : left (filter p live) ≡ list_any (λ c. p c && (on_s c && test (number c))) live =
-        any-map test number (filter on_s (filter p live)) ∙ any-filter (λ c. test (number c)) on_s (filter p live) ∙ any-filter (λ c. on_s c && test (number c)) p live in
+    any-map test number (filter on_s (filter p live)) ∙ any-filter (λ c. test (number c)) on_s (filter p live) ∙ any-filter (λ c. on_s c && test (number c)) p live in
     let all : left live ≡ list_any (λ c. on_s c && test (number c)) live =
-        any-map test number (filter on_s live) ∙ any-filter (λ c. test (number c)) on_s live in
+    any-map test number (filter on_s live) ∙ any-filter (λ c. test (number c)) on_s live in
     let none : Bool = list_any test (None ∷ []) in
     let before : (list_any (λ c. p c && (on_s c && test (number c))) live || none) ≡ true =
-        sym (ap (λ b. b || none) few) ∙ sym (list_any-append test (map number (filter on_s (filter p live))) (None ∷ [])) ∙ at in
+    sym (ap (λ b. b || none) few) ∙ sym (list_any-append test (map number (filter on_s (filter p live))) (None ∷ [])) ∙ at in
     list_any-append test (map number (filter on_s live)) (None ∷ []) ∙ ap (λ b. b || none) all
     ∙ go (list_any (λ c. p c && (on_s c && test (number c))) live) refl none before
   where
@@ -56,11 +56,11 @@ undecided_before l p live network more s free at =
     let us : List (List ℕ) = tuples scene.value_count scene.arity in
     let parts = and_parts (not (has_scope more s)) (is_some (splitting_tuple scene (free_choices (filter p live) s))) at in
     let was : list_any (tells_apart scene (free_choices live s)) us ≡ true =
-        any_weaker (tells_apart scene (free_choices (filter p live) s)) (tells_apart scene (free_choices live s)) us
-        (λ u told.
-            let both = and_parts (list_any (allows scene u) (free_choices (filter p live) s)) (list_any (λ c. not (allows scene u c)) (free_choices (filter p live) s)) told in
-            and_from _ _ (choice_before (allows scene u) p live s both.0) (choice_before (λ c. not (allows scene u c)) p live s both.1))
-        (sym (found_any (tells_apart scene (free_choices (filter p live) s)) us) ∙ parts.1) in
+    any_weaker (tells_apart scene (free_choices (filter p live) s)) (tells_apart scene (free_choices live s)) us
+    (λ u told.
+    let both = and_parts (list_any (allows scene u) (free_choices (filter p live) s)) (list_any (λ c. not (allows scene u c)) (free_choices (filter p live) s)) told in
+    and_from _ _ (choice_before (allows scene u) p live s both.0) (choice_before (λ c. not (allows scene u c)) p live s both.1))
+    (sym (found_any (tells_apart scene (free_choices (filter p live) s)) us) ∙ parts.1) in
     and_from _ _ (ap not (free (unlearned (has_scope more s) parts.0))) (found_any (tells_apart scene (free_choices live s)) us ∙ was)
   where
     unlearned : (b : Bool) → not b ≡ true → b ≡ false

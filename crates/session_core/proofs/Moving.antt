@@ -101,8 +101,8 @@ answered k run true t reply plan sound first live asks =
     let as_kept : run.choices ≡ free_choices (kept l t k.network.list) run.scope = began.new.choices ∙ ap (λ cs. free_choices cs run.scope) live in
     ap (λ p. state_after l p (t ++ a ∷ [])) plan
     ∙ new_step one_answer_more l t k.network.list run.scope run.tuple reply (in_scopes l k.plan t _ plan asks.0)
-      (ap (λ cs. next_of cs) (sym live) ∙ began.next)
-      (ap (λ cs. splitting_tuple (scene_of l run.scope) cs) (sym as_kept) ∙ sound.tuple)
+    (ap (λ cs. next_of cs) (sym live) ∙ began.next)
+    (ap (λ cs. splitting_tuple (scene_of l run.scope) cs) (sym as_kept) ∙ sound.tuple)
     ∙ ap (λ cs. At (settle_choices l (t ++ a ∷ []) run.scope (after_reply (scene_of l run.scope) run.tuple reply cs) k.network.list None)) (sym as_kept)
   where
     next_of : List Candidate → Option ℕ
@@ -127,7 +127,7 @@ pub goes_on : (k : Knowledge) (run next : Run) (t : List Answer) (reply : Bool) 
 goes_on k run next t reply on =
     let choices : List Choice = after_reply (scene_of k.lang run.scope) run.tuple reply run.choices in
     let differ : splitting_tuple (scene_of k.lang run.scope) choices ≡ Some next.tuple =
-        (λ i. splitting_tuple (scene_of k.lang (sym on.scope i)) (sym on.choices i)) ∙ on.sound.tuple in
+    (λ i. splitting_tuple (scene_of k.lang (sym on.scope i)) (sym on.choices i)) ∙ on.sound.tuple in
     still_choosing k.lang (t ++ said (question_of k.lang run) reply ∷ []) run.scope choices k.network.list next.tuple differ
     ∙ (λ i. Choosing (sym on.scope i) (sym on.choices i) k.network.list None)
 

@@ -99,12 +99,7 @@ impl Idle {
     {
         let _ = q;
         let Idle { knowledge, next } = self;
-        match first_run(
-            &knowledge.lang,
-            &knowledge.kept,
-            &knowledge.network,
-            next,
-        ) {
+        match first_run(&knowledge.lang, &knowledge.kept, &knowledge.network, next) {
             Some(run) => Asking {
                 knowledge,
                 run,

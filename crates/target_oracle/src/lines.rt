@@ -57,12 +57,7 @@ fn read_answer<S: Source>(source: &mut S) -> Told
 }
 
 /// The line of a question.
-fn question_line(
-    alloc: Global,
-    lang: &Language,
-    k: u32,
-    q: &Partial,
-) -> Result<String, AllocError>
+fn question_line(alloc: Global, lang: &Language, k: u32, q: &Partial) -> Result<String, AllocError>
     requires { IsQuestion lang.now q.now }
     ensures { IfOk result (λ t. string_bytes t ≡ question_text lang.now k q.now ++ 10 ∷ []) }
 {

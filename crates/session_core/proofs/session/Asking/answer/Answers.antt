@@ -69,7 +69,7 @@ returns-in-Wants-clause-stands c = λ t q put stands.
     let a : Answer = said q c.args.yes in
     let left : List Candidate → Assignment → List Candidate = λ cs x. filter (λ (d : Candidate). not (c.args.yes && violates k.lang d x)) cs in
     let struck : c.kept_after-kept.result.members ≡ kept k.lang (t ++ a ∷ []) k.network.list =
-        c.kept_after-kept.ensures.kept ∙ ap (left k.kept.members) (c.wants.ensures.is ∙ same) ∙ ap (λ cs. left cs q) stands.knows.kept ∙ sym (kept_by k.lang t k.network.list q c.args.yes) in
+    c.kept_after-kept.ensures.kept ∙ ap (left k.kept.members) (c.wants.ensures.is ∙ same) ∙ ap (λ cs. left cs q) stands.knows.kept ∙ sym (kept_by k.lang t k.network.list q c.args.yes) in
     let step = answered k c.args.self.run c.args.self.is_new t c.args.yes k.planned c.args.self.running c.args.self.begun stands.knows.kept stands.after in
     let again = ap (λ x. state_after k.lang k.plan (t ++ said x c.args.yes ∷ [])) (sym same) in
     let state : State = Choosing c.in-Wants.run'.scope c.in-Wants.run'.choices k.network.list None in
@@ -90,7 +90,7 @@ returns-in-Found-clause-stands c = λ t q put stands.
     let a : Answer = said q c.args.yes in
     let left : List Candidate → Assignment → List Candidate = λ cs x. filter (λ (d : Candidate). not (c.args.yes && violates k.lang d x)) cs in
     let struck : c.kept_after-kept.result.members ≡ kept k.lang (t ++ a ∷ []) k.network.list =
-        c.kept_after-kept.ensures.kept ∙ ap (left k.kept.members) (c.wants.ensures.is ∙ same) ∙ ap (λ cs. left cs q) stands.knows.kept ∙ sym (kept_by k.lang t k.network.list q c.args.yes) in
+    c.kept_after-kept.ensures.kept ∙ ap (left k.kept.members) (c.wants.ensures.is ∙ same) ∙ ap (λ cs. left cs q) stands.knows.kept ∙ sym (kept_by k.lang t k.network.list q c.args.yes) in
     let step = answered k c.args.self.run c.args.self.is_new t c.args.yes k.planned c.args.self.running c.args.self.begun stands.knows.kept stands.after in
     let again = ap (λ x. state_after k.lang k.plan (t ++ said x c.args.yes ∷ [])) (sym same) in
     let state : State = Idle (k.network.list ++ c.in-Found.c ∷ []) None in
@@ -99,8 +99,8 @@ returns-in-Found-clause-stands c = λ t q put stands.
       after = at ∙ ap (λ (cs : List Candidate). At (Idle cs None)) (sym c.learn.ensures.list);
       knows = record {
         kept = c.drop_scope.ensures.kept ∙ ap (λ (s : ℕ). filter (λ (d : Candidate). not (s == d.scope)) c.kept_after-kept.result.members) (c.scope-scope.ensures ∙ sym c.in-Found.ensures.settled.scope)
-          ∙ ap (filter (λ (d : Candidate). not (c.in-Found.c.scope == d.scope))) struck ∙ sym (kept_learned k.lang (t ++ a ∷ []) k.network.list c.in-Found.c)
-          ∙ ap (kept k.lang (t ++ a ∷ [])) (sym c.learn.ensures.list);
+            ∙ ap (filter (λ (d : Candidate). not (c.in-Found.c.scope == d.scope))) struck ∙ sym (kept_learned k.lang (t ++ a ∷ []) k.network.list c.in-Found.c)
+            ∙ ap (kept k.lang (t ++ a ∷ [])) (sym c.learn.ensures.list);
         count = counted k.lang k.plan t a state k.answers c.one_more-answers.result c.one_more-answers.ensures.lawful at stands.knows.count c.one_more-answers.ensures.is;
       };
     }
@@ -113,7 +113,7 @@ returns-in-Free-clause-stands c = λ t q put stands.
     let a : Answer = said q c.args.yes in
     let left : List Candidate → Assignment → List Candidate = λ cs x. filter (λ (d : Candidate). not (c.args.yes && violates k.lang d x)) cs in
     let struck : c.kept_after-kept.result.members ≡ kept k.lang (t ++ a ∷ []) k.network.list =
-        c.kept_after-kept.ensures.kept ∙ ap (left k.kept.members) (c.wants.ensures.is ∙ same) ∙ ap (λ cs. left cs q) stands.knows.kept ∙ sym (kept_by k.lang t k.network.list q c.args.yes) in
+    c.kept_after-kept.ensures.kept ∙ ap (left k.kept.members) (c.wants.ensures.is ∙ same) ∙ ap (λ cs. left cs q) stands.knows.kept ∙ sym (kept_by k.lang t k.network.list q c.args.yes) in
     let step = answered k c.args.self.run c.args.self.is_new t c.args.yes k.planned c.args.self.running c.args.self.begun stands.knows.kept stands.after in
     let again = ap (λ x. state_after k.lang k.plan (t ++ said x c.args.yes ∷ [])) (sym same) in
     let state : State = Idle k.network.list None in

@@ -21,12 +21,12 @@ returns-in-Ok-clause-sound c =
     let l : Language = c.in-Some-Asking.asking.knowledge.lang in
     let events : List Event = c.args.self.now.events.items in
     let here : c.args.self.now.session ≡ Some (sessions.Asking c.in-Some-Asking.asking) =
-        sym c.take.ensures.value ∙ c.in-Some-Asking.is ∙ ap (λ (s : Session). let o : Option Session = Some s in o) c.in-Some-Asking.field-0-is in
+    sym c.take.ensures.value ∙ c.in-Some-Asking.is ∙ ap (λ (s : Session). let o : Option Session = Some s in o) c.in-Some-Asking.field-0-is in
     let Sound : Option Session → Type 0 = λ o. StandsIn o events in
     let before : Stands (sessions.Asking c.in-Some-Asking.asking) (standing_on l events) = subst Sound here c.requires.sound in
     let after = c.answer.ensures.stands (standing_on l events) c.question.result c.question.ensures.is before in
     let pushed : c.push.new.self.items ≡ events ++ answer_event c.question.result c.args.yes ∷ [] =
-        c.in-Ok.ensures.items ∙ ap (λ (e : Assignment). events ++ (let a : Event = recorded e c.args.yes in a) ∷ []) c.widened-question.ensures in
+    c.in-Ok.ensures.items ∙ ap (λ (e : Assignment). events ++ (let a : Event = recorded e c.args.yes in a) ∷ []) c.widened-question.ensures in
     let added : standing_on l c.push.new.self.items ≡ standing_on l events ++ (let a : Answer = record { question = c.question.result; yes = c.args.yes } in a) ∷ [] =
-        ap (standing_on l) pushed ∙ cut_to-standing-push (variable_count l) events c.question.result c.args.yes c.question.ensures.fits.size in
+    ap (standing_on l) pushed ∙ cut_to-standing-push (variable_count l) events c.question.result c.args.yes c.question.ensures.fits.size in
     subst (Stands c.answer.result) (sym added ∙ ap (λ m. standing_on m c.push.new.self.items) (sym c.answer.ensures.lang)) after
