@@ -1,22 +1,20 @@
 -- A turn whose question was answered.
-use Rattle.std.proofs.Common.{◌≡◌, ℕ, ◌+◌, List, [], ◌∷◌, ◌++◌, Bool, length, ap, sym, ◌∙◌, refl, Option, Some, None, subst, length-append}
+use Rattle.std.proofs.Common.{◌≡◌, ℕ, ◌+◌, List, [], ◌∷◌, Bool, length, ap, sym, ◌∙◌, Option, Some, None, subst, length-append}
 use Rattle.std.specs.Prelude.{IfSome}
 use Rattle.assign.specs.Assignment.{Assignment}
 use Rattle.assign.specs.Events.{Answer}
 use Rattle.language.specs.Language.{Language, IsLanguage}
 use Rattle.target_oracle.specs.Turns.{Turns, Said}
 use Rattle.acq_cli.specs.Run.{answer}
-use Rattle.acq_cli.specs.Driven.{Place, StepsTo, CutOff, Drives}
+use Rattle.acq_cli.specs.Driven.{StepsTo, CutOff, Drives}
 use Rattle.acq_cli.specs.Due.{IsDue, AnswerKept}
 use Rattle.acq_cli.specs.Places.{place_of}
 use Rattle.acq_cli.specs.declared.driving.Drove.{Drove}
-use Rattle.acq_cli.specs.declared.driving.Drove.TheVariants as drove
 use Rattle.acq_cli.proofs.Running.{IsReached}
 use Rattle.acq_cli.proofs.Standings.{run_laws}
 use Rattle.acq_cli.proofs.Turning.{ToldSo, front_of_turn, step_said, cut_turn}
 
 module _ (turns : Turns) (l : Language) (t after : List Answer) (q : Assignment) (said : Bool) (put : Option Assignment) (left written left' written' : Option (List ℕ)) where
-
   -- the loop goes on
   pub goes_on : (end : Option Drove) → IsDue l t q → put ≡ Some q → AnswerKept said put t after end →
       ToldSo turns l (length t + 1) q (place_of t left written) (place_of t left' written') (Said said) → end ≡ None →
@@ -35,7 +33,7 @@ module _ (turns : Turns) (l : Language) (t after : List Answer) (q : Assignment)
   ends None lawful reached due kept told = tt
   ends (Some end) lawful reached due kept told =
       let cut : CutOff turns l (place_of t left written) (place_of after left' written') =
-          cut_turn run_laws turns l lawful q (place_of t left written) (place_of after left' written') reached due.puts kept.1
-          (front_of_turn turns l (length t + 1) q (place_of t left written) (place_of after left' written') (Said said) told) in
+      cut_turn run_laws turns l lawful q (place_of t left written) (place_of after left' written') reached due.puts kept.1
+      (front_of_turn turns l (length t + 1) q (place_of t left written) (place_of after left' written') (Said said) told) in
       let P : Drove → Type 0 = Drives turns l (place_of t left written) (place_of after left' written') in
       subst P (sym kept.0) cut

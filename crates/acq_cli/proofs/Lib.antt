@@ -2,3 +2,6 @@ pub mod Running
 pub mod Turning
 pub mod Standings
 pub mod Answered
+pub mod Nexts
+pub mod Sayings
+pub mod Tries

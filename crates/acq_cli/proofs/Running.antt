@@ -1,18 +1,15 @@
 -- Runs, one turn at a time.
-use Rattle.std.proofs.Common.{◌≡◌, ℕ, zero, suc, ◌+◌, ◌≤◌, ◌<◌, List, [], ◌∷◌, ◌++◌, Bool, length, ap, sym, ◌∙◌, refl, Option, Some, None, subst, arith, append_assoc, length-append}
+use Rattle.std.proofs.Common.{◌≡◌, ℕ, zero, suc, ◌+◌, ◌<◌, List, [], ◌∷◌, ◌++◌, Bool, length, ap, sym, ◌∙◌, refl, Option, Some, None, arith, append_assoc, length-append}
 use Rattle.std.proofs.lemmas.List.{append-nil}
 use Rattle.std.specs.Option.{option_map}
 use Rattle.assign.specs.Assignment.{Assignment}
 use Rattle.assign.specs.Events.{Answer}
 use Rattle.assign.specs.declared.events.Plan.TheVariants.{Scopes}
-use Rattle.language.specs.declared.candidates.Candidate.{Candidate}
 use Rattle.language.specs.Language.{Language, IsLanguage}
-use Rattle.language.specs.Answers.{kept}
-use Rattle.session_laws.specs.Session.{State, Idle, Halving, Choosing, Walking, Over, Reading, At, Stray, open_question, scope_question, state_after}
+use Rattle.session_laws.specs.Session.{State, Idle, Halving, Choosing, Walking, Over, At, state_after}
 use Rattle.session_laws.specs.Bound.{most_answers}
-use Rattle.session_laws.specs.Walk.{WalkEnd}
 use Rattle.session_laws.specs.Laws.{OneAnswerMore, QuestionsHavePlaces, AnswersAreAtMost}
-use Rattle.target_oracle.specs.Turns.{Turns, Turned, Reply, Said, Ended, Unread, Heard}
+use Rattle.target_oracle.specs.Turns.{Turns, Turned, Reply, Said, Ended, Unread}
 use Rattle.acq_cli.specs.Run.{Closing, Suspended, Unreadable, Collapsed, Converged, Next, Puts, Ends, puts_or, next_at, next_in, next_after, Ran, after_text, answer, ended, heard_on, turned_on, next_on, ran, Runs}
 
 -- ---- a turn and what follows
@@ -31,8 +28,8 @@ runs_said turns l t bytes q reply run due heard runs =
     record {
       count = suc runs.count;
       is = ap (next_on (λ p. turned_on (ran turns l runs.count) t p (turns l (length t + 1) p bytes)) t bytes) due
-        ∙ ap (λ r. option_map (after_text turned.text) (heard_on (ran turns l runs.count) t q turned.heard.rest r)) heard
-        ∙ ap (option_map (after_text turned.text)) runs.is;
+          ∙ ap (λ r. option_map (after_text turned.text) (heard_on (ran turns l runs.count) t q turned.heard.rest r)) heard
+          ∙ ap (option_map (after_text turned.text)) runs.is;
     }
 
 -- a turn that heard the end of the input, or no answer
@@ -45,7 +42,7 @@ runs_ended turns l t bytes q due heard =
     record {
       count = 1;
       is = ap (next_on (λ p. turned_on (ran turns l 0) t p (turns l (length t + 1) p bytes)) t bytes) due
-        ∙ ap (λ r. option_map (after_text turned.text) (heard_on (ran turns l 0) t q turned.heard.rest r)) heard;
+          ∙ ap (λ r. option_map (after_text turned.text) (heard_on (ran turns l 0) t q turned.heard.rest r)) heard;
     }
 
 pub runs_unread : (turns : Turns) (l : Language) (t : List Answer) (bytes : List ℕ) (q : Assignment) →
@@ -57,7 +54,7 @@ runs_unread turns l t bytes q due heard =
     record {
       count = 1;
       is = ap (next_on (λ p. turned_on (ran turns l 0) t p (turns l (length t + 1) p bytes)) t bytes) due
-        ∙ ap (λ r. option_map (after_text turned.text) (heard_on (ran turns l 0) t q turned.heard.rest r)) heard;
+          ∙ ap (λ r. option_map (after_text turned.text) (heard_on (ran turns l 0) t q turned.heard.rest r)) heard;
     }
 
 -- nothing is put any more
@@ -150,8 +147,8 @@ run_from laws turns l lawful zero t bytes (state, at) above = absurd (let most =
 run_from laws turns l lawful (suc left) t bytes (state, at) above =
     run_next turns l t bytes (next_at l t state) (ap (next_in l t) at)
     (λ q due. turn_heard turns l t bytes q due (turns l (length t + 1) q bytes).heard.reply refl
-        (λ said rest. run_from laws turns l lawful left (t ++ answer q said ∷ []) rest (placed laws.places laws.more l t q said (state, at) due)
-            (omega (arith, length-append t (answer q said ∷ [])))))
+    (λ said rest. run_from laws turns l lawful left (t ++ answer q said ∷ []) rest (placed laws.places laws.more l t q said (state, at) due)
+    (omega (arith, length-append t (answer q said ∷ [])))))
 
 -- from answers that have a place there is a run, whatever the bytes
 pub run_exists : RunLaws → (turns : Turns) (l : Language) → IsLanguage l → (t : List Answer) (bytes : List ℕ) → IsReached l t → HasRun turns l t bytes

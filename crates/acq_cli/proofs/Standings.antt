@@ -1,10 +1,10 @@
 -- Sessions that stand where answers lead, and what follows of them.
-use Rattle.std.proofs.Common.{◌≡◌, ℕ, ◌+◌, ◌-◌, ◌≤◌, ◌<◌, ◌^◌, Bool, true, false, List, length, ap, sym, ◌∙◌, refl, subst, arith, Some, None, Option}
+use Rattle.std.proofs.Common.{◌≡◌, ℕ, ◌+◌, ◌≤◌, ◌<◌, ◌^◌, Bool, true, false, List, length, ap, sym, ◌∙◌, subst, arith}
 use Rattle.assign.specs.Events.{Answer}
 use Rattle.assign.specs.declared.events.Plan.{Plan}
 use Rattle.assign.specs.declared.events.Plan.TheVariants.{Scopes}
 use Rattle.language.specs.Language.{Language, IsLanguage}
-use Rattle.session_laws.specs.Session.{State, At, Idle, Choosing, Over, state_after}
+use Rattle.session_laws.specs.Session.{State, At, state_after}
 use Rattle.session_laws.proofs.Folds.{one_answer_more}
 use Rattle.session_laws.proofs.Places.{questions_have_places}
 use Rattle.session_laws.proofs.Counted.{answers_are_at_most}

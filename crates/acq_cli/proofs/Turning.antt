@@ -1,16 +1,16 @@
 -- What the loop has done after a turn, and after many.
-use Rattle.std.proofs.Common.{◌≡◌, ℕ, ◌+◌, List, [], ◌∷◌, ◌++◌, Bool, length, ap, sym, ◌∙◌, refl, Option, Some, None, subst, append_assoc}
+use Rattle.std.proofs.Common.{◌≡◌, ℕ, ◌+◌, List, [], ◌∷◌, ◌++◌, Bool, length, ap, sym, ◌∙◌, refl, Option, Some, subst, append_assoc}
 use Rattle.std.proofs.lemmas.List.{append-nil}
 use Rattle.assign.specs.Assignment.{Assignment}
 use Rattle.assign.specs.Events.{Answer}
 use Rattle.language.specs.Language.{Language, IsLanguage}
-use Rattle.target_oracle.specs.Turns.{Turns, Turned, Reply, Said, Ended, Unread}
+use Rattle.target_oracle.specs.Turns.{Turns, Reply, Said, Ended, Unread}
 use Rattle.target_oracle.specs.Tells.{Turn, Front}
-use Rattle.acq_cli.specs.Run.{Closing, Converged, Suspended, Unreadable, Ran, Runs, Puts, Ends, next_after, after_text, answer, ended}
-use Rattle.acq_cli.specs.Driven.{Place, IsBegun, StepsTo, IsRun, RanTo, IsCut, CutOff, IsDone, Drives}
+use Rattle.acq_cli.specs.Run.{Closing, Converged, Suspended, Unreadable, Runs, Puts, Ends, next_after, after_text, answer, ended}
+use Rattle.acq_cli.specs.Driven.{Place, StepsTo, RanTo, CutOff, Drives}
 use Rattle.acq_cli.specs.declared.driving.Drove.{Drove}
 use Rattle.acq_cli.specs.declared.driving.Drove.TheVariants as drove
-use Rattle.acq_cli.proofs.Running.{text_after, runs_said, runs_ended, runs_unread, runs_end, IsReached, RunLaws, HasTurn, turn_exists}
+use Rattle.acq_cli.proofs.Running.{text_after, runs_said, runs_ended, runs_unread, runs_end, IsReached, RunLaws, turn_exists}
 
 some_text : (x y : List ℕ) → x ≡ y → (let a : Option (List ℕ) = Some x in a) ≡ Some y
 some_text x y e = ap (λ (t : List ℕ). let a : Option (List ℕ) = Some t in a) e

@@ -1,5 +1,5 @@
 -- What the loop has done, by how it ended.
-use Rattle.std.specs.Prelude.{◌≡◌, ℕ, ◌+◌, List, [], ◌∷◌, ◌++◌, length, Option, Some, None}
+use Rattle.std.specs.Prelude.{◌≡◌, ℕ, List, ◌++◌, length, Option, Some, None}
 use Rattle.assign.specs.Events.{Answer}
 use Rattle.assign.specs.declared.events.Plan.TheVariants.{Scopes}
 use Rattle.language.specs.declared.candidates.Candidate.{Candidate}
@@ -8,7 +8,7 @@ use Rattle.language.specs.Answers.{IsCovered, IsConverged}
 use Rattle.session_laws.specs.Session.{Idle, At, state_after}
 use Rattle.target_oracle.specs.Turns.{Turns}
 use Rattle.target_oracle.specs.Tells.{Front}
-use Rattle.acq_cli.specs.Run.{Closing, Converged, Collapsed, Suspended, Unreadable, Ran, Runs, after_text}
+use Rattle.acq_cli.specs.Run.{Closing, Converged, Suspended, Unreadable, Ran, Runs, after_text}
 use Rattle.acq_cli.specs.declared.driving.Drove.{Drove}
 use Rattle.acq_cli.specs.declared.driving.Drove.TheVariants as drove
 

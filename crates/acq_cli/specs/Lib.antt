@@ -2,3 +2,4 @@ pub mod Run
 pub mod Driven
 pub mod Due
 pub mod Places
+pub mod Program

@@ -1,14 +1,13 @@
 -- What a run writes, how it ends, which answers stand after it, and what it leaves.
 use Rattle.std.specs.Prelude.{◌≡◌, ℕ, zero, suc, ◌+◌, List, [], ◌∷◌, ◌++◌, length, Bool, Option, Some, None}
-use Rattle.std.specs.Option.{option_map, option_map_or}
+use Rattle.std.specs.Option.{option_map}
 use Rattle.assign.specs.Assignment.{Assignment}
 use Rattle.assign.specs.Events.{Answer}
 use Rattle.assign.specs.declared.events.Plan.TheVariants.{Scopes}
-use Rattle.language.specs.declared.candidates.Candidate.{Candidate}
 use Rattle.language.specs.Language.{Language}
 use Rattle.language.specs.Answers.{kept}
 use Rattle.session_laws.specs.Session.{State, Idle, Halving, Choosing, Walking, Over, Reading, At, Stray, open_question, scope_question, state_after}
-use Rattle.target_oracle.specs.Turns.{Turns, Turned, Reply, Said, Ended, Unread, Heard}
+use Rattle.target_oracle.specs.Turns.{Turns, Turned, Reply, Said, Ended, Unread}
 
 -- how a run ends
 pub data Closing : Type 0 where

@@ -41,13 +41,21 @@ enum Next {
     Converged,
 }
 
-/// What comes next in a session of plan Scopes.
+/// What comes next in a session of plan Scopes, which is never over.
 fn next_of(session: &Session) -> Next
-    requires { (knowledge_of session.now).plan ≡ Scopes }
+    requires plan { (knowledge_of session.now).plan ≡ Scopes }
+    requires reached { (t : List Answer) × Stands session.now t }
     ensures { (t : List Answer) → Stands session.now t → NextIs (knowledge_of session.now).lang t (open_in session.now) result }
 {
-    let _ = session;
-    Next::Converged
+    let _lang = session.lang();
+    match session {
+        Session::Idle(idle) => match idle.scope_question() {
+            Some(question) => Next::New(question),
+            None => Next::Converged,
+        },
+        Session::Asking(asking) => Next::Open(asking.question()),
+        Session::Over(_) => unreachable!(),
+    }
 }
 
 /// Puts the question that comes next. None where there is none.
@@ -157,4 +165,39 @@ fn take_turn<S: Source, K: Sink, T: Teacher<S, K>, P: Keep>(
         Some(question) => hear_answer(alloc, source, sink, teacher, keep, &question),
         None => Some(Drove::Converged(keep.session().answers())),
     }
+}
+
+/// One more than the most answers that a session of any language takes.
+const MOST_TURNS: u32 = 762_754;
+
+/// Asks until nothing is left to ask or the teacher stops.
+pub fn drive<S: Source, K: Sink, T: Teacher<S, K>, P: Keep>(
+    alloc: Global,
+    source: &mut S,
+    sink: &mut K,
+    teacher: &mut T,
+    keep: &mut P,
+) -> Drove
+    requires sound { P.sound keep.old }
+    requires plan { P.plan keep.old ≡ Scopes }
+    ensures ends { Drives (T.turn teacher.old) (P.lang keep.old)
+        (place_of (standing_on (P.lang keep.old) (P.record_of keep.old)) (S.left source.old) (K.written sink.old))
+        (place_of (standing_on (P.lang keep.old) (P.record_of keep.new)) (S.left source.new) (K.written sink.new)) result }
+    ensures lang { P.lang keep.new ≡ P.lang keep.old }
+    ensures plan { P.plan keep.new ≡ P.plan keep.old }
+    ensures sound { P.sound keep.new }
+    ensures later { S.faults source.old ≤ S.faults source.new }
+    ensures later_sink { K.faults sink.old ≤ K.faults sink.new }
+    ensures read { result ≡ Drove.ReadFault → Rose (S.faults source.old) (S.faults source.new) }
+    ensures write { result ≡ Drove.WriteFault → Rose (K.faults sink.old) (K.faults sink.new) }
+{
+    for _turn in 0..MOST_TURNS {
+        if let Some(drove) = take_turn(alloc, source, sink, teacher, keep) {
+            return drove;
+        }
+    }
+    // A turn that goes on adds an answer, and no session of this language takes so many.
+    let session = keep.session();
+    let _lang = session.lang();
+    unreachable!()
 }

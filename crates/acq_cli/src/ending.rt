@@ -1,3 +1,6 @@
+ghost use Rattle.std.specs.Prelude.{◌≡◌};
+ghost use Rattle.acq_cli.specs.Program.{status_of};
+
 use voc_read::VocFault;
 
 /// Why the words are refused.
@@ -25,7 +28,9 @@ pub enum Ending {
 
 impl Ending {
     /// The program's exit status.
-    pub fn status(&self) -> u8 {
+    pub fn status(&self) -> u8
+        ensures { result ≡ status_of self.now }
+    {
         match self {
             Ending::Converged(_) => 0,
             Ending::Usage(_) => 1,

@@ -1,10 +1,8 @@
-use Rattle.std.proofs.Common.{◌≡◌, ◌+◌, ◌∙◌, ℕ, List, Bool, true, false, length, ap, sym, refl, arith, Option, Some}
-use Rattle.assign.specs.Assignment.{Assignment}
+use Rattle.std.proofs.Common.{◌+◌, ℕ, List, true, false, length, ap, refl, arith, Option}
 use Rattle.assign.specs.Events.{Answer}
 use Rattle.language.specs.Language.{Language}
 use Rattle.language.specs.Answers.{standing_on}
 use Rattle.target_oracle.specs.Turns.{Turns, Said, Ended, Unread}
-use Rattle.acq_cli.specs.Driven.{Place}
 use Rattle.acq_cli.specs.Places.{place_of}
 use Rattle.acq_cli.proofs.Standings.{AtTurn, at_turn, next_fits, run_laws}
 use Rattle.acq_cli.proofs.Turning.{told_as, front_as, ran_ended, ran_unread, cut_turn}
@@ -16,8 +14,8 @@ overflow_add-count g c =
     let l : Language = g.P.Keep.lang c.args.keep.now in
     let t : List Answer = standing_on l (g.P.Keep.record_of c.args.keep.now) in
     let at : AtTurn l t c.answers-count.result c.lang.result.now =
-        at_turn c.session-session.result.now l c.lang.result.now (g.P.Keep.plan c.args.keep.now) t c.answers-count.result
-        c.session-session.ensures.stands c.session-session.ensures.lang c.session-session.ensures.plan c.requires.plan c.answers-count.ensures c.lang.ensures.is c.lang.ensures.lawful in
+    at_turn c.session-session.result.now l c.lang.result.now (g.P.Keep.plan c.args.keep.now) t c.answers-count.result
+    c.session-session.ensures.stands c.session-session.ensures.lang c.session-session.ensures.plan c.requires.plan c.answers-count.ensures c.lang.ensures.is c.lang.ensures.lawful in
     let fits = next_fits l c.lang.result.now t c.answers-count.result at in omega arith
 
 pub returns-in-Yes-clause-again : goal.returns-in-Yes-clause-again
@@ -25,8 +23,8 @@ returns-in-Yes-clause-again g c =
     let l : Language = g.P.Keep.lang c.args.keep.now in
     let t : List Answer = standing_on l (g.P.Keep.record_of c.args.keep.now) in
     let at : AtTurn l t c.answers-count.result c.lang.result.now =
-        at_turn c.session-session.result.now l c.lang.result.now (g.P.Keep.plan c.args.keep.now) t c.answers-count.result
-        c.session-session.ensures.stands c.session-session.ensures.lang c.session-session.ensures.plan c.requires.plan c.answers-count.ensures c.lang.ensures.is c.lang.ensures.lawful in
+    at_turn c.session-session.result.now l c.lang.result.now (g.P.Keep.plan c.args.keep.now) t c.answers-count.result
+    c.session-session.ensures.stands c.session-session.ensures.lang c.session-session.ensures.plan c.requires.plan c.answers-count.ensures c.lang.ensures.is c.lang.ensures.lawful in
     let turns : Turns = g.T.Teacher.turn c.args.teacher.now in
     let left : Option (List ℕ) = g.S.Source.left c.args.source.now in
     let written : Option (List ℕ) = g.K.Sink.written c.args.sink.now in
@@ -34,7 +32,7 @@ returns-in-Yes-clause-again g c =
     let written' : Option (List ℕ) = g.K.Sink.written c.told.new.sink in
     let after : List Answer = standing_on l (g.P.Keep.record_of c.keep_answer.new.keep) in
     goes_on turns l t after c.args.question.now true (g.P.Keep.question c.args.keep.now) left written left' written' c.keep_answer.result c.requires.due c.requires.put c.keep_answer.ensures.kept
-        (told_as turns c.lang.result.now l (c.answers-count.result + 1) (length t + 1) c.args.question.now (place_of t left written) (place_of t left' written') (Said true) at.language (ap (λ n. n + 1) at.number) c.in-Yes.ensures.tells)
+    (told_as turns c.lang.result.now l (c.answers-count.result + 1) (length t + 1) c.args.question.now (place_of t left written) (place_of t left' written') (Said true) at.language (ap (λ n. n + 1) at.number) c.in-Yes.ensures.tells)
 
 pub returns-in-Yes-clause-more : goal.returns-in-Yes-clause-more
 returns-in-Yes-clause-more g c =
@@ -53,8 +51,8 @@ returns-in-Yes-clause-ends g c =
     let l : Language = g.P.Keep.lang c.args.keep.now in
     let t : List Answer = standing_on l (g.P.Keep.record_of c.args.keep.now) in
     let at : AtTurn l t c.answers-count.result c.lang.result.now =
-        at_turn c.session-session.result.now l c.lang.result.now (g.P.Keep.plan c.args.keep.now) t c.answers-count.result
-        c.session-session.ensures.stands c.session-session.ensures.lang c.session-session.ensures.plan c.requires.plan c.answers-count.ensures c.lang.ensures.is c.lang.ensures.lawful in
+    at_turn c.session-session.result.now l c.lang.result.now (g.P.Keep.plan c.args.keep.now) t c.answers-count.result
+    c.session-session.ensures.stands c.session-session.ensures.lang c.session-session.ensures.plan c.requires.plan c.answers-count.ensures c.lang.ensures.is c.lang.ensures.lawful in
     let turns : Turns = g.T.Teacher.turn c.args.teacher.now in
     let left : Option (List ℕ) = g.S.Source.left c.args.source.now in
     let written : Option (List ℕ) = g.K.Sink.written c.args.sink.now in
@@ -62,15 +60,15 @@ returns-in-Yes-clause-ends g c =
     let written' : Option (List ℕ) = g.K.Sink.written c.told.new.sink in
     let after : List Answer = standing_on l (g.P.Keep.record_of c.keep_answer.new.keep) in
     ends turns l t after c.args.question.now true (g.P.Keep.question c.args.keep.now) left written left' written' c.keep_answer.result at.lawful at.reached c.requires.due c.keep_answer.ensures.kept
-        (told_as turns c.lang.result.now l (c.answers-count.result + 1) (length t + 1) c.args.question.now (place_of t left written) (place_of t left' written') (Said true) at.language (ap (λ n. n + 1) at.number) c.in-Yes.ensures.tells)
+    (told_as turns c.lang.result.now l (c.answers-count.result + 1) (length t + 1) c.args.question.now (place_of t left written) (place_of t left' written') (Said true) at.language (ap (λ n. n + 1) at.number) c.in-Yes.ensures.tells)
 
 pub returns-in-No-clause-again : goal.returns-in-No-clause-again
 returns-in-No-clause-again g c =
     let l : Language = g.P.Keep.lang c.args.keep.now in
     let t : List Answer = standing_on l (g.P.Keep.record_of c.args.keep.now) in
     let at : AtTurn l t c.answers-count.result c.lang.result.now =
-        at_turn c.session-session.result.now l c.lang.result.now (g.P.Keep.plan c.args.keep.now) t c.answers-count.result
-        c.session-session.ensures.stands c.session-session.ensures.lang c.session-session.ensures.plan c.requires.plan c.answers-count.ensures c.lang.ensures.is c.lang.ensures.lawful in
+    at_turn c.session-session.result.now l c.lang.result.now (g.P.Keep.plan c.args.keep.now) t c.answers-count.result
+    c.session-session.ensures.stands c.session-session.ensures.lang c.session-session.ensures.plan c.requires.plan c.answers-count.ensures c.lang.ensures.is c.lang.ensures.lawful in
     let turns : Turns = g.T.Teacher.turn c.args.teacher.now in
     let left : Option (List ℕ) = g.S.Source.left c.args.source.now in
     let written : Option (List ℕ) = g.K.Sink.written c.args.sink.now in
@@ -78,7 +76,7 @@ returns-in-No-clause-again g c =
     let written' : Option (List ℕ) = g.K.Sink.written c.told.new.sink in
     let after : List Answer = standing_on l (g.P.Keep.record_of c.keep_answer-in-No.new.keep) in
     goes_on turns l t after c.args.question.now false (g.P.Keep.question c.args.keep.now) left written left' written' c.keep_answer-in-No.result c.requires.due c.requires.put c.keep_answer-in-No.ensures.kept
-        (told_as turns c.lang.result.now l (c.answers-count.result + 1) (length t + 1) c.args.question.now (place_of t left written) (place_of t left' written') (Said false) at.language (ap (λ n. n + 1) at.number) c.in-No.ensures.tells)
+    (told_as turns c.lang.result.now l (c.answers-count.result + 1) (length t + 1) c.args.question.now (place_of t left written) (place_of t left' written') (Said false) at.language (ap (λ n. n + 1) at.number) c.in-No.ensures.tells)
 
 pub returns-in-No-clause-more : goal.returns-in-No-clause-more
 returns-in-No-clause-more g c =
@@ -97,8 +95,8 @@ returns-in-No-clause-ends g c =
     let l : Language = g.P.Keep.lang c.args.keep.now in
     let t : List Answer = standing_on l (g.P.Keep.record_of c.args.keep.now) in
     let at : AtTurn l t c.answers-count.result c.lang.result.now =
-        at_turn c.session-session.result.now l c.lang.result.now (g.P.Keep.plan c.args.keep.now) t c.answers-count.result
-        c.session-session.ensures.stands c.session-session.ensures.lang c.session-session.ensures.plan c.requires.plan c.answers-count.ensures c.lang.ensures.is c.lang.ensures.lawful in
+    at_turn c.session-session.result.now l c.lang.result.now (g.P.Keep.plan c.args.keep.now) t c.answers-count.result
+    c.session-session.ensures.stands c.session-session.ensures.lang c.session-session.ensures.plan c.requires.plan c.answers-count.ensures c.lang.ensures.is c.lang.ensures.lawful in
     let turns : Turns = g.T.Teacher.turn c.args.teacher.now in
     let left : Option (List ℕ) = g.S.Source.left c.args.source.now in
     let written : Option (List ℕ) = g.K.Sink.written c.args.sink.now in
@@ -106,15 +104,15 @@ returns-in-No-clause-ends g c =
     let written' : Option (List ℕ) = g.K.Sink.written c.told.new.sink in
     let after : List Answer = standing_on l (g.P.Keep.record_of c.keep_answer-in-No.new.keep) in
     ends turns l t after c.args.question.now false (g.P.Keep.question c.args.keep.now) left written left' written' c.keep_answer-in-No.result at.lawful at.reached c.requires.due c.keep_answer-in-No.ensures.kept
-        (told_as turns c.lang.result.now l (c.answers-count.result + 1) (length t + 1) c.args.question.now (place_of t left written) (place_of t left' written') (Said false) at.language (ap (λ n. n + 1) at.number) c.in-No.ensures.tells)
+    (told_as turns c.lang.result.now l (c.answers-count.result + 1) (length t + 1) c.args.question.now (place_of t left written) (place_of t left' written') (Said false) at.language (ap (λ n. n + 1) at.number) c.in-No.ensures.tells)
 
 pub returns-in-End-clause-ends : goal.returns-in-End-clause-ends
 returns-in-End-clause-ends g c =
     let l : Language = g.P.Keep.lang c.args.keep.now in
     let t : List Answer = standing_on l (g.P.Keep.record_of c.args.keep.now) in
     let at : AtTurn l t c.answers-count.result c.lang.result.now =
-        at_turn c.session-session.result.now l c.lang.result.now (g.P.Keep.plan c.args.keep.now) t c.answers-count.result
-        c.session-session.ensures.stands c.session-session.ensures.lang c.session-session.ensures.plan c.requires.plan c.answers-count.ensures c.lang.ensures.is c.lang.ensures.lawful in
+    at_turn c.session-session.result.now l c.lang.result.now (g.P.Keep.plan c.args.keep.now) t c.answers-count.result
+    c.session-session.ensures.stands c.session-session.ensures.lang c.session-session.ensures.plan c.requires.plan c.answers-count.ensures c.lang.ensures.is c.lang.ensures.lawful in
     let turns : Turns = g.T.Teacher.turn c.args.teacher.now in
     let left : Option (List ℕ) = g.S.Source.left c.args.source.now in
     let written : Option (List ℕ) = g.K.Sink.written c.args.sink.now in
@@ -127,8 +125,8 @@ returns-in-Unreadable-clause-ends g c =
     let l : Language = g.P.Keep.lang c.args.keep.now in
     let t : List Answer = standing_on l (g.P.Keep.record_of c.args.keep.now) in
     let at : AtTurn l t c.answers-count.result c.lang.result.now =
-        at_turn c.session-session.result.now l c.lang.result.now (g.P.Keep.plan c.args.keep.now) t c.answers-count.result
-        c.session-session.ensures.stands c.session-session.ensures.lang c.session-session.ensures.plan c.requires.plan c.answers-count.ensures c.lang.ensures.is c.lang.ensures.lawful in
+    at_turn c.session-session.result.now l c.lang.result.now (g.P.Keep.plan c.args.keep.now) t c.answers-count.result
+    c.session-session.ensures.stands c.session-session.ensures.lang c.session-session.ensures.plan c.requires.plan c.answers-count.ensures c.lang.ensures.is c.lang.ensures.lawful in
     let turns : Turns = g.T.Teacher.turn c.args.teacher.now in
     let left : Option (List ℕ) = g.S.Source.left c.args.source.now in
     let written : Option (List ℕ) = g.K.Sink.written c.args.sink.now in
@@ -141,8 +139,8 @@ returns-in-ReadFault-clause-ends g c =
     let l : Language = g.P.Keep.lang c.args.keep.now in
     let t : List Answer = standing_on l (g.P.Keep.record_of c.args.keep.now) in
     let at : AtTurn l t c.answers-count.result c.lang.result.now =
-        at_turn c.session-session.result.now l c.lang.result.now (g.P.Keep.plan c.args.keep.now) t c.answers-count.result
-        c.session-session.ensures.stands c.session-session.ensures.lang c.session-session.ensures.plan c.requires.plan c.answers-count.ensures c.lang.ensures.is c.lang.ensures.lawful in
+    at_turn c.session-session.result.now l c.lang.result.now (g.P.Keep.plan c.args.keep.now) t c.answers-count.result
+    c.session-session.ensures.stands c.session-session.ensures.lang c.session-session.ensures.plan c.requires.plan c.answers-count.ensures c.lang.ensures.is c.lang.ensures.lawful in
     let turns : Turns = g.T.Teacher.turn c.args.teacher.now in
     let left : Option (List ℕ) = g.S.Source.left c.args.source.now in
     let written : Option (List ℕ) = g.K.Sink.written c.args.sink.now in
@@ -155,8 +153,8 @@ returns-in-WriteFault-clause-ends g c =
     let l : Language = g.P.Keep.lang c.args.keep.now in
     let t : List Answer = standing_on l (g.P.Keep.record_of c.args.keep.now) in
     let at : AtTurn l t c.answers-count.result c.lang.result.now =
-        at_turn c.session-session.result.now l c.lang.result.now (g.P.Keep.plan c.args.keep.now) t c.answers-count.result
-        c.session-session.ensures.stands c.session-session.ensures.lang c.session-session.ensures.plan c.requires.plan c.answers-count.ensures c.lang.ensures.is c.lang.ensures.lawful in
+    at_turn c.session-session.result.now l c.lang.result.now (g.P.Keep.plan c.args.keep.now) t c.answers-count.result
+    c.session-session.ensures.stands c.session-session.ensures.lang c.session-session.ensures.plan c.requires.plan c.answers-count.ensures c.lang.ensures.is c.lang.ensures.lawful in
     let turns : Turns = g.T.Teacher.turn c.args.teacher.now in
     let left : Option (List ℕ) = g.S.Source.left c.args.source.now in
     let written : Option (List ℕ) = g.K.Sink.written c.args.sink.now in
@@ -169,8 +167,8 @@ returns-in-Memory-clause-ends g c =
     let l : Language = g.P.Keep.lang c.args.keep.now in
     let t : List Answer = standing_on l (g.P.Keep.record_of c.args.keep.now) in
     let at : AtTurn l t c.answers-count.result c.lang.result.now =
-        at_turn c.session-session.result.now l c.lang.result.now (g.P.Keep.plan c.args.keep.now) t c.answers-count.result
-        c.session-session.ensures.stands c.session-session.ensures.lang c.session-session.ensures.plan c.requires.plan c.answers-count.ensures c.lang.ensures.is c.lang.ensures.lawful in
+    at_turn c.session-session.result.now l c.lang.result.now (g.P.Keep.plan c.args.keep.now) t c.answers-count.result
+    c.session-session.ensures.stands c.session-session.ensures.lang c.session-session.ensures.plan c.requires.plan c.answers-count.ensures c.lang.ensures.is c.lang.ensures.lawful in
     let turns : Turns = g.T.Teacher.turn c.args.teacher.now in
     let left : Option (List ℕ) = g.S.Source.left c.args.source.now in
     let written : Option (List ℕ) = g.K.Sink.written c.args.sink.now in

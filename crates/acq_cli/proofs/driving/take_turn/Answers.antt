@@ -17,7 +17,8 @@ returns-in-None-clause-ends g c =
     let written : Option (List ℕ) = g.K.Sink.written c.args.sink.now in
     let t : List Answer = standing_on l (g.P.Keep.record_of c.args.keep.now) in
     let same : standing_on l (g.P.Keep.record_of c.put_next.new.keep) ≡ t = ap (standing_on l) c.put_next.ensures.events in
-    let Ran : List Answer → Type 0 = λ x. RanTo turns l Converged (place_of t left written) (place_of x left written) in
-    ( c.answers.ensures ∙ c.session.ensures.stands.knows.count ∙ ap (λ m. length (standing_on m (g.P.Keep.record_of c.put_next.new.keep))) c.put_next.ensures.lang
-    , subst (IsDone l) (sym same) c.in-None.ensures.put.done
-    , subst Ran (sym same) (ran_end turns l Converged (place_of t left written) c.in-None.ensures.put.ends) )
+    let Ran : List Answer → Type 0 = λ x. RanTo turns l Converged (place_of t left written) (place_of x left written) in (
+      c.answers.ensures ∙ c.session.ensures.stands.knows.count ∙ ap (λ m. length (standing_on m (g.P.Keep.record_of c.put_next.new.keep))) c.put_next.ensures.lang,
+      subst (IsDone l) (sym same) c.in-None.ensures.put.done,
+      subst Ran (sym same) (ran_end turns l Converged (place_of t left written) c.in-None.ensures.put.ends),
+    )
