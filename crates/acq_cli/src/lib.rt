@@ -3,6 +3,8 @@
 
 mod driving;
 mod ending;
+#[cfg(test)]
+mod tests;
 mod top;
 
 pub use driving::{Drove, drive};
