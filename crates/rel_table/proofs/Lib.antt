@@ -4,4 +4,4 @@ pub mod Meets
 pub mod Same
 pub mod Marking
 pub mod Tables
-pub mod TupleOrder
+pub mod BitLemmas

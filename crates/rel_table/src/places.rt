@@ -1,6 +1,6 @@
 //! Places and tuples: where a tuple stands in a table, and which tuple stands there.
 
-ghost use Rattle.std.specs.Prelude.{◌≡◌, ℕ, ◌-◌, ◌^◌, ◌<◌, ◌≤◌, take, drop, replicate, All};
+ghost use Rattle.std.specs.Prelude.{◌≡◌, ◌-◌, ◌^◌, ◌<◌, ◌≤◌, take, drop, replicate, All};
 ghost use Rattle.rel_table.specs.Relation.{tuple_at};
 
 /// The tuple of this arity over d values that stands at a place: its first `arity` entries, and then zeros.

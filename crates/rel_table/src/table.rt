@@ -1,35 +1,42 @@
-ghost use Rattle.std.specs.Prelude.{◌≡◌, ℕ, ◌+◌, ◌-◌, ◌*◌, ◌^◌, ◌<◌, ◌≤◌, ◌≢◌, ◌↔◌, ℤ, pos, negsuc, ◌≤ℤ◌, ◌<ℤ◌, ◌+ℤ◌, length, replicate, map, IsTrue, IfOk, IfErr, OnOk, OnErr, MatchResult, slice_index, slice_index_or, Option, Some, None, Ok, Err, Bool, false, true, if◌then◌else◌, All, vec_len};
-ghost use Rattle.std.specs.List.{list_any, list_all, zip};
+ghost use Rattle.std.specs.Prelude.{◌≡◌, ◌+◌, ◌-◌, ◌*◌, ◌^◌, ◌<◌, ◌≤◌, ◌≢◌, ◌↔◌, ℤ, pos, negsuc, ◌≤ℤ◌, length, replicate, IsTrue, IfOk, IfErr, OnOk, Option, Some, None, Ok, Err, Bool, false, true, if◌then◌else◌, All};
+ghost use Rattle.std.specs.List.{list_all, zip};
 ghost use Rattle.rel_table.specs.Relation.{place, holds, meet};
 ghost use Rattle.rel_table.specs.Table.{truth_at, IsTable};
 ghost use Rattle.rel_table.specs.Made.{arity_of, size_for, size_of, is_shown, index_of, place_of_shown, tuple_fault, first_fault, refusal_of, IsMade, Marks, lists};
 
-use std::alloc::{AllocError, Global};
+use crate::bits::Bits;
+use std::alloc::Global;
 use std::marker::Model;
 
-/// Want of memory.
+/// Want of memory: the allocator gave none.
 #[derive(Clone, Copy, Debug, PartialEq, Eq)]
 pub struct Memory;
 
 /// Why no table was made.
 #[derive(Clone, Copy, Debug, PartialEq, Eq)]
 pub enum TableFault {
+    /// The arity isn't 1 to 4.
     BadArity,
+    /// The tuple with this number, from 0, hasn't as many values as the arity says.
     TupleLength(u32),
+    /// The tuple with this number, from 0, has a value outside the domain.
     ValueOut(u32),
+    /// There would be more than 65,536 tuples.
     TooLarge,
+    /// The allocator gave no memory.
     Memory,
 }
 
 /// Why relations can't be closed under intersection.
 #[derive(Clone, Copy, Debug, PartialEq, Eq)]
 pub enum CloseFault {
-    /// There are more than 64 intersections of this arity.
+    /// There are more than 64 intersections of this arity, and of no smaller one.
     TooMany(u8),
+    /// The allocator gave no memory.
     Memory,
 }
 
-/// The most places that a table has.
+/// The most places that a table has: one for each tuple.
 pub const MOST_PLACES: u32 = 65536;
 
 /// An arity of 1 to 4.
@@ -61,7 +68,9 @@ fn power(d: u32, a: u8) -> Result<u32, TableFault>
     Ok(size as u32)
 }
 
-/// The number of tuples of this arity over d values.
+/// The number of tuples of this arity over d values, which is d to the power of the arity.
+///
+/// `BadArity` where the arity isn't 1 to 4, whatever d is; else `TooLarge` where there are more than 65,536 tuples. Takes no memory.
 pub fn table_size(arity: i64, d: u32) -> Result<u32, TableFault>
     ensures { result ≡ size_of arity d }
 {
@@ -71,7 +80,9 @@ pub fn table_size(arity: i64, d: u32) -> Result<u32, TableFault>
     }
 }
 
-/// The place of a tuple, where its values are below d.
+/// The place of a tuple, where its values are below d: its values are the digits of the place in base d, the first one counting most.
+///
+/// So the tuples stand in the order of their first values, then of their second ones, and so on. Takes no memory.
 pub fn place_of(d: u8, tuple: &[u8]) -> usize
     requires values { All (λ x. x < d) tuple.now }
     requires fits { d ^ length tuple.now ≤ 65536 }
@@ -86,12 +97,17 @@ pub fn place_of(d: u8, tuple: &[u8]) -> usize
     place
 }
 
-/// A relation: a truth value for each tuple.
+/// A relation: a truth value for each tuple, in the order of their places.
+///
+/// It takes a bit for each tuple, 8,192 bytes at most.
 #[derive(Drop)]
 pub struct Table {
+    /// How many values a tuple has, 1 to 4.
     arity: u8,
+    /// How many values there are, 1 to 64. In a tuple they are numbered from 0.
     value_count: u8,
-    truth: Vec<bool>,
+    /// Which tuples are in the relation, each at its place.
+    truth: Bits,
 }
 
 impl Model for Table {
@@ -107,7 +123,10 @@ impl Model for Table {
 }
 
 impl Table {
-    /// The relation that accepts exactly these tuples of shown values.
+    /// The relation that accepts exactly these tuples of shown values, which are lo to lo + d - 1. A tuple that is given twice counts once.
+    ///
+    /// Refused in this order: what `table_size` refuses; the first tuple with a fault, by `TupleLength` where its length isn't the arity,
+    /// else by `ValueOut`; `Memory`. Memory may be missed before the tuples are looked at.
     pub fn from_tuples(
         alloc: Global,
         arity: i64,
@@ -127,7 +146,7 @@ impl Table {
             return Err(TableFault::BadArity);
         };
         let size = power(d, a)?;
-        let Ok(truth) = all_false(alloc, size) else {
+        let Ok(truth) = Bits::all_false(alloc, size as usize) else {
             return Err(TableFault::Memory);
         };
         match mark_all(a, lo, d, tuples, truth) {
@@ -140,6 +159,7 @@ impl Table {
         }
     }
 
+    /// How many values a tuple of this relation has, 1 to 4.
     pub fn arity(&self) -> u8
         ensures is { result ≡ self.now.arity }
         ensures lawful { IsTable self.now }
@@ -147,6 +167,7 @@ impl Table {
         self.arity
     }
 
+    /// How many values there are, 1 to 64.
     pub fn value_count(&self) -> u8
         ensures is { result ≡ self.now.value_count }
         ensures lawful { IsTable self.now }
@@ -154,6 +175,7 @@ impl Table {
         self.value_count
     }
 
+    /// How many places there are, one for each tuple: 1 to 65,536.
     pub fn size(&self) -> u32
         ensures is { result ≡ length self.now.truth }
         ensures lawful { IsTable self.now }
@@ -161,31 +183,34 @@ impl Table {
         self.truth.len() as u32
     }
 
+    /// Whether the tuple at a place is in the relation. Reads one bit.
     pub fn at(&self, place: u32) -> bool
         requires { place < length self.now.truth }
         ensures { result ≡ truth_at self.now place }
     {
-        self.truth[place as usize]
+        self.truth.get(place as usize)
     }
 
+    /// Whether a tuple, given by the numbers of its values, is in the relation. Reads one bit.
     pub fn accepts(&self, tuple: &[u8]) -> bool
         requires long { length tuple.now ≡ self.now.arity }
         requires values { All (λ x. x < self.now.value_count) tuple.now }
         ensures { result ≡ holds self.now.value_count self.now.truth tuple.now }
     {
-        self.truth[place_of(self.value_count, tuple)]
+        self.truth.get(place_of(self.value_count, tuple))
     }
 
+    /// Whether these are the same relation: one arity, as many values and the same tuples. Compares 64 tuples at a time, and takes no memory.
     pub fn equals(&self, o: &Table) -> bool
         ensures { IsTrue result ↔ (self.now ≡ o.now) }
     {
         if self.arity != o.arity || self.value_count != o.value_count {
             return false;
         }
-        self.truth == o.truth
+        self.truth.equals(&o.truth)
     }
 
-    /// The intersection.
+    /// The intersection, 64 tuples at a time: a new relation with the tuples that are in both.
     pub fn meet(&self, alloc: Global, o: &Table) -> Result<Table, Memory>
         requires arity { self.now.arity ≡ o.now.arity }
         requires values { self.now.value_count ≡ o.now.value_count }
@@ -193,7 +218,7 @@ impl Table {
         ensures values { IfOk result (λ t. t.value_count ≡ self.now.value_count) }
         ensures truth { IfOk result (λ t. t.truth ≡ meet self.now.truth o.now.truth) }
     {
-        let Ok(truth) = meet_of(alloc, &self.truth, &o.truth) else {
+        let Ok(truth) = self.truth.meet(alloc, &o.truth) else {
             return Err(Memory);
         };
         Ok(Table {
@@ -203,14 +228,13 @@ impl Table {
         })
     }
 
-    /// Whether each tuple that this relation accepts is accepted by the other.
+    /// Whether each tuple that this relation accepts is accepted by the other, 64 tuples at a time. Takes no memory.
+    ///
+    /// Of relations of two sizes only the places that both have count.
     pub fn within(&self, o: &Table) -> bool
         ensures { result ≡ list_all (λ (p : Bool × Bool). if p.0 then p.1 else true) (zip self.now.truth o.now.truth) }
     {
-        self.truth
-            .iter()
-            .zip(o.truth.iter())
-            .all(|(a, b)| if *a { *b } else { true })
+        self.truth.within(&o.truth)
     }
 }
 
@@ -263,12 +287,6 @@ fn fault_of(a: u8, lo: i64, d: u32, i: u32, tuple: &[i64]) -> Option<TableFault>
     }
 }
 
-fn all_false(alloc: Global, size: u32) -> Result<Vec<bool>, AllocError>
-    ensures { IfOk result (λ v. v.items ≡ replicate size false) }
-{
-    vec![in alloc; false; size as usize]
-}
-
 /// The place of a tuple of shown values.
 fn place_of_shown(lo: i64, d: u32, tuple: &[i64]) -> usize
     requires low { negsuc 999999 ≤ℤ lo }
@@ -293,19 +311,19 @@ fn mark_all(
     lo: i64,
     d: u32,
     tuples: &[Vec<i64>],
-    mut truth: Vec<bool>,
-) -> Result<Vec<bool>, TableFault>
+    mut truth: Bits,
+) -> Result<Bits, TableFault>
     requires low { negsuc 999999 ≤ℤ lo }
     requires high { lo ≤ℤ pos 1000000 }
     requires some { 1 ≤ d }
     requires small { d ≤ 64 }
     requires few { length tuples.now < 2 ^ 32 }
-    requires size { length truth.items ≡ d ^ a }
-    requires fits { length truth.items ≤ 65536 }
-    requires blank { truth.items ≡ replicate (length truth.items) false }
+    requires size { length truth ≡ d ^ a }
+    requires fits { length truth ≤ 65536 }
+    requires blank { truth ≡ replicate (length truth) false }
     ensures right { OnOk result (first_fault a lo d 0 (lists tuples.now) ≡ None) }
-    ensures size { IfOk result (λ v. length v.items ≡ d ^ a) }
-    ensures marks { IfOk result (λ v. Marks lo d (lists tuples.now) v.items) }
+    ensures size { IfOk result (λ v. length v ≡ d ^ a) }
+    ensures marks { IfOk result (λ v. Marks lo d (lists tuples.now) v) }
     ensures fault { IfErr result (λ e. first_fault a lo d 0 (lists tuples.now) ≡ Some e) }
 {
     for (i, tuple) in tuples.iter().enumerate() {
@@ -313,20 +331,7 @@ fn mark_all(
             return Err(fault);
         }
         let place = place_of_shown(lo, d, tuple);
-        truth[place] = true;
-    }
-    Ok(truth)
-}
-
-/// The places that both accept.
-fn meet_of(alloc: Global, a: &[bool], b: &[bool]) -> Result<Vec<bool>, AllocError>
-    requires { length a.now ≡ length b.now }
-    ensures is { IfOk result (λ v. v.items ≡ meet a.now b.now) }
-    ensures len { IfOk result (λ v. vec_len v ≡ length a.now) }
-{
-    let mut truth = Vec::new(alloc);
-    for i in 0..a.len() {
-        truth.push(a[i] && b[i])?;
+        truth.mark(place);
     }
     Ok(truth)
 }

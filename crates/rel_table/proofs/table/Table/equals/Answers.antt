@@ -1,10 +1,10 @@
 use Rattle.std.proofs.Common.{sym, ◌∙◌, ap}
 use Rattle.rel_table.specs.Table.{TruthTable}
-use Rattle.rel_table.proofs.Same.{same_table_value, pointwise_is}
+use Rattle.rel_table.proofs.Same.{same_table_value}
 use Rattle.rel_table.proofs.table.Table.equals.Goals as goal
 
 pub returns : goal.returns
 returns c = (
-  λ h. sym c.self.view_is ∙ same_table_value _ _ c.if-self-o.false c.if-self-o-2.false ((pointwise_is _ _).0 (sym c.eq.ensures ∙ h)) ∙ c.o.view_is,
-  λ e. c.eq.ensures ∙ (pointwise_is _ _).1 (ap (λ (r : TruthTable). r.truth) (c.self.view_is ∙ e ∙ sym c.o.view_is)),
+  λ h. sym c.self.view_is ∙ same_table_value _ _ c.if-self-o.false c.if-self-o-2.false (c.equals.ensures.0 h) ∙ c.o.view_is,
+  λ e. c.equals.ensures.1 (ap (λ (r : TruthTable). r.truth) (c.self.view_is ∙ e ∙ sym c.o.view_is)),
 )
