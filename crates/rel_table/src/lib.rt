@@ -5,6 +5,8 @@
 mod bits;
 mod places;
 mod table;
+#[cfg(test)]
+mod tests;
 
 pub use places::tuple_of;
 pub use table::{CloseFault, MOST_PLACES, Memory, Table, TableFault, place_of, table_size};
