@@ -10,13 +10,14 @@ use crate::frames::{Frame, Frames};
 use assign::VarSet;
 use std::marker::Model;
 
-/// A halving that waits for a reply.
+/// A halving that waits for a reply. The reply consumes it.
 #[derive(Drop)]
 pub struct ScopeRun {
     /// What the open question is about.
     base: VarSet,
     /// What is halved after a yes.
     set: VarSet,
+    /// What waits for the set that is found here.
     frames: Frames,
 }
 
@@ -35,12 +36,14 @@ impl Model for ScopeRun {
 /// Where a halving stands.
 #[derive(Drop)]
 pub enum ScopeNext {
+    /// A reply is wanted, about the set that the run says.
     Wants(ScopeRun),
+    /// No reply is wanted any more: the variables that the no answer is about.
     Found(VarSet),
 }
 
 impl ScopeRun {
-    /// Begins to halve a set that was answered no.
+    /// Begins to halve a set that was answered no. A single variable is found at once.
     pub fn start(all: VarSet) -> ScopeNext
         requires { 0 < length all }
         ensures { StandsFor result all [] }
@@ -50,7 +53,7 @@ impl ScopeRun {
         halve_now(VarSet::empty(), all, Frames::none())
     }
 
-    /// The set that a reply is wanted about.
+    /// The set that a reply is wanted about. It is never empty, and lies within the whole set.
     pub fn wants(&self) -> VarSet
         ensures some { 0 < length result }
         ensures wanted { (set : List ℕ) (replies : List Bool) →
