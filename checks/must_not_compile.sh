@@ -59,7 +59,7 @@ done
 for sound in $(sed -n 's/^crate: //p;s/^sound: /:/p' "$top"/checks/must_not_compile/*.edit | paste -sd ' ' | sed 's/ :/:/g' | tr ' ' '\n' | sort -u); do
     crate=${sound%%:*}
     function=${sound#*:}
-    if (cd "$copy/crates/$crate" && rt check --only="$function" >"$copy/log" 2>&1) && ! grep -q 'error' "$copy/log"; then
+    if (cd "$copy/crates/$crate" && rt check --only="$function" >"$copy/log" 2>&1) && ! grep -qE ': error(\[|:)' "$copy/log"; then
         report ok "$sound"
     else
         report bad "$sound" "the untouched crate has an error"

@@ -4,6 +4,15 @@
 //! options, one for each variable in vocabulary order. An `Event` is seen as it is written.
 //!
 //! The floors above rely on exact answers: each call here says what list it gives. No call takes memory.
+//!
+//! | to | a `VarSet` | a `Partial` |
+//! |---|---|---|
+//! | make one | `empty`, `all` | `blank` |
+//! | ask about one variable, or change it | `has`, `with`, `without` | `get`, `set` |
+//! | ask about the whole | `len`, `least` | `len`, `vars`, `is_complete` |
+//! | take a part | `first_half` | `restrict` |
+//! | go by two | `union`, `minus`, `within`, `==` | `equals` |
+//! | write an event, and read it | | `widened`, `cut_to` |
 #![tactic(auto)]
 
 mod assignment;

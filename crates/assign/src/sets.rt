@@ -5,7 +5,7 @@ ghost use Rattle.assign.specs.Sets.{numbers, has, union, minus, with_member, wit
 
 use std::marker::Model;
 
-/// A set of variables, each a number below 128.
+/// A set of variables, each a number below 128: its place in the vocabulary, from 0.
 #[derive(Clone, Copy, Debug)]
 pub struct VarSet {
     /// Bit v is 1 where v is a member.

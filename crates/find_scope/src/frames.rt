@@ -17,6 +17,7 @@ pub enum Frame {
 /// At most eight frames, the latest on top.
 #[derive(Drop)]
 pub struct Frames {
+    /// The lowest frame first; those from `count` on have no meaning.
     slots: [Frame; 8],
     count: usize,
 }

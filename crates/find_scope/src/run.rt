@@ -10,13 +10,14 @@ use crate::frames::{Frame, Frames};
 use assign::VarSet;
 use std::marker::Model;
 
-/// A halving that waits for a reply.
+/// A halving that waits for a reply. The reply consumes it.
 #[derive(Drop)]
 pub struct ScopeRun {
     /// What the open question is about.
     base: VarSet,
     /// What is halved after a yes.
     set: VarSet,
+    /// What waits for the set that is found here.
     frames: Frames,
 }
 
@@ -35,12 +36,14 @@ impl Model for ScopeRun {
 /// Where a halving stands.
 #[derive(Drop)]
 pub enum ScopeNext {
+    /// A reply is wanted, about the set that the run says.
     Wants(ScopeRun),
+    /// No reply is wanted any more: the variables that the no answer is about.
     Found(VarSet),
 }
 
 impl ScopeRun {
-    /// Begins to halve a set that was answered no.
+    /// Begins to halve a set that was answered no. A single variable is found at once.
     pub fn start(all: VarSet) -> ScopeNext
         requires { 0 < length all }
         ensures { StandsFor result all [] }
@@ -50,7 +53,7 @@ impl ScopeRun {
         halve_now(VarSet::empty(), all, Frames::none())
     }
 
-    /// The set that a reply is wanted about.
+    /// The set that a reply is wanted about. It is never empty, and lies within the whole set.
     pub fn wants(&self) -> VarSet
         ensures some { 0 < length result }
         ensures wanted { (set : List ℕ) (replies : List Bool) →
@@ -130,97 +133,4 @@ fn settle(mut frames: Frames, mut found: VarSet) -> ScopeNext
         }
     }
     ScopeNext::Found(found)
-}
-
-#[cfg(test)]
-mod tests {
-    use super::*;
-
-    fn pair(v: u8, w: u8) -> VarSet
-        requires first { v < 128 }
-        requires second { w < 128 }
-    {
-        VarSet::empty().with(v).with(w)
-    }
-
-    fn start(all: VarSet) -> ScopeNext {
-        if all.len() > 0 {
-            ScopeRun::start(all)
-        } else {
-            ScopeNext::Found(all)
-        }
-    }
-
-    fn reply(next: ScopeNext, yes: bool) -> ScopeNext {
-        match next {
-            ScopeNext::Wants(run) => run.reply(yes),
-            ScopeNext::Found(set) => ScopeNext::Found(set),
-        }
-    }
-
-    fn is(set: VarSet, other: VarSet) -> bool {
-        set.within(other) && other.within(set)
-    }
-
-    fn wants(next: &ScopeNext, set: VarSet) -> bool {
-        match next {
-            ScopeNext::Wants(run) => is(run.wants(), set),
-            ScopeNext::Found(_) => false,
-        }
-    }
-
-    fn has_found(next: &ScopeNext, set: VarSet) -> bool {
-        match next {
-            ScopeNext::Wants(_) => false,
-            ScopeNext::Found(found) => is(*found, set),
-        }
-    }
-
-    #[test]
-    fn finds_two_of_four(rt: HostRuntime) {
-        let next = start(VarSet::all(4));
-        assert!(rt; wants(&next, pair(0, 1)));
-        let next = reply(next, true);
-        assert!(rt; wants(&next, VarSet::all(3)));
-        let next = reply(next, false);
-        assert!(rt; wants(&next, pair(2, 2)));
-        let next = reply(next, true);
-        assert!(rt; wants(&next, pair(0, 2)));
-        let next = reply(next, false);
-        assert!(rt; has_found(&next, pair(0, 2)));
-    }
-
-    #[test]
-    fn finds_one_of_one(rt: HostRuntime) {
-        let next = start(pair(5, 5));
-        assert!(rt; has_found(&next, pair(5, 5)));
-    }
-
-    #[test]
-    fn finds_two_of_two(rt: HostRuntime) {
-        let next = start(VarSet::all(2));
-        assert!(rt; wants(&next, pair(0, 0)));
-        let next = reply(next, true);
-        assert!(rt; wants(&next, pair(1, 1)));
-        let next = reply(next, true);
-        assert!(rt; has_found(&next, pair(0, 1)));
-    }
-
-    #[test]
-    fn takes_the_first_half_unasked(rt: HostRuntime) {
-        let next = start(VarSet::all(2));
-        assert!(rt; wants(&next, pair(0, 0)));
-        let next = reply(next, false);
-        assert!(rt; has_found(&next, pair(0, 0)));
-    }
-
-    #[test]
-    fn finds_all_of_the_most(rt: HostRuntime) {
-        let mut next = start(VarSet::all(128));
-        for _i in 0..254 {
-            assert!(rt; !has_found(&next, VarSet::all(128)));
-            next = reply(next, true);
-        }
-        assert!(rt; has_found(&next, VarSet::all(128)));
-    }
 }
