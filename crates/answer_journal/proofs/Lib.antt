@@ -1,0 +1,12 @@
+mod Gate
+mod Append
+mod ReadPairs
+mod Payloads
+mod EventLoop
+mod WholeFile
+mod Sizes
+mod Emptied
+mod OnlyRead
+mod PieceLemmas
+mod Readings
+mod FirstPiece

@@ -1,0 +1,79 @@
+-- What a whole file says.
+use Rattle.std.proofs.Common.{◌≡◌, ℕ, ◌+◌, ◌<◌, List, [], ◌∷◌, ◌++◌, length, get_or, take, drop, flat_map, inr, refl, sym, ◌∙◌, ap, arith, append_assoc, length-append, take-append-drop, drop_at}
+use Rattle.std.proofs.lemmas.List.{append_cancel_left, drop_more}
+use Rattle.assign.specs.declared.events.Plan.{Plan}
+use Rattle.assign.specs.declared.events.Event.{Event}
+use Rattle.answer_journal.specs.Storable.{IsStorableSession}
+use Rattle.answer_journal.specs.Format.{MAGIC, session_tail, event_record, written}
+use Rattle.answer_journal.specs.Journal.{Spells, Bare, Records, IsDamagedAt, HasTooManyRecords, HasNoSession}
+use Rattle.answer_journal.specs.Unique.{written_split}
+use Rattle.answer_journal.specs.Found.{HasEvents, BreaksOff, Overflows, EventsRefused, Refused}
+use Rattle.answer_journal.specs.declared.fault.JFault.{JFault}
+use Rattle.answer_journal.specs.declared.fault.JFault.TheVariants as faults
+use Rattle.answer_journal.proofs.Append.{written-push}
+
+-- a file that begins with the magic, and its first gate
+pub headed : (bytes : List ℕ) → 9 < length bytes → take 8 bytes ≡ MAGIC → bytes ≡ MAGIC ++ get_or bytes 8 0 ∷ drop 9 bytes
+headed bytes long magic = sym (take-append-drop 8 bytes) ∙ (λ i. magic i ++ drop_more bytes 8 0 (omega arith) i)
+
+pub shut : (bytes : List ℕ) → 9 < length bytes → take 8 bytes ≡ MAGIC → (get_or bytes 8 0 ≡ 1 → ⊥) → HasNoSession bytes
+shut bytes long magic closed = inr (record { gate = get_or bytes 8 0; behind = drop 9 bytes; closed = closed; is = headed bytes long magic })
+
+-- the place behind a session's record and these events
+pub place_is : (plan : Plan) (voc : List ℕ) (events : List Event) (start at : ℕ) → start ≡ 9 + length (session_tail plan voc) → at ≡ start + length (flat_map event_record events) → at ≡ length (written plan voc events)
+place_is plan voc events start at begins is = omega (arith, begins, is, length-append (MAGIC ++ 1 ∷ session_tail plan voc) (flat_map event_record events), length-append MAGIC (1 ∷ session_tail plan voc))
+
+module _ (bytes : List ℕ) (long : 9 < length bytes) (magic : take 8 bytes ≡ MAGIC) (is_open : get_or bytes 8 0 ≡ 1) where
+  open_is : bytes ≡ MAGIC ++ 1 ∷ drop 9 bytes
+  open_is = headed bytes long magic ∙ ap (λ (g : ℕ). MAGIC ++ g ∷ drop 9 bytes) is_open
+
+  pub damaged_first : ((plan : Plan) (voc : List ℕ) (gate : ℕ) (behind : List ℕ) → IsStorableSession plan voc → drop 9 bytes ≡ session_tail plan voc ++ gate ∷ behind → ⊥) → IsDamagedAt 8 bytes
+  damaged_first none = record {
+    front = Bare;
+    behind = drop 9 bytes;
+    whole = tt;
+    place = refl;
+    is = open_is;
+    no_record = λ n. none n.0 n.1 n.3.gate n.3.behind n.2 (ap (λ (l : List ℕ). drop 9 l) (n.3.is ∙ written_split n.0 n.1 [] (n.3.gate ∷ n.3.behind)));
+  }
+
+  module _ (plan : Plan) (voc rest : List ℕ) (session : IsStorableSession plan voc) (spelled : drop 9 bytes ≡ session_tail plan voc ++ rest) where
+    session_is : bytes ≡ MAGIC ++ 1 ∷ (session_tail plan voc ++ rest)
+    session_is = open_is ∙ ap (λ (l : List ℕ). MAGIC ++ 1 ∷ l) spelled
+
+    -- what stands from the place behind the session's record on
+    pub rest_is : (start : ℕ) → start ≡ 9 + length (session_tail plan voc) → drop start bytes ≡ rest
+    rest_is start begins =
+        ap (λ (l : List ℕ). drop start l) (session_is ∙ sym (append_assoc (MAGIC ++ 1 ∷ []) (session_tail plan voc) rest))
+        ∙ drop_at (MAGIC ++ 1 ∷ session_tail plan voc) rest start (omega (arith, begins, length-append MAGIC (1 ∷ session_tail plan voc)))
+
+    -- behind the session's record stand these events
+    records_are : (events : List Event) (more : List ℕ) → rest ≡ flat_map event_record events ++ more → bytes ≡ written plan voc events ++ more
+    records_are events more is = session_is ∙ ap (λ (l : List ℕ). MAGIC ++ 1 ∷ (session_tail plan voc ++ l)) is ∙ sym (written_split plan voc events more)
+
+    pub spells : (events : List Event) → HasEvents rest events → Spells bytes plan voc events
+    spells events h = record { session = session; storable = h.storable; few = h.few; rest = record { gate = h.rest.gate; behind = h.rest.behind; closed = h.rest.closed; is = records_are events (h.rest.gate ∷ h.rest.behind) h.rest.is } }
+
+    pub damaged : (start at : ℕ) → start ≡ 9 + length (session_tail plan voc) → BreaksOff start at rest → IsDamagedAt at bytes
+    damaged start at begins b = record {
+      front = Records plan voc b.events;
+      behind = b.behind;
+      whole = (session, b.storable, b.few);
+      place = place_is plan voc b.events start at begins b.place;
+      is = records_are b.events (1 ∷ b.behind) b.is;
+      no_record = λ n. b.stuck n.0 n.2.gate n.2.behind n.1 (append_cancel_left (written plan voc b.events) (1 ∷ b.behind) (event_record n.0 ++ n.2.gate ∷ n.2.behind)
+          (sym (records_are b.events (1 ∷ b.behind) b.is) ∙ n.2.is ∙ ap (λ (l : List ℕ). l ++ n.2.gate ∷ n.2.behind) (written-push plan voc b.events n.0) ∙ append_assoc (written plan voc b.events) (event_record n.0) (n.2.gate ∷ n.2.behind)));
+    }
+
+    pub too_many : Overflows rest → HasTooManyRecords bytes
+    too_many o = record { plan = plan; voc = voc; events = o.events; session = session; storable = o.storable; many = o.many; rest = record { gate = o.rest.gate; behind = o.rest.behind; is = records_are o.events (o.rest.gate ∷ o.rest.behind) o.rest.is } }
+
+    pub refused : (start : ℕ) (e : JFault) → start ≡ 9 + length (session_tail plan voc) → EventsRefused start rest e → Refused bytes e
+    refused start (faults.Damaged at) begins b = (long, damaged start at begins b)
+    refused start faults.TooManyRecords begins o = (long, too_many o)
+    refused start faults.Memory begins none = tt
+    refused start faults.SessionThere begins none = none
+    refused start faults.NoSession begins none = absurd none
+    refused start faults.NotAJournal begins none = absurd none
+    refused start faults.Full begins none = none
+    refused start faults.DiskFault begins none = none

@@ -1,0 +1,34 @@
+use Rattle.std.proofs.Common.{◌≡◌, ◌∷◌, get_or, length, List, ℕ, ap, arith}
+use Rattle.answer_journal.specs.Format.{plan_byte}
+use Rattle.answer_journal.proofs.Payloads.{session_no_payload, session_payload, session_found, rest_long}
+use Rattle.answer_journal.proofs.decode.session_of.Goals as goal
+
+pub returns-in_err-payload-clause-none : goal.returns-in_err-payload-clause-none
+returns-in_err-payload-clause-none c = rw c.from_residual.ensures (session_no_payload c.args.bytes.now c.in_err-payload.ensures.none)
+
+pub returns-in_default-clause-none : goal.returns-in_default-clause-none
+returns-in_default-clause-none c plan voc gate behind session spelled =
+    let found = c.in_ok-payload.ensures.found in
+    let p = c.in_ok-payload.payload.now in
+    let is : p ≡ plan_byte plan ∷ voc = session_payload c.args.bytes.now p c.in_ok-payload.rest.now found.0 found.1 plan voc gate behind session spelled in
+    omega (arith, ap length is, c.in_default.len_below)
+
+pub returns-in_err-plan-clause-none : goal.returns-in_err-plan-clause-none
+returns-in_err-plan-clause-none c = rw c.from_residual-in_err-plan.ensures (λ plan voc gate behind session spelled.
+    let found = c.in_ok-payload.ensures.found in
+    let p = c.in_ok-payload.payload.now in
+    let is : p ≡ plan_byte plan ∷ voc = session_payload c.args.bytes.now p c.in_ok-payload.rest.now found.0 found.1 plan voc gate behind session spelled in
+    c.in_err-plan.ensures.none plan session.known (ap (λ (l : List ℕ). get_or l 0 0) is))
+
+pub returns-then-voc-gt-MOST_VOCABULARY-clause-none : goal.returns-then-voc-gt-MOST_VOCABULARY-clause-none
+returns-then-voc-gt-MOST_VOCABULARY-clause-none c plan voc gate behind session spelled =
+    let found = c.in_ok-payload.ensures.found in
+    let p = c.in_ok-payload.payload.now in
+    let is : p ≡ plan_byte plan ∷ voc = session_payload c.args.bytes.now p c.in_ok-payload.rest.now found.0 found.1 plan voc gate behind session spelled in
+    omega (arith, rest_long p (plan_byte plan) voc is, c.if-voc-gt-MOST_VOCABULARY.true, session.short)
+
+pub returns-clause-found : goal.returns-clause-found
+returns-clause-found c =
+    let found = c.in_ok-payload.ensures.found in
+    let plan_is = c.in_ok-plan.ensures.found in
+    (record { known = plan_is.0; short = c.if-voc-gt-MOST_VOCABULARY.false }, session_found c.args.bytes.now c.in_ok-payload.payload.now c.in_ok-payload.rest.now c.in_ok-plan.plan found.1 c.in-len1-up.len_at_least plan_is.1, found.2)

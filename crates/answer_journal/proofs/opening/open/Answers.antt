@@ -1,0 +1,104 @@
+use Rattle.std.proofs.Common.{◌≡◌, ◌<◌, ◌≤◌, ◌⊎◌, ◌+◌, ◌-◌, ◌++◌, ◌∙◌, ℕ, List, length, drop, inl, inr, ⊎_elim, sym, subst, arith, take_at}
+use Rattle.std.proofs.lemmas.Result.{err_from_is_err_and}
+use Rattle.answer_journal.specs.Format.{session_tail}
+use Rattle.answer_journal.specs.Heads.{IsHead}
+use Rattle.answer_journal.specs.Journal.{Spells}
+use Rattle.answer_journal.specs.Found.{EventsRefused, HasEvents}
+use Rattle.answer_journal.proofs.Sizes.{events_size}
+use Rattle.answer_journal.proofs.OnlyRead.{read_more, then_read}
+use Rattle.answer_journal.proofs.WholeFile.{damaged_first, rest_is, spells, refused, place_is}
+use Rattle.answer_journal.proofs.FirstPiece.{rest_within, none_first, start_is, spelled_first}
+use Rattle.answer_journal.proofs.opening.open.Goals as goal
+
+pub returns-in_default-clause-refused : goal.returns-in_default-clause-refused
+returns-in_default-clause-refused g c x told =
+    let o = subst (IsHead x) c.in-Open.is (c.in_ok-head.ensures.head x told) in
+    let t = c.in_ok-count.ensures.told x (c.head_of.ensures.only_read.same ∙ told) in
+    let old = c.deref_mut.result.now in
+    let whole = c.deref.ensures.value ∙ take_at c.read.new.buf _ c.in_ok-buffer.buffer.len (c.read.auto.buf ∙ c.deref_mut.ensures.len) in
+    let full : (length old ≡ 4194311) ⊎ (length x ≤ length old) =
+    ⊎_elim (λ most. inl (omega (arith, most, c.deref_mut.ensures.len, c.in_ok-buffer.ensures.len)))
+    (λ all. inr (omega (arith, all, c.in_ok-head.ensures.size x told, c.deref_mut.ensures.len, c.in_ok-buffer.ensures.len))) c.piece_size.ensures.whole in
+    let some : 0 < length old = omega (arith, c.piece_size.ensures.wide, c.deref_mut.ensures.len, c.in_ok-buffer.ensures.len) in
+    inr (o.0, damaged_first x o.0 o.1 o.2 (none_first x old c.deref.result.now c.in_ok-count.count t.0 (whole ∙ t.1) full some c.in_default.ensures.none))
+
+pub overflow_sub-start : goal.overflow_sub-start
+overflow_sub-start g c =
+    rest_within c.in_ok-count.count c.deref.result.now (session_tail c.in-Some.plan c.in-Some.voc.now) c.in-Some.rest.now c.in-Some.ensures.found.1
+
+pub returns-in_err-events-clause-refused : goal.returns-in_err-events-clause-refused
+returns-in_err-events-clause-refused g c x told =
+    let o = subst (IsHead x) c.in-Open.is (c.in_ok-head.ensures.head x told) in
+    let t = c.in_ok-count.ensures.told x (c.head_of.ensures.only_read.same ∙ told) in
+    let whole = c.deref.ensures.value ∙ take_at c.read.new.buf _ c.in_ok-buffer.buffer.len (c.read.auto.buf ∙ c.deref_mut.ensures.len) in
+    let found = c.in-Some.ensures.found in
+    let tail = session_tail c.in-Some.plan c.in-Some.voc.now in
+    let rest = c.in-Some.rest.now ++ drop c.in_ok-count.count (drop 9 x) in
+    let start = 9 + (c.in_ok-count.count - length c.in-Some.rest.now) in
+    let begins : start ≡ 9 + length tail = start_is x c.deref_mut.result.now c.deref.result.now c.in_ok-count.count t.0 (whole ∙ t.1) tail c.in-Some.rest.now found.1 start (λ i. start) in
+    let spelled : drop 9 x ≡ tail ++ rest = spelled_first x c.deref_mut.result.now c.deref.result.now c.in_ok-count.count t.0 (whole ∙ t.1) tail c.in-Some.rest.now found.1 in
+    let p = err_from_is_err_and c.from_residual-in_err-events.result c.from_residual-in_err-events.ensures.1 in
+    rw (p.1, p.2) (⊎_elim (λ failed. inl failed)
+    (λ r. inr (refused x o.0 o.1 o.2 c.in-Some.plan c.in-Some.voc.now rest found.0 spelled start c.in_err-events.field-0.0 begins
+    (subst (λ (l : List ℕ). EventsRefused start l c.in_err-events.field-0.0) (rest_is x o.0 o.1 o.2 c.in-Some.plan c.in-Some.voc.now rest found.0 spelled start begins) r)))
+    (c.in_err-events.ensures.refused x (c.read.ensures.same ∙ c.head_of.ensures.only_read.same ∙ told)))
+
+pub returns-in_err-events-clause-any_moment : goal.returns-in_err-events-clause-any_moment
+returns-in_err-events-clause-any_moment g c =
+    let D = g.D.Disk in
+    let first = read_more D.content D.may_leave D.moment D.left_since c.args.disk.now c.head_of.new.disk c.read.new.self c.head_of.ensures.only_read c.read.ensures.same c.read.ensures.crash c.read.ensures.time in
+    (then_read D.content D.may_leave D.moment D.left_since c.args.disk.now c.read.new.self c.events_of.new.disk first c.events_of.ensures.only_read).any_moment
+
+pub at-requires-clause-near : goal.at-requires-clause-near
+at-requires-clause-near g c =
+    omega (
+      arith,
+      c.in_ok-events.ensures.place,
+      c.in_ok-count.ensures.fits,
+      c.deref_mut.ensures.len,
+      c.in_ok-buffer.ensures.len,
+      c.piece_size.ensures.few,
+      c.len.ensures,
+      events_size c.in_ok-events.events.items c.in_ok-events.ensures.storable,
+    )
+
+pub returns-clause-opened : goal.returns-clause-opened
+returns-clause-opened g c x told =
+    let o = subst (IsHead x) c.in-Open.is (c.in_ok-head.ensures.head x told) in
+    let t = c.in_ok-count.ensures.told x (c.head_of.ensures.only_read.same ∙ told) in
+    let whole = c.deref.ensures.value ∙ take_at c.read.new.buf _ c.in_ok-buffer.buffer.len (c.read.auto.buf ∙ c.deref_mut.ensures.len) in
+    let found = c.in-Some.ensures.found in
+    let tail = session_tail c.in-Some.plan c.in-Some.voc.now in
+    let rest = c.in-Some.rest.now ++ drop c.in_ok-count.count (drop 9 x) in
+    let start = 9 + (c.in_ok-count.count - length c.in-Some.rest.now) in
+    let begins : start ≡ 9 + length tail = start_is x c.deref_mut.result.now c.deref.result.now c.in_ok-count.count t.0 (whole ∙ t.1) tail c.in-Some.rest.now found.1 start (λ i. start) in
+    let spelled : drop 9 x ≡ tail ++ rest = spelled_first x c.deref_mut.result.now c.deref.result.now c.in_ok-count.count t.0 (whole ∙ t.1) tail c.in-Some.rest.now found.1 in
+    let events = c.in_ok-events.events.items in
+    let h = c.in_ok-events.ensures.found x (c.read.ensures.same ∙ c.head_of.ensures.only_read.same ∙ told) in
+    let voc_is = c.in_ok-voc.ensures.items_if_clones_equal (λ a b same. same) in (
+      o.0,
+      subst (λ (l : List ℕ). Spells x c.in-Some.plan l events) (sym voc_is)
+          (spells x o.0 o.1 o.2 c.in-Some.plan c.in-Some.voc.now rest found.0 spelled events (subst (λ (l : List ℕ). HasEvents l events) (rest_is x o.0 o.1 o.2 c.in-Some.plan c.in-Some.voc.now rest found.0 spelled start begins) h)),
+    )
+
+pub returns-clause-sits : goal.returns-clause-sits
+returns-clause-sits g c x told =
+    let o = subst (IsHead x) c.in-Open.is (c.in_ok-head.ensures.head x told) in
+    let t = c.in_ok-count.ensures.told x (c.head_of.ensures.only_read.same ∙ told) in
+    let whole = c.deref.ensures.value ∙ take_at c.read.new.buf _ c.in_ok-buffer.buffer.len (c.read.auto.buf ∙ c.deref_mut.ensures.len) in
+    let found = c.in-Some.ensures.found in
+    let tail = session_tail c.in-Some.plan c.in-Some.voc.now in
+    let rest = c.in-Some.rest.now ++ drop c.in_ok-count.count (drop 9 x) in
+    let start = 9 + (c.in_ok-count.count - length c.in-Some.rest.now) in
+    let begins : start ≡ 9 + length tail = start_is x c.deref_mut.result.now c.deref.result.now c.in_ok-count.count t.0 (whole ∙ t.1) tail c.in-Some.rest.now found.1 start (λ i. start) in
+    let spelled : drop 9 x ≡ tail ++ rest = spelled_first x c.deref_mut.result.now c.deref.result.now c.in_ok-count.count t.0 (whole ∙ t.1) tail c.in-Some.rest.now found.1 in
+    let events = c.in_ok-events.events.items in
+    let h = c.in_ok-events.ensures.found x (c.read.ensures.same ∙ c.head_of.ensures.only_read.same ∙ told) in
+    record {
+      plan = c.in-Some.plan;
+      voc = c.in-Some.voc.now;
+      events = events;
+      spelled = spells x o.0 o.1 o.2 c.in-Some.plan c.in-Some.voc.now rest found.0 spelled events (subst (λ (l : List ℕ). HasEvents l events) (rest_is x o.0 o.1 o.2 c.in-Some.plan c.in-Some.voc.now rest found.0 spelled start begins) h);
+      gate = c.at.ensures.place ∙ place_is c.in-Some.plan c.in-Some.voc.now events start c.in_ok-events.at begins c.in_ok-events.ensures.place;
+      count = omega (arith, c.at.ensures.records, c.len.ensures);
+    }

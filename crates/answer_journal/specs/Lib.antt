@@ -1,0 +1,10 @@
+pub mod Format
+pub mod Storable
+pub mod Journal
+pub mod Steps
+pub mod Unique
+pub mod Place
+pub mod Pairs
+pub mod Found
+pub mod Heads
+pub mod Making

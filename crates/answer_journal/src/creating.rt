@@ -1,0 +1,109 @@
+//! Making a journal.
+
+ghost use Rattle.std.specs.Prelude.{◌≡◌, ◌≢◌, ◌<◌, ◌≤◌, ◌+◌, ◌^◌, ◌⊎◌, List, [], ◌∷◌, ◌++◌, ℕ, Some, None, IsTrue, IfOk, IfErr, IsErr, IsErrOf, OnOk, length};
+ghost use Rattle.std.specs.Option.{ForSome, ForNone};
+ghost use Rattle.disk_model.specs.Disk.{Only, LeavesOnly, Rose, HasCause};
+ghost use Rattle.answer_journal.specs.Format.{MAGIC, plan_byte, session_tail};
+ghost use Rattle.answer_journal.specs.Journal.{IsClosedAfter, HasNoSession};
+ghost use Rattle.answer_journal.specs.Steps.{IsSettled};
+ghost use Rattle.answer_journal.specs.Place.{Sits};
+ghost use Rattle.answer_journal.specs.Heads.{IsHead};
+ghost use Rattle.answer_journal.specs.Making.{StartsWith, IsCreating, CreateRefused};
+
+use crate::head::{Head, head_of};
+use crate::steps::{add_record, write_synced};
+use crate::{JFault, Journal};
+use assign::Plan;
+use disk_model::{Disk, Failed};
+use std::alloc::{AllocError, Global};
+
+/// Makes a journal on a file that holds none: with this plan, these bytes of a vocabulary, and no event.
+///
+/// `NotAJournal` and `SessionThere` are told by the first nine bytes. All memory is taken before the first write. Where the
+/// file was longer, its old bytes stay behind the new end; nothing is cut off. After `DiskFault` the file may have no session
+/// or the new one.
+pub fn create<D: Disk>(
+    alloc: Global,
+    disk: &mut D,
+    plan: Plan,
+    voc: &[u8],
+) -> Result<Journal, JFault>
+    requires known { plan ≢ Plan.Multi }
+    requires short { length voc.now ≤ 4194304 }
+    ensures created { ForSome (D.content disk.old) (λ _. OnOk result (IsSettled (D.content disk.new) (D.may_leave disk.new) (StartsWith plan voc.now))) }
+    ensures sits { ForSome (D.content disk.new) (λ bytes. IfOk result (λ j. Sits j bytes)) }
+    ensures durable { ForSome (D.content disk.new) (λ bytes. OnOk result (Only bytes (D.may_leave disk.new))) }
+    ensures live { IfOk result (λ j. IsTrue j.live) }
+    ensures records { IfOk result (λ j. j.records ≡ 1) }
+    ensures silent { ForNone (D.content disk.old) (D.content disk.new ≡ None) }
+
+    // It is made only where there is no session, and refused by what the bytes say.
+    ensures free { ForSome (D.content disk.old) (λ bytes. OnOk result (HasNoSession bytes)) }
+    ensures refused { ForSome (D.content disk.old) (λ bytes. IfErr result (CreateRefused bytes)) }
+    ensures untouched { IfErr result (λ e. (e ≡ JFault.DiskFault) ⊎ (D.content disk.new ≡ D.content disk.old)) }
+    ensures failed { IsErrOf result JFault.DiskFault → Rose (D.faults disk.old) (D.faults disk.new) }
+    ensures later { D.faults disk.old ≤ D.faults disk.new }
+
+    // A crash at any moment leaves what it might have left before, or no session, or the new one with no event.
+    ensures any_moment { ForSome (D.content disk.old) (λ _. LeavesOnly D.moment D.left_since disk.old disk.new (IsCreating (D.may_leave disk.old) plan voc.now)) }
+{
+    let (head, _) = head_of(disk)?;
+    match head {
+        Head::Foreign => return Err(JFault::NotAJournal),
+        Head::Open => return Err(JFault::SessionThere),
+        Head::Short | Head::Closed => {}
+    }
+    let rest = session_bytes(alloc, plan, voc)?;
+    empty(disk, head)?;
+    add_record(disk, 8, &rest)?;
+    Ok(Journal::at(8 + rest.len() as u64, 1))
+}
+
+/// Makes a file with no session one that has the magic and a closed gate.
+fn empty<D: Disk>(disk: &mut D, head: Head) -> Result<(), Failed>
+    requires head { ForSome (D.content disk.old) (λ bytes. IsHead bytes head) }
+    requires free { (head ≡ Head.Short) ⊎ (head ≡ Head.Closed) }
+    requires durable { ForSome (D.content disk.old) (λ bytes. Only bytes (D.may_leave disk.old)) }
+    ensures emptied { ForSome (D.content disk.old) (λ _. OnOk result (IsSettled (D.content disk.new) (D.may_leave disk.new) (IsClosedAfter MAGIC))) }
+    ensures any_moment { ForSome (D.content disk.old) (λ _. LeavesOnly D.moment D.left_since disk.old disk.new HasNoSession) }
+    ensures silent { ForNone (D.content disk.old) (D.content disk.new ≡ None) }
+    ensures cause { HasCause (D.faults disk.old) (D.faults disk.new) result }
+{
+    match head {
+        Head::Short => write_synced(
+            disk,
+            0,
+            &[0x51, 0x55, 0x41, 0x43, 0x51, 0x4a, 0x31, 0x0a, 0],
+        ),
+        Head::Foreign | Head::Closed | Head::Open => Ok(()),
+    }
+}
+
+/// The record of a session behind its gate, and a closed gate for the next.
+#[tactic(auto, unfolding(crate::specs::Format::session_tail))]
+fn session_bytes(alloc: Global, plan: Plan, voc: &[u8]) -> Result<Vec<u8>, AllocError>
+    requires { length voc.now ≤ 4194304 }
+    ensures { IfOk result (λ v. v.items ≡ session_tail plan voc.now ++ 0 ∷ []) }
+{
+    let size = (1 + voc.len() as u32).to_be_bytes();
+    let mut out = Vec::with_capacity(alloc, voc.len() + 7)?;
+    out.push(b'S')?;
+    out.push(size[0])?;
+    out.push(size[1])?;
+    out.push(size[2])?;
+    out.push(size[3])?;
+    out.push(byte_of(plan))?;
+    out.extend_from_slice(voc)?;
+    out.push(0)?;
+    Ok(out)
+}
+
+fn byte_of(plan: Plan) -> u8
+    ensures { result ≡ plan_byte plan }
+{
+    match plan {
+        Plan::Scopes => 1,
+        Plan::Quacq => 2,
+        Plan::Multi => 3,
+    }
+}

@@ -1,0 +1,86 @@
+//! Opening a journal.
+
+ghost use Rattle.std.specs.Prelude.{◌≡◌, ◌<◌, ◌≤◌, ◌+◌, ◌^◌, ◌⊎◌, List, ℕ, Some, None, IsTrue, IfOk, IfErr, IsErrOf, OnOk, All, length};
+ghost use Rattle.std.specs.Option.{ForSome, ForNone};
+ghost use Rattle.disk_model.specs.Disk.{Only, LeavesOnly, Rose};
+ghost use Rattle.answer_journal.specs.Storable.{IsStorableEvent};
+ghost use Rattle.answer_journal.specs.Journal.{ReadsAs, Session};
+ghost use Rattle.answer_journal.specs.Place.{Sits};
+ghost use Rattle.answer_journal.specs.Found.{Refused};
+
+use crate::decode::session_of;
+use crate::encode::LONGEST;
+use crate::head::{Head, head_of};
+use crate::pieces::events_of;
+use crate::{JFault, Journal};
+use assign::{Event, Plan};
+use disk_model::Disk;
+use std::alloc::Global;
+
+/// A journal and all that it says.
+#[derive(Drop)]
+pub struct Opened {
+    pub journal: Journal,
+    pub plan: Plan,
+    /// The bytes of the vocabulary.
+    pub voc: Vec<u8>,
+    /// In the order in which they were added.
+    pub events: Vec<Event>,
+}
+
+/// So many bytes are read at a time at most: the longest record of a session behind its gate, and a gate for the next.
+const PIECE: usize = 4_194_311;
+
+/// Reads a journal, after a sync. It writes nothing.
+///
+/// The file is read in pieces of at most 4,194,311 bytes, and whole records at a time are taken from them. Each question that
+/// is given has 128 options; that its values are ones that the vocabulary has isn't judged here.
+pub fn open<D: Disk>(alloc: Global, disk: &mut D) -> Result<Opened, JFault>
+    // What is read is what the bytes say, and the journal stands behind it.
+    ensures opened { ForSome (D.content disk.old) (λ bytes. IfOk result (λ o. ReadsAs bytes (Session o.plan o.voc.items o.events.items))) }
+    ensures sits { ForSome (D.content disk.old) (λ bytes. IfOk result (λ o. Sits o.journal bytes)) }
+    ensures durable { ForSome (D.content disk.old) (λ bytes. OnOk result (Only bytes (D.may_leave disk.new))) }
+    ensures live { IfOk result (λ o. IsTrue o.journal.live) }
+    ensures records { IfOk result (λ o. o.journal.records ≡ length o.events.items + 1) }
+    ensures storable { IfOk result (λ o. All IsStorableEvent o.events.items) }
+
+    // A refusal is what the bytes say.
+    ensures refused { ForSome (D.content disk.old) (λ bytes. IfErr result (λ e. (e ≡ JFault.DiskFault) ⊎ Refused bytes e)) }
+    ensures failed { IsErrOf result JFault.DiskFault → Rose (D.faults disk.old) (D.faults disk.new) }
+    ensures later { D.faults disk.old ≤ D.faults disk.new }
+
+    // It writes nothing.
+    ensures same { D.content disk.new ≡ D.content disk.old }
+    ensures any_moment { LeavesOnly D.moment D.left_since disk.old disk.new (D.may_leave disk.old) }
+{
+    let (head, size) = head_of(disk)?;
+    match head {
+        Head::Short | Head::Closed => return Err(JFault::NoSession),
+        Head::Foreign => return Err(JFault::NotAJournal),
+        Head::Open => {}
+    }
+    let mut buffer = vec![in alloc; 0u8; piece_size(size)]?;
+    let count = disk.read(9, &mut buffer)?;
+    let Some((plan, voc, rest)) = session_of(&buffer[..count]) else {
+        return Err(JFault::Damaged(8));
+    };
+    let start = 9 + (count - rest.len()) as u64;
+    let voc = voc.to_vec(alloc)?;
+    let (events, at) = events_of(alloc, disk, start, &mut buffer)?;
+    let records = events.len() as u32 + 1;
+    Ok(Opened {
+        journal: Journal::at(at, records),
+        plan,
+        voc,
+        events,
+    })
+}
+
+/// How large the buffer is: it takes the longest records, and a small file whole.
+fn piece_size(size: u64) -> usize
+    ensures wide { 264 < result }
+    ensures few { result ≤ 4194311 }
+    ensures whole { (result ≡ 4194311) ⊎ (size ≤ result) }
+{
+    (size.min(PIECE as u64) as usize).max(LONGEST + 1)
+}

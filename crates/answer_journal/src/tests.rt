@@ -1,0 +1,365 @@
+ghost use Rattle.std.specs.Prelude.{◌≡◌, ◌≤◌, length, IfOk};
+ghost use Rattle.answer_journal.specs.Storable.{IsStorableEvent};
+ghost use Rattle.disk_model.specs.MemDisk.{content_of};
+
+use crate::{JFault, Journal, Opened, create, open};
+use assign::{Event, Partial, Plan};
+use disk_model::{Disk, FuseDisk, MemDisk, Memory, Room};
+use std::alloc::{AllocError, Global};
+use std::ops::Range;
+use std::process::Abort;
+use std::test::Fail;
+
+/// 168 bytes.
+const VOCABULARY: &[u8] =
+    br#"{"variables":["a","b"],"domain":[1,2],"relations":[{"name":"eq","arity":2,"formula":["=","$0","$1"]},{"name":"ne","arity":2,"formula":["!=","$0","$1"]}],"scopes":"all"}"#;
+
+/// What stands before the vocabulary where the plan is `Quacq`.
+const FRONT: &[u8] = b"QUACQJ1\n\x01S\x00\x00\x00\xa9\x02";
+
+/// The record of the answer yes to `a=1 b=2`, from its gate on.
+const ANSWER: &[u8] = &[1, 0x41, 0, 0, 0, 6, 1, 2, 0, 0, 1, 1];
+
+const ROOM: Room = Room {
+    bytes: 1000,
+    calls: 20,
+};
+
+/// How a file opens.
+#[derive(Clone, Copy, Debug, PartialEq, Eq)]
+enum Reads {
+    Refused(JFault),
+    /// So many events are there.
+    Events(usize),
+}
+
+fn reads_of(read: &Result<Opened, JFault>) -> Reads {
+    match read {
+        Ok(opened) => Reads::Events(opened.events.len()),
+        Err(fault) => Reads::Refused(*fault),
+    }
+}
+
+fn answer(yes: bool) -> Event
+    ensures { IsStorableEvent result }
+{
+    let mut question = Partial::blank(128);
+    question.set(0, 0);
+    question.set(1, 1);
+    Event::Answer { question, yes }
+}
+
+fn disk_with(rt: &impl Abort, alloc: Global, content: &[u8]) -> Result<MemDisk, Memory>
+    ensures { IfOk result (λ disk. content_of disk ≡ content.now) }
+{
+    assert!(rt; content.len() <= 1000);
+    MemDisk::new(alloc, content.to_vec(alloc)?, Vec::new(alloc), ROOM)
+}
+
+/// A journal with the worked vocabulary, of so many of the worked answers, and a closed gate.
+fn worked_file(alloc: Global, answers: u32) -> Result<Vec<u8>, AllocError> {
+    let mut bytes = FRONT.to_vec(alloc)?;
+    bytes.extend_from_slice(VOCABULARY)?;
+    for _ in 0..answers {
+        bytes.extend_from_slice(ANSWER)?;
+    }
+    bytes.push(0)?;
+    Ok(bytes)
+}
+
+#[test]
+fn the_worked_bytes(rt: HostRuntime) -> Result<(), Fail> {
+    let alloc = rt.alloc();
+    let mut disk = disk_with(&rt, alloc, &[])?;
+    let mut journal = create(alloc, &mut disk, Plan::Quacq, VOCABULARY)?;
+    assert_eq!(rt; disk.content(), worked_file(alloc, 0)?.as_slice());
+    assert_eq!(rt; disk.content().len(), 184);
+    let event = answer(true);
+    journal.append(&mut disk, &event)?;
+    assert_eq!(rt; disk.content(), worked_file(alloc, 1)?.as_slice());
+    assert_eq!(rt; disk.content().len(), 196);
+    let opened = open(alloc, &mut disk)?;
+    assert_eq!(rt; opened.journal.records(), 2);
+    assert_eq!(rt; opened.plan, Plan::Quacq);
+    assert_eq!(rt; opened.voc.as_slice(), VOCABULARY);
+    assert_eq!(rt; opened.events.as_slice(), [event].as_slice());
+    Ok(())
+}
+
+/// The worked file cut to each length from the first to the last number.
+static CUTS: [(usize, usize, Reads); 4] = [
+    (0, 9, Reads::Refused(JFault::NoSession)),
+    (10, 183, Reads::Refused(JFault::Damaged(8))),
+    (184, 195, Reads::Refused(JFault::Damaged(183))),
+    (196, 196, Reads::Events(1)),
+];
+
+#[test]
+fn each_cut_of_the_worked_file(rt: HostRuntime) -> Result<(), Fail> {
+    let alloc = rt.alloc();
+    for (first, last, wanted) in &CUTS {
+        for size in *first..=*last {
+            let mut bytes = worked_file(alloc, 1)?;
+            bytes.truncate(size);
+            let mut disk = disk_with(&rt, alloc, &bytes)?;
+            assert_eq!(rt; reads_of(&open(alloc, &mut disk)), *wanted, "cut to {size}");
+        }
+    }
+    Ok(())
+}
+
+/// A byte of the worked file changed: the first and last of these places, the first and last of these values, and how the
+/// file opens. The first row that fits is meant.
+type Change = (usize, usize, u8, u8, Reads);
+
+/// In the record of the session. Its length gives the vocabulary other bytes, and other places to the next gate.
+static SESSION_CHANGES: [Change; 12] = [
+    (0, 7, 0, 255, Reads::Refused(JFault::NotAJournal)),
+    (8, 8, 0, 255, Reads::Refused(JFault::NoSession)),
+    (9, 12, 0, 255, Reads::Refused(JFault::Damaged(8))),
+    (13, 13, 0, 0, Reads::Refused(JFault::Damaged(8))),
+    (13, 13, 175, 175, Reads::Refused(JFault::Damaged(189))),
+    (13, 13, 179, 179, Reads::Refused(JFault::Damaged(193))),
+    (13, 13, 180, 180, Reads::Refused(JFault::Damaged(194))),
+    (13, 13, 182, 255, Reads::Refused(JFault::Damaged(8))),
+    (13, 13, 1, 181, Reads::Events(0)),
+    (14, 14, 1, 1, Reads::Events(1)),
+    (14, 14, 0, 255, Reads::Refused(JFault::Damaged(8))),
+    (15, 182, 0, 255, Reads::Events(1)),
+];
+
+/// In the record of the answer, and at the closed gate.
+static ANSWER_CHANGES: [Change; 11] = [
+    (183, 183, 0, 255, Reads::Events(0)),
+    (189, 189, 0, 0, Reads::Events(1)),
+    (184, 191, 0, 255, Reads::Refused(JFault::Damaged(183))),
+    (192, 192, 0, 63, Reads::Events(1)),
+    (192, 192, 64, 255, Reads::Refused(JFault::Damaged(183))),
+    (193, 193, 1, 127, Reads::Events(1)),
+    (193, 193, 0, 255, Reads::Refused(JFault::Damaged(183))),
+    (194, 194, 0, 63, Reads::Events(1)),
+    (194, 194, 64, 255, Reads::Refused(JFault::Damaged(183))),
+    (195, 195, 1, 1, Reads::Refused(JFault::Damaged(195))),
+    (195, 195, 0, 255, Reads::Events(1)),
+];
+
+fn wanted_at(changes: &[Change], place: usize, value: u8) -> Option<Reads> {
+    for (first, last, least, most, reads) in changes {
+        if *first <= place && place <= *last && *least <= value && value <= *most {
+            return Some(*reads);
+        }
+    }
+    None
+}
+
+/// What is read is what stands there.
+fn check_session(rt: &impl Abort, bytes: &[u8], opened: &Opened) {
+    assert_eq!(rt; bytes.len(), 196);
+    assert!(rt; bytes[13] > 0);
+    let voc_end = 14 + bytes[13] as usize;
+    assert_eq!(rt; opened.plan == Plan::Scopes, bytes[14] == 1);
+    assert_eq!(rt; Some(opened.voc.as_slice()), bytes.get(15..voc_end));
+    for event in &opened.events {
+        let Event::Answer { question, yes } = event;
+        assert_eq!(rt; question.len(), 128);
+        assert_eq!(rt; question.vars().len(), 2);
+        assert_eq!(rt; question.get(bytes[191]), Some(bytes[192]));
+        assert_eq!(rt; question.get(bytes[193]), Some(bytes[194]));
+        assert_eq!(rt; *yes, bytes[189] == 1);
+    }
+}
+
+/// Opens the worked file with a byte changed, to each value that it hasn't.
+fn check_changes(
+    rt: &impl Abort,
+    alloc: Global,
+    places: Range<usize>,
+    changes: &[Change],
+) -> Result<(), Fail> {
+    for place in places {
+        for value in 0..=255u8 {
+            let mut bytes = worked_file(alloc, 1)?;
+            let Some(byte) = bytes.get_mut(place) else {
+                continue;
+            };
+            if *byte == value {
+                continue;
+            }
+            *byte = value;
+            let mut disk = disk_with(rt, alloc, &bytes)?;
+            let read = open(alloc, &mut disk);
+            assert_eq!(rt;
+                wanted_at(changes, place, value),
+                Some(reads_of(&read)),
+                "{value} at {place}"
+            );
+            if let Ok(opened) = read {
+                check_session(rt, &bytes, &opened);
+            }
+        }
+    }
+    Ok(())
+}
+
+#[test]
+fn each_change_in_the_record_of_the_session(rt: HostRuntime) -> Result<(), Fail> {
+    check_changes(&rt, rt.alloc(), 0..183, &SESSION_CHANGES)
+}
+
+#[test]
+fn each_change_in_the_record_of_an_answer(rt: HostRuntime) -> Result<(), Fail> {
+    check_changes(&rt, rt.alloc(), 183..196, &ANSWER_CHANGES)
+}
+
+/// Makes a journal with a short vocabulary, and adds two answers.
+fn make<D: Disk>(alloc: Global, disk: &mut D) -> Result<Journal, JFault> {
+    let mut journal = create(alloc, disk, Plan::Scopes, b"voc")?;
+    journal.append(disk, &answer(true))?;
+    journal.append(disk, &answer(false))?;
+    Ok(journal)
+}
+
+/// So many calls to the disk pass, from the first to the last number, and then each fails: whether that much is
+/// acknowledged, and how the file opens. Making takes eight calls on an empty file, and an answer takes four.
+static PASSES: [(u32, u32, bool, Reads); 8] = [
+    (0, 6, false, Reads::Refused(JFault::NoSession)),
+    (7, 7, false, Reads::Events(0)),
+    (8, 10, false, Reads::Events(0)),
+    (11, 11, false, Reads::Events(1)),
+    (12, 14, false, Reads::Events(1)),
+    (15, 15, false, Reads::Events(2)),
+    (16, 16, true, Reads::Events(2)),
+    (17, 18, true, Reads::Events(2)),
+];
+
+#[test]
+fn each_failing_call(rt: HostRuntime) -> Result<(), Fail> {
+    let alloc = rt.alloc();
+    for (first, last, passes, wanted) in &PASSES {
+        for count in *first..=*last {
+            let mut disk = FuseDisk::new(disk_with(&rt, alloc, &[])?, count);
+            let made = make(alloc, &mut disk);
+            assert_eq!(rt; made.is_ok(), *passes, "after {count} calls");
+            let mut inner = disk.into_inner();
+            assert_eq!(rt;
+                reads_of(&open(alloc, &mut inner)),
+                *wanted,
+                "after {count} calls"
+            );
+        }
+    }
+    Ok(())
+}
+
+/// From the first to the last of these moments a crash leaves one of these, and each of them is left by some. Making is
+/// acknowledged at moment 7, the answers are at 11 and 15.
+static LEFT: [(usize, usize, &[Reads]); 7] = [
+    (0, 5, &[Reads::Refused(JFault::NoSession)]),
+    (6, 6, &[Reads::Refused(JFault::NoSession), Reads::Events(0)]),
+    (7, 9, &[Reads::Events(0)]),
+    (10, 10, &[Reads::Events(0), Reads::Events(1)]),
+    (11, 13, &[Reads::Events(1)]),
+    (14, 14, &[Reads::Events(1), Reads::Events(2)]),
+    (15, 15, &[Reads::Events(2)]),
+];
+
+#[test]
+fn each_crash(rt: HostRuntime) -> Result<(), Fail> {
+    let alloc = rt.alloc();
+    let mut disk = disk_with(&rt, alloc, &[])?;
+    make(alloc, &mut disk)?;
+    assert_eq!(rt; disk.moments(), 15);
+    for (first, last, wanted) in &LEFT {
+        for moment in *first..=*last {
+            let mut found = Vec::new(alloc);
+            for garbage in [0, 1] {
+                assert!(rt; moment <= disk.moments());
+                for image in &disk.images_at(alloc, moment, garbage)? {
+                    let mut left = disk_with(&rt, alloc, image)?;
+                    let read = reads_of(&open(alloc, &mut left));
+                    assert!(rt; wanted.contains(&read), "{read:?} at {moment}");
+                    found.push(read)?;
+                }
+            }
+            assert!(rt;
+                wanted.iter().all(|read| found.contains(read)),
+                "at {moment}"
+            );
+        }
+    }
+    Ok(())
+}
+
+/// What stands in a file where a journal was made in place of nothing.
+const MADE: &[u8] = b"QUACQJ1\n\x01S\x00\x00\x00\x04\x02voc\x00";
+
+/// A file, why no journal is made on it, what stands there after the call, and how it opens. Bytes behind the new end stay.
+static MADE_OVER: [(&[u8], Option<JFault>, &[u8], Reads); 7] = [
+    (b"", None, MADE, Reads::Events(0)),
+    (b"123456789", None, MADE, Reads::Events(0)),
+    (b"QUACQJ1\n\x01", None, MADE, Reads::Events(0)),
+    (
+        b"QUACQJ1\n\x02\x01\x01\x01\x01\x01\x01\x01\x01\x01\x01\x01",
+        None,
+        b"QUACQJ1\n\x01S\x00\x00\x00\x04\x02voc\x00\x01",
+        Reads::Events(0),
+    ),
+    (
+        b"QUACQJ1\n\x01\x00",
+        Some(JFault::SessionThere),
+        b"QUACQJ1\n\x01\x00",
+        Reads::Refused(JFault::Damaged(8)),
+    ),
+    (
+        b"QUACQJ2\n\x00\x00",
+        Some(JFault::NotAJournal),
+        b"QUACQJ2\n\x00\x00",
+        Reads::Refused(JFault::NotAJournal),
+    ),
+    (
+        b"1234567890",
+        Some(JFault::NotAJournal),
+        b"1234567890",
+        Reads::Refused(JFault::NotAJournal),
+    ),
+];
+
+#[test]
+fn a_journal_is_made_where_none_is(rt: HostRuntime) -> Result<(), Fail> {
+    let alloc = rt.alloc();
+    for (before, fault, after, wanted) in &MADE_OVER {
+        let mut disk = disk_with(&rt, alloc, before)?;
+        let made = create(alloc, &mut disk, Plan::Quacq, b"voc");
+        assert_eq!(rt; made.err(), *fault);
+        assert_eq!(rt; disk.content(), *after);
+        assert_eq!(rt; reads_of(&open(alloc, &mut disk)), *wanted);
+    }
+    Ok(())
+}
+
+/// The longest record: a value for each of 128 variables. It is read, and added once more.
+#[test]
+fn the_longest_answer(rt: HostRuntime) -> Result<(), Fail> {
+    let alloc = rt.alloc();
+    let mut record = [1, 0x41, 0, 0, 1, 2, 0, 128].to_vec(alloc)?;
+    for variable in 0..128u8 {
+        record.push(variable)?;
+        record.push(variable / 2)?;
+    }
+    let mut bytes = b"QUACQJ1\n\x01S\x00\x00\x00\x01\x01".to_vec(alloc)?;
+    bytes.extend_from_slice(&record)?;
+    bytes.push(0)?;
+    let mut disk = disk_with(&rt, alloc, &bytes)?;
+    let mut opened = open(alloc, &mut disk)?;
+    assert_eq!(rt; opened.events.len(), 1);
+    let Some(event) = opened.events.pop() else {
+        return Ok(());
+    };
+    opened.journal.append(&mut disk, &event)?;
+    bytes.pop();
+    bytes.extend_from_slice(&record)?;
+    bytes.push(0)?;
+    assert_eq!(rt; disk.content(), bytes.as_slice());
+    assert_eq!(rt; reads_of(&open(alloc, &mut disk)), Reads::Events(2));
+    Ok(())
+}
