@@ -1,6 +1,15 @@
+ghost use Rattle.std.specs.Prelude.{◌<◌, length};
+ghost use Rattle.language.specs.Language.{IsCandidate};
+
 use crate::{read_vocabulary, voc_text};
+use language::{Candidate, Language, ScopeId};
+use rel_table::Table;
 use std::alloc::{AllocError, Global};
 use std::test::Fail;
+
+/// A vocabulary that is taken.
+const SMALL: &str =
+    r#"{"variables":["a","b"],"domain":[1,2],"relations":[{"name":"eq","arity":2,"tuples":[[1,1],[2,2]]},{"name":"ne","arity":2,"tuples":[[1,2],[2,1]]},{"name":"none","arity":2,"tuples":[]}],"scopes":"all"}"#;
 
 /// What reading answers: the text of the refusal, or `taken`.
 fn told(alloc: Global, vocabulary: &[u8]) -> Result<String, AllocError> {
@@ -222,5 +231,154 @@ fn the_first_fault_of_the_relations_is_told(rt: HostRuntime) -> Result<(), Fail>
     let before = r#"{"variables":["a","b"],"domain":[1,2],"relations":"#;
     let wrong = first_wrong(rt.alloc(), RELATION_PAIRS, before, r#","scopes":"all"}"#)?;
     assert_eq!(rt; wrong.as_str(), "");
+    Ok(())
+}
+
+/// So many variables with names of their own.
+fn of_variables(alloc: Global, count: u32) -> Result<String, AllocError> {
+    let mut names = String::from_str(alloc, "\"v0\"")?;
+    for i in 1..count {
+        names.push_str(format!(in alloc; ",\"v{i}\"")?.as_str())?;
+    }
+    format!(in alloc;
+        r#"{{"variables":[{names}],"domain":[1,2],"relations":[{{"name":"none","arity":2,"tuples":[]}}],"scopes":"all"}}"#
+    )
+}
+
+/// So many relations, each of which accepts one tuple more than the one before.
+fn of_relations(alloc: Global, count: u32) -> Result<String, AllocError> {
+    let mut tuples = String::from_str(alloc, "[1,1]")?;
+    let mut relations = String::from_str(alloc, r#"{"name":"r0","arity":2,"tuples":[[1,1]]}"#)?;
+    for i in 1..count {
+        let (first, second) = (i / 9 + 1, i % 9 + 1);
+        tuples.push_str(format!(in alloc; ",[{first},{second}]")?.as_str())?;
+        let relation = format!(in alloc; r#",{{"name":"r{i}","arity":2,"tuples":[{tuples}]}}"#)?;
+        relations.push_str(relation.as_str())?;
+    }
+    format!(in alloc;
+        r#"{{"variables":["a","b"],"domain":[1,9],"relations":[{relations}],"scopes":"all"}}"#
+    )
+}
+
+#[test]
+fn counts(rt: HostRuntime) -> Result<(), Fail> {
+    let alloc = rt.alloc();
+    for (count, wanted) in [(1, "taken"), (128, "taken"), (129, "too many variables")] {
+        let vocabulary = of_variables(alloc, count)?;
+        assert_eq!(rt;
+            told(alloc, vocabulary.as_bytes())?.as_str(),
+            wanted,
+            "{count}"
+        );
+    }
+    for (count, wanted) in [(1, "taken"), (64, "taken"), (65, "too many relations 2")] {
+        let vocabulary = of_relations(alloc, count)?;
+        assert_eq!(rt;
+            told(alloc, vocabulary.as_bytes())?.as_str(),
+            wanted,
+            "{count}"
+        );
+    }
+    Ok(())
+}
+
+#[test]
+fn what_is_no_json(rt: HostRuntime) -> Result<(), Fail> {
+    let alloc = rt.alloc();
+    let whole = SMALL.as_bytes();
+    for end in 0..whole.len() {
+        assert_eq!(rt; told(alloc, &whole[..end])?.as_str(), "not json", "{end}");
+    }
+    let others: [&[u8]; 4] = [b"\xff", b"{}\x80", b"\"\xc3\"", b"[\"\xed\xa0\x80\"]"];
+    for other in others {
+        assert_eq!(rt; told(alloc, other)?.as_str(), "not json");
+    }
+    for (depth, wanted) in [
+        (1, "wrong kind whole"),
+        (127, "wrong kind whole"),
+        (128, "not json"),
+    ] {
+        let mut nested = vec![in alloc; b'['; depth]?;
+        nested.extend_from_slice(&vec![in alloc; b']'; depth]?)?;
+        assert_eq!(rt; told(alloc, &nested)?.as_str(), wanted, "{depth}");
+    }
+    Ok(())
+}
+
+#[test]
+fn lengths(rt: HostRuntime) -> Result<(), Fail> {
+    let alloc = rt.alloc();
+    for (length, of_brackets, of_small) in [
+        (4_194_303, "not json", "taken"),
+        (4_194_304, "not json", "taken"),
+        (4_194_305, "too long", "too long"),
+    ] {
+        let brackets = vec![in alloc; b'['; length]?;
+        assert_eq!(rt; told(alloc, &brackets)?.as_str(), of_brackets, "{length}");
+        let mut padded = vec![in alloc; b' '; length - SMALL.len()]?;
+        padded.extend_from_slice(SMALL.as_bytes())?;
+        assert_eq!(rt; told(alloc, &padded)?.as_str(), of_small, "{length}");
+    }
+    Ok(())
+}
+
+/// The truth of each tuple of a relation, in table order.
+fn truth(alloc: Global, table: &Table) -> Result<String, AllocError> {
+    let mut text = String::new(alloc);
+    for place in 0..table.size() {
+        let bit = u8::from(table.at(place));
+        text.push_str(format!(in alloc; "{bit}")?.as_str())?;
+    }
+    Ok(text)
+}
+
+/// A candidate and the truth of each of its tuples.
+fn candidate_shown(alloc: Global, language: &Language, c: Candidate) -> Result<String, Fail>
+    requires { IsCandidate language.now c }
+{
+    let text = language.candidate_text(alloc, c)?;
+    let truth = truth(alloc, language.table_on(c.scope, c.rel))?;
+    Ok(format!(in alloc; ", {text} {truth}")?)
+}
+
+/// The candidates on a scope.
+fn scope_shown(alloc: Global, language: &Language, scope: ScopeId) -> Result<String, Fail>
+    requires { scope < length language.now.scopes }
+{
+    let mut text = String::new(alloc);
+    for rel in 0..language.relations_on(scope) {
+        let shown = candidate_shown(alloc, language, Candidate { scope, rel })?;
+        text.push_str(shown.as_str())?;
+    }
+    Ok(text)
+}
+
+/// How many variables and values there are, and the candidates.
+fn shown(alloc: Global, language: &Language) -> Result<String, Fail> {
+    let mut text = format!(in alloc; "{} variables, {} values", language.n(), language.d())?;
+    for scope in 0..language.scopes() {
+        text.push_str(scope_shown(alloc, language, scope as ScopeId)?.as_str())?;
+    }
+    Ok(text)
+}
+
+/// What a language shows, and its vocabulary.
+const LANGUAGES: &str =
+    r#"1 variables, 2 values | {"variables":["a"],"domain":[1,2],"relations":[{"name":"eq","arity":2,"tuples":[[1,1],[2,2]]}],"scopes":"all"}
+2 variables, 1 values, eq a b 1 | {"variables":["a","b"],"domain":[7,7],"relations":[{"name":"eq","arity":2,"tuples":[[7,7]]}],"scopes":"all"}
+2 variables, 2 values, eq a b 1001, ne a b 0110, eq&ne&none a b 0000 | {"variables":["a","b"],"domain":[1,2],"relations":[{"name":"eq","arity":2,"tuples":[[1,1],[2,2]]},{"name":"ne","arity":2,"tuples":[[1,2],[2,1]]},{"name":"none","arity":2,"tuples":[]}],"scopes":"all"}
+2 variables, 2 values, eq b a 1001, ne b a 0110, none&ne&eq b a 0000 | {"variables":["b","a"],"domain":[1,2],"relations":[{"name":"none","arity":2,"tuples":[]},{"name":"ne","arity":2,"tuples":[[2,1],[1,2]]},{"name":"eq","arity":2,"tuples":[[1,1],[2,2]]}],"scopes":"all"}
+2 variables, 2 values, eq&same a b 1001 | {"variables":["a","b"],"domain":[0,1],"relations":[{"name":"eq","arity":2,"tuples":[[0,0],[1,1]]},{"name":"same","arity":2,"tuples":[[1,1],[0,0],[1,1]]}],"scopes":"all"}
+3 variables, 3 values, lt x y 011001000, lt x z 011001000, lt y z 011001000 | {"variables":["x","y","z"],"domain":[-1,1],"relations":[{"name":"lt","arity":2,"tuples":[[-1,0],[-1,1],[0,1]]}],"scopes":"all"}
+2 variables, 2 values, le a b 1101, ge a b 1011, le&ge&eq a b 1001 | {"variables":["a","b"],"domain":[1,2],"relations":[{"name":"le","arity":2,"tuples":[[1,1],[1,2],[2,2]]},{"name":"ge","arity":2,"tuples":[[1,1],[2,1],[2,2]]},{"name":"eq","arity":2,"tuples":[[1,1],[2,2]]}],"scopes":"all"}"#;
+
+#[test]
+fn languages(rt: HostRuntime) -> Result<(), Fail> {
+    let alloc = rt.alloc();
+    for line in LANGUAGES.lines() {
+        let (wanted, vocabulary) = line.split_once(" | ").unwrap_or((line, ""));
+        let language = read_vocabulary(alloc, vocabulary.as_bytes())?;
+        assert_eq!(rt; shown(alloc, &language)?.as_str(), wanted);
+    }
     Ok(())
 }
