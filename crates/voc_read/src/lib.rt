@@ -10,6 +10,8 @@ mod outline;
 mod parsing;
 mod reading;
 mod relations;
+#[cfg(test)]
+mod tests;
 mod text;
 mod values;
 
