@@ -39,7 +39,7 @@ pub is_marked-get : (words : List ℕ) (at : ℕ) → nat_eq (bit_and (get_or wo
 unfolding is_marked
 is_marked-get words at = ap (λ b. nat_eq b 1) (shr_and_one (get_or words (at / 64) 0) (at % 64))
 
-is_marked-bit : (words : List ℕ) (k v : ℕ) → v < 64 → nat_eq (bit_at (get_or words k 0) v) 1 ≡ is_marked words (k * 64 + v)
+pub is_marked-bit : (words : List ℕ) (k v : ℕ) → v < 64 → nat_eq (bit_at (get_or words k 0) v) 1 ≡ is_marked words (k * 64 + v)
 unfolding is_marked
 is_marked-bit words k v low = λ i. nat_eq (bit_at (get_or words (sym (div-mul-add k 64 v low) i) 0) (sym (mod-mul-add k 64 v low) i)) 1
 
@@ -185,7 +185,7 @@ both_are xs ys count p q =
 
 -- ---- equal lists have equal words
 
-same_bit : (x y : ℕ) → x < 2 → y < 2 → nat_eq x 1 ≡ nat_eq y 1 → x ≡ y
+pub same_bit : (x y : ℕ) → x < 2 → y < 2 → nat_eq x 1 ≡ nat_eq y 1 → x ≡ y
 same_bit zero zero h k e = refl
 same_bit zero (suc zero) h k e = cc
 same_bit (suc zero) zero h k e = cc

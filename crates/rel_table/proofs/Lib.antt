@@ -5,3 +5,8 @@ pub mod Same
 pub mod Marking
 pub mod Tables
 pub mod BitLemmas
+pub mod AboveLemmas
+pub mod Pairwise
+pub mod Falling
+pub mod Inserting
+pub mod Growing

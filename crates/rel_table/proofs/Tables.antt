@@ -60,7 +60,7 @@ map_agree_where t f g (u ∷ us) none h = let parts = or_parts (t u) (list_any t
 pub same_table : (d a : ℕ) (r q : Relation) (t : List ℕ → Bool) → length r ≡ d ^ a → length q ≡ d ^ a → list_any t (tuples d a) ≡ false → ((u : List ℕ) → t u ≡ false → holds d r u ≡ holds d q u) → r ≡ q
 same_table d a r q t h k none agree = sym (table_is d a r h) ∙ map_agree_where t (holds d r) (holds d q) (tuples d a) none agree ∙ table_is d a q k
 
-not_above_itself : (r : Relation) → is_above r r ≡ false
+pub not_above_itself : (r : Relation) → is_above r r ≡ false
 not_above_itself [] = refl
 not_above_itself (true ∷ r) = not_above_itself r
 not_above_itself (false ∷ r) = not_above_itself r

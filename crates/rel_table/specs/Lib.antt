@@ -4,3 +4,6 @@ pub mod Inside
 pub mod Made
 pub mod Bits
 pub mod InsideBits
+pub mod InOrder
+pub mod Closing
+pub mod InsideClosed

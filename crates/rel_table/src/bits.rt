@@ -1,9 +1,10 @@
 //! Lists of truth values as bits, 64 to a machine word.
 
-ghost use Rattle.std.specs.Prelude.{◌≡◌, ◌<◌, ◌↔◌, ℕ, length, map, replicate, set, slice_index_or, IsTrue, IfOk, Bool, false, true, if◌then◌else◌, nat_eq, bit_and};
+ghost use Rattle.std.specs.Prelude.{◌≡◌, ◌≢◌, ◌<◌, ◌↔◌, ℕ, length, map, replicate, set, slice_index_or, IsTrue, IfOk, Bool, false, true, if◌then◌else◌, nat_eq, bit_and};
 ghost use Rattle.std.specs.List.{list_all, zip};
 ghost use Rattle.std.specs.Int.{bit_not, w64};
-ghost use Rattle.rel_table.specs.Relation.{meet};
+ghost use Rattle.rel_table.specs.Relation.{meet, is_above};
+ghost use Rattle.rel_table.specs.Bits.{DifferFirst, Compares};
 
 use std::alloc::{AllocError, Global};
 use std::marker::Model;
@@ -78,7 +79,15 @@ impl Bits {
     pub(crate) fn equals(&self, other: &Bits) -> bool
         ensures { IsTrue result ↔ (self.now ≡ other.now) }
     {
-        self.count == other.count && self.words == other.words
+        self.count == other.count && are_same(&self.words, &other.words)
+    }
+
+    /// Whether this list is true at the first place where the two differ.
+    pub(crate) fn is_above(&self, other: &Bits) -> bool
+        requires { length self.now ≡ length other.now }
+        ensures { result ≡ is_above self.now other.now }
+    {
+        has_first_other(&self.words, &other.words)
     }
 
     /// Whether the other list is true where this one is, as far as both go.
@@ -105,11 +114,39 @@ impl Bits {
     }
 }
 
+/// Whether the first word has the least bit that isn't the same in both.
+fn has_first_other_bit(x: u64, y: u64) -> bool
+    requires { x ≢ y }
+    ensures { DifferFirst x y result }
+{
+    (x >> (x ^ y).trailing_zeros()) & 1 == 1
+}
+
+/// Where two lists of words first differ, whether the first one has a one there.
+fn has_first_other(a: &[u64], b: &[u64]) -> bool
+    requires { length a.now ≡ length b.now }
+    ensures { Compares a.now b.now result }
+{
+    for i in 0..a.len() {
+        if a[i] != b[i] {
+            return has_first_other_bit(a[i], b[i]);
+        }
+    }
+    false
+}
+
 /// So many words without a one.
 fn zero_words(alloc: Global, count: usize) -> Result<Vec<u64>, AllocError>
     ensures { IfOk result (λ v. v.items ≡ replicate count 0) }
 {
     vec![in alloc; 0; count]
+}
+
+/// Whether each word is the same.
+fn are_same(a: &[u64], b: &[u64]) -> bool
+    ensures { IsTrue result ↔ (a.now ≡ b.now) }
+{
+    a == b
 }
 
 /// The ones that both have, word by word.

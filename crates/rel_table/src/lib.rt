@@ -3,10 +3,12 @@
 #![tactic(auto)]
 
 mod bits;
+mod closing;
 mod places;
 mod table;
 #[cfg(test)]
 mod tests;
 
+pub use closing::{Closed, close};
 pub use places::tuple_of;
 pub use table::{CloseFault, MOST_PLACES, Memory, Table, TableFault, place_of, table_size};

@@ -1,6 +1,6 @@
 ghost use Rattle.std.specs.Prelude.{◌≡◌, ◌+◌, ◌-◌, ◌*◌, ◌^◌, ◌<◌, ◌≤◌, ◌≢◌, ◌↔◌, ℤ, pos, negsuc, ◌≤ℤ◌, length, replicate, IsTrue, IfOk, IfErr, OnOk, Option, Some, None, Ok, Err, Bool, false, true, if◌then◌else◌, All};
 ghost use Rattle.std.specs.List.{list_all, zip};
-ghost use Rattle.rel_table.specs.Relation.{place, holds, meet};
+ghost use Rattle.rel_table.specs.Relation.{place, holds, meet, is_above};
 ghost use Rattle.rel_table.specs.Table.{truth_at, IsTable};
 ghost use Rattle.rel_table.specs.Made.{arity_of, size_for, size_of, is_shown, index_of, place_of_shown, tuple_fault, first_fault, refusal_of, IsMade, Marks, lists};
 
@@ -208,6 +208,15 @@ impl Table {
             return false;
         }
         self.truth.equals(&o.truth)
+    }
+
+    /// Whether this relation comes before the other in falling order: it has the first tuple that is in one of them alone.
+    pub(crate) fn is_above(&self, o: &Table) -> bool
+        requires arity { self.now.arity ≡ o.now.arity }
+        requires values { self.now.value_count ≡ o.now.value_count }
+        ensures { result ≡ is_above self.now.truth o.now.truth }
+    {
+        self.truth.is_above(&o.truth)
     }
 
     /// The intersection, 64 tuples at a time: a new relation with the tuples that are in both.

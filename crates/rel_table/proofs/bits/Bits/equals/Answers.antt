@@ -1,6 +1,5 @@
 use Rattle.std.proofs.Common.{◌≡◌, ℕ, List, sym, ◌∙◌, ap, subst}
 use Rattle.std.proofs.lemmas.Bool.{eqb-true, eq-eqb}
-use Rattle.std.proofs.lemmas.Slice.Eq.{bytes_eq-Decides}
 use Rattle.rel_table.specs.Bits.{values_of, IsPacked}
 use Rattle.rel_table.proofs.BitLemmas.{count_of, same_words}
 use Rattle.rel_table.proofs.bits.Bits.equals.Goals as goal
@@ -12,8 +11,9 @@ returns-then-self-other c =
     let n = c.self.inside.count in
     let same : c.other.inside.count ≡ n = sym c.if-self-other.true in
     let other = ap (values_of ys) (sym same) ∙ c.other.view_is in (
-      λ on. sym c.self.view_is ∙ ap (λ (ws : List ℕ). values_of ws n) ((bytes_eq-Decides xs ys).0 (sym c.eq.ensures ∙ on)) ∙ other,
-      λ e. c.eq.ensures ∙ (bytes_eq-Decides xs ys).1 (same_words xs ys n c.self.invariant (subst (IsPacked ys) same c.other.invariant) (c.self.view_is ∙ e ∙ sym other)),
+      λ on. sym c.self.view_is ∙ ap (λ (ws : List ℕ). values_of ws n) (sym c.deref.ensures.value ∙ c.are_same.ensures.0 on ∙ c.deref-then-self-other.ensures.value) ∙ other,
+      λ e. c.are_same.ensures.1 (c.deref.ensures.value ∙ same_words xs ys n c.self.invariant (subst (IsPacked ys) same c.other.invariant) (c.self.view_is ∙ e ∙ sym other)
+          ∙ sym c.deref-then-self-other.ensures.value),
     )
 
 pub returns-else-self-other : goal.returns-else-self-other
