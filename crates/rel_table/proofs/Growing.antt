@@ -1,12 +1,12 @@
 -- One more relation, and its intersections with all that stand, keep relations closed.
 use Rattle.std.proofs.Common.{◌≡◌, ◌≢◌, ℕ, zero, suc, ◌+◌, ◌-◌, ◌<◌, ◌≤◌, Bool, true, false, ◌&&◌, List, Vec, [], ◌∷◌, ◌++◌, length, map, take, get_or, refl, sym, ◌∙◌, ap, subst, arith, ◌⊎◌, inl, inr}
-use Rattle.std.specs.Prelude.{All, AllPairs, Contains}
+use Rattle.std.specs.Prelude.{All, Contains}
 use Rattle.std.proofs.lemmas.Bool.{both_ways, cases_eq}
 use Rattle.std.proofs.lemmas.List.{get_or-map, length-map, length_push, get_or_push, get_or_append_left, map-append}
 use Rattle.std.specs.declared.alloc.Global.{Global}
-use Rattle.std.proofs.lemmas.List.Elements.{All-nil, All-cons, All-head, All-tail, All-push, All-append, All-weaker, All-contains, Contains-append_left, Contains-append_right, Contains-append_cases, Contains-push, Contains-push_cases}
+use Rattle.std.proofs.lemmas.List.Elements.{All-nil, All-head, All-tail, All-push, All-weaker, All-contains, Contains-append_left, Contains-append_right, Contains-append_cases, Contains-push, Contains-push_cases}
 use Rattle.rel_table.specs.Relation.{Relation, is_above, meet, meet_all, IsIntersection, IsClosing}
-use Rattle.rel_table.specs.InOrder.{Above, IsInOrder, Overflows}
+use Rattle.rel_table.specs.InOrder.{IsInOrder, Overflows}
 use Rattle.rel_table.specs.Table.{TruthTable}
 use Rattle.rel_table.specs.Closing.{relations_in, relations_of, HasTooMany, HasFew, IsClosed, IsFirstTooMany, IsRefused}
 use Rattle.rel_table.specs.declared.table.CloseFault.{CloseFault}

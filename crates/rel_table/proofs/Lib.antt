@@ -1,5 +1,6 @@
 pub mod Powers
 pub mod PlaceLemmas
+pub mod Copying
 pub mod Meets
 pub mod Same
 pub mod Marking

@@ -39,6 +39,19 @@ impl Bits {
         Ok(Bits { count, words })
     }
 
+    /// These truth values.
+    pub(crate) fn of(alloc: Global, truth: &[bool]) -> Result<Bits, AllocError>
+        ensures { IfOk result (λ b. b ≡ truth.now) }
+    {
+        let mut bits = Bits::all_false(alloc, truth.len())?;
+        for i in 0..truth.len() {
+            if truth[i] {
+                bits.mark(i);
+            }
+        }
+        Ok(bits)
+    }
+
     /// How many truth values there are.
     pub(crate) fn len(&self) -> usize
         ensures { result ≡ length self.now }

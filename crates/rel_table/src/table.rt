@@ -159,6 +159,31 @@ impl Table {
         }
     }
 
+    /// The relation of these truth values, one for each place.
+    pub fn from_truth(
+        alloc: Global,
+        arity: u8,
+        value_count: u8,
+        truth: &[bool],
+    ) -> Result<Table, Memory>
+        requires some { 1 ≤ arity }
+        requires few { arity ≤ 4 }
+        requires values { 1 ≤ value_count }
+        requires small { value_count ≤ 64 }
+        requires each { length truth.now ≡ value_count ^ arity }
+        requires fits { length truth.now ≤ 65536 }
+        ensures { IfOk result (λ t. t ≡ record { arity = arity; value_count = value_count; truth = truth.now }) }
+    {
+        let Ok(truth) = Bits::of(alloc, truth) else {
+            return Err(Memory);
+        };
+        Ok(Table {
+            arity,
+            value_count,
+            truth,
+        })
+    }
+
     /// How many values a tuple of this relation has, 1 to 4.
     pub fn arity(&self) -> u8
         ensures is { result ≡ self.now.arity }
