@@ -6,6 +6,8 @@ mod ending;
 #[cfg(test)]
 mod tests;
 mod top;
+#[cfg(test)]
+mod trials;
 
 pub use driving::{Drove, drive};
 pub use ending::{Ending, UsageFault};
