@@ -9,8 +9,8 @@ use Rattle.language.specs.Language.{Language, IsLanguage}
 use Rattle.session_laws.specs.Session.{State, Idle, Halving, Choosing, Walking, Over, At, state_after}
 use Rattle.session_laws.specs.Bound.{most_answers}
 use Rattle.session_laws.specs.Laws.{OneAnswerMore, QuestionsHavePlaces, AnswersAreAtMost}
-use Rattle.target_oracle.specs.Turns.{Turns, Turned, Reply, Said, Ended, Unread}
-use Rattle.acq_cli.specs.Run.{Closing, Suspended, Unreadable, Collapsed, Converged, Next, Puts, Ends, puts_or, next_at, next_in, next_after, Ran, after_text, answer, ended, heard_on, turned_on, next_on, ran, Runs}
+use Rattle.target_oracle.specs.Turns.{Turns, Turned, Reply, Said, Stopped, Ended, Overlong, Unread}
+use Rattle.acq_cli.specs.Run.{Closing, Suspended, LineTooLong, Unreadable, Collapsed, Converged, Next, Puts, Ends, puts_or, next_at, next_in, next_after, Ran, after_text, answer, ended, heard_on, turned_on, next_on, ran, Runs}
 
 -- ---- a turn and what follows
 
@@ -32,29 +32,22 @@ runs_said turns l t bytes q reply run due heard runs =
           ∙ ap (option_map (after_text turned.text)) runs.is;
     }
 
--- a turn that heard the end of the input, or no answer
-pub runs_ended : (turns : Turns) (l : Language) (t : List Answer) (bytes : List ℕ) (q : Assignment) →
-    next_after l t ≡ Some (Puts q) → (turns l (length t + 1) q bytes).heard.reply ≡ Ended →
-    Runs turns l t bytes (after_text (turns l (length t + 1) q bytes).text (ended Suspended t (turns l (length t + 1) q bytes).heard.rest))
-unfolding ran
-runs_ended turns l t bytes q due heard =
-    let turned : Turned = turns l (length t + 1) q bytes in
-    record {
-      count = 1;
-      is = ap (next_on (λ p. turned_on (ran turns l 0) t p (turns l (length t + 1) p bytes)) t bytes) due
-          ∙ ap (λ r. option_map (after_text turned.text) (heard_on (ran turns l 0) t q turned.heard.rest r)) heard;
-    }
+-- a reply that ends the run so
+abbrev pub EndsSo : Reply → Closing → List Answer → Assignment → Type 0
+EndsSo reply closing t q = (again : List Answer → List ℕ → Option Ran) (rest : List ℕ) → heard_on again t q rest reply ≡ Some (ended closing t rest)
 
-pub runs_unread : (turns : Turns) (l : Language) (t : List Answer) (bytes : List ℕ) (q : Assignment) →
-    next_after l t ≡ Some (Puts q) → (turns l (length t + 1) q bytes).heard.reply ≡ Unread →
-    Runs turns l t bytes (after_text (turns l (length t + 1) q bytes).text (ended Unreadable t (turns l (length t + 1) q bytes).heard.rest))
+-- a turn that heard such a reply
+pub runs_closed : (turns : Turns) (l : Language) (t : List Answer) (bytes : List ℕ) (q : Assignment) (reply : Reply) (closing : Closing) →
+    next_after l t ≡ Some (Puts q) → (turns l (length t + 1) q bytes).heard.reply ≡ reply → EndsSo reply closing t q →
+    Runs turns l t bytes (after_text (turns l (length t + 1) q bytes).text (ended closing t (turns l (length t + 1) q bytes).heard.rest))
 unfolding ran
-runs_unread turns l t bytes q due heard =
+runs_closed turns l t bytes q reply closing due heard closes =
     let turned : Turned = turns l (length t + 1) q bytes in
     record {
       count = 1;
       is = ap (next_on (λ p. turned_on (ran turns l 0) t p (turns l (length t + 1) p bytes)) t bytes) due
-          ∙ ap (λ r. option_map (after_text turned.text) (heard_on (ran turns l 0) t q turned.heard.rest r)) heard;
+          ∙ ap (λ r. option_map (after_text turned.text) (heard_on (ran turns l 0) t q turned.heard.rest r)) heard
+          ∙ ap (option_map (after_text turned.text)) (closes (ran turns l 0) turned.heard.rest);
     }
 
 -- nothing is put any more
@@ -109,6 +102,14 @@ pub record HasTurn (turns : Turns) (l : Language) (t : List Answer) (bytes : Lis
   pub more : List ℕ
   pub begins : has.run.text ≡ (turns l (length t + 1) q bytes).text ++ more
 
+turn_closed : (turns : Turns) (l : Language) (t : List Answer) (bytes : List ℕ) (q : Assignment) (reply : Reply) (closing : Closing) → next_after l t ≡ Some (Puts q) →
+    (turns l (length t + 1) q bytes).heard.reply ≡ reply → EndsSo reply closing t q → HasTurn turns l t bytes q
+turn_closed turns l t bytes q reply closing due heard closes = record {
+  has = record { run = _; runs = runs_closed turns l t bytes q reply closing due heard closes; later = []; extends = sym (append-nil t) };
+  more = [];
+  begins = refl;
+}
+
 -- a turn, by what was heard
 turn_heard : (turns : Turns) (l : Language) (t : List Answer) (bytes : List ℕ) (q : Assignment) → next_after l t ≡ Some (Puts q) →
     (reply : Reply) → (turns l (length t + 1) q bytes).heard.reply ≡ reply →
@@ -120,16 +121,10 @@ turn_heard turns l t bytes q due (Said said) heard next =
       more = later.run.text;
       begins = refl;
     }
-turn_heard turns l t bytes q due Ended heard next = record {
-  has = record { run = _; runs = runs_ended turns l t bytes q due heard; later = []; extends = sym (append-nil t) };
-  more = [];
-  begins = refl;
-}
-turn_heard turns l t bytes q due Unread heard next = record {
-  has = record { run = _; runs = runs_unread turns l t bytes q due heard; later = []; extends = sym (append-nil t) };
-  more = [];
-  begins = refl;
-}
+turn_heard turns l t bytes q due Stopped heard next = turn_closed turns l t bytes q Stopped Suspended due heard (λ again rest. refl)
+turn_heard turns l t bytes q due Ended heard next = turn_closed turns l t bytes q Ended Suspended due heard (λ again rest. refl)
+turn_heard turns l t bytes q due Overlong heard next = turn_closed turns l t bytes q Overlong LineTooLong due heard (λ again rest. refl)
+turn_heard turns l t bytes q due Unread heard next = turn_closed turns l t bytes q Unread Unreadable due heard (λ again rest. refl)
 
 run_next : (turns : Turns) (l : Language) (t : List Answer) (bytes : List ℕ) (next : Next) → next_after l t ≡ Some next →
     ((q : Assignment) → next_after l t ≡ Some (Puts q) → HasTurn turns l t bytes q) → HasRun turns l t bytes

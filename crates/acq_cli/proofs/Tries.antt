@@ -22,6 +22,8 @@ by_drove l left written left' middle written' t (drove.Converged m) end h says =
 by_drove l left written left' middle written' t (drove.Collapsed m) end h says = absurd h
 by_drove l left written left' middle written' t (drove.Suspended m) end h says =
     subst (Tries l left written left' written') (sym says.0) (t, says.1, record { middle = middle; ran = h.1; adds = says.2 })
+by_drove l left written left' middle written' t drove.LineTooLong end h says =
+    subst (Tries l left written left' written') (sym says.0) (t, record { middle = middle; ran = h; adds = says.1 })
 by_drove l left written left' middle written' t drove.Unreadable end h says =
     subst (Tries l left written left' written') (sym says.0) (t, record { middle = middle; ran = h; adds = says.1 })
 by_drove l left written left' middle written' t drove.ReadFault end h says = subst (Tries l left written left' written') (sym says) tt

@@ -4,13 +4,13 @@ use Rattle.std.proofs.lemmas.List.{append-nil}
 use Rattle.assign.specs.Assignment.{Assignment}
 use Rattle.assign.specs.Events.{Answer}
 use Rattle.language.specs.Language.{Language, IsLanguage}
-use Rattle.target_oracle.specs.Turns.{Turns, Reply, Said, Ended, Unread}
+use Rattle.target_oracle.specs.Turns.{Turns, Reply, Said}
 use Rattle.target_oracle.specs.Tells.{Turn, Front}
-use Rattle.acq_cli.specs.Run.{Closing, Converged, Suspended, Unreadable, Runs, Puts, Ends, next_after, after_text, answer, ended}
+use Rattle.acq_cli.specs.Run.{Closing, Converged, Suspended, LineTooLong, Unreadable, Runs, Puts, Ends, next_after, after_text, answer, ended}
 use Rattle.acq_cli.specs.Driven.{Place, StepsTo, RanTo, CutOff, Drives}
 use Rattle.acq_cli.specs.declared.driving.Drove.{Drove}
 use Rattle.acq_cli.specs.declared.driving.Drove.TheVariants as drove
-use Rattle.acq_cli.proofs.Running.{text_after, runs_said, runs_ended, runs_unread, runs_end, IsReached, RunLaws, turn_exists}
+use Rattle.acq_cli.proofs.Running.{text_after, runs_said, EndsSo, runs_closed, runs_end, IsReached, RunLaws, turn_exists}
 
 some_text : (x y : List ℕ) → x ≡ y → (let a : Option (List ℕ) = Some x in a) ≡ Some y
 some_text x y e = ap (λ (t : List ℕ). let a : Option (List ℕ) = Some t in a) e
@@ -72,6 +72,7 @@ pub steps_end : (turns : Turns) (l : Language) (a b c : Place) (end : Drove) →
 steps_end turns l a b c (drove.Converged m) steps e = (e.0, e.1, steps_ran turns l Converged a b c steps e.2)
 steps_end turns l a b c (drove.Collapsed m) steps e = e
 steps_end turns l a b c (drove.Suspended m) steps e = (e.0, steps_ran turns l Suspended a b c steps e.1)
+steps_end turns l a b c drove.LineTooLong steps e = steps_ran turns l LineTooLong a b c steps e
 steps_end turns l a b c drove.Unreadable steps e = steps_ran turns l Unreadable a b c steps e
 steps_end turns l a b c drove.ReadFault steps e = steps_cut turns l a b c steps e
 steps_end turns l a b c drove.WriteFault steps e = steps_cut turns l a b c steps e
@@ -117,26 +118,13 @@ step_said turns l q said a b due added told bytes before left written =
       begins = λ run runs. runs_said turns l a.answers bytes q said run due t.heard (let P : List Answer → Type 0 = λ xs. Runs turns l xs turned.heard.rest run in subst P added runs);
     }
 
-pub ran_ended : (turns : Turns) (l : Language) (q : Assignment) (a b : Place) → next_after l a.answers ≡ Some (Puts q) → b.answers ≡ a.answers →
-    ToldSo turns l (length a.answers + 1) q a b Ended → RanTo turns l Suspended a b
-ran_ended turns l q a b due same told bytes before left written =
+pub ran_closed : (turns : Turns) (l : Language) (q : Assignment) (reply : Reply) (closing : Closing) (a b : Place) → next_after l a.answers ≡ Some (Puts q) → b.answers ≡ a.answers →
+    EndsSo reply closing a.answers q → ToldSo turns l (length a.answers + 1) q a b reply → RanTo turns l closing a b
+ran_closed turns l q reply closing a b due same closes told bytes before left written =
     let t = told bytes before left written in
     record {
       run = _;
-      runs = runs_ended turns l a.answers bytes q due t.heard;
-      closing = refl;
-      answers = sym same;
-      left = t.rest;
-      written = t.text ∙ some_text _ _ (ap (λ x. before ++ x) (sym (append-nil _)));
-    }
-
-pub ran_unread : (turns : Turns) (l : Language) (q : Assignment) (a b : Place) → next_after l a.answers ≡ Some (Puts q) → b.answers ≡ a.answers →
-    ToldSo turns l (length a.answers + 1) q a b Unread → RanTo turns l Unreadable a b
-ran_unread turns l q a b due same told bytes before left written =
-    let t = told bytes before left written in
-    record {
-      run = _;
-      runs = runs_unread turns l a.answers bytes q due t.heard;
+      runs = runs_closed turns l a.answers bytes q reply closing due t.heard closes;
       closing = refl;
       answers = sym same;
       left = t.rest;

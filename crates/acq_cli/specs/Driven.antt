@@ -8,7 +8,7 @@ use Rattle.language.specs.Answers.{IsCovered, IsConverged}
 use Rattle.session_laws.specs.Session.{Idle, At, state_after}
 use Rattle.target_oracle.specs.Turns.{Turns}
 use Rattle.target_oracle.specs.Tells.{Front}
-use Rattle.acq_cli.specs.Run.{Closing, Converged, Suspended, Unreadable, Ran, Runs, after_text}
+use Rattle.acq_cli.specs.Run.{Closing, Converged, Suspended, LineTooLong, Unreadable, Ran, Runs, after_text}
 use Rattle.acq_cli.specs.declared.driving.Drove.{Drove}
 use Rattle.acq_cli.specs.declared.driving.Drove.TheVariants as drove
 
@@ -65,6 +65,7 @@ abbrev pub Drives : Turns → Language → Place → Place → Drove → Type 0
 Drives turns l old new (drove.Converged m) = (m ≡ length new.answers) × IsDone l new.answers × RanTo turns l Converged old new
 Drives turns l old new (drove.Collapsed m) = ⊥
 Drives turns l old new (drove.Suspended m) = (m ≡ length new.answers) × RanTo turns l Suspended old new
+Drives turns l old new drove.LineTooLong = RanTo turns l LineTooLong old new
 Drives turns l old new drove.Unreadable = RanTo turns l Unreadable old new
 Drives turns l old new drove.ReadFault = CutOff turns l old new
 Drives turns l old new drove.WriteFault = CutOff turns l old new

@@ -18,7 +18,7 @@ use Rattle.voc_read.specs.Vocabulary.{IsVocabulary, refusal_of_vocabulary}
 use Rattle.voc_read.specs.FaultTexts.{fault_text}
 use Rattle.voc_read.specs.declared.fault.VocFault.{VocFault}
 use Rattle.voc_read.specs.declared.fault.VocFault.TheVariants as voc
-use Rattle.acq_cli.specs.Run.{Converged, Suspended, Unreadable, Closing}
+use Rattle.acq_cli.specs.Run.{Converged, Suspended, LineTooLong, Unreadable, Closing}
 use Rattle.acq_cli.specs.Driven.{IsDone, RanTo}
 use Rattle.acq_cli.specs.Places.{place_of}
 use Rattle.acq_cli.specs.declared.driving.Drove.{Drove}
@@ -48,6 +48,9 @@ converged_text l network m = codes "converged " ++ (decimal m ++ (10 ∷ network
 abbrev pub suspended_text : ℕ → List ℕ
 suspended_text m = codes "suspended " ++ (decimal m ++ 10 ∷ [])
 
+abbrev pub too_long_text : List ℕ
+too_long_text = codes "refused line too long" ++ 10 ∷ []
+
 abbrev pub refused_text : List ℕ
 refused_text = codes "refused lines" ++ 10 ∷ []
 
@@ -69,6 +72,7 @@ abbrev pub HasEnded : Language → List Answer → Drove → Type 0
 HasEnded l t (drove.Converged m) = (m ≡ length t) × IsDone l t
 HasEnded l t (drove.Collapsed m) = ⊥
 HasEnded l t (drove.Suspended m) = m ≡ length t
+HasEnded l t drove.LineTooLong = Unit {0}
 HasEnded l t drove.Unreadable = Unit {0}
 HasEnded l t drove.ReadFault = Unit {0}
 HasEnded l t drove.WriteFault = Unit {0}
@@ -80,6 +84,7 @@ Says l t written written' (drove.Converged m) end =
     (end ≡ ending.Converged m) × ((network : List Candidate) × Concludes l m t network × Adds written written' (converged_text l network m))
 Says l t written written' (drove.Collapsed m) end = ⊥
 Says l t written written' (drove.Suspended m) end = (end ≡ ending.Suspended m) × (m ≡ length t) × Adds written written' (suspended_text m)
+Says l t written written' drove.LineTooLong end = (end ≡ ending.LineTooLong) × Adds written written' too_long_text
 Says l t written written' drove.Unreadable end = (end ≡ ending.Unreadable) × Adds written written' refused_text
 Says l t written written' drove.ReadFault end = end ≡ ending.ReadFault
 Says l t written written' drove.WriteFault end = ⊥
@@ -91,6 +96,8 @@ Tries l left written left' written' (ending.Converged m) =
     (answers : List Answer) × (network : List Candidate) × Concludes l m answers network × Closes l left written left' written' Converged answers (converged_text l network m)
 Tries l left written left' written' (ending.Suspended m) =
     (answers : List Answer) × (m ≡ length answers) × Closes l left written left' written' Suspended answers (suspended_text m)
+Tries l left written left' written' ending.LineTooLong =
+    (answers : List Answer) × Closes l left written left' written' LineTooLong answers too_long_text
 Tries l left written left' written' ending.Unreadable =
     (answers : List Answer) × Closes l left written left' written' Unreadable answers refused_text
 Tries l left written left' written' (ending.Usage fault) = ⊥
@@ -123,6 +130,7 @@ pub record IsRefused (fault : VocFault) (left left' : Option (List ℕ)) : Type 
 abbrev pub Acquires : List (List ℕ) → (left written left' written' : Option (List ℕ)) → Ending → Type 0
 Acquires words left written left' written' (ending.Converged m) = Reads words left written left' written' (ending.Converged m)
 Acquires words left written left' written' (ending.Suspended m) = Reads words left written left' written' (ending.Suspended m)
+Acquires words left written left' written' ending.LineTooLong = Reads words left written left' written' ending.LineTooLong
 Acquires words left written left' written' ending.Unreadable = Reads words left written left' written' ending.Unreadable
 Acquires words left written left' written' (ending.Usage fault) = (are_taken words ≡ false) × (left' ≡ left) × Adds written written' usage_text
 Acquires words left written left' written' (ending.VocRefused fault) =
@@ -137,6 +145,7 @@ status_of (ending.Converged m) = 0
 status_of (ending.Usage fault) = 1
 status_of (ending.VocRefused fault) = 2
 status_of (ending.Suspended m) = 6
+status_of ending.LineTooLong = 7
 status_of ending.Unreadable = 7
 status_of ending.ReadFault = 8
 status_of ending.WriteFault = 9

@@ -7,13 +7,14 @@ use Rattle.assign.specs.declared.events.Plan.TheVariants.{Scopes}
 use Rattle.language.specs.Language.{Language}
 use Rattle.language.specs.Answers.{kept}
 use Rattle.session_laws.specs.Session.{State, Idle, Halving, Choosing, Walking, Over, Reading, At, Stray, open_question, scope_question, state_after}
-use Rattle.target_oracle.specs.Turns.{Turns, Turned, Reply, Said, Ended, Unread}
+use Rattle.target_oracle.specs.Turns.{Turns, Turned, Reply, Said, Stopped, Ended, Overlong, Unread}
 
 -- how a run ends
 pub data Closing : Type 0 where
   Converged : Closing
   Collapsed : Closing
   Suspended : Closing
+  LineTooLong : Closing
   Unreadable : Closing
 
 -- what comes next in a run
@@ -60,7 +61,9 @@ ended closing t rest = record { text = []; closing = closing; answers = t; rest 
 -- how it goes on after what was heard
 abbrev pub heard_on : (List Answer → List ℕ → Option Ran) → List Answer → Assignment → List ℕ → Reply → Option Ran
 heard_on again t q rest (Said reply) = again (t ++ answer q reply ∷ []) rest
+heard_on again t q rest Stopped = Some (ended Suspended t rest)
 heard_on again t q rest Ended = Some (ended Suspended t rest)
+heard_on again t q rest Overlong = Some (ended LineTooLong t rest)
 heard_on again t q rest Unread = Some (ended Unreadable t rest)
 
 abbrev pub turned_on : (List Answer → List ℕ → Option Ran) → List Answer → Assignment → Turned → Option Ran

@@ -22,9 +22,11 @@ pub enum Drove {
     Converged(u32),
     /// No network agrees with the answers.
     Collapsed(u32),
-    /// The source ended before a whole answer line.
+    /// The teacher wants to stop, or the source ended before a whole answer line.
     Suspended(u32),
-    /// A line is no answer.
+    /// A line is too long.
+    LineTooLong,
+    /// Too many lines in a row are no answers.
     Unreadable,
     ReadFault,
     WriteFault,
@@ -127,7 +129,9 @@ fn hear_answer<S: Source, K: Sink, T: Teacher<S, K>, P: Keep>(
     match teacher.told(alloc, source, sink, session.lang(), count + 1, question) {
         Told::Yes => keep_answer(keep, true),
         Told::No => keep_answer(keep, false),
+        Told::Stop => Some(Drove::Suspended(count)),
         Told::End => Some(Drove::Suspended(count)),
+        Told::TooLong => Some(Drove::LineTooLong),
         Told::Unreadable => Some(Drove::Unreadable),
         Told::ReadFault => Some(Drove::ReadFault),
         Told::WriteFault => Some(Drove::WriteFault),

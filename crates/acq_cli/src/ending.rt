@@ -17,9 +17,11 @@ pub enum Ending {
     Converged(u32),
     Usage(UsageFault),
     VocRefused(VocFault),
-    /// The input ended before a whole answer line.
+    /// `stop` was read, or the input ended before a whole answer line.
     Suspended(u32),
-    /// A line is no answer.
+    /// A line has more than 256 bytes before its newline.
+    LineTooLong,
+    /// The 1,000th line in a row that is no answer came.
     Unreadable,
     ReadFault,
     WriteFault,
@@ -36,7 +38,7 @@ impl Ending {
             Ending::Usage(_) => 1,
             Ending::VocRefused(_) => 2,
             Ending::Suspended(_) => 6,
-            Ending::Unreadable => 7,
+            Ending::LineTooLong | Ending::Unreadable => 7,
             Ending::ReadFault => 8,
             Ending::WriteFault => 9,
             Ending::Memory => 11,

@@ -28,7 +28,7 @@ static ROWS: [(&str, &str, u8); 5] = [
         0,
     ),
     ("", "q1 a=1 b=1\nsuspended 0\n", 6),
-    ("maybe\n", "q1 a=1 b=1\nrefused lines\n", 7),
+    ("maybe\n", "q1 a=1 b=1\nnot an answer\nsuspended 0\n", 6),
 ];
 
 #[test]

@@ -87,6 +87,10 @@ fn say<K: Sink>(alloc: Global, keep: &Loose, drove: Drove, out: &mut K) -> Resul
             say_suspended(alloc, m, out)?;
             Ok(Ending::Suspended(m))
         }
+        Drove::LineTooLong => {
+            out.write(b"refused line too long\n")?;
+            Ok(Ending::LineTooLong)
+        }
         Drove::Unreadable => {
             out.write(b"refused lines\n")?;
             Ok(Ending::Unreadable)

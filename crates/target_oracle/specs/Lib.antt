@@ -1,4 +1,5 @@
 pub mod Turns
+pub mod Words
 pub mod Lines
 pub mod Tells
 pub mod Hearing

@@ -1,22 +1,49 @@
--- Answer lines: exactly `yes` or exactly `no`, each with its newline.
-use Rattle.std.specs.Prelude.{ℕ, List, [], ◌∷◌, ◌++◌, Bool, true, false, if◌then◌else◌, ◌==◌}
+-- The turn of a person who answers by lines.
+use Rattle.std.specs.Prelude.{ℕ, zero, suc, List, [], ◌∷◌, ◌++◌, Option, Some, None, codes}
+use Rattle.acq_io.specs.Lines.{Lined, line_of}
+use Rattle.acq_io.specs.declared.lines.LineGot.{LineGot}
+use Rattle.acq_io.specs.declared.lines.LineGot.TheVariants.{Line, End, TooLong, Fault}
 use Rattle.language.specs.Texts.{question_text}
-use Rattle.target_oracle.specs.Turns.{Reply, Said, Ended, Unread, Heard, Turns}
+use Rattle.target_oracle.specs.Turns.{Reply, Ended, Overlong, Unread, Heard, Turned, turned_after, Turns}
+use Rattle.target_oracle.specs.Words.{trimmed, reply_of}
 
--- what is heard where these bytes are left of a line that answers so
-abbrev pub hear_rest : List ℕ → Bool → List ℕ → Heard
-hear_rest [] answer bytes = record { reply = Said answer; rest = bytes }
-hear_rest (w ∷ wanted) answer [] = record { reply = Ended; rest = [] }
-hear_rest (w ∷ wanted) answer (b ∷ bytes) = if b == w then hear_rest wanted answer bytes else record { reply = Unread; rest = bytes }
+-- what reading a line says: a reply, or none where the line is no answer (bytes alone never give a fault)
+abbrev pub line_reply : LineGot → List ℕ → Option Reply
+line_reply Line line = reply_of (trimmed line)
+line_reply End line = Some Ended
+line_reply TooLong line = Some Overlong
+line_reply Fault line = None
 
--- a line is read up to its newline, or to the first byte with which it is a front of neither answer
-abbrev pub hear : List ℕ → Heard
-hear [] = record { reply = Ended; rest = [] }
-hear (b ∷ bytes) =
-    if b == 121 then hear_rest (101 ∷ 115 ∷ 10 ∷ []) true bytes
-    else (if b == 110 then hear_rest (111 ∷ 10 ∷ []) false bytes
-    else record { reply = Unread; rest = bytes })
+-- what a line says, and the bytes after it
+pub record Spoken : Type 0 where
+  pub says : Option Reply
+  pub rest : List ℕ
 
--- the question line, then an answer line
+abbrev pub spoken_in : Lined → Spoken
+spoken_in lined = record { says = line_reply lined.got lined.line; rest = lined.rest }
+
+-- the first line of these bytes
+abbrev pub spoken : List ℕ → Spoken
+spoken bytes = spoken_in (line_of bytes)
+
+-- what is written after a line that is no answer
+abbrev pub no_answer_text : List ℕ
+no_answer_text = codes "not an answer" ++ 10 ∷ []
+
+-- nothing more is written
+abbrev pub replied : Reply → List ℕ → Turned
+replied reply rest = record { text = []; heard = record { reply = reply; rest = rest } }
+
+-- a line replies, or it is no answer, and so it goes on with the bytes after it
+abbrev pub hear_line : (List ℕ → Turned) → List ℕ → Option Reply → Turned
+hear_line on rest None = on rest
+hear_line on rest (Some reply) = replied reply rest
+
+-- Lines are heard up to a reply. So many that are no answers are passed over; one more ends the turn.
+unfoldable pub hear : ℕ → List ℕ → Turned
+hear zero bytes = hear_line (replied Unread) (spoken bytes).rest (spoken bytes).says
+hear (suc patience) bytes = hear_line (λ rest. turned_after no_answer_text (hear patience rest)) (spoken bytes).rest (spoken bytes).says
+
+-- the question line, then answer lines
 abbrev pub line_turn : Turns
-line_turn l k q bytes = record { text = question_text l k q ++ 10 ∷ []; heard = hear bytes }
+line_turn l k q bytes = turned_after (question_text l k q ++ 10 ∷ []) (hear 999 bytes)

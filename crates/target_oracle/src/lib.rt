@@ -6,6 +6,9 @@
 
 mod lines;
 mod teacher;
+#[cfg(test)]
+mod tests;
+mod words;
 
 pub use lines::LineTeacher;
 pub use teacher::{Teacher, Told};

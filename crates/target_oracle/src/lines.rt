@@ -1,17 +1,22 @@
-ghost use Rattle.std.specs.Prelude.{◌≡◌, ℕ, ◌+◌, ◌<◌, ◌≤◌, ◌++◌, ◌∷◌, [], List, IfOk, Some, None, length, string_bytes};
-ghost use Rattle.acq_io.specs.Streams.{Rose};
+ghost use Rattle.std.specs.Prelude.{◌≡◌, ◌≢◌, ℕ, zero, suc, ◌+◌, ◌<◌, ◌≤◌, ◌++◌, ◌∷◌, [], List, IfOk, IfSome, Option, Some, None, length, string_bytes};
+ghost use Rattle.acq_io.specs.Streams.{Adds, Rose};
 ghost use Rattle.language.specs.Language.{IsQuestion};
 ghost use Rattle.language.specs.Texts.{question_text};
-ghost use Rattle.target_oracle.specs.Lines.{hear, hear_rest, line_turn};
-ghost use Rattle.target_oracle.specs.Hearing.{Hears};
+ghost use Rattle.target_oracle.specs.Lines.{line_turn, no_answer_text};
+ghost use Rattle.target_oracle.specs.Hearing.{HearsLine, CutsOff, Passes, TellsOf};
 
 use crate::teacher::{Teacher, Told};
-use acq_io::{Put, Sink, Source, read_byte};
+use crate::words::told_in;
+use acq_io::{Line, LineGot, Put, Sink, Source, read_line};
 use assign::Partial;
 use language::Language;
 use std::alloc::{AllocError, Global};
 
-/// A person, who reads the questions as lines and answers by lines: exactly `yes` or exactly `no`.
+/// A person, who reads the questions as lines and answers by lines.
+///
+/// An answer is `yes` or `y`, `no` or `n`, or `stop`, with or without spaces, tabs and carriage returns at both ends. After
+/// any other line the person is told that it is no answer, and the next line is read; the 1,000th such line in a row ends
+/// the turn.
 #[derive(Drop)]
 pub struct LineTeacher;
 
@@ -21,39 +26,83 @@ impl LineTeacher {
     }
 }
 
-/// The rest of an answer line.
-fn read_rest<S: Source>(source: &mut S, wanted: &[u8], answer: bool) -> Told
-    ensures hears { Hears (hear_rest wanted.now answer) (S.left source.old) (S.left source.new) result }
+/// How many lines in a row that are no answers are passed over.
+const PATIENCE: u32 = 999;
+
+const NO_ANSWER: &[u8] = b"not an answer\n";
+
+/// What a line says. None where it is no answer.
+fn hear_line<S: Source>(source: &mut S) -> Option<Told>
+    ensures hears { HearsLine (S.left source.old) (S.left source.new) result }
     ensures later { S.faults source.old ≤ S.faults source.new }
-    ensures cause { result ≡ Told.ReadFault → Rose (S.faults source.old) (S.faults source.new) }
+    ensures read { result ≡ Some Told.ReadFault → Rose (S.faults source.old) (S.faults source.new) }
+    ensures write { result ≢ Some Told.WriteFault }
 {
-    for w in wanted {
-        match read_byte(source) {
-            Err(_) => return Told::ReadFault,
-            Ok(None) => return Told::End,
-            Ok(Some(byte)) => {
-                if byte != *w {
-                    return Told::Unreadable;
-                }
-            }
-        }
+    let mut line = Line::empty();
+    match read_line(source, &mut line) {
+        LineGot::Line => told_in(line.bytes()),
+        LineGot::End => Some(Told::End),
+        LineGot::TooLong => Some(Told::TooLong),
+        LineGot::Fault => Some(Told::ReadFault),
     }
-    if answer { Told::Yes } else { Told::No }
 }
 
-/// An answer line.
-fn read_answer<S: Source>(source: &mut S) -> Told
-    ensures hears { Hears hear (S.left source.old) (S.left source.new) result }
-    ensures later { S.faults source.old ≤ S.faults source.new }
-    ensures cause { result ≡ Told.ReadFault → Rose (S.faults source.old) (S.faults source.new) }
+/// Says that a line was no answer. None where that was written.
+fn pass_line<K: Sink>(sink: &mut K) -> Option<Told>
+    ensures passed { result ≡ None → Adds (K.written sink.old) (K.written sink.new) no_answer_text }
+    ensures cut { IfSome result (CutsOff no_answer_text (K.written sink.old) (K.written sink.new)) }
+    ensures later_sink { K.faults sink.old ≤ K.faults sink.new }
+    ensures write { result ≡ Some Told.WriteFault → Rose (K.faults sink.old) (K.faults sink.new) }
 {
-    match read_byte(source) {
-        Err(_) => Told::ReadFault,
-        Ok(None) => Told::End,
-        Ok(Some(b'y')) => read_rest(source, b"es\n", true),
-        Ok(Some(b'n')) => read_rest(source, b"o\n", false),
-        Ok(Some(_)) => Told::Unreadable,
+    match sink.write(NO_ANSWER) {
+        Ok(()) => None,
+        Err(Put::Failed) => Some(Told::WriteFault),
+        Err(Put::Memory) => Some(Told::Memory),
     }
+}
+
+/// What a line says, of which more may follow. None where it is no answer, and that was written.
+fn hear_or_pass<S: Source, K: Sink>(source: &mut S, sink: &mut K) -> Option<Told>
+    ensures passes { result ≡ None → Passes (S.left source.old) (K.written sink.old) (S.left source.new) (K.written sink.new) }
+    ensures tells { IfSome result (λ told. (patience : ℕ) → TellsOf (suc patience) (S.left source.old) (K.written sink.old) (S.left source.new) (K.written sink.new) told) }
+    ensures later { S.faults source.old ≤ S.faults source.new }
+    ensures later_sink { K.faults sink.old ≤ K.faults sink.new }
+    ensures read { result ≡ Some Told.ReadFault → Rose (S.faults source.old) (S.faults source.new) }
+    ensures write { result ≡ Some Told.WriteFault → Rose (K.faults sink.old) (K.faults sink.new) }
+{
+    match hear_line(source) {
+        Some(told) => Some(told),
+        None => pass_line(sink),
+    }
+}
+
+/// What a line says where no more may follow.
+fn hear_last<S: Source>(source: &mut S) -> Told
+    ensures tells { (written : Option (List ℕ)) → TellsOf zero (S.left source.old) written (S.left source.new) written result }
+    ensures later { S.faults source.old ≤ S.faults source.new }
+    ensures read { result ≡ Told.ReadFault → Rose (S.faults source.old) (S.faults source.new) }
+    ensures write { result ≢ Told.WriteFault }
+{
+    match hear_line(source) {
+        Some(told) => told,
+        None => Told::Unreadable,
+    }
+}
+
+/// What the lines say, up to an answer.
+fn hear_lines<S: Source, K: Sink>(source: &mut S, sink: &mut K) -> Told
+    ensures tells { TellsOf 999 (S.left source.old) (K.written sink.old) (S.left source.new) (K.written sink.new) result }
+    ensures later { S.faults source.old ≤ S.faults source.new }
+    ensures later_sink { K.faults sink.old ≤ K.faults sink.new }
+    ensures read { result ≡ Told.ReadFault → Rose (S.faults source.old) (S.faults source.new) }
+    ensures write { result ≡ Told.WriteFault → Rose (K.faults sink.old) (K.faults sink.new) }
+{
+    for _passed in 0..PATIENCE {
+        if let Some(told) = hear_or_pass(source, sink) {
+            return told;
+        }
+    }
+    hear_last(source)
 }
 
 /// The line of a question.
@@ -84,7 +133,7 @@ impl<S: Source, K: Sink> Teacher<S, K> for LineTeacher {
             return Told::Memory;
         };
         match sink.write(line.as_bytes()) {
-            Ok(()) => read_answer(source),
+            Ok(()) => hear_lines(source, sink),
             Err(Put::Failed) => Told::WriteFault,
             Err(Put::Memory) => Told::Memory,
         }

@@ -15,11 +15,17 @@ use std::alloc::Global;
 pub enum Told {
     Yes,
     No,
+    /// The one who answers wants to stop.
+    Stop,
     /// The source ended before a whole line.
     End,
-    /// The line is no answer.
+    /// A line has more than 256 bytes before its newline.
+    TooLong,
+    /// Too many lines in a row are no answers.
     Unreadable,
+    /// The source failed.
     ReadFault,
+    /// The sink failed.
     WriteFault,
     Memory,
 }

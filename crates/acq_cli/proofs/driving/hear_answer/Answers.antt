@@ -2,10 +2,11 @@ use Rattle.std.proofs.Common.{◌+◌, ℕ, List, true, false, length, ap, refl,
 use Rattle.assign.specs.Events.{Answer}
 use Rattle.language.specs.Language.{Language}
 use Rattle.language.specs.Answers.{standing_on}
-use Rattle.target_oracle.specs.Turns.{Turns, Said, Ended, Unread}
+use Rattle.target_oracle.specs.Turns.{Turns, Said, Stopped, Ended, Overlong, Unread}
+use Rattle.acq_cli.specs.Run.{Suspended, LineTooLong, Unreadable}
 use Rattle.acq_cli.specs.Places.{place_of}
 use Rattle.acq_cli.proofs.Standings.{AtTurn, at_turn, next_fits, run_laws}
-use Rattle.acq_cli.proofs.Turning.{told_as, front_as, ran_ended, ran_unread, cut_turn}
+use Rattle.acq_cli.proofs.Turning.{told_as, front_as, ran_closed, cut_turn}
 use Rattle.acq_cli.proofs.Answered.{goes_on, one_more, ends}
 use Rattle.acq_cli.proofs.driving.hear_answer.Goals as goal
 
@@ -106,6 +107,20 @@ returns-in-No-clause-ends g c =
     ends turns l t after c.args.question.now false (g.P.Keep.question c.args.keep.now) left written left' written' c.keep_answer-in-No.result at.lawful at.reached c.requires.due c.keep_answer-in-No.ensures.kept
     (told_as turns c.lang.result.now l (c.answers-count.result + 1) (length t + 1) c.args.question.now (place_of t left written) (place_of t left' written') (Said false) at.language (ap (λ n. n + 1) at.number) c.in-No.ensures.tells)
 
+pub returns-in-Stop-clause-ends : goal.returns-in-Stop-clause-ends
+returns-in-Stop-clause-ends g c =
+    let l : Language = g.P.Keep.lang c.args.keep.now in
+    let t : List Answer = standing_on l (g.P.Keep.record_of c.args.keep.now) in
+    let at : AtTurn l t c.answers-count.result c.lang.result.now =
+    at_turn c.session-session.result.now l c.lang.result.now (g.P.Keep.plan c.args.keep.now) t c.answers-count.result
+    c.session-session.ensures.stands c.session-session.ensures.lang c.session-session.ensures.plan c.requires.plan c.answers-count.ensures c.lang.ensures.is c.lang.ensures.lawful in
+    let turns : Turns = g.T.Teacher.turn c.args.teacher.now in
+    let left : Option (List ℕ) = g.S.Source.left c.args.source.now in
+    let written : Option (List ℕ) = g.K.Sink.written c.args.sink.now in
+    let left' : Option (List ℕ) = g.S.Source.left c.told.new.source in
+    let written' : Option (List ℕ) = g.K.Sink.written c.told.new.sink in
+    (at.number, ran_closed turns l c.args.question.now Stopped Suspended (place_of t left written) (place_of t left' written') c.requires.due.puts refl (λ again rest. refl) (told_as turns c.lang.result.now l (c.answers-count.result + 1) (length t + 1) c.args.question.now (place_of t left written) (place_of t left' written') (Stopped) at.language (ap (λ n. n + 1) at.number) c.in-Stop.ensures.tells))
+
 pub returns-in-End-clause-ends : goal.returns-in-End-clause-ends
 returns-in-End-clause-ends g c =
     let l : Language = g.P.Keep.lang c.args.keep.now in
@@ -118,7 +133,21 @@ returns-in-End-clause-ends g c =
     let written : Option (List ℕ) = g.K.Sink.written c.args.sink.now in
     let left' : Option (List ℕ) = g.S.Source.left c.told.new.source in
     let written' : Option (List ℕ) = g.K.Sink.written c.told.new.sink in
-    (at.number, ran_ended turns l c.args.question.now (place_of t left written) (place_of t left' written') c.requires.due.puts refl (told_as turns c.lang.result.now l (c.answers-count.result + 1) (length t + 1) c.args.question.now (place_of t left written) (place_of t left' written') (Ended) at.language (ap (λ n. n + 1) at.number) c.in-End.ensures.tells))
+    (at.number, ran_closed turns l c.args.question.now Ended Suspended (place_of t left written) (place_of t left' written') c.requires.due.puts refl (λ again rest. refl) (told_as turns c.lang.result.now l (c.answers-count.result + 1) (length t + 1) c.args.question.now (place_of t left written) (place_of t left' written') (Ended) at.language (ap (λ n. n + 1) at.number) c.in-End.ensures.tells))
+
+pub returns-in-TooLong-clause-ends : goal.returns-in-TooLong-clause-ends
+returns-in-TooLong-clause-ends g c =
+    let l : Language = g.P.Keep.lang c.args.keep.now in
+    let t : List Answer = standing_on l (g.P.Keep.record_of c.args.keep.now) in
+    let at : AtTurn l t c.answers-count.result c.lang.result.now =
+    at_turn c.session-session.result.now l c.lang.result.now (g.P.Keep.plan c.args.keep.now) t c.answers-count.result
+    c.session-session.ensures.stands c.session-session.ensures.lang c.session-session.ensures.plan c.requires.plan c.answers-count.ensures c.lang.ensures.is c.lang.ensures.lawful in
+    let turns : Turns = g.T.Teacher.turn c.args.teacher.now in
+    let left : Option (List ℕ) = g.S.Source.left c.args.source.now in
+    let written : Option (List ℕ) = g.K.Sink.written c.args.sink.now in
+    let left' : Option (List ℕ) = g.S.Source.left c.told.new.source in
+    let written' : Option (List ℕ) = g.K.Sink.written c.told.new.sink in
+    ran_closed turns l c.args.question.now Overlong LineTooLong (place_of t left written) (place_of t left' written') c.requires.due.puts refl (λ again rest. refl) (told_as turns c.lang.result.now l (c.answers-count.result + 1) (length t + 1) c.args.question.now (place_of t left written) (place_of t left' written') (Overlong) at.language (ap (λ n. n + 1) at.number) c.in-TooLong.ensures.tells)
 
 pub returns-in-Unreadable-clause-ends : goal.returns-in-Unreadable-clause-ends
 returns-in-Unreadable-clause-ends g c =
@@ -132,7 +161,7 @@ returns-in-Unreadable-clause-ends g c =
     let written : Option (List ℕ) = g.K.Sink.written c.args.sink.now in
     let left' : Option (List ℕ) = g.S.Source.left c.told.new.source in
     let written' : Option (List ℕ) = g.K.Sink.written c.told.new.sink in
-    ran_unread turns l c.args.question.now (place_of t left written) (place_of t left' written') c.requires.due.puts refl (told_as turns c.lang.result.now l (c.answers-count.result + 1) (length t + 1) c.args.question.now (place_of t left written) (place_of t left' written') (Unread) at.language (ap (λ n. n + 1) at.number) c.in-Unreadable.ensures.tells)
+    ran_closed turns l c.args.question.now Unread Unreadable (place_of t left written) (place_of t left' written') c.requires.due.puts refl (λ again rest. refl) (told_as turns c.lang.result.now l (c.answers-count.result + 1) (length t + 1) c.args.question.now (place_of t left written) (place_of t left' written') (Unread) at.language (ap (λ n. n + 1) at.number) c.in-Unreadable.ensures.tells)
 
 pub returns-in-ReadFault-clause-ends : goal.returns-in-ReadFault-clause-ends
 returns-in-ReadFault-clause-ends g c =

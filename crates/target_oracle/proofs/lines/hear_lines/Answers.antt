@@ -1,0 +1,31 @@
+use Rattle.std.proofs.Common.{suc, ◌-◌, arith}
+use Rattle.target_oracle.proofs.Hearings.{passed_none, passed_more, passed_tells}
+use Rattle.target_oracle.proofs.lines.hear_lines.Goals as goal
+
+pub loop-passed-init : goal.loop-passed-init
+loop-passed-init g c = record {
+  passed = passed_none 999 (g.S.Source.left c.args.source.now) (g.K.Sink.written c.args.sink.now);
+  later = omega arith;
+  later_sink = omega arith;
+}
+
+pub loop-passed-preserved : goal.loop-passed-preserved
+loop-passed-preserved g c = record {
+  passed = passed_more 999 c.loop-passed._passed (g.S.Source.left c.args.source.now) (g.K.Sink.written c.args.sink.now)
+      (g.S.Source.left c.loop-passed.source) (g.K.Sink.written c.loop-passed.sink) (g.S.Source.left c.hear_or_pass.new.source) (g.K.Sink.written c.hear_or_pass.new.sink)
+      c.loop-passed.invariant.passed (c.hear_or_pass.ensures.passes c.in_default.is);
+  later = omega (arith, c.hear_or_pass.ensures.later, c.loop-passed.invariant.later);
+  later_sink = omega (arith, c.hear_or_pass.ensures.later_sink, c.loop-passed.invariant.later_sink);
+}
+
+pub returns-in-Some-clause-tells : goal.returns-in-Some-clause-tells
+returns-in-Some-clause-tells g c =
+    passed_tells 999 c.loop-passed._passed (suc (998 - c.loop-passed._passed)) (g.S.Source.left c.args.source.now) (g.K.Sink.written c.args.sink.now)
+    (g.S.Source.left c.loop-passed.source) (g.K.Sink.written c.loop-passed.sink) (g.S.Source.left c.hear_or_pass.new.source) (g.K.Sink.written c.hear_or_pass.new.sink)
+    c.in-Some.told (omega (arith, c.loop-passed-test.true)) c.loop-passed.invariant.passed (c.in-Some.ensures.tells (998 - c.loop-passed._passed))
+
+pub returns-clause-tells : goal.returns-clause-tells
+returns-clause-tells g c =
+    passed_tells 999 c.loop-passed._passed 0 (g.S.Source.left c.args.source.now) (g.K.Sink.written c.args.sink.now)
+    (g.S.Source.left c.loop-passed.source) (g.K.Sink.written c.loop-passed.sink) (g.S.Source.left c.hear_last.new.source) (g.K.Sink.written c.loop-passed.sink)
+    c.hear_last.result (omega (arith, c.loop-passed-test.false, c.loop-passed.auto._passed-end)) c.loop-passed.invariant.passed (c.hear_last.ensures.tells (g.K.Sink.written c.loop-passed.sink))

@@ -1,0 +1,10 @@
+use Rattle.std.proofs.Common.{◌≤◌}
+use Rattle.target_oracle.specs.Hearing.{PassedBy}
+use Rattle.target_oracle.proofs.lines.hear_lines.Given as goal
+
+abbrev pub invariant-loop-passed : goal.invariant-loop-passed
+invariant-loop-passed g l = record {
+  passed : PassedBy 999 l._passed (g.S.Source.left l.initial.source) (g.K.Sink.written l.initial.sink) (g.S.Source.left l.source) (g.K.Sink.written l.sink);
+  later : g.S.Source.faults l.initial.source ≤ g.S.Source.faults l.source;
+  later_sink : g.K.Sink.faults l.initial.sink ≤ g.K.Sink.faults l.sink;
+}

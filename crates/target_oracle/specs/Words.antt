@@ -1,0 +1,27 @@
+-- What an answer line says.
+use Rattle.std.specs.Prelude.{ℕ, ◌-◌, List, take, drop, length, Bool, true, false, ◌||◌, ◌==◌, if◌then◌else◌, Option, Some, None, codes}
+use Rattle.std.specs.List.{prefix_len, suffix_len}
+use Rattle.std.specs.Str.{bytes_eq}
+use Rattle.target_oracle.specs.Turns.{Reply, Said, Stopped}
+
+-- spaces, tabs and carriage returns
+abbrev pub is_blank : ℕ → Bool
+is_blank b = (b == 32) || ((b == 9) || (b == 13))
+
+abbrev pub trimmed_before : List ℕ → List ℕ
+trimmed_before line = drop (prefix_len is_blank line) line
+
+abbrev pub trimmed_after : List ℕ → List ℕ
+trimmed_after line = take (length line - suffix_len is_blank line) line
+
+-- the line without the blanks at its two ends
+unfoldable pub trimmed : List ℕ → List ℕ
+trimmed line = trimmed_after (trimmed_before line)
+
+-- what a word says, if it is an answer
+unfoldable pub reply_of : List ℕ → Option Reply
+reply_of word =
+    if bytes_eq word (codes "yes") || bytes_eq word (codes "y") then Some (Said true)
+    else (if bytes_eq word (codes "no") || bytes_eq word (codes "n") then Some (Said false)
+    else (if bytes_eq word (codes "stop") then Some Stopped
+    else None))

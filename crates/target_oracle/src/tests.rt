@@ -1,0 +1,164 @@
+ghost use Rattle.std.specs.Prelude.{◌≡◌, [], ◌∷◌, All, IfOk, map, string_bytes};
+ghost use Rattle.language.specs.Language.{Given, AreNames};
+ghost use Rattle.language.specs.Inside.{given_by};
+ghost use Rattle.language.specs.Building.{IsBinary};
+
+use crate::{LineTeacher, Teacher, Told};
+use acq_io::{MemSink, MemSource, Sink, Source};
+use assign::Partial;
+use language::{Frame, Language, RelPart, ScopePart};
+use rel_table::Table;
+use std::alloc::{AllocError, Global};
+use std::test::Fail;
+
+fn one_name(alloc: Global, name: &str) -> Result<Vec<String>, AllocError>
+    ensures { IfOk result (λ v. map string_bytes v.items ≡ name.now ∷ []) }
+{
+    let mut names = Vec::new(alloc);
+    names.push(String::from_str(alloc, name)?)?;
+    Ok(names)
+}
+
+fn two_names(alloc: Global, first: &str, second: &str) -> Result<Vec<String>, AllocError>
+    ensures { IfOk result (λ v. map string_bytes v.items ≡ first.now ∷ second.now ∷ []) }
+{
+    let mut names = one_name(alloc, first)?;
+    names.push(String::from_str(alloc, second)?)?;
+    Ok(names)
+}
+
+/// The relation that nothing has.
+fn relations(alloc: Global) -> Result<Vec<RelPart>, Fail>
+    ensures binary { IfOk result (λ v. All (IsBinary 2) v.items) }
+    ensures names { IfOk result (λ v. AreNames (map (λ (g : Given). g.name) (map given_by v.items))) }
+{
+    let mut parts = Vec::new(alloc);
+    parts.push(RelPart {
+        name: String::from_str(alloc, "no")?,
+        table: Table::from_tuples(alloc, 2, 1, 2, &[])?,
+    })?;
+    Ok(parts)
+}
+
+/// Two variables of the values 1 and 2.
+fn pairs(alloc: Global) -> Result<Language, Fail> {
+    let frame = Frame::new(two_names(alloc, "a", "b")?, 1, 2)?;
+    Ok(Language::build(alloc, frame, relations(alloc)?, ScopePart::All)?)
+}
+
+/// Puts the third question, where both variables are 1.
+fn turn<S: Source, K: Sink, T: Teacher<S, K>>(
+    alloc: Global,
+    teacher: &mut T,
+    source: &mut S,
+    sink: &mut K,
+) -> Result<Told, Fail> {
+    let lang = pairs(alloc)?;
+    if lang.n() != 2 || lang.d() != 2 {
+        return Err(Fail::from("another language"));
+    }
+    let mut question = Partial::blank(2);
+    question.set(0, 0);
+    question.set(1, 0);
+    Ok(teacher.told(alloc, source, sink, &lang, 3, &question))
+}
+
+/// A text that is repeated so many times, between two others.
+fn repeated(
+    alloc: Global,
+    head: &str,
+    piece: &str,
+    count: usize,
+    end: &str,
+) -> Result<String, AllocError> {
+    let mut text = String::from_str(alloc, head)?;
+    for _ in 0..count {
+        text.push_str(piece)?;
+    }
+    text.push_str(end)?;
+    Ok(text)
+}
+
+const QUESTION: &str = "q3 a=1 b=1\n";
+
+const COMPLAINT: &str = "not an answer\n";
+
+const BOTH: &str = "q3 a=1 b=1\nnot an answer\n";
+
+/// A text that is repeated so many times, between two others; what is told, how often it is said that a line is no answer,
+/// and what is left.
+static TURNS: [(&str, &str, usize, &str, Told, usize, &str); 14] = [
+    ("yes\nno\n", "", 0, "", Told::Yes, 0, "no\n"),
+    ("y\n", "", 0, "", Told::Yes, 0, ""),
+    ("n\r\n", "", 0, "", Told::No, 0, ""),
+    (" \t\r no \t\r \n", "", 0, "", Told::No, 0, ""),
+    ("stop\nyes\n", "", 0, "", Told::Stop, 0, "yes\n"),
+    (
+        "\n\r\nYes\ny es\nyess\nback\n",
+        "",
+        0,
+        "y\n",
+        Told::Yes,
+        6,
+        "",
+    ),
+    ("", "", 0, "", Told::End, 0, ""),
+    ("maybe\nyes", "", 0, "", Told::End, 1, ""),
+    ("", "maybe\n", 999, "no\nyes\n", Told::No, 999, "yes\n"),
+    ("", "maybe\n", 1000, "yes\n", Told::Unreadable, 999, "yes\n"),
+    ("", "maybe\n", 999, "stop\n", Told::Stop, 999, ""),
+    ("no", " ", 254, "\nyes\n", Told::No, 0, "yes\n"),
+    ("no", " ", 255, "\nyes\n", Told::TooLong, 0, "\nyes\n"),
+    ("maybe\nno", " ", 255, "", Told::TooLong, 1, ""),
+];
+
+#[test]
+fn what_lines_say(rt: HostRuntime) -> Result<(), Fail> {
+    let alloc = rt.alloc();
+    for (head, piece, count, end, told, complaints, left) in &TURNS {
+        let input = repeated(alloc, head, piece, *count, end)?;
+        let wanted = repeated(alloc, QUESTION, COMPLAINT, *complaints, "")?;
+        let mut source = MemSource::new(input.into_bytes(), Vec::new(alloc));
+        let mut sink = MemSink::new(alloc, Vec::new(alloc));
+        assert_eq!(rt;
+            turn(alloc, &mut LineTeacher::new(), &mut source, &mut sink)?,
+            *told,
+            "{head} {piece} {count} {end}"
+        );
+        assert_eq!(rt; sink.bytes(), wanted.as_bytes());
+        assert_eq!(rt; source.left(), left.as_bytes());
+    }
+    Ok(())
+}
+
+/// Which calls of the source and of the sink fail, where a line is no answer and the next one is yes; what is told, what is
+/// written, and what is left.
+static FAULTS: [(u32, u32, Told, &str, &str); 10] = [
+    (0, 9, Told::ReadFault, QUESTION, "x\nyes\n"),
+    (1, 9, Told::ReadFault, QUESTION, "\nyes\n"),
+    (2, 9, Told::ReadFault, BOTH, "yes\n"),
+    (3, 9, Told::ReadFault, BOTH, "es\n"),
+    (4, 9, Told::ReadFault, BOTH, "s\n"),
+    (5, 9, Told::ReadFault, BOTH, "\n"),
+    (6, 9, Told::Yes, BOTH, ""),
+    (9, 0, Told::WriteFault, "", "x\nyes\n"),
+    (9, 1, Told::WriteFault, QUESTION, "yes\n"),
+    (9, 2, Told::Yes, BOTH, ""),
+];
+
+#[test]
+fn each_call_fails_in_turn(rt: HostRuntime) -> Result<(), Fail> {
+    let alloc = rt.alloc();
+    for (read, write, told, wanted, left) in &FAULTS {
+        let mut source = MemSource::new(b"x\nyes\n".to_vec(alloc)?, vec![in alloc; *read]?);
+        let mut sink = MemSink::new(alloc, vec![in alloc; *write]?);
+        assert_eq!(rt;
+            turn(alloc, &mut LineTeacher::new(), &mut source, &mut sink)?,
+            *told,
+            "{read} {write}"
+        );
+        assert_eq!(rt; sink.bytes(), wanted.as_bytes());
+        assert_eq!(rt; source.left(), left.as_bytes());
+    }
+    Ok(())
+}
