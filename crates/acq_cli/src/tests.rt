@@ -45,6 +45,65 @@ fn rows(rt: HostRuntime) -> Result<(), Fail> {
     Ok(())
 }
 
+/// Answer lines as people type them: what comes first, a piece and how often it comes, what comes last; how many lines
+/// `not an answer` are printed after the first question, what is printed after them, and the status.
+static TYPED: [(&str, &str, usize, &str, usize, &str, u8); 6] = [
+    (
+        "",
+        "maybe\n",
+        999,
+        "no\nyes\n",
+        999,
+        "q2 a=1 b=2\nconverged 2\nne a b\n",
+        0,
+    ),
+    ("", "maybe\n", 1000, "no\nyes\n", 999, "refused lines\n", 7),
+    (
+        "no",
+        " ",
+        254,
+        "\nyes\n",
+        0,
+        "q2 a=1 b=2\nconverged 2\nne a b\n",
+        0,
+    ),
+    ("no", " ", 255, "\nyes\n", 0, "refused line too long\n", 7),
+    (
+        "\tn \r\n",
+        "",
+        0,
+        " y\r\n",
+        0,
+        "q2 a=1 b=2\nconverged 2\nne a b\n",
+        0,
+    ),
+    ("stop\n", "", 0, "no\nyes\n", 0, "suspended 0\n", 6),
+];
+
+#[test]
+fn lines_as_people_type_them(rt: HostRuntime) -> Result<(), Fail> {
+    let alloc = rt.alloc();
+    let words = words_of(alloc, "scopes")?;
+    for (first, piece, times, last, mistakes, wanted, status) in &TYPED {
+        let mut input = format!(in alloc; "{VOCABULARY}\n{first}")?;
+        for _ in 0..*times {
+            input.push_str(piece)?;
+        }
+        input.push_str(last)?;
+        let mut text = String::from_str(alloc, "q1 a=1 b=1\n")?;
+        for _ in 0..*mistakes {
+            text.push_str("not an answer\n")?;
+        }
+        text.push_str(wanted)?;
+        let mut source = PlainSource::new(input.into_bytes());
+        let mut sink = PlainSink::new(alloc);
+        let ending = acquire(&rt, alloc, &words, &mut source, &mut sink);
+        assert_eq!(rt; ending.status(), *status);
+        assert_eq!(rt; sink.bytes(), text.as_bytes());
+    }
+    Ok(())
+}
+
 /// First lines, what is printed, and the status.
 static REFUSALS: [(&str, &str, u8); 3] = [
     ("", "refused vocabulary not json\n", 2),
