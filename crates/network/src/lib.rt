@@ -7,6 +7,8 @@
 
 pub mod laws;
 mod network;
+#[cfg(test)]
+mod tests;
 mod text;
 
 pub use network::Network;

@@ -29,7 +29,7 @@ impl Model for Network {
 }
 
 impl Network {
-    /// Nothing learned yet, with room for one candidate on each scope.
+    /// Nothing learned yet, with room for one candidate on each scope. `Memory` where there is none for that.
     pub fn new(alloc: Global, lang: &Language) -> Result<Network, Memory>
         ensures empty { IfOk result (λ net. net.list ≡ []) }
         ensures scopes { IfOk result (λ net. net.scopes ≡ length lang.now.scopes) }
@@ -41,7 +41,7 @@ impl Network {
         }
     }
 
-    /// Puts a candidate at the end.
+    /// Puts a candidate at the end. The room is there: on each scope at most one is learned.
     pub fn learn(&mut self, c: Candidate)
         requires fresh { has_scope self.old.list c.scope ≡ false }
         requires known { c.scope < self.old.scopes }
@@ -51,7 +51,7 @@ impl Network {
         self.list.push(c).unwrap();
     }
 
-    /// Forgets all.
+    /// Forgets all, and keeps the room.
     pub fn clear(&mut self)
         ensures list { self.new.list ≡ [] }
         ensures scopes { self.new.scopes ≡ self.old.scopes }
@@ -67,7 +67,7 @@ impl Network {
         self.list.len() as u32
     }
 
-    /// Candidate i in learning order.
+    /// Candidate i in learning order, from 0.
     pub fn item(&self, i: u32) -> Candidate
         requires { i < length self.now.list }
         ensures { slice_get self.now.list i ≡ Some result }
@@ -82,7 +82,8 @@ impl Network {
         &self.list
     }
 
-    /// Whether a question violates none of them.
+    /// Whether a question violates none of them: the answer of a user whose network this is. A candidate with a variable
+    /// that the question leaves open isn't violated.
     pub fn accepts(&self, lang: &Language, q: &Partial) -> bool
         requires network { IsNetwork lang.now self.now.list }
         requires question { IsQuestion lang.now q.now }
