@@ -1,7 +1,5 @@
 -- The falling order of relations.
-use Rattle.std.proofs.Common.{◌≡◌, ℕ, zero, suc, ◌+◌, ◌<◌, Bool, true, false, not, [], ◌∷◌, length, drop, refl, sym, ◌∙◌, ap, arith}
-use Rattle.std.specs.Prelude.{slice_index_or}
-use Rattle.std.specs.Bool.{beq}
+use Rattle.std.proofs.Common.{◌≡◌, true, false, [], ◌∷◌, length, refl, ap, arith}
 use Rattle.rel_table.specs.Relation.{Relation, is_above}
 
 pub above_above : (r q s : Relation) → is_above r q ≡ true → is_above q s ≡ true → is_above r s ≡ true

@@ -6,7 +6,7 @@ use Rattle.std.proofs.lemmas.Bool.{both_ways, eq-eqb, ne_eqb}
 use Rattle.std.proofs.lemmas.List.{get_or-map, length-map, map-append, take-append-drop, take_all, take_more, append_assoc, append-nil}
 use Rattle.std.specs.List.{filter, take-map, drop-map}
 use Rattle.std.proofs.lemmas.List.Edits.{length-insert}
-use Rattle.std.proofs.lemmas.List.Elements.{All-map, All-nil, All-cons, All-append, All-push, All-take, All-drop, All-weaker, All-more, All-contains, All-contains_itself, filter_more, filter-append, Contains-append_left, Contains-append_right, Contains-append_cases, Contains-push}
+use Rattle.std.proofs.lemmas.List.Elements.{All-map, All-nil, All-cons, All-append, All-push, All-take, All-drop, All-weaker, All-more, All-contains_itself, filter_more, filter-append, Contains-append_left, Contains-append_right, Contains-append_cases, Contains-push}
 use Rattle.std.proofs.lemmas.List.Kept.{AllPairs-cons}
 use Rattle.rel_table.specs.Relation.{Relation, is_above, meet}
 use Rattle.rel_table.specs.Table.{TruthTable, IsTable}

@@ -1,5 +1,5 @@
 -- Relations in falling order of their truth values.
-use Rattle.std.specs.Prelude.{ℕ, ◌<◌, List, [], ◌∷◌, length, IsTrue, All, AllPairs, Contains}
+use Rattle.std.specs.Prelude.{◌<◌, List, [], ◌∷◌, length, IsTrue, All, AllPairs, Contains}
 use Rattle.rel_table.specs.Relation.{Relation, is_above}
 
 abbrev pub Above : Relation → Relation → Type 0

@@ -1,8 +1,8 @@
-use Rattle.std.proofs.Common.{◌≡◌, ℕ, ◌+◌, ◌<◌, ◌∷◌, [], ◌++◌, List, Vec, take, sym, subst, ◌∙◌, ap}
+use Rattle.std.proofs.Common.{◌≡◌, ℕ, ◌+◌, ◌∷◌, [], ◌++◌, Vec, take, sym, subst, ◌∙◌, ap}
 use Rattle.std.specs.Prelude.{All}
 use Rattle.std.specs.declared.alloc.Global.{Global}
 use Rattle.std.proofs.lemmas.Result.{err_from_is_err_and}
-use Rattle.rel_table.specs.Relation.{Relation, IsClosing}
+use Rattle.rel_table.specs.Relation.{IsClosing}
 use Rattle.rel_table.specs.Table.{TruthTable}
 use Rattle.rel_table.specs.Closing.{relations_in, relations_of, IsOfKind, IsClosed, HasTooMany}
 use Rattle.rel_table.proofs.Inserting.{of_more, of_no_more, of_taken}

@@ -1,9 +1,8 @@
-use Rattle.std.proofs.Common.{◌≡◌, ℕ, ◌+◌, ◌<◌, ◌∷◌, [], ◌++◌, List, map, length, take, sym, subst, ◌∙◌, ap, arith}
-use Rattle.std.specs.Prelude.{All, slice_index_or}
+use Rattle.std.proofs.Common.{◌≡◌, ℕ, ◌+◌, ◌∷◌, [], ◌++◌, map, take, sym, subst, ◌∙◌, ap}
+use Rattle.std.specs.Prelude.{All}
 use Rattle.std.proofs.lemmas.List.{take_all}
 use Rattle.std.proofs.lemmas.Result.{err_from_is_err_and}
-use Rattle.rel_table.specs.Relation.{Relation, meet}
-use Rattle.rel_table.specs.Table.{TruthTable}
+use Rattle.rel_table.specs.Relation.{meet}
 use Rattle.rel_table.specs.InOrder.{IsInOrder}
 use Rattle.rel_table.specs.Closing.{relations_in, IsOfKind}
 use Rattle.rel_table.proofs.Inserting.{relations_more, in_order_alone}
