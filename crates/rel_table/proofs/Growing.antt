@@ -1,8 +1,8 @@
 -- One more relation, and its intersections with all that stand, keep relations closed.
-use Rattle.std.proofs.Common.{◌≡◌, ◌≢◌, ℕ, zero, suc, ◌+◌, ◌-◌, ◌<◌, ◌≤◌, Bool, true, false, ◌&&◌, List, Vec, [], ◌∷◌, ◌++◌, length, map, take, get_or, refl, sym, ◌∙◌, ap, subst, arith, ◌⊎◌, inl, inr}
-use Rattle.std.specs.Prelude.{All, Contains}
+use Rattle.std.proofs.Common.{◌≡◌, ◌≢◌, ℕ, zero, suc, ◌+◌, ◌-◌, ◌<◌, ◌≤◌, Bool, true, false, ◌&&◌, List, Vec, [], ◌∷◌, ◌++◌, length, map, take, drop, set, get_or, refl, sym, ◌∙◌, ap, subst, arith, ◌⊎◌, inl, inr}
+use Rattle.std.specs.Prelude.{All, AllPairs, Contains}
 use Rattle.std.proofs.lemmas.Bool.{both_ways, cases_eq}
-use Rattle.std.proofs.lemmas.List.{get_or-map, length-map, length_push, get_or_push, get_or_append_left, map-append}
+use Rattle.std.proofs.lemmas.List.{get_or-map, length-map, length_push, get_or_push, get_or_append_left, map-append, set-get_or, set_split, length-append, length-take, length-drop}
 use Rattle.std.specs.declared.alloc.Global.{Global}
 use Rattle.std.proofs.lemmas.List.Elements.{All-nil, All-head, All-tail, All-push, All-weaker, All-contains, Contains-append_left, Contains-append_right, Contains-append_cases, Contains-push, Contains-push_cases}
 use Rattle.rel_table.specs.Relation.{Relation, is_above, meet, meet_all, IsIntersection, IsClosing}
@@ -12,6 +12,7 @@ use Rattle.rel_table.specs.Closing.{relations_in, relations_of, HasTooMany, HasF
 use Rattle.rel_table.specs.declared.table.CloseFault.{CloseFault}
 use Rattle.rel_table.specs.declared.table.CloseFault.TheVariants.{TooMany, Memory}
 use Rattle.rel_table.proofs.Tables.{not_above_itself}
+use Rattle.rel_table.proofs.Pairwise.{pairs_head, pairs_tail}
 use Rattle.rel_table.proofs.Inserting.{meet_itself, relations_more, taken}
 
 -- ---- intersection
@@ -238,3 +239,47 @@ lists_more d file lists whole list arity count is before last a some low =
     go (inr other) =
         let within : a - 1 < length old = omega (arith, long, count, low, some, other) in
         subst (IsClosed a d file) (sym (get_or_append_left old (list.items ∷ []) [] (a - 1) within)) (before a some (omega (arith, low, other)))
+
+-- ---- there can't be both too many and few
+
+cons_cases : (x : Relation) (b : List Relation) (q : Relation) → Contains (x ∷ b) q → (x ≡ q) ⊎ Contains b q
+cons_cases x b q (zero, low, is) = inl is
+cons_cases x b q (suc k, low, is) = inr (k, omega arith, is)
+
+-- a list without the element at a place
+abbrev less : List Relation → ℕ → List Relation
+less ys k = take k ys ++ drop (suc k) ys
+
+split_at : (ys : List Relation) (k : ℕ) (x : Relation) → k < length ys → get_or ys k x ≡ x → ys ≡ take k ys ++ x ∷ drop (suc k) ys
+split_at ys k x low is = sym (set-get_or ys k x) ∙ ap (set ys k) is ∙ set_split ys k x low
+
+length-less : (ys : List Relation) (k : ℕ) → k < length ys → length (less ys k) + 1 ≡ length ys
+length-less ys k low = omega (arith, low, length-append (take k ys) (drop (suc k) ys), length-take k ys, length-drop (suc k) ys)
+
+still_there : (ys : List Relation) (k : ℕ) (x q : Relation) → k < length ys → get_or ys k x ≡ x → Contains ys q → x ≢ q → Contains (less ys k) q
+still_there ys k x q low is has apart = go (Contains-append_cases (take k ys) (x ∷ drop (suc k) ys) q (subst (λ zs. Contains zs q) (split_at ys k x low is) has))
+  where
+    after : (x ≡ q) ⊎ Contains (drop (suc k) ys) q → Contains (less ys k) q
+    after (inl same) = absurd (apart same)
+    after (inr right) = Contains-append_right (take k ys) (drop (suc k) ys) q right
+
+    go : Contains (take k ys) q ⊎ Contains (x ∷ drop (suc k) ys) q → Contains (less ys k) q
+    go (inl left) = Contains-append_left (take k ys) (drop (suc k) ys) q left
+    go (inr right) = after (cons_cases x (drop (suc k) ys) q right)
+
+-- a list without repeats is no longer than one that has all its elements
+no_longer : (xs ys : List Relation) → All (Contains ys) xs → AllPairs (λ r q. r ≢ q) xs → length xs ≤ length ys
+no_longer [] ys each apart = omega arith
+no_longer (x ∷ xs) ys each apart =
+    let has : Contains ys x = All-head (Contains ys) x xs each in
+    let rest : length xs ≤ length (less ys has.0) = no_longer xs (less ys has.0)
+    (λ j d low. still_there ys has.0 x (get_or xs j d) has.1 has.2 (All-tail (Contains ys) x xs each j d low) (pairs_head (λ r q. r ≢ q) x xs apart j d low))
+    (pairs_tail (λ r q. r ≢ q) x xs apart) in
+    omega (arith, rest, length-less ys has.0 has.1)
+
+pub not_too_many : (file : List Relation) → HasTooMany file → HasFew file → ⊥
+not_too_many file many few =
+    let short : length many.some ≤ length few.all = no_longer many.some few.all (All-weaker (IsIntersection file) (Contains few.all) few.closing.every many.some many.each) many.apart in
+    let high = many.many in
+    let low = few.few in
+    omega (arith, short, high, low)

@@ -1,6 +1,6 @@
 //! Closing relations under intersection.
 
-ghost use Rattle.std.specs.Prelude.{◌≡◌, ◌≢◌, ℕ, ◌-◌, ◌^◌, ◌≤◌, ◌++◌, ◌∷◌, List, [], length, map, take, drop, slice_index_or, All, Contains, IfOk, IfErr, IfSome, None};
+ghost use Rattle.std.specs.Prelude.{◌≡◌, ◌≢◌, ℕ, ◌-◌, ◌^◌, ◌≤◌, ◌++◌, ◌∷◌, List, [], length, map, take, drop, slice_index_or, All, Contains, IfOk, IfErr, OnOk, IfSome, None};
 ghost use Rattle.rel_table.specs.Relation.{Relation, meet, IsClosing};
 ghost use Rattle.rel_table.specs.Table.{TruthTable, IsTable};
 ghost use Rattle.rel_table.specs.InOrder.{Above, IsBelow, IsInOrder, Overflows};
@@ -54,6 +54,7 @@ pub fn close(alloc: Global, file: &[Table]) -> Result<Closed, CloseFault>
     requires values { All (λ (t : TruthTable). t.value_count ≡ d) file.now }
     ensures closed { IfOk result (λ lists. (arity : ℕ) → 1 ≤ arity → arity ≤ 4 → IsClosed arity d file.now (slice_index_or lists (arity - 1) [])) }
     ensures refused { IfErr result (λ e. IsRefused file.now e) }
+    ensures exact { OnOk result ((arity : ℕ) → 1 ≤ arity → arity ≤ 4 → HasTooMany (relations_of arity file.now) → ⊥) }
 {
     let mut lists = Vec::new(alloc);
     for arity in 1..5 {

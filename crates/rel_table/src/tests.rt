@@ -1,6 +1,9 @@
-//! Relations whose tuples and places were worked out by hand.
+//! Relations whose tuples, places and intersections were worked out by hand.
 
-use crate::{Table, TableFault, place_of, table_size, tuple_of};
+ghost use Rattle.std.specs.Prelude.{◌≡◌, All, IfOk};
+ghost use Rattle.rel_table.specs.Table.{TruthTable};
+
+use crate::{CloseFault, Closed, Table, TableFault, close, place_of, table_size, tuple_of};
 use std::alloc::Global;
 use std::process::Abort;
 use std::test::Fail;
@@ -223,6 +226,178 @@ fn relations_of_two_kinds(rt: HostRuntime) -> Result<(), Fail> {
         let b = constant(&rt, rt.alloc(), other_arity, other_d, other_value)?;
         assert!(rt; !a.equals(&b) && !b.equals(&a), "{arity} {d} {value}");
         assert_eq!(rt; a.within(&b), within, "{arity} {d} {value}");
+    }
+    Ok(())
+}
+
+/// Of two values, each one of two: the tuples whose bits are in the mask. The first tuple's bit is 8, so the falling order is that of the masks.
+fn pairs(rt: &impl Abort, alloc: Global, mask: u8) -> Result<Table, Fail>
+    ensures { IfOk result (λ (t : TruthTable). t.value_count ≡ 2) }
+{
+    let mut tuples = Vec::new(alloc);
+    for (bit, tuple) in [(8, [0, 0]), (4, [0, 1]), (2, [1, 0]), (1, [1, 1])] {
+        if mask & bit != 0 {
+            tuples.push(tuple.to_vec(alloc)?)?;
+        }
+    }
+    assert!(rt; tuples.len() < 5);
+    Ok(Table::from_tuples(alloc, 2, 0, 2, &tuples)?)
+}
+
+/// These relations closed.
+fn closed_pairs(rt: &impl Abort, alloc: Global, masks: &[u8]) -> Result<Closed, Fail> {
+    let mut file = Vec::new(alloc);
+    for mask in masks {
+        file.push(pairs(rt, alloc, *mask)?)?;
+    }
+    Ok(close(alloc, &file)?)
+}
+
+#[test]
+fn closed_relations_fall(rt: HostRuntime) -> Result<(), Fail> {
+    // 13 is at most, 11 is at least, 9 is both, 6 is unequal.
+    let rows: [(&[u8], &[u8]); 8] = [
+        (&[], &[]),
+        (&[6], &[6]),
+        (&[6, 6], &[6]),
+        (&[1, 8], &[8, 1, 0]),
+        (&[0, 15], &[15, 0]),
+        (&[13, 11, 6], &[13, 11, 9, 6, 4, 2, 0]),
+        (&[6, 9, 11, 13], &[13, 11, 9, 6, 4, 2, 0]),
+        (
+            &[7, 11, 13, 14],
+            &[14, 13, 12, 11, 10, 9, 8, 7, 6, 5, 4, 3, 2, 1, 0],
+        ),
+    ];
+    for (given, wanted) in rows {
+        let closed = closed_pairs(&rt, rt.alloc(), given)?;
+        assert!(rt;
+            closed.list(1).is_empty() && closed.list(3).is_empty() && closed.list(4).is_empty()
+        );
+        let list = closed.list(2);
+        assert_eq!(rt; list.len(), wanted.len(), "of {given:?}");
+        for (i, mask) in wanted.iter().enumerate() {
+            assert!(rt; i < list.len());
+            assert!(rt;
+                list[i].equals(&pairs(&rt, rt.alloc(), *mask)?),
+                "{mask} of {given:?}"
+            );
+        }
+    }
+    Ok(())
+}
+
+/// Of eight values: the tuples of one value again and again, each value but one.
+fn all_but(rt: &impl Abort, alloc: Global, arity: u8, missing: i64) -> Result<Table, Fail>
+    ensures { IfOk result (λ (t : TruthTable). t.value_count ≡ 8) }
+{
+    let mut tuples = Vec::new(alloc);
+    for value in 0..8 {
+        if value != missing {
+            tuples.push(vec![in alloc; value; arity as usize]?)?;
+        }
+    }
+    assert!(rt; tuples.len() < 9);
+    Ok(Table::from_tuples(alloc, i64::from(arity), 0, 8, &tuples)?)
+}
+
+/// So many of these more. The intersections of n are 2^n - 1.
+fn with_all_but(
+    rt: &impl Abort,
+    alloc: Global,
+    mut file: Vec<Table>,
+    arity: u8,
+    count: i64,
+) -> Result<Vec<Table>, Fail>
+    requires { All (λ (t : TruthTable). t.value_count ≡ 8) file.items }
+    ensures { IfOk result (λ v. All (λ (t : TruthTable). t.value_count ≡ 8) v.items) }
+{
+    for missing in 0..count {
+        file.push(all_but(rt, alloc, arity, missing)?)?;
+    }
+    Ok(file)
+}
+
+/// How many intersections there are of so many of these of each arity; those of four values are handed in first.
+fn counts_closed(
+    rt: &impl Abort,
+    alloc: Global,
+    [one, two, three, four]: [i64; 4],
+) -> Result<Result<[usize; 4], CloseFault>, Fail> {
+    let file = with_all_but(rt, alloc, Vec::new(alloc), 4, four)?;
+    let file = with_all_but(rt, alloc, file, 3, three)?;
+    let file = with_all_but(rt, alloc, file, 2, two)?;
+    let file = with_all_but(rt, alloc, file, 1, one)?;
+    match close(alloc, &file) {
+        Ok(closed) => Ok(Ok([
+            closed.list(1).len(),
+            closed.list(2).len(),
+            closed.list(3).len(),
+            closed.list(4).len(),
+        ])),
+        Err(fault) => Ok(Err(fault)),
+    }
+}
+
+#[test]
+fn the_least_arity_with_too_many_is_named(rt: HostRuntime) -> Result<(), Fail> {
+    let rows = [
+        ([0, 0, 0, 0], Ok([0, 0, 0, 0])),
+        ([6, 3, 1, 2], Ok([63, 7, 1, 3])),
+        ([7, 0, 0, 0], Err(CloseFault::TooMany(1))),
+        ([6, 7, 6, 7], Err(CloseFault::TooMany(2))),
+        ([1, 0, 7, 7], Err(CloseFault::TooMany(3))),
+        ([6, 6, 6, 7], Err(CloseFault::TooMany(4))),
+        ([8, 8, 8, 8], Err(CloseFault::TooMany(1))),
+    ];
+    for (counts, wanted) in rows {
+        assert_eq!(rt;
+            counts_closed(&rt, rt.alloc(), counts)?,
+            wanted,
+            "of {counts:?}"
+        );
+    }
+    Ok(())
+}
+
+/// The values below one, of 64.
+fn below(rt: &impl Abort, alloc: Global, count: i64) -> Result<Table, Fail>
+    ensures { IfOk result (λ (t : TruthTable). t.value_count ≡ 64) }
+{
+    let mut tuples = Vec::new(alloc);
+    for value in 0..count {
+        tuples.push(vec![in alloc; value]?)?;
+    }
+    assert!(rt; tuples.len() < 65);
+    Ok(Table::from_tuples(alloc, 1, 0, 64, &tuples)?)
+}
+
+/// A chain of relations, each within the next one, closed.
+fn chain(
+    rt: &impl Abort,
+    alloc: Global,
+    first: i64,
+    end: i64,
+) -> Result<Result<Closed, CloseFault>, Fail> {
+    let mut file = Vec::new(alloc);
+    for count in first..end {
+        file.push(below(rt, alloc, count)?)?;
+    }
+    Ok(close(alloc, &file))
+}
+
+#[test]
+fn sixty_four_relations_are_closed(rt: HostRuntime) -> Result<(), Fail> {
+    assert_eq!(rt;
+        chain(&rt, rt.alloc(), 0, 65)?.err(),
+        Some(CloseFault::TooMany(1))
+    );
+    for first in 0..2 {
+        let closed = chain(&rt, rt.alloc(), first, first + 64)??;
+        let list = closed.list(1);
+        assert_eq!(rt; list.len(), 64);
+        assert!(rt; list[0].equals(&below(&rt, rt.alloc(), first + 63)?));
+        assert!(rt; list[63].equals(&below(&rt, rt.alloc(), first)?));
     }
     Ok(())
 }

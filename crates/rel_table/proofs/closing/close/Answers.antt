@@ -1,6 +1,7 @@
-use Rattle.std.proofs.Common.{length, ap, arith}
+use Rattle.std.proofs.Common.{◌-◌, length, ap, arith}
 use Rattle.std.proofs.lemmas.Result.{err_from_is_err_and}
-use Rattle.rel_table.proofs.Growing.{few_of, refused, lists_more, length_more}
+use Rattle.rel_table.specs.Closing.{relations_of}
+use Rattle.rel_table.proofs.Growing.{few_of, refused, lists_more, length_more, not_too_many}
 use Rattle.rel_table.proofs.closing.close.Goals as goal
 
 pub returns-in_err-list-clause-refused : goal.returns-in_err-list-clause-refused
@@ -17,3 +18,7 @@ loop-arity-preserved g c =
       closed = λ a some low. lists_more g.d c.args.file.now c.loop-arity.lists.items c.in-Ok.more.items c.in_ok-list.list c.loop-arity.arity c.loop-arity.invariant.count is c.loop-arity.invariant.closed
           c.in_ok-list.ensures.closed a some low;
     }
+
+pub returns-clause-exact : goal.returns-clause-exact
+returns-clause-exact g c = λ arity some short many.
+    not_too_many (relations_of arity c.args.file.now) many (few_of arity g.d c.args.file.now _ (c.loop-arity.invariant.closed arity some (omega (arith, short, c.loop-arity-test.false))))
