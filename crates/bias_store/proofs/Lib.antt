@@ -4,3 +4,4 @@ pub mod Picked
 pub mod Struck
 pub mod Filled
 pub mod Contained
+pub mod Apart

@@ -33,7 +33,7 @@ impl Model for Kept {
     ghost invariant = { IsCounted };
 }
 
-/// Of these relations on a scope, those that the question violates.
+/// Of these relations on a scope, those that the question violates: none where it leaves a variable there open.
 fn violated_on(lang: &Language, s: ScopeId, q: &Partial, relations: u64) -> u64
     requires scope { s < length lang.now.scopes }
     requires known { All (λ r. r < length (relations_on lang.now s)) (ones_of relations) }
@@ -53,7 +53,7 @@ fn violated_on(lang: &Language, s: ScopeId, q: &Partial, relations: u64) -> u64
 }
 
 impl Kept {
-    /// All candidates of the language.
+    /// All candidates of the language, a mask of 8 bytes for each scope. `Memory` where there is none for the masks.
     pub fn of(alloc: Global, lang: &Language) -> Result<Kept, Memory>
         ensures all { IfOk result (λ k. k.members ≡ candidates lang.now) }
         ensures made { IfOk result (λ k. IsMadeFor lang.now k) }
@@ -76,7 +76,7 @@ impl Kept {
         self.count
     }
 
-    /// Whether the candidate is kept.
+    /// Whether the candidate is kept. A scope or a relation that the language lacks has no kept candidate.
     pub fn is_kept(&self, c: Candidate) -> bool
         ensures { IsTrue result ↔ Contains self.now.members c }
     {
@@ -84,7 +84,7 @@ impl Kept {
         scope < self.relations.len() && has_relation(self.relations[scope], c.rel)
     }
 
-    /// The kept relations on a scope: bit r is one where relation r is kept.
+    /// The kept relations on a scope: bit r is one where relation r is kept, in the language's order of relations.
     pub fn on_scope(&self, s: ScopeId) -> u64
         requires { s < self.now.scopes }
         ensures { ones_of result ≡ kept_relations self.now.members s }
@@ -92,7 +92,7 @@ impl Kept {
         self.relations[usize::from(s)]
     }
 
-    /// Whether the question violates a kept candidate.
+    /// Whether the question violates a kept candidate. Scopes are looked at in their order, up to the first such one.
     pub fn strikes_any(&self, lang: &Language, q: &Partial) -> bool
         requires made { IsMadeFor lang.now self.now }
         requires question { IsQuestion lang.now q.now }
@@ -108,6 +108,9 @@ impl Kept {
     }
 
     /// Takes out the candidates that the question violates, and answers how many they were.
+    ///
+    /// Each scope is looked at, also where the question covers few: one that it doesn't cover costs no more than the
+    /// reading of a value or two.
     pub fn strike(&mut self, lang: &Language, q: &Partial) -> u32
         requires made { IsMadeFor lang.now self.old }
         requires question { IsQuestion lang.now q.now }
@@ -125,7 +128,7 @@ impl Kept {
         count_before - self.count
     }
 
-    /// Takes out the candidates on a scope.
+    /// Takes out the candidates on a scope, as when something is learned there.
     pub fn drop_scope(&mut self, s: ScopeId)
         requires { s < self.old.scopes }
         ensures kept { self.new.members ≡ filter (λ c. not (s == c.scope)) self.old.members }
@@ -137,7 +140,7 @@ impl Kept {
         self.count -= relation_count(dropped);
     }
 
-    /// Keeps all candidates of the language again.
+    /// Keeps all candidates of the language again, as when answers were taken back.
     pub fn reset(&mut self, lang: &Language)
         requires { self.old.scopes ≡ length lang.now.scopes }
         ensures all { self.new.members ≡ candidates lang.now }
