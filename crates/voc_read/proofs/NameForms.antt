@@ -1,6 +1,6 @@
 -- Names that nothing refuses are names, and no two of them are equal.
-use Rattle.std.proofs.Common.{◌≡◌, ◌≢◌, ℕ, zero, suc, ◌+◌, ◌<◌, ◌≤◌, ◌++◌, Bool, true, false, not, cond, nat_lt, List, [], ◌∷◌, length, take, drop, get_or, map, Option, Some, None, Bor, refl, sym, ap, ap₂, ◌∙◌, arith, true≢false, append_assoc, append-nil, ◌&&◌}
-use Rattle.std.specs.Prelude.{position, AllPairs, IsTrue}
+use Rattle.std.proofs.Common.{◌≡◌, ◌≢◌, ℕ, zero, suc, ◌+◌, ◌<◌, ◌≤◌, ◌++◌, Bool, true, false, not, cond, nat_lt, List, [], ◌∷◌, length, take, get_or, Option, Some, None, Bor, refl, sym, ap, ap₂, ◌∙◌, arith, true≢false, append_assoc, append-nil, ◌&&◌}
+use Rattle.std.specs.Prelude.{position, AllPairs}
 use Rattle.std.specs.Option.{option_map, option_or}
 use Rattle.std.specs.List.{list_any, list_all, position_or_len}
 use Rattle.std.specs.Str.{bytes_eq}

@@ -1,5 +1,5 @@
 -- The relations of a vocabulary.
-use Rattle.std.specs.Prelude.{◌≡◌, ℕ, ◌+◌, ◌^◌, ℤ, pos, unsigned_abs, List, [], ◌∷◌, map, codes, nat_eq, Option, Some, None, Result, Ok, Err, if◌then◌else◌, true, string_bytes}
+use Rattle.std.specs.Prelude.{◌≡◌, ℕ, ◌+◌, ◌^◌, ℤ, pos, unsigned_abs, List, [], ◌∷◌, map, codes, nat_eq, Option, Some, None, Result, Ok, if◌then◌else◌, true, string_bytes}
 use Rattle.std.specs.List.{list_any, range_with_len}
 use Rattle.std.specs.Option.{ok_or, option_map}
 use Rattle.std.specs.Ordering.{int_eq}

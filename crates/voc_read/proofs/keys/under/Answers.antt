@@ -1,8 +1,5 @@
-use Rattle.std.proofs.Common.{◌≡◌, ◌≤◌, sym, subst}
-use Rattle.std.specs.Prelude.{IfOk}
 use Rattle.serde_json.specs.View.{view}
 use Rattle.voc_read.proofs.Widths.{widest-found}
-use Rattle.voc_read.specs.Widest.{widest}
 use Rattle.voc_read.proofs.keys.under.Goals as goal
 
 pub returns-clause-part : goal.returns-clause-part

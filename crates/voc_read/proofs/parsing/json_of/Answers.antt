@@ -1,4 +1,4 @@
-use Rattle.std.proofs.Common.{◌≡◌, ap}
+use Rattle.std.proofs.Common.{ap}
 use Rattle.std.specs.Option.{ok_or}
 use Rattle.voc_read.specs.declared.fault.VocFault.TheVariants.{NotJson}
 use Rattle.voc_read.proofs.ReadSizes.{widest-read}

@@ -1,4 +1,4 @@
-use Rattle.std.proofs.Common.{◌≡◌, ℤ, List, pos, to_z, of_z, w64, SFits, rules, subst, sym, ◌∙◌, refl, ap}
+use Rattle.std.proofs.Common.{◌≡◌, ℤ, List, pos, to_z, of_z, w64, SFits, rules, subst, ap}
 use Rattle.std.proofs.lemmas.Int.{to_z-of_z}
 use Rattle.rel_table.specs.Made.{IsMade, lists}
 use Rattle.voc_read.proofs.TablesRead.{IsTableOf-made}

@@ -1,4 +1,4 @@
-use Rattle.std.proofs.Common.{◌≡◌, ◌≤◌, List, length, sym, subst}
+use Rattle.std.proofs.Common.{◌≤◌, List, length, sym, subst}
 use Rattle.serde_json.specs.View.{view, items_view}
 use Rattle.serde_json.specs.declared.value.Value.{Value}
 use Rattle.voc_read.specs.Widest.{widest, items_widest}
