@@ -45,9 +45,29 @@ fn rows(rt: HostRuntime) -> Result<(), Fail> {
     Ok(())
 }
 
-/// Answer lines as people type them: what comes first, a piece and how often it comes, what comes last; how many lines
-/// `not an answer` are printed after the first question, what is printed after them, and the status.
-static TYPED: [(&str, &str, usize, &str, usize, &str, u8); 6] = [
+/// A text that is repeated so many times, between two others.
+fn repeated(
+    alloc: Global,
+    head: &str,
+    piece: &str,
+    count: usize,
+    end: &str,
+) -> Result<String, AllocError> {
+    let mut text = String::from_str(alloc, head)?;
+    for _ in 0..count {
+        text.push_str(piece)?;
+    }
+    text.push_str(end)?;
+    Ok(text)
+}
+
+const QUESTION: &str = "q1 a=1 b=1\n";
+
+const NO_ANSWER: &str = "not an answer\n";
+
+/// Answer lines: a text that is repeated so many times, between two others. How often it is said that a line is no answer,
+/// what is printed after that, and the status.
+static LINES: [(&str, &str, usize, &str, usize, &str, u8); 7] = [
     (
         "",
         "maybe\n",
@@ -57,7 +77,7 @@ static TYPED: [(&str, &str, usize, &str, usize, &str, u8); 6] = [
         "q2 a=1 b=2\nconverged 2\nne a b\n",
         0,
     ),
-    ("", "maybe\n", 1000, "no\nyes\n", 999, "refused lines\n", 7),
+    ("", "maybe\n", 1000, "", 999, "refused lines\n", 7),
     (
         "no",
         " ",
@@ -67,39 +87,92 @@ static TYPED: [(&str, &str, usize, &str, usize, &str, u8); 6] = [
         "q2 a=1 b=2\nconverged 2\nne a b\n",
         0,
     ),
-    ("no", " ", 255, "\nyes\n", 0, "refused line too long\n", 7),
+    ("no", " ", 255, "\n", 0, "refused line too long\n", 7),
+    ("stop\nyes\n", "", 0, "", 0, "suspended 0\n", 6),
+    ("yes", "", 0, "", 0, "suspended 0\n", 6),
     (
-        "\tn \r\n",
+        "back\r\nn\r\n\ty \r\n",
         "",
         0,
-        " y\r\n",
-        0,
+        "",
+        1,
         "q2 a=1 b=2\nconverged 2\nne a b\n",
         0,
     ),
-    ("stop\n", "", 0, "no\nyes\n", 0, "suspended 0\n", 6),
 ];
 
 #[test]
-fn lines_as_people_type_them(rt: HostRuntime) -> Result<(), Fail> {
+fn answer_lines(rt: HostRuntime) -> Result<(), Fail> {
     let alloc = rt.alloc();
     let words = words_of(alloc, "scopes")?;
-    for (first, piece, times, last, mistakes, wanted, status) in &TYPED {
-        let mut input = format!(in alloc; "{VOCABULARY}\n{first}")?;
-        for _ in 0..*times {
-            input.push_str(piece)?;
-        }
-        input.push_str(last)?;
-        let mut text = String::from_str(alloc, "q1 a=1 b=1\n")?;
-        for _ in 0..*mistakes {
-            text.push_str("not an answer\n")?;
-        }
-        text.push_str(wanted)?;
-        let mut source = PlainSource::new(input.into_bytes());
-        let mut sink = PlainSink::new(alloc);
+    for (head, piece, count, end, said, rest, status) in &LINES {
+        let lines = repeated(alloc, head, piece, *count, end)?;
+        let input = format!(in alloc; "{VOCABULARY}\n{lines}")?;
+        let wanted = repeated(alloc, QUESTION, NO_ANSWER, *said, rest)?;
+        let mut source = MemSource::new(input.into_bytes(), Vec::new(alloc));
+        let mut sink = MemSink::new(alloc, Vec::new(alloc));
         let ending = acquire(&rt, alloc, &words, &mut source, &mut sink);
-        assert_eq!(rt; ending.status(), *status);
-        assert_eq!(rt; sink.bytes(), text.as_bytes());
+        assert_eq!(rt; ending.status(), *status, "{head} {piece} {count} {end}");
+        assert_eq!(rt; sink.bytes(), wanted.as_bytes());
+    }
+    Ok(())
+}
+
+/// The call that reads the first byte after the vocabulary's line.
+const FIRST: u32 = VOCABULARY.len() as u32 + 1;
+
+/// Which calls of the input and of the output fail, where a line is no answer, and then no and yes come; what is printed, what
+/// is left of these lines, and the status.
+static FAULTS: [(u32, u32, &str, &str, u8); 11] = [
+    (FIRST, 9, "q1 a=1 b=1\n", "x\nno\nyes\n", 8),
+    (FIRST + 1, 9, "q1 a=1 b=1\n", "\nno\nyes\n", 8),
+    (FIRST + 2, 9, "q1 a=1 b=1\nnot an answer\n", "no\nyes\n", 8),
+    (FIRST + 4, 9, "q1 a=1 b=1\nnot an answer\n", "\nyes\n", 8),
+    (
+        FIRST + 5,
+        9,
+        "q1 a=1 b=1\nnot an answer\nq2 a=1 b=2\n",
+        "yes\n",
+        8,
+    ),
+    (
+        FIRST + 8,
+        9,
+        "q1 a=1 b=1\nnot an answer\nq2 a=1 b=2\n",
+        "\n",
+        8,
+    ),
+    (
+        FIRST + 9,
+        9,
+        "q1 a=1 b=1\nnot an answer\nq2 a=1 b=2\nconverged 2\nne a b\n",
+        "",
+        0,
+    ),
+    (FIRST + 9, 0, "", "x\nno\nyes\n", 9),
+    (FIRST + 9, 1, "q1 a=1 b=1\n", "no\nyes\n", 9),
+    (FIRST + 9, 2, "q1 a=1 b=1\nnot an answer\n", "yes\n", 9),
+    (
+        FIRST + 9,
+        3,
+        "q1 a=1 b=1\nnot an answer\nq2 a=1 b=2\n",
+        "",
+        9,
+    ),
+];
+
+#[test]
+fn each_call_fails_in_turn(rt: HostRuntime) -> Result<(), Fail> {
+    let alloc = rt.alloc();
+    let words = words_of(alloc, "scopes")?;
+    for (read, write, wanted, left, status) in &FAULTS {
+        let input = format!(in alloc; "{VOCABULARY}\nx\nno\nyes\n")?;
+        let mut source = MemSource::new(input.into_bytes(), vec![in alloc; *read]?);
+        let mut sink = MemSink::new(alloc, vec![in alloc; *write]?);
+        let ending = acquire(&rt, alloc, &words, &mut source, &mut sink);
+        assert_eq!(rt; ending.status(), *status, "{read} {write}");
+        assert_eq!(rt; sink.bytes(), wanted.as_bytes());
+        assert_eq!(rt; source.left(), left.as_bytes());
     }
     Ok(())
 }
