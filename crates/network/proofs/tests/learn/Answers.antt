@@ -1,4 +1,4 @@
-use Rattle.std.proofs.Common.{sym, subst}
+use Rattle.std.proofs.Common.{◌++◌, ◌∷◌, [], sym, subst}
 use Rattle.std.proofs.lemmas.List.Elements.{All-push}
 use Rattle.language.specs.Language.{IsCandidate}
 use Rattle.language.specs.Answers.{IsNetwork}
