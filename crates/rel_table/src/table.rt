@@ -203,6 +203,31 @@ impl Table {
         })
     }
 
+    /// The relation of these truth values, one for each place.
+    pub fn from_truth(
+        alloc: Global,
+        arity: u8,
+        value_count: u8,
+        truth: &[bool],
+    ) -> Result<Table, Memory>
+        requires some { 1 ≤ arity }
+        requires few { arity ≤ 4 }
+        requires values { 1 ≤ value_count }
+        requires small { value_count ≤ 64 }
+        requires each { length truth.now ≡ value_count ^ arity }
+        requires fits { length truth.now ≤ 65536 }
+        ensures { IfOk result (λ t. t ≡ record { arity = arity; value_count = value_count; truth = truth.now }) }
+    {
+        match Vec::from_slice(alloc, truth) {
+            Ok(truth) => Ok(Table {
+                arity,
+                value_count,
+                truth,
+            }),
+            Err(_) => Err(Memory),
+        }
+    }
+
     /// Whether each tuple that this relation accepts is accepted by the other.
     pub fn within(&self, o: &Table) -> bool
         ensures { result ≡ list_all (λ (p : Bool × Bool). if p.0 then p.1 else true) (zip self.now.truth o.now.truth) }
