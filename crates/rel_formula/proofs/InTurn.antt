@@ -41,11 +41,6 @@ pub record SoFar {Tree : Type 0} (w : Way Tree) (operands rest : List Value) (ol
   pub left : further w tree now.next rest ≡ stated w old.next operands
 
 module _ {Tree : Type 0} (w : Way Tree) where
-  begun : (tree : Tree) (rest : Result (List Tree × ℕ) FormulaFault) →
-      then_on {A = List Tree × ℕ} {B = Tree × ℕ} (then_on {A = List Tree × ℕ} {B = List Tree × ℕ} rest (λ more. Ok (tree ∷ more.0, more.1))) (λ read. Ok (w.whole read.0, read.1)) ≡ then_on {A = List Tree × ℕ} {B = Tree × ℕ} rest (λ more. Ok (fold w.join tree more.0, more.1))
-  begun tree (Ok more) = ap (λ t. Ok (t, more.1)) (w.whole_is tree more.0)
-  begun tree (Err fault) = refl
-
   joined : (so_far tree : Tree) (rest : Result (List Tree × ℕ) FormulaFault) →
       then_on {A = List Tree × ℕ} {B = Tree × ℕ} (then_on {A = List Tree × ℕ} {B = List Tree × ℕ} rest (λ more. Ok (tree ∷ more.0, more.1))) (λ more. Ok (fold w.join so_far more.0, more.1)) ≡ then_on {A = List Tree × ℕ} {B = Tree × ℕ} rest (λ more. Ok (fold w.join (w.join so_far tree) more.0, more.1))
   joined so_far tree (Ok more) = refl
@@ -56,29 +51,6 @@ module _ {Tree : Type 0} (w : Way Tree) where
       w.all node (items_view (value ∷ rest)) ≡ then_on (w.all next (items_view rest)) (λ more. Ok (tree ∷ more.0, more.1))
   all_read node next value rest tree e =
       w.all_more node (view value) (items_view rest) ∙ ap (λ r. then_on r (λ first. then_on (w.all first.1 (items_view rest)) (λ more. Ok (first.0 ∷ more.0, more.1)))) e
-
-  -- an operand that was refused, before others
-  all_refused : (node : ℕ) (value : Value) (rest : List Value) (fault : FormulaFault) → w.one node (view value) ≡ Err fault → w.all node (items_view (value ∷ rest)) ≡ Err fault
-  all_refused node value rest fault e =
-      w.all_more node (view value) (items_view rest) ∙ ap (λ r. then_on r (λ first. then_on (w.all first.1 (items_view rest)) (λ more. Ok (first.0 ∷ more.0, more.1)))) e
-
-  pub first_read : (operands : List Value) (value : Value) (rest : List Value) (old now : Reading) → operands ≡ value ∷ rest →
-      Adds w.steps_of (w.one old.next (view value)) old.next old now → SoFar w operands rest old now
-  first_read operands value rest old now e adds = record {
-    tree = adds.tree;
-    steps = adds.steps;
-    few = adds.few;
-    nodes = adds.nodes;
-    left =
-        sym (begun adds.tree (w.all now.next (items_view rest)))
-        ∙ sym (ap (λ r. then_on r (λ read. Ok (w.whole read.0, read.1))) (all_read old.next now.next value rest adds.tree adds.read))
-        ∙ sym (ap (stated w old.next) e);
-  }
-
-  pub first_refused : (operands : List Value) (value : Value) (rest : List Value) (start : ℕ) (fault : FormulaFault) → operands ≡ value ∷ rest →
-      w.one start (view value) ≡ Err fault → stated w start operands ≡ Err fault
-  first_refused operands value rest start fault e refused =
-      ap (stated w start) e ∙ ap (λ r. then_on r (λ read. Ok (w.whole read.0, read.1))) (all_refused start value rest fault refused)
 
   pub one_more : (operands left : List Value) (value : Value) (rest : List Value) (old mid read new : Reading) → left ≡ value ∷ rest → SoFar w operands left old mid →
       Adds w.steps_of (w.one mid.next (view value)) mid.next mid read → new.steps.items ≡ read.steps.items ++ w.joint ∷ [] → new.next ≡ read.next → SoFar w operands rest old new
@@ -103,17 +75,3 @@ module _ {Tree : Type 0} (w : Way Tree) where
             ∙ sym (ap (further w so_far.tree mid.next) e)
             ∙ so_far.left;
       }
-
-  pub more_refused : (operands left : List Value) (value : Value) (rest : List Value) (old mid : Reading) (fault : FormulaFault) → left ≡ value ∷ rest → SoFar w operands left old mid →
-      w.one mid.next (view value) ≡ Err fault → stated w old.next operands ≡ Err fault
-  more_refused operands left value rest old mid fault e so_far refused =
-      sym so_far.left ∙ ap (further w so_far.tree mid.next) e ∙ ap (λ r. then_on r (λ more. Ok (fold w.join so_far.tree more.0, more.1))) (all_refused mid.next value rest fault refused)
-
-  pub all_joined : (operands left : List Value) (old now : Reading) → left ≡ [] → SoFar w operands left old now → Adds w.steps_of (stated w old.next operands) old.next old now
-  all_joined operands left old now e so_far = record {
-    tree = so_far.tree;
-    read = sym so_far.left ∙ ap (further w so_far.tree now.next) e ∙ ap (λ r. then_on r (λ more. Ok (fold w.join so_far.tree more.0, more.1))) (w.all_none now.next);
-    steps = so_far.steps;
-    few = so_far.few;
-    nodes = so_far.nodes;
-  }

@@ -107,11 +107,6 @@ alone [] value one is = absurd (omega arith)
 alone (first ∷ []) value one is = ap (λ v. v ∷ []) (sym is)
 alone (first ∷ second ∷ more) value one is = absurd (omega arith)
 
--- a list that isn't empty
-pub first_and_rest : (operands : List Value) (value : Value) → 1 ≤ length operands → value ≡ get_or operands 0 value → operands ≡ value ∷ operands_of operands
-first_and_rest [] value some is = absurd (omega arith)
-first_and_rest (first ∷ rest) value some is = ap (λ v. v ∷ rest) (sym is) ∙ ap (λ vs. value ∷ vs) (sym (operands_of-cons first rest))
-
 -- the rest of a list from an index on
 pub from_index : (values : List Value) (i : ℕ) (value : Value) → suc i ≤ length values → value ≡ get_or values i value → drop i values ≡ value ∷ drop (i + 1) values
 from_index values i value within is =
