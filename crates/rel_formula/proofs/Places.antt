@@ -1,6 +1,6 @@
 -- A formula's truth, place by place.
-use Rattle.std.proofs.Common.{◌≡◌, ℕ, ◌+◌, ◌^◌, ◌<◌, ◌≤◌, suc, ℤ, Bool, true, false, List, [], ◌∷◌, ◌++◌, length, map, take, set, get_or, pos, ◌+ℤ◌, Option, Some, None, option_map, if◌then◌else◌, nat_lt, refl, sym, ◌∙◌, ap, subst, arith, add-one, lt-ltb, le-ltb}
-use Rattle.std.specs.List.{position, position_or_len}
+use Rattle.std.proofs.Common.{◌≡◌, ℕ, ◌+◌, ◌^◌, ◌<◌, ◌≤◌, ℤ, Bool, true, false, List, [], ◌∷◌, ◌++◌, length, take, set, get_or, pos, ◌+ℤ◌, Option, Some, None, if◌then◌else◌, refl, sym, ◌∙◌, ap, arith, add-one, lt-ltb, le-ltb}
+use Rattle.std.specs.List.{position_or_len}
 use Rattle.std.proofs.Math.Seq.{take-suc}
 use Rattle.std.proofs.lemmas.List.{length-map, get_or-map, take_all, take_more_set, map_more}
 use Rattle.std.proofs.lemmas.List.Sums.{position_or_len_is}

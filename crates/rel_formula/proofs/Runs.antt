@@ -2,7 +2,7 @@
 use Rattle.std.proofs.Common.{◌≡◌, ℤ, Bool, true, false, not, ◌||◌, List, [], ◌∷◌, ◌++◌, Option, Some, None, is_some, IsSome, if◌then◌else◌, refl, sym, ◌∙◌, ap, append_assoc}
 use Rattle.std.proofs.lemmas.List.{append-nil}
 use Rattle.std.proofs.lemmas.List.Folds.{list_any-append}
-use Rattle.rel_formula.specs.Formula.{Term, whole, shown, absolute, combined, Truth, compared, joined, opposite, combine, compare, join, size, value, is_true, parts_of, parts, fits, some_too_big, is_too_big}
+use Rattle.rel_formula.specs.Formula.{Term, whole, shown, absolute, combined, Truth, compared, joined, opposite, value, is_true, parts_of, parts, fits, some_too_big, is_too_big}
 use Rattle.rel_formula.specs.Steps.{term_steps, truth_steps}
 use Rattle.rel_formula.specs.StepLemmas.{regrouped}
 use Rattle.rel_formula.specs.Machine.{run, End}

@@ -1,5 +1,5 @@
 -- The operands of an operator that gives a truth.
-use Rattle.std.proofs.Common.{◌≡◌, ℕ, ◌+◌, ◌-◌, ◌*◌, ◌≤◌, true, List, [], ◌∷◌, ◌++◌, length, get_or, Result, Ok, Err, OnOk, IfErr, refl, sym, ◌∙◌, ap, subst, arith, eqb-true, append_assoc, length-append}
+use Rattle.std.proofs.Common.{◌≡◌, ℕ, ◌+◌, ◌-◌, ◌≤◌, true, List, [], ◌∷◌, ◌++◌, length, get_or, Result, Ok, Err, OnOk, IfErr, sym, ◌∙◌, ap, subst, arith, eqb-true, append_assoc, length-append}
 use Rattle.std.specs.Prelude.{⊤}
 use Rattle.serde_json.specs.View.{view, items_view}
 use Rattle.serde_json.specs.declared.value.Value.{Value}

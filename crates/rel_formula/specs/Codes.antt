@@ -1,5 +1,5 @@
 -- A formula is stored as the steps that evaluate it.
-use Rattle.std.specs.Prelude.{◌≡◌, List, refl}
+use Rattle.std.specs.Prelude.{List}
 use Rattle.std.specs.Coded.{Coded, code_by, coded_list}
 use Rattle.rel_formula.specs.Formula.{Truth}
 use Rattle.rel_formula.specs.Steps.{truth_steps, formula_of}

@@ -2,16 +2,13 @@
 use Rattle.std.specs.Prelude.{ℕ, Bool, nat_eq, nat_lt, nat_le, if◌then◌else◌, List, [], ◌∷◌, codes, Option, Some, None, Result, Ok, Err}
 use Rattle.std.specs.Option.{ok_or, option_or, option_map}
 use Rattle.std.specs.Str.{bytes_eq}
-use Rattle.serde_json.specs.Data.{Data, Items, no_items, item}
+use Rattle.serde_json.specs.Data.{Items, no_items, item}
 use Rattle.serde_json.specs.Events.{items_len}
 use Rattle.serde_json.specs.Find.{as_str}
 use Rattle.rel_formula.specs.declared.fault.FormulaFault.{FormulaFault}
 use Rattle.rel_formula.specs.declared.fault.FormulaFault.TheVariants.{BadShape, BadOperator}
-use Rattle.rel_formula.specs.declared.step.Arithmetic.{Arithmetic}
 use Rattle.rel_formula.specs.declared.step.Arithmetic.TheVariants.{Sum, Difference, Product, Least, Greatest}
-use Rattle.rel_formula.specs.declared.step.Comparison.{Comparison}
 use Rattle.rel_formula.specs.declared.step.Comparison.TheVariants.{Equal, Different, Below, AtMost, Above, AtLeast}
-use Rattle.rel_formula.specs.declared.step.Connective.{Connective}
 use Rattle.rel_formula.specs.declared.step.Connective.TheVariants.{And, Or}
 use Rattle.rel_formula.specs.declared.step.Operator.{Operator}
 use Rattle.rel_formula.specs.declared.step.Operator.TheVariants.{Term, Truth}

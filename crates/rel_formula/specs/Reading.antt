@@ -1,7 +1,7 @@
 -- What a JSON value is, read as a formula over tuples of an arity: the formula, or the first fault.
 -- Nodes are read in preorder: an array is one node, and its operands follow. Each reading begins at a depth and the number
 -- of a node, and ends with what was read and the number of the next node.
-use Rattle.std.specs.Prelude.{ℕ, ◌+◌, nat_le, if◌then◌else◌, ℤ, pos, List, [], ◌∷◌, Option, Some, None, Result, Ok, Err}
+use Rattle.std.specs.Prelude.{ℕ, ◌+◌, nat_le, if◌then◌else◌, pos, List, [], ◌∷◌, Option, Some, None, Result, Ok, Err}
 use Rattle.std.specs.List.{fold}
 use Rattle.std.specs.Option.{ok_or}
 use Rattle.serde_json.specs.Data.{Data, null, boolean, number, string, array, object, Items, no_items, item}

@@ -1,5 +1,5 @@
 -- The steps that evaluate a formula, operands before their operator, and the formula that steps evaluate.
-use Rattle.std.specs.Prelude.{ℕ, ℤ, pos, List, [], ◌∷◌, ◌++◌}
+use Rattle.std.specs.Prelude.{pos, List, [], ◌∷◌, ◌++◌}
 use Rattle.rel_formula.specs.Formula.{Term, whole, shown, absolute, combined, Truth, compared, joined, opposite}
 use Rattle.rel_formula.specs.declared.step.Comparison.TheVariants.{Equal}
 use Rattle.rel_formula.specs.declared.step.Step.{Step}

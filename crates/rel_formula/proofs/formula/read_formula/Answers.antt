@@ -1,4 +1,4 @@
-use Rattle.std.proofs.Common.{◌≡◌, ℕ, Ok, ◌++◌, sym, ◌∙◌, ap}
+use Rattle.std.proofs.Common.{ℕ, Ok, ◌++◌, sym, ◌∙◌, ap}
 use Rattle.rel_formula.specs.Answers.{then_on}
 use Rattle.rel_formula.specs.Formula.{Truth}
 use Rattle.rel_formula.specs.StepLemmas.{formula_of-steps, steps-formula_of}

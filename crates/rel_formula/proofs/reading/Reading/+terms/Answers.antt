@@ -1,4 +1,4 @@
-use Rattle.std.proofs.Common.{◌≡◌, ◌+◌, ◌-◌, ◌≤◌, Ok, rules, sym, ◌∙◌, ap, arith}
+use Rattle.std.proofs.Common.{◌-◌, Ok, rules, sym, ◌∙◌, ap, arith}
 use Rattle.rel_formula.specs.declared.step.TermOperator.TheVariants.{Arithmetic, Absolute}
 use Rattle.rel_formula.specs.Steps.{term_steps}
 use Rattle.rel_formula.proofs.InTurn.{one_more}

@@ -1,5 +1,4 @@
 use Rattle.std.proofs.Common.{◌+◌, ◌-◌, ◌*◌, drop}
-use Rattle.rel_formula.specs.declared.step.TermOperator.TheVariants.{Arithmetic}
 use Rattle.rel_formula.proofs.InTurn.{SoFar}
 use Rattle.rel_formula.proofs.Ways.{term_way}
 use Rattle.rel_formula.proofs.reading.Reading.+terms.Given as goal

@@ -1,5 +1,4 @@
-use Rattle.std.proofs.Common.{◌≡◌, ◌+◌, ◌-◌, ◌≤◌, Ok, rules, sym, ◌∙◌, ap, arith}
-use Rattle.rel_formula.specs.declared.step.TruthOperator.TheVariants.{Comparison, Connective, Not}
+use Rattle.std.proofs.Common.{◌-◌, Ok, rules, sym, ◌∙◌, ap, arith}
 use Rattle.rel_formula.specs.Steps.{truth_steps}
 use Rattle.rel_formula.proofs.InTurn.{one_more}
 use Rattle.rel_formula.proofs.Operands.{of_call, operands_of, alone, from_index}
