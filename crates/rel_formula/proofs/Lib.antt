@@ -1,0 +1,6 @@
+pub mod Runs
+pub mod Places
+pub mod Operands
+pub mod TruthOperands
+pub mod InTurn
+pub mod Ways

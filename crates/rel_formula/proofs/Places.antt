@@ -1,0 +1,72 @@
+-- A formula's truth, place by place.
+use Rattle.std.proofs.Common.{◌≡◌, ℕ, ◌+◌, ◌^◌, ◌<◌, ◌≤◌, ℤ, Bool, true, false, List, [], ◌∷◌, ◌++◌, length, take, set, get_or, pos, ◌+ℤ◌, Option, Some, None, if◌then◌else◌, refl, sym, ◌∙◌, ap, arith, add-one, lt-ltb, le-ltb}
+use Rattle.std.specs.List.{position_or_len}
+use Rattle.std.proofs.Math.Seq.{take-suc}
+use Rattle.std.proofs.lemmas.List.{length-map, get_or-map, take_all, take_more_set, map_more}
+use Rattle.std.proofs.lemmas.List.Sums.{position_or_len_is}
+use Rattle.rel_table.specs.Relation.{tuples, tuple_at}
+use Rattle.rel_table.proofs.PlaceLemmas.{length-tuples, get_or-tuples}
+use Rattle.rel_formula.specs.Formula.{Truth, is_true, is_too_big, shown_tuple, relation_of, first_too_big}
+
+pub length-relation_of : (f : Truth) (a : ℕ) (lo : ℤ) (d : ℕ) → length (relation_of f a lo d) ≡ d ^ a
+length-relation_of f a lo d = length-map (tuples d a) (λ tuple. is_true (shown_tuple lo tuple) f) ∙ length-tuples d a
+
+pub relation_of-at : (f : Truth) (a : ℕ) (lo : ℤ) (d at : ℕ) → at < d ^ a → get_or (relation_of f a lo d) at false ≡ is_true (shown_tuple lo (tuple_at d a at)) f
+relation_of-at f a lo d at h =
+    get_or-map (λ tuple. is_true (shown_tuple lo tuple) f) (tuples d a) at [] false (omega (arith, length-tuples d a))
+    ∙ ap (λ tuple. is_true (shown_tuple lo tuple) f) (get_or-tuples d a at h)
+
+-- one place more
+pub relation_of-more : (f : Truth) (a : ℕ) (lo : ℤ) (d at : ℕ) (truths : List Bool) (b : Bool) → at < d ^ a → truths ≡ take at (relation_of f a lo d) →
+    b ≡ is_true (shown_tuple lo (tuple_at d a at)) f → truths ++ b ∷ [] ≡ take (at + 1) (relation_of f a lo d)
+relation_of-more f a lo d at truths b h e is =
+    let within : at < length (relation_of f a lo d) = omega (arith, length-relation_of f a lo d) in
+    ap (λ xs. xs ++ b ∷ []) e
+    ∙ ap (λ x. take at (relation_of f a lo d) ++ x ∷ []) (is ∙ sym (relation_of-at f a lo d at h))
+    ∙ sym (take-suc (relation_of f a lo d) at false within)
+    ∙ ap (λ k. take k (relation_of f a lo d)) (sym (add-one at))
+
+-- the test of a place, as the tuple that stands there
+at_tuple : (f : Truth) (a : ℕ) (lo : ℤ) (d at : ℕ) (b : Bool) → at < d ^ a → is_too_big (shown_tuple lo (tuple_at d a at)) f ≡ b → is_too_big (shown_tuple lo (get_or (tuples d a) at [])) f ≡ b
+at_tuple f a lo d at b h e = ap (λ tuple. is_too_big (shown_tuple lo tuple) f) (get_or-tuples d a at h) ∙ e
+
+pub first_too_big-none : (f : Truth) (a : ℕ) (lo : ℤ) (d : ℕ) → ((k : ℕ) → k < d ^ a → is_too_big (shown_tuple lo (tuple_at d a k)) f ≡ false) → first_too_big f a lo d ≡ None
+first_too_big-none f a lo d fit =
+    let P : List ℕ → Bool = λ tuple. is_too_big (shown_tuple lo tuple) f in
+    let size = length-tuples d a in
+    let e : position_or_len P (tuples d a) ≡ length (tuples d a) =
+    position_or_len_is P (tuples d a) (length (tuples d a)) [] (omega arith) (λ k h. at_tuple f a lo d k false (omega arith) (fit k (omega arith))) (λ h. absurd (omega arith)) in
+    ap (λ (b : Bool). if b then Some (position_or_len P (tuples d a)) else None) (le-ltb (position_or_len P (tuples d a)) (length (tuples d a)) (omega arith))
+
+pub first_too_big-some : (f : Truth) (a : ℕ) (lo : ℤ) (d at : ℕ) → at < d ^ a → ((k : ℕ) → k < at → is_too_big (shown_tuple lo (tuple_at d a k)) f ≡ false) →
+    is_too_big (shown_tuple lo (tuple_at d a at)) f ≡ true → first_too_big f a lo d ≡ Some at
+first_too_big-some f a lo d at h fit big =
+    let P : List ℕ → Bool = λ tuple. is_too_big (shown_tuple lo tuple) f in
+    let size = length-tuples d a in
+    let e : position_or_len P (tuples d a) ≡ at =
+    position_or_len_is P (tuples d a) at [] (omega arith) (λ k low. at_tuple f a lo d k false (omega arith) (fit k low)) (λ _. at_tuple f a lo d at true h big) in
+    ap (λ (b : Bool). if b then Some (position_or_len P (tuples d a)) else None) (lt-ltb (position_or_len P (tuples d a)) (length (tuples d a)) (omega arith))
+    ∙ ap (λ k. Some k) e
+
+-- what a truth that is there, or none, tells of the tests
+pub none_is : (big p : Bool) (o : Option Bool) → o ≡ (if big then None else Some p) → o ≡ None → big ≡ true
+none_is true p o e none = refl
+none_is false p o e none = let h = sym none ∙ e in cc
+
+pub some_is : (big p x : Bool) (o : Option Bool) → o ≡ (if big then None else Some p) → o ≡ Some x → (big ≡ false) × (x ≡ p)
+some_is true p x o e some = let h = sym some ∙ e in cc
+some_is false p x o e some = (refl, (let h = sym some ∙ e in cc))
+
+-- one place more passes
+pub passed_more : (test : ℕ → Bool) (at : ℕ) → ((k : ℕ) → k < at → test k ≡ false) → test at ≡ false → (k : ℕ) → k < at + 1 → test k ≡ false
+passed_more test at passed here k h = grind (arith, passed k)
+
+-- all places
+pub relation_of-all : (f : Truth) (a : ℕ) (lo : ℤ) (d at : ℕ) (truths : List Bool) → d ^ a ≤ at → truths ≡ take at (relation_of f a lo d) → truths ≡ relation_of f a lo d
+relation_of-all f a lo d at truths h e = e ∙ take_all at (relation_of f a lo d) (omega (arith, length-relation_of f a lo d))
+
+-- one value more is shown
+pub shown_more : (lo : ℤ) (shown : List ℤ) (tuple : List ℕ) (i : ℕ) (v : ℤ) → i < length shown → i < length tuple → take i shown ≡ shown_tuple lo (take i tuple) →
+    v ≡ lo +ℤ pos (get_or tuple i 0) → take (i + 1) (set shown i v) ≡ shown_tuple lo (take (i + 1) tuple)
+shown_more lo shown tuple i v h low e is =
+    take_more_set shown i v h ∙ ap (λ xs. xs ++ v ∷ []) e ∙ ap (λ x. shown_tuple lo (take i tuple) ++ x ∷ []) is ∙ sym (map_more (λ x. lo +ℤ pos x) tuple i 0 low)

@@ -1,0 +1,12 @@
+use Rattle.std.proofs.Common.{sym, ◌∙◌, ap}
+use Rattle.serde_json.specs.View.{items_view}
+use Rattle.rel_formula.specs.Answers.{then_on}
+use Rattle.rel_formula.specs.Names.{as_term_operator, operand_count}
+use Rattle.rel_formula.proofs.Operands.{operand_count-items_view}
+use Rattle.rel_formula.proofs.names.term_operator_in.Goals as goal
+
+pub returns : goal.returns
+returns c =
+    c.as_term_operator.ensures
+    ∙ ap (λ n. as_term_operator c.args.node n c.in_ok-operator.operator) (sym (operand_count-items_view c.args.items.now))
+    ∙ ap (λ r. then_on r (as_term_operator c.args.node (operand_count (items_view c.args.items.now)))) (sym c.in_ok-operator.was ∙ c.operator_in.ensures)

@@ -1,0 +1,10 @@
+pub mod Formula
+pub mod Steps
+pub mod StepLemmas
+pub mod Codes
+pub mod Inside
+pub mod Machine
+pub mod Answers
+pub mod Names
+pub mod Reading
+pub mod Adding

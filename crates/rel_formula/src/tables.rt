@@ -1,0 +1,119 @@
+// A formula's table.
+ghost use Rattle.std.specs.Prelude.{◌≡◌, ◌≢◌, ◌^◌, ◌<◌, ◌≤◌, ◌≤ℤ◌, ◌+ℤ◌, Some, None, pos, negsuc, take, IfOk, IfErr, OnOk, if◌then◌else◌};
+ghost use Rattle.std.specs.Option.{option_map};
+ghost use Rattle.rel_table.specs.Relation.{tuple_at};
+ghost use Rattle.rel_formula.specs.Formula.{is_true, is_too_big, shown_tuple, relation_of, first_too_big};
+
+use crate::fault::TableOfFault;
+use crate::formula::Formula;
+use crate::machine::Stacks;
+use rel_table::{Table, tuple_of};
+use std::alloc::Global;
+
+/// The value that is shown for an index.
+fn shown_value(lo: i64, x: u8) -> i64
+    requires low { negsuc 999999 ≤ℤ lo }
+    requires high { lo ≤ℤ pos 1000000 }
+    ensures { result ≡ lo +ℤ pos x }
+{
+    lo + i64::from(x)
+}
+
+/// The number of tuples.
+fn tuple_count(arity: u8, d: u8) -> u32
+    requires { d ^ arity ≤ 65536 }
+    ensures { result ≡ d ^ arity }
+{
+    u32::from(d).pow(u32::from(arity))
+}
+
+/// The shown values of the tuple of this arity at a place, and more that have no meaning.
+fn shown_at(arity: u8, lo: i64, d: u8, place: u32) -> [i64; 4]
+    requires short { arity ≤ 4 }
+    requires within { place < d ^ arity }
+    requires low { negsuc 999999 ≤ℤ lo }
+    requires high { lo ≤ℤ pos 1000000 }
+    ensures { take arity result ≡ shown_tuple lo (tuple_at d arity place) }
+{
+    let tuple = tuple_of(d, arity, place);
+    let mut shown = [0; 4];
+    for i in 0..usize::from(arity) {
+        shown[i] = shown_value(lo, tuple[i]);
+    }
+    shown
+}
+
+/// The formula's truth at the tuple of a place, or none where some part leaves 64 bits there.
+fn truth_at_place(
+    f: &Formula,
+    arity: u8,
+    lo: i64,
+    d: u8,
+    place: u32,
+    stacks: &mut Stacks,
+) -> Option<bool>
+    requires short { arity ≤ 4 }
+    requires within { place < d ^ arity }
+    requires low { negsuc 999999 ≤ℤ lo }
+    requires high { lo ≤ℤ pos 1000000 }
+    ensures { result ≡ if is_too_big (shown_tuple lo (tuple_at d arity place)) f.now then None else Some (is_true (shown_tuple lo (tuple_at d arity place)) f.now) }
+{
+    let shown = shown_at(arity, lo, d, place);
+    f.truth_at(&shown[..usize::from(arity)], stacks)
+}
+
+/// The formula's truth at the tuple of each place, in order.
+fn truths_of(
+    alloc: Global,
+    f: &Formula,
+    arity: u8,
+    lo: i64,
+    d: u8,
+) -> Result<Vec<bool>, TableOfFault>
+    requires short { arity ≤ 4 }
+    requires fits { d ^ arity ≤ 65536 }
+    requires low { negsuc 999999 ≤ℤ lo }
+    requires high { lo ≤ℤ pos 1000000 }
+    ensures truth { IfOk result (λ v. v.items ≡ relation_of f.now arity lo d) }
+    ensures fits { OnOk result (first_too_big f.now arity lo d ≡ None) }
+    ensures refused { IfErr result (λ e. e ≢ TableOfFault.Memory → option_map TableOfFault.TooBig (first_too_big f.now arity lo d) ≡ Some e) }
+{
+    let size = tuple_count(arity, d);
+    let mut truths = Vec::with_capacity(alloc, size as usize)?;
+    let mut stacks = Stacks::empty();
+    for place in 0..size {
+        match truth_at_place(f, arity, lo, d, place, &mut stacks) {
+            Some(is_true) => truths.push(is_true)?,
+            None => return Err(TableOfFault::TooBig(place)),
+        }
+    }
+    Ok(truths)
+}
+
+/// The table of a formula over d values, the least of which is shown as `lo`: its truth at each tuple.
+///
+/// Every part of the formula is evaluated at every tuple. A position that tuples of this arity lack is worth 0.
+pub fn table_of(
+    alloc: Global,
+    f: &Formula,
+    arity: u8,
+    lo: i64,
+    d: u32,
+) -> Result<Table, TableOfFault>
+    requires some { 1 ≤ arity }
+    requires short { arity ≤ 4 }
+    requires values { 1 ≤ d }
+    requires few_values { d ≤ 64 }
+    requires fits { d ^ arity ≤ 65536 }
+    requires low { negsuc 999999 ≤ℤ lo }
+    requires high { lo ≤ℤ pos 1000000 }
+    ensures table { IfOk result (λ t. t ≡ record { arity = arity; value_count = d; truth = relation_of f.now arity lo d }) }
+    ensures fits { OnOk result (first_too_big f.now arity lo d ≡ None) }
+    ensures refused { IfErr result (λ e. e ≢ TableOfFault.Memory → option_map TableOfFault.TooBig (first_too_big f.now arity lo d) ≡ Some e) }
+{
+    let truths = truths_of(alloc, f, arity, lo, d as u8)?;
+    match Table::from_truth(alloc, arity, d as u8, &truths) {
+        Ok(table) => Ok(table),
+        Err(_) => Err(TableOfFault::Memory),
+    }
+}
