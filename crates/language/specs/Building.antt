@@ -7,7 +7,9 @@ use Rattle.rel_table.specs.declared.table.CloseFault.TheVariants.{TooMany}
 use Rattle.language.specs.Language.{Language, Given, IsLanguage, AreNames}
 use Rattle.language.specs.declared.parts.LangFault.{LangFault}
 use Rattle.language.specs.declared.parts.RelPart.{RelPart}
-use Rattle.language.specs.declared.parts.LangFault.TheVariants.{NoVariables, TooManyVariables, BadDomain, NoRelations, NotClosed, Closing}
+use Rattle.language.specs.declared.parts.LangFault.TheVariants.{NoVariables, TooManyVariables, BadDomain, NoRelations, ScopeOrder, TooManyScopes, ScopeRepeated, Nested, NoRelationOfArity, Closing}
+use Rattle.language.specs.declared.parts.ScopePart.{ScopePart}
+use Rattle.language.specs.declared.parts.ScopePart.TheVariants as part
 
 -- the variables' names and the values
 pub record Frame : Type 0 where
@@ -65,37 +67,107 @@ is_same_relation (x ∷ r) (y ∷ q) = beq x y && is_same_relation r q
 abbrev pub is_listed : List Relation → Relation → Bool
 is_listed relations r = list_any (is_same_relation r) relations
 
--- whether the intersection of any two is listed
-abbrev pub is_closed : List Relation → Bool
-is_closed relations = list_all (λ r. list_all (λ q. is_listed relations (meet r q)) relations) relations
-
 -- each relation once
 abbrev pub without_repeats : List Relation → List Relation
 without_repeats [] = []
 without_repeats (r ∷ relations) = if is_listed relations r then without_repeats relations else r ∷ without_repeats relations
 
--- a relation of arity 2 over d values
-pub record IsBinary (d : ℕ) (part : RelPart) : Type 0 where
-  pub arity : part.table.arity ≡ 2
-  pub values : part.table.value_count ≡ d
+-- the intersections of one or more of these, one for each sublist
+abbrev pub intersections : List Relation → List Relation
+intersections [] = []
+intersections (r ∷ relations) = r ∷ (map (meet r) (intersections relations) ++ intersections relations)
 
 -- the relations of the vocabulary
 abbrev pub relations_given : List Given → List Relation
 relations_given given = map (λ (g : Given). g.relation) given
 
--- why there is no language of these relations of arity 2
-abbrev pub build_refusal : List Given → Option LangFault
-build_refusal [] = Some NoRelations
-build_refusal (g ∷ given) =
-    let relations = relations_given (g ∷ given) in
-    if is_closed relations then (if nat_le (length (without_repeats relations)) 64 then None else Some (Closing (TooMany 2)))
-    else Some (NotClosed 2)
+-- those of an arity
+abbrev pub relations_of_arity : List Given → ℕ → List Relation
+relations_of_arity given arity = relations_given (filter (λ (g : Given). g.arity == arity) given)
 
--- The language of a frame and of relations, over all scopes.
-pub record IsBuilt (frame : Frame) (parts : List Given) (l : Language) : Type 0 where
+-- whether those of an arity have more than 64 intersections
+abbrev pub has_too_many : List Given → ℕ → Bool
+has_too_many given arity = nat_lt 64 (length (without_repeats (intersections (relations_of_arity given arity))))
+
+-- why the relations aren't closed: the least arity with too many intersections
+abbrev pub closing_refusal : List Given → Option LangFault
+closing_refusal given = option_map (λ arity. Closing (TooMany arity)) (find (has_too_many given) (1 ∷ 2 ∷ 3 ∷ 4 ∷ []))
+
+-- ---- Scopes
+
+-- the scopes that are listed, where they are
+abbrev pub listed_in : ScopePart → Option (List (List ℕ))
+listed_in part.All = None
+listed_in (part.Listed scopes) = Some (map (λ scope. scope.items) scopes.items)
+
+-- whether some relation has this arity
+abbrev pub has_arity : List Given → ℕ → Bool
+has_arity given arity = list_any (λ (g : Given). g.arity == arity) given
+
+-- the listed scopes, and all where none are listed
+abbrev pub scopes_of : ℕ → List Given → Option (List (List ℕ)) → List (List ℕ)
+scopes_of n given None = all_scopes n given
+scopes_of n given (Some scopes) = scopes
+
+-- whether a scope has 1 to 4 variables, strictly rising
+abbrev pub is_ordered : List ℕ → Bool
+is_ordered scope = nat_le 1 (length scope) && nat_le (length scope) 4 && is_rising scope
+
+-- whether one of two scopes lies within the other
+abbrev pub are_nested : List ℕ → List ℕ → Bool
+are_nested scope other = is_within scope other || is_within other scope
+
+-- the first of these scopes that is related to one before it: the number of the first such one, and its own, which counts those before
+unfoldable pub pair_after : (List ℕ → List ℕ → Bool) → List (List ℕ) → List (List ℕ) → Option (ℕ × ℕ)
+pair_after related before [] = None
+pair_after related before (scope ∷ scopes) =
+    if list_any (λ earlier. related earlier scope) before
+    then Some (position_or_len (λ earlier. related earlier scope) before, length before)
+    else pair_after related (before ++ scope ∷ []) scopes
+
+-- the pair of scopes so related with the least second number, and then the least first one
+abbrev pub first_pair : (List ℕ → List ℕ → Bool) → List (List ℕ) → Option (ℕ × ℕ)
+first_pair related scopes = pair_after related [] scopes
+
+-- why so many scopes are too many, or why two of them can't stand side by side, or why one has no relation
+abbrev pub scope_list_refusal : List Given → List (List ℕ) → Option LangFault
+scope_list_refusal given scopes =
+    if nat_lt 8192 (length scopes) then Some TooManyScopes else
+    option_or (option_map (λ pair. ScopeRepeated pair.0 pair.1) (first_pair is_same scopes)) (
+    option_or (option_map (λ pair. Nested pair.0 pair.1) (first_pair are_nested scopes)) (
+    option_map NoRelationOfArity (position (λ scope. not (has_arity given (length scope))) scopes)))
+
+-- why the scopes are refused: their order comes first
+abbrev pub scopes_refusal : List Given → List (List ℕ) → Option LangFault
+scopes_refusal given scopes =
+    option_or (option_map ScopeOrder (position (λ scope. not (is_ordered scope)) scopes)) (scope_list_refusal given scopes)
+
+-- ---- The language
+
+-- a relation over d values
+abbrev pub IsOver : ℕ → RelPart → Type 0
+IsOver d part = part.table.value_count ≡ d
+
+-- numbers of variables below n
+abbrev pub AreKnown : ℕ → Option (List (List ℕ)) → Type 0
+AreKnown n None = Unit {0}
+AreKnown n (Some scopes) = All (All (λ v. v < n)) scopes
+
+-- fewer than 2^32 scopes are listed
+abbrev pub AreCountable : Option (List (List ℕ)) → Type 0
+AreCountable None = Unit {0}
+AreCountable (Some scopes) = length scopes < 2 ^ 32
+
+-- why there is no language of n variables, these relations and these scopes
+abbrev pub build_refusal : ℕ → List Given → Option (List (List ℕ)) → Option LangFault
+build_refusal n [] listed = Some NoRelations
+build_refusal n (g ∷ given) listed = option_or (scopes_refusal (g ∷ given) (scopes_of n (g ∷ given) listed)) (closing_refusal (g ∷ given))
+
+-- The language of a frame, of relations and of scopes.
+pub record IsBuilt (frame : Frame) (parts : List Given) (listed : Option (List (List ℕ))) (l : Language) : Type 0 where
   pub names : l.names ≡ frame.names
   pub least_value : l.least_value ≡ frame.least_value
   pub value_count : l.value_count ≡ frame.value_count
   pub given : l.given ≡ parts
-  pub scopes : l.scopes ≡ all_scopes (length frame.names) parts
+  pub scopes : l.scopes ≡ scopes_of (length frame.names) parts listed
   pub lawful : IsLanguage l

@@ -14,8 +14,8 @@ abbrev pub given_by : RelPart → Given
 given_by part = record { name = string_bytes part.name; arity = part.table.arity; relation = part.table.truth }
 
 -- the relations that tables hold
-abbrev pub truths : Vec TruthTable Global → List Relation
-truths tables = map (λ (t : TruthTable). t.truth) tables.items
+abbrev pub truths : List TruthTable → List Relation
+truths tables = map (λ (t : TruthTable). t.truth) tables
 
 abbrev pub seen : Inside → Language
 seen a = record {
@@ -24,7 +24,7 @@ seen a = record {
   value_count = a.value_count;
   given = map given_by a.given.items;
   scopes = map variables_in a.scopes.items;
-  relations = map truths a.relations.items;
+  relations = map truths a.relations;
 }
 
 -- a table of this arity over so many values
@@ -38,10 +38,17 @@ pub record AreByArity (d : ℕ) (tables : List (List TruthTable)) : Type 0 where
   pub four : length tables ≡ 4
   pub kinds : (arity : ℕ) → 1 ≤ arity → arity ≤ 4 → All (IsOfKind arity d) (slice_index_or tables (arity - 1) [])
 
-abbrev pub tables_in : Inside → List (List TruthTable)
-tables_in a = map (λ (tables : Vec TruthTable Global). tables.items) a.relations.items
+-- the number of the first candidate on each scope, from a number on, and last how many there are
+abbrev pub numbers_from : ℕ → List (List TruthTable) → List Scope → List ℕ
+numbers_from before relations [] = before ∷ []
+numbers_from before relations (scope ∷ scopes) =
+    before ∷ numbers_from (before + length (slice_index_or relations (scope.size - 1) [])) relations scopes
+
+abbrev pub first_numbers : List (List TruthTable) → List Scope → List ℕ
+first_numbers relations scopes = numbers_from 0 relations scopes
 
 pub record IsSound (a : Inside) : Type 0 where
   pub lawful : IsLanguage (seen a)
-  pub short : All (λ (scope : Scope). scope.size ≤ 4) a.scopes.items
-  pub kinds : AreByArity a.value_count (tables_in a)
+  pub short : All (λ (scope : Scope). (1 ≤ scope.size) × (scope.size ≤ 4)) a.scopes.items
+  pub kinds : AreByArity a.value_count a.relations
+  pub numbers : a.numbers.items ≡ first_numbers a.relations a.scopes.items

@@ -1,9 +1,9 @@
 -- The language: the variables, the values, the scopes and the relations that a network may use.
-use Rattle.std.specs.Prelude.{ℕ, ℤ, pos, negsuc, ◌+ℤ◌, ◌≤ℤ◌, ◌-◌, ◌^◌, ◌<◌, ◌≤◌, ◌≡◌, ◌≢◌, Bool, true, not, ◌&&◌, IsTrue, IsFalse, List, [], length, map, filter, All, AllPairs, slice_index_or, ◌==◌, nat_lt, nat_le, Option, Some, None, if◌then◌else◌}
+use Rattle.std.specs.Prelude.{ℕ, ℤ, pos, negsuc, ◌+ℤ◌, ◌≤ℤ◌, ◌-◌, ◌^◌, ◌<◌, ◌≤◌, ◌≡◌, ◌≢◌, Bool, true, not, ◌&&◌, IsTrue, IsFalse, List, [], length, map, filter, position, ◌+◌, All, AllPairs, slice_index_or, ◌==◌, nat_lt, nat_le, Option, Some, None, if◌then◌else◌}
 use Rattle.std.specs.Option.{option_map_or}
 use Rattle.std.specs.List.{flat_map, list_all}
 use Rattle.std.specs.List.Sorted.{IsStrictlyIncreasing}
-use Rattle.assign.specs.Sets.{numbers, is_within}
+use Rattle.assign.specs.Sets.{numbers, is_within, is_same}
 use Rattle.assign.specs.Assignment.{Assignment, covers, tuple_on, is_complete, IsAssignment}
 use Rattle.rel_table.specs.Relation.{Relation, place, holds, IsClosing}
 use Rattle.language.specs.declared.candidates.Candidate.{Candidate}
@@ -62,6 +62,14 @@ candidates_on l s = map (λ r. record { scope = s; rel = r }) (numbers (length (
 -- all candidates, by scope and then by relation
 abbrev pub candidates : Language → List Candidate
 candidates l = flat_map (candidates_on l) (numbers (length l.scopes))
+
+-- how many candidates come before this one: those on earlier scopes, and those of earlier relations on its own
+abbrev pub number_of : Language → Candidate → ℕ
+number_of l c = length (flat_map (candidates_on l) (numbers c.scope)) + c.rel
+
+-- the number of the scope of these variables, if there is one
+abbrev pub scope_number : Language → List ℕ → Option ℕ
+scope_number l set = position (is_same set) l.scopes
 
 -- the numbers are those of a scope and of a relation of its arity
 pub record IsCandidate (l : Language) (c : Candidate) : Type 0 where

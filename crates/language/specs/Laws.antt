@@ -1,8 +1,8 @@
 -- Laws over the definitions alone.
-use Rattle.std.specs.Prelude.{◌≡◌, ◌||◌, List}
+use Rattle.std.specs.Prelude.{◌≡◌, ◌<◌, ◌||◌, List, length, slice_index_or}
 use Rattle.language.specs.declared.candidates.Candidate.{Candidate}
 use Rattle.assign.specs.Assignment.{Assignment}
-use Rattle.language.specs.Language.{Language, IsLanguage, IsCandidate, violates}
+use Rattle.language.specs.Language.{Language, IsLanguage, IsCandidate, candidates, number_of, violates}
 use Rattle.assign.specs.Events.{Answer}
 use Rattle.language.specs.Answers.{IsNetwork, IsCovered, IsConverged}
 
@@ -24,3 +24,12 @@ abbrev pub CoveredIsConverged : Type 0
 CoveredIsConverged =
     (l : Language) (network : List Candidate) (t : List Answer) →
     IsLanguage l → IsNetwork l network → IsCovered l network t → IsConverged l network t
+
+-- Each candidate stands in the list of all at its number, and no two have one number.
+pub record AreNumbered (l : Language) : Type 0 where
+  pub below : (c : Candidate) → IsCandidate l c → number_of l c < length (candidates l)
+  pub there : (c other : Candidate) → IsCandidate l c → slice_index_or (candidates l) (number_of l c) other ≡ c
+  pub apart : (c d : Candidate) → IsCandidate l c → IsCandidate l d → number_of l c ≡ number_of l d → c ≡ d
+
+abbrev pub CandidatesAreNumbered : Type 0
+CandidatesAreNumbered = (l : Language) → AreNumbered l

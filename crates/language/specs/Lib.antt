@@ -7,4 +7,4 @@ pub mod Scopes
 pub mod Inside
 pub mod Building
 pub mod Framing
-pub mod InOrder
+pub mod Built

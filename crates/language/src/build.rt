@@ -1,91 +1,83 @@
-ghost use Rattle.std.specs.Prelude.{◌≡◌, ◌≢◌, ℕ, ◌≤◌, ◌∷◌, List, [], length, map, All, IfOk, IfErr, OnOk, Some, None};
-ghost use Rattle.std.specs.Prelude.{Vec};
-ghost use Rattle.std.specs.declared.alloc.Global.{Global};
-ghost use Rattle.rel_table.specs.Table.{TruthTable};
+ghost use Rattle.std.specs.Prelude.{◌≡◌, ◌≢◌, map, length, All, IfOk, IfErr, OnOk, Some, None};
 ghost use Rattle.language.specs.Language.{Given, AreNames};
 ghost use Rattle.language.specs.Inside.{given_by};
-ghost use Rattle.language.specs.Building.{build_refusal, IsBinary, IsBuilt};
-ghost use Rattle.language.specs.InOrder.{AreRelations};
+ghost use Rattle.language.specs.Building.{build_refusal, listed_in, AreCountable, AreKnown, IsBuilt, IsOver};
 
-use crate::closed::is_closed;
 use crate::frame::Frame;
 use crate::lang::Language;
-use crate::order::in_order;
+use crate::numbering::first_numbers;
 use crate::parts::{LangFault, RelPart, ScopePart};
-use crate::scopes::all_pairs;
-use rel_table::{CloseFault, Table};
-use std::alloc::{AllocError, Global};
+use crate::scopes::stated_scopes;
+use rel_table::{CloseFault, Closed, Memory, Table, close};
+use std::alloc::Global;
 
-/// The most relations on a scope.
-const MOST_RELATIONS: usize = 64;
-
-/// The relations of arity 2, in falling order, where they are closed under intersection and not too many.
-fn closed_relations(alloc: Global, parts: &[RelPart]) -> Result<Vec<Table>, LangFault>
-    ghost d: { ℕ }
-    requires some { 1 ≤ length parts.now }
-    requires binary { All (IsBinary d) parts.now }
-    ensures relations { IfOk result (λ v. AreRelations d parts.now v.items) }
-    ensures made { OnOk result (build_refusal (map given_by parts.now) ≡ None) }
-    ensures refused { IfErr result (λ e. e ≢ LangFault.Memory → build_refusal (map given_by parts.now) ≡ Some e) }
+/// The relations' tables.
+fn tables_of(alloc: Global, rels: &[RelPart]) -> Result<Vec<Table>, Memory>
+    ensures { IfOk result (λ v. v.items ≡ map (λ (part : RelPart). part.table) rels.now) }
 {
-    let Ok(closed) = is_closed(alloc, parts) else {
-        return Err(LangFault::Memory);
-    };
-    if !closed {
-        return Err(LangFault::NotClosed(2));
+    let mut tables = Vec::new(alloc);
+    for rel in rels {
+        // A relation meets itself in itself.
+        let copy = rel.table.meet(alloc, &rel.table)?;
+        let Ok(()) = tables.push(copy) else {
+            return Err(Memory);
+        };
     }
-    let Ok(relations) = in_order(alloc, parts) else {
-        return Err(LangFault::Memory);
-    };
-    if relations.len() > MOST_RELATIONS {
-        return Err(LangFault::Closing(CloseFault::TooMany(2)));
-    }
-    Ok(relations)
+    Ok(tables)
 }
 
-/// The relations by arity, where all have arity 2.
-fn by_arity(alloc: Global, relations: Vec<Table>) -> Result<Vec<Vec<Table>>, AllocError>
-    ensures { IfOk result (λ v. map (λ (tables : Vec TruthTable Global). tables.items) v.items ≡ [] ∷ relations.items ∷ [] ∷ [] ∷ []) }
+/// The relations closed under intersection.
+fn closed_relations(alloc: Global, rels: &[RelPart]) -> Result<Closed, LangFault>
+    ghost d: { ℕ }
+    requires tables { All (IsOver d) rels.now }
+    ensures closed { IfOk result (λ lists. (arity : ℕ) → 1 ≤ arity → arity ≤ 4 → IsClosedOf d arity (map given_by rels.now) (slice_index_or lists (arity - 1) [])) }
+    ensures made { OnOk result (closing_refusal (map given_by rels.now) ≡ None) }
+    ensures refused { IfErr result (λ e. e ≢ LangFault.Memory → closing_refusal (map given_by rels.now) ≡ Some e) }
 {
-    Ok(vec![in alloc;
-        Vec::new(alloc),
-        relations,
-        Vec::new(alloc),
-        Vec::new(alloc),
-    ]?)
+    let Ok(tables) = tables_of(alloc, rels) else {
+        return Err(LangFault::Memory);
+    };
+    match close(alloc, &tables) {
+        Ok(closed) => Ok(closed),
+        Err(CloseFault::Memory) => Err(LangFault::Memory),
+        Err(fault) => Err(LangFault::Closing(fault)),
+    }
 }
 
 impl Language {
-    /// The language of these relations over all scopes: `NoRelations` where there is none, `NotClosed(2)` where the
-    /// intersection of two isn't one of them, `Closing(TooMany(2))` where more than 64 are different.
+    /// The language of these relations over these scopes, with the relations of each arity closed under intersection.
+    ///
+    /// Refused, in this order: no relation; a scope that is empty, longer than 4 or not strictly rising; more than
+    /// 8,192 scopes; a scope that stands twice; a scope within another; a scope with no relation of its length; an
+    /// arity with more than 64 intersections. The least scope is named, and of pairs the one whose second scope is
+    /// least, and then whose first is.
     pub fn build(
         alloc: Global,
         frame: Frame,
         rels: Vec<RelPart>,
         scopes: ScopePart,
     ) -> Result<Language, LangFault>
-        requires tables { All (IsBinary frame.value_count) rels.items }
+        requires tables { All (IsOver frame.value_count) rels.items }
         requires names { AreNames (map (λ (g : Given). g.name) (map given_by rels.items)) }
-        ensures built { IfOk result (λ l. IsBuilt frame (map given_by rels.items) l) }
-        ensures made { OnOk result (build_refusal (map given_by rels.items) ≡ None) }
-        ensures refused { IfErr result (λ e. e ≢ LangFault.Memory → build_refusal (map given_by rels.items) ≡ Some e) }
+        requires known { AreKnown (length frame.names) (listed_in scopes) }
+        requires countable { AreCountable (listed_in scopes) }
+        ensures built { IfOk result (λ l. IsBuilt frame (map given_by rels.items) (listed_in scopes) l) }
+        ensures made { OnOk result (build_refusal (length frame.names) (map given_by rels.items) (listed_in scopes) ≡ None) }
+        ensures refused { IfErr result (λ e. e ≢ LangFault.Memory → build_refusal (length frame.names) (map given_by rels.items) (listed_in scopes) ≡ Some e) }
     {
-        let ScopePart::All = scopes;
         if rels.is_empty() {
             return Err(LangFault::NoRelations);
         }
+        let scopes = stated_scopes(alloc, frame.names.len() as u8, &rels, scopes)?;
         let relations = closed_relations(alloc, &rels)?;
+        let Ok(numbers) = first_numbers(alloc, &scopes, &relations) else {
+            return Err(LangFault::Memory);
+        };
         let Frame {
             names,
             least_value,
             value_count,
         } = frame;
-        let Ok(relations) = by_arity(alloc, relations) else {
-            return Err(LangFault::Memory);
-        };
-        let Ok(scopes) = all_pairs(alloc, names.len() as u8) else {
-            return Err(LangFault::Memory);
-        };
         Ok(Language {
             names,
             least_value,
@@ -93,6 +85,7 @@ impl Language {
             given: rels,
             scopes,
             relations,
+            numbers,
         })
     }
 }

@@ -1,14 +1,14 @@
 ghost use Rattle.std.specs.Prelude.{◌≡◌, ◌<◌, ◌≤◌, ◌^◌, length, slice_index_or, [], IfSome, IfOk, string_bytes};
 ghost use Rattle.language.specs.Texts.{question_text, candidate_text};
-ghost use Rattle.language.specs.Language.{variable_count, scope_at, relations_on, place_on, violates, IsLanguage, IsScope, IsCandidate, IsQuestion};
+ghost use Rattle.language.specs.Language.{variable_count, scope_at, scope_number, candidates, number_of, relations_on, place_on, violates, IsLanguage, IsScope, IsCandidate, IsQuestion};
 
 use crate::candidates::{Candidate, ScopeId};
 use crate::parts::RelPart;
 use crate::places::place_of_values;
-use crate::scopes::Scope;
+use crate::scopes::{Scope, set_of};
 use crate::texts::{text_of_candidate, text_of_question};
-use assign::Partial;
-use rel_table::{Memory, Table};
+use assign::{Partial, VarSet};
+use rel_table::{Closed, Memory, Table};
 use std::alloc::Global;
 use std::marker::Model;
 
@@ -24,8 +24,10 @@ pub struct Language {
     pub(crate) given: Vec<RelPart>,
     /// A scope's number is its place here.
     pub(crate) scopes: Vec<Scope>,
-    /// The relations of arity 1, those of arity 2, and so on, in falling order of their truth values.
-    pub(crate) relations: Vec<Vec<Table>>,
+    /// The relations of each arity.
+    pub(crate) relations: Closed,
+    /// For each scope the number of its first candidate, and how many candidates there are last.
+    pub(crate) numbers: Vec<u32>,
 }
 
 impl Model for Language {
@@ -75,6 +77,23 @@ impl Language {
         &scope.variables[..scope.size as usize]
     }
 
+    /// The variables of a scope, as a set.
+    pub fn scope_set(&self, s: ScopeId) -> VarSet
+        requires { s < length self.now.scopes }
+        ensures { result ≡ scope_at self.now s }
+    {
+        set_of(self.scope(s))
+    }
+
+    /// The scope that has exactly these variables, if there is one.
+    pub fn scope_of(&self, w: VarSet) -> Option<ScopeId>
+        ensures is { result ≡ scope_number self.now w }
+        ensures known { IfSome result (λ s. s < length self.now.scopes) }
+        ensures scope { IfSome result (λ s. scope_at self.now s ≡ w) }
+    {
+        (0..self.scopes.len() as ScopeId).find(|s| self.scope_set(*s) == w)
+    }
+
     /// How many relations there are on a scope.
     pub fn relations_on(&self, s: ScopeId) -> u8
         requires { s < length self.now.scopes }
@@ -82,8 +101,8 @@ impl Language {
         ensures few { result ≤ 64 }
         ensures lawful { IsLanguage self.now }
     {
-        let arity = self.scope(s).len();
-        self.relations[arity - 1].len() as u8
+        let arity = self.scope(s).len() as u8;
+        self.relations.list(arity).len() as u8
     }
 
     /// Relation r on a scope, as a table.
@@ -95,8 +114,39 @@ impl Language {
         ensures values { result.now.value_count ≡ self.now.value_count }
         ensures size { length result.now.truth ≡ self.now.value_count ^ length (scope_at self.now s) }
     {
-        let arity = self.scope(s).len();
-        &self.relations[arity - 1][r as usize]
+        let arity = self.scope(s).len() as u8;
+        &self.relations.list(arity)[r as usize]
+    }
+
+    /// How many candidates there are.
+    pub fn candidates(&self) -> u32
+        ensures is { result ≡ length (candidates self.now) }
+        ensures lawful { IsLanguage self.now }
+    {
+        self.numbers[self.scopes.len()]
+    }
+
+    /// The candidate of this number.
+    pub fn candidate(&self, number: u32) -> Candidate
+        requires { number < length (candidates self.now) }
+        ensures candidate { IsCandidate self.now result }
+        ensures number { number_of self.now result ≡ number }
+    {
+        // The last scope whose first candidate has no greater number, of those that have candidates.
+        let s = self.numbers.partition_point(|first| *first <= number) - 1;
+        Candidate {
+            scope: s as ScopeId,
+            rel: (number - self.numbers[s]) as u8,
+        }
+    }
+
+    /// A candidate's number, from 0: by scope and then by relation.
+    pub fn number_of(&self, c: Candidate) -> u32
+        requires { IsCandidate self.now c }
+        ensures is { result ≡ number_of self.now c }
+        ensures below { result < length (candidates self.now) }
+    {
+        self.numbers[c.scope as usize] + u32::from(c.rel)
     }
 
     /// The place of a question's tuple on a scope, where the question gives each variable there a value.

