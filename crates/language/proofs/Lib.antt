@@ -16,3 +16,5 @@ pub mod Inserting
 pub mod Stated
 pub mod Pairs
 pub mod Used
+pub mod Pascal
+pub mod Adding

@@ -12,7 +12,7 @@ use assign::VarSet;
 use std::alloc::{AllocError, Global};
 
 /// The variables of each scope, as a set.
-fn sets_of(alloc: Global, scopes: &[Scope]) -> Result<Vec<VarSet>, AllocError>
+pub(crate) fn sets_of(alloc: Global, scopes: &[Scope]) -> Result<Vec<VarSet>, AllocError>
     requires sized { All (λ scope. scope.size ≤ 4) scopes.now }
     requires sets { All IsSet (map variables_in scopes.now) }
     ensures { IfOk result (λ v. v.items ≡ map variables_in scopes.now) }
@@ -67,36 +67,24 @@ fn first_nested(sets: &[VarSet]) -> Option<(usize, usize)>
     None
 }
 
-/// The first scope of so many variables that no relation has as many places.
-fn first_unused(rels: &[RelPart], scopes: &[Scope]) -> Option<usize>
-    ensures { result ≡ position (λ scope. not (has_arity (map given_by rels.now) scope.size)) scopes.now }
+/// The first set of so many variables as no relation has places.
+fn first_unused(rels: &[RelPart], sets: &[VarSet]) -> Option<usize>
+    ensures { result ≡ position (λ scope. not (has_arity (map given_by rels.now) (length scope))) sets.now }
 {
-    scopes.iter().position(|scope| !has_arity(rels, scope.size))
+    sets.iter().position(|set| !has_arity(rels, set.len()))
 }
 
-/// Refuses scopes of which two can't stand side by side, or one has no relation.
-pub(crate) fn refused_together(
-    alloc: Global,
-    rels: &[RelPart],
-    scopes: &[Scope],
-) -> Result<(), LangFault>
-    requires few { length scopes.now ≤ 8192 }
-    requires sized { All (λ scope. (1 ≤ scope.size) × (scope.size ≤ 4)) scopes.now }
-    requires sets { All IsSet (map variables_in scopes.now) }
-    ensures taken { OnOk result (scope_list_refusal (map given_by rels.now) (map variables_in scopes.now) ≡ None) }
-    ensures refused { IfErr result (λ e. e ≢ LangFault.Memory → scope_list_refusal (map given_by rels.now) (map variables_in scopes.now) ≡ Some e) }
+/// Why these scopes can't stand side by side, or why one of them has no relation.
+pub(crate) fn refusal_of(rels: &[RelPart], sets: &[VarSet]) -> Option<LangFault>
+    requires { length sets.now ≤ 8192 }
+    ensures { result ≡ scope_list_refusal (map given_by rels.now) sets.now }
 {
-    let Ok(sets) = sets_of(alloc, scopes) else {
-        return Err(LangFault::Memory);
-    };
-    if let Some((i, j)) = first_repeated(&sets) {
-        return Err(LangFault::ScopeRepeated(i as u32, j as u32));
+    if let Some((i, j)) = first_repeated(sets) {
+        return Some(LangFault::ScopeRepeated(i as u32, j as u32));
     }
-    if let Some((i, j)) = first_nested(&sets) {
-        return Err(LangFault::Nested(i as u32, j as u32));
+    if let Some((i, j)) = first_nested(sets) {
+        return Some(LangFault::Nested(i as u32, j as u32));
     }
-    if let Some(i) = first_unused(rels, scopes) {
-        return Err(LangFault::NoRelationOfArity(i as u32));
-    }
-    Ok(())
+    let unused = first_unused(rels, sets)?;
+    Some(LangFault::NoRelationOfArity(unused as u32))
 }

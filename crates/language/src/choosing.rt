@@ -1,26 +1,26 @@
-ghost use Rattle.std.specs.Prelude.{◌≡◌, ◌≢◌, ℕ, ◌≤◌, ◌<◌, ◌^◌, ◌∷◌, ◌++◌, ◌==◌, [], length, map, All, IfOk, IfErr, OnOk, if◌then◌else◌};
-ghost use Rattle.std.specs.List.{flat_map};
+ghost use Rattle.std.specs.Prelude.{◌≡◌, ◌≢◌, ℕ, ◌≤◌, ◌<◌, ◌^◌, ◌∷◌, ◌+◌, ◌++◌, ◌==◌, [], length, map, All, IfOk, IfErr, OnOk, if◌then◌else◌};
+ghost use Rattle.std.specs.List.{flat_map, list_any};
 ghost use Rattle.language.specs.Inside.{given_by};
 ghost use Rattle.language.specs.Scopes.{variables_in};
 ghost use Rattle.language.specs.Building.{rising_lists, all_scopes, has_arity};
-ghost use Rattle.language.specs.Choosing.{choices, longer_by};
+ghost use Rattle.language.specs.Choosing.{choices, past, longer_by};
 
 use crate::parts::{LangFault, RelPart};
 use crate::scopes::{MOST_SCOPES, Scope};
 use std::alloc::{AllocError, Global};
 
-/// Whether a relation has this arity.
-fn is_of_arity(rel: &RelPart, arity: u8) -> bool
-    ensures { result ≡ (rel.now.table.arity == arity) }
+/// Whether one of the relations has this arity.
+fn is_used(rels: &[RelPart], arity: u8) -> bool
+    ensures { result ≡ list_any (λ part. part.table.arity == arity) rels.now }
 {
-    rel.table.arity() == arity
+    rels.iter().any(|rel| rel.table.arity() == arity)
 }
 
 /// Whether some relation has this arity.
 pub(crate) fn has_arity(rels: &[RelPart], arity: u8) -> bool
     ensures { result ≡ has_arity (map given_by rels.now) arity }
 {
-    rels.iter().any(|rel| is_of_arity(rel, arity))
+    is_used(rels, arity)
 }
 
 /// How many sets of 1, 2, 3 and 4 variables n variables have, by Pascal's rule.
@@ -60,6 +60,31 @@ fn count_all(n: u8, rels: &[RelPart]) -> u32
         + where_used(rels, 4, fours)
 }
 
+/// The variable after the last one, and the first where there is none.
+fn past(scope: Scope, n: u8) -> u8
+    requires short { scope.size ≤ 4 }
+    requires known { All (λ v. v < n) (variables_in scope) }
+    requires few { n ≤ 128 }
+    ensures { result ≡ past 0 (variables_in scope) }
+{
+    if scope.size == 0 {
+        0
+    } else {
+        scope.variables[scope.size as usize - 1] + 1
+    }
+}
+
+/// The list with a variable more.
+fn with_last(mut scope: Scope, v: u8) -> Scope
+    requires { scope.size ≤ 3 }
+    ensures is { variables_in result ≡ variables_in scope ++ v ∷ [] }
+    ensures size { result.size ≡ scope.size + 1 }
+{
+    scope.variables[scope.size as usize] = v;
+    scope.size += 1;
+    scope
+}
+
 /// Adds a list with each later variable.
 fn with_longer(mut longer: Vec<Scope>, scope: Scope, n: u8) -> Result<Vec<Scope>, AllocError>
     requires short { scope.size ≤ 3 }
@@ -68,13 +93,8 @@ fn with_longer(mut longer: Vec<Scope>, scope: Scope, n: u8) -> Result<Vec<Scope>
     ensures is { IfOk result (λ v. map variables_in v.items ≡ map variables_in longer.items ++ longer_by n 0 (variables_in scope)) }
     ensures size { IfOk result (λ v. All (λ s. s.size ≡ scope.size + 1) longer.items → All (λ s. s.size ≡ scope.size + 1) v.items) }
 {
-    let size = scope.size as usize;
-    let past = if size == 0 { 0 } else { scope.variables[size - 1] + 1 };
-    for v in past..n {
-        let mut one = scope;
-        one.variables[size] = v;
-        one.size += 1;
-        longer.push(one)?;
+    for v in past(scope, n)..n {
+        longer.push(with_last(scope, v))?;
     }
     Ok(longer)
 }

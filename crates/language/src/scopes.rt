@@ -6,7 +6,7 @@ ghost use Rattle.language.specs.Language.{Given};
 ghost use Rattle.language.specs.Building.{is_ordered, scopes_of, scopes_refusal, listed_in, AreKnown, AreCountable};
 ghost use Rattle.language.specs.Built.{AreScopes};
 
-use crate::apart::refused_together;
+use crate::apart::{refusal_of, sets_of};
 use crate::choosing::all_scopes;
 use crate::parts::{LangFault, RelPart, ScopePart};
 use assign::VarSet;
@@ -113,6 +113,11 @@ pub(crate) fn stated_scopes(
         ScopePart::All => all_scopes(alloc, n, rels)?,
         ScopePart::Listed(listed) => listed_scopes(alloc, listed)?,
     };
-    refused_together(alloc, rels, &scopes)?;
-    Ok(scopes)
+    let Ok(sets) = sets_of(alloc, &scopes) else {
+        return Err(LangFault::Memory);
+    };
+    match refusal_of(rels, &sets) {
+        Some(fault) => Err(fault),
+        None => Ok(scopes),
+    }
 }
