@@ -9,8 +9,14 @@ pub mod Falling
 pub mod Rising
 pub mod Built
 pub mod Intersections
-pub mod PairScopes
 pub mod Closing
 pub mod Pairwise
 pub mod Repeats
 pub mod Inserting
+pub mod Stated
+pub mod Pairs
+pub mod Used
+pub mod Pascal
+pub mod Adding
+pub mod Lawful
+pub mod Listed

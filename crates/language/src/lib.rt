@@ -8,14 +8,18 @@
 //! language.
 #![tactic(auto)]
 
+mod apart;
 mod build;
 mod candidates;
+mod choosing;
 mod frame;
 mod lang;
 pub mod laws;
 mod numbering;
 mod parts;
 mod places;
+#[cfg(test)]
+mod scope_tests;
 mod scopes;
 #[cfg(test)]
 mod tests;
