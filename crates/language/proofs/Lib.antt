@@ -5,12 +5,9 @@ pub mod Fields
 pub mod Placing
 pub mod Wording
 pub mod Refusals
-pub mod Falling
 pub mod Rising
 pub mod Built
-pub mod Intersections
 pub mod PairScopes
-pub mod Closing
 pub mod Pairwise
 pub mod Repeats
-pub mod Inserting
+pub mod Counting

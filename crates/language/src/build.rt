@@ -1,7 +1,9 @@
-ghost use Rattle.std.specs.Prelude.{◌≡◌, ◌≢◌, map, length, All, IfOk, IfErr, OnOk, Some, None};
+ghost use Rattle.std.specs.Prelude.{◌≡◌, ◌≢◌, ℕ, ◌-◌, ◌≤◌, [], map, length, slice_index_or, All, IfOk, IfErr, OnOk, Some, None};
+ghost use Rattle.rel_table.specs.Table.{TruthTable, IsTable};
 ghost use Rattle.language.specs.Language.{Given, AreNames};
 ghost use Rattle.language.specs.Inside.{given_by};
-ghost use Rattle.language.specs.Building.{build_refusal, listed_in, AreCountable, AreKnown, IsBuilt, IsOver};
+ghost use Rattle.language.specs.Building.{build_refusal, closing_refusal, listed_in, AreCountable, AreKnown, IsBuilt, IsOver};
+ghost use Rattle.language.specs.Built.{IsClosedOf};
 
 use crate::frame::Frame;
 use crate::lang::Language;

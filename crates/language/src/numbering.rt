@@ -1,6 +1,7 @@
 //! The numbers of candidates.
 
-ghost use Rattle.std.specs.Prelude.{◌≡◌, IfOk};
+ghost use Rattle.std.specs.Prelude.{◌≡◌, ℕ, ◌-◌, ◌≤◌, [], length, slice_index_or, All, IfOk};
+ghost use Rattle.language.specs.Inside.{first_numbers};
 
 use crate::scopes::Scope;
 use rel_table::Closed;
@@ -12,7 +13,9 @@ pub(crate) fn first_numbers(
     scopes: &[Scope],
     relations: &Closed,
 ) -> Result<Vec<u32>, AllocError>
-    requires { All (λ (scope : Scope). (1 ≤ scope.size) × (scope.size ≤ 4)) scopes.now }
+    requires sized { All (λ (scope : Scope). (1 ≤ scope.size) × (scope.size ≤ 4)) scopes.now }
+    requires few { length scopes.now ≤ 8192 }
+    requires few_relations { (arity : ℕ) → 1 ≤ arity → arity ≤ 4 → length (slice_index_or relations.now (arity - 1) []) ≤ 64 }
     ensures { IfOk result (λ v. v.items ≡ first_numbers relations.now scopes.now) }
 {
     let mut numbers = Vec::new(alloc);
