@@ -30,17 +30,17 @@ last_number relations scopes i before whole done after past pushed so_far =
 
 -- ---- What the numbers are
 
-length-numbers_from : (relations : List (List TruthTable)) (scopes : List Scope) (before : ℕ) → length (numbers_from before relations scopes) ≡ length scopes + 1
+pub length-numbers_from : (relations : List (List TruthTable)) (scopes : List Scope) (before : ℕ) → length (numbers_from before relations scopes) ≡ length scopes + 1
 length-numbers_from relations [] before = refl
 length-numbers_from relations (scope ∷ scopes) before =
     let rest = length-numbers_from relations scopes (before + length (get_or relations (scope.size - 1) [])) in omega (arith, rest)
 
-first-numbers_from : (relations : List (List TruthTable)) (scopes : List Scope) (before : ℕ) → get_or (numbers_from before relations scopes) 0 0 ≡ before
+pub first-numbers_from : (relations : List (List TruthTable)) (scopes : List Scope) (before : ℕ) → get_or (numbers_from before relations scopes) 0 0 ≡ before
 first-numbers_from relations [] before = refl
 first-numbers_from relations (scope ∷ scopes) before = refl
 
 -- the next number is greater by the relations on the scope
-step-numbers_from : (relations : List (List TruthTable)) (scopes : List Scope) (before s : ℕ) (d : Scope) → s < length scopes →
+pub step-numbers_from : (relations : List (List TruthTable)) (scopes : List Scope) (before s : ℕ) (d : Scope) → s < length scopes →
     get_or (numbers_from before relations scopes) (suc s) 0 ≡ get_or (numbers_from before relations scopes) s 0 + length (get_or relations ((get_or scopes s d).size - 1) [])
 step-numbers_from relations [] before s d low = absurd (omega arith)
 step-numbers_from relations (scope ∷ scopes) before zero d low = first-numbers_from relations scopes (before + length (get_or relations (scope.size - 1) []))

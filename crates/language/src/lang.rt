@@ -91,7 +91,12 @@ impl Language {
         ensures known { IfSome result (λ s. s < length self.now.scopes) }
         ensures scope { IfSome result (λ s. scope_at self.now s ≡ w) }
     {
-        (0..self.scopes.len() as ScopeId).find(|s| self.scope_set(*s) == w)
+        for s in 0..self.scopes.len() as ScopeId {
+            if self.scope_set(s) == w {
+                return Some(s);
+            }
+        }
+        None
     }
 
     /// How many relations there are on a scope.
