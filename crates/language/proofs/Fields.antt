@@ -28,7 +28,7 @@ scope_here a sound l view s scope low is =
     let at : slice_index_or (seen a).scopes s [] ≡ variables_in scope = get_or-map variables_in a.scopes.items s scope [] short ∙ ap variables_in (sym is) in
     subst (λ (x : Language). IsScope (variable_count x) (variables_in scope)) view (subst (IsScope (variable_count (seen a))) at known)
 
-truths_at : (relations : List (List TruthTable)) (k : ℕ) → slice_index_or (map truths relations) k [] ≡ truths (slice_index_or relations k [])
+pub truths_at : (relations : List (List TruthTable)) (k : ℕ) → slice_index_or (map truths relations) k [] ≡ truths (slice_index_or relations k [])
 truths_at [] k = refl
 truths_at (tables ∷ relations) zero = refl
 truths_at (tables ∷ relations) (suc k) = truths_at relations k

@@ -6,8 +6,10 @@ pub mod Placing
 pub mod Wording
 pub mod Refusals
 pub mod Rising
-pub mod Built
 pub mod PairScopes
 pub mod Pairwise
 pub mod Repeats
 pub mod Counting
+pub mod Arities
+pub mod Closings
+pub mod Built
