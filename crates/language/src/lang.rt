@@ -73,8 +73,7 @@ impl Language {
         ensures is { result.now ≡ scope_at self.now s }
         ensures scope { IsScope (variable_count self.now) result.now }
     {
-        let scope = &self.scopes[s as usize];
-        &scope.variables[..scope.size as usize]
+        self.scopes[s as usize].as_slice()
     }
 
     /// The variables of a scope, as a set.
