@@ -6,10 +6,14 @@ pub mod Placing
 pub mod Wording
 pub mod Refusals
 pub mod Rising
-pub mod PairScopes
 pub mod Pairwise
 pub mod Repeats
 pub mod Counting
 pub mod Arities
 pub mod Closings
 pub mod Built
+pub mod Stated
+pub mod Pairs
+pub mod Used
+pub mod Pascal
+pub mod Adding
