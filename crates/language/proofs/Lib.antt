@@ -6,7 +6,6 @@ pub mod Placing
 pub mod Wording
 pub mod Refusals
 pub mod Rising
-pub mod Pairwise
 pub mod Repeats
 pub mod Counting
 pub mod Arities
