@@ -16,3 +16,5 @@ pub mod Pairs
 pub mod Used
 pub mod Pascal
 pub mod Adding
+pub mod Lawful
+pub mod Listed
