@@ -1,5 +1,5 @@
 -- What the fields of a language say of the language that they stand for.
-use Rattle.std.proofs.Common.{◌≡◌, ℕ, zero, suc, ◌+◌, ◌-◌, ◌^◌, ◌<◌, ◌≤◌, ◌++◌, ◌∷◌, List, [], length, map, true, false, Bool, cond, ◌&&◌, nat_le, nat_lt, nat_eq, Some, None, refl, sym, ◌∙◌, ap, subst, arith, ◌⊎◌, inl, inr}
+use Rattle.std.proofs.Common.{◌≡◌, ℕ, zero, suc, ◌+◌, ◌-◌, ◌<◌, ◌≤◌, ◌++◌, ◌∷◌, List, [], length, map, true, false, Bool, cond, ◌&&◌, nat_le, nat_lt, nat_eq, Some, None, refl, sym, ◌∙◌, ap, subst, arith, ◌⊎◌, inl, inr}
 use Rattle.std.specs.Prelude.{slice_index_or, string_bytes, All, AllPairs}
 use Rattle.std.specs.List.{flat_map}
 use Rattle.std.proofs.lemmas.List.{get_or-map, get_or_read, length-map}
@@ -13,7 +13,6 @@ use Rattle.std.specs.Cmp.Lexicographic.{pointwise}
 use Rattle.rel_table.proofs.Pairwise.{pairs_head, pairs_tail}
 use Rattle.assign.specs.Sets.{is_same, IsSet, Rises}
 use Rattle.rel_table.specs.Table.{TruthTable}
-use Rattle.rel_table.specs.Closing.{IsOfKind}
 use Rattle.rel_table.specs.Relation.{Relation}
 use Rattle.language.specs.Language.{Language, Given, variable_count, candidates, scope_at, scope_number, relations_on, is_name, IsScope, IsLanguage}
 use Rattle.language.specs.Texts.{joined, names_containing, candidate_text}
@@ -218,9 +217,11 @@ just_after a sound l view number point low bound parts =
 -- a scope is a set
 rises_from : (a : ℕ) (xs : List ℕ) → AllPairs (λ x y. x < y) xs → All (λ v. v < 128) xs → All (λ v. a ≤ v) xs → Rises a xs
 rises_from a [] pairs low high = tt
-rises_from a (x ∷ xs) pairs low high =
-    (All-head (λ v. a ≤ v) x xs high, All-head (λ v. v < 128) x xs low,
-    rises_from (x + 1) xs (pairs_tail (λ y z. y < z) x xs pairs) (All-tail (λ v. v < 128) x xs low) (λ k d in_range. let above = pairs_head (λ y z. y < z) x xs pairs k d in_range in omega arith))
+rises_from a (x ∷ xs) pairs low high = (
+  All-head (λ v. a ≤ v) x xs high,
+  All-head (λ v. v < 128) x xs low,
+  rises_from (x + 1) xs (pairs_tail (λ y z. y < z) x xs pairs) (All-tail (λ v. v < 128) x xs low) (λ k d in_range. let above = pairs_head (λ y z. y < z) x xs pairs k d in_range in omega arith),
+)
 
 pub scope_is_set : (n : ℕ) (scope : List ℕ) → n ≤ 128 → IsScope n scope → IsSet scope
 scope_is_set n scope few is =

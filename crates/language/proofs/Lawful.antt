@@ -1,10 +1,10 @@
 -- What lists of variables are that nothing refuses.
 use Rattle.std.proofs.Common.{◌≡◌, ℕ, zero, suc, ◌+◌, ◌<◌, ◌≤◌, Bool, true, false, cond, ◌&&◌, ◌||◌, true≢false, Option, Some, None, Result, Ok, Err, is_some, List, [], ◌∷◌, ◌++◌, length, map, refl, sym, ◌∙◌, ap, subst, arith}
-use Rattle.std.specs.Prelude.{All, AllPairs, IsTrue, IsFalse, IfErr, OnOk, ◌≢◌, nat_lt, nat_le, not, position, option_map, slice_index, slice_index_or}
+use Rattle.std.specs.Prelude.{All, AllPairs, IsTrue, IfErr, OnOk, ◌≢◌, nat_lt, nat_le, not, position, option_map, slice_index}
 use Rattle.std.specs.Option.{option_or}
-use Rattle.std.specs.List.{list_any, position_or_len, flat_map}
+use Rattle.std.specs.List.{list_any, position_or_len}
 use Rattle.std.specs.List.Sorted.{IsStrictlyIncreasing}
-use Rattle.std.proofs.lemmas.Bool.{and_parts, or_parts, ltb-true, leb-true, le-leb, lt-ltb, le-ltb}
+use Rattle.std.proofs.lemmas.Bool.{and_parts, or_parts, ltb-true, leb-true, le-leb, lt-ltb}
 use Rattle.std.proofs.lemmas.List.Elements.{All-nil, All-cons, All-head, All-tail, All-append, All-weaker}
 use Rattle.std.proofs.lemmas.List.Kept.{AllPairs-cons}
 use Rattle.assign.specs.Sets.{Rises, IsSet, is_within, is_same}

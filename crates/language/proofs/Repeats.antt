@@ -1,11 +1,10 @@
 -- Listed relations.
-use Rattle.std.proofs.Common.{◌≡◌, ℕ, suc, ◌+◌, Bool, true, false, cond, ◌||◌, ◌&&◌, List, [], ◌∷◌, ◌++◌, length, refl, sym, ◌∙◌, ap, subst, arith, ◌⊎◌, inl, inr}
+use Rattle.std.proofs.Common.{◌≡◌, Bool, true, false, ◌&&◌, List, [], ◌∷◌, refl, sym, subst}
 use Rattle.std.specs.Prelude.{Contains, slice_index_or}
 use Rattle.std.specs.Bool.{beq}
-use Rattle.std.proofs.lemmas.List.Folds.{list_any_at, Any-from_list_any, list_any-append}
-use Rattle.std.proofs.lemmas.Bool.{cases_Bool, or_cases, or_parts, both_ways, false_from_ne_true}
+use Rattle.std.proofs.lemmas.List.Folds.{list_any_at, Any-from_list_any}
 use Rattle.rel_table.specs.Relation.{Relation}
-use Rattle.language.specs.Building.{is_same_relation, is_listed, without_repeats}
+use Rattle.language.specs.Building.{is_same_relation, is_listed}
 
 same_head : (x y b : Bool) → (beq x y && b) ≡ true → (x ≡ y) × (b ≡ true)
 same_head true true b h = (refl, h)

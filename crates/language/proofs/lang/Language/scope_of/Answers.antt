@@ -1,4 +1,4 @@
-use Rattle.std.proofs.Common.{◌≡◌, length, arith}
+use Rattle.std.proofs.Common.{arith}
 use Rattle.language.proofs.Fields.{length-scopes, other_scope, found_scope, no_scope}
 use Rattle.language.proofs.lang.Language.scope_of.Goals as goal
 
