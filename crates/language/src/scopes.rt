@@ -24,6 +24,17 @@ pub(crate) struct Scope {
     pub(crate) variables: [u8; 4],
 }
 
+impl Scope {
+    /// The variables, in vocabulary order.
+    pub(crate) fn as_slice(&self) -> &[u8]
+        requires { self.now.size ≤ 4 }
+        ensures is { result.now ≡ variables_in self.now }
+        ensures size { length result.now ≡ self.now.size }
+    {
+        &self.variables[..self.size as usize]
+    }
+}
+
 /// The variables of a scope, as a set.
 pub(crate) fn set_of(variables: &[u8]) -> VarSet
     requires { IsSet variables.now }
