@@ -1,11 +1,20 @@
-ghost use Rattle.std.specs.Prelude.{◌≡◌, ℕ, ◌+◌, ◌-◌, ◌<◌, ◌≤◌, ◌++◌, ◌∷◌, [], map, All, IfOk};
-ghost use Rattle.std.specs.List.{range_with_len};
+ghost use Rattle.std.specs.Prelude.{◌≡◌, ◌≢◌, ℕ, ◌≤◌, ◌<◌, ◌^◌, Some, None, length, map, take, IsTrue, position, not, All, IfOk, IfErr, OnOk};
+ghost use Rattle.assign.specs.Sets.{IsSet};
+ghost use Rattle.language.specs.Inside.{given_by};
 ghost use Rattle.language.specs.Scopes.{variables_in};
-ghost use Rattle.language.specs.Building.{rising_lists};
+ghost use Rattle.language.specs.Language.{Given};
+ghost use Rattle.language.specs.Building.{is_ordered, scopes_of, scopes_refusal, listed_in, AreKnown, AreCountable};
+ghost use Rattle.language.specs.Built.{AreScopes};
 
+use crate::apart::{refusal_of, sets_of};
+use crate::choosing::all_scopes;
 use crate::parts::{LangFault, RelPart, ScopePart};
 use assign::VarSet;
-use std::alloc::Global;
+use smallvec::SmallVec;
+use std::alloc::{AllocError, Global};
+
+/// The most scopes that a language has.
+pub(crate) const MOST_SCOPES: usize = 8192;
 
 /// The variables of a scope.
 #[derive(Clone, Copy, Debug)]
@@ -27,6 +36,64 @@ pub(crate) fn set_of(variables: &[u8]) -> VarSet
     set
 }
 
+/// Whether there are 1 to 4 variables, strictly rising.
+fn is_ordered(variables: &[u8]) -> bool
+    ensures { result ≡ is_ordered variables.now }
+{
+    match *variables {
+        [_] => true,
+        [a, b] => a < b,
+        [a, b, c] => a < b && b < c,
+        [a, b, c, d] => a < b && b < c && c < d,
+        _ => false,
+    }
+}
+
+/// The scope of up to 4 variables.
+fn copied(variables: &[u8]) -> Scope
+    requires { length variables.now ≤ 4 }
+    ensures is { variables_in result ≡ variables.now }
+    ensures size { result.size ≡ length variables.now }
+{
+    let mut places = [0; 4];
+    places[..variables.len()].copy_from_slice(variables);
+    Scope {
+        size: variables.len() as u8,
+        variables: places,
+    }
+}
+
+/// Copies of scopes of up to 4 variables.
+fn copies(alloc: Global, listed: &[SmallVec<u8, 4>]) -> Result<Vec<Scope>, AllocError>
+    requires { All (λ scope. IsTrue (is_ordered scope.items)) listed.now }
+    ensures is { IfOk result (λ v. map variables_in v.items ≡ map (λ scope. scope.items) listed.now) }
+    ensures sized { IfOk result (λ v. All (λ scope. (1 ≤ scope.size) × (scope.size ≤ 4)) v.items) }
+{
+    let mut scopes = Vec::with_capacity(alloc, listed.len())?;
+    for scope in listed {
+        scopes.push(copied(scope.as_slice()))?;
+    }
+    Ok(scopes)
+}
+
+/// Copies of the listed scopes, each of which must be in order.
+fn listed_scopes(alloc: Global, listed: &[SmallVec<u8, 4>]) -> Result<Vec<Scope>, LangFault>
+    requires { length listed.now < 2 ^ 32 }
+    ensures is { IfOk result (λ v. map variables_in v.items ≡ map (λ scope. scope.items) listed.now) }
+    ensures sized { IfOk result (λ v. All (λ scope. (1 ≤ scope.size) × (scope.size ≤ 4)) v.items) }
+    ensures few { OnOk result (length listed.now ≤ 8192) }
+    ensures ordered { OnOk result (position (λ scope. not (is_ordered scope)) (map (λ scope. scope.items) listed.now) ≡ None) }
+    ensures refused { IfErr result (λ e. e ≢ LangFault.Memory → (given : List Given) → scopes_refusal given (map (λ scope. scope.items) listed.now) ≡ Some e) }
+{
+    if let Some(i) = listed.iter().position(|scope| !is_ordered(scope.as_slice())) {
+        return Err(LangFault::ScopeOrder(i as u32));
+    }
+    if listed.len() > MOST_SCOPES {
+        return Err(LangFault::TooManyScopes);
+    }
+    copies(alloc, listed).map_err(|_| LangFault::Memory)
+}
+
 /// The scopes that are stated, each copied into fixed room, so that threads share no list of their own.
 pub(crate) fn stated_scopes(
     alloc: Global,
@@ -42,6 +109,15 @@ pub(crate) fn stated_scopes(
     ensures made { OnOk result (let given = map given_by rels.now in scopes_refusal given (scopes_of n given (listed_in part)) ≡ None) }
     ensures refused { IfErr result (λ e. let given = map given_by rels.now in e ≢ LangFault.Memory → scopes_refusal given (scopes_of n given (listed_in part)) ≡ Some e) }
 {
-    let _ = (alloc, n, rels, part);
-    Err(LangFault::Memory)
+    let scopes = match &part {
+        ScopePart::All => all_scopes(alloc, n, rels)?,
+        ScopePart::Listed(listed) => listed_scopes(alloc, listed)?,
+    };
+    let Ok(sets) = sets_of(alloc, &scopes) else {
+        return Err(LangFault::Memory);
+    };
+    match refusal_of(rels, &sets) {
+        Some(fault) => Err(fault),
+        None => Ok(scopes),
+    }
 }
