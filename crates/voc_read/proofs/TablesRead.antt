@@ -21,7 +21,6 @@ same_truth lo d a tuples truth count marks =
     same_lists truth (accepting lo d a tuples) (count ∙ sym (length-map-range_with_len stands 0 (d ^ a)))
     (λ at x within. let inside : at < d ^ a = omega arith in get_or_default truth at x false within ∙ marks at within ∙ sym (get_or-map-range_with_len stands 0 (d ^ a) at at x inside (omega arith)))
 
-
 pub small : (a : ℕ) → 1 ≤ a → a ≤ 4 → arity_of (pos a) ≡ Some a
 small zero h k = absurd (omega arith)
 small (suc zero) h k = refl

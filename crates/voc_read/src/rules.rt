@@ -45,11 +45,7 @@ pub enum Rule<'a> {
 }
 
 /// The rule that is stated, where tuples are an array of arrays of whole numbers.
-pub fn rule_in<'a>(
-    alloc: Global,
-    stated: Stated<'a>,
-    here: Spot,
-) -> Result<Rule<'a>, VocFault>
+pub fn rule_in<'a>(alloc: Global, stated: Stated<'a>, here: Spot) -> Result<Rule<'a>, VocFault>
     ensures few { IfOk result (λ rule. tuple_count rule ≤ stated_widest (stated_data stated.entry)) }
     ensures is { Reads rule_data (rule_in here (stated_data stated.entry)) result }
 {
