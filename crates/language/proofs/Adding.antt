@@ -1,5 +1,5 @@
 -- Counts of all scopes, by arity.
-use Rattle.std.proofs.Common.{◌≡◌, ℕ, ◌+◌, ◌<◌, ◌≤◌, ◌^◌, Bool, true, false, List, [], ◌∷◌, ◌++◌, length, refl, sym, ◌∙◌, ap, arith, length-append}
+use Rattle.std.proofs.Common.{◌≡◌, ℕ, ◌+◌, ◌≤◌, Bool, true, false, List, [], ◌++◌, length, refl, sym, ◌∙◌, arith, length-append}
 use Rattle.std.specs.Prelude.{if◌then◌else◌}
 use Rattle.language.specs.Language.{Given}
 use Rattle.language.specs.Choosing.{choices}

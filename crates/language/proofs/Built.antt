@@ -1,14 +1,13 @@
 -- A language that is built keeps what each language keeps.
-use Rattle.std.proofs.Common.{◌≡◌, ℕ, zero, ◌-◌, ◌^◌, ◌<◌, ◌≤◌, ◌||◌, ◌⊎◌, inl, inr, Option, Some, Bool, true, false, cond, List, [], ◌∷◌, length, map, get_or, refl, sym, ◌∙◌, ap, subst, arith, Vec}
-use Rattle.std.specs.Prelude.{All, AllPairs, Contains, IsTrue, String, string_bytes, ◌==◌}
+use Rattle.std.proofs.Common.{◌≡◌, ℕ, zero, ◌-◌, ◌^◌, ◌≤◌, ◌||◌, ◌⊎◌, inl, inr, Option, Some, Bool, true, false, cond, List, [], ◌∷◌, length, map, get_or, refl, sym, ◌∙◌, ap, subst, arith}
+use Rattle.std.specs.Prelude.{All, string_bytes, ◌==◌}
 use Rattle.std.specs.List.{list_any, filter}
-use Rattle.std.specs.declared.alloc.Global.{Global}
 use Rattle.std.specs.Option.{option_or}
 use Rattle.std.proofs.lemmas.Bool.{cases_Bool, eqb-true}
 use Rattle.std.proofs.lemmas.List.{length-map}
 use Rattle.std.proofs.lemmas.List.Folds.{Any-from_list_any}
-use Rattle.std.proofs.lemmas.List.Elements.{All-head, All-map, All-weaker, All-contains}
-use Rattle.rel_table.specs.Relation.{Relation, IsIntersection, IsClosing}
+use Rattle.std.proofs.lemmas.List.Elements.{All-head, All-map, All-weaker}
+use Rattle.rel_table.specs.Relation.{Relation, IsClosing}
 use Rattle.rel_table.specs.Table.{TruthTable, IsTable}
 use Rattle.rel_table.specs.Closing.{IsOfKind}
 use Rattle.rel_table.proofs.Growing.{one_given}

@@ -1,7 +1,7 @@
 -- The numbers of candidates.
-use Rattle.std.proofs.Common.{◌≡◌, ℕ, zero, suc, ◌+◌, ◌-◌, ◌*◌, ◌<◌, ◌≤◌, List, [], ◌∷◌, ◌++◌, length, map, take, drop, get_or, refl, sym, ◌∙◌, ap, subst, arith, append_assoc, ◌⊎◌, inl, inr}
-use Rattle.std.specs.List.{flat_map, range_with_len}
-use Rattle.std.proofs.lemmas.List.{drop_more, drop_all, length-map, length-append, map-id, append-nil, get_or-map}
+use Rattle.std.proofs.Common.{◌≡◌, ℕ, zero, suc, ◌+◌, ◌-◌, ◌*◌, ◌<◌, ◌≤◌, List, [], ◌∷◌, ◌++◌, length, take, drop, get_or, refl, sym, ◌∙◌, ap, subst, arith, append_assoc}
+use Rattle.std.specs.List.{flat_map}
+use Rattle.std.proofs.lemmas.List.{drop_more, drop_all, length-map, length-append, map-id, append-nil}
 use Rattle.std.proofs.lemmas.List.FromFn.{length-range_with_len, get_or-range_with_len, map-range_with_len_more, take-map-range_with_len, get_or-map-range_with_len}
 use Rattle.std.proofs.lemmas.List.Concat.{flat_map-append, get_or-flat_map}
 use Rattle.rel_table.specs.Table.{TruthTable}
@@ -10,7 +10,7 @@ use Rattle.language.specs.declared.candidates.Candidate.{Candidate}
 use Rattle.language.specs.declared.scopes.Scope.{Scope}
 use Rattle.language.specs.Language.{Language, IsCandidate, candidates_on, candidates, number_of, relations_on}
 use Rattle.language.specs.Laws.{CandidatesAreNumbered}
-use Rattle.language.specs.Inside.{numbers_from, first_numbers}
+use Rattle.language.specs.Inside.{numbers_from}
 
 -- ---- One scope after another
 

@@ -1,16 +1,20 @@
 -- What the fields of a language say of the language that they stand for.
-use Rattle.std.proofs.Common.{◌≡◌, ℕ, zero, suc, ◌+◌, ◌-◌, ◌^◌, ◌<◌, ◌≤◌, ◌++◌, ◌∷◌, List, [], length, map, true, false, nat_le, refl, sym, ◌∙◌, ap, subst, arith, ◌⊎◌, inl, inr}
-use Rattle.std.specs.Prelude.{slice_index_or, string_bytes, All}
+use Rattle.std.proofs.Common.{◌≡◌, ℕ, zero, suc, ◌+◌, ◌-◌, ◌<◌, ◌≤◌, ◌++◌, ◌∷◌, List, [], length, map, true, false, Bool, cond, ◌&&◌, nat_le, nat_lt, nat_eq, Some, None, refl, sym, ◌∙◌, ap, subst, arith, ◌⊎◌, inl, inr}
+use Rattle.std.specs.Prelude.{slice_index_or, string_bytes, All, AllPairs}
 use Rattle.std.specs.List.{flat_map}
 use Rattle.std.proofs.lemmas.List.{get_or-map, get_or_read, length-map}
 use Rattle.std.specs.List.Sorted.{IsNonDecreasingBy, IsPartitionedBy, IsPartitionPoint}
 use Rattle.std.proofs.lemmas.List.Sorted.{IsNonDecreasingBy-from_default, IsPartitionedBy-leb}
-use Rattle.std.proofs.lemmas.List.Sums.{AllPass-from_list_all}
-use Rattle.std.proofs.lemmas.Bool.{leb-true, leb-false, cases_order, and_parts}
+use Rattle.std.proofs.lemmas.List.Sums.{AllPass-from_list_all, position_or_len_is}
+use Rattle.std.proofs.lemmas.Bool.{leb-true, leb-false, lt-ltb, le-ltb, eqb-true, cases_order, and_parts}
+use Rattle.std.proofs.lemmas.List.Elements.{All-head, All-tail}
+use Rattle.std.proofs.lemmas.List.Kept.{AllPairs-from_increasing}
+use Rattle.std.specs.Cmp.Lexicographic.{pointwise}
+use Rattle.rel_table.proofs.Pairwise.{pairs_head, pairs_tail}
+use Rattle.assign.specs.Sets.{is_same, IsSet, Rises}
 use Rattle.rel_table.specs.Table.{TruthTable}
-use Rattle.rel_table.specs.Closing.{IsOfKind}
 use Rattle.rel_table.specs.Relation.{Relation}
-use Rattle.language.specs.Language.{Language, Given, variable_count, candidates, scope_at, relations_on, is_name, IsScope, IsLanguage}
+use Rattle.language.specs.Language.{Language, Given, variable_count, candidates, scope_at, scope_number, relations_on, is_name, IsScope, IsLanguage}
 use Rattle.language.specs.Texts.{joined, names_containing, candidate_text}
 use Rattle.language.specs.declared.candidates.Candidate.{Candidate}
 use Rattle.language.specs.declared.parts.RelPart.{RelPart}
@@ -209,3 +213,52 @@ just_after a sound l view number point low bound parts =
         go (inl e) = omega arith
         go (inr (inl e)) = omega arith
         go (inr (inr e)) = absurd (past e)
+
+-- a scope is a set
+rises_from : (a : ℕ) (xs : List ℕ) → AllPairs (λ x y. x < y) xs → All (λ v. v < 128) xs → All (λ v. a ≤ v) xs → Rises a xs
+rises_from a [] pairs low high = tt
+rises_from a (x ∷ xs) pairs low high = (
+  All-head (λ v. a ≤ v) x xs high,
+  All-head (λ v. v < 128) x xs low,
+  rises_from (x + 1) xs (pairs_tail (λ y z. y < z) x xs pairs) (All-tail (λ v. v < 128) x xs low) (λ k d in_range. let above = pairs_head (λ y z. y < z) x xs pairs k d in_range in omega arith),
+)
+
+pub scope_is_set : (n : ℕ) (scope : List ℕ) → n ≤ 128 → IsScope n scope → IsSet scope
+scope_is_set n scope few is =
+    rises_from 0 scope (AllPairs-from_increasing scope is.rising) (λ k d low. let known = is.known k d low in omega arith) (λ k d low. omega arith)
+
+-- ---- The scope of some variables
+
+same_scope : (xs ys : List ℕ) → is_same xs ys ≡ pointwise nat_eq xs ys
+same_scope [] [] = refl
+same_scope [] (y ∷ ys) = refl
+same_scope (x ∷ xs) [] = refl
+same_scope (x ∷ xs) (y ∷ ys) = ap (λ b. nat_eq x y && b) (same_scope xs ys)
+
+same_is : (xs ys : List ℕ) → is_same xs ys ≡ true → xs ≡ ys
+same_is [] [] h = refl
+same_is [] (y ∷ ys) h = absurd (let e : false ≡ true = h in cc)
+same_is (x ∷ xs) [] h = absurd (let e : false ≡ true = h in cc)
+same_is (x ∷ xs) (y ∷ ys) h = let parts = and_parts _ _ h in λ i. eqb-true x y parts.0 i ∷ same_is xs ys parts.1 i
+
+pub other_scope : (l : Language) (w scope : List ℕ) (s : ℕ) (same : Bool) → same ≡ pointwise nat_eq w scope → same ≡ false → scope ≡ scope_at l s →
+    ((k : ℕ) → k < s → is_same w (scope_at l k) ≡ false) → (k : ℕ) → k < s + 1 → is_same w (scope_at l k) ≡ false
+other_scope l w scope s same is off here before k low = go (cases_order k s)
+  where
+    go : (k ≡ s) ⊎ ((k < s) ⊎ (s < k)) → is_same w (scope_at l k) ≡ false
+    go (inl e) = ap (λ (n : ℕ). is_same w (scope_at l n)) e ∙ ap (is_same w) (sym here) ∙ same_scope w scope ∙ sym is ∙ off
+    go (inr (inl e)) = before k e
+    go (inr (inr e)) = absurd (omega arith)
+
+pub found_scope : (l : Language) (w scope : List ℕ) (s : ℕ) (same : Bool) → same ≡ pointwise nat_eq w scope → same ≡ true → scope ≡ scope_at l s → s < length l.scopes →
+    ((k : ℕ) → k < s → is_same w (scope_at l k) ≡ false) → (Some s ≡ scope_number l w) × (scope_at l s ≡ w)
+found_scope l w scope s same is on here low before =
+    let passes : is_same w (scope_at l s) ≡ true = ap (is_same w) (sym here) ∙ same_scope w scope ∙ sym is ∙ on in
+    let at = position_or_len_is (is_same w) l.scopes s [] (omega arith) before (λ _. passes) in
+    (sym ((λ i. cond (nat_lt (at i) (length l.scopes)) (Some (at i)) None) ∙ ap (λ b. cond b (Some s) None) (lt-ltb s (length l.scopes) low)), sym (same_is w (scope_at l s) passes))
+
+pub no_scope : (l : Language) (w : List ℕ) (s : ℕ) → length l.scopes ≤ s → ((k : ℕ) → k < s → is_same w (scope_at l k) ≡ false) → None ≡ scope_number l w
+no_scope l w s past before =
+    let n : ℕ = length l.scopes in
+    let at = position_or_len_is (is_same w) l.scopes n [] (omega arith) (λ k low. before k (omega arith)) (λ low. absurd (omega arith)) in
+    sym ((λ i. cond (nat_lt (at i) n) (Some (at i)) None) ∙ ap (λ b. cond b (Some n) None) (le-ltb n n (omega arith)))

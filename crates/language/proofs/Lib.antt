@@ -6,7 +6,6 @@ pub mod Placing
 pub mod Wording
 pub mod Refusals
 pub mod Rising
-pub mod Pairwise
 pub mod Repeats
 pub mod Counting
 pub mod Arities
@@ -17,3 +16,5 @@ pub mod Pairs
 pub mod Used
 pub mod Pascal
 pub mod Adding
+pub mod Lawful
+pub mod Listed

@@ -1,12 +1,11 @@
 -- The first pair of scopes that is related.
-use Rattle.std.proofs.Common.{◌≡◌, ℕ, zero, suc, ◌+◌, ◌<◌, ◌≤◌, Bool, true, false, cond, ◌&&◌, ◌||◌, true≢false, Option, Some, None, List, [], ◌∷◌, ◌++◌, length, take, drop, is_some, refl, sym, ◌∙◌, ap, subst, arith, ◌⊎◌, inl, inr}
-use Rattle.std.specs.Prelude.{nat_eq, nat_lt, not, position, slice_index_or, ◌==◌}
+use Rattle.std.proofs.Common.{◌≡◌, ℕ, zero, suc, ◌+◌, ◌<◌, ◌≤◌, Bool, true, false, cond, ◌&&◌, ◌||◌, true≢false, Option, Some, None, List, [], ◌∷◌, ◌++◌, length, take, drop, is_some, refl, sym, ◌∙◌, ap, arith}
+use Rattle.std.specs.Prelude.{nat_eq, not, position, slice_index_or, ◌==◌}
 use Rattle.std.specs.List.{list_any, position_or_len, position_from}
 use Rattle.std.proofs.lemmas.Iterator.Adapters.{position_from-zero}
 use Rattle.std.specs.Cmp.Lexicographic.{pointwise}
 use Rattle.std.proofs.lemmas.List.{take_more, drop_more}
 use Rattle.std.proofs.lemmas.List.Quantifiers.{position-Some}
-use Rattle.std.proofs.lemmas.Bool.{cases_lt, lt-ltb, le-ltb, cases_Bool}
 use Rattle.assign.specs.Sets.{is_same}
 use Rattle.language.specs.Building.{pair_after, first_pair}
 
@@ -26,7 +25,7 @@ first_from p i (x ∷ xs) = go (p x) (first_from p (i + 1) xs)
     go false h = h ∙ (λ k. cond (list_any p xs) (Some ((let e : (i + 1) + position_or_len p xs ≡ i + (1 + position_or_len p xs) = omega arith in e) k)) None)
 
 -- there is a first where one passes
-first_is : {X : Type 0} (p : X → Bool) (xs : List X) → position p xs ≡ cond (list_any p xs) (Some (position_or_len p xs)) None
+pub first_is : {X : Type 0} (p : X → Bool) (xs : List X) → position p xs ≡ cond (list_any p xs) (Some (position_or_len p xs)) None
 first_is p xs = position_from-zero p xs ∙ first_from p 0 xs ∙ (λ k. cond (list_any p xs) (Some ((let e : 0 + position_or_len p xs ≡ position_or_len p xs = omega arith in e) k)) None)
 
 no_some : {X : Type 0} (x : X) → Some x ≡ None → ⊥
@@ -36,7 +35,7 @@ abbrev pub step : (List ℕ → List ℕ → Bool) → List (List ℕ) → List 
 step related before scope scopes =
     cond (list_any (λ earlier. related earlier scope) before) (Some (position_or_len (λ earlier. related earlier scope) before, length before)) (pair_after related (before ++ scope ∷ []) scopes)
 
-one_step : (related : List ℕ → List ℕ → Bool) (before : List (List ℕ)) (scope : List ℕ) (scopes : List (List ℕ)) → pair_after related before (scope ∷ scopes) ≡ step related before scope scopes
+pub one_step : (related : List ℕ → List ℕ → Bool) (before : List (List ℕ)) (scope : List ℕ) (scopes : List (List ℕ)) → pair_after related before (scope ∷ scopes) ≡ step related before scope scopes
 unfolding pair_after
 one_step related before scope scopes = refl
 

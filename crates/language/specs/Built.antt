@@ -1,5 +1,5 @@
 -- The parts that a language is built of.
-use Rattle.std.specs.Prelude.{◌≡◌, ℕ, ◌+◌, ◌≤◌, ◌-◌, List, [], ◌∷◌, length, map, All, AllPairs, slice_index_or, IsTrue}
+use Rattle.std.specs.Prelude.{ℕ, ◌≤◌, List, length, map, All, AllPairs, IsTrue}
 use Rattle.rel_table.specs.Relation.{IsClosing}
 use Rattle.rel_table.specs.Table.{TruthTable}
 use Rattle.rel_table.specs.Closing.{IsOfKind}

@@ -81,7 +81,7 @@ impl Language {
         requires { s < length self.now.scopes }
         ensures { result ≡ scope_at self.now s }
     {
-        set_of(self.scope(s))
+        set_of(self.scopes[s as usize].as_slice())
     }
 
     /// The scope that has exactly these variables, if there is one.
@@ -91,7 +91,7 @@ impl Language {
         ensures scope { IfSome result (λ s. scope_at self.now s ≡ w) }
     {
         for s in 0..self.scopes.len() as ScopeId {
-            if self.scope_set(s) == w {
+            if w == self.scope_set(s) {
                 return Some(s);
             }
         }

@@ -8,17 +8,6 @@ use crate::scopes::Scope;
 use rel_table::Closed;
 use std::alloc::{AllocError, Global};
 
-impl Scope {
-    /// The variables, in vocabulary order.
-    pub(crate) fn as_slice(&self) -> &[u8]
-        requires { self.now.size ≤ 4 }
-        ensures is { result.now ≡ variables_in self.now }
-        ensures size { length result.now ≡ self.now.size }
-    {
-        &self.variables[..self.size as usize]
-    }
-}
-
 /// For each scope the number of its first candidate, and last how many candidates there are.
 pub(crate) fn first_numbers(
     alloc: Global,

@@ -1,6 +1,6 @@
 use Rattle.std.proofs.Common.{◌∙◌, sym}
 use Rattle.language.specs.Building.{are_nested}
-use Rattle.language.proofs.Pairs.{pair_found, pair_later, no_pair, found_below}
+use Rattle.language.proofs.Pairs.{pair_found, pair_later, no_pair}
 use Rattle.language.proofs.apart.first_nested.Goals as goal
 
 pub returns-in-Some-clause-is : goal.returns-in-Some-clause-is

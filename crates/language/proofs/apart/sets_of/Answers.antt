@@ -1,4 +1,3 @@
-use Rattle.std.proofs.Common.{map}
 use Rattle.std.proofs.lemmas.List.Elements.{All-get_or}
 use Rattle.assign.specs.Sets.{IsSet}
 use Rattle.language.specs.Scopes.{variables_in}

@@ -1,8 +1,8 @@
-use Rattle.std.proofs.Common.{◌≡◌, [], ◌∷◌, ◌++◌, take, map, sym, ◌∙◌, ap, subst, arith}
+use Rattle.std.proofs.Common.{◌≡◌, [], ◌∷◌, ◌++◌, sym, ◌∙◌, ap, subst}
 use Rattle.std.specs.Prelude.{All}
 use Rattle.std.proofs.lemmas.List.{map_more}
 use Rattle.std.proofs.lemmas.List.Elements.{All-push}
-use Rattle.rel_table.specs.Table.{TruthTable, IsTable}
+use Rattle.rel_table.specs.Table.{IsTable}
 use Rattle.rel_table.proofs.Inserting.{meet_itself}
 use Rattle.rel_table.proofs.Same.{same_table_value}
 use Rattle.language.specs.declared.parts.RelPart.{RelPart}

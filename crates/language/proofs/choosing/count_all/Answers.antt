@@ -1,4 +1,4 @@
-use Rattle.std.proofs.Common.{arith, ap, map, ◌≤◌, ℕ, List}
+use Rattle.std.proofs.Common.{arith, ap, map, ℕ, List}
 use Rattle.std.specs.Prelude.{slice_index_or}
 use Rattle.language.specs.Inside.{given_by}
 use Rattle.language.proofs.Pascal.{few_of}

@@ -1,4 +1,4 @@
-use Rattle.std.proofs.Common.{◌<◌, map}
+use Rattle.std.proofs.Common.{◌<◌}
 use Rattle.std.specs.Prelude.{All}
 use Rattle.std.proofs.lemmas.List.Elements.{All-get_or}
 use Rattle.language.specs.Scopes.{variables_in}

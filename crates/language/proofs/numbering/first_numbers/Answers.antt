@@ -1,5 +1,5 @@
-use Rattle.std.proofs.Common.{◌≡◌, ℕ, ◌-◌, ◌≤◌, [], length, ap, subst, arith, sym, ◌∙◌}
-use Rattle.std.specs.Prelude.{slice_index_or, All}
+use Rattle.std.proofs.Common.{◌≡◌, ℕ, ◌-◌, ◌≤◌, [], length, ap, arith, sym, ◌∙◌}
+use Rattle.std.specs.Prelude.{slice_index_or}
 use Rattle.std.proofs.lemmas.List.Elements.{All-more}
 use Rattle.language.specs.Scopes.{variables_in}
 use Rattle.language.specs.declared.scopes.Scope.{Scope}

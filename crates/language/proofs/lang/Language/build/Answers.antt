@@ -6,14 +6,13 @@ use Rattle.std.proofs.lemmas.Bool.{eqb-false}
 use Rattle.std.proofs.lemmas.List.{length-map}
 use Rattle.std.proofs.lemmas.Result.{err_from_is_err_and}
 use Rattle.language.specs.declared.parts.RelPart.{RelPart}
-use Rattle.language.specs.declared.parts.LangFault.{LangFault}
 use Rattle.rel_table.specs.Table.{IsTable}
 use Rattle.language.specs.declared.scopes.Scope.{Scope}
 use Rattle.language.specs.declared.lang.Language.TheInside.{Inside}
 use Rattle.language.specs.Built.{AreScopes, IsClosedOf}
 use Rattle.language.specs.Scopes.{variables_in}
 use Rattle.language.proofs.Wording.{least_fits}
-use Rattle.language.specs.Building.{Frame, IsFrame, build_refusal, listed_in, scopes_of, scopes_refusal}
+use Rattle.language.specs.Building.{Frame, IsFrame, listed_in, scopes_of, scopes_refusal}
 use Rattle.language.specs.Inside.{given_by, first_numbers}
 use Rattle.language.proofs.Built.{IsMadeOf, sound, built, refused_scopes, values_of, values_of-over}
 use Rattle.language.proofs.lang.Language.build.Goals as goal
