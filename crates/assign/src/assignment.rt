@@ -75,6 +75,14 @@ impl Partial {
         self.cells[v as usize] = Some(value);
     }
 
+    /// Takes a variable's value away, if it has one.
+    pub fn clear(&mut self, v: u8)
+        requires { v < length self.old }
+        ensures { self.new ≡ slice_set self.old v None }
+    {
+        self.cells[v as usize] = None;
+    }
+
     /// The variables that have a value.
     pub fn vars(&self) -> VarSet
         ensures { result ≡ variables_of self.now }
@@ -164,5 +172,7 @@ mod tests {
         assert_eq!(rt; recorded.len(), 128);
         assert!(rt; recorded.cut_to(3).equals(&asked));
         assert!(rt; !recorded.equals(&asked));
+        example.clear(1);
+        assert_eq!(rt; [example.get(0), example.get(1)], [Some(0), None]);
     }
 }

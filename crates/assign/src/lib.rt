@@ -8,7 +8,7 @@
 //! | to | a `VarSet` | a `Partial` |
 //! |---|---|---|
 //! | make one | `empty`, `all` | `blank` |
-//! | ask about one variable, or change it | `has`, `with`, `without` | `get`, `set` |
+//! | ask about one variable, or change it | `has`, `with`, `without` | `get`, `set`, `clear` |
 //! | ask about the whole | `len`, `least` | `len`, `vars`, `is_complete` |
 //! | take a part | `first_half` | `restrict` |
 //! | go by two | `union`, `minus`, `within`, `==` | `equals` |

@@ -1,0 +1,90 @@
+-- What an assignment with more values tells of a candidate.
+use Rattle.std.proofs.Common.{◌≡◌, ℕ, ◌<◌, ◌≤◌, Bool, true, false, cond, not, List, [], ◌∷◌, ◌++◌, length, Option, Some, None, refl, sym, ◌∙◌, ap, arith, inl, inr, ◌⊎◌}
+use Rattle.std.specs.Prelude.{◌==◌, slice_index_or, is_some, unwrap_or}
+use Rattle.std.proofs.Math.ListN.{get_or-eq_default}
+use Rattle.std.proofs.lemmas.List.FromFn.{get_or-map-range_with_len, length-map-range_with_len}
+use Rattle.std.proofs.lemmas.List.Sums.{list_all-from_AllPass, AllPass-from_list_all}
+use Rattle.std.proofs.lemmas.Bool.{and_parts, and_from, both_ways, not-true, not_from_false, false_from_ne_true, cases_lt}
+use Rattle.language.specs.declared.candidates.Candidate.{Candidate}
+use Rattle.assign.specs.Assignment.{Assignment, value_of, value_beside, assigned, covers, tuple_on}
+use Rattle.rel_table.specs.Relation.{holds}
+use Rattle.language.specs.Language.{Language, variable_count, scope_of, relation_of, violates, accepts}
+use Rattle.language.specs.Search.{satisfies}
+use Rattle.propagators.specs.Allowed.{satisfies_one}
+use Rattle.fd_solver.specs.Outcomes.{is_plain_in}
+use Rattle.fd_solver.proofs.Preorder.{PassesFronts}
+
+pub value_of_assigned : (n : ℕ) (vars values : List ℕ) (v : ℕ) → v < n → value_of (assigned n vars values) v ≡ value_beside vars values v
+value_of_assigned n vars values v h = get_or-map-range_with_len (value_beside vars values) 0 n v v None h (omega arith)
+
+pub accepted_at : (l : Language) (network : List Candidate) (x : Assignment) → accepts l network x ≡ true → (k : ℕ) (d : Candidate) → k < length network → violates l (slice_index_or network k d) x ≡ false
+accepted_at l network x h k d low = not-true _ (AllPass-from_list_all (λ c. not (violates l c x)) network h k d low)
+
+pub accepted_from : (l : Language) (network : List Candidate) (x : Assignment) → ((k : ℕ) (d : Candidate) → k < length network → violates l (slice_index_or network k d) x ≡ true → ⊥) → accepts l network x ≡ true
+accepted_from l network x h = list_all-from_AllPass (λ c. not (violates l c x)) network (λ k d low. not_from_false _ (false_from_ne_true _ (h k d low)))
+
+-- f has each value of e
+abbrev pub HasMore : Assignment → Assignment → Type 0
+HasMore e f = (v x : ℕ) → value_of e v ≡ Some x → value_of f v ≡ Some x
+
+beside_more : (vars p q : List ℕ) (v x : ℕ) → value_beside vars p v ≡ Some x → value_beside vars (p ++ q) v ≡ Some x
+beside_more [] p q v x h = h
+beside_more (w ∷ vars) [] q v x h = cc
+beside_more (w ∷ vars) (y ∷ p) q v x h = go (w == v) h (beside_more vars p q v x)
+  where
+    go : (b : Bool) → cond b (Some y) (value_beside vars p v) ≡ Some x → (value_beside vars p v ≡ Some x → value_beside vars (p ++ q) v ≡ Some x) → cond b (Some y) (value_beside vars (p ++ q) v) ≡ Some x
+    go true h rest = h
+    go false h rest = rest h
+
+value_above : (n : ℕ) (vars values : List ℕ) (v : ℕ) → n ≤ v → value_of (assigned n vars values) v ≡ None
+value_above n vars values v high = get_or-eq_default (assigned n vars values) None {n = v} (omega (arith, length-map-range_with_len (value_beside vars values) 0 n))
+
+pub assigned_more : (n : ℕ) (vars p q : List ℕ) → HasMore (assigned n vars p) (assigned n vars (p ++ q))
+assigned_more n vars p q v x h = go (cases_lt v n)
+  where
+    go : (v < n) ⊎ (n ≤ v) → value_of (assigned n vars (p ++ q)) v ≡ Some x
+    go (inl low) = value_of_assigned n vars (p ++ q) v low ∙ beside_more vars p q v x (sym (value_of_assigned n vars p v low) ∙ h)
+    go (inr high) = absurd (none_some (sym (value_above n vars p v high) ∙ h))
+      where
+        none_some : None ≡ Some x → ⊥
+        none_some e = cc
+
+known_one : (o : Option ℕ) → is_some o ≡ true → o ≡ Some (unwrap_or o 0)
+known_one None h = cc
+known_one (Some x) h = refl
+
+value_same : (e f : Assignment) (v : ℕ) → HasMore e f → is_some (value_of e v) ≡ true → value_of f v ≡ value_of e v
+value_same e f v more h = more v _ (known_one (value_of e v) h) ∙ sym (known_one (value_of e v) h)
+
+pub covers_more : (e f : Assignment) (scope : List ℕ) → HasMore e f → covers e scope ≡ true → (covers f scope ≡ true) × (tuple_on f scope ≡ tuple_on e scope)
+covers_more e f [] more h = (refl, refl)
+covers_more e f (v ∷ scope) more h =
+    let parts = and_parts (is_some (value_of e v)) (covers e scope) h in
+    let rest = covers_more e f scope more parts.1 in
+    let same = value_same e f v more parts.0 in
+    (and_from _ _ (ap is_some same ∙ parts.0) rest.0, λ i. unwrap_or (same i) 0 ∷ rest.1 i)
+
+pub violates_more : (l : Language) (c : Candidate) (e f : Assignment) → HasMore e f → violates l c e ≡ true → violates l c f ≡ true
+violates_more l c e f more h =
+    let parts = and_parts (covers e (scope_of l c)) _ h in
+    let both = covers_more e f (scope_of l c) more parts.0 in
+    and_from _ _ both.0 (ap (λ tuple. not (holds l.value_count (relation_of l c) tuple)) both.1 ∙ parts.1)
+
+pub satisfies_more : (l : Language) (c : Candidate) (e f : Assignment) → HasMore e f → satisfies l c e ≡ true → satisfies l c f ≡ true
+satisfies_more l c e f more h =
+    let parts = and_parts (covers e (scope_of l c)) _ h in
+    let both = covers_more e f (scope_of l c) more parts.0 in
+    and_from _ _ both.0 (ap (holds l.value_count (relation_of l c)) both.1 ∙ parts.1)
+
+pub satisfies_one_more : (l : Language) (against : Option Candidate) (e f : Assignment) → HasMore e f → satisfies_one l against e ≡ true → satisfies_one l against f ≡ true
+satisfies_one_more l None e f more h = h
+satisfies_one_more l (Some c) e f more h = satisfies_more l c e f more h
+
+-- each front of a plain prefix is plain, whatever the order
+pub plain_fronts : (l : Language) (list : List Candidate) (against : Option Candidate) (order : List ℕ) → PassesFronts l.value_count (is_plain_in l list against order)
+plain_fronts l list against order = λ p q small h.
+    let more = assigned_more (variable_count l) order p q in
+    let parts = and_parts (accepts l list (assigned (variable_count l) order (p ++ q))) _ h in
+    and_from _ _
+    (accepted_from l list (assigned (variable_count l) order p) (λ k d low bad. both_ways _ (accepted_at l list _ parts.0 k d low) (violates_more l _ _ _ more bad)))
+    (not_from_false _ (false_from_ne_true _ (λ bad. both_ways _ (not-true _ parts.1) (satisfies_one_more l against _ _ more bad))))

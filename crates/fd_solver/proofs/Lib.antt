@@ -1,0 +1,11 @@
+pub mod Lists
+pub mod Preorder
+pub mod Turning
+pub mod Fronts
+pub mod Filling
+pub mod Orders
+pub mod Positions
+pub mod Chains
+pub mod Walking
+pub mod Outcomes
+pub mod Testing

@@ -1,0 +1,199 @@
+-- The order of a candidate has each variable once, and a prefix of all its values gives a whole assignment.
+use Rattle.std.proofs.Common.{◌≡◌, ℕ, zero, suc, ◌+◌, ◌<◌, ◌≤◌, Bool, true, false, cond, ◌||◌, ◌&&◌, not, List, [], ◌∷◌, ◌++◌, length, map, Option, Some, None, refl, sym, ◌∙◌, ap, subst, arith, inl, inr, ◌⊎◌, length-append}
+use Rattle.std.specs.Prelude.{◌==◌, ◌≢◌, All, AllPairs, slice_index_or, is_some, unwrap_or}
+use Rattle.std.specs.List.{list_any, filter, range_with_len}
+use Rattle.std.specs.List.Sorted.{IsStrictlyIncreasing}
+use Rattle.std.proofs.lemmas.List.Elements.{All-head, All-tail, All-nil, All-append, All-filter, All-push, filter_passes}
+use Rattle.std.proofs.lemmas.List.FromFn.{fill_by_all}
+use Rattle.std.proofs.lemmas.List.Kept.{AllPairs-cons, AllPairs-filter, AllPairs-from_increasing}
+use Rattle.std.proofs.lemmas.List.Sums.{list_all-from_AllPass, AllPass-from_list_all}
+use Rattle.std.proofs.lemmas.List.Folds.{list_any-append, list_any_at}
+use Rattle.std.proofs.lemmas.Bool.{cases_eq, and_from, or_left, or_cases, both_ways, not-true, not_from_false, true_from_ne_false, eq-eqb, ne_eqb, eqb-true}
+use Rattle.std.specs.List.{IsDistinct}
+use Rattle.std.proofs.lemmas.Map.Keys.{IsDistinct-from_apart, IsDistinct-push}
+use Rattle.std.proofs.lemmas.Map.Steps.{length-le_from_distinct_below}
+use Rattle.std.proofs.lemmas.Cmp.{nat_eq_equiv}
+use Rattle.std.proofs.Common.{eqb}
+use Rattle.assign.specs.Sets.{numbers, has, Rises}
+use Rattle.assign.specs.Assignment.{Assignment, value_of, value_beside, covers, tuple_on, is_complete}
+use Rattle.assign.specs.SetLemmas.{filter_agree_from}
+use Rattle.language.specs.declared.candidates.Candidate.{Candidate}
+use Rattle.language.specs.Language.{Language, IsLanguage, IsCandidate, variable_count, scope_of}
+use Rattle.language.specs.Search.{order_of, assignment_of}
+use Rattle.language.proofs.Members.{any-filter, any_number}
+use Rattle.fd_solver.specs.Outcomes.{IsOrder}
+use Rattle.fd_solver.specs.Laws.{OrdersAreKnown}
+use Rattle.fd_solver.proofs.Lists.{all_numbers, all_below}
+
+-- ---- scopes as rising lists
+
+pairs_rise : (x : ℕ) (xs : List ℕ) → AllPairs (λ a b. a < b) (x ∷ xs) → AllPairs (λ a b. a < b) xs
+pairs_rise x xs p = λ i j d h k. p (suc i) (suc j) d (omega arith) (omega arith)
+
+rises_from : (n a : ℕ) (xs : List ℕ) → n ≤ 128 → AllPairs (λ a b. a < b) xs → All (λ v. v < n) xs → (0 < length xs → a ≤ slice_index_or xs 0 0) → Rises a xs
+rises_from n a [] h p small low = tt
+rises_from n a (x ∷ xs) h p small low = (
+  low (omega arith),
+  (let first = All-head (λ v. v < n) x xs small in omega arith),
+  rises_from n (x + 1) xs h (pairs_rise x xs p) (All-tail (λ v. v < n) x xs small) (λ some. (let next = p 0 1 0 (omega arith) (omega arith) in omega arith)),
+)
+
+pub scope_rises : (n : ℕ) (scope : List ℕ) → n ≤ 128 → IsStrictlyIncreasing scope → All (λ v. v < n) scope → Rises 0 scope
+scope_rises n scope h rising small = rises_from n 0 scope h (AllPairs-from_increasing scope rising) small (λ some. omega arith)
+
+rises_lower : (a b : ℕ) (xs : List ℕ) → a ≤ b → Rises b xs → Rises a xs
+rises_lower a b [] h r = tt
+rises_lower a b (x ∷ xs) h r = (let low = r.0 in omega arith, r.1, r.2)
+
+lacks : (a v : ℕ) (xs : List ℕ) → v < a → Rises a xs → has xs v ≡ false
+lacks a v [] h r = refl
+lacks a v (x ∷ xs) h r = let low = r.0 in λ i. ne_eqb x v (λ e. omega arith) i || lacks (x + 1) v xs (omega arith) r.2 i
+
+-- a rising list is what it has among the numbers
+canonical_below : (a n : ℕ) (xs : List ℕ) → Rises a xs → All (λ v. v < a + n) xs → filter (has xs) (range_with_len a n) ≡ xs
+canonical_below a zero [] r small = refl
+canonical_below a zero (x ∷ xs) r small = absurd (let low = r.0 in let first = All-head (λ v. v < a + 0) x xs small in omega arith)
+canonical_below a (suc n) [] r small = canonical_below (a + 1) n [] tt (All-nil (λ v. v < a + 1 + n))
+canonical_below a (suc n) (x ∷ xs) r small = go (cases_eq x a)
+    (canonical_below (a + 1) n xs) (canonical_below (a + 1) n (x ∷ xs))
+  where
+    move : (ys : List ℕ) → All (λ v. v < a + suc n) ys → All (λ v. v < a + 1 + n) ys
+    move ys h = λ k d low. (let at = h k d low in omega arith)
+
+    go : ((x ≡ a) ⊎ (x ≢ a)) → (Rises (a + 1) xs → All (λ v. v < a + 1 + n) xs → filter (has xs) (range_with_len (a + 1) n) ≡ xs) →
+        (Rises (a + 1) (x ∷ xs) → All (λ v. v < a + 1 + n) (x ∷ xs) → filter (has (x ∷ xs)) (range_with_len (a + 1) n) ≡ x ∷ xs) → filter (has (x ∷ xs)) (range_with_len a (suc n)) ≡ x ∷ xs
+    go (inl same) without here =
+        rw (or_left (x == a) (has xs a) (eq-eqb x a same))
+        (λ i. sym same i ∷ (filter_agree_from (has (x ∷ xs)) (has xs) (a + 1) n (λ v low high. ap (λ b. b || has xs v) (ne_eqb x v (λ e. omega arith)))
+        ∙ without (rises_lower (a + 1) (x + 1) xs (omega arith) r.2) (move xs (All-tail (λ v. v < a + suc n) x xs small))) i)
+    go (inr other) without here =
+        let low = r.0 in
+        let from : a + 1 ≤ x = omega arith in
+        rw (lacks (a + 1) a (x ∷ xs) (omega arith) (from, r.1, r.2)) (here (from, r.1, r.2) (move (x ∷ xs) small))
+
+length-parted : (p : ℕ → Bool) (xs : List ℕ) → length (filter p xs) + length (filter (λ x. not (p x)) xs) ≡ length xs
+length-parted p [] = refl
+length-parted p (x ∷ xs) = go (p x) (length-parted p xs)
+  where
+    go : (b : Bool) → length (filter p xs) + length (filter (λ x. not (p x)) xs) ≡ length xs →
+        length (cond b (x ∷ filter p xs) (filter p xs)) + length (cond (not b) (x ∷ filter (λ x. not (p x)) xs) (filter (λ x. not (p x)) xs)) ≡ suc (length xs)
+    go true rest = omega arith
+    go false rest = omega arith
+
+pub length-range : (a n : ℕ) → length (range_with_len a n) ≡ n
+length-range a zero = refl
+length-range a (suc n) = ap suc (length-range (a + 1) n)
+
+-- what a list of variables beside their values gives
+beside_has : (f : ℕ → ℕ) (vars : List ℕ) (v : ℕ) → has vars v ≡ true → value_beside vars (map f vars) v ≡ Some (f v)
+beside_has f [] v h = cc
+beside_has f (w ∷ vars) v h = go (w == v) refl (beside_has f vars v)
+  where
+    go : (b : Bool) → (w == v) ≡ b → (has vars v ≡ true → value_beside vars (map f vars) v ≡ Some (f v)) → value_beside (w ∷ vars) (f w ∷ map f vars) v ≡ Some (f v)
+    go true e rest = ap (λ b. cond b (Some (f w)) (value_beside vars (map f vars) v)) e ∙ (let same : w ≡ v = eq_of w v e in ap (λ x. Some (f x)) same)
+      where
+        eq_of : (a b : ℕ) → (a == b) ≡ true → a ≡ b
+        eq_of a b h = omega (arith, eqb-true a b h)
+    go false e rest = ap (λ b. cond b (Some (f w)) (value_beside vars (map f vars) v)) e ∙ rest (sym (ap (λ b. b || has vars v) e) ∙ h)
+
+pub known_value : (e : Assignment) (v : ℕ) → is_complete e ≡ true → v < length e → is_some (value_of e v) ≡ true
+known_value e v complete low = AllPass-from_list_all is_some e complete v None low
+
+some_value : (o : Option ℕ) → is_some o ≡ true → Some (unwrap_or o 0) ≡ o
+some_value None h = cc
+some_value (Some x) h = refl
+
+pub covers_all : (e : Assignment) (vars : List ℕ) → is_complete e ≡ true → All (λ v. v < length e) vars → covers e vars ≡ true
+covers_all e vars complete small = list_all-from_AllPass (λ v. is_some (value_of e v)) vars (λ k d low. known_value e _ complete (small k d low))
+
+module _ (l : Language) (c : Candidate) (small : All (λ v. v < variable_count l) (scope_of l c)) where
+  pub order_small : All (λ v. v < variable_count l) (order_of l c)
+  order_small = All-append (λ v. v < variable_count l) (scope_of l c) _ small
+      (All-filter (λ v. not (has (scope_of l c) v)) (λ v. v < variable_count l) (numbers (variable_count l)) (all_below (λ v. v < variable_count l) (variable_count l) (λ v low. low)))
+
+  pub order_has : (v : ℕ) → v < variable_count l → has (order_of l c) v ≡ true
+  order_has v low = list_any-append (λ x. x == v) (scope_of l c) _ ∙ go (has (scope_of l c) v) refl
+    where
+      go : (b : Bool) → has (scope_of l c) v ≡ b → (b || list_any (λ x. x == v) (filter (λ v. not (has (scope_of l c) v)) (numbers (variable_count l)))) ≡ true
+      go true e = refl
+      go false e = any-filter (λ x. x == v) (λ v. not (has (scope_of l c) v)) (numbers (variable_count l))
+          ∙ any_number (λ x. not (has (scope_of l c) x) && (x == v)) (variable_count l) v low (and_from _ _ (not_from_false _ e) (eq-eqb v v refl))
+
+  pub length-order : Rises 0 (scope_of l c) → length (order_of l c) ≡ variable_count l
+  length-order rises =
+      let first : length (filter (has (scope_of l c)) (numbers (variable_count l))) ≡ length (scope_of l c) =
+      ap length (canonical_below 0 (variable_count l) (scope_of l c) rises (λ k d low. (let at = small k d low in omega arith))) in
+      omega (arith, length-append (scope_of l c) (filter (λ v. not (has (scope_of l c) v)) (numbers (variable_count l))), length-parted (has (scope_of l c)) (numbers (variable_count l)), length-range 0 (variable_count l))
+
+  -- the prefix of all values of a complete assignment gives that assignment
+  pub whole_prefix : (e : Assignment) → length e ≡ variable_count l → is_complete e ≡ true → assignment_of l c (tuple_on e (order_of l c)) ≡ e
+  whole_prefix e long complete = sym (fill_by_all (value_beside (order_of l c) (tuple_on e (order_of l c))) e (variable_count l) None long (λ v low.
+      sym (beside_has (λ v. unwrap_or (value_of e v) 0) (order_of l c) v (order_has v low) ∙ some_value (value_of e v) (known_value e v complete (omega arith)))))
+
+-- ---- the order
+
+pub rises_there : (l : Language) → IsLanguage l → (c : Candidate) → IsCandidate l c → Rises 0 (scope_of l c)
+rises_there l is c candidate = (let scope = is.scopes c.scope [] candidate.scope in scope_rises (variable_count l) (scope_of l c) is.few_variables scope.rising scope.known)
+
+abbrev Differ : ℕ → ℕ → Type 0
+Differ v w = (v ≡ w) → ⊥
+
+pairs_tail : (x : ℕ) (xs : List ℕ) → AllPairs Differ (x ∷ xs) → AllPairs Differ xs
+pairs_tail x xs h = λ i j d low k. h (suc i) (suc j) d (omega arith) (omega arith)
+
+heads_differ : (x : ℕ) (xs : List ℕ) → AllPairs Differ (x ∷ xs) → All (Differ x) xs
+heads_differ x xs h = λ k d low. h 0 (suc k) d (omega arith) (omega arith)
+
+pairs_append : (xs ys : List ℕ) → AllPairs Differ xs → AllPairs Differ ys → All (λ x. All (Differ x) ys) xs → AllPairs Differ (xs ++ ys)
+pairs_append [] ys h k cross = k
+pairs_append (x ∷ xs) ys h k cross = AllPairs-cons Differ x (xs ++ ys)
+    (All-append (Differ x) xs ys (heads_differ x xs h) (All-head (λ x. All (Differ x) ys) x xs cross))
+    (pairs_append xs ys (pairs_tail x xs h) k (All-tail (λ x. All (Differ x) ys) x xs cross))
+
+pairs_range : (a n : ℕ) → AllPairs Differ (range_with_len a n)
+pairs_range a zero = λ i j d low k. absurd (omega arith)
+pairs_range a (suc n) = AllPairs-cons Differ a (range_with_len (a + 1) n) (all_numbers (Differ a) (a + 1) n (λ v low high e. omega arith)) (pairs_range (a + 1) n)
+
+pub orders_are_known : OrdersAreKnown
+orders_are_known l c is candidate = record {
+  size = length-order l c (is.scopes c.scope [] candidate.scope).known (rises_there l is c candidate);
+  known = order_small l c (is.scopes c.scope [] candidate.scope).known;
+  different = pairs_append (scope_of l c) (filter (λ v. not (has (scope_of l c) v)) (numbers (variable_count l)))
+      (λ i j d low k e. (let rising = AllPairs-from_increasing (scope_of l c) (is.scopes c.scope [] candidate.scope).rising i j d low k in omega arith))
+      (AllPairs-filter Differ (λ v. not (has (scope_of l c) v)) (numbers (variable_count l)) (pairs_range 0 (variable_count l)))
+      (λ k d low j e high same. both_ways _ (not-true _ (filter_passes (λ v. not (has (scope_of l c) v)) (numbers (variable_count l)) j e high))
+      (list_any_at (λ x. x == slice_index_or (filter (λ v. not (has (scope_of l c) v)) (numbers (variable_count l))) j e) (scope_of l c) k d low (eq-eqb _ _ same)));
+}
+
+-- ---- each variable stands in an order
+
+pub differ_tail : (x : ℕ) (xs : List ℕ) → AllPairs (λ v w. v ≢ w) (x ∷ xs) → AllPairs (λ v w. v ≢ w) xs
+differ_tail x xs h = λ i j d low k. h (suc i) (suc j) d (omega arith) (omega arith)
+
+below_where : (n : ℕ) (xs : List ℕ) (q : ℕ) → All (λ v. v < n) xs → list_any (eqb q) xs ≡ true → q < n
+below_where n [] q all h = absurd (both_ways _ refl h)
+below_where n (x ∷ xs) q all h = go (or_cases (eqb q x) (list_any (eqb q) xs) h) (below_where n xs q (All-tail (λ v. v < n) x xs all))
+  where
+    go : (eqb q x ≡ true) ⊎ (list_any (eqb q) xs ≡ true) → (list_any (eqb q) xs ≡ true → q < n) → q < n
+    go (inl here) rest = subst (λ v. v < n) (sym (eqb-true q x here)) (All-head (λ v. v < n) x xs all)
+    go (inr there) rest = rest there
+
+flipped : (v : ℕ) (xs : List ℕ) → has xs v ≡ list_any (eqb v) xs
+flipped v [] = refl
+flipped v (x ∷ xs) = λ i. turned x v i || flipped v xs i
+  where
+    turned : (a b : ℕ) → (a == b) ≡ (b == a)
+    turned a b = go (cases_eq a b)
+      where
+        go : (a ≡ b) ⊎ (a ≢ b) → (a == b) ≡ (b == a)
+        go (inl same) = eq-eqb a b same ∙ sym (eq-eqb b a (sym same))
+        go (inr other) = ne_eqb a b other ∙ sym (ne_eqb b a (λ e. other (sym e)))
+
+-- n different numbers below n are all of them
+pub order_has_each : (n : ℕ) (order : List ℕ) → IsOrder n order → (v : ℕ) → v < n → has order v ≡ true
+order_has_each n order is v low = true_from_ne_false _ (λ missing.
+    let apart : IsDistinct eqb order = IsDistinct-from_apart eqb order (λ i j d before fits. ne_eqb _ _ (is.different i j d before fits)) in
+    let more : IsDistinct eqb (order ++ v ∷ []) = IsDistinct-push nat_eq_equiv order v apart (sym (flipped v order) ∙ missing) in
+    let few : length (order ++ v ∷ []) ≤ n = length-le_from_distinct_below (order ++ v ∷ []) n more
+    (λ q h. below_where n (order ++ v ∷ []) q (All-push (λ w. w < n) order v is.known low) h) in
+    omega (arith, few, is.size, length-append order (v ∷ [])))

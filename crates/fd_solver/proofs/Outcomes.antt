@@ -1,0 +1,189 @@
+-- What outcomes say of a network and a candidate.
+use Rattle.std.proofs.Common.{◌≡◌, ℕ, zero, suc, ◌<◌, ◌≤◌, Bool, true, false, cond, ◌&&◌, ◌||◌, not, List, [], ◌∷◌, ◌++◌, length, map, take, Option, Some, None, refl, sym, ◌∙◌, ap, subst, arith}
+use Rattle.std.specs.Prelude.{◌==◌, All, is_some, unwrap_or, find, nat_le}
+use Rattle.std.specs.Option.{ForSome}
+use Rattle.std.specs.List.{list_any, filter}
+use Rattle.std.proofs.lemmas.List.{take_all}
+use Rattle.std.proofs.lemmas.List.Elements.{All-head, All-tail, All-nil, All-cons, All-map, All-filter, All-take, filter_passes}
+use Rattle.std.proofs.lemmas.List.FromFn.{length-map-range_with_len}
+use Rattle.std.proofs.lemmas.List.Sums.{list_all-from_AllPass}
+use Rattle.std.proofs.lemmas.Bool.{and_parts, and_from, or_left, or_right, both_ways, eq-eqb, eqb-true, leb-true, leb-false, le-leb, false_from_ne_true}
+use Rattle.assign.specs.Sets.{numbers}
+use Rattle.assign.specs.Assignment.{Assignment, value_of, value_beside, covers, tuple_on, is_complete}
+use Rattle.rel_table.specs.Relation.{holds}
+use Rattle.language.specs.declared.candidates.Candidate.{Candidate}
+use Rattle.language.specs.Language.{Language, IsLanguage, IsCandidate, IsImplied, IsQuestion, variable_count, scope_of, relation_of, violates, accepts}
+use Rattle.language.specs.Search.{order_of, prefixes, assignment_of, satisfies, is_plain, plain_walk}
+use Rattle.language.proofs.Members.{any-filter, any-map, any-flat_map, any_number, find_none, find_some}
+use Rattle.fd_solver.specs.declared.outcome.Outcome.TheVariants.{Found, Absent, Spent}
+use Rattle.fd_solver.specs.Outcomes.{outcome_from, outcome_by, outcome_of_candidate}
+use Rattle.fd_solver.specs.Laws.{AbsentIsImplied, SpentIsLong, PlainIsLess, IsQuestionAgainst, FoundIsLawful, AbsentStays}
+use Rattle.fd_solver.proofs.Lists.{find_all, find_nothing, any_weaker, fewer_pass, front_of, all_below}
+use Rattle.fd_solver.proofs.Preorder.{prefixes_small}
+use Rattle.fd_solver.proofs.Filling.{assigned_fits}
+use Rattle.fd_solver.proofs.Orders.{order_small, order_has, length-order, whole_prefix, covers_all, rises_there}
+
+-- ---- outcomes by their members
+
+found_was : (assign : List ℕ → Assignment) (o : Option (List ℕ)) (b : Bool) (e : Assignment) → outcome_from assign o b ≡ Found e → (p : List ℕ) × (o ≡ Some p) × (assign p ≡ e)
+found_was assign (Some p) b e h = (p, refl, (let same : assign p ≡ e = cc in same))
+found_was assign None true e h = absurd (let no : ⊥ = cc in no)
+found_was assign None false e h = absurd (let no : ⊥ = cc in no)
+
+spent_long : (n : ℕ) (assign : List ℕ → Assignment) (members : List (List ℕ)) (budget : ℕ) → outcome_by n assign members budget ≡ Spent → budget < length members
+spent_long n assign members budget h = go (find (λ p. length p == n) (take budget members)) (nat_le (length members) budget) refl h
+  where
+    go : (o : Option (List ℕ)) (b : Bool) → nat_le (length members) budget ≡ b → outcome_from assign o b ≡ Spent → budget < length members
+    go (Some p) b e h = cc
+    go None true e h = cc
+    go None false e h = leb-false (length members) budget e
+
+absent_parts : (n : ℕ) (assign : List ℕ → Assignment) (members : List (List ℕ)) (budget : ℕ) → outcome_by n assign members budget ≡ Absent → (list_any (λ p. length p == n) members ≡ false) × (length members ≤ budget)
+absent_parts n assign members budget h = go (find (λ p. length p == n) (take budget members)) (nat_le (length members) budget) refl refl h
+  where
+    go : (o : Option (List ℕ)) (b : Bool) → find (λ p. length p == n) (take budget members) ≡ o → nat_le (length members) budget ≡ b → outcome_from assign o b ≡ Absent →
+        (list_any (λ p. length p == n) members ≡ false) × (length members ≤ budget)
+    go (Some p) b e f h = absurd (let no : ⊥ = cc in no)
+    go None false e f h = absurd (let no : ⊥ = cc in no)
+    go None true e f h =
+        let short : length members ≤ budget = leb-true (length members) budget f in
+        (sym (ap (list_any (λ p. length p == n)) (take_all budget members short)) ∙ find_none (λ p. length p == n) (take budget members) e, short)
+
+absent_from : (n : ℕ) (assign : List ℕ → Assignment) (members : List (List ℕ)) (budget : ℕ) → list_any (λ p. length p == n) members ≡ false → length members ≤ budget → outcome_by n assign members budget ≡ Absent
+absent_from n assign members budget none short =
+    (λ i. outcome_from assign ((ap (find (λ p. length p == n)) (take_all budget members short) ∙ find_nothing (λ p. length p == n) members none) i) (le-leb (length members) budget short i))
+
+-- where fewer prefixes pass, nothing stays nothing
+absent_fewer : (n : ℕ) (assign : List ℕ → Assignment) (budget : ℕ) (p q : List ℕ → Bool) (prefixes : List (List ℕ)) → ((x : List ℕ) → q x ≡ true → p x ≡ true) →
+    outcome_by n assign (filter p prefixes) budget ≡ Absent → outcome_by n assign (filter q prefixes) budget ≡ Absent
+absent_fewer n assign budget p q prefixes fewer absent =
+    let parts = absent_parts n assign (filter p prefixes) budget absent in
+    absent_from n assign (filter q prefixes) budget
+    (false_from_ne_true _ (λ some. both_ways _ parts.0 (any-filter (λ x. length x == n) p prefixes
+    ∙ any_weaker (λ x. q x && (length x == n)) (λ x. p x && (length x == n)) prefixes
+    (λ x h. (let both = and_parts (q x) (length x == n) h in and_from _ _ (fewer x both.0) both.1))
+    (sym (any-filter (λ x. length x == n) q prefixes) ∙ some))))
+    (let less = fewer_pass q p prefixes fewer in let short = parts.1 in omega arith)
+
+-- a longer network lets fewer prefixes pass
+longer_is_stricter : (l : Language) (network more : List Candidate) (c : Candidate) (p : List ℕ) → is_plain l (network ++ more) c p ≡ true → is_plain l network c p ≡ true
+longer_is_stricter l network more c p h =
+    let both = and_parts (accepts l (network ++ more) (assignment_of l c p)) _ h in
+    and_from _ _ (front_of (λ b. not (violates l b (assignment_of l c p))) network more both.0) both.1
+
+-- ---- the prefixes have each list of values
+
+any_prefix : (p : List ℕ → Bool) (d k : ℕ) (values : List ℕ) → length values ≤ k → All (λ x. x < d) values → p values ≡ true → list_any p (prefixes d k) ≡ true
+any_prefix p d zero [] short small at = or_left (p []) false at
+any_prefix p d zero (x ∷ values) short small at = absurd (omega arith)
+any_prefix p d (suc k) [] short small at = or_left (p []) _ at
+any_prefix p d (suc k) (x ∷ values) short small at = or_right (p []) _
+    (any-flat_map p (λ (y : ℕ). map (λ rest. y ∷ rest) (prefixes d k)) (numbers d)
+    ∙ any_number (λ y. list_any p (map (λ rest. y ∷ rest) (prefixes d k))) d x (All-head (λ y. y < d) x values small)
+    (any-map p (λ rest. x ∷ rest) (prefixes d k) ∙ any_prefix (λ rest. p (x ∷ rest)) d k values (omega arith) (All-tail (λ y. y < d) x values small) at))
+
+tuple_fits : (d : ℕ) (e : Assignment) (scope : List ℕ) → All (λ o. ForSome o (λ x. x < d)) e → covers e scope ≡ true → All (λ x. x < d) (tuple_on e scope)
+tuple_fits d e [] fits h = All-nil (λ x. x < d)
+tuple_fits d e (v ∷ scope) fits h =
+    let parts = and_parts (is_some (value_of e v)) (covers e scope) h in
+    All-cons (λ x. x < d) (unwrap_or (value_of e v) 0) (tuple_on e scope) (at e v fits parts.0) (tuple_fits d e scope fits parts.1)
+  where
+    at : (e : Assignment) (v : ℕ) → All (λ o. ForSome o (λ x. x < d)) e → is_some (value_of e v) ≡ true → unwrap_or (value_of e v) 0 < d
+    at [] v fits h = cc
+    at (None ∷ e) zero fits h = cc
+    at (Some x ∷ e) zero fits h = All-head (λ o. ForSome o (λ x. x < d)) (Some x) e fits x refl
+    at (o ∷ e) (suc v) fits h = at e v (All-tail (λ o. ForSome o (λ x. x < d)) o e fits) h
+
+length-tuple_on : (e : Assignment) (scope : List ℕ) → length (tuple_on e scope) ≡ length scope
+length-tuple_on e [] = refl
+length-tuple_on e (v ∷ scope) = ap suc (length-tuple_on e scope)
+
+-- what a list of variables gives, where there is a value for each
+beside_some : (vars values : List ℕ) (v : ℕ) → length values ≡ length vars → is_some (value_beside vars values v) ≡ list_any (λ x. x == v) vars
+beside_some [] values v e = refl
+beside_some (w ∷ vars) [] v e = absurd (omega arith)
+beside_some (w ∷ vars) (x ∷ values) v e = go (w == v) (beside_some vars values v (omega arith))
+  where
+    go : (b : Bool) → is_some (value_beside vars values v) ≡ list_any (λ x. x == v) vars → is_some (cond b (Some x) (value_beside vars values v)) ≡ (b || list_any (λ x. x == v) vars)
+    go true rest = refl
+    go false rest = rest
+
+-- ---- a candidate of the language
+
+module _ (l : Language) (lawful : IsLanguage l) (network : List Candidate) (c : Candidate) (is : IsCandidate l c) where
+  small : All (λ v. v < variable_count l) (scope_of l c)
+  small = (lawful.scopes c.scope [] is.scope).known
+
+  long_order : length (order_of l c) ≡ variable_count l
+  long_order = length-order l c small (rises_there l lawful c is)
+
+  lets_plain : (e : Assignment) → IsQuestion l e → is_complete e ≡ true → accepts l network e ≡ true → violates l c e ≡ true → is_plain l network c (tuple_on e (order_of l c)) ≡ true
+  lets_plain e question complete accepted bad =
+      subst (λ (x : Assignment). (accepts l network x && not (satisfies l c x)) ≡ true) (sym (whole_prefix l c small e question.size complete))
+      (and_from _ _ accepted (unsatisfied (covers e (scope_of l c)) (holds l.value_count (relation_of l c) (tuple_on e (scope_of l c))) bad))
+    where
+      unsatisfied : (g b : Bool) → (g && not b) ≡ true → not (g && b) ≡ true
+      unsatisfied true true h = h
+      unsatisfied true false h = refl
+      unsatisfied false b h = refl
+
+  implied_where_absent : (budget : ℕ) → outcome_of_candidate l network c budget ≡ Absent → IsImplied l network c
+  implied_where_absent budget absent = λ e question complete accepted. false_from_ne_true _ (λ bad.
+      let values : List ℕ = tuple_on e (order_of l c) in
+      let long : length values ≡ variable_count l = length-tuple_on e (order_of l c) ∙ long_order in
+      both_ways _ (absent_parts (variable_count l) (assignment_of l c) (plain_walk l network c) budget absent).0
+      (any-filter (λ p. length p == variable_count l) (is_plain l network c) (prefixes l.value_count (variable_count l))
+      ∙ any_prefix (λ p. is_plain l network c p && (length p == variable_count l)) l.value_count (variable_count l) values (omega arith)
+      (tuple_fits l.value_count e (order_of l c) question.values_fit
+      (covers_all e (order_of l c) complete (λ k d low. (let at = order_small l c small k d low in let size = question.size in omega arith))))
+      (and_from _ _ (lets_plain e question complete accepted bad) (eq-eqb _ _ long))))
+
+  complete_there : (p : List ℕ) → length p ≡ variable_count l → is_complete (assignment_of l c p) ≡ true
+  complete_there p long = list_all-from_AllPass is_some (assignment_of l c p) (All-map (λ o. is_some o ≡ true) (value_beside (order_of l c) p) (numbers (variable_count l))
+      (all_below (λ v. is_some (value_beside (order_of l c) p v) ≡ true) (variable_count l) (λ v low.
+      beside_some (order_of l c) p v (long ∙ sym long_order) ∙ order_has l c small v low)))
+
+  violated_there : (e : Assignment) → length e ≡ variable_count l → is_complete e ≡ true → not (satisfies l c e) ≡ true → violates l c e ≡ true
+  violated_there e long complete h = go (covers e (scope_of l c)) (holds l.value_count (relation_of l c) (tuple_on e (scope_of l c))) h
+      (covers_all e (scope_of l c) complete (λ k d low. (let at = small k d low in omega arith)))
+    where
+      go : (g b : Bool) → not (g && b) ≡ true → g ≡ true → (g && not b) ≡ true
+      go true true h k = h
+      go true false h k = refl
+      go false b h k = cc
+
+  question_where_found : (budget : ℕ) (e : Assignment) → outcome_of_candidate l network c budget ≡ Found e → IsQuestionAgainst l network c e
+  question_where_found budget e h =
+      let walk : List (List ℕ) = plain_walk l network c in
+      let was = found_was (assignment_of l c) (find (λ p. length p == variable_count l) (take budget (plain_walk l network c))) (nat_le (length (plain_walk l network c)) budget) e h in
+      let long : length was.0 ≡ variable_count l = eqb-true _ _ (find_some (λ p. length p == variable_count l) (take budget (plain_walk l network c)) was.0 was.1) in
+      let passes : is_plain l network c was.0 ≡ true = find_all (λ p. is_plain l network c p ≡ true) (λ p. length p == variable_count l) (take budget (plain_walk l network c)) was.0
+      (All-take (λ p. is_plain l network c p ≡ true) budget (plain_walk l network c) (filter_passes (is_plain l network c) (prefixes l.value_count (variable_count l)))) was.1 in
+      let fits = find_all (All (λ x. x < l.value_count)) (λ p. length p == variable_count l) (take budget (plain_walk l network c)) was.0
+      (All-take (All (λ x. x < l.value_count)) budget (plain_walk l network c) (All-filter (is_plain l network c) (All (λ x. x < l.value_count)) (prefixes l.value_count (variable_count l)) (prefixes_small l.value_count (variable_count l)))) was.1 in
+      let parts = and_parts (accepts l network (assignment_of l c was.0)) (not (satisfies l c (assignment_of l c was.0))) passes in
+      let complete = complete_there was.0 long in
+      subst (IsQuestionAgainst l network c) was.2 (record {
+        question = assigned_fits l.value_count (variable_count l) (order_of l c) was.0 fits;
+        complete = complete;
+        accepted = parts.0;
+        violates = violated_there (assignment_of l c was.0) (length-map-range_with_len (value_beside (order_of l c) was.0) 0 (variable_count l)) complete parts.1;
+      })
+
+-- ---- the laws
+
+pub absent_is_implied : AbsentIsImplied
+absent_is_implied l network c budget lawful is absent = implied_where_absent l lawful network c is budget absent
+
+pub spent_is_long : SpentIsLong
+spent_is_long l network c budget spent = spent_long (variable_count l) (assignment_of l c) (plain_walk l network c) budget spent
+
+pub plain_is_less : PlainIsLess
+plain_is_less l network more c = fewer_pass (is_plain l (network ++ more) c) (is_plain l network c) (prefixes l.value_count (variable_count l)) (longer_is_stricter l network more c)
+
+pub found_is_lawful : FoundIsLawful
+found_is_lawful l network c budget e lawful is found = question_where_found l lawful network c is budget e found
+
+pub absent_stays : AbsentStays
+absent_stays l network more c budget absent = absent_fewer (variable_count l) (assignment_of l c) budget (is_plain l network c) (is_plain l (network ++ more) c) (prefixes l.value_count (variable_count l))
+    (longer_is_stricter l network more c) absent

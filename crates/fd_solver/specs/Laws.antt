@@ -1,0 +1,47 @@
+-- Laws of outcomes.
+use Rattle.std.specs.Prelude.{ℕ, ◌<◌, ◌≤◌, ◌≡◌, IsTrue, List, ◌++◌}
+use Rattle.assign.specs.Assignment.{Assignment, is_complete}
+use Rattle.language.specs.declared.candidates.Candidate.{Candidate}
+use Rattle.language.specs.Language.{Language, IsLanguage, IsCandidate, IsQuestion, IsImplied, variable_count, accepts, violates}
+use Rattle.language.specs.Search.{order_of, plain_size}
+use Rattle.fd_solver.specs.declared.outcome.Outcome.TheVariants.{Found, Absent, Spent}
+use Rattle.fd_solver.specs.Outcomes.{IsOrder, outcome_of_candidate}
+
+-- A candidate's scope and then the other variables have each variable once.
+abbrev pub OrdersAreKnown : Type 0
+OrdersAreKnown = (l : Language) (c : Candidate) → IsLanguage l → IsCandidate l c → IsOrder (variable_count l) (order_of l c)
+
+-- A candidate for which a search ends with nothing is implied.
+abbrev pub AbsentIsImplied : Type 0
+AbsentIsImplied =
+    (l : Language) (network : List Candidate) (c : Candidate) (budget : ℕ) →
+    IsLanguage l → IsCandidate l c → outcome_of_candidate l network c budget ≡ Absent → IsImplied l network c
+
+-- Where a search is spent, there are more plain prefixes than its budget.
+abbrev pub SpentIsLong : Type 0
+SpentIsLong =
+    (l : Language) (network : List Candidate) (c : Candidate) (budget : ℕ) →
+    outcome_of_candidate l network c budget ≡ Spent → budget < plain_size l network c
+
+-- A longer network has no more plain prefixes.
+abbrev pub PlainIsLess : Type 0
+PlainIsLess = (l : Language) (network more : List Candidate) (c : Candidate) → plain_size l (network ++ more) c ≤ plain_size l network c
+
+-- a complete question that the network accepts and that violates the candidate
+pub record IsQuestionAgainst (l : Language) (network : List Candidate) (c : Candidate) (e : Assignment) : Type 0 where
+  pub question : IsQuestion l e
+  pub complete : IsTrue (is_complete e)
+  pub accepted : IsTrue (accepts l network e)
+  pub violates : IsTrue (violates l c e)
+
+-- What a search finds is one.
+abbrev pub FoundIsLawful : Type 0
+FoundIsLawful =
+    (l : Language) (network : List Candidate) (c : Candidate) (budget : ℕ) (e : Assignment) →
+    IsLanguage l → IsCandidate l c → outcome_of_candidate l network c budget ≡ Found e → IsQuestionAgainst l network c e
+
+-- A search that ends with nothing does so too when the network has grown, under the same budget.
+abbrev pub AbsentStays : Type 0
+AbsentStays =
+    (l : Language) (network more : List Candidate) (c : Candidate) (budget : ℕ) →
+    outcome_of_candidate l network c budget ≡ Absent → outcome_of_candidate l (network ++ more) c budget ≡ Absent

@@ -1,0 +1,4 @@
+use Rattle.propagators.proofs.constraints.Constraints.satisfies_against.Goals as goal
+
+pub place_on-requires-clause-scope : goal.place_on-requires-clause-scope
+place_on-requires-clause-scope c = (c.requires.constraints.against c.in-Some.c c.in-Some.is).scope
