@@ -1,8 +1,9 @@
 -- Lists: what some or all of their members pass.
-use Rattle.std.proofs.Common.{◌≡◌, ℕ, zero, suc, ◌+◌, ◌<◌, ◌≤◌, Bool, true, false, cond, ◌||◌, List, [], ◌∷◌, ◌++◌, length, Some, None, refl, sym, ◌∙◌, ap, subst, arith, inl, inr, ◌⊎◌}
-use Rattle.std.specs.Prelude.{All, find}
+use Rattle.std.proofs.Common.{◌≡◌, ℕ, zero, suc, ◌+◌, ◌<◌, ◌≤◌, Bool, true, false, cond, ◌||◌, List, [], ◌∷◌, ◌++◌, length, take, Some, None, refl, sym, ◌∙◌, ap, subst, arith, inl, inr, ◌⊎◌}
+use Rattle.std.specs.Prelude.{All, find, slice_index_or}
 use Rattle.std.specs.List.{list_any, list_all, filter, range_with_len}
-use Rattle.std.proofs.lemmas.List.Elements.{All-head, All-tail, All-cons, All-nil}
+use Rattle.std.proofs.lemmas.List.{take_more, take_all}
+use Rattle.std.proofs.lemmas.List.Elements.{All-head, All-tail, All-cons, All-nil, All-push}
 use Rattle.std.proofs.lemmas.List.Folds.{list_all-append}
 use Rattle.std.proofs.lemmas.Bool.{both_ways, and_parts, or_cases, or_left, or_right}
 use Rattle.assign.specs.Sets.{numbers}
@@ -29,6 +30,12 @@ all_numbers P a (suc n) h = All-cons P a (range_with_len (a + 1) n) (h a (omega 
 
 pub all_below : (P : ℕ → Type 0) (n : ℕ) → ((v : ℕ) → v < n → P v) → All P (numbers n)
 all_below P n h = all_numbers P 0 n (λ v low high. h v (omega arith))
+
+pub all_more : {X : Type 0} (P : X → Type 0) (xs : List X) (i : ℕ) (d : X) → i < length xs → All P (take i xs) → P (slice_index_or xs i d) → All P (take (i + 1) xs)
+all_more P xs i d low all here = subst (All P) (sym (take_more xs i d low)) (All-push P (take i xs) (slice_index_or xs i d) all here)
+
+pub all_taken : {X : Type 0} (P : X → Type 0) (xs : List X) (i : ℕ) → length xs ≤ i → All P (take i xs) → All P xs
+all_taken P xs i all = subst (All P) (take_all i xs all)
 
 pub any_weaker : {X : Type 0} (p q : X → Bool) (xs : List X) → ((x : X) → p x ≡ true → q x ≡ true) → list_any p xs ≡ true → list_any q xs ≡ true
 any_weaker p q [] h at = at
