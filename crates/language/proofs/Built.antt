@@ -1,101 +1,107 @@
 -- A language that is built keeps what each language keeps.
-use Rattle.std.proofs.Common.{◌≡◌, ℕ, zero, suc, ◌-◌, ◌^◌, ◌≤◌, Bool, true, false, cond, List, [], ◌∷◌, ◌++◌, length, map, refl, sym, ◌∙◌, ap, subst, arith, append-nil, lit≤, Vec}
-use Rattle.std.proofs.Math.Nat.{pow-le-pow_left}
-use Rattle.std.specs.Prelude.{All, IsTrue, String, string_bytes, ◌==◌, slice_index_or}
+use Rattle.std.proofs.Common.{◌≡◌, ℕ, zero, ◌-◌, ◌^◌, ◌≤◌, ◌||◌, ◌⊎◌, inl, inr, Option, Some, Bool, true, false, cond, List, [], ◌∷◌, length, map, get_or, refl, sym, ◌∙◌, ap, subst, arith}
+use Rattle.std.specs.Prelude.{All, string_bytes, ◌==◌}
 use Rattle.std.specs.List.{list_any, filter}
-use Rattle.std.specs.declared.alloc.Global.{Global}
-use Rattle.std.proofs.lemmas.Bool.{or_from, or_left}
+use Rattle.std.specs.Option.{option_or}
+use Rattle.std.proofs.lemmas.Bool.{cases_Bool, eqb-true}
 use Rattle.std.proofs.lemmas.List.{length-map}
-use Rattle.std.proofs.lemmas.List.Elements.{All-nil, All-head, All-tail, All-map, All-weaker}
-use Rattle.rel_table.specs.Relation.{Relation, is_above, IsIntersection, IsClosing}
-use Rattle.rel_table.specs.Table.{TruthTable}
+use Rattle.std.proofs.lemmas.List.Folds.{Any-from_list_any}
+use Rattle.std.proofs.lemmas.List.Elements.{All-head, All-map, All-weaker}
+use Rattle.rel_table.specs.Relation.{Relation, IsClosing}
+use Rattle.rel_table.specs.Table.{TruthTable, IsTable}
+use Rattle.rel_table.specs.Closing.{IsOfKind}
+use Rattle.rel_table.proofs.Growing.{one_given}
 use Rattle.language.specs.declared.parts.RelPart.{RelPart}
+use Rattle.language.specs.declared.parts.LangFault.{LangFault}
 use Rattle.language.specs.declared.scopes.Scope.{Scope}
 use Rattle.language.specs.declared.lang.Language.TheInside.{Inside}
-use Rattle.language.specs.Language.{Language, Given, given_of, relations_of, IsLanguage, AreNames}
-use Rattle.language.specs.Building.{Frame, IsFrame, IsBinary, IsBuilt, rising_lists, all_scopes, relations_given}
+use Rattle.language.specs.Language.{Language, Given, relations_of, IsLanguage, AreNames}
+use Rattle.language.specs.Building.{Frame, IsFrame, IsOver, IsBuilt, has_arity, relations_of_arity, scopes_of, scopes_refusal, closing_refusal, build_refusal}
+use Rattle.language.specs.Built.{AreScopes, IsClosedOf}
 use Rattle.language.specs.Scopes.{variables_in}
-use Rattle.language.specs.Inside.{seen, given_by, truths, tables_in, IsOfKind, AreByArity, IsSound}
-use Rattle.language.specs.InOrder.{relations_in, AreRelations}
-use Rattle.language.proofs.Pairwise.{no_pairs}
-use Rattle.language.proofs.PairScopes.{pairs_are_scopes, pairs_are_apart, pairs_are_short, few_pairs}
+use Rattle.language.specs.Inside.{seen, given_by, truths, first_numbers, IsSound}
+use Rattle.language.proofs.Fields.{truths_at}
+use Rattle.language.proofs.Members.{any-map}
 
 -- how many values the first relation is over
 abbrev pub values_of : List RelPart → ℕ
 values_of [] = 0
 values_of (part ∷ parts) = part.table.value_count
 
-pub values_of-binary : (d : ℕ) (parts : List RelPart) → 1 ≤ length parts → All (IsBinary d) parts → values_of parts ≡ d
-values_of-binary d [] some binary = absurd (omega arith)
-values_of-binary d (part ∷ parts) some binary = (All-head (IsBinary d) part parts binary).values
+pub values_of-over : (d : ℕ) (parts : List RelPart) → 1 ≤ length parts → All (IsOver d) parts → values_of parts ≡ d
+values_of-over d [] some over = absurd (omega arith)
+values_of-over d (part ∷ parts) some over = All-head (IsOver d) part parts over
 
--- ---- Which relations have an arity
+-- ---- The relations of an arity that is used
 
-filter_step : (b : Bool) (g : Given) (given kept : List Given) → kept ≡ given → b ≡ true → cond b (g ∷ kept) kept ≡ g ∷ given
-filter_step b g given kept rest on = λ i. cond (on i) (g ∷ rest i) (rest i)
+some_kept : {X : Type 0} (p : X → Bool) (xs : List X) → list_any p xs ≡ true → 1 ≤ length (filter p xs)
+some_kept p [] h = absurd (let e : false ≡ true = h in cc)
+some_kept p (x ∷ xs) h = go (cases_Bool (p x)) (some_kept p xs)
+  where
+    go : (p x ≡ true) ⊎ (p x ≡ false) → (list_any p xs ≡ true → 1 ≤ length (filter p xs)) → 1 ≤ length (filter p (x ∷ xs))
+    go (inl on) rest = subst (λ (b : Bool). 1 ≤ length (cond b (x ∷ filter p xs) (filter p xs))) (sym on) (omega arith)
+    go (inr off) rest = subst (λ (b : Bool). 1 ≤ length (cond b (x ∷ filter p xs) (filter p xs))) (sym off) (rest (ap (λ b. b || list_any p xs) (sym off) ∙ h))
 
-given_two : (d : ℕ) (parts : List RelPart) → All (IsBinary d) parts → filter (λ (g : Given). g.arity == 2) (map given_by parts) ≡ map given_by parts
-given_two d [] binary = refl
-given_two d (part ∷ parts) binary =
-    filter_step (part.table.arity == 2) (given_by part) (map given_by parts) _ (given_two d parts (All-tail (IsBinary d) part parts binary))
-    (ap (λ k. k == 2) (All-head (IsBinary d) part parts binary).arity)
+some_closed : (file closed : List Relation) → 1 ≤ length file → IsClosing file closed → 1 ≤ length closed
+some_closed [] closed some closing = absurd (omega arith)
+some_closed (r ∷ file) closed some closing = let has = closing.every r (one_given (r ∷ file) r (zero, omega arith, refl)) in let low = has.1 in omega arith
 
-given_other : (d a : ℕ) (parts : List RelPart) → (2 == a) ≡ false → All (IsBinary d) parts → filter (λ (g : Given). g.arity == a) (map given_by parts) ≡ []
-given_other d a [] other binary = refl
-given_other d a (part ∷ parts) other binary =
-    ap (λ b. cond b (given_by part ∷ filter (λ (g : Given). g.arity == a) (map given_by parts)) (filter (λ (g : Given). g.arity == a) (map given_by parts)))
-    (ap (λ k. k == a) (All-head (IsBinary d) part parts binary).arity ∙ other)
-    ∙ given_other d a parts other (All-tail (IsBinary d) part parts binary)
+-- there is an intersection
+some_relation : (given : List Given) (arity : ℕ) (closed : List Relation) → has_arity given arity ≡ true → IsClosing (relations_of_arity given arity) closed → 1 ≤ length closed
+some_relation given arity closed has closing =
+    let kept : List Given = filter (λ (g : Given). g.arity == arity) given in
+    let some = some_kept (λ (g : Given). g.arity == arity) given has in
+    some_closed (relations_of_arity given arity) closed (omega (arith, some, length-map kept (λ (g : Given). g.relation))) closing
 
-some_two : (d : ℕ) (parts : List RelPart) → 1 ≤ length parts → All (IsBinary d) parts → list_any (λ (g : Given). g.arity == 2) (map given_by parts) ≡ true
-some_two d [] some binary = absurd (omega arith)
-some_two d (part ∷ parts) some binary = or_left _ _ (ap (λ k. k == 2) (All-head (IsBinary d) part parts binary).arity)
-
-none_other : (d a : ℕ) (parts : List RelPart) → (2 == a) ≡ false → All (IsBinary d) parts → list_any (λ (g : Given). g.arity == a) (map given_by parts) ≡ false
-none_other d a [] other binary = refl
-none_other d a (part ∷ parts) other binary =
-    or_from _ _ (ap (λ k. k == a) (All-head (IsBinary d) part parts binary).arity ∙ other) (none_other d a parts other (All-tail (IsBinary d) part parts binary))
-
-all_scopes-two : (n d : ℕ) (parts : List RelPart) → 1 ≤ length parts → All (IsBinary d) parts → all_scopes n (map given_by parts) ≡ rising_lists n 2
-all_scopes-two n d parts some binary =
-    (λ i. cond (none_other d 1 parts refl binary i) (rising_lists n 1) [] ++ (cond (some_two d parts some binary i) (rising_lists n 2) []
-    ++ (cond (none_other d 3 parts refl binary i) (rising_lists n 3) [] ++ (cond (none_other d 4 parts refl binary i) (rising_lists n 4) [] ++ []))))
-    ∙ append-nil (rising_lists n 2)
+-- some table has a place for each tuple of this length
+few_places : (d : ℕ) (parts : List RelPart) → All (IsOver d) parts → All (λ (part : RelPart). IsTable part.table) parts → (arity : ℕ) → has_arity (map given_by parts) arity ≡ true → d ^ arity ≤ 65536
+few_places d parts over tables arity has =
+    let found = Any-from_list_any (λ (part : RelPart). part.table.arity == arity) parts (sym (any-map (λ (g : Given). g.arity == arity) given_by parts) ∙ has) in
+    let part : RelPart = found.1 in
+    let table : IsTable part.table = subst (λ (p : RelPart). IsTable p.table) found.3 (tables found.0 found.1 found.2) in
+    let values : part.table.value_count ≡ d = subst (IsOver d) found.3 (over found.0 found.1 found.2) in
+    let same : part.table.value_count ^ part.table.arity ≡ d ^ arity = λ i. values i ^ eqb-true part.table.arity arity found.4 i in
+    omega (arith, same, table.each, table.fits)
 
 -- ---- The language
 
-each_arity : (P : ℕ → Type 0) → P 1 → P 2 → P 3 → P 4 → (arity : ℕ) → 1 ≤ arity → arity ≤ 4 → P arity
-each_arity P one two three four zero some few = absurd (omega arith)
-each_arity P one two three four (suc zero) some few = one
-each_arity P one two three four (suc (suc zero)) some few = two
-each_arity P one two three four (suc (suc (suc zero))) some few = three
-each_arity P one two three four (suc (suc (suc (suc zero)))) some few = four
-each_arity P one two three four (suc (suc (suc (suc (suc arity))))) some few = absurd (omega arith)
+-- what a language is made of
+pub record IsMadeOf (frame : Frame) (parts : List RelPart) (a : Inside) : Type 0 where
+  pub names : map string_bytes a.names.items ≡ frame.names
+  pub least_value : a.least_value ≡ frame.least_value
+  pub value_count : a.value_count ≡ frame.value_count
+  pub given : a.given.items ≡ parts
+  pub over : All (IsOver frame.value_count) parts
+  pub tables : All (λ (part : RelPart). IsTable part.table) parts
+  pub relation_names : AreNames (map (λ (g : Given). g.name) (map given_by parts))
+  pub scopes : AreScopes (length frame.names) (map given_by parts) a.scopes.items
+  pub sized : All (λ (scope : Scope). length (variables_in scope) ≡ scope.size) a.scopes.items
+  pub relations : (arity : ℕ) → 1 ≤ arity → arity ≤ 4 → IsClosedOf frame.value_count arity (map given_by parts) (get_or a.relations (arity - 1) [])
+  pub numbers : a.numbers.items ≡ first_numbers a.relations a.scopes.items
 
--- the language of pairs over a frame
-abbrev pub of_pairs : Frame → List RelPart → List TruthTable → Language
-of_pairs frame parts ordered = record {
+-- the language over a frame
+abbrev over_frame : Frame → List RelPart → Inside → Language
+over_frame frame parts a = record {
   names = frame.names;
   least_value = frame.least_value;
   value_count = frame.value_count;
   given = map given_by parts;
-  scopes = rising_lists (length frame.names) 2;
-  relations = [] ∷ relations_in ordered ∷ [] ∷ [] ∷ [];
+  scopes = map variables_in a.scopes.items;
+  relations = map truths a.relations;
 }
 
-no_relations : (file : List Relation) → file ≡ [] → IsClosing file []
-no_relations file none = subst (λ rs. IsClosing rs []) (sym none) (record {
-  each = All-nil (IsIntersection []);
-  every = λ r is. let low = is.first_given.1 in absurd (omega arith);
-  falling = no_pairs (λ r q. IsTrue (is_above r q));
-})
+seen-made : (frame : Frame) (parts : List RelPart) (a : Inside) → IsMadeOf frame parts a → seen a ≡ over_frame frame parts a
+seen-made frame parts a made = λ i. record {
+  names = made.names i;
+  least_value = made.least_value i;
+  value_count = made.value_count i;
+  given = map given_by (made.given i);
+  scopes = map variables_in a.scopes.items;
+  relations = map truths a.relations;
+}
 
-small_square : (d : ℕ) → d ≤ 64 → d ^ 2 ≤ 65536
-small_square d few = let square : d ^ 2 ≤ 64 ^ 2 = pow-le-pow_left few 2 in omega (arith, square)
-
-lawful_pairs : (frame : Frame) (parts : List RelPart) (ordered : List TruthTable) → IsFrame frame → All (IsBinary frame.value_count) parts → AreNames (map (λ (g : Given). g.name) (map given_by parts)) →
-    AreRelations frame.value_count parts ordered → IsLanguage (of_pairs frame parts ordered)
-lawful_pairs frame parts ordered is_frame binary names relations = record {
+lawful_over : (frame : Frame) (parts : List RelPart) (a : Inside) → IsFrame frame → IsMadeOf frame parts a → IsLanguage (over_frame frame parts a)
+lawful_over frame parts a is_frame made = record {
   some_variable = is_frame.some_variable;
   few_variables = is_frame.few_variables;
   names = is_frame.names;
@@ -103,86 +109,56 @@ lawful_pairs frame parts ordered is_frame binary names relations = record {
   few_values = is_frame.few_values;
   low = is_frame.low;
   high = is_frame.high;
-  relation_names = names;
+  relation_names = made.relation_names;
   given_sized = All-map (λ (g : Given). length g.relation ≡ d ^ g.arity) given_by parts
-      (λ k part low. (relations.tables k part low).each ∙ ap (λ n. n ^ (slice_index_or parts k part).table.arity) (binary k part low).values);
-  few_scopes = few_pairs (length frame.names) is_frame.few_variables;
-  scopes = pairs_are_scopes (length frame.names);
-  apart = pairs_are_apart (length frame.names);
-  closed = each_arity (λ arity. IsClosing (map (λ (g : Given). g.relation) (given_of l arity)) (relations_of l arity))
-      (no_relations _ (ap relations_given (given_other d 1 parts refl binary)))
-      (subst (λ gs. IsClosing (relations_given gs) (relations_in ordered)) (sym (given_two d parts binary)) relations.closing)
-      (no_relations _ (ap relations_given (given_other d 3 parts refl binary)))
-      (no_relations _ (ap relations_given (given_other d 4 parts refl binary)));
-  sized = each_arity (λ arity. All (λ (r : Relation). length r ≡ d ^ arity) (relations_of l arity))
-      (All-nil (λ (r : Relation). length r ≡ d ^ 1))
-      (All-map (λ (r : Relation). length r ≡ d ^ 2) (λ (t : TruthTable). t.truth) ordered
-      (All-weaker (IsOfKind 2 d) (λ (t : TruthTable). length t.truth ≡ d ^ 2) (λ t (kind : IsOfKind 2 d t). kind.size) ordered relations.kinds))
-      (All-nil (λ (r : Relation). length r ≡ d ^ 3))
-      (All-nil (λ (r : Relation). length r ≡ d ^ 4));
-  few_relations = each_arity (λ arity. length (relations_of l arity) ≤ 64) (lit≤ tt) (omega (arith, relations.few, long)) (lit≤ tt) (lit≤ tt);
-  small = All-weaker (λ (scope : List ℕ). length scope ≡ 2) (λ (scope : List ℕ). d ^ length scope ≤ 65536)
-      (λ scope two. subst (λ k. d ^ k ≤ 65536) (sym two) (small_square d is_frame.few_values)) (rising_lists (length frame.names) 2) (pairs_are_short (length frame.names));
-  used = All-weaker (λ (scope : List ℕ). length scope ≡ 2) (λ (scope : List ℕ). 1 ≤ length (relations_of l (length scope)))
-      (λ scope two. subst (λ k. 1 ≤ length (relations_of l k)) (sym two) (omega (arith, relations.some, long))) (rising_lists (length frame.names) 2) (pairs_are_short (length frame.names));
+      (λ k part low. (made.tables k part low).each ∙ ap (λ n. n ^ (get_or parts k part).table.arity) (made.over k part low));
+  few_scopes = let few = made.scopes.few in omega (arith, few, length-map a.scopes.items variables_in);
+  scopes = made.scopes.lawful;
+  apart = made.scopes.apart;
+  closed = closed;
+  sized = λ arity some short. subst (All (λ (r : Relation). length r ≡ d ^ arity)) (sym (truths_at a.relations (arity - 1)))
+      (All-map (λ (r : Relation). length r ≡ d ^ arity) (λ (t : TruthTable). t.truth) (tables arity)
+      (All-weaker (IsOfKind arity d) (λ (t : TruthTable). length t.truth ≡ d ^ arity) (λ t (kind : IsOfKind arity d t). kind.size) (tables arity) (made.relations arity some short).kinds));
+  few_relations = λ arity some short.
+      let few = (made.relations arity some short).few in
+      omega (arith, few, ap length (truths_at a.relations (arity - 1)), length-map (tables arity) (λ (t : TruthTable). t.truth));
+  small = λ k scope low. few_places d parts made.over made.tables (length (get_or (map variables_in a.scopes.items) k scope)) (made.scopes.used k scope low);
+  used = λ k scope low.
+      let here : List ℕ = get_or (map variables_in a.scopes.items) k scope in
+      let is_scope = made.scopes.lawful k scope low in
+      some_relation (map given_by parts) (length here) (relations_of (over_frame frame parts a) (length here)) (made.scopes.used k scope low) (closed (length here) is_scope.not_empty is_scope.short);
 }
   where
     d : ℕ
     d = frame.value_count
 
-    l : Language
-    l = of_pairs frame parts ordered
+    tables : ℕ → List TruthTable
+    tables arity = get_or a.relations (arity - 1) []
 
-    long : length (relations_in ordered) ≡ length ordered
-    long = length-map ordered (λ (t : TruthTable). t.truth)
+    closed : (arity : ℕ) → 1 ≤ arity → arity ≤ 4 → IsClosing (relations_of_arity (map given_by parts) arity) (relations_of (over_frame frame parts a) arity)
+    closed arity some short = subst (IsClosing (relations_of_arity (map given_by parts) arity)) (sym (truths_at a.relations (arity - 1))) (made.relations arity some short).closing
 
--- ---- The fields that stand for it
-
-pub record IsMadeOf (frame : Frame) (parts : List RelPart) (ordered : List TruthTable) (a : Inside) : Type 0 where
-  pub names : map (λ (s : String Global). string_bytes s) a.names.items ≡ frame.names
-  pub least_value : a.least_value ≡ frame.least_value
-  pub value_count : a.value_count ≡ frame.value_count
-  pub given : a.given.items ≡ parts
-  pub scopes : map variables_in a.scopes.items ≡ rising_lists (length frame.names) 2
-  pub short : All (λ (scope : Scope). scope.size ≤ 4) a.scopes.items
-  pub relations : map (λ (tables : Vec TruthTable Global). tables.items) a.relations.items ≡ [] ∷ ordered ∷ [] ∷ [] ∷ []
-
-truths-lists : (lists : List (Vec TruthTable Global)) → map truths lists ≡ map relations_in (map (λ (tables : Vec TruthTable Global). tables.items) lists)
-truths-lists [] = refl
-truths-lists (tables ∷ lists) = ap (λ rs. truths tables ∷ rs) (truths-lists lists)
-
-seen-pairs : (frame : Frame) (parts : List RelPart) (ordered : List TruthTable) (a : Inside) → IsMadeOf frame parts ordered a → seen a ≡ of_pairs frame parts ordered
-seen-pairs frame parts ordered a made = λ i. record {
-  names = made.names i;
-  least_value = made.least_value i;
-  value_count = made.value_count i;
-  given = map given_by (made.given i);
-  scopes = made.scopes i;
-  relations = (truths-lists a.relations.items ∙ ap (map relations_in) made.relations) i;
+pub sound : (frame : Frame) (parts : List RelPart) (a : Inside) → IsFrame frame → IsMadeOf frame parts a → IsSound a
+sound frame parts a is_frame made = record {
+  lawful = subst IsLanguage (sym (seen-made frame parts a made)) (lawful_over frame parts a is_frame made);
+  sized = made.sized;
+  kinds = λ arity some short. subst (λ (d : ℕ). All (IsOfKind arity d) (get_or a.relations (arity - 1) [])) (sym made.value_count) (made.relations arity some short).kinds;
+  numbers = made.numbers;
 }
 
-by_arity : (d : ℕ) (lists : List (List TruthTable)) (ordered : List TruthTable) → lists ≡ [] ∷ ordered ∷ [] ∷ [] ∷ [] → All (IsOfKind 2 d) ordered → AreByArity d lists
-by_arity d lists ordered is kinds = subst (AreByArity d) (sym is) (record {
-  four = refl;
-  kinds = each_arity (λ arity. All (IsOfKind arity d) (slice_index_or ([] ∷ ordered ∷ [] ∷ [] ∷ []) (arity - 1) []))
-      (All-nil (IsOfKind 1 d)) kinds (All-nil (IsOfKind 3 d)) (All-nil (IsOfKind 4 d));
-})
-
-pub sound_pairs : (frame : Frame) (parts : List RelPart) (ordered : List TruthTable) (a : Inside) → IsFrame frame → All (IsBinary frame.value_count) parts →
-    AreNames (map (λ (g : Given). g.name) (map given_by parts)) → AreRelations frame.value_count parts ordered → IsMadeOf frame parts ordered a → IsSound a
-sound_pairs frame parts ordered a is_frame binary names relations made = record {
-  lawful = subst IsLanguage (sym (seen-pairs frame parts ordered a made)) (lawful_pairs frame parts ordered is_frame binary names relations);
-  short = made.short;
-  kinds = by_arity a.value_count (tables_in a) ordered made.relations (subst (λ d. All (IsOfKind 2 d) ordered) (sym made.value_count) relations.kinds);
-}
-
-pub built_pairs : (frame : Frame) (parts : List RelPart) (ordered : List TruthTable) (a : Inside) → IsFrame frame → All (IsBinary frame.value_count) parts → 1 ≤ length parts →
-    AreNames (map (λ (g : Given). g.name) (map given_by parts)) → AreRelations frame.value_count parts ordered → IsMadeOf frame parts ordered a → IsBuilt frame (map given_by parts) (seen a)
-built_pairs frame parts ordered a is_frame binary some names relations made = record {
+pub built : (frame : Frame) (parts : List RelPart) (listed : Option (List (List ℕ))) (a : Inside) → IsFrame frame → IsMadeOf frame parts a →
+    map variables_in a.scopes.items ≡ scopes_of (length frame.names) (map given_by parts) listed → IsBuilt frame (map given_by parts) listed (seen a)
+built frame parts listed a is_frame made scopes = record {
   names = made.names;
   least_value = made.least_value;
   value_count = made.value_count;
   given = ap (map given_by) made.given;
-  scopes = made.scopes ∙ sym (all_scopes-two (length frame.names) frame.value_count parts some binary);
-  lawful = (sound_pairs frame parts ordered a is_frame binary names relations made).lawful;
+  scopes = scopes;
+  lawful = (sound frame parts a is_frame made).lawful;
 }
+
+-- ---- Refusals
+
+pub refused_scopes : (n : ℕ) (given : List Given) (listed : Option (List (List ℕ))) (e : LangFault) → 1 ≤ length given → scopes_refusal given (scopes_of n given listed) ≡ Some e → build_refusal n given listed ≡ Some e
+refused_scopes n [] listed e some told = absurd (omega arith)
+refused_scopes n (g ∷ given) listed e some told = ap (λ first. option_or first (closing_refusal (g ∷ given))) told

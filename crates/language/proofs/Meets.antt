@@ -6,6 +6,7 @@ use Rattle.std.proofs.lemmas.List.{get_or_default}
 use Rattle.language.specs.declared.candidates.Candidate.{Candidate}
 use Rattle.assign.specs.Assignment.{covers, tuple_on}
 use Rattle.rel_table.specs.Relation.{Relation, place, meet, meet_all, IsIntersection}
+use Rattle.rel_table.proofs.Growing.{meet_assoc}
 use Rattle.language.specs.Language.{Language, IsLanguage, IsCandidate, relations_of}
 use Rattle.language.specs.Laws.{IsMeetOf, CandidatesAreClosed}
 
@@ -23,16 +24,6 @@ meet_at (x ∷ r) [] (suc k) = no (slice_index_or r k false)
     no false = refl
 meet_at (x ∷ r) (y ∷ q) zero = refl
 meet_at (x ∷ r) (y ∷ q) (suc k) = meet_at r q k
-
-and_assoc : (a b c : Bool) → ((a && b) && c) ≡ (a && (b && c))
-and_assoc true b c = refl
-and_assoc false b c = refl
-
-pub meet_assoc : (r q s : Relation) → meet (meet r q) s ≡ meet r (meet q s)
-meet_assoc [] q s = refl
-meet_assoc (x ∷ r) [] s = refl
-meet_assoc (x ∷ r) (y ∷ q) [] = refl
-meet_assoc (x ∷ r) (y ∷ q) (z ∷ s) = λ i. and_assoc x y z i ∷ meet_assoc r q s i
 
 meet_all-meet : (r q : Relation) (more : List Relation) → meet_all (meet r q) more ≡ meet r (meet_all q more)
 meet_all-meet r q [] = refl

@@ -1,21 +1,32 @@
--- The pairs of variables, in lexicographic order.
-use Rattle.std.proofs.Common.{◌≡◌, ℕ, zero, suc, ◌+◌, ◌-◌, ◌<◌, ◌≤◌, Bool, true, false, cond, ◌&&◌, List, [], ◌∷◌, ◌++◌, map, refl, sym, ◌∙◌, ap, arith, append_assoc, ◌⊎◌, inl, inr}
-use Rattle.std.specs.Prelude.{nat_lt}
-use Rattle.std.specs.List.{filter, flat_map, range_with_len}
-use Rattle.std.proofs.lemmas.Bool.{lt-ltb, le-ltb, cases_lt}
-use Rattle.std.proofs.lemmas.List.{map-append}
-use Rattle.std.proofs.lemmas.List.Elements.{filter-append}
+-- The rising lists of a size, by least variable, and how many there are.
+use Rattle.std.proofs.Common.{◌≡◌, ℕ, zero, suc, ◌+◌, ◌-◌, ◌<◌, ◌≤◌, Bool, true, false, cond, ◌&&◌, List, [], ◌∷◌, ◌++◌, length, map, refl, sym, ◌∙◌, ap, arith, append_assoc, append-nil, length-append, subst, take}
+use Rattle.std.specs.Prelude.{nat_le, filter, All, slice_index_or}
+use Rattle.std.specs.List.{flat_map, range_with_len}
+use Rattle.std.proofs.lemmas.Bool.{le-leb, lt-leb}
+use Rattle.std.proofs.lemmas.List.{length-map}
+use Rattle.std.proofs.lemmas.List.Concat.{flat_map-append}
+use Rattle.std.proofs.lemmas.List.Folds.{flat_map-map}
+use Rattle.std.proofs.lemmas.List.Elements.{filter-append, filter_agree, filter_passes, All-nil, All-cons, All-append, All-map, All-weaker}
 use Rattle.rel_table.specs.Relation.{tuples}
 use Rattle.language.specs.declared.scopes.Scope.{Scope}
 use Rattle.language.specs.Scopes.{variables_in}
+use Rattle.language.specs.Choosing.{choices, past, longer_by}
 use Rattle.language.specs.Building.{is_rising, rising_lists}
 
-abbrev pub pair_of : ℕ → ℕ → List ℕ
-pair_of x y = x ∷ y ∷ []
+-- the rising lists of a size of the m numbers from a on: first those with a
+abbrev pub rising_from : ℕ → ℕ → ℕ → List (List ℕ)
+rising_from a m zero = [] ∷ []
+rising_from a zero (suc size) = []
+rising_from a (suc m) (suc size) = map (λ list. a ∷ list) (rising_from (a + 1) m size) ++ rising_from (a + 1) m (suc size)
 
--- the pairs of x with each later variable of n
-abbrev pub pairs_with : ℕ → ℕ → List (List ℕ)
-pairs_with n x = map (pair_of x) (range_with_len (x + 1) (n - (x + 1)))
+count-rising_from : (a m size : ℕ) → length (rising_from a m size) ≡ choices m size
+count-rising_from a m zero = refl
+count-rising_from a zero (suc size) = refl
+count-rising_from a (suc m) (suc size) =
+    length-append (map (λ list. a ∷ list) (rising_from (a + 1) m size)) (rising_from (a + 1) m (suc size))
+    ∙ (λ i. (length-map (rising_from (a + 1) m size) (λ list. a ∷ list) ∙ count-rising_from (a + 1) m size) i + count-rising_from (a + 1) m (suc size) i)
+
+-- ---- They are those of all lists that rise
 
 filter-flat_map : {X Y : Type 0} (p : Y → Bool) (f : X → List Y) (xs : List X) → filter p (flat_map f xs) ≡ flat_map (λ x. filter p (f x)) xs
 filter-flat_map p f [] = refl
@@ -29,72 +40,156 @@ filter-map : {X Y : Type 0} (p : Y → Bool) (f : X → Y) (xs : List X) → fil
 filter-map p f [] = refl
 filter-map p f (x ∷ xs) = ap (λ ys. cond (p (f x)) (f x ∷ ys) ys) (filter-map p f xs) ∙ sym (map-cond f (p (f x)) x (filter (λ z. p (f z)) xs))
 
-singles : {X : Type 0} (f : ℕ → X) (xs : List ℕ) → flat_map (λ x. f x ∷ []) xs ≡ map f xs
-singles f [] = refl
-singles f (x ∷ xs) = ap (λ ys. f x ∷ ys) (singles f xs)
+-- a rising list of numbers from a on
+abbrev pub rises : ℕ → List ℕ → Bool
+rises a [] = true
+rises a (x ∷ xs) = nat_le a x && rises (x + 1) xs
 
-blocks_same : {X : Type 0} (f g : ℕ → List X) (a k : ℕ) → ((x : ℕ) → x < a + k → f x ≡ g x) → flat_map f (range_with_len a k) ≡ flat_map g (range_with_len a k)
-blocks_same f g a zero same = refl
-blocks_same f g a (suc k) same = λ i. same a (omega arith) i ++ blocks_same f g (a + 1) k (λ x low. same x (omega arith)) i
+none_kept : (p : List ℕ → Bool) (xs : List (List ℕ)) → filter (λ x. false && p x) xs ≡ []
+none_kept p [] = refl
+none_kept p (x ∷ xs) = none_kept p xs
 
--- of the numbers in a range, those above x
-all_above : (x a k : ℕ) → x < a → filter (λ y. nat_lt x y && true) (range_with_len a k) ≡ range_with_len a k
-all_above x a zero above = refl
-all_above x a (suc k) above = λ i. cond (kept i) (a ∷ all_above x (a + 1) k (omega arith) i) (all_above x (a + 1) k (omega arith) i)
-  where
-    kept : (nat_lt x a && true) ≡ true
-    kept = ap (λ b. b && true) (lt-ltb x a above)
+-- the lists that begin with x, where x is a or later, and where it is earlier
+later_block : (a x : ℕ) (lists : List (List ℕ)) → a ≤ x → filter (rises a) (map (λ list. x ∷ list) lists) ≡ map (λ list. x ∷ list) (filter (rises (x + 1)) lists)
+later_block a x lists low =
+    filter-map (rises a) (λ list. x ∷ list) lists ∙ (λ i. map (λ list. x ∷ list) (filter (λ list. le-leb a x low i && rises (x + 1) list) lists))
 
-those_above : (x a k : ℕ) → a ≤ x + 1 → x < a + k → filter (λ y. nat_lt x y && true) (range_with_len a k) ≡ range_with_len (x + 1) ((a + k) - (x + 1))
-those_above x a zero low high = λ i. range_with_len (x + 1) ((let e : 0 ≡ (a + 0) - (x + 1) = omega arith in e) i)
-those_above x a (suc k) low high = go (cases_lt x a) (those_above x (a + 1) k)
-  where
-    go : (x < a) ⊎ (a ≤ x) → (a + 1 ≤ x + 1 → x < (a + 1) + k → filter (λ y. nat_lt x y && true) (range_with_len (a + 1) k) ≡ range_with_len (x + 1) (((a + 1) + k) - (x + 1))) →
-        filter (λ y. nat_lt x y && true) (range_with_len a (suc k)) ≡ range_with_len (x + 1) ((a + suc k) - (x + 1))
-    go (inl above) rest =
-        all_above x a (suc k) above
-        ∙ (λ i. range_with_len ((let e : a ≡ x + 1 = omega arith in e) i) ((let e : suc k ≡ (a + suc k) - (x + 1) = omega arith in e) i))
-    go (inr below) rest =
-        ap (λ b. cond b (a ∷ filter (λ y. nat_lt x y && true) (range_with_len (a + 1) k)) (filter (λ y. nat_lt x y && true) (range_with_len (a + 1) k))) (ap (λ b. b && true) (le-ltb x a below))
-        ∙ rest (omega arith) (omega arith) ∙ ap (range_with_len (x + 1)) (let e : ((a + 1) + k) - (x + 1) ≡ (a + suc k) - (x + 1) = omega arith in e)
+earlier_block : (a x : ℕ) (lists : List (List ℕ)) → x < a → filter (rises a) (map (λ list. x ∷ list) lists) ≡ []
+earlier_block a x lists high =
+    filter-map (rises a) (λ list. x ∷ list) lists ∙ (λ i. map (λ list. x ∷ list) (filter (λ list. lt-leb a x high i && rises (x + 1) list) lists))
+    ∙ ap (map (λ list. x ∷ list)) (none_kept (rises (x + 1)) lists)
+
+abbrev pub blocks : ℕ → ℕ → ℕ → ℕ → List (List ℕ)
+blocks n a size x = filter (rises a) (map (λ list. x ∷ list) (tuples n size))
+
+skipped : (n a size m j b : ℕ) → b + j ≡ a → flat_map (blocks n a size) (range_with_len b (j + m)) ≡ flat_map (blocks n a size) (range_with_len a m)
+skipped n a size m zero b e = λ i. flat_map (blocks n a size) (range_with_len ((let s : b ≡ a = omega arith in s) i) ((let t : 0 + m ≡ m = omega arith in t) i))
+skipped n a size m (suc j) b e =
+    (λ i. flat_map (blocks n a size) (range_with_len b ((let t : suc j + m ≡ suc (j + m) = omega arith in t) i)))
+    ∙ ap (λ lists. lists ++ flat_map (blocks n a size) (range_with_len (b + 1) (j + m))) (earlier_block a b (tuples n size) (omega arith))
+    ∙ skipped n a size m j (b + 1) (omega arith)
+
+later : (n a size m b : ℕ) → ((c k : ℕ) → c + k ≡ n → filter (rises c) (tuples n size) ≡ rising_from c k size) → a ≤ b → b + m ≡ n → flat_map (blocks n a size) (range_with_len b m) ≡ rising_from b m (suc size)
+later n a size zero b shorter low e = refl
+later n a size (suc m) b shorter low e =
+    λ i. (later_block a b (tuples n size) low ∙ ap (map (λ list. b ∷ list)) (shorter (b + 1) m (omega arith))) i ++ later n a size m (b + 1) shorter (omega arith) (omega arith) i
+
+kept : (n a m size : ℕ) → a + m ≡ n → filter (rises a) (tuples n size) ≡ rising_from a m size
+kept n a m zero e = refl
+kept n a m (suc size) e =
+    filter-flat_map (rises a) (λ x. map (λ list. x ∷ list) (tuples n size)) (range_with_len 0 n)
+    ∙ (λ i. flat_map (blocks n a size) (range_with_len 0 (sym e i)))
+    ∙ skipped n a size m a 0 (omega arith)
+    ∙ later n a size m a (λ c k known. kept n c k size known) (omega arith) e
+
+rises_after : (x : ℕ) (xs : List ℕ) → is_rising (x ∷ xs) ≡ rises (x + 1) xs
+rises_after x [] = refl
+rises_after x (w ∷ xs) = λ i. nat_le ((let e : suc x ≡ x + 1 = omega arith in e) i) w && rises_after w xs i
+
+rises_so : (xs : List ℕ) → is_rising xs ≡ rises 0 xs
+rises_so [] = refl
+rises_so (x ∷ xs) = rises_after x xs ∙ ap (λ b. b && rises (x + 1) xs) (sym (le-leb 0 x (omega arith)))
+
+pub lists_are : (n size : ℕ) → rising_lists n size ≡ rising_from 0 n size
+lists_are n size = filter_agree is_rising (rises 0) rises_so (tuples n size) ∙ kept n 0 n size (omega arith)
+
+pub count_lists : (n size : ℕ) → length (rising_lists n size) ≡ choices n size
+count_lists n size = ap length (lists_are n size) ∙ count-rising_from 0 n size
+
+-- ---- Lists that have one variable more
 
 map-map : {X Y Z : Type 0} (g : Y → Z) (f : X → Y) (xs : List X) → map g (map f xs) ≡ map (λ x. g (f x)) xs
 map-map g f [] = refl
 map-map g f (x ∷ xs) = ap (λ ys. g (f x) ∷ ys) (map-map g f xs)
 
-rising_from : (n x : ℕ) → x < n → filter is_rising (map (λ tuple. x ∷ tuple) (tuples n 1)) ≡ pairs_with n x
-rising_from n x low =
-    ap (λ ts. filter is_rising (map (λ tuple. x ∷ tuple) ts)) (singles (λ y. y ∷ []) (range_with_len 0 n))
-    ∙ ap (filter is_rising) (map-map (λ tuple. x ∷ tuple) (λ (y : ℕ). y ∷ []) (range_with_len 0 n))
-    ∙ filter-map is_rising (pair_of x) (range_with_len 0 n)
-    ∙ ap (map (pair_of x)) (those_above x 0 n (omega arith) (omega arith) ∙ ap (λ k. range_with_len (x + 1) (k - (x + 1))) (let e : 0 + n ≡ n = omega arith in e))
+map-join : {X Y : Type 0} (g : X → Y) (xs ys : List X) → map g (xs ++ ys) ≡ map g xs ++ map g ys
+map-join g [] ys = refl
+map-join g (x ∷ xs) ys = ap (λ zs. g x ∷ zs) (map-join g xs ys)
 
-pub rising_pairs : (n : ℕ) → rising_lists n 2 ≡ flat_map (pairs_with n) (range_with_len 0 n)
-rising_pairs n =
-    filter-flat_map is_rising (λ x. map (λ tuple. x ∷ tuple) (tuples n 1)) (range_with_len 0 n)
-    ∙ blocks_same (λ x. filter is_rising (map (λ tuple. x ∷ tuple) (tuples n 1))) (pairs_with n) 0 n (λ x low. rising_from n x (omega arith))
+map-flat_map : {X Y Z : Type 0} (g : Y → Z) (f : X → List Y) (xs : List X) → map g (flat_map f xs) ≡ flat_map (λ x. map g (f x)) xs
+map-flat_map g f [] = refl
+map-flat_map g f (x ∷ xs) = map-join g (f x) (flat_map f xs) ∙ ap (λ zs. map g (f x) ++ zs) (map-flat_map g f xs)
 
--- ---- One pair, and one block of pairs, after another
+flat_map-agree : {X Y : Type 0} (f g : X → List Y) → ((x : X) → f x ≡ g x) → (xs : List X) → flat_map f xs ≡ flat_map g xs
+flat_map-agree f g same xs = λ i. flat_map (λ x. same x i) xs
 
-range-next : (i n : ℕ) → i < n → range_with_len i (n - i) ≡ i ∷ range_with_len (i + 1) (n - (i + 1))
-range-next i n low = ap (range_with_len i) (let e : n - i ≡ suc (n - (i + 1)) = omega arith in e)
+ones : (a m : ℕ) → map (λ y. y ∷ []) (range_with_len a m) ≡ rising_from a m 1
+ones a zero = refl
+ones a (suc m) = ap (λ lists. (a ∷ []) ∷ lists) (ones (a + 1) m)
 
-one_more : {X : Type 0} (whole before after piece rest next : List X) → whole ≡ before ++ rest → after ≡ before ++ piece → rest ≡ piece ++ next → whole ≡ after ++ next
-one_more whole before after piece rest next h k s = h ∙ ap (λ r. before ++ r) s ∙ sym (append_assoc before piece next) ∙ ap (λ r. r ++ next) (sym k)
+-- where lists aren't empty, it's the same where their longer ones would begin
+begun : (n a b c m size : ℕ) → flat_map (longer_by n a) (rising_from c m (suc size)) ≡ flat_map (longer_by n b) (rising_from c m (suc size))
+begun n a b c zero size = refl
+begun n a b c (suc m) size =
+    flat_map-append (longer_by n a) (map (λ list. c ∷ list) (rising_from (c + 1) m size)) (rising_from (c + 1) m (suc size))
+    ∙ (λ i. (flat_map-map (longer_by n a) (λ list. c ∷ list) (rising_from (c + 1) m size) ∙ sym (flat_map-map (longer_by n b) (λ list. c ∷ list) (rising_from (c + 1) m size))) i ++ begun n a b (c + 1) m size i)
+    ∙ sym (flat_map-append (longer_by n b) (map (λ list. c ∷ list) (rising_from (c + 1) m size)) (rising_from (c + 1) m (suc size)))
 
-pub one_pair : (whole : List (List ℕ)) (before after : List Scope) (pair : Scope) (x second n : ℕ) → second < n → after ≡ before ++ pair ∷ [] → variables_in pair ≡ pair_of x second →
-    whole ≡ map variables_in before ++ map (pair_of x) (range_with_len second (n - second)) →
-    whole ≡ map variables_in after ++ map (pair_of x) (range_with_len (second + 1) (n - (second + 1)))
-one_pair whole before after pair x second n low more is so_far =
-    one_more whole (map variables_in before) (map variables_in after) (pair_of x second ∷ []) _ _ so_far
-    (ap (map variables_in) more ∙ map-append variables_in before (pair ∷ []) ∙ ap (λ p. map variables_in before ++ p ∷ []) is)
-    (ap (map (pair_of x)) (range-next second n low))
+first_longer : (n a : ℕ) (lists : List (List ℕ)) → flat_map (longer_by n a) (map (λ list. a ∷ list) lists) ≡ map (λ list. a ∷ list) (flat_map (longer_by n (a + 1)) lists)
+first_longer n a lists =
+    flat_map-map (longer_by n a) (λ list. a ∷ list) lists
+    ∙ flat_map-agree (λ list. longer_by n a (a ∷ list)) (λ list. map (λ more. a ∷ more) (longer_by n (a + 1) list)) (λ list. sym (map-map (λ more. a ∷ more) (λ y. list ++ y ∷ []) _)) lists
+    ∙ sym (map-flat_map (λ list. a ∷ list) (longer_by n (a + 1)) lists)
 
-pub one_block : (whole : List (List ℕ)) (before after : List Scope) (x n : ℕ) → x < n → map variables_in after ≡ map variables_in before ++ pairs_with n x →
-    whole ≡ map variables_in before ++ flat_map (pairs_with n) (range_with_len x (n - x)) →
-    whole ≡ map variables_in after ++ flat_map (pairs_with n) (range_with_len (x + 1) (n - (x + 1)))
-one_block whole before after x n low more so_far =
-    one_more whole (map variables_in before) (map variables_in after) (pairs_with n x) _ _ so_far more (ap (flat_map (pairs_with n)) (range-next x n low))
+all_longer : (n a m size : ℕ) → a + m ≡ n → flat_map (longer_by n a) (rising_from a m size) ≡ rising_from a m (suc size)
+all_longer n a m zero e =
+    append-nil (longer_by n a []) ∙ (λ i. map (λ y. y ∷ []) (range_with_len a ((let t : n - a ≡ m = omega arith in t) i))) ∙ ones a m
+all_longer n a zero (suc size) e = refl
+all_longer n a (suc m) (suc size) e =
+    flat_map-append (longer_by n a) (map (λ list. a ∷ list) (rising_from (a + 1) m size)) (rising_from (a + 1) m (suc size))
+    ∙ (λ i. (first_longer n a (rising_from (a + 1) m size) ∙ ap (map (λ list. a ∷ list)) (all_longer n (a + 1) m size (omega arith))) i
+    ++ (begun n a (a + 1) (a + 1) m size ∙ all_longer n (a + 1) m (suc size) (omega arith)) i)
 
-pub first_block : (n : ℕ) (scopes : List Scope) → scopes ≡ [] → rising_lists n 2 ≡ map variables_in scopes ++ flat_map (pairs_with n) (range_with_len 0 (n - 0))
-first_block n scopes none = rising_pairs n ∙ (λ i. map variables_in (sym none i) ++ flat_map (pairs_with n) (range_with_len 0 ((let e : n ≡ n - 0 = omega arith in e) i)))
+pub lists_longer : (n size : ℕ) → flat_map (longer_by n 0) (rising_lists n size) ≡ rising_lists n (suc size)
+lists_longer n size = ap (flat_map (longer_by n 0)) (lists_are n size) ∙ all_longer n 0 n size (omega arith) ∙ sym (lists_are n (suc size))
+
+-- ---- What they are made of
+
+from_known : (n a m size : ℕ) → a + m ≡ n → All (All (λ v. v < n)) (rising_from a m size)
+from_known n a m zero e = All-cons (All (λ v. v < n)) [] [] (All-nil (λ v. v < n)) (All-nil (All (λ v. v < n)))
+from_known n a zero (suc size) e = All-nil (All (λ v. v < n))
+from_known n a (suc m) (suc size) e =
+    All-append (All (λ v. v < n)) (map (λ list. a ∷ list) (rising_from (a + 1) m size)) (rising_from (a + 1) m (suc size))
+    (All-map (All (λ v. v < n)) (λ list. a ∷ list) (rising_from (a + 1) m size)
+    (All-weaker (All (λ v. v < n)) (λ list. All (λ v. v < n) (a ∷ list)) (λ list known. All-cons (λ v. v < n) a list (omega arith) known) (rising_from (a + 1) m size) (from_known n (a + 1) m size (omega arith))))
+    (from_known n (a + 1) m (suc size) (omega arith))
+
+pub lists_known : (n size : ℕ) → All (All (λ v. v < n)) (rising_lists n size)
+lists_known n size = subst (All (All (λ v. v < n))) (sym (lists_are n size)) (from_known n 0 n size (omega arith))
+
+from_long : (a m size : ℕ) → All (λ list. length list ≡ size) (rising_from a m size)
+from_long a m zero = All-cons (λ list. length list ≡ 0) [] [] refl (All-nil (λ list. length list ≡ 0))
+from_long a zero (suc size) = All-nil (λ list. length list ≡ suc size)
+from_long a (suc m) (suc size) =
+    All-append (λ list. length list ≡ suc size) (map (λ list. a ∷ list) (rising_from (a + 1) m size)) (rising_from (a + 1) m (suc size))
+    (All-map (λ list. length list ≡ suc size) (λ list. a ∷ list) (rising_from (a + 1) m size)
+    (All-weaker (λ list. length list ≡ size) (λ list. suc (length list) ≡ suc size) (λ list long. ap suc long) (rising_from (a + 1) m size) (from_long (a + 1) m size)))
+    (from_long (a + 1) m (suc size))
+
+pub lists_long : (n size : ℕ) → All (λ list. length list ≡ size) (rising_lists n size)
+lists_long n size = subst (All (λ list. length list ≡ size)) (sym (lists_are n size)) (from_long 0 n size)
+
+pub lists_rise : (n size : ℕ) → All (λ list. is_rising list ≡ true) (rising_lists n size)
+lists_rise n size = filter_passes is_rising (tuples n size)
+
+pub lists_next : (n size : ℕ) → flat_map (longer_by n 0) (rising_lists n size) ≡ rising_lists n (size + 1)
+lists_next n size = lists_longer n size ∙ ap (rising_lists n) (let e : suc size ≡ size + 1 = omega arith in e)
+
+-- ---- One list more
+
+past_last : (a : ℕ) (xs : List ℕ) (k d : ℕ) → k < length xs → past a (take (suc k) xs) ≡ slice_index_or xs k d + 1
+past_last a [] k d low = absurd (omega arith)
+past_last a (x ∷ xs) zero d low = refl
+past_last a (x ∷ xs) (suc k) d low = past_last (x + 1) xs k d (omega arith)
+
+pub past_at : (xs : List ℕ) (size d : ℕ) → 1 ≤ size → size ≤ length xs → past 0 (take size xs) ≡ slice_index_or xs (size - 1) d + 1
+past_at xs size d some low = ap (λ k. past 0 (take k xs)) (let e : size ≡ suc (size - 1) = omega arith in e) ∙ past_last 0 xs (size - 1) d (omega arith)
+
+pub one_more : (whole : List (List ℕ)) (scopes : List Scope) (one : Scope) (f : ℕ → List ℕ) (v n : ℕ) → v < n → variables_in one ≡ f v →
+    whole ≡ map variables_in scopes ++ map f (range_with_len v (n - v)) → whole ≡ map variables_in (scopes ++ one ∷ []) ++ map f (range_with_len (v + 1) (n - (v + 1)))
+one_more whole scopes one f v n low is so_far =
+    so_far
+    ∙ ap (λ k. map variables_in scopes ++ map f (range_with_len v k)) (let e : n - v ≡ suc (n - (v + 1)) = omega arith in e)
+    ∙ ap (λ list. map variables_in scopes ++ list ∷ map f (range_with_len (v + 1) (n - (v + 1)))) (sym is)
+    ∙ sym (append_assoc (map variables_in scopes) (variables_in one ∷ []) (map f (range_with_len (v + 1) (n - (v + 1)))))
+    ∙ ap (λ lists. lists ++ map f (range_with_len (v + 1) (n - (v + 1)))) (sym (map-join variables_in scopes (one ∷ [])))

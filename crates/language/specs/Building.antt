@@ -1,6 +1,8 @@
 -- Which languages can be built, and of what.
-use Rattle.std.specs.Prelude.{ℕ, ℤ, pos, negsuc, ◌+◌, ◌≡◌, Bool, true, false, ◌&&◌, List, [], ◌∷◌, length, map, filter, Option, Some, None, if◌then◌else◌, ◌==◌, nat_lt, nat_le, int_le, ◌≤◌, ◌≤ℤ◌, ◌+ℤ◌, ◌-ℤ◌, unsigned_abs}
-use Rattle.std.specs.List.{list_all, list_any, flat_map}
+use Rattle.std.specs.Prelude.{ℕ, ℤ, pos, All, not, ◌||◌, ◌++◌, ◌<◌, ◌^◌, position, option_map, find, negsuc, ◌+◌, ◌≡◌, Bool, true, false, ◌&&◌, List, [], ◌∷◌, length, map, filter, Option, Some, None, if◌then◌else◌, ◌==◌, nat_lt, nat_le, int_le, ◌≤◌, ◌≤ℤ◌, ◌+ℤ◌, ◌-ℤ◌, unsigned_abs}
+use Rattle.std.specs.List.{list_any, flat_map, position_or_len}
+use Rattle.assign.specs.Sets.{is_within, is_same}
+use Rattle.std.specs.Option.{option_or}
 use Rattle.std.specs.Bool.{beq}
 use Rattle.rel_table.specs.Relation.{Relation, tuples, meet}
 use Rattle.rel_table.specs.declared.table.CloseFault.TheVariants.{TooMany}

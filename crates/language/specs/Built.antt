@@ -1,9 +1,9 @@
 -- The parts that a language is built of.
-use Rattle.std.specs.Prelude.{◌≡◌, ℕ, ◌+◌, ◌≤◌, ◌-◌, List, [], ◌∷◌, length, map, All, AllPairs, slice_index_or, IsTrue}
+use Rattle.std.specs.Prelude.{ℕ, ◌≤◌, List, length, map, All, AllPairs, IsTrue}
 use Rattle.rel_table.specs.Relation.{IsClosing}
 use Rattle.rel_table.specs.Table.{TruthTable}
+use Rattle.rel_table.specs.Closing.{IsOfKind}
 use Rattle.language.specs.Language.{Given, IsScope, AreApart}
-use Rattle.language.specs.Inside.{IsOfKind}
 use Rattle.language.specs.Building.{relations_of_arity, has_arity}
 use Rattle.language.specs.Scopes.{variables_in}
 use Rattle.language.specs.declared.scopes.Scope.{Scope}

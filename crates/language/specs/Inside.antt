@@ -1,8 +1,9 @@
 -- The language that the fields stand for.
-use Rattle.std.specs.Prelude.{ℕ, ◌-◌, ◌^◌, ◌≤◌, ◌≡◌, List, [], length, map, All, slice_index_or, String, string_bytes, Vec}
+use Rattle.std.specs.Prelude.{ℕ, ◌+◌, ◌-◌, ◌≤◌, ◌≡◌, List, [], ◌∷◌, length, map, All, slice_index_or, String, string_bytes}
 use Rattle.std.specs.declared.alloc.Global.{Global}
 use Rattle.rel_table.specs.Relation.{Relation}
 use Rattle.rel_table.specs.Table.{TruthTable}
+use Rattle.rel_table.specs.Closing.{IsOfKind}
 use Rattle.language.specs.Language.{Language, Given, IsLanguage}
 use Rattle.language.specs.declared.parts.RelPart.{RelPart}
 use Rattle.language.specs.declared.scopes.Scope.{Scope}
@@ -27,16 +28,9 @@ seen a = record {
   relations = map truths a.relations;
 }
 
--- a table of this arity over so many values
-pub record IsOfKind (arity d : ℕ) (table : TruthTable) : Type 0 where
-  pub long : table.arity ≡ arity
-  pub values : table.value_count ≡ d
-  pub size : length table.truth ≡ d ^ arity
-
 -- the tables are of the arities 1, 2, 3 and 4, in this order
-pub record AreByArity (d : ℕ) (tables : List (List TruthTable)) : Type 0 where
-  pub four : length tables ≡ 4
-  pub kinds : (arity : ℕ) → 1 ≤ arity → arity ≤ 4 → All (IsOfKind arity d) (slice_index_or tables (arity - 1) [])
+abbrev pub AreByArity : ℕ → List (List TruthTable) → Type 0
+AreByArity d tables = (arity : ℕ) → 1 ≤ arity → arity ≤ 4 → All (IsOfKind arity d) (slice_index_or tables (arity - 1) [])
 
 -- the number of the first candidate on each scope, from a number on, and last how many there are
 abbrev pub numbers_from : ℕ → List (List TruthTable) → List Scope → List ℕ
@@ -49,6 +43,6 @@ first_numbers relations scopes = numbers_from 0 relations scopes
 
 pub record IsSound (a : Inside) : Type 0 where
   pub lawful : IsLanguage (seen a)
-  pub short : All (λ (scope : Scope). (1 ≤ scope.size) × (scope.size ≤ 4)) a.scopes.items
+  pub sized : All (λ (scope : Scope). length (variables_in scope) ≡ scope.size) a.scopes.items
   pub kinds : AreByArity a.value_count a.relations
   pub numbers : a.numbers.items ≡ first_numbers a.relations a.scopes.items

@@ -4,6 +4,7 @@ pub mod Search
 pub mod Laws
 pub mod Texts
 pub mod Scopes
+pub mod Choosing
 pub mod Inside
 pub mod Building
 pub mod Framing

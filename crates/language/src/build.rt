@@ -1,7 +1,9 @@
-ghost use Rattle.std.specs.Prelude.{◌≡◌, ◌≢◌, map, length, All, IfOk, IfErr, OnOk, Some, None};
+ghost use Rattle.std.specs.Prelude.{◌≡◌, ◌≢◌, ℕ, ◌-◌, ◌≤◌, [], map, length, slice_index_or, All, IfOk, IfErr, OnOk, Some, None};
+ghost use Rattle.rel_table.specs.Table.{TruthTable, IsTable};
 ghost use Rattle.language.specs.Language.{Given, AreNames};
 ghost use Rattle.language.specs.Inside.{given_by};
-ghost use Rattle.language.specs.Building.{build_refusal, listed_in, AreCountable, AreKnown, IsBuilt, IsOver};
+ghost use Rattle.language.specs.Building.{build_refusal, closing_refusal, listed_in, AreCountable, AreKnown, IsBuilt, IsOver};
+ghost use Rattle.language.specs.Built.{IsClosedOf};
 
 use crate::frame::Frame;
 use crate::lang::Language;
@@ -13,10 +15,12 @@ use std::alloc::Global;
 
 /// The relations' tables.
 fn tables_of(alloc: Global, rels: &[RelPart]) -> Result<Vec<Table>, Memory>
-    ensures { IfOk result (λ v. v.items ≡ map (λ (part : RelPart). part.table) rels.now) }
+    ensures is { IfOk result (λ v. v.items ≡ map (λ (part : RelPart). part.table) rels.now) }
+    ensures lawful { IfOk result (λ v. All IsTable v.items) }
 {
     let mut tables = Vec::new(alloc);
     for rel in rels {
+        let _arity = rel.table.arity();
         // A relation meets itself in itself.
         let copy = rel.table.meet(alloc, &rel.table)?;
         let Ok(()) = tables.push(copy) else {
@@ -32,6 +36,7 @@ fn closed_relations(alloc: Global, rels: &[RelPart]) -> Result<Closed, LangFault
     requires tables { All (IsOver d) rels.now }
     ensures closed { IfOk result (λ lists. (arity : ℕ) → 1 ≤ arity → arity ≤ 4 → IsClosedOf d arity (map given_by rels.now) (slice_index_or lists (arity - 1) [])) }
     ensures made { OnOk result (closing_refusal (map given_by rels.now) ≡ None) }
+    ensures lawful { OnOk result (All (λ (part : RelPart). IsTable part.table) rels.now) }
     ensures refused { IfErr result (λ e. e ≢ LangFault.Memory → closing_refusal (map given_by rels.now) ≡ Some e) }
 {
     let Ok(tables) = tables_of(alloc, rels) else {
@@ -39,8 +44,8 @@ fn closed_relations(alloc: Global, rels: &[RelPart]) -> Result<Closed, LangFault
     };
     match close(alloc, &tables) {
         Ok(closed) => Ok(closed),
+        Err(CloseFault::TooMany(arity)) => Err(LangFault::Closing(CloseFault::TooMany(arity))),
         Err(CloseFault::Memory) => Err(LangFault::Memory),
-        Err(fault) => Err(LangFault::Closing(fault)),
     }
 }
 

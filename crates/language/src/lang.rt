@@ -73,8 +73,7 @@ impl Language {
         ensures is { result.now ≡ scope_at self.now s }
         ensures scope { IsScope (variable_count self.now) result.now }
     {
-        let scope = &self.scopes[s as usize];
-        &scope.variables[..scope.size as usize]
+        self.scopes[s as usize].as_slice()
     }
 
     /// The variables of a scope, as a set.
@@ -82,7 +81,7 @@ impl Language {
         requires { s < length self.now.scopes }
         ensures { result ≡ scope_at self.now s }
     {
-        set_of(self.scope(s))
+        set_of(self.scopes[s as usize].as_slice())
     }
 
     /// The scope that has exactly these variables, if there is one.
@@ -91,7 +90,12 @@ impl Language {
         ensures known { IfSome result (λ s. s < length self.now.scopes) }
         ensures scope { IfSome result (λ s. scope_at self.now s ≡ w) }
     {
-        (0..self.scopes.len() as ScopeId).find(|s| self.scope_set(*s) == w)
+        for s in 0..self.scopes.len() as ScopeId {
+            if w == self.scope_set(s) {
+                return Some(s);
+            }
+        }
+        None
     }
 
     /// How many relations there are on a scope.

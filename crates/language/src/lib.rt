@@ -8,8 +8,10 @@
 //! language.
 #![tactic(auto)]
 
+mod apart;
 mod build;
 mod candidates;
+mod choosing;
 mod frame;
 mod lang;
 pub mod laws;

@@ -27,13 +27,13 @@ and_assoc : (x y z : Bool) → ((x && y) && z) ≡ (x && (y && z))
 and_assoc true y z = refl
 and_assoc false y z = refl
 
-meet_comm : (r q : Relation) → meet r q ≡ meet q r
+pub meet_comm : (r q : Relation) → meet r q ≡ meet q r
 meet_comm [] [] = refl
 meet_comm [] (y ∷ q) = refl
 meet_comm (x ∷ r) [] = refl
 meet_comm (x ∷ r) (y ∷ q) = λ i. and_comm x y i ∷ meet_comm r q i
 
-meet_assoc : (r q s : Relation) → meet (meet r q) s ≡ meet r (meet q s)
+pub meet_assoc : (r q s : Relation) → meet (meet r q) s ≡ meet r (meet q s)
 meet_assoc [] q s = refl
 meet_assoc (x ∷ r) [] s = refl
 meet_assoc (x ∷ r) (y ∷ q) [] = refl
@@ -52,7 +52,7 @@ meet_all_more r (q ∷ more) s = meet_all_more (meet r q) more s
 
 -- ---- intersections of a list, and of one more
 
-one_given : (file : List Relation) (r : Relation) → Contains file r → IsIntersection file r
+pub one_given : (file : List Relation) (r : Relation) → Contains file r → IsIntersection file r
 one_given file r has = record { first = r; more = []; first_given = has; more_given = All-nil (Contains file); is = refl }
 
 meets_given : (file : List Relation) (r s : Relation) → IsIntersection file r → Contains file s → IsIntersection file (meet r s)
@@ -77,16 +77,16 @@ wider file other r has is = record {
 pub with_more : (file : List Relation) (t r : Relation) → IsIntersection file r → IsIntersection (file ++ t ∷ []) r
 with_more file t r is = wider file (file ++ t ∷ []) r (λ q has. Contains-append_left file (t ∷ []) q has) is
 
-contains_map : (f : Relation → Relation) (rs : List Relation) (r : Relation) → Contains rs r → Contains (map f rs) (f r)
+pub contains_map : (f : Relation → Relation) (rs : List Relation) (r : Relation) → Contains rs r → Contains (map f rs) (f r)
 contains_map f rs r has = (has.0, omega (arith, has.1, length-map rs f), get_or-map f rs has.0 r (f r) has.1 ∙ ap f has.2)
 
 -- what is one of the images is the image of one
-record IsImage (f : Relation → Relation) (rs : List Relation) (q : Relation) : Type 0 where
+pub record IsImage (f : Relation → Relation) (rs : List Relation) (q : Relation) : Type 0 where
   pub of : Relation
   pub has : Contains rs of
   pub is : f of ≡ q
 
-image_of : (f : Relation → Relation) (rs : List Relation) (q : Relation) → Contains (map f rs) q → IsImage f rs q
+pub image_of : (f : Relation → Relation) (rs : List Relation) (q : Relation) → Contains (map f rs) q → IsImage f rs q
 image_of f [] q has = let low = has.1 in absurd (omega arith)
 image_of f (r ∷ rs) q (zero, low, is) = record { of = r; has = (zero, omega arith, refl); is = is }
 image_of f (r ∷ rs) q (suc k, low, is) =
@@ -242,7 +242,7 @@ lists_more d file lists whole list arity count is before last a some low =
 
 -- ---- there can't be both too many and few
 
-cons_cases : (x : Relation) (b : List Relation) (q : Relation) → Contains (x ∷ b) q → (x ≡ q) ⊎ Contains b q
+pub cons_cases : (x : Relation) (b : List Relation) (q : Relation) → Contains (x ∷ b) q → (x ≡ q) ⊎ Contains b q
 cons_cases x b q (zero, low, is) = inl is
 cons_cases x b q (suc k, low, is) = inr (k, omega arith, is)
 
@@ -268,7 +268,7 @@ still_there ys k x q low is has apart = go (Contains-append_cases (take k ys) (x
     go (inr right) = after (cons_cases x (drop (suc k) ys) q right)
 
 -- a list without repeats is no longer than one that has all its elements
-no_longer : (xs ys : List Relation) → All (Contains ys) xs → AllPairs (λ r q. r ≢ q) xs → length xs ≤ length ys
+pub no_longer : (xs ys : List Relation) → All (Contains ys) xs → AllPairs (λ r q. r ≢ q) xs → length xs ≤ length ys
 no_longer [] ys each apart = omega arith
 no_longer (x ∷ xs) ys each apart =
     let has : Contains ys x = All-head (Contains ys) x xs each in

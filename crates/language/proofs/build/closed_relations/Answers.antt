@@ -1,25 +1,35 @@
-use Rattle.std.proofs.Common.{map, sym, ◌∙◌, arith}
-use Rattle.rel_table.specs.Table.{TruthTable}
-use Rattle.std.proofs.lemmas.List.{length-map}
-use Rattle.language.specs.Language.{Given}
-use Rattle.language.specs.Inside.{given_by}
-use Rattle.language.specs.Building.{relations_given}
-use Rattle.language.specs.InOrder.{relations_in}
-use Rattle.language.proofs.Intersections.{closing, some_ordered}
+use Rattle.std.proofs.Common.{◌≡◌, ◌-◌, [], get_or, sym, ◌∙◌, subst, arith}
+use Rattle.std.specs.Prelude.{All}
+use Rattle.std.proofs.lemmas.List.{get_or-map, length-map}
+use Rattle.std.proofs.lemmas.List.Elements.{All-map}
+use Rattle.rel_table.specs.Table.{TruthTable, IsTable}
+use Rattle.rel_table.specs.Closing.{IsClosed, IsRefused}
+use Rattle.rel_table.specs.declared.table.CloseFault.TheVariants.{TooMany}
+use Rattle.language.specs.declared.parts.RelPart.{RelPart}
+use Rattle.language.proofs.Closings.{made, closed_of, refused_for}
 use Rattle.language.proofs.build.closed_relations.Goals as goal
 
-pub returns-clause-relations : goal.returns-clause-relations
-returns-clause-relations g c =
-    let file = relations_given (map given_by c.args.parts.now) in
-    let order = c.in-Ok-in_order.ensures.order in
-    let long = length-map c.in-Ok-in_order.relations.items (λ (t : TruthTable). t.truth) in
-    let given = length-map c.args.parts.now given_by in
-    let relations = length-map (map given_by c.args.parts.now) (λ (x : Given). x.relation) in
-    let some = some_ordered file (relations_in c.in-Ok-in_order.relations.items) order (omega (arith, given, relations, c.requires.0)) in
-    record {
-      closing = closing file (relations_in c.in-Ok-in_order.relations.items) (sym c.in-Ok.ensures ∙ c.if-not-closed.false) order;
-      kinds = c.in-Ok-in_order.ensures.kinds;
-      some = omega (arith, some, long);
-      few = omega arith;
-      tables = c.in-Ok-in_order.ensures.tables;
-    }
+pub close-requires : goal.close-requires
+close-requires g c =
+    subst (All (λ (t : TruthTable). t.value_count ≡ g.d)) (sym (c.deref.ensures.value ∙ c.in-Ok.ensures.is))
+    (All-map (λ (t : TruthTable). t.value_count ≡ g.d) (λ (part : RelPart). part.table) c.args.rels.now c.requires)
+
+pub returns-in-Ok-close-clause-closed : goal.returns-in-Ok-close-clause-closed
+returns-in-Ok-close-clause-closed g c = λ arity some short.
+    closed_of g.d c.args.rels.now arity _ (subst (λ file. IsClosed arity g.d file (get_or c.in-Ok-close.closed (arity - 1) [])) (c.deref.ensures.value ∙ c.in-Ok.ensures.is)
+    (c.in-Ok-close.ensures.closed arity some short))
+
+pub returns-in-Ok-close-clause-made : goal.returns-in-Ok-close-clause-made
+returns-in-Ok-close-clause-made g c =
+    made g.d c.args.rels.now c.in-Ok-close.closed (λ arity some short. subst (λ file. IsClosed arity g.d file (get_or c.in-Ok-close.closed (arity - 1) [])) (c.deref.ensures.value ∙ c.in-Ok.ensures.is)
+    (c.in-Ok-close.ensures.closed arity some short))
+
+pub returns-in-Ok-close-clause-lawful : goal.returns-in-Ok-close-clause-lawful
+returns-in-Ok-close-clause-lawful g c = λ k d low.
+    subst IsTable (get_or-map (λ (part : RelPart). part.table) c.args.rels.now k d d.table low)
+    (subst (All IsTable) c.in-Ok.ensures.is c.in-Ok.ensures.lawful k d.table (omega (arith, low, length-map c.args.rels.now (λ (part : RelPart). part.table))))
+
+pub returns-in-Err-TooMany-clause-refused : goal.returns-in-Err-TooMany-clause-refused
+returns-in-Err-TooMany-clause-refused g c = λ other.
+    refused_for c.args.rels.now c.in-Err-TooMany.arity
+    (subst (λ file. IsRefused file (TooMany c.in-Err-TooMany.arity)) (c.deref.ensures.value ∙ c.in-Ok.ensures.is) (subst (IsRefused c.deref.result.now) c.in-Err-TooMany.field-0-is c.in-Err-TooMany.ensures.refused))

@@ -1,55 +1,81 @@
-use Rattle.std.proofs.Common.{◌≡◌, ℕ, ◌≤◌, List, length, sym, ◌∙◌, ap, subst, arith, refl, to_z, of_z, w64}
-use Rattle.std.specs.Prelude.{String, string_bytes}
+use Rattle.std.proofs.Common.{◌≡◌, ℕ, ◌-◌, ◌≤◌, List, [], get_or, length, map, sym, ◌∙◌, ap, subst, arith, refl, to_z, of_z, w64}
+use Rattle.std.specs.Prelude.{String, string_bytes, Some, All}
 use Rattle.std.specs.declared.alloc.Global.{Global}
 use Rattle.std.proofs.lemmas.Int.{to_z-of_z}
 use Rattle.std.proofs.lemmas.Bool.{eqb-false}
 use Rattle.std.proofs.lemmas.List.{length-map}
+use Rattle.std.proofs.lemmas.Result.{err_from_is_err_and}
 use Rattle.language.specs.declared.parts.RelPart.{RelPart}
+use Rattle.rel_table.specs.Table.{IsTable}
+use Rattle.language.specs.declared.scopes.Scope.{Scope}
 use Rattle.language.specs.declared.lang.Language.TheInside.{Inside}
-use Rattle.language.specs.Building.{Frame, IsFrame, rising_lists}
-use Rattle.language.specs.InOrder.{AreRelations}
+use Rattle.language.specs.Built.{AreScopes, IsClosedOf}
+use Rattle.language.specs.Scopes.{variables_in}
 use Rattle.language.proofs.Wording.{least_fits}
-use Rattle.language.proofs.Built.{IsMadeOf, values_of, values_of-binary, sound_pairs, built_pairs}
+use Rattle.language.specs.Building.{Frame, IsFrame, listed_in, scopes_of, scopes_refusal}
+use Rattle.language.specs.Inside.{given_by, first_numbers}
+use Rattle.language.proofs.Built.{IsMadeOf, sound, built, refused_scopes, values_of, values_of-over}
 use Rattle.language.proofs.lang.Language.build.Goals as goal
+use Rattle.language.proofs.lang.Language.build.Goals.{In-Ok}
 
-abbrev fields : (c : goal.In-Ok-all_pairs) → Inside
+abbrev fields : (c : In-Ok) → Inside
 fields c = record {
   names = c.frame.inside.names;
   least_value = to_z w64 (of_z w64 c.frame.inside.least_value);
   value_count = c.frame.inside.value_count;
   given = c.args.rels;
-  scopes = c.in-Ok-all_pairs.scopes;
-  relations = c.in-Ok.relations;
+  scopes = c.in_ok-scopes.scopes;
+  relations = c.in_ok-relations.relations;
+  numbers = c.in-Ok.numbers;
 }
 
-some_part : (c : goal.In-Ok-all_pairs) → 1 ≤ length c.args.rels.items
-some_part c = let some = eqb-false _ _ (sym c.is_empty.ensures ∙ c.if-is_empty.false) in omega (arith, some)
+count : (c : In-Ok) → c.len.result ≡ length c.args.frame.names
+count c =
+    (let long : c.len.result ≡ length c.frame.inside.names.items = omega arith in long) ∙ sym (length-map c.frame.inside.names.items (λ (s : String Global). string_bytes s)) ∙ ap (λ (f : Frame). length f.names) c.frame.view_is
 
-is_frame : (c : goal.In-Ok-all_pairs) → IsFrame c.args.frame
+is_frame : (c : In-Ok) → IsFrame c.args.frame
 is_frame c = subst IsFrame c.frame.view_is c.frame.invariant
 
-relations : (c : goal.In-Ok-all_pairs) → AreRelations c.args.frame.value_count c.args.rels.items c.in_ok-relations.relations.items
-relations c =
-    subst (λ (d : ℕ). AreRelations d c.args.rels.items c.in_ok-relations.relations.items) (values_of-binary c.args.frame.value_count c.args.rels.items (some_part c) c.requires.tables)
-    (subst (λ (parts : List RelPart). AreRelations (values_of parts) parts c.in_ok-relations.relations.items) c.deref.ensures.value c.in_ok-relations.ensures.relations)
-
-made : (c : goal.In-Ok-all_pairs) → IsMadeOf c.args.frame c.args.rels.items c.in_ok-relations.relations.items (fields c)
+made : (c : In-Ok) → IsMadeOf c.args.frame c.args.rels.items (fields c)
 made c =
+    let some : 1 ≤ length c.args.rels.items = (let e = eqb-false _ _ (sym c.is_empty.ensures ∙ c.if-is_empty.false) in omega (arith, e)) in
     let small = to_z-of_z w64 c.frame.inside.least_value (least_fits c.frame.inside.least_value c.frame.inside.value_count c.frame.invariant.some_value c.frame.invariant.low c.frame.invariant.high) in
-    let count : c.len.result ≡ length c.args.frame.names =
-    (let long : c.len.result ≡ length c.frame.inside.names.items = omega arith in long) ∙ sym (length-map c.frame.inside.names.items (λ (s : String Global). string_bytes s)) ∙ ap (λ (f : Frame). length f.names) c.frame.view_is in
+    let d : values_of c.deref-2.result.now ≡ c.args.frame.value_count = ap values_of c.deref-2.ensures.value ∙ values_of-over c.args.frame.value_count c.args.rels.items some c.requires.tables in
     record {
       names = ap (λ (f : Frame). f.names) c.frame.view_is;
       least_value = small ∙ ap (λ (f : Frame). f.least_value) c.frame.view_is;
       value_count = ap (λ (f : Frame). f.value_count) c.frame.view_is;
       given = refl;
-      scopes = c.in-Ok-all_pairs.ensures.pairs ∙ ap (λ n. rising_lists n 2) count;
-      short = c.in-Ok-all_pairs.ensures.short;
-      relations = c.in-Ok.ensures;
+      over = c.requires.tables;
+      tables = subst (All (λ (part : RelPart). IsTable part.table)) c.deref-2.ensures.value c.in_ok-relations.ensures.lawful;
+      relation_names = c.requires.names;
+      scopes = subst (λ (n : ℕ). AreScopes n (map given_by c.args.rels.items) c.in_ok-scopes.scopes.items) (count c)
+          (subst (λ (parts : List RelPart). AreScopes c.len.result (map given_by parts) c.in_ok-scopes.scopes.items) c.deref.ensures.value c.in_ok-scopes.ensures.sound);
+      sized = subst (All (λ (scope : Scope). length (variables_in scope) ≡ scope.size)) c.deref-3.ensures.value c.in-Ok.ensures.sized;
+      relations = λ arity some short. subst (λ (d : ℕ). IsClosedOf d arity (map given_by c.args.rels.items) (get_or c.in_ok-relations.relations (arity - 1) [])) d
+          (subst (λ (parts : List RelPart). IsClosedOf (values_of c.deref-2.result.now) arity (map given_by parts) (get_or c.in_ok-relations.relations (arity - 1) [])) c.deref-2.ensures.value
+          (c.in_ok-relations.ensures.closed arity some short));
+      numbers = c.in-Ok.ensures.is ∙ ap (first_numbers c.in_ok-relations.relations) c.deref-3.ensures.value;
     }
 
 pub invariant_of-result : goal.invariant_of-result
-invariant_of-result c = sound_pairs c.args.frame c.args.rels.items c.in_ok-relations.relations.items (fields c) (is_frame c) c.requires.tables c.requires.names (relations c) (made c)
+invariant_of-result c = let at = (goal.at.invariant_of-result c).In-Ok in sound at.args.frame at.args.rels.items (fields at) (is_frame at) (made at)
 
 pub returns-clause-built : goal.returns-clause-built
-returns-clause-built c = built_pairs c.args.frame c.args.rels.items c.in_ok-relations.relations.items (fields c) (is_frame c) c.requires.tables (some_part c) c.requires.names (relations c) (made c)
+returns-clause-built c =
+    let at = (goal.at.returns-clause-built c).In-Ok in
+    built at.args.frame at.args.rels.items (listed_in at.args.scopes) (fields at) (is_frame at) (made at)
+    (subst (λ (n : ℕ). map variables_in at.in_ok-scopes.scopes.items ≡ scopes_of n (map given_by at.args.rels.items) (listed_in at.args.scopes)) (count at)
+    (subst (λ (parts : List RelPart). map variables_in at.in_ok-scopes.scopes.items ≡ scopes_of at.len.result (map given_by parts) (listed_in at.args.scopes)) at.deref.ensures.value at.in_ok-scopes.ensures.is))
+
+pub returns-in_err-scopes-clause-refused : goal.returns-in_err-scopes-clause-refused
+returns-in_err-scopes-clause-refused c =
+    let some : 1 ≤ length c.args.rels.items = (let e = eqb-false _ _ (sym c.is_empty.ensures ∙ c.if-is_empty.false) in omega (arith, e)) in
+    let names : c.len.result ≡ length c.args.frame.names =
+    (let long : c.len.result ≡ length c.frame.inside.names.items = omega arith in long) ∙ sym (length-map c.frame.inside.names.items (λ (s : String Global). string_bytes s)) ∙ ap (λ (f : Frame). length f.names) c.frame.view_is in
+    let p = err_from_is_err_and c.from_residual.result c.from_residual.ensures.1 in
+    rw (p.1, p.2) (λ other.
+    refused_scopes (length c.args.frame.names) (map given_by c.args.rels.items) (listed_in c.args.scopes) c.in_err-scopes.field-0.0 (omega (arith, some, length-map c.args.rels.items given_by))
+    (subst (λ (n : ℕ). scopes_refusal (map given_by c.args.rels.items) (scopes_of n (map given_by c.args.rels.items) (listed_in c.args.scopes)) ≡ Some c.in_err-scopes.field-0.0) names
+    (subst (λ (parts : List RelPart). scopes_refusal (map given_by parts) (scopes_of c.len.result (map given_by parts) (listed_in c.args.scopes)) ≡ Some c.in_err-scopes.field-0.0) c.deref.ensures.value
+    (c.in_err-scopes.ensures.refused other))))

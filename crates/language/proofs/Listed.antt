@@ -1,0 +1,23 @@
+-- Listed scopes, as lists.
+use Rattle.std.proofs.Common.{◌≡◌, ℕ, ◌<◌, List, length, map, Some, None, ◌∙◌, arith}
+use Rattle.std.specs.Prelude.{position, not}
+use Rattle.std.specs.declared.alloc.Global.{Global}
+use Rattle.smallvec.specs.declared.small_vec.SmallVec.{SmallVec}
+use Rattle.language.specs.Language.{Given}
+use Rattle.language.specs.declared.parts.LangFault.TheVariants.{ScopeOrder, TooManyScopes}
+use Rattle.language.specs.Building.{is_ordered, scopes_refusal}
+use Rattle.language.proofs.Lawful.{position-map, length-same, refused_order, refused_many}
+
+abbrev pub lists_in : List (SmallVec ℕ 4 Global) → List (List ℕ)
+lists_in listed = map (λ (scope : SmallVec ℕ 4 Global). scope.items) listed
+
+pub first_is : (listed : List (SmallVec ℕ 4 Global)) → position (λ scope. not (is_ordered scope)) (lists_in listed) ≡ position (λ (scope : SmallVec ℕ 4 Global). not (is_ordered scope.items)) listed
+first_is listed = position-map (λ scope. not (is_ordered scope)) (λ (scope : SmallVec ℕ 4 Global). scope.items) listed
+
+pub unordered : (given : List Given) (listed : List (SmallVec ℕ 4 Global)) (i : ℕ) → position (λ (scope : SmallVec ℕ 4 Global). not (is_ordered scope.items)) listed ≡ Some i →
+    scopes_refusal given (lists_in listed) ≡ Some (ScopeOrder i)
+unordered given listed i h = refused_order given (lists_in listed) i (first_is listed ∙ h)
+
+pub many : (given : List Given) (listed : List (SmallVec ℕ 4 Global)) → position (λ (scope : SmallVec ℕ 4 Global). not (is_ordered scope.items)) listed ≡ None → 8192 < length listed →
+    scopes_refusal given (lists_in listed) ≡ Some TooManyScopes
+many given listed h few = refused_many given (lists_in listed) (first_is listed ∙ h) (let same = length-same (λ (scope : SmallVec ℕ 4 Global). scope.items) listed in omega (arith, same, few))

@@ -1,0 +1,43 @@
+-- Lists of numbers as scopes: their order, and their sets.
+use Rattle.std.proofs.Common.{◌≡◌, ℕ, ◌+◌, ◌<◌, ◌≤◌, true, ◌&&◌, List, [], ◌∷◌, length, take, map, refl, sym, ◌∙◌, ap, arith}
+use Rattle.std.specs.Prelude.{All, nat_lt, slice_index_or, ◌==◌}
+use Rattle.std.proofs.lemmas.List.{take_more}
+use Rattle.std.proofs.lemmas.List.Elements.{All-nil, All-cons, All-head, All-tail, All-get_or}
+use Rattle.std.proofs.lemmas.List.Folds.{list_any-append}
+use Rattle.assign.specs.Sets.{Rises, IsSet, has, with_member}
+use Rattle.assign.specs.SetLemmas.{set_where-same}
+use Rattle.assign.proofs.Masks.{canonical, rises_take}
+use Rattle.language.specs.Building.{is_ordered}
+
+-- ---- Sets
+
+rises_known : (a : ℕ) (xs : List ℕ) → Rises a xs → All (λ v. v < 128) xs
+rises_known a [] r = All-nil (λ v. v < 128)
+rises_known a (x ∷ xs) r = All-cons (λ v. v < 128) x xs r.1 (rises_known (x + 1) xs r.2)
+
+pub known_at : (xs : List ℕ) (k : ℕ) → IsSet xs → k < length xs → slice_index_or xs k 0 < 128
+known_at xs k set low = All-get_or (λ v. v < 128) xs k 0 low (rises_known 0 xs set)
+
+pub set_next : (xs : List ℕ) (k : ℕ) → IsSet xs → k < length xs → with_member (take k xs) (slice_index_or xs k 0) ≡ take (k + 1) xs
+set_next xs k set low =
+    set_where-same _ _ (λ v small. sym (list_any-append (λ x. x == v) (take k xs) (slice_index_or xs k 0 ∷ [])) ∙ ap (λ ys. has ys v) (sym (take_more xs k 0 low)))
+    ∙ canonical (take (k + 1) xs) (rises_take 0 (k + 1) xs set)
+
+-- ---- Order
+
+pub one_ordered : (xs : List ℕ) → 1 ≤ length xs → length xs < 2 → true ≡ is_ordered xs
+one_ordered (a ∷ []) low high = refl
+one_ordered [] low high = absurd (omega arith)
+one_ordered (a ∷ b ∷ xs) low high = absurd (omega arith)
+
+pub two_ordered : (xs : List ℕ) → 2 ≤ length xs → length xs < 3 → is_ordered xs ≡ (nat_lt (slice_index_or xs 0 0) (slice_index_or xs 1 0) && true)
+two_ordered (a ∷ b ∷ []) low high = refl
+two_ordered [] low high = absurd (omega arith)
+two_ordered (a ∷ []) low high = absurd (omega arith)
+two_ordered (a ∷ b ∷ c ∷ xs) low high = absurd (omega arith)
+
+-- ---- All of what a list is made of
+
+pub all_of : {X Y : Type 0} (P : Y → Type 0) (f : X → Y) (xs : List X) → All P (map f xs) → All (λ x. P (f x)) xs
+all_of P f [] h = All-nil (λ x. P (f x))
+all_of P f (x ∷ xs) h = All-cons (λ x. P (f x)) x xs (All-head P (f x) (map f xs) h) (all_of P f xs (All-tail P (f x) (map f xs) h))

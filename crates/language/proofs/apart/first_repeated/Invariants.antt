@@ -1,0 +1,7 @@
+use Rattle.std.proofs.Common.{◌≡◌, take, drop}
+use Rattle.assign.specs.Sets.{is_same}
+use Rattle.language.specs.Building.{first_pair, pair_after}
+use Rattle.language.proofs.apart.first_repeated.Given as goal
+
+abbrev pub invariant-loop-j : goal.invariant-loop-j
+invariant-loop-j l = first_pair is_same l.sets ≡ pair_after is_same (take l.j l.sets) (drop l.j l.sets)

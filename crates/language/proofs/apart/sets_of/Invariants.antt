@@ -1,0 +1,6 @@
+use Rattle.std.proofs.Common.{◌≡◌, map, take}
+use Rattle.language.specs.Scopes.{variables_in}
+use Rattle.language.proofs.apart.sets_of.Given as goal
+
+abbrev pub invariant-loop-scope : goal.invariant-loop-scope
+invariant-loop-scope l = l.sets.items ≡ map variables_in (take l.scope-index l.scopes)

@@ -1,0 +1,11 @@
+use Rattle.std.proofs.Common.{◌<◌}
+use Rattle.std.specs.Prelude.{All}
+use Rattle.std.proofs.lemmas.List.Elements.{All-get_or}
+use Rattle.language.specs.Scopes.{variables_in}
+use Rattle.language.proofs.Stated.{all_of}
+use Rattle.language.proofs.choosing.lengthened.Goals as goal
+
+pub with_longer-requires-clause-known : goal.with_longer-requires-clause-known
+with_longer-requires-clause-known c =
+    All-get_or (λ scope. All (λ v. v < c.args.n) (variables_in scope)) c.args.scopes.now c.loop-scope.scope-index _ c.loop-scope-test.true
+    (all_of (All (λ v. v < c.args.n)) variables_in c.args.scopes.now c.requires.known)

@@ -1,0 +1,20 @@
+use Rattle.std.proofs.Common.{◌∙◌, sym, ℕ}
+use Rattle.std.specs.declared.alloc.Global.{Global}
+use Rattle.smallvec.specs.declared.small_vec.SmallVec.{SmallVec}
+use Rattle.language.specs.Building.{is_ordered}
+use Rattle.language.proofs.Lawful.{all_pass}
+use Rattle.language.proofs.Listed.{first_is, unordered, many}
+use Rattle.language.proofs.scopes.listed_scopes.Goals as goal
+
+pub returns-in-Some-clause-refused : goal.returns-in-Some-clause-refused
+returns-in-Some-clause-refused c = λ _ given. unordered given c.args.listed.now c.in-Some.i (sym c.first_unordered.ensures ∙ c.in-Some.is)
+
+pub returns-then-listed-gt-MOST_SCOPES-clause-refused :
+    goal.returns-then-listed-gt-MOST_SCOPES-clause-refused
+returns-then-listed-gt-MOST_SCOPES-clause-refused c = λ _ given. many given c.args.listed.now (sym c.first_unordered.ensures ∙ c.in_default.is) c.if-listed-gt-MOST_SCOPES.true
+
+pub copies-requires : goal.copies-requires
+copies-requires c = all_pass (λ (scope : SmallVec ℕ 4 Global). is_ordered scope.items) c.args.listed.now (sym c.first_unordered.ensures ∙ c.in_default.is)
+
+pub returns-in-Ok-clause-ordered : goal.returns-in-Ok-clause-ordered
+returns-in-Ok-clause-ordered c = first_is c.args.listed.now ∙ sym c.first_unordered.ensures ∙ c.in_default.is

@@ -1,0 +1,23 @@
+use Rattle.std.proofs.Common.{◌∙◌, ap, sym, map, subst}
+use Rattle.std.specs.Prelude.{All}
+use Rattle.assign.specs.Sets.{IsSet}
+use Rattle.language.specs.Inside.{given_by}
+use Rattle.language.specs.Scopes.{variables_in}
+use Rattle.language.specs.Building.{listed_in, scopes_of, scope_list_refusal}
+use Rattle.language.proofs.Lawful.{are_sets, known_in, sound}
+use Rattle.language.proofs.scopes.stated_scopes.Goals as goal
+
+pub sets_of-requires-clause-sets : goal.sets_of-requires-clause-sets
+sets_of-requires-clause-sets c =
+    let given = map given_by c.args.rels.now in
+    let listed = listed_in c.args.part in
+    subst (All IsSet) (sym (ap (map variables_in) c.deref.ensures.value ∙ c.in_ok-scopes.ensures.is))
+    (are_sets c.args.n (scopes_of c.args.n given listed) c.requires.few c.in_ok-scopes.ensures.ordered (known_in c.args.n given listed c.requires.known))
+
+pub returns-clause-sound : goal.returns-clause-sound
+returns-clause-sound c =
+    let given = map given_by c.args.rels.now in
+    let listed = listed_in c.args.part in
+    sound c.args.n given (scopes_of c.args.n given listed) c.in_ok-scopes.scopes.items c.in_ok-scopes.ensures.is c.in_ok-scopes.ensures.few c.in_ok-scopes.ensures.sized
+    c.in_ok-scopes.ensures.ordered (known_in c.args.n given listed c.requires.known)
+    (sym (ap (scope_list_refusal given) (c.deref-2.ensures.value ∙ c.in-Ok.ensures ∙ ap (map variables_in) c.deref.ensures.value ∙ c.in_ok-scopes.ensures.is)) ∙ sym c.refusal_of.ensures ∙ c.in-None.is)
