@@ -12,8 +12,6 @@ mod order;
 mod place;
 mod query;
 mod screen;
-#[cfg(test)]
-mod tests;
 
 pub use place::Place;
 pub use query::{Query, next_query};
