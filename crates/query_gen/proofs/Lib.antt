@@ -1,0 +1,5 @@
+pub mod Numbers
+pub mod Among
+pub mod Marking
+pub mod Asking
+pub mod Told

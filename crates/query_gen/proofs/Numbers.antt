@@ -1,0 +1,80 @@
+-- Candidates by their numbers.
+use Rattle.std.proofs.Common.{◌≡◌, ℕ, ◌+◌, ◌<◌, ◌≤◌, Bool, true, false, not, cond, List, [], ◌∷◌, ◌++◌, length, map, take, get_or, refl, sym, ◌∙◌, ap, arith, append_assoc}
+use Rattle.std.specs.List.{filter}
+use Rattle.std.proofs.lemmas.List.{length-map, map_more, take_all, append-nil, get_or_read}
+use Rattle.std.proofs.lemmas.List.Elements.{filter_more}
+use Rattle.std.proofs.lemmas.List.FromFn.{length-range_with_len, get_or-range_with_len, get_or-map-range_with_len}
+use Rattle.assign.specs.Sets.{numbers, has}
+use Rattle.language.specs.declared.candidates.Candidate.{Candidate}
+use Rattle.language.specs.Language.{Language, IsCandidate, candidates, number_of}
+use Rattle.language.proofs.Counting.{numbered}
+use Rattle.query_gen.specs.Marks.{Remembered, IsMadeFor}
+use Rattle.query_gen.specs.Inside.{candidate_at}
+
+-- the first candidate on a scope
+abbrev pub first_on : ℕ → Candidate
+first_on s = record { scope = s; rel = 0 }
+
+-- the candidate of a number is the one that has it
+pub candidate_is : (l : Language) (c : Candidate) (number : ℕ) → IsCandidate l c → number_of l c ≡ number → candidate_at l number ≡ c
+candidate_is l c number is at = ap (λ n. get_or (candidates l) n (first_on 0)) (sym at) ∙ (numbered l).there c (first_on 0) is
+
+pub number_below : (l : Language) (c : Candidate) → IsCandidate l c → number_of l c < length (candidates l)
+number_below l c is = (numbered l).below c is
+
+-- ---- The numbers that a screen holds
+
+pub length-first : (l : Language) (s : Remembered) → IsMadeFor l s → length s.first ≡ length l.scopes
+length-first l s made =
+    ap length made.first
+    ∙ length-map (numbers (length l.scopes)) (λ (at : ℕ). number_of l (first_on at))
+    ∙ length-range_with_len 0 (length l.scopes)
+
+-- a candidate's number, from that of the first on its scope
+pub number_from : (l : Language) (s : Remembered) (c : Candidate) → IsMadeFor l s → IsCandidate l c → get_or s.first c.scope 0 + c.rel ≡ number_of l c
+number_from l s c made is =
+    let first : get_or s.first c.scope 0 ≡ number_of l (first_on c.scope) =
+    ap (λ xs. get_or xs c.scope 0) made.first ∙ get_or-map-range_with_len (λ (at : ℕ). number_of l (first_on at)) 0 (length l.scopes) c.scope c.scope 0 is.scope (let e : 0 + c.scope ≡ c.scope = omega arith in e) in
+    omega arith
+
+-- ---- One scope after another
+
+pub one_more : (f : ℕ → ℕ) (n i y : ℕ) (xs ys : List ℕ) → i < n → y ≡ f i → ys ≡ xs ++ y ∷ [] → xs ≡ map f (take i (numbers n)) → ys ≡ map f (take (i + 1) (numbers n))
+one_more f n i y xs ys low is pushed so_far =
+    pushed
+    ∙ ap (λ zs. zs ++ y ∷ []) so_far
+    ∙ ap (λ z. map f (take i (numbers n)) ++ z ∷ []) (is ∙ ap f (sym (get_or-range_with_len 0 n i 0 low ∙ (let e : 0 + i ≡ i = omega arith in e))))
+    ∙ sym (map_more f (numbers n) i 0 (let long = length-range_with_len 0 n in omega arith))
+
+pub all_numbers : (f : ℕ → ℕ) (n i : ℕ) (xs : List ℕ) → n ≤ i → xs ≡ map f (take i (numbers n)) → xs ≡ map f (numbers n)
+all_numbers f n i xs past so_far = so_far ∙ ap (map f) (take_all i (numbers n) (let long = length-range_with_len 0 n in omega arith))
+
+-- ---- The variables of an order
+
+-- one that the scope has is passed over, and another one is put
+pub next_variable : (scope : List ℕ) (n v : ℕ) (passes : Bool) (xs ys : List ℕ) → v < n → passes ≡ not (has scope v) → ys ≡ cond passes (xs ++ v ∷ []) xs →
+    xs ≡ scope ++ filter (λ w. not (has scope w)) (take v (numbers n)) → ys ≡ scope ++ filter (λ w. not (has scope w)) (take (v + 1) (numbers n))
+next_variable scope n v passes xs ys low is put so_far =
+    put
+    ∙ tail passes xs
+    ∙ ap (λ zs. zs ++ cond passes (v ∷ []) []) so_far
+    ∙ append_assoc scope (filter outside (take v (numbers n))) (cond passes (v ∷ []) [])
+    ∙ ap (λ b. scope ++ (filter outside (take v (numbers n)) ++ cond b (v ∷ []) [])) is
+    ∙ ap (λ w. scope ++ (filter outside (take v (numbers n)) ++ cond (outside w) (w ∷ []) [])) (sym (get_or-range_with_len 0 n v 0 low ∙ (let e : 0 + v ≡ v = omega arith in e)))
+    ∙ ap (λ zs. scope ++ zs) (sym (filter_more outside (numbers n) v 0 (let long = length-range_with_len 0 n in omega arith)))
+  where
+    outside : ℕ → Bool
+    outside w = not (has scope w)
+
+    tail : (b : Bool) (zs : List ℕ) → cond b (zs ++ v ∷ []) zs ≡ zs ++ cond b (v ∷ []) []
+    tail true zs = refl
+    tail false zs = sym (append-nil zs)
+
+-- ---- Reading a mark
+
+-- the number that the fields of a screen give a candidate
+pub read_number : (l : Language) (s : Remembered) (c : Candidate) → IsMadeFor l s → IsCandidate l c → (at first rel : ℕ) → at ≡ c.scope → at < length s.first → first ≡ get_or s.first at first → rel ≡ c.rel → first + rel ≡ number_of l c
+read_number l s c made is at first rel here low read same =
+    let all : first ≡ get_or s.first c.scope 0 = get_or_read s.first at first low read 0 ∙ ap (λ k. get_or s.first k 0) here in
+    let from = number_from l s c made is in
+    omega arith

@@ -1,0 +1,6 @@
+use Rattle.fd_solver.proofs.Outcomes.{absent_is_implied}
+use Rattle.query_gen.proofs.Told.{all_are_implied}
+use Rattle.query_gen.proofs.laws.all_are_implied.Goals as goal
+
+pub returns : goal.returns
+returns c = all_are_implied absent_is_implied

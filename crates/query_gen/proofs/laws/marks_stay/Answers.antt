@@ -1,0 +1,6 @@
+use Rattle.fd_solver.proofs.Outcomes.{absent_stays}
+use Rattle.query_gen.proofs.Marking.{marks_stay}
+use Rattle.query_gen.proofs.laws.marks_stay.Goals as goal
+
+pub returns : goal.returns
+returns c = marks_stay absent_stays

@@ -1,0 +1,7 @@
+use Rattle.std.proofs.Common.{◌≡◌, map, take, length}
+use Rattle.language.specs.Language.{number_of}
+use Rattle.assign.specs.Sets.{numbers}
+use Rattle.query_gen.proofs.screen.first_numbers.Given as goal
+
+abbrev pub invariant-loop-scope : goal.invariant-loop-scope
+invariant-loop-scope l = l.first.items ≡ map (λ scope. number_of l.lang (record { scope = scope; rel = 0 })) (take l.scope (numbers (length l.lang.scopes)))

@@ -1,0 +1,6 @@
+use Rattle.std.proofs.Common.{◌≡◌, ◌++◌, map, take, drop}
+use Rattle.query_gen.specs.Inside.{without_spent}
+use Rattle.query_gen.proofs.screen.forget_spent.Given as goal
+
+abbrev pub invariant-loop-mark : goal.invariant-loop-mark
+invariant-loop-mark l = l.marks ≡ map without_spent (take l.mark-index l.initial.marks) ++ drop l.mark-index l.initial.marks

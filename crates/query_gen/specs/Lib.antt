@@ -1,0 +1,4 @@
+pub mod Questions
+pub mod Marks
+pub mod Laws
+pub mod Inside

@@ -1,0 +1,18 @@
+//! The next question of a session: the first kept candidate, in candidate order, whose search finds one.
+//!
+//! A `Query` is what the outcomes of the kept candidates' searches say (`next_query`). A `Screen` remembers outcomes
+//! from one call to the next, so that what can't have changed isn't searched again. It is seen as a mark for each
+//! candidate, by number (`Remembered`). The floor above keeps `MarksHold`, that its marks are true: a screen without
+//! marks has it, each call ensures it again, and it stays while the network grows (`laws`). The floor above may rely
+//! on each answer as if nothing had been remembered, and on what it says of the kept candidates (`laws`).
+#![tactic(auto)]
+
+pub mod laws;
+mod order;
+mod place;
+mod query;
+mod screen;
+
+pub use place::Place;
+pub use query::{Query, next_query};
+pub use screen::Screen;
