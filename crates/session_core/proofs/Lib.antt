@@ -5,3 +5,4 @@ pub mod Putting
 pub mod Questions
 pub mod Settling
 pub mod Turning
+pub mod Reached
