@@ -3,7 +3,7 @@
 ghost use Rattle.std.specs.Prelude.{◌≡◌, ◌≢◌, true, All, AllPairs, IfOk, map, string_bytes, bytes_eq};
 ghost use Rattle.std.specs.List.{list_all, list_any};
 ghost use Rattle.language.specs.Language.{Given, AreNames, IsQuestion, is_name, is_name_byte};
-ghost use Rattle.language.specs.Building.{IsBinary};
+ghost use Rattle.language.specs.Building.{IsOver};
 ghost use Rattle.language.specs.Inside.{given_by};
 
 use assign::Partial;
@@ -26,7 +26,7 @@ pub(crate) const ACCEPTED: [[bool; 4]; 7] = [
 /// A relation of two values, each 1 or 2.
 fn relation(alloc: Global, name: &str, accepted: [bool; 4]) -> Result<RelPart, Fail>
     ensures name { IfOk result (λ p. string_bytes p.name ≡ name.now) }
-    ensures binary { IfOk result (IsBinary 2) }
+    ensures binary { IfOk result (IsOver 2) }
 {
     let mut tuples = Vec::new(alloc);
     for (place, is_accepted) in accepted.into_iter().enumerate() {
@@ -46,7 +46,7 @@ fn relation(alloc: Global, name: &str, accepted: [bool; 4]) -> Result<RelPart, F
 
 /// le, ge and ne, and what they have in common.
 fn relations(alloc: Global) -> Result<Vec<RelPart>, Fail>
-    ensures binary { IfOk result (λ v. All (IsBinary 2) v.items) }
+    ensures binary { IfOk result (λ v. All (IsOver 2) v.items) }
     ensures names { IfOk result (λ v. AreNames (map (λ (g : Given). g.name) (map given_by v.items))) }
 {
     let [le, ge, eq, ne, lt, gt, none] = ACCEPTED;

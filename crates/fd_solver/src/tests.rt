@@ -3,7 +3,7 @@
 ghost use Rattle.std.specs.Prelude.{◌≡◌, ◌≢◌, ◌<◌, ◌≤◌, true, All, AllPairs, IfOk, map, string_bytes};
 ghost use Rattle.language.specs.Language.{Given, AreNames, IsQuestion, IsCandidate, variable_count};
 ghost use Rattle.language.specs.Answers.{IsNetwork};
-ghost use Rattle.language.specs.Building.{IsBinary};
+ghost use Rattle.language.specs.Building.{IsOver};
 ghost use Rattle.language.specs.Inside.{given_by};
 ghost use Rattle.fd_solver.specs.Outcomes.{IsOrder};
 
@@ -36,7 +36,7 @@ fn names(alloc: Global, n: u8) -> Result<Vec<String>, Fail>
 /// A relation of d values: the tuple of values x and y is in it where bit d x + y of `accepted` is one.
 fn relation(alloc: Global, name: &str, d: u8, accepted: u64) -> Result<RelPart, Fail>
     ensures name { IfOk result (λ p. string_bytes p.name ≡ name.now) }
-    ensures binary { IfOk result (IsBinary d) }
+    ensures binary { IfOk result (IsOver d) }
 {
     let mut tuples = Vec::new(alloc);
     for x in 0..d {
@@ -58,7 +58,7 @@ fn relation(alloc: Global, name: &str, d: u8, accepted: u64) -> Result<RelPart, 
 
 /// Two relations and what they have in common.
 fn relations(alloc: Global, d: u8, first: u64, second: u64) -> Result<Vec<RelPart>, Fail>
-    ensures binary { IfOk result (λ v. All (IsBinary d) v.items) }
+    ensures binary { IfOk result (λ v. All (IsOver d) v.items) }
     ensures names { IfOk result (λ v. AreNames (map (λ (g : Given). g.name) (map given_by v.items))) }
 {
     let mut parts = Vec::new(alloc);

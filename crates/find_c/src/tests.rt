@@ -2,7 +2,7 @@
 
 ghost use Rattle.std.specs.Prelude.{◌≡◌, ◌^◌, ◌<◌, [], ◌∷◌, length, All, IfOk, map, string_bytes};
 ghost use Rattle.language.specs.Language.{Given, AreNames};
-ghost use Rattle.language.specs.Building.{IsBinary};
+ghost use Rattle.language.specs.Building.{IsOver};
 ghost use Rattle.language.specs.Inside.{given_by};
 
 use crate::{RelNext, RelRun};
@@ -25,7 +25,7 @@ fn two_names(alloc: Global, first: &str, second: &str) -> Result<Vec<String>, Al
 fn relation(alloc: Global, name: &str, tuples: &[Vec<i64>]) -> Result<RelPart, Fail>
     requires { length tuples.now < 2 ^ 32 }
     ensures name { IfOk result (λ p. string_bytes p.name ≡ name.now) }
-    ensures binary { IfOk result (IsBinary 2) }
+    ensures binary { IfOk result (IsOver 2) }
 {
     Ok(RelPart {
         name: String::from_str(alloc, name)?,
@@ -34,7 +34,7 @@ fn relation(alloc: Global, name: &str, tuples: &[Vec<i64>]) -> Result<RelPart, F
 }
 
 fn relations(alloc: Global) -> Result<Vec<RelPart>, Fail>
-    ensures binary { IfOk result (λ v. All (IsBinary 2) v.items) }
+    ensures binary { IfOk result (λ v. All (IsOver 2) v.items) }
     ensures names { IfOk result (λ v. AreNames (map (λ (g : Given). g.name) (map given_by v.items))) }
 {
     let equal = [vec![in alloc; 1, 1]?, vec![in alloc; 2, 2]?];

@@ -1,7 +1,7 @@
 ghost use Rattle.std.specs.Prelude.{◌≡◌, [], ◌∷◌, All, IfOk, map, string_bytes};
 ghost use Rattle.language.specs.Language.{Given, AreNames};
 ghost use Rattle.language.specs.Inside.{given_by};
-ghost use Rattle.language.specs.Building.{IsBinary};
+ghost use Rattle.language.specs.Building.{IsOver};
 
 use crate::{LineTeacher, Teacher, Told};
 use acq_io::{MemSink, MemSource, Sink, Source};
@@ -29,7 +29,7 @@ fn two_names(alloc: Global, first: &str, second: &str) -> Result<Vec<String>, Al
 
 /// The relation that nothing has.
 fn relations(alloc: Global) -> Result<Vec<RelPart>, Fail>
-    ensures binary { IfOk result (λ v. All (IsBinary 2) v.items) }
+    ensures binary { IfOk result (λ v. All (IsOver 2) v.items) }
     ensures names { IfOk result (λ v. AreNames (map (λ (g : Given). g.name) (map given_by v.items))) }
 {
     let mut parts = Vec::new(alloc);
