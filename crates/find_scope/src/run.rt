@@ -55,6 +55,7 @@ impl ScopeRun {
 
     /// The set that a reply is wanted about. It is never empty, and lies within the whole set.
     pub fn wants(&self) -> VarSet
+        ensures is { result ≡ self.now.base }
         ensures some { 0 < length result }
         ensures wanted { (set : List ℕ) (replies : List Bool) →
             StandsFor (ScopeNext.Wants self.now) set replies → halve set replies ≡ WantsReply result }

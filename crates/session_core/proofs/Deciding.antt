@@ -1,18 +1,17 @@
 -- A scope that is decided stays so while candidates go and the network grows.
-use Rattle.std.proofs.Common.{◌≡◌, ℕ, ◌<◌, Bool, true, false, ◌||◌, ◌&&◌, not, List, [], ◌∷◌, ◌++◌, map, refl, sym, ◌∙◌, ap, arith, inl, inr, ◌⊎◌, Option, Some, None, cond}
+use Rattle.std.proofs.Common.{◌≡◌, ℕ, Bool, true, false, ◌||◌, ◌&&◌, not, List, [], ◌∷◌, map, refl, sym, ◌∙◌, ap, Some, None, cond}
 use Rattle.std.specs.Prelude.{find, is_some, filter, ◌==◌}
 use Rattle.std.specs.List.{list_any}
 use Rattle.std.proofs.lemmas.List.Folds.{list_any-append}
-use Rattle.std.proofs.lemmas.Bool.{and_parts, and_from, or_left, or_right, cases_Bool, both_ways}
+use Rattle.std.proofs.lemmas.Bool.{and_parts, and_from, or_left, or_right, both_ways}
 use Rattle.language.specs.declared.candidates.Candidate.{Candidate}
 use Rattle.language.specs.Language.{Language}
 use Rattle.language.specs.Answers.{has_scope}
-use Rattle.language.proofs.Members.{any-filter, any-map, find_none}
+use Rattle.language.proofs.Members.{any-filter, any-map}
 use Rattle.rel_table.specs.Relation.{tuples}
 use Rattle.find_c.specs.Choosing.{Choice, Scene, allows, tells_apart, splitting_tuple}
 use Rattle.find_c.specs.Scenes.{scene_of, free_choices}
-use Rattle.session_laws.specs.Session.{is_undecided, learn}
-use Rattle.session_core.specs.Sound.{NoneBefore}
+use Rattle.session_laws.specs.Session.{is_undecided}
 
 -- what some member passes, some member passes of a weaker test
 any_weaker : {X : Type 0} (p q : X → Bool) (xs : List X) → ((x : X) → p x ≡ true → q x ≡ true) → list_any p xs ≡ true → list_any q xs ≡ true

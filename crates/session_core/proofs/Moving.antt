@@ -1,30 +1,35 @@
--- How a session moves: what it stands for after an answer.
-use Rattle.std.proofs.Common.{◌≡◌, ℕ, ◌+◌, ◌-◌, ◌^◌, ◌<◌, ◌≤◌, min, Bool, true, false, ◌||◌, ◌&&◌, not, cond, List, [], ◌∷◌, ◌++◌, length, refl, sym, ◌∙◌, ap, subst, arith, Option, Some, None, length-append}
-use Rattle.std.specs.Prelude.{filter, ◌==◌, IsTrue}
-use Rattle.std.specs.List.{list_any}
+-- What a session knows after an answer.
+use Rattle.std.proofs.Common.{◌≡◌, ℕ, ◌+◌, ◌-◌, ◌^◌, ◌<◌, min, Bool, true, false, ◌||◌, ◌&&◌, not, cond, List, [], ◌∷◌, ◌++◌, map, length, refl, sym, ◌∙◌, ap, subst, arith, Option, Some, None, length-append}
+use Rattle.std.specs.Prelude.{filter, ◌==◌}
+use Rattle.std.proofs.lemmas.List.Elements.{All-nil, All-cons, All-head, All-tail, All-filter}
 use Rattle.std.proofs.lemmas.List.Folds.{list_any-append}
-use Rattle.std.proofs.lemmas.Bool.{or_parts}
-use Rattle.assign.specs.Assignment.{Assignment}
+use Rattle.std.proofs.lemmas.Bool.{and_parts, eqb-true, or_parts}
+use Rattle.assign.specs.Sets.{numbers}
+use Rattle.assign.specs.Assignment.{Assignment, restrict}
 use Rattle.assign.specs.Events.{Answer}
 use Rattle.assign.specs.declared.events.Plan.{Plan}
-use Rattle.assign.specs.declared.events.Plan.TheVariants.{Scopes}
+use Rattle.assign.specs.declared.events.Plan.TheVariants.{Quacq}
 use Rattle.language.specs.declared.candidates.Candidate.{Candidate}
-use Rattle.language.specs.Language.{Language, IsLanguage, candidates, violates}
+use Rattle.language.specs.Language.{Language, IsLanguage, variable_count, violates}
 use Rattle.language.specs.Answers.{has_scope, kept}
+use Rattle.find_scope.specs.Run.{Run as ScopeRun}
+use Rattle.find_scope.proofs.Moves.{standing_tells}
 use Rattle.find_c.specs.Run.{Run, IsRun}
-use Rattle.find_c.specs.Choosing.{Choice, splitting_tuple, after_reply, remaining}
-use Rattle.find_c.specs.Scenes.{scene_of, free_choices}
-use Rattle.find_c.specs.Standing.{IsRunOn, IsFound, IsFree}
-use Rattle.session_laws.specs.Session.{State, Idle, Choosing, At, learn, settle_choices, is_undecided, next_scope, read_on, state_after}
+use Rattle.find_c.specs.Choosing.{Choice, splitting_tuple, after_reply}
+use Rattle.find_c.specs.Scenes.{scene_of, free_choices, violated_choices}
+use Rattle.session_laws.specs.Session.{State, Idle, Choosing, At, begun, is_lawful, settle_choices, settle_halving, is_undecided, next_scope, read_on, state_after}
 use Rattle.session_laws.proofs.Folds.{one_answer_more}
 use Rattle.session_laws.proofs.Steps.{kept_steps}
 use Rattle.session_laws.proofs.Counted.{answers_are_at_most}
 use Rattle.session_laws.proofs.Limits.{answers_fit}
 use Rattle.session_core.specs.declared.knowledge.Knowledge.{Knowledge}
-use Rattle.session_core.specs.Sound.{NoneBefore, IsNew, IsFirst}
-use Rattle.session_core.specs.Standing.{question_of, AsksAfter, Knows}
+use Rattle.session_core.specs.Sound.{NoneBefore, AreUnlearned, IsNew, IsFirst}
+use Rattle.session_core.specs.Known.{IsAnswered}
+use Rattle.session_core.specs.Putting.{IsDue}
+use Rattle.session_core.specs.Standing.{question_of, Knows, LeadsTo, IsNewAfter, HalvesAfter}
+use Rattle.session_core.specs.Leading.{IsLed}
 use Rattle.session_core.proofs.Deciding.{stays_decided}
-use Rattle.session_core.proofs.Answering.{said, open_step, new_step, still_choosing, has_learned, has_none, next_is}
+use Rattle.session_core.proofs.Steps.{said, open_step, new_step, example_step, begun_same, part_step, next_is}
 
 -- ---- the kept candidates
 
@@ -81,34 +86,40 @@ first_is l live network s run new on below low =
       next = next_is l live network s (length l.scopes) low below on ∙ ap (λ v. Some v) at;
     }
 
--- ---- the answer's step
-
--- the choices that are left after an answer to a session's question
-abbrev pub settles : Knowledge → Run → List Answer → Bool → State
-settles k run t reply =
-    settle_choices k.lang (t ++ said (question_of k.lang run) reply ∷ []) run.scope (after_reply (scene_of k.lang run.scope) run.tuple reply run.choices) k.network.list None
-
-in_scopes : (l : Language) (plan : Plan) (t : List Answer) (state : State) → plan ≡ Scopes → state_after l plan t ≡ At state → state_after l Scopes t ≡ At state
-in_scopes l plan t state is at = ap (λ p. state_after l p t) (sym is) ∙ at
-
-pub answered : (k : Knowledge) (run : Run) (is_new : Bool) (t : List Answer) (reply : Bool) → k.plan ≡ Scopes → IsRun k.lang run →
-    (is_new ≡ true → IsFirst k.lang k.kept.members k.network.list run) → k.kept.members ≡ kept k.lang t k.network.list → AsksAfter is_new k run t →
-    state_after k.lang k.plan (t ++ said (question_of k.lang run) reply ∷ []) ≡ At (settles k run t reply)
-answered k run true t reply plan sound first live asks =
-    let l : Language = k.lang in
-    let began = first refl in
-    let a : Answer = said (question_of l run) reply in
-    let as_kept : run.choices ≡ free_choices (kept l t k.network.list) run.scope = began.new.choices ∙ ap (λ cs. free_choices cs run.scope) live in
-    ap (λ p. state_after l p (t ++ a ∷ [])) plan
-    ∙ new_step one_answer_more l t k.network.list run.scope run.tuple reply (in_scopes l k.plan t _ plan asks.0)
-    (ap (λ cs. next_of cs) (sym live) ∙ began.next)
-    (ap (λ cs. splitting_tuple (scene_of l run.scope) cs) (sym as_kept) ∙ sound.tuple)
-    ∙ ap (λ cs. At (settle_choices l (t ++ a ∷ []) run.scope (after_reply (scene_of l run.scope) run.tuple reply cs) k.network.list None)) (sym as_kept)
+-- where nothing is learned on the scopes of the kept candidates, that stays so as another scope leaves them
+pub unlearned_after : (c : Candidate) (network more : List Candidate) (live : List Candidate) → more ≡ network ++ c ∷ [] → AreUnlearned live network → AreUnlearned (filter (λ d. not (c.scope == d.scope)) live) more
+unlearned_after c network more live learned all =
+    subst (AreUnlearned (filter (λ d. not (c.scope == d.scope)) live)) (sym learned) (go live all)
   where
-    next_of : List Candidate → Option ℕ
-    next_of cs = next_scope k.lang cs k.network.list
-answered k run false t reply plan sound first live asks =
-    open_step one_answer_more k.lang k.plan t run.scope run.choices k.network.list run.tuple reply asks sound.tuple
+    at : (d : Candidate) → has_scope network d.scope ≡ false → (c.scope == d.scope) ≡ false → has_scope (network ++ c ∷ []) d.scope ≡ false
+    at d free other =
+        list_any-append (λ (x : Candidate). x.scope == d.scope) network (c ∷ []) ∙ (λ i. free i || (other i || false))
+
+    go : (cs : List Candidate) → AreUnlearned cs network → AreUnlearned (filter (λ d. not (c.scope == d.scope)) cs) (network ++ c ∷ [])
+    go [] h = All-nil (λ (d : Candidate). has_scope (network ++ c ∷ []) d.scope ≡ false)
+    go (d ∷ cs) h = on (c.scope == d.scope) refl (go cs (All-tail (λ (x : Candidate). has_scope network x.scope ≡ false) d cs h))
+      where
+        on : (b : Bool) → (c.scope == d.scope) ≡ b → AreUnlearned (filter (λ x. not (c.scope == x.scope)) cs) (network ++ c ∷ []) →
+            AreUnlearned (cond (not b) (d ∷ filter (λ x. not (c.scope == x.scope)) cs) (filter (λ x. not (c.scope == x.scope)) cs)) (network ++ c ∷ [])
+        on true same rest = rest
+        on false other rest = All-cons (λ (x : Candidate). has_scope (network ++ c ∷ []) x.scope ≡ false) d _ (at d (All-head (λ (x : Candidate). has_scope network x.scope ≡ false) d cs h) other) rest
+
+pub unlearned_struck : (p : Candidate → Bool) (network live live' : List Candidate) → live' ≡ filter p live → AreUnlearned live network → AreUnlearned live' network
+unlearned_struck p network live live' is all =
+    subst (λ cs. AreUnlearned cs network) (sym is) (All-filter p (λ (c : Candidate). has_scope network c.scope ≡ false) live all)
+
+-- a scope of a kept candidate that e violates has nothing learned on it
+pub unlearned_scope : (l : Language) (live network : List Candidate) (e : Assignment) (s : ℕ) → AreUnlearned live network → (violated_choices l live e s ≡ [] → ⊥) → has_scope network s ≡ false
+unlearned_scope l [] network e s all some = absurd (some refl)
+unlearned_scope l (c ∷ live) network e s all some =
+    go ((c.scope == s) && violates l c e) refl (unlearned_scope l live network e s (All-tail (λ (x : Candidate). has_scope network x.scope ≡ false) c live all))
+  where
+    go : (b : Bool) → ((c.scope == s) && violates l c e) ≡ b → ((violated_choices l live e s ≡ [] → ⊥) → has_scope network s ≡ false) → has_scope network s ≡ false
+    go true here rest =
+        ap (has_scope network) (sym (eqb-true c.scope s (and_parts (c.scope == s) (violates l c e) here).0)) ∙ All-head (λ (x : Candidate). has_scope network x.scope ≡ false) c live all
+    go false off rest = rest (λ none. some (ap (λ b. map (λ (d : Candidate). let o : Choice = Some d.rel in o) (cond b (c ∷ filter (λ d. (d.scope == s) && violates l d e) live) (filter (λ d. (d.scope == s) && violates l d e) live))) off ∙ none))
+
+-- ---- what is known after an answer
 
 -- the count is that of the answers
 pub counted : (l : Language) (plan : Plan) (t : List Answer) (a : Answer) (state : State) (before after : ℕ) → IsLanguage l → state_after l plan (t ++ a ∷ []) ≡ At state →
@@ -119,27 +130,87 @@ counted l plan t a state before after lawful at is sum =
     let long : length (t ++ a ∷ []) ≡ length t + 1 = length-append t (a ∷ []) in
     omega arith
 
--- ---- where the session stands then
+-- what is known after an answer is what the answers with it lead to
+pub led : (k k' : Knowledge) (q : Assignment) (reply : Bool) (t : List Answer) (state : State) → IsLanguage k'.lang → IsAnswered k q reply k' → Knows k t →
+    LeadsTo k' (t ++ said q reply ∷ []) state → IsLed k' (t ++ said q reply ∷ []) state
+led k k' q reply t state lawful same knows at =
+    record {
+      at = at;
+      knows = record {
+        kept = same.kept ∙ ap (filter (λ c. not (reply && violates k.lang c q))) knows.kept ∙ sym (kept_by k.lang t k.network.list q reply)
+            ∙ (λ i. kept (sym same.lang i) (t ++ said q reply ∷ []) ((sym same.network i).list));
+        count = counted k'.lang k'.plan t (said q reply) state k.answers k'.answers lawful at knows.count same.count;
+      };
+    }
 
--- the choices still differ
-pub goes_on : (k : Knowledge) (run next : Run) (t : List Answer) (reply : Bool) → IsRunOn k.lang run.scope (after_reply (scene_of k.lang run.scope) run.tuple reply run.choices) next →
-    settles k run t reply ≡ Choosing next.scope next.choices k.network.list None
-goes_on k run next t reply on =
-    let choices : List Choice = after_reply (scene_of k.lang run.scope) run.tuple reply run.choices in
-    let differ : splitting_tuple (scene_of k.lang run.scope) choices ≡ Some next.tuple =
-    (λ i. splitting_tuple (scene_of k.lang (sym on.scope i)) (sym on.choices i)) ∙ on.sound.tuple in
-    still_choosing k.lang (t ++ said (question_of k.lang run) reply ∷ []) run.scope choices k.network.list next.tuple differ
-    ∙ (λ i. Choosing (sym on.scope i) (sym on.choices i) k.network.list None)
+-- a state of what was known before the answer, as one of what is known after it
+moved : (k k' : Knowledge) (q : Assignment) (reply : Bool) (t : List Answer) (state : Language → List Candidate → State) → IsAnswered k q reply k' →
+    state_after k.lang k.plan t ≡ At (state k.lang k.network.list) → LeadsTo k' t (state k'.lang k'.network.list)
+moved k k' q reply t state same at = (λ i. state_after (same.lang i) (same.plan i) t) ∙ at ∙ (λ i. At (state (sym same.lang i) ((sym same.network i).list)))
 
--- one remains
-pub learns : (k : Knowledge) (run : Run) (c : Candidate) (t : List Answer) (reply : Bool) → IsFound k.lang run.scope (after_reply (scene_of k.lang run.scope) run.tuple reply run.choices) c →
-    settles k run t reply ≡ Idle (k.network.list ++ c ∷ []) None
-learns k run c t reply found =
-    has_learned k.lang (t ++ said (question_of k.lang run) reply ∷ []) run.scope (after_reply (scene_of k.lang run.scope) run.tuple reply run.choices) k.network.list c.rel found.settled found.remains
-    ∙ ap (λ s. Idle (k.network.list ++ (let d : Candidate = record { scope = s; rel = c.rel } in d) ∷ []) None) (sym found.scope)
+-- ---- an answer to each kind of question
 
--- none remains
-pub learns_none : (k : Knowledge) (run : Run) (t : List Answer) (reply : Bool) → IsFree k.lang run.scope (after_reply (scene_of k.lang run.scope) run.tuple reply run.choices) →
-    settles k run t reply ≡ Idle k.network.list None
-learns_none k run t reply free =
-    has_none k.lang (t ++ said (question_of k.lang run) reply ∷ []) run.scope (after_reply (scene_of k.lang run.scope) run.tuple reply run.choices) k.network.list free.settled free.remains
+pub example_led : (k k' : Knowledge) (e q : Assignment) (reply : Bool) (t : List Answer) (live : List Candidate) → IsLanguage k'.lang → IsAnswered k q reply k' → Knows k t → q ≡ e → k.plan ≡ Quacq → IsNewAfter k e t →
+    IsLed k' (t ++ said q reply ∷ []) (begun k'.lang Quacq (t ++ said q reply ∷ []) live k'.network.list e reply)
+example_led k k' e q reply t live lawful same knows is plan new =
+    let there : state_after k.lang Quacq t ≡ At (Idle k.network.list None) = ap (λ p. state_after k.lang p t) (sym plan) ∙ new.idle in
+    let may : is_lawful k.lang Quacq (kept k.lang t k.network.list) k.network.list e ≡ true =
+    (λ i. is_lawful k.lang (sym plan i) (sym knows.kept i) k.network.list e) ∙ new.lawful in
+    let at : state_after k.lang k.plan (t ++ said e reply ∷ []) ≡ At (begun k.lang Quacq (t ++ said e reply ∷ []) live k.network.list e reply) =
+    ap (λ p. state_after k.lang p (t ++ said e reply ∷ [])) plan ∙ example_step one_answer_more k.lang t k.network.list e reply there may
+    ∙ ap At (begun_same k.lang (t ++ said e reply ∷ []) (kept k.lang t k.network.list) live k.network.list e reply) in
+    led k k' q reply t _ lawful same knows
+    (moved k k' q reply (t ++ said q reply ∷ []) (λ l network. begun l Quacq (t ++ said q reply ∷ []) live network e reply) same
+    (subst (λ x. state_after k.lang k.plan (t ++ said x reply ∷ []) ≡ At (begun k.lang Quacq (t ++ said x reply ∷ []) live k.network.list e reply)) (sym is) at))
+
+pub part_led : (k k' : Knowledge) (e q : Assignment) (run : ScopeRun) (reply : Bool) (t : List Answer) → IsLanguage k'.lang → IsAnswered k q reply k' → Knows k t → q ≡ restrict e run.base → (h : HalvesAfter k e run t) →
+    IsLed k' (t ++ said q reply ∷ []) (settle_halving k'.lang (t ++ said q reply ∷ []) e (numbers (variable_count k'.lang)) (h.replies ++ reply ∷ []) k'.network.list None)
+part_led k k' e q run reply t lawful same knows is h =
+    let at : state_after k.lang k.plan (t ++ said (restrict e run.base) reply ∷ [])
+    ≡ At (settle_halving k.lang (t ++ said (restrict e run.base) reply ∷ []) e (numbers (variable_count k.lang)) (h.replies ++ reply ∷ []) k.network.list None) =
+    part_step one_answer_more k.lang k.plan t e (numbers (variable_count k.lang)) h.replies k.network.list run.base reply h.halving
+    (standing_tells.waits run (numbers (variable_count k.lang)) h.replies h.running) in
+    led k k' q reply t _ lawful same knows
+    (moved k k' q reply (t ++ said q reply ∷ []) (λ l network. settle_halving l (t ++ said q reply ∷ []) e (numbers (variable_count l)) (h.replies ++ reply ∷ []) network None) same
+    (subst (λ x. state_after k.lang k.plan (t ++ said x reply ∷ []) ≡ At (settle_halving k.lang (t ++ said x reply ∷ []) e (numbers (variable_count k.lang)) (h.replies ++ reply ∷ []) k.network.list None)) (sym is) at))
+
+-- the choices that are left after a reply about a run's tuple
+abbrev pub left_after : Language → Run → Bool → List Choice
+left_after l run reply = after_reply (scene_of l run.scope) run.tuple reply run.choices
+
+choices_led : (k k' : Knowledge) (q : Assignment) (run : Run) (reply : Bool) (t : List Answer) → IsLanguage k'.lang → IsAnswered k q reply k' → Knows k t → q ≡ question_of k.lang run →
+    state_after k.lang k.plan (t ++ said (question_of k.lang run) reply ∷ []) ≡ At (settle_choices k.lang (t ++ said (question_of k.lang run) reply ∷ []) run.scope (left_after k.lang run reply) k.network.list None) →
+    IsLed k' (t ++ said q reply ∷ []) (settle_choices k'.lang (t ++ said q reply ∷ []) run.scope (left_after k'.lang run reply) k'.network.list None)
+choices_led k k' q run reply t lawful same knows is at =
+    led k k' q reply t _ lawful same knows
+    (moved k k' q reply (t ++ said q reply ∷ []) (λ l network. settle_choices l (t ++ said q reply ∷ []) run.scope (left_after l run reply) network None) same
+    (subst (λ x. state_after k.lang k.plan (t ++ said x reply ∷ []) ≡ At (settle_choices k.lang (t ++ said x reply ∷ []) run.scope (left_after k.lang run reply) k.network.list None)) (sym is) at))
+
+pub tuple_led : (k k' : Knowledge) (q : Assignment) (run : Run) (reply : Bool) (t : List Answer) → IsLanguage k'.lang → IsAnswered k q reply k' → Knows k t → q ≡ question_of k.lang run → IsRun k.lang run →
+    LeadsTo k t (Choosing run.scope run.choices k.network.list None) →
+    IsLed k' (t ++ said q reply ∷ []) (settle_choices k'.lang (t ++ said q reply ∷ []) run.scope (left_after k'.lang run reply) k'.network.list None)
+tuple_led k k' q run reply t lawful same knows is sound at =
+    choices_led k k' q run reply t lawful same knows is (open_step one_answer_more k.lang k.plan t run.scope run.choices k.network.list run.tuple reply at sound.tuple)
+
+pub first_led : (k k' : Knowledge) (q : Assignment) (run : Run) (reply : Bool) (t : List Answer) → IsLanguage k'.lang → IsAnswered k q reply k' → Knows k t → q ≡ question_of k.lang run → IsDue k run →
+    IsNewAfter k (question_of k.lang run) t →
+    IsLed k' (t ++ said q reply ∷ []) (settle_choices k'.lang (t ++ said q reply ∷ []) run.scope (left_after k'.lang run reply) k'.network.list None)
+first_led k k' q run reply t lawful same knows is due new =
+    let l : Language = k.lang in
+    let a : Answer = said (question_of l run) reply in
+    let began = due.first in
+    let as_kept : run.choices ≡ free_choices (kept l t k.network.list) run.scope = began.new.choices ∙ ap (λ cs. free_choices cs run.scope) knows.kept in
+    choices_led k k' q run reply t lawful same knows is
+    (ap (λ p. state_after l p (t ++ a ∷ [])) due.plan
+    ∙ new_step one_answer_more l t k.network.list run.scope run.tuple reply (ap (λ p. state_after l p t) (sym due.plan) ∙ new.idle)
+    (ap next_of (sym knows.kept) ∙ began.next)
+    (ap (λ cs. splitting_tuple (scene_of l run.scope) cs) (sym as_kept) ∙ began.new.sound.tuple)
+    ∙ ap (λ cs. At (settle_choices l (t ++ a ∷ []) run.scope (after_reply (scene_of l run.scope) run.tuple reply cs) k.network.list None)) (sym as_kept))
+  where
+    next_of : List Candidate → Option ℕ
+    next_of cs = next_scope k.lang cs k.network.list
+
+-- ---- states that are the same
+
+pub led_as : (k : Knowledge) (t : List Answer) (state other : State) → state ≡ other → IsLed k t state → IsLed k t other
+led_as k t state other is h = record { at = h.at ∙ ap At is; knows = h.knows }

@@ -1,5 +1,5 @@
 -- A question that may be put is the first of the next scope.
-use Rattle.std.proofs.Common.{◌≡◌, Bool, true, false, List, refl, sym, ◌∙◌, ap, subst, Option, Some, None}
+use Rattle.std.proofs.Common.{◌≡◌, Bool, true, false, List, refl, sym, ◌∙◌, ap, subst, Some}
 use Rattle.std.specs.Prelude.{IsTrue}
 use Rattle.assign.specs.Assignment.{Assignment, is_same_assignment}
 use Rattle.assign.specs.declared.events.Plan.{Plan}
@@ -13,7 +13,7 @@ use Rattle.session_laws.specs.Session.{is_just, is_lawful, scope_question}
 use Rattle.session_laws.proofs.Folds.{same_assignment, assignment_same}
 use Rattle.session_core.specs.Sound.{IsFirst}
 use Rattle.session_core.specs.Standing.{question_of}
-use Rattle.session_core.proofs.Answering.{lawful_there}
+use Rattle.session_core.proofs.Steps.{lawful_there}
 
 is_first : (l : Language) (live network : List Candidate) (run : Run) → IsFirst l live network run → scope_question l live network ≡ Some (question_of l run)
 is_first l live network run first =

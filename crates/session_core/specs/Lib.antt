@@ -1,2 +1,5 @@
 pub mod Sound
+pub mod Known
+pub mod Putting
 pub mod Standing
+pub mod Leading

@@ -1,15 +1,28 @@
 -- What a session relies on, whatever its answers.
-use Rattle.std.specs.Prelude.{◌≡◌, ℕ, ◌<◌, false, true, List, length, Option, Some, None}
+use Rattle.std.specs.Prelude.{◌≡◌, ℕ, ◌<◌, Bool, false, true, not, List, All, Option, Some, None}
+use Rattle.assign.specs.Assignment.{Assignment, restrict}
 use Rattle.language.specs.declared.candidates.Candidate.{Candidate}
 use Rattle.language.specs.Language.{Language}
 use Rattle.language.specs.Answers.{has_scope}
+use Rattle.find_scope.specs.declared.run.ScopeNext.{ScopeNext}
+use Rattle.find_scope.specs.declared.run.ScopeNext.TheVariants.{Wants, Found}
 use Rattle.find_c.specs.Run.{Run, IsRun}
+use Rattle.find_c.specs.Choosing.{Choice}
 use Rattle.find_c.specs.Scenes.{free_choices}
+use Rattle.find_c.specs.Standing.{IsSettled}
+use Rattle.find_c.specs.declared.run.RelNext.{RelNext}
+use Rattle.session_laws.specs.Walk.{violates_some}
 use Rattle.session_laws.specs.Session.{is_undecided, next_scope}
 
 -- no scope before this one is undecided
 abbrev pub NoneBefore : Language → List Candidate → List Candidate → ℕ → Type 0
 NoneBefore l live network next = (s : ℕ) → s < next → is_undecided l live network s ≡ false
+
+-- no kept candidate is on a scope where something is learned
+abbrev pub AreUnlearned : List Candidate → List Candidate → Type 0
+AreUnlearned live network = All (λ c. has_scope network c.scope ≡ false) live
+
+-- ---- telling apart
 
 -- a run that begins on this scope
 pub record IsNew (l : Language) (live network : List Candidate) (s : ℕ) (run : Run) : Type 0 where
@@ -32,3 +45,17 @@ pub record IsFirst (l : Language) (live network : List Candidate) (run : Run) : 
 abbrev pub FirstRun : Language → List Candidate → List Candidate → Option Run → Type 0
 FirstRun l live network None = next_scope l live network ≡ None
 FirstRun l live network (Some run) = IsFirst l live network run
+
+-- where some choices stand, on a scope where nothing is learned
+pub record AreChoices (l : Language) (network : List Candidate) (next : RelNext) : Type 0 where
+  pub scope : ℕ
+  pub choices : List Choice
+  pub settled : IsSettled l scope choices next
+  pub free : has_scope network scope ≡ false
+
+-- ---- halving
+
+-- whether a reply is wanted about a part of e that violates no kept candidate
+abbrev pub is_quiet_at : Language → List Candidate → Assignment → ScopeNext → Bool
+is_quiet_at l live e (Wants run) = not (violates_some l live (restrict e run.base))
+is_quiet_at l live e (Found set) = false

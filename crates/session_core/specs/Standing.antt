@@ -1,14 +1,20 @@
 -- Where a session stands, and after which answers.
-use Rattle.std.specs.Prelude.{◌≡◌, ℕ, Bool, true, false, IsTrue, List, length, Option, Some, None}
-use Rattle.assign.specs.Assignment.{Assignment}
+use Rattle.std.specs.Prelude.{◌≡◌, Bool, IsTrue, List, length, Option, Some, None}
+use Rattle.assign.specs.Sets.{numbers}
+use Rattle.assign.specs.Assignment.{Assignment, restrict}
 use Rattle.assign.specs.Events.{Answer}
-use Rattle.language.specs.Language.{Language}
+use Rattle.assign.specs.declared.events.Plan.{Plan}
+use Rattle.language.specs.Language.{Language, variable_count}
 use Rattle.language.specs.Answers.{kept}
+use Rattle.find_scope.specs.Run.{Run as ScopeRun}
+use Rattle.find_scope.specs.Standing.{StandsFor}
+use Rattle.find_scope.specs.declared.run.ScopeNext.TheVariants.{Wants}
 use Rattle.find_c.specs.Run.{Run}
 use Rattle.find_c.specs.Scenes.{on_scope}
-use Rattle.session_laws.specs.Session.{At, is_lawful, state_after, Idle as IdleState, Choosing as ChoosingState, Over as OverState}
+use Rattle.session_laws.specs.Session.{State, At, is_lawful, open_question, state_after, Idle as IdleState, Halving as HalvingState, Choosing as ChoosingState, Walking as WalkingState, Over as OverState}
 use Rattle.session_core.specs.declared.knowledge.Knowledge.{Knowledge}
-use Rattle.session_core.specs.declared.session.Asking.{Asking}
+use Rattle.session_core.specs.declared.put.Put.{Put}
+use Rattle.session_core.specs.declared.put.Put.TheVariants as puts
 use Rattle.session_core.specs.declared.session.Session.{Session}
 use Rattle.session_core.specs.declared.session.Session.TheVariants as sessions
 
@@ -18,29 +24,49 @@ knowledge_of (sessions.Idle idle) = idle.knowledge
 knowledge_of (sessions.Asking asking) = asking.knowledge
 knowledge_of (sessions.Over over) = over.knowledge
 
--- the question of a run
+-- the question of a run on a scope
 abbrev pub question_of : Language → Run → Assignment
 question_of l run = on_scope l run.scope run.tuple
+
+-- the question that is put: an example, the part of it that a halving wants, or a tuple on a scope
+abbrev pub question_put : Language → Put → Assignment
+question_put l (puts.Example e) = e
+question_put l (puts.Part e run) = restrict e run.base
+question_put l (puts.FirstTuple run) = question_of l run
+question_put l (puts.Tuple run) = question_of l run
 
 -- the question that is put, if one is
 abbrev pub open_in : Session → Option Assignment
 open_in (sessions.Idle idle) = None
-open_in (sessions.Asking asking) = Some (question_of asking.knowledge.lang asking.run)
+open_in (sessions.Asking asking) = Some (question_put asking.knowledge.lang asking.put)
 open_in (sessions.Over over) = None
 
--- Where the question is new, the answers lead to where nothing is open, and it is lawful there. Else they lead to the
--- choices.
-abbrev pub AsksAfter : Bool → Knowledge → Run → List Answer → Type 0
-AsksAfter true k run t =
-    (state_after k.lang k.plan t ≡ At (IdleState k.network.list None))
-    × IsTrue (is_lawful k.lang k.plan k.kept.members k.network.list (question_of k.lang run))
-AsksAfter false k run t = state_after k.lang k.plan t ≡ At (ChoosingState run.scope run.choices k.network.list None)
+-- the answers lead to this state
+abbrev pub LeadsTo : Knowledge → List Answer → State → Type 0
+LeadsTo k t state = state_after k.lang k.plan t ≡ At state
 
--- the kind, the network, the open question and the choices are those that the answers lead to
+-- the answers lead to where nothing is open, and the question is lawful there
+pub record IsNewAfter (k : Knowledge) (q : Assignment) (t : List Answer) : Type 0 where
+  pub idle : LeadsTo k t (IdleState k.network.list None)
+  pub lawful : IsTrue (is_lawful k.lang k.plan k.kept.members k.network.list q)
+
+-- the answers lead to a halving of all variables, and the run stands where its replies lead
+pub record HalvesAfter (k : Knowledge) (e : Assignment) (run : ScopeRun) (t : List Answer) : Type 0 where
+  pub replies : List Bool
+  pub halving : LeadsTo k t (HalvingState e (numbers (variable_count k.lang)) replies k.network.list None)
+  pub running : StandsFor (Wants run) (numbers (variable_count k.lang)) replies
+
+abbrev pub PutAfter : Knowledge → Put → List Answer → Type 0
+PutAfter k (puts.Example e) t = IsNewAfter k e t
+PutAfter k (puts.Part e run) t = HalvesAfter k e run t
+PutAfter k (puts.FirstTuple run) t = IsNewAfter k (question_of k.lang run) t
+PutAfter k (puts.Tuple run) t = LeadsTo k t (ChoosingState run.scope run.choices k.network.list None)
+
+-- the kind, the network, the open question and what it belongs to are those that the answers lead to
 abbrev pub IsAfter : Session → List Answer → Type 0
-IsAfter (sessions.Idle idle) t = state_after idle.knowledge.lang idle.knowledge.plan t ≡ At (IdleState idle.knowledge.network.list None)
-IsAfter (sessions.Asking asking) t = AsksAfter asking.is_new asking.knowledge asking.run t
-IsAfter (sessions.Over over) t = state_after over.knowledge.lang over.knowledge.plan t ≡ At (OverState over.knowledge.network.list)
+IsAfter (sessions.Idle idle) t = LeadsTo idle.knowledge t (IdleState idle.knowledge.network.list None)
+IsAfter (sessions.Asking asking) t = PutAfter asking.knowledge asking.put t
+IsAfter (sessions.Over over) t = LeadsTo over.knowledge t (OverState over.knowledge.network.list)
 
 -- the kept candidates are those that the answers leave, and the count is theirs
 pub record Knows (k : Knowledge) (t : List Answer) : Type 0 where
@@ -51,3 +77,19 @@ pub record Knows (k : Knowledge) (t : List Answer) : Type 0 where
 pub record Stands (session : Session) (t : List Answer) : Type 0 where
   pub after : IsAfter session t
   pub knows : Knows (knowledge_of session) t
+
+-- ---- what a question that is put is after these answers
+
+-- in a state the question is the open one, or may be put where none is open
+abbrev pub IsAskedIn : Language → Plan → List Answer → Assignment → State → Type 0
+IsAskedIn l plan t q (IdleState network end) = IsTrue (is_lawful l plan (kept l t network) network q)
+IsAskedIn l plan t q (HalvingState e set replies network walk) = open_question l (HalvingState e set replies network walk) ≡ Some q
+IsAskedIn l plan t q (ChoosingState s choices network walk) = open_question l (ChoosingState s choices network walk) ≡ Some q
+IsAskedIn l plan t q (WalkingState set walk network) = open_question l (WalkingState set walk network) ≡ Some q
+IsAskedIn l plan t q (OverState network) = ⊥
+
+-- where the answers lead, the question is asked
+pub record IsAskedAfter (l : Language) (plan : Plan) (t : List Answer) (q : Assignment) : Type 0 where
+  pub state : State
+  pub at : state_after l plan t ≡ At state
+  pub asked : IsAskedIn l plan t q state

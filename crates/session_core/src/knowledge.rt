@@ -1,7 +1,8 @@
-ghost use Rattle.std.specs.Prelude.{◌≡◌, length};
-ghost use Rattle.assign.specs.declared.events.Plan.TheVariants.{Scopes};
+ghost use Rattle.std.specs.Prelude.{◌≡◌, ◌≢◌, ◌≤◌, length};
+ghost use Rattle.assign.specs.declared.events.Plan.TheVariants.{Multi};
 ghost use Rattle.language.specs.Answers.{IsNetwork};
 ghost use Rattle.bias_store.specs.KeptSet.{IsMadeFor};
+ghost use Rattle.session_core.specs.Sound.{NoneBefore, AreUnlearned};
 
 use assign::Plan;
 use bias_store::Kept;
@@ -19,8 +20,13 @@ pub struct Knowledge {
     pub(crate) network: Network,
     /// How many answers stand.
     pub(crate) answers: u32,
-    ghost planned: { plan ≡ Scopes },
+    /// No scope before this one has a question left in plan Scopes. In the others it stays 0.
+    pub(crate) next: u32,
+    ghost planned: { plan ≢ Multi },
     ghost made: { IsMadeFor lang kept },
     ghost lawful: { IsNetwork lang network.list },
     ghost room: { network.scopes ≡ length lang.scopes },
+    ghost unlearned: { AreUnlearned kept.members network.list },
+    ghost none_before: { NoneBefore lang kept.members network.list next },
+    ghost within: { next ≤ length lang.scopes },
 }

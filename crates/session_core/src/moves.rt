@@ -1,25 +1,28 @@
 //! How a session moves: a question is put, an answer is given.
 
-ghost use Rattle.std.specs.Prelude.{◌≡◌, ◌+◌, ◌-◌, ◌^◌, min, ◌&&◌, not, filter, ◌++◌, ◌∷◌, [], List, IfOk, IfSome, IsTrue, Some, None};
+ghost use Rattle.std.specs.Prelude.{◌≡◌, ◌≢◌, ◌++◌, ◌∷◌, [], List, IfOk, IfSome, IsTrue, Some, None};
 ghost use Rattle.assign.specs.Events.{Answer};
-ghost use Rattle.language.specs.Language.{IsLanguage, IsQuestion, violates};
-ghost use Rattle.bias_store.specs.KeptSet.{IsMadeFor};
+ghost use Rattle.assign.specs.declared.events.Plan.{Plan};
+ghost use Rattle.language.specs.Language.{IsQuestion};
 ghost use Rattle.session_laws.specs.Session.{is_lawful, scope_question};
-ghost use Rattle.session_core.specs.Standing.{Stands, knowledge_of, open_in};
+ghost use Rattle.session_core.specs.Standing.{Stands, IsAskedAfter, knowledge_of, open_in};
+ghost use Rattle.session_core.specs.Leading.{StandsWhereIdle};
 
+use crate::examples::is_example;
+use crate::going::{example_answered, halved, tuple_answered};
 use crate::knowledge::Knowledge;
+use crate::put::Put;
 use crate::scopes::first_run;
 use crate::session::{Asking, Idle, Session};
 use assign::{Partial, Plan};
 use bias_store::Kept;
-use find_c::RelNext;
 use language::{Language, Memory};
 use network::Network;
 use std::alloc::Global;
 
 /// A new session of this language and plan, without answers. `Memory` drops the language.
 pub fn begin(alloc: Global, lang: Language, plan: Plan) -> Result<Session, Memory>
-    requires { plan ≡ Plan.Scopes }
+    requires { plan ≢ Plan.Multi }
     ensures stands { IfOk result (λ session. Stands session []) }
     ensures idle { IfOk result (λ session. open_in session ≡ None) }
     ensures lang { IfOk result (λ session. (knowledge_of session).lang ≡ lang) }
@@ -34,58 +37,137 @@ pub fn begin(alloc: Global, lang: Language, plan: Plan) -> Result<Session, Memor
             kept,
             network,
             answers: 0,
+            next: 0,
         },
-        next: 0,
     }))
 }
 
-/// The count after an answer. No session of a language has so many that it stops.
-fn one_more(lang: &Language, answers: u32) -> u32
-    ensures is { result ≡ min (answers + 1) (2 ^ 32 - 1) }
-    ensures lawful { IsLanguage lang.now }
-{
-    let _variables = lang.n();
-    answers.saturating_add(1)
-}
-
-/// The candidates that are kept after an answer.
-fn kept_after(lang: &Language, mut kept: Kept, q: &Partial, yes: bool) -> Kept
-    requires made { IsMadeFor lang.now kept }
-    requires question { IsQuestion lang.now q.now }
-    ensures kept { result.members ≡ filter (λ c. not («yes» && violates lang.now c q.now)) kept.members }
-    ensures made { IsMadeFor lang.now result }
-{
-    if yes {
-        kept.strike(lang, q);
-    }
-    kept
-}
-
-impl Idle {
-    /// The first question of the first scope whose choices differ. None where there is none.
-    pub fn scope_question(&self) -> Option<Partial>
-        ensures is { let k = knowledge_of (Session.Idle self.now) in result ≡ scope_question k.lang k.kept.members k.network.list }
-        ensures fits { IfSome result (IsQuestion (knowledge_of (Session.Idle self.now)).lang) }
+impl Session {
+    /// The session without answers, of the same language and plan.
+    pub fn restart(self) -> Session
+        ensures stands { Stands result [] }
+        ensures idle { open_in result ≡ None }
+        ensures lang { (knowledge_of result).lang ≡ (knowledge_of self).lang }
+        ensures plan { (knowledge_of result).plan ≡ (knowledge_of self).plan }
     {
-        let knowledge = &self.knowledge;
-        match first_run(
-            &knowledge.lang,
-            &knowledge.kept,
-            &knowledge.network,
-            self.next,
-        ) {
-            Some(run) => Some(run.wants(&knowledge.lang)),
+        match self {
+            Session::Idle(idle) => idle.knowledge.restarted(),
+            Session::Asking(asking) => asking.knowledge.restarted(),
+            Session::Over(over) => over.knowledge.restarted(),
+        }
+    }
+}
+
+impl Knowledge {
+    /// The session of the same language and plan that knows nothing yet.
+    fn restarted(self) -> Session
+        ensures stands { Stands result [] }
+        ensures idle { open_in result ≡ None }
+        ensures lang { (knowledge_of result).lang ≡ self.lang }
+        ensures plan { (knowledge_of result).plan ≡ self.plan }
+    {
+        let Knowledge {
+            lang,
+            plan,
+            mut kept,
+            mut network,
+            ..
+        } = self;
+        kept.reset(&lang);
+        network.clear();
+        Session::Idle(Idle {
+            knowledge: Knowledge {
+                lang,
+                plan,
+                kept,
+                network,
+                answers: 0,
+                next: 0,
+            },
+        })
+    }
+
+    /// The first question of the first scope whose choices differ. None where there is none.
+    fn first_question(&self) -> Option<Partial>
+        ensures is { let k = self.now in result ≡ scope_question k.lang k.kept.members k.network.list }
+        ensures fits { IfSome result (IsQuestion self.now.lang) }
+    {
+        match first_run(&self.lang, &self.kept, &self.network, self.next) {
+            Some(run) => Some(run.wants(&self.lang)),
             None => None,
         }
     }
 
-    /// Whether a question may be put.
+    /// Whether a question is the first of the first scope whose choices differ.
+    fn is_first_question(&self, q: &Partial) -> bool
+        ensures { let k = self.now in result ≡ is_lawful k.lang Plan.Scopes k.kept.members k.network.list q.now }
+    {
+        match self.first_question() {
+            Some(question) => question.equals(q),
+            None => false,
+        }
+    }
+
+    /// Puts the first question of the first scope whose choices differ.
+    fn ask_first(self, q: Partial) -> Asking
+        requires plan { self.plan ≡ Plan.Scopes }
+        requires lawful { IsTrue (is_lawful self.lang self.plan self.kept.members self.network.list q) }
+        ensures question { open_in (Session.Asking result) ≡ Some q }
+        ensures lang { (knowledge_of (Session.Asking result)).lang ≡ self.lang }
+        ensures plan { (knowledge_of (Session.Asking result)).plan ≡ self.plan }
+        ensures stands { StandsWhereIdle self (Session.Asking result) }
+    {
+        let _ = q;
+        match first_run(&self.lang, &self.kept, &self.network, self.next) {
+            Some(run) => {
+                let Knowledge {
+                    lang,
+                    plan,
+                    kept,
+                    network,
+                    answers,
+                    ..
+                } = self;
+                Asking {
+                    knowledge: Knowledge {
+                        lang,
+                        plan,
+                        kept,
+                        network,
+                        answers,
+                        next: u32::from(run.scope()),
+                    },
+                    put: Put::FirstTuple(run),
+                }
+            }
+            None => unreachable!(),
+        }
+    }
+}
+
+impl Idle {
+    /// In plan Scopes the first question of the first scope whose choices differ. None where there is none, and in the
+    /// other plans.
+    pub fn scope_question(&self) -> Option<Partial>
+        ensures is { let k = knowledge_of (Session.Idle self.now) in k.plan ≡ Plan.Scopes → result ≡ scope_question k.lang k.kept.members k.network.list }
+        ensures others { (knowledge_of (Session.Idle self.now)).plan ≢ Plan.Scopes → result ≡ None }
+        ensures fits { IfSome result (IsQuestion (knowledge_of (Session.Idle self.now)).lang) }
+    {
+        match self.knowledge.plan {
+            Plan::Scopes => self.knowledge.first_question(),
+            Plan::Quacq | Plan::Multi => None,
+        }
+    }
+
+    /// Whether a question may be put. In plan Scopes `scope_question` alone may. In plan Quacq a whole example may that
+    /// the network accepts and that violates a kept candidate.
     pub fn is_lawful(&self, q: &Partial) -> bool
         ensures { let k = knowledge_of (Session.Idle self.now) in result ≡ is_lawful k.lang k.plan k.kept.members k.network.list q.now }
     {
-        match self.scope_question() {
-            Some(question) => question.equals(q),
-            None => false,
+        match self.knowledge.plan {
+            Plan::Scopes => self.knowledge.is_first_question(q),
+            Plan::Quacq => is_example(&self.knowledge, q),
+            Plan::Multi => unreachable!(),
         }
     }
 
@@ -97,26 +179,30 @@ impl Idle {
         ensures plan { (knowledge_of (Session.Asking result)).plan ≡ (knowledge_of (Session.Idle self)).plan }
         ensures stands { (t : List Answer) → Stands (Session.Idle self) t → Stands (Session.Asking result) t }
     {
-        let _ = q;
-        let Idle { knowledge, next } = self;
-        match first_run(&knowledge.lang, &knowledge.kept, &knowledge.network, next) {
-            Some(run) => Asking {
+        let Idle { knowledge } = self;
+        match knowledge.plan {
+            Plan::Scopes => knowledge.ask_first(q),
+            Plan::Quacq => Asking {
                 knowledge,
-                run,
-                is_new: true,
+                put: Put::Example(q),
             },
-            None => unreachable!(),
+            Plan::Multi => unreachable!(),
         }
     }
 }
 
 impl Asking {
-    /// The question that is open.
+    /// The question that is open. After each list of answers that leads here, it is the one that is asked.
     pub fn question(&self) -> Partial
         ensures is { open_in (Session.Asking self.now) ≡ Some result }
         ensures fits { IsQuestion (knowledge_of (Session.Asking self.now)).lang result }
+        ensures asked { (t : List Answer) → let k = knowledge_of (Session.Asking self.now) in Stands (Session.Asking self.now) t → IsAskedAfter k.lang k.plan t result }
     {
-        self.run.wants(&self.knowledge.lang)
+        match &self.put {
+            Put::Example(example) => *example,
+            Put::Part { example, run } => example.restrict(run.wants()),
+            Put::FirstTuple(run) | Put::Tuple(run) => run.wants(&self.knowledge.lang),
+        }
     }
 
     /// The session after this answer to the open question.
@@ -126,54 +212,14 @@ impl Asking {
         ensures stands { (t : List Answer) (q : _) → open_in (Session.Asking self) ≡ Some q → Stands (Session.Asking self) t
             → Stands result (t ++ record { question = q; yes = «yes» } ∷ []) }
     {
-        let Asking { knowledge, run, .. } = self;
-        let Knowledge {
-            lang,
-            plan,
-            kept,
-            mut network,
-            answers,
-        } = knowledge;
-        let scope = run.scope();
-        let mut kept = kept_after(&lang, kept, &run.wants(&lang), yes);
-        let answers = one_more(&lang, answers);
-        match run.reply(&lang, yes) {
-            RelNext::Wants(run) => Session::Asking(Asking {
-                knowledge: Knowledge {
-                    lang,
-                    plan,
-                    kept,
-                    network,
-                    answers,
-                },
-                run,
-                is_new: false,
-            }),
-            RelNext::Found(c) => {
-                kept.drop_scope(scope);
-                network.learn(c);
-                Session::Idle(Idle {
-                    knowledge: Knowledge {
-                        lang,
-                        plan,
-                        kept,
-                        network,
-                        answers,
-                    },
-                    next: u32::from(scope),
-                })
-            }
-            RelNext::Free => Session::Idle(Idle {
-                knowledge: Knowledge {
-                    lang,
-                    plan,
-                    kept,
-                    network,
-                    answers,
-                },
-                next: u32::from(scope),
-            }),
-            RelNext::Nothing => unreachable!(),
+        let question = self.question();
+        let Asking { knowledge, put } = self;
+        let knowledge = knowledge.answered(&question, yes);
+        match put {
+            Put::Example(example) => example_answered(knowledge, example, yes),
+            Put::Part { example, run } => halved(knowledge, example, run.reply(yes)),
+            Put::FirstTuple(run) => tuple_answered(knowledge, run, yes),
+            Put::Tuple(run) => tuple_answered(knowledge, run, yes),
         }
     }
 }

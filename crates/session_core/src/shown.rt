@@ -1,24 +1,49 @@
-//! What a session shows.
+//! What a session shows, whatever its kind.
 
 ghost use Rattle.std.specs.Prelude.{◌≡◌};
 ghost use Rattle.language.specs.Language.{IsLanguage};
+ghost use Rattle.language.specs.Answers.{IsNetwork};
+ghost use Rattle.bias_store.specs.KeptSet.{IsMadeFor};
 ghost use Rattle.session_core.specs.Standing.{knowledge_of};
 
 use crate::knowledge::Knowledge;
-use crate::session::Session;
+use crate::session::{Asking, Collapsed, Idle, Session};
 use assign::Plan;
 use bias_store::Kept;
 use language::Language;
 use network::Network;
+
+impl Knowledge {
+    fn lang(&self) -> &Language
+        ensures is { result.now ≡ self.now.lang }
+        ensures lawful { IsLanguage result.now }
+    {
+        let lang = &self.lang;
+        let _variables = lang.n();
+        lang
+    }
+
+    fn kept(&self) -> &Kept
+        ensures is { result.now ≡ self.now.kept }
+        ensures made { IsMadeFor self.now.lang result.now }
+    {
+        &self.kept
+    }
+
+    fn network(&self) -> &Network
+        ensures is { result.now ≡ self.now.network }
+        ensures lawful { IsNetwork self.now.lang result.now.list }
+    {
+        &self.network
+    }
+}
 
 impl Session {
     pub fn lang(&self) -> &Language
         ensures is { result.now ≡ (knowledge_of self.now).lang }
         ensures lawful { IsLanguage result.now }
     {
-        let lang = &self.knowledge().lang;
-        let _variables = lang.n();
-        lang
+        self.knowledge().lang()
     }
 
     pub fn plan(&self) -> Plan
@@ -29,16 +54,18 @@ impl Session {
 
     /// The candidates that are still possible.
     pub fn kept(&self) -> &Kept
-        ensures { result.now ≡ (knowledge_of self.now).kept }
+        ensures is { result.now ≡ (knowledge_of self.now).kept }
+        ensures made { IsMadeFor (knowledge_of self.now).lang result.now }
     {
-        &self.knowledge().kept
+        self.knowledge().kept()
     }
 
     /// The learned candidates.
     pub fn network(&self) -> &Network
-        ensures { result.now ≡ (knowledge_of self.now).network }
+        ensures is { result.now ≡ (knowledge_of self.now).network }
+        ensures lawful { IsNetwork (knowledge_of self.now).lang result.now.list }
     {
-        &self.knowledge().network
+        self.knowledge().network()
     }
 
     /// How many answers stand.
@@ -56,5 +83,119 @@ impl Session {
             Session::Asking(asking) => &asking.knowledge,
             Session::Over(over) => &over.knowledge,
         }
+    }
+}
+
+impl Idle {
+    pub fn lang(&self) -> &Language
+        ensures is { result.now ≡ (knowledge_of (Session.Idle self.now)).lang }
+        ensures lawful { IsLanguage result.now }
+    {
+        self.knowledge.lang()
+    }
+
+    pub fn plan(&self) -> Plan
+        ensures { result ≡ (knowledge_of (Session.Idle self.now)).plan }
+    {
+        self.knowledge.plan
+    }
+
+    /// The candidates that are still possible.
+    pub fn kept(&self) -> &Kept
+        ensures is { result.now ≡ (knowledge_of (Session.Idle self.now)).kept }
+        ensures made { IsMadeFor (knowledge_of (Session.Idle self.now)).lang result.now }
+    {
+        self.knowledge.kept()
+    }
+
+    /// The learned candidates.
+    pub fn network(&self) -> &Network
+        ensures is { result.now ≡ (knowledge_of (Session.Idle self.now)).network }
+        ensures lawful { IsNetwork (knowledge_of (Session.Idle self.now)).lang result.now.list }
+    {
+        self.knowledge.network()
+    }
+
+    /// How many answers stand.
+    pub fn answers(&self) -> u32
+        ensures { result ≡ (knowledge_of (Session.Idle self.now)).answers }
+    {
+        self.knowledge.answers
+    }
+}
+
+impl Asking {
+    pub fn lang(&self) -> &Language
+        ensures is { result.now ≡ (knowledge_of (Session.Asking self.now)).lang }
+        ensures lawful { IsLanguage result.now }
+    {
+        self.knowledge.lang()
+    }
+
+    pub fn plan(&self) -> Plan
+        ensures { result ≡ (knowledge_of (Session.Asking self.now)).plan }
+    {
+        self.knowledge.plan
+    }
+
+    /// The candidates that are still possible.
+    pub fn kept(&self) -> &Kept
+        ensures is { result.now ≡ (knowledge_of (Session.Asking self.now)).kept }
+        ensures made { IsMadeFor (knowledge_of (Session.Asking self.now)).lang result.now }
+    {
+        self.knowledge.kept()
+    }
+
+    /// The learned candidates.
+    pub fn network(&self) -> &Network
+        ensures is { result.now ≡ (knowledge_of (Session.Asking self.now)).network }
+        ensures lawful { IsNetwork (knowledge_of (Session.Asking self.now)).lang result.now.list }
+    {
+        self.knowledge.network()
+    }
+
+    /// How many answers stand.
+    pub fn answers(&self) -> u32
+        ensures { result ≡ (knowledge_of (Session.Asking self.now)).answers }
+    {
+        self.knowledge.answers
+    }
+}
+
+impl Collapsed {
+    pub fn lang(&self) -> &Language
+        ensures is { result.now ≡ (knowledge_of (Session.Over self.now)).lang }
+        ensures lawful { IsLanguage result.now }
+    {
+        self.knowledge.lang()
+    }
+
+    pub fn plan(&self) -> Plan
+        ensures { result ≡ (knowledge_of (Session.Over self.now)).plan }
+    {
+        self.knowledge.plan
+    }
+
+    /// The candidates that are still possible.
+    pub fn kept(&self) -> &Kept
+        ensures is { result.now ≡ (knowledge_of (Session.Over self.now)).kept }
+        ensures made { IsMadeFor (knowledge_of (Session.Over self.now)).lang result.now }
+    {
+        self.knowledge.kept()
+    }
+
+    /// The learned candidates.
+    pub fn network(&self) -> &Network
+        ensures is { result.now ≡ (knowledge_of (Session.Over self.now)).network }
+        ensures lawful { IsNetwork (knowledge_of (Session.Over self.now)).lang result.now.list }
+    {
+        self.knowledge.network()
+    }
+
+    /// How many answers stand.
+    pub fn answers(&self) -> u32
+        ensures { result ≡ (knowledge_of (Session.Over self.now)).answers }
+    {
+        self.knowledge.answers
     }
 }

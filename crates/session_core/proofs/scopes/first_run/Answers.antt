@@ -1,5 +1,5 @@
-use Rattle.std.proofs.Common.{arith, length, ap, ◌<◌}
-use Rattle.session_core.proofs.Answering.{none_is}
+use Rattle.std.proofs.Common.{arith, length, ◌<◌}
+use Rattle.session_core.proofs.Steps.{none_is}
 use Rattle.session_core.proofs.Moving.{first_is}
 use Rattle.session_core.proofs.scopes.first_run.Goals as goal
 

@@ -1,0 +1,146 @@
+-- What an answer makes of a session.
+use Rattle.std.proofs.Common.{◌≡◌, ℕ, zero, suc, ◌+◌, ◌<◌, ◌≤◌, Bool, true, false, cond, List, [], ◌∷◌, ◌++◌, refl, sym, ◌∙◌, ap, arith, inl, inr, ◌⊎◌, Option, Some, None}
+use Rattle.std.specs.Prelude.{find}
+use Rattle.std.specs.List.{range_with_len}
+use Rattle.std.specs.Option.{option_map}
+use Rattle.std.proofs.lemmas.Bool.{cases_eq}
+use Rattle.assign.specs.Sets.{numbers}
+use Rattle.assign.specs.Assignment.{Assignment, restrict}
+use Rattle.assign.specs.Events.{Answer}
+use Rattle.assign.specs.declared.events.Plan.{Plan}
+use Rattle.assign.specs.declared.events.Plan.TheVariants.{Scopes, Quacq}
+use Rattle.language.specs.declared.candidates.Candidate.{Candidate}
+use Rattle.language.specs.Language.{Language, scope_number}
+use Rattle.language.specs.Answers.{kept}
+use Rattle.find_scope.specs.Halving.{Wants, halve}
+use Rattle.find_c.specs.Run.{Run}
+use Rattle.find_c.specs.Standing.{IsRunOn, IsFound, IsFree}
+use Rattle.find_c.specs.Choosing.{Choice, splitting_tuple, after_reply}
+use Rattle.find_c.specs.Scenes.{scene_of, on_scope, free_choices, violated_choices}
+use Rattle.session_laws.specs.Walk.{Walk}
+use Rattle.session_laws.specs.Session.{State, Idle, Halving, Choosing, At, begun, learn, chosen, go_on, if_passes, is_just, replied_tuple, settle_choices, settle_halving, found, begin_choosing, Over, wanted_set, on_scope_asked, scope_question, is_undecided, next_scope, is_lawful, state_after}
+use Rattle.session_laws.specs.Laws.{OneAnswerMore}
+use Rattle.session_laws.proofs.Folds.{assignment_same}
+use Rattle.session_core.specs.Sound.{NoneBefore}
+
+abbrev pub said : Assignment → Bool → Answer
+said q reply = record { question = q; yes = reply }
+
+-- ---- the step of an answer
+
+pub open_step : OneAnswerMore → (l : Language) (plan : Plan) (t : List Answer) (s : ℕ) (choices : List Choice) (network : List Candidate) (u : List ℕ) (reply : Bool) →
+    state_after l plan t ≡ At (Choosing s choices network None) → splitting_tuple (scene_of l s) choices ≡ Some u →
+    state_after l plan (t ++ said (on_scope l s u) reply ∷ []) ≡ At (settle_choices l (t ++ said (on_scope l s u) reply ∷ []) s (after_reply (scene_of l s) u reply choices) network None)
+open_step more l plan t s choices network u reply at differ =
+    let a : Answer = said (on_scope l s u) reply in
+    let next : State = settle_choices l (t ++ a ∷ []) s (after_reply (scene_of l s) u reply choices) network None in
+    more l plan t a (Choosing s choices network None) next at
+    ((λ i. if_passes (is_just (option_map (on_scope l s) (differ i)) (on_scope l s u)) (settle_choices l (t ++ a ∷ []) s (replied_tuple (scene_of l s) reply choices (differ i)) network None))
+    ∙ ap (λ b. if_passes b next) (assignment_same (on_scope l s u)))
+
+pub lawful_there : (l : Language) (live network : List Candidate) (s : ℕ) (u : List ℕ) → next_scope l live network ≡ Some s → splitting_tuple (scene_of l s) (free_choices live s) ≡ Some u →
+    scope_question l live network ≡ Some (on_scope l s u)
+lawful_there l live network s u first differ =
+    ap (λ o. ask_on o) first ∙ ap (option_map (on_scope l s)) differ
+  where
+    ask_on : Option ℕ → Option Assignment
+    ask_on None = None
+    ask_on (Some v) = option_map (on_scope l v) (splitting_tuple (scene_of l v) (free_choices live v))
+
+pub new_step : OneAnswerMore → (l : Language) (t : List Answer) (network : List Candidate) (s : ℕ) (u : List ℕ) (reply : Bool) →
+    state_after l Scopes t ≡ At (Idle network None) → next_scope l (kept l t network) network ≡ Some s → splitting_tuple (scene_of l s) (free_choices (kept l t network) s) ≡ Some u →
+    state_after l Scopes (t ++ said (on_scope l s u) reply ∷ [])
+    ≡ At (settle_choices l (t ++ said (on_scope l s u) reply ∷ []) s (after_reply (scene_of l s) u reply (free_choices (kept l t network) s)) network None)
+new_step more l t network s u reply at first differ =
+    let a : Answer = said (on_scope l s u) reply in
+    let live : List Candidate = kept l t network in
+    let next : State = settle_choices l (t ++ a ∷ []) s (after_reply (scene_of l s) u reply (free_choices live s)) network None in
+    more l Scopes t a (Idle network None) next at
+    ((λ i. if_passes (is_just (lawful_there l live network s u first differ i) (on_scope l s u)) (on_scope_asked l (t ++ a ∷ []) reply live network (first i)))
+    ∙ (λ i. if_passes (is_just (Some (on_scope l s u)) (on_scope l s u)) (settle_choices l (t ++ a ∷ []) s (replied_tuple (scene_of l s) reply (free_choices live s) (differ i)) network None))
+    ∙ ap (λ b. if_passes b next) (assignment_same (on_scope l s u)))
+
+pub example_step : OneAnswerMore → (l : Language) (t : List Answer) (network : List Candidate) (e : Assignment) (reply : Bool) →
+    state_after l Quacq t ≡ At (Idle network None) → is_lawful l Quacq (kept l t network) network e ≡ true →
+    state_after l Quacq (t ++ said e reply ∷ []) ≡ At (begun l Quacq (t ++ said e reply ∷ []) (kept l t network) network e reply)
+example_step more l t network e reply at lawful =
+    let a : Answer = said e reply in
+    let next : State = begun l Quacq (t ++ a ∷ []) (kept l t network) network e reply in
+    more l Quacq t a (Idle network None) next at (ap (λ b. if_passes b next) lawful)
+
+-- the answer to a new example doesn't ask what was kept before
+pub begun_same : (l : Language) (t : List Answer) (live other network : List Candidate) (e : Assignment) (reply : Bool) → begun l Quacq t live network e reply ≡ begun l Quacq t other network e reply
+begun_same l t live other network e true = refl
+begun_same l t live other network e false = refl
+
+pub part_step : OneAnswerMore → (l : Language) (plan : Plan) (t : List Answer) (e : Assignment) (set : List ℕ) (replies : List Bool) (network : List Candidate) (w : List ℕ) (reply : Bool) →
+    state_after l plan t ≡ At (Halving e set replies network None) → halve set replies ≡ Wants w →
+    state_after l plan (t ++ said (restrict e w) reply ∷ []) ≡ At (settle_halving l (t ++ said (restrict e w) reply ∷ []) e set (replies ++ reply ∷ []) network None)
+part_step more l plan t e set replies network w reply at wants =
+    let a : Answer = said (restrict e w) reply in
+    let next : State = settle_halving l (t ++ a ∷ []) e set (replies ++ reply ∷ []) network None in
+    more l plan t a (Halving e set replies network None) next at
+    ((λ i. if_passes (is_just (option_map (restrict e) (wanted_set (wants i))) (restrict e w)) next)
+    ∙ ap (λ b. if_passes b next) (assignment_same (restrict e w)))
+
+-- ---- where the choices stand
+
+-- the choices still differ
+pub still_choosing : (l : Language) (t : List Answer) (s : ℕ) (choices : List Choice) (network : List Candidate) (walk : Option Walk) (run : Run) → IsRunOn l s choices run →
+    settle_choices l t s choices network walk ≡ Choosing run.scope run.choices network walk
+still_choosing l t s choices network walk run on =
+    let differ : splitting_tuple (scene_of l s) choices ≡ Some run.tuple = (λ i. splitting_tuple (scene_of l (sym on.scope i)) (sym on.choices i)) ∙ on.sound.tuple in
+    ap (chosen l t s choices network walk) differ ∙ (λ i. Choosing (sym on.scope i) (sym on.choices i) network walk)
+
+-- one remains
+pub has_learned : (l : Language) (t : List Answer) (s : ℕ) (choices : List Choice) (network : List Candidate) (walk : Option Walk) (c : Candidate) → IsFound l s choices c →
+    settle_choices l t s choices network walk ≡ go_on l t (network ++ c ∷ []) walk
+has_learned l t s choices network walk c found =
+    ap (chosen l t s choices network walk) found.settled
+    ∙ ap (λ r. go_on l t (learn network s r) walk) found.remains
+    ∙ ap (λ v. go_on l t (network ++ (let d : Candidate = record { scope = v; rel = c.rel } in d) ∷ []) walk) (sym found.scope)
+
+-- none remains
+pub has_none : (l : Language) (t : List Answer) (s : ℕ) (choices : List Choice) (network : List Candidate) (walk : Option Walk) → IsFree l s choices →
+    settle_choices l t s choices network walk ≡ go_on l t network walk
+has_none l t s choices network walk free =
+    ap (chosen l t s choices network walk) free.settled ∙ ap (λ r. go_on l t (learn network s r) walk) free.remains
+
+-- what is found among the scopes has choices
+pub found_choices : (l : Language) (t : List Answer) (e : Assignment) (network live : List Candidate) (walk : Option Walk) (set : List ℕ) (s : ℕ) → live ≡ kept l t network → scope_number l set ≡ Some s →
+    (violated_choices l live e s ≡ [] → ⊥) → found l t e network walk (scope_number l set) ≡ settle_choices l t s (violated_choices l live e s) network walk
+found_choices l t e network live walk set s is at some =
+    ap (found l t e network walk) at ∙ ap (λ cs. begin_choosing l t s (violated_choices l cs e s) network walk) (sym is) ∙ begins (violated_choices l live e s) some
+  where
+    begins : (choices : List Choice) → (choices ≡ [] → ⊥) → begin_choosing l t s choices network walk ≡ settle_choices l t s choices network walk
+    begins [] some = absurd (some refl)
+    begins (c ∷ choices) some = refl
+
+-- or none
+pub found_none : (l : Language) (t : List Answer) (e : Assignment) (network live : List Candidate) (walk : Option Walk) (set : List ℕ) (s : ℕ) → live ≡ kept l t network → scope_number l set ≡ Some s →
+    violated_choices l live e s ≡ [] → found l t e network walk (scope_number l set) ≡ Over network
+found_none l t e network live walk set s is at none =
+    ap (found l t e network walk) at ∙ ap (λ cs. begin_choosing l t s (violated_choices l cs e s) network walk) (sym is) ∙ ap (λ choices. begin_choosing l t s choices network walk) none
+
+-- ---- the next scope
+
+find_range : (p : ℕ → Bool) (a n s : ℕ) → a ≤ s → s < a + n → p s ≡ true → ((v : ℕ) → v < s → p v ≡ false) → find p (range_with_len a n) ≡ Some s
+find_range p a zero s low high at below = absurd (omega arith)
+find_range p a (suc n) s low high at below = go (cases_eq a s) (λ further. find_range p (a + 1) n s further (omega arith) at below)
+  where
+    go : (a ≡ s) ⊎ (a ≡ s → ⊥) → (a + 1 ≤ s → find p (range_with_len (a + 1) n) ≡ Some s) → find p (range_with_len a (suc n)) ≡ Some s
+    go (inl same) next = ap (λ b. cond b (Some a) (find p (range_with_len (a + 1) n))) (ap p same ∙ at) ∙ ap (λ v. Some v) same
+    go (inr other) next = ap (λ b. cond b (Some a) (find p (range_with_len (a + 1) n))) (below a (omega arith)) ∙ next (omega arith)
+
+find_none_range : (p : ℕ → Bool) (a n : ℕ) → ((v : ℕ) → v < a + n → p v ≡ false) → find p (range_with_len a n) ≡ None
+find_none_range p a zero below = refl
+find_none_range p a (suc n) below =
+    ap (λ b. cond b (Some a) (find p (range_with_len (a + 1) n))) (below a (omega arith)) ∙ find_none_range p (a + 1) n (λ v low. below v (omega arith))
+
+-- the first undecided scope is the next
+pub next_is : (l : Language) (live network : List Candidate) (s n : ℕ) → s < n → NoneBefore l live network s → is_undecided l live network s ≡ true → find (is_undecided l live network) (numbers n) ≡ Some s
+next_is l live network s n low below at = find_range (is_undecided l live network) 0 n s (omega arith) (omega arith) at below
+
+-- where all are decided there is none
+pub none_is : (l : Language) (live network : List Candidate) (n : ℕ) → NoneBefore l live network n → find (is_undecided l live network) (numbers n) ≡ None
+none_is l live network n below = find_none_range (is_undecided l live network) 0 n (λ v low. below v (omega arith))

@@ -1,0 +1,38 @@
+use Rattle.std.proofs.Common.{◌∙◌, Bool, List, not, sym, ap, subst, None}
+use Rattle.std.specs.Prelude.{filter, ◌==◌, All}
+use Rattle.std.proofs.lemmas.List.Elements.{All-push}
+use Rattle.language.specs.declared.candidates.Candidate.{Candidate}
+use Rattle.language.specs.Language.{IsCandidate}
+use Rattle.language.specs.Answers.{kept}
+use Rattle.session_laws.specs.Session.{At, Idle}
+use Rattle.session_core.specs.declared.knowledge.Knowledge.{Knowledge}
+use Rattle.session_core.specs.Sound.{AreUnlearned}
+use Rattle.session_core.proofs.Moving.{decided_learned, kept_learned, unlearned_after}
+use Rattle.session_core.proofs.going.learned.Goals as goal
+
+pub invariant_of-result : goal.invariant_of-result
+invariant_of-result c =
+    let k : Knowledge = c.args.knowledge in
+    let left : Candidate → Bool = λ (d : Candidate). not (c.args.c.scope == d.scope) in
+    let more : List Candidate = c.learn.new.self.list in
+    record {
+      planned = k.planned;
+      made = c.drop_scope.ensures.made k.lang k.made;
+      lawful = subst (All (IsCandidate k.lang)) (sym c.learn.ensures.list) (All-push (IsCandidate k.lang) k.network.list c.args.c k.lawful c.requires.candidate);
+      room = c.learn.ensures.scopes ∙ k.room;
+      unlearned = subst (λ cs. AreUnlearned cs more) (sym c.drop_scope.ensures.kept) (unlearned_after c.args.c k.network.list more k.kept.members c.learn.ensures.list k.unlearned);
+      none_before = decided_learned k.lang left k.kept.members c.drop_scope.new.self.members k.network.list more c.args.c k.next c.drop_scope.ensures.kept c.learn.ensures.list k.none_before;
+      within = k.within;
+    }
+
+pub returns-clause-stands : goal.returns-clause-stands
+returns-clause-stands c = λ t led.
+    let k : Knowledge = c.args.knowledge in
+    record {
+      after = led.at ∙ ap (λ (cs : List Candidate). At (Idle cs None)) (sym c.learn.ensures.list);
+      knows = record {
+        kept = c.drop_scope.ensures.kept ∙ ap (filter (λ (d : Candidate). not (c.args.c.scope == d.scope))) led.knows.kept ∙ sym (kept_learned k.lang t k.network.list c.args.c)
+            ∙ ap (kept k.lang t) (sym c.learn.ensures.list);
+        count = led.knows.count;
+      };
+    }

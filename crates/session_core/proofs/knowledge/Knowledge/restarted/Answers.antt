@@ -1,0 +1,18 @@
+use Rattle.std.proofs.Common.{refl, sym, ◌∙◌, ap, [], None, List}
+use Rattle.language.specs.declared.candidates.Candidate.{Candidate}
+use Rattle.language.specs.Language.{candidates}
+use Rattle.language.specs.Answers.{kept}
+use Rattle.session_laws.specs.Session.{At, Idle}
+use Rattle.session_core.proofs.Moving.{filter_all, state_nil}
+use Rattle.session_core.proofs.knowledge.Knowledge.restarted.Goals as goal
+
+pub returns-clause-stands : goal.returns-clause-stands
+returns-clause-stands c =
+    let empty = sym c.clear.ensures.list in
+    record {
+      after = state_nil c.args.self.lang c.args.self.plan ∙ ap (λ (network : List Candidate). At (Idle network None)) empty;
+      knows = record {
+        kept = c.reset.ensures.all ∙ sym (filter_all (candidates c.args.self.lang)) ∙ ap (kept c.args.self.lang []) empty;
+        count = refl;
+      };
+    }

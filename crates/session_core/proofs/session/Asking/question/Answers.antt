@@ -1,0 +1,10 @@
+use Rattle.std.proofs.Common.{sym, subst}
+use Rattle.language.specs.Language.{IsQuestion}
+use Rattle.session_core.specs.Putting.{IsPut}
+use Rattle.session_core.proofs.Questions.{part_is_question}
+use Rattle.session_core.proofs.session.Asking.question.Goals as goal
+
+pub returns-in-Part-clause-fits : goal.returns-in-Part-clause-fits
+returns-in-Part-clause-fits c =
+    subst (IsQuestion c.args.self.now.knowledge.lang) (sym c.restrict.ensures)
+    (part_is_question c.args.self.now.knowledge.lang c.in-Part.example c.wants.result (subst (IsPut c.args.self.now.knowledge) c.in-Part.is c.args.self.now.sound))

@@ -1,0 +1,13 @@
+-- What an answer makes of what a session knows.
+use Rattle.std.specs.Prelude.{◌≡◌, ◌+◌, ◌-◌, ◌^◌, ◌&&◌, min, not, Bool, filter}
+use Rattle.assign.specs.Assignment.{Assignment}
+use Rattle.language.specs.Language.{violates}
+use Rattle.session_core.specs.declared.knowledge.Knowledge.{Knowledge}
+
+-- A yes to q strikes what q violates, and the answer is counted. The rest stays.
+pub record IsAnswered (before : Knowledge) (q : Assignment) (reply : Bool) (after : Knowledge) : Type 0 where
+  pub lang : after.lang ≡ before.lang
+  pub plan : after.plan ≡ before.plan
+  pub network : after.network ≡ before.network
+  pub kept : after.kept.members ≡ filter (λ c. not (reply && violates before.lang c q)) before.kept.members
+  pub count : after.answers ≡ min (before.answers + 1) (2 ^ 32 - 1)

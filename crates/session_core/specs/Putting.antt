@@ -1,0 +1,40 @@
+-- What a session relies on of the question that is put.
+use Rattle.std.specs.Prelude.{◌≡◌, false, IsTrue}
+use Rattle.std.proofs.Props.{props}
+use Rattle.assign.specs.Assignment.{Assignment}
+use Rattle.assign.specs.declared.events.Plan.TheVariants.{Scopes, Quacq}
+use Rattle.language.specs.Language.{IsQuestion}
+use Rattle.language.specs.Answers.{has_scope}
+use Rattle.find_c.specs.Run.{Run, IsRun}
+use Rattle.session_laws.specs.Session.{is_lawful}
+use Rattle.session_core.specs.declared.knowledge.Knowledge.{Knowledge}
+use Rattle.session_core.specs.declared.put.Put.{Put}
+use Rattle.session_core.specs.declared.put.Put.TheVariants.{Example, Part, FirstTuple, Tuple}
+use Rattle.session_core.specs.Sound.{IsFirst}
+
+-- an example that may be put
+pub record IsExample (k : Knowledge) (e : Assignment) : Type 0 where
+  pub plan : k.plan ≡ Quacq
+  pub lawful : IsTrue (is_lawful k.lang k.plan k.kept.members k.network.list e)
+
+-- the first question of plan Scopes
+pub record IsDue (k : Knowledge) (run : Run) : Type 0 where
+  pub plan : k.plan ≡ Scopes
+  pub first : IsFirst k.lang k.kept.members k.network.list run
+
+-- a telling apart on a scope where nothing is learned
+pub record IsTelling (k : Knowledge) (run : Run) : Type 0 where
+  pub sound : IsRun k.lang run
+  pub free : has_scope k.network.list run.scope ≡ false
+
+abbrev pub IsPut : Knowledge → Put → Type 0
+IsPut k (Example e) = IsExample k e
+IsPut k (Part e run) = IsQuestion k.lang e
+IsPut k (FirstTuple run) = IsDue k run
+IsPut k (Tuple run) = IsTelling k run
+
+pub IsPut-prop : (k : Knowledge) (put : Put) → IsProp (IsPut k put)
+IsPut-prop k (Example e) = Prim.hlevel props
+IsPut-prop k (Part e run) = Prim.hlevel props
+IsPut-prop k (FirstTuple run) = Prim.hlevel props
+IsPut-prop k (Tuple run) = Prim.hlevel props
