@@ -18,6 +18,8 @@ pub mod laws;
 mod numbering;
 mod parts;
 mod places;
+#[cfg(test)]
+mod scope_tests;
 mod scopes;
 #[cfg(test)]
 mod tests;

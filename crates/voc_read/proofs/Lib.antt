@@ -8,3 +8,8 @@ pub mod TokenCounts
 pub mod ReadSizes
 pub mod TextsRead
 pub mod RelationNames
+pub mod ScopeSteps
+pub mod KnownScopes
+pub mod Refused
+pub mod NumberSteps
+pub mod LanguageMade

@@ -1,7 +1,8 @@
 -- The names that a table of numbers holds, one more at a time.
-use Rattle.std.proofs.Common.{◌≡◌, ℕ, zero, suc, ◌+◌, ◌<◌, ◌≤◌, ◌++◌, ◌||◌, true, false, not, cond, List, [], ◌∷◌, length, take, drop, get_or, Some, None, Bor, refl, sym, ap, ap₂, ◌∙◌, arith}
+use Rattle.std.proofs.Common.{◌≡◌, ℕ, zero, suc, ◌+◌, ◌<◌, ◌≤◌, ◌++◌, ◌||◌, true, false, not, cond, Bool, Option, List, [], ◌∷◌, length, take, drop, get_or, Some, None, Bor, refl, sym, ap, ap₂, ◌∙◌, arith}
 use Rattle.std.proofs.Math.Seq.{drop-cons}
 use Rattle.std.proofs.lemmas.List.{take_more, length-take, length-map, get_or-map}
+use Rattle.std.specs.Prelude.{position}
 use Rattle.std.specs.List.{list_any, position_or_len}
 use Rattle.std.specs.Str.{bytes_eq}
 use Rattle.voc_read.specs.Names.{repeat_after}
@@ -63,3 +64,22 @@ unfolding repeat_after
 all_are_new keys names j past =
     let none : drop j (texts_of names) ≡ [] = drop_past (texts_of names) j (rw (length-map names (λ (name : Bor (List ℕ)). name.now)) past) in
     rw none refl
+
+count : (keys : List (Bor (List ℕ))) → length keys ≡ length (texts_of keys)
+count [] = refl
+count (key ∷ keys) = ap suc (count keys)
+
+-- where a text stands among the keys
+pub position-texts_of : (text : List ℕ) (keys : List (Bor (List ℕ))) → position (λ key. bytes_eq text key.now) keys ≡ position (bytes_eq text) (texts_of keys)
+position-texts_of text keys = rw (place_of_text text keys, count keys) refl
+
+none_left : (keys names : List (Bor (List ℕ))) (j : ℕ) (d : Bor (List ℕ)) (found : Bool) → j < length names → texts_of keys ≡ take j (texts_of names)
+    → repeat_after (texts_of keys) (drop j (texts_of names)) ≡ None → list_any (λ key. bytes_eq (get_or names j d).now key.now) keys ≡ found → found ≡ false
+none_left keys names j d false within seen none is = refl
+none_left keys names j d true within seen none is =
+    let some : ◌≡◌ {A = Option (ℕ × ℕ)} None (Some (position_or_len (λ key. bytes_eq (get_or names j d).now key.now) keys, j)) = sym none ∙ repeats keys names _ j d within seen is refl in absurd (cc)
+
+-- where no name from j on repeats one, name j doesn't stand among the keys
+pub is_no_repeat : (keys names : List (Bor (List ℕ))) (j : ℕ) (d : Bor (List ℕ)) → j < length names → texts_of keys ≡ take j (texts_of names)
+    → repeat_after (texts_of keys) (drop j (texts_of names)) ≡ None → list_any (λ key. bytes_eq (get_or names j d).now key.now) keys ≡ false
+is_no_repeat keys names j d within seen none = none_left keys names j d _ within seen none refl

@@ -1,12 +1,18 @@
 -- The table of a relation's tuples.
-use Rattle.std.proofs.Common.{◌≡◌, ℕ, ℤ, pos, ◌^◌, ◌<◌, Bool, false, List, length, nat_eq, Some, sym, ◌∙◌, ap₂, arith}
+use Rattle.std.proofs.Common.{◌≡◌, ℕ, zero, suc, ℤ, pos, ◌^◌, ◌<◌, ◌≤◌, Bool, true, false, cond, List, length, nat_eq, nat_le, Option, Some, None, Result, Ok, Err, refl, sym, ap, ◌∙◌, ap₂, arith}
+use Rattle.std.specs.Prelude.{unsigned_abs}
 use Rattle.std.specs.List.{list_any}
+use Rattle.std.specs.Option.{option_map}
 use Rattle.std.proofs.lemmas.List.{same_lists, get_or_default}
 use Rattle.std.proofs.lemmas.List.FromFn.{get_or-map-range_with_len, length-map-range_with_len}
+use Rattle.std.proofs.lemmas.Bool.{le-leb}
 use Rattle.std.proofs.lemmas.Option.{same_Some}
 use Rattle.rel_table.specs.Table.{TruthTable, IsTable}
-use Rattle.rel_table.specs.Made.{arity_of, place_of_shown, IsMade, Marks}
-use Rattle.voc_read.specs.Relations.{RelationData, accepting, IsTableOf}
+use Rattle.rel_table.specs.Made.{arity_of, size_for, size_of, place_of_shown, first_fault, refusal_from, refusal_of, IsMade, Marks}
+use Rattle.rel_table.specs.declared.table.TableFault.{TableFault}
+use Rattle.voc_read.specs.declared.fault.VocFault.{VocFault}
+use Rattle.voc_read.specs.declared.fault.VocFault.TheVariants.{Table}
+use Rattle.voc_read.specs.Rules.{accepting, relation_of_tuples}
 
 -- the truth values that are marked so are those of the relation that accepts exactly the tuples
 same_truth : (lo : ℤ) (d a : ℕ) (tuples : List (List ℤ)) (truth : List Bool) → length truth ≡ d ^ a → Marks lo d tuples truth → truth ≡ accepting lo d a tuples
@@ -15,11 +21,26 @@ same_truth lo d a tuples truth count marks =
     same_lists truth (accepting lo d a tuples) (count ∙ sym (length-map-range_with_len stands 0 (d ^ a)))
     (λ at x within. let inside : at < d ^ a = omega arith in get_or_default truth at x false within ∙ marks at within ∙ sym (get_or-map-range_with_len stands 0 (d ^ a) at at x inside (omega arith)))
 
-two_places : (a : ℕ) → arity_of (pos 2) ≡ Some a → a ≡ 2
-two_places a h = sym (same_Some 2 a h)
+pub small : (a : ℕ) → 1 ≤ a → a ≤ 4 → arity_of (pos a) ≡ Some a
+small zero h k = absurd (omega arith)
+small (suc zero) h k = refl
+small (suc (suc zero)) h k = refl
+small (suc (suc (suc zero))) h k = refl
+small (suc (suc (suc (suc zero)))) h k = refl
+small (suc (suc (suc (suc (suc a))))) h k = absurd (omega arith)
 
-pub IsTableOf-made : (lo : ℤ) (d : ℕ) (relation : RelationData) (table : TruthTable) → IsMade (pos 2) lo d relation.tuples table → IsTable table → IsTableOf lo d relation table
-IsTableOf-made lo d relation table made lawful =
-    let long : table.arity ≡ 2 = two_places table.arity made.long in
-    let count : length table.truth ≡ d ^ 2 = lawful.each ∙ ap₂ (λ x y. x ^ y) made.values long in
-    record { arity = long; values = made.values; truth = same_truth lo d 2 relation.tuples table.truth count made.each }
+-- nothing but the tuples is wrong
+pub refusal-small : (a : ℕ) (lo : ℤ) (d : ℕ) (tuples : List (List ℤ)) → 1 ≤ a → a ≤ 4 → d ^ a ≤ 65536 → refusal_of (pos a) lo d tuples ≡ first_fault a lo d 0 tuples
+refusal-small a lo d tuples some short fits = rw (small a some short, le-leb (d ^ a) 65536 fits) refl
+
+pub table-refused : (i a : ℕ) (lo : ℤ) (d : ℕ) (tuples : List (List ℤ)) (fault : TableFault) → 1 ≤ a → a ≤ 4 → d ^ a ≤ 65536
+    → refusal_of (pos a) lo d tuples ≡ Some fault → relation_of_tuples i lo d a tuples ≡ Err (Table i fault)
+table-refused i a lo d tuples fault some short fits h = rw (sym (refusal-small a lo d tuples some short fits) ∙ h) refl
+
+pub table-made : (i a : ℕ) (lo : ℤ) (d : ℕ) (tuples : List (List ℤ)) (table : TruthTable) → 1 ≤ a → a ≤ 4 → d ^ a ≤ 65536
+    → IsMade (pos a) lo d tuples table → IsTable table → (table.arity ≡ a) × (table.value_count ≡ d) × (relation_of_tuples i lo d a tuples ≡ Ok table.truth)
+table-made i a lo d tuples table some short fits made lawful =
+    let long : table.arity ≡ a = same_Some table.arity a (sym made.long ∙ small a some short) in
+    let count : length table.truth ≡ d ^ a = lawful.each ∙ ap₂ (λ x y. x ^ y) made.values long in
+    let right : first_fault a lo d 0 tuples ≡ None = sym (refusal-small a lo d tuples some short fits) ∙ made.right in
+    (long, made.values, rw right (ap Ok (sym (same_truth lo d a tuples table.truth count made.each))))

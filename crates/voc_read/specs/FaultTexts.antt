@@ -5,12 +5,16 @@ use Rattle.rel_table.specs.declared.table.CloseFault.{CloseFault}
 use Rattle.rel_table.specs.declared.table.CloseFault.TheVariants as closing
 use Rattle.rel_table.specs.declared.table.TableFault.{TableFault}
 use Rattle.rel_table.specs.declared.table.TableFault.TheVariants as table
+use Rattle.rel_formula.specs.declared.fault.FormulaFault.{FormulaFault}
+use Rattle.rel_formula.specs.declared.fault.FormulaFault.TheVariants as formula
+use Rattle.rel_formula.specs.declared.fault.TableOfFault.{TableOfFault}
+use Rattle.rel_formula.specs.declared.fault.TableOfFault.TheVariants as evaluation
 use Rattle.language.specs.declared.parts.LangFault.{LangFault}
 use Rattle.language.specs.declared.parts.LangFault.TheVariants as lang
 use Rattle.voc_read.specs.declared.fault.Spot.{Spot}
-use Rattle.voc_read.specs.declared.fault.Spot.TheVariants.{Whole, Variables, Domain, Relations, Relation, Scopes}
+use Rattle.voc_read.specs.declared.fault.Spot.TheVariants.{Whole, Variables, Domain, Relations, Relation, Scopes, Scope}
 use Rattle.voc_read.specs.declared.fault.VocFault.{VocFault}
-use Rattle.voc_read.specs.declared.fault.VocFault.TheVariants.{TooLong, NotJson, Missing, WrongKind, UnknownKey, BadName, NameRepeated, BadRelName, RelRepeated, Table, Lang, Memory}
+use Rattle.voc_read.specs.declared.fault.VocFault.TheVariants.{TooLong, NotJson, Missing, WrongKind, UnknownKey, BadName, NameRepeated, BadRelName, RelRepeated, UnknownVariable, Formula, Table, TableOf, Lang, Memory}
 
 -- where a fault is
 abbrev pub spot_text : Spot → List ℕ
@@ -20,6 +24,7 @@ spot_text Domain = codes "domain"
 spot_text Relations = codes "relations"
 spot_text (Relation i) = codes "relation " ++ decimal i
 spot_text Scopes = codes "scopes"
+spot_text (Scope i) = codes "scope " ++ decimal i
 
 -- two numbers
 abbrev pub pair_text : ℕ → ℕ → List ℕ
@@ -33,6 +38,20 @@ table_text (table.ValueOut t) = codes "value out " ++ decimal t
 table_text table.TooLarge = codes "too large"
 table_text table.Memory = codes "memory"
 
+-- why a value is no formula
+abbrev pub formula_text : FormulaFault → List ℕ
+formula_text (formula.BadShape p) = codes "bad shape " ++ decimal p
+formula_text (formula.BadOperator p) = codes "bad operator " ++ decimal p
+formula_text (formula.BadPosition p) = codes "bad position " ++ decimal p
+formula_text formula.TooDeep = codes "too deep"
+formula_text formula.TooManyNodes = codes "too many nodes"
+formula_text formula.Memory = codes "memory"
+
+-- why there is no table of a formula
+abbrev pub evaluation_text : TableOfFault → List ℕ
+evaluation_text (evaluation.TooBig p) = codes "value too big " ++ decimal p
+evaluation_text evaluation.Memory = codes "memory"
+
 -- why relations have no closing
 abbrev pub closing_text : CloseFault → List ℕ
 closing_text (closing.TooMany arity) = codes "too many relations " ++ decimal arity
@@ -44,7 +63,11 @@ lang_text lang.NoVariables = codes "no variables"
 lang_text lang.TooManyVariables = codes "too many variables"
 lang_text lang.BadDomain = codes "bad domain"
 lang_text lang.NoRelations = codes "no relations"
-lang_text (lang.NotClosed arity) = codes "not closed " ++ decimal arity
+lang_text (lang.ScopeOrder i) = codes "scope order " ++ decimal i
+lang_text lang.TooManyScopes = codes "too many scopes"
+lang_text (lang.ScopeRepeated i j) = codes "scope repeated " ++ pair_text i j
+lang_text (lang.Nested i j) = codes "nested " ++ pair_text i j
+lang_text (lang.NoRelationOfArity i) = codes "no relation of arity " ++ decimal i
 lang_text (lang.Closing fault) = closing_text fault
 lang_text lang.Memory = codes "memory"
 
@@ -59,6 +82,9 @@ fault_text (BadName i) = codes "bad name " ++ decimal i
 fault_text (NameRepeated i j) = codes "name repeated " ++ pair_text i j
 fault_text (BadRelName i) = codes "bad relation name " ++ decimal i
 fault_text (RelRepeated i j) = codes "relation repeated " ++ pair_text i j
+fault_text (UnknownVariable i) = codes "unknown variable " ++ decimal i
+fault_text (Formula i fault) = codes "relation " ++ (decimal i ++ (codes " formula " ++ formula_text fault))
 fault_text (Table i fault) = codes "relation " ++ (decimal i ++ (codes " table " ++ table_text fault))
+fault_text (TableOf i fault) = codes "relation " ++ (decimal i ++ (codes " " ++ evaluation_text fault))
 fault_text (Lang fault) = lang_text fault
 fault_text Memory = codes "memory"

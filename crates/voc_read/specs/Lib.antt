@@ -4,7 +4,10 @@ pub mod Texts
 pub mod Keys
 pub mod Names
 pub mod Outline
+pub mod Rules
 pub mod Relations
+pub mod Scopes
 pub mod Widest
 pub mod Vocabulary
 pub mod FaultTexts
+pub mod Laws

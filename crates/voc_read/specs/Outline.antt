@@ -1,6 +1,8 @@
--- What a vocabulary holds, before its relations are read.
-use Rattle.std.specs.Prelude.{ℕ, ℤ, Bool, false, List, [], ◌∷◌, codes, Result, Ok, Err, if◌then◌else◌}
-use Rattle.std.specs.Option.{ok_or, option_map_or}
+-- What a vocabulary holds, before its relations and scopes are read.
+use Rattle.std.specs.Prelude.{ℕ, ℤ, Bool, false, List, [], ◌∷◌, codes, Option, Some, None, Result, Ok, if◌then◌else◌}
+use Rattle.std.specs.Option.{ok_or, option_map, option_map_or}
+use Rattle.std.specs.Borrow.{Bor}
+use Rattle.serde_json.specs.declared.value.Value.{Value}
 use Rattle.std.specs.Str.{bytes_eq}
 use Rattle.serde_json.specs.Data.{Data, Items}
 use Rattle.serde_json.specs.Find.{as_array, as_str}
@@ -43,16 +45,22 @@ held_data held = record {
   scopes = view held.scopes.now;
 }
 
--- the names and the domain, with the relations that are still to be read
+-- the names and the domain, with the relations and the scopes that are still to be read
 pub record OutlineData : Type 0 where
   pub names : List (List ℕ)
   pub least_value : ℤ
   pub greatest_value : ℤ
   pub relations : Items
+  -- the scopes that are listed, where they are
+  pub listed : Option Items
 
 -- the string `all`
 abbrev pub is_all : Data → Bool
 is_all scopes = option_map_or (λ text. bytes_eq text (codes "all")) (as_str scopes) false
+
+-- the scopes that are listed, or none for the string `all`
+abbrev pub listed_under : Data → Result (Option Items) VocFault
+listed_under scopes = if is_all scopes then Ok None else then_on (ok_or (as_array scopes) (WrongKind Scopes)) (λ items. Ok (Some items))
 
 -- what the values are, where each is of its kind
 abbrev pub outline_of : HeldData → Result OutlineData VocFault
@@ -60,9 +68,12 @@ outline_of held =
     then_on (ok_or (text_list held.variables) (WrongKind Variables)) (λ names.
     then_on (ok_or (number_pair held.domain) (WrongKind Domain)) (λ bounds.
     then_on (ok_or (as_array held.relations) (WrongKind Relations)) (λ relations.
-    if is_all held.scopes
-    then Ok (record { names = names; least_value = bounds.0; greatest_value = bounds.1; relations = relations })
-    else Err (WrongKind Scopes))))
+    then_on (listed_under held.scopes) (λ listed.
+    Ok (record { names = names; least_value = bounds.0; greatest_value = bounds.1; relations = relations; listed = listed })))))
+
+-- values that are listed, where some are
+abbrev pub listed_items : Option (Bor (List Value)) → Option Items
+listed_items listed = option_map (λ list. items_view list.now) listed
 
 abbrev pub outline_data : Outline → OutlineData
 outline_data outline = record {
@@ -70,4 +81,5 @@ outline_data outline = record {
   least_value = outline.least_value;
   greatest_value = outline.greatest_value;
   relations = items_view outline.relations.now;
+  listed = listed_items outline.listed;
 }

@@ -1,15 +1,10 @@
 -- The relations of a vocabulary.
-use Rattle.std.specs.Prelude.{◌≡◌, ℕ, ◌+◌, ◌^◌, ℤ, pos, unsigned_abs, List, [], ◌∷◌, map, codes, nat_eq, Option, Some, None, Result, Ok, if◌then◌else◌, true, string_bytes}
-use Rattle.std.specs.List.{list_any, range_with_len}
+use Rattle.std.specs.Prelude.{◌≡◌, ℕ, ◌+◌, ℤ, unsigned_abs, List, [], ◌∷◌, map, codes, Option, Some, None, Result, Ok, Err, if◌then◌else◌, true, string_bytes}
 use Rattle.std.specs.Option.{ok_or, option_map}
-use Rattle.std.specs.Ordering.{int_eq}
 use Rattle.serde_json.specs.Data.{Data, Items, no_items, item}
 use Rattle.serde_json.specs.Find.{as_str}
-use Rattle.rel_table.specs.Relation.{Relation}
-use Rattle.rel_table.specs.Table.{TruthTable}
-use Rattle.rel_table.specs.Made.{place_of_shown, refusal_of, lists}
+use Rattle.rel_table.specs.Made.{size_of}
 use Rattle.rel_table.specs.declared.table.TableFault.{TableFault}
-use Rattle.rel_table.specs.declared.table.TableFault.TheVariants.{BadArity}
 use Rattle.language.specs.Language.{Given, is_name}
 use Rattle.language.specs.declared.parts.RelPart.{RelPart}
 use Rattle.voc_read.specs.declared.fault.Spot.{Spot}
@@ -20,62 +15,53 @@ use Rattle.voc_read.specs.declared.relations.StatedRelation.{StatedRelation}
 use Rattle.voc_read.specs.Answers.{then_on, unless}
 use Rattle.voc_read.specs.Keys.{keys_refusal, under}
 use Rattle.voc_read.specs.Names.{first_repeat}
-use Rattle.voc_read.specs.Values.{whole_number, tuple_list}
+use Rattle.voc_read.specs.Values.{whole_number}
+use Rattle.voc_read.specs.Rules.{RuleData, stated_under, rule_in, rule_data, relation_by}
 
 -- a relation as a vocabulary states it
 pub record RelationData : Type 0 where
   pub name : List ℕ
   pub arity : ℤ
-  pub tuples : List (List ℤ)
+  pub rule : RuleData (List (List ℤ))
 
 abbrev pub relation_keys : List (List ℕ)
-relation_keys = codes "name" ∷ codes "arity" ∷ codes "tuples" ∷ []
+relation_keys = codes "name" ∷ codes "arity" ∷ codes "tuples" ∷ codes "formula" ∷ []
 
--- what an object states under exactly these keys, each value of its kind
+-- what an object states under these keys, each value of its kind; `tuples` and `formula` exclude each other
 abbrev pub relation_data : Spot → Data → Result RelationData VocFault
 relation_data here value =
     unless (keys_refusal relation_keys here value) (
     then_on (under (codes "name") here value) (λ name.
     then_on (under (codes "arity") here value) (λ arity.
-    then_on (under (codes "tuples") here value) (λ tuples.
+    then_on (stated_under here value) (λ stated.
     then_on (ok_or (as_str name) (WrongKind here)) (λ name.
     then_on (ok_or (whole_number arity) (WrongKind here)) (λ arity.
-    then_on (ok_or (tuple_list tuples) (WrongKind here)) (λ tuples.
-    Ok (record { name = name; arity = arity; tuples = tuples }))))))))
+    then_on (rule_in here stated) (λ rule.
+    Ok (record { name = name; arity = arity; rule = rule }))))))))
 
-abbrev pub stated_data : StatedRelation → RelationData
-stated_data stated = record { name = stated.name.now; arity = stated.arity; tuples = lists stated.tuples.items }
-
--- the relation that accepts exactly the tuples: for each place, whether one of them stands there
-abbrev pub accepting : ℤ → ℕ → ℕ → List (List ℤ) → Relation
-accepting least_value value_count arity tuples =
-    map (λ at. list_any (λ tuple. nat_eq (place_of_shown least_value value_count tuple) at) tuples) (range_with_len 0 (value_count ^ arity))
-
--- why there is no table of the tuples, where relations have arity 2
-abbrev pub table_refusal : ℤ → ℕ → RelationData → Option TableFault
-table_refusal least_value value_count relation =
-    if int_eq relation.arity (pos 2) then refusal_of relation.arity least_value value_count relation.tuples else Some BadArity
-
--- the table accepts exactly the tuples
-pub record IsTableOf (least_value : ℤ) (value_count : ℕ) (relation : RelationData) (table : TruthTable) : Type 0 where
-  pub arity : table.arity ≡ 2
-  pub values : table.value_count ≡ value_count
-  pub truth : table.truth ≡ accepting least_value value_count 2 relation.tuples
+abbrev pub stated_relation : StatedRelation → RelationData
+stated_relation stated = record { name = stated.name.now; arity = stated.arity; rule = rule_data stated.rule }
 
 -- why relation i is refused by its name
 abbrev pub name_refusal : ℕ → List ℕ → Option VocFault
 name_refusal i name = if is_name name then None else Some (BadRelName i)
 
+-- an arity, where so many tuples of it are counted
+abbrev pub counted_arity : ℕ → ℤ → Result ℕ TableFault → Result ℕ VocFault
+counted_arity i arity (Ok size) = Ok (unsigned_abs arity)
+counted_arity i arity (Err fault) = Err (Table i fault)
+
+-- the arity of relation i, where there are 1 to 65,536 tuples of it
+abbrev pub small_arity : ℕ → ℕ → ℤ → Result ℕ VocFault
+small_arity i value_count arity = counted_arity i arity (size_of arity value_count)
+
 -- relation i, made of what is stated
 abbrev pub made_of : ℕ → ℤ → ℕ → RelationData → Result Given VocFault
-made_of i least_value value_count relation =
-    unless (name_refusal i relation.name) (
-    unless (option_map (Table i) (table_refusal least_value value_count relation)) (
-    Ok (record {
-      name = relation.name;
-      arity = unsigned_abs relation.arity;
-      relation = accepting least_value value_count (unsigned_abs relation.arity) relation.tuples;
-    })))
+made_of i least_value value_count stated =
+    unless (name_refusal i stated.name) (
+    then_on (small_arity i value_count stated.arity) (λ arity.
+    then_on (relation_by i least_value value_count arity stated.rule) (λ relation.
+    Ok (record { name = stated.name; arity = arity; relation = relation }))))
 
 -- what relation i is
 abbrev pub relation_of : ℕ → ℤ → ℕ → Data → Result Given VocFault

@@ -12,6 +12,7 @@ use Rattle.voc_read.specs.Answers.{then_on, unless}
 use Rattle.voc_read.specs.Names.{names_refusal}
 use Rattle.voc_read.specs.Outline.{OutlineData, held_by, outline_of}
 use Rattle.voc_read.specs.Relations.{given_of}
+use Rattle.voc_read.specs.Scopes.{scopes_of}
 
 -- the parts that a language is built of
 pub record Parts : Type 0 where
@@ -19,6 +20,8 @@ pub record Parts : Type 0 where
   pub least_value : ℤ
   pub greatest_value : ℤ
   pub given : List Given
+  -- the scopes that are listed, where they are
+  pub listed : Option (List (List ℕ))
 
 -- why the names and the domain are no frame of a language
 abbrev pub outline_refusal : OutlineData → Option VocFault
@@ -30,13 +33,14 @@ pub record IsFrameOf (outline : OutlineData) (frame : Frame) : Type 0 where
   pub least_value : frame.least_value ≡ outline.least_value
   pub value_count : frame.value_count ≡ values_between outline.least_value outline.greatest_value
 
--- the parts, where the names, the domain and the relations are right, in this order
+-- the parts, where the names, the domain, the relations and the scopes are right, in this order
 abbrev pub parts_from : OutlineData → Result Parts VocFault
 parts_from outline =
     unless (names_refusal outline.names) (
     unless (outline_refusal outline) (
     then_on (given_of outline.least_value (values_between outline.least_value outline.greatest_value) outline.relations) (λ given.
-    Ok (record { names = outline.names; least_value = outline.least_value; greatest_value = outline.greatest_value; given = given }))))
+    then_on (scopes_of outline.names outline.listed) (λ listed.
+    Ok (record { names = outline.names; least_value = outline.least_value; greatest_value = outline.greatest_value; given = given; listed = listed })))))
 
 -- the parts that a JSON value holds
 abbrev pub parts_in : Data → Result Parts VocFault
@@ -57,7 +61,7 @@ frame_of parts = record { names = parts.names; least_value = parts.least_value; 
 -- why the parts that were read make no language, or why none were read
 abbrev pub refusal_after : Result Parts VocFault → Option VocFault
 refusal_after (Err fault) = Some fault
-refusal_after (Ok parts) = option_map Lang (build_refusal parts.given)
+refusal_after (Ok parts) = option_map Lang (build_refusal (length parts.names) parts.given parts.listed)
 
 -- why a vocabulary is refused
 unfoldable pub refusal_of_vocabulary : List ℕ → Option VocFault
@@ -68,8 +72,8 @@ pub record IsLanguageOf (stated : Result Parts VocFault) (l : Language) : Type 0
   pub parts : Parts
   pub read : stated ≡ Ok parts
   pub framed : frame_refusal parts.names parts.least_value parts.greatest_value ≡ None
-  pub buildable : build_refusal parts.given ≡ None
-  pub built : IsBuilt (frame_of parts) parts.given l
+  pub buildable : build_refusal (length parts.names) parts.given parts.listed ≡ None
+  pub built : IsBuilt (frame_of parts) parts.given parts.listed l
 
 -- the language that a vocabulary's bytes describe
 abbrev pub IsVocabulary : List ℕ → Language → Type 0

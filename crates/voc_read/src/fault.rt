@@ -1,4 +1,5 @@
 use language::LangFault;
+use rel_formula::{FormulaFault, TableOfFault};
 use rel_table::TableFault;
 use std::alloc::{AllocError, AllocFailed};
 
@@ -12,6 +13,8 @@ pub enum Spot {
     /// The relation of this number, counted from 0.
     Relation(u32),
     Scopes,
+    /// The listed scope of this number, counted from 0.
+    Scope(u32),
 }
 
 /// Why a vocabulary is refused. Numbers count from 0 in the vocabulary's order.
@@ -32,8 +35,14 @@ pub enum VocFault {
     BadRelName(u32),
     /// Two relations have one name.
     RelRepeated(u32, u32),
+    /// The scope names something that is no variable.
+    UnknownVariable(u32),
+    /// The relation's formula is none.
+    Formula(u32, FormulaFault),
     /// The relation has no table.
     Table(u32, TableFault),
+    /// The relation's formula has no table.
+    TableOf(u32, TableOfFault),
     /// The parts make no language.
     Lang(LangFault),
     Memory,

@@ -4,12 +4,15 @@
 mod domain;
 mod fault;
 mod keys;
+pub mod laws;
 mod making;
 mod names;
 mod outline;
 mod parsing;
 mod reading;
 mod relations;
+mod rules;
+mod scopes;
 #[cfg(test)]
 mod tests;
 mod text;

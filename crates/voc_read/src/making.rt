@@ -1,5 +1,5 @@
 // The language of what a vocabulary holds.
-ghost use Rattle.std.specs.Prelude.{◌≡◌, ◌≢◌, ◌<◌, ◌^◌, length, map, All, Some, IfOk, IfErr, OnOk};
+ghost use Rattle.std.specs.Prelude.{◌≡◌, ◌≢◌, ◌<◌, ◌^◌, length, map, All, Some, IfOk, IfErr, IfSome, OnOk};
 ghost use Rattle.std.specs.Option.{option_map};
 ghost use Rattle.serde_json.specs.View.{view, items_view};
 ghost use Rattle.language.specs.Language.{AreNames};
@@ -15,7 +15,8 @@ use crate::fault::VocFault;
 use crate::names::{check_names, copied};
 use crate::outline::Outline;
 use crate::relations::given_of;
-use language::{Frame, LangFault, Language, ScopePart};
+use crate::scopes::scopes_of;
+use language::{Frame, LangFault, Language};
 use std::alloc::Global;
 
 /// Why there is no language, as the vocabulary tells it.
@@ -53,10 +54,11 @@ fn domain_of(frame: &Frame) -> Domain
     }
 }
 
-/// The language of the outline, or the first fault in its names, its domain, its relations or what they make together.
+/// The language of the outline, or the first fault in its names, its domain, its relations, its scopes or what they make together.
 pub fn language_of(alloc: Global, outline: &Outline<'_>) -> Result<Language, VocFault>
     requires names { length outline.now.names.items < 2 ^ 32 }
     requires relations { length outline.now.relations.now < 2 ^ 32 }
+    requires scopes { IfSome outline.now.listed (λ list. length list.now < 2 ^ 32) }
     requires parts { items_widest (items_view outline.now.relations.now) < 2 ^ 32 }
     ensures ok { IfOk result (λ l. IsLanguageOf (parts_from (outline_data outline.now)) l) }
     ensures refused { IfErr result (λ e. e ≢ VocFault.Memory → refusal_after (parts_from (outline_data outline.now)) ≡ Some e) }
@@ -64,7 +66,8 @@ pub fn language_of(alloc: Global, outline: &Outline<'_>) -> Result<Language, Voc
     check_names(alloc, &outline.names)?;
     let frame = frame_of(alloc, outline)?;
     let given = given_of(alloc, domain_of(&frame), outline.relations)?;
-    match Language::build(alloc, frame, given, ScopePart::All) {
+    let scopes = scopes_of(alloc, &outline.names, outline.listed)?;
+    match Language::build(alloc, frame, given, scopes) {
         Ok(language) => Ok(language),
         Err(fault) => Err(lang_fault(fault)),
     }

@@ -1,5 +1,5 @@
 // The names of variables and of relations.
-ghost use Rattle.std.specs.Prelude.{◌≡◌, ◌<◌, ◌^◌, not, length, map, string_bytes, position, IfOk, OnOk};
+ghost use Rattle.std.specs.Prelude.{◌≡◌, ◌<◌, ◌^◌, not, length, map, string_bytes, position, None, IfOk, OnOk};
 ghost use Rattle.std.specs.List.{list_all};
 ghost use Rattle.language.specs.Language.{is_name, is_name_byte, AreNames};
 ghost use Rattle.voc_read.specs.Names.{first_repeat, names_refusal};
@@ -53,11 +53,25 @@ pub fn first_repeat(alloc: Global, names: &[&str]) -> Result<Option<(u32, u32)>,
     Ok(None)
 }
 
+/// These names by number, where no two are equal.
+pub fn numbered<'a>(alloc: Global, names: &[&'a str]) -> Result<IndexSet<&'a str>, AllocError>
+    requires few { length names.now < 2 ^ 32 }
+    requires apart { first_repeat (texts_of names.now) ≡ None }
+    ensures { IfOk result (λ set. texts_of set.keys ≡ texts_of names.now) }
+{
+    let mut numbers = IndexSet::new(alloc);
+    for name in names {
+        numbers.insert(*name)?;
+    }
+    Ok(numbers)
+}
+
 /// Refuses names of variables that don't have the form of names, or that repeat another.
 pub fn check_names(alloc: Global, names: &[&str]) -> Result<(), VocFault>
     requires { length names.now < 2 ^ 32 }
     ensures refused { Refuses (names_refusal (texts_of names.now)) result }
     ensures names { OnOk result (AreNames (texts_of names.now)) }
+    ensures apart { OnOk result (first_repeat (texts_of names.now) ≡ None) }
 {
     if let Some(i) = first_bad(names) {
         return Err(VocFault::BadName(i as u32));

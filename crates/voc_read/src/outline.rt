@@ -1,8 +1,8 @@
-// What a vocabulary holds, before its relations are read.
-ghost use Rattle.std.specs.Prelude.{◌≡◌, ◌≤◌, length, IfOk};
+// What a vocabulary holds, before its relations and scopes are read.
+ghost use Rattle.std.specs.Prelude.{◌≡◌, ◌≤◌, length, IfOk, IfSome};
 ghost use Rattle.serde_json.specs.View.{view, items_view};
 ghost use Rattle.voc_read.specs.Answers.{Reads};
-ghost use Rattle.voc_read.specs.Outline.{held_by, held_data, is_all, outline_of, outline_data};
+ghost use Rattle.voc_read.specs.Outline.{held_by, held_data, is_all, listed_under, listed_items, outline_of, outline_data};
 ghost use Rattle.voc_read.specs.Widest.{widest, items_widest};
 
 use crate::fault::{Spot, VocFault};
@@ -26,6 +26,7 @@ pub struct Held<'a> {
 pub fn held_by<'a>(whole: &'a Value) -> Result<Held<'a>, VocFault>
     ensures variables { IfOk result (λ held. widest (view held.variables.now) ≤ widest (view whole.entry.now)) }
     ensures relations { IfOk result (λ held. widest (view held.relations.now) ≤ widest (view whole.entry.now)) }
+    ensures scopes { IfOk result (λ held. widest (view held.scopes.now) ≤ widest (view whole.entry.now)) }
     ensures is { Reads held_data (held_by (view whole.entry.now)) result }
 {
     check_keys(whole, &KEYS, Spot::Whole)?;
@@ -41,13 +42,15 @@ pub fn held_by<'a>(whole: &'a Value) -> Result<Held<'a>, VocFault>
     })
 }
 
-/// The names and the domain, with the relations that are still to be read.
+/// The names and the domain, with the relations and the scopes that are still to be read.
 #[derive(Drop)]
 pub struct Outline<'a> {
     pub names: Vec<&'a str>,
     pub least_value: i64,
     pub greatest_value: i64,
     pub relations: &'a [Value],
+    /// The scopes that are listed, where they are.
+    pub listed: Option<&'a [Value]>,
 }
 
 /// Whether the scopes are the string `all`.
@@ -60,23 +63,35 @@ fn is_all(scopes: &Value) -> bool
     }
 }
 
+/// The scopes that are listed, or none for the string `all`.
+fn listed_under<'a>(scopes: &'a Value) -> Result<Option<&'a [Value]>, VocFault>
+    ensures few { IfOk result (λ listed. IfSome listed (λ list. length list.now ≤ widest (view scopes.entry.now))) }
+    ensures is { Reads listed_items (listed_under (view scopes.entry.now)) result }
+{
+    if is_all(scopes) {
+        return Ok(None);
+    }
+    let list = items_of(scopes, Spot::Scopes)?;
+    Ok(Some(list))
+}
+
 /// What the values are, where each is of its kind.
 pub fn outline_of<'a>(alloc: Global, held: &Held<'a>) -> Result<Outline<'a>, VocFault>
     ensures few { IfOk result (λ outline. length outline.names.items ≤ widest (view held.entry.now.variables.now)) }
     ensures few_relations { IfOk result (λ outline. length outline.relations.now ≤ widest (view held.entry.now.relations.now)) }
     ensures parts { IfOk result (λ outline. items_widest (items_view outline.relations.now) ≤ widest (view held.entry.now.relations.now)) }
+    ensures few_scopes { IfOk result (λ outline. IfSome outline.listed (λ list. length list.now ≤ widest (view held.entry.now.scopes.now))) }
     ensures is { Reads outline_data (outline_of (held_data held.entry.now)) result }
 {
     let names = text_list(alloc, held.variables, Spot::Variables)?;
     let (least_value, greatest_value) = number_pair(alloc, held.domain, Spot::Domain)?;
     let relations = items_of(held.relations, Spot::Relations)?;
-    if !is_all(held.scopes) {
-        return Err(VocFault::WrongKind(Spot::Scopes));
-    }
+    let listed = listed_under(held.scopes)?;
     Ok(Outline {
         names,
         least_value,
         greatest_value,
         relations,
+        listed,
     })
 }

@@ -1,13 +1,12 @@
 // The relations of a vocabulary.
 ghost use Rattle.std.specs.Prelude.{◌≡◌, ◌≢◌, ◌<◌, ◌≤◌, ◌^◌, length, map, All, string_bytes, IfOk};
-ghost use Rattle.std.specs.Option.{option_map};
 ghost use Rattle.serde_json.specs.View.{view, items_view};
-ghost use Rattle.rel_table.specs.Made.{lists};
 ghost use Rattle.language.specs.Inside.{given_by};
-ghost use Rattle.language.specs.Building.{IsBinary};
+ghost use Rattle.language.specs.Building.{IsOver};
 ghost use Rattle.language.specs.Language.{AreNames};
 ghost use Rattle.voc_read.specs.Answers.{Reads, Refuses};
-ghost use Rattle.voc_read.specs.Relations.{relation_data, stated_data, name_refusal, table_refusal, made_of, relation_of, relations_from, given_names, relation_names_refusal, given_of, IsTableOf, IsNamed};
+ghost use Rattle.voc_read.specs.Relations.{relation_data, stated_relation, name_refusal, small_arity, made_of, relation_of, relations_from, given_names, relation_names_refusal, given_of, IsNamed};
+ghost use Rattle.voc_read.specs.Rules.{tuple_count};
 ghost use Rattle.voc_read.specs.Texts.{texts_of};
 ghost use Rattle.voc_read.specs.Widest.{widest, items_widest};
 
@@ -15,43 +14,40 @@ use crate::domain::Domain;
 use crate::fault::{Spot, VocFault};
 use crate::keys::{check_keys, under};
 use crate::names::{first_repeat, is_name};
-use crate::values::{tuple_list, whole_number};
+use crate::rules::{Rule, rule_in, stated_under, table_by};
+use crate::values::whole_number;
 use language::RelPart;
-use rel_table::{Table, TableFault};
+use rel_table::table_size;
 use serde_json::Value;
 use std::alloc::{AllocError, Global};
 
-static KEYS: [&str; 3] = ["name", "arity", "tuples"];
+static KEYS: [&str; 4] = ["name", "arity", "tuples", "formula"];
 
 /// A relation as the vocabulary states it.
 #[derive(Drop)]
 struct StatedRelation<'a> {
     name: &'a str,
     arity: i64,
-    tuples: Vec<Vec<i64>>,
+    rule: Rule<'a>,
 }
 
-/// What an object states under exactly these keys, each value of its kind.
+/// What an object states under these keys, each value of its kind.
 fn stated_by<'a>(
     alloc: Global,
     value: &'a Value,
     here: Spot,
 ) -> Result<StatedRelation<'a>, VocFault>
-    ensures few { IfOk result (λ stated. length stated.tuples.items ≤ widest (view value.entry.now)) }
-    ensures is { Reads stated_data (relation_data here (view value.entry.now)) result }
+    ensures few { IfOk result (λ stated. tuple_count stated.rule ≤ widest (view value.entry.now)) }
+    ensures is { Reads stated_relation (relation_data here (view value.entry.now)) result }
 {
     check_keys(value, &KEYS, here)?;
     let name = under(value, "name", here)?;
     let arity = under(value, "arity", here)?;
-    let tuples = under(value, "tuples", here)?;
+    let stated = stated_under(value, here)?;
     let name = name.as_str().ok_or(VocFault::WrongKind(here))?;
     let arity = whole_number(arity, here)?;
-    let tuples = tuple_list(alloc, tuples, here)?;
-    Ok(StatedRelation {
-        name,
-        arity,
-        tuples,
-    })
+    let rule = rule_in(alloc, stated, here)?;
+    Ok(StatedRelation { name, arity, rule })
 }
 
 /// Refuses a name that doesn't have the form of one.
@@ -64,44 +60,16 @@ fn check_name(i: u32, name: &str) -> Result<(), VocFault>
     Ok(())
 }
 
-/// Why there is no table of relation i, as the vocabulary tells it.
-fn table_fault(i: u32, fault: TableFault) -> VocFault
-    ensures memory { fault ≡ TableFault.Memory → result ≡ VocFault.Memory }
-    ensures other { fault ≢ TableFault.Memory → result ≡ VocFault.Table i fault }
+/// The arity of relation i, where there are 1 to 65,536 tuples of it.
+fn small_arity(i: u32, value_count: u32, arity: i64) -> Result<u8, VocFault>
+    ensures is { Reads (λ a. a) (small_arity i value_count arity) result }
+    ensures some { IfOk result (λ a. 1 ≤ a) }
+    ensures short { IfOk result (λ a. a ≤ 4) }
+    ensures fits { IfOk result (λ a. value_count ^ a ≤ 65536) }
 {
-    match fault {
-        TableFault::Memory => VocFault::Memory,
-        _ => VocFault::Table(i, fault),
-    }
-}
-
-/// The table of relation i, whose name is right.
-fn table_of(
-    alloc: Global,
-    i: u32,
-    domain: Domain,
-    stated: &StatedRelation<'_>,
-) -> Result<Table, VocFault>
-    requires { length stated.now.tuples.items < 2 ^ 32 }
-    ensures refused { Refuses (option_map (VocFault.Table i) (table_refusal domain.least_value domain.value_count (stated_data stated.now))) result }
-    ensures table { IfOk result (IsTableOf domain.least_value domain.value_count (stated_data stated.now)) }
-{
-    if stated.arity != 2 {
-        return Err(VocFault::Table(i, TableFault::BadArity));
-    }
-    match Table::from_tuples(
-        alloc,
-        stated.arity,
-        domain.least_value,
-        domain.value_count,
-        &stated.tuples,
-    ) {
-        Ok(table) => {
-            // The size tells that there is a truth value for each tuple.
-            let _size = table.size();
-            Ok(table)
-        }
-        Err(fault) => Err(table_fault(i, fault)),
+    match table_size(arity, value_count) {
+        Ok(_) => Ok(arity as u8),
+        Err(fault) => Err(VocFault::Table(i, fault)),
     }
 }
 
@@ -112,13 +80,14 @@ fn made_of(
     domain: Domain,
     stated: &StatedRelation<'_>,
 ) -> Result<RelPart, VocFault>
-    requires { length stated.now.tuples.items < 2 ^ 32 }
-    ensures is { Reads given_by (made_of i domain.least_value domain.value_count (stated_data stated.now)) result }
-    ensures kind { IfOk result (IsBinary domain.value_count) }
+    requires { tuple_count stated.now.rule < 2 ^ 32 }
+    ensures is { Reads given_by (made_of i domain.least_value domain.value_count (stated_relation stated.now)) result }
+    ensures kind { IfOk result (IsOver domain.value_count) }
     ensures named { IfOk result IsNamed }
 {
     check_name(i, stated.name)?;
-    let table = table_of(alloc, i, domain, stated)?;
+    let arity = small_arity(i, domain.value_count, stated.arity)?;
+    let table = table_by(alloc, i, domain, arity, &stated.rule)?;
     let name = String::from_str(alloc, stated.name)?;
     Ok(RelPart { name, table })
 }
@@ -127,7 +96,7 @@ fn made_of(
 fn relation_of(alloc: Global, i: u32, domain: Domain, value: &Value) -> Result<RelPart, VocFault>
     requires { widest (view value.now) < 2 ^ 32 }
     ensures is { Reads given_by (relation_of i domain.least_value domain.value_count (view value.now)) result }
-    ensures kind { IfOk result (IsBinary domain.value_count) }
+    ensures kind { IfOk result (IsOver domain.value_count) }
     ensures named { IfOk result IsNamed }
 {
     let stated = stated_by(alloc, value, Spot::Relation(i))?;
@@ -139,7 +108,7 @@ fn relations_of(alloc: Global, domain: Domain, list: &[Value]) -> Result<Vec<Rel
     requires few { length list.now < 2 ^ 32 }
     requires parts { items_widest (items_view list.now) < 2 ^ 32 }
     ensures is { Reads (λ v. map given_by v.items) (relations_from 0 domain.least_value domain.value_count (items_view list.now)) result }
-    ensures kinds { IfOk result (λ v. All (IsBinary domain.value_count) v.items) }
+    ensures kinds { IfOk result (λ v. All (IsOver domain.value_count) v.items) }
     ensures named { IfOk result (λ v. All IsNamed v.items) }
     ensures each { IfOk result (λ v. length v.items ≡ length list.now) }
 {
@@ -179,7 +148,7 @@ pub fn given_of(alloc: Global, domain: Domain, list: &[Value]) -> Result<Vec<Rel
     requires few { length list.now < 2 ^ 32 }
     requires parts { items_widest (items_view list.now) < 2 ^ 32 }
     ensures is { Reads (λ v. map given_by v.items) (given_of domain.least_value domain.value_count (items_view list.now)) result }
-    ensures kinds { IfOk result (λ v. All (IsBinary domain.value_count) v.items) }
+    ensures kinds { IfOk result (λ v. All (IsOver domain.value_count) v.items) }
     ensures names { IfOk result (λ v. AreNames (given_names (map given_by v.items))) }
 {
     let given = relations_of(alloc, domain, list)?;

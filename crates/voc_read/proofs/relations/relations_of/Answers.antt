@@ -3,7 +3,7 @@ use Rattle.std.proofs.lemmas.List.Elements.{All-push}
 use Rattle.serde_json.specs.View.{view, items_view}
 use Rattle.serde_json.specs.declared.value.Value.{Value}
 use Rattle.language.specs.declared.parts.RelPart.{RelPart}
-use Rattle.language.specs.Building.{IsBinary}
+use Rattle.language.specs.Building.{IsOver}
 use Rattle.voc_read.specs.Relations.{IsNamed}
 use Rattle.voc_read.specs.Widest.{widest, items_widest}
 use Rattle.voc_read.proofs.Widths.{widest-get_or}
@@ -19,7 +19,7 @@ relation_of-requires c =
 pub loop-i-preserved : goal.loop-i-preserved
 loop-i-preserved c = rw c.in_ok-push.ensures.items record {
   each = omega (arith, c.loop-i.invariant.each, length-append {A = RelPart});
-  kinds = All-push (IsBinary c.args.domain.value_count) _ _ c.loop-i.invariant.kinds c.in_ok-relation.ensures.kind;
+  kinds = All-push (IsOver c.args.domain.value_count) _ _ c.loop-i.invariant.kinds c.in_ok-relation.ensures.kind;
   named = All-push IsNamed _ _ c.loop-i.invariant.named c.in_ok-relation.ensures.named;
   rest = reads_one_more _ _ _ _ _ _ _ _ c.loop-i-test.true c.index-list-i.is c.in_ok-relation.ensures.is c.loop-i.invariant.rest;
 }

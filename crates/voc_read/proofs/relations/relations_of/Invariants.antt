@@ -2,14 +2,14 @@ use Rattle.std.proofs.Common.{◌≡◌, ◌++◌, Ok, All, drop, length, map}
 use Rattle.serde_json.specs.View.{items_view}
 use Rattle.language.specs.Inside.{given_by}
 use Rattle.voc_read.specs.Answers.{then_on}
-use Rattle.language.specs.Building.{IsBinary}
+use Rattle.language.specs.Building.{IsOver}
 use Rattle.voc_read.specs.Relations.{relations_from, IsNamed}
 use Rattle.voc_read.proofs.relations.relations_of.Given as goal
 
 abbrev pub invariant-loop-i : goal.invariant-loop-i
 invariant-loop-i l = record {
   each : length l.relations.items ≡ l.i;
-  kinds : All (IsBinary l.fn.domain.value_count) l.relations.items;
+  kinds : All (IsOver l.fn.domain.value_count) l.relations.items;
   named : All IsNamed l.relations.items;
   rest : then_on (relations_from l.i l.fn.domain.least_value l.fn.domain.value_count (items_view (drop l.i l.list))) (λ more. Ok (map given_by l.relations.items ++ more)) ≡ relations_from 0 l.fn.domain.least_value l.fn.domain.value_count (items_view l.list);
 }

@@ -1,0 +1,61 @@
+-- The language that is built of what was read, or the fault that is met.
+use Rattle.std.proofs.Common.{◌≡◌, ℕ, ℤ, List, length, Option, Some, None, Result, Ok, option_map, refl, sym, ap, ◌∙◌, subst}
+use Rattle.language.specs.Language.{Language, Given}
+use Rattle.language.specs.Building as build
+use Rattle.language.specs.declared.parts.LangFault.{LangFault}
+use Rattle.voc_read.specs.declared.fault.VocFault.TheVariants.{Lang}
+use Rattle.voc_read.specs.Names.{names_refusal}
+use Rattle.voc_read.specs.Outline.{OutlineData}
+use Rattle.voc_read.specs.Relations.{given_of}
+use Rattle.voc_read.specs.Scopes.{scopes_of}
+use Rattle.voc_read.specs.Vocabulary.{Parts, outline_refusal, parts_from, refusal_after, IsFrameOf, IsLanguageOf}
+
+-- what was read, over these values
+pub record AreRead (o : OutlineData) (frame : build.Frame) (least_value : ℤ) (value_count : ℕ) (given : List Given) (listed : Option (List (List ℕ))) : Type 0 where
+  pub named : names_refusal o.names ≡ None
+  pub outlined : outline_refusal o ≡ None
+  pub framed : IsFrameOf o frame
+  pub least : least_value ≡ frame.least_value
+  pub count : value_count ≡ frame.value_count
+  pub relations : given_of least_value value_count o.relations ≡ Ok given
+  pub scopes : scopes_of o.names o.listed ≡ Ok listed
+
+module _ (o : OutlineData) (frame : build.Frame) (least_value : ℤ) (value_count : ℕ) (given : List Given) (listed : Option (List (List ℕ))) (read : AreRead o frame least_value value_count given listed) where
+  parts : Parts
+  parts = record { names = o.names; least_value = o.least_value; greatest_value = o.greatest_value; given = given; listed = listed }
+
+  are_parts : parts_from o ≡ Ok parts
+  unfolding parts
+  are_parts =
+      let low : least_value ≡ o.least_value = read.least ∙ read.framed.least_value in
+      let many : value_count ≡ build.values_between o.least_value o.greatest_value = read.count ∙ read.framed.value_count in
+      let relations : given_of o.least_value (build.values_between o.least_value o.greatest_value) o.relations ≡ Ok given =
+      subst (λ n. given_of o.least_value n o.relations ≡ Ok given) many (subst (λ x. given_of x value_count o.relations ≡ Ok given) low read.relations) in
+      rw (read.named, read.outlined, relations, read.scopes) refl
+
+  no_fault : (fault : Option LangFault) → option_map Lang fault ≡ None → fault ≡ None
+  no_fault None h = refl
+  no_fault (Some fault) h = absurd (cc)
+
+  pub is_language : (l : Language) → build.build_refusal (length frame.names) given listed ≡ None → build.IsBuilt frame given listed l → IsLanguageOf (parts_from o) l
+  unfolding parts
+  is_language l made built = record {
+    parts = parts;
+    read = are_parts;
+    framed = no_fault (build.frame_refusal o.names o.least_value o.greatest_value) read.outlined;
+    buildable = subst (λ names. build.build_refusal (length names) given listed ≡ None) read.framed.names made;
+    built = record {
+      names = built.names ∙ read.framed.names;
+      least_value = built.least_value ∙ read.framed.least_value;
+      value_count = built.value_count ∙ read.framed.value_count;
+      given = built.given;
+      scopes = built.scopes ∙ ap (λ names. build.scopes_of (length names) given listed) read.framed.names;
+      lawful = built.lawful;
+    };
+  }
+
+  pub is_refused : (fault : LangFault) → build.build_refusal (length frame.names) given listed ≡ Some fault → refusal_after (parts_from o) ≡ Some (Lang fault)
+  unfolding parts
+  is_refused fault refused =
+      let stated : build.build_refusal (length o.names) given listed ≡ Some fault = subst (λ names. build.build_refusal (length names) given listed ≡ Some fault) read.framed.names refused in
+      ap refusal_after are_parts ∙ ap (λ f. option_map Lang f) stated

@@ -1,0 +1,8 @@
+-- Laws over the definitions alone.
+use Rattle.std.specs.Prelude.{◌≡◌, ℕ, List, None}
+use Rattle.language.specs.Language.{Language}
+use Rattle.voc_read.specs.Vocabulary.{IsVocabulary, refusal_of_vocabulary}
+
+-- what describes a language isn't refused
+abbrev pub ReadIsNotRefused : Type 0
+ReadIsNotRefused = (bytes : List ℕ) (l : Language) → IsVocabulary bytes l → refusal_of_vocabulary bytes ≡ None

@@ -1,0 +1,8 @@
+//! Laws of the definitions, as contracts of functions that do nothing.
+
+ghost use Rattle.voc_read.specs.Laws.{ReadIsNotRefused};
+
+/// What describes a language isn't refused.
+pub fn read_is_not_refused()
+    ensures { ReadIsNotRefused }
+{}
