@@ -39,8 +39,7 @@ use Rattle.acq_cli.specs.Driven.{IsDone, IsCollapsed, IsLeftOpen, TellsOpen}
 use Rattle.acq_cli.specs.Due.{IsDue, PutIs}
 use Rattle.acq_cli.specs.declared.driving.Next.{Next as NextOf}
 use Rattle.acq_cli.specs.declared.driving.Next.TheVariants as nexts
-use Rattle.query_gen.proofs.Laws.{all_are_implied, undecided_is_spent}
-use Rattle.acq_cli.proofs.Questions.{IsLawfulExample, asked_is_example, kept_network, same_state}
+use Rattle.acq_cli.proofs.Questions.{IsLawfulExample, asked_is_example, all_are_implied, undecided_is_spent, kept_network, same_state}
 use Rattle.acq_cli.proofs.Standings.{StandsAt, stands_at}
 
 abbrev pub some_of : (q : Assignment) → Option Assignment

@@ -14,9 +14,13 @@ use Rattle.language.specs.declared.candidates.Candidate.{Candidate}
 use Rattle.language.specs.Language.{Language, IsLanguage, IsCandidate, IsQuestion, candidates, is_question, variable_count, accepts, violates}
 use Rattle.language.specs.Answers.{IsNetwork, kept}
 use Rattle.fd_solver.specs.Laws.{IsQuestionAgainst}
+use Rattle.fd_solver.proofs.Outcomes.{absent_is_implied, absent_stays, found_is_lawful}
+use Rattle.fd_solver.proofs.Outcomes as outcomes
 use Rattle.query_gen.specs.declared.query.Query.TheVariants.{Ask}
 use Rattle.query_gen.specs.Questions.{next_query}
-use Rattle.query_gen.proofs.Laws.{asked_is_lawful}
+use Rattle.query_gen.specs.Laws.{AskedIsLawful, AllAreImplied, UndecidedIsSpent, MarksStay}
+use Rattle.query_gen.proofs.Told as told
+use Rattle.query_gen.proofs.Marking as marking
 use Rattle.session_laws.specs.Session.{State, At, is_lawful}
 use Rattle.session_laws.specs.Walk.{violates_some}
 use Rattle.session_laws.proofs.Choices.{all_candidates}
@@ -29,6 +33,18 @@ pub record IsLawfulExample (l : Language) (live network : List Candidate) (q : A
 
 pub same_state : (a b : State) → At a ≡ At b → a ≡ b
 same_state a b e = cc
+
+pub asked_is_lawful : AskedIsLawful
+asked_is_lawful = told.asked_is_lawful found_is_lawful
+
+pub all_are_implied : AllAreImplied
+all_are_implied = told.all_are_implied absent_is_implied
+
+pub undecided_is_spent : UndecidedIsSpent
+undecided_is_spent = told.undecided_is_spent absent_is_implied outcomes.spent_is_long
+
+pub marks_stay : MarksStay
+marks_stay = marking.marks_stay absent_stays
 
 pub kept_network : (l : Language) (t : List Answer) (network : List Candidate) → IsNetwork l (kept l t network)
 kept_network l t network = All-filter _ (IsCandidate l) (candidates l) (all_candidates l)

@@ -24,8 +24,7 @@ use Rattle.language.specs.Answers.{standing_on}
 use Rattle.acq_cli.specs.Run.{Next, next_in, next_after}
 use Rattle.acq_cli.specs.Due.{IsOneMore}
 use Rattle.acq_cli.specs.Driven.{Remembers}
-use Rattle.query_gen.proofs.Laws.{marks_stay}
-use Rattle.acq_cli.proofs.Questions.{asked_is_example, same_state}
+use Rattle.acq_cli.proofs.Questions.{asked_is_example, marks_stay, same_state}
 use Rattle.acq_cli.proofs.Running.{IsReached, RunLaws}
 
 pub run_laws : RunLaws

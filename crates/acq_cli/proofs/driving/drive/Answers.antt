@@ -10,7 +10,7 @@ use Rattle.target_oracle.specs.Turns.{Turns}
 use Rattle.acq_cli.specs.Driven.{Place, Drives, Remembers, StepsTo, TellsOpen}
 use Rattle.acq_cli.specs.declared.driving.Drove.{Drove}
 use Rattle.acq_cli.specs.Places.{place_of, way_of}
-use Rattle.query_gen.proofs.Laws.{no_marks_hold}
+use Rattle.query_gen.proofs.Marking.{no_marks_hold}
 use Rattle.acq_cli.proofs.Standings.{carried, reached, few_answers}
 use Rattle.acq_cli.proofs.Turning.{steps_on, steps_end, steps_none}
 use Rattle.acq_cli.proofs.driving.drive.Goals as goal
