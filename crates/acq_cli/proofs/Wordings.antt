@@ -191,7 +191,7 @@ request_lawful o (Some way) within h = at o.waiting h
     quacq_multi e = apart (ap built e)
 
     plan_by : (plan : Option Plan) → ((p : Plan) → plan ≡ Some p → p ≢ Multi) → unwrap_or plan Quacq ≢ Multi
-    plan_by None w multi = quacq_multi multi
+    plan_by None w = quacq_multi
     plan_by (Some p) w = w p refl
 
     some_by : (budget : Option ℕ) → ((b : ℕ) → budget ≡ Some b → 1 ≤ b) → 1 ≤ unwrap_or budget 100000
