@@ -1,7 +1,11 @@
+pub mod Questions
 pub mod Running
 pub mod Turning
 pub mod Standings
 pub mod Answered
 pub mod Nexts
+pub mod OpenCandidates
+pub mod OpenLines
 pub mod Sayings
 pub mod Tries
+pub mod Wordings

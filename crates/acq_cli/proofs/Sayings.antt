@@ -1,36 +1,79 @@
--- What is said of a session that has converged.
-use Rattle.std.proofs.Common.{◌≡◌, ℕ, List, refl, ap, sym, subst, ◌∙◌, Option}
+-- What is said of a session at its end.
+use Rattle.std.proofs.Common.{◌≡◌, ℕ, List, refl, ap, sym, subst, ◌∙◌, Option, None}
+use Rattle.std.specs.Prelude.{filter}
 use Rattle.acq_io.specs.Streams.{Adds}
 use Rattle.assign.specs.Events.{Answer}
-use Rattle.assign.specs.declared.events.Plan.TheVariants.{Scopes}
-use Rattle.language.specs.Language.{Language}
-use Rattle.session_laws.specs.Session.{state_after}
+use Rattle.assign.specs.declared.events.Plan.{Plan}
+use Rattle.language.specs.declared.candidates.Candidate.{Candidate}
+use Rattle.language.specs.Language.{Language, candidates}
+use Rattle.query_gen.specs.Marks.{Remembered, is_open}
+use Rattle.session_laws.specs.Session.{Idle, At, state_after}
 use Rattle.session_core.specs.declared.session.Session.{Session}
 use Rattle.session_core.specs.Standing.{Stands, knowledge_of}
+use Rattle.acq_cli.specs.Driven.{TellsOpen}
+use Rattle.acq_cli.specs.Places.{way_of}
 use Rattle.acq_cli.specs.declared.driving.Drove.{Drove}
 use Rattle.acq_cli.specs.declared.driving.Drove.TheVariants as drove
 use Rattle.acq_cli.specs.declared.ending.Ending.TheVariants as ending
-use Rattle.acq_cli.specs.Program.{HasEnded, Says, converged_text}
+use Rattle.acq_cli.specs.Program.{HasEnded, Says, collapsed_text, converged_text, undecided_text, open_candidates}
 use Rattle.acq_cli.proofs.Nexts.{learned_is}
+use Rattle.acq_cli.proofs.OpenCandidates.{leaves_open, opens_are}
 
-pub says_converged : (session : Session) (l : Language) (t : List Answer) (written written' : Option (List ℕ)) (m : ℕ) (end : Drove) → end ≡ drove.Converged m →
-    HasEnded l t end → Stands session t → (knowledge_of session).lang ≡ l → (knowledge_of session).plan ≡ Scopes →
-    Adds written written' (converged_text (knowledge_of session).lang (knowledge_of session).network.list m) →
-    Says l t written written' end (ending.Converged m)
-says_converged session l t written written' m end is ended stands lang plan adds =
-    subst SaysOf (sym is) (told (subst (HasEnded l t) is ended))
+pub says_collapsed : (l : Language) (plan : Plan) (budget : ℕ) (t : List Answer) (written written' : Option (List ℕ)) (m : ℕ) (end : Drove) → end ≡ drove.Collapsed m → HasEnded l (way_of plan budget) t end → Adds written written' (collapsed_text m) → Says l (way_of plan budget) t written written' end (ending.Collapsed m)
+says_collapsed l plan budget t written written' m end is ended adds = subst SaysOf (sym is) (told (subst (HasEnded l (way_of plan budget) t) is ended))
   where
     SaysOf : Drove → Type 0
-    SaysOf e = Says l t written written' e (ending.Converged m)
+    SaysOf e = Says l (way_of plan budget) t written written' e (ending.Collapsed m)
 
-    told : HasEnded l t (drove.Converged m) → SaysOf (drove.Converged m)
-    told done =
-        let same : (knowledge_of session).network.list ≡ done.1.network =
-        learned_is session t done.1.network plan stands (ap (λ x. state_after x Scopes t) lang ∙ done.1.idle) in (
-          refl,
-          (
-            done.1.network,
-            record { number = done.0; idle = done.1.idle; covered = done.1.covered; converged = done.1.converged },
-            subst (Adds written written') (ap (λ x. converged_text x (knowledge_of session).network.list m) lang ∙ ap (λ n. converged_text l n m) same) adds,
-          ),
-        )
+    told : HasEnded l (way_of plan budget) t (drove.Collapsed m) → SaysOf (drove.Collapsed m)
+    told done = (refl, record { number = done.0; collapsed = done.1 }, adds)
+
+module _ (session : Session) (l : Language) (plan : Plan) (budget : ℕ) (t : List Answer) (written written' : Option (List ℕ)) (m : ℕ) (end : Drove) where
+  -- the network that the answers lead to is the session's
+  same_network : Stands session t → (knowledge_of session).lang ≡ l → (knowledge_of session).plan ≡ plan → (network : List Candidate) → state_after l plan t ≡ At (Idle network None) → (knowledge_of session).network.list ≡ network
+  same_network stands lang planned network at =
+      learned_is session t network stands (ap (λ x. state_after x (knowledge_of session).plan t) lang ∙ ap (λ p. state_after l p t) planned ∙ at)
+
+  pub says_converged : end ≡ drove.Converged m → HasEnded l (way_of plan budget) t end → Stands session t → (knowledge_of session).lang ≡ l → (knowledge_of session).plan ≡ plan →
+      Adds written written' (converged_text (knowledge_of session).lang (knowledge_of session).network.list m) →
+      Says l (way_of plan budget) t written written' end (ending.Converged m)
+  says_converged is ended stands lang planned adds =
+      subst SaysOf (sym is) (told (subst (HasEnded l (way_of plan budget) t) is ended))
+    where
+      SaysOf : Drove → Type 0
+      SaysOf e = Says l (way_of plan budget) t written written' e (ending.Converged m)
+
+      told : HasEnded l (way_of plan budget) t (drove.Converged m) → SaysOf (drove.Converged m)
+      told done =
+          let same = same_network stands lang planned done.1.network done.1.idle in (
+            refl,
+            (
+              done.1.network,
+              record { number = done.0; idle = done.1.idle; ends = done.1.ends; covered = done.1.covered; converged = done.1.converged },
+              subst (Adds written written') (ap (λ x. converged_text x (knowledge_of session).network.list m) lang ∙ ap (λ n. converged_text l n m) same) adds,
+            ),
+          )
+
+  pub says_undecided : (screen : Remembered) → end ≡ drove.Undecided m → HasEnded l (way_of plan budget) t end → TellsOpen l (way_of plan budget) t screen →
+      Stands session t → (knowledge_of session).lang ≡ l → (knowledge_of session).plan ≡ plan →
+      Adds written written' (undecided_text (knowledge_of session).lang (knowledge_of session).network.list (filter (is_open (knowledge_of session).lang screen) (candidates (knowledge_of session).lang)) m) →
+      Says l (way_of plan budget) t written written' end (ending.Undecided m)
+  says_undecided screen is ended tells stands lang planned adds =
+      subst SaysOf (sym is) (told (subst (HasEnded l (way_of plan budget) t) is ended))
+    where
+      SaysOf : Drove → Type 0
+      SaysOf e = Says l (way_of plan budget) t written written' e (ending.Undecided m)
+
+      told : HasEnded l (way_of plan budget) t (drove.Undecided m) → SaysOf (drove.Undecided m)
+      told done =
+          let same = same_network stands lang planned done.1.network done.1.idle in
+          let opens = opens_are l (way_of plan budget) t done.1.network screen done.1.idle tells in (
+            refl,
+            (
+              done.1.network,
+              leaves_open l (way_of plan budget) t m done.0 done.1,
+              subst (Adds written written')
+              (ap (λ x. undecided_text x (knowledge_of session).network.list (filter (is_open x screen) (candidates x)) m) lang
+              ∙ ap (λ n. undecided_text l n (filter (is_open l screen) (candidates l)) m) same ∙ ap (λ cs. undecided_text l done.1.network cs m) opens) adds,
+            ),
+          )

@@ -1,57 +1,126 @@
 -- Sessions that stand where answers lead, and what follows of them.
-use Rattle.std.proofs.Common.{◌≡◌, ℕ, ◌+◌, ◌≤◌, ◌<◌, ◌^◌, Bool, true, false, List, length, ap, sym, ◌∙◌, subst, arith}
+use Rattle.std.proofs.Common.{Some, None, ◌≡◌, ℕ, ◌+◌, ◌≤◌, ◌<◌, ◌^◌, List, ◌∷◌, [], ◌++◌, refl, length, ap, sym, ◌∙◌, subst, arith}
 use Rattle.assign.specs.Events.{Answer}
 use Rattle.assign.specs.declared.events.Plan.{Plan}
-use Rattle.assign.specs.declared.events.Plan.TheVariants.{Scopes}
+use Rattle.language.specs.declared.candidates.Candidate.{Candidate}
 use Rattle.language.specs.Language.{Language, IsLanguage}
-use Rattle.session_laws.specs.Session.{State, At, state_after}
+use Rattle.query_gen.specs.Marks.{Remembered, MarksHold}
+use Rattle.session_laws.specs.Session.{State, Reading, Stray, At, state_after}
+use Rattle.session_laws.specs.Laws.{network_in, GoesOn}
 use Rattle.session_laws.proofs.Folds.{one_answer_more}
 use Rattle.session_laws.proofs.Places.{questions_have_places}
 use Rattle.session_laws.proofs.Counted.{answers_are_at_most}
+use Rattle.session_laws.proofs.Growing.{network_grows}
 use Rattle.session_laws.proofs.Limits.{answers_fit}
 use Rattle.session_core.specs.declared.session.Session.{Session}
 use Rattle.session_core.specs.declared.session.Session.TheVariants as sessions
-use Rattle.find_c.specs.Run.{Run}
 use Rattle.session_core.specs.declared.knowledge.Knowledge.{Knowledge}
-use Rattle.session_core.specs.Standing.{Stands, AsksAfter, knowledge_of}
+use Rattle.session_core.specs.declared.put.Put.{Put}
+use Rattle.session_core.specs.declared.put.Put.TheVariants as puts
+use Rattle.session_core.specs.Standing.{Stands, PutAfter, knowledge_of}
+use Rattle.acq_cli.specs.declared.words.Request.{Request}
+use Rattle.assign.specs.declared.events.Event.{Event}
+use Rattle.language.specs.Answers.{standing_on}
+use Rattle.acq_cli.specs.Run.{Next, next_in, next_after}
+use Rattle.acq_cli.specs.Due.{IsOneMore}
+use Rattle.acq_cli.specs.Driven.{Remembers}
+use Rattle.acq_cli.proofs.Questions.{asked_is_example, marks_stay, same_state}
 use Rattle.acq_cli.proofs.Running.{IsReached, RunLaws}
 
 pub run_laws : RunLaws
-run_laws = record { places = questions_have_places; more = one_answer_more; most = answers_are_at_most }
+run_laws = record { places = questions_have_places; more = one_answer_more; most = answers_are_at_most; lawful = asked_is_example }
 
-in_plan : (l : Language) (plan : Plan) (t : List Answer) (state : State) → plan ≡ Scopes → state_after l plan t ≡ At state → IsReached l t
-in_plan l plan t state is at = (state, ap (λ p. state_after l p t) (sym is) ∙ at)
+-- ---- the state of a session, with its network
 
-reached_asking : (is_new : Bool) (k : Knowledge) (run : Run) (t : List Answer) → k.plan ≡ Scopes → AsksAfter is_new k run t → IsReached k.lang t
-reached_asking true k run t is h = in_plan k.lang k.plan t _ is h.0
-reached_asking false k run t is h = in_plan k.lang k.plan t _ is h
+pub record StandsAt (k : Knowledge) (t : List Answer) : Type 0 where
+  pub state : State
+  pub at : state_after k.lang k.plan t ≡ At state
+  pub network : network_in state ≡ k.network.list
+
+put_at : (k : Knowledge) (put : Put) (t : List Answer) → PutAfter k put t → StandsAt k t
+put_at k (puts.Example e) t after = record { state = _; at = after.idle; network = refl }
+put_at k (puts.Part e run) t after = record { state = _; at = after.halving; network = refl }
+put_at k (puts.FirstTuple run) t after = record { state = _; at = after.idle; network = refl }
+put_at k (puts.Tuple run) t after = record { state = _; at = after; network = refl }
+
+pub stands_at : (session : Session) (t : List Answer) → Stands session t → StandsAt (knowledge_of session) t
+stands_at (sessions.Idle idle) t h = record { state = _; at = h.after; network = refl }
+stands_at (sessions.Asking asking) t h = put_at asking.knowledge asking.put t h.after
+stands_at (sessions.Over over) t h = record { state = _; at = h.after; network = refl }
 
 -- the answers that a session stands for have a place
-pub reached : (session : Session) (t : List Answer) → (knowledge_of session).plan ≡ Scopes → Stands session t → IsReached (knowledge_of session).lang t
-reached (sessions.Idle idle) t is h = in_plan idle.knowledge.lang idle.knowledge.plan t _ is h.after
-reached (sessions.Asking asking) t is h = reached_asking asking.is_new asking.knowledge asking.run t is h.after
-reached (sessions.Over over) t is h = in_plan over.knowledge.lang over.knowledge.plan t _ is h.after
+pub reached : (session : Session) (t : List Answer) → Stands session t → IsReached (knowledge_of session).lang (knowledge_of session).plan t
+reached session t h = let there = stands_at session t h in (there.state, there.at)
 
 -- there are few
-pub few_answers : (l : Language) (t : List Answer) → IsLanguage l → IsReached l t → length t ≤ 762753
-few_answers l t lawful (state, at) = let most = answers_are_at_most l Scopes t state lawful at in let fit = answers_fit l lawful in omega arith
+pub few_answers : (l : Language) (plan : Plan) (t : List Answer) → IsLanguage l → IsReached l plan t → length t ≤ 762753
+few_answers l plan t lawful (state, at) = let most = answers_are_at_most l plan t state lawful at in let fit = answers_fit l lawful in omega arith
 
 -- what a turn relies on: the language is lawful, the answers have a place, and the count is theirs
-pub record AtTurn (l : Language) (t : List Answer) (count : ℕ) (m : Language) : Type 0 where
+pub record AtTurn (l : Language) (plan : Plan) (t : List Answer) (count : ℕ) (m : Language) : Type 0 where
   pub lawful : IsLanguage l
-  pub reached : IsReached l t
+  pub reached : IsReached l plan t
   pub number : count ≡ length t
   pub language : m ≡ l
 
-pub at_turn : (session : Session) (l m : Language) (plan : Plan) (t : List Answer) (count : ℕ) → Stands session t → (knowledge_of session).lang ≡ l → (knowledge_of session).plan ≡ plan → plan ≡ Scopes →
-    count ≡ (knowledge_of session).answers → m ≡ (knowledge_of session).lang → IsLanguage m → AtTurn l t count m
-at_turn session l m plan t count stands lang planned scopes counted is lawful = record {
+pub at_turn : (session : Session) (l m : Language) (plan : Plan) (t : List Answer) (count : ℕ) → Stands session t → (knowledge_of session).lang ≡ l → (knowledge_of session).plan ≡ plan →
+    count ≡ (knowledge_of session).answers → m ≡ (knowledge_of session).lang → IsLanguage m → AtTurn l plan t count m
+at_turn session l m plan t count stands lang planned counted is lawful = record {
   lawful = subst IsLanguage (is ∙ lang) lawful;
-  reached = let P : Language → Type 0 = λ x. IsReached x t in subst P lang (reached session t (planned ∙ scopes) stands);
+  reached = let P : Language → Type 0 = λ x. IsReached x plan t in let Q : Plan → Type 0 = λ p. IsReached (knowledge_of session).lang p t in subst P lang (subst Q planned (reached session t stands));
   number = counted ∙ stands.knows.count;
   language = is ∙ lang;
 }
 
 -- the next question's number fits
-pub next_fits : (l m : Language) (t : List Answer) (count : ℕ) → AtTurn l t count m → count + 1 < 2 ^ 32
-next_fits l m t count at = let few = few_answers l t at.lawful at.reached in let is = at.number in omega arith
+pub next_fits : (l : Language) (plan : Plan) (m : Language) (t : List Answer) (count : ℕ) → AtTurn l plan t count m → count + 1 < 2 ^ 32
+next_fits l plan m t count at = let few = few_answers l plan t at.lawful at.reached in let is = at.number in omega arith
+
+-- ---- what a screen remembers
+
+-- true marks of a session's network are true of the network that the answers lead to, and the other way round
+pub marks_there : (session : Session) (l : Language) (plan : Plan) (budget : ℕ) (t : List Answer) (screen : Remembered) → Stands session t → (knowledge_of session).lang ≡ l → (knowledge_of session).plan ≡ plan →
+    MarksHold (knowledge_of session).lang (knowledge_of session).network.list budget screen → Remembers l (record { plan = plan; budget = budget }) t screen
+marks_there session l plan budget t screen stands lang planned marks state at =
+    let there = stands_at session t stands in
+    let same : there.state ≡ state = same_state _ _ (sym there.at ∙ ap (λ x. state_after x (knowledge_of session).plan t) lang ∙ ap (λ p. state_after l p t) planned ∙ at) in
+    let P : Language → Type 0 = λ x. MarksHold x (knowledge_of session).network.list budget screen in
+    subst (λ (n : List Candidate). MarksHold l n budget screen) (sym there.network ∙ ap network_in same) (subst P lang marks)
+
+pub marks_here : (session : Session) (l : Language) (plan : Plan) (budget : ℕ) (t : List Answer) (screen : Remembered) → Stands session t → (knowledge_of session).lang ≡ l → (knowledge_of session).plan ≡ plan →
+    Remembers l (record { plan = plan; budget = budget }) t screen → MarksHold (knowledge_of session).lang (knowledge_of session).network.list budget screen
+marks_here session l plan budget t screen stands lang planned remembers =
+    let there = stands_at session t stands in
+    let marks = remembers there.state (sym (ap (λ x. state_after x (knowledge_of session).plan t) lang ∙ ap (λ p. state_after l p t) planned) ∙ there.at) in
+    let P : Language → Type 0 = λ x. MarksHold x (knowledge_of session).network.list budget screen in
+    subst P (sym lang) (subst (λ (n : List Candidate). MarksHold l n budget screen) there.network marks)
+
+-- they stay true when an answer is added
+pub marks_on : (l : Language) (way : Request) (t : List Answer) (a : Answer) (screen : Remembered) → IsReached l way.plan t → Remembers l way t screen → Remembers l way (t ++ a ∷ []) screen
+marks_on l way t a screen (state, at) remembers next then =
+    let on : GoesOn (network_in state) (network_in next) = network_grows l way.plan t a state next at then in
+    subst (λ (n : List Candidate). MarksHold l n way.budget screen) (sym on.is) (marks_stay l (network_in state) on.more way.budget screen (remembers state at))
+
+-- what holds of a language and a plan holds of the same ones
+pub carried : (P : Language → Plan → Type 0) (l m : Language) (p q : Plan) → l ≡ m → p ≡ q → P l p → P m q
+carried P l m p q e f h = subst (λ (x : Language). P x q) e (subst (P l) f h)
+
+-- what comes next comes after answers that have a place
+pub due_reached : (l : Language) (way : Request) (t : List Answer) (n : Next) → next_after l way t ≡ Some n → IsReached l way.plan t
+due_reached l way t n due = go (state_after l way.plan t) refl
+  where
+    none_some : None ≡ Some n → ⊥
+    none_some e = cc
+
+    go : (r : Reading) → state_after l way.plan t ≡ r → IsReached l way.plan t
+    go (Stray number) at = absurd (none_some (sym (ap (next_in l way t) at) ∙ due))
+    go (At state) at = (state, at)
+
+-- marks stay true over a turn
+pub marks_after : (l m : Language) (way : Request) (events same later : List Event) (screen : Remembered) → m ≡ l → same ≡ events → IsReached l way.plan (standing_on l events) →
+    IsOneMore (standing_on m same) (standing_on m later) → Remembers l way (standing_on l events) screen → Remembers l way (standing_on l later) screen
+marks_after l m way events same later screen lang record_is reached one remembers =
+    let grown : standing_on l later ≡ standing_on l events ++ one.more ∷ [] =
+    ap (λ x. standing_on x later) (sym lang) ∙ one.is ∙ ap (λ x. standing_on x same ++ one.more ∷ []) lang ∙ ap (λ es. standing_on l es ++ one.more ∷ []) record_is in
+    let P : List Answer → Type 0 = λ ts. Remembers l way ts screen in
+    subst P (sym grown) (marks_on l way (standing_on l events) one.more screen reached remembers)

@@ -1,14 +1,21 @@
 -- What the loop has done, by how it ended.
-use Rattle.std.specs.Prelude.{◌≡◌, ℕ, List, ◌++◌, length, Option, Some, None}
+use Rattle.std.specs.Prelude.{◌≡◌, ◌≢◌, ℕ, List, ◌++◌, length, ◌&&◌, Option, Some, None}
 use Rattle.assign.specs.Events.{Answer}
 use Rattle.assign.specs.declared.events.Plan.TheVariants.{Scopes}
 use Rattle.language.specs.declared.candidates.Candidate.{Candidate}
-use Rattle.language.specs.Language.{Language}
-use Rattle.language.specs.Answers.{IsCovered, IsConverged}
-use Rattle.session_laws.specs.Session.{Idle, At, state_after}
+use Rattle.language.specs.Language.{Language, IsCandidate}
+use Rattle.language.specs.Answers.{IsNetwork, IsCovered, IsConverged, NoneAgrees, kept}
+use Rattle.fd_solver.specs.Outcomes.{outcome_of_candidate}
+use Rattle.query_gen.specs.Questions.{is_among, is_spent}
+use Rattle.query_gen.specs.Marks.{Remembered, MarksHold, is_open}
+use Rattle.query_gen.specs.Laws.{IsUndecided}
+use Rattle.session_laws.specs.Session.{State, Idle, Over, At, state_after}
+use Rattle.session_laws.specs.Walk.{WalkEnd}
+use Rattle.session_laws.specs.Laws.{network_in}
 use Rattle.target_oracle.specs.Turns.{Turns}
 use Rattle.target_oracle.specs.Tells.{Front}
-use Rattle.acq_cli.specs.Run.{Closing, Converged, Suspended, LineTooLong, Unreadable, Ran, Runs, after_text}
+use Rattle.acq_cli.specs.Run.{Closing, Converged, Collapsed, Undecided, Suspended, LineTooLong, Unreadable, Ends, next_after, Ran, Runs, after_text}
+use Rattle.acq_cli.specs.declared.words.Request.{Request}
 use Rattle.acq_cli.specs.declared.driving.Drove.{Drove}
 use Rattle.acq_cli.specs.declared.driving.Drove.TheVariants as drove
 
@@ -19,54 +26,84 @@ pub record Place : Type 0 where
   pub written : Option (List ℕ)
 
 -- what was written so far begins each run that goes on from there
-pub record IsBegun (turns : Turns) (l : Language) (bytes before : List ℕ) (old new : Place) : Type 0 where
+pub record IsBegun (turns : Turns) (l : Language) (way : Request) (bytes before : List ℕ) (old new : Place) : Type 0 where
   pub rest : List ℕ
   pub done : List ℕ
   pub left : new.left ≡ Some rest
   pub written : new.written ≡ Some (before ++ done)
-  pub begins : (run : Ran) → Runs turns l new.answers rest run → Runs turns l old.answers bytes (after_text done run)
+  pub begins : (run : Ran) → Runs turns l way new.answers rest run → Runs turns l way old.answers bytes (after_text done run)
 
 -- where source and sink tell
-abbrev pub StepsTo : Turns → Language → Place → Place → Type 0
-StepsTo turns l old new = (bytes before : List ℕ) → old.left ≡ Some bytes → old.written ≡ Some before → IsBegun turns l bytes before old new
+abbrev pub StepsTo : Turns → Language → Request → Place → Place → Type 0
+StepsTo turns l way old new = (bytes before : List ℕ) → old.left ≡ Some bytes → old.written ≡ Some before → IsBegun turns l way bytes before old new
 
 -- the run with this closing is what was written and left, and its answers stand
-pub record IsRun (turns : Turns) (l : Language) (bytes before : List ℕ) (end : Closing) (old new : Place) : Type 0 where
+pub record IsRun (turns : Turns) (l : Language) (way : Request) (bytes before : List ℕ) (end : Closing) (old new : Place) : Type 0 where
   pub run : Ran
-  pub runs : Runs turns l old.answers bytes run
+  pub runs : Runs turns l way old.answers bytes run
   pub closing : run.closing ≡ end
   pub answers : run.answers ≡ new.answers
   pub left : new.left ≡ Some run.rest
   pub written : new.written ≡ Some (before ++ run.text)
 
-abbrev pub RanTo : Turns → Language → Closing → Place → Place → Type 0
-RanTo turns l closing old new = (bytes before : List ℕ) → old.left ≡ Some bytes → old.written ≡ Some before → IsRun turns l bytes before closing old new
+abbrev pub RanTo : Turns → Language → Request → Closing → Place → Place → Type 0
+RanTo turns l way closing old new = (bytes before : List ℕ) → old.left ≡ Some bytes → old.written ≡ Some before → IsRun turns l way bytes before closing old new
 
 -- what was written is a front of the run's text, and the answers are a front of its answers
-pub record IsCut (turns : Turns) (l : Language) (bytes before : List ℕ) (old new : Place) : Type 0 where
+pub record IsCut (turns : Turns) (l : Language) (way : Request) (bytes before : List ℕ) (old new : Place) : Type 0 where
   pub run : Ran
-  pub runs : Runs turns l old.answers bytes run
+  pub runs : Runs turns l way old.answers bytes run
   pub text : Front run.text before new.written
   pub later : List Answer
   pub answers : run.answers ≡ new.answers ++ later
 
-abbrev pub CutOff : Turns → Language → Place → Place → Type 0
-CutOff turns l old new = (bytes before : List ℕ) → old.left ≡ Some bytes → old.written ≡ Some before → IsCut turns l bytes before old new
+abbrev pub CutOff : Turns → Language → Request → Place → Place → Type 0
+CutOff turns l way old new = (bytes before : List ℕ) → old.left ≡ Some bytes → old.written ≡ Some before → IsCut turns l way bytes before old new
 
 -- nothing is left to ask, and the answers converge on what was learned
-pub record IsDone (l : Language) (t : List Answer) : Type 0 where
+pub record IsDone (l : Language) (way : Request) (t : List Answer) : Type 0 where
   pub network : List Candidate
-  pub idle : state_after l Scopes t ≡ At (Idle network None)
+  pub idle : state_after l way.plan t ≡ At (Idle network None)
+  pub ends : next_after l way t ≡ Some (Ends Converged)
   pub covered : IsCovered l network t
   pub converged : IsConverged l network t
 
--- The loop ends so only in this way. In plan Scopes it never collapses.
-abbrev pub Drives : Turns → Language → Place → Place → Drove → Type 0
-Drives turns l old new (drove.Converged m) = (m ≡ length new.answers) × IsDone l new.answers × RanTo turns l Converged old new
-Drives turns l old new (drove.Collapsed m) = ⊥
-Drives turns l old new (drove.Suspended m) = (m ≡ length new.answers) × RanTo turns l Suspended old new
-Drives turns l old new drove.LineTooLong = RanTo turns l LineTooLong old new
-Drives turns l old new drove.Unreadable = RanTo turns l Unreadable old new
-Drives turns l old new drove.ReadFault = CutOff turns l old new
-Drives turns l old new drove.WriteFault = CutOff turns l old new
-Drives turns l old new drove.Memory = CutOff turns l old new
+-- no network agrees with the answers, which never comes scope by scope
+pub record IsCollapsed (l : Language) (way : Request) (t : List Answer) : Type 0 where
+  pub network : List Candidate
+  pub over : state_after l way.plan t ≡ At (Over network)
+  pub none : NoneAgrees l t
+  pub plan : way.plan ≢ Scopes
+
+-- Nothing was found to ask. The budget was too small for the searches of some kept candidates, and each other one is implied.
+pub record IsLeftOpen (l : Language) (way : Request) (t : List Answer) : Type 0 where
+  pub network : List Candidate
+  pub idle : state_after l way.plan t ≡ At (Idle network None)
+  pub ends : next_after l way t ≡ Some (Ends Undecided)
+  pub lawful : IsNetwork l network
+  pub undecided : IsUndecided l network (kept l t network) way.budget
+  pub plan : way.plan ≢ Scopes
+
+-- The loop ends so only in this way.
+abbrev pub Drives : Turns → Language → Request → Place → Place → Drove → Type 0
+Drives turns l way old new (drove.Converged m) = (m ≡ length new.answers) × IsDone l way new.answers × RanTo turns l way Converged old new
+Drives turns l way old new (drove.Collapsed m) = (m ≡ length new.answers) × IsCollapsed l way new.answers × RanTo turns l way Collapsed old new
+Drives turns l way old new (drove.Undecided m) = (m ≡ length new.answers) × IsLeftOpen l way new.answers × RanTo turns l way Undecided old new
+Drives turns l way old new (drove.Suspended m) = (m ≡ length new.answers) × RanTo turns l way Suspended old new
+Drives turns l way old new drove.LineTooLong = RanTo turns l way LineTooLong old new
+Drives turns l way old new drove.Unreadable = RanTo turns l way Unreadable old new
+Drives turns l way old new drove.ReadFault = CutOff turns l way old new
+Drives turns l way old new drove.WriteFault = CutOff turns l way old new
+Drives turns l way old new drove.Memory = CutOff turns l way old new
+
+-- ---- what a screen says of the candidates
+
+-- its marks are true of the network that the answers lead to
+abbrev pub Remembers : Language → Request → List Answer → Remembered → Type 0
+Remembers l way t screen = (state : State) → state_after l way.plan t ≡ At state → MarksHold l (network_in state) way.budget screen
+
+-- where nothing is open, it tells exactly the kept candidates whose searches the budget was too small for
+abbrev pub TellsOpen : Language → Request → List Answer → Remembered → Type 0
+TellsOpen l way t screen =
+    (network : List Candidate) (end : Option WalkEnd) → state_after l way.plan t ≡ At (Idle network end) → (c : Candidate) → IsCandidate l c →
+    is_open l screen c ≡ (is_among (kept l t network) c && is_spent (outcome_of_candidate l network c way.budget))

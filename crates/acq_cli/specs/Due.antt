@@ -2,36 +2,49 @@
 use Rattle.std.specs.Prelude.{◌≡◌, Bool, List, [], ◌∷◌, ◌++◌, Option, Some, None}
 use Rattle.assign.specs.Assignment.{Assignment}
 use Rattle.assign.specs.Events.{Answer}
-use Rattle.assign.specs.declared.events.Plan.TheVariants.{Scopes}
 use Rattle.language.specs.Language.{Language, IsQuestion}
 use Rattle.session_store.specs.Kept.{IsLawfulAfter}
-use Rattle.acq_cli.specs.Run.{Puts, Ends, Converged, next_after, answer}
-use Rattle.acq_cli.specs.Driven.{IsDone}
+use Rattle.acq_cli.specs.Run.{Puts, Ends, Collapsed, next_after, answer}
+use Rattle.acq_cli.specs.Driven.{IsDone, IsCollapsed, IsLeftOpen}
+use Rattle.acq_cli.specs.declared.words.Request.{Request}
 use Rattle.acq_cli.specs.declared.driving.Drove.{Drove}
 use Rattle.acq_cli.specs.declared.driving.Drove.TheVariants as drove
 use Rattle.acq_cli.specs.declared.driving.Next.{Next}
 use Rattle.acq_cli.specs.declared.driving.Next.TheVariants as next
 
 -- this question comes next
-pub record IsDue (l : Language) (t : List Answer) (q : Assignment) : Type 0 where
-  pub puts : next_after l t ≡ Some (Puts q)
+pub record IsDue (l : Language) (way : Request) (t : List Answer) (q : Assignment) : Type 0 where
+  pub puts : next_after l way t ≡ Some (Puts q)
   pub fits : IsQuestion l q
 
--- nothing is left to ask
-pub record IsOver (l : Language) (t : List Answer) : Type 0 where
-  pub ends : next_after l t ≡ Some (Ends Converged)
-  pub done : IsDone l t
+-- no question comes: the answers converge, or no network agrees with them, or the budget was too small
+abbrev pub NoneIsDue : Language → Request → List Answer → Next → Type 0
+NoneIsDue l way t (next.Open q) = ⊥
+NoneIsDue l way t (next.New q) = ⊥
+NoneIsDue l way t next.Converged = IsDone l way t
+NoneIsDue l way t next.Collapsed = IsCollapsed l way t × (next_after l way t ≡ Some (Ends Collapsed))
+NoneIsDue l way t next.Undecided = IsLeftOpen l way t
 
 -- what comes next after these answers, where this question is put or none is
-abbrev pub NextIs : Language → List Answer → Option Assignment → Next → Type 0
-NextIs l t put (next.Open q) = IsDue l t q × (put ≡ Some q)
-NextIs l t put (next.New q) = IsDue l t q × (put ≡ None) × IsLawfulAfter l Scopes t q
-NextIs l t put next.Converged = IsOver l t
+abbrev pub NextIs : Language → Request → List Answer → Option Assignment → Next → Type 0
+NextIs l way t put (next.Open q) = IsDue l way t q × (put ≡ Some q)
+NextIs l way t put (next.New q) = IsDue l way t q × (put ≡ None) × IsLawfulAfter l way.plan t q
+NextIs l way t put next.Converged = NoneIsDue l way t next.Converged
+NextIs l way t put next.Collapsed = NoneIsDue l way t next.Collapsed
+NextIs l way t put next.Undecided = NoneIsDue l way t next.Undecided
 
--- the question that is put is the next one, or nothing is left to ask
-abbrev pub PutIs : Language → List Answer → Option Assignment → Option Assignment → Type 0
-PutIs l t put None = IsOver l t
-PutIs l t put (Some q) = IsDue l t q × (put ≡ Some q)
+-- the question that is put is the next one, or none is
+abbrev pub PutIs : Language → Request → List Answer → Option Assignment → Next → Type 0
+PutIs l way t put (next.Open q) = IsDue l way t q × (put ≡ Some q)
+PutIs l way t put (next.New q) = IsDue l way t q × (put ≡ Some q)
+PutIs l way t put next.Converged = NoneIsDue l way t next.Converged
+PutIs l way t put next.Collapsed = NoneIsDue l way t next.Collapsed
+PutIs l way t put next.Undecided = NoneIsDue l way t next.Undecided
+
+-- the same answers and one more
+pub record IsOneMore (old new : List Answer) : Type 0 where
+  pub more : Answer
+  pub is : new ≡ old ++ more ∷ []
 
 -- the answer to the question that is put was added, or there was no memory for it
 abbrev pub AnswerKept : Bool → Option Assignment → List Answer → List Answer → Option Drove → Type 0

@@ -3,3 +3,4 @@ pub mod Driven
 pub mod Due
 pub mod Places
 pub mod Program
+pub mod Words

@@ -1,7 +1,12 @@
--- A place in a run.
+-- A place in a run, and how a run chooses its questions.
 use Rattle.std.specs.Prelude.{ℕ, List, Option}
 use Rattle.assign.specs.Events.{Answer}
+use Rattle.assign.specs.declared.events.Plan.{Plan}
 use Rattle.acq_cli.specs.Driven.{Place}
+use Rattle.acq_cli.specs.declared.words.Request.{Request}
 
 abbrev pub place_of : List Answer → Option (List ℕ) → Option (List ℕ) → Place
 place_of answers left written = record { answers = answers; left = left; written = written }
+
+abbrev pub way_of : Plan → ℕ → Request
+way_of plan budget = record { plan = plan; budget = budget }

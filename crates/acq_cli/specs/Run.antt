@@ -3,16 +3,23 @@ use Rattle.std.specs.Prelude.{◌≡◌, ℕ, zero, suc, ◌+◌, List, [], ◌�
 use Rattle.std.specs.Option.{option_map}
 use Rattle.assign.specs.Assignment.{Assignment}
 use Rattle.assign.specs.Events.{Answer}
-use Rattle.assign.specs.declared.events.Plan.TheVariants.{Scopes}
+use Rattle.assign.specs.declared.events.Plan.{Plan}
+use Rattle.assign.specs.declared.events.Plan.TheVariants.{Scopes, Quacq, Multi}
+use Rattle.language.specs.declared.candidates.Candidate.{Candidate}
 use Rattle.language.specs.Language.{Language}
 use Rattle.language.specs.Answers.{kept}
+use Rattle.query_gen.specs.declared.query.Query.{Query}
+use Rattle.query_gen.specs.declared.query.Query.TheVariants as query
+use Rattle.query_gen.specs.Questions.{next_query}
 use Rattle.session_laws.specs.Session.{State, Idle, Halving, Choosing, Walking, Over, Reading, At, Stray, open_question, scope_question, state_after}
+use Rattle.acq_cli.specs.declared.words.Request.{Request}
 use Rattle.target_oracle.specs.Turns.{Turns, Turned, Reply, Said, Stopped, Ended, Overlong, Unread}
 
 -- how a run ends
 pub data Closing : Type 0 where
   Converged : Closing
   Collapsed : Closing
+  Undecided : Closing
   Suspended : Closing
   LineTooLong : Closing
   Unreadable : Closing
@@ -26,21 +33,33 @@ abbrev pub puts_or : Closing → Option Assignment → Next
 puts_or closing None = Ends closing
 puts_or closing (Some q) = Puts q
 
--- what a state has next, in plan Scopes: the first question of the next scope where nothing is open, and else the open one
-abbrev pub next_at : Language → List Answer → State → Next
-next_at l t (Idle network end) = puts_or Converged (scope_question l (kept l t network) network)
-next_at l t (Halving e set replies network walk) = puts_or Collapsed (open_question l (Halving e set replies network walk))
-next_at l t (Choosing s choices network walk) = puts_or Collapsed (open_question l (Choosing s choices network walk))
-next_at l t (Walking set walk network) = puts_or Collapsed (open_question l (Walking set walk network))
-next_at l t (Over network) = Ends Collapsed
+-- what a search says: a question, or how the run ends
+abbrev pub searched : Query → Next
+searched (query.Ask q) = Puts q
+searched query.AllImplied = Ends Converged
+searched query.Undecided = Ends Undecided
 
-abbrev pub next_in : Language → List Answer → Reading → Option Next
-next_in l t (Stray number) = None
-next_in l t (At state) = Some (next_at l t state)
+-- what comes where nothing is open: in plan Scopes the first question of the next scope, and else what the search says
+abbrev pub idle_next : Language → Plan → ℕ → (live network : List Candidate) → Next
+idle_next l Scopes budget live network = puts_or Converged (scope_question l live network)
+idle_next l Quacq budget live network = searched (next_query l network live budget)
+idle_next l Multi budget live network = searched (next_query l network live budget)
+
+-- what a state has next: the open question, where there is one
+abbrev pub next_at : Language → Request → List Answer → State → Next
+next_at l way t (Idle network end) = idle_next l way.plan way.budget (kept l t network) network
+next_at l way t (Halving e set replies network walk) = puts_or Collapsed (open_question l (Halving e set replies network walk))
+next_at l way t (Choosing s choices network walk) = puts_or Collapsed (open_question l (Choosing s choices network walk))
+next_at l way t (Walking set walk network) = puts_or Collapsed (open_question l (Walking set walk network))
+next_at l way t (Over network) = Ends Collapsed
+
+abbrev pub next_in : Language → Request → List Answer → Reading → Option Next
+next_in l way t (Stray number) = None
+next_in l way t (At state) = Some (next_at l way t state)
 
 -- what comes next after these answers, if they can be answers
-abbrev pub next_after : Language → List Answer → Option Next
-next_after l t = next_in l t (state_after l Scopes t)
+abbrev pub next_after : Language → Request → List Answer → Option Next
+next_after l way t = next_in l way t (state_after l way.plan t)
 
 -- what a run has written, how it ended, the answers that stand after it, and the bytes that it left
 pub record Ran : Type 0 where
@@ -75,12 +94,12 @@ next_on put t bytes (Some (Ends closing)) = Some (ended closing t bytes)
 next_on put t bytes (Some (Puts q)) = put q
 
 -- The run of at most so many turns; none where it takes more. Question number m + 1 comes after m answers.
-unfoldable pub ran : Turns → Language → ℕ → List Answer → List ℕ → Option Ran
-ran turns l zero t bytes = None
-ran turns l (suc count) t bytes =
-    next_on (λ q. turned_on (ran turns l count) t q (turns l (length t + 1) q bytes)) t bytes (next_after l t)
+unfoldable pub ran : Turns → Language → Request → ℕ → List Answer → List ℕ → Option Ran
+ran turns l way zero t bytes = None
+ran turns l way (suc count) t bytes =
+    next_on (λ q. turned_on (ran turns l way count) t q (turns l (length t + 1) q bytes)) t bytes (next_after l way t)
 
 -- the run of some number of turns
-pub record Runs (turns : Turns) (l : Language) (t : List Answer) (bytes : List ℕ) (run : Ran) : Type 0 where
+pub record Runs (turns : Turns) (l : Language) (way : Request) (t : List Answer) (bytes : List ℕ) (run : Ran) : Type 0 where
   pub count : ℕ
-  pub is : ran turns l count t bytes ≡ Some run
+  pub is : ran turns l way count t bytes ≡ Some run

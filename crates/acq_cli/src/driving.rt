@@ -1,16 +1,19 @@
-ghost use Rattle.std.specs.Prelude.{◌≡◌, ◌+◌, ◌<◌, ◌≤◌, ◌^◌, List, length, Some, None, IfSome};
+ghost use Rattle.std.specs.Prelude.{◌≡◌, ◌≢◌, ◌+◌, ◌<◌, ◌≤◌, ◌^◌, List, length, Some, None, IfSome};
 ghost use Rattle.acq_io.specs.Streams.{Rose};
 ghost use Rattle.assign.specs.Events.{Answer};
 ghost use Rattle.assign.specs.declared.events.Plan.TheVariants.{Scopes};
 ghost use Rattle.language.specs.Answers.{standing_on};
+ghost use Rattle.query_gen.specs.Marks.{IsMadeFor, HasNoMarks, MarksHold};
 ghost use Rattle.session_core.specs.Standing.{Stands, knowledge_of, open_in};
-ghost use Rattle.acq_cli.specs.Driven.{Drives, StepsTo};
-ghost use Rattle.acq_cli.specs.Due.{IsDue, NextIs, PutIs, AnswerKept};
-ghost use Rattle.acq_cli.specs.Places.{place_of};
+ghost use Rattle.session_core.specs.Settled.{IsSettled};
+ghost use Rattle.acq_cli.specs.Driven.{Drives, Remembers, StepsTo, TellsOpen};
+ghost use Rattle.acq_cli.specs.Due.{IsDue, NextIs, PutIs, AnswerKept, IsOneMore};
+ghost use Rattle.acq_cli.specs.Places.{place_of, way_of};
 
 use acq_io::{Sink, Source};
-use assign::Partial;
-use session_core::Session;
+use assign::{Partial, Plan};
+use query_gen::{Place, Query, Screen, next_query};
+use session_core::{Idle, Session};
 use session_store::Keep;
 use std::alloc::Global;
 use target_oracle::{Teacher, Told};
@@ -22,6 +25,9 @@ pub enum Drove {
     Converged(u32),
     /// No network agrees with the answers.
     Collapsed(u32),
+    /// Nothing was found to ask, and the budget was too small to say that nothing is left. The screen tells the
+    /// candidates that are open.
+    Undecided(u32),
     /// The teacher wants to stop, or the source ended before a whole answer line.
     Suspended(u32),
     /// A line is too long.
@@ -34,6 +40,7 @@ pub enum Drove {
 }
 
 /// What comes next in a session.
+#[derive(Clone, Copy, Debug, PartialEq, Eq)]
 enum Next {
     /// A question that is put already.
     Open(Partial),
@@ -41,43 +48,112 @@ enum Next {
     New(Partial),
     /// Nothing is left to ask.
     Converged,
+    /// No network agrees with the answers.
+    Collapsed,
+    /// Nothing was found to ask under the budget.
+    Undecided,
 }
 
-/// What comes next in a session of plan Scopes, which is never over.
-fn next_of(session: &Session) -> Next
-    requires plan { (knowledge_of session.now).plan ≡ Scopes }
-    requires reached { (t : List Answer) × Stands session.now t }
-    ensures { (t : List Answer) → Stands session.now t → NextIs (knowledge_of session.now).lang t (open_in session.now) result }
+/// What comes next in plan Scopes, where nothing is open.
+fn scoped_next(idle: &Idle) -> Next
+    requires plan { (knowledge_of (Session.Idle idle.now)).plan ≡ Scopes }
+    ensures next { (t : List Answer) (budget : _) → let k = knowledge_of (Session.Idle idle.now) in Stands (Session.Idle idle.now) t
+        → NextIs k.lang (way_of k.plan budget) t None result }
+    ensures decided { result ≢ Next.Undecided }
 {
-    let _lang = session.lang();
-    match session {
-        Session::Idle(idle) => match idle.scope_question() {
-            Some(question) => Next::New(question),
-            None => Next::Converged,
-        },
-        Session::Asking(asking) => Next::Open(asking.question()),
-        Session::Over(_) => unreachable!(),
+    let _lang = idle.lang();
+    match idle.scope_question() {
+        Some(question) => Next::New(question),
+        None => Next::Converged,
     }
 }
 
-/// Puts the question that comes next. None where there is none.
-fn put_next<P: Keep>(keep: &mut P) -> Option<Partial>
+/// What the search says, in the other plans, where nothing is open.
+fn searched_next(idle: &Idle, place: &mut Place, screen: &mut Screen, budget: u32) -> Next
+    requires plan { (knowledge_of (Session.Idle idle.now)).plan ≢ Scopes }
+    requires screen { IsMadeFor (knowledge_of (Session.Idle idle.now)).lang screen.old }
+    requires marks { let k = knowledge_of (Session.Idle idle.now) in MarksHold k.lang k.network.list budget screen.old }
+    requires some_budget { 1 ≤ budget }
+    requires small_budget { budget ≤ 1000000000 }
+    ensures next { (t : List Answer) → let k = knowledge_of (Session.Idle idle.now) in Stands (Session.Idle idle.now) t → NextIs k.lang (way_of k.plan budget) t None result }
+    ensures screen { IsMadeFor (knowledge_of (Session.Idle idle.now)).lang screen.new }
+    ensures marks { let k = knowledge_of (Session.Idle idle.now) in MarksHold k.lang k.network.list budget screen.new }
+    ensures open { (t : List Answer) → let k = knowledge_of (Session.Idle idle.now) in Stands (Session.Idle idle.now) t → result ≡ Next.Undecided → TellsOpen k.lang (way_of k.plan budget) t screen.new }
+{
+    let query = next_query(
+        &mut place.work,
+        screen,
+        idle.lang(),
+        idle.kept(),
+        idle.network(),
+        budget,
+    );
+    match query {
+        Query::Ask(question) => Next::New(question),
+        Query::AllImplied => Next::Converged,
+        Query::Undecided => Next::Undecided,
+    }
+}
+
+/// What comes next where nothing is open.
+fn idle_next(idle: &Idle, place: &mut Place, screen: &mut Screen, budget: u32) -> Next
+    requires screen { IsMadeFor (knowledge_of (Session.Idle idle.now)).lang screen.old }
+    requires marks { let k = knowledge_of (Session.Idle idle.now) in MarksHold k.lang k.network.list budget screen.old }
+    requires some_budget { 1 ≤ budget }
+    requires small_budget { budget ≤ 1000000000 }
+    ensures next { (t : List Answer) → let k = knowledge_of (Session.Idle idle.now) in Stands (Session.Idle idle.now) t → NextIs k.lang (way_of k.plan budget) t None result }
+    ensures screen { IsMadeFor (knowledge_of (Session.Idle idle.now)).lang screen.new }
+    ensures marks { let k = knowledge_of (Session.Idle idle.now) in MarksHold k.lang k.network.list budget screen.new }
+    ensures open { (t : List Answer) → let k = knowledge_of (Session.Idle idle.now) in Stands (Session.Idle idle.now) t → result ≡ Next.Undecided → TellsOpen k.lang (way_of k.plan budget) t screen.new }
+{
+    match idle.plan() {
+        Plan::Scopes => scoped_next(idle),
+        Plan::Quacq | Plan::Multi => searched_next(idle, place, screen, budget),
+    }
+}
+
+/// What comes next in a session.
+fn next_of(session: &Session, place: &mut Place, screen: &mut Screen, budget: u32) -> Next
+    requires screen { IsMadeFor (knowledge_of session.now).lang screen.old }
+    requires marks { let k = knowledge_of session.now in MarksHold k.lang k.network.list budget screen.old }
+    requires some_budget { 1 ≤ budget }
+    requires small_budget { budget ≤ 1000000000 }
+    ensures next { (t : List Answer) → let k = knowledge_of session.now in Stands session.now t → IsSettled k.lang k.plan t (open_in session.now)
+        → NextIs k.lang (way_of k.plan budget) t (open_in session.now) result }
+    ensures screen { IsMadeFor (knowledge_of session.now).lang screen.new }
+    ensures marks { let k = knowledge_of session.now in MarksHold k.lang k.network.list budget screen.new }
+    ensures open { (t : List Answer) → let k = knowledge_of session.now in Stands session.now t → result ≡ Next.Undecided → TellsOpen k.lang (way_of k.plan budget) t screen.new }
+{
+    let _lang = session.lang();
+    match session {
+        Session::Idle(idle) => idle_next(idle, place, screen, budget),
+        Session::Asking(asking) => Next::Open(asking.question()),
+        Session::Over(_) => Next::Collapsed,
+    }
+}
+
+/// Puts the question that comes next, if one does.
+fn put_next<P: Keep>(keep: &mut P, place: &mut Place, screen: &mut Screen, budget: u32) -> Next
     requires sound { P.sound keep.old }
-    requires plan { P.plan keep.old ≡ Scopes }
-    ensures put { PutIs (P.lang keep.old) (standing_on (P.lang keep.old) (P.record_of keep.old)) (P.question keep.new) result }
+    requires settled { IsSettled (P.lang keep.old) (P.plan keep.old) (standing_on (P.lang keep.old) (P.record_of keep.old)) (P.question keep.old) }
+    requires screen { IsMadeFor (P.lang keep.old) screen.old }
+    requires remembers { Remembers (P.lang keep.old) (way_of (P.plan keep.old) budget) (standing_on (P.lang keep.old) (P.record_of keep.old)) screen.old }
+    requires some_budget { 1 ≤ budget }
+    requires small_budget { budget ≤ 1000000000 }
+    ensures put { PutIs (P.lang keep.old) (way_of (P.plan keep.old) budget) (standing_on (P.lang keep.old) (P.record_of keep.old)) (P.question keep.new) result }
     ensures events { P.record_of keep.new ≡ P.record_of keep.old }
     ensures lang { P.lang keep.new ≡ P.lang keep.old }
     ensures plan { P.plan keep.new ≡ P.plan keep.old }
     ensures sound { P.sound keep.new }
+    ensures screen { IsMadeFor (P.lang keep.old) screen.new }
+    ensures remembers { Remembers (P.lang keep.old) (way_of (P.plan keep.old) budget) (standing_on (P.lang keep.old) (P.record_of keep.old)) screen.new }
+    ensures open { result ≡ Next.Undecided → TellsOpen (P.lang keep.old) (way_of (P.plan keep.old) budget) (standing_on (P.lang keep.old) (P.record_of keep.old)) screen.new }
 {
-    match next_of(keep.session()) {
-        Next::Open(question) => Some(question),
-        Next::New(question) => {
-            keep.ask(question);
-            Some(question)
-        }
-        Next::Converged => None,
+    let next = next_of(keep.session(), place, screen, budget);
+    if let Next::New(question) = next {
+        keep.ask(question);
     }
+    next
 }
 
 /// Keeps an answer to the question that is put. None where the loop goes on.
@@ -85,6 +161,7 @@ fn keep_answer<P: Keep>(keep: &mut P, yes: bool) -> Option<Drove>
     requires sound { P.sound keep.old }
     requires put { (q : _) × (P.question keep.old ≡ Some q) × (length q ≡ length (P.lang keep.old).names) }
     ensures kept { AnswerKept «yes» (P.question keep.old) (standing_on (P.lang keep.old) (P.record_of keep.old)) (standing_on (P.lang keep.old) (P.record_of keep.new)) result }
+    ensures settled { result ≡ None → IsSettled (P.lang keep.old) (P.plan keep.old) (standing_on (P.lang keep.old) (P.record_of keep.new)) (P.question keep.new) }
     ensures lang { P.lang keep.new ≡ P.lang keep.old }
     ensures plan { P.plan keep.new ≡ P.plan keep.old }
     ensures sound { P.sound keep.new }
@@ -105,16 +182,19 @@ fn hear_answer<S: Source, K: Sink, T: Teacher<S, K>, P: Keep>(
     question: &Partial,
 ) -> Option<Drove>
     requires sound { P.sound keep.old }
-    requires plan { P.plan keep.old ≡ Scopes }
     requires put { P.question keep.old ≡ Some question.now }
-    requires due { IsDue (P.lang keep.old) (standing_on (P.lang keep.old) (P.record_of keep.old)) question.now }
-    ensures again { result ≡ None → StepsTo (T.turn teacher.old) (P.lang keep.old)
+    requires due { (budget : _) × IsDue (P.lang keep.old) (way_of (P.plan keep.old) budget) (standing_on (P.lang keep.old) (P.record_of keep.old)) question.now }
+    ensures again { (budget : _) → IsDue (P.lang keep.old) (way_of (P.plan keep.old) budget) (standing_on (P.lang keep.old) (P.record_of keep.old)) question.now
+        → result ≡ None → StepsTo (T.turn teacher.old) (P.lang keep.old) (way_of (P.plan keep.old) budget)
         (place_of (standing_on (P.lang keep.old) (P.record_of keep.old)) (S.left source.old) (K.written sink.old))
         (place_of (standing_on (P.lang keep.old) (P.record_of keep.new)) (S.left source.new) (K.written sink.new)) }
-    ensures more { result ≡ None → length (standing_on (P.lang keep.old) (P.record_of keep.new)) ≡ length (standing_on (P.lang keep.old) (P.record_of keep.old)) + 1 }
-    ensures ends { IfSome result (Drives (T.turn teacher.old) (P.lang keep.old)
+    ensures more { result ≡ None → IsOneMore (standing_on (P.lang keep.old) (P.record_of keep.old)) (standing_on (P.lang keep.old) (P.record_of keep.new)) }
+    ensures settled { result ≡ None → IsSettled (P.lang keep.old) (P.plan keep.old) (standing_on (P.lang keep.old) (P.record_of keep.new)) (P.question keep.new) }
+    ensures ends { (budget : _) → IsDue (P.lang keep.old) (way_of (P.plan keep.old) budget) (standing_on (P.lang keep.old) (P.record_of keep.old)) question.now
+        → IfSome result (Drives (T.turn teacher.old) (P.lang keep.old) (way_of (P.plan keep.old) budget)
         (place_of (standing_on (P.lang keep.old) (P.record_of keep.old)) (S.left source.old) (K.written sink.old))
         (place_of (standing_on (P.lang keep.old) (P.record_of keep.new)) (S.left source.new) (K.written sink.new))) }
+    ensures decided { (m : _) → result ≢ Some (Drove.Undecided m) }
     ensures turn { T.turn teacher.new ≡ T.turn teacher.old }
     ensures lang { P.lang keep.new ≡ P.lang keep.old }
     ensures plan { P.plan keep.new ≡ P.plan keep.old }
@@ -142,20 +222,31 @@ fn hear_answer<S: Source, K: Sink, T: Teacher<S, K>, P: Keep>(
 /// One turn: a question and its answer. None where the loop goes on.
 fn take_turn<S: Source, K: Sink, T: Teacher<S, K>, P: Keep>(
     alloc: Global,
+    place: &mut Place,
+    screen: &mut Screen,
+    budget: u32,
     source: &mut S,
     sink: &mut K,
     teacher: &mut T,
     keep: &mut P,
 ) -> Option<Drove>
     requires sound { P.sound keep.old }
-    requires plan { P.plan keep.old ≡ Scopes }
-    ensures again { result ≡ None → StepsTo (T.turn teacher.old) (P.lang keep.old)
+    requires settled { IsSettled (P.lang keep.old) (P.plan keep.old) (standing_on (P.lang keep.old) (P.record_of keep.old)) (P.question keep.old) }
+    requires screen { IsMadeFor (P.lang keep.old) screen.old }
+    requires remembers { Remembers (P.lang keep.old) (way_of (P.plan keep.old) budget) (standing_on (P.lang keep.old) (P.record_of keep.old)) screen.old }
+    requires some_budget { 1 ≤ budget }
+    requires small_budget { budget ≤ 1000000000 }
+    ensures again { result ≡ None → StepsTo (T.turn teacher.old) (P.lang keep.old) (way_of (P.plan keep.old) budget)
         (place_of (standing_on (P.lang keep.old) (P.record_of keep.old)) (S.left source.old) (K.written sink.old))
         (place_of (standing_on (P.lang keep.old) (P.record_of keep.new)) (S.left source.new) (K.written sink.new)) }
     ensures more { result ≡ None → length (standing_on (P.lang keep.old) (P.record_of keep.new)) ≡ length (standing_on (P.lang keep.old) (P.record_of keep.old)) + 1 }
-    ensures ends { IfSome result (Drives (T.turn teacher.old) (P.lang keep.old)
+    ensures settled { result ≡ None → IsSettled (P.lang keep.old) (P.plan keep.old) (standing_on (P.lang keep.old) (P.record_of keep.new)) (P.question keep.new) }
+    ensures remembers { result ≡ None → Remembers (P.lang keep.old) (way_of (P.plan keep.old) budget) (standing_on (P.lang keep.old) (P.record_of keep.new)) screen.new }
+    ensures ends { IfSome result (Drives (T.turn teacher.old) (P.lang keep.old) (way_of (P.plan keep.old) budget)
         (place_of (standing_on (P.lang keep.old) (P.record_of keep.old)) (S.left source.old) (K.written sink.old))
         (place_of (standing_on (P.lang keep.old) (P.record_of keep.new)) (S.left source.new) (K.written sink.new))) }
+    ensures open { (m : _) → result ≡ Some (Drove.Undecided m) → TellsOpen (P.lang keep.old) (way_of (P.plan keep.old) budget) (standing_on (P.lang keep.old) (P.record_of keep.new)) screen.new }
+    ensures screen { IsMadeFor (P.lang keep.old) screen.new }
     ensures turn { T.turn teacher.new ≡ T.turn teacher.old }
     ensures lang { P.lang keep.new ≡ P.lang keep.old }
     ensures plan { P.plan keep.new ≡ P.plan keep.old }
@@ -165,28 +256,46 @@ fn take_turn<S: Source, K: Sink, T: Teacher<S, K>, P: Keep>(
     ensures read { result ≡ Some Drove.ReadFault → Rose (S.faults source.old) (S.faults source.new) }
     ensures write { result ≡ Some Drove.WriteFault → Rose (K.faults sink.old) (K.faults sink.new) }
 {
-    match put_next(keep) {
-        Some(question) => hear_answer(alloc, source, sink, teacher, keep, &question),
-        None => Some(Drove::Converged(keep.session().answers())),
+    match put_next(keep, place, screen, budget) {
+        Next::Open(question) | Next::New(question) => {
+            hear_answer(alloc, source, sink, teacher, keep, &question)
+        }
+        Next::Converged => Some(Drove::Converged(keep.session().answers())),
+        Next::Collapsed => Some(Drove::Collapsed(keep.session().answers())),
+        Next::Undecided => Some(Drove::Undecided(keep.session().answers())),
     }
 }
 
 /// One more than the most answers that a session of any language takes.
 const MOST_TURNS: u32 = 762_754;
 
-/// Asks until nothing is left to ask or the teacher stops.
+/// Asks until nothing is left to ask, no network agrees with the answers, nothing is found to ask under the budget, or
+/// the teacher stops.
+///
+/// Searches use the first of the places. The screen carries what they found from one question to the next.
 pub fn drive<S: Source, K: Sink, T: Teacher<S, K>, P: Keep>(
     alloc: Global,
+    places: &mut [Place; 8],
+    screen: &mut Screen,
+    budget: u32,
     source: &mut S,
     sink: &mut K,
     teacher: &mut T,
     keep: &mut P,
 ) -> Drove
     requires sound { P.sound keep.old }
-    requires plan { P.plan keep.old ≡ Scopes }
-    ensures ends { Drives (T.turn teacher.old) (P.lang keep.old)
+    // where the answers lead to where nothing is open, no question is put
+    requires settled { IsSettled (P.lang keep.old) (P.plan keep.old) (standing_on (P.lang keep.old) (P.record_of keep.old)) (P.question keep.old) }
+    requires screen { IsMadeFor (P.lang keep.old) screen.old }
+    requires unmarked { HasNoMarks screen.old }
+    requires some_budget { 1 ≤ budget }
+    requires small_budget { budget ≤ 1000000000 }
+    ensures ends { Drives (T.turn teacher.old) (P.lang keep.old) (way_of (P.plan keep.old) budget)
         (place_of (standing_on (P.lang keep.old) (P.record_of keep.old)) (S.left source.old) (K.written sink.old))
         (place_of (standing_on (P.lang keep.old) (P.record_of keep.new)) (S.left source.new) (K.written sink.new)) result }
+    // where it is undecided, the screen tells the open candidates
+    ensures open { (m : _) → result ≡ Drove.Undecided m → TellsOpen (P.lang keep.old) (way_of (P.plan keep.old) budget) (standing_on (P.lang keep.old) (P.record_of keep.new)) screen.new }
+    ensures screen { IsMadeFor (P.lang keep.old) screen.new }
     ensures lang { P.lang keep.new ≡ P.lang keep.old }
     ensures plan { P.plan keep.new ≡ P.plan keep.old }
     ensures sound { P.sound keep.new }
@@ -196,7 +305,16 @@ pub fn drive<S: Source, K: Sink, T: Teacher<S, K>, P: Keep>(
     ensures write { result ≡ Drove.WriteFault → Rose (K.faults sink.old) (K.faults sink.new) }
 {
     for _turn in 0..MOST_TURNS {
-        if let Some(drove) = take_turn(alloc, source, sink, teacher, keep) {
+        if let Some(drove) = take_turn(
+            alloc,
+            &mut places[0],
+            screen,
+            budget,
+            source,
+            sink,
+            teacher,
+            keep,
+        ) {
             return drove;
         }
     }

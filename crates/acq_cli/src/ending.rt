@@ -17,6 +17,10 @@ pub enum Ending {
     Converged(u32),
     Usage(UsageFault),
     VocRefused(VocFault),
+    /// No network agrees with the answers.
+    Collapsed(u32),
+    /// Nothing was found to ask, and the budget was too small to say that nothing is left.
+    Undecided(u32),
     /// `stop` was read, or the input ended before a whole answer line.
     Suspended(u32),
     /// A line has more than 256 bytes before its newline.
@@ -37,6 +41,8 @@ impl Ending {
             Ending::Converged(_) => 0,
             Ending::Usage(_) => 1,
             Ending::VocRefused(_) => 2,
+            Ending::Collapsed(_) => 4,
+            Ending::Undecided(_) => 5,
             Ending::Suspended(_) => 6,
             Ending::LineTooLong | Ending::Unreadable => 7,
             Ending::ReadFault => 8,

@@ -3,12 +3,13 @@
 
 mod driving;
 mod ending;
+mod opens;
 #[cfg(test)]
 mod tests;
 mod top;
-#[cfg(test)]
-mod trials;
+mod words;
 
 pub use driving::{Drove, drive};
 pub use ending::{Ending, UsageFault};
 pub use top::acquire;
+pub use words::Request;

@@ -3,44 +3,109 @@ use acq_io::{MemSink, MemSource, PlainSink, PlainSource};
 use std::alloc::{AllocError, Global};
 use std::test::Fail;
 
-const VOCABULARY: &str =
-    r#"{"variables":["a","b"],"domain":[1,2],"relations":[{"name":"eq","arity":2,"tuples":[[1,1],[2,2]]},{"name":"ne","arity":2,"tuples":[[1,2],[2,1]]},{"name":"none","arity":2,"tuples":[]}],"scopes":"all"}"#;
+/// Vocabularies, each a line: its name, and its text.
+const VOCABULARIES: &str = r#"two {"variables":["a","b"],"domain":[1,2],"relations":[{"name":"eq","arity":2,"formula":["=","$0","$1"]},{"name":"ne","arity":2,"formula":["!=","$0","$1"]}],"scopes":"all"}
+tuples {"variables":["a","b"],"domain":[1,2],"relations":[{"name":"eq","arity":2,"tuples":[[1,1],[2,2]]},{"name":"ne","arity":2,"tuples":[[1,2],[2,1]]}],"scopes":"all"}
+none {"variables":["a","b"],"domain":[1,2],"relations":[{"name":"eq","arity":2,"tuples":[[1,1],[2,2]]},{"name":"ne","arity":2,"tuples":[[1,2],[2,1]]},{"name":"none","arity":2,"tuples":[]}],"scopes":"all"}
+equal {"variables":["a","b","c"],"domain":[1,2],"relations":[{"name":"eq","arity":2,"formula":["=","$0","$1"]}],"scopes":"all"}
+other {"variables":["a","b","c"],"domain":[1,2],"relations":[{"name":"ne","arity":2,"formula":["!=","$0","$1"]}],"scopes":"all"}
+order {"variables":["a","b"],"domain":[1,2],"relations":[{"name":"le","arity":2,"formula":["<=","$0","$1"]},{"name":"ge","arity":2,"formula":[">=","$0","$1"]},{"name":"ne","arity":2,"formula":["!=","$0","$1"]}],"scopes":"all"}
+single {"variables":["x"],"domain":[5,5],"relations":[{"name":"bad","arity":1,"tuples":[]}],"scopes":"all"}
+empty {"variables":["a","b"],"domain":[1,2],"relations":[{"name":"eq","arity":2,"formula":["=","$0","$1"]},{"name":"ne","arity":2,"formula":["!=","$0","$1"]}],"scopes":[]}
+any {"variables":["a","b"],"domain":[1,2],"relations":[{"name":"any","arity":2,"tuples":[[1,1],[1,2],[2,1],[2,2]]}],"scopes":"all"}
+broken {}"#;
 
-fn words_of(alloc: Global, last: &str) -> Result<Vec<String>, AllocError> {
+/// Rows: the options, the vocabulary, the answers, what is printed with `/` for each line's end, and the status. What is
+/// printed was worked out by hand from the order of the candidates and of the assignments.
+const ROWS: &str = "|two|yes no|q1 a=1 b=2/q2 a=1 b=1/converged 2/ne a b/|0
+|two|yes yes|q1 a=1 b=2/q2 a=1 b=1/converged 2/|0
+|equal|no yes yes|q1 a=1 b=2 c=1/q2 a=1 b=2/q3 b=2 c=1/collapsed 3/|4
+--budget 1|two||undecided 0/open eq a b/open ne a b/open eq&ne a b/|5
+|order|no no yes|q1 a=2 b=1/q2 a=1 b=1/q3 a=1 b=2/converged 3/le&ne a b/|0
+|single|no|q1 x=5/converged 1/bad x/|0
+|other|no no yes no no|q1 a=1 b=1 c=1/q2 a=1 b=1/q3 a=1 b=2 c=1/q4 a=2 b=1 c=1/q5 b=1 c=1/converged 5/ne a b/ne b c/|0
+|empty||converged 0/|0
+|any||converged 0/|0
+|two|stop|q1 a=1 b=2/suspended 0/|6
+|two||q1 a=1 b=2/suspended 0/|6
+|two|back N yes no|q1 a=1 b=2/not an answer/not an answer/q2 a=1 b=1/converged 2/ne a b/|0
+--plan=scopes|order|no yes no|q1 a=1 b=1/q2 a=1 b=2/q3 a=2 b=1/converged 3/le&ne a b/|0
+--plan=scopes|order|no no no|q1 a=1 b=1/q2 a=1 b=2/q3 a=2 b=1/converged 3/le&ge&ne a b/|0
+--plan scopes|two|no yes|q1 a=1 b=1/q2 a=1 b=2/converged 2/ne a b/|0
+--plan scopes|tuples|no no|q1 a=1 b=1/q2 a=1 b=2/converged 2/eq&ne a b/|0
+--plan scopes|none|no no|q1 a=1 b=1/q2 a=1 b=2/converged 2/eq&ne&none a b/|0
+--plan scopes --budget 1|two|no yes|q1 a=1 b=1/q2 a=1 b=2/converged 2/ne a b/|0
+--budget=1000000000 --plan=quacq|two|yes no|q1 a=1 b=2/q2 a=1 b=1/converged 2/ne a b/|0
+|broken||refused vocabulary missing variables/|2
+--budget 1 --budget 1|two|yes no|usage: acquire JOURNAL COMMAND [--plan P] [--budget N] [--number N]/|1
+--plan scopes --plan=scopes|two|yes no|usage: acquire JOURNAL COMMAND [--plan P] [--budget N] [--number N]/|1
+--budget 0|two|yes no|usage: acquire JOURNAL COMMAND [--plan P] [--budget N] [--number N]/|1
+--budget 1000000001|two|yes no|usage: acquire JOURNAL COMMAND [--plan P] [--budget N] [--number N]/|1
+--budget 007|two|yes no|usage: acquire JOURNAL COMMAND [--plan P] [--budget N] [--number N]/|1
+--budget +7|two|yes no|usage: acquire JOURNAL COMMAND [--plan P] [--budget N] [--number N]/|1
+--budget|two|yes no|usage: acquire JOURNAL COMMAND [--plan P] [--budget N] [--number N]/|1
+--budget=|two|yes no|usage: acquire JOURNAL COMMAND [--plan P] [--budget N] [--number N]/|1
+--plan multi|two|yes no|usage: acquire JOURNAL COMMAND [--plan P] [--budget N] [--number N]/|1
+quacq|two|yes no|usage: acquire JOURNAL COMMAND [--plan P] [--budget N] [--number N]/|1";
+
+/// The vocabulary of this name. Empty where there is none.
+fn vocabulary_of(name: &str) -> &'static str {
+    for line in VOCABULARIES.split('\n') {
+        if let Some((first, text)) = line.split_once(' ') {
+            if first == name {
+                return text;
+            }
+        }
+    }
+    ""
+}
+
+/// The words of the command with these options.
+fn words_of(alloc: Global, options: &str) -> Result<Vec<String>, AllocError> {
     let mut words = Vec::new(alloc);
-    for word in [":memory:", "try", "--plan", last] {
+    words.push(String::from_str(alloc, ":memory:")?)?;
+    words.push(String::from_str(alloc, "try")?)?;
+    for word in options.split_whitespace() {
         words.push(String::from_str(alloc, word)?)?;
     }
     Ok(words)
 }
 
-/// The lines after the vocabulary, what is printed, and the status.
-static ROWS: [(&str, &str, u8); 5] = [
-    (
-        "no\nyes\n",
-        "q1 a=1 b=1\nq2 a=1 b=2\nconverged 2\nne a b\n",
-        0,
-    ),
-    ("yes\nyes\n", "q1 a=1 b=1\nq2 a=1 b=2\nconverged 2\n", 0),
-    (
-        "no\nno\n",
-        "q1 a=1 b=1\nq2 a=1 b=2\nconverged 2\neq&ne&none a b\n",
-        0,
-    ),
-    ("", "q1 a=1 b=1\nsuspended 0\n", 6),
-    ("maybe\n", "q1 a=1 b=1\nnot an answer\nsuspended 0\n", 6),
-];
+/// The text with another end behind each of its parts.
+fn ended(alloc: Global, text: &str, gap: char, end: &str) -> Result<String, AllocError> {
+    let mut whole = String::new(alloc);
+    for part in text.split(gap) {
+        if !part.is_empty() {
+            whole.push_str(part)?;
+            whole.push_str(end)?;
+        }
+    }
+    Ok(whole)
+}
+
+/// A row, and what the program makes of it.
+fn try_row(rt: &HostRuntime, row: &str) -> Result<(), Fail> {
+    let alloc = rt.alloc();
+    let mut parts = row.split('|');
+    let options = parts.next().unwrap_or("");
+    let vocabulary = vocabulary_of(parts.next().unwrap_or(""));
+    let answers = ended(alloc, parts.next().unwrap_or(""), ' ', "\n")?;
+    let wanted = ended(alloc, parts.next().unwrap_or(""), '/', "\n")?;
+    let status = parts.next().unwrap_or("");
+    let words = words_of(alloc, options)?;
+    let input = format!(in alloc; "{vocabulary}\n{answers}")?;
+    let mut source = PlainSource::new(input.into_bytes());
+    let mut sink = PlainSink::new(alloc);
+    let ending = acquire(rt, alloc, &words, &mut source, &mut sink);
+    assert_eq!(*rt; sink.bytes(), wanted.as_bytes(), "{row}");
+    assert_eq!(*rt; Ok(ending.status()), status.parse::<u8>(), "{row}");
+    Ok(())
+}
 
 #[test]
 fn rows(rt: HostRuntime) -> Result<(), Fail> {
-    let words = words_of(rt.alloc(), "scopes")?;
-    for (lines, wanted, status) in &ROWS {
-        let input = format!(in rt.alloc(); "{VOCABULARY}\n{lines}")?;
-        let mut source = PlainSource::new(input.into_bytes());
-        let mut sink = PlainSink::new(rt.alloc());
-        let ending = acquire(&rt, rt.alloc(), &words, &mut source, &mut sink);
-        assert_eq!(rt; ending.status(), *status);
-        assert_eq!(rt; sink.bytes(), wanted.as_bytes());
+    for row in ROWS.split('\n') {
+        try_row(&rt, row)?;
     }
     Ok(())
 }
@@ -61,56 +126,42 @@ fn repeated(
     Ok(text)
 }
 
-const QUESTION: &str = "q1 a=1 b=1\n";
-
-const NO_ANSWER: &str = "not an answer\n";
-
 /// Answer lines: a text that is repeated so many times, between two others. How often it is said that a line is no answer,
 /// what is printed after that, and the status.
-static LINES: [(&str, &str, usize, &str, usize, &str, u8); 7] = [
+static LINES: [(&str, &str, usize, &str, usize, &str, u8); 4] = [
     (
         "",
         "maybe\n",
         999,
-        "no\nyes\n",
+        "yes\nno\n",
         999,
-        "q2 a=1 b=2\nconverged 2\nne a b\n",
+        "q2 a=1 b=1\nconverged 2\nne a b\n",
         0,
     ),
     ("", "maybe\n", 1000, "", 999, "refused lines\n", 7),
     (
-        "no",
+        "yes",
         " ",
-        254,
-        "\nyes\n",
+        253,
+        "\nno\n",
         0,
-        "q2 a=1 b=2\nconverged 2\nne a b\n",
-        0,
-    ),
-    ("no", " ", 255, "\n", 0, "refused line too long\n", 7),
-    ("stop\nyes\n", "", 0, "", 0, "suspended 0\n", 6),
-    ("yes", "", 0, "", 0, "suspended 0\n", 6),
-    (
-        "back\r\nn\r\n\ty \r\n",
-        "",
-        0,
-        "",
-        1,
-        "q2 a=1 b=2\nconverged 2\nne a b\n",
+        "q2 a=1 b=1\nconverged 2\nne a b\n",
         0,
     ),
+    ("yes", " ", 254, "\n", 0, "refused line too long\n", 7),
 ];
 
 #[test]
 fn answer_lines(rt: HostRuntime) -> Result<(), Fail> {
     let alloc = rt.alloc();
-    let words = words_of(alloc, "scopes")?;
+    let words = words_of(alloc, "")?;
+    let vocabulary = vocabulary_of("two");
     for (head, piece, count, end, said, rest, status) in &LINES {
         let lines = repeated(alloc, head, piece, *count, end)?;
-        let input = format!(in alloc; "{VOCABULARY}\n{lines}")?;
-        let wanted = repeated(alloc, QUESTION, NO_ANSWER, *said, rest)?;
-        let mut source = MemSource::new(input.into_bytes(), Vec::new(alloc));
-        let mut sink = MemSink::new(alloc, Vec::new(alloc));
+        let input = format!(in alloc; "{vocabulary}\n{lines}")?;
+        let wanted = repeated(alloc, "q1 a=1 b=2\n", "not an answer\n", *said, rest)?;
+        let mut source = PlainSource::new(input.into_bytes());
+        let mut sink = PlainSink::new(alloc);
         let ending = acquire(&rt, alloc, &words, &mut source, &mut sink);
         assert_eq!(rt; ending.status(), *status, "{head} {piece} {count} {end}");
         assert_eq!(rt; sink.bytes(), wanted.as_bytes());
@@ -118,110 +169,92 @@ fn answer_lines(rt: HostRuntime) -> Result<(), Fail> {
     Ok(())
 }
 
-/// The call that reads the first byte after the vocabulary's line.
-const FIRST: u32 = VOCABULARY.len() as u32 + 1;
-
-/// Which calls of the input and of the output fail, where a line is no answer, and then no and yes come; what is printed, what
-/// is left of these lines, and the status.
-static FAULTS: [(u32, u32, &str, &str, u8); 11] = [
-    (FIRST, 9, "q1 a=1 b=1\n", "x\nno\nyes\n", 8),
-    (FIRST + 1, 9, "q1 a=1 b=1\n", "\nno\nyes\n", 8),
-    (FIRST + 2, 9, "q1 a=1 b=1\nnot an answer\n", "no\nyes\n", 8),
-    (FIRST + 4, 9, "q1 a=1 b=1\nnot an answer\n", "\nyes\n", 8),
-    (
-        FIRST + 5,
-        9,
-        "q1 a=1 b=1\nnot an answer\nq2 a=1 b=2\n",
-        "yes\n",
-        8,
-    ),
-    (
-        FIRST + 8,
-        9,
-        "q1 a=1 b=1\nnot an answer\nq2 a=1 b=2\n",
-        "\n",
-        8,
-    ),
-    (
-        FIRST + 9,
-        9,
-        "q1 a=1 b=1\nnot an answer\nq2 a=1 b=2\nconverged 2\nne a b\n",
-        "",
-        0,
-    ),
-    (FIRST + 9, 0, "", "x\nno\nyes\n", 9),
-    (FIRST + 9, 1, "q1 a=1 b=1\n", "no\nyes\n", 9),
-    (FIRST + 9, 2, "q1 a=1 b=1\nnot an answer\n", "yes\n", 9),
-    (
-        FIRST + 9,
-        3,
-        "q1 a=1 b=1\nnot an answer\nq2 a=1 b=2\n",
-        "",
-        9,
-    ),
+/// How many bytes of the lines after the vocabulary are read before the failing call, which write fails, what is printed, how
+/// many bytes are left, and the status. The lines are `x`, `yes` and `no`.
+static FAULTS: [(u32, u32, &str, usize, u8); 8] = [
+    (0, 9, "q1 a=1 b=2\n", 9, 8),
+    (2, 9, "q1 a=1 b=2\nnot an answer\n", 7, 8),
+    (6, 9, "q1 a=1 b=2\nnot an answer\nq2 a=1 b=1\n", 3, 8),
+    (8, 9, "q1 a=1 b=2\nnot an answer\nq2 a=1 b=1\n", 1, 8),
+    (9, 0, "", 9, 9),
+    (9, 1, "q1 a=1 b=2\n", 7, 9),
+    (9, 2, "q1 a=1 b=2\nnot an answer\n", 3, 9),
+    (9, 3, "q1 a=1 b=2\nnot an answer\nq2 a=1 b=1\n", 0, 9),
 ];
 
 #[test]
 fn each_call_fails_in_turn(rt: HostRuntime) -> Result<(), Fail> {
     let alloc = rt.alloc();
-    let words = words_of(alloc, "scopes")?;
+    let words = words_of(alloc, "")?;
+    let vocabulary = vocabulary_of("two");
+    let first = (vocabulary.len() as u32).saturating_add(1);
     for (read, write, wanted, left, status) in &FAULTS {
-        let input = format!(in alloc; "{VOCABULARY}\nx\nno\nyes\n")?;
-        let mut source = MemSource::new(input.into_bytes(), vec![in alloc; *read]?);
+        let input = format!(in alloc; "{vocabulary}\nx\nyes\nno\n")?;
+        let fails = vec![in alloc; first.saturating_add(*read)]?;
+        let mut source = MemSource::new(input.into_bytes(), fails);
         let mut sink = MemSink::new(alloc, vec![in alloc; *write]?);
         let ending = acquire(&rt, alloc, &words, &mut source, &mut sink);
         assert_eq!(rt; ending.status(), *status, "{read} {write}");
         assert_eq!(rt; sink.bytes(), wanted.as_bytes());
-        assert_eq!(rt; source.left(), left.as_bytes());
+        assert_eq!(rt; source.left().len(), *left);
     }
     Ok(())
 }
 
-/// First lines, what is printed, and the status.
-static REFUSALS: [(&str, &str, u8); 3] = [
-    ("", "refused vocabulary not json\n", 2),
-    ("{}\nno\n", "refused vocabulary missing variables\n", 2),
-    (
-        r#"{"variables":["a","b"],"domain":[1,2],"relations":[{"name":"eq","arity":2,"tuples":[[1,1],[2,2]]},{"name":"ne","arity":2,"tuples":[[1,2],[2,1]]}],"scopes":"all"}"#,
-        "refused vocabulary not closed 2\n",
-        2,
-    ),
-];
+/// The sets of one halving of 128 variables, each the first variables up to one, besides the last.
+static HALVES: [u8; 12] = [126, 124, 120, 112, 96, 64, 32, 16, 8, 4, 2, 1];
 
-#[test]
-fn refusals(rt: HostRuntime) -> Result<(), Fail> {
-    let words = words_of(rt.alloc(), "scopes")?;
-    for (input, wanted, status) in &REFUSALS {
-        let mut source = PlainSource::new(input.as_bytes().to_vec(rt.alloc())?);
-        let mut sink = PlainSink::new(rt.alloc());
-        let ending = acquire(&rt, rt.alloc(), &words, &mut source, &mut sink);
-        assert_eq!(rt; ending.status(), *status);
-        assert_eq!(rt; sink.bytes(), wanted.as_bytes());
+/// A question that gives 0 to the first variables up to one, and to the last.
+fn question(alloc: Global, k: usize, last: u8) -> Result<String, AllocError> {
+    let mut text = format!(in alloc; "q{k}")?;
+    for v in 1..129u8 {
+        if v <= last || v == 128 {
+            text.push_str(&format!(in alloc; " v{v}=0")?)?;
+        }
     }
-    Ok(())
+    text.push_str("\n")?;
+    Ok(text)
 }
 
-/// Other words, an input that fails, and an output that fails.
+/// One constraint between the first and the last of 128 variables, found by halving.
 #[test]
-fn faults(rt: HostRuntime) -> Result<(), Fail> {
+fn many_variables(rt: HostRuntime) -> Result<(), Fail> {
     let alloc = rt.alloc();
-    let mut source = MemSource::new(Vec::new(alloc), Vec::new(alloc));
-    let mut sink = MemSink::new(alloc, Vec::new(alloc));
-    let other = words_of(alloc, "quacq")?;
-    assert_eq!(rt;
-        acquire(&rt, alloc, &other, &mut source, &mut sink).status(),
-        1
-    );
-    let words = words_of(alloc, "scopes")?;
-    let mut source = MemSource::new(Vec::new(alloc), vec![in alloc; 0u32]?);
-    assert_eq!(rt;
-        acquire(&rt, alloc, &words, &mut source, &mut sink).status(),
-        8
-    );
-    let mut sink = MemSink::new(alloc, vec![in alloc; 0u32]?);
-    assert_eq!(rt;
-        acquire(&rt, alloc, &words, &mut source, &mut sink).status(),
-        9
-    );
+    let words = words_of(alloc, "")?;
+    let mut input = String::from_str(alloc, r#"{"variables":["v1""#)?;
+    for v in 2..129u8 {
+        input.push_str(&format!(in alloc; ",\"v{v}\"")?)?;
+    }
+    input.push_str(
+        r#"],"domain":[0,63],"relations":[{"name":"ne","arity":2,"formula":["!=","$0","$1"]}],"scopes":[["v1","v128"]]}"#,
+    )?;
+    let mut wanted = question(alloc, 1, 128)?;
+    for (i, last) in HALVES.iter().enumerate() {
+        wanted.push_str(&question(alloc, i.saturating_add(2), *last)?)?;
+    }
+    wanted.push_str("converged 13\nne v1 v128\n")?;
+    let answers = repeated(alloc, "\n", "no\n", 13, "")?;
+    input.push_str(&answers)?;
+    let mut source = PlainSource::new(input.into_bytes());
+    let mut sink = PlainSink::new(alloc);
+    let ending = acquire(&rt, alloc, &words, &mut source, &mut sink);
+    assert_eq!(rt; ending.status(), 0);
+    assert_eq!(rt; sink.bytes(), wanted.as_bytes());
+    Ok(())
+}
+
+/// An input and an output that fail at once.
+#[test]
+fn nothing_is_read_or_written(rt: HostRuntime) -> Result<(), Fail> {
+    let alloc = rt.alloc();
+    let words = words_of(alloc, "")?;
+    for (read, write, wanted) in [(0u32, 9u32, 8u8), (9999, 0, 9)] {
+        let input = String::from_str(alloc, vocabulary_of("two"))?;
+        let mut source = MemSource::new(input.into_bytes(), vec![in alloc; read]?);
+        let mut sink = MemSink::new(alloc, vec![in alloc; write]?);
+        let ending = acquire(&rt, alloc, &words, &mut source, &mut sink);
+        assert_eq!(rt; ending.status(), wanted);
+        assert!(rt; sink.bytes().is_empty());
+    }
     Ok(())
 }

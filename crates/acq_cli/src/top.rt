@@ -1,18 +1,24 @@
-ghost use Rattle.std.specs.Prelude.{◌≡◌, ◌≤◌, ◌≢◌, map, IfOk, OnOk, Ok, Err};
+ghost use Rattle.std.specs.Prelude.{◌≡◌, ◌≤◌, ◌≢◌, map, filter, IfOk, OnOk, Ok, Err};
 ghost use Rattle.std.specs.String.{string_bytes};
 ghost use Rattle.acq_io.specs.Streams.{Adds, Rose};
-ghost use Rattle.assign.specs.declared.events.Plan.TheVariants.{Scopes};
+ghost use Rattle.assign.specs.declared.events.Plan.TheVariants.{Multi};
+ghost use Rattle.language.specs.Language.{candidates};
 ghost use Rattle.language.specs.Answers.{IsNetwork, standing_on};
+ghost use Rattle.query_gen.specs.Marks.{IsMadeFor, is_open};
 ghost use Rattle.session_core.specs.Standing.{knowledge_of};
 ghost use Rattle.session_store.specs.Loose.{IsSound, lang_of, plan_of};
-ghost use Rattle.acq_cli.specs.Program.{Acquires, HasEnded, Says, Tries, are_taken, converged_text, refusal_text, suspended_text};
+ghost use Rattle.acq_cli.specs.Driven.{TellsOpen};
+ghost use Rattle.acq_cli.specs.Places.{way_of};
+ghost use Rattle.acq_cli.specs.Program.{Acquires, HasEnded, Says, Tries, collapsed_text, converged_text, refusal_text, suspended_text, undecided_text};
 
 use crate::driving::{Drove, drive};
 use crate::ending::{Ending, UsageFault};
+use crate::opens::open_lines;
+use crate::words::{Request, request_of};
 use acq_io::{AllFault, Put, Sink, Source, read_first_line};
-use assign::Plan;
-use language::Language;
+use language::{Language, Memory};
 use network::network_text;
+use query_gen::{Place, Screen};
 use session_core::Session;
 use session_store::{Keep, Loose};
 use std::alloc::Global;
@@ -25,21 +31,6 @@ const MOST_VOCABULARY: u32 = 4_194_304;
 
 const USAGE: &[u8] = b"usage: acquire JOURNAL COMMAND [--plan P] [--budget N] [--number N]\n";
 
-/// Whether the words are those of the one command.
-fn are_taken(words: &[String]) -> bool
-    ensures { result ≡ are_taken (map string_bytes words.now) }
-{
-    match words {
-        [journal, command, option, plan] => {
-            journal.as_str() == ":memory:"
-                && command.as_str() == "try"
-                && option.as_str() == "--plan"
-                && plan.as_str() == "scopes"
-        }
-        _ => false,
-    }
-}
-
 /// Writes the last lines of a session that has converged.
 fn say_converged<K: Sink>(alloc: Global, session: &Session, m: u32, out: &mut K) -> Result<(), Put>
     requires { IsNetwork (knowledge_of session.now).lang (knowledge_of session.now).network.list }
@@ -51,6 +42,45 @@ fn say_converged<K: Sink>(alloc: Global, session: &Session, m: u32, out: &mut K)
         return Err(Put::Memory);
     };
     let Ok(text) = format!(in alloc; "converged {m}\n{network}") else {
+        return Err(Put::Memory);
+    };
+    out.write(text.as_bytes())
+}
+
+/// Writes the last line of a session that no network agrees with.
+fn say_collapsed<K: Sink>(alloc: Global, m: u32, out: &mut K) -> Result<(), Put>
+    ensures ok { OnOk result (Adds (K.written out.old) (K.written out.new) (collapsed_text m)) }
+    ensures failed { result ≡ Err Put.Failed → Rose (K.faults out.old) (K.faults out.new) }
+    ensures later_sink { K.faults out.old ≤ K.faults out.new }
+{
+    let Ok(text) = format!(in alloc; "collapsed {m}\n") else {
+        return Err(Put::Memory);
+    };
+    out.write(text.as_bytes())
+}
+
+/// Writes the last lines of a session whose budget was too small: what was learned, and the candidates that are open.
+fn say_undecided<K: Sink>(
+    alloc: Global,
+    session: &Session,
+    screen: &Screen,
+    m: u32,
+    out: &mut K,
+) -> Result<(), Put>
+    requires network { IsNetwork (knowledge_of session.now).lang (knowledge_of session.now).network.list }
+    requires made { IsMadeFor (knowledge_of session.now).lang screen.now }
+    ensures ok { let l = (knowledge_of session.now).lang in OnOk result (Adds (K.written out.old) (K.written out.new)
+        (undecided_text l (knowledge_of session.now).network.list (filter (is_open l screen.now) (candidates l)) m)) }
+    ensures failed { result ≡ Err Put.Failed → Rose (K.faults out.old) (K.faults out.new) }
+    ensures later_sink { K.faults out.old ≤ K.faults out.new }
+{
+    let Ok(network) = network_text(alloc, session.lang(), session.network()) else {
+        return Err(Put::Memory);
+    };
+    let Ok(opens) = open_lines(alloc, session.lang(), screen) else {
+        return Err(Put::Memory);
+    };
+    let Ok(text) = format!(in alloc; "undecided {m}\n{network}{opens}") else {
         return Err(Put::Memory);
     };
     out.write(text.as_bytes())
@@ -69,11 +99,18 @@ fn say_suspended<K: Sink>(alloc: Global, m: u32, out: &mut K) -> Result<(), Put>
 }
 
 /// Says how the loop ended.
-fn say<K: Sink>(alloc: Global, keep: &Loose, drove: Drove, out: &mut K) -> Result<Ending, Put>
+fn say<K: Sink>(
+    alloc: Global,
+    keep: &Loose,
+    screen: &Screen,
+    drove: Drove,
+    out: &mut K,
+) -> Result<Ending, Put>
     requires sound { IsSound keep.now }
-    requires plan { plan_of keep.now ≡ Scopes }
-    requires done { HasEnded (lang_of keep.now) (standing_on (lang_of keep.now) keep.now.events.items) drove }
-    ensures says { IfOk result (Says (lang_of keep.now) (standing_on (lang_of keep.now) keep.now.events.items) (K.written out.old) (K.written out.new) drove) }
+    requires made { IsMadeFor (lang_of keep.now) screen.now }
+    ensures says { (budget : _) → let way = way_of (plan_of keep.now) budget in let l = lang_of keep.now in let t = standing_on l keep.now.events.items in
+        HasEnded l way t drove → ((m : _) → drove ≡ Drove.Undecided m → TellsOpen l way t screen.now)
+        → IfOk result (Says l way t (K.written out.old) (K.written out.new) drove) }
     ensures failed { result ≡ Err Put.Failed → drove ≢ Drove.WriteFault → Rose (K.faults out.old) (K.faults out.new) }
     ensures later_sink { K.faults out.old ≤ K.faults out.new }
 {
@@ -82,7 +119,14 @@ fn say<K: Sink>(alloc: Global, keep: &Loose, drove: Drove, out: &mut K) -> Resul
             say_converged(alloc, keep.session(), m, out)?;
             Ok(Ending::Converged(m))
         }
-        Drove::Collapsed(_) => unreachable!(),
+        Drove::Collapsed(m) => {
+            say_collapsed(alloc, m, out)?;
+            Ok(Ending::Collapsed(m))
+        }
+        Drove::Undecided(m) => {
+            say_undecided(alloc, keep.session(), screen, m, out)?;
+            Ok(Ending::Undecided(m))
+        }
         Drove::Suspended(m) => {
             say_suspended(alloc, m, out)?;
             Ok(Ending::Suspended(m))
@@ -101,26 +145,59 @@ fn say<K: Sink>(alloc: Global, keep: &Loose, drove: Drove, out: &mut K) -> Resul
     }
 }
 
-/// Asks about a language until the answers converge or the input stops.
+/// The working places of the parts of a search.
+fn places_for(alloc: Global, lang: &Language) -> Result<[Place; 8], Memory> {
+    Ok([
+        Place::new(alloc, lang)?,
+        Place::new(alloc, lang)?,
+        Place::new(alloc, lang)?,
+        Place::new(alloc, lang)?,
+        Place::new(alloc, lang)?,
+        Place::new(alloc, lang)?,
+        Place::new(alloc, lang)?,
+        Place::new(alloc, lang)?,
+    ])
+}
+
+/// Asks about a language until the answers converge, nothing more can be asked, or the input stops.
 fn try_language<S: Source, K: Sink>(
     alloc: Global,
     lang: Language,
+    way: Request,
     input: &mut S,
     out: &mut K,
 ) -> Result<Ending, Put>
-    ensures tries { IfOk result (Tries lang (S.left input.old) (K.written out.old) (S.left input.new) (K.written out.new)) }
+    requires plan { way.plan ≢ Multi }
+    requires some_budget { 1 ≤ way.budget }
+    requires small_budget { way.budget ≤ 1000000000 }
+    ensures tries { IfOk result (Tries lang way (S.left input.old) (K.written out.old) (S.left input.new) (K.written out.new)) }
     ensures read { result ≡ Ok Ending.ReadFault → Rose (S.faults input.old) (S.faults input.new) }
     ensures no_fault { IfOk result (λ ending. ending ≢ Ending.WriteFault) }
     ensures failed { result ≡ Err Put.Failed → Rose (K.faults out.old) (K.faults out.new) }
     ensures later { S.faults input.old ≤ S.faults input.new }
     ensures later_sink { K.faults out.old ≤ K.faults out.new }
 {
-    let Ok(mut keep) = Loose::new(alloc, lang, Plan::Scopes) else {
+    let Ok(mut places) = places_for(alloc, &lang) else {
+        return Err(Put::Memory);
+    };
+    let Ok(mut screen) = Screen::new(alloc, &lang) else {
+        return Err(Put::Memory);
+    };
+    let Ok(mut keep) = Loose::new(alloc, lang, way.plan) else {
         return Err(Put::Memory);
     };
     let mut teacher = LineTeacher::new();
-    let drove = drive(alloc, input, out, &mut teacher, &mut keep);
-    say(alloc, &keep, drove, out)
+    let drove = drive(
+        alloc,
+        &mut places,
+        &mut screen,
+        way.budget,
+        input,
+        out,
+        &mut teacher,
+        &mut keep,
+    );
+    say(alloc, &keep, &screen, drove, out)
 }
 
 /// Refuses the vocabulary.
@@ -151,10 +228,10 @@ fn respond<S: Source, K: Sink>(
     ensures no_fault { IfOk result (λ ending. ending ≢ Ending.WriteFault) }
     ensures failed { result ≡ Err Put.Failed → Rose (K.faults out.old) (K.faults out.new) }
 {
-    if !are_taken(words) {
+    let Some(way) = request_of(words) else {
         out.write(USAGE)?;
         return Ok(Ending::Usage(UsageFault::Words));
-    }
+    };
     let line = match read_first_line(alloc, input, MOST_VOCABULARY) {
         Ok(line) => line,
         Err(AllFault::TooLong) => return refuse(alloc, VocFault::TooLong, out),
@@ -162,7 +239,7 @@ fn respond<S: Source, K: Sink>(
         Err(AllFault::Memory) => return Err(Put::Memory),
     };
     match read_vocabulary(alloc, &line) {
-        Ok(lang) => try_language(alloc, lang, input, out),
+        Ok(lang) => try_language(alloc, lang, way, input, out),
         Err(VocFault::Memory) => Err(Put::Memory),
         Err(fault) => refuse(alloc, fault, out),
     }

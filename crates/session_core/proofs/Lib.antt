@@ -6,3 +6,4 @@ pub mod Questions
 pub mod Settling
 pub mod Turning
 pub mod Reached
+pub mod NoNew

@@ -3,3 +3,4 @@ pub mod Known
 pub mod Putting
 pub mod Standing
 pub mod Leading
+pub mod Settled

@@ -18,6 +18,7 @@ ghost use Rattle.session_laws.specs.Session.{begun, found, go_on, settle_choices
 ghost use Rattle.session_core.specs.Sound.{AreChoices};
 ghost use Rattle.session_core.specs.Standing.{knowledge_of};
 ghost use Rattle.session_core.specs.Leading.{StandsAt};
+ghost use Rattle.session_core.specs.Settled.{HasNoNew};
 
 use crate::halving::settle;
 use crate::knowledge::Knowledge;
@@ -34,6 +35,7 @@ pub(crate) fn learned(knowledge: Knowledge, c: Candidate) -> Session
     requires fresh { has_scope knowledge.network.list c.scope ≡ false }
     ensures lang { (knowledge_of result).lang ≡ knowledge.lang }
     ensures plan { (knowledge_of result).plan ≡ knowledge.plan }
+    ensures none_new { HasNoNew result }
     ensures stands { let k = knowledge in StandsAt k (λ t. go_on k.lang t (k.network.list ++ c ∷ []) None) result }
 {
     let Knowledge {
@@ -64,6 +66,7 @@ pub(crate) fn chosen(knowledge: Knowledge, next: RelNext) -> Session
     requires some { next ≢ RelNext.Nothing }
     ensures lang { (knowledge_of result).lang ≡ knowledge.lang }
     ensures plan { (knowledge_of result).plan ≡ knowledge.plan }
+    ensures none_new { HasNoNew result }
     ensures stands { (s : ℕ) (choices : List Choice) → let k = knowledge in IsSettled k.lang s choices next →
         StandsAt k (λ t. settle_choices k.lang t s choices k.network.list None) result }
 {
@@ -83,6 +86,7 @@ fn found(knowledge: Knowledge, example: Partial, set: VarSet) -> Session
     requires question { IsQuestion knowledge.lang example }
     ensures lang { (knowledge_of result).lang ≡ knowledge.lang }
     ensures plan { (knowledge_of result).plan ≡ knowledge.plan }
+    ensures none_new { HasNoNew result }
     ensures stands { let k = knowledge in StandsAt k (λ t. found k.lang t example k.network.list None (scope_number k.lang set)) result }
 {
     let Some(s) = knowledge.lang.scope_of(set) else {
@@ -99,6 +103,7 @@ pub(crate) fn halved(knowledge: Knowledge, example: Partial, next: ScopeNext) ->
     requires question { IsQuestion knowledge.lang example }
     ensures lang { (knowledge_of result).lang ≡ knowledge.lang }
     ensures plan { (knowledge_of result).plan ≡ knowledge.plan }
+    ensures none_new { HasNoNew result }
     ensures stands { (replies : List Bool) → let k = knowledge in let all = numbers (variable_count k.lang) in StandsFor next all replies →
         StandsAt k (λ t. settle_halving k.lang t example all replies k.network.list None) result }
 {
@@ -117,6 +122,7 @@ pub(crate) fn example_answered(knowledge: Knowledge, example: Partial, yes: bool
     requires question { IsQuestion knowledge.lang example }
     ensures lang { (knowledge_of result).lang ≡ knowledge.lang }
     ensures plan { (knowledge_of result).plan ≡ knowledge.plan }
+    ensures none_new { HasNoNew result }
     ensures stands { (live : List Candidate) → let k = knowledge in StandsAt k (λ t. begun k.lang Quacq t live k.network.list example «yes») result }
 {
     if yes {
@@ -132,6 +138,7 @@ pub(crate) fn tuple_answered(knowledge: Knowledge, run: RelRun, yes: bool) -> Se
     requires free { has_scope knowledge.network.list run.scope ≡ false }
     ensures lang { (knowledge_of result).lang ≡ knowledge.lang }
     ensures plan { (knowledge_of result).plan ≡ knowledge.plan }
+    ensures none_new { HasNoNew result }
     ensures stands { let k = knowledge in StandsAt k (λ t. settle_choices k.lang t run.scope (after_reply (scene_of k.lang run.scope) run.tuple «yes» run.choices) k.network.list None) result }
 {
     let next = run.reply(&knowledge.lang, yes);

@@ -5,6 +5,7 @@ ghost use Rattle.assign.specs.Events.{Answer};
 ghost use Rattle.assign.specs.declared.events.Plan.{Plan};
 ghost use Rattle.language.specs.Language.{IsQuestion};
 ghost use Rattle.session_laws.specs.Session.{is_lawful, scope_question};
+ghost use Rattle.session_core.specs.Settled.{IsSettled};
 ghost use Rattle.session_core.specs.Standing.{Stands, IsAskedAfter, knowledge_of, open_in};
 ghost use Rattle.session_core.specs.Leading.{StandsWhereIdle};
 
@@ -211,6 +212,8 @@ impl Asking {
         ensures plan { (knowledge_of result).plan ≡ (knowledge_of (Session.Asking self)).plan }
         ensures stands { (t : List Answer) (q : _) → open_in (Session.Asking self) ≡ Some q → Stands (Session.Asking self) t
             → Stands result (t ++ record { question = q; yes = «yes» } ∷ []) }
+        // where the answers lead to where nothing is open, no question is put
+        ensures settled { (t : List Answer) → Stands result t → IsSettled (knowledge_of result).lang (knowledge_of result).plan t (open_in result) }
     {
         let question = self.question();
         let Asking { knowledge, put } = self;

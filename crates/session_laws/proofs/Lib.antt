@@ -19,3 +19,4 @@ pub mod Counted
 pub mod Limits
 pub mod ExampleLanguages
 pub mod NetworkHalves
+pub mod Growing

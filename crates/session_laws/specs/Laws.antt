@@ -126,6 +126,27 @@ ScopesNeverOver =
     (l : Language) (t : List Answer) (network : List Candidate) →
     IsLanguage l → state_after l Scopes t ≡ At (Over network) → ⊥
 
+-- ---- What is learned stays learned
+
+-- the network that a state has
+abbrev pub network_in : State → List Candidate
+network_in (Idle network end) = network
+network_in (Halving e set replies network walk) = network
+network_in (Choosing s choices network walk) = network
+network_in (Walking set walk network) = network
+network_in (Over network) = network
+
+-- the new list goes on where the old one ends
+pub record GoesOn (old new : List Candidate) : Type 0 where
+  pub more : List Candidate
+  pub is : new ≡ old ++ more
+
+-- After one answer more the network has what it had, and then what was learned.
+abbrev pub NetworkGrows : Type 0
+NetworkGrows =
+    (l : Language) (plan : Plan) (t : List Answer) (a : Answer) (state next : State) →
+    state_after l plan t ≡ At state → state_after l plan (t ++ a ∷ []) ≡ At next → GoesOn (network_in state) (network_in next)
+
 -- ---- How many answers there are
 
 -- where nothing is open, at most as many as the bound says of the learned candidates

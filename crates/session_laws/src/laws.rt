@@ -1,6 +1,6 @@
 //! Laws of the sessions, as contracts of functions that do nothing.
 
-ghost use Rattle.session_laws.specs.Laws.{AnswersAreAtMost, AnswersAreFew, AnswersFit, FuelIsEnough, HalvingAsks, IdleIsInStep, ImpliedIsCovered, KeptSteps, LearnedAreFew, NetworkHalves, NeverStuck, OneAnswerMore, OverMeansNone, QuestionsHavePlaces, ScopesAreCovered, ScopesNeverOver, SettleSteps};
+ghost use Rattle.session_laws.specs.Laws.{AnswersAreAtMost, AnswersAreFew, AnswersFit, FuelIsEnough, HalvingAsks, IdleIsInStep, ImpliedIsCovered, KeptSteps, LearnedAreFew, NetworkGrows, NetworkHalves, NeverStuck, OneAnswerMore, OverMeansNone, QuestionsHavePlaces, ScopesAreCovered, ScopesNeverOver, SettleSteps};
 
 // ---- One answer, and its place
 
@@ -66,6 +66,13 @@ pub fn over_means_none()
 /// In plan Scopes a session is never over.
 pub fn scopes_never_over()
     ensures { ScopesNeverOver }
+{}
+
+// ---- What is learned stays learned
+
+/// After one answer more the network has what it had, and then what was learned.
+pub fn network_grows()
+    ensures { NetworkGrows }
 {}
 
 // ---- How many answers there are

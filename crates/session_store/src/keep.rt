@@ -6,6 +6,7 @@ ghost use Rattle.assign.specs.declared.events.Plan.{Plan};
 ghost use Rattle.language.specs.Language.{Language};
 ghost use Rattle.language.specs.Answers.{standing_on};
 ghost use Rattle.session_core.specs.Standing.{Stands, knowledge_of, open_in};
+ghost use Rattle.session_core.specs.Settled.{IsSettled};
 ghost use Rattle.session_store.specs.Kept.{IsLawfulAfter, answer_event};
 
 use assign::{Event, Partial};
@@ -53,6 +54,8 @@ pub trait Keep {
         requires sound { sound self.old }
         requires put { IsSome (question self.old) }
         ensures ok { ForSome (question self.old) (λ q. OnOk result (record_of self.new ≡ record_of self.old ++ answer_event q «yes» ∷ [])) }
+        // where the answers lead to where nothing is open, no question is put
+        ensures settled { OnOk result (IsSettled (lang self.new) (plan self.new) (standing_on (lang self.new) (record_of self.new)) (question self.new)) }
         ensures err { OnErr result (record_of self.new ≡ record_of self.old) }
         ensures err_question { OnErr result (question self.new ≡ question self.old) }
         ensures lang { lang self.new ≡ lang self.old }

@@ -1,11 +1,17 @@
-use Rattle.std.proofs.Common.{◌≡◌, ◌∙◌, ◌+◌, List, length, ap, sym, subst, arith, refl}
+use Rattle.std.proofs.Common.{Option, Some, ◌≡◌, ◌∙◌, ◌+◌, List, length, ap, sym, subst, arith, refl}
 use Rattle.assign.specs.Events.{Answer}
+use Rattle.assign.specs.declared.events.Plan.{Plan}
 use Rattle.language.specs.Language.{Language, IsLanguage}
 use Rattle.language.specs.Answers.{standing_on}
+use Rattle.query_gen.specs.Marks.{IsMadeFor}
+use Rattle.session_laws.specs.Laws.{network_in}
+use Rattle.session_core.specs.Settled.{IsSettled}
 use Rattle.target_oracle.specs.Turns.{Turns}
-use Rattle.acq_cli.specs.Driven.{Place, Drives, StepsTo}
-use Rattle.acq_cli.specs.Places.{place_of}
-use Rattle.acq_cli.proofs.Standings.{reached, few_answers}
+use Rattle.acq_cli.specs.Driven.{Place, Drives, Remembers, StepsTo, TellsOpen}
+use Rattle.acq_cli.specs.declared.driving.Drove.{Drove}
+use Rattle.acq_cli.specs.Places.{place_of, way_of}
+use Rattle.query_gen.proofs.Marking.{no_marks_hold}
+use Rattle.acq_cli.proofs.Standings.{carried, reached, few_answers}
 use Rattle.acq_cli.proofs.Turning.{steps_on, steps_end, steps_none}
 use Rattle.acq_cli.proofs.driving.drive.Goals as goal
 
@@ -15,10 +21,13 @@ loop-turn-init g c =
     let a : Place = place_of (standing_on l (g.P.Keep.record_of c.args.keep.now)) (g.S.Source.left c.args.source.now) (g.K.Sink.written c.args.sink.now) in
     record {
       sound = c.requires.sound;
-      plan = c.requires.plan;
+      settled = c.requires.settled;
+      screen = c.requires.screen;
+      remembers = λ state at. no_marks_hold l (network_in state) c.args.budget c.args.screen.now c.requires.unmarked;
+      plan = refl;
       lang = refl;
       turn = refl;
-      steps = steps_none (g.T.Teacher.turn c.args.teacher.now) l a;
+      steps = steps_none (g.T.Teacher.turn c.args.teacher.now) l (way_of (g.P.Keep.plan c.args.keep.now) c.args.budget) a;
       later = omega arith;
       later_sink = omega arith;
       more = omega arith;
@@ -27,40 +36,57 @@ loop-turn-init g c =
 pub returns-in-Some-clause-ends : goal.returns-in-Some-clause-ends
 returns-in-Some-clause-ends g c =
     let l : Language = g.P.Keep.lang c.args.keep.now in
+    let p : Plan = g.P.Keep.plan c.args.keep.now in
     let turns : Turns = g.T.Teacher.turn c.args.teacher.now in
     let a : Place = place_of (standing_on l (g.P.Keep.record_of c.args.keep.now)) (g.S.Source.left c.args.source.now) (g.K.Sink.written c.args.sink.now) in
     let b : Language → Place = λ m. place_of (standing_on m (g.P.Keep.record_of c.loop-turn.keep)) (g.S.Source.left c.loop-turn.source) (g.K.Sink.written c.loop-turn.sink) in
     let d : Language → Place = λ m. place_of (standing_on m (g.P.Keep.record_of c.take_turn.new.keep)) (g.S.Source.left c.take_turn.new.source) (g.K.Sink.written c.take_turn.new.sink) in
-    let Turned : Turns → Type 0 = λ t. Drives t (g.P.Keep.lang c.loop-turn.keep) (b (g.P.Keep.lang c.loop-turn.keep)) (d (g.P.Keep.lang c.loop-turn.keep)) c.in-Some.drove in
-    let Spoken : Language → Type 0 = λ m. Drives turns m (b m) (d m) c.in-Some.drove in
-    let Stepped : Language → Type 0 = λ m. StepsTo turns l a (b m) in
-    steps_end turns l a (b l) (d l) c.in-Some.drove (subst Stepped c.loop-turn.invariant.lang c.loop-turn.invariant.steps)
-    (subst Spoken c.loop-turn.invariant.lang (subst Turned c.loop-turn.invariant.turn c.in-Some.ensures.ends))
+    let old : Language = g.P.Keep.lang c.loop-turn.keep in
+    let Turned : Turns → Type 0 = λ t. Drives t old (way_of (g.P.Keep.plan c.loop-turn.keep) c.args.budget) (b old) (d old) c.in-Some.drove in
+    let Spoken : Language → Plan → Type 0 = λ m q. Drives turns m (way_of q c.args.budget) (b m) (d m) c.in-Some.drove in
+    let Stepped : Language → Type 0 = λ m. StepsTo turns l (way_of p c.args.budget) a (b m) in
+    steps_end turns l (way_of p c.args.budget) a (b l) (d l) c.in-Some.drove (subst Stepped c.loop-turn.invariant.lang c.loop-turn.invariant.steps)
+    (carried Spoken old l (g.P.Keep.plan c.loop-turn.keep) p c.loop-turn.invariant.lang c.loop-turn.invariant.plan (subst Turned c.loop-turn.invariant.turn c.in-Some.ensures.ends))
+
+pub returns-in-Some-clause-open : goal.returns-in-Some-clause-open
+returns-in-Some-clause-open g c m is =
+    let Open : Language → Plan → Type 0 = λ n q. TellsOpen n (way_of q c.args.budget) (standing_on n (g.P.Keep.record_of c.take_turn.new.keep)) c.take_turn.new.screen in
+    carried Open (g.P.Keep.lang c.loop-turn.keep) (g.P.Keep.lang c.args.keep.now) (g.P.Keep.plan c.loop-turn.keep) (g.P.Keep.plan c.args.keep.now)
+    c.loop-turn.invariant.lang c.loop-turn.invariant.plan (c.in-Some.ensures.open m (ap (λ (x : Drove). let o : Option Drove = Some x in o) is))
 
 pub loop-turn-preserved : goal.loop-turn-preserved
 loop-turn-preserved g c =
     let l : Language = g.P.Keep.lang c.args.keep.now in
+    let p : Plan = g.P.Keep.plan c.args.keep.now in
     let turns : Turns = g.T.Teacher.turn c.args.teacher.now in
     let a : Place = place_of (standing_on l (g.P.Keep.record_of c.args.keep.now)) (g.S.Source.left c.args.source.now) (g.K.Sink.written c.args.sink.now) in
     let b : Language → Place = λ m. place_of (standing_on m (g.P.Keep.record_of c.loop-turn.keep)) (g.S.Source.left c.loop-turn.source) (g.K.Sink.written c.loop-turn.sink) in
     let d : Language → Place = λ m. place_of (standing_on m (g.P.Keep.record_of c.take_turn.new.keep)) (g.S.Source.left c.take_turn.new.source) (g.K.Sink.written c.take_turn.new.sink) in
-    let Turned : Turns → Type 0 = λ t. StepsTo t (g.P.Keep.lang c.loop-turn.keep) (b (g.P.Keep.lang c.loop-turn.keep)) (d (g.P.Keep.lang c.loop-turn.keep)) in
-    let Spoken : Language → Type 0 = λ m. StepsTo turns m (b m) (d m) in
-    let Stepped : Language → Type 0 = λ m. StepsTo turns l a (b m) in
-    let Ended : Language → Type 0 = λ m. StepsTo turns l a (d m) in
     let old : Language = g.P.Keep.lang c.loop-turn.keep in
     let new : Language = g.P.Keep.lang c.take_turn.new.keep in
+    let before : Plan = g.P.Keep.plan c.loop-turn.keep in
+    let after : Plan = g.P.Keep.plan c.take_turn.new.keep in
+    let Turned : Turns → Type 0 = λ t. StepsTo t old (way_of before c.args.budget) (b old) (d old) in
+    let Spoken : Language → Plan → Type 0 = λ m q. StepsTo turns m (way_of q c.args.budget) (b m) (d m) in
+    let Stepped : Language → Type 0 = λ m. StepsTo turns l (way_of p c.args.budget) a (b m) in
+    let Ended : Language → Type 0 = λ m. StepsTo turns l (way_of p c.args.budget) a (d m) in
+    let Settled : Language → Plan → Type 0 = λ m q. IsSettled m q (standing_on m (g.P.Keep.record_of c.take_turn.new.keep)) (g.P.Keep.question c.take_turn.new.keep) in
+    let Remembered : Language → Plan → Type 0 = λ m q. Remembers m (way_of q c.args.budget) (standing_on m (g.P.Keep.record_of c.take_turn.new.keep)) c.take_turn.new.screen in
+    let Made : Language → Type 0 = λ m. IsMadeFor m c.take_turn.new.screen in
     let still : l ≡ new = sym (c.take_turn.ensures.lang ∙ c.loop-turn.invariant.lang) in
     let one : length (standing_on old (g.P.Keep.record_of c.take_turn.new.keep)) ≡ length (standing_on old (g.P.Keep.record_of c.loop-turn.keep)) + 1 = c.take_turn.ensures.more c.in_default.is in
     let same : length (standing_on new (g.P.Keep.record_of c.take_turn.new.keep)) ≡ length (standing_on old (g.P.Keep.record_of c.take_turn.new.keep)) =
     ap (λ m. length (standing_on m (g.P.Keep.record_of c.take_turn.new.keep))) c.take_turn.ensures.lang in
     record {
       sound = c.take_turn.ensures.sound;
+      settled = carried Settled old new before after (sym c.take_turn.ensures.lang) (sym c.take_turn.ensures.plan) (c.take_turn.ensures.settled c.in_default.is);
+      screen = subst Made (sym c.take_turn.ensures.lang) c.take_turn.ensures.screen;
+      remembers = carried Remembered old new before after (sym c.take_turn.ensures.lang) (sym c.take_turn.ensures.plan) (c.take_turn.ensures.remembers c.in_default.is);
       plan = c.take_turn.ensures.plan ∙ c.loop-turn.invariant.plan;
       lang = c.take_turn.ensures.lang ∙ c.loop-turn.invariant.lang;
       turn = c.take_turn.ensures.turn ∙ c.loop-turn.invariant.turn;
-      steps = subst Ended still (steps_on turns l a (b l) (d l) (subst Stepped c.loop-turn.invariant.lang c.loop-turn.invariant.steps)
-          (subst Spoken c.loop-turn.invariant.lang (subst Turned c.loop-turn.invariant.turn (c.take_turn.ensures.again c.in_default.is))));
+      steps = subst Ended still (steps_on turns l (way_of p c.args.budget) a (b l) (d l) (subst Stepped c.loop-turn.invariant.lang c.loop-turn.invariant.steps)
+          (carried Spoken old l before p c.loop-turn.invariant.lang c.loop-turn.invariant.plan (subst Turned c.loop-turn.invariant.turn (c.take_turn.ensures.again c.in_default.is))));
       later = omega (arith, c.take_turn.ensures.later, c.loop-turn.invariant.later);
       later_sink = omega (arith, c.take_turn.ensures.later_sink, c.loop-turn.invariant.later_sink);
       more = omega (arith, one, same, c.loop-turn.invariant.more);
@@ -69,6 +95,6 @@ loop-turn-preserved g c =
 pub unreachable-requires : goal.unreachable-requires
 unreachable-requires g c =
     let t : List Answer = standing_on (g.P.Keep.lang c.loop-turn.keep) (g.P.Keep.record_of c.loop-turn.keep) in
-    let few = few_answers _ t (subst IsLanguage c.lang-lang.ensures.is c.lang-lang.ensures.lawful)
-    (reached c.session-session.result.now t (c.session-session.ensures.plan ∙ c.loop-turn.invariant.plan) c.session-session.ensures.stands) in
+    let few = few_answers _ _ t (subst IsLanguage c.lang-lang.ensures.is c.lang-lang.ensures.lawful)
+    (reached c.session-session.result.now t c.session-session.ensures.stands) in
     omega (arith, few, c.loop-turn.invariant.more, c.loop-turn-test.false)

@@ -1,8 +1,9 @@
 use Rattle.std.proofs.Common.{◌≡◌, ◌≤◌, length}
-use Rattle.assign.specs.declared.events.Plan.TheVariants.{Scopes}
 use Rattle.language.specs.Answers.{standing_on}
-use Rattle.acq_cli.specs.Driven.{StepsTo}
-use Rattle.acq_cli.specs.Places.{place_of}
+use Rattle.query_gen.specs.Marks.{IsMadeFor}
+use Rattle.session_core.specs.Settled.{IsSettled}
+use Rattle.acq_cli.specs.Driven.{Remembers, StepsTo}
+use Rattle.acq_cli.specs.Places.{place_of, way_of}
 use Rattle.acq_cli.proofs.driving.drive.Given as goal
 
 abbrev pub invariant-loop-turn : goal.invariant-loop-turn
@@ -10,10 +11,13 @@ invariant-loop-turn g l =
     let left = g.S.Source.left in let written = g.K.Sink.written in let entries = g.P.Keep.record_of in
     record {
       sound : g.P.Keep.sound l.keep;
-      plan : g.P.Keep.plan l.keep ≡ Scopes;
+      settled : IsSettled (g.P.Keep.lang l.keep) (g.P.Keep.plan l.keep) (standing_on (g.P.Keep.lang l.keep) (entries l.keep)) (g.P.Keep.question l.keep);
+      screen : IsMadeFor (g.P.Keep.lang l.keep) l.screen;
+      remembers : Remembers (g.P.Keep.lang l.keep) (way_of (g.P.Keep.plan l.keep) l.fn.budget) (standing_on (g.P.Keep.lang l.keep) (entries l.keep)) l.screen;
+      plan : g.P.Keep.plan l.keep ≡ g.P.Keep.plan l.initial.keep;
       lang : g.P.Keep.lang l.keep ≡ g.P.Keep.lang l.initial.keep;
       turn : g.T.Teacher.turn l.teacher ≡ g.T.Teacher.turn l.initial.teacher;
-      steps : StepsTo (g.T.Teacher.turn l.initial.teacher) (g.P.Keep.lang l.initial.keep)
+      steps : StepsTo (g.T.Teacher.turn l.initial.teacher) (g.P.Keep.lang l.initial.keep) (way_of (g.P.Keep.plan l.initial.keep) l.fn.budget)
           (place_of (standing_on (g.P.Keep.lang l.initial.keep) (entries l.initial.keep)) (left l.initial.source) (written l.initial.sink))
           (place_of (standing_on (g.P.Keep.lang l.keep) (entries l.keep)) (left l.source) (written l.sink));
       later : g.S.Source.faults l.initial.source ≤ g.S.Source.faults l.source;

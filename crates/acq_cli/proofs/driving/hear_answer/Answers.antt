@@ -1,10 +1,11 @@
-use Rattle.std.proofs.Common.{◌+◌, ℕ, List, true, false, length, ap, refl, arith, Option}
+use Rattle.std.proofs.Common.{◌+◌, ℕ, List, length, true, false, ap, refl, arith, Option}
 use Rattle.assign.specs.Events.{Answer}
+use Rattle.assign.specs.declared.events.Plan.{Plan}
 use Rattle.language.specs.Language.{Language}
 use Rattle.language.specs.Answers.{standing_on}
 use Rattle.target_oracle.specs.Turns.{Turns, Said, Stopped, Ended, Overlong, Unread}
 use Rattle.acq_cli.specs.Run.{Suspended, LineTooLong, Unreadable}
-use Rattle.acq_cli.specs.Places.{place_of}
+use Rattle.acq_cli.specs.Places.{place_of, way_of}
 use Rattle.acq_cli.proofs.Standings.{AtTurn, at_turn, next_fits, run_laws}
 use Rattle.acq_cli.proofs.Turning.{told_as, front_as, ran_closed, cut_turn}
 use Rattle.acq_cli.proofs.Answered.{goes_on, one_more, ends}
@@ -13,31 +14,34 @@ use Rattle.acq_cli.proofs.driving.hear_answer.Goals as goal
 pub overflow_add-count : goal.overflow_add-count
 overflow_add-count g c =
     let l : Language = g.P.Keep.lang c.args.keep.now in
+    let plan : Plan = g.P.Keep.plan c.args.keep.now in
     let t : List Answer = standing_on l (g.P.Keep.record_of c.args.keep.now) in
-    let at : AtTurn l t c.answers-count.result c.lang.result.now =
-    at_turn c.session-session.result.now l c.lang.result.now (g.P.Keep.plan c.args.keep.now) t c.answers-count.result
-    c.session-session.ensures.stands c.session-session.ensures.lang c.session-session.ensures.plan c.requires.plan c.answers-count.ensures c.lang.ensures.is c.lang.ensures.lawful in
-    let fits = next_fits l c.lang.result.now t c.answers-count.result at in omega arith
+    let at : AtTurn l plan t c.answers-count.result c.lang.result.now =
+    at_turn c.session-session.result.now l c.lang.result.now plan t c.answers-count.result
+    c.session-session.ensures.stands c.session-session.ensures.lang c.session-session.ensures.plan c.answers-count.ensures c.lang.ensures.is c.lang.ensures.lawful in
+    let fits = next_fits l plan c.lang.result.now t c.answers-count.result at in omega arith
 
 pub returns-in-Yes-clause-again : goal.returns-in-Yes-clause-again
-returns-in-Yes-clause-again g c =
+returns-in-Yes-clause-again g c budget due =
     let l : Language = g.P.Keep.lang c.args.keep.now in
+    let plan : Plan = g.P.Keep.plan c.args.keep.now in
     let t : List Answer = standing_on l (g.P.Keep.record_of c.args.keep.now) in
-    let at : AtTurn l t c.answers-count.result c.lang.result.now =
-    at_turn c.session-session.result.now l c.lang.result.now (g.P.Keep.plan c.args.keep.now) t c.answers-count.result
-    c.session-session.ensures.stands c.session-session.ensures.lang c.session-session.ensures.plan c.requires.plan c.answers-count.ensures c.lang.ensures.is c.lang.ensures.lawful in
+    let at : AtTurn l plan t c.answers-count.result c.lang.result.now =
+    at_turn c.session-session.result.now l c.lang.result.now plan t c.answers-count.result
+    c.session-session.ensures.stands c.session-session.ensures.lang c.session-session.ensures.plan c.answers-count.ensures c.lang.ensures.is c.lang.ensures.lawful in
     let turns : Turns = g.T.Teacher.turn c.args.teacher.now in
     let left : Option (List ℕ) = g.S.Source.left c.args.source.now in
     let written : Option (List ℕ) = g.K.Sink.written c.args.sink.now in
     let left' : Option (List ℕ) = g.S.Source.left c.told.new.source in
     let written' : Option (List ℕ) = g.K.Sink.written c.told.new.sink in
     let after : List Answer = standing_on l (g.P.Keep.record_of c.keep_answer.new.keep) in
-    goes_on turns l t after c.args.question.now true (g.P.Keep.question c.args.keep.now) left written left' written' c.keep_answer.result c.requires.due c.requires.put c.keep_answer.ensures.kept
+    goes_on turns l (way_of plan budget) t after c.args.question.now true (g.P.Keep.question c.args.keep.now) left written left' written' c.keep_answer.result due c.requires.put c.keep_answer.ensures.kept
     (told_as turns c.lang.result.now l (c.answers-count.result + 1) (length t + 1) c.args.question.now (place_of t left written) (place_of t left' written') (Said true) at.language (ap (λ n. n + 1) at.number) c.in-Yes.ensures.tells)
 
 pub returns-in-Yes-clause-more : goal.returns-in-Yes-clause-more
 returns-in-Yes-clause-more g c =
     let l : Language = g.P.Keep.lang c.args.keep.now in
+    let plan : Plan = g.P.Keep.plan c.args.keep.now in
     let t : List Answer = standing_on l (g.P.Keep.record_of c.args.keep.now) in
     let turns : Turns = g.T.Teacher.turn c.args.teacher.now in
     let left : Option (List ℕ) = g.S.Source.left c.args.source.now in
@@ -45,43 +49,46 @@ returns-in-Yes-clause-more g c =
     let left' : Option (List ℕ) = g.S.Source.left c.told.new.source in
     let written' : Option (List ℕ) = g.K.Sink.written c.told.new.sink in
     let after : List Answer = standing_on l (g.P.Keep.record_of c.keep_answer.new.keep) in
-    one_more turns l t after c.args.question.now true (g.P.Keep.question c.args.keep.now) left written left' written' c.keep_answer.result c.requires.put c.keep_answer.ensures.kept
+    one_more turns l (way_of plan 1) t after c.args.question.now true (g.P.Keep.question c.args.keep.now) left written left' written' c.keep_answer.result c.requires.put c.keep_answer.ensures.kept
 
 pub returns-in-Yes-clause-ends : goal.returns-in-Yes-clause-ends
-returns-in-Yes-clause-ends g c =
+returns-in-Yes-clause-ends g c budget due =
     let l : Language = g.P.Keep.lang c.args.keep.now in
+    let plan : Plan = g.P.Keep.plan c.args.keep.now in
     let t : List Answer = standing_on l (g.P.Keep.record_of c.args.keep.now) in
-    let at : AtTurn l t c.answers-count.result c.lang.result.now =
-    at_turn c.session-session.result.now l c.lang.result.now (g.P.Keep.plan c.args.keep.now) t c.answers-count.result
-    c.session-session.ensures.stands c.session-session.ensures.lang c.session-session.ensures.plan c.requires.plan c.answers-count.ensures c.lang.ensures.is c.lang.ensures.lawful in
+    let at : AtTurn l plan t c.answers-count.result c.lang.result.now =
+    at_turn c.session-session.result.now l c.lang.result.now plan t c.answers-count.result
+    c.session-session.ensures.stands c.session-session.ensures.lang c.session-session.ensures.plan c.answers-count.ensures c.lang.ensures.is c.lang.ensures.lawful in
     let turns : Turns = g.T.Teacher.turn c.args.teacher.now in
     let left : Option (List ℕ) = g.S.Source.left c.args.source.now in
     let written : Option (List ℕ) = g.K.Sink.written c.args.sink.now in
     let left' : Option (List ℕ) = g.S.Source.left c.told.new.source in
     let written' : Option (List ℕ) = g.K.Sink.written c.told.new.sink in
     let after : List Answer = standing_on l (g.P.Keep.record_of c.keep_answer.new.keep) in
-    ends turns l t after c.args.question.now true (g.P.Keep.question c.args.keep.now) left written left' written' c.keep_answer.result at.lawful at.reached c.requires.due c.keep_answer.ensures.kept
+    ends turns l (way_of plan budget) t after c.args.question.now true (g.P.Keep.question c.args.keep.now) left written left' written' c.keep_answer.result at.lawful at.reached due c.keep_answer.ensures.kept
     (told_as turns c.lang.result.now l (c.answers-count.result + 1) (length t + 1) c.args.question.now (place_of t left written) (place_of t left' written') (Said true) at.language (ap (λ n. n + 1) at.number) c.in-Yes.ensures.tells)
 
 pub returns-in-No-clause-again : goal.returns-in-No-clause-again
-returns-in-No-clause-again g c =
+returns-in-No-clause-again g c budget due =
     let l : Language = g.P.Keep.lang c.args.keep.now in
+    let plan : Plan = g.P.Keep.plan c.args.keep.now in
     let t : List Answer = standing_on l (g.P.Keep.record_of c.args.keep.now) in
-    let at : AtTurn l t c.answers-count.result c.lang.result.now =
-    at_turn c.session-session.result.now l c.lang.result.now (g.P.Keep.plan c.args.keep.now) t c.answers-count.result
-    c.session-session.ensures.stands c.session-session.ensures.lang c.session-session.ensures.plan c.requires.plan c.answers-count.ensures c.lang.ensures.is c.lang.ensures.lawful in
+    let at : AtTurn l plan t c.answers-count.result c.lang.result.now =
+    at_turn c.session-session.result.now l c.lang.result.now plan t c.answers-count.result
+    c.session-session.ensures.stands c.session-session.ensures.lang c.session-session.ensures.plan c.answers-count.ensures c.lang.ensures.is c.lang.ensures.lawful in
     let turns : Turns = g.T.Teacher.turn c.args.teacher.now in
     let left : Option (List ℕ) = g.S.Source.left c.args.source.now in
     let written : Option (List ℕ) = g.K.Sink.written c.args.sink.now in
     let left' : Option (List ℕ) = g.S.Source.left c.told.new.source in
     let written' : Option (List ℕ) = g.K.Sink.written c.told.new.sink in
     let after : List Answer = standing_on l (g.P.Keep.record_of c.keep_answer-in-No.new.keep) in
-    goes_on turns l t after c.args.question.now false (g.P.Keep.question c.args.keep.now) left written left' written' c.keep_answer-in-No.result c.requires.due c.requires.put c.keep_answer-in-No.ensures.kept
+    goes_on turns l (way_of plan budget) t after c.args.question.now false (g.P.Keep.question c.args.keep.now) left written left' written' c.keep_answer-in-No.result due c.requires.put c.keep_answer-in-No.ensures.kept
     (told_as turns c.lang.result.now l (c.answers-count.result + 1) (length t + 1) c.args.question.now (place_of t left written) (place_of t left' written') (Said false) at.language (ap (λ n. n + 1) at.number) c.in-No.ensures.tells)
 
 pub returns-in-No-clause-more : goal.returns-in-No-clause-more
 returns-in-No-clause-more g c =
     let l : Language = g.P.Keep.lang c.args.keep.now in
+    let plan : Plan = g.P.Keep.plan c.args.keep.now in
     let t : List Answer = standing_on l (g.P.Keep.record_of c.args.keep.now) in
     let turns : Turns = g.T.Teacher.turn c.args.teacher.now in
     let left : Option (List ℕ) = g.S.Source.left c.args.source.now in
@@ -89,118 +96,126 @@ returns-in-No-clause-more g c =
     let left' : Option (List ℕ) = g.S.Source.left c.told.new.source in
     let written' : Option (List ℕ) = g.K.Sink.written c.told.new.sink in
     let after : List Answer = standing_on l (g.P.Keep.record_of c.keep_answer-in-No.new.keep) in
-    one_more turns l t after c.args.question.now false (g.P.Keep.question c.args.keep.now) left written left' written' c.keep_answer-in-No.result c.requires.put c.keep_answer-in-No.ensures.kept
+    one_more turns l (way_of plan 1) t after c.args.question.now false (g.P.Keep.question c.args.keep.now) left written left' written' c.keep_answer-in-No.result c.requires.put c.keep_answer-in-No.ensures.kept
 
 pub returns-in-No-clause-ends : goal.returns-in-No-clause-ends
-returns-in-No-clause-ends g c =
+returns-in-No-clause-ends g c budget due =
     let l : Language = g.P.Keep.lang c.args.keep.now in
+    let plan : Plan = g.P.Keep.plan c.args.keep.now in
     let t : List Answer = standing_on l (g.P.Keep.record_of c.args.keep.now) in
-    let at : AtTurn l t c.answers-count.result c.lang.result.now =
-    at_turn c.session-session.result.now l c.lang.result.now (g.P.Keep.plan c.args.keep.now) t c.answers-count.result
-    c.session-session.ensures.stands c.session-session.ensures.lang c.session-session.ensures.plan c.requires.plan c.answers-count.ensures c.lang.ensures.is c.lang.ensures.lawful in
+    let at : AtTurn l plan t c.answers-count.result c.lang.result.now =
+    at_turn c.session-session.result.now l c.lang.result.now plan t c.answers-count.result
+    c.session-session.ensures.stands c.session-session.ensures.lang c.session-session.ensures.plan c.answers-count.ensures c.lang.ensures.is c.lang.ensures.lawful in
     let turns : Turns = g.T.Teacher.turn c.args.teacher.now in
     let left : Option (List ℕ) = g.S.Source.left c.args.source.now in
     let written : Option (List ℕ) = g.K.Sink.written c.args.sink.now in
     let left' : Option (List ℕ) = g.S.Source.left c.told.new.source in
     let written' : Option (List ℕ) = g.K.Sink.written c.told.new.sink in
     let after : List Answer = standing_on l (g.P.Keep.record_of c.keep_answer-in-No.new.keep) in
-    ends turns l t after c.args.question.now false (g.P.Keep.question c.args.keep.now) left written left' written' c.keep_answer-in-No.result at.lawful at.reached c.requires.due c.keep_answer-in-No.ensures.kept
+    ends turns l (way_of plan budget) t after c.args.question.now false (g.P.Keep.question c.args.keep.now) left written left' written' c.keep_answer-in-No.result at.lawful at.reached due c.keep_answer-in-No.ensures.kept
     (told_as turns c.lang.result.now l (c.answers-count.result + 1) (length t + 1) c.args.question.now (place_of t left written) (place_of t left' written') (Said false) at.language (ap (λ n. n + 1) at.number) c.in-No.ensures.tells)
 
 pub returns-in-Stop-clause-ends : goal.returns-in-Stop-clause-ends
-returns-in-Stop-clause-ends g c =
+returns-in-Stop-clause-ends g c budget due =
     let l : Language = g.P.Keep.lang c.args.keep.now in
+    let plan : Plan = g.P.Keep.plan c.args.keep.now in
     let t : List Answer = standing_on l (g.P.Keep.record_of c.args.keep.now) in
-    let at : AtTurn l t c.answers-count.result c.lang.result.now =
-    at_turn c.session-session.result.now l c.lang.result.now (g.P.Keep.plan c.args.keep.now) t c.answers-count.result
-    c.session-session.ensures.stands c.session-session.ensures.lang c.session-session.ensures.plan c.requires.plan c.answers-count.ensures c.lang.ensures.is c.lang.ensures.lawful in
+    let at : AtTurn l plan t c.answers-count.result c.lang.result.now =
+    at_turn c.session-session.result.now l c.lang.result.now plan t c.answers-count.result
+    c.session-session.ensures.stands c.session-session.ensures.lang c.session-session.ensures.plan c.answers-count.ensures c.lang.ensures.is c.lang.ensures.lawful in
     let turns : Turns = g.T.Teacher.turn c.args.teacher.now in
     let left : Option (List ℕ) = g.S.Source.left c.args.source.now in
     let written : Option (List ℕ) = g.K.Sink.written c.args.sink.now in
     let left' : Option (List ℕ) = g.S.Source.left c.told.new.source in
     let written' : Option (List ℕ) = g.K.Sink.written c.told.new.sink in
-    (at.number, ran_closed turns l c.args.question.now Stopped Suspended (place_of t left written) (place_of t left' written') c.requires.due.puts refl (λ again rest. refl) (told_as turns c.lang.result.now l (c.answers-count.result + 1) (length t + 1) c.args.question.now (place_of t left written) (place_of t left' written') (Stopped) at.language (ap (λ n. n + 1) at.number) c.in-Stop.ensures.tells))
+    (at.number, ran_closed turns l (way_of plan budget) c.args.question.now Stopped Suspended (place_of t left written) (place_of t left' written') due.puts refl (λ again rest. refl) (told_as turns c.lang.result.now l (c.answers-count.result + 1) (length t + 1) c.args.question.now (place_of t left written) (place_of t left' written') (Stopped) at.language (ap (λ n. n + 1) at.number) c.in-Stop.ensures.tells))
 
 pub returns-in-End-clause-ends : goal.returns-in-End-clause-ends
-returns-in-End-clause-ends g c =
+returns-in-End-clause-ends g c budget due =
     let l : Language = g.P.Keep.lang c.args.keep.now in
+    let plan : Plan = g.P.Keep.plan c.args.keep.now in
     let t : List Answer = standing_on l (g.P.Keep.record_of c.args.keep.now) in
-    let at : AtTurn l t c.answers-count.result c.lang.result.now =
-    at_turn c.session-session.result.now l c.lang.result.now (g.P.Keep.plan c.args.keep.now) t c.answers-count.result
-    c.session-session.ensures.stands c.session-session.ensures.lang c.session-session.ensures.plan c.requires.plan c.answers-count.ensures c.lang.ensures.is c.lang.ensures.lawful in
+    let at : AtTurn l plan t c.answers-count.result c.lang.result.now =
+    at_turn c.session-session.result.now l c.lang.result.now plan t c.answers-count.result
+    c.session-session.ensures.stands c.session-session.ensures.lang c.session-session.ensures.plan c.answers-count.ensures c.lang.ensures.is c.lang.ensures.lawful in
     let turns : Turns = g.T.Teacher.turn c.args.teacher.now in
     let left : Option (List ℕ) = g.S.Source.left c.args.source.now in
     let written : Option (List ℕ) = g.K.Sink.written c.args.sink.now in
     let left' : Option (List ℕ) = g.S.Source.left c.told.new.source in
     let written' : Option (List ℕ) = g.K.Sink.written c.told.new.sink in
-    (at.number, ran_closed turns l c.args.question.now Ended Suspended (place_of t left written) (place_of t left' written') c.requires.due.puts refl (λ again rest. refl) (told_as turns c.lang.result.now l (c.answers-count.result + 1) (length t + 1) c.args.question.now (place_of t left written) (place_of t left' written') (Ended) at.language (ap (λ n. n + 1) at.number) c.in-End.ensures.tells))
+    (at.number, ran_closed turns l (way_of plan budget) c.args.question.now Ended Suspended (place_of t left written) (place_of t left' written') due.puts refl (λ again rest. refl) (told_as turns c.lang.result.now l (c.answers-count.result + 1) (length t + 1) c.args.question.now (place_of t left written) (place_of t left' written') (Ended) at.language (ap (λ n. n + 1) at.number) c.in-End.ensures.tells))
 
 pub returns-in-TooLong-clause-ends : goal.returns-in-TooLong-clause-ends
-returns-in-TooLong-clause-ends g c =
+returns-in-TooLong-clause-ends g c budget due =
     let l : Language = g.P.Keep.lang c.args.keep.now in
+    let plan : Plan = g.P.Keep.plan c.args.keep.now in
     let t : List Answer = standing_on l (g.P.Keep.record_of c.args.keep.now) in
-    let at : AtTurn l t c.answers-count.result c.lang.result.now =
-    at_turn c.session-session.result.now l c.lang.result.now (g.P.Keep.plan c.args.keep.now) t c.answers-count.result
-    c.session-session.ensures.stands c.session-session.ensures.lang c.session-session.ensures.plan c.requires.plan c.answers-count.ensures c.lang.ensures.is c.lang.ensures.lawful in
+    let at : AtTurn l plan t c.answers-count.result c.lang.result.now =
+    at_turn c.session-session.result.now l c.lang.result.now plan t c.answers-count.result
+    c.session-session.ensures.stands c.session-session.ensures.lang c.session-session.ensures.plan c.answers-count.ensures c.lang.ensures.is c.lang.ensures.lawful in
     let turns : Turns = g.T.Teacher.turn c.args.teacher.now in
     let left : Option (List ℕ) = g.S.Source.left c.args.source.now in
     let written : Option (List ℕ) = g.K.Sink.written c.args.sink.now in
     let left' : Option (List ℕ) = g.S.Source.left c.told.new.source in
     let written' : Option (List ℕ) = g.K.Sink.written c.told.new.sink in
-    ran_closed turns l c.args.question.now Overlong LineTooLong (place_of t left written) (place_of t left' written') c.requires.due.puts refl (λ again rest. refl) (told_as turns c.lang.result.now l (c.answers-count.result + 1) (length t + 1) c.args.question.now (place_of t left written) (place_of t left' written') (Overlong) at.language (ap (λ n. n + 1) at.number) c.in-TooLong.ensures.tells)
+    ran_closed turns l (way_of plan budget) c.args.question.now Overlong LineTooLong (place_of t left written) (place_of t left' written') due.puts refl (λ again rest. refl) (told_as turns c.lang.result.now l (c.answers-count.result + 1) (length t + 1) c.args.question.now (place_of t left written) (place_of t left' written') (Overlong) at.language (ap (λ n. n + 1) at.number) c.in-TooLong.ensures.tells)
 
 pub returns-in-Unreadable-clause-ends : goal.returns-in-Unreadable-clause-ends
-returns-in-Unreadable-clause-ends g c =
+returns-in-Unreadable-clause-ends g c budget due =
     let l : Language = g.P.Keep.lang c.args.keep.now in
+    let plan : Plan = g.P.Keep.plan c.args.keep.now in
     let t : List Answer = standing_on l (g.P.Keep.record_of c.args.keep.now) in
-    let at : AtTurn l t c.answers-count.result c.lang.result.now =
-    at_turn c.session-session.result.now l c.lang.result.now (g.P.Keep.plan c.args.keep.now) t c.answers-count.result
-    c.session-session.ensures.stands c.session-session.ensures.lang c.session-session.ensures.plan c.requires.plan c.answers-count.ensures c.lang.ensures.is c.lang.ensures.lawful in
+    let at : AtTurn l plan t c.answers-count.result c.lang.result.now =
+    at_turn c.session-session.result.now l c.lang.result.now plan t c.answers-count.result
+    c.session-session.ensures.stands c.session-session.ensures.lang c.session-session.ensures.plan c.answers-count.ensures c.lang.ensures.is c.lang.ensures.lawful in
     let turns : Turns = g.T.Teacher.turn c.args.teacher.now in
     let left : Option (List ℕ) = g.S.Source.left c.args.source.now in
     let written : Option (List ℕ) = g.K.Sink.written c.args.sink.now in
     let left' : Option (List ℕ) = g.S.Source.left c.told.new.source in
     let written' : Option (List ℕ) = g.K.Sink.written c.told.new.sink in
-    ran_closed turns l c.args.question.now Unread Unreadable (place_of t left written) (place_of t left' written') c.requires.due.puts refl (λ again rest. refl) (told_as turns c.lang.result.now l (c.answers-count.result + 1) (length t + 1) c.args.question.now (place_of t left written) (place_of t left' written') (Unread) at.language (ap (λ n. n + 1) at.number) c.in-Unreadable.ensures.tells)
+    ran_closed turns l (way_of plan budget) c.args.question.now Unread Unreadable (place_of t left written) (place_of t left' written') due.puts refl (λ again rest. refl) (told_as turns c.lang.result.now l (c.answers-count.result + 1) (length t + 1) c.args.question.now (place_of t left written) (place_of t left' written') (Unread) at.language (ap (λ n. n + 1) at.number) c.in-Unreadable.ensures.tells)
 
 pub returns-in-ReadFault-clause-ends : goal.returns-in-ReadFault-clause-ends
-returns-in-ReadFault-clause-ends g c =
+returns-in-ReadFault-clause-ends g c budget due =
     let l : Language = g.P.Keep.lang c.args.keep.now in
+    let plan : Plan = g.P.Keep.plan c.args.keep.now in
     let t : List Answer = standing_on l (g.P.Keep.record_of c.args.keep.now) in
-    let at : AtTurn l t c.answers-count.result c.lang.result.now =
-    at_turn c.session-session.result.now l c.lang.result.now (g.P.Keep.plan c.args.keep.now) t c.answers-count.result
-    c.session-session.ensures.stands c.session-session.ensures.lang c.session-session.ensures.plan c.requires.plan c.answers-count.ensures c.lang.ensures.is c.lang.ensures.lawful in
+    let at : AtTurn l plan t c.answers-count.result c.lang.result.now =
+    at_turn c.session-session.result.now l c.lang.result.now plan t c.answers-count.result
+    c.session-session.ensures.stands c.session-session.ensures.lang c.session-session.ensures.plan c.answers-count.ensures c.lang.ensures.is c.lang.ensures.lawful in
     let turns : Turns = g.T.Teacher.turn c.args.teacher.now in
     let left : Option (List ℕ) = g.S.Source.left c.args.source.now in
     let written : Option (List ℕ) = g.K.Sink.written c.args.sink.now in
     let left' : Option (List ℕ) = g.S.Source.left c.told.new.source in
     let written' : Option (List ℕ) = g.K.Sink.written c.told.new.sink in
-    cut_turn run_laws turns l at.lawful c.args.question.now (place_of t left written) (place_of t left' written') at.reached c.requires.due.puts refl (front_as turns c.lang.result.now l (c.answers-count.result + 1) (length t + 1) c.args.question.now (place_of t left written) (place_of t left' written') at.language (ap (λ n. n + 1) at.number) c.in-ReadFault.ensures.tells)
+    cut_turn run_laws turns l (way_of plan budget) at.lawful c.args.question.now (place_of t left written) (place_of t left' written') at.reached due.puts refl (front_as turns c.lang.result.now l (c.answers-count.result + 1) (length t + 1) c.args.question.now (place_of t left written) (place_of t left' written') at.language (ap (λ n. n + 1) at.number) c.in-ReadFault.ensures.tells)
 
 pub returns-in-WriteFault-clause-ends : goal.returns-in-WriteFault-clause-ends
-returns-in-WriteFault-clause-ends g c =
+returns-in-WriteFault-clause-ends g c budget due =
     let l : Language = g.P.Keep.lang c.args.keep.now in
+    let plan : Plan = g.P.Keep.plan c.args.keep.now in
     let t : List Answer = standing_on l (g.P.Keep.record_of c.args.keep.now) in
-    let at : AtTurn l t c.answers-count.result c.lang.result.now =
-    at_turn c.session-session.result.now l c.lang.result.now (g.P.Keep.plan c.args.keep.now) t c.answers-count.result
-    c.session-session.ensures.stands c.session-session.ensures.lang c.session-session.ensures.plan c.requires.plan c.answers-count.ensures c.lang.ensures.is c.lang.ensures.lawful in
+    let at : AtTurn l plan t c.answers-count.result c.lang.result.now =
+    at_turn c.session-session.result.now l c.lang.result.now plan t c.answers-count.result
+    c.session-session.ensures.stands c.session-session.ensures.lang c.session-session.ensures.plan c.answers-count.ensures c.lang.ensures.is c.lang.ensures.lawful in
     let turns : Turns = g.T.Teacher.turn c.args.teacher.now in
     let left : Option (List ℕ) = g.S.Source.left c.args.source.now in
     let written : Option (List ℕ) = g.K.Sink.written c.args.sink.now in
     let left' : Option (List ℕ) = g.S.Source.left c.told.new.source in
     let written' : Option (List ℕ) = g.K.Sink.written c.told.new.sink in
-    cut_turn run_laws turns l at.lawful c.args.question.now (place_of t left written) (place_of t left' written') at.reached c.requires.due.puts refl (front_as turns c.lang.result.now l (c.answers-count.result + 1) (length t + 1) c.args.question.now (place_of t left written) (place_of t left' written') at.language (ap (λ n. n + 1) at.number) c.in-WriteFault.ensures.tells)
+    cut_turn run_laws turns l (way_of plan budget) at.lawful c.args.question.now (place_of t left written) (place_of t left' written') at.reached due.puts refl (front_as turns c.lang.result.now l (c.answers-count.result + 1) (length t + 1) c.args.question.now (place_of t left written) (place_of t left' written') at.language (ap (λ n. n + 1) at.number) c.in-WriteFault.ensures.tells)
 
 pub returns-in-Memory-clause-ends : goal.returns-in-Memory-clause-ends
-returns-in-Memory-clause-ends g c =
+returns-in-Memory-clause-ends g c budget due =
     let l : Language = g.P.Keep.lang c.args.keep.now in
+    let plan : Plan = g.P.Keep.plan c.args.keep.now in
     let t : List Answer = standing_on l (g.P.Keep.record_of c.args.keep.now) in
-    let at : AtTurn l t c.answers-count.result c.lang.result.now =
-    at_turn c.session-session.result.now l c.lang.result.now (g.P.Keep.plan c.args.keep.now) t c.answers-count.result
-    c.session-session.ensures.stands c.session-session.ensures.lang c.session-session.ensures.plan c.requires.plan c.answers-count.ensures c.lang.ensures.is c.lang.ensures.lawful in
+    let at : AtTurn l plan t c.answers-count.result c.lang.result.now =
+    at_turn c.session-session.result.now l c.lang.result.now plan t c.answers-count.result
+    c.session-session.ensures.stands c.session-session.ensures.lang c.session-session.ensures.plan c.answers-count.ensures c.lang.ensures.is c.lang.ensures.lawful in
     let turns : Turns = g.T.Teacher.turn c.args.teacher.now in
     let left : Option (List ℕ) = g.S.Source.left c.args.source.now in
     let written : Option (List ℕ) = g.K.Sink.written c.args.sink.now in
     let left' : Option (List ℕ) = g.S.Source.left c.told.new.source in
     let written' : Option (List ℕ) = g.K.Sink.written c.told.new.sink in
-    cut_turn run_laws turns l at.lawful c.args.question.now (place_of t left written) (place_of t left' written') at.reached c.requires.due.puts refl (front_as turns c.lang.result.now l (c.answers-count.result + 1) (length t + 1) c.args.question.now (place_of t left written) (place_of t left' written') at.language (ap (λ n. n + 1) at.number) c.in-Memory.ensures.tells)
+    cut_turn run_laws turns l (way_of plan budget) at.lawful c.args.question.now (place_of t left written) (place_of t left' written') at.reached due.puts refl (front_as turns c.lang.result.now l (c.answers-count.result + 1) (length t + 1) c.args.question.now (place_of t left written) (place_of t left' written') at.language (ap (λ n. n + 1) at.number) c.in-Memory.ensures.tells)

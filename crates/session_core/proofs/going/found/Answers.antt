@@ -24,6 +24,7 @@ returns-in_default-start c =
     record {
       lang = c.chosen.ensures.lang;
       plan = c.chosen.ensures.plan;
+      none_new = c.chosen.ensures.none_new;
       stands = λ t led. c.chosen.ensures.stands c.in-Some.s (violated_choices k.lang k.kept.members c.args.example c.in-Some.s) c.start.ensures.settled t
           (led_as k t _ _ (found_choices k.lang t c.args.example k.network.list k.kept.members None c.args.set c.in-Some.s led.knows.kept (sym c.scope_of.ensures.is ∙ c.in-Some.is)
           (λ none. c.in_default-start.not-Nothing (c.start.ensures.nothing.1 none))) led);

@@ -30,3 +30,6 @@ returns-in-Ok-clause-sound c =
     let added : standing_on l c.push.new.self.items ≡ standing_on l events ++ (let a : Answer = record { question = c.question.result; yes = c.args.yes } in a) ∷ [] =
     ap (standing_on l) pushed ∙ cut_to-standing-push (variable_count l) events c.question.result c.args.yes c.question.ensures.fits.size in
     subst (Stands c.answer.result) (sym added ∙ ap (λ m. standing_on m c.push.new.self.items) (sym c.answer.ensures.lang)) after
+
+pub returns-in-Ok-clause-settled : goal.returns-in-Ok-clause-settled
+returns-in-Ok-clause-settled c = c.answer.ensures.settled _ (returns-in-Ok-clause-sound c)

@@ -1,0 +1,101 @@
+-- The open candidates.
+use Rattle.std.proofs.Common.{◌≡◌, ℕ, ◌+◌, ◌<◌, Bool, true, false, cond, ◌||◌, List, [], ◌∷◌, ◌++◌, length, map, get_or, refl, sym, ◌∙◌, ap, subst, inl, inr, ◌⊎◌, Option, Some, None}
+use Rattle.std.specs.Prelude.{◌≢◌, ◌==◌, ◌&&◌, IsTrue, All, Any}
+use Rattle.std.specs.List.{filter, flat_map, list_any}
+use Rattle.std.proofs.lemmas.Bool.{and_from, eq-eqb}
+use Rattle.std.proofs.lemmas.List.Elements.{All-filter, All-head, All-tail, filter_passes}
+use Rattle.std.proofs.lemmas.List.Folds.{list_any_at}
+use Rattle.assign.specs.Events.{Answer}
+use Rattle.language.specs.declared.candidates.Candidate.{Candidate}
+use Rattle.language.specs.Language.{Language, IsCandidate, IsImplied, candidates}
+use Rattle.language.specs.Answers.{kept}
+use Rattle.language.specs.Search.{plain_size}
+use Rattle.fd_solver.specs.declared.outcome.Outcome.{Outcome}
+use Rattle.fd_solver.specs.declared.outcome.Outcome.TheVariants.{Found, Absent, Spent}
+use Rattle.fd_solver.specs.Outcomes.{outcome_of_candidate}
+use Rattle.query_gen.specs.Questions.{is_among, is_spent}
+use Rattle.query_gen.specs.Marks.{Remembered, is_open}
+use Rattle.query_gen.specs.Laws.{IsUndecided}
+use Rattle.session_laws.specs.Session.{Idle, At, state_after}
+use Rattle.session_laws.proofs.Choices.{all_candidates}
+use Rattle.acq_cli.specs.declared.words.Request.{Request}
+use Rattle.acq_cli.specs.Driven.{IsLeftOpen, TellsOpen}
+use Rattle.acq_cli.specs.Program.{LeavesOpen, open_candidates}
+use Rattle.fd_solver.proofs.Outcomes.{spent_is_long}
+use Rattle.query_gen.proofs.Among.{picked_are_in_order}
+
+-- ---- lists
+
+filter_alike : {X : Type 0} (P : X → Type 0) (p q : X → Bool) (xs : List X) → All P xs → ((x : X) → P x → p x ≡ q x) → filter p xs ≡ filter q xs
+filter_alike P p q [] all same = refl
+filter_alike P p q (x ∷ xs) all same =
+    ap (λ b. cond b (x ∷ filter p xs) (filter p xs)) (same x (All-head P x xs all))
+    ∙ ap (λ rest. cond (q x) (x ∷ rest) rest) (filter_alike P p q xs (All-tail P x xs all) same)
+
+filter_both : {X : Type 0} (p q : X → Bool) (xs : List X) → filter (λ x. p x && q x) xs ≡ filter q (filter p xs)
+filter_both p q [] = refl
+filter_both p q (x ∷ xs) = go (p x) refl (filter_both p q xs)
+  where
+    go : (b : Bool) → p x ≡ b → filter (λ y. p y && q y) xs ≡ filter q (filter p xs) → filter (λ y. p y && q y) (x ∷ xs) ≡ filter q (filter p (x ∷ xs))
+    go true on rest =
+        ap (λ b. cond (b && q x) (x ∷ filter (λ y. p y && q y) xs) (filter (λ y. p y && q y) xs)) on
+        ∙ ap (λ ys. cond (q x) (x ∷ ys) ys) rest
+        ∙ ap (λ b. filter q (cond b (x ∷ filter p xs) (filter p xs))) (sym on)
+    go false off rest =
+        ap (λ b. cond (b && q x) (x ∷ filter (λ y. p y && q y) xs) (filter (λ y. p y && q y) xs)) off
+        ∙ rest
+        ∙ ap (λ b. filter q (cond b (x ∷ filter p xs) (filter p xs))) (sym off)
+
+filter_some : {X : Type 0} (p : X → Bool) (xs : List X) → list_any p xs ≡ true → filter p xs ≢ []
+filter_some p [] some = cc
+filter_some p (x ∷ xs) some = go (p x) refl (filter_some p xs)
+  where
+    go : (b : Bool) → p x ≡ b → (list_any p xs ≡ true → filter p xs ≢ []) → filter p (x ∷ xs) ≢ []
+    go true on rest none = cons_nil (ap (λ b. cond b (x ∷ filter p xs) (filter p xs)) (sym on) ∙ none)
+      where
+        cons_nil : x ∷ filter p xs ≡ [] → ⊥
+        cons_nil e = cc
+    go false off rest none = rest (ap (λ b. b || list_any p xs) (sym off) ∙ some) (ap (λ b. cond b (x ∷ filter p xs) (filter p xs)) (sym off) ∙ none)
+
+-- ---- what the screen tells
+
+pub opens_are : (l : Language) (way : Request) (t : List Answer) (network : List Candidate) (screen : Remembered) → state_after l way.plan t ≡ At (Idle network None) → TellsOpen l way t screen →
+    filter (is_open l screen) (candidates l) ≡ open_candidates l way t network
+opens_are l way t network screen idle tells =
+    let live : List Candidate = kept l t network in
+    let spent : Candidate → Bool = λ c. is_spent (outcome_of_candidate l network c way.budget) in
+    filter_alike (IsCandidate l) (is_open l screen) (λ c. is_among live c && spent c) (candidates l) (all_candidates l) (λ c is. tells network None idle c is)
+    ∙ filter_both (is_among live) spent (candidates l)
+    ∙ ap (filter spent) (picked_are_in_order l _)
+
+is_spent_true : (o : Outcome) → is_spent o ≡ true → o ≡ Spent
+is_spent_true (Found e) h = cc
+is_spent_true Absent h = cc
+is_spent_true Spent h = refl
+
+among_itself : (cs : List Candidate) → All (λ c. IsTrue (is_among cs c)) cs
+among_itself cs k d low =
+    list_any_at (λ e. (e.scope == (get_or cs k d).scope) && (e.rel == (get_or cs k d).rel)) cs k d low (and_from _ _ (eq-eqb (get_or cs k d).scope (get_or cs k d).scope refl) (eq-eqb (get_or cs k d).rel (get_or cs k d).rel refl))
+
+pub leaves_open : (l : Language) (way : Request) (t : List Answer) (m : ℕ) → m ≡ length t → (left : IsLeftOpen l way t) → LeavesOpen l way m t left.network
+leaves_open l way t m number left =
+    let network : List Candidate = left.network in
+    let live : List Candidate = kept l t network in
+    let spent : Candidate → Bool = λ c. is_spent (outcome_of_candidate l network c way.budget) in
+    record {
+      number = number;
+      idle = left.idle;
+      ends = left.ends;
+      plan = left.plan;
+      some = let any : Any (λ c. outcome_of_candidate l network c way.budget ≡ Spent) live = left.undecided.some in
+          filter_some spent live (list_any_at spent live any.0 any.1 any.2 (ap spent any.3 ∙ ap is_spent any.4));
+      each = λ k d low. (
+        All-filter spent (λ c. IsTrue (is_among live c)) live (among_itself live) k d low,
+        spent_is_long l network (get_or (filter spent live) k d) way.budget (is_spent_true _ (filter_passes spent live k d low)),
+      );
+      rest = λ k d low other. implied network (get_or live k d) (left.undecided.each k d low) other;
+    }
+  where
+    implied : (network : List Candidate) (c : Candidate) → ((outcome_of_candidate l network c way.budget ≡ Spent) × (way.budget < plain_size l network c)) ⊎ IsImplied l network c → (outcome_of_candidate l network c way.budget ≢ Spent) → IsImplied l network c
+    implied network c (inl long) other = absurd (other long.0)
+    implied network c (inr is) other = is

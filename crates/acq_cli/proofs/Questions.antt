@@ -1,0 +1,71 @@
+-- What the next question's search says of a session.
+use Rattle.std.proofs.Common.{◌≡◌, ℕ, Bool, true, false, List, [], ◌∷◌, ◌++◌, refl, sym, ◌∙◌, ap}
+use Rattle.std.specs.Prelude.{IsTrue, All, Any, ◌<◌, ◌&&◌, ◌==◌, nat_lt, length, Option, Some, None}
+use Rattle.std.specs.Option.{option_map_or, ForSome}
+use Rattle.std.specs.List.{list_any, list_all}
+use Rattle.std.proofs.lemmas.List.Elements.{All-filter, All-head, All-tail}
+use Rattle.std.proofs.lemmas.List.Folds.{list_any_at}
+use Rattle.std.proofs.lemmas.Bool.{and_from, eq-eqb}
+use Rattle.std.proofs.Common.{lt-ltb}
+use Rattle.assign.specs.Assignment.{Assignment, is_complete}
+use Rattle.assign.specs.Events.{Answer}
+use Rattle.assign.specs.declared.events.Plan.TheVariants.{Quacq, Multi}
+use Rattle.language.specs.declared.candidates.Candidate.{Candidate}
+use Rattle.language.specs.Language.{Language, IsLanguage, IsCandidate, IsQuestion, candidates, is_question, variable_count, accepts, violates}
+use Rattle.language.specs.Answers.{IsNetwork, kept}
+use Rattle.fd_solver.specs.Laws.{IsQuestionAgainst}
+use Rattle.fd_solver.proofs.Outcomes.{absent_is_implied, absent_stays, found_is_lawful}
+use Rattle.fd_solver.proofs.Outcomes as outcomes
+use Rattle.query_gen.specs.declared.query.Query.TheVariants.{Ask}
+use Rattle.query_gen.specs.Questions.{next_query}
+use Rattle.query_gen.specs.Laws.{AskedIsLawful, AllAreImplied, UndecidedIsSpent, MarksStay}
+use Rattle.query_gen.proofs.Told as told
+use Rattle.query_gen.proofs.Marking as marking
+use Rattle.session_laws.specs.Session.{State, At, is_lawful}
+use Rattle.session_laws.specs.Walk.{violates_some}
+use Rattle.session_laws.proofs.Choices.{all_candidates}
+
+-- a question that may be put in the plans that search
+pub record IsLawfulExample (l : Language) (live network : List Candidate) (q : Assignment) : Type 0 where
+  pub quacq : IsTrue (is_lawful l Quacq live network q)
+  pub multi : IsTrue (is_lawful l Multi live network q)
+  pub fits : IsQuestion l q
+
+pub same_state : (a b : State) → At a ≡ At b → a ≡ b
+same_state a b e = cc
+
+pub asked_is_lawful : AskedIsLawful
+asked_is_lawful = told.asked_is_lawful found_is_lawful
+
+pub all_are_implied : AllAreImplied
+all_are_implied = told.all_are_implied absent_is_implied
+
+pub undecided_is_spent : UndecidedIsSpent
+undecided_is_spent = told.undecided_is_spent absent_is_implied outcomes.spent_is_long
+
+pub marks_stay : MarksStay
+marks_stay = marking.marks_stay absent_stays
+
+pub kept_network : (l : Language) (t : List Answer) (network : List Candidate) → IsNetwork l (kept l t network)
+kept_network l t network = All-filter _ (IsCandidate l) (candidates l) (all_candidates l)
+
+values_fit : (d : ℕ) (e : Assignment) → All (λ o. ForSome o (λ x. x < d)) e → list_all (λ o. option_map_or (λ x. nat_lt x d) o true) e ≡ true
+values_fit d [] h = refl
+values_fit d (None ∷ e) h = values_fit d e (All-tail (λ o. ForSome o (λ x. x < d)) None e h)
+values_fit d (Some x ∷ e) h = and_from _ _ (lt-ltb x d (All-head (λ o. ForSome o (λ x. x < d)) (Some x) e h x refl)) (values_fit d e (All-tail (λ o. ForSome o (λ x. x < d)) (Some x) e h))
+
+question_there : (l : Language) (q : Assignment) → IsQuestion l q → is_question l q ≡ true
+question_there l q fits = and_from _ _ (eq-eqb (length q) (variable_count l) fits.size) (values_fit l.value_count q fits.values_fit)
+
+violated_there : (l : Language) (live network : List Candidate) (q : Assignment) → Any (λ c. IsQuestionAgainst l network c q) live → violates_some l live q ≡ true
+violated_there l live network q (k, c, low, is, against) =
+    list_any_at (λ d. violates l d q) live k c low (ap (λ d. violates l d q) is ∙ against.violates)
+
+pub asked_is_example : (l : Language) (budget : ℕ) (t : List Answer) (network : List Candidate) (q : Assignment) → IsLanguage l → next_query l network (kept l t network) budget ≡ Ask q → IsLawfulExample l (kept l t network) network q
+asked_is_example l budget t network q lawful h =
+    let live : List Candidate = kept l t network in
+    let any : Any (λ c. IsQuestionAgainst l network c q) live = asked_is_lawful l network live budget q lawful (kept_network l t network) h in
+    let against : IsQuestionAgainst l network any.1 q = any.4 in
+    let passes : (is_question l q && is_complete q && accepts l network q && violates_some l live q) ≡ true =
+    and_from _ _ (and_from _ _ (and_from _ _ (question_there l q against.question) against.complete) against.accepted) (violated_there l live network q any) in
+    record { quacq = passes; multi = passes; fits = against.question }
