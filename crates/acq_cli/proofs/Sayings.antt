@@ -73,7 +73,7 @@ module _ (session : Session) (l : Language) (plan : Plan) (budget : ℕ) (t : Li
               done.1.network,
               leaves_open l (way_of plan budget) t m done.0 done.1,
               subst (Adds written written')
-              (ap (λ x. undecided_text x (knowledge_of session).network.list (filter (is_open x screen) (candidates x)) m) lang
-              ∙ ap (λ n. undecided_text l n (filter (is_open l screen) (candidates l)) m) same ∙ ap (λ cs. undecided_text l done.1.network cs m) opens) adds,
+                  (ap (λ x. undecided_text x (knowledge_of session).network.list (filter (is_open x screen) (candidates x)) m) lang
+                  ∙ ap (λ n. undecided_text l n (filter (is_open l screen) (candidates l)) m) same ∙ ap (λ cs. undecided_text l done.1.network cs m) opens) adds,
             ),
           )

@@ -88,7 +88,7 @@ module _ (l begun now : Language) (p asked still : Plan) (budget : ℕ) (events 
     (drives : Drives line_turn begun (way_of asked budget) (place_of (standing_on begun events) left written) (place_of (standing_on begun later) left' middle) how)
     (opens : (m : ℕ) → how ≡ drove.Undecided m → TellsOpen begun (way_of asked budget) (standing_on begun later) screen)
     (says : (b : ℕ) → HasEnded now (way_of still b) (standing_on now later) how → ((m : ℕ) → how ≡ drove.Undecided m → TellsOpen now (way_of still b) (standing_on now later) screen) →
-        IfOk got (Says now (way_of still b) (standing_on now later) middle written' how)) where
+    IfOk got (Says now (way_of still b) (standing_on now later) middle written' how)) where
   abbrev Begun : Language → Plan → Type 0
   Begun x q = Drives line_turn x (way_of q budget) (place_of (standing_on x events) left written) (place_of (standing_on x later) left' middle) how
 

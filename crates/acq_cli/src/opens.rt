@@ -52,11 +52,7 @@ fn push_open_on(
 }
 
 /// The lines of the open candidates, in candidate order.
-pub(crate) fn open_lines(
-    alloc: Global,
-    lang: &Language,
-    screen: &Screen,
-) -> Result<String, Memory>
+pub(crate) fn open_lines(alloc: Global, lang: &Language, screen: &Screen) -> Result<String, Memory>
     requires made { IsMadeFor lang.now screen.now }
     ensures { IfOk result (λ text. string_bytes text ≡ flat_map (open_line lang.now) (filter (is_open lang.now screen.now) (candidates lang.now))) }
 {

@@ -164,7 +164,11 @@ pub fn plain_size(
     scope: (u8, u8),
     pairs: &Pairs,
 ) -> u32 {
-    let third = if n > 2 { 3u8.saturating_sub(scope.0.saturating_add(scope.1)) } else { 3 };
+    let third = if n > 2 {
+        3u8.saturating_sub(scope.0.saturating_add(scope.1))
+    } else {
+        3
+    };
     let mut size = 1u32;
     for x in 0..2u8 {
         let one = with(&NO_VALUES, scope.0, x);

@@ -8,6 +8,7 @@ use acq_cli::acquire;
 use acq_io::{PlainSink, PlainSource};
 use std::alloc::{AllocError, Global};
 use std::test::Fail;
+use std::thread::Threads;
 
 /// More answers than a session of these languages takes.
 const MOST_ANSWERS: usize = 60;
@@ -47,7 +48,11 @@ fn relation_text(alloc: Global, i: usize, pairs: &Pairs) -> Result<String, Alloc
 
 /// The vocabulary of these relations over n variables.
 fn vocabulary(alloc: Global, n: u8, given: &[Pairs]) -> Result<String, AllocError> {
-    let names = if n == 2 { "\"a\",\"b\"" } else { "\"a\",\"b\",\"c\"" };
+    let names = if n == 2 {
+        "\"a\",\"b\""
+    } else {
+        "\"a\",\"b\",\"c\""
+    };
     let mut text = format!(in alloc; "{{\"variables\":[{names}],\"domain\":[0,1],\"relations\":[")?;
     for (i, pairs) in given.iter().enumerate() {
         text.push_str(&relation_text(alloc, i, pairs)?)?;
@@ -95,7 +100,9 @@ impl Small {
     fn named(&self, name: &str) -> Pairs {
         let mut pairs = ALL_PAIRS;
         for part in name.split('&') {
-            let number = part.strip_prefix("r").and_then(|digits| digits.parse::<usize>().ok());
+            let number = part
+                .strip_prefix("r")
+                .and_then(|digits| digits.parse::<usize>().ok());
             if let Some(given) = number.and_then(|number| self.given.get(number)) {
                 pairs = meet(&pairs, given);
             }
@@ -121,14 +128,16 @@ impl Small {
 
     /// Whether no network agrees with the answers.
     fn none_agrees(&self, told: &[(Values, bool)]) -> bool {
-        !self.networks.iter().any(|network| self.agrees(network, told))
+        !self
+            .networks
+            .iter()
+            .any(|network| self.agrees(network, told))
     }
 
     /// Whether each solution of the network satisfies a candidate.
     fn is_implied(&self, network: &[Pairs], scope: (u8, u8), pairs: &Pairs) -> bool {
-        self.assignments
-            .iter()
-            .all(|e| !accepts(self.scopes(), network, e) || !violates(scope, pairs, e))
+        self.assignments.iter().all(|e| !accepts(self.scopes(), network, e)
+            || !violates(scope, pairs, e))
     }
 
     /// Whether the open candidates are as they should be.
@@ -137,9 +146,15 @@ impl Small {
         for (s, scope) in self.scopes().iter().enumerate() {
             for pairs in &self.relations {
                 let kept = run.learned.get(s) == Some(&None)
-                    && !run.told.iter().any(|(q, yes)| *yes && violates(*scope, pairs, q));
+                    && !run
+                        .told
+                        .iter()
+                        .any(|(q, yes)| *yes && violates(*scope, pairs, q));
                 let network = run.network();
-                let open = run.open.iter().any(|(at, other)| at == scope && other == pairs);
+                let open = run
+                    .open
+                    .iter()
+                    .any(|(at, other)| at == scope && other == pairs);
                 if open {
                     listed = listed.saturating_add(1);
                 }
@@ -257,8 +272,12 @@ fn read_run(alloc: Global, small: &Small, text: &str, path: &[bool]) -> Result<R
 }
 
 /// The program with the answers of the path.
-fn run(rt: &HostRuntime, small: &Small, path: &[bool]) -> Result<Run, Fail> {
-    let alloc = rt.alloc();
+fn run_of(
+    rt: &(impl Threads + Sync),
+    alloc: Global,
+    small: &Small,
+    path: &[bool],
+) -> Result<Run, Fail> {
     let mut input = String::from_str(alloc, small.text.as_str())?;
     for yes in path {
         input.push_str(if *yes { "yes\n" } else { "no\n" })?;
@@ -302,10 +321,15 @@ fn next_path(path: &mut Vec<bool>) -> Result<bool, AllocError> {
 type Counts = [u32; 3];
 
 /// Each list of answers.
-fn try_all(rt: &HostRuntime, small: &Small, counts: &mut Counts) -> Result<(), Fail> {
-    let mut path = Vec::new(rt.alloc());
+fn try_all(
+    rt: &(impl Threads + Sync),
+    alloc: Global,
+    small: &Small,
+    counts: &mut Counts,
+) -> Result<(), Fail> {
+    let mut path = Vec::new(alloc);
     for _ in 0..MOST_RUNS {
-        let run = run(rt, small, &path)?;
+        let run = run_of(rt, alloc, small, &path)?;
         match has_ended_well(small, &run) {
             None => path.push(false)?,
             Some(false) => return Err(Fail::from("the answers say otherwise")),
@@ -340,7 +364,7 @@ fn each_end_is_what_the_answers_say(rt: HostRuntime) -> Result<(), Fail> {
             // Of the vocabularies over three variables, those of at most two relations.
             if n == 2 || chosen.count_ones() <= 2 {
                 let small = Small::of(rt.alloc(), n, chosen, plan, budget)?;
-                try_all(&rt, &small, &mut counts)?;
+                try_all(&rt, rt.alloc(), &small, &mut counts)?;
             }
         }
         assert!(rt; counts[0] > 0 || budget == 1, "{n} {plan} {budget}");
