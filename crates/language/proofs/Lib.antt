@@ -18,3 +18,4 @@ pub mod Pascal
 pub mod Adding
 pub mod Lawful
 pub mod Listed
+pub mod Naming

@@ -37,7 +37,12 @@ fn add(
 }
 
 /// These scopes, of variables below n.
-fn part(rt: &impl Abort, alloc: Global, n: u8, scopes: &[&[u8]]) -> Result<ScopePart, Fail>
+pub(crate) fn part(
+    rt: &impl Abort,
+    alloc: Global,
+    n: u8,
+    scopes: &[&[u8]],
+) -> Result<ScopePart, Fail>
     ensures known { IfOk result (λ part. AreKnown n (listed_in part)) }
     ensures countable { IfOk result (λ part. AreCountable (listed_in part)) }
 {

@@ -1,0 +1,46 @@
+-- One more name among others.
+use Rattle.std.proofs.Common.{◌≡◌, ◌≢◌, ℕ, ◌&&◌, Bool, true, not, eqb, List, [], ◌∷◌, ◌++◌, map, get_or, refl, sym, ◌∙◌, ap, subst}
+use Rattle.std.specs.Prelude.{All, String, string_bytes}
+use Rattle.std.specs.declared.alloc.Global.{Global}
+use Rattle.std.specs.Cmp.Lexicographic.{pointwise, bytes_decides}
+use Rattle.std.proofs.lemmas.Bool.{both_ways}
+use Rattle.std.proofs.lemmas.List.{map_push}
+use Rattle.std.proofs.lemmas.List.Folds.{list_all-append}
+use Rattle.std.proofs.lemmas.List.Elements.{All-nil, All-cons, All-map}
+use Rattle.std.proofs.lemmas.List.Kept.{AllPairs-cons}
+use Rattle.rel_table.proofs.Pairwise.{no_pairs, pairs_join}
+use Rattle.language.specs.declared.parts.RelPart.{RelPart}
+use Rattle.language.specs.Language.{Given, AreNames, is_name}
+use Rattle.language.specs.Inside.{given_by}
+
+names_push : (names : List (List ℕ)) (name : List ℕ) → AreNames names → is_name name ≡ true → All (λ other. other ≢ name) names → AreNames (names ++ name ∷ [])
+names_push names name are is other = record {
+  formed = list_all-append is_name names (name ∷ []) ∙ (λ i. are.formed i && (is i && true));
+  apart = pairs_join (λ a b. a ≢ b) names (name ∷ []) are.apart (AllPairs-cons (λ a b. a ≢ b) name [] (All-nil (λ b. name ≢ b)) (no_pairs (λ a b. a ≢ b)))
+      (λ k d low. All-cons (λ b. get_or names k d ≢ b) name [] (other k d low) (All-nil (λ b. get_or names k d ≢ b)));
+}
+
+pub name_more : (names after : List (String Global)) (name : String Global) → after ≡ names ++ name ∷ [] → AreNames (map (λ (s : String Global). string_bytes s) names) → is_name (string_bytes name) ≡ true →
+    All (λ (s : String Global). string_bytes s ≢ string_bytes name) names → AreNames (map (λ (s : String Global). string_bytes s) after)
+name_more names after name pushed are is other =
+    subst AreNames (sym (ap (map (λ (s : String Global). string_bytes s)) pushed ∙ map_push (λ (s : String Global). string_bytes s) names name))
+    (names_push (map (λ (s : String Global). string_bytes s) names) (string_bytes name) are is (All-map (λ other. other ≢ string_bytes name) (λ (s : String Global). string_bytes s) names other))
+
+-- the names of relations
+abbrev pub names_in : List RelPart → List (List ℕ)
+names_in rels = map (λ (g : Given). g.name) (map given_by rels)
+
+pub relation_more : (rels after : List RelPart) (part : RelPart) → after ≡ rels ++ part ∷ [] → AreNames (names_in rels) → is_name (string_bytes part.name) ≡ true →
+    All (λ (other : RelPart). string_bytes other.name ≢ string_bytes part.name) rels → AreNames (names_in after)
+relation_more rels after part pushed are is other =
+    subst AreNames (sym (ap names_in pushed ∙ ap (map (λ (g : Given). g.name)) (map_push given_by rels part) ∙ map_push (λ (g : Given). g.name) (map given_by rels) (given_by part)))
+    (names_push (names_in rels) (string_bytes part.name) are is
+    (All-map (λ other. other ≢ string_bytes part.name) (λ (g : Given). g.name) (map given_by rels) (All-map (λ (g : Given). g.name ≢ string_bytes part.name) given_by rels other)))
+
+-- texts of two names that aren't equal
+pub apart_from : (ne : Bool) (a b name other : List ℕ) → ne ≡ not (pointwise eqb a b) → ne ≡ true → a ≡ name → b ≡ other → name ≢ other
+apart_from ne a b name other is on first second same =
+    both_ways (not (pointwise eqb a b)) (ap not ((bytes_decides a b).1 (first ∙ same ∙ sym second))) (sym is ∙ on)
+
+pub none_named : AreNames []
+none_named = record { formed = refl; apart = no_pairs (λ a b. a ≢ b) }
