@@ -168,6 +168,9 @@ fn answer_lines(rt: HostRuntime) -> Result<(), Fail> {
     Ok(())
 }
 
+/// The bytes of the vocabulary and its newline.
+const FIRST_LINE: u32 = 169;
+
 /// How many bytes of the lines after the vocabulary are read before the failing call, which write fails, what is printed, how
 /// many bytes are left, and the status. The lines are `x`, `yes` and `no`.
 static FAULTS: [(u32, u32, &str, usize, u8); 8] = [
@@ -186,10 +189,9 @@ fn each_call_fails_in_turn(rt: HostRuntime) -> Result<(), Fail> {
     let alloc = rt.alloc();
     let words = words_of(alloc, "")?;
     let vocabulary = vocabulary_of("two");
-    let first = (vocabulary.len() as u32).saturating_add(1);
     for (read, write, wanted, left, status) in &FAULTS {
         let input = format!(in alloc; "{vocabulary}\nx\nyes\nno\n")?;
-        let fails = vec![in alloc; first.saturating_add(*read)]?;
+        let fails = vec![in alloc; FIRST_LINE.saturating_add(*read)]?;
         let mut source = MemSource::new(input.into_bytes(), fails);
         let mut sink = MemSink::new(alloc, vec![in alloc; *write]?);
         let ending = acquire(&rt, alloc, &words, &mut source, &mut sink);
