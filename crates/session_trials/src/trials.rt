@@ -19,7 +19,7 @@ const MOST_ANSWERS: u16 = 2000;
 const TRIED: u8 = 4;
 
 /// How many languages there are.
-const LANGUAGES: u64 = 1000;
+const LANGUAGES: u64 = 20_000;
 
 /// A session's user and the fold of the answers.
 #[derive(Drop)]
