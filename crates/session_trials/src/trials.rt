@@ -353,7 +353,7 @@ fn as_the_plain_fold(rt: HostRuntime) -> Result<(), Fail> {
             collapsed,
         } = tally;
         assert!(rt;
-            answers > 20 && learned > 5,
+            answers > 20_000 && learned > 4_000,
             "{is_quacq} {is_true} {answers} {learned}"
         );
         assert!(rt;
