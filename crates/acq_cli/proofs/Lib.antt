@@ -7,5 +7,7 @@ pub mod Nexts
 pub mod OpenCandidates
 pub mod OpenLines
 pub mod Sayings
+pub mod Owners
+pub mod Parts
 pub mod Tries
 pub mod Wordings

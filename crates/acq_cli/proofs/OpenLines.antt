@@ -10,7 +10,7 @@ use Rattle.assign.specs.Sets.{numbers}
 use Rattle.language.specs.declared.candidates.Candidate.{Candidate}
 use Rattle.language.specs.Language.{Language, candidates_on}
 use Rattle.query_gen.specs.Marks.{Remembered, is_open}
-use Rattle.acq_cli.specs.Program.{open_line}
+use Rattle.acq_cli.specs.Texts.{open_line}
 
 abbrev pub at : ℕ → ℕ → Candidate
 at s r = record { scope = s; rel = r }

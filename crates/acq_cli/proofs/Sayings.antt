@@ -1,7 +1,7 @@
 -- What is said of a session at its end.
-use Rattle.std.proofs.Common.{◌≡◌, ℕ, List, refl, ap, sym, subst, ◌∙◌, Option, None}
+use Rattle.std.proofs.Common.{◌≡◌, ℕ, List, length, refl, ap, sym, subst, ◌∙◌, Option, None}
 use Rattle.std.specs.Prelude.{filter}
-use Rattle.acq_io.specs.Streams.{Adds}
+use Rattle.acq_io.specs.Streams.{Adds, AddsFront}
 use Rattle.assign.specs.Events.{Answer}
 use Rattle.assign.specs.declared.events.Plan.{Plan}
 use Rattle.language.specs.declared.candidates.Candidate.{Candidate}
@@ -15,7 +15,8 @@ use Rattle.acq_cli.specs.Places.{way_of}
 use Rattle.acq_cli.specs.declared.driving.Drove.{Drove}
 use Rattle.acq_cli.specs.declared.driving.Drove.TheVariants as drove
 use Rattle.acq_cli.specs.declared.ending.Ending.TheVariants as ending
-use Rattle.acq_cli.specs.Program.{HasEnded, Says, collapsed_text, converged_text, undecided_text, open_candidates}
+use Rattle.acq_cli.specs.Program.{HasEnded, Says, SaysPart}
+use Rattle.acq_cli.specs.Texts.{collapsed_text, converged_text, suspended_text, undecided_text, open_candidates, learned_in, learned_after}
 use Rattle.acq_cli.proofs.Nexts.{learned_is}
 use Rattle.acq_cli.proofs.OpenCandidates.{leaves_open, opens_are}
 
@@ -27,6 +28,18 @@ says_collapsed l plan budget t written written' m end is ended adds = subst Says
 
     told : HasEnded l (way_of plan budget) t (drove.Collapsed m) → SaysOf (drove.Collapsed m)
     told done = (refl, record { number = done.0; collapsed = done.1 }, adds)
+
+pub part_collapsed : (l : Language) (plan : Plan) (budget : ℕ) (t : List Answer) (written written' : Option (List ℕ)) (m : ℕ) (end : Drove) → end ≡ drove.Collapsed m → HasEnded l (way_of plan budget) t end → AddsFront written written' (collapsed_text m) → SaysPart l (way_of plan budget) t written written' end
+part_collapsed l plan budget t written written' m end is ended adds =
+    let P : Drove → Type 0 = SaysPart l (way_of plan budget) t written written' in
+    let done = subst (HasEnded l (way_of plan budget) t) is ended in
+    subst P (sym is) (subst (AddsFront written written') (ap collapsed_text done.0) adds)
+
+pub part_suspended : (l : Language) (plan : Plan) (budget : ℕ) (t : List Answer) (written written' : Option (List ℕ)) (m : ℕ) (end : Drove) → end ≡ drove.Suspended m → HasEnded l (way_of plan budget) t end → AddsFront written written' (suspended_text m) → SaysPart l (way_of plan budget) t written written' end
+part_suspended l plan budget t written written' m end is ended adds =
+    let P : Drove → Type 0 = SaysPart l (way_of plan budget) t written written' in
+    let number : m ≡ length t = subst (HasEnded l (way_of plan budget) t) is ended in
+    subst P (sym is) (subst (AddsFront written written') (ap suspended_text number) adds)
 
 module _ (session : Session) (l : Language) (plan : Plan) (budget : ℕ) (t : List Answer) (written written' : Option (List ℕ)) (m : ℕ) (end : Drove) where
   -- the network that the answers lead to is the session's
@@ -49,7 +62,7 @@ module _ (session : Session) (l : Language) (plan : Plan) (budget : ℕ) (t : Li
             refl,
             (
               done.1.network,
-              record { number = done.0; idle = done.1.idle; ends = done.1.ends; covered = done.1.covered; converged = done.1.converged },
+              record { number = done.0; idle = done.1.idle; ends = done.1.ends; covered = done.1.covered; converged = done.1.converged; owner = done.1.converged.only },
               subst (Adds written written') (ap (λ x. converged_text x (knowledge_of session).network.list m) lang ∙ ap (λ n. converged_text l n m) same) adds,
             ),
           )
@@ -77,3 +90,31 @@ module _ (session : Session) (l : Language) (plan : Plan) (budget : ℕ) (t : Li
                   ∙ ap (λ n. undecided_text l n (filter (is_open l screen) (candidates l)) m) same ∙ ap (λ cs. undecided_text l done.1.network cs m) opens) adds,
             ),
           )
+
+  -- the session's network is the one that the answers lead to
+  learned : Stands session t → (knowledge_of session).lang ≡ l → (knowledge_of session).plan ≡ plan → (network : List Candidate) → state_after l plan t ≡ At (Idle network None) → (knowledge_of session).network.list ≡ learned_after l (way_of plan budget) t
+  learned stands lang planned network at = same_network stands lang planned network at ∙ sym (ap learned_in at)
+
+  pub part_converged : end ≡ drove.Converged m → HasEnded l (way_of plan budget) t end → Stands session t → (knowledge_of session).lang ≡ l → (knowledge_of session).plan ≡ plan →
+      AddsFront written written' (converged_text (knowledge_of session).lang (knowledge_of session).network.list m) →
+      SaysPart l (way_of plan budget) t written written' end
+  part_converged is ended stands lang planned adds =
+      let P : Drove → Type 0 = SaysPart l (way_of plan budget) t written written' in
+      let done = subst (HasEnded l (way_of plan budget) t) is ended in
+      let net = learned stands lang planned done.1.network done.1.idle in
+      subst P (sym is) (subst (AddsFront written written') (λ i. converged_text (lang i) (net i) (done.0 i)) adds)
+
+  pub part_undecided : (screen : Remembered) → end ≡ drove.Undecided m → HasEnded l (way_of plan budget) t end → TellsOpen l (way_of plan budget) t screen →
+      Stands session t → (knowledge_of session).lang ≡ l → (knowledge_of session).plan ≡ plan →
+      AddsFront written written' (undecided_text (knowledge_of session).lang (knowledge_of session).network.list (filter (is_open (knowledge_of session).lang screen) (candidates (knowledge_of session).lang)) m) →
+      SaysPart l (way_of plan budget) t written written' end
+  part_undecided screen is ended tells stands lang planned adds =
+      let P : Drove → Type 0 = SaysPart l (way_of plan budget) t written written' in
+      let done = subst (HasEnded l (way_of plan budget) t) is ended in
+      let net = learned stands lang planned done.1.network done.1.idle in
+      let opens : filter (is_open l screen) (candidates l) ≡ open_candidates l (way_of plan budget) t (learned_after l (way_of plan budget) t) =
+      opens_are l (way_of plan budget) t done.1.network screen done.1.idle tells ∙ ap (open_candidates l (way_of plan budget) t) (sym (ap learned_in done.1.idle)) in
+      subst P (sym is)
+      (subst (AddsFront written written')
+      (ap (λ x. undecided_text x (knowledge_of session).network.list (filter (is_open x screen) (candidates x)) m) lang
+      ∙ (λ i. undecided_text l (net i) (opens i) (done.0 i))) adds)

@@ -1,7 +1,7 @@
 -- What was done about a language, of its loop and what was said.
 use Rattle.std.proofs.lemmas.Bool.{both_ways}
 use Rattle.std.proofs.Common.{◌≡◌, ◌∙◌, ℕ, Bool, true, false, List, [], sym, subst, refl, ap, Option, Result, Ok, Err}
-use Rattle.std.specs.Prelude.{IfOk}
+use Rattle.std.specs.Prelude.{IfOk, OnErr}
 use Rattle.acq_io.specs.declared.streams.Put.{Put}
 use Rattle.assign.specs.Events.{Answer}
 use Rattle.assign.specs.declared.events.Event.{Event}
@@ -18,7 +18,10 @@ use Rattle.acq_cli.specs.declared.driving.Drove.{Drove}
 use Rattle.acq_cli.specs.declared.driving.Drove.TheVariants as drove
 use Rattle.acq_cli.specs.declared.ending.Ending.{Ending}
 use Rattle.acq_cli.specs.declared.ending.Ending.TheVariants as ending
-use Rattle.acq_cli.specs.Program.{HasEnded, Says, Tries}
+use Rattle.acq_cli.specs.Breaks.{BreaksRun}
+use Rattle.acq_cli.specs.Program.{HasEnded, Says, SaysPart, Tries}
+use Rattle.acq_cli.specs.Run.{Converged, Collapsed, Undecided, Suspended, LineTooLong, Unreadable}
+use Rattle.acq_cli.proofs.Parts.{closed_part, cut_part}
 
 by_drove : (l : Language) (way : Request) (left written left' middle written' : Option (List ℕ)) (t : List Answer) (drove : Drove) (end : Ending) →
     Drives line_turn l way (place_of [] left written) (place_of t left' middle) drove → Says l way t middle written' drove end → Tries l way left written left' written' end
@@ -34,9 +37,21 @@ by_drove l way left written left' middle written' t drove.LineTooLong end h says
     subst (Tries l way left written left' written') (sym says.0) (t, record { middle = middle; ran = h; adds = says.1 })
 by_drove l way left written left' middle written' t drove.Unreadable end h says =
     subst (Tries l way left written left' written') (sym says.0) (t, record { middle = middle; ran = h; adds = says.1 })
-by_drove l way left written left' middle written' t drove.ReadFault end h says = subst (Tries l way left written left' written') (sym says) tt
+by_drove l way left written left' middle written' t drove.ReadFault end h says = subst (Tries l way left written left' written') (sym says.0) (cut_part l way left written left' middle written' t h says.1)
 by_drove l way left written left' middle written' t drove.WriteFault end h says = absurd says
 by_drove l way left written left' middle written' t drove.Memory end h says = absurd says
+
+part_by_drove : (l : Language) (way : Request) (left written left' middle written' : Option (List ℕ)) (t : List Answer) (drove : Drove) →
+    Drives line_turn l way (place_of [] left written) (place_of t left' middle) drove → SaysPart l way t middle written' drove → BreaksRun l way left written written'
+part_by_drove l way left written left' middle written' t (drove.Converged m) h part = closed_part l way left written left' middle written' t Converged h.2 part
+part_by_drove l way left written left' middle written' t (drove.Collapsed m) h part = closed_part l way left written left' middle written' t Collapsed h.2 part
+part_by_drove l way left written left' middle written' t (drove.Undecided m) h part = closed_part l way left written left' middle written' t Undecided h.2 part
+part_by_drove l way left written left' middle written' t (drove.Suspended m) h part = closed_part l way left written left' middle written' t Suspended h.1 part
+part_by_drove l way left written left' middle written' t drove.LineTooLong h part = closed_part l way left written left' middle written' t LineTooLong h part
+part_by_drove l way left written left' middle written' t drove.Unreadable h part = closed_part l way left written left' middle written' t Unreadable h part
+part_by_drove l way left written left' middle written' t drove.ReadFault h part = absurd part
+part_by_drove l way left written left' middle written' t drove.WriteFault h same = cut_part l way left written left' middle written' t h same
+part_by_drove l way left written left' middle written' t drove.Memory h same = cut_part l way left written left' middle written' t h same
 
 ended_by : (l : Language) (way : Request) (a : Place) (t : List Answer) (left' middle : Option (List ℕ)) (how : Drove) → Drives line_turn l way a (place_of t left' middle) how → HasEnded l way t how
 ended_by l way a t left' middle (drove.Converged m) h = (h.0, h.1)
@@ -88,7 +103,9 @@ module _ (l begun now : Language) (p asked still : Plan) (budget : ℕ) (events 
     (drives : Drives line_turn begun (way_of asked budget) (place_of (standing_on begun events) left written) (place_of (standing_on begun later) left' middle) how)
     (opens : (m : ℕ) → how ≡ drove.Undecided m → TellsOpen begun (way_of asked budget) (standing_on begun later) screen)
     (says : (b : ℕ) → HasEnded now (way_of still b) (standing_on now later) how → ((m : ℕ) → how ≡ drove.Undecided m → TellsOpen now (way_of still b) (standing_on now later) screen) →
-    IfOk got (Says now (way_of still b) (standing_on now later) middle written' how)) where
+    IfOk got (Says now (way_of still b) (standing_on now later) middle written' how))
+    (parts : (b : ℕ) → HasEnded now (way_of still b) (standing_on now later) how → ((m : ℕ) → how ≡ drove.Undecided m → TellsOpen now (way_of still b) (standing_on now later) screen) →
+    OnErr got (SaysPart now (way_of still b) (standing_on now later) middle written' how)) where
   abbrev Begun : Language → Plan → Type 0
   Begun x q = Drives line_turn x (way_of q budget) (place_of (standing_on x events) left written) (place_of (standing_on x later) left' middle) how
 
@@ -102,11 +119,18 @@ module _ (l begun now : Language) (p asked still : Plan) (budget : ℕ) (events 
   Now x q = (b : ℕ) → HasEnded x (way_of q b) (standing_on x later) how → ((m : ℕ) → how ≡ drove.Undecided m → TellsOpen x (way_of q b) (standing_on x later) screen) →
       IfOk got (Says x (way_of q b) (standing_on x later) middle written' how)
 
+  abbrev Part : Language → Plan → Type 0
+  Part x q = (b : ℕ) → HasEnded x (way_of q b) (standing_on x later) how → ((m : ℕ) → how ≡ drove.Undecided m → TellsOpen x (way_of q b) (standing_on x later) screen) →
+      OnErr got (SaysPart x (way_of q b) (standing_on x later) middle written' how)
+
   driven : Fresh []
   driven = subst Fresh none (carried Begun begun l asked p first planned drives)
 
   said : IfOk got (Says l (way_of p budget) (standing_on l later) middle written' how)
   said = carried Now now l still p (same ∙ first) (again ∙ planned) says budget (ended_by l (way_of p budget) (place_of (standing_on l []) left written) (standing_on l later) left' middle how driven) (carried AllOpen begun l asked p first planned opens)
+
+  said_part : OnErr got (SaysPart l (way_of p budget) (standing_on l later) middle written' how)
+  said_part = carried Part now l still p (same ∙ first) (again ∙ planned) parts budget (ended_by l (way_of p budget) (place_of (standing_on l []) left written) (standing_on l later) left' middle how driven) (carried AllOpen begun l asked p first planned opens)
 
   pub tried : IfOk got (Tries l (way_of p budget) left written left' written')
   tried = go got said
@@ -114,6 +138,13 @@ module _ (l begun now : Language) (p asked still : Plan) (budget : ℕ) (events 
       go : (r : Result Ending Put) → IfOk r (Says l (way_of p budget) (standing_on l later) middle written' how) → IfOk r (Tries l (way_of p budget) left written left' written')
       go (Err e) s = s
       go (Ok end) s = by_drove l (way_of p budget) left written left' middle written' (standing_on l later) how end driven s
+
+  pub broken : OnErr got (BreaksRun l (way_of p budget) left written written')
+  broken = go got said_part
+    where
+      go : (r : Result Ending Put) → OnErr r (SaysPart l (way_of p budget) (standing_on l later) middle written' how) → OnErr r (BreaksRun l (way_of p budget) left written written')
+      go (Err e) part = part_by_drove l (way_of p budget) left written left' middle written' (standing_on l later) how driven part
+      go (Ok end) part = part
 
   -- a read fault that is told is the loop's
   pub read_of : got ≡ Ok ending.ReadFault → how ≡ drove.ReadFault

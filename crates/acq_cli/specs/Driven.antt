@@ -3,7 +3,7 @@ use Rattle.std.specs.Prelude.{◌≡◌, ◌≢◌, ℕ, List, ◌++◌, length,
 use Rattle.assign.specs.Events.{Answer}
 use Rattle.assign.specs.declared.events.Plan.TheVariants.{Scopes}
 use Rattle.language.specs.declared.candidates.Candidate.{Candidate}
-use Rattle.language.specs.Language.{Language, IsCandidate}
+use Rattle.language.specs.Language.{Language, HasSameSolutions, IsCandidate}
 use Rattle.language.specs.Answers.{IsNetwork, IsCovered, IsConverged, NoneAgrees, kept}
 use Rattle.fd_solver.specs.Outcomes.{outcome_of_candidate}
 use Rattle.query_gen.specs.Questions.{is_among, is_spent}
@@ -95,6 +95,18 @@ Drives turns l way old new drove.Unreadable = RanTo turns l way Unreadable old n
 Drives turns l way old new drove.ReadFault = CutOff turns l way old new
 Drives turns l way old new drove.WriteFault = CutOff turns l way old new
 Drives turns l way old new drove.Memory = CutOff turns l way old new
+
+-- what comes of it where this network gave each answer: no collapse, and what was learned has exactly its solutions
+abbrev pub IsOwned : Language → Request → List Candidate → List Answer → Drove → Type 0
+IsOwned l way owner t (drove.Converged m) = (network : List Candidate) × (state_after l way.plan t ≡ At (Idle network None)) × HasSameSolutions l owner network
+IsOwned l way owner t (drove.Collapsed m) = ⊥
+IsOwned l way owner t (drove.Undecided m) = Unit {0}
+IsOwned l way owner t (drove.Suspended m) = Unit {0}
+IsOwned l way owner t drove.LineTooLong = Unit {0}
+IsOwned l way owner t drove.Unreadable = Unit {0}
+IsOwned l way owner t drove.ReadFault = Unit {0}
+IsOwned l way owner t drove.WriteFault = Unit {0}
+IsOwned l way owner t drove.Memory = Unit {0}
 
 -- ---- what a screen says of the candidates
 

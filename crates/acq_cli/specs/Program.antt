@@ -1,68 +1,32 @@
 -- What the program has done, by how it ended.
-use Rattle.std.specs.Prelude.{◌≡◌, ◌≢◌, ◌<◌, ℕ, Bool, true, false, IsTrue, List, [], ◌∷◌, ◌++◌, length, filter, All, Option, Some, None, is_some, Result, Ok, Err, codes}
-use Rattle.std.specs.List.{flat_map}
-use Rattle.std.specs.Fmt.{decimal}
-use Rattle.acq_io.specs.Streams.{Adds}
+use Rattle.std.specs.Prelude.{◌≡◌, ◌≢◌, ◌<◌, ℕ, Bool, true, false, IsTrue, List, [], length, All, Option, Some, None, is_some, Result, Ok}
+use Rattle.acq_io.specs.Streams.{Adds, AddsFront}
 use Rattle.acq_io.specs.Whole.{Gives, first_line_of}
 use Rattle.acq_io.specs.declared.whole.AllFault.{AllFault}
-use Rattle.acq_io.specs.declared.whole.AllFault.TheVariants.{TooLong}
 use Rattle.assign.specs.Events.{Answer}
 use Rattle.assign.specs.declared.events.Plan.TheVariants.{Scopes}
 use Rattle.language.specs.declared.candidates.Candidate.{Candidate}
-use Rattle.language.specs.Language.{Language, IsImplied}
-use Rattle.language.specs.Answers.{IsCovered, IsConverged, kept}
+use Rattle.language.specs.Language.{Language, HasSameSolutions, IsImplied}
+use Rattle.language.specs.Answers.{IsCovered, IsConverged, IsNetwork, agrees, kept}
 use Rattle.language.specs.Search.{plain_size}
-use Rattle.language.specs.Texts.{candidate_text}
-use Rattle.network.specs.Texts.{network_text}
 use Rattle.fd_solver.specs.declared.outcome.Outcome.TheVariants.{Spent}
 use Rattle.fd_solver.specs.Outcomes.{outcome_of_candidate}
-use Rattle.query_gen.specs.Questions.{is_among, is_spent}
+use Rattle.query_gen.specs.Questions.{is_among}
 use Rattle.session_laws.specs.Session.{Idle, At, state_after}
 use Rattle.target_oracle.specs.Lines.{line_turn}
-use Rattle.voc_read.specs.Vocabulary.{IsVocabulary, refusal_of_vocabulary}
-use Rattle.voc_read.specs.FaultTexts.{fault_text}
+use Rattle.voc_read.specs.Vocabulary.{IsVocabulary}
 use Rattle.voc_read.specs.declared.fault.VocFault.{VocFault}
-use Rattle.voc_read.specs.declared.fault.VocFault.TheVariants as voc
 use Rattle.acq_cli.specs.Run.{Converged, Collapsed, Undecided, Suspended, LineTooLong, Unreadable, Closing, Ends, next_after}
+use Rattle.acq_cli.specs.Breaks.{Breaks, BreaksRun, IsRefusal}
 use Rattle.acq_cli.specs.Driven.{IsDone, IsCollapsed, IsLeftOpen, RanTo}
 use Rattle.acq_cli.specs.Places.{place_of}
+use Rattle.acq_cli.specs.Texts.{closing_text, collapsed_text, converged_text, open_candidates, refusal_text, refused_text, suspended_text, too_long_text, undecided_text, usage_text}
 use Rattle.acq_cli.specs.Words.{request_of}
 use Rattle.acq_cli.specs.declared.words.Request.{Request}
 use Rattle.acq_cli.specs.declared.driving.Drove.{Drove}
 use Rattle.acq_cli.specs.declared.driving.Drove.TheVariants as drove
 use Rattle.acq_cli.specs.declared.ending.Ending.{Ending}
 use Rattle.acq_cli.specs.declared.ending.Ending.TheVariants as ending
-
-abbrev pub usage_text : List ℕ
-usage_text = codes "usage: acquire JOURNAL COMMAND [--plan P] [--budget N] [--number N]" ++ 10 ∷ []
-
-abbrev pub refusal_text : VocFault → List ℕ
-refusal_text fault = codes "refused vocabulary " ++ (fault_text fault ++ 10 ∷ [])
-
-abbrev pub converged_text : Language → List Candidate → ℕ → List ℕ
-converged_text l network m = codes "converged " ++ (decimal m ++ (10 ∷ network_text l network))
-
-abbrev pub collapsed_text : ℕ → List ℕ
-collapsed_text m = codes "collapsed " ++ (decimal m ++ 10 ∷ [])
-
--- the kept candidates whose searches the budget was too small for
-abbrev pub open_candidates : Language → Request → List Answer → List Candidate → List Candidate
-open_candidates l way t network = filter (λ c. is_spent (outcome_of_candidate l network c way.budget)) (kept l t network)
-
-abbrev pub open_line : Language → Candidate → List ℕ
-open_line l c = codes "open " ++ (candidate_text l c ++ 10 ∷ [])
-
-abbrev pub undecided_text : Language → List Candidate → List Candidate → ℕ → List ℕ
-undecided_text l network opens m = codes "undecided " ++ (decimal m ++ (10 ∷ (network_text l network ++ flat_map (open_line l) opens)))
-
-abbrev pub suspended_text : ℕ → List ℕ
-suspended_text m = codes "suspended " ++ (decimal m ++ 10 ∷ [])
-
-abbrev pub too_long_text : List ℕ
-too_long_text = codes "refused line too long" ++ 10 ∷ []
-
-abbrev pub refused_text : List ℕ
-refused_text = codes "refused lines" ++ 10 ∷ []
 
 -- these answers stand at the end, and each network that agrees with them has the solutions of the learned one
 pub record Concludes (l : Language) (way : Request) (m : ℕ) (answers : List Answer) (network : List Candidate) : Type 0 where
@@ -71,6 +35,8 @@ pub record Concludes (l : Language) (way : Request) (m : ℕ) (answers : List An
   pub ends : next_after l way answers ≡ Some (Ends Converged)
   pub covered : IsCovered l network answers
   pub converged : IsConverged l network answers
+  -- a network that gave each answer has exactly the solutions of the learned one
+  pub owner : (owner : List Candidate) → IsNetwork l owner → IsTrue (agrees l owner answers) → HasSameSolutions l owner network
 
 -- these answers stand at the end, and no network agrees with them
 pub record Refutes (l : Language) (way : Request) (m : ℕ) (answers : List Answer) : Type 0 where
@@ -118,9 +84,21 @@ Says l way t written written' (drove.Undecided m) end =
 Says l way t written written' (drove.Suspended m) end = (end ≡ ending.Suspended m) × (m ≡ length t) × Adds written written' (suspended_text m)
 Says l way t written written' drove.LineTooLong end = (end ≡ ending.LineTooLong) × Adds written written' too_long_text
 Says l way t written written' drove.Unreadable end = (end ≡ ending.Unreadable) × Adds written written' refused_text
-Says l way t written written' drove.ReadFault end = end ≡ ending.ReadFault
+Says l way t written written' drove.ReadFault end = (end ≡ ending.ReadFault) × (written' ≡ written)
 Says l way t written written' drove.WriteFault end = ⊥
 Says l way t written written' drove.Memory end = ⊥
+
+-- what was written where it could not be said whole
+abbrev pub SaysPart : Language → Request → List Answer → (written written' : Option (List ℕ)) → Drove → Type 0
+SaysPart l way t written written' (drove.Converged m) = AddsFront written written' (closing_text l way t Converged)
+SaysPart l way t written written' (drove.Collapsed m) = AddsFront written written' (closing_text l way t Collapsed)
+SaysPart l way t written written' (drove.Undecided m) = AddsFront written written' (closing_text l way t Undecided)
+SaysPart l way t written written' (drove.Suspended m) = AddsFront written written' (closing_text l way t Suspended)
+SaysPart l way t written written' drove.LineTooLong = AddsFront written written' (closing_text l way t LineTooLong)
+SaysPart l way t written written' drove.Unreadable = AddsFront written written' (closing_text l way t Unreadable)
+SaysPart l way t written written' drove.ReadFault = ⊥
+SaysPart l way t written written' drove.WriteFault = written' ≡ written
+SaysPart l way t written written' drove.Memory = written' ≡ written
 
 -- what was done about a language
 abbrev pub Tries : Language → Request → (left written left' written' : Option (List ℕ)) → Ending → Type 0
@@ -139,9 +117,9 @@ Tries l way left written left' written' ending.Unreadable =
     (answers : List Answer) × Closes l way left written left' written' Unreadable answers refused_text
 Tries l way left written left' written' (ending.Usage fault) = ⊥
 Tries l way left written left' written' (ending.VocRefused fault) = ⊥
-Tries l way left written left' written' ending.ReadFault = Unit {0}
+Tries l way left written left' written' ending.ReadFault = BreaksRun l way left written written'
 Tries l way left written left' written' ending.WriteFault = ⊥
-Tries l way left written left' written' ending.Memory = Unit {0}
+Tries l way left written left' written' ending.Memory = ⊥
 
 -- the words ask for this, and the first line of the input is a vocabulary
 pub record Reads (words : List (List ℕ)) (left written left' written' : Option (List ℕ)) (end : Ending) : Type 0 where
@@ -154,11 +132,7 @@ pub record Reads (words : List (List ℕ)) (left written left' written' : Option
   pub vocabulary : IsVocabulary line lang
   pub tries : Tries lang way rest written left' written' end
 
--- the first line is too long, or is no vocabulary for this reason
-abbrev pub IsRefusal : VocFault → Result (List ℕ) AllFault → Type 0
-IsRefusal fault (Ok line) = refusal_of_vocabulary line ≡ Some fault
-IsRefusal fault (Err e) = (e ≡ TooLong) × (fault ≡ voc.TooLong)
-
+-- the first line is refused
 pub record IsRefused (fault : VocFault) (left left' : Option (List ℕ)) : Type 0 where
   pub got : Result (List ℕ) AllFault
   pub gives : Gives (first_line_of 4194304) left left' got
@@ -179,9 +153,9 @@ Acquires words left written left' written' ending.Unreadable = Reads words left 
 Acquires words left written left' written' (ending.Usage fault) = (are_taken words ≡ false) × (left' ≡ left) × Adds written written' usage_text
 Acquires words left written left' written' (ending.VocRefused fault) =
     (are_taken words ≡ true) × IsRefused fault left left' × Adds written written' (refusal_text fault)
-Acquires words left written left' written' ending.ReadFault = are_taken words ≡ true
-Acquires words left written left' written' ending.WriteFault = Unit {0}
-Acquires words left written left' written' ending.Memory = Unit {0}
+Acquires words left written left' written' ending.ReadFault = (are_taken words ≡ true) × Breaks words left written written'
+Acquires words left written left' written' ending.WriteFault = Breaks words left written written'
+Acquires words left written left' written' ending.Memory = Breaks words left written written'
 
 -- the exit status
 abbrev pub status_of : Ending → ℕ

@@ -1,12 +1,13 @@
-ghost use Rattle.std.specs.Prelude.{◌≡◌, ◌≢◌, ◌+◌, ◌<◌, ◌≤◌, ◌^◌, List, length, Some, None, IfSome};
+ghost use Rattle.std.specs.Prelude.{◌≡◌, ◌≢◌, ◌+◌, ◌<◌, ◌≤◌, ◌^◌, List, length, Some, None, IfSome, IsTrue};
 ghost use Rattle.acq_io.specs.Streams.{Rose};
 ghost use Rattle.assign.specs.Events.{Answer};
 ghost use Rattle.assign.specs.declared.events.Plan.TheVariants.{Scopes};
-ghost use Rattle.language.specs.Answers.{standing_on};
+ghost use Rattle.language.specs.declared.candidates.Candidate.{Candidate};
+ghost use Rattle.language.specs.Answers.{IsNetwork, agrees, standing_on};
 ghost use Rattle.query_gen.specs.Marks.{IsMadeFor, HasNoMarks, MarksHold};
 ghost use Rattle.session_core.specs.Standing.{Stands, knowledge_of, open_in};
 ghost use Rattle.session_core.specs.Settled.{IsSettled};
-ghost use Rattle.acq_cli.specs.Driven.{Drives, Remembers, StepsTo, TellsOpen};
+ghost use Rattle.acq_cli.specs.Driven.{Drives, IsOwned, Remembers, StepsTo, TellsOpen};
 ghost use Rattle.acq_cli.specs.Due.{IsDue, NextIs, PutIs, AnswerKept, IsOneMore};
 ghost use Rattle.acq_cli.specs.Places.{place_of, way_of};
 
@@ -16,6 +17,7 @@ use query_gen::{Place, Query, Screen, next_query};
 use session_core::{Idle, Session};
 use session_store::Keep;
 use std::alloc::Global;
+use std::thread::Threads;
 use target_oracle::{Teacher, Told};
 
 /// How the loop ended. The number is that of the answers that stand.
@@ -273,7 +275,8 @@ const MOST_TURNS: u32 = 762_754;
 /// the teacher stops.
 ///
 /// Searches use the first of the places. The screen carries what they found from one question to the next.
-pub fn drive<S: Source, K: Sink, T: Teacher<S, K>, P: Keep>(
+pub fn drive<R: Threads + Sync, S: Source, K: Sink, T: Teacher<S, K>, P: Keep>(
+    _rt: &R,
     alloc: Global,
     places: &mut [Place; 8],
     screen: &mut Screen,
@@ -293,6 +296,8 @@ pub fn drive<S: Source, K: Sink, T: Teacher<S, K>, P: Keep>(
     ensures ends { Drives (T.turn teacher.old) (P.lang keep.old) (way_of (P.plan keep.old) budget)
         (place_of (standing_on (P.lang keep.old) (P.record_of keep.old)) (S.left source.old) (K.written sink.old))
         (place_of (standing_on (P.lang keep.old) (P.record_of keep.new)) (S.left source.new) (K.written sink.new)) result }
+    ensures owner { (owner : List Candidate) → IsNetwork (P.lang keep.old) owner → IsTrue (agrees (P.lang keep.old) owner (standing_on (P.lang keep.old) (P.record_of keep.new)))
+        → IsOwned (P.lang keep.old) (way_of (P.plan keep.old) budget) owner (standing_on (P.lang keep.old) (P.record_of keep.new)) result }
     // where it is undecided, the screen tells the open candidates
     ensures open { (m : _) → result ≡ Drove.Undecided m → TellsOpen (P.lang keep.old) (way_of (P.plan keep.old) budget) (standing_on (P.lang keep.old) (P.record_of keep.new)) screen.new }
     ensures screen { IsMadeFor (P.lang keep.old) screen.new }

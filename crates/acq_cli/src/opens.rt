@@ -5,7 +5,7 @@ ghost use Rattle.std.specs.List.{flat_map};
 ghost use Rattle.std.specs.String.{string_bytes};
 ghost use Rattle.language.specs.Language.{IsCandidate, candidates, candidates_on};
 ghost use Rattle.query_gen.specs.Marks.{IsMadeFor, is_open};
-ghost use Rattle.acq_cli.specs.Program.{open_line};
+ghost use Rattle.acq_cli.specs.Texts.{open_line};
 
 use language::{Candidate, Language, Memory, ScopeId};
 use query_gen::Screen;

@@ -1,6 +1,6 @@
-ghost use Rattle.std.specs.Prelude.{◌≡◌, ◌≤◌, ◌≢◌, map, filter, IfOk, OnOk, Ok, Err};
+ghost use Rattle.std.specs.Prelude.{◌≡◌, ◌≤◌, ◌≢◌, map, filter, IfOk, OnOk, OnErr, Ok, Err};
 ghost use Rattle.std.specs.String.{string_bytes};
-ghost use Rattle.acq_io.specs.Streams.{Adds, Rose};
+ghost use Rattle.acq_io.specs.Streams.{Adds, AddsFront, Rose};
 ghost use Rattle.assign.specs.declared.events.Plan.TheVariants.{Multi};
 ghost use Rattle.language.specs.Language.{candidates};
 ghost use Rattle.language.specs.Answers.{IsNetwork, standing_on};
@@ -9,7 +9,9 @@ ghost use Rattle.session_core.specs.Standing.{knowledge_of};
 ghost use Rattle.session_store.specs.Loose.{IsSound, lang_of, plan_of};
 ghost use Rattle.acq_cli.specs.Driven.{TellsOpen};
 ghost use Rattle.acq_cli.specs.Places.{way_of};
-ghost use Rattle.acq_cli.specs.Program.{Acquires, HasEnded, Says, Tries, collapsed_text, converged_text, refusal_text, suspended_text, undecided_text};
+ghost use Rattle.acq_cli.specs.Breaks.{Breaks, BreaksRun};
+ghost use Rattle.acq_cli.specs.Program.{Acquires, HasEnded, Says, SaysPart, Tries};
+ghost use Rattle.acq_cli.specs.Texts.{collapsed_text, converged_text, refusal_text, suspended_text, undecided_text};
 
 use crate::driving::{Drove, drive};
 use crate::ending::{Ending, UsageFault};
@@ -35,6 +37,7 @@ const USAGE: &[u8] = b"usage: acquire JOURNAL COMMAND [--plan P] [--budget N] [-
 fn say_converged<K: Sink>(alloc: Global, session: &Session, m: u32, out: &mut K) -> Result<(), Put>
     requires { IsNetwork (knowledge_of session.now).lang (knowledge_of session.now).network.list }
     ensures ok { OnOk result (Adds (K.written out.old) (K.written out.new) (converged_text (knowledge_of session.now).lang (knowledge_of session.now).network.list m)) }
+    ensures part { OnErr result (AddsFront (K.written out.old) (K.written out.new) (converged_text (knowledge_of session.now).lang (knowledge_of session.now).network.list m)) }
     ensures failed { result ≡ Err Put.Failed → Rose (K.faults out.old) (K.faults out.new) }
     ensures later_sink { K.faults out.old ≤ K.faults out.new }
 {
@@ -50,6 +53,7 @@ fn say_converged<K: Sink>(alloc: Global, session: &Session, m: u32, out: &mut K)
 /// Writes the last line of a session that no network agrees with.
 fn say_collapsed<K: Sink>(alloc: Global, m: u32, out: &mut K) -> Result<(), Put>
     ensures ok { OnOk result (Adds (K.written out.old) (K.written out.new) (collapsed_text m)) }
+    ensures part { OnErr result (AddsFront (K.written out.old) (K.written out.new) (collapsed_text m)) }
     ensures failed { result ≡ Err Put.Failed → Rose (K.faults out.old) (K.faults out.new) }
     ensures later_sink { K.faults out.old ≤ K.faults out.new }
 {
@@ -71,6 +75,8 @@ fn say_undecided<K: Sink>(
     requires made { IsMadeFor (knowledge_of session.now).lang screen.now }
     ensures ok { let l = (knowledge_of session.now).lang in OnOk result (Adds (K.written out.old) (K.written out.new)
         (undecided_text l (knowledge_of session.now).network.list (filter (is_open l screen.now) (candidates l)) m)) }
+    ensures part { let l = (knowledge_of session.now).lang in OnErr result (AddsFront (K.written out.old) (K.written out.new)
+        (undecided_text l (knowledge_of session.now).network.list (filter (is_open l screen.now) (candidates l)) m)) }
     ensures failed { result ≡ Err Put.Failed → Rose (K.faults out.old) (K.faults out.new) }
     ensures later_sink { K.faults out.old ≤ K.faults out.new }
 {
@@ -89,6 +95,7 @@ fn say_undecided<K: Sink>(
 /// Writes the last line of a session that goes on another time.
 fn say_suspended<K: Sink>(alloc: Global, m: u32, out: &mut K) -> Result<(), Put>
     ensures ok { OnOk result (Adds (K.written out.old) (K.written out.new) (suspended_text m)) }
+    ensures part { OnErr result (AddsFront (K.written out.old) (K.written out.new) (suspended_text m)) }
     ensures failed { result ≡ Err Put.Failed → Rose (K.faults out.old) (K.faults out.new) }
     ensures later_sink { K.faults out.old ≤ K.faults out.new }
 {
@@ -111,6 +118,9 @@ fn say<K: Sink>(
     ensures says { (budget : _) → let way = way_of (plan_of keep.now) budget in let l = lang_of keep.now in let t = standing_on l keep.now.events.items in
         HasEnded l way t drove → ((m : _) → drove ≡ Drove.Undecided m → TellsOpen l way t screen.now)
         → IfOk result (Says l way t (K.written out.old) (K.written out.new) drove) }
+    ensures part { (budget : _) → let way = way_of (plan_of keep.now) budget in let l = lang_of keep.now in let t = standing_on l keep.now.events.items in
+        HasEnded l way t drove → ((m : _) → drove ≡ Drove.Undecided m → TellsOpen l way t screen.now)
+        → OnErr result (SaysPart l way t (K.written out.old) (K.written out.new) drove) }
     ensures failed { result ≡ Err Put.Failed → drove ≢ Drove.WriteFault → Rose (K.faults out.old) (K.faults out.new) }
     ensures later_sink { K.faults out.old ≤ K.faults out.new }
 {
@@ -160,7 +170,8 @@ fn places_for(alloc: Global, lang: &Language) -> Result<[Place; 8], Memory> {
 }
 
 /// Asks about a language until the answers converge, nothing more can be asked, or the input stops.
-fn try_language<S: Source, K: Sink>(
+fn try_language<R: Threads + Sync, S: Source, K: Sink>(
+    rt: &R,
     alloc: Global,
     lang: Language,
     way: Request,
@@ -171,6 +182,7 @@ fn try_language<S: Source, K: Sink>(
     requires some_budget { 1 ≤ way.budget }
     requires small_budget { way.budget ≤ 1000000000 }
     ensures tries { IfOk result (Tries lang way (S.left input.old) (K.written out.old) (S.left input.new) (K.written out.new)) }
+    ensures part { OnErr result (BreaksRun lang way (S.left input.old) (K.written out.old) (K.written out.new)) }
     ensures read { result ≡ Ok Ending.ReadFault → Rose (S.faults input.old) (S.faults input.new) }
     ensures no_fault { IfOk result (λ ending. ending ≢ Ending.WriteFault) }
     ensures failed { result ≡ Err Put.Failed → Rose (K.faults out.old) (K.faults out.new) }
@@ -188,6 +200,7 @@ fn try_language<S: Source, K: Sink>(
     };
     let mut teacher = LineTeacher::new();
     let drove = drive(
+        rt,
         alloc,
         &mut places,
         &mut screen,
@@ -203,6 +216,7 @@ fn try_language<S: Source, K: Sink>(
 /// Refuses the vocabulary.
 fn refuse<K: Sink>(alloc: Global, fault: VocFault, out: &mut K) -> Result<Ending, Put>
     ensures ok { IfOk result (λ ending. (ending ≡ Ending.VocRefused fault) × Adds (K.written out.old) (K.written out.new) (refusal_text fault)) }
+    ensures part { OnErr result (AddsFront (K.written out.old) (K.written out.new) (refusal_text fault)) }
     ensures failed { result ≡ Err Put.Failed → Rose (K.faults out.old) (K.faults out.new) }
     ensures later_sink { K.faults out.old ≤ K.faults out.new }
 {
@@ -217,13 +231,15 @@ fn refuse<K: Sink>(alloc: Global, fault: VocFault, out: &mut K) -> Result<Ending
 }
 
 /// What the program does, and how it ends where the output takes all.
-fn respond<S: Source, K: Sink>(
+fn respond<R: Threads + Sync, S: Source, K: Sink>(
+    rt: &R,
     alloc: Global,
     words: &[String],
     input: &mut S,
     out: &mut K,
 ) -> Result<Ending, Put>
     ensures acquires { IfOk result (Acquires (map string_bytes words.now) (S.left input.old) (K.written out.old) (S.left input.new) (K.written out.new)) }
+    ensures part { OnErr result (Breaks (map string_bytes words.now) (S.left input.old) (K.written out.old) (K.written out.new)) }
     ensures read { result ≡ Ok Ending.ReadFault → Rose (S.faults input.old) (S.faults input.new) }
     ensures no_fault { IfOk result (λ ending. ending ≢ Ending.WriteFault) }
     ensures failed { result ≡ Err Put.Failed → Rose (K.faults out.old) (K.faults out.new) }
@@ -239,7 +255,7 @@ fn respond<S: Source, K: Sink>(
         Err(AllFault::Memory) => return Err(Put::Memory),
     };
     match read_vocabulary(alloc, &line) {
-        Ok(lang) => try_language(alloc, lang, way, input, out),
+        Ok(lang) => try_language(rt, alloc, lang, way, input, out),
         Err(VocFault::Memory) => Err(Put::Memory),
         Err(fault) => refuse(alloc, fault, out),
     }
@@ -248,7 +264,7 @@ fn respond<S: Source, K: Sink>(
 /// The program: reads the words, the vocabulary from the first line of the input and the answers from the rest, and
 /// writes the questions and the network.
 pub fn acquire<R: Threads + Sync, S: Source, K: Sink>(
-    _rt: &R,
+    rt: &R,
     alloc: Global,
     words: &[String],
     input: &mut S,
@@ -258,7 +274,7 @@ pub fn acquire<R: Threads + Sync, S: Source, K: Sink>(
     ensures read { result ≡ Ending.ReadFault → Rose (S.faults input.old) (S.faults input.new) }
     ensures write { result ≡ Ending.WriteFault → Rose (K.faults out.old) (K.faults out.new) }
 {
-    match respond(alloc, words, input, out) {
+    match respond(rt, alloc, words, input, out) {
         Ok(ending) => ending,
         Err(Put::Failed) => Ending::WriteFault,
         Err(Put::Memory) => Ending::Memory,

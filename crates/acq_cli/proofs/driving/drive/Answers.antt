@@ -12,6 +12,7 @@ use Rattle.acq_cli.specs.declared.driving.Drove.{Drove}
 use Rattle.acq_cli.specs.Places.{place_of, way_of}
 use Rattle.query_gen.proofs.Marking.{no_marks_hold}
 use Rattle.acq_cli.proofs.Standings.{carried, reached, few_answers}
+use Rattle.acq_cli.proofs.Owners.{owned}
 use Rattle.acq_cli.proofs.Turning.{steps_on, steps_end, steps_none}
 use Rattle.acq_cli.proofs.driving.drive.Goals as goal
 
@@ -47,6 +48,13 @@ returns-in-Some-clause-ends g c =
     let Stepped : Language → Type 0 = λ m. StepsTo turns l (way_of p c.args.budget) a (b m) in
     steps_end turns l (way_of p c.args.budget) a (b l) (d l) c.in-Some.drove (subst Stepped c.loop-turn.invariant.lang c.loop-turn.invariant.steps)
     (carried Spoken old l (g.P.Keep.plan c.loop-turn.keep) p c.loop-turn.invariant.lang c.loop-turn.invariant.plan (subst Turned c.loop-turn.invariant.turn c.in-Some.ensures.ends))
+
+pub returns-in-Some-clause-owner : goal.returns-in-Some-clause-owner
+returns-in-Some-clause-owner g c owner lawful agreeing =
+    let l : Language = g.P.Keep.lang c.args.keep.now in
+    let a : Place = place_of (standing_on l (g.P.Keep.record_of c.args.keep.now)) (g.S.Source.left c.args.source.now) (g.K.Sink.written c.args.sink.now) in
+    owned (g.T.Teacher.turn c.args.teacher.now) l (way_of (g.P.Keep.plan c.args.keep.now) c.args.budget) a (standing_on l (g.P.Keep.record_of c.take_turn.new.keep))
+    (g.S.Source.left c.take_turn.new.source) (g.K.Sink.written c.take_turn.new.sink) c.in-Some.drove owner (returns-in-Some-clause-ends g c) lawful agreeing
 
 pub returns-in-Some-clause-open : goal.returns-in-Some-clause-open
 returns-in-Some-clause-open g c m is =

@@ -3,7 +3,7 @@ use Rattle.std.specs.Prelude.{if◌then◌else◌}
 use Rattle.std.specs.String.{string_bytes}
 use Rattle.std.proofs.lemmas.List.{append_assoc}
 use Rattle.query_gen.specs.Marks.{is_open}
-use Rattle.acq_cli.specs.Program.{open_line}
+use Rattle.acq_cli.specs.Texts.{open_line}
 use Rattle.acq_cli.proofs.OpenLines.{at, lines_before, one_line}
 use Rattle.acq_cli.proofs.opens.push_open_on.Goals as goal
 

@@ -1,0 +1,52 @@
+use Rattle.std.proofs.Common.{rules, List, ℕ, Option, Some, Result, map, refl, ap, sym, subst, ◌≡◌, ◌∙◌, Ok, Err, Vec, Global}
+use Rattle.std.specs.String.{string_bytes}
+use Rattle.acq_io.specs.declared.whole.AllFault.{AllFault}
+use Rattle.acq_io.specs.declared.whole.AllFault.TheVariants.{TooLong}
+use Rattle.voc_read.specs.Vocabulary.{IsVocabulary, refusal_of_vocabulary}
+use Rattle.acq_cli.specs.Texts.{usage_text}
+use Rattle.acq_cli.proofs.Parts.{acquires_in, breaks_in, breaks_refused, breaks_usage, on_err, wrote_part, written_badly}
+use Rattle.acq_cli.proofs.top.respond.Goals as goal
+
+abbrev fault_of : AllFault → Result (Vec ℕ Global) AllFault
+fault_of e = Err e
+
+pub returns-in_err-write-clause-part : goal.returns-in_err-write-clause-part
+returns-in_err-write-clause-part g c =
+    let old : Option (List ℕ) = g.K.Sink.written c.args.out.now in
+    let new : Option (List ℕ) = g.K.Sink.written c.write.new.self in
+    on_err c.from_residual.result
+    (breaks_usage (map string_bytes c.args.words.now) (g.S.Source.left c.args.input.now) old new (sym c.request_of.ensures.is ∙ c.in_default.is)
+    (wrote_part (written_badly c.in_err-write.field-0.0) old new usage_text c.in_err-write.ensures.failed c.in_err-write.ensures.memory))
+
+pub returns-in-Err-TooLong-clause-part : goal.returns-in-Err-TooLong-clause-part
+returns-in-Err-TooLong-clause-part g c =
+    breaks_refused (map string_bytes c.args.words.now) c.in-Some.way (g.S.Source.left c.args.input.now) (g.S.Source.left c.read_first_line.new.source) (g.K.Sink.written c.args.out.now)
+    (g.K.Sink.written c.refuse.new.out) (Err TooLong) _ c.refuse.result
+    (sym c.request_of.ensures.is ∙ c.in-Some.is) (c.read_first_line.ensures.too_long (c.in-Err-TooLong.is ∙ ap fault_of c.in-Err-TooLong.field-0-is)) (refl, refl) c.refuse.ensures.part
+
+pub returns-in-Ok-read_vocabulary-clause-acquires : goal.returns-in-Ok-read_vocabulary-clause-acquires
+returns-in-Ok-read_vocabulary-clause-acquires g c =
+    let P : List ℕ → Type 0 = λ line. IsVocabulary line c.in-Ok-read_vocabulary.lang in
+    acquires_in (map string_bytes c.args.words.now) c.in-Some.way (g.S.Source.left c.args.input.now) (g.S.Source.left c.read_first_line.new.source) (g.K.Sink.written c.args.out.now)
+    (g.S.Source.left c.try_language.new.input) (g.K.Sink.written c.try_language.new.out) c.in-Ok.line.items c.in-Ok-read_vocabulary.lang c.try_language.result
+    (sym c.request_of.ensures.is ∙ c.in-Some.is) c.in-Ok.ensures.line (subst P c.deref.ensures.value c.in-Ok-read_vocabulary.ensures.ok) c.try_language.ensures.tries
+
+pub returns-in-Ok-read_vocabulary-clause-part : goal.returns-in-Ok-read_vocabulary-clause-part
+returns-in-Ok-read_vocabulary-clause-part g c =
+    let P : List ℕ → Type 0 = λ line. IsVocabulary line c.in-Ok-read_vocabulary.lang in
+    breaks_in (map string_bytes c.args.words.now) c.in-Some.way (g.S.Source.left c.args.input.now) (g.S.Source.left c.read_first_line.new.source) (g.K.Sink.written c.args.out.now)
+    (g.K.Sink.written c.try_language.new.out) c.in-Ok.line.items c.in-Ok-read_vocabulary.lang c.try_language.result
+    (sym c.request_of.ensures.is ∙ c.in-Some.is) c.in-Ok.ensures.line (subst P c.deref.ensures.value c.in-Ok-read_vocabulary.ensures.ok) c.try_language.ensures.part
+
+pub returns : goal.returns
+returns g c =
+    let refused : refusal_of_vocabulary c.deref.result.now ≡ Some c.in-Err.fault = search rules in
+    record {
+      acquires = search rules;
+      part = breaks_refused (map string_bytes c.args.words.now) c.in-Some.way (g.S.Source.left c.args.input.now) (g.S.Source.left c.read_first_line.new.source) (g.K.Sink.written c.args.out.now)
+          (g.K.Sink.written c.refuse-in-Err.new.out) (Ok c.in-Ok.line.items) c.in-Err.fault c.refuse-in-Err.result
+          (sym c.request_of.ensures.is ∙ c.in-Some.is) c.in-Ok.ensures.line (ap refusal_of_vocabulary (sym c.deref.ensures.value) ∙ refused) c.refuse-in-Err.ensures.part;
+      read = search rules;
+      no_fault = search rules;
+      failed = search rules;
+    }

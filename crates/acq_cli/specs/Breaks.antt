@@ -1,0 +1,66 @@
+-- What was written where the program breaks off.
+use Rattle.std.specs.Prelude.{◌≡◌, ◌⊎◌, ℕ, List, [], Option, Some, None, Result, Ok, Err}
+use Rattle.acq_io.specs.Whole.{Gathered, first_line_of}
+use Rattle.acq_io.specs.declared.whole.AllFault.{AllFault}
+use Rattle.acq_io.specs.declared.whole.AllFault.TheVariants.{TooLong}
+use Rattle.language.specs.Language.{Language}
+use Rattle.target_oracle.specs.Lines.{line_turn}
+use Rattle.target_oracle.specs.Tells.{Front}
+use Rattle.voc_read.specs.Vocabulary.{IsVocabulary, refusal_of_vocabulary}
+use Rattle.voc_read.specs.declared.fault.VocFault.{VocFault}
+use Rattle.voc_read.specs.declared.fault.VocFault.TheVariants as voc
+use Rattle.acq_cli.specs.Run.{Ran, Runs}
+use Rattle.acq_cli.specs.Texts.{usage_text, refusal_text, whole_text}
+use Rattle.acq_cli.specs.Words.{request_of}
+use Rattle.acq_cli.specs.declared.words.Request.{Request}
+
+-- ---- A session
+
+-- a front of the whole text of a run of these bytes was written
+pub record IsPartOfRun (l : Language) (way : Request) (bytes before : List ℕ) (written : Option (List ℕ)) : Type 0 where
+  pub run : Ran
+  pub runs : Runs line_turn l way [] bytes run
+  pub text : Front (whole_text l way run) before written
+
+-- where input and output tell their bytes
+abbrev pub BreaksRun : Language → Request → (left written written' : Option (List ℕ)) → Type 0
+BreaksRun l way left written written' = (bytes before : List ℕ) → left ≡ Some bytes → written ≡ Some before → IsPartOfRun l way bytes before written'
+
+-- ---- The program
+
+-- the first line is too long, or is no vocabulary for this reason
+abbrev pub IsRefusal : VocFault → Result (List ℕ) AllFault → Type 0
+IsRefusal fault (Ok line) = refusal_of_vocabulary line ≡ Some fault
+IsRefusal fault (Err e) = (e ≡ TooLong) × (fault ≡ voc.TooLong)
+
+-- the vocabulary is refused by this text
+pub record IsTextOfRefusal (first : Gathered) (text : List ℕ) : Type 0 where
+  pub fault : VocFault
+  pub refused : IsRefusal fault first.got
+  pub is : text ≡ refusal_text fault
+
+-- the first line is a vocabulary, and a run of the lines after it has this text
+pub record IsTextOfRun (way : Request) (first : Gathered) (text : List ℕ) : Type 0 where
+  pub line : List ℕ
+  pub got : first.got ≡ Ok line
+  pub lang : Language
+  pub vocabulary : IsVocabulary line lang
+  pub run : Ran
+  pub runs : Runs line_turn lang way [] first.rest run
+  pub is : text ≡ whole_text lang way run
+
+-- the whole text that the program writes for what the words ask and these bytes
+abbrev pub IsWholeText : Option Request → List ℕ → List ℕ → Type 0
+IsWholeText None bytes text = text ≡ usage_text
+IsWholeText (Some way) bytes text = IsTextOfRefusal (first_line_of 4194304 bytes) text ⊎ IsTextOfRun way (first_line_of 4194304 bytes) text
+
+-- a front of it was written
+pub record IsPart (words : List (List ℕ)) (bytes before : List ℕ) (written : Option (List ℕ)) : Type 0 where
+  pub whole : List ℕ
+  pub is : IsWholeText (request_of words) bytes whole
+  pub text : Front whole before written
+
+-- where input and output tell their bytes, nothing was written or a front of the whole text
+abbrev pub Breaks : List (List ℕ) → (left written written' : Option (List ℕ)) → Type 0
+Breaks words left written written' =
+    (bytes before : List ℕ) → left ≡ Some bytes → written ≡ Some before → (written' ≡ Some before) ⊎ IsPart words bytes before written'
