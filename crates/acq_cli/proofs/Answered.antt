@@ -1,5 +1,5 @@
 -- A turn whose question was answered.
-use Rattle.std.proofs.Common.{◌≡◌, ℕ, ◌+◌, List, [], ◌∷◌, Bool, length, ap, sym, ◌∙◌, Option, Some, None, subst, length-append}
+use Rattle.std.proofs.Common.{◌≡◌, ℕ, ◌+◌, List, Bool, length, sym, Option, Some, None, subst}
 use Rattle.std.specs.Prelude.{IfSome}
 use Rattle.assign.specs.Assignment.{Assignment}
 use Rattle.assign.specs.Events.{Answer}

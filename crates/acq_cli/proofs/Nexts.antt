@@ -1,6 +1,6 @@
 -- What comes next in a session.
-use Rattle.std.proofs.Common.{◌≡◌, ℕ, Bool, true, false, List, length, refl, sym, ◌∙◌, ap, subst, inl, inr, ◌⊎◌, Option, Some, None}
-use Rattle.std.specs.Prelude.{◌≢◌, ◌&&◌, is_some, not, All}
+use Rattle.std.proofs.Common.{◌≡◌, ℕ, true, List, length, refl, sym, ◌∙◌, ap, subst, inl, inr, ◌⊎◌, Option, Some, None}
+use Rattle.std.specs.Prelude.{◌≢◌, ◌&&◌, is_some, not}
 use Rattle.std.specs.Option.{option_map}
 use Rattle.std.proofs.lemmas.Bool.{and_parts}
 use Rattle.assign.specs.Sets.{numbers}
@@ -9,7 +9,7 @@ use Rattle.assign.specs.Events.{Answer}
 use Rattle.assign.specs.declared.events.Plan.{Plan}
 use Rattle.assign.specs.declared.events.Plan.TheVariants.{Scopes, Quacq, Multi}
 use Rattle.language.specs.declared.candidates.Candidate.{Candidate}
-use Rattle.language.specs.Language.{Language, IsLanguage, IsCandidate, IsQuestion, IsImplied}
+use Rattle.language.specs.Language.{Language, IsLanguage, IsCandidate, IsQuestion}
 use Rattle.language.specs.Answers.{IsNetwork, IsCovered, has_scope, kept}
 use Rattle.language.proofs.Covered.{covered_converged}
 use Rattle.language.proofs.Members.{find_some}
@@ -20,7 +20,6 @@ use Rattle.query_gen.specs.declared.query.Query.TheVariants as query
 use Rattle.query_gen.specs.Questions.{is_among, is_spent, next_query}
 use Rattle.query_gen.specs.Marks.{Remembered, is_open}
 use Rattle.session_laws.specs.Session.{State, Idle, Halving, Choosing, Walking, Over, At, is_just, is_lawful, is_undecided, next_scope, open_question, scope_question, state_after}
-use Rattle.session_laws.specs.Walk.{WalkEnd}
 use Rattle.session_laws.specs.Laws.{network_in}
 use Rattle.session_laws.proofs.Folds.{assignment_same}
 use Rattle.session_laws.proofs.ScopeByScope.{scopes_are_covered, scopes_never_over}
@@ -29,18 +28,18 @@ use Rattle.session_core.specs.declared.knowledge.Knowledge.{Knowledge}
 use Rattle.session_core.specs.declared.session.Session.{Session}
 use Rattle.session_core.specs.declared.session.Collapsed as overs
 use Rattle.session_core.specs.declared.session.Session.TheVariants as sessions
-use Rattle.session_core.specs.Standing.{Stands, Knows, IsAskedIn, IsAskedAfter, knowledge_of, open_in}
+use Rattle.session_core.specs.Standing.{Stands, Knows, IsAskedIn, knowledge_of}
 use Rattle.session_core.specs.Settled.{IsSettled}
 use Rattle.session_store.specs.Kept.{IsLawfulAfter}
 use Rattle.acq_cli.specs.declared.words.Request.{Request}
 use Rattle.acq_cli.specs.Places.{way_of}
-use Rattle.acq_cli.specs.Run.{Next, Puts, Ends, Converged, Collapsed, Undecided, puts_or, searched, idle_next, next_at, next_in, next_after}
+use Rattle.acq_cli.specs.Run.{Next, Puts, Ends, Converged, Collapsed, puts_or, searched, idle_next, next_at, next_in, next_after}
 use Rattle.acq_cli.specs.Driven.{IsDone, IsCollapsed, IsLeftOpen, TellsOpen}
 use Rattle.acq_cli.specs.Due.{IsDue, PutIs}
 use Rattle.acq_cli.specs.declared.driving.Next.{Next as NextOf}
 use Rattle.acq_cli.specs.declared.driving.Next.TheVariants as nexts
 use Rattle.acq_cli.proofs.Questions.{IsLawfulExample, asked_is_example, all_are_implied, undecided_is_spent, kept_network, same_state}
-use Rattle.acq_cli.proofs.Standings.{StandsAt, stands_at}
+use Rattle.acq_cli.proofs.Standings.{stands_at}
 
 abbrev pub some_of : (q : Assignment) → Option Assignment
 some_of q = Some q

@@ -1,7 +1,7 @@
 -- The open candidates.
-use Rattle.std.proofs.Common.{◌≡◌, ℕ, ◌+◌, ◌<◌, Bool, true, false, cond, ◌||◌, List, [], ◌∷◌, ◌++◌, length, map, get_or, refl, sym, ◌∙◌, ap, subst, inl, inr, ◌⊎◌, Option, Some, None}
+use Rattle.std.proofs.Common.{◌≡◌, ℕ, ◌<◌, Bool, true, false, cond, ◌||◌, List, [], ◌∷◌, length, get_or, refl, sym, ◌∙◌, ap, inl, inr, ◌⊎◌, None}
 use Rattle.std.specs.Prelude.{◌≢◌, ◌==◌, ◌&&◌, IsTrue, All, Any}
-use Rattle.std.specs.List.{filter, flat_map, list_any}
+use Rattle.std.specs.List.{filter, list_any}
 use Rattle.std.proofs.lemmas.Bool.{and_from, eq-eqb}
 use Rattle.std.proofs.lemmas.List.Elements.{All-filter, All-head, All-tail, filter_passes}
 use Rattle.std.proofs.lemmas.List.Folds.{list_any_at}
@@ -15,7 +15,6 @@ use Rattle.fd_solver.specs.declared.outcome.Outcome.TheVariants.{Found, Absent, 
 use Rattle.fd_solver.specs.Outcomes.{outcome_of_candidate}
 use Rattle.query_gen.specs.Questions.{is_among, is_spent}
 use Rattle.query_gen.specs.Marks.{Remembered, is_open}
-use Rattle.query_gen.specs.Laws.{IsUndecided}
 use Rattle.session_laws.specs.Session.{Idle, At, state_after}
 use Rattle.session_laws.proofs.Choices.{all_candidates}
 use Rattle.acq_cli.specs.declared.words.Request.{Request}

@@ -1,9 +1,9 @@
 -- What was written where it could not be written whole.
-use Rattle.std.proofs.Common.{◌≡◌, ℕ, List, [], ◌++◌, ap, sym, subst, refl, ◌∙◌, Option, Some, None, Result, Ok, Err, inl, inr, ◌⊎◌, append_assoc}
+use Rattle.std.proofs.Common.{◌≡◌, ℕ, List, [], ◌++◌, ap, sym, subst, refl, ◌∙◌, Option, Some, None, Result, Ok, Err, inl, inr, append_assoc}
 use Rattle.std.proofs.lemmas.List.{append-nil}
-use Rattle.std.specs.Prelude.{IfOk, OnErr, is_some, true}
+use Rattle.std.specs.Prelude.{IfOk, OnErr, is_some}
 use Rattle.std.specs.Option.{option_map}
-use Rattle.acq_io.specs.Streams.{Adds, AddsFront}
+use Rattle.acq_io.specs.Streams.{AddsFront}
 use Rattle.acq_io.specs.Whole.{Gathered, gathered, Gives, first_line_of}
 use Rattle.acq_io.specs.declared.streams.Put.{Put}
 use Rattle.acq_io.specs.declared.streams.Put.TheVariants.{Failed, Memory}

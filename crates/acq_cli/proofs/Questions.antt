@@ -1,8 +1,8 @@
 -- What the next question's search says of a session.
-use Rattle.std.proofs.Common.{◌≡◌, ℕ, Bool, true, false, List, [], ◌∷◌, ◌++◌, refl, sym, ◌∙◌, ap}
-use Rattle.std.specs.Prelude.{IsTrue, All, Any, ◌<◌, ◌&&◌, ◌==◌, nat_lt, length, Option, Some, None}
+use Rattle.std.proofs.Common.{◌≡◌, ℕ, true, List, [], ◌∷◌, refl, ◌∙◌, ap}
+use Rattle.std.specs.Prelude.{IsTrue, All, Any, ◌<◌, ◌&&◌, nat_lt, length, Some, None}
 use Rattle.std.specs.Option.{option_map_or, ForSome}
-use Rattle.std.specs.List.{list_any, list_all}
+use Rattle.std.specs.List.{list_all}
 use Rattle.std.proofs.lemmas.List.Elements.{All-filter, All-head, All-tail}
 use Rattle.std.proofs.lemmas.List.Folds.{list_any_at}
 use Rattle.std.proofs.lemmas.Bool.{and_from, eq-eqb}

@@ -1,7 +1,5 @@
-use Rattle.std.proofs.Common.{◌≡◌, ◌∙◌, sym, ap, subst, refl}
+use Rattle.std.proofs.Common.{sym, subst}
 use Rattle.language.specs.Language.{IsLanguage}
-use Rattle.session_core.specs.Standing.{knowledge_of}
-use Rattle.session_core.specs.declared.session.Session.{Session}
 use Rattle.acq_cli.proofs.Nexts.{OverAt, over_at}
 use Rattle.acq_cli.proofs.driving.next_of.Goals as goal
 

@@ -1,5 +1,5 @@
 use Rattle.language.specs.Answers.{standing_on}
-use Rattle.acq_cli.proofs.Standings.{marks_here, marks_there}
+use Rattle.acq_cli.proofs.Standings.{marks_here}
 use Rattle.acq_cli.proofs.driving.put_next.Goals as goal
 
 pub next_of-next-requires-clause-marks : goal.next_of-next-requires-clause-marks

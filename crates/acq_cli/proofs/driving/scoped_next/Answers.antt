@@ -1,4 +1,4 @@
-use Rattle.std.proofs.Common.{◌≡◌, ◌∙◌, sym, ap, subst, refl}
+use Rattle.std.proofs.Common.{◌∙◌, sym, subst, refl}
 use Rattle.language.specs.Language.{IsLanguage}
 use Rattle.acq_cli.proofs.Nexts.{scoped_new, scoped_done}
 use Rattle.acq_cli.proofs.driving.scoped_next.Goals as goal

@@ -1,6 +1,5 @@
 use Rattle.std.proofs.Common.{◌≡◌, ◌∙◌, ℕ, List, length, ap, sym, subst, refl, Option}
 use Rattle.assign.specs.Events.{Answer}
-use Rattle.assign.specs.declared.events.Plan.{Plan}
 use Rattle.language.specs.Language.{Language}
 use Rattle.language.specs.Answers.{standing_on}
 use Rattle.target_oracle.specs.Turns.{Turns}
