@@ -15,12 +15,12 @@ use Rattle.acq_cli.proofs.Running.{IsReached}
 use Rattle.acq_cli.proofs.Standings.{run_laws}
 use Rattle.acq_cli.proofs.Turning.{ToldSo, front_of_turn, step_said, cut_turn}
 
-module _ (turns : Turns) (l : Language) (way : Request) (t after : List Answer) (q : Assignment) (said : Bool) (put : Option Assignment) (left written left' written' : Option (List ℕ)) where
+module _ (turns : Turns) (l : Language) (request : Request) (t after : List Answer) (q : Assignment) (said : Bool) (put : Option Assignment) (left written left' written' : Option (List ℕ)) where
   -- the loop goes on
-  pub goes_on : (end : Option Drove) → IsDue l way t q → put ≡ Some q → AnswerKept said put t after end →
+  pub goes_on : (end : Option Drove) → IsDue l request t q → put ≡ Some q → AnswerKept said put t after end →
       ToldSo turns l (length t + 1) q (place_of t left written) (place_of t left' written') (Said said) → end ≡ None →
-      StepsTo turns l way (place_of t left written) (place_of after left' written')
-  goes_on None due is kept told none = step_said turns l way q said (place_of t left written) (place_of after left' written') due.puts (kept q is) told
+      StepsTo turns l request (place_of t left written) (place_of after left' written')
+  goes_on None due is kept told none = step_said turns l request q said (place_of t left written) (place_of after left' written') due.puts (kept q is) told
   goes_on (Some end) due is kept told none = cc
 
   pub one_more : (end : Option Drove) → put ≡ Some q → AnswerKept said put t after end → end ≡ None → IsOneMore t after
@@ -28,13 +28,13 @@ module _ (turns : Turns) (l : Language) (way : Request) (t after : List Answer) 
   one_more (Some end) is kept none = absurd (let no : ⊥ = cc in no)
 
   -- or there was no memory
-  pub ends : (end : Option Drove) → IsLanguage l → IsReached l way.plan t → IsDue l way t q → AnswerKept said put t after end →
+  pub ends : (end : Option Drove) → IsLanguage l → IsReached l request.plan t → IsDue l request t q → AnswerKept said put t after end →
       ToldSo turns l (length t + 1) q (place_of t left written) (place_of t left' written') (Said said) →
-      IfSome end (Drives turns l way (place_of t left written) (place_of after left' written'))
+      IfSome end (Drives turns l request (place_of t left written) (place_of after left' written'))
   ends None lawful reached due kept told = tt
   ends (Some end) lawful reached due kept told =
-      let cut : CutOff turns l way (place_of t left written) (place_of after left' written') =
-      cut_turn run_laws turns l way lawful q (place_of t left written) (place_of after left' written') reached due.puts kept.1
+      let cut : CutOff turns l request (place_of t left written) (place_of after left' written') =
+      cut_turn run_laws turns l request lawful q (place_of t left written) (place_of after left' written') reached due.puts kept.1
       (front_of_turn turns l (length t + 1) q (place_of t left written) (place_of after left' written') (Said said) told) in
-      let P : Drove → Type 0 = Drives turns l way (place_of t left written) (place_of after left' written') in
+      let P : Drove → Type 0 = Drives turns l request (place_of t left written) (place_of after left' written') in
       subst P (sym kept.0) cut

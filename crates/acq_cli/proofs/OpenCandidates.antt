@@ -59,11 +59,11 @@ filter_some p (x ∷ xs) some = go (p x) refl (filter_some p xs)
 
 -- ---- what the screen tells
 
-pub opens_are : (l : Language) (way : Request) (t : List Answer) (network : List Candidate) (screen : Remembered) → state_after l way.plan t ≡ At (Idle network None) → TellsOpen l way t screen →
-    filter (is_open l screen) (candidates l) ≡ open_candidates l way t network
-opens_are l way t network screen idle tells =
+pub opens_are : (l : Language) (request : Request) (t : List Answer) (network : List Candidate) (screen : Remembered) → state_after l request.plan t ≡ At (Idle network None) → TellsOpen l request t screen →
+    filter (is_open l screen) (candidates l) ≡ open_candidates l request t network
+opens_are l request t network screen idle tells =
     let live : List Candidate = kept l t network in
-    let spent : Candidate → Bool = λ c. is_spent (outcome_of_candidate l network c way.budget) in
+    let spent : Candidate → Bool = λ c. is_spent (outcome_of_candidate l network c request.budget) in
     filter_alike (IsCandidate l) (is_open l screen) (λ c. is_among live c && spent c) (candidates l) (all_candidates l) (λ c is. tells network None idle c is)
     ∙ filter_both (is_among live) spent (candidates l)
     ∙ ap (filter spent) (picked_are_in_order l _)
@@ -77,25 +77,25 @@ among_itself : (cs : List Candidate) → All (λ c. IsTrue (is_among cs c)) cs
 among_itself cs k d low =
     list_any_at (λ e. (e.scope == (get_or cs k d).scope) && (e.rel == (get_or cs k d).rel)) cs k d low (and_from _ _ (eq-eqb (get_or cs k d).scope (get_or cs k d).scope refl) (eq-eqb (get_or cs k d).rel (get_or cs k d).rel refl))
 
-pub leaves_open : (l : Language) (way : Request) (t : List Answer) (m : ℕ) → m ≡ length t → (left : IsLeftOpen l way t) → LeavesOpen l way m t left.network
-leaves_open l way t m number left =
+pub leaves_open : (l : Language) (request : Request) (t : List Answer) (m : ℕ) → m ≡ length t → (left : IsLeftOpen l request t) → LeavesOpen l request m t left.network
+leaves_open l request t m number left =
     let network : List Candidate = left.network in
     let live : List Candidate = kept l t network in
-    let spent : Candidate → Bool = λ c. is_spent (outcome_of_candidate l network c way.budget) in
+    let spent : Candidate → Bool = λ c. is_spent (outcome_of_candidate l network c request.budget) in
     record {
       number = number;
       idle = left.idle;
       ends = left.ends;
       plan = left.plan;
-      some = let any : Any (λ c. outcome_of_candidate l network c way.budget ≡ Spent) live = left.undecided.some in
+      some = let any : Any (λ c. outcome_of_candidate l network c request.budget ≡ Spent) live = left.undecided.some in
           filter_some spent live (list_any_at spent live any.0 any.1 any.2 (ap spent any.3 ∙ ap is_spent any.4));
       each = λ k d low. (
         All-filter spent (λ c. IsTrue (is_among live c)) live (among_itself live) k d low,
-        spent_is_long l network (get_or (filter spent live) k d) way.budget (is_spent_true _ (filter_passes spent live k d low)),
+        spent_is_long l network (get_or (filter spent live) k d) request.budget (is_spent_true _ (filter_passes spent live k d low)),
       );
       rest = λ k d low other. implied network (get_or live k d) (left.undecided.each k d low) other;
     }
   where
-    implied : (network : List Candidate) (c : Candidate) → ((outcome_of_candidate l network c way.budget ≡ Spent) × (way.budget < plain_size l network c)) ⊎ IsImplied l network c → (outcome_of_candidate l network c way.budget ≢ Spent) → IsImplied l network c
+    implied : (network : List Candidate) (c : Candidate) → ((outcome_of_candidate l network c request.budget ≡ Spent) × (request.budget < plain_size l network c)) ⊎ IsImplied l network c → (outcome_of_candidate l network c request.budget ≢ Spent) → IsImplied l network c
     implied network c (inl long) other = absurd (other long.0)
     implied network c (inr is) other = is

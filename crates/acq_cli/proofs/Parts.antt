@@ -62,19 +62,19 @@ unfolding read_on
 begun l plan = (Idle [] None, refl)
 
 -- nothing of it was written
-pub begun_part : (l : Language) (way : Request) (left written : Option (List ℕ)) → IsLanguage l → BreaksRun l way left written written
-begun_part l way left written lawful bytes before from to =
-    let has = run_exists run_laws line_turn l way lawful [] bytes (begun l way.plan) in
-    record { run = has.run; runs = has.runs; text = record { front = []; back = whole_text l way has.run; parts = refl; put = to ∙ some_text _ _ (sym (append-nil before)) } }
+pub begun_part : (l : Language) (request : Request) (left written : Option (List ℕ)) → IsLanguage l → BreaksRun l request left written written
+begun_part l request left written lawful bytes before from to =
+    let has = run_exists run_laws line_turn l request lawful [] bytes (begun l request.plan) in
+    record { run = has.run; runs = has.runs; text = record { front = []; back = whole_text l request has.run; parts = refl; put = to ∙ some_text _ _ (sym (append-nil before)) } }
 
-module _ (l : Language) (way : Request) (left written left' middle written' : Option (List ℕ)) (t : List Answer) where
+module _ (l : Language) (request : Request) (left written left' middle written' : Option (List ℕ)) (t : List Answer) where
   -- the lines of its turns are written, and a front of the last ones
-  pub closed_part : (closing : Closing) → RanTo line_turn l way closing (place_of [] left written) (place_of t left' middle) → AddsFront middle written' (closing_text l way t closing) → BreaksRun l way left written written'
+  pub closed_part : (closing : Closing) → RanTo line_turn l request closing (place_of [] left written) (place_of t left' middle) → AddsFront middle written' (closing_text l request t closing) → BreaksRun l request left written written'
   closed_part closing ran (front, back, parts, adds) bytes before from to =
       let run = ran bytes before from to in
       let Text : Type 0 = List ℕ in
-      let last : closing_text l way run.run.answers run.run.closing ≡ front ++ back =
-      (λ i. closing_text l way (run.answers i) (run.closing i)) ∙ parts in
+      let last : closing_text l request run.run.answers run.run.closing ≡ front ++ back =
+      (λ i. closing_text l request (run.answers i) (run.closing i)) ∙ parts in
       record {
         run = run.run;
         runs = run.runs;
@@ -87,10 +87,10 @@ module _ (l : Language) (way : Request) (left written left' middle written' : Op
       }
 
   -- the lines of its turns aren't all written
-  pub cut_part : CutOff line_turn l way (place_of [] left written) (place_of t left' middle) → written' ≡ middle → BreaksRun l way left written written'
+  pub cut_part : CutOff line_turn l request (place_of [] left written) (place_of t left' middle) → written' ≡ middle → BreaksRun l request left written written'
   cut_part cut same bytes before from to =
       let run = cut bytes before from to in
-      let last : List ℕ = closing_text l way run.run.answers run.run.closing in
+      let last : List ℕ = closing_text l request run.run.answers run.run.closing in
       record {
         run = run.run;
         runs = run.runs;
@@ -136,8 +136,8 @@ breaks_usage words left written written' none adds bytes before from to =
     inr (record { whole = usage_text; is = subst P (sym none) refl; text = front_of usage_text before written written' adds to })
 
 -- the words are taken, and this is given of the first line
-module _ (words : List (List ℕ)) (way : Request) (left rest written written' : Option (List ℕ)) (got : Result (List ℕ) AllFault)
-    (taken : request_of words ≡ Some way) (gives : Gives (first_line_of 4194304) left rest got) where
+module _ (words : List (List ℕ)) (request : Request) (left rest written written' : Option (List ℕ)) (got : Result (List ℕ) AllFault)
+    (taken : request_of words ≡ Some request) (gives : Gives (first_line_of 4194304) left rest got) where
   pub breaks_refusal : (fault : VocFault) → IsRefusal fault got → AddsFront written written' (refusal_text fault) → Breaks words left written written'
   breaks_refusal fault refused adds bytes before from to =
       let given = given_of (first_line_of 4194304) left rest got bytes gives from in
@@ -146,26 +146,26 @@ module _ (words : List (List ℕ)) (way : Request) (left rest written written' :
       let is : Q (first_line_of 4194304 bytes) = subst Q (sym given.gives) (record { fault = fault; refused = refused; is = refl }) in
       inr (record { whole = refusal_text fault; is = subst P (sym taken) (inl is); text = front_of (refusal_text fault) before written written' adds to })
 
-  pub breaks_run : (line : List ℕ) (lang : Language) → got ≡ Ok line → IsVocabulary line lang → BreaksRun lang way rest written written' → Breaks words left written written'
+  pub breaks_run : (line : List ℕ) (lang : Language) → got ≡ Ok line → IsVocabulary line lang → BreaksRun lang request rest written written' → Breaks words left written written'
   breaks_run line lang is vocabulary broken bytes before from to =
       let given = given_of (first_line_of 4194304) left rest got bytes gives from in
       let part = broken given.rest before given.left to in
-      let whole : List ℕ = whole_text lang way part.run in
+      let whole : List ℕ = whole_text lang request part.run in
       let P : Option Request → Type 0 = λ request. IsWholeText request bytes whole in
-      let Q : Gathered → Type 0 = λ first. IsTextOfRun way first whole in
+      let Q : Gathered → Type 0 = λ first. IsTextOfRun request first whole in
       let run : Q (first_line_of 4194304 bytes) =
       subst Q (sym given.gives) (record { line = line; got = is; lang = lang; vocabulary = vocabulary; run = part.run; runs = part.runs; is = refl }) in
       inr (record { whole = whole; is = subst P (sym taken) (inr run); text = part.text })
 
 -- what was done about a vocabulary is what the program has done
-pub acquires_by : (words : List (List ℕ)) (way : Request) (left rest written left' written' : Option (List ℕ)) (line : List ℕ) (lang : Language) (end : Ending) →
-    request_of words ≡ Some way → Gives (first_line_of 4194304) left rest (Ok line) → IsVocabulary line lang → Tries lang way rest written left' written' end → Acquires words left written left' written' end
-acquires_by words way left rest written left' written' line lang end taken gives vocabulary tries = go end tries
+pub acquires_by : (words : List (List ℕ)) (request : Request) (left rest written left' written' : Option (List ℕ)) (line : List ℕ) (lang : Language) (end : Ending) →
+    request_of words ≡ Some request → Gives (first_line_of 4194304) left rest (Ok line) → IsVocabulary line lang → Tries lang request rest written left' written' end → Acquires words left written left' written' end
+acquires_by words request left rest written left' written' line lang end taken gives vocabulary tries = go end tries
   where
-    reads : (e : Ending) → Tries lang way rest written left' written' e → Reads words left written left' written' e
-    reads e tried = record { way = way; taken = taken; line = line; rest = rest; gives = gives; lang = lang; vocabulary = vocabulary; tries = tried }
+    reads : (e : Ending) → Tries lang request rest written left' written' e → Reads words left written left' written' e
+    reads e tried = record { request = request; taken = taken; line = line; rest = rest; gives = gives; lang = lang; vocabulary = vocabulary; tries = tried }
 
-    go : (e : Ending) → Tries lang way rest written left' written' e → Acquires words left written left' written' e
+    go : (e : Ending) → Tries lang request rest written left' written' e → Acquires words left written left' written' e
     go (ending.Converged m) tried = reads (ending.Converged m) tried
     go (ending.Collapsed m) tried = reads (ending.Collapsed m) tried
     go (ending.Undecided m) tried = reads (ending.Undecided m) tried
@@ -174,21 +174,21 @@ acquires_by words way left rest written left' written' line lang end taken gives
     go ending.Unreadable tried = reads ending.Unreadable tried
     go (ending.Usage fault) tried = absurd tried
     go (ending.VocRefused fault) tried = absurd tried
-    go ending.ReadFault tried = (ap is_some taken, breaks_run words way left rest written written' (Ok line) taken gives line lang refl vocabulary tried)
+    go ending.ReadFault tried = (ap is_some taken, breaks_run words request left rest written written' (Ok line) taken gives line lang refl vocabulary tried)
     go ending.WriteFault tried = absurd tried
     go ending.Memory tried = absurd tried
 
-pub acquires_in : (words : List (List ℕ)) (way : Request) (left rest written left' written' : Option (List ℕ)) (line : List ℕ) (lang : Language) (got : Result Ending Put) →
-    request_of words ≡ Some way → Gives (first_line_of 4194304) left rest (Ok line) → IsVocabulary line lang → IfOk got (Tries lang way rest written left' written') → IfOk got (Acquires words left written left' written')
-acquires_in words way left rest written left' written' line lang (Ok end) taken gives vocabulary tries = acquires_by words way left rest written left' written' line lang end taken gives vocabulary tries
-acquires_in words way left rest written left' written' line lang (Err e) taken gives vocabulary tries = tt
+pub acquires_in : (words : List (List ℕ)) (request : Request) (left rest written left' written' : Option (List ℕ)) (line : List ℕ) (lang : Language) (got : Result Ending Put) →
+    request_of words ≡ Some request → Gives (first_line_of 4194304) left rest (Ok line) → IsVocabulary line lang → IfOk got (Tries lang request rest written left' written') → IfOk got (Acquires words left written left' written')
+acquires_in words request left rest written left' written' line lang (Ok end) taken gives vocabulary tries = acquires_by words request left rest written left' written' line lang end taken gives vocabulary tries
+acquires_in words request left rest written left' written' line lang (Err e) taken gives vocabulary tries = tt
 
-pub breaks_in : (words : List (List ℕ)) (way : Request) (left rest written written' : Option (List ℕ)) (line : List ℕ) (lang : Language) (got : Result Ending Put) →
-    request_of words ≡ Some way → Gives (first_line_of 4194304) left rest (Ok line) → IsVocabulary line lang → OnErr got (BreaksRun lang way rest written written') → OnErr got (Breaks words left written written')
-breaks_in words way left rest written written' line lang (Ok end) taken gives vocabulary broken = tt
-breaks_in words way left rest written written' line lang (Err e) taken gives vocabulary broken = breaks_run words way left rest written written' (Ok line) taken gives line lang refl vocabulary broken
+pub breaks_in : (words : List (List ℕ)) (request : Request) (left rest written written' : Option (List ℕ)) (line : List ℕ) (lang : Language) (got : Result Ending Put) →
+    request_of words ≡ Some request → Gives (first_line_of 4194304) left rest (Ok line) → IsVocabulary line lang → OnErr got (BreaksRun lang request rest written written') → OnErr got (Breaks words left written written')
+breaks_in words request left rest written written' line lang (Ok end) taken gives vocabulary broken = tt
+breaks_in words request left rest written written' line lang (Err e) taken gives vocabulary broken = breaks_run words request left rest written written' (Ok line) taken gives line lang refl vocabulary broken
 
-pub breaks_refused : (words : List (List ℕ)) (way : Request) (left rest written written' : Option (List ℕ)) (first : Result (List ℕ) AllFault) (fault : VocFault) (got : Result Ending Put) →
-    request_of words ≡ Some way → Gives (first_line_of 4194304) left rest first → IsRefusal fault first → OnErr got (AddsFront written written' (refusal_text fault)) → OnErr got (Breaks words left written written')
-breaks_refused words way left rest written written' first fault (Ok end) taken gives refused adds = tt
-breaks_refused words way left rest written written' first fault (Err e) taken gives refused adds = breaks_refusal words way left rest written written' first taken gives fault refused adds
+pub breaks_refused : (words : List (List ℕ)) (request : Request) (left rest written written' : Option (List ℕ)) (first : Result (List ℕ) AllFault) (fault : VocFault) (got : Result Ending Put) →
+    request_of words ≡ Some request → Gives (first_line_of 4194304) left rest first → IsRefusal fault first → OnErr got (AddsFront written written' (refusal_text fault)) → OnErr got (Breaks words left written written')
+breaks_refused words request left rest written written' first fault (Ok end) taken gives refused adds = tt
+breaks_refused words request left rest written written' first fault (Err e) taken gives refused adds = breaks_refusal words request left rest written written' first taken gives fault refused adds

@@ -18,8 +18,8 @@ some_text x y e = ap (λ (t : List ℕ). let a : Option (List ℕ) = Some t in a
 
 -- ---- many turns
 
-pub steps_none : (turns : Turns) (l : Language) (way : Request) (a : Place) → StepsTo turns l way a a
-steps_none turns l way a bytes before left written = record {
+pub steps_none : (turns : Turns) (l : Language) (request : Request) (a : Place) → StepsTo turns l request a a
+steps_none turns l request a bytes before left written = record {
   rest = bytes;
   done = [];
   left = left;
@@ -27,8 +27,8 @@ steps_none turns l way a bytes before left written = record {
   begins = λ run runs. runs;
 }
 
-pub steps_on : (turns : Turns) (l : Language) (way : Request) (a b c : Place) → StepsTo turns l way a b → StepsTo turns l way b c → StepsTo turns l way a c
-steps_on turns l way a b c first second bytes before left written =
+pub steps_on : (turns : Turns) (l : Language) (request : Request) (a b c : Place) → StepsTo turns l request a b → StepsTo turns l request b c → StepsTo turns l request a c
+steps_on turns l request a b c first second bytes before left written =
     let f = first bytes before left written in
     let s = second f.rest (before ++ f.done) f.left f.written in
     record {
@@ -36,11 +36,11 @@ steps_on turns l way a b c first second bytes before left written =
       done = f.done ++ s.done;
       left = s.left;
       written = s.written ∙ some_text _ _ (append_assoc before f.done s.done);
-      begins = λ run runs. subst (Runs turns l way a.answers bytes) (text_after f.done s.done run) (f.begins (after_text s.done run) (s.begins run runs));
+      begins = λ run runs. subst (Runs turns l request a.answers bytes) (text_after f.done s.done run) (f.begins (after_text s.done run) (s.begins run runs));
     }
 
-steps_ran : (turns : Turns) (l : Language) (way : Request) (closing : Closing) (a b c : Place) → StepsTo turns l way a b → RanTo turns l way closing b c → RanTo turns l way closing a c
-steps_ran turns l way closing a b c first second bytes before left written =
+steps_ran : (turns : Turns) (l : Language) (request : Request) (closing : Closing) (a b c : Place) → StepsTo turns l request a b → RanTo turns l request closing b c → RanTo turns l request closing a c
+steps_ran turns l request closing a b c first second bytes before left written =
     let f = first bytes before left written in
     let s = second f.rest (before ++ f.done) f.left f.written in
     record {
@@ -52,8 +52,8 @@ steps_ran turns l way closing a b c first second bytes before left written =
       written = s.written ∙ some_text _ _ (append_assoc before f.done s.run.text);
     }
 
-steps_cut : (turns : Turns) (l : Language) (way : Request) (a b c : Place) → StepsTo turns l way a b → CutOff turns l way b c → CutOff turns l way a c
-steps_cut turns l way a b c first second bytes before left written =
+steps_cut : (turns : Turns) (l : Language) (request : Request) (a b c : Place) → StepsTo turns l request a b → CutOff turns l request b c → CutOff turns l request a c
+steps_cut turns l request a b c first second bytes before left written =
     let f = first bytes before left written in
     let s = second f.rest (before ++ f.done) f.left f.written in
     record {
@@ -69,16 +69,16 @@ steps_cut turns l way a b c first second bytes before left written =
       answers = s.answers;
     }
 
-pub steps_end : (turns : Turns) (l : Language) (way : Request) (a b c : Place) (end : Drove) → StepsTo turns l way a b → Drives turns l way b c end → Drives turns l way a c end
-steps_end turns l way a b c (drove.Converged m) steps e = (e.0, e.1, steps_ran turns l way Converged a b c steps e.2)
-steps_end turns l way a b c (drove.Collapsed m) steps e = (e.0, e.1, steps_ran turns l way Collapsed a b c steps e.2)
-steps_end turns l way a b c (drove.Undecided m) steps e = (e.0, e.1, steps_ran turns l way Undecided a b c steps e.2)
-steps_end turns l way a b c (drove.Suspended m) steps e = (e.0, steps_ran turns l way Suspended a b c steps e.1)
-steps_end turns l way a b c drove.LineTooLong steps e = steps_ran turns l way LineTooLong a b c steps e
-steps_end turns l way a b c drove.Unreadable steps e = steps_ran turns l way Unreadable a b c steps e
-steps_end turns l way a b c drove.ReadFault steps e = steps_cut turns l way a b c steps e
-steps_end turns l way a b c drove.WriteFault steps e = steps_cut turns l way a b c steps e
-steps_end turns l way a b c drove.Memory steps e = steps_cut turns l way a b c steps e
+pub steps_end : (turns : Turns) (l : Language) (request : Request) (a b c : Place) (end : Drove) → StepsTo turns l request a b → Drives turns l request b c end → Drives turns l request a c end
+steps_end turns l request a b c (drove.Converged m) steps e = (e.0, e.1, steps_ran turns l request Converged a b c steps e.2)
+steps_end turns l request a b c (drove.Collapsed m) steps e = (e.0, e.1, steps_ran turns l request Collapsed a b c steps e.2)
+steps_end turns l request a b c (drove.Undecided m) steps e = (e.0, e.1, steps_ran turns l request Undecided a b c steps e.2)
+steps_end turns l request a b c (drove.Suspended m) steps e = (e.0, steps_ran turns l request Suspended a b c steps e.1)
+steps_end turns l request a b c drove.LineTooLong steps e = steps_ran turns l request LineTooLong a b c steps e
+steps_end turns l request a b c drove.Unreadable steps e = steps_ran turns l request Unreadable a b c steps e
+steps_end turns l request a b c drove.ReadFault steps e = steps_cut turns l request a b c steps e
+steps_end turns l request a b c drove.WriteFault steps e = steps_cut turns l request a b c steps e
+steps_end turns l request a b c drove.Memory steps e = steps_cut turns l request a b c steps e
 
 -- ---- one turn
 
@@ -97,19 +97,19 @@ front_of_turn turns l k q a b reply told bytes before left written =
     record { front = (turns l k q bytes).text; back = []; parts = sym (append-nil (turns l k q bytes).text); put = t.text }
 
 -- nothing is put
-pub ran_end : (turns : Turns) (l : Language) (way : Request) (closing : Closing) (a : Place) → next_after l way a.answers ≡ Some (Ends closing) → RanTo turns l way closing a a
-ran_end turns l way closing a due bytes before left written = record {
+pub ran_end : (turns : Turns) (l : Language) (request : Request) (closing : Closing) (a : Place) → next_after l request a.answers ≡ Some (Ends closing) → RanTo turns l request closing a a
+ran_end turns l request closing a due bytes before left written = record {
   run = ended closing a.answers bytes;
-  runs = runs_end turns l way a.answers bytes closing due;
+  runs = runs_end turns l request a.answers bytes closing due;
   closing = refl;
   answers = refl;
   left = left;
   written = written ∙ some_text _ _ (sym (append-nil before));
 }
 
-pub step_said : (turns : Turns) (l : Language) (way : Request) (q : Assignment) (said : Bool) (a b : Place) → next_after l way a.answers ≡ Some (Puts q) →
-    b.answers ≡ a.answers ++ answer q said ∷ [] → ToldSo turns l (length a.answers + 1) q a b (Said said) → StepsTo turns l way a b
-step_said turns l way q said a b due added told bytes before left written =
+pub step_said : (turns : Turns) (l : Language) (request : Request) (q : Assignment) (said : Bool) (a b : Place) → next_after l request a.answers ≡ Some (Puts q) →
+    b.answers ≡ a.answers ++ answer q said ∷ [] → ToldSo turns l (length a.answers + 1) q a b (Said said) → StepsTo turns l request a b
+step_said turns l request q said a b due added told bytes before left written =
     let t = told bytes before left written in
     let turned = turns l (length a.answers + 1) q bytes in
     record {
@@ -117,16 +117,16 @@ step_said turns l way q said a b due added told bytes before left written =
       done = turned.text;
       left = t.rest;
       written = t.text;
-      begins = λ run runs. runs_said turns l way a.answers bytes q said run due t.heard (let P : List Answer → Type 0 = λ xs. Runs turns l way xs turned.heard.rest run in subst P added runs);
+      begins = λ run runs. runs_said turns l request a.answers bytes q said run due t.heard (let P : List Answer → Type 0 = λ xs. Runs turns l request xs turned.heard.rest run in subst P added runs);
     }
 
-pub ran_closed : (turns : Turns) (l : Language) (way : Request) (q : Assignment) (reply : Reply) (closing : Closing) (a b : Place) → next_after l way a.answers ≡ Some (Puts q) → b.answers ≡ a.answers →
-    EndsSo reply closing a.answers q → ToldSo turns l (length a.answers + 1) q a b reply → RanTo turns l way closing a b
-ran_closed turns l way q reply closing a b due same closes told bytes before left written =
+pub ran_closed : (turns : Turns) (l : Language) (request : Request) (q : Assignment) (reply : Reply) (closing : Closing) (a b : Place) → next_after l request a.answers ≡ Some (Puts q) → b.answers ≡ a.answers →
+    EndsSo reply closing a.answers q → ToldSo turns l (length a.answers + 1) q a b reply → RanTo turns l request closing a b
+ran_closed turns l request q reply closing a b due same closes told bytes before left written =
     let t = told bytes before left written in
     record {
       run = _;
-      runs = runs_closed turns l way a.answers bytes q reply closing due t.heard closes;
+      runs = runs_closed turns l request a.answers bytes q reply closing due t.heard closes;
       closing = refl;
       answers = sym same;
       left = t.rest;
@@ -134,11 +134,11 @@ ran_closed turns l way q reply closing a b due same closes told bytes before lef
     }
 
 -- a turn that was cut off
-pub cut_turn : RunLaws → (turns : Turns) (l : Language) (way : Request) → IsLanguage l → (q : Assignment) (a b : Place) → IsReached l way.plan a.answers → next_after l way a.answers ≡ Some (Puts q) →
-    b.answers ≡ a.answers → FrontSo turns l (length a.answers + 1) q a b → CutOff turns l way a b
-cut_turn laws turns l way lawful q a b reached due same told bytes before left written =
+pub cut_turn : RunLaws → (turns : Turns) (l : Language) (request : Request) → IsLanguage l → (q : Assignment) (a b : Place) → IsReached l request.plan a.answers → next_after l request a.answers ≡ Some (Puts q) →
+    b.answers ≡ a.answers → FrontSo turns l (length a.answers + 1) q a b → CutOff turns l request a b
+cut_turn laws turns l request lawful q a b reached due same told bytes before left written =
     let f = told bytes before left written in
-    let turn = turn_exists laws turns l way lawful a.answers bytes q reached due in
+    let turn = turn_exists laws turns l request lawful a.answers bytes q reached due in
     record {
       run = turn.has.run;
       runs = turn.has.runs;

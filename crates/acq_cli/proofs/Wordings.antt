@@ -177,7 +177,7 @@ none_within = record { plan = λ p is. absurd (none_some p is); some = λ b is. 
 
 pub request_lawful : (o : Options) (asked : Option Request) → AreWithin o → asked ≡ request_by o → IfSome asked IsLawful
 request_lawful o None within h = tt
-request_lawful o (Some way) within h = at o.waiting h
+request_lawful o (Some request) within h = at o.waiting h
   where
     built : Plan → Bool
     built Scopes = true
@@ -202,6 +202,6 @@ request_lawful o (Some way) within h = at o.waiting h
     small_by None w = omega arith
     small_by (Some b) w = w b refl
 
-    at : (waiting : Option Setting) → Some way ≡ request_at o waiting → IsLawful way
-    at (Some name) h = absurd (none_some way (sym h))
-    at None h = subst IsLawful (sym (same_some way _ h)) (record { plan = plan_by o.plan within.plan; some = some_by o.budget within.some; small = small_by o.budget within.small })
+    at : (waiting : Option Setting) → Some request ≡ request_at o waiting → IsLawful request
+    at (Some name) h = absurd (none_some request (sym h))
+    at None h = subst IsLawful (sym (same_some request _ h)) (record { plan = plan_by o.plan within.plan; some = some_by o.budget within.some; small = small_by o.budget within.small })

@@ -17,14 +17,14 @@ use Rattle.acq_cli.specs.declared.words.Request.{Request}
 -- ---- A session
 
 -- a front of the whole text of a run of these bytes was written
-pub record IsPartOfRun (l : Language) (way : Request) (bytes before : List ℕ) (written : Option (List ℕ)) : Type 0 where
+pub record IsPartOfRun (l : Language) (request : Request) (bytes before : List ℕ) (written : Option (List ℕ)) : Type 0 where
   pub run : Ran
-  pub runs : Runs line_turn l way [] bytes run
-  pub text : Front (whole_text l way run) before written
+  pub runs : Runs line_turn l request [] bytes run
+  pub text : Front (whole_text l request run) before written
 
 -- where input and output tell their bytes
 abbrev pub BreaksRun : Language → Request → (left written written' : Option (List ℕ)) → Type 0
-BreaksRun l way left written written' = (bytes before : List ℕ) → left ≡ Some bytes → written ≡ Some before → IsPartOfRun l way bytes before written'
+BreaksRun l request left written written' = (bytes before : List ℕ) → left ≡ Some bytes → written ≡ Some before → IsPartOfRun l request bytes before written'
 
 -- ---- The program
 
@@ -40,19 +40,19 @@ pub record IsTextOfRefusal (first : Gathered) (text : List ℕ) : Type 0 where
   pub is : text ≡ refusal_text fault
 
 -- the first line is a vocabulary, and a run of the lines after it has this text
-pub record IsTextOfRun (way : Request) (first : Gathered) (text : List ℕ) : Type 0 where
+pub record IsTextOfRun (request : Request) (first : Gathered) (text : List ℕ) : Type 0 where
   pub line : List ℕ
   pub got : first.got ≡ Ok line
   pub lang : Language
   pub vocabulary : IsVocabulary line lang
   pub run : Ran
-  pub runs : Runs line_turn lang way [] first.rest run
-  pub is : text ≡ whole_text lang way run
+  pub runs : Runs line_turn lang request [] first.rest run
+  pub is : text ≡ whole_text lang request run
 
 -- the whole text that the program writes for what the words ask and these bytes
 abbrev pub IsWholeText : Option Request → List ℕ → List ℕ → Type 0
 IsWholeText None bytes text = text ≡ usage_text
-IsWholeText (Some way) bytes text = IsTextOfRefusal (first_line_of 4194304 bytes) text ⊎ IsTextOfRun way (first_line_of 4194304 bytes) text
+IsWholeText (Some request) bytes text = IsTextOfRefusal (first_line_of 4194304 bytes) text ⊎ IsTextOfRun request (first_line_of 4194304 bytes) text
 
 -- a front of it was written
 pub record IsPart (words : List (List ℕ)) (bytes before : List ℕ) (written : Option (List ℕ)) : Type 0 where

@@ -26,96 +26,96 @@ pub record Place : Type 0 where
   pub written : Option (List ℕ)
 
 -- what was written so far begins each run that goes on from there
-pub record IsBegun (turns : Turns) (l : Language) (way : Request) (bytes before : List ℕ) (old new : Place) : Type 0 where
+pub record IsBegun (turns : Turns) (l : Language) (request : Request) (bytes before : List ℕ) (old new : Place) : Type 0 where
   pub rest : List ℕ
   pub done : List ℕ
   pub left : new.left ≡ Some rest
   pub written : new.written ≡ Some (before ++ done)
-  pub begins : (run : Ran) → Runs turns l way new.answers rest run → Runs turns l way old.answers bytes (after_text done run)
+  pub begins : (run : Ran) → Runs turns l request new.answers rest run → Runs turns l request old.answers bytes (after_text done run)
 
 -- where source and sink tell
 abbrev pub StepsTo : Turns → Language → Request → Place → Place → Type 0
-StepsTo turns l way old new = (bytes before : List ℕ) → old.left ≡ Some bytes → old.written ≡ Some before → IsBegun turns l way bytes before old new
+StepsTo turns l request old new = (bytes before : List ℕ) → old.left ≡ Some bytes → old.written ≡ Some before → IsBegun turns l request bytes before old new
 
 -- the run with this closing is what was written and left, and its answers stand
-pub record IsRun (turns : Turns) (l : Language) (way : Request) (bytes before : List ℕ) (end : Closing) (old new : Place) : Type 0 where
+pub record IsRun (turns : Turns) (l : Language) (request : Request) (bytes before : List ℕ) (end : Closing) (old new : Place) : Type 0 where
   pub run : Ran
-  pub runs : Runs turns l way old.answers bytes run
+  pub runs : Runs turns l request old.answers bytes run
   pub closing : run.closing ≡ end
   pub answers : run.answers ≡ new.answers
   pub left : new.left ≡ Some run.rest
   pub written : new.written ≡ Some (before ++ run.text)
 
 abbrev pub RanTo : Turns → Language → Request → Closing → Place → Place → Type 0
-RanTo turns l way closing old new = (bytes before : List ℕ) → old.left ≡ Some bytes → old.written ≡ Some before → IsRun turns l way bytes before closing old new
+RanTo turns l request closing old new = (bytes before : List ℕ) → old.left ≡ Some bytes → old.written ≡ Some before → IsRun turns l request bytes before closing old new
 
 -- what was written is a front of the run's text, and the answers are a front of its answers
-pub record IsCut (turns : Turns) (l : Language) (way : Request) (bytes before : List ℕ) (old new : Place) : Type 0 where
+pub record IsCut (turns : Turns) (l : Language) (request : Request) (bytes before : List ℕ) (old new : Place) : Type 0 where
   pub run : Ran
-  pub runs : Runs turns l way old.answers bytes run
+  pub runs : Runs turns l request old.answers bytes run
   pub text : Front run.text before new.written
   pub later : List Answer
   pub answers : run.answers ≡ new.answers ++ later
 
 abbrev pub CutOff : Turns → Language → Request → Place → Place → Type 0
-CutOff turns l way old new = (bytes before : List ℕ) → old.left ≡ Some bytes → old.written ≡ Some before → IsCut turns l way bytes before old new
+CutOff turns l request old new = (bytes before : List ℕ) → old.left ≡ Some bytes → old.written ≡ Some before → IsCut turns l request bytes before old new
 
 -- nothing is left to ask, and the answers converge on what was learned
-pub record IsDone (l : Language) (way : Request) (t : List Answer) : Type 0 where
+pub record IsDone (l : Language) (request : Request) (t : List Answer) : Type 0 where
   pub network : List Candidate
-  pub idle : state_after l way.plan t ≡ At (Idle network None)
-  pub ends : next_after l way t ≡ Some (Ends Converged)
+  pub idle : state_after l request.plan t ≡ At (Idle network None)
+  pub ends : next_after l request t ≡ Some (Ends Converged)
   pub covered : IsCovered l network t
   pub converged : IsConverged l network t
 
 -- no network agrees with the answers, which never comes scope by scope
-pub record IsCollapsed (l : Language) (way : Request) (t : List Answer) : Type 0 where
+pub record IsCollapsed (l : Language) (request : Request) (t : List Answer) : Type 0 where
   pub network : List Candidate
-  pub over : state_after l way.plan t ≡ At (Over network)
+  pub over : state_after l request.plan t ≡ At (Over network)
   pub none : NoneAgrees l t
-  pub plan : way.plan ≢ Scopes
+  pub plan : request.plan ≢ Scopes
 
 -- Nothing was found to ask. The budget was too small for the searches of some kept candidates, and each other one is implied.
-pub record IsLeftOpen (l : Language) (way : Request) (t : List Answer) : Type 0 where
+pub record IsLeftOpen (l : Language) (request : Request) (t : List Answer) : Type 0 where
   pub network : List Candidate
-  pub idle : state_after l way.plan t ≡ At (Idle network None)
-  pub ends : next_after l way t ≡ Some (Ends Undecided)
+  pub idle : state_after l request.plan t ≡ At (Idle network None)
+  pub ends : next_after l request t ≡ Some (Ends Undecided)
   pub lawful : IsNetwork l network
-  pub undecided : IsUndecided l network (kept l t network) way.budget
-  pub plan : way.plan ≢ Scopes
+  pub undecided : IsUndecided l network (kept l t network) request.budget
+  pub plan : request.plan ≢ Scopes
 
 -- The loop ends so only in this way.
 abbrev pub Drives : Turns → Language → Request → Place → Place → Drove → Type 0
-Drives turns l way old new (drove.Converged m) = (m ≡ length new.answers) × IsDone l way new.answers × RanTo turns l way Converged old new
-Drives turns l way old new (drove.Collapsed m) = (m ≡ length new.answers) × IsCollapsed l way new.answers × RanTo turns l way Collapsed old new
-Drives turns l way old new (drove.Undecided m) = (m ≡ length new.answers) × IsLeftOpen l way new.answers × RanTo turns l way Undecided old new
-Drives turns l way old new (drove.Suspended m) = (m ≡ length new.answers) × RanTo turns l way Suspended old new
-Drives turns l way old new drove.LineTooLong = RanTo turns l way LineTooLong old new
-Drives turns l way old new drove.Unreadable = RanTo turns l way Unreadable old new
-Drives turns l way old new drove.ReadFault = CutOff turns l way old new
-Drives turns l way old new drove.WriteFault = CutOff turns l way old new
-Drives turns l way old new drove.Memory = CutOff turns l way old new
+Drives turns l request old new (drove.Converged m) = (m ≡ length new.answers) × IsDone l request new.answers × RanTo turns l request Converged old new
+Drives turns l request old new (drove.Collapsed m) = (m ≡ length new.answers) × IsCollapsed l request new.answers × RanTo turns l request Collapsed old new
+Drives turns l request old new (drove.Undecided m) = (m ≡ length new.answers) × IsLeftOpen l request new.answers × RanTo turns l request Undecided old new
+Drives turns l request old new (drove.Suspended m) = (m ≡ length new.answers) × RanTo turns l request Suspended old new
+Drives turns l request old new drove.LineTooLong = RanTo turns l request LineTooLong old new
+Drives turns l request old new drove.Unreadable = RanTo turns l request Unreadable old new
+Drives turns l request old new drove.ReadFault = CutOff turns l request old new
+Drives turns l request old new drove.WriteFault = CutOff turns l request old new
+Drives turns l request old new drove.Memory = CutOff turns l request old new
 
 -- what comes of it where this network gave each answer: no collapse, and what was learned has exactly its solutions
 abbrev pub IsOwned : Language → Request → List Candidate → List Answer → Drove → Type 0
-IsOwned l way owner t (drove.Converged m) = (network : List Candidate) × (state_after l way.plan t ≡ At (Idle network None)) × HasSameSolutions l owner network
-IsOwned l way owner t (drove.Collapsed m) = ⊥
-IsOwned l way owner t (drove.Undecided m) = Unit {0}
-IsOwned l way owner t (drove.Suspended m) = Unit {0}
-IsOwned l way owner t drove.LineTooLong = Unit {0}
-IsOwned l way owner t drove.Unreadable = Unit {0}
-IsOwned l way owner t drove.ReadFault = Unit {0}
-IsOwned l way owner t drove.WriteFault = Unit {0}
-IsOwned l way owner t drove.Memory = Unit {0}
+IsOwned l request owner t (drove.Converged m) = (network : List Candidate) × (state_after l request.plan t ≡ At (Idle network None)) × HasSameSolutions l owner network
+IsOwned l request owner t (drove.Collapsed m) = ⊥
+IsOwned l request owner t (drove.Undecided m) = Unit {0}
+IsOwned l request owner t (drove.Suspended m) = Unit {0}
+IsOwned l request owner t drove.LineTooLong = Unit {0}
+IsOwned l request owner t drove.Unreadable = Unit {0}
+IsOwned l request owner t drove.ReadFault = Unit {0}
+IsOwned l request owner t drove.WriteFault = Unit {0}
+IsOwned l request owner t drove.Memory = Unit {0}
 
 -- ---- what a screen says of the candidates
 
 -- its marks are true of the network that the answers lead to
 abbrev pub Remembers : Language → Request → List Answer → Remembered → Type 0
-Remembers l way t screen = (state : State) → state_after l way.plan t ≡ At state → MarksHold l (network_in state) way.budget screen
+Remembers l request t screen = (state : State) → state_after l request.plan t ≡ At state → MarksHold l (network_in state) request.budget screen
 
 -- where nothing is open, it tells exactly the kept candidates whose searches the budget was too small for
 abbrev pub TellsOpen : Language → Request → List Answer → Remembered → Type 0
-TellsOpen l way t screen =
-    (network : List Candidate) (end : Option WalkEnd) → state_after l way.plan t ≡ At (Idle network end) → (c : Candidate) → IsCandidate l c →
-    is_open l screen c ≡ (is_among (kept l t network) c && is_spent (outcome_of_candidate l network c way.budget))
+TellsOpen l request t screen =
+    (network : List Candidate) (end : Option WalkEnd) → state_after l request.plan t ≡ At (Idle network end) → (c : Candidate) → IsCandidate l c →
+    is_open l screen c ≡ (is_among (kept l t network) c && is_spent (outcome_of_candidate l network c request.budget))

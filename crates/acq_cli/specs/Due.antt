@@ -13,33 +13,33 @@ use Rattle.acq_cli.specs.declared.driving.Next.{Next}
 use Rattle.acq_cli.specs.declared.driving.Next.TheVariants as next
 
 -- this question comes next
-pub record IsDue (l : Language) (way : Request) (t : List Answer) (q : Assignment) : Type 0 where
-  pub puts : next_after l way t ≡ Some (Puts q)
+pub record IsDue (l : Language) (request : Request) (t : List Answer) (q : Assignment) : Type 0 where
+  pub puts : next_after l request t ≡ Some (Puts q)
   pub fits : IsQuestion l q
 
 -- no question comes: the answers converge, or no network agrees with them, or the budget was too small
 abbrev pub NoneIsDue : Language → Request → List Answer → Next → Type 0
-NoneIsDue l way t (next.Open q) = ⊥
-NoneIsDue l way t (next.New q) = ⊥
-NoneIsDue l way t next.Converged = IsDone l way t
-NoneIsDue l way t next.Collapsed = IsCollapsed l way t × (next_after l way t ≡ Some (Ends Collapsed))
-NoneIsDue l way t next.Undecided = IsLeftOpen l way t
+NoneIsDue l request t (next.Open q) = ⊥
+NoneIsDue l request t (next.New q) = ⊥
+NoneIsDue l request t next.Converged = IsDone l request t
+NoneIsDue l request t next.Collapsed = IsCollapsed l request t × (next_after l request t ≡ Some (Ends Collapsed))
+NoneIsDue l request t next.Undecided = IsLeftOpen l request t
 
 -- what comes next after these answers, where this question is put or none is
 abbrev pub NextIs : Language → Request → List Answer → Option Assignment → Next → Type 0
-NextIs l way t put (next.Open q) = IsDue l way t q × (put ≡ Some q)
-NextIs l way t put (next.New q) = IsDue l way t q × (put ≡ None) × IsLawfulAfter l way.plan t q
-NextIs l way t put next.Converged = NoneIsDue l way t next.Converged
-NextIs l way t put next.Collapsed = NoneIsDue l way t next.Collapsed
-NextIs l way t put next.Undecided = NoneIsDue l way t next.Undecided
+NextIs l request t put (next.Open q) = IsDue l request t q × (put ≡ Some q)
+NextIs l request t put (next.New q) = IsDue l request t q × (put ≡ None) × IsLawfulAfter l request.plan t q
+NextIs l request t put next.Converged = NoneIsDue l request t next.Converged
+NextIs l request t put next.Collapsed = NoneIsDue l request t next.Collapsed
+NextIs l request t put next.Undecided = NoneIsDue l request t next.Undecided
 
 -- the question that is put is the next one, or none is
 abbrev pub PutIs : Language → Request → List Answer → Option Assignment → Next → Type 0
-PutIs l way t put (next.Open q) = IsDue l way t q × (put ≡ Some q)
-PutIs l way t put (next.New q) = IsDue l way t q × (put ≡ Some q)
-PutIs l way t put next.Converged = NoneIsDue l way t next.Converged
-PutIs l way t put next.Collapsed = NoneIsDue l way t next.Collapsed
-PutIs l way t put next.Undecided = NoneIsDue l way t next.Undecided
+PutIs l request t put (next.Open q) = IsDue l request t q × (put ≡ Some q)
+PutIs l request t put (next.New q) = IsDue l request t q × (put ≡ Some q)
+PutIs l request t put next.Converged = NoneIsDue l request t next.Converged
+PutIs l request t put next.Collapsed = NoneIsDue l request t next.Collapsed
+PutIs l request t put next.Undecided = NoneIsDue l request t next.Undecided
 
 -- the same answers and one more
 pub record IsOneMore (old new : List Answer) : Type 0 where

@@ -8,5 +8,5 @@ use Rattle.acq_cli.specs.declared.words.Request.{Request}
 abbrev pub place_of : List Answer → Option (List ℕ) → Option (List ℕ) → Place
 place_of answers left written = record { answers = answers; left = left; written = written }
 
-abbrev pub way_of : Plan → ℕ → Request
-way_of plan budget = record { plan = plan; budget = budget }
+abbrev pub request_with : Plan → ℕ → Request
+request_with plan budget = record { plan = plan; budget = budget }

@@ -29,108 +29,108 @@ use Rattle.acq_cli.specs.declared.ending.Ending.{Ending}
 use Rattle.acq_cli.specs.declared.ending.Ending.TheVariants as ending
 
 -- these answers stand at the end, and each network that agrees with them has the solutions of the learned one
-pub record Concludes (l : Language) (way : Request) (m : ℕ) (answers : List Answer) (network : List Candidate) : Type 0 where
+pub record Concludes (l : Language) (request : Request) (m : ℕ) (answers : List Answer) (network : List Candidate) : Type 0 where
   pub number : m ≡ length answers
-  pub idle : state_after l way.plan answers ≡ At (Idle network None)
-  pub ends : next_after l way answers ≡ Some (Ends Converged)
+  pub idle : state_after l request.plan answers ≡ At (Idle network None)
+  pub ends : next_after l request answers ≡ Some (Ends Converged)
   pub covered : IsCovered l network answers
   pub converged : IsConverged l network answers
   -- a network that gave each answer has exactly the solutions of the learned one
   pub owner : (owner : List Candidate) → IsNetwork l owner → IsTrue (agrees l owner answers) → HasSameSolutions l owner network
 
 -- these answers stand at the end, and no network agrees with them
-pub record Refutes (l : Language) (way : Request) (m : ℕ) (answers : List Answer) : Type 0 where
+pub record Refutes (l : Language) (request : Request) (m : ℕ) (answers : List Answer) : Type 0 where
   pub number : m ≡ length answers
-  pub collapsed : IsCollapsed l way answers
+  pub collapsed : IsCollapsed l request answers
 
 -- these answers stand at the end, and the budget was too small to say more
-pub record LeavesOpen (l : Language) (way : Request) (m : ℕ) (answers : List Answer) (network : List Candidate) : Type 0 where
+pub record LeavesOpen (l : Language) (request : Request) (m : ℕ) (answers : List Answer) (network : List Candidate) : Type 0 where
   pub number : m ≡ length answers
-  pub idle : state_after l way.plan answers ≡ At (Idle network None)
-  pub ends : next_after l way answers ≡ Some (Ends Undecided)
-  pub plan : way.plan ≢ Scopes
+  pub idle : state_after l request.plan answers ≡ At (Idle network None)
+  pub ends : next_after l request answers ≡ Some (Ends Undecided)
+  pub plan : request.plan ≢ Scopes
   -- some candidate is listed
-  pub some : open_candidates l way answers network ≢ []
+  pub some : open_candidates l request answers network ≢ []
   -- each that is listed is kept, and its search has more steps than the budget
-  pub each : All (λ c. IsTrue (is_among (kept l answers network) c) × (way.budget < plain_size l network c)) (open_candidates l way answers network)
+  pub each : All (λ c. IsTrue (is_among (kept l answers network) c) × (request.budget < plain_size l network c)) (open_candidates l request answers network)
   -- each other that is kept is implied
-  pub rest : All (λ c. (outcome_of_candidate l network c way.budget ≢ Spent) → IsImplied l network c) (kept l answers network)
+  pub rest : All (λ c. (outcome_of_candidate l network c request.budget ≢ Spent) → IsImplied l network c) (kept l answers network)
 
 -- the run of the lines with this closing, and then its last text
-pub record Closes (l : Language) (way : Request) (left written left' written' : Option (List ℕ)) (closing : Closing) (answers : List Answer) (text : List ℕ) : Type 0 where
+pub record Closes (l : Language) (request : Request) (left written left' written' : Option (List ℕ)) (closing : Closing) (answers : List Answer) (text : List ℕ) : Type 0 where
   pub middle : Option (List ℕ)
-  pub ran : RanTo line_turn l way closing (place_of [] left written) (place_of answers left' middle)
+  pub ran : RanTo line_turn l request closing (place_of [] left written) (place_of answers left' middle)
   pub adds : Adds middle written' text
 
 -- what the loop has found where it says so, and the count is that of the answers
 abbrev pub HasEnded : Language → Request → List Answer → Drove → Type 0
-HasEnded l way t (drove.Converged m) = (m ≡ length t) × IsDone l way t
-HasEnded l way t (drove.Collapsed m) = (m ≡ length t) × IsCollapsed l way t
-HasEnded l way t (drove.Undecided m) = (m ≡ length t) × IsLeftOpen l way t
-HasEnded l way t (drove.Suspended m) = m ≡ length t
-HasEnded l way t drove.LineTooLong = Unit {0}
-HasEnded l way t drove.Unreadable = Unit {0}
-HasEnded l way t drove.ReadFault = Unit {0}
-HasEnded l way t drove.WriteFault = Unit {0}
-HasEnded l way t drove.Memory = Unit {0}
+HasEnded l request t (drove.Converged m) = (m ≡ length t) × IsDone l request t
+HasEnded l request t (drove.Collapsed m) = (m ≡ length t) × IsCollapsed l request t
+HasEnded l request t (drove.Undecided m) = (m ≡ length t) × IsLeftOpen l request t
+HasEnded l request t (drove.Suspended m) = m ≡ length t
+HasEnded l request t drove.LineTooLong = Unit {0}
+HasEnded l request t drove.Unreadable = Unit {0}
+HasEnded l request t drove.ReadFault = Unit {0}
+HasEnded l request t drove.WriteFault = Unit {0}
+HasEnded l request t drove.Memory = Unit {0}
 
 -- what was said of how the loop ended
 abbrev pub Says : Language → Request → List Answer → (written written' : Option (List ℕ)) → Drove → Ending → Type 0
-Says l way t written written' (drove.Converged m) end =
-    (end ≡ ending.Converged m) × ((network : List Candidate) × Concludes l way m t network × Adds written written' (converged_text l network m))
-Says l way t written written' (drove.Collapsed m) end = (end ≡ ending.Collapsed m) × Refutes l way m t × Adds written written' (collapsed_text m)
-Says l way t written written' (drove.Undecided m) end =
-    (end ≡ ending.Undecided m) × ((network : List Candidate) × LeavesOpen l way m t network × Adds written written' (undecided_text l network (open_candidates l way t network) m))
-Says l way t written written' (drove.Suspended m) end = (end ≡ ending.Suspended m) × (m ≡ length t) × Adds written written' (suspended_text m)
-Says l way t written written' drove.LineTooLong end = (end ≡ ending.LineTooLong) × Adds written written' too_long_text
-Says l way t written written' drove.Unreadable end = (end ≡ ending.Unreadable) × Adds written written' refused_text
-Says l way t written written' drove.ReadFault end = (end ≡ ending.ReadFault) × (written' ≡ written)
-Says l way t written written' drove.WriteFault end = ⊥
-Says l way t written written' drove.Memory end = ⊥
+Says l request t written written' (drove.Converged m) end =
+    (end ≡ ending.Converged m) × ((network : List Candidate) × Concludes l request m t network × Adds written written' (converged_text l network m))
+Says l request t written written' (drove.Collapsed m) end = (end ≡ ending.Collapsed m) × Refutes l request m t × Adds written written' (collapsed_text m)
+Says l request t written written' (drove.Undecided m) end =
+    (end ≡ ending.Undecided m) × ((network : List Candidate) × LeavesOpen l request m t network × Adds written written' (undecided_text l network (open_candidates l request t network) m))
+Says l request t written written' (drove.Suspended m) end = (end ≡ ending.Suspended m) × (m ≡ length t) × Adds written written' (suspended_text m)
+Says l request t written written' drove.LineTooLong end = (end ≡ ending.LineTooLong) × Adds written written' too_long_text
+Says l request t written written' drove.Unreadable end = (end ≡ ending.Unreadable) × Adds written written' refused_text
+Says l request t written written' drove.ReadFault end = (end ≡ ending.ReadFault) × (written' ≡ written)
+Says l request t written written' drove.WriteFault end = ⊥
+Says l request t written written' drove.Memory end = ⊥
 
 -- what was written where it could not be said whole
 abbrev pub SaysPart : Language → Request → List Answer → (written written' : Option (List ℕ)) → Drove → Type 0
-SaysPart l way t written written' (drove.Converged m) = AddsFront written written' (closing_text l way t Converged)
-SaysPart l way t written written' (drove.Collapsed m) = AddsFront written written' (closing_text l way t Collapsed)
-SaysPart l way t written written' (drove.Undecided m) = AddsFront written written' (closing_text l way t Undecided)
-SaysPart l way t written written' (drove.Suspended m) = AddsFront written written' (closing_text l way t Suspended)
-SaysPart l way t written written' drove.LineTooLong = AddsFront written written' (closing_text l way t LineTooLong)
-SaysPart l way t written written' drove.Unreadable = AddsFront written written' (closing_text l way t Unreadable)
-SaysPart l way t written written' drove.ReadFault = ⊥
-SaysPart l way t written written' drove.WriteFault = written' ≡ written
-SaysPart l way t written written' drove.Memory = written' ≡ written
+SaysPart l request t written written' (drove.Converged m) = AddsFront written written' (closing_text l request t Converged)
+SaysPart l request t written written' (drove.Collapsed m) = AddsFront written written' (closing_text l request t Collapsed)
+SaysPart l request t written written' (drove.Undecided m) = AddsFront written written' (closing_text l request t Undecided)
+SaysPart l request t written written' (drove.Suspended m) = AddsFront written written' (closing_text l request t Suspended)
+SaysPart l request t written written' drove.LineTooLong = AddsFront written written' (closing_text l request t LineTooLong)
+SaysPart l request t written written' drove.Unreadable = AddsFront written written' (closing_text l request t Unreadable)
+SaysPart l request t written written' drove.ReadFault = ⊥
+SaysPart l request t written written' drove.WriteFault = written' ≡ written
+SaysPart l request t written written' drove.Memory = written' ≡ written
 
 -- what was done about a language
 abbrev pub Tries : Language → Request → (left written left' written' : Option (List ℕ)) → Ending → Type 0
-Tries l way left written left' written' (ending.Converged m) =
-    (answers : List Answer) × (network : List Candidate) × Concludes l way m answers network × Closes l way left written left' written' Converged answers (converged_text l network m)
-Tries l way left written left' written' (ending.Collapsed m) =
-    (answers : List Answer) × Refutes l way m answers × Closes l way left written left' written' Collapsed answers (collapsed_text m)
-Tries l way left written left' written' (ending.Undecided m) =
-    (answers : List Answer) × (network : List Candidate) × LeavesOpen l way m answers network
-    × Closes l way left written left' written' Undecided answers (undecided_text l network (open_candidates l way answers network) m)
-Tries l way left written left' written' (ending.Suspended m) =
-    (answers : List Answer) × (m ≡ length answers) × Closes l way left written left' written' Suspended answers (suspended_text m)
-Tries l way left written left' written' ending.LineTooLong =
-    (answers : List Answer) × Closes l way left written left' written' LineTooLong answers too_long_text
-Tries l way left written left' written' ending.Unreadable =
-    (answers : List Answer) × Closes l way left written left' written' Unreadable answers refused_text
-Tries l way left written left' written' (ending.Usage fault) = ⊥
-Tries l way left written left' written' (ending.VocRefused fault) = ⊥
-Tries l way left written left' written' ending.ReadFault = BreaksRun l way left written written'
-Tries l way left written left' written' ending.WriteFault = ⊥
-Tries l way left written left' written' ending.Memory = ⊥
+Tries l request left written left' written' (ending.Converged m) =
+    (answers : List Answer) × (network : List Candidate) × Concludes l request m answers network × Closes l request left written left' written' Converged answers (converged_text l network m)
+Tries l request left written left' written' (ending.Collapsed m) =
+    (answers : List Answer) × Refutes l request m answers × Closes l request left written left' written' Collapsed answers (collapsed_text m)
+Tries l request left written left' written' (ending.Undecided m) =
+    (answers : List Answer) × (network : List Candidate) × LeavesOpen l request m answers network
+    × Closes l request left written left' written' Undecided answers (undecided_text l network (open_candidates l request answers network) m)
+Tries l request left written left' written' (ending.Suspended m) =
+    (answers : List Answer) × (m ≡ length answers) × Closes l request left written left' written' Suspended answers (suspended_text m)
+Tries l request left written left' written' ending.LineTooLong =
+    (answers : List Answer) × Closes l request left written left' written' LineTooLong answers too_long_text
+Tries l request left written left' written' ending.Unreadable =
+    (answers : List Answer) × Closes l request left written left' written' Unreadable answers refused_text
+Tries l request left written left' written' (ending.Usage fault) = ⊥
+Tries l request left written left' written' (ending.VocRefused fault) = ⊥
+Tries l request left written left' written' ending.ReadFault = BreaksRun l request left written written'
+Tries l request left written left' written' ending.WriteFault = ⊥
+Tries l request left written left' written' ending.Memory = ⊥
 
 -- the words ask for this, and the first line of the input is a vocabulary
 pub record Reads (words : List (List ℕ)) (left written left' written' : Option (List ℕ)) (end : Ending) : Type 0 where
-  pub way : Request
-  pub taken : request_of words ≡ Some way
+  pub request : Request
+  pub taken : request_of words ≡ Some request
   pub line : List ℕ
   pub rest : Option (List ℕ)
   pub gives : Gives (first_line_of 4194304) left rest (Ok line)
   pub lang : Language
   pub vocabulary : IsVocabulary line lang
-  pub tries : Tries lang way rest written left' written' end
+  pub tries : Tries lang request rest written left' written' end
 
 -- the first line is refused
 pub record IsRefused (fault : VocFault) (left left' : Option (List ℕ)) : Type 0 where

@@ -47,19 +47,19 @@ idle_next l Multi budget live network = searched (next_query l network live budg
 
 -- what a state has next: the open question, where there is one
 abbrev pub next_at : Language → Request → List Answer → State → Next
-next_at l way t (Idle network end) = idle_next l way.plan way.budget (kept l t network) network
-next_at l way t (Halving e set replies network walk) = puts_or Collapsed (open_question l (Halving e set replies network walk))
-next_at l way t (Choosing s choices network walk) = puts_or Collapsed (open_question l (Choosing s choices network walk))
-next_at l way t (Walking set walk network) = puts_or Collapsed (open_question l (Walking set walk network))
-next_at l way t (Over network) = Ends Collapsed
+next_at l request t (Idle network end) = idle_next l request.plan request.budget (kept l t network) network
+next_at l request t (Halving e set replies network walk) = puts_or Collapsed (open_question l (Halving e set replies network walk))
+next_at l request t (Choosing s choices network walk) = puts_or Collapsed (open_question l (Choosing s choices network walk))
+next_at l request t (Walking set walk network) = puts_or Collapsed (open_question l (Walking set walk network))
+next_at l request t (Over network) = Ends Collapsed
 
 abbrev pub next_in : Language → Request → List Answer → Reading → Option Next
-next_in l way t (Stray number) = None
-next_in l way t (At state) = Some (next_at l way t state)
+next_in l request t (Stray number) = None
+next_in l request t (At state) = Some (next_at l request t state)
 
 -- what comes next after these answers, if they can be answers
 abbrev pub next_after : Language → Request → List Answer → Option Next
-next_after l way t = next_in l way t (state_after l way.plan t)
+next_after l request t = next_in l request t (state_after l request.plan t)
 
 -- what a run has written, how it ended, the answers that stand after it, and the bytes that it left
 pub record Ran : Type 0 where
@@ -95,11 +95,11 @@ next_on put t bytes (Some (Puts q)) = put q
 
 -- The run of at most so many turns; none where it takes more. Question number m + 1 comes after m answers.
 unfoldable pub ran : Turns → Language → Request → ℕ → List Answer → List ℕ → Option Ran
-ran turns l way zero t bytes = None
-ran turns l way (suc count) t bytes =
-    next_on (λ q. turned_on (ran turns l way count) t q (turns l (length t + 1) q bytes)) t bytes (next_after l way t)
+ran turns l request zero t bytes = None
+ran turns l request (suc count) t bytes =
+    next_on (λ q. turned_on (ran turns l request count) t q (turns l (length t + 1) q bytes)) t bytes (next_after l request t)
 
 -- the run of some number of turns
-pub record Runs (turns : Turns) (l : Language) (way : Request) (t : List Answer) (bytes : List ℕ) (run : Ran) : Type 0 where
+pub record Runs (turns : Turns) (l : Language) (request : Request) (t : List Answer) (bytes : List ℕ) (run : Ran) : Type 0 where
   pub count : ℕ
-  pub is : ran turns l way count t bytes ≡ Some run
+  pub is : ran turns l request count t bytes ≡ Some run

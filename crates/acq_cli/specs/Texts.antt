@@ -31,7 +31,7 @@ collapsed_text m = codes "collapsed " ++ (decimal m ++ 10 ∷ [])
 
 -- the kept candidates whose searches the budget was too small for
 abbrev pub open_candidates : Language → Request → List Answer → List Candidate → List Candidate
-open_candidates l way t network = filter (λ c. is_spent (outcome_of_candidate l network c way.budget)) (kept l t network)
+open_candidates l request t network = filter (λ c. is_spent (outcome_of_candidate l network c request.budget)) (kept l t network)
 
 abbrev pub open_line : Language → Candidate → List ℕ
 open_line l c = codes "open " ++ (candidate_text l c ++ 10 ∷ [])
@@ -54,17 +54,17 @@ learned_in (Stray number) = []
 learned_in (At state) = network_in state
 
 abbrev pub learned_after : Language → Request → List Answer → List Candidate
-learned_after l way t = learned_in (state_after l way.plan t)
+learned_after l request t = learned_in (state_after l request.plan t)
 
 -- the last lines of a session that ends so, where these answers stand
 abbrev pub closing_text : Language → Request → List Answer → Closing → List ℕ
-closing_text l way t Converged = converged_text l (learned_after l way t) (length t)
-closing_text l way t Collapsed = collapsed_text (length t)
-closing_text l way t Undecided = undecided_text l (learned_after l way t) (open_candidates l way t (learned_after l way t)) (length t)
-closing_text l way t Suspended = suspended_text (length t)
-closing_text l way t LineTooLong = too_long_text
-closing_text l way t Unreadable = refused_text
+closing_text l request t Converged = converged_text l (learned_after l request t) (length t)
+closing_text l request t Collapsed = collapsed_text (length t)
+closing_text l request t Undecided = undecided_text l (learned_after l request t) (open_candidates l request t (learned_after l request t)) (length t)
+closing_text l request t Suspended = suspended_text (length t)
+closing_text l request t LineTooLong = too_long_text
+closing_text l request t Unreadable = refused_text
 
 -- the text of a run with its last lines
 abbrev pub whole_text : Language → Request → Ran → List ℕ
-whole_text l way run = run.text ++ closing_text l way run.answers run.closing
+whole_text l request run = run.text ++ closing_text l request run.answers run.closing

@@ -98,10 +98,10 @@ request_of (journal ∷ command ∷ words) =
     if bytes_eq journal (codes ":memory:") && bytes_eq command (codes "try") then option_and_then request_by (with_words no_options words) else None
 
 -- a plan that is built, and a budget within its limits
-pub record IsLawful (way : Request) : Type 0 where
-  pub plan : way.plan ≢ Multi
-  pub some : 1 ≤ way.budget
-  pub small : way.budget ≤ 1000000000
+pub record IsLawful (request : Request) : Type 0 where
+  pub plan : request.plan ≢ Multi
+  pub some : 1 ≤ request.budget
+  pub small : request.budget ≤ 1000000000
 
 -- what the options said so far is so
 pub record AreWithin (o : Options) : Type 0 where

@@ -9,7 +9,7 @@ ghost use Rattle.session_core.specs.Standing.{Stands, knowledge_of, open_in};
 ghost use Rattle.session_core.specs.Settled.{IsSettled};
 ghost use Rattle.acq_cli.specs.Driven.{Drives, IsOwned, Remembers, StepsTo, TellsOpen};
 ghost use Rattle.acq_cli.specs.Due.{IsDue, NextIs, PutIs, AnswerKept, IsOneMore};
-ghost use Rattle.acq_cli.specs.Places.{place_of, way_of};
+ghost use Rattle.acq_cli.specs.Places.{place_of, request_with};
 
 use acq_io::{Sink, Source};
 use assign::{Partial, Plan};
@@ -60,7 +60,7 @@ enum Next {
 fn scoped_next(idle: &Idle) -> Next
     requires plan { (knowledge_of (Session.Idle idle.now)).plan ≡ Scopes }
     ensures next { (t : List Answer) (budget : _) → let k = knowledge_of (Session.Idle idle.now) in Stands (Session.Idle idle.now) t
-        → NextIs k.lang (way_of k.plan budget) t None result }
+        → NextIs k.lang (request_with k.plan budget) t None result }
     ensures decided { result ≢ Next.Undecided }
 {
     let _lang = idle.lang();
@@ -77,10 +77,10 @@ fn searched_next(idle: &Idle, place: &mut Place, screen: &mut Screen, budget: u3
     requires marks { let k = knowledge_of (Session.Idle idle.now) in MarksHold k.lang k.network.list budget screen.old }
     requires some_budget { 1 ≤ budget }
     requires small_budget { budget ≤ 1000000000 }
-    ensures next { (t : List Answer) → let k = knowledge_of (Session.Idle idle.now) in Stands (Session.Idle idle.now) t → NextIs k.lang (way_of k.plan budget) t None result }
+    ensures next { (t : List Answer) → let k = knowledge_of (Session.Idle idle.now) in Stands (Session.Idle idle.now) t → NextIs k.lang (request_with k.plan budget) t None result }
     ensures screen { IsMadeFor (knowledge_of (Session.Idle idle.now)).lang screen.new }
     ensures marks { let k = knowledge_of (Session.Idle idle.now) in MarksHold k.lang k.network.list budget screen.new }
-    ensures open { (t : List Answer) → let k = knowledge_of (Session.Idle idle.now) in Stands (Session.Idle idle.now) t → result ≡ Next.Undecided → TellsOpen k.lang (way_of k.plan budget) t screen.new }
+    ensures open { (t : List Answer) → let k = knowledge_of (Session.Idle idle.now) in Stands (Session.Idle idle.now) t → result ≡ Next.Undecided → TellsOpen k.lang (request_with k.plan budget) t screen.new }
 {
     let query = next_query(
         &mut place.work,
@@ -103,10 +103,10 @@ fn idle_next(idle: &Idle, place: &mut Place, screen: &mut Screen, budget: u32) -
     requires marks { let k = knowledge_of (Session.Idle idle.now) in MarksHold k.lang k.network.list budget screen.old }
     requires some_budget { 1 ≤ budget }
     requires small_budget { budget ≤ 1000000000 }
-    ensures next { (t : List Answer) → let k = knowledge_of (Session.Idle idle.now) in Stands (Session.Idle idle.now) t → NextIs k.lang (way_of k.plan budget) t None result }
+    ensures next { (t : List Answer) → let k = knowledge_of (Session.Idle idle.now) in Stands (Session.Idle idle.now) t → NextIs k.lang (request_with k.plan budget) t None result }
     ensures screen { IsMadeFor (knowledge_of (Session.Idle idle.now)).lang screen.new }
     ensures marks { let k = knowledge_of (Session.Idle idle.now) in MarksHold k.lang k.network.list budget screen.new }
-    ensures open { (t : List Answer) → let k = knowledge_of (Session.Idle idle.now) in Stands (Session.Idle idle.now) t → result ≡ Next.Undecided → TellsOpen k.lang (way_of k.plan budget) t screen.new }
+    ensures open { (t : List Answer) → let k = knowledge_of (Session.Idle idle.now) in Stands (Session.Idle idle.now) t → result ≡ Next.Undecided → TellsOpen k.lang (request_with k.plan budget) t screen.new }
 {
     match idle.plan() {
         Plan::Scopes => scoped_next(idle),
@@ -121,10 +121,10 @@ fn next_of(session: &Session, place: &mut Place, screen: &mut Screen, budget: u3
     requires some_budget { 1 ≤ budget }
     requires small_budget { budget ≤ 1000000000 }
     ensures next { (t : List Answer) → let k = knowledge_of session.now in Stands session.now t → IsSettled k.lang k.plan t (open_in session.now)
-        → NextIs k.lang (way_of k.plan budget) t (open_in session.now) result }
+        → NextIs k.lang (request_with k.plan budget) t (open_in session.now) result }
     ensures screen { IsMadeFor (knowledge_of session.now).lang screen.new }
     ensures marks { let k = knowledge_of session.now in MarksHold k.lang k.network.list budget screen.new }
-    ensures open { (t : List Answer) → let k = knowledge_of session.now in Stands session.now t → result ≡ Next.Undecided → TellsOpen k.lang (way_of k.plan budget) t screen.new }
+    ensures open { (t : List Answer) → let k = knowledge_of session.now in Stands session.now t → result ≡ Next.Undecided → TellsOpen k.lang (request_with k.plan budget) t screen.new }
 {
     let _lang = session.lang();
     match session {
@@ -139,17 +139,17 @@ fn put_next<P: Keep>(keep: &mut P, place: &mut Place, screen: &mut Screen, budge
     requires sound { P.sound keep.old }
     requires settled { IsSettled (P.lang keep.old) (P.plan keep.old) (standing_on (P.lang keep.old) (P.record_of keep.old)) (P.question keep.old) }
     requires screen { IsMadeFor (P.lang keep.old) screen.old }
-    requires remembers { Remembers (P.lang keep.old) (way_of (P.plan keep.old) budget) (standing_on (P.lang keep.old) (P.record_of keep.old)) screen.old }
+    requires remembers { Remembers (P.lang keep.old) (request_with (P.plan keep.old) budget) (standing_on (P.lang keep.old) (P.record_of keep.old)) screen.old }
     requires some_budget { 1 ≤ budget }
     requires small_budget { budget ≤ 1000000000 }
-    ensures put { PutIs (P.lang keep.old) (way_of (P.plan keep.old) budget) (standing_on (P.lang keep.old) (P.record_of keep.old)) (P.question keep.new) result }
+    ensures put { PutIs (P.lang keep.old) (request_with (P.plan keep.old) budget) (standing_on (P.lang keep.old) (P.record_of keep.old)) (P.question keep.new) result }
     ensures events { P.record_of keep.new ≡ P.record_of keep.old }
     ensures lang { P.lang keep.new ≡ P.lang keep.old }
     ensures plan { P.plan keep.new ≡ P.plan keep.old }
     ensures sound { P.sound keep.new }
     ensures screen { IsMadeFor (P.lang keep.old) screen.new }
-    ensures remembers { Remembers (P.lang keep.old) (way_of (P.plan keep.old) budget) (standing_on (P.lang keep.old) (P.record_of keep.old)) screen.new }
-    ensures open { result ≡ Next.Undecided → TellsOpen (P.lang keep.old) (way_of (P.plan keep.old) budget) (standing_on (P.lang keep.old) (P.record_of keep.old)) screen.new }
+    ensures remembers { Remembers (P.lang keep.old) (request_with (P.plan keep.old) budget) (standing_on (P.lang keep.old) (P.record_of keep.old)) screen.new }
+    ensures open { result ≡ Next.Undecided → TellsOpen (P.lang keep.old) (request_with (P.plan keep.old) budget) (standing_on (P.lang keep.old) (P.record_of keep.old)) screen.new }
 {
     let next = next_of(keep.session(), place, screen, budget);
     if let Next::New(question) = next {
@@ -185,15 +185,15 @@ fn hear_answer<S: Source, K: Sink, T: Teacher<S, K>, P: Keep>(
 ) -> Option<Drove>
     requires sound { P.sound keep.old }
     requires put { P.question keep.old ≡ Some question.now }
-    requires due { (budget : _) × IsDue (P.lang keep.old) (way_of (P.plan keep.old) budget) (standing_on (P.lang keep.old) (P.record_of keep.old)) question.now }
-    ensures again { (budget : _) → IsDue (P.lang keep.old) (way_of (P.plan keep.old) budget) (standing_on (P.lang keep.old) (P.record_of keep.old)) question.now
-        → result ≡ None → StepsTo (T.turn teacher.old) (P.lang keep.old) (way_of (P.plan keep.old) budget)
+    requires due { (budget : _) × IsDue (P.lang keep.old) (request_with (P.plan keep.old) budget) (standing_on (P.lang keep.old) (P.record_of keep.old)) question.now }
+    ensures again { (budget : _) → IsDue (P.lang keep.old) (request_with (P.plan keep.old) budget) (standing_on (P.lang keep.old) (P.record_of keep.old)) question.now
+        → result ≡ None → StepsTo (T.turn teacher.old) (P.lang keep.old) (request_with (P.plan keep.old) budget)
         (place_of (standing_on (P.lang keep.old) (P.record_of keep.old)) (S.left source.old) (K.written sink.old))
         (place_of (standing_on (P.lang keep.old) (P.record_of keep.new)) (S.left source.new) (K.written sink.new)) }
     ensures more { result ≡ None → IsOneMore (standing_on (P.lang keep.old) (P.record_of keep.old)) (standing_on (P.lang keep.old) (P.record_of keep.new)) }
     ensures settled { result ≡ None → IsSettled (P.lang keep.old) (P.plan keep.old) (standing_on (P.lang keep.old) (P.record_of keep.new)) (P.question keep.new) }
-    ensures ends { (budget : _) → IsDue (P.lang keep.old) (way_of (P.plan keep.old) budget) (standing_on (P.lang keep.old) (P.record_of keep.old)) question.now
-        → IfSome result (Drives (T.turn teacher.old) (P.lang keep.old) (way_of (P.plan keep.old) budget)
+    ensures ends { (budget : _) → IsDue (P.lang keep.old) (request_with (P.plan keep.old) budget) (standing_on (P.lang keep.old) (P.record_of keep.old)) question.now
+        → IfSome result (Drives (T.turn teacher.old) (P.lang keep.old) (request_with (P.plan keep.old) budget)
         (place_of (standing_on (P.lang keep.old) (P.record_of keep.old)) (S.left source.old) (K.written sink.old))
         (place_of (standing_on (P.lang keep.old) (P.record_of keep.new)) (S.left source.new) (K.written sink.new))) }
     ensures decided { (m : _) → result ≢ Some (Drove.Undecided m) }
@@ -235,19 +235,19 @@ fn take_turn<S: Source, K: Sink, T: Teacher<S, K>, P: Keep>(
     requires sound { P.sound keep.old }
     requires settled { IsSettled (P.lang keep.old) (P.plan keep.old) (standing_on (P.lang keep.old) (P.record_of keep.old)) (P.question keep.old) }
     requires screen { IsMadeFor (P.lang keep.old) screen.old }
-    requires remembers { Remembers (P.lang keep.old) (way_of (P.plan keep.old) budget) (standing_on (P.lang keep.old) (P.record_of keep.old)) screen.old }
+    requires remembers { Remembers (P.lang keep.old) (request_with (P.plan keep.old) budget) (standing_on (P.lang keep.old) (P.record_of keep.old)) screen.old }
     requires some_budget { 1 ≤ budget }
     requires small_budget { budget ≤ 1000000000 }
-    ensures again { result ≡ None → StepsTo (T.turn teacher.old) (P.lang keep.old) (way_of (P.plan keep.old) budget)
+    ensures again { result ≡ None → StepsTo (T.turn teacher.old) (P.lang keep.old) (request_with (P.plan keep.old) budget)
         (place_of (standing_on (P.lang keep.old) (P.record_of keep.old)) (S.left source.old) (K.written sink.old))
         (place_of (standing_on (P.lang keep.old) (P.record_of keep.new)) (S.left source.new) (K.written sink.new)) }
     ensures more { result ≡ None → length (standing_on (P.lang keep.old) (P.record_of keep.new)) ≡ length (standing_on (P.lang keep.old) (P.record_of keep.old)) + 1 }
     ensures settled { result ≡ None → IsSettled (P.lang keep.old) (P.plan keep.old) (standing_on (P.lang keep.old) (P.record_of keep.new)) (P.question keep.new) }
-    ensures remembers { result ≡ None → Remembers (P.lang keep.old) (way_of (P.plan keep.old) budget) (standing_on (P.lang keep.old) (P.record_of keep.new)) screen.new }
-    ensures ends { IfSome result (Drives (T.turn teacher.old) (P.lang keep.old) (way_of (P.plan keep.old) budget)
+    ensures remembers { result ≡ None → Remembers (P.lang keep.old) (request_with (P.plan keep.old) budget) (standing_on (P.lang keep.old) (P.record_of keep.new)) screen.new }
+    ensures ends { IfSome result (Drives (T.turn teacher.old) (P.lang keep.old) (request_with (P.plan keep.old) budget)
         (place_of (standing_on (P.lang keep.old) (P.record_of keep.old)) (S.left source.old) (K.written sink.old))
         (place_of (standing_on (P.lang keep.old) (P.record_of keep.new)) (S.left source.new) (K.written sink.new))) }
-    ensures open { (m : _) → result ≡ Some (Drove.Undecided m) → TellsOpen (P.lang keep.old) (way_of (P.plan keep.old) budget) (standing_on (P.lang keep.old) (P.record_of keep.new)) screen.new }
+    ensures open { (m : _) → result ≡ Some (Drove.Undecided m) → TellsOpen (P.lang keep.old) (request_with (P.plan keep.old) budget) (standing_on (P.lang keep.old) (P.record_of keep.new)) screen.new }
     ensures screen { IsMadeFor (P.lang keep.old) screen.new }
     ensures turn { T.turn teacher.new ≡ T.turn teacher.old }
     ensures lang { P.lang keep.new ≡ P.lang keep.old }
@@ -293,13 +293,13 @@ pub fn drive<R: Threads + Sync, S: Source, K: Sink, T: Teacher<S, K>, P: Keep>(
     requires unmarked { HasNoMarks screen.old }
     requires some_budget { 1 ≤ budget }
     requires small_budget { budget ≤ 1000000000 }
-    ensures ends { Drives (T.turn teacher.old) (P.lang keep.old) (way_of (P.plan keep.old) budget)
+    ensures ends { Drives (T.turn teacher.old) (P.lang keep.old) (request_with (P.plan keep.old) budget)
         (place_of (standing_on (P.lang keep.old) (P.record_of keep.old)) (S.left source.old) (K.written sink.old))
         (place_of (standing_on (P.lang keep.old) (P.record_of keep.new)) (S.left source.new) (K.written sink.new)) result }
     ensures owner { (owner : List Candidate) → IsNetwork (P.lang keep.old) owner → IsTrue (agrees (P.lang keep.old) owner (standing_on (P.lang keep.old) (P.record_of keep.new)))
-        → IsOwned (P.lang keep.old) (way_of (P.plan keep.old) budget) owner (standing_on (P.lang keep.old) (P.record_of keep.new)) result }
+        → IsOwned (P.lang keep.old) (request_with (P.plan keep.old) budget) owner (standing_on (P.lang keep.old) (P.record_of keep.new)) result }
     // where it is undecided, the screen tells the open candidates
-    ensures open { (m : _) → result ≡ Drove.Undecided m → TellsOpen (P.lang keep.old) (way_of (P.plan keep.old) budget) (standing_on (P.lang keep.old) (P.record_of keep.new)) screen.new }
+    ensures open { (m : _) → result ≡ Drove.Undecided m → TellsOpen (P.lang keep.old) (request_with (P.plan keep.old) budget) (standing_on (P.lang keep.old) (P.record_of keep.new)) screen.new }
     ensures screen { IsMadeFor (P.lang keep.old) screen.new }
     ensures lang { P.lang keep.new ≡ P.lang keep.old }
     ensures plan { P.plan keep.new ≡ P.plan keep.old }

@@ -8,7 +8,7 @@ ghost use Rattle.query_gen.specs.Marks.{IsMadeFor, is_open};
 ghost use Rattle.session_core.specs.Standing.{knowledge_of};
 ghost use Rattle.session_store.specs.Loose.{IsSound, lang_of, plan_of};
 ghost use Rattle.acq_cli.specs.Driven.{TellsOpen};
-ghost use Rattle.acq_cli.specs.Places.{way_of};
+ghost use Rattle.acq_cli.specs.Places.{request_with};
 ghost use Rattle.acq_cli.specs.Breaks.{Breaks, BreaksRun};
 ghost use Rattle.acq_cli.specs.Program.{Acquires, HasEnded, Says, SaysPart, Tries};
 ghost use Rattle.acq_cli.specs.Texts.{collapsed_text, converged_text, refusal_text, suspended_text, undecided_text};
@@ -115,12 +115,12 @@ fn say<K: Sink>(
 ) -> Result<Ending, Put>
     requires sound { IsSound keep.now }
     requires made { IsMadeFor (lang_of keep.now) screen.now }
-    ensures says { (budget : _) → let way = way_of (plan_of keep.now) budget in let l = lang_of keep.now in let t = standing_on l keep.now.events.items in
-        HasEnded l way t drove → ((m : _) → drove ≡ Drove.Undecided m → TellsOpen l way t screen.now)
-        → IfOk result (Says l way t (K.written out.old) (K.written out.new) drove) }
-    ensures part { (budget : _) → let way = way_of (plan_of keep.now) budget in let l = lang_of keep.now in let t = standing_on l keep.now.events.items in
-        HasEnded l way t drove → ((m : _) → drove ≡ Drove.Undecided m → TellsOpen l way t screen.now)
-        → OnErr result (SaysPart l way t (K.written out.old) (K.written out.new) drove) }
+    ensures says { (budget : _) → let request = request_with (plan_of keep.now) budget in let l = lang_of keep.now in let t = standing_on l keep.now.events.items in
+        HasEnded l request t drove → ((m : _) → drove ≡ Drove.Undecided m → TellsOpen l request t screen.now)
+        → IfOk result (Says l request t (K.written out.old) (K.written out.new) drove) }
+    ensures part { (budget : _) → let request = request_with (plan_of keep.now) budget in let l = lang_of keep.now in let t = standing_on l keep.now.events.items in
+        HasEnded l request t drove → ((m : _) → drove ≡ Drove.Undecided m → TellsOpen l request t screen.now)
+        → OnErr result (SaysPart l request t (K.written out.old) (K.written out.new) drove) }
     ensures failed { result ≡ Err Put.Failed → drove ≢ Drove.WriteFault → Rose (K.faults out.old) (K.faults out.new) }
     ensures later_sink { K.faults out.old ≤ K.faults out.new }
 {
@@ -174,15 +174,15 @@ fn try_language<R: Threads + Sync, S: Source, K: Sink>(
     rt: &R,
     alloc: Global,
     lang: Language,
-    way: Request,
+    request: Request,
     input: &mut S,
     out: &mut K,
 ) -> Result<Ending, Put>
-    requires plan { way.plan ≢ Multi }
-    requires some_budget { 1 ≤ way.budget }
-    requires small_budget { way.budget ≤ 1000000000 }
-    ensures tries { IfOk result (Tries lang way (S.left input.old) (K.written out.old) (S.left input.new) (K.written out.new)) }
-    ensures part { OnErr result (BreaksRun lang way (S.left input.old) (K.written out.old) (K.written out.new)) }
+    requires plan { request.plan ≢ Multi }
+    requires some_budget { 1 ≤ request.budget }
+    requires small_budget { request.budget ≤ 1000000000 }
+    ensures tries { IfOk result (Tries lang request (S.left input.old) (K.written out.old) (S.left input.new) (K.written out.new)) }
+    ensures part { OnErr result (BreaksRun lang request (S.left input.old) (K.written out.old) (K.written out.new)) }
     ensures read { result ≡ Ok Ending.ReadFault → Rose (S.faults input.old) (S.faults input.new) }
     ensures no_fault { IfOk result (λ ending. ending ≢ Ending.WriteFault) }
     ensures failed { result ≡ Err Put.Failed → Rose (K.faults out.old) (K.faults out.new) }
@@ -195,7 +195,7 @@ fn try_language<R: Threads + Sync, S: Source, K: Sink>(
     let Ok(mut screen) = Screen::new(alloc, &lang) else {
         return Err(Put::Memory);
     };
-    let Ok(mut keep) = Loose::new(alloc, lang, way.plan) else {
+    let Ok(mut keep) = Loose::new(alloc, lang, request.plan) else {
         return Err(Put::Memory);
     };
     let mut teacher = LineTeacher::new();
@@ -204,7 +204,7 @@ fn try_language<R: Threads + Sync, S: Source, K: Sink>(
         alloc,
         &mut places,
         &mut screen,
-        way.budget,
+        request.budget,
         input,
         out,
         &mut teacher,
@@ -244,7 +244,7 @@ fn respond<R: Threads + Sync, S: Source, K: Sink>(
     ensures no_fault { IfOk result (λ ending. ending ≢ Ending.WriteFault) }
     ensures failed { result ≡ Err Put.Failed → Rose (K.faults out.old) (K.faults out.new) }
 {
-    let Some(way) = request_of(words) else {
+    let Some(request) = request_of(words) else {
         out.write(USAGE)?;
         return Ok(Ending::Usage(UsageFault::Words));
     };
@@ -255,7 +255,7 @@ fn respond<R: Threads + Sync, S: Source, K: Sink>(
         Err(AllFault::Memory) => return Err(Put::Memory),
     };
     match read_vocabulary(alloc, &line) {
-        Ok(lang) => try_language(rt, alloc, lang, way, input, out),
+        Ok(lang) => try_language(rt, alloc, lang, request, input, out),
         Err(VocFault::Memory) => Err(Put::Memory),
         Err(fault) => refuse(alloc, fault, out),
     }

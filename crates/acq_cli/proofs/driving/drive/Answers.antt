@@ -9,7 +9,7 @@ use Rattle.session_core.specs.Settled.{IsSettled}
 use Rattle.target_oracle.specs.Turns.{Turns}
 use Rattle.acq_cli.specs.Driven.{Place, Drives, Remembers, StepsTo, TellsOpen}
 use Rattle.acq_cli.specs.declared.driving.Drove.{Drove}
-use Rattle.acq_cli.specs.Places.{place_of, way_of}
+use Rattle.acq_cli.specs.Places.{place_of, request_with}
 use Rattle.query_gen.proofs.Marking.{no_marks_hold}
 use Rattle.acq_cli.proofs.Standings.{carried, reached, few_answers}
 use Rattle.acq_cli.proofs.Owners.{owned}
@@ -28,7 +28,7 @@ loop-turn-init g c =
       plan = refl;
       lang = refl;
       turn = refl;
-      steps = steps_none (g.T.Teacher.turn c.args.teacher.now) l (way_of (g.P.Keep.plan c.args.keep.now) c.args.budget) a;
+      steps = steps_none (g.T.Teacher.turn c.args.teacher.now) l (request_with (g.P.Keep.plan c.args.keep.now) c.args.budget) a;
       later = omega arith;
       later_sink = omega arith;
       more = omega arith;
@@ -43,22 +43,22 @@ returns-in-Some-clause-ends g c =
     let b : Language → Place = λ m. place_of (standing_on m (g.P.Keep.record_of c.loop-turn.keep)) (g.S.Source.left c.loop-turn.source) (g.K.Sink.written c.loop-turn.sink) in
     let d : Language → Place = λ m. place_of (standing_on m (g.P.Keep.record_of c.take_turn.new.keep)) (g.S.Source.left c.take_turn.new.source) (g.K.Sink.written c.take_turn.new.sink) in
     let old : Language = g.P.Keep.lang c.loop-turn.keep in
-    let Turned : Turns → Type 0 = λ t. Drives t old (way_of (g.P.Keep.plan c.loop-turn.keep) c.args.budget) (b old) (d old) c.in-Some.drove in
-    let Spoken : Language → Plan → Type 0 = λ m q. Drives turns m (way_of q c.args.budget) (b m) (d m) c.in-Some.drove in
-    let Stepped : Language → Type 0 = λ m. StepsTo turns l (way_of p c.args.budget) a (b m) in
-    steps_end turns l (way_of p c.args.budget) a (b l) (d l) c.in-Some.drove (subst Stepped c.loop-turn.invariant.lang c.loop-turn.invariant.steps)
+    let Turned : Turns → Type 0 = λ t. Drives t old (request_with (g.P.Keep.plan c.loop-turn.keep) c.args.budget) (b old) (d old) c.in-Some.drove in
+    let Spoken : Language → Plan → Type 0 = λ m q. Drives turns m (request_with q c.args.budget) (b m) (d m) c.in-Some.drove in
+    let Stepped : Language → Type 0 = λ m. StepsTo turns l (request_with p c.args.budget) a (b m) in
+    steps_end turns l (request_with p c.args.budget) a (b l) (d l) c.in-Some.drove (subst Stepped c.loop-turn.invariant.lang c.loop-turn.invariant.steps)
     (carried Spoken old l (g.P.Keep.plan c.loop-turn.keep) p c.loop-turn.invariant.lang c.loop-turn.invariant.plan (subst Turned c.loop-turn.invariant.turn c.in-Some.ensures.ends))
 
 pub returns-in-Some-clause-owner : goal.returns-in-Some-clause-owner
 returns-in-Some-clause-owner g c owner lawful agreeing =
     let l : Language = g.P.Keep.lang c.args.keep.now in
     let a : Place = place_of (standing_on l (g.P.Keep.record_of c.args.keep.now)) (g.S.Source.left c.args.source.now) (g.K.Sink.written c.args.sink.now) in
-    owned (g.T.Teacher.turn c.args.teacher.now) l (way_of (g.P.Keep.plan c.args.keep.now) c.args.budget) a (standing_on l (g.P.Keep.record_of c.take_turn.new.keep))
+    owned (g.T.Teacher.turn c.args.teacher.now) l (request_with (g.P.Keep.plan c.args.keep.now) c.args.budget) a (standing_on l (g.P.Keep.record_of c.take_turn.new.keep))
     (g.S.Source.left c.take_turn.new.source) (g.K.Sink.written c.take_turn.new.sink) c.in-Some.drove owner (returns-in-Some-clause-ends g c) lawful agreeing
 
 pub returns-in-Some-clause-open : goal.returns-in-Some-clause-open
 returns-in-Some-clause-open g c m is =
-    let Open : Language → Plan → Type 0 = λ n q. TellsOpen n (way_of q c.args.budget) (standing_on n (g.P.Keep.record_of c.take_turn.new.keep)) c.take_turn.new.screen in
+    let Open : Language → Plan → Type 0 = λ n q. TellsOpen n (request_with q c.args.budget) (standing_on n (g.P.Keep.record_of c.take_turn.new.keep)) c.take_turn.new.screen in
     carried Open (g.P.Keep.lang c.loop-turn.keep) (g.P.Keep.lang c.args.keep.now) (g.P.Keep.plan c.loop-turn.keep) (g.P.Keep.plan c.args.keep.now)
     c.loop-turn.invariant.lang c.loop-turn.invariant.plan (c.in-Some.ensures.open m (ap (λ (x : Drove). let o : Option Drove = Some x in o) is))
 
@@ -74,12 +74,12 @@ loop-turn-preserved g c =
     let new : Language = g.P.Keep.lang c.take_turn.new.keep in
     let before : Plan = g.P.Keep.plan c.loop-turn.keep in
     let after : Plan = g.P.Keep.plan c.take_turn.new.keep in
-    let Turned : Turns → Type 0 = λ t. StepsTo t old (way_of before c.args.budget) (b old) (d old) in
-    let Spoken : Language → Plan → Type 0 = λ m q. StepsTo turns m (way_of q c.args.budget) (b m) (d m) in
-    let Stepped : Language → Type 0 = λ m. StepsTo turns l (way_of p c.args.budget) a (b m) in
-    let Ended : Language → Type 0 = λ m. StepsTo turns l (way_of p c.args.budget) a (d m) in
+    let Turned : Turns → Type 0 = λ t. StepsTo t old (request_with before c.args.budget) (b old) (d old) in
+    let Spoken : Language → Plan → Type 0 = λ m q. StepsTo turns m (request_with q c.args.budget) (b m) (d m) in
+    let Stepped : Language → Type 0 = λ m. StepsTo turns l (request_with p c.args.budget) a (b m) in
+    let Ended : Language → Type 0 = λ m. StepsTo turns l (request_with p c.args.budget) a (d m) in
     let Settled : Language → Plan → Type 0 = λ m q. IsSettled m q (standing_on m (g.P.Keep.record_of c.take_turn.new.keep)) (g.P.Keep.question c.take_turn.new.keep) in
-    let Remembered : Language → Plan → Type 0 = λ m q. Remembers m (way_of q c.args.budget) (standing_on m (g.P.Keep.record_of c.take_turn.new.keep)) c.take_turn.new.screen in
+    let Remembered : Language → Plan → Type 0 = λ m q. Remembers m (request_with q c.args.budget) (standing_on m (g.P.Keep.record_of c.take_turn.new.keep)) c.take_turn.new.screen in
     let Made : Language → Type 0 = λ m. IsMadeFor m c.take_turn.new.screen in
     let still : l ≡ new = sym (c.take_turn.ensures.lang ∙ c.loop-turn.invariant.lang) in
     let one : length (standing_on old (g.P.Keep.record_of c.take_turn.new.keep)) ≡ length (standing_on old (g.P.Keep.record_of c.loop-turn.keep)) + 1 = c.take_turn.ensures.more c.in_default.is in
@@ -93,7 +93,7 @@ loop-turn-preserved g c =
       plan = c.take_turn.ensures.plan ∙ c.loop-turn.invariant.plan;
       lang = c.take_turn.ensures.lang ∙ c.loop-turn.invariant.lang;
       turn = c.take_turn.ensures.turn ∙ c.loop-turn.invariant.turn;
-      steps = subst Ended still (steps_on turns l (way_of p c.args.budget) a (b l) (d l) (subst Stepped c.loop-turn.invariant.lang c.loop-turn.invariant.steps)
+      steps = subst Ended still (steps_on turns l (request_with p c.args.budget) a (b l) (d l) (subst Stepped c.loop-turn.invariant.lang c.loop-turn.invariant.steps)
           (carried Spoken old l before p c.loop-turn.invariant.lang c.loop-turn.invariant.plan (subst Turned c.loop-turn.invariant.turn (c.take_turn.ensures.again c.in_default.is))));
       later = omega (arith, c.take_turn.ensures.later, c.loop-turn.invariant.later);
       later_sink = omega (arith, c.take_turn.ensures.later_sink, c.loop-turn.invariant.later_sink);

@@ -3,7 +3,7 @@ use Rattle.language.specs.Answers.{standing_on}
 use Rattle.query_gen.specs.Marks.{IsMadeFor}
 use Rattle.session_core.specs.Settled.{IsSettled}
 use Rattle.acq_cli.specs.Driven.{Remembers, StepsTo}
-use Rattle.acq_cli.specs.Places.{place_of, way_of}
+use Rattle.acq_cli.specs.Places.{place_of, request_with}
 use Rattle.acq_cli.proofs.driving.drive.Given as goal
 
 abbrev pub invariant-loop-turn : goal.invariant-loop-turn
@@ -13,11 +13,11 @@ invariant-loop-turn g l =
       sound : g.P.Keep.sound l.keep;
       settled : IsSettled (g.P.Keep.lang l.keep) (g.P.Keep.plan l.keep) (standing_on (g.P.Keep.lang l.keep) (entries l.keep)) (g.P.Keep.question l.keep);
       screen : IsMadeFor (g.P.Keep.lang l.keep) l.screen;
-      remembers : Remembers (g.P.Keep.lang l.keep) (way_of (g.P.Keep.plan l.keep) l.fn.budget) (standing_on (g.P.Keep.lang l.keep) (entries l.keep)) l.screen;
+      remembers : Remembers (g.P.Keep.lang l.keep) (request_with (g.P.Keep.plan l.keep) l.fn.budget) (standing_on (g.P.Keep.lang l.keep) (entries l.keep)) l.screen;
       plan : g.P.Keep.plan l.keep ≡ g.P.Keep.plan l.initial.keep;
       lang : g.P.Keep.lang l.keep ≡ g.P.Keep.lang l.initial.keep;
       turn : g.T.Teacher.turn l.teacher ≡ g.T.Teacher.turn l.initial.teacher;
-      steps : StepsTo (g.T.Teacher.turn l.initial.teacher) (g.P.Keep.lang l.initial.keep) (way_of (g.P.Keep.plan l.initial.keep) l.fn.budget)
+      steps : StepsTo (g.T.Teacher.turn l.initial.teacher) (g.P.Keep.lang l.initial.keep) (request_with (g.P.Keep.plan l.initial.keep) l.fn.budget)
           (place_of (standing_on (g.P.Keep.lang l.initial.keep) (entries l.initial.keep)) (left l.initial.source) (written l.initial.sink))
           (place_of (standing_on (g.P.Keep.lang l.keep) (entries l.keep)) (left l.source) (written l.sink));
       later : g.S.Source.faults l.initial.source ≤ g.S.Source.faults l.source;

@@ -5,7 +5,7 @@ use Rattle.language.specs.Language.{Language}
 use Rattle.language.specs.Answers.{standing_on}
 use Rattle.target_oracle.specs.Turns.{Turns, Said, Stopped, Ended, Overlong, Unread}
 use Rattle.acq_cli.specs.Run.{Suspended, LineTooLong, Unreadable}
-use Rattle.acq_cli.specs.Places.{place_of, way_of}
+use Rattle.acq_cli.specs.Places.{place_of, request_with}
 use Rattle.acq_cli.proofs.Standings.{AtTurn, at_turn, next_fits, run_laws}
 use Rattle.acq_cli.proofs.Turning.{told_as, front_as, ran_closed, cut_turn}
 use Rattle.acq_cli.proofs.Answered.{goes_on, one_more, ends}
@@ -35,7 +35,7 @@ returns-in-Yes-clause-again g c budget due =
     let left' : Option (List ℕ) = g.S.Source.left c.told.new.source in
     let written' : Option (List ℕ) = g.K.Sink.written c.told.new.sink in
     let after : List Answer = standing_on l (g.P.Keep.record_of c.keep_answer.new.keep) in
-    goes_on turns l (way_of plan budget) t after c.args.question.now true (g.P.Keep.question c.args.keep.now) left written left' written' c.keep_answer.result due c.requires.put c.keep_answer.ensures.kept
+    goes_on turns l (request_with plan budget) t after c.args.question.now true (g.P.Keep.question c.args.keep.now) left written left' written' c.keep_answer.result due c.requires.put c.keep_answer.ensures.kept
     (told_as turns c.lang.result.now l (c.answers-count.result + 1) (length t + 1) c.args.question.now (place_of t left written) (place_of t left' written') (Said true) at.language (ap (λ n. n + 1) at.number) c.in-Yes.ensures.tells)
 
 pub returns-in-Yes-clause-more : goal.returns-in-Yes-clause-more
@@ -49,7 +49,7 @@ returns-in-Yes-clause-more g c =
     let left' : Option (List ℕ) = g.S.Source.left c.told.new.source in
     let written' : Option (List ℕ) = g.K.Sink.written c.told.new.sink in
     let after : List Answer = standing_on l (g.P.Keep.record_of c.keep_answer.new.keep) in
-    one_more turns l (way_of plan 1) t after c.args.question.now true (g.P.Keep.question c.args.keep.now) left written left' written' c.keep_answer.result c.requires.put c.keep_answer.ensures.kept
+    one_more turns l (request_with plan 1) t after c.args.question.now true (g.P.Keep.question c.args.keep.now) left written left' written' c.keep_answer.result c.requires.put c.keep_answer.ensures.kept
 
 pub returns-in-Yes-clause-ends : goal.returns-in-Yes-clause-ends
 returns-in-Yes-clause-ends g c budget due =
@@ -65,7 +65,7 @@ returns-in-Yes-clause-ends g c budget due =
     let left' : Option (List ℕ) = g.S.Source.left c.told.new.source in
     let written' : Option (List ℕ) = g.K.Sink.written c.told.new.sink in
     let after : List Answer = standing_on l (g.P.Keep.record_of c.keep_answer.new.keep) in
-    ends turns l (way_of plan budget) t after c.args.question.now true (g.P.Keep.question c.args.keep.now) left written left' written' c.keep_answer.result at.lawful at.reached due c.keep_answer.ensures.kept
+    ends turns l (request_with plan budget) t after c.args.question.now true (g.P.Keep.question c.args.keep.now) left written left' written' c.keep_answer.result at.lawful at.reached due c.keep_answer.ensures.kept
     (told_as turns c.lang.result.now l (c.answers-count.result + 1) (length t + 1) c.args.question.now (place_of t left written) (place_of t left' written') (Said true) at.language (ap (λ n. n + 1) at.number) c.in-Yes.ensures.tells)
 
 pub returns-in-No-clause-again : goal.returns-in-No-clause-again
@@ -82,7 +82,7 @@ returns-in-No-clause-again g c budget due =
     let left' : Option (List ℕ) = g.S.Source.left c.told.new.source in
     let written' : Option (List ℕ) = g.K.Sink.written c.told.new.sink in
     let after : List Answer = standing_on l (g.P.Keep.record_of c.keep_answer-in-No.new.keep) in
-    goes_on turns l (way_of plan budget) t after c.args.question.now false (g.P.Keep.question c.args.keep.now) left written left' written' c.keep_answer-in-No.result due c.requires.put c.keep_answer-in-No.ensures.kept
+    goes_on turns l (request_with plan budget) t after c.args.question.now false (g.P.Keep.question c.args.keep.now) left written left' written' c.keep_answer-in-No.result due c.requires.put c.keep_answer-in-No.ensures.kept
     (told_as turns c.lang.result.now l (c.answers-count.result + 1) (length t + 1) c.args.question.now (place_of t left written) (place_of t left' written') (Said false) at.language (ap (λ n. n + 1) at.number) c.in-No.ensures.tells)
 
 pub returns-in-No-clause-more : goal.returns-in-No-clause-more
@@ -96,7 +96,7 @@ returns-in-No-clause-more g c =
     let left' : Option (List ℕ) = g.S.Source.left c.told.new.source in
     let written' : Option (List ℕ) = g.K.Sink.written c.told.new.sink in
     let after : List Answer = standing_on l (g.P.Keep.record_of c.keep_answer-in-No.new.keep) in
-    one_more turns l (way_of plan 1) t after c.args.question.now false (g.P.Keep.question c.args.keep.now) left written left' written' c.keep_answer-in-No.result c.requires.put c.keep_answer-in-No.ensures.kept
+    one_more turns l (request_with plan 1) t after c.args.question.now false (g.P.Keep.question c.args.keep.now) left written left' written' c.keep_answer-in-No.result c.requires.put c.keep_answer-in-No.ensures.kept
 
 pub returns-in-No-clause-ends : goal.returns-in-No-clause-ends
 returns-in-No-clause-ends g c budget due =
@@ -112,7 +112,7 @@ returns-in-No-clause-ends g c budget due =
     let left' : Option (List ℕ) = g.S.Source.left c.told.new.source in
     let written' : Option (List ℕ) = g.K.Sink.written c.told.new.sink in
     let after : List Answer = standing_on l (g.P.Keep.record_of c.keep_answer-in-No.new.keep) in
-    ends turns l (way_of plan budget) t after c.args.question.now false (g.P.Keep.question c.args.keep.now) left written left' written' c.keep_answer-in-No.result at.lawful at.reached due c.keep_answer-in-No.ensures.kept
+    ends turns l (request_with plan budget) t after c.args.question.now false (g.P.Keep.question c.args.keep.now) left written left' written' c.keep_answer-in-No.result at.lawful at.reached due c.keep_answer-in-No.ensures.kept
     (told_as turns c.lang.result.now l (c.answers-count.result + 1) (length t + 1) c.args.question.now (place_of t left written) (place_of t left' written') (Said false) at.language (ap (λ n. n + 1) at.number) c.in-No.ensures.tells)
 
 pub returns-in-Stop-clause-ends : goal.returns-in-Stop-clause-ends
@@ -128,7 +128,7 @@ returns-in-Stop-clause-ends g c budget due =
     let written : Option (List ℕ) = g.K.Sink.written c.args.sink.now in
     let left' : Option (List ℕ) = g.S.Source.left c.told.new.source in
     let written' : Option (List ℕ) = g.K.Sink.written c.told.new.sink in
-    (at.number, ran_closed turns l (way_of plan budget) c.args.question.now Stopped Suspended (place_of t left written) (place_of t left' written') due.puts refl (λ again rest. refl) (told_as turns c.lang.result.now l (c.answers-count.result + 1) (length t + 1) c.args.question.now (place_of t left written) (place_of t left' written') (Stopped) at.language (ap (λ n. n + 1) at.number) c.in-Stop.ensures.tells))
+    (at.number, ran_closed turns l (request_with plan budget) c.args.question.now Stopped Suspended (place_of t left written) (place_of t left' written') due.puts refl (λ again rest. refl) (told_as turns c.lang.result.now l (c.answers-count.result + 1) (length t + 1) c.args.question.now (place_of t left written) (place_of t left' written') (Stopped) at.language (ap (λ n. n + 1) at.number) c.in-Stop.ensures.tells))
 
 pub returns-in-End-clause-ends : goal.returns-in-End-clause-ends
 returns-in-End-clause-ends g c budget due =
@@ -143,7 +143,7 @@ returns-in-End-clause-ends g c budget due =
     let written : Option (List ℕ) = g.K.Sink.written c.args.sink.now in
     let left' : Option (List ℕ) = g.S.Source.left c.told.new.source in
     let written' : Option (List ℕ) = g.K.Sink.written c.told.new.sink in
-    (at.number, ran_closed turns l (way_of plan budget) c.args.question.now Ended Suspended (place_of t left written) (place_of t left' written') due.puts refl (λ again rest. refl) (told_as turns c.lang.result.now l (c.answers-count.result + 1) (length t + 1) c.args.question.now (place_of t left written) (place_of t left' written') (Ended) at.language (ap (λ n. n + 1) at.number) c.in-End.ensures.tells))
+    (at.number, ran_closed turns l (request_with plan budget) c.args.question.now Ended Suspended (place_of t left written) (place_of t left' written') due.puts refl (λ again rest. refl) (told_as turns c.lang.result.now l (c.answers-count.result + 1) (length t + 1) c.args.question.now (place_of t left written) (place_of t left' written') (Ended) at.language (ap (λ n. n + 1) at.number) c.in-End.ensures.tells))
 
 pub returns-in-TooLong-clause-ends : goal.returns-in-TooLong-clause-ends
 returns-in-TooLong-clause-ends g c budget due =
@@ -158,7 +158,7 @@ returns-in-TooLong-clause-ends g c budget due =
     let written : Option (List ℕ) = g.K.Sink.written c.args.sink.now in
     let left' : Option (List ℕ) = g.S.Source.left c.told.new.source in
     let written' : Option (List ℕ) = g.K.Sink.written c.told.new.sink in
-    ran_closed turns l (way_of plan budget) c.args.question.now Overlong LineTooLong (place_of t left written) (place_of t left' written') due.puts refl (λ again rest. refl) (told_as turns c.lang.result.now l (c.answers-count.result + 1) (length t + 1) c.args.question.now (place_of t left written) (place_of t left' written') (Overlong) at.language (ap (λ n. n + 1) at.number) c.in-TooLong.ensures.tells)
+    ran_closed turns l (request_with plan budget) c.args.question.now Overlong LineTooLong (place_of t left written) (place_of t left' written') due.puts refl (λ again rest. refl) (told_as turns c.lang.result.now l (c.answers-count.result + 1) (length t + 1) c.args.question.now (place_of t left written) (place_of t left' written') (Overlong) at.language (ap (λ n. n + 1) at.number) c.in-TooLong.ensures.tells)
 
 pub returns-in-Unreadable-clause-ends : goal.returns-in-Unreadable-clause-ends
 returns-in-Unreadable-clause-ends g c budget due =
@@ -173,7 +173,7 @@ returns-in-Unreadable-clause-ends g c budget due =
     let written : Option (List ℕ) = g.K.Sink.written c.args.sink.now in
     let left' : Option (List ℕ) = g.S.Source.left c.told.new.source in
     let written' : Option (List ℕ) = g.K.Sink.written c.told.new.sink in
-    ran_closed turns l (way_of plan budget) c.args.question.now Unread Unreadable (place_of t left written) (place_of t left' written') due.puts refl (λ again rest. refl) (told_as turns c.lang.result.now l (c.answers-count.result + 1) (length t + 1) c.args.question.now (place_of t left written) (place_of t left' written') (Unread) at.language (ap (λ n. n + 1) at.number) c.in-Unreadable.ensures.tells)
+    ran_closed turns l (request_with plan budget) c.args.question.now Unread Unreadable (place_of t left written) (place_of t left' written') due.puts refl (λ again rest. refl) (told_as turns c.lang.result.now l (c.answers-count.result + 1) (length t + 1) c.args.question.now (place_of t left written) (place_of t left' written') (Unread) at.language (ap (λ n. n + 1) at.number) c.in-Unreadable.ensures.tells)
 
 pub returns-in-ReadFault-clause-ends : goal.returns-in-ReadFault-clause-ends
 returns-in-ReadFault-clause-ends g c budget due =
@@ -188,7 +188,7 @@ returns-in-ReadFault-clause-ends g c budget due =
     let written : Option (List ℕ) = g.K.Sink.written c.args.sink.now in
     let left' : Option (List ℕ) = g.S.Source.left c.told.new.source in
     let written' : Option (List ℕ) = g.K.Sink.written c.told.new.sink in
-    cut_turn run_laws turns l (way_of plan budget) at.lawful c.args.question.now (place_of t left written) (place_of t left' written') at.reached due.puts refl (front_as turns c.lang.result.now l (c.answers-count.result + 1) (length t + 1) c.args.question.now (place_of t left written) (place_of t left' written') at.language (ap (λ n. n + 1) at.number) c.in-ReadFault.ensures.tells)
+    cut_turn run_laws turns l (request_with plan budget) at.lawful c.args.question.now (place_of t left written) (place_of t left' written') at.reached due.puts refl (front_as turns c.lang.result.now l (c.answers-count.result + 1) (length t + 1) c.args.question.now (place_of t left written) (place_of t left' written') at.language (ap (λ n. n + 1) at.number) c.in-ReadFault.ensures.tells)
 
 pub returns-in-WriteFault-clause-ends : goal.returns-in-WriteFault-clause-ends
 returns-in-WriteFault-clause-ends g c budget due =
@@ -203,7 +203,7 @@ returns-in-WriteFault-clause-ends g c budget due =
     let written : Option (List ℕ) = g.K.Sink.written c.args.sink.now in
     let left' : Option (List ℕ) = g.S.Source.left c.told.new.source in
     let written' : Option (List ℕ) = g.K.Sink.written c.told.new.sink in
-    cut_turn run_laws turns l (way_of plan budget) at.lawful c.args.question.now (place_of t left written) (place_of t left' written') at.reached due.puts refl (front_as turns c.lang.result.now l (c.answers-count.result + 1) (length t + 1) c.args.question.now (place_of t left written) (place_of t left' written') at.language (ap (λ n. n + 1) at.number) c.in-WriteFault.ensures.tells)
+    cut_turn run_laws turns l (request_with plan budget) at.lawful c.args.question.now (place_of t left written) (place_of t left' written') at.reached due.puts refl (front_as turns c.lang.result.now l (c.answers-count.result + 1) (length t + 1) c.args.question.now (place_of t left written) (place_of t left' written') at.language (ap (λ n. n + 1) at.number) c.in-WriteFault.ensures.tells)
 
 pub returns-in-Memory-clause-ends : goal.returns-in-Memory-clause-ends
 returns-in-Memory-clause-ends g c budget due =
@@ -218,4 +218,4 @@ returns-in-Memory-clause-ends g c budget due =
     let written : Option (List ℕ) = g.K.Sink.written c.args.sink.now in
     let left' : Option (List ℕ) = g.S.Source.left c.told.new.source in
     let written' : Option (List ℕ) = g.K.Sink.written c.told.new.sink in
-    cut_turn run_laws turns l (way_of plan budget) at.lawful c.args.question.now (place_of t left written) (place_of t left' written') at.reached due.puts refl (front_as turns c.lang.result.now l (c.answers-count.result + 1) (length t + 1) c.args.question.now (place_of t left written) (place_of t left' written') at.language (ap (λ n. n + 1) at.number) c.in-Memory.ensures.tells)
+    cut_turn run_laws turns l (request_with plan budget) at.lawful c.args.question.now (place_of t left written) (place_of t left' written') at.reached due.puts refl (front_as turns c.lang.result.now l (c.answers-count.result + 1) (length t + 1) c.args.question.now (place_of t left written) (place_of t left' written') at.language (ap (λ n. n + 1) at.number) c.in-Memory.ensures.tells)

@@ -6,7 +6,7 @@ use Rattle.target_oracle.specs.Turns.{Turns}
 use Rattle.acq_cli.specs.declared.words.Request.{Request}
 use Rattle.acq_cli.specs.Run.{Converged, Collapsed, Undecided}
 use Rattle.acq_cli.specs.Driven.{IsDone, IsCollapsed, IsLeftOpen, RanTo, TellsOpen}
-use Rattle.acq_cli.specs.Places.{place_of, way_of}
+use Rattle.acq_cli.specs.Places.{place_of, request_with}
 use Rattle.acq_cli.proofs.Standings.{due_reached, marks_after}
 use Rattle.acq_cli.proofs.Nexts.{put_due}
 use Rattle.acq_cli.proofs.Turning.{ran_end}
@@ -15,62 +15,62 @@ use Rattle.acq_cli.proofs.driving.take_turn.Goals as goal
 pub returns-in-Converged-clause-ends : goal.returns-in-Converged-clause-ends
 returns-in-Converged-clause-ends g c =
     let l : Language = g.P.Keep.lang c.args.keep.now in
-    let way : Request = way_of (g.P.Keep.plan c.args.keep.now) c.args.budget in
+    let request : Request = request_with (g.P.Keep.plan c.args.keep.now) c.args.budget in
     let t : List Answer = standing_on l (g.P.Keep.record_of c.args.keep.now) in
     let same : standing_on l (g.P.Keep.record_of c.put_next.new.keep) ≡ t = ap (standing_on l) c.put_next.ensures.events in
     let turns : Turns = g.T.Teacher.turn c.args.teacher.now in
     let left : Option (List ℕ) = g.S.Source.left c.args.source.now in
     let written : Option (List ℕ) = g.K.Sink.written c.args.sink.now in
-    let Ran : List Answer → Type 0 = λ x. RanTo turns l way Converged (place_of t left written) (place_of x left written) in (
+    let Ran : List Answer → Type 0 = λ x. RanTo turns l request Converged (place_of t left written) (place_of x left written) in (
       c.answers.ensures ∙ c.session.ensures.stands.knows.count ∙ ap (λ m. length (standing_on m (g.P.Keep.record_of c.put_next.new.keep))) c.put_next.ensures.lang,
-      subst (IsDone l way) (sym same) c.in-Converged.ensures.put,
-      subst Ran (sym same) (ran_end turns l way Converged (place_of t left written) c.in-Converged.ensures.put.ends),
+      subst (IsDone l request) (sym same) c.in-Converged.ensures.put,
+      subst Ran (sym same) (ran_end turns l request Converged (place_of t left written) c.in-Converged.ensures.put.ends),
     )
 
 pub returns-in-Collapsed-clause-ends : goal.returns-in-Collapsed-clause-ends
 returns-in-Collapsed-clause-ends g c =
     let l : Language = g.P.Keep.lang c.args.keep.now in
-    let way : Request = way_of (g.P.Keep.plan c.args.keep.now) c.args.budget in
+    let request : Request = request_with (g.P.Keep.plan c.args.keep.now) c.args.budget in
     let t : List Answer = standing_on l (g.P.Keep.record_of c.args.keep.now) in
     let same : standing_on l (g.P.Keep.record_of c.put_next.new.keep) ≡ t = ap (standing_on l) c.put_next.ensures.events in
     let turns : Turns = g.T.Teacher.turn c.args.teacher.now in
     let left : Option (List ℕ) = g.S.Source.left c.args.source.now in
     let written : Option (List ℕ) = g.K.Sink.written c.args.sink.now in
-    let Ran : List Answer → Type 0 = λ x. RanTo turns l way Collapsed (place_of t left written) (place_of x left written) in (
+    let Ran : List Answer → Type 0 = λ x. RanTo turns l request Collapsed (place_of t left written) (place_of x left written) in (
       c.answers-in-Collapsed.ensures ∙ c.session-in-Collapsed.ensures.stands.knows.count ∙ ap (λ m. length (standing_on m (g.P.Keep.record_of c.put_next.new.keep))) c.put_next.ensures.lang,
-      subst (IsCollapsed l way) (sym same) c.in-Collapsed.ensures.put.0,
-      subst Ran (sym same) (ran_end turns l way Collapsed (place_of t left written) c.in-Collapsed.ensures.put.1),
+      subst (IsCollapsed l request) (sym same) c.in-Collapsed.ensures.put.0,
+      subst Ran (sym same) (ran_end turns l request Collapsed (place_of t left written) c.in-Collapsed.ensures.put.1),
     )
 
 pub returns-in-Undecided-clause-ends : goal.returns-in-Undecided-clause-ends
 returns-in-Undecided-clause-ends g c =
     let l : Language = g.P.Keep.lang c.args.keep.now in
-    let way : Request = way_of (g.P.Keep.plan c.args.keep.now) c.args.budget in
+    let request : Request = request_with (g.P.Keep.plan c.args.keep.now) c.args.budget in
     let t : List Answer = standing_on l (g.P.Keep.record_of c.args.keep.now) in
     let same : standing_on l (g.P.Keep.record_of c.put_next.new.keep) ≡ t = ap (standing_on l) c.put_next.ensures.events in
     let turns : Turns = g.T.Teacher.turn c.args.teacher.now in
     let left : Option (List ℕ) = g.S.Source.left c.args.source.now in
     let written : Option (List ℕ) = g.K.Sink.written c.args.sink.now in
-    let Ran : List Answer → Type 0 = λ x. RanTo turns l way Undecided (place_of t left written) (place_of x left written) in (
+    let Ran : List Answer → Type 0 = λ x. RanTo turns l request Undecided (place_of t left written) (place_of x left written) in (
       c.answers-in-Undecided.ensures ∙ c.session-in-Undecided.ensures.stands.knows.count ∙ ap (λ m. length (standing_on m (g.P.Keep.record_of c.put_next.new.keep))) c.put_next.ensures.lang,
-      subst (IsLeftOpen l way) (sym same) c.in-Undecided.ensures.put,
-      subst Ran (sym same) (ran_end turns l way Undecided (place_of t left written) c.in-Undecided.ensures.put.ends),
+      subst (IsLeftOpen l request) (sym same) c.in-Undecided.ensures.put,
+      subst Ran (sym same) (ran_end turns l request Undecided (place_of t left written) c.in-Undecided.ensures.put.ends),
     )
 
 pub returns-in-Undecided-clause-open : goal.returns-in-Undecided-clause-open
 returns-in-Undecided-clause-open g c m is =
     let l : Language = g.P.Keep.lang c.args.keep.now in
-    let way : Request = way_of (g.P.Keep.plan c.args.keep.now) c.args.budget in
+    let request : Request = request_with (g.P.Keep.plan c.args.keep.now) c.args.budget in
     let t : List Answer = standing_on l (g.P.Keep.record_of c.args.keep.now) in
     let same : standing_on l (g.P.Keep.record_of c.put_next.new.keep) ≡ t = ap (standing_on l) c.put_next.ensures.events in
-    let P : List Answer → Type 0 = λ x. TellsOpen l way x c.put_next.new.screen in
+    let P : List Answer → Type 0 = λ x. TellsOpen l request x c.put_next.new.screen in
     subst P (sym same) (c.in-Undecided.ensures.open refl)
 
 pub returns-in-Open-clause-remembers : goal.returns-in-Open-clause-remembers
 returns-in-Open-clause-remembers g c none =
     let l : Language = g.P.Keep.lang c.args.keep.now in
-    let way : Request = way_of (g.P.Keep.plan c.args.keep.now) c.args.budget in
+    let request : Request = request_with (g.P.Keep.plan c.args.keep.now) c.args.budget in
     let t : List Answer = standing_on l (g.P.Keep.record_of c.args.keep.now) in
-    let due = put_due l way t (g.P.Keep.question c.put_next.new.keep) c.put_next.result c.in-Open.question c.put_next.ensures.put c.in-Open.is in
-    marks_after l (g.P.Keep.lang c.put_next.new.keep) way (g.P.Keep.record_of c.args.keep.now) (g.P.Keep.record_of c.put_next.new.keep) (g.P.Keep.record_of c.hear_answer.new.keep)
-    c.put_next.new.screen c.put_next.ensures.lang c.put_next.ensures.events (due_reached l way t _ due.puts) (c.hear_answer.ensures.more none) c.put_next.ensures.remembers
+    let due = put_due l request t (g.P.Keep.question c.put_next.new.keep) c.put_next.result c.in-Open.question c.put_next.ensures.put c.in-Open.is in
+    marks_after l (g.P.Keep.lang c.put_next.new.keep) request (g.P.Keep.record_of c.args.keep.now) (g.P.Keep.record_of c.put_next.new.keep) (g.P.Keep.record_of c.hear_answer.new.keep)
+    c.put_next.new.screen c.put_next.ensures.lang c.put_next.ensures.events (due_reached l request t _ due.puts) (c.hear_answer.ensures.more none) c.put_next.ensures.remembers

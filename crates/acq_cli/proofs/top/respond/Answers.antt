@@ -20,21 +20,21 @@ returns-in_err-write-clause-part g c =
 
 pub returns-in-Err-TooLong-clause-part : goal.returns-in-Err-TooLong-clause-part
 returns-in-Err-TooLong-clause-part g c =
-    breaks_refused (map string_bytes c.args.words.now) c.in-Some.way (g.S.Source.left c.args.input.now) (g.S.Source.left c.read_first_line.new.source) (g.K.Sink.written c.args.out.now)
+    breaks_refused (map string_bytes c.args.words.now) c.in-Some.request (g.S.Source.left c.args.input.now) (g.S.Source.left c.read_first_line.new.source) (g.K.Sink.written c.args.out.now)
     (g.K.Sink.written c.refuse.new.out) (Err TooLong) _ c.refuse.result
     (sym c.request_of.ensures.is ∙ c.in-Some.is) (c.read_first_line.ensures.too_long (c.in-Err-TooLong.is ∙ ap fault_of c.in-Err-TooLong.field-0-is)) (refl, refl) c.refuse.ensures.part
 
 pub returns-in-Ok-read_vocabulary-clause-acquires : goal.returns-in-Ok-read_vocabulary-clause-acquires
 returns-in-Ok-read_vocabulary-clause-acquires g c =
     let P : List ℕ → Type 0 = λ line. IsVocabulary line c.in-Ok-read_vocabulary.lang in
-    acquires_in (map string_bytes c.args.words.now) c.in-Some.way (g.S.Source.left c.args.input.now) (g.S.Source.left c.read_first_line.new.source) (g.K.Sink.written c.args.out.now)
+    acquires_in (map string_bytes c.args.words.now) c.in-Some.request (g.S.Source.left c.args.input.now) (g.S.Source.left c.read_first_line.new.source) (g.K.Sink.written c.args.out.now)
     (g.S.Source.left c.try_language.new.input) (g.K.Sink.written c.try_language.new.out) c.in-Ok.line.items c.in-Ok-read_vocabulary.lang c.try_language.result
     (sym c.request_of.ensures.is ∙ c.in-Some.is) c.in-Ok.ensures.line (subst P c.deref.ensures.value c.in-Ok-read_vocabulary.ensures.ok) c.try_language.ensures.tries
 
 pub returns-in-Ok-read_vocabulary-clause-part : goal.returns-in-Ok-read_vocabulary-clause-part
 returns-in-Ok-read_vocabulary-clause-part g c =
     let P : List ℕ → Type 0 = λ line. IsVocabulary line c.in-Ok-read_vocabulary.lang in
-    breaks_in (map string_bytes c.args.words.now) c.in-Some.way (g.S.Source.left c.args.input.now) (g.S.Source.left c.read_first_line.new.source) (g.K.Sink.written c.args.out.now)
+    breaks_in (map string_bytes c.args.words.now) c.in-Some.request (g.S.Source.left c.args.input.now) (g.S.Source.left c.read_first_line.new.source) (g.K.Sink.written c.args.out.now)
     (g.K.Sink.written c.try_language.new.out) c.in-Ok.line.items c.in-Ok-read_vocabulary.lang c.try_language.result
     (sym c.request_of.ensures.is ∙ c.in-Some.is) c.in-Ok.ensures.line (subst P c.deref.ensures.value c.in-Ok-read_vocabulary.ensures.ok) c.try_language.ensures.part
 
@@ -43,7 +43,7 @@ returns g c =
     let refused : refusal_of_vocabulary c.deref.result.now ≡ Some c.in-Err.fault = search rules in
     record {
       acquires = search rules;
-      part = breaks_refused (map string_bytes c.args.words.now) c.in-Some.way (g.S.Source.left c.args.input.now) (g.S.Source.left c.read_first_line.new.source) (g.K.Sink.written c.args.out.now)
+      part = breaks_refused (map string_bytes c.args.words.now) c.in-Some.request (g.S.Source.left c.args.input.now) (g.S.Source.left c.read_first_line.new.source) (g.K.Sink.written c.args.out.now)
           (g.K.Sink.written c.refuse-in-Err.new.out) (Ok c.in-Ok.line.items) c.in-Err.fault c.refuse-in-Err.result
           (sym c.request_of.ensures.is ∙ c.in-Some.is) c.in-Ok.ensures.line (ap refusal_of_vocabulary (sym c.deref.ensures.value) ∙ refused) c.refuse-in-Err.ensures.part;
       read = search rules;
