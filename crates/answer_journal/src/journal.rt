@@ -18,7 +18,7 @@ pub const MOST_RECORDS: u32 = 1_000_000;
 
 /// Where the closed gate behind the records of a file stands. The file isn't held: each call that writes is lent the disk
 /// that the journal was made or opened on.
-#[derive(Clone, Copy, Debug)]
+#[derive(Debug, Drop)]
 pub struct Journal {
     at: u64,
     records: u32,
