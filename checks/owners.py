@@ -203,6 +203,9 @@ def session(program, number):
 
 
 def main():
+    if len(sys.argv) < 2:
+        print(__doc__)
+        sys.exit(2)
     program = sys.argv[1]
     sessions = int(sys.argv[2]) if len(sys.argv) > 2 else 2000
     endings = {}
