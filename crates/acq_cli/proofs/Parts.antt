@@ -26,11 +26,9 @@ use Rattle.acq_cli.specs.Words.{request_of}
 use Rattle.acq_cli.specs.declared.words.Request.{Request}
 use Rattle.acq_cli.proofs.Running.{IsReached, run_exists}
 use Rattle.acq_cli.proofs.Standings.{run_laws}
+use Rattle.acq_cli.proofs.Turning.{some_text}
 use Rattle.acq_cli.specs.declared.ending.Ending.{Ending}
 use Rattle.acq_cli.specs.declared.ending.Ending.TheVariants as ending
-
-some_text : (x y : List ℕ) → x ≡ y → (let a : Option (List ℕ) = Some x in a) ≡ Some y
-some_text x y e = ap (λ (t : List ℕ). let a : Option (List ℕ) = Some t in a) e
 
 -- ---- one text
 

@@ -13,7 +13,7 @@ use Rattle.acq_cli.specs.declared.driving.Drove.{Drove}
 use Rattle.acq_cli.specs.declared.driving.Drove.TheVariants as drove
 use Rattle.acq_cli.proofs.Running.{text_after, runs_said, EndsSo, runs_closed, runs_end, IsReached, RunLaws, turn_exists}
 
-some_text : (x y : List ℕ) → x ≡ y → (let a : Option (List ℕ) = Some x in a) ≡ Some y
+pub some_text : (x y : List ℕ) → x ≡ y → (let a : Option (List ℕ) = Some x in a) ≡ Some y
 some_text x y e = ap (λ (t : List ℕ). let a : Option (List ℕ) = Some t in a) e
 
 -- ---- many turns
