@@ -8,6 +8,7 @@ use Rattle.std.proofs.lemmas.List.Elements.{All-head, All-tail, All-nil, All-con
 use Rattle.std.proofs.lemmas.List.Folds.{list_any-append}
 use Rattle.language.specs.declared.candidates.Candidate.{Candidate}
 use Rattle.language.proofs.Members.{any-map}
+use Rattle.language.proofs.Lists.{nothing_passes}
 use Rattle.bias_store.specs.Masks.{ones_of}
 use Rattle.bias_store.specs.Inside.{candidates_at, members_from}
 
@@ -136,10 +137,6 @@ pub one_passes : (p : Candidate → Bool) (masks : List ℕ) (i : ℕ) → i < l
 one_passes p masks i low one = one_from p 0 masks i i (omega arith) low one
 
 -- ---- the relations of one scope
-
-pub nothing_passes : {X : Type 0} (p : X → Bool) (xs : List X) → ((x : X) → p x ≡ false) → filter p xs ≡ []
-nothing_passes p [] h = refl
-nothing_passes p (x ∷ xs) h = rw (h x) (nothing_passes p xs h)
 
 pub all_pass : {X : Type 0} (p : X → Bool) (xs : List X) → ((x : X) → p x ≡ true) → filter p xs ≡ xs
 all_pass p [] h = refl

@@ -9,11 +9,12 @@ use Rattle.std.proofs.lemmas.List.Elements.{All-filter, All-weaker}
 use Rattle.std.proofs.lemmas.List.Filters.{length-filter_both}
 use Rattle.language.specs.declared.candidates.Candidate.{Candidate}
 use Rattle.language.specs.Language.{Language, IsCandidate, relations_on}
+use Rattle.language.proofs.Lists.{nothing_passes}
 use Rattle.bias_store.specs.Masks.{ones_of}
 use Rattle.bias_store.specs.KeptSet.{KeptSet, IsMadeFor}
 use Rattle.bias_store.specs.Inside.{members_from}
 use Rattle.bias_store.proofs.Ones.{ones_of-zero, ones_of-and_not, no_ones}
-use Rattle.bias_store.proofs.Members.{candidate_at, length-members_set, fewer_on_one, known_on, filter_of_masks, all_pass, nothing_passes}
+use Rattle.bias_store.proofs.Members.{candidate_at, length-members_set, fewer_on_one, known_on, filter_of_masks, all_pass}
 
 -- the scopes below s are struck, and the count is right
 pub record IsStruck (fails : Candidate → Bool) (old now : List ℕ) (s before count : ℕ) : Type 0 where

@@ -8,15 +8,11 @@ use Rattle.std.proofs.lemmas.List.FromFn.{fill_by_all, length-map-range_with_len
 use Rattle.std.proofs.lemmas.List.Elements.{All-head, All-tail, All-map}
 use Rattle.std.proofs.lemmas.Bool.{cases_eq, eq-eqb, ne_eqb}
 use Rattle.assign.specs.Assignment.{value_beside, assigned, IsAssignment}
-use Rattle.fd_solver.proofs.Fronts.{value_of_assigned}
-use Rattle.fd_solver.proofs.Lists.{all_below}
+use Rattle.language.proofs.Beside.{value_of_assigned, beside_none, beside_fits}
+use Rattle.language.proofs.Lists.{all_below}
 use Rattle.fd_solver.specs.Outcomes.{IsOrder}
 
 -- ---- the value beside a variable, with one value more
-
-beside_none : (vars : List ℕ) (w : ℕ) → value_beside vars [] w ≡ None
-beside_none [] w = refl
-beside_none (v ∷ vars) w = refl
 
 tail_different : (v : ℕ) (vars : List ℕ) → AllPairs (λ a b. (a ≡ b) → ⊥) (v ∷ vars) → AllPairs (λ a b. (a ≡ b) → ⊥) vars
 tail_different v vars h = λ i j d low k. h (suc i) (suc j) d (omega arith) (omega arith)
@@ -86,16 +82,6 @@ module _ (n : ℕ) (order : List ℕ) (is : IsOrder n order) where
           get_or-set_other (assigned n order (p ++ x ∷ [])) (slice_index_or order (length p) 0) w None None (λ e. differ (sym e))
           ∙ value_of_assigned n order (p ++ x ∷ []) w low ∙ beside_push order p x w is.different (let size = is.size in omega arith)
           ∙ ap (λ b. cond b (Some x) (value_beside order p w)) (ne_eqb _ w differ)
-
--- a prefix of small values gives a question
-beside_fits : (d : ℕ) (vars p : List ℕ) (w : ℕ) → All (λ x. x < d) p → ForSome (value_beside vars p w) (λ x. x < d)
-beside_fits d [] p w small = λ x e. absurd (let is : ⊥ = cc in is)
-beside_fits d (v ∷ vars) [] w small = λ x e. absurd (let is : ⊥ = cc in is)
-beside_fits d (v ∷ vars) (y ∷ p) w small = go (v == w) (beside_fits d vars p w (All-tail (λ x. x < d) y p small))
-  where
-    go : (b : Bool) → ForSome (value_beside vars p w) (λ x. x < d) → ForSome (cond b (Some y) (value_beside vars p w)) (λ x. x < d)
-    go true rest = λ x e. (let same : y ≡ x = cc in subst (λ z. z < d) same (All-head (λ x. x < d) y p small))
-    go false rest = rest
 
 pub assigned_fits : (d n : ℕ) (order p : List ℕ) → All (λ x. x < d) p → IsAssignment n d (assigned n order p)
 assigned_fits d n order p small = record {

@@ -11,17 +11,10 @@ use Rattle.rel_table.specs.Relation.{holds}
 use Rattle.language.specs.Language.{Language, variable_count, scope_of, relation_of, violates, accepts}
 use Rattle.language.specs.Search.{satisfies}
 use Rattle.propagators.specs.Allowed.{satisfies_one}
+use Rattle.language.proofs.Accepts.{accepted_at, accepted_from}
+use Rattle.language.proofs.Beside.{value_of_assigned}
 use Rattle.fd_solver.specs.Outcomes.{is_plain_in}
 use Rattle.fd_solver.proofs.Preorder.{PassesFronts}
-
-pub value_of_assigned : (n : ℕ) (vars values : List ℕ) (v : ℕ) → v < n → value_of (assigned n vars values) v ≡ value_beside vars values v
-value_of_assigned n vars values v h = get_or-map-range_with_len (value_beside vars values) 0 n v v None h (omega arith)
-
-pub accepted_at : (l : Language) (network : List Candidate) (x : Assignment) → accepts l network x ≡ true → (k : ℕ) (d : Candidate) → k < length network → violates l (slice_index_or network k d) x ≡ false
-accepted_at l network x h k d low = not-true _ (AllPass-from_list_all (λ c. not (violates l c x)) network h k d low)
-
-pub accepted_from : (l : Language) (network : List Candidate) (x : Assignment) → ((k : ℕ) (d : Candidate) → k < length network → violates l (slice_index_or network k d) x ≡ true → ⊥) → accepts l network x ≡ true
-accepted_from l network x h = list_all-from_AllPass (λ c. not (violates l c x)) network (λ k d low. not_from_false _ (false_from_ne_true _ (h k d low)))
 
 -- f has each value of e
 abbrev pub HasMore : Assignment → Assignment → Type 0

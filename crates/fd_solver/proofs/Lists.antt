@@ -8,14 +8,6 @@ use Rattle.std.proofs.lemmas.List.Folds.{list_all-append}
 use Rattle.std.proofs.lemmas.Bool.{both_ways, and_parts, or_cases, or_left, or_right}
 use Rattle.assign.specs.Sets.{numbers}
 
-pub find_all : {X : Type 0} (Q : X → Type 0) (p : X → Bool) (xs : List X) (y : X) → All Q xs → find p xs ≡ Some y → Q y
-find_all Q p [] y all h = cc
-find_all Q p (x ∷ xs) y all h = go (p x) refl (find_all Q p xs y (All-tail Q x xs all))
-  where
-    go : (b : Bool) → p x ≡ b → (find p xs ≡ Some y → Q y) → Q y
-    go true on rest = let e : Some x ≡ Some y = ap (λ b. cond b (Some x) (find p xs)) (sym on) ∙ h in let same : x ≡ y = cc in subst Q same (All-head Q x xs all)
-    go false off rest = rest (ap (λ b. cond b (Some x) (find p xs)) (sym off) ∙ h)
-
 pub find_nothing : {X : Type 0} (p : X → Bool) (xs : List X) → list_any p xs ≡ false → find p xs ≡ None
 find_nothing p [] h = refl
 find_nothing p (x ∷ xs) h = go (p x) refl h (find_nothing p xs)
@@ -24,26 +16,11 @@ find_nothing p (x ∷ xs) h = go (p x) refl h (find_nothing p xs)
     go true e h rest = absurd (both_ways _ h (or_left _ _ e))
     go false e h rest = ap (λ b. cond b (Some x) (find p xs)) e ∙ rest (sym (ap (λ b. b || list_any p xs) e) ∙ h)
 
-pub all_numbers : (P : ℕ → Type 0) (a n : ℕ) → ((v : ℕ) → a ≤ v → v < a + n → P v) → All P (range_with_len a n)
-all_numbers P a zero h = All-nil P
-all_numbers P a (suc n) h = All-cons P a (range_with_len (a + 1) n) (h a (omega arith) (omega arith)) (all_numbers P (a + 1) n (λ v low high. h v (omega arith) (omega arith)))
-
-pub all_below : (P : ℕ → Type 0) (n : ℕ) → ((v : ℕ) → v < n → P v) → All P (numbers n)
-all_below P n h = all_numbers P 0 n (λ v low high. h v (omega arith))
-
 pub all_more : {X : Type 0} (P : X → Type 0) (xs : List X) (i : ℕ) (d : X) → i < length xs → All P (take i xs) → P (slice_index_or xs i d) → All P (take (i + 1) xs)
 all_more P xs i d low all here = subst (All P) (sym (take_more xs i d low)) (All-push P (take i xs) (slice_index_or xs i d) all here)
 
 pub all_taken : {X : Type 0} (P : X → Type 0) (xs : List X) (i : ℕ) → length xs ≤ i → All P (take i xs) → All P xs
 all_taken P xs i all = subst (All P) (take_all i xs all)
-
-pub any_weaker : {X : Type 0} (p q : X → Bool) (xs : List X) → ((x : X) → p x ≡ true → q x ≡ true) → list_any p xs ≡ true → list_any q xs ≡ true
-any_weaker p q [] h at = at
-any_weaker p q (x ∷ xs) h at = go (or_cases (p x) (list_any p xs) at) (any_weaker p q xs h)
-  where
-    go : (p x ≡ true) ⊎ (list_any p xs ≡ true) → (list_any p xs ≡ true → list_any q xs ≡ true) → (q x || list_any q xs) ≡ true
-    go (inl here) rest = or_left _ _ (h x here)
-    go (inr there) rest = or_right _ _ (rest there)
 
 pub front_of : {X : Type 0} (p : X → Bool) (xs ys : List X) → list_all p (xs ++ ys) ≡ true → list_all p xs ≡ true
 front_of p xs ys h = (and_parts (list_all p xs) (list_all p ys) (sym (list_all-append p xs ys) ∙ h)).0

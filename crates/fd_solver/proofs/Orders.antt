@@ -17,37 +17,17 @@ use Rattle.std.proofs.Common.{eqb}
 use Rattle.assign.specs.Sets.{numbers, has, Rises}
 use Rattle.assign.specs.Assignment.{Assignment, value_of, value_beside, covers, tuple_on, is_complete}
 use Rattle.assign.specs.SetLemmas.{filter_agree_from}
+use Rattle.assign.proofs.Masks.{rises_lower, lacks}
 use Rattle.language.specs.declared.candidates.Candidate.{Candidate}
 use Rattle.language.specs.Language.{Language, IsLanguage, IsCandidate, variable_count, scope_of}
 use Rattle.language.specs.Search.{order_of, assignment_of}
 use Rattle.language.proofs.Members.{any-filter, any_number}
+use Rattle.language.proofs.Beside.{scope_rises}
+use Rattle.language.proofs.Lists.{all_numbers, all_below}
 use Rattle.fd_solver.specs.Outcomes.{IsOrder}
 use Rattle.fd_solver.specs.Laws.{OrdersAreKnown}
-use Rattle.fd_solver.proofs.Lists.{all_numbers, all_below}
 
 -- ---- scopes as rising lists
-
-pairs_rise : (x : ℕ) (xs : List ℕ) → AllPairs (λ a b. a < b) (x ∷ xs) → AllPairs (λ a b. a < b) xs
-pairs_rise x xs p = λ i j d h k. p (suc i) (suc j) d (omega arith) (omega arith)
-
-rises_from : (n a : ℕ) (xs : List ℕ) → n ≤ 128 → AllPairs (λ a b. a < b) xs → All (λ v. v < n) xs → (0 < length xs → a ≤ slice_index_or xs 0 0) → Rises a xs
-rises_from n a [] h p small low = tt
-rises_from n a (x ∷ xs) h p small low = (
-  low (omega arith),
-  (let first = All-head (λ v. v < n) x xs small in omega arith),
-  rises_from n (x + 1) xs h (pairs_rise x xs p) (All-tail (λ v. v < n) x xs small) (λ some. (let next = p 0 1 0 (omega arith) (omega arith) in omega arith)),
-)
-
-pub scope_rises : (n : ℕ) (scope : List ℕ) → n ≤ 128 → IsStrictlyIncreasing scope → All (λ v. v < n) scope → Rises 0 scope
-scope_rises n scope h rising small = rises_from n 0 scope h (AllPairs-from_increasing scope rising) small (λ some. omega arith)
-
-rises_lower : (a b : ℕ) (xs : List ℕ) → a ≤ b → Rises b xs → Rises a xs
-rises_lower a b [] h r = tt
-rises_lower a b (x ∷ xs) h r = (let low = r.0 in omega arith, r.1, r.2)
-
-lacks : (a v : ℕ) (xs : List ℕ) → v < a → Rises a xs → has xs v ≡ false
-lacks a v [] h r = refl
-lacks a v (x ∷ xs) h r = let low = r.0 in λ i. ne_eqb x v (λ e. omega arith) i || lacks (x + 1) v xs (omega arith) r.2 i
 
 -- a rising list is what it has among the numbers
 canonical_below : (a n : ℕ) (xs : List ℕ) → Rises a xs → All (λ v. v < a + n) xs → filter (has xs) (range_with_len a n) ≡ xs

@@ -15,10 +15,12 @@ use Rattle.language.specs.declared.candidates.Candidate.{Candidate}
 use Rattle.language.specs.Language.{Language, IsLanguage, IsCandidate, IsImplied, IsQuestion, variable_count, scope_of, relation_of, violates, accepts}
 use Rattle.language.specs.Search.{order_of, prefixes, assignment_of, satisfies, is_plain, plain_walk}
 use Rattle.language.proofs.Members.{any-filter, any-map, any-flat_map, any_number, find_none, find_some}
+use Rattle.language.proofs.Beside.{tuple_fits}
+use Rattle.language.proofs.Lists.{find_all, all_below, any_weaker}
 use Rattle.fd_solver.specs.declared.outcome.Outcome.TheVariants.{Found, Absent, Spent}
 use Rattle.fd_solver.specs.Outcomes.{outcome_from, outcome_by, outcome_of_candidate}
 use Rattle.fd_solver.specs.Laws.{AbsentIsImplied, SpentIsLong, PlainIsLess, IsQuestionAgainst, FoundIsLawful, AbsentStays}
-use Rattle.fd_solver.proofs.Lists.{find_all, find_nothing, any_weaker, fewer_pass, front_of, all_below}
+use Rattle.fd_solver.proofs.Lists.{find_nothing, fewer_pass, front_of}
 use Rattle.fd_solver.proofs.Preorder.{prefixes_small}
 use Rattle.fd_solver.proofs.Filling.{assigned_fits}
 use Rattle.fd_solver.proofs.Orders.{order_small, order_has, length-order, whole_prefix, covers_all, rises_there}
@@ -81,18 +83,6 @@ any_prefix p d (suc k) (x ∷ values) short small at = or_right (p []) _
     (any-flat_map p (λ (y : ℕ). map (λ rest. y ∷ rest) (prefixes d k)) (numbers d)
     ∙ any_number (λ y. list_any p (map (λ rest. y ∷ rest) (prefixes d k))) d x (All-head (λ y. y < d) x values small)
     (any-map p (λ rest. x ∷ rest) (prefixes d k) ∙ any_prefix (λ rest. p (x ∷ rest)) d k values (omega arith) (All-tail (λ y. y < d) x values small) at))
-
-tuple_fits : (d : ℕ) (e : Assignment) (scope : List ℕ) → All (λ o. ForSome o (λ x. x < d)) e → covers e scope ≡ true → All (λ x. x < d) (tuple_on e scope)
-tuple_fits d e [] fits h = All-nil (λ x. x < d)
-tuple_fits d e (v ∷ scope) fits h =
-    let parts = and_parts (is_some (value_of e v)) (covers e scope) h in
-    All-cons (λ x. x < d) (unwrap_or (value_of e v) 0) (tuple_on e scope) (at e v fits parts.0) (tuple_fits d e scope fits parts.1)
-  where
-    at : (e : Assignment) (v : ℕ) → All (λ o. ForSome o (λ x. x < d)) e → is_some (value_of e v) ≡ true → unwrap_or (value_of e v) 0 < d
-    at [] v fits h = cc
-    at (None ∷ e) zero fits h = cc
-    at (Some x ∷ e) zero fits h = All-head (λ o. ForSome o (λ x. x < d)) (Some x) e fits x refl
-    at (o ∷ e) (suc v) fits h = at e v (All-tail (λ o. ForSome o (λ x. x < d)) o e fits) h
 
 length-tuple_on : (e : Assignment) (scope : List ℕ) → length (tuple_on e scope) ≡ length scope
 length-tuple_on e [] = refl

@@ -13,9 +13,11 @@ use Rattle.language.specs.declared.candidates.Candidate.{Candidate}
 use Rattle.language.specs.Language.{Language, IsLanguage, IsCandidate, variable_count, scope_of, relation_of, violates, accepts}
 use Rattle.language.specs.Search.{satisfies}
 use Rattle.propagators.specs.Allowed.{AreConstraints, satisfies_one}
+use Rattle.language.proofs.Accepts.{accepted_at, accepted_from}
+use Rattle.language.proofs.Beside.{value_of_assigned}
 use Rattle.fd_solver.specs.Outcomes.{IsOrder, is_plain_in}
 use Rattle.fd_solver.specs.Positions.{position_in, last_position, IsQuietElsewhere}
-use Rattle.fd_solver.proofs.Fronts.{value_of_assigned, assigned_more, covers_more, accepted_at, accepted_from}
+use Rattle.fd_solver.proofs.Fronts.{assigned_more, covers_more}
 use Rattle.fd_solver.proofs.Orders.{differ_tail, order_has_each}
 
 -- ---- positions

@@ -7,7 +7,7 @@ use Rattle.std.proofs.lemmas.List.{length-map}
 use Rattle.std.proofs.lemmas.Bool.{both_ways, false_from_ne_true}
 use Rattle.assign.specs.Sets.{numbers}
 use Rattle.language.specs.Search.{prefixes}
-use Rattle.fd_solver.proofs.Lists.{all_below}
+use Rattle.language.proofs.Lists.{all_below}
 
 -- ---- what comes from a place on
 

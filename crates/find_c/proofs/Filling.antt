@@ -11,13 +11,7 @@ use Rattle.std.proofs.lemmas.List.Kept.{AllPairs-from_increasing}
 use Rattle.std.proofs.lemmas.Bool.{cases_eq, eq-eqb, ne_eqb}
 use Rattle.assign.specs.Assignment.{value_of, value_beside, assigned, IsAssignment}
 use Rattle.language.specs.Language.{IsScope}
-
-value_of_assigned : (n : ℕ) (vars values : List ℕ) (v : ℕ) → v < n → value_of (assigned n vars values) v ≡ value_beside vars values v
-value_of_assigned n vars values v h = get_or-map-range_with_len (value_beside vars values) 0 n v v None h (omega arith)
-
-beside_none : (vars : List ℕ) (w : ℕ) → value_beside vars [] w ≡ None
-beside_none [] w = refl
-beside_none (v ∷ vars) w = refl
+use Rattle.language.proofs.Beside.{value_of_assigned, beside_none, beside_fits}
 
 tail_different : (v : ℕ) (vars : List ℕ) → AllPairs (λ a b. a < b) (v ∷ vars) → AllPairs (λ a b. a < b) vars
 tail_different v vars h = λ i j d low k. h (suc i) (suc j) d (omega arith) (omega arith)
@@ -69,15 +63,6 @@ module _ (n : ℕ) (scope u : List ℕ) (is : IsScope n scope) (long : length u 
       size = length-take i u ∙ (omega arith)
 
 -- ---- its values
-
-beside_fits : (d : ℕ) (vars p : List ℕ) (w : ℕ) → All (λ x. x < d) p → ForSome (value_beside vars p w) (λ x. x < d)
-beside_fits d [] p w small = λ x e. absurd (let is : ⊥ = cc in is)
-beside_fits d (v ∷ vars) [] w small = λ x e. absurd (let is : ⊥ = cc in is)
-beside_fits d (v ∷ vars) (y ∷ p) w small = go (v == w) (beside_fits d vars p w (All-tail (λ x. x < d) y p small))
-  where
-    go : (b : Bool) → ForSome (value_beside vars p w) (λ x. x < d) → ForSome (cond b (Some y) (value_beside vars p w)) (λ x. x < d)
-    go true rest = λ x e. (let same : y ≡ x = cc in subst (λ z. z < d) same (All-head (λ x. x < d) y p small))
-    go false rest = rest
 
 all_numbers : (P : ℕ → Type 0) (a n : ℕ) → ((v : ℕ) → P v) → All P (range_with_len a n)
 all_numbers P a zero h = All-nil P

@@ -9,6 +9,7 @@ use Rattle.language.specs.Language.{Language, IsLanguage, scope_at}
 use Rattle.language.proofs.Members.{find_some}
 use Rattle.rel_table.specs.Relation.{tuples}
 use Rattle.rel_table.proofs.PlaceLemmas.{length-tuples, get_or-tuples, length-tuple_at, tuple_at-below}
+use Rattle.language.proofs.Lists.{find_all}
 use Rattle.find_c.specs.Choosing.{Choice, Scene, Got, allows, tells_apart, splitting_tuple, after_reply, remaining, choose}
 use Rattle.find_c.specs.Choosing.{Wants as WantsReply}
 use Rattle.find_c.specs.Scenes.{scene_of}
@@ -56,14 +57,6 @@ tuples_fit : (d a : ℕ) → All (IsTuple d a) (tuples d a)
 tuples_fit d a = All-from_get_or (IsTuple d a) (tuples d a) [] (λ i low.
     let within : i < d ^ a = omega (arith, low, length-tuples d a) in
     subst (IsTuple d a) (sym (get_or-tuples d a i within)) (record { long = length-tuple_at d a i; values = tuple_at-below d a i within }))
-
-find_all : {X : Type 0} (Q : X → Type 0) (p : X → Bool) (xs : List X) (y : X) → All Q xs → find p xs ≡ Some y → Q y
-find_all Q p [] y all h = cc
-find_all Q p (x ∷ xs) y all h = go (p x) refl (find_all Q p xs y (All-tail Q x xs all))
-  where
-    go : (b : Bool) → p x ≡ b → (find p xs ≡ Some y → Q y) → Q y
-    go true on rest = let e : Some x ≡ Some y = ap (λ b. cond b (Some x) (find p xs)) (sym on) ∙ h in let same : x ≡ y = cc in subst Q same (All-head Q x xs all)
-    go false off rest = rest (ap (λ b. cond b (Some x) (find p xs)) (sym off) ∙ h)
 
 module _ (l : Language) (lawful : IsLanguage l) (run : Run) (is : IsRun l run) where
   pub run_tuple : IsTuple l.value_count (length (scope_at l run.scope)) run.tuple

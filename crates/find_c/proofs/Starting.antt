@@ -13,6 +13,7 @@ use Rattle.language.specs.Language.{Language, IsCandidate, scope_at, relations_o
 use Rattle.language.specs.Answers.{IsNetwork}
 use Rattle.bias_store.specs.Masks.{ones_of}
 use Rattle.bias_store.specs.KeptSet.{kept_relations}
+use Rattle.language.proofs.Lists.{nothing_passes}
 use Rattle.find_c.specs.Choosing.{Choice, Got, remaining, tells_apart, choose}
 use Rattle.find_c.specs.Scenes.{scene_of, free_choices, violated_choices}
 use Rattle.find_c.specs.Choices.{choices_of, is_accepting, allows_at}
@@ -75,10 +76,6 @@ picked on t q (c ∷ live) each = go (on c) refl (picked on t q live each)
             map (λ (d : Candidate). Some d.rel) (cond b (c ∷ filter (λ d. on d && t d) live) (filter (λ d. on d && t d) live))
         both true = ap (λ cs. Some c.rel ∷ cs) rest
         both false = rest
-
-nothing_passes : {X : Type 0} (p : X → Bool) (xs : List X) → ((x : X) → p x ≡ false) → filter p xs ≡ []
-nothing_passes p [] h = refl
-nothing_passes p (x ∷ xs) h = rw (h x) (nothing_passes p xs h)
 
 placed : (b : Bool) (p at : ℕ) → cond b (Some p) None ≡ Some at → (b ≡ true) × (p ≡ at)
 placed true p at h = (refl, cc)

@@ -259,7 +259,7 @@ few_wanted (suc k) (suc d) base (v ∷ u ∷ set) replies w short fits r h =
 
 -- ---- whole sets
 
-deep : (set : List ℕ) (replies : List Bool) → halve_within (suc (length set)) [] set false replies ≡ halve set replies
+pub deep : (set : List ℕ) (replies : List Bool) → halve_within (suc (length set)) [] set false replies ≡ halve set replies
 deep set replies = depth_is_enough (suc (length set)) (length set) [] set false replies (omega arith) (omega arith)
 
 pub noes_are_few : NoesAreFew

@@ -6,7 +6,7 @@ use Rattle.find_scope.specs.Laws.{RunsAreShort}
 use Rattle.find_scope.proofs.Halves.{depth_is_enough, first_shorter, second_shorter, asked}
 use Rattle.find_scope.proofs.Runs.{got_then, wants_last, wants_not_got, same_left}
 use Rattle.find_scope.proofs.Got.{first_some, second_some}
-use Rattle.find_scope.proofs.Counts.{halves_length}
+use Rattle.find_scope.proofs.Counts.{halves_length, deep}
 
 short_asked : (d : ℕ) (base set : List ℕ) (asks : Bool) (replies : List Bool) (s : List ℕ) (left : List Bool) → 0 < length set → halve_within d base set asks replies ≡ Got s left →
     ((rest : List Bool) → halve_within d base set false rest ≡ Got s left → length rest + 2 ≤ 2 * length set + length left) → length replies + 1 ≤ 2 * length set + length left
@@ -79,9 +79,6 @@ open_short (suc d) base (v ∷ u ∷ set) replies w low h =
         (λ rest f. short d (union base first) second rest s1 left1 high (second_some v u set) f) in
         let c2 = ih2 s1 left1 (wants_last _ s1 w e) in
         omega (arith, halves_length v u set)
-
-deep : (set : List ℕ) (replies : List Bool) → halve_within (suc (length set)) [] set false replies ≡ halve set replies
-deep set replies = depth_is_enough (suc (length set)) (length set) [] set false replies (omega arith) (omega arith)
 
 pub runs_are_short : RunsAreShort
 runs_are_short = record {

@@ -19,3 +19,6 @@ pub mod Adding
 pub mod Lawful
 pub mod Listed
 pub mod Naming
+pub mod Lists
+pub mod Beside
+pub mod Accepts

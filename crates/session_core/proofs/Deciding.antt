@@ -12,15 +12,7 @@ use Rattle.rel_table.specs.Relation.{tuples}
 use Rattle.find_c.specs.Choosing.{Choice, Scene, allows, tells_apart, splitting_tuple}
 use Rattle.find_c.specs.Scenes.{scene_of, free_choices}
 use Rattle.session_laws.specs.Session.{is_undecided}
-
--- what some member passes, some member passes of a weaker test
-any_weaker : {X : Type 0} (p q : X → Bool) (xs : List X) → ((x : X) → p x ≡ true → q x ≡ true) → list_any p xs ≡ true → list_any q xs ≡ true
-any_weaker p q [] h at = at
-any_weaker p q (x ∷ xs) h at = go (p x) refl (any_weaker p q xs h)
-  where
-    go : (b : Bool) → p x ≡ b → (list_any p xs ≡ true → list_any q xs ≡ true) → list_any q (x ∷ xs) ≡ true
-    go true here rest = or_left (q x) (list_any q xs) (h x here)
-    go false here rest = or_right (q x) (list_any q xs) (rest (ap (λ b. b || list_any p xs) (sym here) ∙ at))
+use Rattle.language.proofs.Lists.{any_weaker}
 
 found_any : {X : Type 0} (p : X → Bool) (xs : List X) → is_some (find p xs) ≡ list_any p xs
 found_any p [] = refl

@@ -13,6 +13,7 @@ use Rattle.find_scope.specs.declared.run.ScopeNext.TheVariants.{Wants, Found}
 use Rattle.find_scope.proofs.Moves.{standing_tells}
 use Rattle.session_laws.specs.Walk.{Walk}
 use Rattle.session_laws.specs.Session.{Halving, found, halved, is_quiet, settle_halving, with_quiet_replies}
+use Rattle.session_laws.proofs.Steps.{loud_step}
 use Rattle.session_core.specs.Sound.{is_quiet_at}
 
 -- whether a halving is quiet can be seen of its run
@@ -26,11 +27,6 @@ quiet_step : (l : Language) (live : List Candidate) (e : Assignment) (set : List
     with_quiet_replies l live e set (suc most) replies ≡ with_quiet_replies l live e set most (replies ++ true ∷ [])
 unfolding with_quiet_replies
 quiet_step l live e set most replies quiet = ap (λ b. cond b (with_quiet_replies l live e set most (replies ++ true ∷ [])) replies) quiet
-
-loud_step : (l : Language) (live : List Candidate) (e : Assignment) (set : List ℕ) (most : ℕ) (replies : List Bool) → is_quiet l live e (halve set replies) ≡ false → with_quiet_replies l live e set most replies ≡ replies
-unfolding with_quiet_replies
-loud_step l live e set zero replies loud = refl
-loud_step l live e set (suc most) replies loud = ap (λ b. cond b (with_quiet_replies l live e set most (replies ++ true ∷ [])) replies) loud
 
 no_step : (l : Language) (live : List Candidate) (e : Assignment) (set : List ℕ) (most : ℕ) (replies : List Bool) → most ≡ 0 → with_quiet_replies l live e set most replies ≡ replies
 unfolding with_quiet_replies

@@ -15,6 +15,7 @@ use Rattle.language.specs.Language.{Language, IsLanguage, IsCandidate, candidate
 use Rattle.assign.specs.Events.{Answer}
 use Rattle.language.specs.Answers.{IsNetwork, IsNoOn, has_scope, agrees, is_struck, kept}
 use Rattle.find_c.specs.Choosing.{Choice, Scene, allows, tells_apart, splitting_tuple, after_reply, remaining}
+use Rattle.language.proofs.Lists.{find_all, all_below}
 use Rattle.session_laws.specs.Session.{next_scope, learn}
 use Rattle.find_c.specs.Scenes.{scene_of, on_scope, free_choices}
 use Rattle.language.proofs.Covered.{IsTold, both_true}
@@ -22,7 +23,7 @@ use Rattle.session_laws.proofs.OnScope.{exact_question, violates_there, accepts_
 use Rattle.rel_table.proofs.Tables.{same_table, one_number}
 use Rattle.language.proofs.Members.{any-filter, any-map, any_candidate, find_none, find_some}
 use Rattle.std.proofs.lemmas.List.Quantifiers.{all_pairs_push}
-use Rattle.session_laws.proofs.Lists.{any_more, some_left, all_flat_map, tuples_long, find_all, all_below, any_same}
+use Rattle.session_laws.proofs.Lists.{any_more, some_left, all_flat_map, tuples_long, any_same}
 
 -- ---- the choices on a scope
 

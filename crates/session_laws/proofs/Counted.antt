@@ -17,6 +17,8 @@ use Rattle.language.specs.Answers.{IsNoOn, has_scope, kept}
 use Rattle.find_scope.specs.Bound.{log_up}
 use Rattle.find_scope.specs.Halving.{Halved, Wants, Got, halve}
 use Rattle.find_c.specs.Choosing.{Choice, splitting_tuple, after_reply}
+use Rattle.find_scope.proofs.Counts.{sub_length, log_up_holds, noes_are_few}
+use Rattle.language.proofs.Accepts.{accepted_at}
 use Rattle.session_laws.specs.Walk.{Walk, Turn, Asks, violates_some, next_turn}
 use Rattle.session_laws.specs.Session.{State, Idle, Halving, Choosing, Walking, Over, At, MOST_SETS, wanted_set, next_scope, at_turn, settle_choices, begin_choosing, found, with_quiet_replies, halved, settle_halving, is_just, replied, replied_tuple, on_scope_asked, begun, is_lawful, step, state_after}
 use Rattle.find_c.specs.Scenes.{scene_of, on_scope, free_choices, violated_choices}
@@ -26,12 +28,11 @@ use Rattle.language.proofs.Members.{any-map}
 use Rattle.std.proofs.Math.Nat.{mul-le-mul_right}
 use Rattle.std.proofs.lemmas.List.FromFn.{length-range_with_len}
 use Rattle.find_scope.specs.Bound.{noes}
-use Rattle.find_scope.proofs.Counts.{sub_length, log_up_holds, noes_are_few}
 use Rattle.session_laws.specs.Bound.{greatest_arity, most_answers}
 use Rattle.session_laws.proofs.Lists.{any_never, count_all}
 use Rattle.session_laws.proofs.Folds.{same_assignment, passed, asked_is, reached}
 use Rattle.session_laws.proofs.Choices.{IsSound, IsHalfway, is_number, begin_halfway, reply_halfway, kept_is_choice, nothing_yet}
-use Rattle.session_laws.proofs.Restrict.{restrict_all, rises_range, same_list, accepted_at}
+use Rattle.session_laws.proofs.Restrict.{restrict_all, rises_range, same_list}
 use Rattle.session_laws.proofs.Halving.{IsHalving, begin_halving, reply_halving, settled_halving, halve_within_set, got_rises}
 use Rattle.session_laws.proofs.FoundScope.{begin_found, free_there}
 use Rattle.session_laws.proofs.States.{IsWalking, Holds, IsPut, put_is, whole_accepted, asked_set, first_turn, find_nothing, step_holds, holds_always}

@@ -15,6 +15,7 @@ use Rattle.assign.specs.Events.{Answer}
 use Rattle.language.specs.Answers.{agrees, is_struck, kept}
 use Rattle.find_scope.specs.Bound.{log_up}
 use Rattle.find_c.specs.Choosing.{Choice, allows, tells_apart, splitting_tuple, after_reply, remaining}
+use Rattle.language.proofs.Lists.{find_all}
 use Rattle.session_laws.specs.Walk.{Walk, Asks, violates_some, learned_within, parts_without, take_set, next_turn}
 use Rattle.session_laws.specs.Session.{State, Idle, Halving, Choosing, Walking, Over, learn, at_turn, go_on, settle_choices, chosen}
 use Rattle.find_c.specs.Scenes.{scene_of, on_scope}
@@ -23,7 +24,7 @@ use Rattle.assign.proofs.Masks.{rises_where}
 use Rattle.language.proofs.Members.{any-filter, any_candidate, find_some}
 use Rattle.find_scope.specs.Bound.{noes}
 use Rattle.session_laws.specs.Bound.{greatest_arity}
-use Rattle.session_laws.proofs.Lists.{tuples_long, find_all, any_imp, any_never}
+use Rattle.session_laws.proofs.Lists.{tuples_long, any_imp, any_never}
 use Rattle.session_laws.proofs.OnScope.{violates_there}
 use Rattle.session_laws.proofs.Choices.{IsHalfway, is_number, struck_more, number_kept}
 use Rattle.session_laws.proofs.Gone.{count_le, count_up, is_gone, is_out, gone_count, out_count, gone_later, struck_now, longer, learned_gone, out_later}

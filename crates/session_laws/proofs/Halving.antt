@@ -16,6 +16,8 @@ use Rattle.language.specs.Language.{Language, IsLanguage, IsCandidate, candidate
 use Rattle.assign.specs.Events.{Answer}
 use Rattle.language.specs.Answers.{IsNetwork, IsNoOn, has_scope, agrees, is_struck, kept}
 use Rattle.find_scope.specs.Halving.{Halved, Wants, Got, halve_within, halve}
+use Rattle.find_scope.proofs.Counts.{deep}
+use Rattle.language.proofs.Accepts.{accepted_at, accepted_from}
 use Rattle.session_laws.specs.Walk.{violates_some}
 use Rattle.session_laws.specs.Session.{is_quiet, with_quiet_replies}
 use Rattle.language.proofs.Meets.{closed_candidates}
@@ -23,15 +25,12 @@ use Rattle.language.proofs.Covered.{IsTold, IsGathered, gather, not_struck, lear
 use Rattle.find_scope.proofs.Halves.{depth_is_enough}
 use Rattle.find_scope.proofs.Runs.{Sub, Every, RunTo, IsKnown, run_to, run_within, run_rises, run_denied, run_least, bounded, asked_within}
 use Rattle.find_scope.proofs.Got.{within_sub, sub_within, same_sets}
-use Rattle.session_laws.proofs.Restrict.{violates_restrict, rejecting, accepted_at, accepted_from, scope_small, rising_scope, accepts_narrower}
+use Rattle.session_laws.proofs.Restrict.{violates_restrict, rejecting, scope_small, rising_scope, accepts_narrower}
 use Rattle.language.proofs.Members.{any-filter, any_candidate}
 use Rattle.session_laws.proofs.Lists.{any_more}
 use Rattle.session_laws.proofs.Choices.{IsSound, told_more, agrees_more}
 
 -- ---- the halving of a whole set
-
-pub deep : (set : List ℕ) (replies : List Bool) → halve_within (suc (length set)) [] set false replies ≡ halve set replies
-deep set replies = depth_is_enough (suc (length set)) (length set) [] set false replies (omega arith) (omega arith)
 
 pub halve_bounds : (set : List ℕ) (replies : List Bool) (w : List ℕ) (more : List Bool) (s : List ℕ) (left : List Bool) → halve set replies ≡ Wants w → halve set (replies ++ false ∷ more) ≡ Got s left → Sub s w
 halve_bounds set replies w more s left h k = (bounded (suc (length set)) [] set false replies w more s left (omega arith) (deep set replies ∙ h) (deep set (replies ++ false ∷ more) ∙ k)).1

@@ -14,9 +14,9 @@ use Rattle.language.proofs.Members.{any-filter, any_number}
 use Rattle.std.proofs.lemmas.List.FromFn.{length-range_with_len}
 use Rattle.assign.specs.SetLemmas.{has-set_where}
 use Rattle.find_scope.proofs.Counts.{sub_length}
+use Rattle.language.proofs.Beside.{scope_rises}
 use Rattle.session_laws.specs.Bound.{greatest_arity}
 use Rattle.session_laws.proofs.Lists.{any_imp, count_all}
-use Rattle.session_laws.proofs.OnScope.{scope_rises}
 use Rattle.session_laws.proofs.Restrict.{rises_range, has_all}
 
 -- ---- scopes

@@ -10,9 +10,9 @@ use Rattle.language.specs.declared.candidates.Candidate.{Candidate}
 use Rattle.language.specs.Language.{Language, IsLanguage, variable_count, relations_of, candidates, candidates_on}
 use Rattle.find_scope.specs.Bound.{log_up}
 use Rattle.find_scope.proofs.Counts.{log_is_least}
+use Rattle.language.proofs.Lists.{all_below}
 use Rattle.session_laws.specs.Bound.{greatest_arity}
 use Rattle.session_laws.specs.Laws.{AnswersFit}
-use Rattle.session_laws.proofs.Lists.{all_below}
 use Rattle.session_laws.proofs.Lengths.{greatest_below}
 
 -- lists of at most so many members each

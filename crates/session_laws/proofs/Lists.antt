@@ -33,21 +33,6 @@ tuples_long d zero = All-cons (λ (u : List ℕ). length u ≡ 0) [] [] refl (Al
 tuples_long d (suc a) = All-flat_map (λ (u : List ℕ). length u ≡ suc a) (λ x. map (λ u. x ∷ u) (tuples d a)) (numbers d) (λ x.
     All-map (λ (u : List ℕ). length u ≡ suc a) (λ u. x ∷ u) (tuples d a) (All-weaker (λ (u : List ℕ). length u ≡ a) (λ (u : List ℕ). suc (length u) ≡ suc a) (λ u h. ap suc h) (tuples d a) (tuples_long d a)))
 
-pub find_all : {X : Type 0} (Q : X → Type 0) (p : X → Bool) (xs : List X) (y : X) → All Q xs → find p xs ≡ Some y → Q y
-find_all Q p [] y all h = cc
-find_all Q p (x ∷ xs) y all h = go (p x) refl (find_all Q p xs y (All-tail Q x xs all))
-  where
-    go : (b : Bool) → p x ≡ b → (find p xs ≡ Some y → Q y) → Q y
-    go true on rest = let e : Some x ≡ Some y = ap (λ b. cond b (Some x) (find p xs)) (sym on) ∙ h in let same : x ≡ y = cc in subst Q same (All-head Q x xs all)
-    go false off rest = rest (ap (λ b. cond b (Some x) (find p xs)) (sym off) ∙ h)
-
-pub all_numbers : (P : ℕ → Type 0) (a n : ℕ) → ((v : ℕ) → a ≤ v → v < a + n → P v) → All P (range_with_len a n)
-all_numbers P a zero h = All-nil P
-all_numbers P a (suc n) h = All-cons P a (range_with_len (a + 1) n) (h a (omega arith) (omega arith)) (all_numbers P (a + 1) n (λ v low high. h v (omega arith) (omega arith)))
-
-pub all_below : (P : ℕ → Type 0) (n : ℕ) → ((v : ℕ) → v < n → P v) → All P (numbers n)
-all_below P n h = all_numbers P 0 n (λ v low high. h v (omega arith))
-
 pub any_same : {X : Type 0} (p q : X → Bool) (xs : List X) → ((x : X) → p x ≡ q x) → list_any p xs ≡ list_any q xs
 any_same p q [] h = refl
 any_same p q (x ∷ xs) h = λ i. h x i || any_same p q xs h i

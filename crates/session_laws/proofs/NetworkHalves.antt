@@ -9,9 +9,10 @@ use Rattle.find_scope.proofs.Got.{same_sets, within_sub, sub_within, got_is_part
 use Rattle.language.specs.declared.candidates.Candidate.{Candidate}
 use Rattle.assign.specs.Assignment.{restrict}
 use Rattle.language.specs.Language.{IsCandidate, scope_of, violates}
+use Rattle.language.proofs.Accepts.{accepted_at, accepted_from}
 use Rattle.session_laws.specs.Laws.{accepts_on, IsViolatedOn, NetworkHalves}
 use Rattle.language.proofs.Covered.{both_true}
-use Rattle.session_laws.proofs.Restrict.{violates_restrict, rejecting, accepted_at, accepted_from, rising_scope, accepts_narrower}
+use Rattle.session_laws.proofs.Restrict.{violates_restrict, rejecting, rising_scope, accepts_narrower}
 
 none_within : (xs : List ℕ) → 1 ≤ length xs → is_within xs [] ≡ true → ⊥
 none_within [] h e = omega arith

@@ -17,31 +17,13 @@ use Rattle.language.specs.Language.{Language, IsLanguage, variable_count, relati
 use Rattle.language.specs.Answers.{IsNetwork, has_scope}
 use Rattle.find_c.specs.Choosing.{Choice, allows}
 use Rattle.find_c.specs.Scenes.{scene_of, on_scope}
+use Rattle.language.proofs.Beside.{value_of_assigned, scope_rises}
 use Rattle.session_laws.specs.Session.{learn}
 use Rattle.language.proofs.Covered.{only_there, rejected_on, none_on}
 use Rattle.assign.specs.SetLemmas.{set_where-same}
 use Rattle.assign.proofs.Masks.{canonical}
 
--- ---- scopes as rising lists
-
-pairs_tail : (x : ℕ) (xs : List ℕ) → AllPairs (λ a b. a < b) (x ∷ xs) → AllPairs (λ a b. a < b) xs
-pairs_tail x xs p = λ i j d h k. p (suc i) (suc j) d (omega arith) (omega arith)
-
-rises_from : (n a : ℕ) (xs : List ℕ) → n ≤ 128 → AllPairs (λ a b. a < b) xs → All (λ v. v < n) xs → (0 < length xs → a ≤ slice_index_or xs 0 0) → Rises a xs
-rises_from n a [] h p small low = tt
-rises_from n a (x ∷ xs) h p small low = (
-  low (omega arith),
-  (let first = All-head (λ v. v < n) x xs small in omega arith),
-  rises_from n (x + 1) xs h (pairs_tail x xs p) (All-tail (λ v. v < n) x xs small) (λ some. (let next = p 0 1 0 (omega arith) (omega arith) in omega arith)),
-)
-
-pub scope_rises : (n : ℕ) (scope : List ℕ) → n ≤ 128 → IsStrictlyIncreasing scope → All (λ v. v < n) scope → Rises 0 scope
-scope_rises n scope h rising small = rises_from n 0 scope h (AllPairs-from_increasing scope rising) small (λ some. omega arith)
-
 -- ---- the values of such a question
-
-pub value_of_assigned : (n : ℕ) (vars values : List ℕ) (v : ℕ) → v < n → value_of (assigned n vars values) v ≡ value_beside vars values v
-value_of_assigned n vars values v h = get_or-map-range_with_len (value_beside vars values) 0 n v v None h (omega arith)
 
 pub beside_some : (vars values : List ℕ) (v : ℕ) → length values ≡ length vars → is_some (value_beside vars values v) ≡ has vars v
 beside_some [] values v e = refl

@@ -16,10 +16,11 @@ use Rattle.language.specs.Language.{Language, IsLanguage, IsCandidate, variable_
 use Rattle.language.specs.Answers.{IsNetwork}
 use Rattle.assign.specs.SetLemmas.{set_where-same}
 use Rattle.assign.proofs.Masks.{canonical}
-use Rattle.session_laws.proofs.OnScope.{scope_rises}
 use Rattle.language.proofs.Members.{any_number}
 use Rattle.find_scope.proofs.Runs.{Sub}
 use Rattle.find_scope.proofs.Got.{within_sub, sub_within}
+use Rattle.language.proofs.Accepts.{accepted_at, accepted_from}
+use Rattle.language.proofs.Beside.{scope_rises}
 
 -- ---- sets
 
@@ -115,12 +116,6 @@ rejecting l network x h = Any-from_list_any (λ c. violates l c x) network (go n
         pick : (b r : Bool) → (not b && r) ≡ false → (r ≡ false → list_any (λ c. violates l c x) cs ≡ true) → (b || list_any (λ c. violates l c x) cs) ≡ true
         pick true r h rest = refl
         pick false r h rest = rest h
-
-pub accepted_at : (l : Language) (network : List Candidate) (x : Assignment) → accepts l network x ≡ true → (k : ℕ) (d : Candidate) → k < length network → violates l (slice_index_or network k d) x ≡ false
-accepted_at l network x h k d low = not-true _ (AllPass-from_list_all (λ c. not (violates l c x)) network h k d low)
-
-pub accepted_from : (l : Language) (network : List Candidate) (x : Assignment) → ((k : ℕ) (d : Candidate) → k < length network → violates l (slice_index_or network k d) x ≡ true → ⊥) → accepts l network x ≡ true
-accepted_from l network x h = list_all-from_AllPass (λ c. not (violates l c x)) network (λ k d low. not_from_false _ (false_from_ne_true _ (h k d low)))
 
 module _ (l : Language) (lawful : IsLanguage l) where
   pub below_count : (c : Candidate) → IsCandidate l c → All (λ v. v < variable_count l) (scope_of l c)

@@ -13,6 +13,7 @@ use Rattle.assign.specs.Events.{Answer}
 use Rattle.language.specs.Answers.{has_scope, is_struck, kept}
 use Rattle.find_c.specs.Choosing.{Choice, allows, tells_apart, splitting_tuple, after_reply}
 use Rattle.assign.specs.declared.events.Plan.TheVariants.{Scopes}
+use Rattle.language.proofs.Beside.{tuple_fits}
 use Rattle.session_laws.specs.Session.{State, Idle, Halving, Choosing, Walking, Over, At, next_scope, settle_choices, chosen, is_just, replied, replied_tuple, on_scope_asked, step, state_after}
 use Rattle.find_c.specs.Scenes.{scene_of, on_scope, free_choices}
 use Rattle.session_laws.specs.Laws.{ScopesAreCovered, ScopesNeverOver}
@@ -39,19 +40,6 @@ none_next l t network none s low free = is_none_option _ (false_from_ne_true _ (
     both_ways _ (find_none (λ v. not (has_scope network v) && is_some (splitting_tuple (scene_of l v) (free_choices (kept l t network) v))) (numbers (length l.scopes)) none)
     (any_number (λ v. not (has_scope network v) && is_some (splitting_tuple (scene_of l v) (free_choices (kept l t network) v))) (length l.scopes) s low
     (and_from _ _ (not_from_false _ free) differ))))
-
--- the tuple of a question has values of the language
-pub tuple_fits : (d : ℕ) (e : Assignment) (scope : List ℕ) → All (λ o. ForSome o (λ x. x < d)) e → covers e scope ≡ true → All (λ x. x < d) (tuple_on e scope)
-tuple_fits d e [] fits h = All-nil (λ x. x < d)
-tuple_fits d e (v ∷ scope) fits h =
-    let parts = and_parts (is_some (value_of e v)) (covers e scope) h in
-    All-cons (λ x. x < d) (unwrap_or (value_of e v) 0) (tuple_on e scope) (at e v fits parts.0) (tuple_fits d e scope fits parts.1)
-  where
-    at : (e : Assignment) (v : ℕ) → All (λ o. ForSome o (λ x. x < d)) e → is_some (value_of e v) ≡ true → unwrap_or (value_of e v) 0 < d
-    at [] v fits h = cc
-    at (None ∷ e) zero fits h = cc
-    at (Some x ∷ e) zero fits h = All-head (λ o. ForSome o (λ x. x < d)) (Some x) e fits x refl
-    at (o ∷ e) (suc v) fits h = at e v (All-tail (λ o. ForSome o (λ x. x < d)) o e fits) h
 
 pub length-tuple_on : (e : Assignment) (scope : List ℕ) → length (tuple_on e scope) ≡ length scope
 length-tuple_on e [] = refl

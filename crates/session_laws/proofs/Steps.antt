@@ -84,7 +84,7 @@ quiet_step l live e set (suc most) replies quiet loud =
     ap (λ b. cond b (with_quiet_replies l live e set most (replies ++ true ∷ [])) replies) quiet in
     here ∙ sym (more_fuel l live e set most (replies ++ true ∷ []) (ap (λ x. is_quiet l live e (halve set x)) (sym here) ∙ loud))
 
-loud_step : (l : Language) (live : List Candidate) (e : Assignment) (set : List ℕ) (most : ℕ) (replies : List Bool) → is_quiet l live e (halve set replies) ≡ false → with_quiet_replies l live e set most replies ≡ replies
+pub loud_step : (l : Language) (live : List Candidate) (e : Assignment) (set : List ℕ) (most : ℕ) (replies : List Bool) → is_quiet l live e (halve set replies) ≡ false → with_quiet_replies l live e set most replies ≡ replies
 unfolding with_quiet_replies
 loud_step l live e set zero replies loud = refl
 loud_step l live e set (suc most) replies loud = ap (λ b. cond b (with_quiet_replies l live e set most (replies ++ true ∷ [])) replies) loud

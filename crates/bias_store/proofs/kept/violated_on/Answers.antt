@@ -4,9 +4,9 @@ use Rattle.std.proofs.lemmas.Bool.{and_left, and_right}
 use Rattle.std.proofs.lemmas.Nat.{or_lt, one_shl, pow_below}
 use Rattle.language.specs.Language.{violates}
 use Rattle.assign.specs.SetLemmas.{is_one}
+use Rattle.language.proofs.Lists.{nothing_passes}
 use Rattle.bias_store.specs.Masks.{ones_of}
 use Rattle.bias_store.proofs.Ones.{ones_of-zero, has-ones_of}
-use Rattle.bias_store.proofs.Members.{nothing_passes}
 use Rattle.bias_store.proofs.Picked.{Picks, picks_more, picks_skip, picks_all, bare, covered}
 use Rattle.bias_store.proofs.kept.violated_on.Goals.{then-has_relation+then-not-at, else-has_relation, else-has_relation-via-then-has_relation+else-not-at, else-has_relation-via-else-has_relation}
 use Rattle.bias_store.proofs.kept.violated_on.Goals as goal
