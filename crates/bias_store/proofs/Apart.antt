@@ -1,5 +1,5 @@
 -- Names that a test tells apart.
-use Rattle.std.proofs.Common.{◌≡◌, ℕ, Bool, true, false, ◌&&◌, not, List, [], ◌∷◌, map, refl, sym, ◌∙◌, String, Global, string_bytes, arith, ◌<◌, subst}
+use Rattle.std.proofs.Common.{◌≡◌, ℕ, Bool, true, false, ◌&&◌, not, List, [], ◌∷◌, map, refl, sym, ◌∙◌, String, Global, string_bytes, arith, subst}
 use Rattle.std.specs.Prelude.{◌≢◌, IsTrue, All, AllPairs, bytes_eq}
 use Rattle.std.specs.List.{list_any, list_all}
 use Rattle.std.proofs.lemmas.Bool.{or_parts, both_ways}

@@ -19,7 +19,7 @@ pub(crate) fn sets_of(alloc: Global, scopes: &[Scope]) -> Result<Vec<VarSet>, Al
 {
     let mut sets = Vec::with_capacity(alloc, scopes.len())?;
     for scope in scopes {
-        sets.push(set_of(&scope.variables[..scope.size as usize]))?;
+        sets.push(set_of(scope.as_slice()))?;
     }
     Ok(sets)
 }

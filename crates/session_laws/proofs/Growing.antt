@@ -11,7 +11,7 @@ use Rattle.find_scope.specs.Halving.{Halved, Wants, Got}
 use Rattle.find_c.specs.Choosing.{Choice, splitting_tuple}
 use Rattle.find_c.specs.Scenes.{scene_of, free_choices}
 use Rattle.session_laws.specs.Walk.{Walk, Turn, Asks, Ends}
-use Rattle.session_laws.specs.Session.{State, Idle, Halving, Choosing, Walking, Over, At, at_turn, go_on, learn, chosen, begin_choosing, found, halved, replied, replied_tuple, on_scope_asked, begun, is_lawful, is_just, open_question, then_on, step, read_on, state_after}
+use Rattle.session_laws.specs.Session.{State, Idle, Halving, Choosing, Walking, Over, At, at_turn, go_on, learn, chosen, begin_choosing, found, halved, replied, replied_tuple, on_scope_asked, begun, then_on, step, read_on}
 use Rattle.session_laws.specs.Laws.{GoesOn, NetworkGrows, network_in}
 use Rattle.session_laws.proofs.Folds.{passed, one_answer_more}
 

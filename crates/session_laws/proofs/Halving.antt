@@ -15,14 +15,13 @@ use Rattle.assign.specs.Assignment.{Assignment, restrict, is_complete}
 use Rattle.language.specs.Language.{Language, IsLanguage, IsCandidate, candidates, variable_count, scope_of, violates, accepts}
 use Rattle.assign.specs.Events.{Answer}
 use Rattle.language.specs.Answers.{IsNetwork, IsNoOn, has_scope, agrees, is_struck, kept}
-use Rattle.find_scope.specs.Halving.{Halved, Wants, Got, halve_within, halve}
+use Rattle.find_scope.specs.Halving.{Halved, Wants, Got, halve}
 use Rattle.find_scope.proofs.Counts.{deep}
 use Rattle.language.proofs.Accepts.{accepted_at, accepted_from}
 use Rattle.session_laws.specs.Walk.{violates_some}
 use Rattle.session_laws.specs.Session.{is_quiet, with_quiet_replies}
 use Rattle.language.proofs.Meets.{closed_candidates}
 use Rattle.language.proofs.Covered.{IsTold, IsGathered, gather, not_struck, learned_is, both_true}
-use Rattle.find_scope.proofs.Halves.{depth_is_enough}
 use Rattle.find_scope.proofs.Runs.{Sub, Every, RunTo, IsKnown, run_to, run_within, run_rises, run_denied, run_least, bounded, asked_within}
 use Rattle.find_scope.proofs.Got.{within_sub, sub_within, same_sets}
 use Rattle.session_laws.proofs.Restrict.{violates_restrict, rejecting, scope_small, rising_scope, accepts_narrower}

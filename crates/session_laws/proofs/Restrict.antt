@@ -5,9 +5,9 @@ use Rattle.std.specs.List.{list_any, position, position_or_len, range_with_len}
 use Rattle.std.proofs.lemmas.List.Elements.{All-head, All-tail}
 use Rattle.std.proofs.lemmas.List.FromFn.{get_or-map-range_with_len, length-map-range_with_len, fill_by_all}
 use Rattle.std.proofs.Math.ListN.{get_or-eq_default}
-use Rattle.std.proofs.lemmas.List.Sums.{list_all-from_AllPass, AllPass-from_list_all}
+use Rattle.std.proofs.lemmas.List.Sums.{AllPass-from_list_all}
 use Rattle.std.proofs.lemmas.List.Folds.{Any-from_list_any}
-use Rattle.std.proofs.lemmas.Bool.{cases_lt, and_parts, and_from, or_cases, both_ways, not_from_false, not-true, eq-eqb, eqb-true, lt-ltb, cond-true, false_from_ne_true}
+use Rattle.std.proofs.lemmas.Bool.{cases_lt, and_parts, and_from, or_cases, both_ways, eq-eqb, eqb-true, lt-ltb, cond-true}
 use Rattle.language.specs.declared.candidates.Candidate.{Candidate}
 use Rattle.assign.specs.Sets.{numbers, has, is_within, is_same, Rises}
 use Rattle.assign.specs.Assignment.{Assignment, value_of, restrict, covers, tuple_on, is_complete, variables_of}

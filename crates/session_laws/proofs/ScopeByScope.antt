@@ -1,12 +1,10 @@
 -- Plan Scopes: where no scope is next, the network is covered, and no session is over.
-use Rattle.std.proofs.Common.{◌≡◌, ℕ, zero, suc, ◌<◌, Bool, true, false, ◌&&◌, not, List, [], ◌∷◌, ◌++◌, length, Option, Some, None, refl, sym, ◌∙◌, ap, subst, inl, inr, ◌⊎◌}
-use Rattle.std.specs.Prelude.{All, is_some, unwrap_or, option_map, option_and_then}
-use Rattle.std.specs.Option.{ForSome}
-use Rattle.std.proofs.lemmas.List.Elements.{All-head, All-tail, All-cons, All-nil}
-use Rattle.std.proofs.lemmas.Bool.{cases_Bool, and_parts, and_from, both_ways, false_from_ne_true, true_from_ne_false, not_from_false}
+use Rattle.std.proofs.Common.{◌≡◌, ℕ, suc, ◌<◌, Bool, true, false, ◌&&◌, not, List, [], ◌∷◌, ◌++◌, length, Option, Some, None, refl, sym, ◌∙◌, ap, subst, inl, inr, ◌⊎◌}
+use Rattle.std.specs.Prelude.{All, is_some, option_map, option_and_then}
+use Rattle.std.proofs.lemmas.Bool.{cases_Bool, and_from, both_ways, false_from_ne_true, true_from_ne_false, not_from_false}
 use Rattle.language.specs.declared.candidates.Candidate.{Candidate}
 use Rattle.assign.specs.Sets.{numbers}
-use Rattle.assign.specs.Assignment.{Assignment, covers, tuple_on, value_of}
+use Rattle.assign.specs.Assignment.{Assignment, covers, tuple_on}
 use Rattle.rel_table.specs.Relation.{holds, tuples}
 use Rattle.language.specs.Language.{Language, IsLanguage, IsCandidate, IsImplied, scope_of, relation_of}
 use Rattle.assign.specs.Events.{Answer}

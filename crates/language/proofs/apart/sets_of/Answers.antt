@@ -1,3 +1,4 @@
+use Rattle.std.proofs.Common.{subst, sym}
 use Rattle.std.proofs.lemmas.List.Elements.{All-get_or}
 use Rattle.assign.specs.Sets.{IsSet}
 use Rattle.language.specs.Scopes.{variables_in}
@@ -5,4 +6,6 @@ use Rattle.language.proofs.Stated.{all_of}
 use Rattle.language.proofs.apart.sets_of.Goals as goal
 
 pub set_of-requires : goal.set_of-requires
-set_of-requires c = All-get_or (λ scope. IsSet (variables_in scope)) c.args.scopes.now c.loop-scope.scope-index _ c.loop-scope-test.true (all_of IsSet variables_in c.args.scopes.now c.requires.sets)
+set_of-requires c =
+    subst IsSet (sym c.as_slice.ensures.is)
+    (All-get_or (λ scope. IsSet (variables_in scope)) c.args.scopes.now c.loop-scope.scope-index _ c.loop-scope-test.true (all_of IsSet variables_in c.args.scopes.now c.requires.sets))
