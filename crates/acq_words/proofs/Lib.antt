@@ -1,0 +1,5 @@
+pub mod Taken
+pub mod Steps
+pub mod Lists
+pub mod Values
+pub mod PlainLists

@@ -1,0 +1,5 @@
+use Rattle.acq_words.proofs.PlainLists as plain
+use Rattle.acq_words.proofs.laws.plain_lists_read_one_way.Goals as goal
+
+pub returns : goal.returns
+returns c = plain.plain_lists_read_one_way

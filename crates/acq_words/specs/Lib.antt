@@ -1,0 +1,6 @@
+pub mod Line
+pub mod Options
+pub mod Numbers
+pub mod Request
+pub mod Plain
+pub mod Laws

@@ -1,0 +1,167 @@
+-- What words ask for, or why they are refused.
+use Rattle.std.specs.Prelude.{◌≡◌, ◌≢◌, ◌≤◌, ℕ, Bool, true, false, not, ◌&&◌, ◌||◌, List, Option, Some, None, is_some, option_and_then, option_map, unwrap_or, if◌then◌else◌, codes, IfSome, Result, Ok, Err}
+use Rattle.std.specs.Str.{bytes_eq}
+use Rattle.std.specs.String.{string_bytes}
+use Rattle.assign.specs.declared.events.Plan.{Plan}
+use Rattle.assign.specs.declared.events.Plan.TheVariants.{Scopes, Quacq, Multi}
+use Rattle.clap.specs.Words.{Row, Text, first_of, one_of}
+use Rattle.acq_words.specs.Line.{are_parsed, rows_in}
+use Rattle.acq_words.specs.Numbers.{number_of}
+use Rattle.acq_words.specs.declared.request.Command.{Command}
+use Rattle.acq_words.specs.declared.request.Command.TheVariants as command
+use Rattle.acq_words.specs.declared.request.CommandName.{CommandName}
+use Rattle.acq_words.specs.declared.request.CommandName.TheVariants as name
+use Rattle.acq_words.specs.declared.request.JournalPlace.{JournalPlace}
+use Rattle.acq_words.specs.declared.request.JournalPlace.TheVariants.{InMemory, File}
+use Rattle.acq_words.specs.declared.request.Request.{Request}
+use Rattle.acq_words.specs.declared.request.UsageFault.{UsageFault}
+use Rattle.acq_words.specs.declared.request.UsageFault.TheVariants.{Words, Unfit}
+use Rattle.acq_words.specs.declared.request.WordsFault.{WordsFault}
+use Rattle.acq_words.specs.declared.request.WordsFault.TheVariants.{Usage, Memory}
+use Rattle.acq_words.specs.declared.request.Asked.{Asked}
+
+-- ---- Names
+
+-- the command of this name
+abbrev pub command_named : Text → Option CommandName
+command_named word =
+    if bytes_eq word (codes "new") then Some name.New
+    else (if bytes_eq word (codes "run") then Some name.Run
+    else (if bytes_eq word (codes "try") then Some name.Try
+    else (if bytes_eq word (codes "play") then Some name.Play
+    else (if bytes_eq word (codes "show") then Some name.Show
+    else (if bytes_eq word (codes "demo") then Some name.Demo
+    else None)))))
+
+-- the plan of this name
+abbrev pub plan_named : Text → Option Plan
+plan_named word =
+    if bytes_eq word (codes "scopes") then Some Scopes
+    else (if bytes_eq word (codes "quacq") then Some Quacq
+    else None)
+
+-- ---- What is asked for
+
+abbrev pub takes_plan : CommandName → Bool
+takes_plan name.New = true
+takes_plan name.Try = true
+takes_plan _ = false
+
+abbrev pub takes_budget : CommandName → Bool
+takes_budget name.Run = true
+takes_budget name.Try = true
+takes_budget name.Play = true
+takes_budget name.Demo = true
+takes_budget _ = false
+
+abbrev pub takes_number : CommandName → Bool
+takes_number name.Demo = true
+takes_number _ = false
+
+abbrev pub needs_memory : CommandName → Bool
+needs_memory name.Try = true
+needs_memory name.Demo = true
+needs_memory _ = false
+
+-- the command and the options don't fit: an option is given that the command doesn't take, a number isn't given that it
+-- takes, or the journal is a file where none may be
+abbrev pub is_unfit : Asked → Bool → Bool
+is_unfit a is_in_memory =
+    (is_some a.plan && not (takes_plan a.name))
+    || ((is_some a.budget && not (takes_budget a.name))
+    || ((is_some a.number && not (takes_number a.name))
+    || ((takes_number a.name && not (is_some a.number))
+    || (needs_memory a.name && not is_in_memory))))
+
+abbrev pub with_plan : Option Plan → Plan
+with_plan plan = unwrap_or plan Quacq
+
+abbrev pub with_budget : Option ℕ → ℕ
+with_budget budget = unwrap_or budget 100000
+
+-- the command, with the defaults for what isn't given
+abbrev pub command_by : CommandName → Option Plan → Option ℕ → Option ℕ → Command
+command_by name.New plan budget number = command.New (with_plan plan)
+command_by name.Run plan budget number = command.Run (with_budget budget)
+command_by name.Try plan budget number = command.Try (with_plan plan) (with_budget budget)
+command_by name.Play plan budget number = command.Play (with_budget budget)
+command_by name.Show plan budget number = command.Show
+command_by name.Demo plan budget number = command.Demo (unwrap_or number 0) (with_budget budget)
+
+abbrev pub command_of : Asked → Command
+command_of a = command_by a.name a.plan a.budget a.number
+
+-- ---- Requests by their contents
+
+-- a request; where it has no file, its journal is in memory
+pub record Contents : Type 0 where
+  pub file : Option Text
+  pub command : Command
+
+abbrev pub file_of : JournalPlace → Option Text
+file_of InMemory = None
+file_of (File file) = Some (string_bytes file)
+
+abbrev pub contents_of : Request → Contents
+contents_of r = record { file = file_of r.journal; command = r.command }
+
+abbrev pub is_memory : Text → Bool
+is_memory journal = bytes_eq journal (codes ":memory:")
+
+abbrev pub file_named : Text → Option Text
+file_named journal = if is_memory journal then None else Some journal
+
+-- what a journal and the rest ask for
+abbrev pub answer_by : Text → Asked → Result Contents UsageFault
+answer_by journal a = if is_unfit a (is_memory journal) then Err Unfit else Ok (record { file = file_named journal; command = command_of a })
+
+-- ---- What the words say, by what `clap` finds in them
+
+-- no plan, or a plan of this name
+abbrev pub plan_said : Option Text → Option (Option Plan)
+plan_said None = Some None
+plan_said (Some word) = option_map (λ (p : Plan). Some p) (plan_named word)
+
+abbrev pub asked_by : Option CommandName → Option (Option Plan) → Option ℕ → Option ℕ → Option Asked
+asked_by (Some name) (Some plan) budget number = Some (record { name = name; plan = plan; budget = budget; number = number })
+asked_by _ _ budget number = None
+
+abbrev pub asked_in : List Row → Option Asked
+asked_in rows = asked_by (option_and_then command_named (first_of (codes "COMMAND") rows)) (plan_said (first_of (codes "plan") rows))
+    (option_map number_of (one_of (codes "budget") rows)) (option_map number_of (one_of (codes "number") rows))
+
+abbrev pub answer_with : Option Text → Option Asked → Result Contents UsageFault
+answer_with (Some journal) (Some a) = answer_by journal a
+answer_with _ _ = Err Words
+
+abbrev pub answer_in : List Row → Result Contents UsageFault
+answer_in rows = answer_with (first_of (codes "JOURNAL") rows) (asked_in rows)
+
+-- what the words ask for, or why they are refused
+abbrev pub answer_to : List Text → Result Contents UsageFault
+answer_to words = if are_parsed words then answer_in (rows_in words) else Err Words
+
+-- ---- The answer of a call
+
+-- this is answered, or memory ran out
+abbrev pub IsAnswer : Result Contents UsageFault → Result Request WordsFault → Type 0
+IsAnswer answer (Ok request) = answer ≡ Ok (contents_of request)
+IsAnswer answer (Err (Usage fault)) = answer ≡ Err fault
+IsAnswer answer (Err Memory) = Unit {0}
+
+-- the budget of a command lies within its limits, and its plan is built
+abbrev pub IsBudget : ℕ → Type 0
+IsBudget budget = (1 ≤ budget) × (budget ≤ 1000000000)
+
+abbrev pub IsWithin : Command → Type 0
+IsWithin (command.New plan) = plan ≢ Multi
+IsWithin (command.Run budget) = IsBudget budget
+IsWithin (command.Try plan budget) = (plan ≢ Multi) × IsBudget budget
+IsWithin (command.Play budget) = IsBudget budget
+IsWithin command.Show = Unit {0}
+IsWithin (command.Demo number budget) = IsBudget budget
+
+-- what is given lies within its limits
+pub record IsLawful (a : Asked) : Type 0 where
+  pub plan : IfSome a.plan (λ p. p ≢ Multi)
+  pub budget : IfSome a.budget IsBudget
