@@ -169,7 +169,7 @@ def check(lang, plan, answers, last, status):
     assert status == {"converged": 0, "collapsed": 4, "undecided": 5}[ending], f"status {status}"
     agreeing = [m for m in lang.networks() if all(accepts(m, shown) == yes for shown, yes in answers)]
     if ending == "collapsed":
-        assert plan == "quacq" and len(last) == 1 and not agreeing, "some network agrees"
+        assert plan != "scopes" and len(last) == 1 and not agreeing, "some network agrees"
         return
     learned = [lang.candidate_of(line) for line in last[1:] if not line.startswith("open ")]
     solutions = lang.solutions(learned)
@@ -181,7 +181,7 @@ def check(lang, plan, answers, last, status):
     done = {scope for scope, _ in learned}
     struck = lambda c: any(yes and violates(c, shown) for shown, yes in answers)
     possible = [c for c in lang.candidates if c[0] not in done and not struck(c)]
-    assert plan == "quacq" and opened, "nothing is open"
+    assert plan != "scopes" and opened, "nothing is open"
     assert opened == [c for c in possible if c in opened], "a candidate is open that isn't possible, or out of order"
     for scope, table in possible:
         follows = all(tuple(whole[v] for v in scope) in table for whole in solutions)
@@ -195,7 +195,7 @@ def session(program, number):
         lang = Language(draw)
     target = draw.choice(list(lang.networks()))
     owner = (lambda shown: accepts(target, shown)) if draw.random() < 0.5 else (lambda shown: draw.random() < 0.5)
-    plan = draw.choice(["quacq", "quacq", "scopes"])
+    plan = draw.choice(["quacq", "multi", "scopes"])
     budget = draw.choice([1, 2, 4, 8, 100000, 100000])
     answers, last, status = play(program, lang, ["--plan", plan, "--budget", str(budget)], owner)
     check(lang, plan, answers, last, status)

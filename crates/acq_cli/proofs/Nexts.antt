@@ -20,6 +20,7 @@ use Rattle.query_gen.specs.declared.query.Query.TheVariants as query
 use Rattle.query_gen.specs.Questions.{is_among, is_spent, next_query}
 use Rattle.query_gen.specs.Marks.{Remembered, is_open}
 use Rattle.session_laws.specs.Session.{State, Idle, Halving, Choosing, Walking, Over, At, is_just, is_lawful, is_undecided, next_scope, open_question, scope_question, state_after}
+use Rattle.session_laws.specs.Walk.{WalkEnd}
 use Rattle.session_laws.specs.Laws.{network_in}
 use Rattle.session_laws.proofs.Folds.{assignment_same}
 use Rattle.session_laws.proofs.ScopeByScope.{scopes_are_covered, scopes_never_over}
@@ -45,7 +46,7 @@ abbrev pub some_of : (q : Assignment) → Option Assignment
 some_of q = Some q
 
 -- a session with nothing open stands for these answers
-module _ (k : Knowledge) (t : List Answer) (budget : ℕ) (at : state_after k.lang k.plan t ≡ At (Idle k.network.list None)) (knows : Knows k t) where
+module _ (k : Knowledge) (t : List Answer) (budget : ℕ) (end : Option WalkEnd) (at : state_after k.lang k.plan t ≡ At (Idle k.network.list end)) (knows : Knows k t) where
   abbrev request : Request
   request = request_with k.plan budget
 
@@ -60,7 +61,7 @@ module _ (k : Knowledge) (t : List Answer) (budget : ℕ) (at : state_after k.la
   scoped_is plan o due = idle_is ∙ ap (λ p. Some (idle_next k.lang p budget k.kept.members k.network.list)) plan ∙ ap (λ q. Some (puts_or Converged q)) (sym due)
 
   lawful_after : (q : Assignment) → is_lawful k.lang k.plan live k.network.list q ≡ true → IsLawfulAfter k.lang k.plan t q
-  lawful_after q lawful = record { network = k.network.list; end = None; idle = at; lawful = lawful }
+  lawful_after q lawful = record { network = k.network.list; end = end; idle = at; lawful = lawful }
 
   pub scoped_new : k.plan ≡ Scopes → (q : Assignment) → some_of q ≡ scope_question k.lang k.kept.members k.network.list → IsQuestion k.lang q → IsDue k.lang request t q × IsLawfulAfter k.lang k.plan t q
   scoped_new plan q due fits = (
@@ -72,6 +73,7 @@ module _ (k : Knowledge) (t : List Answer) (budget : ℕ) (at : state_after k.la
   done : IsLanguage k.lang → next_after k.lang request t ≡ Some (Ends Converged) → IsNetwork k.lang k.network.list × IsCovered k.lang k.network.list t → IsDone k.lang request t
   done lawful ends covered = record {
     network = k.network.list;
+    end = end;
     idle = at;
     ends = ends;
     covered = covered.1;
@@ -81,7 +83,7 @@ module _ (k : Knowledge) (t : List Answer) (budget : ℕ) (at : state_after k.la
   pub scoped_done : IsLanguage k.lang → k.plan ≡ Scopes → None ≡ scope_question k.lang k.kept.members k.network.list → IsDone k.lang request t
   scoped_done lawful plan none =
       done lawful (scoped_is plan None none)
-      (scopes_are_covered k.lang t k.network.list None lawful (ap (λ p. state_after k.lang p t) (sym plan) ∙ at)
+      (scopes_are_covered k.lang t k.network.list end lawful (ap (λ p. state_after k.lang p t) (sym plan) ∙ at)
       (none_next k.lang live k.network.list (none ∙ ap (λ cs. scope_question k.lang cs k.network.list) knows.kept)))
     where
       some_by : (o : Option (List ℕ)) → is_some o ≡ true → (u : List ℕ) × (o ≡ Some u)
@@ -136,14 +138,15 @@ module _ (k : Knowledge) (t : List Answer) (budget : ℕ) (at : state_after k.la
   pub searched_done : IsLanguage k.lang → k.plan ≢ Scopes → next_query k.lang k.network.list k.kept.members budget ≡ query.AllImplied → IsDone k.lang request t
   searched_done lawful other none =
       done lawful (searched_is other ∙ ap (λ x. Some (searched x)) none)
-      (implied_is_covered k.lang k.plan t k.network.list None lawful at (all_are_implied k.lang k.network.list live budget lawful (kept_network k.lang t k.network.list) (sym there ∙ none)))
+      (implied_is_covered k.lang k.plan t k.network.list end lawful at (all_are_implied k.lang k.network.list live budget lawful (kept_network k.lang t k.network.list) (sym there ∙ none)))
 
   pub searched_open : IsLanguage k.lang → k.plan ≢ Scopes → next_query k.lang k.network.list k.kept.members budget ≡ query.Undecided → IsLeftOpen k.lang request t
   searched_open lawful other none = record {
     network = k.network.list;
+    end = end;
     idle = at;
     ends = searched_is other ∙ ap (λ x. Some (searched x)) none;
-    lawful = (idle_is_in_step k.lang k.plan t k.network.list None lawful at).lawful;
+    lawful = (idle_is_in_step k.lang k.plan t k.network.list end lawful at).lawful;
     undecided = undecided_is_spent k.lang k.network.list live budget lawful (kept_network k.lang t k.network.list) (sym there ∙ none);
     plan = other;
   }
@@ -152,7 +155,7 @@ module _ (k : Knowledge) (t : List Answer) (budget : ℕ) (at : state_after k.la
   pub tells_open : (screen : Remembered) →
       ((c : Candidate) → IsCandidate k.lang c → is_open k.lang screen c ≡ (is_among k.kept.members c && is_spent (outcome_of_candidate k.lang k.network.list c budget))) →
       TellsOpen k.lang request t screen
-  tells_open screen tells network end idle c is =
+  tells_open screen tells network ended idle c is =
       let same : k.network.list ≡ network = ap network_in (same_state _ _ (sym at ∙ idle)) in
       let P : List Candidate → Type 0 = λ n. is_open k.lang screen c ≡ (is_among (kept k.lang t n) c && is_spent (outcome_of_candidate k.lang n c budget)) in
       subst P same (tells c is ∙ ap (λ cs. is_among cs c && is_spent (outcome_of_candidate k.lang k.network.list c budget)) knows.kept)
@@ -188,9 +191,9 @@ collapsed l request t network lawful at = (
 )
 
 -- what a session has learned is what the answers lead to
-pub learned_is : (session : Session) (t : List Answer) (network : List Candidate) → Stands session t →
-    state_after (knowledge_of session).lang (knowledge_of session).plan t ≡ At (Idle network None) → (knowledge_of session).network.list ≡ network
-learned_is session t network stands at =
+pub learned_is : (session : Session) (t : List Answer) (network : List Candidate) (end : Option WalkEnd) → Stands session t →
+    state_after (knowledge_of session).lang (knowledge_of session).plan t ≡ At (Idle network end) → (knowledge_of session).network.list ≡ network
+learned_is session t network end stands at =
     let here = stands_at session t stands in sym here.network ∙ ap network_in (same_state _ _ (sym here.at ∙ at))
 
 -- where no network agrees, a session says so

@@ -1,5 +1,5 @@
 -- The open candidates.
-use Rattle.std.proofs.Common.{◌≡◌, ℕ, ◌<◌, Bool, true, false, cond, ◌||◌, List, [], ◌∷◌, length, get_or, refl, sym, ◌∙◌, ap, inl, inr, ◌⊎◌, None}
+use Rattle.std.proofs.Common.{◌≡◌, ℕ, ◌<◌, Bool, true, false, cond, ◌||◌, List, [], ◌∷◌, length, get_or, refl, sym, ◌∙◌, ap, inl, inr, ◌⊎◌, Option}
 use Rattle.std.specs.Prelude.{◌≢◌, ◌==◌, ◌&&◌, IsTrue, All, Any}
 use Rattle.std.specs.List.{filter, list_any}
 use Rattle.std.proofs.lemmas.Bool.{and_from, eq-eqb}
@@ -15,6 +15,7 @@ use Rattle.fd_solver.specs.declared.outcome.Outcome.TheVariants.{Found, Absent, 
 use Rattle.fd_solver.specs.Outcomes.{outcome_of_candidate}
 use Rattle.query_gen.specs.Questions.{is_among, is_spent}
 use Rattle.query_gen.specs.Marks.{Remembered, is_open}
+use Rattle.session_laws.specs.Walk.{WalkEnd}
 use Rattle.session_laws.specs.Session.{Idle, At, state_after}
 use Rattle.session_laws.proofs.Choices.{all_candidates}
 use Rattle.acq_cli.specs.declared.words.Request.{Request}
@@ -59,12 +60,12 @@ filter_some p (x ∷ xs) some = go (p x) refl (filter_some p xs)
 
 -- ---- what the screen tells
 
-pub opens_are : (l : Language) (request : Request) (t : List Answer) (network : List Candidate) (screen : Remembered) → state_after l request.plan t ≡ At (Idle network None) → TellsOpen l request t screen →
+pub opens_are : (l : Language) (request : Request) (t : List Answer) (network : List Candidate) (end : Option WalkEnd) (screen : Remembered) → state_after l request.plan t ≡ At (Idle network end) → TellsOpen l request t screen →
     filter (is_open l screen) (candidates l) ≡ open_candidates l request t network
-opens_are l request t network screen idle tells =
+opens_are l request t network end screen idle tells =
     let live : List Candidate = kept l t network in
     let spent : Candidate → Bool = λ c. is_spent (outcome_of_candidate l network c request.budget) in
-    filter_alike (IsCandidate l) (is_open l screen) (λ c. is_among live c && spent c) (candidates l) (all_candidates l) (λ c is. tells network None idle c is)
+    filter_alike (IsCandidate l) (is_open l screen) (λ c. is_among live c && spent c) (candidates l) (all_candidates l) (λ c is. tells network end idle c is)
     ∙ filter_both (is_among live) spent (candidates l)
     ∙ ap (filter spent) (picked_are_in_order l _)
 
@@ -84,6 +85,7 @@ leaves_open l request t m number left =
     let spent : Candidate → Bool = λ c. is_spent (outcome_of_candidate l network c request.budget) in
     record {
       number = number;
+      end = left.end;
       idle = left.idle;
       ends = left.ends;
       plan = left.plan;

@@ -14,7 +14,7 @@ use Rattle.acq_cli.specs.declared.driving.Drove.TheVariants as drove
 
 pub owned : (turns : Turns) (l : Language) (request : Request) (old : Place) (t : List Answer) (left written : Option (List ℕ)) (how : Drove) (owner : List Candidate) →
     Drives turns l request old (place_of t left written) how → IsNetwork l owner → IsTrue (agrees l owner t) → IsOwned l request owner t how
-owned turns l request old t left written (drove.Converged m) owner h lawful agreeing = (h.1.network, h.1.idle, h.1.converged.only owner lawful agreeing)
+owned turns l request old t left written (drove.Converged m) owner h lawful agreeing = (h.1.network, h.1.end, h.1.idle, h.1.converged.only owner lawful agreeing)
 owned turns l request old t left written (drove.Collapsed m) owner h lawful agreeing = h.1.none owner lawful agreeing
 owned turns l request old t left written (drove.Undecided m) owner h lawful agreeing = tt
 owned turns l request old t left written (drove.Suspended m) owner h lawful agreeing = tt

@@ -1,5 +1,5 @@
 -- What is said of a session at its end.
-use Rattle.std.proofs.Common.{◌≡◌, ℕ, List, length, refl, ap, sym, subst, ◌∙◌, Option, None}
+use Rattle.std.proofs.Common.{◌≡◌, ℕ, List, length, refl, ap, sym, subst, ◌∙◌, Option}
 use Rattle.std.specs.Prelude.{filter}
 use Rattle.acq_io.specs.Streams.{Adds, AddsFront}
 use Rattle.assign.specs.Events.{Answer}
@@ -7,6 +7,7 @@ use Rattle.assign.specs.declared.events.Plan.{Plan}
 use Rattle.language.specs.declared.candidates.Candidate.{Candidate}
 use Rattle.language.specs.Language.{Language, candidates}
 use Rattle.query_gen.specs.Marks.{Remembered, is_open}
+use Rattle.session_laws.specs.Walk.{WalkEnd}
 use Rattle.session_laws.specs.Session.{Idle, At, state_after}
 use Rattle.session_core.specs.declared.session.Session.{Session}
 use Rattle.session_core.specs.Standing.{Stands, knowledge_of}
@@ -43,9 +44,9 @@ part_suspended l plan budget t written written' m end is ended adds =
 
 module _ (session : Session) (l : Language) (plan : Plan) (budget : ℕ) (t : List Answer) (written written' : Option (List ℕ)) (m : ℕ) (end : Drove) where
   -- the network that the answers lead to is the session's
-  same_network : Stands session t → (knowledge_of session).lang ≡ l → (knowledge_of session).plan ≡ plan → (network : List Candidate) → state_after l plan t ≡ At (Idle network None) → (knowledge_of session).network.list ≡ network
-  same_network stands lang planned network at =
-      learned_is session t network stands (ap (λ x. state_after x (knowledge_of session).plan t) lang ∙ ap (λ p. state_after l p t) planned ∙ at)
+  same_network : Stands session t → (knowledge_of session).lang ≡ l → (knowledge_of session).plan ≡ plan → (network : List Candidate) (ended : Option WalkEnd) → state_after l plan t ≡ At (Idle network ended) → (knowledge_of session).network.list ≡ network
+  same_network stands lang planned network ended at =
+      learned_is session t network ended stands (ap (λ x. state_after x (knowledge_of session).plan t) lang ∙ ap (λ p. state_after l p t) planned ∙ at)
 
   pub says_converged : end ≡ drove.Converged m → HasEnded l (request_with plan budget) t end → Stands session t → (knowledge_of session).lang ≡ l → (knowledge_of session).plan ≡ plan →
       Adds written written' (converged_text (knowledge_of session).lang (knowledge_of session).network.list m) →
@@ -58,11 +59,11 @@ module _ (session : Session) (l : Language) (plan : Plan) (budget : ℕ) (t : Li
 
       told : HasEnded l (request_with plan budget) t (drove.Converged m) → SaysOf (drove.Converged m)
       told done =
-          let same = same_network stands lang planned done.1.network done.1.idle in (
+          let same = same_network stands lang planned done.1.network done.1.end done.1.idle in (
             refl,
             (
               done.1.network,
-              record { number = done.0; idle = done.1.idle; ends = done.1.ends; covered = done.1.covered; converged = done.1.converged; owner = done.1.converged.only },
+              record { number = done.0; end = done.1.end; idle = done.1.idle; ends = done.1.ends; covered = done.1.covered; converged = done.1.converged; owner = done.1.converged.only },
               subst (Adds written written') (ap (λ x. converged_text x (knowledge_of session).network.list m) lang ∙ ap (λ n. converged_text l n m) same) adds,
             ),
           )
@@ -79,8 +80,8 @@ module _ (session : Session) (l : Language) (plan : Plan) (budget : ℕ) (t : Li
 
       told : HasEnded l (request_with plan budget) t (drove.Undecided m) → SaysOf (drove.Undecided m)
       told done =
-          let same = same_network stands lang planned done.1.network done.1.idle in
-          let opens = opens_are l (request_with plan budget) t done.1.network screen done.1.idle tells in (
+          let same = same_network stands lang planned done.1.network done.1.end done.1.idle in
+          let opens = opens_are l (request_with plan budget) t done.1.network done.1.end screen done.1.idle tells in (
             refl,
             (
               done.1.network,
@@ -92,8 +93,8 @@ module _ (session : Session) (l : Language) (plan : Plan) (budget : ℕ) (t : Li
           )
 
   -- the session's network is the one that the answers lead to
-  learned : Stands session t → (knowledge_of session).lang ≡ l → (knowledge_of session).plan ≡ plan → (network : List Candidate) → state_after l plan t ≡ At (Idle network None) → (knowledge_of session).network.list ≡ learned_after l (request_with plan budget) t
-  learned stands lang planned network at = same_network stands lang planned network at ∙ sym (ap learned_in at)
+  learned : Stands session t → (knowledge_of session).lang ≡ l → (knowledge_of session).plan ≡ plan → (network : List Candidate) (ended : Option WalkEnd) → state_after l plan t ≡ At (Idle network ended) → (knowledge_of session).network.list ≡ learned_after l (request_with plan budget) t
+  learned stands lang planned network ended at = same_network stands lang planned network ended at ∙ sym (ap learned_in at)
 
   pub part_converged : end ≡ drove.Converged m → HasEnded l (request_with plan budget) t end → Stands session t → (knowledge_of session).lang ≡ l → (knowledge_of session).plan ≡ plan →
       AddsFront written written' (converged_text (knowledge_of session).lang (knowledge_of session).network.list m) →
@@ -101,7 +102,7 @@ module _ (session : Session) (l : Language) (plan : Plan) (budget : ℕ) (t : Li
   part_converged is ended stands lang planned adds =
       let P : Drove → Type 0 = SaysPart l (request_with plan budget) t written written' in
       let done = subst (HasEnded l (request_with plan budget) t) is ended in
-      let net = learned stands lang planned done.1.network done.1.idle in
+      let net = learned stands lang planned done.1.network done.1.end done.1.idle in
       subst P (sym is) (subst (AddsFront written written') (λ i. converged_text (lang i) (net i) (done.0 i)) adds)
 
   pub part_undecided : (screen : Remembered) → end ≡ drove.Undecided m → HasEnded l (request_with plan budget) t end → TellsOpen l (request_with plan budget) t screen →
@@ -111,9 +112,9 @@ module _ (session : Session) (l : Language) (plan : Plan) (budget : ℕ) (t : Li
   part_undecided screen is ended tells stands lang planned adds =
       let P : Drove → Type 0 = SaysPart l (request_with plan budget) t written written' in
       let done = subst (HasEnded l (request_with plan budget) t) is ended in
-      let net = learned stands lang planned done.1.network done.1.idle in
+      let net = learned stands lang planned done.1.network done.1.end done.1.idle in
       let opens : filter (is_open l screen) (candidates l) ≡ open_candidates l (request_with plan budget) t (learned_after l (request_with plan budget) t) =
-      opens_are l (request_with plan budget) t done.1.network screen done.1.idle tells ∙ ap (open_candidates l (request_with plan budget) t) (sym (ap learned_in done.1.idle)) in
+      opens_are l (request_with plan budget) t done.1.network done.1.end screen done.1.idle tells ∙ ap (open_candidates l (request_with plan budget) t) (sym (ap learned_in done.1.idle)) in
       subst P (sym is)
       (subst (AddsFront written written')
       (ap (λ x. undecided_text x (knowledge_of session).network.list (filter (is_open x screen) (candidates x)) m) lang

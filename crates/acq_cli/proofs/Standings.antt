@@ -39,12 +39,13 @@ pub record StandsAt (k : Knowledge) (t : List Answer) : Type 0 where
 
 put_at : (k : Knowledge) (put : Put) (t : List Answer) → PutAfter k put t → StandsAt k t
 put_at k (puts.Example e) t after = record { state = _; at = after.idle; network = refl }
-put_at k (puts.Part e run) t after = record { state = _; at = after.halving; network = refl }
+put_at k (puts.OnWalk e set) t after = record { state = _; at = after.walking; network = refl }
+put_at k (puts.Part e set run) t after = record { state = _; at = after.halving; network = refl }
 put_at k (puts.FirstTuple run) t after = record { state = _; at = after.idle; network = refl }
 put_at k (puts.Tuple run) t after = record { state = _; at = after; network = refl }
 
 pub stands_at : (session : Session) (t : List Answer) → Stands session t → StandsAt (knowledge_of session) t
-stands_at (sessions.Idle idle) t h = record { state = _; at = h.after; network = refl }
+stands_at (sessions.Idle idle) t h = record { state = _; at = h.after.idle; network = refl }
 stands_at (sessions.Asking asking) t h = put_at asking.knowledge asking.put t h.after
 stands_at (sessions.Over over) t h = record { state = _; at = h.after; network = refl }
 

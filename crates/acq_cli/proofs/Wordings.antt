@@ -2,11 +2,9 @@
 use Rattle.std.proofs.Common.{◌≡◌, ◌∙◌, ℕ, suc, ◌+◌, ◌-◌, ◌*◌, ◌<◌, ◌≤◌, Bool, true, false, List, [], ◌∷◌, ap, sym, refl, subst, length, drop, map, get_or, Option, Some, None, drop-cons, arith}
 use Rattle.std.proofs.lemmas.List.{drop_all}
 use Rattle.std.proofs.lemmas.Bool.{and_parts, leb-true}
-use Rattle.std.specs.Prelude.{◌≢◌, ◌&&◌, ◌==◌, if◌then◌else◌, option_and_then, nat_le, IfSome, codes}
+use Rattle.std.specs.Prelude.{◌&&◌, ◌==◌, if◌then◌else◌, option_and_then, nat_le, IfSome, codes}
 use Rattle.std.specs.Option.{option_map, unwrap_or}
 use Rattle.std.specs.Str.{bytes_eq}
-use Rattle.assign.specs.declared.events.Plan.{Plan}
-use Rattle.assign.specs.declared.events.Plan.TheVariants.{Scopes, Quacq, Multi}
 use Rattle.acq_cli.specs.declared.words.Setting.{Setting}
 use Rattle.acq_cli.specs.declared.words.Setting.TheVariants as setting
 use Rattle.acq_cli.specs.declared.words.Options.{Options}
@@ -100,22 +98,6 @@ budget_within (byte ∷ bytes) b h =
     let within = digit_within 0 byte step.0 step.1 in
     digits_within bytes step.0 b within.0 within.1 step.2
 
-plan_within : (word : List ℕ) (p : Plan) → plan_of word ≡ Some p → p ≢ Multi
-plan_within word p h = go (bytes_eq word (codes "scopes")) (bytes_eq word (codes "quacq")) h
-  where
-    built : Plan → Bool
-    built Scopes = true
-    built Quacq = true
-    built Multi = false
-
-    apart : true ≡ false → ⊥
-    apart e = cc
-
-    go : (a b : Bool) → (if a then Some Scopes else (if b then Some Quacq else None)) ≡ Some p → p ≢ Multi
-    go true b h multi = apart (ap built (same_some Scopes p h ∙ multi))
-    go false true h multi = apart (ap built (same_some Quacq p h ∙ multi))
-    go false false h multi = none_some p h
-
 new_some : {A : Type 0} (said value : Option A) (x : A) → if_new said value ≡ Some x → value ≡ Some x
 new_some None value x h = h
 new_some (Some y) value x h = absurd (none_some x h)
@@ -127,9 +109,7 @@ map_some f (Some x) y h = (x, refl, same_some (f x) y h)
 value_within : (o next : Options) (name : Setting) (value : List ℕ) → AreWithin o → with_value o name value ≡ Some next → AreWithin next
 value_within o next setting.Plan value within h =
     let got = map_some _ (if_new o.plan (plan_of value)) next h in
-    let fresh = plan_within value got.0 (new_some o.plan (plan_of value) got.0 got.1) in
     subst AreWithin got.2 (record {
-      plan = λ p is. subst (λ q. q ≢ Multi) (same_some got.0 p is) fresh;
       some = within.some;
       small = within.small;
     })
@@ -137,13 +117,12 @@ value_within o next setting.Budget value within h =
     let got = map_some _ (if_new o.budget (budget_of value)) next h in
     let fresh = budget_within value got.0 (new_some o.budget (budget_of value) got.0 got.1) in
     subst AreWithin got.2 (record {
-      plan = within.plan;
       some = λ b is. subst (λ n. 1 ≤ n) (same_some got.0 b is) fresh.0;
       small = λ b is. subst (λ n. n ≤ 1000000000) (same_some got.0 b is) fresh.1;
     })
 
 waiting_within : (o next : Options) (name : Setting) → AreWithin o → Some (waiting_for o name) ≡ Some next → AreWithin next
-waiting_within o next name within h = subst AreWithin (same_some (waiting_for o name) next h) (record { plan = within.plan; some = within.some; small = within.small })
+waiting_within o next name within h = subst AreWithin (same_some (waiting_for o name) next h) (record { some = within.some; small = within.small })
 
 word_within : (o next : Options) (word : List ℕ) → AreWithin o → with_word o word ≡ Some next → AreWithin next
 word_within o next word within h = at o.waiting h
@@ -173,27 +152,12 @@ words_within (word ∷ words) o last within h =
     words_within words step.0 last (word_within o step.0 word within step.1) step.2
 
 pub none_within : AreWithin no_options
-none_within = record { plan = λ p is. absurd (none_some p is); some = λ b is. absurd (none_some b is); small = λ b is. absurd (none_some b is) }
+none_within = record { some = λ b is. absurd (none_some b is); small = λ b is. absurd (none_some b is) }
 
 pub request_lawful : (o : Options) (asked : Option Request) → AreWithin o → asked ≡ request_by o → IfSome asked IsLawful
 request_lawful o None within h = tt
 request_lawful o (Some request) within h = at o.waiting h
   where
-    built : Plan → Bool
-    built Scopes = true
-    built Quacq = true
-    built Multi = false
-
-    apart : true ≡ false → ⊥
-    apart e = cc
-
-    quacq_multi : Quacq ≡ Multi → ⊥
-    quacq_multi e = apart (ap built e)
-
-    plan_by : (plan : Option Plan) → ((p : Plan) → plan ≡ Some p → p ≢ Multi) → unwrap_or plan Quacq ≢ Multi
-    plan_by None w = quacq_multi
-    plan_by (Some p) w = w p refl
-
     some_by : (budget : Option ℕ) → ((b : ℕ) → budget ≡ Some b → 1 ≤ b) → 1 ≤ unwrap_or budget 100000
     some_by None w = omega arith
     some_by (Some b) w = w b refl
@@ -204,4 +168,4 @@ request_lawful o (Some request) within h = at o.waiting h
 
     at : (waiting : Option Setting) → Some request ≡ request_at o waiting → IsLawful request
     at (Some name) h = absurd (none_some request (sym h))
-    at None h = subst IsLawful (sym (same_some request _ h)) (record { plan = plan_by o.plan within.plan; some = some_by o.budget within.some; small = small_by o.budget within.small })
+    at None h = subst IsLawful (sym (same_some request _ h)) (record { some = some_by o.budget within.some; small = small_by o.budget within.small })

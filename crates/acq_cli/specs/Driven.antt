@@ -1,7 +1,9 @@
 -- What the loop has done, by how it ended.
-use Rattle.std.specs.Prelude.{◌≡◌, ◌≢◌, ℕ, List, ◌++◌, length, ◌&&◌, Option, Some, None}
+use Rattle.std.specs.Prelude.{◌≡◌, ◌≢◌, ℕ, List, ◌++◌, length, ◌&&◌, Option, Some}
 use Rattle.assign.specs.Events.{Answer}
-use Rattle.assign.specs.declared.events.Plan.TheVariants.{Scopes}
+use Rattle.assign.specs.Assignment.{Assignment}
+use Rattle.assign.specs.declared.events.Plan.{Plan}
+use Rattle.assign.specs.declared.events.Plan.TheVariants.{Scopes, Multi}
 use Rattle.language.specs.declared.candidates.Candidate.{Candidate}
 use Rattle.language.specs.Language.{Language, HasSameSolutions, IsCandidate}
 use Rattle.language.specs.Answers.{IsNetwork, IsCovered, IsConverged, NoneAgrees, kept}
@@ -9,9 +11,9 @@ use Rattle.fd_solver.specs.Outcomes.{outcome_of_candidate}
 use Rattle.query_gen.specs.Questions.{is_among, is_spent}
 use Rattle.query_gen.specs.Marks.{Remembered, MarksHold, is_open}
 use Rattle.query_gen.specs.Laws.{IsUndecided}
-use Rattle.session_laws.specs.Session.{State, Idle, Over, At, state_after}
-use Rattle.session_laws.specs.Walk.{WalkEnd}
-use Rattle.session_laws.specs.Laws.{network_in}
+use Rattle.session_laws.specs.Session.{State, Idle, Over, At, state_after, walk_end}
+use Rattle.session_laws.specs.Walk.{WalkEnd, Ended}
+use Rattle.session_laws.specs.Laws.{IsWalked, network_in}
 use Rattle.target_oracle.specs.Turns.{Turns}
 use Rattle.target_oracle.specs.Tells.{Front}
 use Rattle.acq_cli.specs.Run.{Closing, Converged, Collapsed, Undecided, Suspended, LineTooLong, Unreadable, Ends, next_after, Ran, Runs, after_text}
@@ -63,7 +65,8 @@ CutOff turns l request old new = (bytes before : List ℕ) → old.left ≡ Some
 -- nothing is left to ask, and the answers converge on what was learned
 pub record IsDone (l : Language) (request : Request) (t : List Answer) : Type 0 where
   pub network : List Candidate
-  pub idle : state_after l request.plan t ≡ At (Idle network None)
+  pub end : Option WalkEnd
+  pub idle : state_after l request.plan t ≡ At (Idle network end)
   pub ends : next_after l request t ≡ Some (Ends Converged)
   pub covered : IsCovered l network t
   pub converged : IsConverged l network t
@@ -78,7 +81,8 @@ pub record IsCollapsed (l : Language) (request : Request) (t : List Answer) : Ty
 -- Nothing was found to ask. The budget was too small for the searches of some kept candidates, and each other one is implied.
 pub record IsLeftOpen (l : Language) (request : Request) (t : List Answer) : Type 0 where
   pub network : List Candidate
-  pub idle : state_after l request.plan t ≡ At (Idle network None)
+  pub end : Option WalkEnd
+  pub idle : state_after l request.plan t ≡ At (Idle network end)
   pub ends : next_after l request t ≡ Some (Ends Undecided)
   pub lawful : IsNetwork l network
   pub undecided : IsUndecided l network (kept l t network) request.budget
@@ -98,7 +102,7 @@ Drives turns l request old new drove.Memory = CutOff turns l request old new
 
 -- what comes of it where this network gave each answer: no collapse, and what was learned has exactly its solutions
 abbrev pub IsOwned : Language → Request → List Candidate → List Answer → Drove → Type 0
-IsOwned l request owner t (drove.Converged m) = (network : List Candidate) × (state_after l request.plan t ≡ At (Idle network None)) × HasSameSolutions l owner network
+IsOwned l request owner t (drove.Converged m) = (network : List Candidate) × (end : Option WalkEnd) × (state_after l request.plan t ≡ At (Idle network end)) × HasSameSolutions l owner network
 IsOwned l request owner t (drove.Collapsed m) = ⊥
 IsOwned l request owner t (drove.Undecided m) = Unit {0}
 IsOwned l request owner t (drove.Suspended m) = Unit {0}
@@ -107,6 +111,10 @@ IsOwned l request owner t drove.Unreadable = Unit {0}
 IsOwned l request owner t drove.ReadFault = Unit {0}
 IsOwned l request owner t drove.WriteFault = Unit {0}
 IsOwned l request owner t drove.Memory = Unit {0}
+
+-- where the last answer has ended the walk of an example, nothing is left to learn from the example
+abbrev pub LeavesNothing : Language → Plan → List Answer → Type 0
+LeavesNothing l plan t = (e : Assignment) (state : State) → plan ≡ Multi → state_after l plan t ≡ At state → walk_end l t ≡ Some (Ended e) → IsWalked l t (network_in state) e
 
 -- ---- what a screen says of the candidates
 

@@ -1,5 +1,5 @@
 -- What the program has done, by how it ended.
-use Rattle.std.specs.Prelude.{◌≡◌, ◌≢◌, ◌<◌, ℕ, Bool, true, false, IsTrue, List, [], length, All, Option, Some, None, is_some, Result, Ok}
+use Rattle.std.specs.Prelude.{◌≡◌, ◌≢◌, ◌<◌, ℕ, Bool, true, false, IsTrue, List, [], length, All, Option, Some, is_some, Result, Ok}
 use Rattle.acq_io.specs.Streams.{Adds, AddsFront}
 use Rattle.acq_io.specs.Whole.{Gives, first_line_of}
 use Rattle.acq_io.specs.declared.whole.AllFault.{AllFault}
@@ -12,6 +12,7 @@ use Rattle.language.specs.Search.{plain_size}
 use Rattle.fd_solver.specs.declared.outcome.Outcome.TheVariants.{Spent}
 use Rattle.fd_solver.specs.Outcomes.{outcome_of_candidate}
 use Rattle.query_gen.specs.Questions.{is_among}
+use Rattle.session_laws.specs.Walk.{WalkEnd}
 use Rattle.session_laws.specs.Session.{Idle, At, state_after}
 use Rattle.target_oracle.specs.Lines.{line_turn}
 use Rattle.voc_read.specs.Vocabulary.{IsVocabulary}
@@ -31,7 +32,8 @@ use Rattle.acq_cli.specs.declared.ending.Ending.TheVariants as ending
 -- these answers stand at the end, and each network that agrees with them has the solutions of the learned one
 pub record Concludes (l : Language) (request : Request) (m : ℕ) (answers : List Answer) (network : List Candidate) : Type 0 where
   pub number : m ≡ length answers
-  pub idle : state_after l request.plan answers ≡ At (Idle network None)
+  pub end : Option WalkEnd
+  pub idle : state_after l request.plan answers ≡ At (Idle network end)
   pub ends : next_after l request answers ≡ Some (Ends Converged)
   pub covered : IsCovered l network answers
   pub converged : IsConverged l network answers
@@ -46,7 +48,8 @@ pub record Refutes (l : Language) (request : Request) (m : ℕ) (answers : List 
 -- these answers stand at the end, and the budget was too small to say more
 pub record LeavesOpen (l : Language) (request : Request) (m : ℕ) (answers : List Answer) (network : List Candidate) : Type 0 where
   pub number : m ≡ length answers
-  pub idle : state_after l request.plan answers ≡ At (Idle network None)
+  pub end : Option WalkEnd
+  pub idle : state_after l request.plan answers ≡ At (Idle network end)
   pub ends : next_after l request answers ≡ Some (Ends Undecided)
   pub plan : request.plan ≢ Scopes
   -- some candidate is listed

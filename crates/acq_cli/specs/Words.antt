@@ -1,5 +1,5 @@
 -- What the words of a command ask for.
-use Rattle.std.specs.Prelude.{◌≡◌, ℕ, ◌+◌, ◌-◌, ◌*◌, ◌≤◌, ◌≢◌, ◌&&◌, List, [], ◌∷◌, length, take, drop, nat_le, Option, Some, None, option_and_then, if◌then◌else◌, codes}
+use Rattle.std.specs.Prelude.{◌≡◌, ℕ, ◌+◌, ◌-◌, ◌*◌, ◌≤◌, ◌&&◌, List, [], ◌∷◌, length, take, drop, nat_le, Option, Some, None, option_and_then, if◌then◌else◌, codes}
 use Rattle.std.specs.Option.{option_map, unwrap_or}
 use Rattle.std.specs.Str.{bytes_eq}
 use Rattle.assign.specs.declared.events.Plan.{Plan}
@@ -16,7 +16,8 @@ abbrev pub plan_of : List ℕ → Option Plan
 plan_of word =
     if bytes_eq word (codes "scopes") then Some Scopes
     else (if bytes_eq word (codes "quacq") then Some Quacq
-    else None)
+    else (if bytes_eq word (codes "multi") then Some Multi
+    else None))
 
 -- A number with one digit more: none where the byte is no digit, or the number isn't 1 to 1,000,000,000.
 abbrev pub with_digit : ℕ → ℕ → Option ℕ
@@ -97,14 +98,12 @@ request_of (journal ∷ []) = None
 request_of (journal ∷ command ∷ words) =
     if bytes_eq journal (codes ":memory:") && bytes_eq command (codes "try") then option_and_then request_by (with_words no_options words) else None
 
--- a plan that is built, and a budget within its limits
+-- a budget within its limits
 pub record IsLawful (request : Request) : Type 0 where
-  pub plan : request.plan ≢ Multi
   pub some : 1 ≤ request.budget
   pub small : request.budget ≤ 1000000000
 
 -- what the options said so far is so
 pub record AreWithin (o : Options) : Type 0 where
-  pub plan : (p : Plan) → o.plan ≡ Some p → p ≢ Multi
   pub some : (b : ℕ) → o.budget ≡ Some b → 1 ≤ b
   pub small : (b : ℕ) → o.budget ≡ Some b → b ≤ 1000000000

@@ -7,7 +7,7 @@ ghost use Rattle.language.specs.Answers.{IsNetwork, agrees, standing_on};
 ghost use Rattle.query_gen.specs.Marks.{IsMadeFor, HasNoMarks, MarksHold};
 ghost use Rattle.session_core.specs.Standing.{Stands, knowledge_of, open_in};
 ghost use Rattle.session_core.specs.Settled.{IsSettled};
-ghost use Rattle.acq_cli.specs.Driven.{Drives, IsOwned, Remembers, StepsTo, TellsOpen};
+ghost use Rattle.acq_cli.specs.Driven.{Drives, IsOwned, LeavesNothing, Remembers, StepsTo, TellsOpen};
 ghost use Rattle.acq_cli.specs.Due.{IsDue, NextIs, PutIs, AnswerKept, IsOneMore};
 ghost use Rattle.acq_cli.specs.Places.{place_of, request_with};
 
@@ -298,6 +298,7 @@ pub fn drive<R: Threads + Sync, S: Source, K: Sink, T: Teacher<S, K>, P: Keep>(
         (place_of (standing_on (P.lang keep.old) (P.record_of keep.new)) (S.left source.new) (K.written sink.new)) result }
     ensures owner { (owner : List Candidate) → IsNetwork (P.lang keep.old) owner → IsTrue (agrees (P.lang keep.old) owner (standing_on (P.lang keep.old) (P.record_of keep.new)))
         → IsOwned (P.lang keep.old) (request_with (P.plan keep.old) budget) owner (standing_on (P.lang keep.old) (P.record_of keep.new)) result }
+    ensures walked { LeavesNothing (P.lang keep.old) (P.plan keep.old) (standing_on (P.lang keep.old) (P.record_of keep.new)) }
     // where it is undecided, the screen tells the open candidates
     ensures open { (m : _) → result ≡ Drove.Undecided m → TellsOpen (P.lang keep.old) (request_with (P.plan keep.old) budget) (standing_on (P.lang keep.old) (P.record_of keep.new)) screen.new }
     ensures screen { IsMadeFor (P.lang keep.old) screen.new }
@@ -309,6 +310,7 @@ pub fn drive<R: Threads + Sync, S: Source, K: Sink, T: Teacher<S, K>, P: Keep>(
     ensures read { result ≡ Drove.ReadFault → Rose (S.faults source.old) (S.faults source.new) }
     ensures write { result ≡ Drove.WriteFault → Rose (K.faults sink.old) (K.faults sink.new) }
 {
+    let _variables = keep.session().lang().n();
     for _turn in 0..MOST_TURNS {
         if let Some(drove) = take_turn(
             alloc,

@@ -38,6 +38,8 @@ const ROWS: &str = "|two|yes no|q1 a=1 b=2/q2 a=1 b=1/converged 2/ne a b/|0
 --plan scopes|none|no no|q1 a=1 b=1/q2 a=1 b=2/converged 2/eq&ne&none a b/|0
 --plan scopes --budget 1|two|no yes|q1 a=1 b=1/q2 a=1 b=2/converged 2/ne a b/|0
 --budget=1000000000 --plan=quacq|two|yes no|q1 a=1 b=2/q2 a=1 b=1/converged 2/ne a b/|0
+--plan multi|other|no no no yes|q1 a=1 b=1 c=1/q2 a=1 b=1/q3 b=1 c=1/q4 a=1 c=1/converged 4/ne a b/ne b c/|0
+--plan=multi|two|yes no|q1 a=1 b=2/q2 a=1 b=1/converged 2/ne a b/|0
 |broken||refused vocabulary missing variables/|2
 --budget 1 --budget 1|two|yes no|usage: acquire JOURNAL COMMAND [--plan P] [--budget N] [--number N]/|1
 --plan scopes --plan=scopes|two|yes no|usage: acquire JOURNAL COMMAND [--plan P] [--budget N] [--number N]/|1
@@ -47,7 +49,7 @@ const ROWS: &str = "|two|yes no|q1 a=1 b=2/q2 a=1 b=1/converged 2/ne a b/|0
 --budget +7|two|yes no|usage: acquire JOURNAL COMMAND [--plan P] [--budget N] [--number N]/|1
 --budget|two|yes no|usage: acquire JOURNAL COMMAND [--plan P] [--budget N] [--number N]/|1
 --budget=|two|yes no|usage: acquire JOURNAL COMMAND [--plan P] [--budget N] [--number N]/|1
---plan multi|two|yes no|usage: acquire JOURNAL COMMAND [--plan P] [--budget N] [--number N]/|1
+--plan multis|two|yes no|usage: acquire JOURNAL COMMAND [--plan P] [--budget N] [--number N]/|1
 quacq|two|yes no|usage: acquire JOURNAL COMMAND [--plan P] [--budget N] [--number N]/|1";
 
 /// The vocabulary of this name. Empty where there is none.

@@ -1,7 +1,6 @@
 ghost use Rattle.std.specs.Prelude.{◌≡◌, ◌≤◌, ◌≢◌, map, filter, IfOk, OnOk, OnErr, Ok, Err};
 ghost use Rattle.std.specs.String.{string_bytes};
 ghost use Rattle.acq_io.specs.Streams.{Adds, AddsFront, Rose};
-ghost use Rattle.assign.specs.declared.events.Plan.TheVariants.{Multi};
 ghost use Rattle.language.specs.Language.{candidates};
 ghost use Rattle.language.specs.Answers.{IsNetwork, standing_on};
 ghost use Rattle.query_gen.specs.Marks.{IsMadeFor, is_open};
@@ -178,7 +177,6 @@ fn try_language<R: Threads + Sync, S: Source, K: Sink>(
     input: &mut S,
     out: &mut K,
 ) -> Result<Ending, Put>
-    requires plan { request.plan ≢ Multi }
     requires some_budget { 1 ≤ request.budget }
     requires small_budget { request.budget ≤ 1000000000 }
     ensures tries { IfOk result (Tries lang request (S.left input.old) (K.written out.old) (S.left input.new) (K.written out.new)) }

@@ -41,6 +41,8 @@ fn plan_of(word: &[u8]) -> Option<Plan>
         Some(Plan::Scopes)
     } else if word == b"quacq".as_slice() {
         Some(Plan::Quacq)
+    } else if word == b"multi".as_slice() {
+        Some(Plan::Multi)
     } else {
         None
     }

@@ -358,6 +358,10 @@ fn each_end_is_what_the_answers_say(rt: HostRuntime) -> Result<(), Fail> {
         (2, "quacq", 3),
         (3, "quacq", 100),
         (3, "quacq", 4),
+        (2, "multi", 100),
+        (2, "multi", 1),
+        (3, "multi", 100),
+        (3, "multi", 4),
     ] {
         let mut counts = [0u32; 3];
         for chosen in 1..64u8 {
@@ -368,7 +372,7 @@ fn each_end_is_what_the_answers_say(rt: HostRuntime) -> Result<(), Fail> {
             }
         }
         assert!(rt; counts[0] > 0 || budget == 1, "{n} {plan} {budget}");
-        assert!(rt; plan == "quacq" || counts[1] == 0);
+        assert!(rt; plan != "scopes" || counts[1] == 0);
         assert!(rt; (budget < 100) == (counts[2] > 0), "{n} {plan} {budget}");
     }
     Ok(())

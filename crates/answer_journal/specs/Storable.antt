@@ -1,17 +1,15 @@
 -- What the records of a journal can hold.
-use Rattle.std.specs.Prelude.{ℕ, ◌<◌, ◌≤◌, ◌≡◌, ◌≢◌, List, length, All}
+use Rattle.std.specs.Prelude.{ℕ, ◌<◌, ◌≤◌, ◌≡◌, List, length, All}
 use Rattle.std.specs.Option.{ForSome}
 use Rattle.assign.specs.Sets.{MOST}
 use Rattle.assign.specs.Assignment.{Assignment}
 use Rattle.assign.specs.declared.events.Plan.{Plan}
-use Rattle.assign.specs.declared.events.Plan.TheVariants.{Multi}
 use Rattle.assign.specs.declared.events.Event.{Event}
 use Rattle.assign.specs.declared.events.Event.TheVariants.{Answer}
 use Rattle.answer_journal.specs.Format.{MOST_VOCABULARY, valued_count}
 
--- A plan that sessions have, and the bytes of a vocabulary.
+-- A plan, and the bytes of a vocabulary.
 pub record IsStorableSession (plan : Plan) (voc : List ℕ) : Type 0 where
-  pub known : plan ≢ Multi
   pub short : length voc ≤ MOST_VOCABULARY
 
 -- A question with 128 options, of which one at least is a value, and each value is below 64.

@@ -28,7 +28,6 @@ pub fn create<D: Disk>(
     plan: Plan,
     voc: &[u8],
 ) -> Result<Journal, JFault>
-    requires known { plan ≢ Plan.Multi }
     requires short { length voc.now ≤ 4194304 }
     ensures created { ForSome (D.content disk.old) (λ _. OnOk result (IsSettled (D.content disk.new) (D.may_leave disk.new) (StartsWith plan voc.now))) }
     ensures sits { ForSome (D.content disk.new) (λ bytes. IfOk result (λ j. Sits j bytes)) }

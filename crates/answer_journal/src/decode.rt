@@ -111,12 +111,13 @@ pub(crate) fn session_of(bytes: &[u8]) -> Option<(Plan, &[u8], &[u8])>
 }
 
 fn plan_of(byte: u8) -> Option<Plan>
-    ensures found { IfSome result (λ plan. (plan ≢ Plan.Multi) × (byte ≡ plan_byte plan)) }
-    ensures none { IfNone result ((plan : Plan) → plan ≢ Plan.Multi → byte ≡ plan_byte plan → ⊥) }
+    ensures found { IfSome result (λ plan. byte ≡ plan_byte plan) }
+    ensures none { IfNone result ((plan : Plan) → byte ≡ plan_byte plan → ⊥) }
 {
     match byte {
         1 => Some(Plan::Scopes),
         2 => Some(Plan::Quacq),
+        3 => Some(Plan::Multi),
         _ => None,
     }
 }

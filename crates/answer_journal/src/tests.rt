@@ -123,7 +123,7 @@ static SESSION_CHANGES: [Change; 12] = [
     (13, 13, 180, 180, Reads::Refused(JFault::Damaged(194))),
     (13, 13, 182, 255, Reads::Refused(JFault::Damaged(8))),
     (13, 13, 1, 181, Reads::Events(0)),
-    (14, 14, 1, 1, Reads::Events(1)),
+    (14, 14, 1, 3, Reads::Events(1)),
     (14, 14, 0, 255, Reads::Refused(JFault::Damaged(8))),
     (15, 182, 0, 255, Reads::Events(1)),
 ];
@@ -158,6 +158,7 @@ fn check_session(rt: &impl Abort, bytes: &[u8], opened: &Opened) {
     assert!(rt; bytes[13] > 0);
     let voc_end = 14 + bytes[13] as usize;
     assert_eq!(rt; opened.plan == Plan::Scopes, bytes[14] == 1);
+    assert_eq!(rt; opened.plan == Plan::Multi, bytes[14] == 3);
     assert_eq!(rt; Some(opened.voc.as_slice()), bytes.get(15..voc_end));
     for event in &opened.events {
         let Event::Answer { question, yes } = event;

@@ -1,4 +1,5 @@
 pub mod Deciding
+pub mod Walks
 pub mod Steps
 pub mod Moving
 pub mod Putting

@@ -1,6 +1,6 @@
 -- What a session knows after an answer.
 use Rattle.std.proofs.Common.{◌≡◌, ℕ, ◌+◌, ◌-◌, ◌^◌, ◌<◌, min, Bool, true, false, ◌||◌, ◌&&◌, not, cond, List, [], ◌∷◌, ◌++◌, map, length, refl, sym, ◌∙◌, ap, subst, arith, Option, Some, None, length-append}
-use Rattle.std.specs.Prelude.{filter, ◌==◌}
+use Rattle.std.specs.Prelude.{filter, ◌==◌, ◌≢◌}
 use Rattle.std.proofs.lemmas.List.Elements.{All-nil, All-cons, All-head, All-tail, All-filter}
 use Rattle.std.proofs.lemmas.List.Folds.{list_any-append}
 use Rattle.std.proofs.lemmas.Bool.{and_parts, eqb-true, or_parts}
@@ -8,7 +8,7 @@ use Rattle.assign.specs.Sets.{numbers}
 use Rattle.assign.specs.Assignment.{Assignment, restrict}
 use Rattle.assign.specs.Events.{Answer}
 use Rattle.assign.specs.declared.events.Plan.{Plan}
-use Rattle.assign.specs.declared.events.Plan.TheVariants.{Quacq}
+use Rattle.assign.specs.declared.events.Plan.TheVariants.{Scopes, Quacq, Multi}
 use Rattle.language.specs.declared.candidates.Candidate.{Candidate}
 use Rattle.language.specs.Language.{Language, IsLanguage, variable_count, violates}
 use Rattle.language.specs.Answers.{has_scope, kept}
@@ -26,10 +26,11 @@ use Rattle.session_core.specs.declared.knowledge.Knowledge.{Knowledge}
 use Rattle.session_core.specs.Sound.{NoneBefore, AreUnlearned, IsNew, IsFirst}
 use Rattle.session_core.specs.Known.{IsAnswered}
 use Rattle.session_core.specs.Putting.{IsDue}
-use Rattle.session_core.specs.Standing.{question_of, Knows, LeadsTo, IsNewAfter, HalvesAfter}
-use Rattle.session_core.specs.Leading.{IsLed}
+use Rattle.session_core.specs.Standing.{question_of, Knows, LeadsTo, IsNewAfter, WalksAfter, HalvesAfter}
+use Rattle.session_core.specs.Leading.{part_replied, IsLed}
+use Rattle.multi_tree.specs.Stage.{Stage, walk_in, first_asked}
 use Rattle.session_core.proofs.Deciding.{stays_decided}
-use Rattle.session_core.proofs.Steps.{said, open_step, new_step, example_step, begun_same, part_step, next_is}
+use Rattle.session_core.proofs.Steps.{said, open_step, new_step, example_step, begun_whole, begun_walk, walk_step, part_step, next_is}
 
 -- ---- the kept candidates
 
@@ -144,68 +145,92 @@ led k k' q reply t state lawful same knows at =
     }
 
 -- a state of what was known before the answer, as one of what is known after it
-moved : (k k' : Knowledge) (q : Assignment) (reply : Bool) (t : List Answer) (state : Language → List Candidate → State) → IsAnswered k q reply k' →
-    state_after k.lang k.plan t ≡ At (state k.lang k.network.list) → LeadsTo k' t (state k'.lang k'.network.list)
-moved k k' q reply t state same at = (λ i. state_after (same.lang i) (same.plan i) t) ∙ at ∙ (λ i. At (state (sym same.lang i) ((sym same.network i).list)))
+moved : (k k' : Knowledge) (q : Assignment) (reply : Bool) (t : List Answer) (state : Language → List Candidate → Stage → State) → IsAnswered k q reply k' →
+    state_after k.lang k.plan t ≡ At (state k.lang k.network.list k.tree) → LeadsTo k' t (state k'.lang k'.network.list k'.tree)
+moved k k' q reply t state same at = (λ i. state_after (same.lang i) (same.plan i) t) ∙ at ∙ (λ i. At (state (sym same.lang i) ((sym same.network i).list) (sym same.tree i)))
 
 -- ---- an answer to each kind of question
 
-pub example_led : (k k' : Knowledge) (e q : Assignment) (reply : Bool) (t : List Answer) (live : List Candidate) → IsLanguage k'.lang → IsAnswered k q reply k' → Knows k t → q ≡ e → k.plan ≡ Quacq → IsNewAfter k e t →
-    IsLed k' (t ++ said q reply ∷ []) (begun k'.lang Quacq (t ++ said q reply ∷ []) live k'.network.list e reply)
-example_led k k' e q reply t live lawful same knows is plan new =
-    let there : state_after k.lang Quacq t ≡ At (Idle k.network.list None) = ap (λ p. state_after k.lang p t) (sym plan) ∙ new.idle in
-    let may : is_lawful k.lang Quacq (kept k.lang t k.network.list) k.network.list e ≡ true =
-    (λ i. is_lawful k.lang (sym plan i) (sym knows.kept i) k.network.list e) ∙ new.lawful in
-    let at : state_after k.lang k.plan (t ++ said e reply ∷ []) ≡ At (begun k.lang Quacq (t ++ said e reply ∷ []) live k.network.list e reply) =
-    ap (λ p. state_after k.lang p (t ++ said e reply ∷ [])) plan ∙ example_step one_answer_more k.lang t k.network.list e reply there may
-    ∙ ap At (begun_same k.lang (t ++ said e reply ∷ []) (kept k.lang t k.network.list) live k.network.list e reply) in
-    led k k' q reply t _ lawful same knows
-    (moved k k' q reply (t ++ said q reply ∷ []) (λ l network. begun l Quacq (t ++ said q reply ∷ []) live network e reply) same
-    (subst (λ x. state_after k.lang k.plan (t ++ said x reply ∷ []) ≡ At (begun k.lang Quacq (t ++ said x reply ∷ []) live k.network.list e reply)) (sym is) at))
+-- in each plan that has examples
+begun_in : (k : Knowledge) (t : List Answer) (live : List Candidate) (e : Assignment) (reply : Bool) → IsLanguage k.lang → k.plan ≢ Scopes → (k.plan ≡ Multi → k.tree ≡ first_asked k.lang e) → is_lawful k.lang k.plan live k.network.list e ≡ true →
+    begun k.lang k.plan t live k.network.list e reply ≡ part_replied k.lang t e (numbers (variable_count k.lang)) reply k.network.list k.tree
+begun_in k t live e reply lawful other first may = go k.plan refl
+  where
+    go : (plan : Plan) → k.plan ≡ plan → begun k.lang k.plan t live k.network.list e reply ≡ part_replied k.lang t e (numbers (variable_count k.lang)) reply k.network.list k.tree
+    go Scopes is = absurd (other is)
+    go Quacq is = ap (λ plan. begun k.lang plan t live k.network.list e reply) is ∙ begun_whole k.lang t live k.network.list e reply k.tree (k.resting (λ multi. let no : Quacq ≡ Multi = sym is ∙ multi in absurd (let bad : ⊥ = cc in bad)))
+    go Multi is = ap (λ plan. begun k.lang plan t live k.network.list e reply) is
+        ∙ begun_walk k.lang lawful t live k.network.list e reply k.tree (ap (λ plan. is_lawful k.lang plan live k.network.list e) (sym is) ∙ may) (first is)
 
-pub part_led : (k k' : Knowledge) (e q : Assignment) (run : ScopeRun) (reply : Bool) (t : List Answer) → IsLanguage k'.lang → IsAnswered k q reply k' → Knows k t → q ≡ restrict e run.base → (h : HalvesAfter k e run t) →
-    IsLed k' (t ++ said q reply ∷ []) (settle_halving k'.lang (t ++ said q reply ∷ []) e (numbers (variable_count k'.lang)) (h.replies ++ reply ∷ []) k'.network.list None)
-part_led k k' e q run reply t lawful same knows is h =
-    let at : state_after k.lang k.plan (t ++ said (restrict e run.base) reply ∷ [])
-    ≡ At (settle_halving k.lang (t ++ said (restrict e run.base) reply ∷ []) e (numbers (variable_count k.lang)) (h.replies ++ reply ∷ []) k.network.list None) =
-    part_step one_answer_more k.lang k.plan t e (numbers (variable_count k.lang)) h.replies k.network.list run.base reply h.halving
-    (standing_tells.waits run (numbers (variable_count k.lang)) h.replies h.running) in
+pub example_led : (k k' : Knowledge) (e q : Assignment) (reply : Bool) (t : List Answer) → IsLanguage k'.lang → IsAnswered k q reply k' → Knows k t → q ≡ e → k.plan ≢ Scopes → (k.plan ≡ Multi → k.tree ≡ first_asked k.lang e) → IsNewAfter k e t →
+    IsLed k' (t ++ said q reply ∷ []) (part_replied k'.lang (t ++ said q reply ∷ []) e (numbers (variable_count k'.lang)) reply k'.network.list k'.tree)
+example_led k k' e q reply t lawful same knows is other first new =
+    let live : List Candidate = kept k.lang t k.network.list in
+    let may : is_lawful k.lang k.plan live k.network.list e ≡ true =
+    (λ i. is_lawful k.lang k.plan (sym knows.kept i) k.network.list e) ∙ new.lawful in
+    let at : state_after k.lang k.plan (t ++ said e reply ∷ []) ≡ At (part_replied k.lang (t ++ said e reply ∷ []) e (numbers (variable_count k.lang)) reply k.network.list k.tree) =
+    example_step one_answer_more k.lang k.plan t k.network.list new.end e reply new.idle may
+    ∙ ap At (begun_in k (t ++ said e reply ∷ []) live e reply (subst IsLanguage same.lang lawful) other first may) in
     led k k' q reply t _ lawful same knows
-    (moved k k' q reply (t ++ said q reply ∷ []) (λ l network. settle_halving l (t ++ said q reply ∷ []) e (numbers (variable_count l)) (h.replies ++ reply ∷ []) network None) same
-    (subst (λ x. state_after k.lang k.plan (t ++ said x reply ∷ []) ≡ At (settle_halving k.lang (t ++ said x reply ∷ []) e (numbers (variable_count k.lang)) (h.replies ++ reply ∷ []) k.network.list None)) (sym is) at))
+    (moved k k' q reply (t ++ said q reply ∷ []) (λ l network stage. part_replied l (t ++ said q reply ∷ []) e (numbers (variable_count l)) reply network stage) same
+    (subst (λ x. state_after k.lang k.plan (t ++ said x reply ∷ []) ≡ At (part_replied k.lang (t ++ said x reply ∷ []) e (numbers (variable_count k.lang)) reply k.network.list k.tree)) (sym is) at))
+
+pub walk_led : (k k' : Knowledge) (e q : Assignment) (set : List ℕ) (reply : Bool) (t : List Answer) → IsLanguage k'.lang → IsAnswered k q reply k' → Knows k t → q ≡ restrict e set → WalksAfter k e set t →
+    IsLed k' (t ++ said q reply ∷ []) (part_replied k'.lang (t ++ said q reply ∷ []) e set reply k'.network.list k'.tree)
+walk_led k k' e q set reply t lawful same knows is h =
+    let at : state_after k.lang k.plan (t ++ said (restrict e set) reply ∷ []) ≡ At (part_replied k.lang (t ++ said (restrict e set) reply ∷ []) e set reply k.network.list k.tree) =
+    subst (λ x. state_after k.lang k.plan (t ++ said (restrict x set) reply ∷ []) ≡ At (part_replied k.lang (t ++ said (restrict x set) reply ∷ []) x set reply k.network.list k.tree)) h.example
+    (walk_step one_answer_more k.lang k.plan t set h.walk k.network.list reply h.walking
+    ∙ ap (λ stage. At (part_replied k.lang (t ++ said (restrict h.walk.example set) reply ∷ []) h.walk.example set reply k.network.list stage)) (sym h.stage)) in
+    led k k' q reply t _ lawful same knows
+    (moved k k' q reply (t ++ said q reply ∷ []) (λ l network stage. part_replied l (t ++ said q reply ∷ []) e set reply network stage) same
+    (subst (λ x. state_after k.lang k.plan (t ++ said x reply ∷ []) ≡ At (part_replied k.lang (t ++ said x reply ∷ []) e set reply k.network.list k.tree)) (sym is) at))
+
+pub part_led : (k k' : Knowledge) (e q : Assignment) (set : List ℕ) (run : ScopeRun) (reply : Bool) (t : List Answer) → IsLanguage k'.lang → IsAnswered k q reply k' → Knows k t → q ≡ restrict e run.base → (h : HalvesAfter k e set run t) →
+    IsLed k' (t ++ said q reply ∷ []) (settle_halving k'.lang (t ++ said q reply ∷ []) e set (h.replies ++ reply ∷ []) k'.network.list (walk_in k'.tree))
+part_led k k' e q set run reply t lawful same knows is h =
+    let at : state_after k.lang k.plan (t ++ said (restrict e run.base) reply ∷ [])
+    ≡ At (settle_halving k.lang (t ++ said (restrict e run.base) reply ∷ []) e set (h.replies ++ reply ∷ []) k.network.list (walk_in k.tree)) =
+    part_step one_answer_more k.lang k.plan t e set h.replies k.network.list (walk_in k.tree) run.base reply h.halving
+    (standing_tells.waits run set h.replies h.running) in
+    led k k' q reply t _ lawful same knows
+    (moved k k' q reply (t ++ said q reply ∷ []) (λ l network stage. settle_halving l (t ++ said q reply ∷ []) e set (h.replies ++ reply ∷ []) network (walk_in stage)) same
+    (subst (λ x. state_after k.lang k.plan (t ++ said x reply ∷ []) ≡ At (settle_halving k.lang (t ++ said x reply ∷ []) e set (h.replies ++ reply ∷ []) k.network.list (walk_in k.tree))) (sym is) at))
 
 -- the choices that are left after a reply about a run's tuple
 abbrev pub left_after : Language → Run → Bool → List Choice
 left_after l run reply = after_reply (scene_of l run.scope) run.tuple reply run.choices
 
 choices_led : (k k' : Knowledge) (q : Assignment) (run : Run) (reply : Bool) (t : List Answer) → IsLanguage k'.lang → IsAnswered k q reply k' → Knows k t → q ≡ question_of k.lang run →
-    state_after k.lang k.plan (t ++ said (question_of k.lang run) reply ∷ []) ≡ At (settle_choices k.lang (t ++ said (question_of k.lang run) reply ∷ []) run.scope (left_after k.lang run reply) k.network.list None) →
-    IsLed k' (t ++ said q reply ∷ []) (settle_choices k'.lang (t ++ said q reply ∷ []) run.scope (left_after k'.lang run reply) k'.network.list None)
+    state_after k.lang k.plan (t ++ said (question_of k.lang run) reply ∷ []) ≡ At (settle_choices k.lang (t ++ said (question_of k.lang run) reply ∷ []) run.scope (left_after k.lang run reply) k.network.list (walk_in k.tree)) →
+    IsLed k' (t ++ said q reply ∷ []) (settle_choices k'.lang (t ++ said q reply ∷ []) run.scope (left_after k'.lang run reply) k'.network.list (walk_in k'.tree))
 choices_led k k' q run reply t lawful same knows is at =
     led k k' q reply t _ lawful same knows
-    (moved k k' q reply (t ++ said q reply ∷ []) (λ l network. settle_choices l (t ++ said q reply ∷ []) run.scope (left_after l run reply) network None) same
-    (subst (λ x. state_after k.lang k.plan (t ++ said x reply ∷ []) ≡ At (settle_choices k.lang (t ++ said x reply ∷ []) run.scope (left_after k.lang run reply) k.network.list None)) (sym is) at))
+    (moved k k' q reply (t ++ said q reply ∷ []) (λ l network stage. settle_choices l (t ++ said q reply ∷ []) run.scope (left_after l run reply) network (walk_in stage)) same
+    (subst (λ x. state_after k.lang k.plan (t ++ said x reply ∷ []) ≡ At (settle_choices k.lang (t ++ said x reply ∷ []) run.scope (left_after k.lang run reply) k.network.list (walk_in k.tree))) (sym is) at))
 
 pub tuple_led : (k k' : Knowledge) (q : Assignment) (run : Run) (reply : Bool) (t : List Answer) → IsLanguage k'.lang → IsAnswered k q reply k' → Knows k t → q ≡ question_of k.lang run → IsRun k.lang run →
-    LeadsTo k t (Choosing run.scope run.choices k.network.list None) →
-    IsLed k' (t ++ said q reply ∷ []) (settle_choices k'.lang (t ++ said q reply ∷ []) run.scope (left_after k'.lang run reply) k'.network.list None)
+    LeadsTo k t (Choosing run.scope run.choices k.network.list (walk_in k.tree)) →
+    IsLed k' (t ++ said q reply ∷ []) (settle_choices k'.lang (t ++ said q reply ∷ []) run.scope (left_after k'.lang run reply) k'.network.list (walk_in k'.tree))
 tuple_led k k' q run reply t lawful same knows is sound at =
-    choices_led k k' q run reply t lawful same knows is (open_step one_answer_more k.lang k.plan t run.scope run.choices k.network.list run.tuple reply at sound.tuple)
+    choices_led k k' q run reply t lawful same knows is (open_step one_answer_more k.lang k.plan t run.scope run.choices k.network.list (walk_in k.tree) run.tuple reply at sound.tuple)
 
 pub first_led : (k k' : Knowledge) (q : Assignment) (run : Run) (reply : Bool) (t : List Answer) → IsLanguage k'.lang → IsAnswered k q reply k' → Knows k t → q ≡ question_of k.lang run → IsDue k run →
     IsNewAfter k (question_of k.lang run) t →
-    IsLed k' (t ++ said q reply ∷ []) (settle_choices k'.lang (t ++ said q reply ∷ []) run.scope (left_after k'.lang run reply) k'.network.list None)
+    IsLed k' (t ++ said q reply ∷ []) (settle_choices k'.lang (t ++ said q reply ∷ []) run.scope (left_after k'.lang run reply) k'.network.list (walk_in k'.tree))
 first_led k k' q run reply t lawful same knows is due new =
     let l : Language = k.lang in
     let a : Answer = said (question_of l run) reply in
     let began = due.first in
     let as_kept : run.choices ≡ free_choices (kept l t k.network.list) run.scope = began.new.choices ∙ ap (λ cs. free_choices cs run.scope) knows.kept in
+    let none : walk_in k.tree ≡ None = k.resting (λ multi. let no : Scopes ≡ Multi = sym due.plan ∙ multi in absurd (let bad : ⊥ = cc in bad)) in
     choices_led k k' q run reply t lawful same knows is
     (ap (λ p. state_after l p (t ++ a ∷ [])) due.plan
-    ∙ new_step one_answer_more l t k.network.list run.scope run.tuple reply (ap (λ p. state_after l p t) (sym due.plan) ∙ new.idle)
+    ∙ new_step one_answer_more l t k.network.list new.end run.scope run.tuple reply (ap (λ p. state_after l p t) (sym due.plan) ∙ new.idle)
     (ap next_of (sym knows.kept) ∙ began.next)
     (ap (λ cs. splitting_tuple (scene_of l run.scope) cs) (sym as_kept) ∙ began.new.sound.tuple)
-    ∙ ap (λ cs. At (settle_choices l (t ++ a ∷ []) run.scope (after_reply (scene_of l run.scope) run.tuple reply cs) k.network.list None)) (sym as_kept))
+    ∙ ap (λ cs. At (settle_choices l (t ++ a ∷ []) run.scope (after_reply (scene_of l run.scope) run.tuple reply cs) k.network.list None)) (sym as_kept)
+    ∙ ap (λ walk. At (settle_choices l (t ++ a ∷ []) run.scope (after_reply (scene_of l run.scope) run.tuple reply run.choices) k.network.list walk)) (sym none))
   where
     next_of : List Candidate → Option ℕ
     next_of cs = next_scope k.lang cs k.network.list

@@ -1,11 +1,11 @@
 -- A session without a new question is settled.
-use Rattle.std.proofs.Common.{◌≡◌, ℕ, Bool, List, refl, sym, ◌∙◌, Option, None}
+use Rattle.std.proofs.Common.{◌≡◌, ℕ, Bool, List, refl, sym, ◌∙◌, Option}
 use Rattle.assign.specs.Assignment.{Assignment}
 use Rattle.assign.specs.Events.{Answer}
 use Rattle.language.specs.declared.candidates.Candidate.{Candidate}
-use Rattle.session_laws.specs.Session.{Idle, Halving, Choosing, At}
+use Rattle.session_laws.specs.Session.{Idle, Halving, Choosing, Walking, At}
 use Rattle.find_c.specs.Choosing.{Choice}
-use Rattle.session_laws.specs.Walk.{WalkEnd}
+use Rattle.session_laws.specs.Walk.{Walk, WalkEnd}
 use Rattle.session_core.specs.declared.knowledge.Knowledge.{Knowledge}
 use Rattle.session_core.specs.declared.put.Put.{Put}
 use Rattle.session_core.specs.declared.put.Put.TheVariants as puts
@@ -16,14 +16,18 @@ use Rattle.session_core.specs.Settled.{GoesOn, HasNoNew, IsSettled}
 
 never_idle : (k : Knowledge) (put : Put) (t : List Answer) (network : List Candidate) (end : Option WalkEnd) → GoesOn put → PutAfter k put t → LeadsTo k t (Idle network end) → ⊥
 never_idle k (puts.Example e) t network end on after idle = on
-never_idle k (puts.Part e run) t network end on after idle = let no : ⊥ = apart_halving (sym idle ∙ after.halving) in no
+never_idle k (puts.OnWalk e set) t network end on after idle = let no : ⊥ = apart_walking (sym idle ∙ after.walking) in no
   where
-    apart_halving : {e : Assignment} {set : List ℕ} {replies : List Bool} {other : List Candidate} → At (Idle network end) ≡ At (Halving e set replies other None) → ⊥
+    apart_walking : {set : List ℕ} {walk : Walk} {other : List Candidate} → At (Idle network end) ≡ At (Walking set walk other) → ⊥
+    apart_walking h = cc
+never_idle k (puts.Part e set run) t network end on after idle = let no : ⊥ = apart_halving (sym idle ∙ after.halving) in no
+  where
+    apart_halving : {e : Assignment} {set : List ℕ} {replies : List Bool} {other : List Candidate} {walk : Option Walk} → At (Idle network end) ≡ At (Halving e set replies other walk) → ⊥
     apart_halving h = cc
 never_idle k (puts.FirstTuple run) t network end on after idle = on
 never_idle k (puts.Tuple run) t network end on after idle = let no : ⊥ = apart_choosing (sym idle ∙ after) in no
   where
-    apart_choosing : {s : ℕ} {choices : List Choice} {other : List Candidate} → At (Idle network end) ≡ At (Choosing s choices other None) → ⊥
+    apart_choosing : {s : ℕ} {choices : List Choice} {other : List Candidate} {walk : Option Walk} → At (Idle network end) ≡ At (Choosing s choices other walk) → ⊥
     apart_choosing h = cc
 
 pub settled : (session : Session) (t : List Answer) → HasNoNew session → Stands session t → IsSettled (knowledge_of session).lang (knowledge_of session).plan t (open_in session)

@@ -1,20 +1,17 @@
 -- Assignments that are questions of a language.
-use Rattle.std.proofs.Common.{◌≡◌, ℕ, ◌<◌, ◌≤◌, Bool, true, false, cond, ◌&&◌, List, length, refl, sym, ◌∙◌, ap, subst, inl, inr, ◌⊎◌, Option, Some, None}
-use Rattle.std.specs.Prelude.{nat_lt, slice_index_or, ◌==◌}
+use Rattle.std.proofs.Common.{◌≡◌, ℕ, ◌<◌, Bool, true, ◌&&◌, length, refl, sym, ◌∙◌, ap, subst, Option, Some, None}
+use Rattle.std.specs.Prelude.{nat_lt, ◌==◌}
 use Rattle.std.specs.List.{list_all}
 use Rattle.std.specs.Option.{ForSome, option_map_or}
-use Rattle.std.proofs.lemmas.Bool.{and_parts, cases_lt, eq-eqb, eqb-true, ltb-true}
-use Rattle.std.proofs.lemmas.List.Elements.{All-map, All-weaker}
+use Rattle.std.proofs.lemmas.Bool.{and_parts, eq-eqb, eqb-true, ltb-true}
+use Rattle.std.proofs.lemmas.List.Elements.{All-weaker}
 use Rattle.std.proofs.lemmas.List.Folds.{list_all-map}
-use Rattle.std.proofs.lemmas.List.FromFn.{fill_by_all, length-map-range_with_len}
+use Rattle.std.proofs.lemmas.List.FromFn.{fill_by_all}
 use Rattle.std.proofs.lemmas.List.Sums.{AllPass-from_list_all}
-use Rattle.std.proofs.Math.ListN.{get_or-eq_default}
-use Rattle.assign.specs.Sets.{numbers, has}
-use Rattle.assign.specs.Assignment.{Assignment, value_of, restrict}
+use Rattle.assign.specs.Sets.{numbers}
+use Rattle.assign.specs.Assignment.{Assignment, value_of}
 use Rattle.language.specs.Language.{Language, variable_count, is_question, IsQuestion}
-
-nothing : (P : ℕ → Type 0) → ForSome None P
-nothing P x e = absurd (let bad : None ≡ Some x = e in cc)
+use Rattle.session_laws.proofs.Restrict.{nothing}
 
 -- whether a value is one of the language, if it is there
 abbrev pub is_known : Language → Option ℕ → Bool
@@ -36,28 +33,6 @@ question_is l q h =
       size = eqb-true _ _ parts.0;
       values_fit = All-weaker (λ o. is_known l o ≡ true) (λ o. ForSome o (λ x. x < l.value_count)) (known_fits l) q (AllPass-from_list_all (is_known l) q parts.1);
     }
-
-fits_at : (l : Language) (e : Assignment) (v : ℕ) → IsQuestion l e → ForSome (value_of e v) (λ x. x < l.value_count)
-fits_at l e v fits = go (cases_lt v (length e))
-  where
-    go : (v < length e) ⊎ (length e ≤ v) → ForSome (value_of e v) (λ x. x < l.value_count)
-    go (inl low) = fits.values_fit v None low
-    go (inr high) = subst (λ (o : Option ℕ). ForSome o (λ x. x < l.value_count)) (sym (get_or-eq_default e None {n = v} high)) (nothing (λ x. x < l.value_count))
-
--- a question on a set alone is a question
-pub part_is_question : (l : Language) (e : Assignment) (w : List ℕ) → IsQuestion l e → IsQuestion l (restrict e w)
-part_is_question l e w fits =
-    record {
-      size = length-map-range_with_len (λ v. cond (has w v) (value_of e v) None) 0 (length e) ∙ fits.size;
-      values_fit = All-map (λ o. ForSome o (λ x. x < l.value_count)) (λ v. cond (has w v) (value_of e v) None) (numbers (length e)) (λ k d low. at (slice_index_or (numbers (length e)) k d));
-    }
-  where
-    at : (v : ℕ) → ForSome (cond (has w v) (value_of e v) None) (λ x. x < l.value_count)
-    at v = go (has w v) (fits_at l e v fits)
-      where
-        go : (b : Bool) → ForSome (value_of e v) (λ x. x < l.value_count) → ForSome (cond b (value_of e v) None) (λ x. x < l.value_count)
-        go true h = h
-        go false h = nothing (λ x. x < l.value_count)
 
 -- the test of a question, where it is long enough
 pub question_by : (l : Language) (q : Assignment) (b : Bool) → length q ≡ variable_count l → b ≡ list_all (λ v. is_known l (value_of q v)) (numbers (length q)) → b ≡ is_question l q

@@ -8,34 +8,37 @@ use Rattle.assign.specs.Sets.{numbers}
 use Rattle.assign.specs.Assignment.{Assignment, restrict}
 use Rattle.assign.specs.Events.{Answer}
 use Rattle.assign.specs.declared.events.Plan.{Plan}
-use Rattle.assign.specs.declared.events.Plan.TheVariants.{Scopes, Quacq}
+use Rattle.assign.specs.declared.events.Plan.TheVariants.{Scopes, Quacq, Multi}
 use Rattle.language.specs.declared.candidates.Candidate.{Candidate}
-use Rattle.language.specs.Language.{Language, scope_number}
+use Rattle.language.specs.Language.{Language, IsLanguage, scope_number, variable_count}
 use Rattle.language.specs.Answers.{kept}
 use Rattle.find_scope.specs.Halving.{Wants, halve}
 use Rattle.find_c.specs.Run.{Run}
 use Rattle.find_c.specs.Standing.{IsRunOn, IsFound, IsFree}
 use Rattle.find_c.specs.Choosing.{Choice, splitting_tuple, after_reply}
 use Rattle.find_c.specs.Scenes.{scene_of, on_scope, free_choices, violated_choices}
-use Rattle.session_laws.specs.Walk.{Walk}
-use Rattle.session_laws.specs.Session.{State, Idle, Halving, Choosing, At, begun, learn, chosen, go_on, if_passes, is_just, replied_tuple, settle_choices, settle_halving, found, begin_choosing, Over, wanted_set, on_scope_asked, scope_question, is_undecided, next_scope, is_lawful, state_after}
+use Rattle.session_laws.specs.Walk.{Walk, WalkEnd}
+use Rattle.session_laws.specs.Session.{State, Idle, Halving, Choosing, Walking, At, at_turn, replied, begun, learn, chosen, go_on, if_passes, is_just, replied_tuple, settle_choices, settle_halving, found, begin_choosing, Over, wanted_set, on_scope_asked, scope_question, is_undecided, next_scope, is_lawful, state_after}
 use Rattle.session_laws.specs.Laws.{OneAnswerMore}
 use Rattle.session_laws.proofs.Folds.{assignment_same}
+use Rattle.multi_tree.specs.Stage.{Stage, Asked, walk_in, first_asked}
 use Rattle.session_core.specs.Sound.{NoneBefore}
+use Rattle.session_core.specs.Leading.{part_replied}
+use Rattle.session_core.proofs.Walks.{first_turns, again_rests}
 
 abbrev pub said : Assignment → Bool → Answer
 said q reply = record { question = q; yes = reply }
 
 -- ---- the step of an answer
 
-pub open_step : OneAnswerMore → (l : Language) (plan : Plan) (t : List Answer) (s : ℕ) (choices : List Choice) (network : List Candidate) (u : List ℕ) (reply : Bool) →
-    state_after l plan t ≡ At (Choosing s choices network None) → splitting_tuple (scene_of l s) choices ≡ Some u →
-    state_after l plan (t ++ said (on_scope l s u) reply ∷ []) ≡ At (settle_choices l (t ++ said (on_scope l s u) reply ∷ []) s (after_reply (scene_of l s) u reply choices) network None)
-open_step more l plan t s choices network u reply at differ =
+pub open_step : OneAnswerMore → (l : Language) (plan : Plan) (t : List Answer) (s : ℕ) (choices : List Choice) (network : List Candidate) (walk : Option Walk) (u : List ℕ) (reply : Bool) →
+    state_after l plan t ≡ At (Choosing s choices network walk) → splitting_tuple (scene_of l s) choices ≡ Some u →
+    state_after l plan (t ++ said (on_scope l s u) reply ∷ []) ≡ At (settle_choices l (t ++ said (on_scope l s u) reply ∷ []) s (after_reply (scene_of l s) u reply choices) network walk)
+open_step more l plan t s choices network walk u reply at differ =
     let a : Answer = said (on_scope l s u) reply in
-    let next : State = settle_choices l (t ++ a ∷ []) s (after_reply (scene_of l s) u reply choices) network None in
-    more l plan t a (Choosing s choices network None) next at
-    ((λ i. if_passes (is_just (option_map (on_scope l s) (differ i)) (on_scope l s u)) (settle_choices l (t ++ a ∷ []) s (replied_tuple (scene_of l s) reply choices (differ i)) network None))
+    let next : State = settle_choices l (t ++ a ∷ []) s (after_reply (scene_of l s) u reply choices) network walk in
+    more l plan t a (Choosing s choices network walk) next at
+    ((λ i. if_passes (is_just (option_map (on_scope l s) (differ i)) (on_scope l s u)) (settle_choices l (t ++ a ∷ []) s (replied_tuple (scene_of l s) reply choices (differ i)) network walk))
     ∙ ap (λ b. if_passes b next) (assignment_same (on_scope l s u)))
 
 pub lawful_there : (l : Language) (live network : List Candidate) (s : ℕ) (u : List ℕ) → next_scope l live network ≡ Some s → splitting_tuple (scene_of l s) (free_choices live s) ≡ Some u →
@@ -47,39 +50,66 @@ lawful_there l live network s u first differ =
     ask_on None = None
     ask_on (Some v) = option_map (on_scope l v) (splitting_tuple (scene_of l v) (free_choices live v))
 
-pub new_step : OneAnswerMore → (l : Language) (t : List Answer) (network : List Candidate) (s : ℕ) (u : List ℕ) (reply : Bool) →
-    state_after l Scopes t ≡ At (Idle network None) → next_scope l (kept l t network) network ≡ Some s → splitting_tuple (scene_of l s) (free_choices (kept l t network) s) ≡ Some u →
+pub new_step : OneAnswerMore → (l : Language) (t : List Answer) (network : List Candidate) (end : Option WalkEnd) (s : ℕ) (u : List ℕ) (reply : Bool) →
+    state_after l Scopes t ≡ At (Idle network end) → next_scope l (kept l t network) network ≡ Some s → splitting_tuple (scene_of l s) (free_choices (kept l t network) s) ≡ Some u →
     state_after l Scopes (t ++ said (on_scope l s u) reply ∷ [])
     ≡ At (settle_choices l (t ++ said (on_scope l s u) reply ∷ []) s (after_reply (scene_of l s) u reply (free_choices (kept l t network) s)) network None)
-new_step more l t network s u reply at first differ =
+new_step more l t network end s u reply at first differ =
     let a : Answer = said (on_scope l s u) reply in
     let live : List Candidate = kept l t network in
     let next : State = settle_choices l (t ++ a ∷ []) s (after_reply (scene_of l s) u reply (free_choices live s)) network None in
-    more l Scopes t a (Idle network None) next at
+    more l Scopes t a (Idle network end) next at
     ((λ i. if_passes (is_just (lawful_there l live network s u first differ i) (on_scope l s u)) (on_scope_asked l (t ++ a ∷ []) reply live network (first i)))
     ∙ (λ i. if_passes (is_just (Some (on_scope l s u)) (on_scope l s u)) (settle_choices l (t ++ a ∷ []) s (replied_tuple (scene_of l s) reply (free_choices live s) (differ i)) network None))
     ∙ ap (λ b. if_passes b next) (assignment_same (on_scope l s u)))
 
-pub example_step : OneAnswerMore → (l : Language) (t : List Answer) (network : List Candidate) (e : Assignment) (reply : Bool) →
-    state_after l Quacq t ≡ At (Idle network None) → is_lawful l Quacq (kept l t network) network e ≡ true →
-    state_after l Quacq (t ++ said e reply ∷ []) ≡ At (begun l Quacq (t ++ said e reply ∷ []) (kept l t network) network e reply)
-example_step more l t network e reply at lawful =
+-- the answer to a new example
+pub example_step : OneAnswerMore → (l : Language) (plan : Plan) (t : List Answer) (network : List Candidate) (end : Option WalkEnd) (e : Assignment) (reply : Bool) →
+    state_after l plan t ≡ At (Idle network end) → is_lawful l plan (kept l t network) network e ≡ true →
+    state_after l plan (t ++ said e reply ∷ []) ≡ At (begun l plan (t ++ said e reply ∷ []) (kept l t network) network e reply)
+example_step more l plan t network end e reply at lawful =
     let a : Answer = said e reply in
-    let next : State = begun l Quacq (t ++ a ∷ []) (kept l t network) network e reply in
-    more l Quacq t a (Idle network None) next at (ap (λ b. if_passes b next) lawful)
+    let next : State = begun l plan (t ++ a ∷ []) (kept l t network) network e reply in
+    more l plan t a (Idle network end) next at (ap (λ b. if_passes b next) lawful)
 
--- the answer to a new example doesn't ask what was kept before
-pub begun_same : (l : Language) (t : List Answer) (live other network : List Candidate) (e : Assignment) (reply : Bool) → begun l Quacq t live network e reply ≡ begun l Quacq t other network e reply
-begun_same l t live other network e true = refl
-begun_same l t live other network e false = refl
+-- in plan Quacq it begins no walk
+pub begun_whole : (l : Language) (t : List Answer) (live network : List Candidate) (e : Assignment) (reply : Bool) (stage : Stage) → walk_in stage ≡ None →
+    begun l Quacq t live network e reply ≡ part_replied l t e (numbers (variable_count l)) reply network stage
+begun_whole l t live network e true stage none = ap (go_on l t network) (sym none)
+begun_whole l t live network e false stage none = ap (settle_halving l t e (numbers (variable_count l)) [] network) (sym (again_rests stage none))
 
-pub part_step : OneAnswerMore → (l : Language) (plan : Plan) (t : List Answer) (e : Assignment) (set : List ℕ) (replies : List Bool) (network : List Candidate) (w : List ℕ) (reply : Bool) →
-    state_after l plan t ≡ At (Halving e set replies network None) → halve set replies ≡ Wants w →
-    state_after l plan (t ++ said (restrict e w) reply ∷ []) ≡ At (settle_halving l (t ++ said (restrict e w) reply ∷ []) e set (replies ++ reply ∷ []) network None)
-part_step more l plan t e set replies network w reply at wants =
+-- in plan Multi the walk has come to all of it
+pub begun_walk : (l : Language) → IsLanguage l → (t : List Answer) (live network : List Candidate) (e : Assignment) (reply : Bool) (stage : Stage) → is_lawful l Multi live network e ≡ true → stage ≡ first_asked l e →
+    begun l Multi t live network e reply ≡ part_replied l t e (numbers (variable_count l)) reply network stage
+begun_walk l lawful t live network e reply stage may is =
+    ap (λ turn. replied l t reply (at_turn network turn)) (first_turns l lawful live network e may)
+    ∙ by_reply reply ∙ ap (part_replied l t e (numbers (variable_count l)) reply network) (sym is)
+  where
+    by_reply : (reply : Bool) → replied l t reply (Walking (numbers (variable_count l)) (record { example = e; waiting = []; left = 4095 }) network)
+        ≡ part_replied l t e (numbers (variable_count l)) reply network (first_asked l e)
+    by_reply true = refl
+    by_reply false = refl
+
+-- the answer about the set that a walk has come to
+pub walk_step : OneAnswerMore → (l : Language) (plan : Plan) (t : List Answer) (set : List ℕ) (walk : Walk) (network : List Candidate) (reply : Bool) →
+    state_after l plan t ≡ At (Walking set walk network) →
+    state_after l plan (t ++ said (restrict walk.example set) reply ∷ []) ≡ At (part_replied l (t ++ said (restrict walk.example set) reply ∷ []) walk.example set reply network (Asked set walk))
+walk_step more l plan t set walk network reply at =
+    let a : Answer = said (restrict walk.example set) reply in
+    let next : State = replied l (t ++ a ∷ []) reply (Walking set walk network) in
+    more l plan t a (Walking set walk network) next at (ap (λ b. if_passes b next) (assignment_same (restrict walk.example set))) ∙ ap At (by_reply reply (t ++ a ∷ []))
+  where
+    by_reply : (reply : Bool) (t : List Answer) → replied l t reply (Walking set walk network) ≡ part_replied l t walk.example set reply network (Asked set walk)
+    by_reply true t = refl
+    by_reply false t = refl
+
+pub part_step : OneAnswerMore → (l : Language) (plan : Plan) (t : List Answer) (e : Assignment) (set : List ℕ) (replies : List Bool) (network : List Candidate) (walk : Option Walk) (w : List ℕ) (reply : Bool) →
+    state_after l plan t ≡ At (Halving e set replies network walk) → halve set replies ≡ Wants w →
+    state_after l plan (t ++ said (restrict e w) reply ∷ []) ≡ At (settle_halving l (t ++ said (restrict e w) reply ∷ []) e set (replies ++ reply ∷ []) network walk)
+part_step more l plan t e set replies network walk w reply at wants =
     let a : Answer = said (restrict e w) reply in
-    let next : State = settle_halving l (t ++ a ∷ []) e set (replies ++ reply ∷ []) network None in
-    more l plan t a (Halving e set replies network None) next at
+    let next : State = settle_halving l (t ++ a ∷ []) e set (replies ++ reply ∷ []) network walk in
+    more l plan t a (Halving e set replies network walk) next at
     ((λ i. if_passes (is_just (option_map (restrict e) (wanted_set (wants i))) (restrict e w)) next)
     ∙ ap (λ b. if_passes b next) (assignment_same (restrict e w)))
 

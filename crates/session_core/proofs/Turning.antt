@@ -1,27 +1,24 @@
 -- The answer to what is put.
-use Rattle.std.proofs.Common.{◌≡◌, Bool, List, [], ◌∷◌, ◌++◌, sym, ◌∙◌, subst, Some, None}
+use Rattle.std.proofs.Common.{◌≡◌, Bool, ℕ, List, [], ◌∷◌, ◌++◌, sym, ◌∙◌, subst, Some}
 use Rattle.assign.specs.Sets.{numbers}
 use Rattle.assign.specs.Assignment.{Assignment}
 use Rattle.assign.specs.Events.{Answer}
-use Rattle.assign.specs.declared.events.Plan.TheVariants.{Quacq}
-use Rattle.language.specs.declared.candidates.Candidate.{Candidate}
 use Rattle.language.specs.Language.{IsLanguage, variable_count}
 use Rattle.find_scope.specs.Run.{Run as ScopeRun}
-use Rattle.find_scope.specs.Standing.{StandsFor}
-use Rattle.find_scope.specs.declared.run.ScopeNext.TheVariants.{Wants}
 use Rattle.find_c.specs.Run.{Run}
-use Rattle.session_laws.specs.Session.{begun, settle_choices, settle_halving}
+use Rattle.session_laws.specs.Session.{settle_choices, settle_halving}
+use Rattle.multi_tree.specs.Stage.{walk_in}
 use Rattle.session_core.specs.declared.knowledge.Knowledge.{Knowledge}
 use Rattle.session_core.specs.declared.put.Put.{Put}
-use Rattle.session_core.specs.declared.put.Put.TheVariants.{Example, Part, FirstTuple, Tuple}
+use Rattle.session_core.specs.declared.put.Put.TheVariants.{Example, OnWalk, Part, FirstTuple, Tuple}
 use Rattle.session_core.specs.declared.session.Asking.{Asking}
 use Rattle.session_core.specs.declared.session.Session.TheVariants as sessions
 use Rattle.session_core.specs.Known.{IsAnswered}
 use Rattle.session_core.specs.Putting.{IsExample, IsTelling, IsPut}
 use Rattle.session_core.specs.Standing.{question_put, open_in, PutAfter, HalvesAfter, Stands}
-use Rattle.session_core.specs.Leading.{IsLed}
+use Rattle.session_core.specs.Leading.{part_replied, IsLed}
 use Rattle.session_core.proofs.Steps.{said}
-use Rattle.session_core.proofs.Moving.{example_led, part_led, tuple_led, first_led, left_after}
+use Rattle.session_core.proofs.Moving.{example_led, walk_led, part_led, tuple_led, first_led, left_after}
 
 same_some : (a b : Assignment) → Some a ≡ Some b → a ≡ b
 same_some a b e = cc
@@ -44,28 +41,33 @@ after asking put q reply t k' h = subst (λ p. PutAfter asking.knowledge p t) h.
 pub sound_of : (asking : Asking) (put : Put) → asking.put ≡ put → IsPut asking.knowledge put
 sound_of asking put is = subst (IsPut asking.knowledge) is asking.sound
 
-pub example_heard : (asking : Asking) (e q : Assignment) (reply : Bool) (t : List Answer) (k' : Knowledge) (live : List Candidate) → IsHeard asking (Example e) q reply t k' →
-    IsLed k' (t ++ said q reply ∷ []) (begun k'.lang Quacq (t ++ said q reply ∷ []) live k'.network.list e reply)
-example_heard asking e q reply t k' live h =
+pub example_heard : (asking : Asking) (e q : Assignment) (reply : Bool) (t : List Answer) (k' : Knowledge) → IsHeard asking (Example e) q reply t k' →
+    IsLed k' (t ++ said q reply ∷ []) (part_replied k'.lang (t ++ said q reply ∷ []) e (numbers (variable_count k'.lang)) reply k'.network.list k'.tree)
+example_heard asking e q reply t k' h =
     let sound : IsExample asking.knowledge e = sound_of asking (Example e) h.put_is in
-    example_led asking.knowledge k' e q reply t live h.lawful h.answered h.stands.knows (asks asking (Example e) q reply t k' h) sound.plan (after asking (Example e) q reply t k' h)
+    example_led asking.knowledge k' e q reply t h.lawful h.answered h.stands.knows (asks asking (Example e) q reply t k' h) sound.plan sound.walk (after asking (Example e) q reply t k' h)
+
+pub walk_heard : (asking : Asking) (e q : Assignment) (set : List ℕ) (reply : Bool) (t : List Answer) (k' : Knowledge) → IsHeard asking (OnWalk e set) q reply t k' →
+    IsLed k' (t ++ said q reply ∷ []) (part_replied k'.lang (t ++ said q reply ∷ []) e set reply k'.network.list k'.tree)
+walk_heard asking e q set reply t k' h =
+    walk_led asking.knowledge k' e q set reply t h.lawful h.answered h.stands.knows (asks asking (OnWalk e set) q reply t k' h) (after asking (OnWalk e set) q reply t k' h)
 
 -- the replies of the halving so far
-pub replies_of : (asking : Asking) (e q : Assignment) (run : ScopeRun) (reply : Bool) (t : List Answer) (k' : Knowledge) → IsHeard asking (Part e run) q reply t k' → HalvesAfter asking.knowledge e run t
-replies_of asking e q run reply t k' h = after asking (Part e run) q reply t k' h
+pub replies_of : (asking : Asking) (e q : Assignment) (set : List ℕ) (run : ScopeRun) (reply : Bool) (t : List Answer) (k' : Knowledge) → IsHeard asking (Part e set run) q reply t k' → HalvesAfter asking.knowledge e set run t
+replies_of asking e q set run reply t k' h = after asking (Part e set run) q reply t k' h
 
-pub part_heard : (asking : Asking) (e q : Assignment) (run : ScopeRun) (reply : Bool) (t : List Answer) (k' : Knowledge) → (h : IsHeard asking (Part e run) q reply t k') →
-    IsLed k' (t ++ said q reply ∷ []) (settle_halving k'.lang (t ++ said q reply ∷ []) e (numbers (variable_count k'.lang)) ((replies_of asking e q run reply t k' h).replies ++ reply ∷ []) k'.network.list None)
-part_heard asking e q run reply t k' h =
-    part_led asking.knowledge k' e q run reply t h.lawful h.answered h.stands.knows (asks asking (Part e run) q reply t k' h) (replies_of asking e q run reply t k' h)
+pub part_heard : (asking : Asking) (e q : Assignment) (set : List ℕ) (run : ScopeRun) (reply : Bool) (t : List Answer) (k' : Knowledge) → (h : IsHeard asking (Part e set run) q reply t k') →
+    IsLed k' (t ++ said q reply ∷ []) (settle_halving k'.lang (t ++ said q reply ∷ []) e set ((replies_of asking e q set run reply t k' h).replies ++ reply ∷ []) k'.network.list (walk_in k'.tree))
+part_heard asking e q set run reply t k' h =
+    part_led asking.knowledge k' e q set run reply t h.lawful h.answered h.stands.knows (asks asking (Part e set run) q reply t k' h) (replies_of asking e q set run reply t k' h)
 
 pub first_heard : (asking : Asking) (q : Assignment) (run : Run) (reply : Bool) (t : List Answer) (k' : Knowledge) → IsHeard asking (FirstTuple run) q reply t k' →
-    IsLed k' (t ++ said q reply ∷ []) (settle_choices k'.lang (t ++ said q reply ∷ []) run.scope (left_after k'.lang run reply) k'.network.list None)
+    IsLed k' (t ++ said q reply ∷ []) (settle_choices k'.lang (t ++ said q reply ∷ []) run.scope (left_after k'.lang run reply) k'.network.list (walk_in k'.tree))
 first_heard asking q run reply t k' h =
     first_led asking.knowledge k' q run reply t h.lawful h.answered h.stands.knows (asks asking (FirstTuple run) q reply t k' h) (sound_of asking (FirstTuple run) h.put_is) (after asking (FirstTuple run) q reply t k' h)
 
 pub tuple_heard : (asking : Asking) (q : Assignment) (run : Run) (reply : Bool) (t : List Answer) (k' : Knowledge) → IsHeard asking (Tuple run) q reply t k' →
-    IsLed k' (t ++ said q reply ∷ []) (settle_choices k'.lang (t ++ said q reply ∷ []) run.scope (left_after k'.lang run reply) k'.network.list None)
+    IsLed k' (t ++ said q reply ∷ []) (settle_choices k'.lang (t ++ said q reply ∷ []) run.scope (left_after k'.lang run reply) k'.network.list (walk_in k'.tree))
 tuple_heard asking q run reply t k' h =
     let sound : IsTelling asking.knowledge run = sound_of asking (Tuple run) h.put_is in
     tuple_led asking.knowledge k' q run reply t h.lawful h.answered h.stands.knows (asks asking (Tuple run) q reply t k' h) sound.sound (after asking (Tuple run) q reply t k' h)
@@ -82,9 +84,3 @@ heard asking put question q reply t k' is first asked stands lawful answered =
       lawful = lawful;
       answered = subst (λ x. IsAnswered asking.knowledge x reply k') (same_some question q (sym first ∙ asked)) answered;
     }
-
--- the run of a halving stands for its replies also in the language after the answer
-pub part_runs : (asking : Asking) (e q : Assignment) (run : ScopeRun) (reply : Bool) (t : List Answer) (k' : Knowledge) → (h : IsHeard asking (Part e run) q reply t k') →
-    StandsFor (Wants run) (numbers (variable_count k'.lang)) (replies_of asking e q run reply t k' h).replies
-part_runs asking e q run reply t k' h =
-    subst (λ l. StandsFor (Wants run) (numbers (variable_count l)) (replies_of asking e q run reply t k' h).replies) (sym h.answered.lang) (replies_of asking e q run reply t k' h).running

@@ -9,5 +9,6 @@ pub record IsAnswered (before : Knowledge) (q : Assignment) (reply : Bool) (afte
   pub lang : after.lang ≡ before.lang
   pub plan : after.plan ≡ before.plan
   pub network : after.network ≡ before.network
+  pub tree : after.tree ≡ before.tree
   pub kept : after.kept.members ≡ filter (λ c. not (reply && violates before.lang c q)) before.kept.members
   pub count : after.answers ≡ min (before.answers + 1) (2 ^ 32 - 1)

@@ -1,21 +1,29 @@
 -- What a session relies on of the question that is put.
-use Rattle.std.specs.Prelude.{◌≡◌, false, IsTrue}
+use Rattle.std.specs.Prelude.{◌≡◌, ◌≢◌, ◌<◌, ℕ, List, length, Some, false, IsTrue}
 use Rattle.std.proofs.Props.{props}
 use Rattle.assign.specs.Assignment.{Assignment}
-use Rattle.assign.specs.declared.events.Plan.TheVariants.{Scopes, Quacq}
+use Rattle.assign.specs.declared.events.Plan.TheVariants.{Scopes, Multi}
 use Rattle.language.specs.Language.{IsQuestion}
 use Rattle.language.specs.Answers.{has_scope}
 use Rattle.find_c.specs.Run.{Run, IsRun}
 use Rattle.session_laws.specs.Session.{is_lawful}
+use Rattle.multi_tree.specs.Stage.{asked_in, first_asked}
 use Rattle.session_core.specs.declared.knowledge.Knowledge.{Knowledge}
 use Rattle.session_core.specs.declared.put.Put.{Put}
-use Rattle.session_core.specs.declared.put.Put.TheVariants.{Example, Part, FirstTuple, Tuple}
+use Rattle.session_core.specs.declared.put.Put.TheVariants.{Example, OnWalk, Part, FirstTuple, Tuple}
 use Rattle.session_core.specs.Sound.{IsFirst}
 
--- an example that may be put
+-- an example that may be put; in plan Multi its walk has come to all of it
 pub record IsExample (k : Knowledge) (e : Assignment) : Type 0 where
-  pub plan : k.plan ≡ Quacq
+  pub plan : k.plan ≢ Scopes
   pub lawful : IsTrue (is_lawful k.lang k.plan k.kept.members k.network.list e)
+  pub walk : k.plan ≡ Multi → k.tree ≡ first_asked k.lang e
+
+-- a part of an example that its walk has come to
+pub record IsOnWalk (k : Knowledge) (e : Assignment) (set : List ℕ) : Type 0 where
+  pub question : IsQuestion k.lang e
+  pub some : 0 < length set
+  pub asked : asked_in k.tree ≡ Some set
 
 -- the first question of plan Scopes
 pub record IsDue (k : Knowledge) (run : Run) : Type 0 where
@@ -29,12 +37,14 @@ pub record IsTelling (k : Knowledge) (run : Run) : Type 0 where
 
 abbrev pub IsPut : Knowledge → Put → Type 0
 IsPut k (Example e) = IsExample k e
-IsPut k (Part e run) = IsQuestion k.lang e
+IsPut k (OnWalk e set) = IsOnWalk k e set
+IsPut k (Part e set run) = IsQuestion k.lang e
 IsPut k (FirstTuple run) = IsDue k run
 IsPut k (Tuple run) = IsTelling k run
 
 pub IsPut-prop : (k : Knowledge) (put : Put) → IsProp (IsPut k put)
 IsPut-prop k (Example e) = Prim.hlevel props
-IsPut-prop k (Part e run) = Prim.hlevel props
+IsPut-prop k (OnWalk e set) = Prim.hlevel props
+IsPut-prop k (Part e set run) = Prim.hlevel props
 IsPut-prop k (FirstTuple run) = Prim.hlevel props
 IsPut-prop k (Tuple run) = Prim.hlevel props

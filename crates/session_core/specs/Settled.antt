@@ -19,7 +19,8 @@ IsSettled l plan t put = (network : List Candidate) (end : Option WalkEnd) → s
 -- the question goes on with what an answer began
 abbrev pub GoesOn : Put → Type 0
 GoesOn (puts.Example e) = ⊥
-GoesOn (puts.Part e run) = Unit {0}
+GoesOn (puts.OnWalk e set) = Unit {0}
+GoesOn (puts.Part e set run) = Unit {0}
 GoesOn (puts.FirstTuple run) = ⊥
 GoesOn (puts.Tuple run) = Unit {0}
 

@@ -1,5 +1,6 @@
 -- What a session relies on, whatever its answers.
 use Rattle.std.specs.Prelude.{◌≡◌, ℕ, ◌<◌, Bool, false, true, not, List, All, Option, Some, None}
+use Rattle.std.proofs.Props.{props}
 use Rattle.assign.specs.Assignment.{Assignment, restrict}
 use Rattle.language.specs.declared.candidates.Candidate.{Candidate}
 use Rattle.language.specs.Language.{Language}
@@ -13,6 +14,7 @@ use Rattle.find_c.specs.Standing.{IsSettled}
 use Rattle.find_c.specs.declared.run.RelNext.{RelNext}
 use Rattle.session_laws.specs.Walk.{violates_some}
 use Rattle.session_laws.specs.Session.{is_undecided, next_scope}
+use Rattle.multi_tree.specs.Stage.{Stage, Ready, Asked, Done, IsWalkOn}
 
 -- no scope before this one is undecided
 abbrev pub NoneBefore : Language → List Candidate → List Candidate → ℕ → Type 0
@@ -21,6 +23,12 @@ NoneBefore l live network next = (s : ℕ) → s < next → is_undecided l live 
 -- no kept candidate is on a scope where something is learned
 abbrev pub AreUnlearned : List Candidate → List Candidate → Type 0
 AreUnlearned live network = All (λ c. has_scope network c.scope ≡ false) live
+
+-- what is said of a walk is said once
+pub IsWalkOn-prop : (l : Language) (stage : Stage) → IsProp (IsWalkOn l stage)
+IsWalkOn-prop l (Ready walk) = Prim.hlevel props
+IsWalkOn-prop l (Asked set walk) = Prim.hlevel props
+IsWalkOn-prop l (Done end) = Prim.hlevel props
 
 -- ---- telling apart
 

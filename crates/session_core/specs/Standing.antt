@@ -1,16 +1,17 @@
 -- Where a session stands, and after which answers.
-use Rattle.std.specs.Prelude.{◌≡◌, Bool, IsTrue, List, length, Option, Some, None}
-use Rattle.assign.specs.Sets.{numbers}
+use Rattle.std.specs.Prelude.{◌≡◌, Bool, IsTrue, ℕ, List, length, Option, Some, None}
 use Rattle.assign.specs.Assignment.{Assignment, restrict}
 use Rattle.assign.specs.Events.{Answer}
 use Rattle.assign.specs.declared.events.Plan.{Plan}
-use Rattle.language.specs.Language.{Language, variable_count}
+use Rattle.language.specs.Language.{Language}
 use Rattle.language.specs.Answers.{kept}
 use Rattle.find_scope.specs.Run.{Run as ScopeRun}
 use Rattle.find_scope.specs.Standing.{StandsFor}
 use Rattle.find_scope.specs.declared.run.ScopeNext.TheVariants.{Wants}
 use Rattle.find_c.specs.Run.{Run}
 use Rattle.find_c.specs.Scenes.{on_scope}
+use Rattle.session_laws.specs.Walk.{Walk, WalkEnd}
+use Rattle.multi_tree.specs.Stage.{Asked, walk_in}
 use Rattle.session_laws.specs.Session.{State, At, is_lawful, open_question, state_after, Idle as IdleState, Halving as HalvingState, Choosing as ChoosingState, Walking as WalkingState, Over as OverState}
 use Rattle.session_core.specs.declared.knowledge.Knowledge.{Knowledge}
 use Rattle.session_core.specs.declared.put.Put.{Put}
@@ -28,10 +29,11 @@ knowledge_of (sessions.Over over) = over.knowledge
 abbrev pub question_of : Language → Run → Assignment
 question_of l run = on_scope l run.scope run.tuple
 
--- the question that is put: an example, the part of it that a halving wants, or a tuple on a scope
+-- the question that is put: an example, the part of it that a walk has come to or a halving wants, or a tuple on a scope
 abbrev pub question_put : Language → Put → Assignment
 question_put l (puts.Example e) = e
-question_put l (puts.Part e run) = restrict e run.base
+question_put l (puts.OnWalk e set) = restrict e set
+question_put l (puts.Part e set run) = restrict e run.base
 question_put l (puts.FirstTuple run) = question_of l run
 question_put l (puts.Tuple run) = question_of l run
 
@@ -45,26 +47,40 @@ open_in (sessions.Over over) = None
 abbrev pub LeadsTo : Knowledge → List Answer → State → Type 0
 LeadsTo k t state = state_after k.lang k.plan t ≡ At state
 
+-- the answers lead to where nothing is open, however a walk ended
+pub record IsIdleAfter (k : Knowledge) (t : List Answer) : Type 0 where
+  pub end : Option WalkEnd
+  pub idle : LeadsTo k t (IdleState k.network.list end)
+
 -- the answers lead to where nothing is open, and the question is lawful there
 pub record IsNewAfter (k : Knowledge) (q : Assignment) (t : List Answer) : Type 0 where
-  pub idle : LeadsTo k t (IdleState k.network.list None)
+  pub end : Option WalkEnd
+  pub idle : LeadsTo k t (IdleState k.network.list end)
   pub lawful : IsTrue (is_lawful k.lang k.plan k.kept.members k.network.list q)
 
--- the answers lead to a halving of all variables, and the run stands where its replies lead
-pub record HalvesAfter (k : Knowledge) (e : Assignment) (run : ScopeRun) (t : List Answer) : Type 0 where
+-- the answers lead to where the example is asked about on the set, and the walk is the session's
+pub record WalksAfter (k : Knowledge) (e : Assignment) (set : List ℕ) (t : List Answer) : Type 0 where
+  pub walk : Walk
+  pub stage : k.tree ≡ Asked set walk
+  pub example : walk.example ≡ e
+  pub walking : LeadsTo k t (WalkingState set walk k.network.list)
+
+-- the answers lead to a halving of the set, the run stands where its replies lead, and the walk is the session's
+pub record HalvesAfter (k : Knowledge) (e : Assignment) (set : List ℕ) (run : ScopeRun) (t : List Answer) : Type 0 where
   pub replies : List Bool
-  pub halving : LeadsTo k t (HalvingState e (numbers (variable_count k.lang)) replies k.network.list None)
-  pub running : StandsFor (Wants run) (numbers (variable_count k.lang)) replies
+  pub halving : LeadsTo k t (HalvingState e set replies k.network.list (walk_in k.tree))
+  pub running : StandsFor (Wants run) set replies
 
 abbrev pub PutAfter : Knowledge → Put → List Answer → Type 0
 PutAfter k (puts.Example e) t = IsNewAfter k e t
-PutAfter k (puts.Part e run) t = HalvesAfter k e run t
+PutAfter k (puts.OnWalk e set) t = WalksAfter k e set t
+PutAfter k (puts.Part e set run) t = HalvesAfter k e set run t
 PutAfter k (puts.FirstTuple run) t = IsNewAfter k (question_of k.lang run) t
-PutAfter k (puts.Tuple run) t = LeadsTo k t (ChoosingState run.scope run.choices k.network.list None)
+PutAfter k (puts.Tuple run) t = LeadsTo k t (ChoosingState run.scope run.choices k.network.list (walk_in k.tree))
 
--- the kind, the network, the open question and what it belongs to are those that the answers lead to
+-- the kind, the network, the open question and what it belongs to, the walk too, are those that the answers lead to
 abbrev pub IsAfter : Session → List Answer → Type 0
-IsAfter (sessions.Idle idle) t = LeadsTo idle.knowledge t (IdleState idle.knowledge.network.list None)
+IsAfter (sessions.Idle idle) t = IsIdleAfter idle.knowledge t
 IsAfter (sessions.Asking asking) t = PutAfter asking.knowledge asking.put t
 IsAfter (sessions.Over over) t = LeadsTo over.knowledge t (OverState over.knowledge.network.list)
 

@@ -46,6 +46,7 @@ impl Knowledge {
             network,
             answers,
             next,
+            tree,
         } = self;
         let kept = kept_after(&lang, kept, q, yes);
         let answers = one_more(&lang, answers);
@@ -56,6 +57,7 @@ impl Knowledge {
             network,
             answers,
             next,
+            tree,
         }
     }
 }

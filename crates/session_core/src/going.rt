@@ -3,31 +3,67 @@
 //! Each function is given what is known after the answer. Its clause is about every list of answers that leads to the
 //! state which it settles.
 
-ghost use Rattle.std.specs.Prelude.{◌≡◌, ◌≢◌, ◌++◌, ◌∷◌, [], List, Bool, ℕ, None, false};
-ghost use Rattle.assign.specs.Sets.{numbers};
-ghost use Rattle.assign.specs.declared.events.Plan.TheVariants.{Quacq};
-ghost use Rattle.language.specs.declared.candidates.Candidate.{Candidate};
-ghost use Rattle.language.specs.Language.{variable_count, scope_number, IsCandidate, IsQuestion};
+ghost use Rattle.std.specs.Prelude.{◌≡◌, ◌≢◌, ◌<◌, ◌++◌, ◌∷◌, [], length, List, Bool, ℕ, None, false};
+ghost use Rattle.assign.specs.declared.events.Plan.TheVariants.{Multi};
+ghost use Rattle.language.specs.Language.{scope_number, IsCandidate, IsQuestion};
 ghost use Rattle.language.specs.Answers.{has_scope};
 ghost use Rattle.find_scope.specs.Standing.{StandsFor};
 ghost use Rattle.find_c.specs.Run.{IsRun};
 ghost use Rattle.find_c.specs.Choosing.{Choice, after_reply};
 ghost use Rattle.find_c.specs.Scenes.{scene_of};
 ghost use Rattle.find_c.specs.Standing.{IsSettled};
-ghost use Rattle.session_laws.specs.Session.{begun, found, go_on, settle_choices, settle_halving};
+ghost use Rattle.session_laws.specs.Session.{found, go_on, settle_choices, settle_halving};
+ghost use Rattle.multi_tree.specs.Stage.{walk_in, asked_in};
 ghost use Rattle.session_core.specs.Sound.{AreChoices};
 ghost use Rattle.session_core.specs.Standing.{knowledge_of};
-ghost use Rattle.session_core.specs.Leading.{StandsAt};
+ghost use Rattle.session_core.specs.Leading.{part_replied, HasPutAgain, StandsAt};
 ghost use Rattle.session_core.specs.Settled.{HasNoNew};
 
 use crate::halving::settle;
 use crate::knowledge::Knowledge;
 use crate::put::Put;
 use crate::session::{Asking, Collapsed, Idle, Session};
-use assign::{Partial, VarSet};
+use assign::{Partial, Plan, VarSet};
 use find_c::{RelNext, RelRun};
 use find_scope::{ScopeNext, ScopeRun};
 use language::Candidate;
+use multi_tree::TreeNext;
+
+/// The walk of an example goes on, where there is one, and else nothing is open.
+fn walked(knowledge: Knowledge) -> Session
+    ensures lang { (knowledge_of result).lang ≡ knowledge.lang }
+    ensures plan { (knowledge_of result).plan ≡ knowledge.plan }
+    ensures none_new { HasNoNew result }
+    ensures stands { let k = knowledge in StandsAt k (λ t. go_on k.lang t k.network.list (walk_in k.tree)) result }
+{
+    let Knowledge {
+        lang,
+        plan,
+        kept,
+        network,
+        answers,
+        next,
+        mut tree,
+    } = knowledge;
+    let turn = tree.next(&lang, &network, &kept);
+    let example = tree.example();
+    let knowledge = Knowledge {
+        lang,
+        plan,
+        kept,
+        network,
+        answers,
+        next,
+        tree,
+    };
+    match turn {
+        TreeNext::Ask(set) => Session::Asking(Asking {
+            knowledge,
+            put: Put::OnWalk { example, set },
+        }),
+        TreeNext::End | TreeNext::Capped => Session::Idle(Idle { knowledge }),
+    }
+}
 
 /// A candidate is learned, and its scope leaves the kept ones.
 pub(crate) fn learned(knowledge: Knowledge, c: Candidate) -> Session
@@ -36,7 +72,7 @@ pub(crate) fn learned(knowledge: Knowledge, c: Candidate) -> Session
     ensures lang { (knowledge_of result).lang ≡ knowledge.lang }
     ensures plan { (knowledge_of result).plan ≡ knowledge.plan }
     ensures none_new { HasNoNew result }
-    ensures stands { let k = knowledge in StandsAt k (λ t. go_on k.lang t (k.network.list ++ c ∷ []) None) result }
+    ensures stands { let k = knowledge in StandsAt k (λ t. go_on k.lang t (k.network.list ++ c ∷ []) (walk_in k.tree)) result }
 {
     let Knowledge {
         lang,
@@ -45,18 +81,18 @@ pub(crate) fn learned(knowledge: Knowledge, c: Candidate) -> Session
         mut network,
         answers,
         next,
+        tree,
     } = knowledge;
     kept.drop_scope(c.scope);
     network.learn(c);
-    Session::Idle(Idle {
-        knowledge: Knowledge {
-            lang,
-            plan,
-            kept,
-            network,
-            answers,
-            next,
-        },
+    walked(Knowledge {
+        lang,
+        plan,
+        kept,
+        network,
+        answers,
+        next,
+        tree,
     })
 }
 
@@ -68,7 +104,7 @@ pub(crate) fn chosen(knowledge: Knowledge, next: RelNext) -> Session
     ensures plan { (knowledge_of result).plan ≡ knowledge.plan }
     ensures none_new { HasNoNew result }
     ensures stands { (s : ℕ) (choices : List Choice) → let k = knowledge in IsSettled k.lang s choices next →
-        StandsAt k (λ t. settle_choices k.lang t s choices k.network.list None) result }
+        StandsAt k (λ t. settle_choices k.lang t s choices k.network.list (walk_in k.tree)) result }
 {
     match next {
         RelNext::Wants(run) => Session::Asking(Asking {
@@ -76,7 +112,7 @@ pub(crate) fn chosen(knowledge: Knowledge, next: RelNext) -> Session
             put: Put::Tuple(run),
         }),
         RelNext::Found(c) => learned(knowledge, c),
-        RelNext::Free => Session::Idle(Idle { knowledge }),
+        RelNext::Free => walked(knowledge),
         RelNext::Nothing => unreachable!(),
     }
 }
@@ -87,7 +123,7 @@ fn found(knowledge: Knowledge, example: Partial, set: VarSet) -> Session
     ensures lang { (knowledge_of result).lang ≡ knowledge.lang }
     ensures plan { (knowledge_of result).plan ≡ knowledge.plan }
     ensures none_new { HasNoNew result }
-    ensures stands { let k = knowledge in StandsAt k (λ t. found k.lang t example k.network.list None (scope_number k.lang set)) result }
+    ensures stands { let k = knowledge in StandsAt k (λ t. found k.lang t example k.network.list (walk_in k.tree) (scope_number k.lang set)) result }
 {
     let Some(s) = knowledge.lang.scope_of(set) else {
         return Session::Over(Collapsed { knowledge });
@@ -98,38 +134,78 @@ fn found(knowledge: Knowledge, example: Partial, set: VarSet) -> Session
     }
 }
 
-/// The halving of all variables goes on by itself, and then asks or has found a set.
-pub(crate) fn halved(knowledge: Knowledge, example: Partial, next: ScopeNext) -> Session
+/// The halving of a set of an example's variables goes on by itself, and then asks or has found a set.
+pub(crate) fn halved(
+    knowledge: Knowledge,
+    example: Partial,
+    set: VarSet,
+    next: ScopeNext,
+) -> Session
     requires question { IsQuestion knowledge.lang example }
     ensures lang { (knowledge_of result).lang ≡ knowledge.lang }
     ensures plan { (knowledge_of result).plan ≡ knowledge.plan }
     ensures none_new { HasNoNew result }
-    ensures stands { (replies : List Bool) → let k = knowledge in let all = numbers (variable_count k.lang) in StandsFor next all replies →
-        StandsAt k (λ t. settle_halving k.lang t example all replies k.network.list None) result }
+    ensures stands { (replies : List Bool) → let k = knowledge in StandsFor next set replies →
+        StandsAt k (λ t. settle_halving k.lang t example set replies k.network.list (walk_in k.tree)) result }
 {
-    let size = knowledge.lang.n();
+    let size = set.len();
     match settle(&knowledge.lang, &knowledge.kept, &example, size, next) {
         ScopeNext::Wants(run) => Session::Asking(Asking {
             knowledge,
-            put: Put::Part { example, run },
+            put: Put::Part { example, set, run },
         }),
-        ScopeNext::Found(set) => found(knowledge, example, set),
+        ScopeNext::Found(got) => found(knowledge, example, got),
     }
 }
 
-/// A whole example is answered: after a no its variables are halved.
-pub(crate) fn example_answered(knowledge: Knowledge, example: Partial, yes: bool) -> Session
+/// The set that the walk has asked about is put again, where there is a walk.
+fn with_set_again(knowledge: Knowledge) -> Knowledge
+    requires { knowledge.plan ≡ Multi → asked_in knowledge.tree ≢ None }
+    ensures { HasPutAgain knowledge result }
+{
+    let Knowledge {
+        lang,
+        plan,
+        kept,
+        network,
+        answers,
+        next,
+        mut tree,
+    } = knowledge;
+    if plan == Plan::Multi {
+        tree.again();
+    }
+    Knowledge {
+        lang,
+        plan,
+        kept,
+        network,
+        answers,
+        next,
+        tree,
+    }
+}
+
+/// An example is answered on a set, which is halved after a no.
+pub(crate) fn part_answered(
+    knowledge: Knowledge,
+    example: Partial,
+    set: VarSet,
+    yes: bool,
+) -> Session
     requires question { IsQuestion knowledge.lang example }
+    requires some { 0 < length set }
+    requires asked { knowledge.plan ≡ Multi → asked_in knowledge.tree ≢ None }
     ensures lang { (knowledge_of result).lang ≡ knowledge.lang }
     ensures plan { (knowledge_of result).plan ≡ knowledge.plan }
     ensures none_new { HasNoNew result }
-    ensures stands { (live : List Candidate) → let k = knowledge in StandsAt k (λ t. begun k.lang Quacq t live k.network.list example «yes») result }
+    ensures stands { let k = knowledge in StandsAt k (λ t. part_replied k.lang t example set «yes» k.network.list k.tree) result }
 {
     if yes {
-        return Session::Idle(Idle { knowledge });
+        return walked(knowledge);
     }
-    let all = VarSet::all(knowledge.lang.n());
-    halved(knowledge, example, ScopeRun::start(all))
+    let knowledge = with_set_again(knowledge);
+    halved(knowledge, example, set, ScopeRun::start(set))
 }
 
 /// A tuple on a scope is answered.
@@ -139,7 +215,8 @@ pub(crate) fn tuple_answered(knowledge: Knowledge, run: RelRun, yes: bool) -> Se
     ensures lang { (knowledge_of result).lang ≡ knowledge.lang }
     ensures plan { (knowledge_of result).plan ≡ knowledge.plan }
     ensures none_new { HasNoNew result }
-    ensures stands { let k = knowledge in StandsAt k (λ t. settle_choices k.lang t run.scope (after_reply (scene_of k.lang run.scope) run.tuple «yes» run.choices) k.network.list None) result }
+    ensures stands { let k = knowledge in
+        StandsAt k (λ t. settle_choices k.lang t run.scope (after_reply (scene_of k.lang run.scope) run.tuple «yes» run.choices) k.network.list (walk_in k.tree)) result }
 {
     let next = run.reply(&knowledge.lang, yes);
     chosen(knowledge, next)

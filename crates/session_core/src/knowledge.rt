@@ -1,12 +1,14 @@
-ghost use Rattle.std.specs.Prelude.{◌≡◌, ◌≢◌, ◌≤◌, length};
+ghost use Rattle.std.specs.Prelude.{◌≡◌, ◌≢◌, ◌≤◌, length, None};
 ghost use Rattle.assign.specs.declared.events.Plan.TheVariants.{Multi};
 ghost use Rattle.language.specs.Answers.{IsNetwork};
 ghost use Rattle.bias_store.specs.KeptSet.{IsMadeFor};
-ghost use Rattle.session_core.specs.Sound.{NoneBefore, AreUnlearned};
+ghost use Rattle.multi_tree.specs.Stage.{walk_in, IsWalkOn};
+ghost use Rattle.session_core.specs.Sound.{NoneBefore, AreUnlearned, IsWalkOn-prop};
 
 use assign::Plan;
 use bias_store::Kept;
 use language::Language;
+use multi_tree::Tree;
 use network::Network;
 
 /// What a session knows, whatever its kind.
@@ -22,7 +24,10 @@ pub struct Knowledge {
     pub(crate) answers: u32,
     /// No scope before this one has a question left in plan Scopes. In the others it stays 0.
     pub(crate) next: u32,
-    ghost planned: { plan ≢ Multi },
+    /// The walk of an example in plan Multi. In the others none is begun.
+    pub(crate) tree: Tree,
+    ghost walks: { IsWalkOn lang tree } by { IsWalkOn-prop lang tree },
+    ghost resting: { plan ≢ Multi → walk_in tree ≡ None },
     ghost made: { IsMadeFor lang kept },
     ghost lawful: { IsNetwork lang network.list },
     ghost room: { network.scopes ≡ length lang.scopes },

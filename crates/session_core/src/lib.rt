@@ -6,7 +6,8 @@
 //!
 //! In plan Scopes the questions tell the relations of one scope after the other apart. In plan Quacq a question is a whole
 //! example; where it is answered no, its variables are halved until the scope of what it violates is found, and the
-//! relations there are told apart (QuAcq, Bessiere et al., IJCAI 2013). Questions about parts that violate no kept
+//! relations there are told apart (QuAcq, Bessiere et al., IJCAI 2013). In plan Multi the parts of one example are asked
+//! about in turn (`multi_tree`), so that several candidates are learned from it. Questions about parts that violate no kept
 //! candidate aren't put: they count as answered yes. Only `begin` takes memory.
 #![tactic(auto)]
 

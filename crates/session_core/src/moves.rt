@@ -3,27 +3,29 @@
 ghost use Rattle.std.specs.Prelude.{◌≡◌, ◌≢◌, ◌++◌, ◌∷◌, [], List, IfOk, IfSome, IsTrue, Some, None};
 ghost use Rattle.assign.specs.Events.{Answer};
 ghost use Rattle.assign.specs.declared.events.Plan.{Plan};
-ghost use Rattle.language.specs.Language.{IsQuestion};
-ghost use Rattle.session_laws.specs.Session.{is_lawful, scope_question};
-ghost use Rattle.session_core.specs.Settled.{IsSettled};
+ghost use Rattle.language.specs.Language.{IsLanguage, IsQuestion};
+ghost use Rattle.session_laws.specs.Walk.{Ended};
+ghost use Rattle.session_laws.specs.Session.{is_lawful, scope_question, walk_end};
+ghost use Rattle.session_laws.specs.Laws.{IsWalked};
+ghost use Rattle.session_core.specs.Settled.{IsSettled, HasNoNew};
 ghost use Rattle.session_core.specs.Standing.{Stands, IsAskedAfter, knowledge_of, open_in};
 ghost use Rattle.session_core.specs.Leading.{StandsWhereIdle};
 
 use crate::examples::is_example;
-use crate::going::{example_answered, halved, tuple_answered};
+use crate::going::{halved, part_answered, tuple_answered};
 use crate::knowledge::Knowledge;
 use crate::put::Put;
 use crate::scopes::first_run;
 use crate::session::{Asking, Idle, Session};
-use assign::{Partial, Plan};
+use assign::{Partial, Plan, VarSet};
 use bias_store::Kept;
 use language::{Language, Memory};
+use multi_tree::Tree;
 use network::Network;
 use std::alloc::Global;
 
 /// A new session of this language and plan, without answers. `Memory` drops the language.
 pub fn begin(alloc: Global, lang: Language, plan: Plan) -> Result<Session, Memory>
-    requires { plan ≢ Plan.Multi }
     ensures stands { IfOk result (λ session. Stands session []) }
     ensures idle { IfOk result (λ session. open_in session ≡ None) }
     ensures lang { IfOk result (λ session. (knowledge_of session).lang ≡ lang) }
@@ -31,6 +33,7 @@ pub fn begin(alloc: Global, lang: Language, plan: Plan) -> Result<Session, Memor
 {
     let kept = Kept::of(alloc, &lang)?;
     let network = Network::new(alloc, &lang)?;
+    let tree = Tree::make(alloc)?;
     Ok(Session::Idle(Idle {
         knowledge: Knowledge {
             lang,
@@ -39,6 +42,7 @@ pub fn begin(alloc: Global, lang: Language, plan: Plan) -> Result<Session, Memor
             network,
             answers: 0,
             next: 0,
+            tree,
         },
     }))
 }
@@ -72,10 +76,12 @@ impl Knowledge {
             plan,
             mut kept,
             mut network,
+            mut tree,
             ..
         } = self;
         kept.reset(&lang);
         network.clear();
+        tree.clear();
         Session::Idle(Idle {
             knowledge: Knowledge {
                 lang,
@@ -84,6 +90,7 @@ impl Knowledge {
                 network,
                 answers: 0,
                 next: 0,
+                tree,
             },
         })
     }
@@ -127,6 +134,7 @@ impl Knowledge {
                     kept,
                     network,
                     answers,
+                    tree,
                     ..
                 } = self;
                 Asking {
@@ -137,11 +145,63 @@ impl Knowledge {
                         network,
                         answers,
                         next: u32::from(run.scope()),
+                        tree,
                     },
                     put: Put::FirstTuple(run),
                 }
             }
             None => unreachable!(),
+        }
+    }
+
+    /// Puts an example.
+    fn ask_whole(self, q: Partial) -> Asking
+        requires plan { self.plan ≡ Plan.Quacq }
+        requires lawful { IsTrue (is_lawful self.lang self.plan self.kept.members self.network.list q) }
+        ensures question { open_in (Session.Asking result) ≡ Some q }
+        ensures lang { (knowledge_of (Session.Asking result)).lang ≡ self.lang }
+        ensures plan { (knowledge_of (Session.Asking result)).plan ≡ self.plan }
+        ensures stands { StandsWhereIdle self (Session.Asking result) }
+    {
+        Asking {
+            knowledge: self,
+            put: Put::Example(q),
+        }
+    }
+
+    /// Puts an example, and begins its walk.
+    fn ask_walked(self, q: Partial) -> Asking
+        requires plan { self.plan ≡ Plan.Multi }
+        requires lawful { IsTrue (is_lawful self.lang self.plan self.kept.members self.network.list q) }
+        ensures question { open_in (Session.Asking result) ≡ Some q }
+        ensures lang { (knowledge_of (Session.Asking result)).lang ≡ self.lang }
+        ensures plan { (knowledge_of (Session.Asking result)).plan ≡ self.plan }
+        ensures stands { StandsWhereIdle self (Session.Asking result) }
+    {
+        let Knowledge {
+            lang,
+            plan,
+            kept,
+            network,
+            answers,
+            next,
+            mut tree,
+        } = self;
+        let _variables = lang.n();
+        tree.start(&lang, q);
+        // All of it is asked about: the network accepts it, and it violates a kept candidate.
+        let _ = tree.next(&lang, &network, &kept);
+        Asking {
+            knowledge: Knowledge {
+                lang,
+                plan,
+                kept,
+                network,
+                answers,
+                next,
+                tree,
+            },
+            put: Put::Example(q),
         }
     }
 }
@@ -160,15 +220,14 @@ impl Idle {
         }
     }
 
-    /// Whether a question may be put. In plan Scopes `scope_question` alone may. In plan Quacq a whole example may that
+    /// Whether a question may be put. In plan Scopes `scope_question` alone may. In the others a whole example may that
     /// the network accepts and that violates a kept candidate.
     pub fn is_lawful(&self, q: &Partial) -> bool
         ensures { let k = knowledge_of (Session.Idle self.now) in result ≡ is_lawful k.lang k.plan k.kept.members k.network.list q.now }
     {
         match self.knowledge.plan {
             Plan::Scopes => self.knowledge.is_first_question(q),
-            Plan::Quacq => is_example(&self.knowledge, q),
-            Plan::Multi => unreachable!(),
+            Plan::Quacq | Plan::Multi => is_example(&self.knowledge, q),
         }
     }
 
@@ -183,11 +242,8 @@ impl Idle {
         let Idle { knowledge } = self;
         match knowledge.plan {
             Plan::Scopes => knowledge.ask_first(q),
-            Plan::Quacq => Asking {
-                knowledge,
-                put: Put::Example(q),
-            },
-            Plan::Multi => unreachable!(),
+            Plan::Quacq => knowledge.ask_whole(q),
+            Plan::Multi => knowledge.ask_walked(q),
         }
     }
 }
@@ -201,7 +257,8 @@ impl Asking {
     {
         match &self.put {
             Put::Example(example) => *example,
-            Put::Part { example, run } => example.restrict(run.wants()),
+            Put::OnWalk { example, set } => example.restrict(*set),
+            Put::Part { example, run, .. } => example.restrict(run.wants()),
             Put::FirstTuple(run) | Put::Tuple(run) => run.wants(&self.knowledge.lang),
         }
     }
@@ -214,13 +271,32 @@ impl Asking {
             → Stands result (t ++ record { question = q; yes = «yes» } ∷ []) }
         // where the answers lead to where nothing is open, no question is put
         ensures settled { (t : List Answer) → Stands result t → IsSettled (knowledge_of result).lang (knowledge_of result).plan t (open_in result) }
+        // where the last answer has ended the walk of an example, nothing is left to learn from it
+        ensures walked { (t : List Answer) (e : _) → let k = knowledge_of result in Stands result t → k.plan ≡ Plan.Multi
+            → walk_end k.lang t ≡ Some (Ended e) → IsWalked k.lang t k.network.list e }
+    {
+        self.heard(yes)
+    }
+
+    /// The same session.
+    fn heard(self, yes: bool) -> Session
+        ensures lang { (knowledge_of result).lang ≡ (knowledge_of (Session.Asking self)).lang }
+        ensures plan { (knowledge_of result).plan ≡ (knowledge_of (Session.Asking self)).plan }
+        ensures lawful { IsLanguage (knowledge_of result).lang }
+        ensures none_new { HasNoNew result }
+        ensures stands { (t : List Answer) (q : _) → open_in (Session.Asking self) ≡ Some q → Stands (Session.Asking self) t
+            → Stands result (t ++ record { question = q; yes = «yes» } ∷ []) }
     {
         let question = self.question();
         let Asking { knowledge, put } = self;
         let knowledge = knowledge.answered(&question, yes);
         match put {
-            Put::Example(example) => example_answered(knowledge, example, yes),
-            Put::Part { example, run } => halved(knowledge, example, run.reply(yes)),
+            Put::Example(example) => {
+                let all = VarSet::all(knowledge.lang.n());
+                part_answered(knowledge, example, all, yes)
+            }
+            Put::OnWalk { example, set } => part_answered(knowledge, example, set, yes),
+            Put::Part { example, set, run } => halved(knowledge, example, set, run.reply(yes)),
             Put::FirstTuple(run) => tuple_answered(knowledge, run, yes),
             Put::Tuple(run) => tuple_answered(knowledge, run, yes),
         }

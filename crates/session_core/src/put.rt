@@ -1,6 +1,6 @@
 //! What a question that is put belongs to.
 
-use assign::Partial;
+use assign::{Partial, VarSet};
 use find_c::RelRun;
 use find_scope::ScopeRun;
 
@@ -9,8 +9,17 @@ use find_scope::ScopeRun;
 pub enum Put {
     /// A whole example, which is new.
     Example(Partial),
-    /// A part of an example, whose variables are halved.
-    Part { example: Partial, run: ScopeRun },
+    /// A part of an example, which a walk has come to.
+    OnWalk {
+        example: Partial,
+        set: VarSet,
+    },
+    /// A part of an example, where a set of its variables is halved.
+    Part {
+        example: Partial,
+        set: VarSet,
+        run: ScopeRun,
+    },
     /// A tuple on a scope, which is new.
     FirstTuple(RelRun),
     /// A further tuple on a scope.

@@ -20,3 +20,4 @@ pub mod Limits
 pub mod ExampleLanguages
 pub mod NetworkHalves
 pub mod Growing
+pub mod Pending

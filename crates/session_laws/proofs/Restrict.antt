@@ -2,7 +2,8 @@
 use Rattle.std.proofs.Common.{◌≡◌, ℕ, zero, suc, ◌+◌, ◌<◌, ◌≤◌, Bool, true, false, cond, ◌||◌, ◌&&◌, not, List, [], ◌∷◌, length, Option, Some, None, refl, sym, ◌∙◌, ap, subst, arith, inl, inr, ◌⊎◌}
 use Rattle.std.specs.Prelude.{◌==◌, All, Any, slice_index_or, is_some, unwrap_or, nat_lt}
 use Rattle.std.specs.List.{list_any, position, position_or_len, range_with_len}
-use Rattle.std.proofs.lemmas.List.Elements.{All-head, All-tail}
+use Rattle.std.specs.Option.{ForSome}
+use Rattle.std.proofs.lemmas.List.Elements.{All-head, All-tail, All-map}
 use Rattle.std.proofs.lemmas.List.FromFn.{get_or-map-range_with_len, length-map-range_with_len, fill_by_all}
 use Rattle.std.proofs.Math.ListN.{get_or-eq_default}
 use Rattle.std.proofs.lemmas.List.Sums.{AllPass-from_list_all}
@@ -12,7 +13,7 @@ use Rattle.language.specs.declared.candidates.Candidate.{Candidate}
 use Rattle.assign.specs.Sets.{numbers, has, is_within, is_same, Rises}
 use Rattle.assign.specs.Assignment.{Assignment, value_of, restrict, covers, tuple_on, is_complete, variables_of}
 use Rattle.rel_table.specs.Relation.{holds}
-use Rattle.language.specs.Language.{Language, IsLanguage, IsCandidate, variable_count, scope_of, relation_of, violates, accepts}
+use Rattle.language.specs.Language.{Language, IsLanguage, IsCandidate, variable_count, scope_of, relation_of, violates, accepts, IsQuestion}
 use Rattle.language.specs.Answers.{IsNetwork}
 use Rattle.assign.specs.SetLemmas.{set_where-same}
 use Rattle.assign.proofs.Masks.{canonical}
@@ -146,3 +147,30 @@ module _ (l : Language) (lawful : IsLanguage l) where
       go v true h same = ap (λ b. is_some (cond b (value_of e v) None)) (same ∙ h)
           ∙ AllPass-from_list_all is_some e complete v None (let low = has_all (λ v. v < variable_count l) scope v known h in omega arith) ∙ sym h
       go v false h same = ap (λ b. is_some (cond b (value_of e v) None)) (same ∙ h) ∙ sym h
+
+-- ---- a question on a set alone
+
+pub nothing : (P : ℕ → Type 0) → ForSome None P
+nothing P x e = absurd (let bad : None ≡ Some x = e in cc)
+
+fits_at : (l : Language) (e : Assignment) (v : ℕ) → IsQuestion l e → ForSome (value_of e v) (λ x. x < l.value_count)
+fits_at l e v fits = go (cases_lt v (length e))
+  where
+    go : (v < length e) ⊎ (length e ≤ v) → ForSome (value_of e v) (λ x. x < l.value_count)
+    go (inl low) = fits.values_fit v None low
+    go (inr high) = subst (λ (o : Option ℕ). ForSome o (λ x. x < l.value_count)) (sym (get_or-eq_default e None {n = v} high)) (nothing (λ x. x < l.value_count))
+
+-- a question on a set alone is a question
+pub part_is_question : (l : Language) (e : Assignment) (w : List ℕ) → IsQuestion l e → IsQuestion l (restrict e w)
+part_is_question l e w fits =
+    record {
+      size = length-map-range_with_len (λ v. cond (has w v) (value_of e v) None) 0 (length e) ∙ fits.size;
+      values_fit = All-map (λ o. ForSome o (λ x. x < l.value_count)) (λ v. cond (has w v) (value_of e v) None) (numbers (length e)) (λ k d low. at (slice_index_or (numbers (length e)) k d));
+    }
+  where
+    at : (v : ℕ) → ForSome (cond (has w v) (value_of e v) None) (λ x. x < l.value_count)
+    at v = go (has w v) (fits_at l e v fits)
+      where
+        go : (b : Bool) → ForSome (value_of e v) (λ x. x < l.value_count) → ForSome (cond b (value_of e v) None) (λ x. x < l.value_count)
+        go true h = h
+        go false h = nothing (λ x. x < l.value_count)

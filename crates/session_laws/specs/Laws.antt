@@ -1,18 +1,18 @@
 -- Laws of the sessions, over the definitions alone. They hold of every list of answers, true or untrue, and in every plan unless a law names one.
-use Rattle.std.specs.Prelude.{ℕ, ◌*◌, ◌≤◌, ◌≡◌, ◌==◌, Bool, true, false, not, IsTrue, List, [], ◌∷◌, ◌++◌, length, filter, All, AllPairs, Any, Option, None, Some, is_some}
+use Rattle.std.specs.Prelude.{ℕ, ◌*◌, ◌≤◌, ◌≡◌, ◌==◌, Bool, true, false, not, IsTrue, IsFalse, List, [], ◌∷◌, ◌++◌, length, filter, All, AllPairs, Any, Contains, Option, None, Some, is_some}
 use Rattle.assign.specs.Sets.{IsSet, has}
 use Rattle.assign.specs.Assignment.{Assignment, restrict}
 use Rattle.assign.specs.Events.{Answer}
 use Rattle.assign.specs.declared.events.Plan.{Plan}
-use Rattle.assign.specs.declared.events.Plan.TheVariants.{Scopes}
+use Rattle.assign.specs.declared.events.Plan.TheVariants.{Scopes, Multi}
 use Rattle.language.specs.declared.candidates.Candidate.{Candidate}
 use Rattle.language.specs.Language.{Language, IsLanguage, IsImplied, scope_of, violates, accepts}
 use Rattle.language.specs.Answers.{IsNetwork, IsCovered, NoneAgrees, agrees, kept}
 use Rattle.find_scope.specs.Halving.{Wants, Got, halve}
 use Rattle.find_scope.specs.Laws.{IsTrueTo, IsMinimal}
 use Rattle.session_laws.specs.Bound.{bound, most_answers}
-use Rattle.session_laws.specs.Walk.{Walk, WalkEnd, violates_some}
-use Rattle.session_laws.specs.Session.{State, Idle, Halving, Choosing, Walking, Over, At, open_question, next_scope, scope_question, is_lawful, learn, is_quiet, with_quiet_replies, halved, settle_halving, step, state_after}
+use Rattle.session_laws.specs.Walk.{Walk, WalkEnd, Ended, violates_some}
+use Rattle.session_laws.specs.Session.{State, Idle, Halving, Choosing, Walking, Over, At, open_question, next_scope, scope_question, is_lawful, learn, is_quiet, with_quiet_replies, halved, settle_halving, step, state_after, walk_end}
 
 -- ---- One answer, and its place
 
@@ -146,6 +146,19 @@ abbrev pub NetworkGrows : Type 0
 NetworkGrows =
     (l : Language) (plan : Plan) (t : List Answer) (a : Answer) (state next : State) →
     state_after l plan t ≡ At state → state_after l plan (t ++ a ∷ []) ≡ At next → GoesOn (network_in state) (network_in next)
+
+-- ---- What a walk of an example leaves
+
+-- The example violates no kept candidate, and each network that agrees, with one candidate a scope, has those of its candidates that the example violates among the learned.
+pub record IsWalked (l : Language) (t : List Answer) (network : List Candidate) (e : Assignment) : Type 0 where
+  pub quiet : IsFalse (violates_some l (kept l t network) e)
+  pub learned : (other : List Candidate) → IsNetwork l other → AllPairs (λ c d. (c.scope ≡ d.scope) → ⊥) other → IsTrue (agrees l other t) → All (λ c. IsTrue (violates l c e) → Contains network c) other
+
+-- So it is where the last answer has ended the walk, and the walk wasn't cut off.
+abbrev pub EndedIsWalked : Type 0
+EndedIsWalked =
+    (l : Language) (t : List Answer) (state : State) (e : Assignment) →
+    IsLanguage l → state_after l Multi t ≡ At state → walk_end l t ≡ Some (Ended e) → IsWalked l t (network_in state) e
 
 -- ---- How many answers there are
 

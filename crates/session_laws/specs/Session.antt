@@ -185,3 +185,19 @@ read_on l plan before state (a ∷ t) = then_on (length before + 1) (step l plan
 -- the state after a list of answers
 abbrev pub state_after : Language → Plan → List Answer → Reading
 state_after l plan t = read_on l plan [] (Idle [] None) t
+
+-- how the walk ended that the last answer ended, if it ended one
+abbrev pub end_of : State → Option WalkEnd
+end_of (Idle network end) = end
+end_of (Halving e set replies network walk) = None
+end_of (Choosing s choices network walk) = None
+end_of (Walking set walk network) = None
+end_of (Over network) = None
+
+abbrev pub end_in : Reading → Option WalkEnd
+end_in (At state) = end_of state
+end_in (Stray number) = None
+
+-- so in plan Multi
+abbrev pub walk_end : Language → List Answer → Option WalkEnd
+walk_end l t = end_in (state_after l Multi t)

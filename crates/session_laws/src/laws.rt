@@ -1,6 +1,6 @@
 //! Laws of the sessions, as contracts of functions that do nothing.
 
-ghost use Rattle.session_laws.specs.Laws.{AnswersAreAtMost, AnswersAreFew, AnswersFit, FuelIsEnough, HalvingAsks, IdleIsInStep, ImpliedIsCovered, KeptSteps, LearnedAreFew, NetworkGrows, NetworkHalves, NeverStuck, OneAnswerMore, OverMeansNone, QuestionsHavePlaces, ScopesAreCovered, ScopesNeverOver, SettleSteps};
+ghost use Rattle.session_laws.specs.Laws.{AnswersAreAtMost, AnswersAreFew, AnswersFit, EndedIsWalked, FuelIsEnough, HalvingAsks, IdleIsInStep, ImpliedIsCovered, KeptSteps, LearnedAreFew, NetworkGrows, NetworkHalves, NeverStuck, OneAnswerMore, OverMeansNone, QuestionsHavePlaces, ScopesAreCovered, ScopesNeverOver, SettleSteps};
 
 // ---- One answer, and its place
 
@@ -73,6 +73,13 @@ pub fn scopes_never_over()
 /// After one answer more the network has what it had, and then what was learned.
 pub fn network_grows()
     ensures { NetworkGrows }
+{}
+
+// ---- What a walk of an example leaves
+
+/// Where a walk of an example has ended and wasn't cut off, nothing is left to learn from the example.
+pub fn ended_is_walked()
+    ensures { EndedIsWalked }
 {}
 
 // ---- How many answers there are

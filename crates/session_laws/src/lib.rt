@@ -12,6 +12,7 @@
 //!   each kept candidate is implied too, or no scope is next in plan Scopes, it is covered, and so it is what the answers
 //!   converge on (`language::laws::covered_is_converged`).
 //! - A session is over only where no network gives the answers. In plan Scopes it never is.
+//! - Where the walk of an example has ended and wasn't cut off, nothing is left to learn from the example.
 //! - There are at most as many answers as `bound` says of the learned candidates where nothing is open, and at most 762,753 at
 //!   any time. Where some network gives the answers, no more is learned than it has scopes.
 //! - An answer changes the kept candidates by a filter, and a halving that asks nothing goes on by itself.

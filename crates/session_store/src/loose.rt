@@ -1,4 +1,4 @@
-ghost use Rattle.std.specs.Prelude.{◌≡◌, ◌≢◌, [], IfOk, None};
+ghost use Rattle.std.specs.Prelude.{◌≡◌, [], IfOk, None};
 ghost use Rattle.session_store.specs.Loose.{lang_of, plan_of, question_of, IsSound};
 
 use crate::keep::Keep;
@@ -18,7 +18,6 @@ pub struct Loose {
 impl Loose {
     /// An idle session without events. `Memory` drops the language.
     pub fn new(alloc: Global, lang: Language, plan: Plan) -> Result<Loose, Memory>
-        requires { plan ≢ Plan.Multi }
         ensures sound { IfOk result IsSound }
         ensures lang { IfOk result (λ loose. lang_of loose ≡ lang) }
         ensures plan { IfOk result (λ loose. plan_of loose ≡ plan) }

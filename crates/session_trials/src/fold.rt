@@ -1,6 +1,7 @@
 //! A session as a plain fold over lists.
 
 use crate::plain::{Choices, Lists, MOST_RELATIONS, Values, are_same, is_in, part_of, value_of};
+use assign::Plan;
 use std::alloc::{AllocError, Global};
 
 // ---- halving
@@ -53,6 +54,9 @@ fn halve(depth: u8, base: u32, set: u32, asks: bool, replies: &[bool], at: usize
 #[derive(Clone, Copy)]
 pub(crate) enum State {
     Idle,
+    /// An example, of which the fold's set is asked about.
+    Walking(Values),
+    /// An example, of which the fold's set is halved.
     Halving(Values),
     Choosing(usize, Choices),
     Over,
@@ -60,24 +64,40 @@ pub(crate) enum State {
 
 #[derive(Drop)]
 pub(crate) struct Fold {
-    pub(crate) is_quacq: bool,
+    pub(crate) plan: Plan,
     pub(crate) told: Vec<(Values, bool)>,
     /// The learned candidates, each by its scope and its relation.
     pub(crate) network: Vec<(usize, usize)>,
     pub(crate) state: State,
     /// In a halving, the replies to its parts, also those that go without saying.
     replies: Vec<bool>,
+    /// The variables that are asked about or halved.
+    set: u32,
+    /// In plan Multi the example whose parts are asked about, and the sets that wait, the next last.
+    walked: Option<Values>,
+    waiting: Vec<u32>,
+    /// How many more sets may be taken.
+    left: u16,
 }
 
 impl Fold {
-    pub(crate) fn new(alloc: Global, is_quacq: bool) -> Fold {
+    pub(crate) fn new(alloc: Global, plan: Plan) -> Fold {
         Fold {
-            is_quacq,
+            plan,
             told: Vec::new(alloc),
             network: Vec::new(alloc),
             state: State::Idle,
             replies: Vec::new(alloc),
+            set: 0,
+            walked: None,
+            waiting: Vec::new(alloc),
+            left: 0,
         }
+    }
+
+    /// Whether whole examples are asked about.
+    pub(crate) fn has_examples(&self) -> bool {
+        self.plan != Plan::Scopes
     }
 
     fn has_scope(&self, s: usize) -> bool {
@@ -142,7 +162,7 @@ impl Fold {
 
     /// In plan Scopes the first question of the next scope.
     pub(crate) fn scope_question(&self, lists: &Lists) -> Option<Values> {
-        if self.is_quacq {
+        if self.has_examples() {
             return None;
         }
         match self.next_scope(lists) {
@@ -155,8 +175,9 @@ impl Fold {
     pub(crate) fn open(&self, lists: &Lists) -> Option<Values> {
         match self.state {
             State::Idle | State::Over => None,
+            State::Walking(example) => Some(part_of(&example, self.set)),
             State::Halving(example) => {
-                match halve(8, 0, lists.everything(), false, &self.replies, 0) {
+                match halve(8, 0, self.set, false, &self.replies, 0) {
                     Halved::Wants(set) => Some(part_of(&example, set)),
                     Halved::Got(_, _) => None,
                 }
@@ -167,7 +188,7 @@ impl Fold {
 
     /// Whether a question may be put, where none is open.
     pub(crate) fn is_lawful(&self, lists: &Lists, values: &Values) -> bool {
-        if !self.is_quacq {
+        if !self.has_examples() {
             return match self.scope_question(lists) {
                 Some(question) => are_same(&question, values),
                 None => false,
@@ -187,63 +208,121 @@ impl Fold {
         yes: bool,
     ) -> Result<(), AllocError> {
         match self.state {
-            State::Idle if self.is_quacq => {
+            State::Idle if self.has_examples() => {
                 self.told.push((question, yes))?;
-                self.example_answered(alloc, lists, question, yes)
+                if self.plan == Plan::Multi {
+                    self.walked = Some(question);
+                    self.waiting = Vec::new(alloc);
+                    self.left = 4095;
+                }
+                self.part_answered(alloc, lists, question, lists.everything(), yes)
+            }
+            State::Walking(example) => {
+                self.told.push((question, yes))?;
+                self.part_answered(alloc, lists, example, self.set, yes)
             }
             State::Idle => {
                 let next = self.next_scope(lists);
                 let choices = self.free_choices(lists, next.unwrap_or(0));
                 self.told.push((question, yes))?;
-                self.tuple_answered(lists, next.unwrap_or(0), choices, yes)
+                self.tuple_answered(alloc, lists, next.unwrap_or(0), choices, yes)
             }
             State::Halving(example) => {
                 self.told.push((question, yes))?;
                 self.replies.push(yes)?;
-                self.halved(lists, example)
+                self.halved(alloc, lists, example)
             }
             State::Choosing(s, choices) => {
                 self.told.push((question, yes))?;
-                self.tuple_answered(lists, s, choices, yes)
+                self.tuple_answered(alloc, lists, s, choices, yes)
             }
             State::Over => Ok(()),
         }
     }
 
-    /// After a no to an example its variables are halved.
-    fn example_answered(
+    /// After a no to an example on a set, the set is halved. In plan Multi it waits again meanwhile.
+    fn part_answered(
         &mut self,
         alloc: Global,
         lists: &Lists,
         example: Values,
+        set: u32,
         yes: bool,
     ) -> Result<(), AllocError> {
         if yes {
-            return Ok(());
+            return self.go_on(alloc, lists);
         }
+        if self.walked.is_some() {
+            self.waiting.push(set)?;
+        }
+        self.set = set;
         self.replies = Vec::new(alloc);
-        self.halved(lists, example)
+        self.halved(alloc, lists, example)
+    }
+
+    /// The scope of the first learned candidate that the example violates within a set.
+    fn learned_within(&self, lists: &Lists, example: &Values, set: u32) -> Option<usize> {
+        for c in &self.network {
+            if lists.violates(c.0, c.1, example) && lists.is_scope_within(c.0, set) {
+                return Some(c.0);
+            }
+        }
+        None
+    }
+
+    /// Where an example is walked, its next part is asked about; else nothing is open.
+    fn go_on(&mut self, alloc: Global, lists: &Lists) -> Result<(), AllocError> {
+        self.state = State::Idle;
+        let Some(example) = self.walked else {
+            return Ok(());
+        };
+        for _ in 0..4096u16 {
+            if self.left == 0 {
+                break;
+            }
+            let Some(set) = self.waiting.pop() else {
+                break;
+            };
+            self.left = self.left.saturating_sub(1);
+            if let Some(s) = self.learned_within(lists, &example, set) {
+                for part in lists.parts_without(alloc, set, s)? {
+                    self.waiting.push(part)?;
+                }
+            } else if self.violates_kept(lists, &part_of(&example, set)) {
+                self.set = set;
+                self.state = State::Walking(example);
+                return Ok(());
+            }
+        }
+        self.walked = None;
+        Ok(())
     }
 
     /// A halving goes on, yes for each part that violates no kept candidate.
-    fn halved(&mut self, lists: &Lists, example: Values) -> Result<(), AllocError> {
+    fn halved(&mut self, alloc: Global, lists: &Lists, example: Values) -> Result<(), AllocError> {
         self.state = State::Halving(example);
         for _ in 0..100u8 {
-            match halve(8, 0, lists.everything(), false, &self.replies, 0) {
+            match halve(8, 0, self.set, false, &self.replies, 0) {
                 Halved::Wants(set) => {
                     if self.violates_kept(lists, &part_of(&example, set)) {
                         return Ok(());
                     }
                     self.replies.push(true)?;
                 }
-                Halved::Got(set, _) => return self.found(lists, &example, set),
+                Halved::Got(set, _) => return self.found(alloc, lists, &example, set),
             }
         }
         Ok(())
     }
 
     /// A set is found: the kept candidates there that the example violates are told apart.
-    fn found(&mut self, lists: &Lists, example: &Values, set: u32) -> Result<(), AllocError> {
+    fn found(
+        &mut self,
+        alloc: Global,
+        lists: &Lists,
+        example: &Values,
+        set: u32,
+    ) -> Result<(), AllocError> {
         self.state = State::Over;
         let Some(s) = lists.scope_of(set) else {
             return Ok(());
@@ -252,34 +331,39 @@ impl Fold {
         if choices.iter().all(|choice| !*choice) {
             return Ok(());
         }
-        self.choose(lists, s, choices)
+        self.choose(alloc, lists, s, choices)
     }
 
     /// The choices that agree with a reply about their tuple go on.
     fn tuple_answered(
         &mut self,
+        alloc: Global,
         lists: &Lists,
         s: usize,
         choices: Choices,
         yes: bool,
     ) -> Result<(), AllocError> {
         let left = lists.replied(s, &choices, yes);
-        self.choose(lists, s, left)
+        self.choose(alloc, lists, s, left)
     }
 
     /// Choices go on to be told apart, or what remains is learned.
-    fn choose(&mut self, lists: &Lists, s: usize, choices: Choices) -> Result<(), AllocError> {
+    fn choose(
+        &mut self,
+        alloc: Global,
+        lists: &Lists,
+        s: usize,
+        choices: Choices,
+    ) -> Result<(), AllocError> {
         if lists.question(s, &choices).is_some() {
             self.state = State::Choosing(s, choices);
             return Ok(());
         }
-        self.state = State::Idle;
-        if choices[MOST_RELATIONS] {
-            return Ok(());
-        }
-        if let Some(relation) = choices.iter().position(|choice| *choice) {
+        if !choices[MOST_RELATIONS]
+            && let Some(relation) = choices.iter().position(|choice| *choice)
+        {
             self.network.push((s, relation))?;
         }
-        Ok(())
+        self.go_on(alloc, lists)
     }
 }

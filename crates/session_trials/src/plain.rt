@@ -1,5 +1,7 @@
 //! A language as lists.
 
+use std::alloc::{AllocError, Global};
+
 /// The most variables of a language here.
 pub(crate) const MOST_VARIABLES: usize = 5;
 
@@ -200,6 +202,33 @@ impl Lists {
         self.scopes
             .iter()
             .position(|scope| set_of(&scope.variables) == set)
+    }
+
+    /// Whether a scope lies within a set.
+    pub(crate) fn is_scope_within(&self, s: usize, set: u32) -> bool {
+        match self.scopes.get(s) {
+            Some(scope) => set_of(&scope.variables) & !set == 0,
+            None => false,
+        }
+    }
+
+    /// A set without each variable of a scope in turn, the first last.
+    pub(crate) fn parts_without(
+        &self,
+        alloc: Global,
+        set: u32,
+        s: usize,
+    ) -> Result<Vec<u32>, AllocError> {
+        let mut parts = Vec::new(alloc);
+        let Some(scope) = self.scopes.get(s) else {
+            return Ok(parts);
+        };
+        for v in scope.variables.iter().rev() {
+            if *v < 32 {
+                parts.push(set & !(1u32 << *v))?;
+            }
+        }
+        Ok(parts)
     }
 
     /// The set of all variables.

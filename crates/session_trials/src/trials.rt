@@ -1,7 +1,5 @@
 //! Random answers, given to a session and to the fold.
 
-ghost use Rattle.std.specs.Prelude.{◌≢◌};
-
 use crate::fold::{Fold, State};
 use crate::plain::{Lists, MOST_VARIABLES, Values, value_of};
 use crate::vocabularies::{Random, language, lists_of};
@@ -37,12 +35,6 @@ struct Tally {
     answers: u32,
     learned: u32,
     collapsed: u32,
-}
-
-fn plan_of(is_quacq: bool) -> Plan
-    ensures { result ≢ Plan.Multi }
-{
-    if is_quacq { Plan::Quacq } else { Plan::Scopes }
 }
 
 /// The assignment of these values.
@@ -202,7 +194,7 @@ impl Trial {
             Session::Over(_) => None,
             Session::Asking(_) => self.fold.open(&self.lists),
             Session::Idle(_) => {
-                if self.fold.is_quacq {
+                if self.fold.has_examples() {
                     lawful_example(&self.lists, &self.fold, &mut self.random)
                 } else {
                     self.fold.scope_question(&self.lists)
@@ -285,14 +277,14 @@ fn begun_trial(
     alloc: Global,
     lang: &Language,
     mut random: Random,
-    is_quacq: bool,
+    plan: Plan,
     is_true: bool,
 ) -> Result<Trial, Fail> {
     let lists = lists_of(alloc, lang)?;
     let network = target(alloc, &mut random, &lists)?;
     Ok(Trial {
         lists,
-        fold: Fold::new(alloc, is_quacq),
+        fold: Fold::new(alloc, plan),
         random,
         target: if is_true { Some(network) } else { None },
     })
@@ -314,39 +306,48 @@ fn session(
     rt: &impl Abort,
     alloc: Global,
     seed: u64,
-    is_quacq: bool,
+    plan: Plan,
     is_true: bool,
     tally: Tally,
 ) -> Result<Tally, Fail> {
     let mut random = Random::new(seed);
     let lang = language(alloc, &mut random)?;
-    let mut trial = begun_trial(alloc, &lang, random, is_quacq, is_true)?;
-    let begun = begin(alloc, lang, plan_of(is_quacq))?;
+    let mut trial = begun_trial(alloc, &lang, random, plan, is_true)?;
+    let begun = begin(alloc, lang, plan)?;
     let session = run(rt, alloc, begun, &mut trial)?;
     let tally = counted(tally, &session);
-    trial.fold = Fold::new(alloc, is_quacq);
+    trial.fold = Fold::new(alloc, plan);
     assert!(rt; trial.agrees(&session.restart()));
     Ok(tally)
 }
 
 /// So many sessions, each of a language of its own.
-fn sessions(rt: &impl Abort, alloc: Global, is_quacq: bool, is_true: bool) -> Result<Tally, Fail> {
+fn sessions(rt: &impl Abort, alloc: Global, plan: Plan, is_true: bool) -> Result<Tally, Fail> {
     let mut tally = Tally {
         answers: 0,
         learned: 0,
         collapsed: 0,
     };
     for seed in 1..=LANGUAGES {
-        tally = session(rt, alloc, seed, is_quacq, is_true, tally)?;
+        tally = session(rt, alloc, seed, plan, is_true, tally)?;
     }
     Ok(tally)
 }
 
-/// In each plan, and with true answers and untrue ones. Untrue ones are no network's in some session of plan Quacq alone.
+/// In each plan, and with true answers and untrue ones. Untrue ones are no network's in some session of a plan with examples
+/// alone.
 #[test]
 fn as_the_plain_fold(rt: HostRuntime) -> Result<(), Fail> {
-    for (is_quacq, is_true) in [(false, true), (false, false), (true, true), (true, false)] {
-        let tally = sessions(&rt, rt.alloc(), is_quacq, is_true)?;
+    let rows = [
+        (Plan::Scopes, true),
+        (Plan::Scopes, false),
+        (Plan::Quacq, true),
+        (Plan::Quacq, false),
+        (Plan::Multi, true),
+        (Plan::Multi, false),
+    ];
+    for (plan, is_true) in rows {
+        let tally = sessions(&rt, rt.alloc(), plan, is_true)?;
         let Tally {
             answers,
             learned,
@@ -354,11 +355,11 @@ fn as_the_plain_fold(rt: HostRuntime) -> Result<(), Fail> {
         } = tally;
         assert!(rt;
             answers > 20_000 && learned > 4_000,
-            "{is_quacq} {is_true} {answers} {learned}"
+            "{plan:?} {is_true} {answers} {learned}"
         );
         assert!(rt;
-            (collapsed > 0) == (is_quacq && !is_true),
-            "{is_quacq} {is_true} {collapsed}"
+            (collapsed > 0) == (plan != Plan::Scopes && !is_true),
+            "{plan:?} {is_true} {collapsed}"
         );
     }
     Ok(())

@@ -5,6 +5,8 @@ use Rattle.language.specs.Language.{Language, IsLanguage}
 use Rattle.language.specs.Answers.{standing_on}
 use Rattle.query_gen.specs.Marks.{IsMadeFor}
 use Rattle.session_laws.specs.Laws.{network_in}
+use Rattle.session_laws.specs.Session.{state_after}
+use Rattle.session_laws.proofs.Pending.{ended_is_walked}
 use Rattle.session_core.specs.Settled.{IsSettled}
 use Rattle.target_oracle.specs.Turns.{Turns}
 use Rattle.acq_cli.specs.Driven.{Place, Drives, Remembers, StepsTo, TellsOpen}
@@ -61,6 +63,12 @@ returns-in-Some-clause-open g c m is =
     let Open : Language → Plan → Type 0 = λ n q. TellsOpen n (request_with q c.args.budget) (standing_on n (g.P.Keep.record_of c.take_turn.new.keep)) c.take_turn.new.screen in
     carried Open (g.P.Keep.lang c.loop-turn.keep) (g.P.Keep.lang c.args.keep.now) (g.P.Keep.plan c.loop-turn.keep) (g.P.Keep.plan c.args.keep.now)
     c.loop-turn.invariant.lang c.loop-turn.invariant.plan (c.in-Some.ensures.open m (ap (λ (x : Drove). let o : Option Drove = Some x in o) is))
+
+pub returns-in-Some-clause-walked : goal.returns-in-Some-clause-walked
+returns-in-Some-clause-walked g c e state multi at ended =
+    let l : Language = g.P.Keep.lang c.args.keep.now in
+    let t : List Answer = standing_on l (g.P.Keep.record_of c.take_turn.new.keep) in
+    ended_is_walked l t state e (subst IsLanguage (c.lang.ensures.is ∙ c.session.ensures.lang) c.lang.ensures.lawful) (ap (λ (p : Plan). state_after l p t) (sym multi) ∙ at) ended
 
 pub loop-turn-preserved : goal.loop-turn-preserved
 loop-turn-preserved g c =

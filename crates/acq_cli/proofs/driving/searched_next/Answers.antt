@@ -11,7 +11,7 @@ returns-in-Ask-clause-next c t stands =
     let k : Knowledge = c.args.idle.now.knowledge in
     let says : next_query k.lang k.network.list k.kept.members c.args.budget ≡ Ask c.in-Ask.question =
     sym (c.in-Ask.ensures.is ∙ (λ i. next_query (c.lang.ensures.is i) (c.network.ensures.is i).list (c.kept.ensures.is i).members c.args.budget)) in
-    let new = searched_new k t c.args.budget stands.after stands.knows (subst IsLanguage c.lang.ensures.is c.lang.ensures.lawful) c.requires.plan c.in-Ask.question says in
+    let new = searched_new k t c.args.budget stands.after.end stands.after.idle stands.knows (subst IsLanguage c.lang.ensures.is c.lang.ensures.lawful) c.requires.plan c.in-Ask.question says in
     (new.0, refl, new.1)
 
 pub returns-in-AllImplied-clause-next : goal.returns-in-AllImplied-clause-next
@@ -19,11 +19,11 @@ returns-in-AllImplied-clause-next c t stands =
     let k : Knowledge = c.args.idle.now.knowledge in
     let says : next_query k.lang k.network.list k.kept.members c.args.budget ≡ AllImplied =
     sym (c.in-AllImplied.ensures.is ∙ (λ i. next_query (c.lang.ensures.is i) (c.network.ensures.is i).list (c.kept.ensures.is i).members c.args.budget)) in
-    searched_done k t c.args.budget stands.after stands.knows (subst IsLanguage c.lang.ensures.is c.lang.ensures.lawful) c.requires.plan says
+    searched_done k t c.args.budget stands.after.end stands.after.idle stands.knows (subst IsLanguage c.lang.ensures.is c.lang.ensures.lawful) c.requires.plan says
 
 pub returns-in-Undecided-clause-next : goal.returns-in-Undecided-clause-next
 returns-in-Undecided-clause-next c t stands =
     let k : Knowledge = c.args.idle.now.knowledge in
     let says : next_query k.lang k.network.list k.kept.members c.args.budget ≡ Undecided =
     sym (c.in-Undecided.ensures.is ∙ (λ i. next_query (c.lang.ensures.is i) (c.network.ensures.is i).list (c.kept.ensures.is i).members c.args.budget)) in
-    searched_open k t c.args.budget stands.after stands.knows (subst IsLanguage c.lang.ensures.is c.lang.ensures.lawful) c.requires.plan says
+    searched_open k t c.args.budget stands.after.end stands.after.idle stands.knows (subst IsLanguage c.lang.ensures.is c.lang.ensures.lawful) c.requires.plan says

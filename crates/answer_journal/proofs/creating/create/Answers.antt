@@ -21,7 +21,7 @@ returns-in_err-add_record-clause-any_moment g c old told =
     let first : LeavesOnly g.D.Disk.moment g.D.Disk.left_since c.args.disk.now c.empty.new.disk P =
     joined g.D.Disk.moment g.D.Disk.left_since c.args.disk.now c.head_of.new.disk c.empty.new.disk before HasNoSession P c.head_of.ensures.only_read.any_moment (c.empty.ensures.any_moment old told_mid) (λ f was. inl was) (λ f none. inr (inl none)) in
     joined g.D.Disk.moment g.D.Disk.left_since c.args.disk.now c.empty.new.disk c.add_record.new.disk P (IsWithOrWithout (take 8 s.now) c.deref.result.now) P first (c.add_record.ensures.any_moment s.now s.tells)
-    (λ f was. was) (λ f w. creating before s.now f c.args.plan c.args.voc.now c.deref.result.now (record { known = c.requires.known; short = c.requires.short }) s.holds rest_is w)
+    (λ f was. was) (λ f w. creating before s.now f c.args.plan c.args.voc.now c.deref.result.now (record { short = c.requires.short }) s.holds rest_is w)
 
 pub at-requires-clause-near : goal.at-requires-clause-near
 at-requires-clause-near g c = omega (arith, ap length c.in_ok-rest.ensures, c.requires.short, session_size c.args.plan c.args.voc.now, length-append (session_tail c.args.plan c.args.voc.now) (0 ∷ []))
@@ -32,7 +32,7 @@ returns-clause-created g c old told =
     let s = c.in_ok-empty.ensures.emptied old told_mid in
     let t = c.in_ok-add_record.ensures.added s.now s.tells in
     let rest_is : c.deref.result.now ≡ session_tail c.args.plan c.args.voc.now ++ 0 ∷ [] = c.deref.ensures.value ∙ c.in_ok-rest.ensures in
-    record { now = t.now; tells = t.tells; durable = t.durable; holds = starts s.now t.now c.args.plan c.args.voc.now c.deref.result.now (record { known = c.requires.known; short = c.requires.short }) s.holds rest_is t.holds }
+    record { now = t.now; tells = t.tells; durable = t.durable; holds = starts s.now t.now c.args.plan c.args.voc.now c.deref.result.now (record { short = c.requires.short }) s.holds rest_is t.holds }
 
 pub returns-clause-sits : goal.returns-clause-sits
 returns-clause-sits g c x told_new =
@@ -61,4 +61,4 @@ returns-clause-any_moment g c old told =
     let first : LeavesOnly g.D.Disk.moment g.D.Disk.left_since c.args.disk.now c.empty.new.disk P =
     joined g.D.Disk.moment g.D.Disk.left_since c.args.disk.now c.head_of.new.disk c.empty.new.disk before HasNoSession P c.head_of.ensures.only_read.any_moment (c.empty.ensures.any_moment old told_mid) (λ f was. inl was) (λ f none. inr (inl none)) in
     joined g.D.Disk.moment g.D.Disk.left_since c.args.disk.now c.empty.new.disk c.add_record.new.disk P (IsWithOrWithout (take 8 s.now) c.deref.result.now) P first (c.add_record.ensures.any_moment s.now s.tells)
-    (λ f was. was) (λ f w. creating before s.now f c.args.plan c.args.voc.now c.deref.result.now (record { known = c.requires.known; short = c.requires.short }) s.holds rest_is w)
+    (λ f was. was) (λ f w. creating before s.now f c.args.plan c.args.voc.now c.deref.result.now (record { short = c.requires.short }) s.holds rest_is w)

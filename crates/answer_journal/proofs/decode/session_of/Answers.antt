@@ -18,7 +18,7 @@ returns-in_err-plan-clause-none c = rw c.from_residual-in_err-plan.ensures (λ p
     let found = c.in_ok-payload.ensures.found in
     let p = c.in_ok-payload.payload.now in
     let is : p ≡ plan_byte plan ∷ voc = session_payload c.args.bytes.now p c.in_ok-payload.rest.now found.0 found.1 plan voc gate behind session spelled in
-    c.in_err-plan.ensures.none plan session.known (ap (λ (l : List ℕ). get_or l 0 0) is))
+    c.in_err-plan.ensures.none plan (ap (λ (l : List ℕ). get_or l 0 0) is))
 
 pub returns-then-voc-gt-MOST_VOCABULARY-clause-none : goal.returns-then-voc-gt-MOST_VOCABULARY-clause-none
 returns-then-voc-gt-MOST_VOCABULARY-clause-none c plan voc gate behind session spelled =
@@ -31,4 +31,4 @@ pub returns-clause-found : goal.returns-clause-found
 returns-clause-found c =
     let found = c.in_ok-payload.ensures.found in
     let plan_is = c.in_ok-plan.ensures.found in
-    (record { known = plan_is.0; short = c.if-voc-gt-MOST_VOCABULARY.false }, session_found c.args.bytes.now c.in_ok-payload.payload.now c.in_ok-payload.rest.now c.in_ok-plan.plan found.1 c.in-len1-up.len_at_least plan_is.1, found.2)
+    (record { short = c.if-voc-gt-MOST_VOCABULARY.false }, session_found c.args.bytes.now c.in_ok-payload.payload.now c.in_ok-payload.rest.now c.in_ok-plan.plan found.1 c.in-len1-up.len_at_least plan_is, found.2)

@@ -1,5 +1,6 @@
-use Rattle.std.proofs.Common.{sym, ◌∙◌, None}
+use Rattle.std.proofs.Common.{sym, ◌∙◌}
 use Rattle.find_c.specs.Scenes.{violated_choices}
+use Rattle.multi_tree.specs.Stage.{walk_in}
 use Rattle.session_core.specs.declared.knowledge.Knowledge.{Knowledge}
 use Rattle.session_core.proofs.Steps.{found_choices}
 use Rattle.session_core.proofs.Moving.{led_as, unlearned_scope}
@@ -26,6 +27,6 @@ returns-in_default-start c =
       plan = c.chosen.ensures.plan;
       none_new = c.chosen.ensures.none_new;
       stands = λ t led. c.chosen.ensures.stands c.in-Some.s (violated_choices k.lang k.kept.members c.args.example c.in-Some.s) c.start.ensures.settled t
-          (led_as k t _ _ (found_choices k.lang t c.args.example k.network.list k.kept.members None c.args.set c.in-Some.s led.knows.kept (sym c.scope_of.ensures.is ∙ c.in-Some.is)
+          (led_as k t _ _ (found_choices k.lang t c.args.example k.network.list k.kept.members (walk_in k.tree) c.args.set c.in-Some.s led.knows.kept (sym c.scope_of.ensures.is ∙ c.in-Some.is)
           (λ none. c.in_default-start.not-Nothing (c.start.ensures.nothing.1 none))) led);
     }

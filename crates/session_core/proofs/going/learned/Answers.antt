@@ -1,22 +1,24 @@
-use Rattle.std.proofs.Common.{◌∙◌, Bool, List, not, sym, ap, subst, None}
+use Rattle.std.proofs.Common.{◌∙◌, Bool, List, not, sym, ap, subst}
 use Rattle.std.specs.Prelude.{filter, ◌==◌, All}
 use Rattle.std.proofs.lemmas.List.Elements.{All-push}
 use Rattle.language.specs.declared.candidates.Candidate.{Candidate}
 use Rattle.language.specs.Language.{IsCandidate}
 use Rattle.language.specs.Answers.{kept}
-use Rattle.session_laws.specs.Session.{At, Idle}
+use Rattle.session_laws.specs.Session.{At, go_on}
+use Rattle.multi_tree.specs.Stage.{walk_in}
 use Rattle.session_core.specs.declared.knowledge.Knowledge.{Knowledge}
 use Rattle.session_core.specs.Sound.{AreUnlearned}
 use Rattle.session_core.proofs.Moving.{decided_learned, kept_learned, unlearned_after}
 use Rattle.session_core.proofs.going.learned.Goals as goal
 
-pub invariant_of-result : goal.invariant_of-result
-invariant_of-result c =
+pub invariant_of-walked : goal.invariant_of-walked
+invariant_of-walked c =
     let k : Knowledge = c.args.knowledge in
     let left : Candidate → Bool = λ (d : Candidate). not (c.args.c.scope == d.scope) in
     let more : List Candidate = c.learn.new.self.list in
     record {
-      planned = k.planned;
+      walks = k.walks;
+      resting = k.resting;
       made = c.drop_scope.ensures.made k.lang k.made;
       lawful = subst (All (IsCandidate k.lang)) (sym c.learn.ensures.list) (All-push (IsCandidate k.lang) k.network.list c.args.c k.lawful c.requires.candidate);
       room = c.learn.ensures.scopes ∙ k.room;
@@ -28,11 +30,11 @@ invariant_of-result c =
 pub returns-clause-stands : goal.returns-clause-stands
 returns-clause-stands c = λ t led.
     let k : Knowledge = c.args.knowledge in
-    record {
-      after = led.at ∙ ap (λ (cs : List Candidate). At (Idle cs None)) (sym c.learn.ensures.list);
+    c.walked.ensures.stands t (record {
+      at = led.at ∙ ap (λ (cs : List Candidate). At (go_on k.lang t cs (walk_in k.tree))) (sym c.learn.ensures.list);
       knows = record {
         kept = c.drop_scope.ensures.kept ∙ ap (filter (λ (d : Candidate). not (c.args.c.scope == d.scope))) led.knows.kept ∙ sym (kept_learned k.lang t k.network.list c.args.c)
             ∙ ap (kept k.lang t) (sym c.learn.ensures.list);
         count = led.knows.count;
       };
-    }
+    })

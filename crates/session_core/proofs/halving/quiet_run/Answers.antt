@@ -1,6 +1,6 @@
 use Rattle.std.proofs.Common.{sym, subst}
 use Rattle.language.specs.Language.{IsQuestion}
-use Rattle.session_core.proofs.Questions.{part_is_question}
+use Rattle.session_laws.proofs.Restrict.{part_is_question}
 use Rattle.session_core.proofs.halving.quiet_run.Goals as goal
 
 pub strikes_any-requires-clause-question : goal.strikes_any-requires-clause-question

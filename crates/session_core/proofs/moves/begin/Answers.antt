@@ -10,7 +10,7 @@ pub returns-clause-stands : goal.returns-clause-stands
 returns-clause-stands c =
     let empty = sym c.in_ok-network.ensures.empty in
     record {
-      after = state_nil c.args.lang c.args.plan ∙ ap (λ (network : List Candidate). At (Idle network None)) empty;
+      after = record { end = None; idle = state_nil c.args.lang c.args.plan ∙ ap (λ (network : List Candidate). At (Idle network None)) empty };
       knows = record {
         kept = c.in_ok-kept.ensures.all ∙ sym (filter_all (candidates c.args.lang)) ∙ ap (kept c.args.lang []) empty;
         count = refl;

@@ -10,7 +10,8 @@ invariant_of-result c =
     let k : Knowledge = c.args.self in
     let left : Candidate → Bool = λ (d : Candidate). not (c.args.yes && violates k.lang d c.args.q.now) in
     record {
-      planned = k.planned;
+      walks = k.walks;
+      resting = k.resting;
       made = c.kept_after-kept.ensures.made;
       lawful = k.lawful;
       room = k.room;

@@ -10,7 +10,7 @@ pub returns-clause-stands : goal.returns-clause-stands
 returns-clause-stands c =
     let empty = sym c.clear.ensures.list in
     record {
-      after = state_nil c.args.self.lang c.args.self.plan ∙ ap (λ (network : List Candidate). At (Idle network None)) empty;
+      after = record { end = None; idle = state_nil c.args.self.lang c.args.self.plan ∙ ap (λ (network : List Candidate). At (Idle network None)) empty };
       knows = record {
         kept = c.reset.ensures.all ∙ sym (filter_all (candidates c.args.self.lang)) ∙ ap (kept c.args.self.lang []) empty;
         count = refl;

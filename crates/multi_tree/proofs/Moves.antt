@@ -1,0 +1,18 @@
+-- One move more.
+use Rattle.std.proofs.Common.{◌≡◌, List, [], ◌∷◌, ◌++◌, refl, sym, ◌∙◌, ap}
+use Rattle.assign.specs.Assignment.{Assignment}
+use Rattle.language.specs.Language.{Language}
+use Rattle.multi_tree.specs.Stage.{Stage, begun}
+use Rattle.multi_tree.specs.Standing.{Move, moved, after_moves, StandsFor}
+
+pub nothing_done : (l : Language) (e : Assignment) (stage : Stage) → stage ≡ begun l e → StandsFor stage l e []
+unfolding after_moves
+nothing_done l e stage is = is
+
+one_more : (l : Language) (stage : Stage) (moves : List Move) (move : Move) → after_moves l stage (moves ++ move ∷ []) ≡ moved l (after_moves l stage moves) move
+unfolding after_moves
+one_more l stage [] move = refl
+one_more l stage (m ∷ moves) move = one_more l (moved l stage m) moves move
+
+pub move_stands : (l : Language) (e : Assignment) (old new : Stage) (moves : List Move) (move : Move) → new ≡ moved l old move → StandsFor old l e moves → StandsFor new l e (moves ++ move ∷ [])
+move_stands l e old new moves move is stands = is ∙ ap (λ stage. moved l stage move) stands ∙ sym (one_more l (begun l e) moves move)

@@ -1,0 +1,4 @@
+pub mod Depth
+pub mod Stage
+pub mod Standing
+pub mod Inside
