@@ -10,4 +10,6 @@ pub mod Sayings
 pub mod Owners
 pub mod Parts
 pub mod Tries
+pub mod Journals
+pub mod Showing
 pub mod Wordings

@@ -36,7 +36,7 @@ use Rattle.acq_cli.specs.declared.words.Request.{Request}
 use Rattle.acq_cli.specs.Places.{request_with}
 use Rattle.acq_cli.specs.Run.{Next, Puts, Ends, Converged, Collapsed, puts_or, searched, idle_next, next_at, next_in, next_after}
 use Rattle.acq_cli.specs.Driven.{IsDone, IsCollapsed, IsLeftOpen, TellsOpen}
-use Rattle.acq_cli.specs.Due.{IsDue, PutIs}
+use Rattle.acq_cli.specs.Due.{IsDue, NextIs, PutIs}
 use Rattle.acq_cli.specs.declared.driving.Next.{Next as NextOf}
 use Rattle.acq_cli.specs.declared.driving.Next.TheVariants as nexts
 use Rattle.acq_cli.proofs.Questions.{IsLawfulExample, asked_is_example, all_are_implied, undecided_is_spent, kept_network, same_state}
@@ -208,3 +208,11 @@ over_at budget over lawful t stands = collapsed over.knowledge.lang (request_wit
 pub put_due : (l : Language) (request : Request) (t : List Answer) (put : Option Assignment) (n : NextOf) (q : Assignment) → PutIs l request t put n → (n ≡ nexts.Open q) ⊎ (n ≡ nexts.New q) → IsDue l request t q
 put_due l request t put n q is (inl e) = (subst (PutIs l request t put) e is).0
 put_due l request t put n q is (inr e) = (subst (PutIs l request t put) e is).0
+
+-- where none is put anew, the question that is put stays
+pub put_as : (l : Language) (wish : Request) (t : List Answer) (put : Option Assignment) (n : NextOf) → ((q : Assignment) → n ≡ nexts.New q → ⊥) → NextIs l wish t put n → PutIs l wish t put n
+put_as l wish t put (nexts.Open q) other is = is
+put_as l wish t put (nexts.New q) other is = absurd (other q refl)
+put_as l wish t put nexts.Converged other is = is
+put_as l wish t put nexts.Collapsed other is = is
+put_as l wish t put nexts.Undecided other is = is

@@ -22,4 +22,6 @@ owned turns l request old t left written drove.LineTooLong owner h lawful agreei
 owned turns l request old t left written drove.Unreadable owner h lawful agreeing = tt
 owned turns l request old t left written drove.ReadFault owner h lawful agreeing = tt
 owned turns l request old t left written drove.WriteFault owner h lawful agreeing = tt
+owned turns l request old t left written drove.DiskFault owner h lawful agreeing = tt
+owned turns l request old t left written drove.JournalFull owner h lawful agreeing = tt
 owned turns l request old t left written drove.Memory owner h lawful agreeing = tt

@@ -1,7 +1,7 @@
 -- What was written where it could not be written whole.
 use Rattle.std.proofs.Common.{◌≡◌, ℕ, List, [], ◌++◌, ap, sym, subst, refl, ◌∙◌, Option, Some, None, Result, Ok, Err, inl, inr, append_assoc}
 use Rattle.std.proofs.lemmas.List.{append-nil}
-use Rattle.std.specs.Prelude.{IfOk, OnErr, is_some}
+use Rattle.std.specs.Prelude.{◌≢◌, IfOk, OnErr, is_some}
 use Rattle.std.specs.Option.{option_map}
 use Rattle.acq_io.specs.Streams.{AddsFront}
 use Rattle.acq_io.specs.Whole.{Gathered, gathered, Gives, first_line_of}
@@ -52,22 +52,33 @@ pub on_err : {A : Type 0} (got : Result A Put) {P : Type 0} → P → OnErr got 
 on_err (Ok done) part = tt
 on_err (Err e) part = part
 
+-- what ends in one way ends in no other
+pub ends_so : (got : Result Ending Put) (end other : Ending) (P : Type 0) → (end ≡ other → ⊥) → IfOk got (λ e. (e ≡ end) × P) → IfOk got (λ e. e ≢ other)
+ends_so (Ok e) end other P apart (is, said) = λ same. apart (sym is ∙ same)
+ends_so (Err f) end other P apart told = tt
+
+pub done_writes : ending.Done ≡ ending.WriteFault → ⊥
+done_writes e = cc
+
+pub done_reads : ending.Done ≡ ending.ReadFault → ⊥
+done_reads e = cc
+
 -- ---- the text of a run
 
 -- answers begin where nothing is open
-begun : (l : Language) (plan : Plan) → IsReached l plan []
+pub begun : (l : Language) (plan : Plan) → IsReached l plan []
 unfolding read_on
 begun l plan = (Idle [] None, refl)
 
 -- nothing of it was written
-pub begun_part : (l : Language) (request : Request) (left written : Option (List ℕ)) → IsLanguage l → BreaksRun l request left written written
-begun_part l request left written lawful bytes before from to =
-    let has = run_exists run_laws line_turn l request lawful [] bytes (begun l request.plan) in
+pub begun_part : (l : Language) (request : Request) (start : List Answer) (left written : Option (List ℕ)) → IsLanguage l → IsReached l request.plan start → BreaksRun l request start left written written
+begun_part l request start left written lawful reached bytes before from to =
+    let has = run_exists run_laws line_turn l request lawful start bytes reached in
     record { run = has.run; runs = has.runs; text = record { front = []; back = whole_text l request has.run; parts = refl; put = to ∙ some_text _ _ (sym (append-nil before)) } }
 
-module _ (l : Language) (request : Request) (left written left' middle written' : Option (List ℕ)) (t : List Answer) where
+module _ (l : Language) (request : Request) (start : List Answer) (left written left' middle written' : Option (List ℕ)) (t : List Answer) where
   -- the lines of its turns are written, and a front of the last ones
-  pub closed_part : (closing : Closing) → RanTo line_turn l request closing (place_of [] left written) (place_of t left' middle) → AddsFront middle written' (closing_text l request t closing) → BreaksRun l request left written written'
+  pub closed_part : (closing : Closing) → RanTo line_turn l request closing (place_of start left written) (place_of t left' middle) → AddsFront middle written' (closing_text l request t closing) → BreaksRun l request start left written written'
   closed_part closing ran (front, back, parts, adds) bytes before from to =
       let run = ran bytes before from to in
       let Text : Type 0 = List ℕ in
@@ -85,7 +96,7 @@ module _ (l : Language) (request : Request) (left written left' middle written' 
       }
 
   -- the lines of its turns aren't all written
-  pub cut_part : CutOff line_turn l request (place_of [] left written) (place_of t left' middle) → written' ≡ middle → BreaksRun l request left written written'
+  pub cut_part : CutOff line_turn l request (place_of start left written) (place_of t left' middle) → written' ≡ middle → BreaksRun l request start left written written'
   cut_part cut same bytes before from to =
       let run = cut bytes before from to in
       let last : List ℕ = closing_text l request run.run.answers run.run.closing in
@@ -144,7 +155,7 @@ module _ (words : List (List ℕ)) (request : Request) (left rest written writte
       let is : Q (first_line_of 4194304 bytes) = subst Q (sym given.gives) (record { fault = fault; refused = refused; is = refl }) in
       inr (record { whole = refusal_text fault; is = subst P (sym taken) (inl is); text = front_of (refusal_text fault) before written written' adds to })
 
-  pub breaks_run : (line : List ℕ) (lang : Language) → got ≡ Ok line → IsVocabulary line lang → BreaksRun lang request rest written written' → Breaks words left written written'
+  pub breaks_run : (line : List ℕ) (lang : Language) → got ≡ Ok line → IsVocabulary line lang → BreaksRun lang request [] rest written written' → Breaks words left written written'
   breaks_run line lang is vocabulary broken bytes before from to =
       let given = given_of (first_line_of 4194304) left rest got bytes gives from in
       let part = broken given.rest before given.left to in
@@ -156,33 +167,39 @@ module _ (words : List (List ℕ)) (request : Request) (left rest written writte
       inr (record { whole = whole; is = subst P (sym taken) (inr run); text = part.text })
 
 -- what was done about a vocabulary is what the program has done
-pub acquires_by : (words : List (List ℕ)) (request : Request) (left rest written left' written' : Option (List ℕ)) (line : List ℕ) (lang : Language) (end : Ending) →
-    request_of words ≡ Some request → Gives (first_line_of 4194304) left rest (Ok line) → IsVocabulary line lang → Tries lang request rest written left' written' end → Acquires words left written left' written' end
-acquires_by words request left rest written left' written' line lang end taken gives vocabulary tries = go end tries
+pub acquires_by : (words : List (List ℕ)) (request : Request) (left rest written left' written' : Option (List ℕ)) (line : List ℕ) (lang : Language) (answers : List Answer) (end : Ending) →
+    request_of words ≡ Some request → Gives (first_line_of 4194304) left rest (Ok line) → IsVocabulary line lang → (end ≡ ending.DiskFault → ⊥) → Tries lang request [] answers rest written left' written' end → Acquires words left written left' written' end
+acquires_by words request left rest written left' written' line lang answers end taken gives vocabulary never tries = go end never tries
   where
-    reads : (e : Ending) → Tries lang request rest written left' written' e → Reads words left written left' written' e
-    reads e tried = record { request = request; taken = taken; line = line; rest = rest; gives = gives; lang = lang; vocabulary = vocabulary; tries = tried }
+    reads : (e : Ending) → Tries lang request [] answers rest written left' written' e → Reads words left written left' written' e
+    reads e tried = record { request = request; taken = taken; line = line; rest = rest; gives = gives; lang = lang; vocabulary = vocabulary; answers = answers; tries = tried }
 
-    go : (e : Ending) → Tries lang request rest written left' written' e → Acquires words left written left' written' e
-    go (ending.Converged m) tried = reads (ending.Converged m) tried
-    go (ending.Collapsed m) tried = reads (ending.Collapsed m) tried
-    go (ending.Undecided m) tried = reads (ending.Undecided m) tried
-    go (ending.Suspended m) tried = reads (ending.Suspended m) tried
-    go ending.LineTooLong tried = reads ending.LineTooLong tried
-    go ending.Unreadable tried = reads ending.Unreadable tried
-    go (ending.Usage fault) tried = absurd tried
-    go (ending.VocRefused fault) tried = absurd tried
-    go ending.ReadFault tried = (ap is_some taken, breaks_run words request left rest written written' (Ok line) taken gives line lang refl vocabulary tried)
-    go ending.WriteFault tried = absurd tried
-    go ending.Memory tried = absurd tried
+    go : (e : Ending) → (e ≡ ending.DiskFault → ⊥) → Tries lang request [] answers rest written left' written' e → Acquires words left written left' written' e
+    go (ending.Converged m) never tried = reads (ending.Converged m) tried
+    go (ending.Collapsed m) never tried = reads (ending.Collapsed m) tried
+    go (ending.Undecided m) never tried = reads (ending.Undecided m) tried
+    go (ending.Suspended m) never tried = reads (ending.Suspended m) tried
+    go ending.LineTooLong never tried = reads ending.LineTooLong tried
+    go ending.Unreadable never tried = reads ending.Unreadable tried
+    go (ending.Usage fault) never tried = absurd tried
+    go (ending.VocRefused fault) never tried = absurd tried
+    go ending.Done never tried = absurd tried
+    go (ending.JournalRefused fault) never tried = absurd tried
+    go ending.ReadFault never tried = (ap is_some taken, breaks_run words request left rest written written' (Ok line) taken gives line lang refl vocabulary tried)
+    go ending.WriteFault never tried = absurd tried
+    go ending.DiskFault never tried = absurd (never refl)
+    go ending.JournalFull never tried = absurd tried
+    go ending.Memory never tried = absurd tried
 
 pub acquires_in : (words : List (List ℕ)) (request : Request) (left rest written left' written' : Option (List ℕ)) (line : List ℕ) (lang : Language) (got : Result Ending Put) →
-    request_of words ≡ Some request → Gives (first_line_of 4194304) left rest (Ok line) → IsVocabulary line lang → IfOk got (Tries lang request rest written left' written') → IfOk got (Acquires words left written left' written')
-acquires_in words request left rest written left' written' line lang (Ok end) taken gives vocabulary tries = acquires_by words request left rest written left' written' line lang end taken gives vocabulary tries
-acquires_in words request left rest written left' written' line lang (Err e) taken gives vocabulary tries = tt
+    request_of words ≡ Some request → Gives (first_line_of 4194304) left rest (Ok line) → IsVocabulary line lang → IfOk got (λ (e : Ending). e ≡ ending.DiskFault → ⊥) →
+    IfOk got (λ (e : Ending). (answers : List Answer) × Tries lang request [] answers rest written left' written' e) → IfOk got (Acquires words left written left' written')
+acquires_in words request left rest written left' written' line lang (Ok end) taken gives vocabulary never (answers, tries) =
+    acquires_by words request left rest written left' written' line lang answers end taken gives vocabulary never tries
+acquires_in words request left rest written left' written' line lang (Err e) taken gives vocabulary never tries = tt
 
 pub breaks_in : (words : List (List ℕ)) (request : Request) (left rest written written' : Option (List ℕ)) (line : List ℕ) (lang : Language) (got : Result Ending Put) →
-    request_of words ≡ Some request → Gives (first_line_of 4194304) left rest (Ok line) → IsVocabulary line lang → OnErr got (BreaksRun lang request rest written written') → OnErr got (Breaks words left written written')
+    request_of words ≡ Some request → Gives (first_line_of 4194304) left rest (Ok line) → IsVocabulary line lang → OnErr got (BreaksRun lang request [] rest written written') → OnErr got (Breaks words left written written')
 breaks_in words request left rest written written' line lang (Ok end) taken gives vocabulary broken = tt
 breaks_in words request left rest written written' line lang (Err e) taken gives vocabulary broken = breaks_run words request left rest written written' (Ok line) taken gives line lang refl vocabulary broken
 

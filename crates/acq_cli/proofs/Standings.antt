@@ -21,6 +21,7 @@ use Rattle.session_core.specs.Standing.{Stands, PutAfter, knowledge_of}
 use Rattle.acq_cli.specs.declared.words.Request.{Request}
 use Rattle.assign.specs.declared.events.Event.{Event}
 use Rattle.language.specs.Answers.{standing_on}
+use Rattle.session_store.proofs.Replaying.{standing_count}
 use Rattle.acq_cli.specs.Run.{Next, next_in, next_after}
 use Rattle.acq_cli.specs.Due.{IsOneMore}
 use Rattle.acq_cli.specs.Driven.{Remembers}
@@ -76,6 +77,10 @@ at_turn session l m plan t count stands lang planned counted is lawful = record 
 -- the next question's number fits
 pub next_fits : (l : Language) (plan : Plan) (m : Language) (t : List Answer) (count : ℕ) → AtTurn l plan t count m → count + 1 < 2 ^ 32
 next_fits l plan m t count at = let few = few_answers l plan t at.lawful at.reached in let is = at.number in omega arith
+
+-- there is room for one more event
+pub room_left : (l : Language) (plan : Plan) (m : Language) (events : List Event) (count : ℕ) → AtTurn l plan (standing_on l events) count m → length events + 1 < 1000000
+room_left l plan m events count at = let few = few_answers l plan (standing_on l events) at.lawful at.reached in let is = standing_count l events in omega arith
 
 -- ---- what a screen remembers
 

@@ -11,7 +11,7 @@ use Rattle.language.specs.Answers.{standing_on}
 use Rattle.target_oracle.specs.Lines.{line_turn}
 use Rattle.query_gen.specs.Marks.{Remembered}
 use Rattle.acq_cli.specs.declared.words.Request.{Request}
-use Rattle.acq_cli.specs.Driven.{Place, Drives, TellsOpen}
+use Rattle.acq_cli.specs.Driven.{Place, Drives, TellsOpen, UnkeptTo}
 use Rattle.acq_cli.specs.Places.{place_of, request_with}
 use Rattle.acq_cli.proofs.Standings.{carried}
 use Rattle.acq_cli.specs.declared.driving.Drove.{Drove}
@@ -23,35 +23,41 @@ use Rattle.acq_cli.specs.Program.{HasEnded, Says, SaysPart, Tries}
 use Rattle.acq_cli.specs.Run.{Converged, Collapsed, Undecided, Suspended, LineTooLong, Unreadable}
 use Rattle.acq_cli.proofs.Parts.{closed_part, cut_part}
 
-by_drove : (l : Language) (request : Request) (left written left' middle written' : Option (List ℕ)) (t : List Answer) (drove : Drove) (end : Ending) →
-    Drives line_turn l request (place_of [] left written) (place_of t left' middle) drove → Says l request t middle written' drove end → Tries l request left written left' written' end
-by_drove l request left written left' middle written' t (drove.Converged m) end h says =
-    subst (Tries l request left written left' written') (sym says.0) (t, says.1.0, says.1.1, record { middle = middle; ran = h.2; adds = says.1.2 })
-by_drove l request left written left' middle written' t (drove.Collapsed m) end h says =
-    subst (Tries l request left written left' written') (sym says.0) (t, says.1, record { middle = middle; ran = h.2; adds = says.2 })
-by_drove l request left written left' middle written' t (drove.Undecided m) end h says =
-    subst (Tries l request left written left' written') (sym says.0) (t, says.1.0, says.1.1, record { middle = middle; ran = h.2; adds = says.1.2 })
-by_drove l request left written left' middle written' t (drove.Suspended m) end h says =
-    subst (Tries l request left written left' written') (sym says.0) (t, says.1, record { middle = middle; ran = h.1; adds = says.2 })
-by_drove l request left written left' middle written' t drove.LineTooLong end h says =
-    subst (Tries l request left written left' written') (sym says.0) (t, record { middle = middle; ran = h; adds = says.1 })
-by_drove l request left written left' middle written' t drove.Unreadable end h says =
-    subst (Tries l request left written left' written') (sym says.0) (t, record { middle = middle; ran = h; adds = says.1 })
-by_drove l request left written left' middle written' t drove.ReadFault end h says = subst (Tries l request left written left' written') (sym says.0) (cut_part l request left written left' middle written' t h says.1)
-by_drove l request left written left' middle written' t drove.WriteFault end h says = absurd says
-by_drove l request left written left' middle written' t drove.Memory end h says = absurd says
+by_drove : (l : Language) (request : Request) (start : List Answer) (left written left' middle written' : Option (List ℕ)) (t : List Answer) (drove : Drove) (end : Ending) →
+    Drives line_turn l request (place_of start left written) (place_of t left' middle) drove → Says l request t middle written' drove end → Tries l request start t left written left' written' end
+by_drove l request start left written left' middle written' t (drove.Converged m) end h says =
+    subst (Tries l request start t left written left' written') (sym says.0) (says.1.0, says.1.1, record { middle = middle; ran = h.2; adds = says.1.2 })
+by_drove l request start left written left' middle written' t (drove.Collapsed m) end h says =
+    subst (Tries l request start t left written left' written') (sym says.0) (says.1, record { middle = middle; ran = h.2; adds = says.2 })
+by_drove l request start left written left' middle written' t (drove.Undecided m) end h says =
+    subst (Tries l request start t left written left' written') (sym says.0) (says.1.0, says.1.1, record { middle = middle; ran = h.2; adds = says.1.2 })
+by_drove l request start left written left' middle written' t (drove.Suspended m) end h says =
+    subst (Tries l request start t left written left' written') (sym says.0) (says.1, record { middle = middle; ran = h.1; adds = says.2 })
+by_drove l request start left written left' middle written' t drove.LineTooLong end h says =
+    subst (Tries l request start t left written left' written') (sym says.0) (record { middle = middle; ran = h; adds = says.1 })
+by_drove l request start left written left' middle written' t drove.Unreadable end h says =
+    subst (Tries l request start t left written left' written') (sym says.0) (record { middle = middle; ran = h; adds = says.1 })
+by_drove l request start left written left' middle written' t drove.ReadFault end h says = subst (Tries l request start t left written left' written') (sym says.0) (cut_part l request start left written left' middle written' t h says.1)
+by_drove l request start left written left' middle written' t drove.WriteFault end h says = absurd says
+by_drove l request start left written left' middle written' t drove.DiskFault end h says =
+    let Unkept : Option (List ℕ) → Type 0 = λ w. UnkeptTo line_turn l request (place_of start left written) (place_of t left' w) in
+    subst (Tries l request start t left written left' written') (sym says.0) (cut_part l request start left written left' middle written' t h.0 says.1, subst Unkept (sym says.1) h.1)
+by_drove l request start left written left' middle written' t drove.JournalFull end h says = absurd says
+by_drove l request start left written left' middle written' t drove.Memory end h says = absurd says
 
-part_by_drove : (l : Language) (request : Request) (left written left' middle written' : Option (List ℕ)) (t : List Answer) (drove : Drove) →
-    Drives line_turn l request (place_of [] left written) (place_of t left' middle) drove → SaysPart l request t middle written' drove → BreaksRun l request left written written'
-part_by_drove l request left written left' middle written' t (drove.Converged m) h part = closed_part l request left written left' middle written' t Converged h.2 part
-part_by_drove l request left written left' middle written' t (drove.Collapsed m) h part = closed_part l request left written left' middle written' t Collapsed h.2 part
-part_by_drove l request left written left' middle written' t (drove.Undecided m) h part = closed_part l request left written left' middle written' t Undecided h.2 part
-part_by_drove l request left written left' middle written' t (drove.Suspended m) h part = closed_part l request left written left' middle written' t Suspended h.1 part
-part_by_drove l request left written left' middle written' t drove.LineTooLong h part = closed_part l request left written left' middle written' t LineTooLong h part
-part_by_drove l request left written left' middle written' t drove.Unreadable h part = closed_part l request left written left' middle written' t Unreadable h part
-part_by_drove l request left written left' middle written' t drove.ReadFault h part = absurd part
-part_by_drove l request left written left' middle written' t drove.WriteFault h same = cut_part l request left written left' middle written' t h same
-part_by_drove l request left written left' middle written' t drove.Memory h same = cut_part l request left written left' middle written' t h same
+part_by_drove : (l : Language) (request : Request) (start : List Answer) (left written left' middle written' : Option (List ℕ)) (t : List Answer) (drove : Drove) →
+    Drives line_turn l request (place_of start left written) (place_of t left' middle) drove → SaysPart l request t middle written' drove → BreaksRun l request start left written written'
+part_by_drove l request start left written left' middle written' t (drove.Converged m) h part = closed_part l request start left written left' middle written' t Converged h.2 part
+part_by_drove l request start left written left' middle written' t (drove.Collapsed m) h part = closed_part l request start left written left' middle written' t Collapsed h.2 part
+part_by_drove l request start left written left' middle written' t (drove.Undecided m) h part = closed_part l request start left written left' middle written' t Undecided h.2 part
+part_by_drove l request start left written left' middle written' t (drove.Suspended m) h part = closed_part l request start left written left' middle written' t Suspended h.1 part
+part_by_drove l request start left written left' middle written' t drove.LineTooLong h part = closed_part l request start left written left' middle written' t LineTooLong h part
+part_by_drove l request start left written left' middle written' t drove.Unreadable h part = closed_part l request start left written left' middle written' t Unreadable h part
+part_by_drove l request start left written left' middle written' t drove.ReadFault h part = absurd part
+part_by_drove l request start left written left' middle written' t drove.WriteFault h same = cut_part l request start left written left' middle written' t h same
+part_by_drove l request start left written left' middle written' t drove.DiskFault h part = absurd part
+part_by_drove l request start left written left' middle written' t drove.JournalFull h part = absurd part
+part_by_drove l request start left written left' middle written' t drove.Memory h same = cut_part l request start left written left' middle written' t h same
 
 ended_by : (l : Language) (request : Request) (a : Place) (t : List Answer) (left' middle : Option (List ℕ)) (how : Drove) → Drives line_turn l request a (place_of t left' middle) how → HasEnded l request t how
 ended_by l request a t left' middle (drove.Converged m) h = (h.0, h.1)
@@ -62,12 +68,16 @@ ended_by l request a t left' middle drove.LineTooLong h = tt
 ended_by l request a t left' middle drove.Unreadable h = tt
 ended_by l request a t left' middle drove.ReadFault h = tt
 ended_by l request a t left' middle drove.WriteFault h = tt
+ended_by l request a t left' middle drove.DiskFault h = tt
+ended_by l request a t left' middle drove.JournalFull h = h
 ended_by l request a t left' middle drove.Memory h = tt
 
 abbrev is_fault : Ending → Bool
 is_fault (ending.Converged m) = false
 is_fault (ending.Usage fault) = false
 is_fault (ending.VocRefused fault) = false
+is_fault ending.Done = false
+is_fault (ending.JournalRefused fault) = false
 is_fault (ending.Collapsed m) = false
 is_fault (ending.Undecided m) = false
 is_fault (ending.Suspended m) = false
@@ -75,6 +85,8 @@ is_fault ending.LineTooLong = false
 is_fault ending.Unreadable = false
 is_fault ending.ReadFault = true
 is_fault ending.WriteFault = false
+is_fault ending.DiskFault = false
+is_fault ending.JournalFull = false
 is_fault ending.Memory = false
 
 other : (a end : Ending) → is_fault a ≡ false → end ≡ a → end ≡ ending.ReadFault → ⊥
@@ -89,7 +101,47 @@ read_by l request t written written' drove.LineTooLong end says is = absurd (oth
 read_by l request t written written' drove.Unreadable end says is = absurd (other ending.Unreadable end refl says.0 is)
 read_by l request t written written' drove.ReadFault end says is = refl
 read_by l request t written written' drove.WriteFault end says is = absurd says
+read_by l request t written written' drove.DiskFault end says is = absurd (other ending.DiskFault end refl says.0 is)
+read_by l request t written written' drove.JournalFull end says is = absurd says
 read_by l request t written written' drove.Memory end says is = absurd says
+
+abbrev is_disk_fault : Ending → Bool
+is_disk_fault (ending.Converged m) = false
+is_disk_fault (ending.Usage fault) = false
+is_disk_fault (ending.VocRefused fault) = false
+is_disk_fault ending.Done = false
+is_disk_fault (ending.JournalRefused fault) = false
+is_disk_fault (ending.Collapsed m) = false
+is_disk_fault (ending.Undecided m) = false
+is_disk_fault (ending.Suspended m) = false
+is_disk_fault ending.LineTooLong = false
+is_disk_fault ending.Unreadable = false
+is_disk_fault ending.ReadFault = false
+is_disk_fault ending.WriteFault = false
+is_disk_fault ending.DiskFault = true
+is_disk_fault ending.JournalFull = false
+is_disk_fault ending.Memory = false
+
+no_disk : (a end : Ending) → is_disk_fault a ≡ false → end ≡ a → end ≡ ending.DiskFault → ⊥
+no_disk a end off is fault = both_ways (is_disk_fault a) off (ap is_disk_fault (sym is ∙ fault))
+
+-- a fault of the disk that is told is the loop's
+disk_by : (l : Language) (request : Request) (t : List Answer) (written written' : Option (List ℕ)) (how : Drove) (end : Ending) → Says l request t written written' how end → end ≡ ending.DiskFault → how ≡ drove.DiskFault
+disk_by l request t written written' (drove.Converged m) end says is = absurd (no_disk (ending.Converged m) end refl says.0 is)
+disk_by l request t written written' (drove.Collapsed m) end says is = absurd (no_disk (ending.Collapsed m) end refl says.0 is)
+disk_by l request t written written' (drove.Undecided m) end says is = absurd (no_disk (ending.Undecided m) end refl says.0 is)
+disk_by l request t written written' (drove.Suspended m) end says is = absurd (no_disk (ending.Suspended m) end refl says.0 is)
+disk_by l request t written written' drove.LineTooLong end says is = absurd (no_disk ending.LineTooLong end refl says.0 is)
+disk_by l request t written written' drove.Unreadable end says is = absurd (no_disk ending.Unreadable end refl says.0 is)
+disk_by l request t written written' drove.ReadFault end says is = absurd (no_disk ending.ReadFault end refl says.0 is)
+disk_by l request t written written' drove.WriteFault end says is = absurd says
+disk_by l request t written written' drove.DiskFault end says is = refl
+disk_by l request t written written' drove.JournalFull end says is = absurd says
+disk_by l request t written written' drove.Memory end says is = absurd says
+
+-- and the other way round
+disk_said : (l : Language) (request : Request) (t : List Answer) (written written' : Option (List ℕ)) (how : Drove) (end : Ending) → Says l request t written written' how end → how ≡ drove.DiskFault → end ≡ ending.DiskFault
+disk_said l request t written written' how end says is = let P : Drove → Type 0 = λ d. Says l request t written written' d end in (subst P is says).0
 
 abbrev okay : Ending → Result Ending Put
 okay end = Ok end
@@ -97,73 +149,97 @@ okay end = Ok end
 abbrev failed : Put → Result Ending Put
 failed e = Err e
 
--- what the loop has done about a language and a plan, where nothing was answered before, and what was said of it
-module _ (l begun now : Language) (p asked still : Plan) (budget : ℕ) (events later : List Event) (left written left' middle written' : Option (List ℕ)) (screen : Remembered) (how : Drove) (got : Result Ending Put)
-    (first : begun ≡ l) (same : now ≡ begun) (planned : asked ≡ p) (again : still ≡ asked) (none : events ≡ [])
-    (drives : Drives line_turn begun (request_with asked budget) (place_of (standing_on begun events) left written) (place_of (standing_on begun later) left' middle) how)
-    (opens : (m : ℕ) → how ≡ drove.Undecided m → TellsOpen begun (request_with asked budget) (standing_on begun later) screen)
-    (says : (b : ℕ) → HasEnded now (request_with still b) (standing_on now later) how → ((m : ℕ) → how ≡ drove.Undecided m → TellsOpen now (request_with still b) (standing_on now later) screen) →
-    IfOk got (Says now (request_with still b) (standing_on now later) middle written' how))
-    (parts : (b : ℕ) → HasEnded now (request_with still b) (standing_on now later) how → ((m : ℕ) → how ≡ drove.Undecided m → TellsOpen now (request_with still b) (standing_on now later) screen) →
-    OnErr got (SaysPart now (request_with still b) (standing_on now later) middle written' how)) where
-  abbrev Begun : Language → Plan → Type 0
-  Begun x q = Drives line_turn x (request_with q budget) (place_of (standing_on x events) left written) (place_of (standing_on x later) left' middle) how
-
-  abbrev Fresh : List Event → Type 0
-  Fresh es = Drives line_turn l (request_with p budget) (place_of (standing_on l es) left written) (place_of (standing_on l later) left' middle) how
-
-  abbrev AllOpen : Language → Plan → Type 0
-  AllOpen x q = (m : ℕ) → how ≡ drove.Undecided m → TellsOpen x (request_with q budget) (standing_on x later) screen
-
+-- What the loop has done about a language and a plan, and what was said of it. The keeper's language and plan are the same
+-- after it.
+module _ (l now : Language) (p still : Plan) (budget : ℕ) (start : List Answer) (later : List Event) (left written left' middle written' : Option (List ℕ)) (screen : Remembered) (how : Drove) (got : Result Ending Put)
+    (same : now ≡ l) (again : still ≡ p)
+    (drives : Drives line_turn l (request_with p budget) (place_of start left written) (place_of (standing_on l later) left' middle) how)
+    (opens : (m : ℕ) → how ≡ drove.Undecided m → TellsOpen l (request_with p budget) (standing_on l later) screen)
+    (says : HasEnded now (request_with still budget) (standing_on now later) how → ((m : ℕ) → how ≡ drove.Undecided m → TellsOpen now (request_with still budget) (standing_on now later) screen) →
+    IfOk got (Says now (request_with still budget) (standing_on now later) middle written' how))
+    (parts : HasEnded now (request_with still budget) (standing_on now later) how → ((m : ℕ) → how ≡ drove.Undecided m → TellsOpen now (request_with still budget) (standing_on now later) screen) →
+    OnErr got (SaysPart now (request_with still budget) (standing_on now later) middle written' how)) where
   abbrev Now : Language → Plan → Type 0
-  Now x q = (b : ℕ) → HasEnded x (request_with q b) (standing_on x later) how → ((m : ℕ) → how ≡ drove.Undecided m → TellsOpen x (request_with q b) (standing_on x later) screen) →
-      IfOk got (Says x (request_with q b) (standing_on x later) middle written' how)
+  Now x q = HasEnded x (request_with q budget) (standing_on x later) how → ((m : ℕ) → how ≡ drove.Undecided m → TellsOpen x (request_with q budget) (standing_on x later) screen) →
+      IfOk got (Says x (request_with q budget) (standing_on x later) middle written' how)
 
   abbrev Part : Language → Plan → Type 0
-  Part x q = (b : ℕ) → HasEnded x (request_with q b) (standing_on x later) how → ((m : ℕ) → how ≡ drove.Undecided m → TellsOpen x (request_with q b) (standing_on x later) screen) →
-      OnErr got (SaysPart x (request_with q b) (standing_on x later) middle written' how)
-
-  driven : Fresh []
-  driven = subst Fresh none (carried Begun begun l asked p first planned drives)
+  Part x q = HasEnded x (request_with q budget) (standing_on x later) how → ((m : ℕ) → how ≡ drove.Undecided m → TellsOpen x (request_with q budget) (standing_on x later) screen) →
+      OnErr got (SaysPart x (request_with q budget) (standing_on x later) middle written' how)
 
   said : IfOk got (Says l (request_with p budget) (standing_on l later) middle written' how)
-  said = carried Now now l still p (same ∙ first) (again ∙ planned) says budget (ended_by l (request_with p budget) (place_of (standing_on l []) left written) (standing_on l later) left' middle how driven) (carried AllOpen begun l asked p first planned opens)
+  said = carried Now now l still p same again says (ended_by l (request_with p budget) (place_of start left written) (standing_on l later) left' middle how drives) opens
 
   said_part : OnErr got (SaysPart l (request_with p budget) (standing_on l later) middle written' how)
-  said_part = carried Part now l still p (same ∙ first) (again ∙ planned) parts budget (ended_by l (request_with p budget) (place_of (standing_on l []) left written) (standing_on l later) left' middle how driven) (carried AllOpen begun l asked p first planned opens)
+  said_part = carried Part now l still p same again parts (ended_by l (request_with p budget) (place_of start left written) (standing_on l later) left' middle how drives) opens
 
-  pub tried : IfOk got (Tries l (request_with p budget) left written left' written')
+  pub tried : IfOk got (Tries l (request_with p budget) start (standing_on l later) left written left' written')
   tried = go got said
     where
-      go : (r : Result Ending Put) → IfOk r (Says l (request_with p budget) (standing_on l later) middle written' how) → IfOk r (Tries l (request_with p budget) left written left' written')
+      go : (r : Result Ending Put) → IfOk r (Says l (request_with p budget) (standing_on l later) middle written' how) → IfOk r (Tries l (request_with p budget) start (standing_on l later) left written left' written')
       go (Err e) s = s
-      go (Ok end) s = by_drove l (request_with p budget) left written left' middle written' (standing_on l later) how end driven s
+      go (Ok end) s = by_drove l (request_with p budget) start left written left' middle written' (standing_on l later) how end drives s
 
-  pub broken : OnErr got (BreaksRun l (request_with p budget) left written written')
+  pub broken : OnErr got (BreaksRun l (request_with p budget) start left written written')
   broken = go got said_part
     where
-      go : (r : Result Ending Put) → OnErr r (SaysPart l (request_with p budget) (standing_on l later) middle written' how) → OnErr r (BreaksRun l (request_with p budget) left written written')
-      go (Err e) part = part_by_drove l (request_with p budget) left written left' middle written' (standing_on l later) how driven part
+      go : (r : Result Ending Put) → OnErr r (SaysPart l (request_with p budget) (standing_on l later) middle written' how) → OnErr r (BreaksRun l (request_with p budget) start left written written')
+      go (Err e) part = part_by_drove l (request_with p budget) start left written left' middle written' (standing_on l later) how drives part
       go (Ok end) part = part
+
+  same_ok : (a b : Ending) → okay a ≡ okay b → a ≡ b
+  same_ok a b e = cc
+
+  err_ok : (e : Put) (end : Ending) → failed e ≡ okay end → ⊥
+  err_ok e end h = cc
 
   -- a read fault that is told is the loop's
   pub read_of : got ≡ Ok ending.ReadFault → how ≡ drove.ReadFault
   read_of is = found got is said
     where
-      same_ok : (a b : Ending) → okay a ≡ okay b → a ≡ b
-      same_ok a b e = cc
-
-      err_ok : (e : Put) → failed e ≡ okay ending.ReadFault → ⊥
-      err_ok e h = cc
-
       found : (r : Result Ending Put) → r ≡ Ok ending.ReadFault → IfOk r (Says l (request_with p budget) (standing_on l later) middle written' how) → how ≡ drove.ReadFault
-      found (Err e) is s = absurd (err_ok e is)
+      found (Err e) is s = absurd (err_ok e ending.ReadFault is)
       found (Ok end) is s = read_by l (request_with p budget) (standing_on l later) middle written' how end s (same_ok end ending.ReadFault is)
 
-never_fault : (l : Language) (request : Request) (left written left' written' : Option (List ℕ)) (end : Ending) → Tries l request left written left' written' end → end ≡ ending.WriteFault → ⊥
-never_fault l request left written left' written' end tries is = subst (Tries l request left written left' written') is tries
+  -- so is a fault of the disk
+  pub disk_of : got ≡ Ok ending.DiskFault → how ≡ drove.DiskFault
+  disk_of is = found got is said
+    where
+      found : (r : Result Ending Put) → r ≡ Ok ending.DiskFault → IfOk r (Says l (request_with p budget) (standing_on l later) middle written' how) → how ≡ drove.DiskFault
+      found (Err e) is s = absurd (err_ok e ending.DiskFault is)
+      found (Ok end) is s = disk_by l (request_with p budget) (standing_on l later) middle written' how end s (same_ok end ending.DiskFault is)
+
+  pub disk_told : how ≡ drove.DiskFault → got ≡ Ok ending.DiskFault
+  disk_told is = found got said said_part
+    where
+      found : (r : Result Ending Put) → IfOk r (Says l (request_with p budget) (standing_on l later) middle written' how) → OnErr r (SaysPart l (request_with p budget) (standing_on l later) middle written' how) → r ≡ Ok ending.DiskFault
+      found (Err e) s part = let P : Drove → Type 0 = λ d. SaysPart l (request_with p budget) (standing_on l later) middle written' d in absurd (subst P is part)
+      found (Ok end) s part = ap okay (disk_said l (request_with p budget) (standing_on l later) middle written' how end s is)
+
+never_fault : (l : Language) (request : Request) (start t : List Answer) (left written left' written' : Option (List ℕ)) (end : Ending) → Tries l request start t left written left' written' end → end ≡ ending.WriteFault → ⊥
+never_fault l request start t left written left' written' end tries is = subst (Tries l request start t left written left' written') is tries
 
 -- it is never said that nothing could be said
-pub no_fault : (l : Language) (request : Request) (left written left' written' : Option (List ℕ)) (got : Result Ending Put) → IfOk got (Tries l request left written left' written') → IfOk got (λ (end : Ending). end ≡ ending.WriteFault → ⊥)
-no_fault l request left written left' written' (Err e) h = h
-no_fault l request left written left' written' (Ok end) h = never_fault l request left written left' written' end h
+pub no_fault : (l : Language) (request : Request) (start t : List Answer) (left written left' written' : Option (List ℕ)) (got : Result Ending Put) → IfOk got (Tries l request start t left written left' written') → IfOk got (λ (end : Ending). end ≡ ending.WriteFault → ⊥)
+no_fault l request start t left written left' written' (Err e) h = h
+no_fault l request start t left written left' written' (Ok end) h = never_fault l request start t left written left' written' end h
+
+-- ---- a run that begins without answers
+
+pub fresh_tries : (l m : Language) (p q : Plan) (budget : ℕ) (events : List Event) (t : List Answer) (left written left' written' : Option (List ℕ)) (got : Result Ending Put) → m ≡ l → q ≡ p → events ≡ [] →
+    IfOk got (Tries m (request_with q budget) (standing_on m events) t left written left' written') → IfOk got (λ (e : Ending). (answers : List Answer) × Tries l (request_with p budget) [] answers left written left' written' e)
+fresh_tries l m p q budget events t left written left' written' got same planned none tries =
+    let None' : List Event → Type 0 = λ es. IfOk got (Tries m (request_with q budget) (standing_on m es) t left written left' written') in
+    let Carried : Language → Plan → Type 0 = λ x r. IfOk got (Tries x (request_with r budget) [] t left written left' written') in
+    go got (carried Carried m l q p same planned (subst None' none tries))
+  where
+    go : (r : Result Ending Put) → IfOk r (Tries l (request_with p budget) [] t left written left' written') → IfOk r (λ (e : Ending). (answers : List Answer) × Tries l (request_with p budget) [] answers left written left' written' e)
+    go (Err e) h = h
+    go (Ok end) h = (t, h)
+
+pub fresh_part : (l m : Language) (p q : Plan) (budget : ℕ) (events : List Event) (left written written' : Option (List ℕ)) (got : Result Ending Put) → m ≡ l → q ≡ p → events ≡ [] →
+    OnErr got (BreaksRun m (request_with q budget) (standing_on m events) left written written') → OnErr got (BreaksRun l (request_with p budget) [] left written written')
+fresh_part l m p q budget events left written written' got same planned none part =
+    let None' : List Event → Type 0 = λ es. OnErr got (BreaksRun m (request_with q budget) (standing_on m es) left written written') in
+    let Carried : Language → Plan → Type 0 = λ x r. OnErr got (BreaksRun x (request_with r budget) [] left written written') in
+    carried Carried m l q p same planned (subst None' none part)

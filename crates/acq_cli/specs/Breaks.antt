@@ -3,6 +3,7 @@ use Rattle.std.specs.Prelude.{◌≡◌, ◌⊎◌, ℕ, List, [], Option, Some,
 use Rattle.acq_io.specs.Whole.{Gathered, first_line_of}
 use Rattle.acq_io.specs.declared.whole.AllFault.{AllFault}
 use Rattle.acq_io.specs.declared.whole.AllFault.TheVariants.{TooLong}
+use Rattle.assign.specs.Events.{Answer}
 use Rattle.language.specs.Language.{Language}
 use Rattle.target_oracle.specs.Lines.{line_turn}
 use Rattle.target_oracle.specs.Tells.{Front}
@@ -16,15 +17,15 @@ use Rattle.acq_cli.specs.declared.words.Request.{Request}
 
 -- ---- A session
 
--- a front of the whole text of a run of these bytes was written
-pub record IsPartOfRun (l : Language) (request : Request) (bytes before : List ℕ) (written : Option (List ℕ)) : Type 0 where
+-- a front of the whole text of a run of these bytes was written, which goes on after these answers
+pub record IsPartOfRun (l : Language) (request : Request) (start : List Answer) (bytes before : List ℕ) (written : Option (List ℕ)) : Type 0 where
   pub run : Ran
-  pub runs : Runs line_turn l request [] bytes run
+  pub runs : Runs line_turn l request start bytes run
   pub text : Front (whole_text l request run) before written
 
 -- where input and output tell their bytes
-abbrev pub BreaksRun : Language → Request → (left written written' : Option (List ℕ)) → Type 0
-BreaksRun l request left written written' = (bytes before : List ℕ) → left ≡ Some bytes → written ≡ Some before → IsPartOfRun l request bytes before written'
+abbrev pub BreaksRun : Language → Request → List Answer → (left written written' : Option (List ℕ)) → Type 0
+BreaksRun l request start left written written' = (bytes before : List ℕ) → left ≡ Some bytes → written ≡ Some before → IsPartOfRun l request start bytes before written'
 
 -- ---- The program
 

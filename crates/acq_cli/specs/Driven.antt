@@ -1,7 +1,7 @@
 -- What the loop has done, by how it ended.
-use Rattle.std.specs.Prelude.{◌≡◌, ◌≢◌, ℕ, List, ◌++◌, length, ◌&&◌, Option, Some}
-use Rattle.assign.specs.Events.{Answer}
+use Rattle.std.specs.Prelude.{◌≡◌, ◌≢◌, ℕ, ◌+◌, Bool, List, ◌++◌, length, ◌&&◌, Option, Some}
 use Rattle.assign.specs.Assignment.{Assignment}
+use Rattle.assign.specs.Events.{Answer}
 use Rattle.assign.specs.declared.events.Plan.{Plan}
 use Rattle.assign.specs.declared.events.Plan.TheVariants.{Scopes, Multi}
 use Rattle.language.specs.declared.candidates.Candidate.{Candidate}
@@ -14,9 +14,9 @@ use Rattle.query_gen.specs.Laws.{IsUndecided}
 use Rattle.session_laws.specs.Session.{State, Idle, Over, At, state_after, walk_end}
 use Rattle.session_laws.specs.Walk.{WalkEnd, Ended}
 use Rattle.session_laws.specs.Laws.{IsWalked, network_in}
-use Rattle.target_oracle.specs.Turns.{Turns}
+use Rattle.target_oracle.specs.Turns.{Turns, Said}
 use Rattle.target_oracle.specs.Tells.{Front}
-use Rattle.acq_cli.specs.Run.{Closing, Converged, Collapsed, Undecided, Suspended, LineTooLong, Unreadable, Ends, next_after, Ran, Runs, after_text}
+use Rattle.acq_cli.specs.Run.{Closing, Converged, Collapsed, Undecided, Suspended, LineTooLong, Unreadable, Puts, Ends, next_after, Ran, Runs, after_text}
 use Rattle.acq_cli.specs.declared.words.Request.{Request}
 use Rattle.acq_cli.specs.declared.driving.Drove.{Drove}
 use Rattle.acq_cli.specs.declared.driving.Drove.TheVariants as drove
@@ -62,6 +62,21 @@ pub record IsCut (turns : Turns) (l : Language) (request : Request) (bytes befor
 abbrev pub CutOff : Turns → Language → Request → Place → Place → Type 0
 CutOff turns l request old new = (bytes before : List ℕ) → old.left ≡ Some bytes → old.written ≡ Some before → IsCut turns l request bytes before old new
 
+-- The question that comes next was put: its lines were written, and a reply was heard that doesn't stand.
+pub record IsUnkept (turns : Turns) (l : Language) (request : Request) (bytes before : List ℕ) (old new : Place) : Type 0 where
+  pub rest : List ℕ
+  pub done : List ℕ
+  pub begins : (run : Ran) → Runs turns l request new.answers rest run → Runs turns l request old.answers bytes (after_text done run)
+  pub question : Assignment
+  pub puts : next_after l request new.answers ≡ Some (Puts question)
+  pub reply : Bool
+  pub heard : (turns l (length new.answers + 1) question rest).heard.reply ≡ Said reply
+  pub left : new.left ≡ Some (turns l (length new.answers + 1) question rest).heard.rest
+  pub written : new.written ≡ Some (before ++ (done ++ (turns l (length new.answers + 1) question rest).text))
+
+abbrev pub UnkeptTo : Turns → Language → Request → Place → Place → Type 0
+UnkeptTo turns l request old new = (bytes before : List ℕ) → old.left ≡ Some bytes → old.written ≡ Some before → IsUnkept turns l request bytes before old new
+
 -- nothing is left to ask, and the answers converge on what was learned
 pub record IsDone (l : Language) (request : Request) (t : List Answer) : Type 0 where
   pub network : List Candidate
@@ -98,6 +113,9 @@ Drives turns l request old new drove.LineTooLong = RanTo turns l request LineToo
 Drives turns l request old new drove.Unreadable = RanTo turns l request Unreadable old new
 Drives turns l request old new drove.ReadFault = CutOff turns l request old new
 Drives turns l request old new drove.WriteFault = CutOff turns l request old new
+-- what was written ends with the lines of the question whose answer wasn't kept
+Drives turns l request old new drove.DiskFault = CutOff turns l request old new × UnkeptTo turns l request old new
+Drives turns l request old new drove.JournalFull = ⊥
 Drives turns l request old new drove.Memory = CutOff turns l request old new
 
 -- what comes of it where this network gave each answer: no collapse, and what was learned has exactly its solutions
@@ -110,6 +128,8 @@ IsOwned l request owner t drove.LineTooLong = Unit {0}
 IsOwned l request owner t drove.Unreadable = Unit {0}
 IsOwned l request owner t drove.ReadFault = Unit {0}
 IsOwned l request owner t drove.WriteFault = Unit {0}
+IsOwned l request owner t drove.DiskFault = Unit {0}
+IsOwned l request owner t drove.JournalFull = Unit {0}
 IsOwned l request owner t drove.Memory = Unit {0}
 
 -- where the last answer has ended the walk of an example, nothing is left to learn from the example

@@ -1,9 +1,11 @@
 -- What comes next in a session, and what the loop does with it.
-use Rattle.std.specs.Prelude.{◌≡◌, Bool, List, [], ◌∷◌, ◌++◌, Option, Some, None}
+use Rattle.std.specs.Prelude.{◌≡◌, ◌⊎◌, Bool, List, [], ◌∷◌, ◌++◌, Option, Some, None}
 use Rattle.assign.specs.Assignment.{Assignment}
 use Rattle.assign.specs.Events.{Answer}
 use Rattle.language.specs.Language.{Language, IsQuestion}
 use Rattle.session_store.specs.Kept.{IsLawfulAfter}
+use Rattle.session_store.specs.declared.fault.SFault.{SFault}
+use Rattle.session_store.specs.declared.fault.SFault.TheVariants as store
 use Rattle.acq_cli.specs.Run.{Puts, Ends, Collapsed, next_after, answer}
 use Rattle.acq_cli.specs.Driven.{IsDone, IsCollapsed, IsLeftOpen}
 use Rattle.acq_cli.specs.declared.words.Request.{Request}
@@ -46,7 +48,14 @@ pub record IsOneMore (old new : List Answer) : Type 0 where
   pub more : Answer
   pub is : new ≡ old ++ more ∷ []
 
--- the answer to the question that is put was added, or there was no memory for it
+-- how the loop ends where an answer couldn't be kept
+abbrev pub ended_by : SFault → Drove
+ended_by store.Memory = drove.Memory
+ended_by (store.Journal fault) = drove.DiskFault
+ended_by (store.Voc fault) = drove.DiskFault
+ended_by (store.Stray number) = drove.DiskFault
+
+-- the answer to the question that is put was added, or there was no memory for it, or the disk failed
 abbrev pub AnswerKept : Bool → Option Assignment → List Answer → List Answer → Option Drove → Type 0
 AnswerKept said put old new None = (q : Assignment) → put ≡ Some q → new ≡ old ++ answer q said ∷ []
-AnswerKept said put old new (Some end) = (end ≡ drove.Memory) × (new ≡ old)
+AnswerKept said put old new (Some end) = ((end ≡ drove.Memory) ⊎ (end ≡ drove.DiskFault)) × (new ≡ old)

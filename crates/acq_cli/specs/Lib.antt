@@ -6,3 +6,5 @@ pub mod Texts
 pub mod Breaks
 pub mod Program
 pub mod Words
+pub mod Shows
+pub mod Journals

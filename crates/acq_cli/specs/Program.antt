@@ -19,7 +19,7 @@ use Rattle.voc_read.specs.Vocabulary.{IsVocabulary}
 use Rattle.voc_read.specs.declared.fault.VocFault.{VocFault}
 use Rattle.acq_cli.specs.Run.{Converged, Collapsed, Undecided, Suspended, LineTooLong, Unreadable, Closing, Ends, next_after}
 use Rattle.acq_cli.specs.Breaks.{Breaks, BreaksRun, IsRefusal}
-use Rattle.acq_cli.specs.Driven.{IsDone, IsCollapsed, IsLeftOpen, RanTo}
+use Rattle.acq_cli.specs.Driven.{IsDone, IsCollapsed, IsLeftOpen, RanTo, UnkeptTo}
 use Rattle.acq_cli.specs.Places.{place_of}
 use Rattle.acq_cli.specs.Texts.{closing_text, collapsed_text, converged_text, open_candidates, refusal_text, refused_text, suspended_text, too_long_text, undecided_text, usage_text}
 use Rattle.acq_cli.specs.Words.{request_of}
@@ -59,10 +59,10 @@ pub record LeavesOpen (l : Language) (request : Request) (m : ℕ) (answers : Li
   -- each other that is kept is implied
   pub rest : All (λ c. (outcome_of_candidate l network c request.budget ≢ Spent) → IsImplied l network c) (kept l answers network)
 
--- the run of the lines with this closing, and then its last text
-pub record Closes (l : Language) (request : Request) (left written left' written' : Option (List ℕ)) (closing : Closing) (answers : List Answer) (text : List ℕ) : Type 0 where
+-- the run of the lines after these answers with this closing, and then its last text
+pub record Closes (l : Language) (request : Request) (start : List Answer) (left written left' written' : Option (List ℕ)) (closing : Closing) (answers : List Answer) (text : List ℕ) : Type 0 where
   pub middle : Option (List ℕ)
-  pub ran : RanTo line_turn l request closing (place_of [] left written) (place_of answers left' middle)
+  pub ran : RanTo line_turn l request closing (place_of start left written) (place_of answers left' middle)
   pub adds : Adds middle written' text
 
 -- what the loop has found where it says so, and the count is that of the answers
@@ -75,6 +75,8 @@ HasEnded l request t drove.LineTooLong = Unit {0}
 HasEnded l request t drove.Unreadable = Unit {0}
 HasEnded l request t drove.ReadFault = Unit {0}
 HasEnded l request t drove.WriteFault = Unit {0}
+HasEnded l request t drove.DiskFault = Unit {0}
+HasEnded l request t drove.JournalFull = ⊥
 HasEnded l request t drove.Memory = Unit {0}
 
 -- what was said of how the loop ended
@@ -89,6 +91,8 @@ Says l request t written written' drove.LineTooLong end = (end ≡ ending.LineTo
 Says l request t written written' drove.Unreadable end = (end ≡ ending.Unreadable) × Adds written written' refused_text
 Says l request t written written' drove.ReadFault end = (end ≡ ending.ReadFault) × (written' ≡ written)
 Says l request t written written' drove.WriteFault end = ⊥
+Says l request t written written' drove.DiskFault end = (end ≡ ending.DiskFault) × (written' ≡ written)
+Says l request t written written' drove.JournalFull end = ⊥
 Says l request t written written' drove.Memory end = ⊥
 
 -- what was written where it could not be said whole
@@ -101,28 +105,36 @@ SaysPart l request t written written' drove.LineTooLong = AddsFront written writ
 SaysPart l request t written written' drove.Unreadable = AddsFront written written' (closing_text l request t Unreadable)
 SaysPart l request t written written' drove.ReadFault = ⊥
 SaysPart l request t written written' drove.WriteFault = written' ≡ written
+SaysPart l request t written written' drove.DiskFault = ⊥
+SaysPart l request t written written' drove.JournalFull = ⊥
 SaysPart l request t written written' drove.Memory = written' ≡ written
 
--- what was done about a language
-abbrev pub Tries : Language → Request → (left written left' written' : Option (List ℕ)) → Ending → Type 0
-Tries l request left written left' written' (ending.Converged m) =
-    (answers : List Answer) × (network : List Candidate) × Concludes l request m answers network × Closes l request left written left' written' Converged answers (converged_text l network m)
-Tries l request left written left' written' (ending.Collapsed m) =
-    (answers : List Answer) × Refutes l request m answers × Closes l request left written left' written' Collapsed answers (collapsed_text m)
-Tries l request left written left' written' (ending.Undecided m) =
-    (answers : List Answer) × (network : List Candidate) × LeavesOpen l request m answers network
-    × Closes l request left written left' written' Undecided answers (undecided_text l network (open_candidates l request answers network) m)
-Tries l request left written left' written' (ending.Suspended m) =
-    (answers : List Answer) × (m ≡ length answers) × Closes l request left written left' written' Suspended answers (suspended_text m)
-Tries l request left written left' written' ending.LineTooLong =
-    (answers : List Answer) × Closes l request left written left' written' LineTooLong answers too_long_text
-Tries l request left written left' written' ending.Unreadable =
-    (answers : List Answer) × Closes l request left written left' written' Unreadable answers refused_text
-Tries l request left written left' written' (ending.Usage fault) = ⊥
-Tries l request left written left' written' (ending.VocRefused fault) = ⊥
-Tries l request left written left' written' ending.ReadFault = BreaksRun l request left written written'
-Tries l request left written left' written' ending.WriteFault = ⊥
-Tries l request left written left' written' ending.Memory = ⊥
+-- what was done about a language, from the answers at first to those at last
+abbrev pub Tries : Language → Request → (start answers : List Answer) → (left written left' written' : Option (List ℕ)) → Ending → Type 0
+Tries l request start answers left written left' written' (ending.Converged m) =
+    (network : List Candidate) × Concludes l request m answers network × Closes l request start left written left' written' Converged answers (converged_text l network m)
+Tries l request start answers left written left' written' (ending.Collapsed m) =
+    Refutes l request m answers × Closes l request start left written left' written' Collapsed answers (collapsed_text m)
+Tries l request start answers left written left' written' (ending.Undecided m) =
+    (network : List Candidate) × LeavesOpen l request m answers network
+    × Closes l request start left written left' written' Undecided answers (undecided_text l network (open_candidates l request answers network) m)
+Tries l request start answers left written left' written' (ending.Suspended m) =
+    (m ≡ length answers) × Closes l request start left written left' written' Suspended answers (suspended_text m)
+Tries l request start answers left written left' written' ending.LineTooLong =
+    Closes l request start left written left' written' LineTooLong answers too_long_text
+Tries l request start answers left written left' written' ending.Unreadable =
+    Closes l request start left written left' written' Unreadable answers refused_text
+Tries l request start answers left written left' written' (ending.Usage fault) = ⊥
+Tries l request start answers left written left' written' (ending.VocRefused fault) = ⊥
+Tries l request start answers left written left' written' ending.Done = ⊥
+Tries l request start answers left written left' written' (ending.JournalRefused fault) = ⊥
+Tries l request start answers left written left' written' ending.ReadFault = BreaksRun l request start left written written'
+Tries l request start answers left written left' written' ending.WriteFault = ⊥
+-- what was written ends with the lines of the question whose answer wasn't kept
+Tries l request start answers left written left' written' ending.DiskFault =
+    BreaksRun l request start left written written' × UnkeptTo line_turn l request (place_of start left written) (place_of answers left' written')
+Tries l request start answers left written left' written' ending.JournalFull = ⊥
+Tries l request start answers left written left' written' ending.Memory = ⊥
 
 -- the words ask for this, and the first line of the input is a vocabulary
 pub record Reads (words : List (List ℕ)) (left written left' written' : Option (List ℕ)) (end : Ending) : Type 0 where
@@ -133,7 +145,8 @@ pub record Reads (words : List (List ℕ)) (left written left' written' : Option
   pub gives : Gives (first_line_of 4194304) left rest (Ok line)
   pub lang : Language
   pub vocabulary : IsVocabulary line lang
-  pub tries : Tries lang request rest written left' written' end
+  pub answers : List Answer
+  pub tries : Tries lang request [] answers rest written left' written' end
 
 -- the first line is refused
 pub record IsRefused (fault : VocFault) (left left' : Option (List ℕ)) : Type 0 where
@@ -157,6 +170,10 @@ Acquires words left written left' written' (ending.Usage fault) = (are_taken wor
 Acquires words left written left' written' (ending.VocRefused fault) =
     (are_taken words ≡ true) × IsRefused fault left left' × Adds written written' (refusal_text fault)
 Acquires words left written left' written' ending.ReadFault = (are_taken words ≡ true) × Breaks words left written written'
+Acquires words left written left' written' ending.Done = ⊥
+Acquires words left written left' written' (ending.JournalRefused fault) = ⊥
+Acquires words left written left' written' ending.DiskFault = ⊥
+Acquires words left written left' written' ending.JournalFull = ⊥
 Acquires words left written left' written' ending.WriteFault = Breaks words left written written'
 Acquires words left written left' written' ending.Memory = Breaks words left written written'
 
@@ -164,7 +181,9 @@ Acquires words left written left' written' ending.Memory = Breaks words left wri
 abbrev pub status_of : Ending → ℕ
 status_of (ending.Converged m) = 0
 status_of (ending.Usage fault) = 1
+status_of ending.Done = 0
 status_of (ending.VocRefused fault) = 2
+status_of (ending.JournalRefused fault) = 3
 status_of (ending.Collapsed m) = 4
 status_of (ending.Undecided m) = 5
 status_of (ending.Suspended m) = 6
@@ -172,4 +191,6 @@ status_of ending.LineTooLong = 7
 status_of ending.Unreadable = 7
 status_of ending.ReadFault = 8
 status_of ending.WriteFault = 9
+status_of ending.DiskFault = 10
 status_of ending.Memory = 11
+status_of ending.JournalFull = 12

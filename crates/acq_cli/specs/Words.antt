@@ -8,6 +8,8 @@ use Rattle.acq_cli.specs.declared.words.Setting.{Setting}
 use Rattle.acq_cli.specs.declared.words.Setting.TheVariants as setting
 use Rattle.acq_cli.specs.declared.words.Options.{Options}
 use Rattle.acq_cli.specs.declared.words.Request.{Request}
+use Rattle.acq_cli.specs.declared.words.JournalCommand.{JournalCommand}
+use Rattle.acq_cli.specs.declared.words.JournalCommand.TheVariants as command
 
 -- ---- Values
 
@@ -107,3 +109,43 @@ pub record IsLawful (request : Request) : Type 0 where
 pub record AreWithin (o : Options) : Type 0 where
   pub some : (b : ℕ) → o.budget ≡ Some b → 1 ≤ b
   pub small : (b : ℕ) → o.budget ≡ Some b → b ≤ 1000000000
+
+-- ---- Commands over a journal
+
+-- the plan of a new journal: no budget is said with it
+abbrev pub new_by : Options → Option Setting → Option ℕ → Option JournalCommand
+new_by o (Some name) budget = None
+new_by o None (Some budget) = None
+new_by o None None = Some (command.New (unwrap_or o.plan Quacq))
+
+-- the budget of a run: no plan is said with it
+abbrev pub run_by : Options → Option Setting → Option Plan → Option JournalCommand
+run_by o (Some name) plan = None
+run_by o None (Some plan) = None
+run_by o None None = Some (command.Run (unwrap_or o.budget 100000))
+
+-- nothing is said with `show`
+abbrev pub show_by : Option Setting → Option Plan → Option ℕ → Option JournalCommand
+show_by (Some name) plan budget = None
+show_by None (Some plan) budget = None
+show_by None None (Some budget) = None
+show_by None None None = Some command.Show
+
+abbrev pub command_named : List ℕ → Options → Option JournalCommand
+command_named name o =
+    if bytes_eq name (codes "new") then new_by o o.waiting o.budget
+    else (if bytes_eq name (codes "run") then run_by o o.waiting o.plan
+    else (if bytes_eq name (codes "show") then show_by o.waiting o.plan o.budget
+    else None))
+
+-- what the words ask for over a journal: its name, a command, and options
+abbrev pub journal_command_of : List (List ℕ) → Option JournalCommand
+journal_command_of [] = None
+journal_command_of (journal ∷ []) = None
+journal_command_of (journal ∷ name ∷ words) = option_and_then (command_named name) (with_words no_options words)
+
+-- a budget within its limits
+abbrev pub IsLawfulCommand : JournalCommand → Type 0
+IsLawfulCommand (command.New plan) = Unit {0}
+IsLawfulCommand (command.Run budget) = (1 ≤ budget) × (budget ≤ 1000000000)
+IsLawfulCommand command.Show = Unit {0}

@@ -7,15 +7,17 @@ ghost use Rattle.language.specs.Answers.{IsNetwork, agrees, standing_on};
 ghost use Rattle.query_gen.specs.Marks.{IsMadeFor, HasNoMarks, MarksHold};
 ghost use Rattle.session_core.specs.Standing.{Stands, knowledge_of, open_in};
 ghost use Rattle.session_core.specs.Settled.{IsSettled};
+ghost use Rattle.session_store.specs.Keeping.{Keeps};
 ghost use Rattle.acq_cli.specs.Driven.{Drives, IsOwned, LeavesNothing, Remembers, StepsTo, TellsOpen};
-ghost use Rattle.acq_cli.specs.Due.{IsDue, NextIs, PutIs, AnswerKept, IsOneMore};
+ghost use Rattle.acq_cli.specs.Due.{IsDue, NextIs, PutIs, AnswerKept, IsOneMore, ended_by};
 ghost use Rattle.acq_cli.specs.Places.{place_of, request_with};
 
 use acq_io::{Sink, Source};
 use assign::{Partial, Plan};
+use disk_model::Disk;
 use query_gen::{Place, Query, Screen, next_query};
 use session_core::{Idle, Session};
-use session_store::Keep;
+use session_store::{Keep, SFault};
 use std::alloc::Global;
 use std::thread::Threads;
 use target_oracle::{Teacher, Told};
@@ -38,6 +40,10 @@ pub enum Drove {
     Unreadable,
     ReadFault,
     WriteFault,
+    /// The disk failed while an answer was kept.
+    DiskFault,
+    /// A question is due, and the journal takes no more records. No session takes so many.
+    JournalFull,
     Memory,
 }
 
@@ -135,7 +141,7 @@ fn next_of(session: &Session, place: &mut Place, screen: &mut Screen, budget: u3
 }
 
 /// Puts the question that comes next, if one does.
-fn put_next<P: Keep>(keep: &mut P, place: &mut Place, screen: &mut Screen, budget: u32) -> Next
+fn put_next<D: Disk, P: Keep<D>>(keep: &mut P, place: &mut Place, screen: &mut Screen, budget: u32) -> Next
     requires sound { P.sound keep.old }
     requires settled { IsSettled (P.lang keep.old) (P.plan keep.old) (standing_on (P.lang keep.old) (P.record_of keep.old)) (P.question keep.old) }
     requires screen { IsMadeFor (P.lang keep.old) screen.old }
@@ -147,6 +153,10 @@ fn put_next<P: Keep>(keep: &mut P, place: &mut Place, screen: &mut Screen, budge
     ensures lang { P.lang keep.new ≡ P.lang keep.old }
     ensures plan { P.plan keep.new ≡ P.plan keep.old }
     ensures sound { P.sound keep.new }
+    ensures voc { P.voc keep.new ≡ P.voc keep.old }
+    ensures writes { P.writes keep.new ≡ P.writes keep.old }
+    ensures live { P.live keep.new ≡ P.live keep.old }
+    ensures sits { (disk : D) → P.sits keep.old disk → P.sits keep.new disk }
     ensures screen { IsMadeFor (P.lang keep.old) screen.new }
     ensures remembers { Remembers (P.lang keep.old) (request_with (P.plan keep.old) budget) (standing_on (P.lang keep.old) (P.record_of keep.old)) screen.new }
     ensures open { result ≡ Next.Undecided → TellsOpen (P.lang keep.old) (request_with (P.plan keep.old) budget) (standing_on (P.lang keep.old) (P.record_of keep.old)) screen.new }
@@ -159,31 +169,48 @@ fn put_next<P: Keep>(keep: &mut P, place: &mut Place, screen: &mut Screen, budge
 }
 
 /// Keeps an answer to the question that is put. None where the loop goes on.
-fn keep_answer<P: Keep>(keep: &mut P, yes: bool) -> Option<Drove>
+fn keep_answer<D: Disk, P: Keep<D>>(keep: &mut P, disk: &mut D, yes: bool) -> Option<Drove>
     requires sound { P.sound keep.old }
+    requires live { IsTrue (P.live keep.old) }
+    requires room { length (P.record_of keep.old) + 1 < 1000000 }
+    requires sits { P.sits keep.old disk.old }
     requires put { (q : _) × (P.question keep.old ≡ Some q) × (length q ≡ length (P.lang keep.old).names) }
     ensures kept { AnswerKept «yes» (P.question keep.old) (standing_on (P.lang keep.old) (P.record_of keep.old)) (standing_on (P.lang keep.old) (P.record_of keep.new)) result }
     ensures settled { result ≡ None → IsSettled (P.lang keep.old) (P.plan keep.old) (standing_on (P.lang keep.old) (P.record_of keep.new)) (P.question keep.new) }
     ensures lang { P.lang keep.new ≡ P.lang keep.old }
     ensures plan { P.plan keep.new ≡ P.plan keep.old }
     ensures sound { P.sound keep.new }
+    ensures keeps { Keeps D.content D.may_leave D.moment D.left_since P.plan P.voc P.record_of P.question P.writes P.live P.sits D.faults (result ≡ Some Drove.DiskFault) keep.old keep.new disk.old disk.new }
 {
-    match keep.answer(yes) {
+    match keep.answer(disk, yes) {
         Ok(()) => None,
-        Err(_) => Some(Drove::Memory),
+        Err(fault) => Some(ended_by(fault)),
+    }
+}
+
+/// How the loop ends where an answer couldn't be kept.
+fn ended_by(fault: SFault) -> Drove
+    ensures { result ≡ ended_by fault }
+{
+    match fault {
+        SFault::Memory => Drove::Memory,
+        SFault::Journal(_) | SFault::Voc(_) | SFault::Stray(_) => Drove::DiskFault,
     }
 }
 
 /// The rest of a turn, where its question is put. None where the loop goes on.
-fn hear_answer<S: Source, K: Sink, T: Teacher<S, K>, P: Keep>(
+fn hear_answer<S: Source, K: Sink, D: Disk, T: Teacher<S, K>, P: Keep<D>>(
     alloc: Global,
     source: &mut S,
     sink: &mut K,
+    disk: &mut D,
     teacher: &mut T,
     keep: &mut P,
     question: &Partial,
 ) -> Option<Drove>
     requires sound { P.sound keep.old }
+    requires live { IsTrue (P.live keep.old) }
+    requires sits { P.sits keep.old disk.old }
     requires put { P.question keep.old ≡ Some question.now }
     requires due { (budget : _) × IsDue (P.lang keep.old) (request_with (P.plan keep.old) budget) (standing_on (P.lang keep.old) (P.record_of keep.old)) question.now }
     ensures again { (budget : _) → IsDue (P.lang keep.old) (request_with (P.plan keep.old) budget) (standing_on (P.lang keep.old) (P.record_of keep.old)) question.now
@@ -201,6 +228,7 @@ fn hear_answer<S: Source, K: Sink, T: Teacher<S, K>, P: Keep>(
     ensures lang { P.lang keep.new ≡ P.lang keep.old }
     ensures plan { P.plan keep.new ≡ P.plan keep.old }
     ensures sound { P.sound keep.new }
+    ensures keeps { Keeps D.content D.may_leave D.moment D.left_since P.plan P.voc P.record_of P.question P.writes P.live P.sits D.faults (result ≡ Some Drove.DiskFault) keep.old keep.new disk.old disk.new }
     ensures later { S.faults source.old ≤ S.faults source.new }
     ensures later_sink { K.faults sink.old ≤ K.faults sink.new }
     ensures read { result ≡ Some Drove.ReadFault → Rose (S.faults source.old) (S.faults source.new) }
@@ -209,8 +237,8 @@ fn hear_answer<S: Source, K: Sink, T: Teacher<S, K>, P: Keep>(
     let session = keep.session();
     let count = session.answers();
     match teacher.told(alloc, source, sink, session.lang(), count + 1, question) {
-        Told::Yes => keep_answer(keep, true),
-        Told::No => keep_answer(keep, false),
+        Told::Yes => keep_answer::<D, P>(keep, disk, true),
+        Told::No => keep_answer::<D, P>(keep, disk, false),
         Told::Stop => Some(Drove::Suspended(count)),
         Told::End => Some(Drove::Suspended(count)),
         Told::TooLong => Some(Drove::LineTooLong),
@@ -222,17 +250,20 @@ fn hear_answer<S: Source, K: Sink, T: Teacher<S, K>, P: Keep>(
 }
 
 /// One turn: a question and its answer. None where the loop goes on.
-fn take_turn<S: Source, K: Sink, T: Teacher<S, K>, P: Keep>(
+fn take_turn<S: Source, K: Sink, D: Disk, T: Teacher<S, K>, P: Keep<D>>(
     alloc: Global,
     place: &mut Place,
     screen: &mut Screen,
     budget: u32,
     source: &mut S,
     sink: &mut K,
+    disk: &mut D,
     teacher: &mut T,
     keep: &mut P,
 ) -> Option<Drove>
     requires sound { P.sound keep.old }
+    requires live { IsTrue (P.live keep.old) }
+    requires sits { P.sits keep.old disk.old }
     requires settled { IsSettled (P.lang keep.old) (P.plan keep.old) (standing_on (P.lang keep.old) (P.record_of keep.old)) (P.question keep.old) }
     requires screen { IsMadeFor (P.lang keep.old) screen.old }
     requires remembers { Remembers (P.lang keep.old) (request_with (P.plan keep.old) budget) (standing_on (P.lang keep.old) (P.record_of keep.old)) screen.old }
@@ -253,14 +284,15 @@ fn take_turn<S: Source, K: Sink, T: Teacher<S, K>, P: Keep>(
     ensures lang { P.lang keep.new ≡ P.lang keep.old }
     ensures plan { P.plan keep.new ≡ P.plan keep.old }
     ensures sound { P.sound keep.new }
+    ensures keeps { Keeps D.content D.may_leave D.moment D.left_since P.plan P.voc P.record_of P.question P.writes P.live P.sits D.faults (result ≡ Some Drove.DiskFault) keep.old keep.new disk.old disk.new }
     ensures later { S.faults source.old ≤ S.faults source.new }
     ensures later_sink { K.faults sink.old ≤ K.faults sink.new }
     ensures read { result ≡ Some Drove.ReadFault → Rose (S.faults source.old) (S.faults source.new) }
     ensures write { result ≡ Some Drove.WriteFault → Rose (K.faults sink.old) (K.faults sink.new) }
 {
-    match put_next(keep, place, screen, budget) {
+    match put_next::<D, P>(keep, place, screen, budget) {
         Next::Open(question) | Next::New(question) => {
-            hear_answer(alloc, source, sink, teacher, keep, &question)
+            hear_answer(alloc, source, sink, disk, teacher, keep, &question)
         }
         Next::Converged => Some(Drove::Converged(keep.session().answers())),
         Next::Collapsed => Some(Drove::Collapsed(keep.session().answers())),
@@ -275,7 +307,7 @@ const MOST_TURNS: u32 = 762_754;
 /// the teacher stops.
 ///
 /// Searches use the first of the places. The screen carries what they found from one question to the next.
-pub fn drive<R: Threads + Sync, S: Source, K: Sink, T: Teacher<S, K>, P: Keep>(
+pub fn drive<R: Threads + Sync, S: Source, K: Sink, D: Disk, T: Teacher<S, K>, P: Keep<D>>(
     _rt: &R,
     alloc: Global,
     places: &mut [Place; 8],
@@ -283,10 +315,13 @@ pub fn drive<R: Threads + Sync, S: Source, K: Sink, T: Teacher<S, K>, P: Keep>(
     budget: u32,
     source: &mut S,
     sink: &mut K,
+    disk: &mut D,
     teacher: &mut T,
     keep: &mut P,
 ) -> Drove
     requires sound { P.sound keep.old }
+    requires live { IsTrue (P.live keep.old) }
+    requires sits { P.sits keep.old disk.old }
     // where the answers lead to where nothing is open, no question is put
     requires settled { IsSettled (P.lang keep.old) (P.plan keep.old) (standing_on (P.lang keep.old) (P.record_of keep.old)) (P.question keep.old) }
     requires screen { IsMadeFor (P.lang keep.old) screen.old }
@@ -305,6 +340,9 @@ pub fn drive<R: Threads + Sync, S: Source, K: Sink, T: Teacher<S, K>, P: Keep>(
     ensures lang { P.lang keep.new ≡ P.lang keep.old }
     ensures plan { P.plan keep.new ≡ P.plan keep.old }
     ensures sound { P.sound keep.new }
+    // Where nothing is written, the disk isn't touched. Else a crash at any moment leaves the events from before the call and a
+    // front of those of this run, and after it all of them, but for the last one where the disk failed.
+    ensures keeps { Keeps D.content D.may_leave D.moment D.left_since P.plan P.voc P.record_of P.question P.writes P.live P.sits D.faults (result ≡ Drove.DiskFault) keep.old keep.new disk.old disk.new }
     ensures later { S.faults source.old ≤ S.faults source.new }
     ensures later_sink { K.faults sink.old ≤ K.faults sink.new }
     ensures read { result ≡ Drove.ReadFault → Rose (S.faults source.old) (S.faults source.new) }
@@ -319,6 +357,7 @@ pub fn drive<R: Threads + Sync, S: Source, K: Sink, T: Teacher<S, K>, P: Keep>(
             budget,
             source,
             sink,
+            disk,
             teacher,
             keep,
         ) {

@@ -1,6 +1,7 @@
 ghost use Rattle.std.specs.Prelude.{◌≡◌};
 ghost use Rattle.acq_cli.specs.Program.{status_of};
 
+use session_store::SFault;
 use voc_read::VocFault;
 
 /// Why the words are refused.
@@ -15,8 +16,12 @@ pub enum UsageFault {
 pub enum Ending {
     /// Each network that agrees with the answers has the solutions of the printed one.
     Converged(u32),
+    /// The command did what it does.
+    Done,
     Usage(UsageFault),
     VocRefused(VocFault),
+    /// The bytes of the file refuse the command.
+    JournalRefused(SFault),
     /// No network agrees with the answers.
     Collapsed(u32),
     /// Nothing was found to ask, and the budget was too small to say that nothing is left.
@@ -29,7 +34,11 @@ pub enum Ending {
     Unreadable,
     ReadFault,
     WriteFault,
+    /// The disk failed.
+    DiskFault,
     Memory,
+    /// A question is due, and the journal takes no more records.
+    JournalFull,
 }
 
 impl Ending {
@@ -38,16 +47,19 @@ impl Ending {
         ensures { result ≡ status_of self.now }
     {
         match self {
-            Ending::Converged(_) => 0,
+            Ending::Converged(_) | Ending::Done => 0,
             Ending::Usage(_) => 1,
             Ending::VocRefused(_) => 2,
+            Ending::JournalRefused(_) => 3,
             Ending::Collapsed(_) => 4,
             Ending::Undecided(_) => 5,
             Ending::Suspended(_) => 6,
             Ending::LineTooLong | Ending::Unreadable => 7,
             Ending::ReadFault => 8,
             Ending::WriteFault => 9,
+            Ending::DiskFault => 10,
             Ending::Memory => 11,
+            Ending::JournalFull => 12,
         }
     }
 }

@@ -1,9 +1,11 @@
 //! The program as one call: the words, the vocabulary and the answers in, the questions and the network out.
 #![tactic(auto)]
 
+mod commands;
 mod driving;
 mod ending;
 mod opens;
+mod shows;
 #[cfg(test)]
 mod tests;
 mod top;
@@ -12,4 +14,4 @@ mod words;
 pub use driving::{Drove, drive};
 pub use ending::{Ending, UsageFault};
 pub use top::acquire;
-pub use words::Request;
+pub use words::{JournalCommand, Request, journal_command_of};

@@ -1,8 +1,15 @@
 use crate::acquire;
 use acq_io::{MemSink, MemSource, PlainSink, PlainSource};
+use disk_model::{MemDisk, Memory, Room};
 use std::alloc::{AllocError, Global};
 use std::test::Fail;
 use std::thread::Threads;
+
+/// A disk in memory without room.
+fn no_disk(alloc: Global) -> Result<MemDisk, Memory> {
+    let room = Room { bytes: 0, calls: 0 };
+    MemDisk::new(alloc, Vec::new(alloc), Vec::new(alloc), room)
+}
 
 /// Vocabularies, each a line: its name, and its text.
 const VOCABULARIES: &str =
@@ -99,7 +106,8 @@ fn is_met(rt: &(impl Threads + Sync), alloc: Global, row: &str) -> Result<bool, 
     let input = format!(in alloc; "{vocabulary}\n{answers}")?;
     let mut source = PlainSource::new(input.into_bytes());
     let mut sink = PlainSink::new(alloc);
-    let ending = acquire(rt, alloc, &words, &mut source, &mut sink);
+    let mut disk = no_disk(alloc)?;
+    let ending = acquire(rt, alloc, &words, &mut source, &mut sink, &mut disk);
     Ok(sink.bytes() == wanted.as_bytes() && Ok(ending.status()) == status.parse::<u8>())
 }
 
@@ -163,7 +171,8 @@ fn answer_lines(rt: HostRuntime) -> Result<(), Fail> {
         let wanted = repeated(alloc, "q1 a=1 b=2\n", "not an answer\n", *said, rest)?;
         let mut source = PlainSource::new(input.into_bytes());
         let mut sink = PlainSink::new(alloc);
-        let ending = acquire(&rt, alloc, &words, &mut source, &mut sink);
+        let mut disk = no_disk(alloc)?;
+        let ending = acquire(&rt, alloc, &words, &mut source, &mut sink, &mut disk);
         assert_eq!(rt; ending.status(), *status, "{head} {piece} {count} {end}");
         assert_eq!(rt; sink.bytes(), wanted.as_bytes());
     }
@@ -196,7 +205,8 @@ fn each_call_fails_in_turn(rt: HostRuntime) -> Result<(), Fail> {
         let fails = vec![in alloc; FIRST_LINE.saturating_add(*read)]?;
         let mut source = MemSource::new(input.into_bytes(), fails);
         let mut sink = MemSink::new(alloc, vec![in alloc; *write]?);
-        let ending = acquire(&rt, alloc, &words, &mut source, &mut sink);
+        let mut disk = no_disk(alloc)?;
+        let ending = acquire(&rt, alloc, &words, &mut source, &mut sink, &mut disk);
         assert_eq!(rt; ending.status(), *status, "{read} {write}");
         assert_eq!(rt; sink.bytes(), wanted.as_bytes());
         assert_eq!(rt; source.left().len(), *left);
@@ -240,7 +250,8 @@ fn many_variables(rt: HostRuntime) -> Result<(), Fail> {
     input.push_str(&answers)?;
     let mut source = PlainSource::new(input.into_bytes());
     let mut sink = PlainSink::new(alloc);
-    let ending = acquire(&rt, alloc, &words, &mut source, &mut sink);
+    let mut disk = no_disk(alloc)?;
+    let ending = acquire(&rt, alloc, &words, &mut source, &mut sink, &mut disk);
     assert_eq!(rt; ending.status(), 0);
     assert_eq!(rt; sink.bytes(), wanted.as_bytes());
     Ok(())
@@ -255,9 +266,127 @@ fn nothing_is_read_or_written(rt: HostRuntime) -> Result<(), Fail> {
         let input = String::from_str(alloc, vocabulary_of("two"))?;
         let mut source = MemSource::new(input.into_bytes(), vec![in alloc; read]?);
         let mut sink = MemSink::new(alloc, vec![in alloc; write]?);
-        let ending = acquire(&rt, alloc, &words, &mut source, &mut sink);
+        let mut disk = no_disk(alloc)?;
+        let ending = acquire(&rt, alloc, &words, &mut source, &mut sink, &mut disk);
         assert_eq!(rt; ending.status(), wanted);
         assert!(rt; sink.bytes().is_empty());
+    }
+    Ok(())
+}
+
+/// The words of a command over a journal.
+fn journal_words(alloc: Global, options: &str) -> Result<Vec<String>, AllocError> {
+    let mut words = Vec::new(alloc);
+    for word in options.split(' ') {
+        words.push(String::from_str(alloc, word)?)?;
+    }
+    Ok(words)
+}
+
+/// A run of the program over a disk, and what it printed.
+fn run_on(
+    rt: &(impl Threads + Sync),
+    alloc: Global,
+    options: &str,
+    input: &str,
+    disk: &mut MemDisk,
+) -> Result<(String, u8), Fail> {
+    let words = journal_words(alloc, options)?;
+    let mut source = PlainSource::new(String::from_str(alloc, input)?.into_bytes());
+    let mut sink = PlainSink::new(alloc);
+    let ending = acquire(rt, alloc, &words, &mut source, &mut sink, disk);
+    let Ok(text) = std::str::from_utf8(sink.bytes()) else {
+        return Err(Fail::from("what is printed is no text"));
+    };
+    Ok((String::from_str(alloc, text)?, ending.status()))
+}
+
+/// Commands one after the other over one journal: the words, the input (`voc` for the vocabulary), what is printed and the
+/// status.
+static COMMANDS: [(&str, &str, &str, u8); 10] = [
+    ("j run", "yes\n", "refused journal no session\n", 3),
+    ("j show", "", "refused journal no session\n", 3),
+    ("j new", "voc", "created variables 2 scopes 1 candidates 3\n", 0),
+    ("j run", "yes", "q1 a=1 b=2\nsuspended 0\n", 6),
+    ("j show", "", "plan quacq\nanswers 0\nlearned 0\nstate idle\n", 0),
+    ("j run", "yes\n", "q1 a=1 b=2\nq2 a=1 b=1\nsuspended 1\n", 6),
+    ("j show", "", "plan quacq\nq1 a=1 b=2 yes\nanswers 1\nlearned 0\nstate idle\n", 0),
+    ("j run --budget 5", "no\n", "q2 a=1 b=1\nconverged 2\nne a b\n", 0),
+    ("j show", "", "plan quacq\nq1 a=1 b=2 yes\nq2 a=1 b=1 no\nanswers 2\nlearned 1\nne a b\nstate idle\n", 0),
+    ("j new --plan scopes", "voc", "refused journal session there\n", 3),
+];
+
+#[test]
+fn a_run_goes_on_where_the_last_one_ended(rt: HostRuntime) -> Result<(), Fail> {
+    let alloc = rt.alloc();
+    let room = Room {
+        bytes: 10000,
+        calls: 60,
+    };
+    let mut disk = MemDisk::new(alloc, Vec::new(alloc), Vec::new(alloc), room)?;
+    for (options, input, wanted, status) in &COMMANDS {
+        let input = if *input == "voc" { vocabulary_of("two") } else { *input };
+        let (text, ended) = run_on(&rt, alloc, options, input, &mut disk)?;
+        assert_eq!(rt; text.as_str(), *wanted, "{options}");
+        assert_eq!(rt; ended, *status, "{options}");
+    }
+    assert_eq!(rt; disk.content().len(), 208);
+    Ok(())
+}
+
+/// Bytes of a file, and why it isn't opened.
+static FILES: [(&[u8], &str); 3] = [
+    (b"xxxxxxxxx", "refused journal no session\n"),
+    (b"xxxxxxxxxx", "refused journal not a journal\n"),
+    (b"QUACQJ1\n\x01S\x00\x00\x00\x04\x02voc\x00", "refused journal vocabulary not json\n"),
+];
+
+#[test]
+fn a_file_that_is_no_journal(rt: HostRuntime) -> Result<(), Fail> {
+    let alloc = rt.alloc();
+    let room = Room {
+        bytes: 1000,
+        calls: 20,
+    };
+    for (bytes, wanted) in &FILES {
+        assert!(rt; bytes.len() <= 1000);
+        let mut disk = MemDisk::new(alloc, bytes.to_vec(alloc)?, Vec::new(alloc), room)?;
+        let (text, ended) = run_on(&rt, alloc, "j run", "yes\n", &mut disk)?;
+        assert_eq!(rt; text.as_str(), *wanted);
+        assert_eq!(rt; ended, 3);
+    }
+    Ok(())
+}
+
+/// The four calls of an append, each failing: nothing is written after the question.
+#[test]
+fn an_answer_that_is_not_kept(rt: HostRuntime) -> Result<(), Fail> {
+    let alloc = rt.alloc();
+    let room = Room {
+        bytes: 10000,
+        calls: 60,
+    };
+    for failing in 0..4u32 {
+        let mut disk = MemDisk::new(alloc, Vec::new(alloc), Vec::new(alloc), room)?;
+        run_on(&rt, alloc, "j new", vocabulary_of("two"), &mut disk)?;
+        let content = disk.content().to_vec(alloc)?;
+        assert!(rt; content.len() <= 10000);
+        // Opening makes five calls.
+        let fails = vec![in alloc; 5 + failing]?;
+        let mut failing_disk = MemDisk::new(alloc, content, fails, room)?;
+        let (text, ended) = run_on(&rt, alloc, "j run", "yes\nno\n", &mut failing_disk)?;
+        assert_eq!(rt; text.as_str(), "q1 a=1 b=2\n", "{failing}");
+        assert_eq!(rt; ended, 10, "{failing}");
+        let left = failing_disk.content().to_vec(alloc)?;
+        assert!(rt; left.len() <= 10000);
+        let mut again = MemDisk::new(alloc, left, Vec::new(alloc), room)?;
+        let (text, _) = run_on(&rt, alloc, "j run", "", &mut again)?;
+        let wanted = if failing < 3 {
+            "q1 a=1 b=2\nsuspended 0\n"
+        } else {
+            "q2 a=1 b=1\nsuspended 1\n"
+        };
+        assert_eq!(rt; text.as_str(), wanted, "{failing}");
     }
     Ok(())
 }

@@ -1,22 +1,31 @@
-ghost use Rattle.std.specs.Prelude.{◌≡◌, ◌≤◌, ◌≢◌, map, filter, IfOk, OnOk, OnErr, Ok, Err};
+ghost use Rattle.std.specs.Prelude.{◌≡◌, ◌≤◌, ◌≢◌, ℕ, List, [], map, filter, Some, None, IsTrue, IfOk, OnOk, OnErr, Ok, Err};
+ghost use Rattle.std.specs.Option.{ForSome};
+ghost use Rattle.assign.specs.declared.events.Plan.{Plan};
 ghost use Rattle.std.specs.String.{string_bytes};
 ghost use Rattle.acq_io.specs.Streams.{Adds, AddsFront, Rose};
+ghost use Rattle.assign.specs.Events.{Answer};
 ghost use Rattle.language.specs.Language.{candidates};
 ghost use Rattle.language.specs.Answers.{IsNetwork, standing_on};
 ghost use Rattle.query_gen.specs.Marks.{IsMadeFor, is_open};
-ghost use Rattle.session_core.specs.Standing.{knowledge_of};
-ghost use Rattle.session_store.specs.Loose.{IsSound, lang_of, plan_of};
+ghost use Rattle.session_core.specs.Settled.{IsSettled};
+ghost use Rattle.session_core.specs.Standing.{Stands, knowledge_of};
+ghost use Rattle.session_store.specs.Keeping.{Keeps};
 ghost use Rattle.acq_cli.specs.Driven.{TellsOpen};
 ghost use Rattle.acq_cli.specs.Places.{request_with};
 ghost use Rattle.acq_cli.specs.Breaks.{Breaks, BreaksRun};
 ghost use Rattle.acq_cli.specs.Program.{Acquires, HasEnded, Says, SaysPart, Tries};
+ghost use Rattle.disk_model.specs.Disk.{Rose as DiskRose};
+ghost use Rattle.acq_cli.specs.Journals.{RunsOn, News, Shows, ended_as};
+ghost use Rattle.acq_cli.specs.Words.{journal_command_of};
 ghost use Rattle.acq_cli.specs.Texts.{collapsed_text, converged_text, refusal_text, suspended_text, undecided_text};
 
+use crate::commands::{new_journal, run_journal, show_journal};
 use crate::driving::{Drove, drive};
 use crate::ending::{Ending, UsageFault};
 use crate::opens::open_lines;
-use crate::words::{Request, request_of};
+use crate::words::{JournalCommand, Request, journal_command_of, request_of};
 use acq_io::{AllFault, Put, Sink, Source, read_first_line};
+use disk_model::{Disk, MemDisk, Room};
 use language::{Language, Memory};
 use network::network_text;
 use query_gen::{Place, Screen};
@@ -28,7 +37,7 @@ use target_oracle::LineTeacher;
 use voc_read::{VocFault, read_vocabulary, voc_text};
 
 /// The most bytes that a vocabulary has.
-const MOST_VOCABULARY: u32 = 4_194_304;
+pub(crate) const MOST_VOCABULARY: u32 = 4_194_304;
 
 const USAGE: &[u8] = b"usage: acquire JOURNAL COMMAND [--plan P] [--budget N] [--number N]\n";
 
@@ -105,27 +114,27 @@ fn say_suspended<K: Sink>(alloc: Global, m: u32, out: &mut K) -> Result<(), Put>
 }
 
 /// Says how the loop ended.
-fn say<K: Sink>(
+pub(crate) fn say<K: Sink>(
     alloc: Global,
-    keep: &Loose,
+    session: &Session,
     screen: &Screen,
     drove: Drove,
     out: &mut K,
 ) -> Result<Ending, Put>
-    requires sound { IsSound keep.now }
-    requires made { IsMadeFor (lang_of keep.now) screen.now }
-    ensures says { (budget : _) → let request = request_with (plan_of keep.now) budget in let l = lang_of keep.now in let t = standing_on l keep.now.events.items in
-        HasEnded l request t drove → ((m : _) → drove ≡ Drove.Undecided m → TellsOpen l request t screen.now)
-        → IfOk result (Says l request t (K.written out.old) (K.written out.new) drove) }
-    ensures part { (budget : _) → let request = request_with (plan_of keep.now) budget in let l = lang_of keep.now in let t = standing_on l keep.now.events.items in
-        HasEnded l request t drove → ((m : _) → drove ≡ Drove.Undecided m → TellsOpen l request t screen.now)
-        → OnErr result (SaysPart l request t (K.written out.old) (K.written out.new) drove) }
+    requires made { IsMadeFor (knowledge_of session.now).lang screen.now }
+    ensures says { (budget : _) (t : List Answer) → Stands session.now t → let k = knowledge_of session.now in let request = request_with k.plan budget in
+        HasEnded k.lang request t drove → ((m : _) → drove ≡ Drove.Undecided m → TellsOpen k.lang request t screen.now)
+        → IfOk result (Says k.lang request t (K.written out.old) (K.written out.new) drove) }
+    ensures part { (budget : _) (t : List Answer) → Stands session.now t → let k = knowledge_of session.now in let request = request_with k.plan budget in
+        HasEnded k.lang request t drove → ((m : _) → drove ≡ Drove.Undecided m → TellsOpen k.lang request t screen.now)
+        → OnErr result (SaysPart k.lang request t (K.written out.old) (K.written out.new) drove) }
     ensures failed { result ≡ Err Put.Failed → drove ≢ Drove.WriteFault → Rose (K.faults out.old) (K.faults out.new) }
     ensures later_sink { K.faults out.old ≤ K.faults out.new }
 {
+    let _network = session.network();
     match drove {
         Drove::Converged(m) => {
-            say_converged(alloc, keep.session(), m, out)?;
+            say_converged(alloc, session, m, out)?;
             Ok(Ending::Converged(m))
         }
         Drove::Collapsed(m) => {
@@ -133,7 +142,7 @@ fn say<K: Sink>(
             Ok(Ending::Collapsed(m))
         }
         Drove::Undecided(m) => {
-            say_undecided(alloc, keep.session(), screen, m, out)?;
+            say_undecided(alloc, session, screen, m, out)?;
             Ok(Ending::Undecided(m))
         }
         Drove::Suspended(m) => {
@@ -148,7 +157,12 @@ fn say<K: Sink>(
             out.write(b"refused lines\n")?;
             Ok(Ending::Unreadable)
         }
+        Drove::JournalFull => {
+            out.write(b"refused journal full\n")?;
+            Ok(Ending::JournalFull)
+        }
         Drove::ReadFault => Ok(Ending::ReadFault),
+        Drove::DiskFault => Ok(Ending::DiskFault),
         Drove::WriteFault => Err(Put::Failed),
         Drove::Memory => Err(Put::Memory),
     }
@@ -168,7 +182,62 @@ fn places_for(alloc: Global, lang: &Language) -> Result<[Place; 8], Memory> {
     ])
 }
 
-/// Asks about a language until the answers converge, nothing more can be asked, or the input stops.
+/// Asks on from where a session stands until the answers converge, nothing more can be asked, or the input stops, and says
+/// how that ended.
+pub(crate) fn ask_on<R: Threads + Sync, S: Source, K: Sink, D: Disk, P: Keep<D>>(
+    rt: &R,
+    alloc: Global,
+    budget: u32,
+    input: &mut S,
+    out: &mut K,
+    disk: &mut D,
+    keep: &mut P,
+) -> Result<Ending, Put>
+    requires sound { P.sound keep.old }
+    requires live { IsTrue (P.live keep.old) }
+    requires sits { P.sits keep.old disk.old }
+    requires settled { IsSettled (P.lang keep.old) (P.plan keep.old) (standing_on (P.lang keep.old) (P.record_of keep.old)) (P.question keep.old) }
+    requires some_budget { 1 ≤ budget }
+    requires small_budget { budget ≤ 1000000000 }
+    ensures tries { IfOk result (Tries (P.lang keep.old) (request_with (P.plan keep.old) budget) (standing_on (P.lang keep.old) (P.record_of keep.old)) (standing_on (P.lang keep.old) (P.record_of keep.new))
+        (S.left input.old) (K.written out.old) (S.left input.new) (K.written out.new)) }
+    ensures part { OnErr result (BreaksRun (P.lang keep.old) (request_with (P.plan keep.old) budget) (standing_on (P.lang keep.old) (P.record_of keep.old)) (S.left input.old) (K.written out.old) (K.written out.new)) }
+    ensures read { result ≡ Ok Ending.ReadFault → Rose (S.faults input.old) (S.faults input.new) }
+    ensures no_fault { IfOk result (λ ending. ending ≢ Ending.WriteFault) }
+    ensures failed { result ≡ Err Put.Failed → Rose (K.faults out.old) (K.faults out.new) }
+    ensures later { S.faults input.old ≤ S.faults input.new }
+    ensures later_sink { K.faults out.old ≤ K.faults out.new }
+    ensures keeps { Keeps D.content D.may_leave D.moment D.left_since P.plan P.voc P.record_of P.question P.writes P.live P.sits D.faults (result ≡ Ok Ending.DiskFault) keep.old keep.new disk.old disk.new }
+    ensures lang { P.lang keep.new ≡ P.lang keep.old }
+    ensures plan { P.plan keep.new ≡ P.plan keep.old }
+    ensures sound { P.sound keep.new }
+{
+    let start = keep.session();
+    let lang = start.lang();
+    let Ok(mut places) = places_for(alloc, lang) else {
+        return Err(Put::Memory);
+    };
+    let Ok(mut screen) = Screen::new(alloc, lang) else {
+        return Err(Put::Memory);
+    };
+    let mut teacher = LineTeacher::new();
+    let drove = drive(
+        rt,
+        alloc,
+        &mut places,
+        &mut screen,
+        budget,
+        input,
+        out,
+        disk,
+        &mut teacher,
+        keep,
+    );
+    let session = keep.session();
+    say(alloc, session, &screen, drove, out)
+}
+
+/// Asks about a language, with the answers in memory. No disk is touched.
 fn try_language<R: Threads + Sync, S: Source, K: Sink>(
     rt: &R,
     alloc: Global,
@@ -179,40 +248,28 @@ fn try_language<R: Threads + Sync, S: Source, K: Sink>(
 ) -> Result<Ending, Put>
     requires some_budget { 1 ≤ request.budget }
     requires small_budget { request.budget ≤ 1000000000 }
-    ensures tries { IfOk result (Tries lang request (S.left input.old) (K.written out.old) (S.left input.new) (K.written out.new)) }
-    ensures part { OnErr result (BreaksRun lang request (S.left input.old) (K.written out.old) (K.written out.new)) }
+    ensures tries { IfOk result (λ ending. (answers : List Answer) × Tries lang request [] answers (S.left input.old) (K.written out.old) (S.left input.new) (K.written out.new) ending) }
+    ensures part { OnErr result (BreaksRun lang request [] (S.left input.old) (K.written out.old) (K.written out.new)) }
     ensures read { result ≡ Ok Ending.ReadFault → Rose (S.faults input.old) (S.faults input.new) }
     ensures no_fault { IfOk result (λ ending. ending ≢ Ending.WriteFault) }
+    ensures no_disk { IfOk result (λ ending. ending ≢ Ending.DiskFault) }
     ensures failed { result ≡ Err Put.Failed → Rose (K.faults out.old) (K.faults out.new) }
     ensures later { S.faults input.old ≤ S.faults input.new }
     ensures later_sink { K.faults out.old ≤ K.faults out.new }
 {
-    let Ok(mut places) = places_for(alloc, &lang) else {
-        return Err(Put::Memory);
-    };
-    let Ok(mut screen) = Screen::new(alloc, &lang) else {
+    let _variables = lang.n();
+    let room = Room { bytes: 0, calls: 0 };
+    let Ok(mut disk) = MemDisk::new(alloc, Vec::new(alloc), Vec::new(alloc), room) else {
         return Err(Put::Memory);
     };
     let Ok(mut keep) = Loose::new(alloc, lang, request.plan) else {
         return Err(Put::Memory);
     };
-    let mut teacher = LineTeacher::new();
-    let drove = drive(
-        rt,
-        alloc,
-        &mut places,
-        &mut screen,
-        request.budget,
-        input,
-        out,
-        &mut teacher,
-        &mut keep,
-    );
-    say(alloc, &keep, &screen, drove, out)
+    ask_on(rt, alloc, request.budget, input, out, &mut disk, &mut keep)
 }
 
 /// Refuses the vocabulary.
-fn refuse<K: Sink>(alloc: Global, fault: VocFault, out: &mut K) -> Result<Ending, Put>
+pub(crate) fn refuse<K: Sink>(alloc: Global, fault: VocFault, out: &mut K) -> Result<Ending, Put>
     ensures ok { IfOk result (λ ending. (ending ≡ Ending.VocRefused fault) × Adds (K.written out.old) (K.written out.new) (refusal_text fault)) }
     ensures part { OnErr result (AddsFront (K.written out.old) (K.written out.new) (refusal_text fault)) }
     ensures failed { result ≡ Err Put.Failed → Rose (K.faults out.old) (K.faults out.new) }
@@ -259,20 +316,62 @@ fn respond<R: Threads + Sync, S: Source, K: Sink>(
     }
 }
 
-/// The program: reads the words, the vocabulary from the first line of the input and the answers from the rest, and
-/// writes the questions and the network.
-pub fn acquire<R: Threads + Sync, S: Source, K: Sink>(
+/// What the program does, and how it ends where the output takes all: a command over the journal on the disk, or one that
+/// touches no disk.
+fn perform<R: Threads + Sync, S: Source, K: Sink, D: Disk>(
     rt: &R,
     alloc: Global,
     words: &[String],
     input: &mut S,
     out: &mut K,
+    disk: &mut D,
+) -> Result<Ending, Put>
+    ensures acquires { journal_command_of (map string_bytes words.now) ≡ None → IfOk result (Acquires (map string_bytes words.now) (S.left input.old) (K.written out.old) (S.left input.new) (K.written out.new)) }
+    ensures part { journal_command_of (map string_bytes words.now) ≡ None → OnErr result (Breaks (map string_bytes words.now) (S.left input.old) (K.written out.old) (K.written out.new)) }
+    ensures untouched { journal_command_of (map string_bytes words.now) ≡ None → disk.new ≡ disk.old }
+    ensures news { (plan : Plan) → journal_command_of (map string_bytes words.now) ≡ Some (JournalCommand.New plan) → ForSome (D.content disk.old) (λ bytes.
+        News D.content D.may_leave D.moment D.left_since plan bytes (S.left input.old) (K.written out.old) (S.left input.new) (K.written out.new) disk.old disk.new result) }
+    ensures runs { (budget : ℕ) → journal_command_of (map string_bytes words.now) ≡ Some (JournalCommand.Run budget) → ForSome (D.content disk.old) (λ bytes.
+        RunsOn D.content D.may_leave D.moment D.left_since budget bytes (S.left input.old) (K.written out.old) (S.left input.new) (K.written out.new) disk.old disk.new result) }
+    ensures shows { journal_command_of (map string_bytes words.now) ≡ Some JournalCommand.Show → ForSome (D.content disk.old) (λ bytes.
+        Shows D.content D.may_leave D.moment D.left_since bytes (S.left input.old) (K.written out.old) (K.written out.new) disk.old disk.new result) }
+    ensures unread { journal_command_of (map string_bytes words.now) ≡ Some JournalCommand.Show → S.left input.new ≡ S.left input.old }
+    ensures read { result ≡ Ok Ending.ReadFault → Rose (S.faults input.old) (S.faults input.new) }
+    ensures no_fault { IfOk result (λ ending. ending ≢ Ending.WriteFault) }
+    ensures failed { result ≡ Err Put.Failed → Rose (K.faults out.old) (K.faults out.new) }
+    ensures lost { result ≡ Ok Ending.DiskFault → DiskRose (D.faults disk.old) (D.faults disk.new) }
+{
+    match journal_command_of(words) {
+        Some(JournalCommand::New(plan)) => new_journal(alloc, plan, input, out, disk),
+        Some(JournalCommand::Run(budget)) => run_journal(rt, alloc, budget, input, out, disk),
+        Some(JournalCommand::Show) => show_journal(alloc, out, disk),
+        None => respond(rt, alloc, words, input, out),
+    }
+}
+
+/// The program: reads the words, and does what they ask for with the input, the output and the disk.
+pub fn acquire<R: Threads + Sync, S: Source, K: Sink, D: Disk>(
+    rt: &R,
+    alloc: Global,
+    words: &[String],
+    input: &mut S,
+    out: &mut K,
+    disk: &mut D,
 ) -> Ending
-    ensures acquires { Acquires (map string_bytes words.now) (S.left input.old) (K.written out.old) (S.left input.new) (K.written out.new) result }
+    ensures acquires { journal_command_of (map string_bytes words.now) ≡ None → Acquires (map string_bytes words.now) (S.left input.old) (K.written out.old) (S.left input.new) (K.written out.new) result }
+    ensures untouched { journal_command_of (map string_bytes words.now) ≡ None → disk.new ≡ disk.old }
+    ensures news { (plan : Plan) → journal_command_of (map string_bytes words.now) ≡ Some (JournalCommand.New plan) → ForSome (D.content disk.old) (λ bytes. (got : _) × (result ≡ ended_as got)
+        × News D.content D.may_leave D.moment D.left_since plan bytes (S.left input.old) (K.written out.old) (S.left input.new) (K.written out.new) disk.old disk.new got) }
+    ensures runs { (budget : ℕ) → journal_command_of (map string_bytes words.now) ≡ Some (JournalCommand.Run budget) → ForSome (D.content disk.old) (λ bytes. (got : _) × (result ≡ ended_as got)
+        × RunsOn D.content D.may_leave D.moment D.left_since budget bytes (S.left input.old) (K.written out.old) (S.left input.new) (K.written out.new) disk.old disk.new got) }
+    ensures shows { journal_command_of (map string_bytes words.now) ≡ Some JournalCommand.Show → ForSome (D.content disk.old) (λ bytes. (got : _) × (result ≡ ended_as got)
+        × Shows D.content D.may_leave D.moment D.left_since bytes (S.left input.old) (K.written out.old) (K.written out.new) disk.old disk.new got) }
+    ensures unread { journal_command_of (map string_bytes words.now) ≡ Some JournalCommand.Show → S.left input.new ≡ S.left input.old }
     ensures read { result ≡ Ending.ReadFault → Rose (S.faults input.old) (S.faults input.new) }
     ensures write { result ≡ Ending.WriteFault → Rose (K.faults out.old) (K.faults out.new) }
+    ensures lost { result ≡ Ending.DiskFault → DiskRose (D.faults disk.old) (D.faults disk.new) }
 {
-    match respond(rt, alloc, words, input, out) {
+    match perform(rt, alloc, words, input, out, disk) {
         Ok(ending) => ending,
         Err(Put::Failed) => Ending::WriteFault,
         Err(Put::Memory) => Ending::Memory,

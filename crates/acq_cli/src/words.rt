@@ -2,7 +2,7 @@
 
 ghost use Rattle.std.specs.Prelude.{◌≡◌, map, IfSome};
 ghost use Rattle.std.specs.String.{string_bytes};
-ghost use Rattle.acq_cli.specs.Words.{AreWithin, IsLawful, budget_of, plan_of, request_by, request_of, with_digit, with_value, with_word, with_words, no_options, waiting_for};
+ghost use Rattle.acq_cli.specs.Words.{AreWithin, IsLawful, IsLawfulCommand, command_named, journal_command_of, budget_of, plan_of, request_by, request_of, with_digit, with_value, with_word, with_words, no_options, waiting_for};
 
 use assign::Plan;
 
@@ -11,6 +11,17 @@ use assign::Plan;
 pub struct Request {
     pub plan: Plan,
     pub budget: u32,
+}
+
+/// What the words ask for over a journal.
+#[derive(Clone, Copy, Debug, PartialEq, Eq)]
+pub enum JournalCommand {
+    /// Make one, of this plan.
+    New(Plan),
+    /// Ask on, under this budget.
+    Run(u32),
+    /// Show its answers and where its session stands.
+    Show,
 }
 
 /// An option of the command.
@@ -152,6 +163,46 @@ impl Options {
             plan: self.plan.unwrap_or(Plan::Quacq),
             budget: self.budget.unwrap_or(DEFAULT_BUDGET),
         })
+    }
+}
+
+impl Options {
+    /// What they ask of a command over a journal.
+    fn journal_command(self, name: &[u8]) -> Option<JournalCommand>
+        requires { AreWithin self }
+        ensures is { result ≡ command_named name.now self }
+        ensures lawful { IfSome result IsLawfulCommand }
+    {
+        if name == b"new".as_slice() {
+            if self.waiting.is_some() || self.budget.is_some() {
+                return None;
+            }
+            return Some(JournalCommand::New(self.plan.unwrap_or(Plan::Quacq)));
+        }
+        if name == b"run".as_slice() {
+            if self.waiting.is_some() || self.plan.is_some() {
+                return None;
+            }
+            return Some(JournalCommand::Run(self.budget.unwrap_or(DEFAULT_BUDGET)));
+        }
+        if name == b"show".as_slice() {
+            if self.waiting.is_some() || self.plan.is_some() || self.budget.is_some() {
+                return None;
+            }
+            return Some(JournalCommand::Show);
+        }
+        None
+    }
+}
+
+/// What the words ask for over a journal. None where they are no such list.
+pub fn journal_command_of(words: &[String]) -> Option<JournalCommand>
+    ensures is { result ≡ journal_command_of (map string_bytes words.now) }
+    ensures lawful { IfSome result IsLawfulCommand }
+{
+    match words {
+        [_, name, rest @ ..] => options_of(rest)?.journal_command(name.as_bytes()),
+        _ => None,
     }
 }
 

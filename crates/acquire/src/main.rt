@@ -1,8 +1,12 @@
 //! Learns a constraint network from yes and no.
 #![tactic(auto)]
 
-use acq_cli::{Ending, acquire};
+mod file;
+
+use crate::file::FileDisk;
+use acq_cli::{Ending, acquire, journal_command_of};
 use acq_io::{StdSink, StdSource};
+use disk_model::{MemDisk, Room};
 use std::env;
 use std::io::ErrorKind;
 use std::process::ExitCode;
@@ -25,12 +29,35 @@ fn words_of(rt: &(impl Env + AllocGlobal)) -> Option<Vec<String>> {
     Some(words)
 }
 
+/// The file that a command over a journal names. None where the words are no such command, or mean no file.
+fn file_of(words: &[String]) -> Option<&str> {
+    journal_command_of(words)?;
+    let name = words.first()?.as_str();
+    if name == ":memory:" {
+        return None;
+    }
+    Some(name)
+}
+
 fn main(rt: HostRuntime) -> ExitCode {
     let Some(words) = words_of(&rt) else {
         return ExitCode::from(Ending::Memory.status());
     };
     let mut input = StdSource::new(rt.stdin());
     let mut out = StdSink::new(rt.stdout());
-    let ending = acquire(&rt, rt.alloc(), &words, &mut input, &mut out);
+    if let Some(name) = file_of(&words) {
+        let mut disk = FileDisk::new(&rt, name);
+        let ending = acquire(&rt, rt.alloc(), &words, &mut input, &mut out, &mut disk);
+        return ExitCode::from(ending.status());
+    }
+    let room = Room {
+        bytes: 8_388_608,
+        calls: 64,
+    };
+    let Ok(mut disk) = MemDisk::new(rt.alloc(), Vec::new(rt.alloc()), Vec::new(rt.alloc()), room)
+    else {
+        return ExitCode::from(Ending::Memory.status());
+    };
+    let ending = acquire(&rt, rt.alloc(), &words, &mut input, &mut out, &mut disk);
     ExitCode::from(ending.status())
 }

@@ -1,0 +1,5 @@
+pub mod Asked
+pub mod Storables
+pub mod Replaying
+pub mod Vocabularies
+pub mod Stores

@@ -1,2 +1,9 @@
 pub mod Kept
+pub mod Left
+pub mod Keeping
+pub mod Held
+pub mod Replay
+pub mod Faults
 pub mod Loose
+pub mod Store
+pub mod Opening

@@ -1,24 +1,36 @@
-ghost use Rattle.std.specs.Prelude.{◌≡◌, ◌++◌, ◌∷◌, [], List, Option, Some, None, OnOk, OnErr, IsSome};
-ghost use Rattle.std.specs.Option.{ForSome};
+ghost use Rattle.std.specs.Prelude.{◌≡◌, ◌≤◌, ◌<◌, All, ◌+◌, ◌⊎◌, ◌↔◌, ◌++◌, ◌∷◌, [], ℕ, Bool, List, Option, Some, None, OnOk, OnErr, IfErr, IsErrOf, IsSome, IsTrue, IsFalse, length};
+ghost use Rattle.std.specs.Option.{ForSome, ForNone};
 ghost use Rattle.assign.specs.Assignment.{Assignment};
 ghost use Rattle.assign.specs.declared.events.Event.{Event};
 ghost use Rattle.assign.specs.declared.events.Plan.{Plan};
 ghost use Rattle.language.specs.Language.{Language};
 ghost use Rattle.language.specs.Answers.{standing_on};
+ghost use Rattle.disk_model.specs.Disk.{LeavesOnly, Rose};
 ghost use Rattle.session_core.specs.Standing.{Stands, knowledge_of, open_in};
 ghost use Rattle.session_core.specs.Settled.{IsSettled};
+ghost use Rattle.session_store.specs.Held.{IsWide};
 ghost use Rattle.session_store.specs.Kept.{IsLawfulAfter, answer_event};
+ghost use Rattle.session_store.specs.Left.{OpensWith, OpensWithOrWithout, LeavesNow};
 
+use crate::SFault;
+use answer_journal::JFault;
 use assign::{Event, Partial};
-use language::Memory;
+use disk_model::Disk;
 use session_core::Session;
 
-/// A session that stands where its events lead.
-pub trait Keep {
-    /// No call changes the language and the plan.
+/// A session that stands where its events lead, and keeps these in memory or on a disk.
+///
+/// A call that may write is lent the disk, so that no value borrows it. What is kept on a disk that tells its content is
+/// there: each content that a crash may leave opens with the session and its events. So whoever hands the disk to these
+/// calls alone can say what a crash leaves, and needs to know nothing of bytes.
+pub trait Keep<D: Disk> {
+    /// No call changes the language, the plan and the bytes of the vocabulary.
     ghost lang: { Self → Language };
 
     ghost plan: { Self → Plan };
+
+    /// Empty where nothing is written.
+    ghost voc: { Self → List ℕ };
 
     ghost record_of: { Self → List Event };
 
@@ -28,6 +40,15 @@ pub trait Keep {
     /// The session is there, and stands where the events lead.
     ghost sound: { Self → Type 0 };
 
+    /// Whether events are written to the disk. No call changes that.
+    ghost writes: { Self → Bool };
+
+    /// Whether an event may be added.
+    ghost live: { Self → Bool };
+
+    /// The value and the disk belong together.
+    ghost sits: { Self → D → Type 0 };
+
     fn session(&self) -> &Session
         requires { sound self.now }
         ensures stands { Stands result.now (standing_on (lang self.now) (record_of self.now)) }
@@ -35,8 +56,18 @@ pub trait Keep {
         ensures plan { (knowledge_of result.now).plan ≡ plan self.now }
         ensures question { open_in result.now ≡ question self.now };
 
+    /// Each question has 128 options: those of the language's variables first, then empty ones.
     fn events(&self) -> &[Event]
-        ensures { result.now ≡ record_of self.now };
+        ensures is { result.now ≡ record_of self.now }
+        ensures wide { sound self.now → All IsWide result.now };
+
+    /// Whether there are 1,000,000 records: that of the vocabulary, and one for each event.
+    fn is_full(&self) -> bool
+        requires { sound self.now }
+        ensures { IsTrue result ↔ (length (record_of self.now) + 1 ≡ 1000000) };
+
+    fn is_live(&self) -> bool
+        ensures { result ≡ live self.now };
 
     /// Puts a question. Nothing is kept of it before its answer.
     fn ask(&mut self, q: Partial)
@@ -47,18 +78,47 @@ pub trait Keep {
         ensures events { record_of self.new ≡ record_of self.old }
         ensures lang { lang self.new ≡ lang self.old }
         ensures plan { plan self.new ≡ plan self.old }
-        ensures sound { sound self.new };
+        ensures voc { voc self.new ≡ voc self.old }
+        ensures writes { writes self.new ≡ writes self.old }
+        ensures live { live self.new ≡ live self.old }
+        ensures sound { sound self.new }
+        ensures sits { (disk : D) → sits self.old disk → sits self.new disk };
 
-    /// Keeps the answer to the question that is put, and moves the session. `Memory` leaves all as it was.
-    fn answer(&mut self, yes: bool) -> Result<(), Memory>
+    /// Keeps the answer to the question that is put, and then moves the session. `Memory` leaves all as it was. After a fault
+    /// of the disk the event may be there or not, and the session is where it was: the file has to be opened again.
+    fn answer(&mut self, disk: &mut D, yes: bool) -> Result<(), SFault>
         requires sound { sound self.old }
         requires put { IsSome (question self.old) }
+        requires live { IsTrue (live self.old) }
+        requires room { length (record_of self.old) + 1 < 1000000 }
+        requires sits { sits self.old disk.old }
         ensures ok { ForSome (question self.old) (λ q. OnOk result (record_of self.new ≡ record_of self.old ++ answer_event q «yes» ∷ [])) }
         // where the answers lead to where nothing is open, no question is put
         ensures settled { OnOk result (IsSettled (lang self.new) (plan self.new) (standing_on (lang self.new) (record_of self.new)) (question self.new)) }
+        ensures still_live { OnOk result (IsTrue (live self.new)) }
         ensures err { OnErr result (record_of self.new ≡ record_of self.old) }
         ensures err_question { OnErr result (question self.new ≡ question self.old) }
         ensures lang { lang self.new ≡ lang self.old }
         ensures plan { plan self.new ≡ plan self.old }
-        ensures sound { sound self.new };
+        ensures voc { voc self.new ≡ voc self.old }
+        ensures writes { writes self.new ≡ writes self.old }
+        ensures sound { sound self.new }
+        ensures sits { sits self.new disk.new }
+
+        // It doesn't give up by itself, but for want of memory.
+        ensures faults { IfErr result (λ e. (e ≡ SFault.Memory) ⊎ (e ≡ SFault.Journal JFault.DiskFault)) }
+        ensures memory { IsErrOf result SFault.Memory → (live self.new ≡ live self.old) × (disk.new ≡ disk.old) }
+        ensures failed { IsErrOf result (SFault.Journal JFault.DiskFault) → IsTrue (writes self.old) × IsFalse (live self.new) × Rose (D.faults disk.old) (D.faults disk.new) }
+        ensures later { D.faults disk.old ≤ D.faults disk.new }
+
+        // Where nothing is written, the disk isn't touched. Else a crash at any moment leaves the events from before the call,
+        // with the new one or without, and after `Ok` with it.
+        ensures unwritten { IsFalse (writes self.old) → disk.new ≡ disk.old }
+        ensures written { IsTrue (writes self.old) → ForSome (D.content disk.old) (λ _. OnOk result (LeavesNow D.content D.may_leave (OpensWith (plan self.old) (voc self.old) (record_of self.new)) disk.new)) }
+        ensures any_moment { IsTrue (writes self.old) → ForSome (D.content disk.old) (λ _. ForSome (question self.old) (λ q. LeavesOnly D.moment D.left_since disk.old disk.new (OpensWithOrWithout (plan self.old) (voc self.old) (record_of self.old) (answer_event q «yes»)))) }
+        ensures silent { ForNone (D.content disk.old) (D.content disk.new ≡ None) };
+
+    /// What is written is there, whatever a crash leaves.
+    ghost lasts: { (keep : Self) (disk : D) → sound keep → IsTrue (writes keep) → IsTrue (live keep) → sits keep disk →
+        ForSome (D.content disk) (λ _. (c : List ℕ) → D.may_leave disk c → OpensWith (plan keep) (voc keep) (record_of keep) c) };
 }

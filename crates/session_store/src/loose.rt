@@ -1,18 +1,19 @@
-ghost use Rattle.std.specs.Prelude.{◌≡◌, [], IfOk, None};
-ghost use Rattle.session_store.specs.Loose.{lang_of, plan_of, question_of, IsSound};
+ghost use Rattle.std.specs.Prelude.{◌≡◌, [], IfOk, None, true, false, ⊤};
+ghost use Rattle.session_store.specs.Loose.{lang_of, plan_of, question_of, events_of, IsSound};
 
+use crate::SFault;
+use crate::held::Held;
 use crate::keep::Keep;
 use assign::{Event, Partial, Plan};
+use disk_model::Disk;
 use language::{Language, Memory};
 use session_core::{Session, begin};
 use std::alloc::Global;
 
-/// A session whose events are kept in memory.
+/// A session whose events are kept in memory. Its vocabulary counts as a record.
 #[derive(Drop)]
 pub struct Loose {
-    /// Empty only within a call that moves the session.
-    session: Option<Session>,
-    events: Vec<Event>,
+    held: Held,
 }
 
 impl Loose {
@@ -21,58 +22,62 @@ impl Loose {
         ensures sound { IfOk result IsSound }
         ensures lang { IfOk result (λ loose. lang_of loose ≡ lang) }
         ensures plan { IfOk result (λ loose. plan_of loose ≡ plan) }
-        ensures events { IfOk result (λ loose. loose.events.items ≡ []) }
+        ensures events { IfOk result (λ loose. events_of loose ≡ []) }
         ensures idle { IfOk result (λ loose. question_of loose ≡ None) }
     {
         Ok(Loose {
-            session: Some(begin(alloc, lang, plan)?),
-            events: Vec::new(alloc),
+            held: Held::new(begin(alloc, lang, plan)?, Vec::new(alloc)),
         })
     }
 }
 
-impl Keep for Loose {
+impl<D: Disk> Keep<D> for Loose {
+    ghost use Rattle.session_store.specs.Left.{false_is_not_true};
+
     ghost lang = { lang_of };
 
     ghost plan = { plan_of };
 
-    ghost record_of = { λ loose. loose.events.items };
+    ghost voc = { λ _. [] };
+
+    ghost record_of = { events_of };
 
     ghost question = { question_of };
 
     ghost sound = { IsSound };
 
+    ghost writes = { λ _. false };
+
+    ghost live = { λ _. true };
+
+    ghost sits = { λ _ _. ⊤ };
+
+    ghost lasts = { λ keep disk sound writes live sits. absurd (false_is_not_true writes) };
+
     fn session(&self) -> &Session {
-        self.session.as_ref().unwrap()
+        self.held.session()
     }
 
     fn events(&self) -> &[Event] {
-        &self.events
+        &self.held.events
+    }
+
+    fn is_full(&self) -> bool {
+        self.held.is_full()
+    }
+
+    fn is_live(&self) -> bool {
+        true
     }
 
     fn ask(&mut self, q: Partial) {
-        match self.session.take() {
-            Some(Session::Idle(idle)) => self.session = Some(Session::Asking(idle.ask(q))),
-            Some(Session::Asking(_)) | Some(Session::Over(_)) | None => unreachable!(),
-        }
+        self.held.ask(q);
     }
 
-    fn answer(&mut self, yes: bool) -> Result<(), Memory> {
-        match self.session.take() {
-            Some(Session::Asking(asking)) => {
-                let question = asking.question().widened();
-                match self.events.push(Event::Answer { question, yes }) {
-                    Ok(()) => {
-                        self.session = Some(asking.answer(yes));
-                        Ok(())
-                    }
-                    Err(_) => {
-                        self.session = Some(Session::Asking(asking));
-                        Err(Memory)
-                    }
-                }
-            }
-            Some(Session::Idle(_)) | Some(Session::Over(_)) | None => unreachable!(),
-        }
+    fn answer(&mut self, _disk: &mut D, yes: bool) -> Result<(), SFault> {
+        let event = self.held.event(yes);
+        self.held.make_room()?;
+        self.held.add(event, yes);
+        Ok(())
     }
 }

@@ -1,4 +1,4 @@
-use Rattle.std.proofs.Common.{Option, Some, ◌≡◌, ◌∙◌, ◌+◌, List, length, ap, sym, subst, arith, refl}
+use Rattle.std.proofs.Common.{Option, Some, None, ◌≡◌, ◌∙◌, ◌+◌, List, length, ap, sym, subst, arith, refl}
 use Rattle.assign.specs.Events.{Answer}
 use Rattle.assign.specs.declared.events.Plan.{Plan}
 use Rattle.language.specs.Language.{Language, IsLanguage}
@@ -11,12 +11,20 @@ use Rattle.session_core.specs.Settled.{IsSettled}
 use Rattle.target_oracle.specs.Turns.{Turns}
 use Rattle.acq_cli.specs.Driven.{Place, Drives, Remembers, StepsTo, TellsOpen}
 use Rattle.acq_cli.specs.declared.driving.Drove.{Drove}
+use Rattle.acq_cli.specs.declared.driving.Drove.TheVariants as drove
+use Rattle.session_store.specs.Keeping.{keeps_still, keeps_then, keeps_as}
 use Rattle.acq_cli.specs.Places.{place_of, request_with}
 use Rattle.query_gen.proofs.Marking.{no_marks_hold}
 use Rattle.acq_cli.proofs.Standings.{carried, reached, few_answers}
 use Rattle.acq_cli.proofs.Owners.{owned}
 use Rattle.acq_cli.proofs.Turning.{steps_on, steps_end, steps_none}
 use Rattle.acq_cli.proofs.driving.drive.Goals as goal
+
+not_failed : None ≡ Some drove.DiskFault → ⊥
+not_failed e = cc
+
+some_same : (d : Drove) → Some d ≡ Some drove.DiskFault → d ≡ drove.DiskFault
+some_same d e = cc
 
 pub loop-turn-init : goal.loop-turn-init
 loop-turn-init g c =
@@ -33,6 +41,10 @@ loop-turn-init g c =
       steps = steps_none (g.T.Teacher.turn c.args.teacher.now) l (request_with (g.P.Keep.plan c.args.keep.now) c.args.budget) a;
       later = omega arith;
       later_sink = omega arith;
+      keeps =
+          let D = g.D.Disk in let P = g.P.Keep in
+          keeps_still D.content D.may_leave D.moment D.left_since g.met.D.Disk.counts_now g.met.D.Disk.only_now P.plan P.voc P.record_of P.question P.writes P.live P.sits D.faults ⊥ c.args.keep.now c.args.keep.now c.args.disk.now (λ e. e) refl refl refl refl refl c.requires.live c.requires.sits
+          (λ w bytes told f left. g.met.P.Keep.lasts c.args.keep.now c.args.disk.now c.requires.sound w c.requires.live c.requires.sits bytes told f left);
       more = omega arith;
     }
 
@@ -105,8 +117,27 @@ loop-turn-preserved g c =
           (carried Spoken old l before p c.loop-turn.invariant.lang c.loop-turn.invariant.plan (subst Turned c.loop-turn.invariant.turn (c.take_turn.ensures.again c.in_default.is))));
       later = omega (arith, c.take_turn.ensures.later, c.loop-turn.invariant.later);
       later_sink = omega (arith, c.take_turn.ensures.later_sink, c.loop-turn.invariant.later_sink);
+      keeps =
+          let D = g.D.Disk in let P = g.P.Keep in
+          let Failed : Type 0 = c.take_turn.result ≡ Some drove.DiskFault in
+          keeps_then D.content D.may_leave D.moment D.left_since g.met.D.Disk.counts_now g.met.D.Disk.only_now P.plan P.voc P.record_of P.question P.writes P.live P.sits D.faults ⊥ c.args.keep.now c.loop-turn.keep c.take_turn.new.keep c.args.disk.now c.loop-turn.disk c.take_turn.new.disk c.loop-turn.invariant.plan c.loop-turn.invariant.keeps
+          (keeps_as D.content D.may_leave D.moment D.left_since g.met.D.Disk.counts_now g.met.D.Disk.only_now P.plan P.voc P.record_of P.question P.writes P.live P.sits D.faults Failed ⊥ c.loop-turn.keep c.take_turn.new.keep c.loop-turn.disk c.take_turn.new.disk (λ e. absurd e) (λ e. not_failed (sym c.in_default.is ∙ e)) c.take_turn.ensures.keeps);
       more = omega (arith, one, same, c.loop-turn.invariant.more);
     }
+
+pub returns-in-Some-clause-keeps : goal.returns-in-Some-clause-keeps
+returns-in-Some-clause-keeps g c =
+    let D = g.D.Disk in let P = g.P.Keep in
+    let Failed : Type 0 = c.in-Some.drove ≡ drove.DiskFault in
+    let Told : Type 0 = Some c.in-Some.drove ≡ Some drove.DiskFault in
+    keeps_then D.content D.may_leave D.moment D.left_since g.met.D.Disk.counts_now g.met.D.Disk.only_now P.plan P.voc P.record_of P.question P.writes P.live P.sits D.faults Failed c.args.keep.now c.loop-turn.keep c.take_turn.new.keep c.args.disk.now c.loop-turn.disk c.take_turn.new.disk c.loop-turn.invariant.plan c.loop-turn.invariant.keeps
+    (keeps_as D.content D.may_leave D.moment D.left_since g.met.D.Disk.counts_now g.met.D.Disk.only_now P.plan P.voc P.record_of P.question P.writes P.live P.sits D.faults Told Failed c.loop-turn.keep c.take_turn.new.keep c.loop-turn.disk c.take_turn.new.disk (λ e. ap (λ (d : Drove). Some d) e) (λ (e : Told). some_same c.in-Some.drove e) c.in-Some.ensures.keeps)
+
+pub take_turn-requires-clause-live : goal.take_turn-requires-clause-live
+take_turn-requires-clause-live g c = c.loop-turn.invariant.keeps.is_live (λ e. e)
+
+pub take_turn-requires-clause-sits : goal.take_turn-requires-clause-sits
+take_turn-requires-clause-sits g c = c.loop-turn.invariant.keeps.belongs
 
 pub unreachable-requires : goal.unreachable-requires
 unreachable-requires g c =

@@ -6,7 +6,8 @@ use Rattle.language.specs.Answers.{standing_on}
 use Rattle.target_oracle.specs.Turns.{Turns, Said, Stopped, Ended, Overlong, Unread}
 use Rattle.acq_cli.specs.Run.{Suspended, LineTooLong, Unreadable}
 use Rattle.acq_cli.specs.Places.{place_of, request_with}
-use Rattle.acq_cli.proofs.Standings.{AtTurn, at_turn, next_fits, run_laws}
+use Rattle.session_store.specs.Keeping.{keeps_still}
+use Rattle.acq_cli.proofs.Standings.{AtTurn, at_turn, next_fits, room_left, run_laws}
 use Rattle.acq_cli.proofs.Turning.{told_as, front_as, ran_closed, cut_turn}
 use Rattle.acq_cli.proofs.Answered.{goes_on, one_more, ends}
 use Rattle.acq_cli.proofs.driving.hear_answer.Goals as goal
@@ -219,3 +220,63 @@ returns-in-Memory-clause-ends g c budget due =
     let left' : Option (List ℕ) = g.S.Source.left c.told.new.source in
     let written' : Option (List ℕ) = g.K.Sink.written c.told.new.sink in
     cut_turn run_laws turns l (request_with plan budget) at.lawful c.args.question.now (place_of t left written) (place_of t left' written') at.reached due.puts refl (front_as turns c.lang.result.now l (c.answers-count.result + 1) (length t + 1) c.args.question.now (place_of t left written) (place_of t left' written') at.language (ap (λ n. n + 1) at.number) c.in-Memory.ensures.tells)
+
+pub returns-in-Stop-clause-keeps : goal.returns-in-Stop-clause-keeps
+returns-in-Stop-clause-keeps g c =
+    let D = g.D.Disk in let P = g.P.Keep in
+    keeps_still D.content D.may_leave D.moment D.left_since g.met.D.Disk.counts_now g.met.D.Disk.only_now P.plan P.voc P.record_of P.question P.writes P.live P.sits D.faults _ c.args.keep.now c.args.keep.now c.args.disk.now (λ (e : _). cc) refl refl refl refl refl c.requires.live c.requires.sits
+    (λ w bytes told f left. g.met.P.Keep.lasts c.args.keep.now c.args.disk.now c.requires.sound w c.requires.live c.requires.sits bytes told f left)
+
+pub returns-in-End-clause-keeps : goal.returns-in-End-clause-keeps
+returns-in-End-clause-keeps g c =
+    let D = g.D.Disk in let P = g.P.Keep in
+    keeps_still D.content D.may_leave D.moment D.left_since g.met.D.Disk.counts_now g.met.D.Disk.only_now P.plan P.voc P.record_of P.question P.writes P.live P.sits D.faults _ c.args.keep.now c.args.keep.now c.args.disk.now (λ (e : _). cc) refl refl refl refl refl c.requires.live c.requires.sits
+    (λ w bytes told f left. g.met.P.Keep.lasts c.args.keep.now c.args.disk.now c.requires.sound w c.requires.live c.requires.sits bytes told f left)
+
+pub returns-in-TooLong-clause-keeps : goal.returns-in-TooLong-clause-keeps
+returns-in-TooLong-clause-keeps g c =
+    let D = g.D.Disk in let P = g.P.Keep in
+    keeps_still D.content D.may_leave D.moment D.left_since g.met.D.Disk.counts_now g.met.D.Disk.only_now P.plan P.voc P.record_of P.question P.writes P.live P.sits D.faults _ c.args.keep.now c.args.keep.now c.args.disk.now (λ (e : _). cc) refl refl refl refl refl c.requires.live c.requires.sits
+    (λ w bytes told f left. g.met.P.Keep.lasts c.args.keep.now c.args.disk.now c.requires.sound w c.requires.live c.requires.sits bytes told f left)
+
+pub returns-in-Unreadable-clause-keeps : goal.returns-in-Unreadable-clause-keeps
+returns-in-Unreadable-clause-keeps g c =
+    let D = g.D.Disk in let P = g.P.Keep in
+    keeps_still D.content D.may_leave D.moment D.left_since g.met.D.Disk.counts_now g.met.D.Disk.only_now P.plan P.voc P.record_of P.question P.writes P.live P.sits D.faults _ c.args.keep.now c.args.keep.now c.args.disk.now (λ (e : _). cc) refl refl refl refl refl c.requires.live c.requires.sits
+    (λ w bytes told f left. g.met.P.Keep.lasts c.args.keep.now c.args.disk.now c.requires.sound w c.requires.live c.requires.sits bytes told f left)
+
+pub returns-in-ReadFault-clause-keeps : goal.returns-in-ReadFault-clause-keeps
+returns-in-ReadFault-clause-keeps g c =
+    let D = g.D.Disk in let P = g.P.Keep in
+    keeps_still D.content D.may_leave D.moment D.left_since g.met.D.Disk.counts_now g.met.D.Disk.only_now P.plan P.voc P.record_of P.question P.writes P.live P.sits D.faults _ c.args.keep.now c.args.keep.now c.args.disk.now (λ (e : _). cc) refl refl refl refl refl c.requires.live c.requires.sits
+    (λ w bytes told f left. g.met.P.Keep.lasts c.args.keep.now c.args.disk.now c.requires.sound w c.requires.live c.requires.sits bytes told f left)
+
+pub returns-in-WriteFault-clause-keeps : goal.returns-in-WriteFault-clause-keeps
+returns-in-WriteFault-clause-keeps g c =
+    let D = g.D.Disk in let P = g.P.Keep in
+    keeps_still D.content D.may_leave D.moment D.left_since g.met.D.Disk.counts_now g.met.D.Disk.only_now P.plan P.voc P.record_of P.question P.writes P.live P.sits D.faults _ c.args.keep.now c.args.keep.now c.args.disk.now (λ (e : _). cc) refl refl refl refl refl c.requires.live c.requires.sits
+    (λ w bytes told f left. g.met.P.Keep.lasts c.args.keep.now c.args.disk.now c.requires.sound w c.requires.live c.requires.sits bytes told f left)
+
+pub returns-in-Memory-clause-keeps : goal.returns-in-Memory-clause-keeps
+returns-in-Memory-clause-keeps g c =
+    let D = g.D.Disk in let P = g.P.Keep in
+    keeps_still D.content D.may_leave D.moment D.left_since g.met.D.Disk.counts_now g.met.D.Disk.only_now P.plan P.voc P.record_of P.question P.writes P.live P.sits D.faults _ c.args.keep.now c.args.keep.now c.args.disk.now (λ (e : _). cc) refl refl refl refl refl c.requires.live c.requires.sits
+    (λ w bytes told f left. g.met.P.Keep.lasts c.args.keep.now c.args.disk.now c.requires.sound w c.requires.live c.requires.sits bytes told f left)
+
+pub keep_answer-requires-clause-room : goal.keep_answer-requires-clause-room
+keep_answer-requires-clause-room g c =
+    let l : Language = g.P.Keep.lang c.args.keep.now in
+    let plan : Plan = g.P.Keep.plan c.args.keep.now in
+    let at : AtTurn l plan (standing_on l (g.P.Keep.record_of c.args.keep.now)) c.answers-count.result c.lang.result.now =
+    at_turn c.session-session.result.now l c.lang.result.now plan (standing_on l (g.P.Keep.record_of c.args.keep.now)) c.answers-count.result
+    c.session-session.ensures.stands c.session-session.ensures.lang c.session-session.ensures.plan c.answers-count.ensures c.lang.ensures.is c.lang.ensures.lawful in
+    room_left l plan c.lang.result.now (g.P.Keep.record_of c.args.keep.now) c.answers-count.result at
+
+pub keep_answer-requires-in-No-clause-room : goal.keep_answer-requires-in-No-clause-room
+keep_answer-requires-in-No-clause-room g c =
+    let l : Language = g.P.Keep.lang c.args.keep.now in
+    let plan : Plan = g.P.Keep.plan c.args.keep.now in
+    let at : AtTurn l plan (standing_on l (g.P.Keep.record_of c.args.keep.now)) c.answers-count.result c.lang.result.now =
+    at_turn c.session-session.result.now l c.lang.result.now plan (standing_on l (g.P.Keep.record_of c.args.keep.now)) c.answers-count.result
+    c.session-session.ensures.stands c.session-session.ensures.lang c.session-session.ensures.plan c.answers-count.ensures c.lang.ensures.is c.lang.ensures.lawful in
+    room_left l plan c.lang.result.now (g.P.Keep.record_of c.args.keep.now) c.answers-count.result at

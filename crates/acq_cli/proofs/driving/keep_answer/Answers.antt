@@ -1,6 +1,13 @@
-use Rattle.std.proofs.Common.{◌≡◌, ◌∙◌, ap, length, Option, Some}
+use Rattle.std.proofs.Common.{◌≡◌, ◌∙◌, ◌⊎◌, ℕ, ap, sym, subst, refl, length, List, Option, Some, None, inl, inr, ⊎_elim, Result, Err}
 use Rattle.assign.specs.Assignment.{Assignment}
 use Rattle.language.specs.Answers.{standing_on}
+use Rattle.session_store.specs.Keeping.{Keeps, keeps_still, persists_one, fails_one}
+use Rattle.session_store.specs.Kept.{answer_event}
+use Rattle.session_store.specs.declared.fault.SFault.{SFault}
+use Rattle.session_store.specs.declared.fault.SFault.TheVariants as store
+use Rattle.acq_cli.specs.Due.{ended_by}
+use Rattle.acq_cli.specs.declared.driving.Drove.{Drove}
+use Rattle.acq_cli.specs.declared.driving.Drove.TheVariants as drove
 use Rattle.assign.proofs.EventLemmas.{cut_to-standing-push}
 use Rattle.acq_cli.proofs.driving.keep_answer.Goals as goal
 
@@ -11,3 +18,73 @@ pub returns-in-Ok-clause-kept : goal.returns-in-Ok-clause-kept
 returns-in-Ok-clause-kept g c = λ q put.
     ap (standing_on (g.P.Keep.lang c.args.keep.now)) (c.in-Ok.ensures.ok q put)
     ∙ cut_to-standing-push (length (g.P.Keep.lang c.args.keep.now).names) (g.P.Keep.record_of c.args.keep.now) q c.args.yes (same_length q c.requires.put.0 (g.P.Keep.question c.args.keep.now) put c.requires.put.1 ∙ c.requires.put.2)
+
+abbrev lost : SFault → Result (Unit {0}) SFault
+lost e = Err e
+
+not_failed : None ≡ Some drove.DiskFault → ⊥
+not_failed e = cc
+
+not_memory : (d : Drove) → d ≡ drove.Memory → Some d ≡ Some drove.DiskFault → ⊥
+not_memory d is e = let bad : d ≡ drove.DiskFault = cc in let worse : drove.Memory ≡ drove.DiskFault = sym is ∙ bad in cc
+
+pub returns-in-Ok-clause-keeps : goal.returns-in-Ok-clause-keeps
+returns-in-Ok-clause-keeps g c =
+    let D = g.D.Disk in
+    let P = g.P.Keep in
+    let q = c.requires.put.0 in
+    let old = c.args.keep.now in
+    let new = c.answer.new.self in
+    record {
+      same_voc = c.answer.ensures.voc;
+      same_writes = c.answer.ensures.writes;
+      belongs = c.answer.ensures.sits;
+      later = c.answer.ensures.later;
+      is_live = λ no. c.in-Ok.ensures.still_live;
+      cause = λ failed. absurd (not_failed failed);
+      unwritten = c.answer.ensures.unwritten;
+      persists = λ w bytes told no.
+          persists_one D.content D.may_leave D.moment D.left_since g.met.D.Disk.counts_now g.met.D.Disk.only_now (P.plan old) (P.voc old) (P.record_of old) (P.record_of new) (answer_event q c.args.yes) c.args.disk.now c.answer.new.disk
+          (c.in-Ok.ensures.ok q c.requires.put.1) (c.in-Ok.ensures.written w bytes told) (c.answer.ensures.any_moment w bytes told q c.requires.put.1);
+      fails = λ w bytes told failed. absurd (not_failed failed);
+    }
+
+pub returns-in-Err-clause-kept : goal.returns-in-Err-clause-kept
+returns-in-Err-clause-kept g c =
+    (⊎_elim (λ memory. inl (c.ended_by.ensures ∙ ap ended_by memory)) (λ failed. inr (c.ended_by.ensures ∙ ap ended_by failed)) c.in-Err.ensures.faults,
+     ap (standing_on (g.P.Keep.lang c.args.keep.now)) c.in-Err.ensures.err)
+
+pub returns-in-Err-clause-keeps : goal.returns-in-Err-clause-keeps
+returns-in-Err-clause-keeps g c =
+    let D = g.D.Disk in
+    let P = g.P.Keep in
+    let q = c.requires.put.0 in
+    let old = c.args.keep.now in
+    let new = c.answer.new.self in
+    let x = c.args.disk.now in
+    let y = c.answer.new.disk in
+    ⊎_elim (λ memory.
+      let all = c.in-Err.ensures.memory (ap lost memory) in
+      let HasFailed : Type 0 = Some c.ended_by.result ≡ Some drove.DiskFault in
+      let As : _ → Type 0 = λ d. Keeps D.content D.may_leave D.moment D.left_since P.plan P.voc P.record_of P.question P.writes P.live P.sits D.faults HasFailed old new x d in
+      subst As (sym all.1)
+      (keeps_still D.content D.may_leave D.moment D.left_since g.met.D.Disk.counts_now g.met.D.Disk.only_now P.plan P.voc P.record_of P.question P.writes P.live P.sits D.faults HasFailed old new x
+        (not_memory c.ended_by.result (c.ended_by.ensures ∙ ap ended_by memory)) c.answer.ensures.plan c.answer.ensures.voc c.in-Err.ensures.err c.answer.ensures.writes all.0 c.requires.live
+        (subst (P.sits new) all.1 c.answer.ensures.sits) (λ w bytes told f left. g.met.P.Keep.lasts old x c.requires.sound w c.requires.live c.requires.sits bytes told f left)))
+    (λ failed.
+      let why = c.in-Err.ensures.failed (ap lost failed) in
+      let is : Some c.ended_by.result ≡ Some drove.DiskFault = ap (λ (d : Drove). Some d) (c.ended_by.ensures ∙ ap ended_by failed) in
+      record {
+        same_voc = c.answer.ensures.voc;
+        same_writes = c.answer.ensures.writes;
+        belongs = c.answer.ensures.sits;
+        later = c.answer.ensures.later;
+        is_live = λ no. absurd (no is);
+        cause = λ so. (why.0, why.2);
+        unwritten = c.answer.ensures.unwritten;
+        persists = λ w bytes told no. absurd (no is);
+        fails = λ w bytes told so.
+            fails_one D.content D.may_leave D.moment D.left_since g.met.D.Disk.counts_now g.met.D.Disk.only_now (P.plan old) (P.voc old) (P.record_of old) (P.record_of new) q c.args.yes (P.question new) x y
+            c.in-Err.ensures.err (c.in-Err.ensures.err_question ∙ c.requires.put.1) (c.answer.ensures.any_moment w bytes told q c.requires.put.1);
+      })
+    c.in-Err.ensures.faults

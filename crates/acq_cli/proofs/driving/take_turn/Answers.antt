@@ -7,6 +7,7 @@ use Rattle.acq_cli.specs.declared.words.Request.{Request}
 use Rattle.acq_cli.specs.Run.{Converged, Collapsed, Undecided}
 use Rattle.acq_cli.specs.Driven.{IsDone, IsCollapsed, IsLeftOpen, RanTo, TellsOpen}
 use Rattle.acq_cli.specs.Places.{place_of, request_with}
+use Rattle.session_store.specs.Keeping.{keeps_still, keeps_then}
 use Rattle.acq_cli.proofs.Standings.{due_reached, marks_after}
 use Rattle.acq_cli.proofs.Nexts.{put_due}
 use Rattle.acq_cli.proofs.Turning.{ran_end}
@@ -74,3 +75,36 @@ returns-in-Open-clause-remembers g c none =
     let due = put_due l request t (g.P.Keep.question c.put_next.new.keep) c.put_next.result c.in-Open.question c.put_next.ensures.put c.in-Open.is in
     marks_after l (g.P.Keep.lang c.put_next.new.keep) request (g.P.Keep.record_of c.args.keep.now) (g.P.Keep.record_of c.put_next.new.keep) (g.P.Keep.record_of c.hear_answer.new.keep)
     c.put_next.new.screen c.put_next.ensures.lang c.put_next.ensures.events (due_reached l request t _ due.puts) (c.hear_answer.ensures.more none) c.put_next.ensures.remembers
+
+pub returns-in-Converged-clause-keeps : goal.returns-in-Converged-clause-keeps
+returns-in-Converged-clause-keeps g c =
+    let D = g.D.Disk in let P = g.P.Keep in
+    keeps_still D.content D.may_leave D.moment D.left_since g.met.D.Disk.counts_now g.met.D.Disk.only_now P.plan P.voc P.record_of P.question P.writes P.live P.sits D.faults _ c.args.keep.now c.put_next.new.keep c.args.disk.now (λ (e : _). cc) c.put_next.ensures.plan c.put_next.ensures.voc c.put_next.ensures.events c.put_next.ensures.writes c.put_next.ensures.live
+    c.requires.live (c.put_next.ensures.sits c.args.disk.now c.requires.sits)
+    (λ w bytes told f left. g.met.P.Keep.lasts c.args.keep.now c.args.disk.now c.requires.sound w c.requires.live c.requires.sits bytes told f left)
+
+pub returns-in-Collapsed-clause-keeps : goal.returns-in-Collapsed-clause-keeps
+returns-in-Collapsed-clause-keeps g c =
+    let D = g.D.Disk in let P = g.P.Keep in
+    keeps_still D.content D.may_leave D.moment D.left_since g.met.D.Disk.counts_now g.met.D.Disk.only_now P.plan P.voc P.record_of P.question P.writes P.live P.sits D.faults _ c.args.keep.now c.put_next.new.keep c.args.disk.now (λ (e : _). cc) c.put_next.ensures.plan c.put_next.ensures.voc c.put_next.ensures.events c.put_next.ensures.writes c.put_next.ensures.live
+    c.requires.live (c.put_next.ensures.sits c.args.disk.now c.requires.sits)
+    (λ w bytes told f left. g.met.P.Keep.lasts c.args.keep.now c.args.disk.now c.requires.sound w c.requires.live c.requires.sits bytes told f left)
+
+pub returns-in-Undecided-clause-keeps : goal.returns-in-Undecided-clause-keeps
+returns-in-Undecided-clause-keeps g c =
+    let D = g.D.Disk in let P = g.P.Keep in
+    keeps_still D.content D.may_leave D.moment D.left_since g.met.D.Disk.counts_now g.met.D.Disk.only_now P.plan P.voc P.record_of P.question P.writes P.live P.sits D.faults _ c.args.keep.now c.put_next.new.keep c.args.disk.now (λ (e : _). cc) c.put_next.ensures.plan c.put_next.ensures.voc c.put_next.ensures.events c.put_next.ensures.writes c.put_next.ensures.live
+    c.requires.live (c.put_next.ensures.sits c.args.disk.now c.requires.sits)
+    (λ w bytes told f left. g.met.P.Keep.lasts c.args.keep.now c.args.disk.now c.requires.sound w c.requires.live c.requires.sits bytes told f left)
+
+pub returns-in-Open-clause-keeps : goal.returns-in-Open-clause-keeps
+returns-in-Open-clause-keeps g c =
+    let D = g.D.Disk in let P = g.P.Keep in
+    keeps_then D.content D.may_leave D.moment D.left_since g.met.D.Disk.counts_now g.met.D.Disk.only_now P.plan P.voc P.record_of P.question P.writes P.live P.sits D.faults _ c.args.keep.now c.put_next.new.keep c.hear_answer.new.keep c.args.disk.now c.args.disk.now c.hear_answer.new.disk c.put_next.ensures.plan
+    (keeps_still D.content D.may_leave D.moment D.left_since g.met.D.Disk.counts_now g.met.D.Disk.only_now P.plan P.voc P.record_of P.question P.writes P.live P.sits D.faults ⊥ c.args.keep.now c.put_next.new.keep c.args.disk.now (λ e. e) c.put_next.ensures.plan c.put_next.ensures.voc c.put_next.ensures.events c.put_next.ensures.writes c.put_next.ensures.live
+    c.requires.live (c.put_next.ensures.sits c.args.disk.now c.requires.sits)
+    (λ w bytes told f left. g.met.P.Keep.lasts c.args.keep.now c.args.disk.now c.requires.sound w c.requires.live c.requires.sits bytes told f left))
+    c.hear_answer.ensures.keeps
+
+pub hear_answer-requires-clause-live : goal.hear_answer-requires-clause-live
+hear_answer-requires-clause-live g c = c.put_next.ensures.live ∙ c.requires.live

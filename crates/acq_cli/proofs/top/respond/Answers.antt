@@ -29,7 +29,7 @@ returns-in-Ok-read_vocabulary-clause-acquires g c =
     let P : List ℕ → Type 0 = λ line. IsVocabulary line c.in-Ok-read_vocabulary.lang in
     acquires_in (map string_bytes c.args.words.now) c.in-Some.request (g.S.Source.left c.args.input.now) (g.S.Source.left c.read_first_line.new.source) (g.K.Sink.written c.args.out.now)
     (g.S.Source.left c.try_language.new.input) (g.K.Sink.written c.try_language.new.out) c.in-Ok.line.items c.in-Ok-read_vocabulary.lang c.try_language.result
-    (sym c.request_of.ensures.is ∙ c.in-Some.is) c.in-Ok.ensures.line (subst P c.deref.ensures.value c.in-Ok-read_vocabulary.ensures.ok) c.try_language.ensures.tries
+    (sym c.request_of.ensures.is ∙ c.in-Some.is) c.in-Ok.ensures.line (subst P c.deref.ensures.value c.in-Ok-read_vocabulary.ensures.ok) c.try_language.ensures.no_disk c.try_language.ensures.tries
 
 pub returns-in-Ok-read_vocabulary-clause-part : goal.returns-in-Ok-read_vocabulary-clause-part
 returns-in-Ok-read_vocabulary-clause-part g c =

@@ -1,0 +1,40 @@
+use Rattle.std.proofs.Common.{◌≡◌, ◌∙◌, refl, sym, ap, inl, inr, Result, Err}
+use Rattle.session_store.specs.Keeping.{rose_later}
+use Rattle.session_store.specs.Store.{lang_of, plan_of, voc_of, events_of, question_of}
+use Rattle.session_store.specs.declared.fault.SFault.{SFault}
+use Rattle.session_store.specs.declared.store.Store.{Store}
+use Rattle.acq_cli.proofs.Journals.{goes_on}
+use Rattle.acq_cli.proofs.commands.run_journal.Goals as goal
+
+abbrev not_opened : SFault → Result Store SFault
+not_opened e = Err e
+
+pub returns-in-Ok-clause-runs : goal.returns-in-Ok-clause-runs
+returns-in-Ok-clause-runs g c bytes told =
+    let D = g.D.Disk in
+    let store = c.in-Ok.store in
+    let after = c.ask_on.new.keep in
+    let told_then = c.open.ensures.same ∙ told in
+    inr (goes_on D.content D.may_leave D.moment D.left_since c.args.budget bytes (g.S.Source.left c.args.input.now) (g.K.Sink.written c.args.out.now) (g.S.Source.left c.ask_on.new.input) (g.K.Sink.written c.ask_on.new.out)
+      c.args.disk.now c.open.new.disk c.ask_on.new.disk c.ask_on.result (plan_of store) (voc_of store) (events_of store) (events_of after) (question_of after) (lang_of store)
+      (c.in-Ok.ensures.opened bytes told) c.in-Ok.ensures.sound.read c.in-Ok.ensures.places c.open.ensures.any_moment
+      (λ no. c.ask_on.ensures.keeps.persists refl bytes told_then no) (λ is. c.ask_on.ensures.keeps.fails refl bytes told_then is)
+      c.ask_on.ensures.tries c.ask_on.ensures.part)
+
+pub returns-in-Err-clause-runs : goal.returns-in-Err-clause-runs
+returns-in-Err-clause-runs g c bytes told =
+    inl (record {
+      fault = c.in-Err.fault;
+      why = c.in-Err.ensures.refused bytes told;
+      tells = c.refuse_journal.ensures.tells;
+      part = c.refuse_journal.ensures.part;
+      unread = refl;
+      same = c.open.ensures.same;
+      any_moment = c.open.ensures.any_moment;
+    })
+
+pub returns-in-Ok-clause-lost : goal.returns-in-Ok-clause-lost
+returns-in-Ok-clause-lost g c is = rose_later _ _ _ c.open.ensures.later (c.ask_on.ensures.keeps.cause is).1
+
+pub returns-in-Err-clause-lost : goal.returns-in-Err-clause-lost
+returns-in-Err-clause-lost g c is = c.in-Err.ensures.failed (ap not_opened (c.refuse_journal.ensures.lost is))

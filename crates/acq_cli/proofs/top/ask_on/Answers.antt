@@ -1,0 +1,133 @@
+use Rattle.std.proofs.Common.{◌≡◌, ◌∙◌, List, Option, Result, Ok, Err, sym, ap, subst, refl}
+use Rattle.acq_io.specs.declared.streams.Put.{Put}
+use Rattle.acq_io.specs.declared.streams.Put.TheVariants as puts
+use Rattle.assign.specs.Events.{Answer}
+use Rattle.assign.specs.declared.events.Event.{Event}
+use Rattle.language.specs.Language.{Language}
+use Rattle.language.specs.Answers.{standing_on}
+use Rattle.query_gen.specs.Marks.{IsMadeFor}
+use Rattle.session_core.specs.Standing.{Stands, knowledge_of}
+use Rattle.session_store.specs.Keeping.{keeps_still, keeps_as}
+use Rattle.acq_cli.specs.Places.{request_with}
+use Rattle.acq_cli.specs.declared.driving.Drove.TheVariants as drove
+use Rattle.acq_cli.specs.declared.ending.Ending.{Ending}
+use Rattle.acq_cli.specs.declared.ending.Ending.TheVariants as ending
+use Rattle.acq_cli.proofs.Parts.{begun_part}
+use Rattle.acq_cli.proofs.Standings.{at_turn}
+use Rattle.acq_cli.proofs.Tries.{tried, broken, read_of, disk_of, disk_told, no_fault}
+use Rattle.acq_cli.proofs.top.ask_on.Goals as goal
+
+pub returns-clause-tries : goal.returns-clause-tries
+returns-clause-tries g c =
+    let P = g.P.Keep in
+    let old = c.args.keep.now in
+    let new = c.drive-drove.new.keep in
+    let k = knowledge_of c.session-session.result.now in
+    let later : List Event = P.record_of new in
+    let same : k.lang ≡ P.lang old = c.session-session.ensures.lang ∙ c.drive-drove.ensures.lang in
+    let again : k.plan ≡ P.plan old = c.session-session.ensures.plan ∙ c.drive-drove.ensures.plan in
+    let Here : Language → Type 0 = λ m. Stands c.session-session.result.now (standing_on m later) in
+    let stands : Here k.lang = subst Here (sym c.session-session.ensures.lang) c.session-session.ensures.stands in
+    tried (P.lang old) k.lang (P.plan old) k.plan c.args.budget (standing_on (P.lang old) (P.record_of old)) later (g.S.Source.left c.args.input.now) (g.K.Sink.written c.args.out.now)
+    (g.S.Source.left c.drive-drove.new.source) (g.K.Sink.written c.drive-drove.new.sink) (g.K.Sink.written c.say.new.out) c.drive-drove.new.screen c.drive-drove.result c.say.result same again
+    c.drive-drove.ensures.ends c.drive-drove.ensures.open (c.say.ensures.says c.args.budget (standing_on k.lang later) stands) (c.say.ensures.part c.args.budget (standing_on k.lang later) stands)
+
+pub returns-clause-part : goal.returns-clause-part
+returns-clause-part g c =
+    let P = g.P.Keep in
+    let old = c.args.keep.now in
+    let new = c.drive-drove.new.keep in
+    let k = knowledge_of c.session-session.result.now in
+    let later : List Event = P.record_of new in
+    let same : k.lang ≡ P.lang old = c.session-session.ensures.lang ∙ c.drive-drove.ensures.lang in
+    let again : k.plan ≡ P.plan old = c.session-session.ensures.plan ∙ c.drive-drove.ensures.plan in
+    let Here : Language → Type 0 = λ m. Stands c.session-session.result.now (standing_on m later) in
+    let stands : Here k.lang = subst Here (sym c.session-session.ensures.lang) c.session-session.ensures.stands in
+    broken (P.lang old) k.lang (P.plan old) k.plan c.args.budget (standing_on (P.lang old) (P.record_of old)) later (g.S.Source.left c.args.input.now) (g.K.Sink.written c.args.out.now)
+    (g.S.Source.left c.drive-drove.new.source) (g.K.Sink.written c.drive-drove.new.sink) (g.K.Sink.written c.say.new.out) c.drive-drove.new.screen c.drive-drove.result c.say.result same again
+    c.drive-drove.ensures.ends c.drive-drove.ensures.open (c.say.ensures.says c.args.budget (standing_on k.lang later) stands) (c.say.ensures.part c.args.budget (standing_on k.lang later) stands)
+
+pub returns-clause-read : goal.returns-clause-read
+returns-clause-read g c is =
+    let P = g.P.Keep in
+    let old = c.args.keep.now in
+    let new = c.drive-drove.new.keep in
+    let k = knowledge_of c.session-session.result.now in
+    let later : List Event = P.record_of new in
+    let same : k.lang ≡ P.lang old = c.session-session.ensures.lang ∙ c.drive-drove.ensures.lang in
+    let again : k.plan ≡ P.plan old = c.session-session.ensures.plan ∙ c.drive-drove.ensures.plan in
+    let Here : Language → Type 0 = λ m. Stands c.session-session.result.now (standing_on m later) in
+    let stands : Here k.lang = subst Here (sym c.session-session.ensures.lang) c.session-session.ensures.stands in
+    c.drive-drove.ensures.read (read_of (P.lang old) k.lang (P.plan old) k.plan c.args.budget (standing_on (P.lang old) (P.record_of old)) later (g.S.Source.left c.args.input.now) (g.K.Sink.written c.args.out.now)
+    (g.S.Source.left c.drive-drove.new.source) (g.K.Sink.written c.drive-drove.new.sink) (g.K.Sink.written c.say.new.out) c.drive-drove.new.screen c.drive-drove.result c.say.result same again
+    c.drive-drove.ensures.ends c.drive-drove.ensures.open (c.say.ensures.says c.args.budget (standing_on k.lang later) stands) (c.say.ensures.part c.args.budget (standing_on k.lang later) stands) is)
+
+pub returns-clause-no_fault : goal.returns-clause-no_fault
+returns-clause-no_fault g c =
+    let P = g.P.Keep in
+    let l = P.lang c.args.keep.now in
+    no_fault l (request_with (P.plan c.args.keep.now) c.args.budget) (standing_on l (P.record_of c.args.keep.now)) (standing_on l (P.record_of c.drive-drove.new.keep)) (g.S.Source.left c.args.input.now) (g.K.Sink.written c.args.out.now)
+    (g.S.Source.left c.drive-drove.new.source) (g.K.Sink.written c.say.new.out) c.say.result (returns-clause-tries g c)
+
+pub returns-clause-keeps : goal.returns-clause-keeps
+returns-clause-keeps g c =
+    let D = g.D.Disk in
+    let P = g.P.Keep in
+    let old = c.args.keep.now in
+    let new = c.drive-drove.new.keep in
+    let k = knowledge_of c.session-session.result.now in
+    let later : List Event = P.record_of new in
+    let same : k.lang ≡ P.lang old = c.session-session.ensures.lang ∙ c.drive-drove.ensures.lang in
+    let again : k.plan ≡ P.plan old = c.session-session.ensures.plan ∙ c.drive-drove.ensures.plan in
+    let Here : Language → Type 0 = λ m. Stands c.session-session.result.now (standing_on m later) in
+    let stands : Here k.lang = subst Here (sym c.session-session.ensures.lang) c.session-session.ensures.stands in
+    keeps_as D.content D.may_leave D.moment D.left_since g.met.D.Disk.counts_now g.met.D.Disk.only_now P.plan P.voc P.record_of P.question P.writes P.live P.sits D.faults (c.drive-drove.result ≡ drove.DiskFault) (c.say.result ≡ Ok ending.DiskFault) old new c.args.disk.now c.drive-drove.new.disk
+    (disk_of (P.lang old) k.lang (P.plan old) k.plan c.args.budget (standing_on (P.lang old) (P.record_of old)) later (g.S.Source.left c.args.input.now) (g.K.Sink.written c.args.out.now)
+    (g.S.Source.left c.drive-drove.new.source) (g.K.Sink.written c.drive-drove.new.sink) (g.K.Sink.written c.say.new.out) c.drive-drove.new.screen c.drive-drove.result c.say.result same again
+    c.drive-drove.ensures.ends c.drive-drove.ensures.open (c.say.ensures.says c.args.budget (standing_on k.lang later) stands) (c.say.ensures.part c.args.budget (standing_on k.lang later) stands))
+    (disk_told (P.lang old) k.lang (P.plan old) k.plan c.args.budget (standing_on (P.lang old) (P.record_of old)) later (g.S.Source.left c.args.input.now) (g.K.Sink.written c.args.out.now)
+    (g.S.Source.left c.drive-drove.new.source) (g.K.Sink.written c.drive-drove.new.sink) (g.K.Sink.written c.say.new.out) c.drive-drove.new.screen c.drive-drove.result c.say.result same again
+    c.drive-drove.ensures.ends c.drive-drove.ensures.open (c.say.ensures.says c.args.budget (standing_on k.lang later) stands) (c.say.ensures.part c.args.budget (standing_on k.lang later) stands))
+    c.drive-drove.ensures.keeps
+
+pub say-requires : goal.say-requires
+say-requires g c =
+    let P = g.P.Keep in
+    let Made : Language → Type 0 = λ m. IsMadeFor m c.drive-drove.new.screen in
+    record { made = subst Made (sym (c.session-session.ensures.lang ∙ c.drive-drove.ensures.lang)) c.drive-drove.ensures.screen }
+
+not_okay : (let r : Result Ending Put = Err puts.Memory in r) ≡ Ok ending.DiskFault → ⊥
+not_okay e = cc
+
+pub returns-in_default-clause-part : goal.returns-in_default-clause-part
+returns-in_default-clause-part g c =
+    let P = g.P.Keep in
+    let l = P.lang c.args.keep.now in
+    let plan = P.plan c.args.keep.now in
+    let t = standing_on l (P.record_of c.args.keep.now) in
+    let s = c.session-start.result.now in
+    let at = at_turn s l c.lang-lang.result.now plan t (knowledge_of s).answers c.session-start.ensures.stands c.session-start.ensures.lang c.session-start.ensures.plan refl c.lang-lang.ensures.is c.lang-lang.ensures.lawful in
+    begun_part l (request_with plan c.args.budget) t (g.S.Source.left c.args.input.now) (g.K.Sink.written c.args.out.now) at.lawful at.reached
+
+pub returns-in_default-clause-keeps : goal.returns-in_default-clause-keeps
+returns-in_default-clause-keeps g c =
+    let D = g.D.Disk in let P = g.P.Keep in
+    keeps_still D.content D.may_leave D.moment D.left_since g.met.D.Disk.counts_now g.met.D.Disk.only_now P.plan P.voc P.record_of P.question P.writes P.live P.sits D.faults _ c.args.keep.now c.args.keep.now c.args.disk.now not_okay refl refl refl refl refl c.requires.live c.requires.sits
+    (λ w bytes told f left. g.met.P.Keep.lasts c.args.keep.now c.args.disk.now c.requires.sound w c.requires.live c.requires.sits bytes told f left)
+
+pub returns-in_default-new-clause-part : goal.returns-in_default-new-clause-part
+returns-in_default-new-clause-part g c =
+    let P = g.P.Keep in
+    let l = P.lang c.args.keep.now in
+    let plan = P.plan c.args.keep.now in
+    let t = standing_on l (P.record_of c.args.keep.now) in
+    let s = c.session-start.result.now in
+    let at = at_turn s l c.lang-lang.result.now plan t (knowledge_of s).answers c.session-start.ensures.stands c.session-start.ensures.lang c.session-start.ensures.plan refl c.lang-lang.ensures.is c.lang-lang.ensures.lawful in
+    begun_part l (request_with plan c.args.budget) t (g.S.Source.left c.args.input.now) (g.K.Sink.written c.args.out.now) at.lawful at.reached
+
+pub returns-in_default-new-clause-keeps : goal.returns-in_default-new-clause-keeps
+returns-in_default-new-clause-keeps g c =
+    let D = g.D.Disk in let P = g.P.Keep in
+    keeps_still D.content D.may_leave D.moment D.left_since g.met.D.Disk.counts_now g.met.D.Disk.only_now P.plan P.voc P.record_of P.question P.writes P.live P.sits D.faults _ c.args.keep.now c.args.keep.now c.args.disk.now not_okay refl refl refl refl refl c.requires.live c.requires.sits
+    (λ w bytes told f left. g.met.P.Keep.lasts c.args.keep.now c.args.disk.now c.requires.sound w c.requires.live c.requires.sits bytes told f left)
+

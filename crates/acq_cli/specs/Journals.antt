@@ -1,0 +1,193 @@
+-- What a command over a journal has done.
+use Rattle.std.specs.Prelude.{◌≡◌, ◌⊎◌, ℕ, List, [], ◌∷◌, ◌++◌, length, Bool, Option, Result, Ok, Err, IfOk, OnErr, codes}
+use Rattle.std.specs.Fmt.{decimal}
+use Rattle.acq_io.specs.Streams.{Adds, AddsFront}
+use Rattle.acq_io.specs.Whole.{Gives, all_of}
+use Rattle.acq_io.specs.declared.whole.AllFault.TheVariants as long
+use Rattle.acq_io.specs.declared.streams.Put.{Put}
+use Rattle.acq_io.specs.declared.streams.Put.TheVariants as put
+use Rattle.voc_read.specs.declared.fault.VocFault.TheVariants as voc
+use Rattle.answer_journal.specs.declared.fault.JFault.{JFault}
+use Rattle.answer_journal.specs.declared.fault.JFault.TheVariants as journal
+use Rattle.answer_journal.specs.Journal.{HasNoSession}
+use Rattle.answer_journal.specs.Making.{IsCreating}
+use Rattle.assign.specs.Assignment.{Assignment}
+use Rattle.assign.specs.declared.events.Event.{Event}
+use Rattle.assign.specs.declared.events.Plan.{Plan}
+use Rattle.disk_model.specs.Disk.{LeavesOnly}
+use Rattle.language.specs.Language.{Language, variable_count, candidates}
+use Rattle.language.specs.Answers.{standing_on}
+use Rattle.session_store.specs.Kept.{answer_event}
+use Rattle.session_store.specs.Left.{OpensWith, OpensWithin, SaysSession, LeavesNow}
+use Rattle.session_store.specs.Opening.{NotOpened, NotMade}
+use Rattle.session_store.specs.Replay.{HavePlaces}
+use Rattle.session_store.specs.declared.fault.SFault.{SFault}
+use Rattle.session_store.specs.declared.fault.SFault.TheVariants as store
+use Rattle.voc_read.specs.FaultTexts.{fault_text}
+use Rattle.voc_read.specs.Vocabulary.{IsVocabulary}
+use Rattle.acq_cli.specs.Breaks.{BreaksRun}
+use Rattle.acq_cli.specs.Places.{request_with}
+use Rattle.acq_cli.specs.Program.{Tries}
+use Rattle.acq_cli.specs.Texts.{refusal_text, learned_in}
+use Rattle.acq_cli.specs.Shows.{show_text}
+use Rattle.assign.specs.Events.{Answer}
+use Rattle.session_laws.specs.Session.{state_after}
+use Rattle.acq_cli.specs.declared.ending.Ending.{Ending}
+use Rattle.acq_cli.specs.declared.ending.Ending.TheVariants as ending
+
+-- ---- Texts
+
+-- why a journal can't be made or read
+abbrev pub journal_text : JFault → List ℕ
+journal_text journal.SessionThere = codes "session there"
+journal_text journal.NoSession = codes "no session"
+journal_text journal.NotAJournal = codes "not a journal"
+journal_text (journal.Damaged at) = codes "damaged " ++ decimal at
+journal_text journal.TooManyRecords = codes "too many records"
+journal_text journal.Full = codes "full"
+journal_text journal.DiskFault = codes "disk fault"
+journal_text journal.Memory = codes "memory"
+
+abbrev pub store_text : SFault → List ℕ
+store_text (store.Journal fault) = journal_text fault
+store_text (store.Voc fault) = codes "vocabulary " ++ fault_text fault
+store_text (store.Stray i) = codes "stray " ++ decimal i
+store_text store.Memory = codes "memory"
+
+abbrev pub journal_refusal_text : SFault → List ℕ
+journal_refusal_text fault = codes "refused journal " ++ (store_text fault ++ 10 ∷ [])
+
+-- ---- Refusals
+
+-- a fault of the disk ends the program without a word, and any other fault is told
+abbrev pub TellsFault : SFault → (written written' : Option (List ℕ)) → Ending → Type 0
+TellsFault fault written written' end =
+    ((fault ≡ store.Journal journal.DiskFault) × (end ≡ ending.DiskFault) × (written' ≡ written)) ⊎ ((end ≡ ending.JournalRefused fault) × Adds written written' (journal_refusal_text fault))
+
+-- ---- Runs over a journal
+
+-- the meanings of a disk
+module _ {D : Type 0} (content : D → Option (List ℕ)) (may_leave : D → List ℕ → Type 0) (moment : D → ℕ) (left_since : D → ℕ → List ℕ → Type 0) where
+  -- The journal wasn't opened, for what its bytes say. The disk holds what it held.
+  pub record StaysClosed (bytes : List ℕ) (left written left' written' : Option (List ℕ)) (old new : D) (got : Result Ending Put) : Type 0 where
+    pub fault : SFault
+    pub why : NotOpened bytes fault
+    pub tells : IfOk got (TellsFault fault written written')
+    pub part : OnErr got (AddsFront written written' (journal_refusal_text fault))
+    pub unread : left' ≡ left
+    pub same : content new ≡ content old
+    pub any_moment : LeavesOnly moment left_since old new (may_leave old)
+
+  -- The run goes on from the events of the journal, and adds some. A crash at any moment leaves what it might have left
+  -- before, or those events and a front of the added ones. A crash at the end leaves all of them, and where the disk failed
+  -- the answer too whose adding failed, or not.
+  pub record GoesOn (budget : ℕ) (bytes : List ℕ) (left written left' written' : Option (List ℕ)) (old new : D) (got : Result Ending Put) : Type 0 where
+    pub plan : Plan
+    pub voc : List ℕ
+    pub events : List Event
+    pub says : SaysSession bytes plan voc events
+    pub lang : Language
+    pub read : IsVocabulary voc lang
+    pub places : HavePlaces lang plan events
+    pub later : List Event
+    pub more : List Event
+    pub grown : later ≡ events ++ more
+    pub tries : IfOk got (Tries lang (request_with plan budget) (standing_on lang events) (standing_on lang later) left written left' written')
+    pub part : OnErr got (BreaksRun lang (request_with plan budget) (standing_on lang events) left written written')
+    -- the answer whose adding failed
+    pub last : List Event
+    pub none_lost : (got ≡ Ok ending.DiskFault → ⊥) → last ≡ []
+    pub one_lost : got ≡ Ok ending.DiskFault → (question : Assignment) × (reply : Bool) × (last ≡ answer_event question reply ∷ [])
+    pub any_moment : LeavesOnly moment left_since old new (λ c. may_leave old c ⊎ OpensWithin plan voc events (later ++ last) c)
+    pub now : (c : List ℕ) → may_leave new c → OpensWith plan voc later c ⊎ OpensWith plan voc (later ++ last) c
+
+  abbrev pub RunsOn : ℕ → List ℕ → (left written left' written' : Option (List ℕ)) → D → D → Result Ending Put → Type 0
+  RunsOn budget bytes left written left' written' old new got = StaysClosed bytes left written left' written' old new got ⊎ GoesOn budget bytes left written left' written' old new got
+
+-- ---- Showing a session
+
+-- the plan, the answers, the network that they lead to, and where they lead
+abbrev pub shown_text : Language → Plan → List Answer → List ℕ
+shown_text l plan t = show_text l plan t (learned_in (state_after l plan t))
+
+-- ---- Making a journal
+
+abbrev pub created_text : Language → List ℕ
+created_text l =
+    codes "created variables " ++ (decimal (variable_count l) ++ (codes " scopes " ++ (decimal (length l.scopes) ++ (codes " candidates " ++ (decimal (length (candidates l)) ++ 10 ∷ [])))))
+
+-- a refused vocabulary is told as such
+abbrev pub TellsMaking : SFault → (written written' : Option (List ℕ)) → Ending → Type 0
+TellsMaking (store.Journal f) written written' end = TellsFault (store.Journal f) written written' end
+TellsMaking (store.Voc f) written written' end = (end ≡ ending.VocRefused f) × Adds written written' (refusal_text f)
+TellsMaking (store.Stray i) written written' end = TellsFault (store.Stray i) written written' end
+TellsMaking store.Memory written written' end = TellsFault store.Memory written written' end
+
+abbrev pub making_text : SFault → List ℕ
+making_text (store.Journal f) = journal_refusal_text (store.Journal f)
+making_text (store.Voc f) = refusal_text f
+making_text (store.Stray i) = journal_refusal_text (store.Stray i)
+making_text store.Memory = journal_refusal_text store.Memory
+
+module _ {D : Type 0} (content : D → Option (List ℕ)) (may_leave : D → List ℕ → Type 0) (moment : D → ℕ) (left_since : D → ℕ → List ℕ → Type 0) where
+  -- The journal is made, and a crash leaves nothing else, whether or not that could be said.
+  pub record IsMade (plan : Plan) (voc bytes : List ℕ) (written written' : Option (List ℕ)) (old new : D) (got : Result Ending Put) : Type 0 where
+    pub free : HasNoSession bytes
+    pub lang : Language
+    pub read : IsVocabulary voc lang
+    pub tells : IfOk got (λ (e : Ending). (e ≡ ending.Done) × Adds written written' (created_text lang))
+    pub part : OnErr got (AddsFront written written' (created_text lang))
+    pub now : LeavesNow content may_leave (OpensWith plan voc []) new
+    pub any_moment : LeavesOnly moment left_since old new (IsCreating (may_leave old) plan voc)
+
+  -- It isn't, and nothing of the line that it is made was written.
+  pub record IsNotMade (plan : Plan) (voc bytes : List ℕ) (written written' : Option (List ℕ)) (old new : D) (got : Result Ending Put) : Type 0 where
+    pub fault : SFault
+    pub why : NotMade voc bytes fault
+    pub tells : IfOk got (TellsMaking fault written written')
+    pub part : OnErr got (AddsFront written written' (making_text fault))
+    pub untouched : (fault ≡ store.Journal journal.DiskFault) ⊎ (content new ≡ content old)
+    pub any_moment : LeavesOnly moment left_since old new (IsCreating (may_leave old) plan voc)
+
+  abbrev pub Makes : Plan → (voc bytes : List ℕ) → (written written' : Option (List ℕ)) → D → D → Result Ending Put → Type 0
+  Makes plan voc bytes written written' old new got = IsMade plan voc bytes written written' old new got ⊎ IsNotMade plan voc bytes written written' old new got
+
+  -- No vocabulary was read: there are too many bytes, or the input or memory failed. The disk wasn't touched.
+  pub record IsNoVocabulary (left written left' written' : Option (List ℕ)) (old new : D) (got : Result Ending Put) : Type 0 where
+    pub why : Gives (all_of 4194304) left left' (Err long.TooLong) ⊎ (got ≡ Ok ending.ReadFault) ⊎ (got ≡ Err put.Memory)
+    pub tells : IfOk got (λ (e : Ending). ((e ≡ ending.VocRefused voc.TooLong) × Adds written written' (refusal_text voc.TooLong)) ⊎ ((e ≡ ending.ReadFault) × (written' ≡ written)))
+    pub part : OnErr got (AddsFront written written' (refusal_text voc.TooLong))
+    pub same : new ≡ old
+
+  -- A vocabulary was read to its end, and a journal was to be made of it.
+  pub record IsVocabularyRead (plan : Plan) (bytes : List ℕ) (left written left' written' : Option (List ℕ)) (old new : D) (got : Result Ending Put) : Type 0 where
+    pub voc : List ℕ
+    pub gives : Gives (all_of 4194304) left left' (Ok voc)
+    pub makes : Makes plan voc bytes written written' old new got
+
+  abbrev pub News : Plan → List ℕ → (left written left' written' : Option (List ℕ)) → D → D → Result Ending Put → Type 0
+  News plan bytes left written left' written' old new got = IsNoVocabulary left written left' written' old new got ⊎ IsVocabularyRead plan bytes left written left' written' old new got
+
+module _ {D : Type 0} (content : D → Option (List ℕ)) (may_leave : D → List ℕ → Type 0) (moment : D → ℕ) (left_since : D → ℕ → List ℕ → Type 0) where
+  -- The session of the journal is shown. The disk holds what it held.
+  pub record IsShown (bytes : List ℕ) (written written' : Option (List ℕ)) (old new : D) (got : Result Ending Put) : Type 0 where
+    pub plan : Plan
+    pub voc : List ℕ
+    pub events : List Event
+    pub says : SaysSession bytes plan voc events
+    pub lang : Language
+    pub read : IsVocabulary voc lang
+    pub places : HavePlaces lang plan events
+    pub tells : IfOk got (λ (e : Ending). (e ≡ ending.Done) × Adds written written' (shown_text lang plan (standing_on lang events)))
+    pub part : OnErr got (AddsFront written written' (shown_text lang plan (standing_on lang events)))
+    pub same : content new ≡ content old
+    pub any_moment : LeavesOnly moment left_since old new (may_leave old)
+
+  abbrev pub Shows : List ℕ → (left written written' : Option (List ℕ)) → D → D → Result Ending Put → Type 0
+  Shows bytes left written written' old new got = StaysClosed content may_leave moment left_since bytes left written left written' old new got ⊎ IsShown bytes written written' old new got
+
+-- the ending of the program, where the output may have failed or memory was wanted
+abbrev pub ended_as : Result Ending Put → Ending
+ended_as (Ok end) = end
+ended_as (Err put.Failed) = ending.WriteFault
+ended_as (Err put.Memory) = ending.Memory

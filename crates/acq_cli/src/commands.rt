@@ -1,0 +1,227 @@
+//! The commands over a journal.
+
+ghost use Rattle.std.specs.Prelude.{◌≡◌, ◌≢◌, ◌≤◌, ℕ, List, Option, IfOk, OnOk, OnErr, Ok, Err};
+ghost use Rattle.std.specs.Option.{ForSome};
+ghost use Rattle.std.specs.String.{string_bytes};
+ghost use Rattle.acq_io.specs.Streams.{Adds, AddsFront, Rose};
+ghost use Rattle.disk_model.specs.Disk.{LeavesOnly, Rose as DiskRose};
+ghost use Rattle.language.specs.Answers.{standing_on};
+ghost use Rattle.session_core.specs.Settled.{IsSettled};
+ghost use Rattle.acq_cli.specs.Journals.{journal_text, store_text, journal_refusal_text, created_text, making_text, TellsFault, TellsMaking, RunsOn, Makes, News, Shows, shown_text};
+
+use crate::ending::Ending;
+use crate::shows::show;
+use crate::top::{MOST_VOCABULARY, ask_on, refuse};
+use acq_io::{AllFault, Put, Sink, Source, read_all};
+use answer_journal::JFault;
+use assign::Plan;
+use disk_model::Disk;
+use language::Language;
+use session_store::{Keep, SFault, Store};
+use std::alloc::{AllocError, Global};
+use std::thread::Threads;
+use voc_read::{VocFault, voc_text};
+
+/// Why a journal can't be made or read.
+fn journal_text(alloc: Global, fault: JFault) -> Result<String, AllocError>
+    ensures { IfOk result (λ text. string_bytes text ≡ journal_text fault) }
+{
+    match fault {
+        JFault::SessionThere => String::from_str(alloc, "session there"),
+        JFault::NoSession => String::from_str(alloc, "no session"),
+        JFault::NotAJournal => String::from_str(alloc, "not a journal"),
+        JFault::Damaged(at) => format!(in alloc; "damaged {at}"),
+        JFault::TooManyRecords => String::from_str(alloc, "too many records"),
+        JFault::Full => String::from_str(alloc, "full"),
+        JFault::DiskFault => String::from_str(alloc, "disk fault"),
+        JFault::Memory => String::from_str(alloc, "memory"),
+    }
+}
+
+/// The text of a fault, as a user reads it behind `refused journal `.
+fn store_text(alloc: Global, fault: SFault) -> Result<String, AllocError>
+    ensures { IfOk result (λ text. string_bytes text ≡ store_text fault) }
+{
+    match fault {
+        SFault::Journal(fault) => journal_text(alloc, fault),
+        SFault::Voc(fault) => {
+            let reason = voc_text(alloc, fault)?;
+            format!(in alloc; "vocabulary {reason}")
+        }
+        SFault::Stray(i) => format!(in alloc; "stray {i}"),
+        SFault::Memory => String::from_str(alloc, "memory"),
+    }
+}
+
+/// Says why there is no session, but for a fault of the disk and want of memory.
+fn refuse_journal<K: Sink>(alloc: Global, fault: SFault, out: &mut K) -> Result<Ending, Put>
+    ensures tells { IfOk result (TellsFault fault (K.written out.old) (K.written out.new)) }
+    ensures part { OnErr result (AddsFront (K.written out.old) (K.written out.new) (journal_refusal_text fault)) }
+    ensures no_fault { IfOk result (λ ending. ending ≢ Ending.WriteFault) }
+    ensures no_read { IfOk result (λ ending. ending ≢ Ending.ReadFault) }
+    ensures failed { result ≡ Err Put.Failed → Rose (K.faults out.old) (K.faults out.new) }
+    ensures later_sink { K.faults out.old ≤ K.faults out.new }
+    ensures lost { result ≡ Ok Ending.DiskFault → fault ≡ SFault.Journal JFault.DiskFault }
+{
+    match fault {
+        SFault::Memory => return Err(Put::Memory),
+        SFault::Journal(JFault::DiskFault) => return Ok(Ending::DiskFault),
+        SFault::Journal(_) | SFault::Voc(_) | SFault::Stray(_) => {}
+    }
+    let Ok(reason) = store_text(alloc, fault) else {
+        return Err(Put::Memory);
+    };
+    let Ok(text) = format!(in alloc; "refused journal {reason}\n") else {
+        return Err(Put::Memory);
+    };
+    out.write(text.as_bytes())?;
+    Ok(Ending::JournalRefused(fault))
+}
+
+/// Opens a journal, and asks on from where its session stands.
+pub fn run_journal<R: Threads + Sync, S: Source, K: Sink, D: Disk>(
+    rt: &R,
+    alloc: Global,
+    budget: u32,
+    input: &mut S,
+    out: &mut K,
+    disk: &mut D,
+) -> Result<Ending, Put>
+    requires some_budget { 1 ≤ budget }
+    requires small_budget { budget ≤ 1000000000 }
+    ensures runs { ForSome (D.content disk.old) (λ bytes. RunsOn D.content D.may_leave D.moment D.left_since budget bytes (S.left input.old) (K.written out.old) (S.left input.new) (K.written out.new) disk.old disk.new result) }
+    ensures read { result ≡ Ok Ending.ReadFault → Rose (S.faults input.old) (S.faults input.new) }
+    ensures no_fault { IfOk result (λ ending. ending ≢ Ending.WriteFault) }
+    ensures failed { result ≡ Err Put.Failed → Rose (K.faults out.old) (K.faults out.new) }
+    ensures lost { result ≡ Ok Ending.DiskFault → DiskRose (D.faults disk.old) (D.faults disk.new) }
+{
+    match Store::open(alloc, disk) {
+        Ok(mut store) => ask_on(rt, alloc, budget, input, out, disk, &mut store),
+        Err(fault) => refuse_journal(alloc, fault, out),
+    }
+}
+
+/// The language of a keeper's session.
+fn lang_of<D: Disk, P: Keep<D>>(keep: &P) -> &Language
+    requires { P.sound keep.now }
+    ensures is { result.now ≡ P.lang keep.now }
+{
+    keep.session().lang()
+}
+
+/// Says that a journal was made.
+fn say_created<K: Sink>(alloc: Global, lang: &Language, out: &mut K) -> Result<(), Put>
+    ensures ok { OnOk result (Adds (K.written out.old) (K.written out.new) (created_text lang.now)) }
+    ensures part { OnErr result (AddsFront (K.written out.old) (K.written out.new) (created_text lang.now)) }
+    ensures failed { result ≡ Err Put.Failed → Rose (K.faults out.old) (K.faults out.new) }
+    ensures later_sink { K.faults out.old ≤ K.faults out.new }
+{
+    let variables = lang.n();
+    let scopes = lang.scopes();
+    let candidates = lang.candidates();
+    let Ok(text) = format!(in alloc; "created variables {variables} scopes {scopes} candidates {candidates}\n")
+    else {
+        return Err(Put::Memory);
+    };
+    out.write(text.as_bytes())
+}
+
+/// Says why no journal is made.
+fn refuse_making<K: Sink>(alloc: Global, fault: SFault, out: &mut K) -> Result<Ending, Put>
+    ensures tells { IfOk result (TellsMaking fault (K.written out.old) (K.written out.new)) }
+    ensures part { OnErr result (AddsFront (K.written out.old) (K.written out.new) (making_text fault)) }
+    ensures no_fault { IfOk result (λ ending. ending ≢ Ending.WriteFault) }
+    ensures no_read { IfOk result (λ ending. ending ≢ Ending.ReadFault) }
+    ensures failed { result ≡ Err Put.Failed → Rose (K.faults out.old) (K.faults out.new) }
+    ensures lost { result ≡ Ok Ending.DiskFault → fault ≡ SFault.Journal JFault.DiskFault }
+{
+    match fault {
+        SFault::Voc(fault) => refuse(alloc, fault, out),
+        SFault::Journal(_) => refuse_journal(alloc, fault, out),
+        SFault::Stray(_) => refuse_journal(alloc, fault, out),
+        SFault::Memory => refuse_journal(alloc, fault, out),
+    }
+}
+
+/// Makes a journal of this plan and vocabulary.
+pub fn make_journal<K: Sink, D: Disk>(
+    alloc: Global,
+    plan: Plan,
+    voc: &[u8],
+    out: &mut K,
+    disk: &mut D,
+) -> Result<Ending, Put>
+    ensures makes { ForSome (D.content disk.old) (λ bytes. Makes D.content D.may_leave D.moment D.left_since plan voc.now bytes (K.written out.old) (K.written out.new) disk.old disk.new result) }
+    ensures no_fault { IfOk result (λ ending. ending ≢ Ending.WriteFault) }
+    ensures no_read { IfOk result (λ ending. ending ≢ Ending.ReadFault) }
+    ensures failed { result ≡ Err Put.Failed → Rose (K.faults out.old) (K.faults out.new) }
+    ensures lost { result ≡ Ok Ending.DiskFault → DiskRose (D.faults disk.old) (D.faults disk.new) }
+{
+    match Store::create(alloc, disk, plan, voc) {
+        Ok(store) => {
+            say_created(alloc, lang_of::<D, Store>(&store), out)?;
+            Ok(Ending::Done)
+        }
+        Err(fault) => refuse_making(alloc, fault, out),
+    }
+}
+
+/// Reads a vocabulary to the end of the input, and makes a journal of it.
+pub fn new_journal<S: Source, K: Sink, D: Disk>(
+    alloc: Global,
+    plan: Plan,
+    input: &mut S,
+    out: &mut K,
+    disk: &mut D,
+) -> Result<Ending, Put>
+    ensures news { ForSome (D.content disk.old) (λ bytes. News D.content D.may_leave D.moment D.left_since plan bytes (S.left input.old) (K.written out.old) (S.left input.new) (K.written out.new) disk.old disk.new result) }
+    ensures read { result ≡ Ok Ending.ReadFault → Rose (S.faults input.old) (S.faults input.new) }
+    ensures no_fault { IfOk result (λ ending. ending ≢ Ending.WriteFault) }
+    ensures failed { result ≡ Err Put.Failed → Rose (K.faults out.old) (K.faults out.new) }
+    ensures lost { result ≡ Ok Ending.DiskFault → DiskRose (D.faults disk.old) (D.faults disk.new) }
+{
+    match read_all(alloc, input, MOST_VOCABULARY) {
+        Ok(voc) => make_journal(alloc, plan, &voc, out, disk),
+        Err(AllFault::TooLong) => refuse(alloc, VocFault::TooLong, out),
+        Err(AllFault::Fault) => Ok(Ending::ReadFault),
+        Err(AllFault::Memory) => Err(Put::Memory),
+    }
+}
+
+/// Shows the session of a keeper. None of its questions is new.
+fn show_kept<K: Sink, D: Disk, P: Keep<D>>(
+    alloc: Global,
+    keep: &P,
+    out: &mut K,
+) -> Result<Ending, Put>
+    requires sound { P.sound keep.now }
+    requires settled { IsSettled (P.lang keep.now) (P.plan keep.now) (standing_on (P.lang keep.now) (P.record_of keep.now)) (P.question keep.now) }
+    ensures tells { IfOk result (λ ending. (ending ≡ Ending.Done) × Adds (K.written out.old) (K.written out.new) (shown_text (P.lang keep.now) (P.plan keep.now) (standing_on (P.lang keep.now) (P.record_of keep.now)))) }
+    ensures part { OnErr result (AddsFront (K.written out.old) (K.written out.new) (shown_text (P.lang keep.now) (P.plan keep.now) (standing_on (P.lang keep.now) (P.record_of keep.now)))) }
+    ensures failed { result ≡ Err Put.Failed → Rose (K.faults out.old) (K.faults out.new) }
+{
+    let session = keep.session();
+    let events = keep.events();
+    show(alloc, session, events, out)?;
+    Ok(Ending::Done)
+}
+
+/// Opens a journal, and shows its session.
+pub fn show_journal<K: Sink, D: Disk>(
+    alloc: Global,
+    out: &mut K,
+    disk: &mut D,
+) -> Result<Ending, Put>
+    ensures shows { (left : Option (List ℕ)) → ForSome (D.content disk.old) (λ bytes. Shows D.content D.may_leave D.moment D.left_since bytes left (K.written out.old) (K.written out.new) disk.old disk.new result) }
+    ensures same { D.content disk.new ≡ D.content disk.old }
+    ensures any_moment { LeavesOnly D.moment D.left_since disk.old disk.new (D.may_leave disk.old) }
+    ensures no_fault { IfOk result (λ ending. ending ≢ Ending.WriteFault) }
+    ensures no_read { IfOk result (λ ending. ending ≢ Ending.ReadFault) }
+    ensures failed { result ≡ Err Put.Failed → Rose (K.faults out.old) (K.faults out.new) }
+    ensures lost { result ≡ Ok Ending.DiskFault → DiskRose (D.faults disk.old) (D.faults disk.new) }
+{
+    match Store::open(alloc, disk) {
+        Ok(store) => show_kept::<K, D, Store>(alloc, &store, out),
+        Err(fault) => refuse_journal(alloc, fault, out),
+    }
+}

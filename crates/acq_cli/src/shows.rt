@@ -1,0 +1,140 @@
+//! What is shown of a session.
+
+ghost use Rattle.std.specs.Prelude.{◌≡◌, ◌++◌, ◌<◌, ◌≤◌, List, All, length, IfOk, OnOk, OnErr, Err};
+ghost use Rattle.std.specs.String.{string_bytes};
+ghost use Rattle.acq_io.specs.Streams.{Adds, AddsFront, Rose};
+ghost use Rattle.assign.specs.Events.{Answer};
+ghost use Rattle.language.specs.Language.{variable_count};
+ghost use Rattle.language.specs.Answers.{standing_on};
+ghost use Rattle.session_core.specs.Settled.{IsSettled};
+ghost use Rattle.session_core.specs.Standing.{Stands, knowledge_of, open_in};
+ghost use Rattle.session_laws.specs.Session.{state_after};
+ghost use Rattle.session_store.specs.Held.{IsWide};
+ghost use Rattle.session_store.specs.Replay.{seen, answer_to};
+ghost use Rattle.acq_cli.specs.Shows.{plan_text, said_text, answer_line, answer_lines, reading_text, show_text};
+
+use acq_io::{Put, Sink};
+use assign::{Event, Partial, Plan};
+use language::{Language, Memory};
+use network::network_text;
+use session_core::Session;
+use std::alloc::Global;
+
+fn plan_word(plan: Plan) -> &'static str
+    ensures { result.now ≡ plan_text plan }
+{
+    match plan {
+        Plan::Scopes => "scopes",
+        Plan::Quacq => "quacq",
+        Plan::Multi => "multi",
+    }
+}
+
+fn said_word(yes: bool) -> &'static str
+    ensures { result.now ≡ said_text yes }
+{
+    if yes { "yes" } else { "no" }
+}
+
+/// Where a session stands. None of its questions is new.
+fn state_word(session: &Session) -> &'static str
+    ensures { (t : List Answer) → let k = knowledge_of session.now in Stands session.now t → IsSettled k.lang k.plan t (open_in session.now) → result.now ≡ reading_text (state_after k.lang k.plan t) }
+{
+    match session {
+        Session::Idle(_) => "idle",
+        Session::Asking(asking) => {
+            let _question = asking.question();
+            "asking"
+        }
+        Session::Over(_) => "collapsed",
+    }
+}
+
+/// Adds the line of an answer.
+fn push_answer(
+    alloc: Global,
+    text: &mut String,
+    lang: &Language,
+    k: u32,
+    question: &Partial,
+    yes: bool,
+) -> Result<(), Memory>
+    requires { length question.now ≡ 128 }
+    ensures { OnOk result (string_bytes text.new ≡ string_bytes text.old ++ answer_line lang.now k (seen (variable_count lang.now) (Event.Answer question.now «yes»))) }
+{
+    let cut = question.cut_to(lang.n());
+    let line = lang.question_text(alloc, k, &cut)?;
+    let said = said_word(yes);
+    match write!(text, "{line} {said}\n") {
+        Ok(()) => Ok(()),
+        Err(_) => Err(Memory),
+    }
+}
+
+/// Adds the line of an event.
+fn push_event(
+    alloc: Global,
+    text: &mut String,
+    lang: &Language,
+    k: u32,
+    event: &Event,
+) -> Result<(), Memory>
+    requires { IsWide event.now }
+    ensures { OnOk result (string_bytes text.new ≡ string_bytes text.old ++ answer_line lang.now k (seen (variable_count lang.now) event.now)) }
+{
+    match event {
+        Event::Answer { question, yes } => push_answer(alloc, text, lang, k, question, *yes),
+    }
+}
+
+/// The lines of the answers, in order.
+fn event_lines(alloc: Global, lang: &Language, events: &[Event]) -> Result<String, Memory>
+    requires wide { All IsWide events.now }
+    requires few { length events.now < 1000000 }
+    ensures { IfOk result (λ text. string_bytes text ≡ answer_lines lang.now 1 (standing_on lang.now events.now)) }
+{
+    let mut text = String::new(alloc);
+    for (i, event) in events.iter().enumerate() {
+        push_event(alloc, &mut text, lang, i as u32 + 1, event)?;
+    }
+    Ok(text)
+}
+
+/// Writes what is shown of a session and the events that led to it.
+pub(crate) fn show<K: Sink>(
+    alloc: Global,
+    session: &Session,
+    events: &[Event],
+    out: &mut K,
+) -> Result<(), Put>
+    requires stands { Stands session.now (standing_on (knowledge_of session.now).lang events.now) }
+    requires settled { IsSettled (knowledge_of session.now).lang (knowledge_of session.now).plan (standing_on (knowledge_of session.now).lang events.now) (open_in session.now) }
+    requires wide { All IsWide events.now }
+    ensures ok { let k = knowledge_of session.now in OnOk result (Adds (K.written out.old) (K.written out.new) (show_text k.lang k.plan (standing_on k.lang events.now) k.network.list)) }
+    ensures part { let k = knowledge_of session.now in OnErr result (AddsFront (K.written out.old) (K.written out.new) (show_text k.lang k.plan (standing_on k.lang events.now) k.network.list)) }
+    ensures failed { result ≡ Err Put.Failed → Rose (K.faults out.old) (K.faults out.new) }
+    ensures later_sink { K.faults out.old ≤ K.faults out.new }
+{
+    let lang = session.lang();
+    let plan = plan_word(session.plan());
+    let Ok(lines) = event_lines(alloc, lang, events) else {
+        return Err(Put::Memory);
+    };
+    let answers = session.answers();
+    let learned = session.network();
+    let count = learned.len();
+    let Ok(network) = network_text(alloc, lang, learned) else {
+        return Err(Put::Memory);
+    };
+    let state = state_word(session);
+    let Ok(said) = format!(in alloc; "plan {plan}\n{lines}answers {answers}\n") else {
+        return Err(Put::Memory);
+    };
+    let Ok(known) = format!(in alloc; "learned {count}\n{network}state {state}\n") else {
+        return Err(Put::Memory);
+    };
+    let Ok(text) = format!(in alloc; "{said}{known}") else {
+        return Err(Put::Memory);
+    };
+    out.write(text.as_bytes())
+}

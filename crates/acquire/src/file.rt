@@ -1,0 +1,144 @@
+//! A named file as a disk. It tells nothing: no contract can say what a file holds.
+
+ghost use Rattle.std.specs.Prelude.{◌≡◌, ◌≤◌, ◌+◌, ◌^◌, ◌-◌, min, None, IfSome, length};
+ghost use Rattle.disk_model.specs.Disk.{Rose, HasCause};
+
+use disk_model::{Disk, Failed};
+use std::fs::{File, OpenOptions};
+use std::io::ErrorKind;
+use std::os::unix::fs::FileExt;
+use std::rt::Files;
+
+/// A named file. It is opened at the first call that finds it, and made at the first write. Until then it has no bytes.
+#[derive(Drop)]
+pub struct FileDisk<'a, R: Files<File = File>> {
+    rt: &'a R,
+    name: &'a str,
+    file: Option<File>,
+    /// How often a call failed.
+    faults: u64,
+}
+
+impl<'a, R: Files<File = File>> FileDisk<'a, R> {
+    pub fn new(rt: &'a R, name: &'a str) -> Self {
+        FileDisk {
+            rt,
+            name,
+            file: None,
+            faults: 0,
+        }
+    }
+
+    /// Counts a fault.
+    fn fault(&mut self) -> Failed
+        ensures rose { Rose self.old.faults self.new.faults }
+        ensures later { self.old.faults ≤ self.new.faults }
+    {
+        self.faults = self.faults.saturating_add(1);
+        Failed
+    }
+
+    /// Opens the file, if it isn't open. That it is missing is no fault, unless it is to be made.
+    fn find(&mut self, make: bool) -> Result<(), Failed>
+        ensures { HasCause self.old.faults self.new.faults result }
+    {
+        if self.file.is_some() {
+            return Ok(());
+        }
+        match OpenOptions::new()
+            .read(true)
+            .write(true)
+            .create(make)
+            .open(self.rt, self.name)
+        {
+            Ok(file) => {
+                self.file = Some(file);
+                Ok(())
+            }
+            Err(e) => {
+                if !make && e.kind() == ErrorKind::NotFound {
+                    return Ok(());
+                }
+                Err(self.fault())
+            }
+        }
+    }
+}
+
+impl<'a, R: Files<File = File>> Disk for FileDisk<'a, R> {
+    ghost content = { λ d. None };
+
+    ghost may_leave = { λ d c. Unit {0} };
+
+    ghost moment = { λ d. 0 };
+
+    ghost left_since = { λ d t c. Unit {0} };
+
+    ghost faults = { λ d. d.faults };
+
+    ghost reads_true = { λ d x told. tt };
+
+    ghost counts_now = { λ d t c le left. tt };
+
+    ghost only_now = { λ d c left. tt };
+
+    fn len(&mut self) -> Result<u64, Failed> {
+        self.find(false)?;
+        let Some(file) = &self.file else {
+            return Ok(0);
+        };
+        match file.metadata() {
+            Ok(about) => Ok(about.len()),
+            Err(_) => Err(self.fault()),
+        }
+    }
+
+    fn read(&mut self, at: u64, buf: &mut [u8]) -> Result<usize, Failed> {
+        self.find(false)?;
+        let Some(file) = &self.file else {
+            return Ok(0);
+        };
+        match read_all(file, at, buf) {
+            Some(count) => Ok(count),
+            None => Err(self.fault()),
+        }
+    }
+
+    fn write_at(&mut self, at: u64, bytes: &[u8]) -> Result<(), Failed> {
+        self.find(true)?;
+        let Some(file) = &self.file else {
+            return Err(self.fault());
+        };
+        match file.write_all_at(bytes, at) {
+            Ok(()) => Ok(()),
+            Err(_) => Err(self.fault()),
+        }
+    }
+
+    fn sync(&mut self) -> Result<(), Failed> {
+        self.find(false)?;
+        let Some(file) = &self.file else {
+            return Ok(());
+        };
+        match file.sync_all() {
+            Ok(()) => Ok(()),
+            Err(_) => Err(self.fault()),
+        }
+    }
+}
+
+/// Reads until the buffer is full or the file ends.
+fn read_all(file: &File, at: u64, buf: &mut [u8]) -> Option<usize>
+    ensures { IfSome result (λ n. n ≤ length buf.old) }
+{
+    let mut done = 0;
+    while done < buf.len() {
+        let place = at.checked_add(done as u64)?;
+        match file.read_at(&mut buf[done..], place) {
+            Ok(0) => return Some(done),
+            Ok(count) => done += count,
+            Err(_) => return None,
+        }
+    }
+    Some(done)
+}

@@ -1,0 +1,153 @@
+-- A store beside its disk.
+use Rattle.std.proofs.Common.{◌≡◌, ◌≤◌, ◌<◌, ◌⊎◌, ℕ, length, List, [], ◌∷◌, ◌++◌, Option, Some, None, Result, Err, IsTrue, refl, sym, ◌∙◌, ap, subst, inl, inr}
+use Rattle.std.specs.Option.{ForSome, ForNone}
+use Rattle.assign.specs.declared.events.Event.{Event}
+use Rattle.assign.specs.declared.events.Plan.{Plan}
+use Rattle.disk_model.specs.Disk.{Only, LeavesOnly}
+use Rattle.disk_model.specs.Moments.{started, weaker}
+use Rattle.answer_journal.specs.Place.{Place, Sits, HasNew, IsOldOrNew}
+use Rattle.answer_journal.specs.Steps.{IsSettled}
+use Rattle.answer_journal.specs.Making.{StartsWith, CreateRefused}
+use Rattle.answer_journal.specs.Found.{Refused}
+use Rattle.answer_journal.specs.declared.fault.JFault.{JFault}
+use Rattle.answer_journal.specs.declared.fault.JFault.TheVariants as journal
+use Rattle.language.specs.Language.{Language}
+use Rattle.session_core.specs.declared.session.Session.{Session}
+use Rattle.session_laws.specs.Session.{Stray}
+use Rattle.voc_read.specs.Vocabulary.{IsVocabulary, refusal_of_vocabulary}
+use Rattle.voc_read.specs.declared.fault.VocFault.{VocFault}
+use Rattle.session_store.specs.Faults.{of_journal}
+use Rattle.std.specs.Prelude.{All}
+use Rattle.session_store.specs.Held.{StandsIn, events_held, IsHeld, IsWide}
+use Rattle.session_store.specs.Opening.{NoLanguage, NotMade, NotOpened}
+use Rattle.session_store.specs.Replay.{replay, NamesStray}
+use Rattle.session_store.specs.declared.fault.SFault.{SFault}
+use Rattle.session_store.specs.declared.fault.SFault.TheVariants as store
+use Rattle.session_store.specs.declared.held.Held.{Held}
+use Rattle.session_store.proofs.Replaying.{both_same}
+use Rattle.session_store.specs.Left.{SaysSession, OpensWith, OpensWithOrWithout, LeavesNow}
+use Rattle.session_store.specs.Store.{IsThere, SitsOn, plan_of, voc_of, events_of, is_live_in, opens_there}
+use Rattle.session_store.specs.declared.store.Store.{Store}
+
+-- it is there by the same plan and the same events
+pub there_as : (place : Place) (p q : Plan) (voc : List ℕ) (e f : List Event) (may_leave : List ℕ → Type 0) (bytes : List ℕ) → p ≡ q → e ≡ f → IsThere place p voc e may_leave bytes → IsThere place q voc f may_leave bytes
+there_as place p q voc e f may_leave bytes same equal there =
+    let One : Plan → Type 0 = λ x. IsThere place x voc e may_leave bytes in
+    let Two : List Event → Type 0 = λ x. IsThere place q voc x may_leave bytes in
+    subst Two equal (subst One same there)
+
+pub sits_as : (old new : Store) (content : Option (List ℕ)) (may_leave : List ℕ → Type 0) → old.journal ≡ new.journal → voc_of old ≡ voc_of new → plan_of old ≡ plan_of new → events_of old ≡ events_of new →
+    SitsOn old content may_leave → SitsOn new content may_leave
+sits_as old new content may_leave journal voc plan events sits live bytes told =
+    let Placed : Place → Type 0 = λ j. IsTrue j.live in
+    let One : Place → Type 0 = λ j. IsThere j (plan_of old) (voc_of old) (events_of old) may_leave bytes in
+    let Two : List ℕ → Type 0 = λ v. IsThere new.journal (plan_of old) v (events_of old) may_leave bytes in
+    there_as new.journal (plan_of old) (plan_of new) (voc_of new) (events_of old) (events_of new) may_leave bytes plan events
+    (subst Two voc (subst One journal (sits (subst Placed (sym journal) live) bytes told)))
+
+module _ {D : Type 0} (content : D → Option (List ℕ)) (may_leave : D → List ℕ → Type 0) (moment : D → ℕ) (left_since : D → ℕ → List ℕ → Type 0)
+    (only_now : (disk : D) (c : List ℕ) → left_since disk (moment disk) c → may_leave disk c) where
+  -- nothing was done
+  pub nothing_left : (place : Place) (plan : Plan) (voc : List ℕ) (events : List Event) (e : Event) (disk : D) (bytes : List ℕ) → IsThere place plan voc events (may_leave disk) bytes →
+      LeavesOnly moment left_since disk disk (OpensWithOrWithout plan voc events e)
+  nothing_left place plan voc events e disk bytes there =
+      started moment left_since disk (OpensWithOrWithout plan voc events e) (λ c left. inl (opens_there place plan voc events (may_leave disk) bytes c there (only_now disk c left)))
+
+  -- what the append said, of this plan and these events
+  pub left_by_append : (place : Place) (plan : Plan) (voc : List ℕ) (events : List Event) (e : Event) (old new : D) (bytes : List ℕ) → IsThere place plan voc events (may_leave old) bytes →
+      LeavesOnly moment left_since old new (IsOldOrNew bytes e) → LeavesOnly moment left_since old new (OpensWithOrWithout plan voc events e)
+  left_by_append place plan voc events e old new bytes there any =
+      weaker moment left_since old new (IsOldOrNew bytes e) (OpensWithOrWithout plan voc events e) any (λ c either. either plan voc events there.opens)
+
+  pub now_by_append : (place : Place) (plan : Plan) (voc : List ℕ) (events : List Event) (e : Event) (old new : D) (bytes : List ℕ) → IsThere place plan voc events (may_leave old) bytes →
+      IsSettled (content new) (may_leave new) (HasNew bytes e) → LeavesNow content may_leave (OpensWith plan voc (events ++ e ∷ [])) new
+  now_by_append place plan voc events e old new bytes there settled =
+      let opens : OpensWith plan voc (events ++ e ∷ []) settled.now = settled.holds plan voc events there.opens in
+      record { bytes = settled.now; tells = settled.tells; each = λ c left. subst (OpensWith plan voc (events ++ e ∷ [])) (sym (settled.durable c left)) opens }
+
+-- a disk that tells now told before
+pub told_before : (old new : Option (List ℕ)) → ForNone old (new ≡ None) → (bytes : List ℕ) → new ≡ Some bytes → (b : List ℕ) × (old ≡ Some b)
+told_before None new silent bytes told = absurd (let bad : Some bytes ≡ None = sym told ∙ silent refl in cc)
+told_before (Some b) new silent bytes told = (b, refl)
+
+pub some_once : (o : Option (List ℕ)) (a b : List ℕ) → o ≡ Some a → o ≡ Some b → a ≡ b
+some_once o a b e f = cc
+
+-- a session that wasn't moved
+pub held_as : (old new : Held) → old.session ≡ new.session → events_held old ≡ events_held new → IsHeld old → IsHeld new
+held_as old new session events held =
+    let One : Option Session → Type 0 = λ s. StandsIn s (events_held old) in
+    let Two : List Event → Type 0 = λ e. StandsIn new.session e in
+    record { stands = subst Two events (subst One session held.stands); few = subst (λ (e : List Event). length e < 1000000) events held.few; wide = subst (All IsWide) events held.wide }
+
+-- a new store, whose journal was just made
+pub there_made : (place : Place) (plan asked : Plan) (voc given : List ℕ) (events : List Event) (content : Option (List ℕ)) (may_leave : List ℕ → Type 0) (bytes : List ℕ) → content ≡ Some bytes → asked ≡ plan → given ≡ voc → events ≡ [] →
+    Sits place bytes → Only bytes may_leave → IsSettled content may_leave (StartsWith asked given) → IsThere place plan voc events may_leave bytes
+there_made place plan asked voc given events content may_leave bytes told planned same none sits only settled =
+    let here : settled.now ≡ bytes = some_once content settled.now bytes settled.tells told in
+    let A : Plan → Type 0 = λ p. OpensWith p given [] bytes in
+    let B : List ℕ → Type 0 = λ v. OpensWith plan v [] bytes in
+    let C : List Event → Type 0 = λ e. OpensWith plan voc e bytes in
+    record { behind = sits; opens = subst C (sym none) (subst B same (subst A planned (subst (OpensWith asked given []) here settled.holds))); durable = only }
+
+-- one fault is given
+pub one_fault : (r : Result Store SFault) (x y : SFault) → r ≡ Err x → r ≡ Err y → x ≡ y
+one_fault r x y e f = let same : Err x ≡ Err y = sym e ∙ f in cc
+
+-- a fault of a journal is no fault of a vocabulary
+pub no_voc : (fault : JFault) (f : VocFault) → of_journal fault ≡ store.Voc f → ⊥
+no_voc journal.SessionThere f e = cc
+no_voc journal.NoSession f e = cc
+no_voc journal.NotAJournal f e = cc
+no_voc (journal.Damaged at) f e = cc
+no_voc journal.TooManyRecords f e = cc
+no_voc journal.Full f e = cc
+no_voc journal.DiskFault f e = cc
+no_voc journal.Memory f e = cc
+
+-- where the disk didn't fail, this holds
+pub unless_failed : {A : Type 0} (fault : JFault) → (fault ≡ journal.DiskFault) ⊎ A → (of_journal fault ≡ store.Journal journal.DiskFault) ⊎ A
+unless_failed fault (inl failed) = inl (ap of_journal failed)
+unless_failed fault (inr holds) = inr holds
+
+-- why no journal was made
+pub not_made : (voc bytes : List ℕ) (fault : JFault) → refusal_of_vocabulary voc ≡ None → CreateRefused bytes fault → NotMade voc bytes (of_journal fault)
+not_made voc bytes journal.SessionThere taken refused = (taken, refused)
+not_made voc bytes journal.NoSession taken refused = absurd refused
+not_made voc bytes journal.NotAJournal taken refused = (taken, refused)
+not_made voc bytes (journal.Damaged at) taken refused = absurd refused
+not_made voc bytes journal.TooManyRecords taken refused = absurd refused
+not_made voc bytes journal.Full taken refused = absurd refused
+not_made voc bytes journal.DiskFault taken refused = (taken, tt)
+not_made voc bytes journal.Memory taken refused = tt
+
+-- why no journal was opened
+pub not_opened : (bytes : List ℕ) (fault : JFault) → (fault ≡ journal.DiskFault) ⊎ Refused bytes fault → NotOpened bytes (of_journal fault)
+not_opened bytes journal.SessionThere (inl failed) = absurd cc
+not_opened bytes journal.SessionThere (inr refused) = absurd refused
+not_opened bytes journal.NoSession (inl failed) = absurd cc
+not_opened bytes journal.NoSession (inr refused) = refused
+not_opened bytes journal.NotAJournal (inl failed) = absurd cc
+not_opened bytes journal.NotAJournal (inr refused) = refused
+not_opened bytes (journal.Damaged at) (inl failed) = absurd cc
+not_opened bytes (journal.Damaged at) (inr refused) = refused
+not_opened bytes journal.TooManyRecords (inl failed) = absurd cc
+not_opened bytes journal.TooManyRecords (inr refused) = refused
+not_opened bytes journal.Full (inl failed) = absurd cc
+not_opened bytes journal.Full (inr refused) = absurd refused
+not_opened bytes journal.DiskFault either = tt
+not_opened bytes journal.Memory either = tt
+
+-- why its vocabulary is no language
+pub no_language : (bytes : List ℕ) (plan : Plan) (voc : List ℕ) (events : List Event) (fault : SFault) → SaysSession bytes plan voc events → NoLanguage voc fault → NotOpened bytes fault
+no_language bytes plan voc events (store.Journal f) says none = absurd none
+no_language bytes plan voc events (store.Voc f) says refused = record { plan = plan; voc = voc; events = events; reads = says; refused = refused }
+no_language bytes plan voc events (store.Stray i) says none = absurd none
+no_language bytes plan voc events store.Memory says refused = tt
+
+-- which event has no place
+pub has_stray : (bytes : List ℕ) (plan asked : Plan) (voc : List ℕ) (events : List Event) (l m : Language) (fault : SFault) → SaysSession bytes plan voc events → IsVocabulary voc l → m ≡ l → asked ≡ plan → NamesStray m asked events fault → NotOpened bytes fault
+has_stray bytes plan asked voc events l m fault says vocabulary same planned (i, is, stray) =
+    let P : SFault → Type 0 = λ f. NotOpened bytes f in
+    let Strays : Language → Plan → Type 0 = λ x p. replay x p events ≡ Stray i in
+    subst P (sym is) (record { plan = plan; voc = voc; events = events; reads = says; lang = l; vocabulary = vocabulary; stray = both_same Strays m l asked plan same planned stray })

@@ -1,0 +1,9 @@
+-- What a vocabulary is that isn't refused.
+use Rattle.std.proofs.Common.{◌≡◌, ℕ, ◌≤◌, List, length, None, ⊎_elim}
+use Rattle.std.proofs.lemmas.Bool.{cases_lt, lt-ltb}
+use Rattle.voc_read.specs.Vocabulary.{parts_of, refusal_of_vocabulary}
+
+pub taken_is_short : (voc : List ℕ) → refusal_of_vocabulary voc ≡ None → length voc ≤ 4194304
+unfolding refusal_of_vocabulary parts_of
+taken_is_short voc taken =
+    ⊎_elim (λ long. absurd (let bad = rw (lt-ltb 4194304 (length voc) long) at taken in cc)) (λ few. few) (cases_lt 4194304 (length voc))

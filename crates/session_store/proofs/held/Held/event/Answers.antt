@@ -1,0 +1,21 @@
+use Rattle.std.proofs.Common.{sym, subst, List}
+use Rattle.assign.specs.Events.{Answer}
+use Rattle.assign.specs.declared.events.Event.{Event}
+use Rattle.language.specs.Language.{Language, IsLanguage}
+use Rattle.language.specs.Answers.{standing_on}
+use Rattle.session_core.specs.Standing.{Stands}
+use Rattle.session_core.specs.declared.session.Session.{Session}
+use Rattle.answer_journal.specs.Storable.{IsStorable}
+use Rattle.session_store.specs.Held.{lang_held, events_held}
+use Rattle.session_store.proofs.Storables.{storable}
+use Rattle.session_store.proofs.held.Held.event.Goals as goal
+
+pub returns-clause-storable : goal.returns-clause-storable
+returns-clause-storable c =
+    let asking = c.in-Asking.asking in
+    let l : Language = asking.knowledge.lang in
+    let t : List Answer = standing_on (lang_held c.args.self.now) (events_held c.args.self.now) in
+    let Here : Session → Type 0 = λ s. Stands s t in
+    let lawful : IsLanguage l = subst IsLanguage c.lang-lang.ensures.is c.lang-lang.ensures.lawful in
+    subst IsStorable (sym c.widened-question.ensures)
+    (storable l lawful asking.knowledge.plan t c.question.result c.question.ensures.fits (c.question.ensures.asked t (subst Here c.in-Asking.is c.session.ensures.stands)))

@@ -1,0 +1,8 @@
+use Rattle.std.proofs.lemmas.List.Elements.{All-weaker}
+use Rattle.answer_journal.specs.Storable.{IsStorableEvent}
+use Rattle.session_store.specs.Held.{IsWide}
+use Rattle.session_store.proofs.Storables.{storable_wide}
+use Rattle.session_store.proofs.held.Held.new.Goals as goal
+
+pub returns-clause-sound : goal.returns-clause-sound
+returns-clause-sound c = record { stands = c.requires.stands; few = c.requires.few; wide = All-weaker IsStorableEvent IsWide storable_wide c.args.events.items c.requires.storable }

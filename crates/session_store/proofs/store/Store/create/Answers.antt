@@ -1,0 +1,27 @@
+use Rattle.std.proofs.Common.{rules, ◌≡◌, ◌∙◌, ap, sym}
+use Rattle.std.proofs.lemmas.Result.{err_from_is_err_and}
+use Rattle.session_store.specs.Held.{plan_in, plan_held, events_held}
+use Rattle.session_store.proofs.Stores.{not_made, no_voc, one_fault, unless_failed, there_made, told_before}
+use Rattle.session_store.proofs.store.Store.create.Goals as goal
+
+pub returns-in_err-journal-clause-refused : goal.returns-in_err-journal-clause-refused
+returns-in_err-journal-clause-refused g c bytes told =
+    let p = err_from_is_err_and c.from_residual-in_err-journal.result c.from_residual-in_err-journal.ensures.1 in
+    rw (p.1, p.2) (not_made c.args.voc.now bytes c.in_err-journal.field-0.0 c.in_ok-lang.ensures.taken (c.in_err-journal.ensures.refused bytes told))
+
+pub returns-in_err-journal-clause-unread : goal.returns-in_err-journal-clause-unread
+returns-in_err-journal-clause-unread g c f is =
+    let p = err_from_is_err_and c.from_residual-in_err-journal.result c.from_residual-in_err-journal.ensures.1 in
+    absurd (no_voc c.in_err-journal.field-0.0 f (sym p.2 ∙ one_fault c.from_residual-in_err-journal.result p.0 _ p.1 is))
+
+pub returns-in_err-journal-clause-untouched : goal.returns-in_err-journal-clause-untouched
+returns-in_err-journal-clause-untouched g c =
+    let p = err_from_is_err_and c.from_residual-in_err-journal.result c.from_residual-in_err-journal.ensures.1 in
+    rw (p.1, p.2) (unless_failed c.in_err-journal.field-0.0 c.in_err-journal.ensures.untouched)
+
+pub returns-clause-sits : goal.returns-clause-sits
+returns-clause-sits g c live bytes told =
+    let was = told_before _ _ c.create.ensures.silent bytes told in
+    let same : c.in_ok-bytes.bytes.items ≡ c.args.voc.now = search rules in
+    there_made c.in_ok-journal.journal (plan_held c.new-held.result) c.args.plan c.in_ok-bytes.bytes.items c.args.voc.now (events_held c.new-held.result) (g.D.Disk.content c.create.new.disk) (g.D.Disk.may_leave c.create.new.disk) bytes told
+    (sym (ap plan_in c.new-held.ensures.session ∙ c.in_ok-begin.ensures.plan)) (sym same) (c.new-held.ensures.events ∙ c.new.ensures.items) (c.in_ok-journal.ensures.sits bytes told) (c.in_ok-journal.ensures.durable bytes told) (c.in_ok-journal.ensures.created was.0 was.1)

@@ -1,0 +1,37 @@
+use Rattle.std.proofs.Common.{◌≡◌, ◌∙◌, sym, ap, subst, List, ℕ}
+use Rattle.std.proofs.lemmas.Result.{err_from_is_err_and}
+use Rattle.assign.specs.declared.events.Event.{Event}
+use Rattle.session_core.specs.Standing.{knowledge_of}
+use Rattle.session_store.specs.Held.{plan_in, plan_held, events_held}
+use Rattle.session_store.specs.Opening.{NoLanguage}
+use Rattle.session_store.specs.Replay.{NamesStray}
+use Rattle.voc_read.specs.Vocabulary.{IsVocabulary}
+use Rattle.session_store.proofs.Stores.{no_language, has_stray, there_as}
+use Rattle.session_store.proofs.store.Store.open.Goals as goal
+
+pub returns-in_err-lang-clause-refused : goal.returns-in_err-lang-clause-refused
+returns-in_err-lang-clause-refused g c bytes told =
+    let o = c.in_ok-journal.field-0 in
+    let p = err_from_is_err_and c.from_residual-in_err-lang.result c.from_residual-in_err-lang.ensures.1 in
+    let fault = c.in_err-lang.field-0.0 in
+    let No : List ℕ → Type 0 = λ v. NoLanguage v fault in
+    rw (p.1, p.2) (no_language bytes o.plan o.voc.items o.events.items fault (c.in_ok-journal.ensures.opened bytes told) (subst No c.deref.ensures.value c.in_err-lang.ensures.refused))
+
+pub returns-in_err-session-clause-refused : goal.returns-in_err-session-clause-refused
+returns-in_err-session-clause-refused g c bytes told =
+    let o = c.in_ok-journal.field-0 in
+    let p = err_from_is_err_and c.from_residual-in_err-session.result c.from_residual-in_err-session.ensures.1 in
+    let k = knowledge_of c.in_ok-start.start in
+    let fault = c.in_err-session.field-0.0 in
+    let Read : List ℕ → Type 0 = λ v. IsVocabulary v c.in_ok-lang.lang in
+    let Strays : List Event → Type 0 = λ e. NamesStray k.lang k.plan e fault in
+    rw (p.1, p.2) (has_stray bytes o.plan k.plan o.voc.items o.events.items c.in_ok-lang.lang k.lang fault (c.in_ok-journal.ensures.opened bytes told) (subst Read c.deref.ensures.value c.in_ok-lang.ensures.read)
+    c.in_ok-start.ensures.lang c.in_ok-start.ensures.plan (subst Strays c.deref-2.ensures.value c.in_err-session.ensures.stray))
+
+pub returns-clause-sits : goal.returns-clause-sits
+returns-clause-sits g c live bytes told =
+    let o = c.in_ok-journal.field-0 in
+    let was = sym c.open.ensures.same ∙ told in
+    there_as o.journal o.plan (plan_held c.new.result) o.voc.items o.events.items (events_held c.new.result) (g.D.Disk.may_leave c.open.new.disk) bytes
+    (sym (ap plan_in c.new.ensures.session ∙ c.in_ok-session.ensures.plan ∙ c.in_ok-start.ensures.plan)) (sym c.new.ensures.events)
+    (record { behind = c.in_ok-journal.ensures.sits bytes was; opens = (c.in_ok-journal.ensures.opened bytes was).1; durable = c.in_ok-journal.ensures.durable bytes was })

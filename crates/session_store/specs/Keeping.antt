@@ -1,0 +1,220 @@
+-- What the calls of a keeper, one after another, have done to it and to its disk.
+use Rattle.std.proofs.Common.{◌≡◌, ◌≤◌, ◌⊎◌, ℕ, Bool, IsTrue, List, [], ◌∷◌, ◌++◌, Option, Some, None, refl, sym, ◌∙◌, ap, subst, inl, inr, arith, append_assoc}
+use Rattle.std.specs.Prelude.{IsFalse}
+use Rattle.std.specs.Option.{ForSome, ForNone}
+use Rattle.std.proofs.lemmas.List.{append-nil}
+use Rattle.assign.specs.Assignment.{Assignment}
+use Rattle.assign.specs.declared.events.Event.{Event}
+use Rattle.assign.specs.declared.events.Plan.{Plan}
+use Rattle.disk_model.specs.Disk.{LeavesOnly, Rose}
+use Rattle.disk_model.specs.Moments.{started, joined, weaker}
+use Rattle.session_store.specs.Kept.{answer_event}
+use Rattle.session_store.specs.Left.{OpensWith, OpensWithOrWithout, OpensWithin, LeavesNow}
+
+-- the meanings of a disk
+module _ {D : Type 0} (content : D → Option (List ℕ)) (may_leave : D → List ℕ → Type 0) (moment : D → ℕ) (left_since : D → ℕ → List ℕ → Type 0) where
+  -- Since the disk was the old one, some events were added. A crash at any moment since then leaves those from before and a
+  -- front of the new ones, and a crash now leaves all of them.
+  pub record Persists (plan : Plan) (voc : List ℕ) (before after : List Event) (old new : D) : Type 0 where
+    pub more : List Event
+    pub grown : after ≡ before ++ more
+    pub now : LeavesNow content may_leave (OpensWith plan voc after) new
+    pub any_moment : LeavesOnly moment left_since old new (OpensWithin plan voc before after)
+
+  -- The disk failed while the answer to the question that is put was added. A crash leaves that answer as the last event, or
+  -- leaves it out.
+  pub record FailsWith (plan : Plan) (voc : List ℕ) (before after : List Event) (put : Option Assignment) (old new : D) : Type 0 where
+    pub question : Assignment
+    pub reply : Bool
+    pub is_put : put ≡ Some question
+    pub more : List Event
+    pub grown : after ≡ before ++ more
+    pub now : (c : List ℕ) → may_leave new c → OpensWithOrWithout plan voc after (answer_event question reply) c
+    pub any_moment : LeavesOnly moment left_since old new (OpensWithin plan voc before (after ++ answer_event question reply ∷ []))
+
+  -- the meanings of a keeper, and the count of the disk's faults
+  module _ {K : Type 0} (plan : K → Plan) (voc : K → List ℕ) (record_of : K → List Event) (question : K → Option Assignment) (writes live : K → Bool) (sits : K → D → Type 0) (faults : D → ℕ) where
+    -- What calls of a keeper have done, of which the last may have met a fault of the disk.
+    pub record Keeps (has_failed : Type 0) (old new : K) (disk_old disk_new : D) : Type 0 where
+      pub same_voc : voc new ≡ voc old
+      pub same_writes : writes new ≡ writes old
+      pub belongs : sits new disk_new
+      pub later : faults disk_old ≤ faults disk_new
+      pub is_live : (has_failed → ⊥) → IsTrue (live new)
+      pub cause : has_failed → IsTrue (writes old) × Rose (faults disk_old) (faults disk_new)
+      -- where nothing is written, the disk isn't touched
+      pub unwritten : IsFalse (writes old) → disk_new ≡ disk_old
+      -- else events are added one after the other, where the disk tells
+      pub persists : IsTrue (writes old) → ForSome (content disk_old) (λ _. (has_failed → ⊥) → Persists (plan old) (voc old) (record_of old) (record_of new) disk_old disk_new)
+      pub fails : IsTrue (writes old) → ForSome (content disk_old) (λ _. has_failed → FailsWith (plan old) (voc old) (record_of old) (record_of new) (question new) disk_old disk_new)
+
+-- ---- contents
+
+pub within_more : (plan : Plan) (voc : List ℕ) (before mid after more : List Event) (c : List ℕ) → after ≡ mid ++ more → OpensWithin plan voc before mid c → OpensWithin plan voc before after c
+within_more plan voc before mid after more c grown w = record {
+  some = w.some;
+  rest = w.rest ++ more;
+  is = grown ∙ ap (λ (l : List Event). l ++ more) w.is ∙ append_assoc before (w.some ++ w.rest) more ∙ ap (λ (l : List Event). before ++ l) (append_assoc w.some w.rest more);
+  opens = w.opens;
+}
+
+pub within_from : (plan : Plan) (voc : List ℕ) (before mid after more : List Event) (c : List ℕ) → mid ≡ before ++ more → OpensWithin plan voc mid after c → OpensWithin plan voc before after c
+within_from plan voc before mid after more c grown w = record {
+  some = more ++ w.some;
+  rest = w.rest;
+  is = w.is ∙ ap (λ (l : List Event). l ++ (w.some ++ w.rest)) grown ∙ append_assoc before more (w.some ++ w.rest) ∙ ap (λ (l : List Event). before ++ l) (sym (append_assoc more w.some w.rest));
+  opens = subst (λ (l : List Event). OpensWith plan voc l c) (ap (λ (l : List Event). l ++ w.some) grown ∙ append_assoc before more w.some) w.opens;
+}
+
+pub within_none : (plan : Plan) (voc : List ℕ) (events : List Event) (c : List ℕ) → OpensWith plan voc events c → OpensWithin plan voc events events c
+within_none plan voc events c opens = record {
+  some = [];
+  rest = [];
+  is = sym (append-nil events);
+  opens = subst (λ (l : List Event). OpensWith plan voc l c) (sym (append-nil events)) opens;
+}
+
+pub within_one : (plan : Plan) (voc : List ℕ) (events : List Event) (e : Event) (c : List ℕ) → OpensWithOrWithout plan voc events e c → OpensWithin plan voc events (events ++ e ∷ []) c
+within_one plan voc events e c (inl opens) = within_more plan voc events events (events ++ e ∷ []) (e ∷ []) c refl (within_none plan voc events c opens)
+within_one plan voc events e c (inr opens) = record { some = e ∷ []; rest = []; is = ap (λ (l : List Event). events ++ l) (sym (append-nil (e ∷ []))); opens = opens }
+
+pub rose_later : (a b c : ℕ) → a ≤ b → Rose b c → Rose a c
+rose_later a b c le rose = omega arith
+
+pub both_as : {A B : Type 0} (P : A → B → Type 0) (a b : A) (v w : B) → a ≡ b → v ≡ w → P a v → P b w
+both_as {A} {B} P a b v w e f p = let One : A → Type 0 = λ x. P x v in let Two : B → Type 0 = λ y. P b y in subst Two f (subst One e p)
+
+-- ---- calls
+
+module _ {D : Type 0} (content : D → Option (List ℕ)) (may_leave : D → List ℕ → Type 0) (moment : D → ℕ) (left_since : D → ℕ → List ℕ → Type 0)
+    (counts_now : (disk : D) (t : ℕ) (c : List ℕ) → t ≤ moment disk → may_leave disk c → left_since disk t c) (only_now : (disk : D) (c : List ℕ) → left_since disk (moment disk) c → may_leave disk c) where
+
+  -- before the first call
+  pub persists_none : (plan : Plan) (voc : List ℕ) (events : List Event) (disk : D) (bytes : List ℕ) → content disk ≡ Some bytes → ((c : List ℕ) → may_leave disk c → OpensWith plan voc events c) →
+      Persists content may_leave moment left_since plan voc events events disk disk
+  persists_none plan voc events disk bytes told opens = record {
+    more = [];
+    grown = sym (append-nil events);
+    now = record { bytes = bytes; tells = told; each = opens };
+    any_moment = started moment left_since disk (OpensWithin plan voc events events) (λ c left. within_none plan voc events c (opens c (only_now disk c left)));
+  }
+
+  -- one run after another
+  pub persists_then : (plan : Plan) (voc : List ℕ) (one two three : List Event) (old mid new : D) →
+      Persists content may_leave moment left_since plan voc one two old mid → Persists content may_leave moment left_since plan voc two three mid new →
+      Persists content may_leave moment left_since plan voc one three old new
+  persists_then plan voc one two three old mid new first second = record {
+    more = first.more ++ second.more;
+    grown = second.grown ∙ ap (λ (l : List Event). l ++ second.more) first.grown ∙ append_assoc one first.more second.more;
+    now = second.now;
+    any_moment = joined moment left_since old mid new (OpensWithin plan voc one two) (OpensWithin plan voc two three) (OpensWithin plan voc one three) first.any_moment second.any_moment
+        (λ c w. within_more plan voc one two three second.more c second.grown w) (λ c w. within_from plan voc one two three first.more c first.grown w);
+  }
+
+  pub fails_then : (plan : Plan) (voc : List ℕ) (one two three : List Event) (put : Option Assignment) (old mid new : D) →
+      Persists content may_leave moment left_since plan voc one two old mid → FailsWith content may_leave moment left_since plan voc two three put mid new →
+      FailsWith content may_leave moment left_since plan voc one three put old new
+  fails_then plan voc one two three put old mid new first second =
+      let last : List Event = answer_event second.question second.reply ∷ [] in
+      let longer : three ++ last ≡ two ++ (second.more ++ last) = ap (λ (l : List Event). l ++ last) second.grown ∙ append_assoc two second.more last in
+      record {
+        question = second.question;
+        reply = second.reply;
+        is_put = second.is_put;
+        more = first.more ++ second.more;
+        grown = second.grown ∙ ap (λ (l : List Event). l ++ second.more) first.grown ∙ append_assoc one first.more second.more;
+        now = second.now;
+        any_moment = joined moment left_since old mid new (OpensWithin plan voc one two) (OpensWithin plan voc two (three ++ last)) (OpensWithin plan voc one (three ++ last)) first.any_moment second.any_moment
+            (λ c w. within_more plan voc one two (three ++ last) (second.more ++ last) c longer w) (λ c w. within_from plan voc one two (three ++ last) first.more c first.grown w);
+      }
+
+  -- an answer that was added
+  pub persists_one : (plan : Plan) (voc : List ℕ) (events after : List Event) (e : Event) (old new : D) → after ≡ events ++ e ∷ [] →
+      LeavesNow content may_leave (OpensWith plan voc after) new → LeavesOnly moment left_since old new (OpensWithOrWithout plan voc events e) →
+      Persists content may_leave moment left_since plan voc events after old new
+  persists_one plan voc events after e old new added now any = record {
+    more = e ∷ [];
+    grown = added;
+    now = now;
+    any_moment = weaker moment left_since old new (OpensWithOrWithout plan voc events e) (OpensWithin plan voc events after) any
+        (λ c w. subst (λ (l : List Event). OpensWithin plan voc events l c) (sym added) (within_one plan voc events e c w));
+  }
+
+  -- an answer whose adding failed
+  pub fails_one : (plan : Plan) (voc : List ℕ) (events after : List Event) (question : Assignment) (reply : Bool) (put : Option Assignment) (old new : D) → after ≡ events → put ≡ Some question →
+      LeavesOnly moment left_since old new (OpensWithOrWithout plan voc events (answer_event question reply)) →
+      FailsWith content may_leave moment left_since plan voc events after put old new
+  fails_one plan voc events after question reply put old new same is any =
+      let e : Event = answer_event question reply in
+      let as_after : List Event → Type 0 = λ l. (c : List ℕ) → may_leave new c → OpensWithOrWithout plan voc l e c in
+      let within_after : List Event → Type 0 = λ l. LeavesOnly moment left_since old new (OpensWithin plan voc events (l ++ e ∷ [])) in
+      record {
+        question = question;
+        reply = reply;
+        is_put = is;
+        more = [];
+        grown = same ∙ sym (append-nil events);
+        now = subst as_after (sym same) (λ c left. any.each c (counts_now new (moment old) c any.later left));
+        any_moment = subst within_after (sym same) (weaker moment left_since old new (OpensWithOrWithout plan voc events e) (OpensWithin plan voc events (events ++ e ∷ [])) any
+            (λ c w. within_one plan voc events e c w));
+      }
+
+  module _ {K : Type 0} (plan : K → Plan) (voc : K → List ℕ) (record_of : K → List Event) (question : K → Option Assignment) (writes live : K → Bool) (sits : K → D → Type 0) (faults : D → ℕ) where
+    -- A keeper that was asked to put a question, or wasn't called, and a disk that wasn't touched.
+    pub keeps_still : (has_failed : Type 0) (old new : K) (disk : D) → (has_failed → ⊥) → plan new ≡ plan old → voc new ≡ voc old → record_of new ≡ record_of old → writes new ≡ writes old → live new ≡ live old →
+        IsTrue (live old) → sits new disk → (IsTrue (writes old) → ForSome (content disk) (λ _. (c : List ℕ) → may_leave disk c → OpensWith (plan old) (voc old) (record_of old) c)) →
+        Keeps content may_leave moment left_since plan voc record_of question writes live sits faults has_failed old new disk disk
+    keeps_still has_failed old new disk well same_plan same_voc same_record same_writes same_live is_live belongs lasts = record {
+      same_voc = same_voc;
+      same_writes = same_writes;
+      belongs = belongs;
+      later = omega arith;
+      is_live = λ no. same_live ∙ is_live;
+      cause = λ failed. absurd (well failed);
+      unwritten = λ no. refl;
+      persists = λ w bytes told no.
+          let As : List Event → Type 0 = λ l. Persists content may_leave moment left_since (plan old) (voc old) (record_of old) l disk disk in
+          subst As (sym same_record) (persists_none (plan old) (voc old) (record_of old) disk bytes told (lasts w bytes told));
+      fails = λ w bytes told failed. absurd (well failed);
+    }
+
+    -- calls one after another
+    pub keeps_then : (has_failed : Type 0) (one two three : K) (x y z : D) → plan two ≡ plan one →
+        Keeps content may_leave moment left_since plan voc record_of question writes live sits faults ⊥ one two x y →
+        Keeps content may_leave moment left_since plan voc record_of question writes live sits faults has_failed two three y z →
+        Keeps content may_leave moment left_since plan voc record_of question writes live sits faults has_failed one three x z
+    keeps_then has_failed one two three x y z same_plan first second = record {
+      same_voc = second.same_voc ∙ first.same_voc;
+      same_writes = second.same_writes ∙ first.same_writes;
+      belongs = second.belongs;
+      later = omega (arith, first.later, second.later);
+      is_live = second.is_live;
+      cause = λ failed. (sym first.same_writes ∙ (second.cause failed).0, rose_later (faults x) (faults y) (faults z) first.later (second.cause failed).1);
+      unwritten = λ no. second.unwritten (first.same_writes ∙ no) ∙ first.unwritten no;
+      persists = λ w bytes told no.
+          let f = first.persists w bytes told (λ bad. bad) in
+          let s = second.persists (first.same_writes ∙ w) f.now.bytes f.now.tells no in
+          let As : Plan → List ℕ → Type 0 = λ p v. Persists content may_leave moment left_since p v (record_of two) (record_of three) y z in
+          persists_then (plan one) (voc one) (record_of one) (record_of two) (record_of three) x y z f (both_as As (plan two) (plan one) (voc two) (voc one) same_plan first.same_voc s);
+      fails = λ w bytes told failed.
+          let f = first.persists w bytes told (λ bad. bad) in
+          let s = second.fails (first.same_writes ∙ w) f.now.bytes f.now.tells failed in
+          let As : Plan → List ℕ → Type 0 = λ p v. FailsWith content may_leave moment left_since p v (record_of two) (record_of three) (question three) y z in
+          fails_then (plan one) (voc one) (record_of one) (record_of two) (record_of three) (question three) x y z f (both_as As (plan two) (plan one) (voc two) (voc one) same_plan first.same_voc s);
+    }
+
+    -- by another word for the failure
+    pub keeps_as : (bad worse : Type 0) (old new : K) (x y : D) → (worse → bad) → (bad → worse) →
+        Keeps content may_leave moment left_since plan voc record_of question writes live sits faults bad old new x y →
+        Keeps content may_leave moment left_since plan voc record_of question writes live sits faults worse old new x y
+    keeps_as bad worse old new x y to fro keeps = record {
+      same_voc = keeps.same_voc;
+      same_writes = keeps.same_writes;
+      belongs = keeps.belongs;
+      later = keeps.later;
+      is_live = λ no. keeps.is_live (λ b. no (fro b));
+      cause = λ failed. keeps.cause (to failed);
+      unwritten = keeps.unwritten;
+      persists = λ w bytes told no. keeps.persists w bytes told (λ b. no (fro b));
+      fails = λ w bytes told failed. keeps.fails w bytes told (to failed);
+    }

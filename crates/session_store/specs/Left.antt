@@ -1,0 +1,34 @@
+-- What a crash may leave of a disk on which a session is kept.
+use Rattle.std.specs.Prelude.{ℕ, ◌≡◌, ◌⊎◌, List, [], ◌∷◌, ◌++◌, Option, Some, IsTrue, false}
+use Rattle.assign.specs.declared.events.Plan.{Plan}
+use Rattle.assign.specs.declared.events.Event.{Event}
+use Rattle.answer_journal.specs.Journal.{Spells, ReadsAs, Session}
+
+-- the content opens with this plan, these bytes of a vocabulary and these events
+abbrev pub OpensWith : Plan → List ℕ → List Event → List ℕ → Type 0
+OpensWith plan voc events content = Spells content plan voc events
+
+-- the bytes of a file are read as this session with these events
+abbrev pub SaysSession : List ℕ → Plan → List ℕ → List Event → Type 0
+SaysSession bytes plan voc events = ReadsAs bytes (Session plan voc events)
+
+-- it opens with these events, or with these and one more
+abbrev pub OpensWithOrWithout : Plan → List ℕ → List Event → Event → List ℕ → Type 0
+OpensWithOrWithout plan voc events event content = OpensWith plan voc events content ⊎ OpensWith plan voc (events ++ event ∷ []) content
+
+-- It opens with the first of these events, and at least with those before.
+pub record OpensWithin (plan : Plan) (voc : List ℕ) (before after : List Event) (content : List ℕ) : Type 0 where
+  pub some : List Event
+  pub rest : List Event
+  pub is : after ≡ before ++ (some ++ rest)
+  pub opens : OpensWith plan voc (before ++ some) content
+
+-- The disk tells what a read gives, and each content that a crash may leave now has P.
+pub record LeavesNow {D : Type 0} (content : D → Option (List ℕ)) (may_leave : D → List ℕ → Type 0) (P : List ℕ → Type 0) (disk : D) : Type 0 where
+  pub bytes : List ℕ
+  pub tells : content disk ≡ Some bytes
+  pub each : (c : List ℕ) → may_leave disk c → P c
+
+-- for keepers that write nothing
+pub false_is_not_true : IsTrue false → ⊥
+false_is_not_true e = cc

@@ -1,0 +1,127 @@
+//! A session beside the events that led to it.
+
+ghost use Rattle.std.specs.Prelude.{◌≡◌, ◌↔◌, ◌<◌, ◌+◌, ◌++◌, ◌∷◌, [], None, Some, IsSome, IsTrue, OnOk, All, length, vec_len, vec_capacity};
+ghost use Rattle.std.specs.Option.{ForSome};
+ghost use Rattle.language.specs.Answers.{standing_on};
+ghost use Rattle.answer_journal.specs.Storable.{IsStorableEvent};
+ghost use Rattle.session_core.specs.Settled.{IsSettled};
+ghost use Rattle.session_core.specs.Standing.{Stands, knowledge_of, open_in};
+ghost use Rattle.session_store.specs.Kept.{IsLawfulAfter, answer_event};
+ghost use Rattle.session_store.specs.Held.{lang_held, plan_held, question_held, events_held, IsHeld};
+
+use answer_journal::MOST_RECORDS;
+use assign::{Event, Partial};
+use language::Memory;
+use session_core::Session;
+
+/// A session that stands where its events lead.
+#[derive(Drop)]
+pub(crate) struct Held {
+    /// Empty only within a call that moves the session.
+    pub(crate) session: Option<Session>,
+    pub(crate) events: Vec<Event>,
+}
+
+impl Held {
+    pub(crate) fn new(session: Session, events: Vec<Event>) -> Held
+        requires stands { Stands session (standing_on (knowledge_of session).lang events.items) }
+        requires few { length events.items < 1000000 }
+        requires storable { All IsStorableEvent events.items }
+        ensures sound { IsHeld result }
+        ensures session { result.session ≡ Some session }
+        ensures events { events_held result ≡ events.items }
+    {
+        Held {
+            session: Some(session),
+            events,
+        }
+    }
+
+    pub(crate) fn session(&self) -> &Session
+        requires { IsHeld self.now }
+        ensures stands { Stands result.now (standing_on (lang_held self.now) (events_held self.now)) }
+        ensures lang { (knowledge_of result.now).lang ≡ lang_held self.now }
+        ensures plan { (knowledge_of result.now).plan ≡ plan_held self.now }
+        ensures question { open_in result.now ≡ question_held self.now }
+    {
+        self.session.as_ref().unwrap()
+    }
+
+    /// Whether no further record fits a journal.
+    pub(crate) fn is_full(&self) -> bool
+        requires { IsHeld self.now }
+        ensures { IsTrue result ↔ (length (events_held self.now) + 1 ≡ 1000000) }
+    {
+        self.events.len() + 1 >= MOST_RECORDS as usize
+    }
+
+    /// Puts a question.
+    pub(crate) fn ask(&mut self, q: Partial)
+        requires sound { IsHeld self.old }
+        requires idle { question_held self.old ≡ None }
+        requires lawful { IsLawfulAfter (lang_held self.old) (plan_held self.old) (standing_on (lang_held self.old) (events_held self.old)) q }
+        ensures put { question_held self.new ≡ Some q }
+        ensures events { events_held self.new ≡ events_held self.old }
+        ensures lang { lang_held self.new ≡ lang_held self.old }
+        ensures plan { plan_held self.new ≡ plan_held self.old }
+        ensures sound { IsHeld self.new }
+    {
+        match self.session.take() {
+            Some(Session::Idle(idle)) => self.session = Some(Session::Asking(idle.ask(q))),
+            Some(Session::Asking(_)) | Some(Session::Over(_)) | None => unreachable!(),
+        }
+    }
+
+    /// The event of an answer to the question that is put.
+    pub(crate) fn event(&self, yes: bool) -> Event
+        requires sound { IsHeld self.now }
+        requires put { IsSome (question_held self.now) }
+        ensures is { ForSome (question_held self.now) (λ q. result ≡ answer_event q «yes») }
+        ensures storable { IsStorableEvent result }
+    {
+        match self.session() {
+            Session::Asking(asking) => {
+                let _lang = asking.lang();
+                let question = asking.question().widened();
+                Event::Answer { question, yes }
+            }
+            Session::Idle(_) | Session::Over(_) => unreachable!(),
+        }
+    }
+
+    /// Takes the place for an event.
+    pub(crate) fn make_room(&mut self) -> Result<(), Memory>
+        ensures session { self.new.session ≡ self.old.session }
+        ensures events { events_held self.new ≡ events_held self.old }
+        ensures room { OnOk result (vec_len self.new.events < vec_capacity self.new.events) }
+    {
+        match self.events.reserve(1) {
+            Ok(()) => Ok(()),
+            Err(_) => Err(Memory),
+        }
+    }
+
+    /// Adds the event of an answer to the question that is put, in a place that was taken, and moves the session.
+    pub(crate) fn add(&mut self, event: Event, yes: bool)
+        requires sound { IsHeld self.old }
+        requires put { IsSome (question_held self.old) }
+        requires is { ForSome (question_held self.old) (λ q. event ≡ answer_event q «yes») }
+        requires storable { IsStorableEvent event }
+        requires few { length (events_held self.old) + 1 < 1000000 }
+        requires room { vec_len self.old.events < vec_capacity self.old.events }
+        ensures events { events_held self.new ≡ events_held self.old ++ event ∷ [] }
+        ensures settled { IsSettled (lang_held self.new) (plan_held self.new) (standing_on (lang_held self.new) (events_held self.new)) (question_held self.new) }
+        ensures lang { lang_held self.new ≡ lang_held self.old }
+        ensures plan { plan_held self.new ≡ plan_held self.old }
+        ensures sound { IsHeld self.new }
+    {
+        match self.session.take() {
+            Some(Session::Asking(asking)) => {
+                let _question = asking.question();
+                self.events.push(event).unwrap();
+                self.session = Some(asking.answer(yes));
+            }
+            Some(Session::Idle(_)) | Some(Session::Over(_)) | None => unreachable!(),
+        }
+    }
+}

@@ -1,0 +1,191 @@
+ghost use Rattle.std.specs.Prelude.{◌≡◌, ◌≤◌, ◌⊎◌, [], List, ℕ, IfOk, IfErr, IsErrOf, OnOk, IsTrue, Some, None, true, length};
+ghost use Rattle.std.specs.Option.{ForSome, ForNone};
+ghost use Rattle.language.specs.Answers.{standing_on};
+ghost use Rattle.disk_model.specs.Disk.{LeavesOnly, Rose};
+ghost use Rattle.answer_journal.specs.Journal.{HasNoSession};
+ghost use Rattle.answer_journal.specs.Making.{IsCreating};
+ghost use Rattle.voc_read.specs.Vocabulary.{IsVocabulary, refusal_of_vocabulary};
+ghost use Rattle.session_core.specs.Settled.{IsSettled};
+ghost use Rattle.session_store.specs.Left.{SaysSession};
+ghost use Rattle.session_store.specs.Replay.{HavePlaces};
+ghost use Rattle.session_store.specs.Opening.{NoLanguage, NotMade, NotOpened};
+ghost use Rattle.session_store.specs.Store.{lang_of, plan_of, question_of, events_of, voc_of, is_live_in, IsSound, SitsOn};
+
+use crate::SFault;
+use crate::held::Held;
+use crate::keep::Keep;
+use crate::replay::replayed;
+use answer_journal::{JFault, Journal, Opened};
+use assign::{Event, Partial, Plan};
+use disk_model::Disk;
+use language::Language;
+use session_core::{Session, begin};
+use std::alloc::Global;
+use voc_read::{VocFault, read_vocabulary};
+
+/// A session whose events are kept in a journal. The disk isn't held: each call that writes is lent it.
+#[derive(Drop)]
+pub struct Store {
+    held: Held,
+    journal: Journal,
+    /// The bytes of the vocabulary.
+    voc: Vec<u8>,
+}
+
+/// The language of a vocabulary.
+#[tactic(auto, using(crate::proofs::Vocabularies::taken_is_short))]
+fn language_of(alloc: Global, voc: &[u8]) -> Result<Language, SFault>
+    ensures read { IfOk result (λ l. IsVocabulary voc.now l) }
+    ensures taken { OnOk result (refusal_of_vocabulary voc.now ≡ None) }
+    ensures short { OnOk result (length voc.now ≤ 4194304) }
+    ensures refused { IfErr result (NoLanguage voc.now) }
+{
+    match read_vocabulary(alloc, voc) {
+        Ok(lang) => Ok(lang),
+        Err(VocFault::Memory) => Err(SFault::Memory),
+        Err(fault) => Err(SFault::Voc(fault)),
+    }
+}
+
+impl Store {
+    /// Makes a journal of this plan and vocabulary, on a file that holds none.
+    ///
+    /// The vocabulary is read before anything is written, and all memory is taken before that.
+    pub fn create<D: Disk>(
+        alloc: Global,
+        disk: &mut D,
+        plan: Plan,
+        voc: &[u8],
+    ) -> Result<Store, SFault>
+        ensures sound { IfOk result IsSound }
+        ensures plan { IfOk result (λ store. plan_of store ≡ plan) }
+        ensures voc { IfOk result (λ store. voc_of store ≡ voc.now) }
+        ensures events { IfOk result (λ store. events_of store ≡ []) }
+        ensures idle { IfOk result (λ store. question_of store ≡ None) }
+        ensures live { IfOk result (λ store. IsTrue (is_live_in store)) }
+        ensures sits { IfOk result (λ store. SitsOn store (D.content disk.new) (D.may_leave disk.new)) }
+        ensures silent { ForNone (D.content disk.old) (D.content disk.new ≡ None) }
+        ensures told { ForSome (D.content disk.old) (λ _. OnOk result ((bytes : List ℕ) × (D.content disk.new ≡ Some bytes))) }
+
+        // It is made only where there is no session, and refused by what the vocabulary and the bytes of the file say.
+        ensures taken { OnOk result (refusal_of_vocabulary voc.now ≡ None) }
+        ensures free { ForSome (D.content disk.old) (λ bytes. OnOk result (HasNoSession bytes)) }
+        ensures refused { ForSome (D.content disk.old) (λ bytes. IfErr result (NotMade voc.now bytes)) }
+        ensures unread { (f : VocFault) → IsErrOf result (SFault.Voc f) → (refusal_of_vocabulary voc.now ≡ Some f) × (disk.new ≡ disk.old) }
+        ensures untouched { IfErr result (λ e. (e ≡ SFault.Journal JFault.DiskFault) ⊎ (D.content disk.new ≡ D.content disk.old)) }
+        ensures failed { IsErrOf result (SFault.Journal JFault.DiskFault) → Rose (D.faults disk.old) (D.faults disk.new) }
+        ensures later { D.faults disk.old ≤ D.faults disk.new }
+
+        // A crash at any moment leaves what it might have left before, or no session, or the new one with no event.
+        ensures any_moment { ForSome (D.content disk.old) (λ _. LeavesOnly D.moment D.left_since disk.old disk.new (IsCreating (D.may_leave disk.old) plan voc.now)) }
+    {
+        let lang = language_of(alloc, voc)?;
+        let bytes = voc.to_vec(alloc)?;
+        let held = Held::new(begin(alloc, lang, plan)?, Vec::new(alloc));
+        let journal = answer_journal::create(alloc, disk, plan, voc)?;
+        Ok(Store {
+            held,
+            journal,
+            voc: bytes,
+        })
+    }
+
+    /// Opens a journal, and leads a session through its events. It writes nothing.
+    pub fn open<D: Disk>(alloc: Global, disk: &mut D) -> Result<Store, SFault>
+        ensures sound { IfOk result IsSound }
+        ensures opened { ForSome (D.content disk.old) (λ bytes. IfOk result (λ store. SaysSession bytes (plan_of store) (voc_of store) (events_of store))) }
+        ensures places { IfOk result (λ store. HavePlaces (lang_of store) (plan_of store) (events_of store)) }
+        // where the events lead to where nothing is open, no question is put
+        ensures settled { IfOk result (λ store. IsSettled (lang_of store) (plan_of store) (standing_on (lang_of store) (events_of store)) (question_of store)) }
+        ensures live { IfOk result (λ store. IsTrue (is_live_in store)) }
+        ensures sits { IfOk result (λ store. SitsOn store (D.content disk.new) (D.may_leave disk.new)) }
+
+        // A refusal is what the bytes say.
+        ensures refused { ForSome (D.content disk.old) (λ bytes. IfErr result (NotOpened bytes)) }
+        ensures failed { IsErrOf result (SFault.Journal JFault.DiskFault) → Rose (D.faults disk.old) (D.faults disk.new) }
+        ensures later { D.faults disk.old ≤ D.faults disk.new }
+
+        // It writes nothing.
+        ensures same { D.content disk.new ≡ D.content disk.old }
+        ensures any_moment { LeavesOnly D.moment D.left_since disk.old disk.new (D.may_leave disk.old) }
+    {
+        let Opened {
+            journal,
+            plan,
+            voc,
+            events,
+        } = answer_journal::open(alloc, disk)?;
+        let lang = language_of(alloc, &voc)?;
+        let start = begin(alloc, lang, plan)?;
+        let session = replayed(start, &events)?;
+        Ok(Store {
+            held: Held::new(session, events),
+            journal,
+            voc,
+        })
+    }
+
+    /// The bytes of the vocabulary. The session's language is their reading.
+    pub fn vocabulary(&self) -> &[u8]
+        ensures is { result.now ≡ voc_of self.now }
+        ensures read { IsSound self.now → IsVocabulary result.now (lang_of self.now) }
+    {
+        &self.voc
+    }
+}
+
+impl<D: Disk> Keep<D> for Store {
+    ghost use Rattle.session_store.specs.Store.{opens_there};
+
+    ghost lang = { lang_of };
+
+    ghost plan = { plan_of };
+
+    ghost voc = { voc_of };
+
+    ghost record_of = { events_of };
+
+    ghost question = { question_of };
+
+    ghost sound = { IsSound };
+
+    ghost writes = { λ _. true };
+
+    ghost live = { is_live_in };
+
+    ghost sits = { λ store disk. SitsOn store (D.content disk) (D.may_leave disk) };
+
+    ghost lasts = { λ keep disk sound writes live sits bytes told c left. opens_there keep.journal (plan_of keep) (voc_of keep) (events_of keep) (D.may_leave disk) bytes c (sits live bytes told) left };
+
+    fn session(&self) -> &Session {
+        self.held.session()
+    }
+
+    fn events(&self) -> &[Event] {
+        &self.held.events
+    }
+
+    fn is_full(&self) -> bool {
+        self.held.is_full()
+    }
+
+    fn is_live(&self) -> bool {
+        self.journal.is_live()
+    }
+
+    fn ask(&mut self, q: Partial) {
+        self.held.ask(q);
+    }
+
+    fn answer(&mut self, disk: &mut D, yes: bool) -> Result<(), SFault> {
+        let event = self.held.event(yes);
+        self.held.make_room()?;
+        match self.journal.append(disk, &event) {
+            Ok(()) => {
+                self.held.add(event, yes);
+                Ok(())
+            }
+            Err(_) => Err(SFault::Journal(JFault::DiskFault)),
+        }
+    }
+}
