@@ -35,6 +35,11 @@ ones_of-zero = refl
 pub ones_of-first : (n : ℕ) → n ≤ 64 → ones_of (2 ^ n - 1) ≡ numbers n
 ones_of-first n h = let few : 2 ^ n ≤ 2 ^ 64 = pow-le-pow_right (lit≤ tt) h in ones_of-members_of (2 ^ n - 1) (omega arith) ∙ members_of-ones n (omega arith)
 
+-- the ones of a mask, by a test of each number
+pub ones_of-listed : (mask n : ℕ) (ok : ℕ → Bool) → n ≤ 64 → ((r : ℕ) → r < n → is_one mask r ≡ ok r) → ((r : ℕ) → n ≤ r → is_one mask r ≡ false) → ones_of mask ≡ filter ok (numbers n)
+unfolding ones_of
+ones_of-listed mask n ok few low high = filter_front (is_one mask) 0 n 64 few (λ v far. high v (omega arith)) ∙ filter_agree_from (is_one mask) ok 0 n (λ v from below. low v (omega arith))
+
 pub length-ones_of : (mask : ℕ) → mask < 2 ^ 64 → length (ones_of mask) ≡ count_ones mask
 length-ones_of mask h = ap length (ones_of-members_of mask h) ∙ length-members_of mask (omega arith)
 
@@ -61,7 +66,7 @@ has_cond : (b : Bool) (x r : ℕ) (xs : List ℕ) → has (cond b (x ∷ xs) xs)
 has_cond true x r xs = refl
 has_cond false x r xs = refl
 
-has-filter : (ok : ℕ → Bool) (xs : List ℕ) (r : ℕ) → has (filter ok xs) r ≡ (has xs r && ok r)
+pub has-filter : (ok : ℕ → Bool) (xs : List ℕ) (r : ℕ) → has (filter ok xs) r ≡ (has xs r && ok r)
 has-filter ok [] r = refl
 has-filter ok (x ∷ xs) r = has_cond (ok x) x r (filter ok xs) ∙ ap (λ b. (ok x && (x == r)) || b) (has-filter ok xs r) ∙ go (x == r) refl
   where
@@ -103,7 +108,7 @@ and_bits zero (suc (suc y)) h k = absurd (omega arith)
 and_bits (suc zero) (suc (suc y)) h k = absurd (omega arith)
 and_bits (suc (suc x)) y h k = absurd (omega arith)
 
-is_one-and_not : (a b r : ℕ) → b < 2 ^ 64 → r < 64 → is_one (bit_and a (bit_not w64 b)) r ≡ (is_one a r && not (is_one b r))
+pub is_one-and_not : (a b r : ℕ) → b < 2 ^ 64 → r < 64 → is_one (bit_and a (bit_not w64 b)) r ≡ (is_one a r && not (is_one b r))
 is_one-and_not a b r h low =
     ap (λ x. x == 1) (bit_at_and a (bit_not w64 b) r ∙ ap (min (bit_at a r)) (bit_at_not w64 b r h low))
     ∙ and_bits (bit_at a r) (bit_at b r) (bit_at-lt a r) (bit_at-lt b r)

@@ -3,7 +3,7 @@ use Rattle.std.proofs.Common.{◌≡◌, ℕ, ◌+◌, ◌-◌, ◌<◌, ◌≤�
 use Rattle.std.specs.Prelude.{◌==◌, bit_and, slice_index_or, slice_set, All}
 use Rattle.std.specs.List.{filter, list_any}
 use Rattle.std.specs.Int.{bit_not, w64}
-use Rattle.std.proofs.lemmas.Bool.{cases_eq, eq-eqb, ne_eqb, or_parts, true_from_ne_false}
+use Rattle.std.proofs.lemmas.Bool.{cases_eq, cases_lt, eq-eqb, ne_eqb, or_parts, true_from_ne_false}
 use Rattle.std.proofs.lemmas.List.{length-set}
 use Rattle.std.proofs.lemmas.List.Elements.{All-filter, All-weaker}
 use Rattle.std.proofs.lemmas.List.Filters.{length-filter_both}
@@ -11,6 +11,7 @@ use Rattle.language.specs.declared.candidates.Candidate.{Candidate}
 use Rattle.language.specs.Language.{Language, IsCandidate, relations_on}
 use Rattle.language.proofs.Lists.{nothing_passes}
 use Rattle.bias_store.specs.Masks.{ones_of}
+use Rattle.bias_store.specs.Accepting.{IsAcceptingOf}
 use Rattle.bias_store.specs.KeptSet.{KeptSet, IsMadeFor}
 use Rattle.bias_store.specs.Inside.{members_from}
 use Rattle.bias_store.proofs.Ones.{ones_of-zero, ones_of-and_not, no_ones}
@@ -63,6 +64,20 @@ module _ (fails : Candidate → Bool) (old now : List ℕ) (s before count relat
           (λ (t : ℕ). ones_of (slice_index_or (slice_set now s (bit_and relations (bit_not w64 failing))) t 0) ≡ filter (λ r. not (fails (candidate_at t r))) (ones_of (slice_index_or old t 0))) (sym same)
           (ap ones_of (get_or-set_same now s (bit_and relations (bit_not w64 failing)) 0 long) ∙ left ∙ ap (λ m. filter (λ r. not (fails (candidate_at s r))) (ones_of m)) (here ∙ is.rest s (omega arith)))
       struck_at k below (inr other) = ap ones_of (get_or-set_other now s k (bit_and relations (bit_not w64 failing)) 0 other) ∙ is.struck k (omega arith)
+
+-- scopes on which none fails are passed over
+pub struck_skip : (fails : Candidate → Bool) (old now : List ℕ) (s t before count : ℕ) → IsStruck fails old now s before count → s ≤ t → ((k : ℕ) → s ≤ k → k < t → (r : ℕ) → fails (candidate_at k r) ≡ false) → IsStruck fails old now t before count
+struck_skip fails old now s t before count is ahead none = record {
+  long = is.long;
+  counted = is.counted;
+  fewer = is.fewer;
+  struck = λ k low. go k low (cases_lt k s);
+  rest = λ k past. is.rest k (omega arith);
+}
+  where
+    go : (k : ℕ) → k < t → (k < s) ⊎ (s ≤ k) → ones_of (slice_index_or now k 0) ≡ filter (λ r. not (fails (candidate_at k r))) (ones_of (slice_index_or old k 0))
+    go k low (inl before) = is.struck k before
+    go k low (inr from) = ap ones_of (is.rest k from) ∙ sym (all_pass (λ r. not (fails (candidate_at k r))) (ones_of (slice_index_or old k 0)) (λ r. ap not (none k from low r)))
 
 -- all scopes are struck
 pub struck_all : (fails : Candidate → Bool) (old now : List ℕ) (s before count : ℕ) → IsStruck fails old now s before count → length old ≤ s → members_from 0 now ≡ filter (λ c. not (fails c)) (members_from 0 old)
@@ -120,8 +135,9 @@ known_relations l masks s relations known low here = subst (λ m. All (λ r. r <
     (All-weaker (λ r. IsCandidate l (candidate_at s r)) (λ r. r < length (relations_on l s)) (λ r is. is.rel) (ones_of (slice_index_or masks s 0)) (known_on (IsCandidate l) masks s low known))
 
 -- a set with some of the members is made for the same languages
-pub made_still : (l : Language) (old new : KeptSet) (ok : Candidate → Bool) → IsMadeFor l old → new.scopes ≡ old.scopes → new.members ≡ filter ok old.members → IsMadeFor l new
-made_still l old new ok made same left = record {
+pub made_still : (l : Language) (old new : KeptSet) (ok : Candidate → Bool) → IsMadeFor l old → new.scopes ≡ old.scopes → new.members ≡ filter ok old.members → new.accepting ≡ old.accepting → IsMadeFor l new
+made_still l old new ok made same members accepting = record {
   scopes = same ∙ made.scopes;
-  known = subst (All (IsCandidate l)) (sym left) (All-filter ok (IsCandidate l) old.members made.known);
+  known = subst (All (IsCandidate l)) (sym members) (All-filter ok (IsCandidate l) old.members made.known);
+  accepting = subst (IsAcceptingOf l) (sym accepting) made.accepting;
 }

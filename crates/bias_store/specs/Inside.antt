@@ -15,7 +15,7 @@ members_from s [] = []
 members_from s (mask ∷ masks) = candidates_at s (ones_of mask) ++ members_from (s + 1) masks
 
 abbrev pub seen : Inside → KeptSet
-seen a = record { scopes = length a.relations.items; members = members_from 0 a.relations.items }
+seen a = record { scopes = length a.relations.items; members = members_from 0 a.relations.items; accepting = a.tables }
 
 -- the count is that of the candidates
 abbrev pub IsCounted : Inside → Type 0

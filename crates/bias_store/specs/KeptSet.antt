@@ -4,16 +4,19 @@ use Rattle.std.specs.List.{filter}
 use Rattle.language.specs.declared.candidates.Candidate.{Candidate}
 use Rattle.language.specs.Language.{Language}
 use Rattle.language.specs.Answers.{IsNetwork}
+use Rattle.bias_store.specs.Accepting.{Accepting, IsAcceptingOf}
 
--- how many scopes there are, and the kept candidates by scope and then by relation
+-- how many scopes there are, the kept candidates by scope and then by relation, and which relations accept which tuples
 pub record KeptSet : Type 0 where
   pub scopes : ℕ
   pub members : List Candidate
+  pub accepting : Accepting
 
--- the language's scopes, and candidates of it
+-- the language's scopes, candidates of it, and what its relations accept
 pub record IsMadeFor (l : Language) (k : KeptSet) : Type 0 where
   pub scopes : k.scopes ≡ length l.scopes
   pub known : IsNetwork l k.members
+  pub accepting : IsAcceptingOf l k.accepting
 
 -- the relations that are kept on a scope, by number, rising
 abbrev pub kept_relations : List Candidate → ℕ → List ℕ

@@ -1,3 +1,4 @@
 pub mod Masks
+pub mod Accepting
 pub mod KeptSet
 pub mod Inside

@@ -4,9 +4,11 @@ ghost use Rattle.std.specs.Prelude.{◌≡◌, ◌+◌, ◌<◌, ◌↔◌, ◌=
 ghost use Rattle.std.specs.List.{list_any};
 ghost use Rattle.language.specs.Language.{Language, candidates, relations_on, violates, IsQuestion};
 ghost use Rattle.bias_store.specs.Masks.{ones_of};
+ghost use Rattle.bias_store.specs.Accepting.{accepting_on, places_on, IsAcceptingOf};
 ghost use Rattle.bias_store.specs.KeptSet.{kept_relations, IsMadeFor};
 
 use crate::masks::{first_relations, has_relation, relation_count};
+use crate::tables::Tables;
 use assign::Partial;
 use language::{Candidate, Language, Memory, ScopeId};
 use std::alloc::Global;
@@ -19,6 +21,8 @@ pub struct Kept {
     relations: Vec<u64>,
     /// How many candidates are kept.
     count: u32,
+    /// Which relations accept which tuples.
+    tables: Tables,
 }
 
 impl Model for Kept {
@@ -34,26 +38,22 @@ impl Model for Kept {
 }
 
 /// Of these relations on a scope, those that the question violates: none where it leaves a variable there open.
-fn violated_on(lang: &Language, s: ScopeId, q: &Partial, relations: u64) -> u64
+fn violated_on(tables: &Tables, lang: &Language, s: ScopeId, q: &Partial, relations: u64) -> u64
+    requires tables { IsAcceptingOf lang.now tables.now }
     requires scope { s < length lang.now.scopes }
     requires known { All (λ r. r < length (relations_on lang.now s)) (ones_of relations) }
     requires question { IsQuestion lang.now q.now }
     ensures { ones_of result ≡ filter (λ r. violates lang.now (record { scope = s; rel = r }) q.now) (ones_of relations) }
 {
-    let Some(place) = lang.place_on(s, q) else {
-        return 0;
-    };
-    let mut violated = 0;
-    for r in 0..lang.relations_on(s) {
-        if has_relation(relations, r) && !lang.table_on(s, r).at(place) {
-            violated |= 1 << r;
-        }
+    match lang.place_on(s, q) {
+        None => 0,
+        Some(place) => relations & !tables.accepting(lang, s, place),
     }
-    violated
 }
 
 impl Kept {
-    /// All candidates of the language, a mask of 8 bytes for each scope. `Memory` where there is none for the masks.
+    /// All candidates of the language: 14 bytes for each scope, and for each number of variables that a scope has 8 bytes for
+    /// each tuple, at most 512 KB. `Memory` where there is none for them.
     pub fn of(alloc: Global, lang: &Language) -> Result<Kept, Memory>
         ensures all { IfOk result (λ k. k.members ≡ candidates lang.now) }
         ensures made { IfOk result (λ k. IsMadeFor lang.now k) }
@@ -64,6 +64,7 @@ impl Kept {
         let mut kept = Kept {
             relations,
             count: 0,
+            tables: Tables::of(alloc, lang)?,
         };
         kept.reset(lang);
         Ok(kept)
@@ -92,25 +93,38 @@ impl Kept {
         self.relations[usize::from(s)]
     }
 
+    /// The relations on a scope that accept the tuple at a place, kept or not: bit r is one exactly where relation r does.
+    pub fn accepting(&self, lang: &Language, s: ScopeId, place: u32) -> u64
+        requires made { IsMadeFor lang.now self.now }
+        requires scope { s < length lang.now.scopes }
+        requires place { place < places_on lang.now s }
+        ensures { ones_of result ≡ accepting_on lang.now s place }
+    {
+        self.tables.accepting(lang, s, place)
+    }
+
     /// Whether the question violates a kept candidate. Scopes are looked at in their order, up to the first such one.
     pub fn strikes_any(&self, lang: &Language, q: &Partial) -> bool
         requires made { IsMadeFor lang.now self.now }
         requires question { IsQuestion lang.now q.now }
         ensures { result ≡ list_any (λ c. violates lang.now c q.now) self.now.members }
     {
-        for s in 0..lang.scopes() as ScopeId {
+        let scopes = lang.scopes() as ScopeId;
+        let mut s = self.tables.asked_from(lang, 0, q);
+        while s < scopes {
             let relations = self.relations[usize::from(s)];
-            if violated_on(lang, s, q, relations) != 0 {
+            if violated_on(&self.tables, lang, s, q, relations) != 0 {
                 return true;
             }
+            s = self.tables.asked_from(lang, s + 1, q);
         }
         false
     }
 
     /// Takes out the candidates that the question violates, and answers how many they were.
     ///
-    /// Each scope is looked at, also where the question covers few: one that it doesn't cover costs no more than the
-    /// reading of a value or two.
+    /// Scopes whose first variable the question leaves open are passed over in runs. Each other one costs the reading of its
+    /// values, and where they are all there, one AND.
     pub fn strike(&mut self, lang: &Language, q: &Partial) -> u32
         requires made { IsMadeFor lang.now self.old }
         requires question { IsQuestion lang.now q.now }
@@ -119,11 +133,14 @@ impl Kept {
         ensures made { IsMadeFor lang.now self.new }
     {
         let count_before = self.count;
-        for s in 0..lang.scopes() as ScopeId {
+        let scopes = lang.scopes() as ScopeId;
+        let mut s = self.tables.asked_from(lang, 0, q);
+        while s < scopes {
             let relations = self.relations[usize::from(s)];
-            let violated = violated_on(lang, s, q, relations);
+            let violated = violated_on(&self.tables, lang, s, q, relations);
             self.relations[usize::from(s)] = relations & !violated;
             self.count -= relation_count(violated);
+            s = self.tables.asked_from(lang, s + 1, q);
         }
         count_before - self.count
     }
@@ -142,7 +159,7 @@ impl Kept {
 
     /// Keeps all candidates of the language again, as when answers were taken back.
     pub fn reset(&mut self, lang: &Language)
-        requires { self.old.scopes ≡ length lang.now.scopes }
+        requires { IsMadeFor lang.now self.old }
         ensures all { self.new.members ≡ candidates lang.now }
         ensures made { IsMadeFor lang.now self.new }
     {

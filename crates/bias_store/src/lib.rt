@@ -9,6 +9,7 @@
 mod fixture;
 mod kept;
 mod masks;
+mod tables;
 #[cfg(test)]
 mod tests;
 

@@ -2,14 +2,13 @@
 use Rattle.std.specs.Prelude.{ℕ, ◌==◌, ◌&&◌, List, [], ◌∷◌, ◌++◌, length, map, filter, Some, None, slice_index_or}
 use Rattle.assign.specs.Assignment.{Assignment, assigned}
 use Rattle.language.specs.declared.candidates.Candidate.{Candidate}
-use Rattle.language.specs.Language.{Language, variable_count, relations_of, violates}
+use Rattle.language.specs.Language.{Language, variable_count, scope_at, relations_on, violates}
 use Rattle.find_c.specs.Choosing.{Choice, Scene}
 
 -- what the choices on a scope are about
 abbrev pub scene_of : Language → ℕ → Scene
 scene_of l s =
-    let scope : List ℕ = slice_index_or l.scopes s [] in
-    record { value_count = l.value_count; arity = length scope; relations = relations_of l (length scope) }
+    record { value_count = l.value_count; arity = length (scope_at l s); relations = relations_on l s }
 
 -- a tuple as an assignment of exactly the scope of this number
 abbrev pub on_scope : Language → ℕ → List ℕ → Assignment

@@ -1,6 +1,7 @@
 //! Telling the choices on a scope apart, a reply at a time.
 
 ghost use Rattle.std.specs.Prelude.{◌≡◌, ◌≢◌, ◌↔◌, ◌^◌, ◌<◌, Bool, List, [], ◌∷◌, ◌++◌, length, All};
+ghost use Rattle.std.specs.Option.{ForSome};
 ghost use Rattle.language.specs.Language.{scope_at, IsQuestion};
 ghost use Rattle.bias_store.specs.KeptSet.{IsMadeFor};
 ghost use Rattle.find_c.specs.Choosing.{Choice, splitting_tuple, after_reply};
@@ -57,7 +58,7 @@ impl RelRun {
         ensures nothing { (result ≡ RelNext.Nothing) ↔ (violated_choices lang.now kept.now.members e.now s ≡ []) }
         ensures no_free { result ≢ RelNext.Free }
     {
-        settle(lang, s, violated_choices(lang, kept, s, e))
+        settle(lang, Some(kept), s, violated_choices(lang, kept, s, e))
     }
 
     /// Begins with all kept candidates on a scope, and none of them as a further choice.
@@ -68,7 +69,7 @@ impl RelRun {
         ensures stands { StandsAt lang.now s (free_choices kept.now.members s) [] result }
         ensures some { result ≢ RelNext.Nothing }
     {
-        settle(lang, s, Choices::new(kept.on_scope(s), true))
+        settle(lang, Some(kept), s, Choices::new(kept.on_scope(s), true))
     }
 
     /// The scope whose relations are told apart.
@@ -109,8 +110,9 @@ impl RelRun {
         let place = place_of(lang.d(), tuple.values()) as u32;
         settle(
             lang,
+            None,
             scope,
-            choices.agreeing(accepting(lang, scope, place), yes),
+            choices.agreeing(accepting(lang, None, scope, place), yes),
         )
     }
 }
@@ -125,13 +127,14 @@ fn violated_choices(lang: &Language, kept: &Kept, s: ScopeId, e: &Partial) -> Ch
     match lang.place_on(s, e) {
         None => Choices::new(0, false),
         Some(place) => {
-            Choices::new(kept.on_scope(s), false).agreeing(accepting(lang, s, place), false)
+            Choices::new(kept.on_scope(s), false).agreeing(kept.accepting(lang, s, place), false)
         }
     }
 }
 
 /// Where choices on a scope stand.
-fn settle(lang: &Language, scope: ScopeId, choices: Choices) -> RelNext
+fn settle(lang: &Language, kept: Option<&Kept>, scope: ScopeId, choices: Choices) -> RelNext
+    requires kept { ForSome kept (λ k. IsMadeFor lang.now k.now) }
     requires scope { scope < length lang.now.scopes }
     requires known { All (IsChoiceOn lang.now scope) choices }
     ensures settled { IsSettled lang.now scope choices result }
@@ -141,7 +144,7 @@ fn settle(lang: &Language, scope: ScopeId, choices: Choices) -> RelNext
     if choices.is_empty() {
         return RelNext::Nothing;
     }
-    if let Some(tuple) = splitting_tuple(lang, scope, &choices) {
+    if let Some(tuple) = splitting_tuple(lang, kept, scope, &choices) {
         return RelNext::Wants(RelRun {
             scope,
             choices,
@@ -155,29 +158,49 @@ fn settle(lang: &Language, scope: ScopeId, choices: Choices) -> RelNext
 }
 
 /// The least tuple on which two choices differ.
-fn splitting_tuple(lang: &Language, s: ScopeId, choices: &Choices) -> Option<Tuple>
-    requires { s < length lang.now.scopes }
+fn splitting_tuple(
+    lang: &Language,
+    kept: Option<&Kept>,
+    s: ScopeId,
+    choices: &Choices,
+) -> Option<Tuple>
+    requires kept { ForSome kept (λ k. IsMadeFor lang.now k.now) }
+    requires scope { s < length lang.now.scopes }
     ensures { result ≡ splitting_tuple (scene_of lang.now s) choices.now }
 {
     let value_count = lang.d();
     let size = lang.scope(s).len() as u8;
     for place in 0..u32::from(value_count).pow(u32::from(size)) {
-        if choices.differ(accepting(lang, s, place)) {
+        if choices.differ(accepting(lang, kept, s, place)) {
             return Some(Tuple::at(value_count, size, place));
         }
     }
     None
 }
 
-/// The relations on a scope that accept the tuple at a place: bit r is 1 exactly where relation r does.
-fn accepting(lang: &Language, s: ScopeId, place: u32) -> u64
+/// The relations on a scope that accept the tuple at a place: bit r is 1 exactly where relation r does. They are read off
+/// the kept candidates where these are at hand, and asked of the language one by one where not.
+fn accepting(lang: &Language, kept: Option<&Kept>, s: ScopeId, place: u32) -> u64
+    requires kept { ForSome kept (λ k. IsMadeFor lang.now k.now) }
+    requires scope { s < length lang.now.scopes }
+    requires place { place < lang.now.value_count ^ length (scope_at lang.now s) }
+    ensures { (c : Choice) → is_accepting result c ≡ allows_at (scene_of lang.now s) place c }
+{
+    match kept {
+        Some(kept) => kept.accepting(lang, s, place),
+        None => accepting_each(lang, s, place),
+    }
+}
+
+/// The relations on a scope that accept the tuple at a place, asked one by one.
+fn accepting_each(lang: &Language, s: ScopeId, place: u32) -> u64
     requires scope { s < length lang.now.scopes }
     requires place { place < lang.now.value_count ^ length (scope_at lang.now s) }
     ensures { (c : Choice) → is_accepting result c ≡ allows_at (scene_of lang.now s) place c }
 {
     let mut relations = 0;
     for r in 0..lang.relations_on(s) {
-        relations |= u64::from(lang.table_on(s, r).at(place)) << r;
+        relations |= u64::from(lang.holds(s, r, place)) << r;
     }
     relations
 }

@@ -53,11 +53,11 @@ abbrev pub scope_of : Language → Candidate → List ℕ
 scope_of l c = slice_index_or l.scopes c.scope []
 
 abbrev pub relation_of : Language → Candidate → Relation
-relation_of l c = slice_index_or (relations_of l (length (scope_of l c))) c.rel []
+relation_of l c = slice_index_or (relations_on l c.scope) c.rel []
 
 -- all candidates on the scope of this number, by relation
 abbrev pub candidates_on : Language → ℕ → List Candidate
-candidates_on l s = map (λ r. record { scope = s; rel = r }) (numbers (length (relations_of l (length (slice_index_or l.scopes s [])))))
+candidates_on l s = map (λ r. record { scope = s; rel = r }) (numbers (length (relations_on l s)))
 
 -- all candidates, by scope and then by relation
 abbrev pub candidates : Language → List Candidate
@@ -71,10 +71,10 @@ number_of l c = length (flat_map (candidates_on l) (numbers c.scope)) + c.rel
 abbrev pub scope_number : Language → List ℕ → Option ℕ
 scope_number l set = position (is_same set) l.scopes
 
--- the numbers are those of a scope and of a relation of its arity
+-- the numbers are those of a scope and of a relation on it
 pub record IsCandidate (l : Language) (c : Candidate) : Type 0 where
   pub scope : c.scope < length l.scopes
-  pub rel : c.rel < length (relations_of l (length (scope_of l c)))
+  pub rel : c.rel < length (relations_on l c.scope)
 
 -- the scope lies within the assigned variables, and the relation is false at the tuple there
 abbrev pub violates : Language → Candidate → Assignment → Bool

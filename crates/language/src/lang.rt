@@ -1,4 +1,4 @@
-ghost use Rattle.std.specs.Prelude.{◌≡◌, ◌<◌, ◌≤◌, ◌^◌, length, slice_index_or, [], IfSome, IfOk, string_bytes};
+ghost use Rattle.std.specs.Prelude.{◌≡◌, ◌<◌, ◌≤◌, ◌^◌, length, slice_index_or, [], IfSome, IfOk, string_bytes, false};
 ghost use Rattle.language.specs.Texts.{question_text, candidate_text};
 ghost use Rattle.language.specs.Language.{variable_count, scope_at, scope_number, candidates, number_of, relations_on, place_on, violates, IsLanguage, IsScope, IsCandidate, IsQuestion};
 
@@ -122,6 +122,16 @@ impl Language {
         &self.relations.list(arity)[r as usize]
     }
 
+    /// Whether relation r on a scope accepts the tuple at a place.
+    pub fn holds(&self, s: ScopeId, r: u8, place: u32) -> bool
+        requires scope { s < length self.now.scopes }
+        requires rel { r < length (relations_on self.now s) }
+        requires place { place < self.now.value_count ^ length (scope_at self.now s) }
+        ensures { result ≡ slice_index_or (slice_index_or (relations_on self.now s) r []) place false }
+    {
+        self.table_on(s, r).at(place)
+    }
+
     /// How many candidates there are.
     pub fn candidates(&self) -> u32
         ensures is { result ≡ length (candidates self.now) }
@@ -172,7 +182,7 @@ impl Language {
     {
         match self.place_on(c.scope, q) {
             None => false,
-            Some(place) => !self.table_on(c.scope, c.rel).at(place),
+            Some(place) => !self.holds(c.scope, c.rel, place),
         }
     }
 

@@ -29,7 +29,7 @@ impl<'a> Constraints<'a> {
         };
         match self.lang.place_on(c.scope, e) {
             None => false,
-            Some(place) => self.lang.table_on(c.scope, c.rel).at(place),
+            Some(place) => self.lang.holds(c.scope, c.rel, place),
         }
     }
 }

@@ -34,4 +34,4 @@ pub returns-clause-kept : goal.returns-clause-kept
 returns-clause-kept c = left c
 
 pub returns-clause-made : goal.returns-clause-made
-returns-clause-made c = λ l made. made_still l c.args.self.now _ (λ b. not (c.args.s == b.scope)) made (length-set c.self.inside.relations.items c.from-2.result 0 ∙ ap (λ (k : KeptSet). k.scopes) c.self.view_is) (left c)
+returns-clause-made c = λ l made. made_still l c.args.self.now _ (λ b. not (c.args.s == b.scope)) made (length-set c.self.inside.relations.items c.from-2.result 0 ∙ ap (λ (k : KeptSet). k.scopes) c.self.view_is) (left c) (ap (λ (k : KeptSet). k.accepting) c.self.view_is)

@@ -1,13 +1,19 @@
-use Rattle.std.proofs.Common.{◌≡◌, ℕ, ◌+◌, ◌-◌, ◌≤◌, not, length, ◌∙◌, ap, subst, sym, arith}
+use Rattle.std.proofs.Common.{◌≡◌, ℕ, ◌+◌, ◌-◌, ◌≤◌, not, length, refl, ◌∙◌, ap, subst, sym, arith}
 use Rattle.std.specs.Prelude.{slice_set, bit_and, All}
 use Rattle.std.specs.List.{filter}
 use Rattle.std.specs.Int.{bit_not, w64}
 use Rattle.language.specs.Language.{violates, IsCandidate}
+use Rattle.bias_store.specs.Accepting.{IsAcceptingOf}
 use Rattle.bias_store.specs.KeptSet.{KeptSet}
 use Rattle.bias_store.specs.Inside.{members_from}
 use Rattle.bias_store.proofs.Members.{read_at}
-use Rattle.bias_store.proofs.Struck.{IsStruck, enough, struck_more, struck_all, known_relations, made_still}
+use Rattle.bias_store.proofs.Runs.{open_violates}
+use Rattle.bias_store.proofs.Struck.{IsStruck, begins, enough, struck_more, struck_skip, struck_all, known_relations, made_still}
 use Rattle.bias_store.proofs.kept.Kept.strike.Goals as goal
+
+pub violated_on-violated-requires-clause-tables : goal.violated_on-violated-requires-clause-tables
+violated_on-violated-requires-clause-tables c =
+    subst (IsAcceptingOf c.args.lang.now) (sym (ap (λ (k : KeptSet). k.accepting) c.self.view_is) ∙ sym c.loop-s.invariant.tables) c.requires.made.accepting
 
 pub violated_on-violated-requires-clause-known : goal.violated_on-violated-requires-clause-known
 violated_on-violated-requires-clause-known c =
@@ -15,9 +21,9 @@ violated_on-violated-requires-clause-known c =
     let now = c.loop-s.self-inside.relations.items in
     let scopes = ap (λ (k : KeptSet). k.scopes) c.self.view_is in
     let made = c.requires.made.scopes in
-    let long = c.loop-s.invariant.long in
+    let long = c.loop-s.invariant.struck.long in
     known_relations c.args.lang.now old c.loop-s.s c.index-relations.result.now (subst (λ (k : KeptSet). All (IsCandidate c.args.lang.now) k.members) (sym c.self.view_is) c.requires.made.known) (omega arith)
-    (read_at now c.loop-s.s c.from.result c.index-relations.result.now (omega arith) c.from.ensures c.index-relations.ensures ∙ c.loop-s.invariant.rest c.loop-s.s (omega arith))
+    (read_at now c.loop-s.s c.from.result c.index-relations.result.now (omega arith) c.from.ensures c.index-relations.ensures ∙ c.loop-s.invariant.struck.rest c.loop-s.s (omega arith))
 
 pub overflow_sub-self : goal.overflow_sub-self
 overflow_sub-self c =
@@ -25,9 +31,20 @@ overflow_sub-self c =
     let now = c.loop-s.self-inside.relations.items in
     let scopes = ap (λ (k : KeptSet). k.scopes) c.self.view_is in
     let made = c.requires.made.scopes in
-    let long = c.loop-s.invariant.long in
-    enough (λ b. violates c.args.lang.now b c.args.q.now) old now c.loop-s.s c.self.inside.count c.loop-s.self-inside.count c.index-relations.result.now c.violated_on-violated.result c.relation_count.result c.loop-s.invariant (omega arith)
+    let long = c.loop-s.invariant.struck.long in
+    enough (λ b. violates c.args.lang.now b c.args.q.now) old now c.loop-s.s c.self.inside.count c.loop-s.self-inside.count c.index-relations.result.now c.violated_on-violated.result c.relation_count.result c.loop-s.invariant.struck (omega arith)
     (read_at now c.loop-s.s c.from.result c.index-relations.result.now (omega arith) c.from.ensures c.index-relations.ensures) c.violated_on-violated.type_inv c.violated_on-violated.ensures c.relation_count.ensures
+
+pub loop-s-init : goal.loop-s-init
+loop-s-init c =
+    let old = c.self.inside.relations.items in
+    record {
+      struck = struck_skip (λ b. violates c.args.lang.now b c.args.q.now) old old 0 c.asked_from-s.result c.self.inside.count c.self.inside.count
+          (begins (λ b. violates c.args.lang.now b c.args.q.now) old c.self.inside.count c.self.invariant)
+          c.asked_from-s.ensures.ahead (λ k from until. open_violates c.args.lang.now k c.args.q.now (c.asked_from-s.ensures.passed k from until));
+      within = c.asked_from-s.ensures.within;
+      tables = refl;
+    }
 
 pub loop-s-preserved : goal.loop-s-preserved
 loop-s-preserved c =
@@ -35,23 +52,29 @@ loop-s-preserved c =
     let now = c.loop-s.self-inside.relations.items in
     let scopes = ap (λ (k : KeptSet). k.scopes) c.self.view_is in
     let made = c.requires.made.scopes in
-    let long = c.loop-s.invariant.long in
-    subst
-    (λ (i : ℕ). IsStruck (λ b. violates c.args.lang.now b c.args.q.now) old (slice_set now i (bit_and c.index-relations.result.now (bit_not w64 c.violated_on-violated.result))) (c.loop-s.s + 1) c.self.inside.count
-    (c.loop-s.self-inside.count - c.relation_count.result)) (sym c.from-in-loop-s.ensures)
-    (struck_more (λ b. violates c.args.lang.now b c.args.q.now) old now c.loop-s.s c.self.inside.count c.loop-s.self-inside.count c.index-relations.result.now c.violated_on-violated.result c.relation_count.result c.loop-s.invariant (omega arith)
-    (read_at now c.loop-s.s c.from.result c.index-relations.result.now (omega arith) c.from.ensures c.index-relations.ensures) c.violated_on-violated.type_inv c.violated_on-violated.ensures c.relation_count.ensures)
+    let long = c.loop-s.invariant.struck.long in
+    record {
+      struck = struck_skip (λ b. violates c.args.lang.now b c.args.q.now) old _ (c.loop-s.s + 1) c.asked_from-s-in-loop-s.result c.self.inside.count (c.loop-s.self-inside.count - c.relation_count.result)
+          (subst
+          (λ (i : ℕ). IsStruck (λ b. violates c.args.lang.now b c.args.q.now) old (slice_set now i (bit_and c.index-relations.result.now (bit_not w64 c.violated_on-violated.result))) (c.loop-s.s + 1) c.self.inside.count
+          (c.loop-s.self-inside.count - c.relation_count.result)) (sym c.from-in-loop-s.ensures)
+          (struck_more (λ b. violates c.args.lang.now b c.args.q.now) old now c.loop-s.s c.self.inside.count c.loop-s.self-inside.count c.index-relations.result.now c.violated_on-violated.result c.relation_count.result c.loop-s.invariant.struck (omega arith)
+          (read_at now c.loop-s.s c.from.result c.index-relations.result.now (omega arith) c.from.ensures c.index-relations.ensures) c.violated_on-violated.type_inv c.violated_on-violated.ensures c.relation_count.ensures))
+          c.asked_from-s-in-loop-s.ensures.ahead (λ k from until. open_violates c.args.lang.now k c.args.q.now (c.asked_from-s-in-loop-s.ensures.passed k from until));
+      within = c.asked_from-s-in-loop-s.ensures.within;
+      tables = c.loop-s.invariant.tables;
+    }
 
 struck : (c : goal.After-loop-s) → members_from 0 c.loop-s.self-inside.relations.items ≡ filter (λ b. not (violates c.args.lang.now b c.args.q.now)) c.args.self.now.members
 struck c =
     let scopes = ap (λ (k : KeptSet). k.scopes) c.self.view_is in
     let made = c.requires.made.scopes in
     let end : length c.self.inside.relations.items ≤ c.loop-s.s = omega arith in
-    struck_all (λ b. violates c.args.lang.now b c.args.q.now) c.self.inside.relations.items c.loop-s.self-inside.relations.items c.loop-s.s c.self.inside.count c.loop-s.self-inside.count c.loop-s.invariant end
+    struck_all (λ b. violates c.args.lang.now b c.args.q.now) c.self.inside.relations.items c.loop-s.self-inside.relations.items c.loop-s.s c.self.inside.count c.loop-s.self-inside.count c.loop-s.invariant.struck end
     ∙ ap (λ (k : KeptSet). filter (λ b. not (violates c.args.lang.now b c.args.q.now)) k.members) c.self.view_is
 
 pub returns-clause-kept : goal.returns-clause-kept
 returns-clause-kept c = struck c
 
 pub returns-clause-made : goal.returns-clause-made
-returns-clause-made c = made_still c.args.lang.now c.args.self.now _ (λ b. not (violates c.args.lang.now b c.args.q.now)) c.requires.made (c.loop-s.invariant.long ∙ ap (λ (k : KeptSet). k.scopes) c.self.view_is) (struck c)
+returns-clause-made c = made_still c.args.lang.now c.args.self.now _ (λ b. not (violates c.args.lang.now b c.args.q.now)) c.requires.made (c.loop-s.invariant.struck.long ∙ ap (λ (k : KeptSet). k.scopes) c.self.view_is) (struck c) (c.loop-s.invariant.tables ∙ ap (λ (k : KeptSet). k.accepting) c.self.view_is)

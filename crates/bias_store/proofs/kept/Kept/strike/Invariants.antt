@@ -1,6 +1,14 @@
+use Rattle.std.proofs.Common.{◌≡◌, ◌-◌, ◌≤◌, length}
 use Rattle.language.specs.Language.{violates}
 use Rattle.bias_store.proofs.Struck.{IsStruck}
 use Rattle.bias_store.proofs.kept.Kept.strike.Given as goal
 
 abbrev pub invariant-loop-s : goal.invariant-loop-s
-invariant-loop-s l = IsStruck (λ c. violates l.fn.lang c l.fn.q) l.initial.self-inside.relations.items l.self-inside.relations.items l.s l.count_before l.self-inside.count
+invariant-loop-s l = record {
+  struck : IsStruck (λ c. violates l.fn.lang c l.fn.q) l.initial.self-inside.relations.items l.self-inside.relations.items l.s l.count_before l.self-inside.count;
+  within : l.s ≤ length l.lang.scopes;
+  tables : l.self-inside.tables ≡ l.initial.self-inside.tables;
+}
+
+abbrev pub decreases-loop-s : goal.decreases-loop-s
+decreases-loop-s l = length l.lang.scopes - l.s

@@ -1,0 +1,9 @@
+use Rattle.std.proofs.Common.{◌-◌, ◌≤◌}
+use Rattle.bias_store.specs.Accepting.{AreRunsFrom}
+use Rattle.bias_store.proofs.tables.runs_of.Given as goal
+
+abbrev pub invariant-loop-back : goal.invariant-loop-back
+invariant-loop-back l = record {
+  runs : AreRunsFrom l.lang l.next.items (l.scopes - l.back);
+  some : 1 ≤ l.back;
+}

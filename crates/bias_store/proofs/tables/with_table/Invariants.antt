@@ -1,0 +1,5 @@
+use Rattle.bias_store.specs.Accepting.{IsTabled}
+use Rattle.bias_store.proofs.tables.with_table.Given as goal
+
+abbrev pub invariant-loop-place : goal.invariant-loop-place
+invariant-loop-place l = IsTabled l.lang l.s l.initial.masks.items l.masks.items l.place

@@ -1,0 +1,45 @@
+-- Which relations on a scope accept a tuple.
+use Rattle.std.specs.Prelude.{ℕ, ◌≡◌, ◌+◌, ◌<◌, ◌≤◌, ◌^◌, false, List, [], length, slice_index_or}
+use Rattle.std.specs.List.{filter}
+use Rattle.assign.specs.Sets.{numbers}
+use Rattle.language.specs.Language.{Language, scope_at, relations_on}
+use Rattle.bias_store.specs.Masks.{ones_of}
+
+-- the relations on the scope of this number that accept the tuple at a place, by number, rising
+abbrev pub accepting_on : Language → ℕ → ℕ → List ℕ
+accepting_on l s place = filter (λ r. slice_index_or (slice_index_or (relations_on l s) r []) place false) (numbers (length (relations_on l s)))
+
+-- how many places a scope's table has
+abbrev pub places_on : Language → ℕ → ℕ
+places_on l s = l.value_count ^ length (scope_at l s)
+
+-- for each scope where its table begins, and the tables: a mask for each place; and for each scope a later one, or their number
+pub record Accepting : Type 0 where
+  pub first : List ℕ
+  pub masks : List ℕ
+  pub next : List ℕ
+
+-- the mask at a place of the table that begins here
+abbrev pub mask_in : List ℕ → ℕ → ℕ → ℕ
+mask_in masks begin place = slice_index_or masks (begin + place) 0
+
+-- for each scope from low on a later one, or the number of scopes: up to there each has the same first variable
+pub record AreRunsFrom (l : Language) (next : List ℕ) (low : ℕ) : Type 0 where
+  pub long : length next ≡ length l.scopes
+  pub ahead : (s : ℕ) → low ≤ s → s < length l.scopes → s < slice_index_or next s 0
+  pub within : (s : ℕ) → low ≤ s → s < length l.scopes → slice_index_or next s 0 ≤ length l.scopes
+  pub alike : (s k : ℕ) → low ≤ s → s < length l.scopes → s ≤ k → k < slice_index_or next s 0 → slice_index_or (scope_at l k) 0 0 ≡ slice_index_or (scope_at l s) 0 0
+
+-- each scope of the language has a table of the relations that accept the tuple at each place
+pub record IsAcceptingOf (l : Language) (a : Accepting) : Type 0 where
+  pub scopes : length a.first ≡ length l.scopes
+  pub few : (s : ℕ) → s < length l.scopes → length (relations_on l s) ≤ 64
+  pub inside : (s : ℕ) → s < length l.scopes → slice_index_or a.first s 0 + places_on l s ≤ length a.masks
+  pub tables : (s place : ℕ) → s < length l.scopes → place < places_on l s → ones_of (mask_in a.masks (slice_index_or a.first s 0) place) ≡ accepting_on l s place
+  pub runs : AreRunsFrom l a.next 0
+
+-- the masks of the first places of a scope's table, behind other ones
+pub record IsTabled (l : Language) (s : ℕ) (before masks : List ℕ) (place : ℕ) : Type 0 where
+  pub long : length masks ≡ length before + place
+  pub same : (i : ℕ) → i < length before → slice_index_or masks i 0 ≡ slice_index_or before i 0
+  pub here : (p : ℕ) → p < place → ones_of (mask_in masks (length before) p) ≡ accepting_on l s p
