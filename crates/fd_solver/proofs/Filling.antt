@@ -18,7 +18,7 @@ tail_different : (v : ℕ) (vars : List ℕ) → AllPairs (λ a b. (a ≡ b) →
 tail_different v vars h = λ i j d low k. h (suc i) (suc j) d (omega arith) (omega arith)
 
 -- the next variable has no value yet
-beside_next : (vars p : List ℕ) → AllPairs (λ a b. (a ≡ b) → ⊥) vars → length p < length vars → value_beside vars p (slice_index_or vars (length p) 0) ≡ None
+pub beside_next : (vars p : List ℕ) → AllPairs (λ a b. (a ≡ b) → ⊥) vars → length p < length vars → value_beside vars p (slice_index_or vars (length p) 0) ≡ None
 beside_next [] p h short = absurd (omega arith)
 beside_next (v ∷ vars) [] h short = refl
 beside_next (v ∷ vars) (y ∷ p) h short =
@@ -26,7 +26,7 @@ beside_next (v ∷ vars) (y ∷ p) h short =
     ∙ beside_next vars p (tail_different v vars h) (omega arith)
 
 -- with one value more only the next variable has another value
-beside_push : (vars p : List ℕ) (x w : ℕ) → AllPairs (λ a b. (a ≡ b) → ⊥) vars → length p < length vars →
+pub beside_push : (vars p : List ℕ) (x w : ℕ) → AllPairs (λ a b. (a ≡ b) → ⊥) vars → length p < length vars →
     value_beside vars (p ++ x ∷ []) w ≡ cond (slice_index_or vars (length p) 0 == w) (Some x) (value_beside vars p w)
 beside_push [] p x w h short = absurd (omega arith)
 beside_push (v ∷ vars) [] x w h short = ap (cond (v == w) (Some x)) (beside_none vars w)

@@ -9,10 +9,9 @@ use Rattle.assign.specs.Assignment.{Assignment, value_of, value_beside, assigned
 use Rattle.rel_table.specs.Relation.{holds}
 use Rattle.language.specs.Language.{Language, variable_count, scope_of, relation_of, violates, accepts}
 use Rattle.language.specs.Search.{satisfies}
-use Rattle.propagators.specs.Allowed.{satisfies_one}
+use Rattle.propagators.specs.Allowed.{satisfies_one, is_allowed}
 use Rattle.language.proofs.Accepts.{accepted_at, accepted_from}
 use Rattle.language.proofs.Beside.{value_of_assigned}
-use Rattle.fd_solver.specs.Outcomes.{is_plain_in}
 use Rattle.fd_solver.proofs.Preorder.{PassesFronts}
 
 -- f has each value of e
@@ -71,6 +70,10 @@ satisfies_more l c e f more h =
 pub satisfies_one_more : (l : Language) (against : Option Candidate) (e f : Assignment) → HasMore e f → satisfies_one l against e ≡ true → satisfies_one l against f ≡ true
 satisfies_one_more l None e f more h = h
 satisfies_one_more l (Some c) e f more h = satisfies_more l c e f more h
+
+-- whether a prefix in this order violates nothing of the list and doesn't satisfy the one against it
+abbrev pub is_plain_in : Language → List Candidate → Option Candidate → List ℕ → List ℕ → Bool
+is_plain_in l list against order prefix = is_allowed l list against (assigned (variable_count l) order prefix)
 
 -- each front of a plain prefix is plain, whatever the order
 pub plain_fronts : (l : Language) (list : List Candidate) (against : Option Candidate) (order : List ℕ) → PassesFronts l.value_count (is_plain_in l list against order)

@@ -4,8 +4,7 @@ pub mod Turning
 pub mod Fronts
 pub mod Filling
 pub mod Orders
-pub mod Positions
-pub mod Chains
+pub mod Alive
+pub mod Narrowing
 pub mod Walking
 pub mod Outcomes
-pub mod Testing

@@ -5,13 +5,10 @@ use Rattle.std.proofs.lemmas.List.Elements.{All-nil, All-cons, All-head, All-tai
 use Rattle.language.specs.declared.candidates.Candidate.{Candidate}
 use Rattle.assign.specs.Assignment.{Assignment, assigned}
 use Rattle.language.specs.Language.{Language, IsLanguage, IsQuestion, variable_count}
-use Rattle.propagators.specs.Allowed.{AreConstraints, is_allowed}
 use Rattle.fd_solver.specs.declared.outcome.Outcome.TheVariants.{Found, Absent, Spent}
-use Rattle.fd_solver.proofs.Fronts.{plain_fronts}
-use Rattle.fd_solver.specs.Positions.{IsQuietElsewhere}
-use Rattle.fd_solver.proofs.Positions.{quiet_elsewhere, empty_is_plain}
+use Rattle.fd_solver.proofs.Alive.{alive_fronts}
 use Rattle.fd_solver.proofs.Turning.{left_at, turn_spent, turn_found, turn_down, turn_next, turn_up, turn_end, turn_first}
-use Rattle.fd_solver.specs.Outcomes.{IsOrder, is_plain_in, plain_outcome}
+use Rattle.fd_solver.specs.Outcomes.{IsOrder, is_alive_in, search_outcome}
 use Rattle.fd_solver.proofs.Filling.{assigned_blank, assigned_push, assigned_pop, assigned_fits, size_of}
 
 all_before : (P : ℕ → Type 0) (xs : List ℕ) (y : ℕ) → All P (xs ++ y ∷ []) → All P xs
@@ -27,93 +24,70 @@ pub record IsOn (l : Language) (list : List Candidate) (against : Option Candida
   pub small : All (λ y. y < l.value_count) p
   pub short : length p < variable_count l
   pub next : x ≤ l.value_count
-  pub plain : is_plain_in l list against order p ≡ true
+  pub alive : is_alive_in l list against order p ≡ true
   pub given : e ≡ assigned (variable_count l) order p
   -- what comes from here on has, with what is left of the budget, the outcome of the whole
-  pub rest : left_at l.value_count (variable_count l) (assigned (variable_count l) order) (is_plain_in l list against order) p x left ≡ plain_outcome l list against order budget
+  pub rest : left_at l.value_count (variable_count l) (assigned (variable_count l) order) (is_alive_in l list against order) p x left ≡ search_outcome l list against order budget
 
 module _ (l : Language) (list : List Candidate) (against : Option Candidate) (order : List ℕ) (is : IsOrder (variable_count l) order) (budget : ℕ) where
-  abbrev pub plain_at : Assignment → Bool
-  plain_at e = is_allowed l list against e
-
-  pub blank_fits : IsQuestion l (replicate (variable_count l) None)
-  blank_fits = subst (IsQuestion l) (sym (assigned_blank (variable_count l) order is)) (assigned_fits l.value_count (variable_count l) order [] (All-nil (λ x. x < l.value_count)))
-
-  pub begins : IsLanguage l → AreConstraints l list against → 1 ≤ budget → IsOn l list against order budget (replicate (variable_count l) None) [] 0 (budget - 1)
-  begins lawful are more =
-      let passes = empty_is_plain l lawful order is list against are in
+  pub begins : IsLanguage l → is_alive_in l list against order [] ≡ true → 1 ≤ budget → IsOn l list against order budget (replicate (variable_count l) None) [] 0 (budget - 1)
+  begins lawful passes more =
       let some = lawful.some_variable in
       record {
         small = All-nil (λ y. y < l.value_count);
         short = omega arith;
         next = omega arith;
-        plain = passes;
+        alive = passes;
         given = assigned_blank (variable_count l) order is;
-        rest = sym (turn_first l.value_count (variable_count l) (assigned (variable_count l) order) (is_plain_in l list against order) (budget - 1) (omega arith) passes)
-            ∙ ap (plain_outcome l list against order) (let e : suc (budget - 1) ≡ budget = omega arith in e);
+        rest = sym (turn_first l.value_count (variable_count l) (assigned (variable_count l) order) (is_alive_in l list against order) (budget - 1) (omega arith) passes)
+            ∙ ap (search_outcome l list against order) (let e : suc (budget - 1) ≡ budget = omega arith in e);
       }
 
   module _ (e : Assignment) (p : List ℕ) (x left : ℕ) (on : IsOn l list against order budget e p x left) where
-    -- as the code has it: the number of values and the changed assignment have names of their own
-    pub set_is : (k : ℕ) (f : Assignment) → k ≡ length p → f ≡ slice_set e (slice_index_or order k 0) (Some x) → f ≡ slice_set e (slice_index_or order (length p) 0) (Some x)
-    set_is k f at given = given ∙ ap (λ j. slice_set e (slice_index_or order j 0) (Some x)) at
-
-    pub seen_plain : (k : ℕ) (f : Assignment) (b r : Bool) → k ≡ length p → f ≡ slice_set e (slice_index_or order k 0) (Some x) → r ≡ plain_at f → r ≡ b → plain_at (slice_set e (slice_index_or order (length p) 0) (Some x)) ≡ b
-    seen_plain k f b r at given told is_b = ap plain_at (sym (set_is k f at given)) ∙ sym told ∙ is_b
-
     pub size_is : length e ≡ variable_count l
     size_is = ap length on.given ∙ size_of (variable_count l) order is p
 
     pub tried_is : slice_set e (slice_index_or order (length p) 0) (Some x) ≡ assigned (variable_count l) order (p ++ x ∷ [])
     tried_is = ap (λ f. slice_set f (slice_index_or order (length p) 0) (Some x)) on.given ∙ assigned_push (variable_count l) order is p x on.short
 
-    -- what the next value doesn't complete stays as it was
-    pub quiet : IsLanguage l → AreConstraints l list against → IsQuietElsewhere l order (length p) list against (slice_set e (slice_index_or order (length p) 0) (Some x))
-    quiet lawful are = subst (IsQuietElsewhere l order (length p) list against) (sym tried_is) (quiet_elsewhere l lawful order is list against are p x on.short on.plain)
-
     longer : x < l.value_count → All (λ y. y < l.value_count) (p ++ x ∷ [])
     longer low = All-push (λ y. y < l.value_count) p x on.small low
 
-    pub tried_fits : x < l.value_count → IsQuestion l (slice_set e (slice_index_or order (length p) 0) (Some x))
-    tried_fits low = subst (IsQuestion l) (sym tried_is) (assigned_fits l.value_count (variable_count l) order (p ++ x ∷ []) (longer low))
+    pub spent : x < l.value_count → is_alive_in l list against order (p ++ x ∷ []) ≡ true → left ≡ 0 → search_outcome l list against order budget ≡ Spent
+    spent low passes none = sym on.rest ∙ ap (left_at l.value_count (variable_count l) (assigned (variable_count l) order) (is_alive_in l list against order) p x) none
+        ∙ turn_spent l.value_count (variable_count l) (assigned (variable_count l) order) (is_alive_in l list against order) p x on.short low passes
 
-    pub spent : x < l.value_count → plain_at (slice_set e (slice_index_or order (length p) 0) (Some x)) ≡ true → left ≡ 0 → plain_outcome l list against order budget ≡ Spent
-    spent low passes none = sym on.rest ∙ ap (left_at l.value_count (variable_count l) (assigned (variable_count l) order) (is_plain_in l list against order) p x) none
-        ∙ turn_spent l.value_count (variable_count l) (assigned (variable_count l) order) (is_plain_in l list against order) p x on.short low (ap plain_at (sym tried_is) ∙ passes)
-
-    pub found : x < l.value_count → plain_at (slice_set e (slice_index_or order (length p) 0) (Some x)) ≡ true → 1 ≤ left → length p + 1 ≡ variable_count l →
-        plain_outcome l list against order budget ≡ Found (slice_set e (slice_index_or order (length p) 0) (Some x))
-    found low passes some long = sym on.rest ∙ ap (left_at l.value_count (variable_count l) (assigned (variable_count l) order) (is_plain_in l list against order) p x) (let e : left ≡ suc (left - 1) = omega arith in e)
-        ∙ turn_found l.value_count (variable_count l) (assigned (variable_count l) order) (is_plain_in l list against order) p x (left - 1) on.short low (ap plain_at (sym tried_is) ∙ passes) long
+    pub found : x < l.value_count → is_alive_in l list against order (p ++ x ∷ []) ≡ true → 1 ≤ left → length p + 1 ≡ variable_count l →
+        search_outcome l list against order budget ≡ Found (slice_set e (slice_index_or order (length p) 0) (Some x))
+    found low passes some long = sym on.rest ∙ ap (left_at l.value_count (variable_count l) (assigned (variable_count l) order) (is_alive_in l list against order) p x) (let e : left ≡ suc (left - 1) = omega arith in e)
+        ∙ turn_found l.value_count (variable_count l) (assigned (variable_count l) order) (is_alive_in l list against order) p x (left - 1) on.short low passes long
         ∙ ap Found (sym tried_is)
 
-    pub down : x < l.value_count → plain_at (slice_set e (slice_index_or order (length p) 0) (Some x)) ≡ true → 1 ≤ left → length p + 1 < variable_count l →
+    pub down : x < l.value_count → is_alive_in l list against order (p ++ x ∷ []) ≡ true → 1 ≤ left → length p + 1 < variable_count l →
         IsOn l list against order budget (slice_set e (slice_index_or order (length p) 0) (Some x)) (p ++ x ∷ []) 0 (left - 1)
     down low passes some more = record {
       small = longer low;
       short = omega (arith, length-append p (x ∷ []));
       next = omega arith;
-      plain = ap plain_at (sym tried_is) ∙ passes;
+      alive = passes;
       given = tried_is;
-      rest = sym (turn_down l.value_count (variable_count l) (assigned (variable_count l) order) (is_plain_in l list against order) p x (left - 1) on.short low (ap plain_at (sym tried_is) ∙ passes) more)
-          ∙ ap (left_at l.value_count (variable_count l) (assigned (variable_count l) order) (is_plain_in l list against order) p x) (let e : suc (left - 1) ≡ left = omega arith in e) ∙ on.rest;
+      rest = sym (turn_down l.value_count (variable_count l) (assigned (variable_count l) order) (is_alive_in l list against order) p x (left - 1) on.short low passes more)
+          ∙ ap (left_at l.value_count (variable_count l) (assigned (variable_count l) order) (is_alive_in l list against order) p x) (let e : suc (left - 1) ≡ left = omega arith in e) ∙ on.rest;
     }
 
-    pub next_value : x < l.value_count → plain_at (slice_set e (slice_index_or order (length p) 0) (Some x)) ≡ false →
-        IsOn l list against order budget (slice_set (slice_set e (slice_index_or order (length p) 0) (Some x)) (slice_index_or order (length p) 0) None) p (x + 1) left
+    pub next_value : x < l.value_count → is_alive_in l list against order (p ++ x ∷ []) ≡ false → IsOn l list against order budget e p (x + 1) left
     next_value low fails = record {
       small = on.small;
       short = on.short;
       next = omega arith;
-      plain = on.plain;
-      given = ap (λ f. slice_set f (slice_index_or order (length p) 0) None) tried_is ∙ assigned_pop (variable_count l) order is p x on.short;
-      rest = sym (turn_next l.value_count (variable_count l) (assigned (variable_count l) order) (is_plain_in l list against order) p x left on.short low on.small (plain_fronts l list against order)
-          (ap plain_at (sym tried_is) ∙ fails)) ∙ on.rest;
+      alive = on.alive;
+      given = on.given;
+      rest = sym (turn_next l.value_count (variable_count l) (assigned (variable_count l) order) (is_alive_in l list against order) p x left on.short low on.small (alive_fronts l list against order) fails) ∙ on.rest;
     }
 
-    pub over : x ≡ l.value_count → p ≡ [] → plain_outcome l list against order budget ≡ Absent
-    over last empty = sym on.rest ∙ (λ i. left_at l.value_count (variable_count l) (assigned (variable_count l) order) (is_plain_in l list against order) (empty i) (last i) left)
-        ∙ turn_end l.value_count (variable_count l) (assigned (variable_count l) order) (is_plain_in l list against order) left
+    pub over : x ≡ l.value_count → p ≡ [] → search_outcome l list against order budget ≡ Absent
+    over last empty = sym on.rest ∙ (λ i. left_at l.value_count (variable_count l) (assigned (variable_count l) order) (is_alive_in l list against order) (empty i) (last i) left)
+        ∙ turn_end l.value_count (variable_count l) (assigned (variable_count l) order) (is_alive_in l list against order) left
 
     pub up : (q : List ℕ) (y : ℕ) → x ≡ l.value_count → p ≡ q ++ y ∷ [] → IsOn l list against order budget (slice_set e (slice_index_or order (length q) 0) None) q (y + 1) left
     up q y last popped =
@@ -126,8 +100,8 @@ module _ (l : Language) (list : List Candidate) (against : Option Candidate) (or
           small = all_before (λ z. z < l.value_count) q y small;
           short = shorter;
           next = (let at = last_one (λ z. z < l.value_count) q y small in omega arith);
-          plain = plain_fronts l list against order q (y ∷ []) small (ap (is_plain_in l list against order) (sym popped) ∙ on.plain);
+          alive = alive_fronts l list against order q (y ∷ []) small (ap (is_alive_in l list against order) (sym popped) ∙ on.alive);
           given = ap (λ f. slice_set f (slice_index_or order (length q) 0) None) (on.given ∙ ap (assigned (variable_count l) order) popped) ∙ assigned_pop (variable_count l) order is q y shorter;
-          rest = sym (turn_up l.value_count (variable_count l) (assigned (variable_count l) order) (is_plain_in l list against order) q y left shorter)
-              ∙ (λ i. left_at l.value_count (variable_count l) (assigned (variable_count l) order) (is_plain_in l list against order) (sym popped i) (sym last i) left) ∙ on.rest;
+          rest = sym (turn_up l.value_count (variable_count l) (assigned (variable_count l) order) (is_alive_in l list against order) q y left shorter)
+              ∙ (λ i. left_at l.value_count (variable_count l) (assigned (variable_count l) order) (is_alive_in l list against order) (sym popped i) (sym last i) left) ∙ on.rest;
         }

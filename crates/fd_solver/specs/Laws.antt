@@ -1,11 +1,13 @@
 -- Laws of outcomes.
-use Rattle.std.specs.Prelude.{ℕ, ◌<◌, ◌≤◌, ◌≡◌, IsTrue, List, ◌++◌}
-use Rattle.assign.specs.Assignment.{Assignment, is_complete}
+use Rattle.std.specs.Prelude.{ℕ, ◌<◌, ◌≤◌, ◌≡◌, IsTrue, List, ◌++◌, length, Option}
+use Rattle.assign.specs.Assignment.{Assignment, assigned, is_complete}
 use Rattle.language.specs.declared.candidates.Candidate.{Candidate}
 use Rattle.language.specs.Language.{Language, IsLanguage, IsCandidate, IsQuestion, IsImplied, variable_count, accepts, violates}
-use Rattle.language.specs.Search.{order_of, plain_size}
+use Rattle.language.specs.Search.{order_of, is_plain, plain_size}
+use Rattle.propagators.specs.Allowed.{AreConstraints}
+use Rattle.propagators.specs.Families.{has_family}
 use Rattle.fd_solver.specs.declared.outcome.Outcome.TheVariants.{Found, Absent, Spent}
-use Rattle.fd_solver.specs.Outcomes.{IsOrder, outcome_of_candidate}
+use Rattle.fd_solver.specs.Outcomes.{IsOrder, is_alive, is_alive_in, outcome_of_candidate}
 
 -- A candidate's scope and then the other variables have each variable once.
 abbrev pub OrdersAreKnown : Type 0
@@ -45,3 +47,15 @@ abbrev pub AbsentStays : Type 0
 AbsentStays =
     (l : Language) (network more : List Candidate) (c : Candidate) (budget : ℕ) →
     outcome_of_candidate l network c budget ≡ Absent → outcome_of_candidate l (network ++ more) c budget ≡ Absent
+
+-- A prefix of constraints of the language is alive exactly where it leaves an arc-consistent family of nonempty sets.
+abbrev pub AliveIsFamily : Type 0
+AliveIsFamily =
+    (l : Language) (list : List Candidate) (against : Option Candidate) (order prefix : List ℕ) →
+    IsLanguage l → AreConstraints l list against → is_alive_in l list against order prefix ≡ has_family l list against (assigned (variable_count l) order prefix)
+
+-- A prefix with a value for each variable is alive exactly where it is plain.
+abbrev pub WholeIsAlive : Type 0
+WholeIsAlive =
+    (l : Language) (network : List Candidate) (c : Candidate) (prefix : List ℕ) →
+    IsLanguage l → IsCandidate l c → length prefix ≡ variable_count l → is_alive l network c prefix ≡ is_plain l network c prefix

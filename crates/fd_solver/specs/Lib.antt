@@ -1,4 +1,4 @@
 pub mod Outcomes
-pub mod Positions
-pub mod Arranged
+pub mod Ready
+pub mod Inside
 pub mod Laws

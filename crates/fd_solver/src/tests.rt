@@ -1,4 +1,4 @@
-//! Known searches, and the search beside a plain list of all prefixes.
+//! Known searches, and the search beside a plain list of all prefixes and of all families of sets of values.
 
 ghost use Rattle.std.specs.Prelude.{◌≡◌, ◌≢◌, ◌<◌, ◌≤◌, true, All, AllPairs, IfOk, map, string_bytes};
 ghost use Rattle.language.specs.Language.{Given, AreNames, IsQuestion, IsCandidate, variable_count};
@@ -188,6 +188,117 @@ fn prefixes(alloc: Global, n: u8, d: u8) -> Result<Vec<Vec<u8>>, Fail> {
     Ok(list)
 }
 
+/// How many nonempty sets of values there are, of one, two or three values.
+fn sets(d: u8) -> u32
+    ensures some { 1 ≤ result }
+    ensures few { result ≤ 7 }
+{
+    match d {
+        1 => 1,
+        2 => 3,
+        _ => 7,
+    }
+}
+
+/// The family of this number: for each of up to four variables a nonempty set of values, as the bits of a byte.
+fn family(number: u32, d: u8) -> [u8; 4] {
+    let mut sets_left = number;
+    let mut family = [0; 4];
+    for set in family.iter_mut() {
+        *set = 1 + (sets_left % sets(d)) as u8;
+        sets_left /= sets(d);
+    }
+    family
+}
+
+/// How many families there are for so many variables.
+fn families(n: u8, d: u8) -> u32 {
+    let mut count = 1u32;
+    for _ in 0..n {
+        count = count.wrapping_mul(sets(d));
+    }
+    count
+}
+
+/// Whether a value is a member of a set.
+fn has(set: u8, x: u8) -> bool {
+    x < 8 && (set >> x) & 1 == 1
+}
+
+/// The set of a variable.
+fn set_of(family: &[u8; 4], v: u8) -> u8 {
+    family.get(usize::from(v)).copied().unwrap_or(0)
+}
+
+/// Whether each value of the first set has one of the second set with which the candidate, of two variables, holds, or
+/// doesn't hold. The first set is that of the scope's first variable, or of its second one.
+fn is_supported(lang: &Language, c: Candidate, holding: bool, family: &[u8; 4], from_first: bool) -> bool
+    requires candidate { IsCandidate lang.now c }
+{
+    let scope = lang.scope(c.scope);
+    let (Some(u), Some(v)) = (scope.first(), scope.last()) else {
+        return false;
+    };
+    let (from, to) = if from_first { (*u, *v) } else { (*v, *u) };
+    for x in 0..lang.d() {
+        let mut supports = 0u32;
+        for y in 0..lang.d() {
+            let tuple = if from_first { [x, y] } else { [y, x] };
+            let e = assigned(lang, scope, &tuple);
+            if has(set_of(family, to), y) && lang.candidate_violated(c, &e) != holding {
+                supports = supports.wrapping_add(1);
+            }
+        }
+        if has(set_of(family, from), x) && supports == 0 {
+            return false;
+        }
+    }
+    true
+}
+
+/// Whether a family is arc consistent.
+fn is_consistent(rt: &impl Abort, cons: &Constraints, family: &[u8; 4]) -> bool {
+    for c in cons.list {
+        assert!(rt; is_candidate(cons.lang, *c));
+        if !is_supported(cons.lang, *c, true, family, true)
+            || !is_supported(cons.lang, *c, true, family, false)
+        {
+            return false;
+        }
+    }
+    let Some(c) = cons.against else {
+        return true;
+    };
+    assert!(rt; is_candidate(cons.lang, c));
+    is_supported(cons.lang, c, false, family, true)
+        && is_supported(cons.lang, c, false, family, false)
+}
+
+/// Whether a family has the values of a question alone, where there is one.
+fn is_within(family: &[u8; 4], e: &Partial) -> bool {
+    for v in 0..e.len() {
+        if let Some(x) = e.get(v) {
+            let set = set_of(family, v);
+            if !has(set, x) || set.count_ones() != 1 {
+                return false;
+            }
+        }
+    }
+    true
+}
+
+/// Whether some arc-consistent family lies within what a question leaves, by the plain list of all families.
+fn leaves_family(rt: &impl Abort, cons: &Constraints, e: &Partial) -> bool {
+    let d = cons.lang.d();
+    for number in 0..families(cons.lang.n(), d) {
+        let family = family(number, d);
+        if is_within(&family, e) && is_consistent(rt, cons, &family) {
+            return true;
+        }
+    }
+    false
+}
+
 /// The outcome by the plain list of all prefixes.
 fn outcome_by_list(
     rt: &impl Abort,
@@ -199,7 +310,10 @@ fn outcome_by_list(
     let mut left = budget;
     for prefix in all {
         let e = assigned(cons.lang, order, prefix);
-        if !breaks(rt, cons, &e) {
+        // an arc-consistent family leaves nothing that breaks the constraints
+        let is_alive = leaves_family(rt, cons, &e);
+        assert!(rt; !is_alive || !breaks(rt, cons, &e));
+        if is_alive {
             if left == 0 {
                 return Outcome::Spent;
             }
@@ -207,6 +321,8 @@ fn outcome_by_list(
             if prefix.len() == cons.lang.n() as usize {
                 return Outcome::Found(e);
             }
+        } else if prefix.len() == cons.lang.n() as usize {
+            assert!(rt; breaks(rt, cons, &e));
         }
     }
     Outcome::Absent
@@ -245,7 +361,7 @@ fn candidate(numbers: &mut Numbers, lang: &Language) -> Option<Candidate> {
 
 /// A search of some constraints over some language, beside the plain list.
 fn round(rt: &impl Abort, alloc: Global, numbers: &mut Numbers) -> Result<(), Fail> {
-    let n = 2 + numbers.below(3) as u8;
+    let n = 2 + numbers.below(2) as u8;
     let d = 1 + numbers.below(3) as u8;
     let lang = language(alloc, n, d, numbers.below(512), numbers.below(512))?;
     let mut work = Work::new(alloc, &lang)?;
@@ -269,7 +385,7 @@ fn round(rt: &impl Abort, alloc: Global, numbers: &mut Numbers) -> Result<(), Fa
             list: &list,
             against: candidate(numbers, &lang),
         };
-        let budget = 1 + numbers.below(50) as u32;
+        let budget = 1 + numbers.below(12) as u32;
         let state = numbers.state;
         assert_eq!(rt;
             outcome(rt, &mut work, &cons, &order, budget),
@@ -283,7 +399,7 @@ fn round(rt: &impl Abort, alloc: Global, numbers: &mut Numbers) -> Result<(), Fa
 #[test]
 fn as_the_plain_list(rt: HostRuntime) -> Result<(), Fail> {
     let mut numbers = Numbers { state: 1 };
-    for _ in 0..1000 {
+    for _ in 0..300 {
         round(&rt, rt.alloc(), &mut numbers)?;
     }
     Ok(())
@@ -309,7 +425,7 @@ fn known_searches(rt: HostRuntime) -> Result<(), Fail> {
     );
     assert_eq!(rt; outcome(&rt, &mut work, &cons, &[0, 1], 2), Outcome::Spent);
 
-    // ne a b and ne b c, against eq a c, in the order a, c, b: five prefixes are plain
+    // ne a b and ne b c, against eq a c, in the order a, c, b: five prefixes are plain, and the empty one alone is alive
     let three = language(alloc, 3, 2, 0b1001, 0b0110)?;
     let ne = [
         Candidate { scope: 0, rel: 1 },
@@ -322,11 +438,23 @@ fn known_searches(rt: HostRuntime) -> Result<(), Fail> {
     };
     let mut work = Work::new(alloc, &three)?;
     assert_eq!(rt;
-        outcome(&rt, &mut work, &cons, &[0, 2, 1], 4),
-        Outcome::Spent
+        outcome(&rt, &mut work, &cons, &[0, 2, 1], 1),
+        Outcome::Absent
     );
+
+    // ne a b, ne b c and ne a c cannot all hold of two values, but each pair of sets is consistent
+    let all_differ = [
+        Candidate { scope: 0, rel: 1 },
+        Candidate { scope: 1, rel: 1 },
+        Candidate { scope: 2, rel: 1 },
+    ];
+    let cons = Constraints {
+        lang: &three,
+        list: &all_differ,
+        against: None,
+    };
     assert_eq!(rt;
-        outcome(&rt, &mut work, &cons, &[0, 2, 1], 5),
+        outcome(&rt, &mut work, &cons, &[0, 1, 2], 1),
         Outcome::Absent
     );
     Ok(())

@@ -1,168 +1,122 @@
-ghost use Rattle.std.specs.Prelude.{◌≡◌, ℕ, ◌<◌, ◌≤◌, List, All, not, length, take, slice_index_or};
-ghost use Rattle.language.specs.Language.{IsLanguage, IsCandidate, IsQuestion, variable_count, scope_of, accepts};
-ghost use Rattle.language.specs.Answers.{IsNetwork};
-ghost use Rattle.propagators.specs.Allowed.{AreConstraints, satisfies_one, is_allowed};
-ghost use Rattle.fd_solver.specs.Outcomes.{IsOrder};
-ghost use Rattle.fd_solver.specs.Positions.{position_in, last_position, ArePositions};
-ghost use Rattle.fd_solver.specs.Arranged.{arranged, IsArranged, IsReady};
+ghost use Rattle.std.specs.Prelude.{◌≡◌, ◌<◌, ◌≤◌, ◌++◌, ◌∷◌, [], true, false, None, length, replicate, slice_index_or};
+ghost use Rattle.std.specs.List.{list_all};
+ghost use Rattle.assign.specs.Sets.{has};
+ghost use Rattle.language.specs.Language.{IsLanguage, variable_count};
+ghost use Rattle.propagators.specs.Allowed.{AreConstraints};
+ghost use Rattle.propagators.specs.Families.{arcs_of, has_family, is_not_empty, is_arc_consistent, largest, IsLargest};
+ghost use Rattle.propagators.specs.Supports.{IsFamilyOf};
+ghost use Rattle.fd_solver.specs.Outcomes.{IsOrder, is_alive_in};
+ghost use Rattle.propagators.specs.Briefs.{AreBriefs};
+ghost use Rattle.fd_solver.specs.Ready.{IsReady, IsArranged, fixed};
 
-use assign::Partial;
-use language::{Candidate, Language, Memory};
-use propagators::Constraints;
+use crate::stack::Stack;
+use assign::VarSet;
+use language::{Language, Memory};
+use propagators::{
+    Alive, Brief, Constraints, Domains, brief_all, propagate_after, propagate_all,
+};
 use std::alloc::Global;
+use std::marker::Model;
 
-/// The room of a search. It holds for each position of an order the constraints that a value there completes.
+/// The most depths of a search: for no value and for each number of values up to 128.
+const DEPTHS: usize = 129;
+
+/// The room of a search.
 #[derive(Drop)]
 pub struct Work {
-    /// For each position the last candidate of the list whose scope a value there completes.
-    last: [Option<usize>; 128],
-    /// For each candidate of the list, as far as there is room, the one before it that is completed at its position.
-    before: Vec<Option<usize>>,
-    /// The position at which the scope of `against` is completed, where there is one.
-    against: Option<usize>,
+    /// For each depth the values that are left to the variables, where so many have one.
+    depths: Vec<Domains>,
+    /// The briefs of the conditions, as many as there is room for.
+    briefs: Vec<Brief>,
 }
 
-/// The position of each variable in an order.
-fn positions(order: &[u8]) -> [u8; 128]
-    requires order { IsOrder (length order.now) order.now }
-    requires few { length order.now ≤ 128 }
-    ensures are { ArePositions (length order.now) order.now result }
-    ensures small { All (λ at. at < 128) result }
+impl Model for Work {
+    ghost use Rattle.fd_solver.specs.Ready.{Room};
+
+    ghost Value = { Room };
+
+    ghost use Rattle.fd_solver.specs.Inside.{seen, IsDeep};
+
+    ghost view = { seen };
+
+    ghost invariant = { IsDeep };
+}
+
+/// Gives a variable one of its values, and takes the values away that don't go with it. Says whether each variable has one
+/// left.
+fn narrow(cons: &Constraints, briefs: &[Brief], doms: &mut Domains, v: u8, x: u8) -> bool
+    requires lawful { IsLanguage cons.now.lang.now }
+    requires constraints { AreConstraints cons.now.lang.now cons.now.list.now cons.now.against }
+    requires briefs { AreBriefs cons.now.lang.now.value_count (arcs_of cons.now.lang.now cons.now.list.now cons.now.against) briefs.now }
+    requires family { IsFamilyOf cons.now.lang.now doms.old }
+    requires full { list_all is_not_empty doms.old ≡ true }
+    requires consistent { is_arc_consistent (arcs_of cons.now.lang.now cons.now.list.now cons.now.against) doms.old ≡ true }
+    requires known { v < variable_count cons.now.lang.now }
+    requires there { has (slice_index_or doms.old v []) x ≡ true }
+    ensures largest { result ≡ true → IsLargest (arcs_of cons.now.lang.now cons.now.list.now cons.now.against) (fixed doms.old v x) doms.new }
+    ensures full { result ≡ true → list_all is_not_empty doms.new ≡ true }
+    ensures family { result ≡ true → IsFamilyOf cons.now.lang.now doms.new }
+    ensures dead { result ≡ false → list_all is_not_empty (largest (arcs_of cons.now.lang.now cons.now.list.now cons.now.against) (fixed doms.old v x)) ≡ false }
 {
-    let mut positions = [0; 128];
-    for at in 0..order.len() {
-        positions[order[at] as usize] = at as u8;
+    doms.fix(v, x);
+    match propagate_after(cons, briefs, doms, VarSet::empty().with(v)) {
+        Alive::Yes => true,
+        Alive::No => false,
     }
-    positions
-}
-
-/// The last position of a scope's variables.
-fn last_position(positions: &[u8; 128], scope: &[u8]) -> usize
-    requires known { All (λ v. v < 128) scope.now }
-    requires small { All (λ at. at < 128) positions.now }
-    ensures is { (order : List ℕ) → All (λ v. slice_index_or positions.now v 0 ≡ position_in order v) scope.now → result ≡ last_position order scope.now }
-    ensures small { result < 128 }
-{
-    let mut last = 0;
-    for v in scope {
-        let at = positions[*v as usize];
-        if at > last {
-            last = at;
-        }
-    }
-    last as usize
-}
-
-/// The position at which a value completes the candidate's scope.
-fn completed_at(lang: &Language, positions: &[u8; 128], c: Candidate) -> usize
-    requires lawful { IsLanguage lang.now }
-    requires candidate { IsCandidate lang.now c }
-    requires small { All (λ at. at < 128) positions.now }
-    ensures is { (order : List ℕ) → ArePositions (variable_count lang.now) order positions.now → result ≡ last_position order (scope_of lang.now c) }
-    ensures small { result < 128 }
-{
-    last_position(positions, lang.scope(c.scope))
-}
-
-/// Whether the assignment violates none of these candidates.
-fn accepts(lang: &Language, list: &[Candidate], e: &Partial) -> bool
-    requires network { IsNetwork lang.now list.now }
-    requires question { IsQuestion lang.now e.now }
-    ensures { result ≡ accepts lang.now list.now e.now }
-{
-    for c in list {
-        if lang.candidate_violated(*c, e) {
-            return false;
-        }
-    }
-    true
 }
 
 impl Work {
-    /// Room for a candidate on each scope. `Memory` where there is none.
+    /// Room for the values of each depth, some 132 KB, and for what is known of as many conditions as there are scopes, and
+    /// one more. `Memory` where there is none.
     ///
-    /// With more candidates than that a search is as exact and slower: it tests the further ones at each prefix.
+    /// With more conditions than that a search is as exact and slower.
     pub fn new(alloc: Global, lang: &Language) -> Result<Work, Memory> {
-        let Ok(before) = vec![in alloc; None; lang.scopes() as usize] else {
+        let Ok(depths) = vec![in alloc; Domains::full(lang); DEPTHS] else {
             return Err(Memory);
         };
-        Ok(Work {
-            last: [None; 128],
-            before,
-            against: None,
-        })
+        match vec![in alloc; Brief::blank(); lang.scopes() as usize + 1] {
+            Ok(briefs) => Ok(Work { depths, briefs }),
+            Err(_) => Err(Memory),
+        }
     }
 
-    /// How many candidates of the list are arranged by their positions. The others find no room.
-    fn arranged(&self, cons: &Constraints) -> usize
-        ensures { result ≡ arranged self.now cons.now.list.now }
+    /// Notes the conditions, and the values that are left where no variable has one. Says whether each has some.
+    pub(crate) fn begin(&mut self, cons: &Constraints) -> bool
+        requires lawful { IsLanguage cons.now.lang.now }
+        requires constraints { AreConstraints cons.now.lang.now cons.now.list.now cons.now.against }
+        ensures briefs { AreBriefs cons.now.lang.now.value_count (arcs_of cons.now.lang.now cons.now.list.now cons.now.against) self.new.briefs }
+        ensures ready { result ≡ true → IsReady cons.now.lang.now cons.now.list.now cons.now.against (replicate (variable_count cons.now.lang.now) None) (slice_index_or self.new.depths 0 []) }
+        ensures dead { result ≡ false → has_family cons.now.lang.now cons.now.list.now cons.now.against (replicate (variable_count cons.now.lang.now) None) ≡ false }
     {
-        self.before.len().min(cons.list.len())
+        brief_all(cons, &mut self.briefs);
+        let mut root = Domains::full(cons.lang);
+        match propagate_all(cons, &self.briefs, &mut root) {
+            Alive::Yes => {
+                self.depths[0] = root;
+                true
+            }
+            Alive::No => false,
+        }
     }
 
-    /// Arranges the constraints by the position that completes their scopes.
-    pub(crate) fn arrange(&mut self, cons: &Constraints, order: &[u8])
+    /// Whether a prefix with one value more is alive; if so, the values that it leaves are those of its depth.
+    pub(crate) fn enter(&mut self, cons: &Constraints, order: &[u8], prefix: &Stack, x: u8) -> bool
         requires lawful { IsLanguage cons.now.lang.now }
         requires constraints { AreConstraints cons.now.lang.now cons.now.list.now cons.now.against }
         requires order { IsOrder (variable_count cons.now.lang.now) order.now }
-        ensures { IsArranged cons.now.lang.now cons.now.list.now cons.now.against order.now self.new }
+        requires short { length prefix.now < variable_count cons.now.lang.now }
+        requires value { x < cons.now.lang.now.value_count }
+        requires ready { IsArranged cons.now.lang.now cons.now.list.now cons.now.against order.now prefix.now self.old }
+        ensures is { result ≡ is_alive_in cons.now.lang.now cons.now.list.now cons.now.against order.now (prefix.now ++ x ∷ []) }
+        ensures ready { IsArranged cons.now.lang.now cons.now.list.now cons.now.against order.now prefix.now self.new }
+        ensures deeper { result ≡ true → IsArranged cons.now.lang.now cons.now.list.now cons.now.against order.now (prefix.now ++ x ∷ []) self.new }
     {
-        let positions = positions(order);
-        self.against = match cons.against {
-            None => None,
-            Some(c) => Some(completed_at(cons.lang, &positions, c)),
-        };
-        self.last = [None; 128];
-        for i in 0..self.arranged(cons) {
-            let at = completed_at(cons.lang, &positions, cons.list[i]);
-            self.before[i] = self.last[at];
-            self.last[at] = Some(i);
+        let at = prefix.len();
+        let v = order[at];
+        if !self.depths[at].has(v, x) {
+            return false;
         }
-    }
-
-    /// Whether the assignment violates none of the candidates that are arranged. Looks at those alone that are completed
-    /// at the position.
-    fn accepts_arranged(&self, cons: &Constraints, at: usize, e: &Partial) -> bool
-        requires position { at < 128 }
-        requires constraints { AreConstraints cons.now.lang.now cons.now.list.now cons.now.against }
-        requires question { IsQuestion cons.now.lang.now e.now }
-        requires ready { IsReady cons.now.lang.now cons.now.list.now cons.now.against at e.now self.now }
-        ensures { result ≡ accepts cons.now.lang.now (take (arranged self.now cons.now.list.now) cons.now.list.now) e.now }
-    {
-        let mut next = self.last[at];
-        while let Some(i) = next {
-            if cons.lang.candidate_violated(cons.list[i], e) {
-                return false;
-            }
-            next = self.before[i];
-        }
-        true
-    }
-
-    /// Whether the assignment doesn't satisfy `against`. Looks at it where it is completed at the position.
-    fn rejects_against(&self, cons: &Constraints, at: usize, e: &Partial) -> bool
-        requires constraints { AreConstraints cons.now.lang.now cons.now.list.now cons.now.against }
-        requires question { IsQuestion cons.now.lang.now e.now }
-        requires ready { IsReady cons.now.lang.now cons.now.list.now cons.now.against at e.now self.now }
-        ensures { result ≡ not (satisfies_one cons.now.lang.now cons.now.against e.now) }
-    {
-        match self.against {
-            Some(last) if last == at => !cons.satisfies_against(e),
-            _ => true,
-        }
-    }
-
-    /// Whether the assignment breaks none of the constraints, where those are unbroken that aren't completed at the
-    /// position. They aren't looked at, but for the candidates that find no room.
-    pub(crate) fn allows(&self, cons: &Constraints, at: usize, e: &Partial) -> bool
-        requires position { at < 128 }
-        requires constraints { AreConstraints cons.now.lang.now cons.now.list.now cons.now.against }
-        requires question { IsQuestion cons.now.lang.now e.now }
-        requires ready { IsReady cons.now.lang.now cons.now.list.now cons.now.against at e.now self.now }
-        ensures { result ≡ is_allowed cons.now.lang.now cons.now.list.now cons.now.against e.now }
-    {
-        accepts(cons.lang, &cons.list[self.arranged(cons)..], e)
-            && self.accepts_arranged(cons, at, e)
-            && self.rejects_against(cons, at, e)
+        self.depths[at + 1] = self.depths[at];
+        narrow(cons, &self.briefs, &mut self.depths[at + 1], v, x)
     }
 }

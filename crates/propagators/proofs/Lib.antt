@@ -1,0 +1,11 @@
+pub mod Pruned
+pub mod Living
+pub mod Ones
+pub mod Sweeping
+pub mod Replacing
+pub mod Rounds
+pub mod OnScope
+pub mod Filled
+pub mod Cutting
+pub mod Conditions
+pub mod Loose

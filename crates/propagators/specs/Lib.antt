@@ -1,1 +1,8 @@
 pub mod Allowed
+pub mod Families
+pub mod Laws
+pub mod Values
+pub mod ValueLemmas
+pub mod InsideDomains
+pub mod Supports
+pub mod Briefs

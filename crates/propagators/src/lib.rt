@@ -5,6 +5,15 @@
 //! doesn't hold (`is_allowed`). No call takes memory.
 #![tactic(auto)]
 
+mod briefs;
 mod constraints;
+mod domains;
+pub mod laws;
+mod revising;
+mod supports;
+mod values;
 
+pub use briefs::{Brief, brief_all};
 pub use constraints::Constraints;
+pub use domains::Domains;
+pub use revising::{Alive, propagate, propagate_after, propagate_all};

@@ -1,4 +1,4 @@
-//! Known questions, and questions beside those that a plain list of all prefixes gives.
+//! Known questions, and questions beside those that plain lists of all prefixes and of all families of sets of values give.
 
 ghost use Rattle.std.specs.Prelude.{◌≡◌, ◌≤◌, true, false, All, IfOk, length, map, string_bytes};
 ghost use Rattle.language.specs.Language.{Given, AreNames, IsQuestion, IsCandidate};
@@ -98,24 +98,129 @@ fn assigned(lang: &Language, order: &[u8], values: &[u8]) -> Partial
     e
 }
 
-/// Whether a question violates a learned candidate or satisfies the one against it.
-fn breaks(
+/// How many nonempty sets of values there are, of one, two or three values.
+fn sets(d: u8) -> u32
+    ensures some { 1 ≤ result }
+    ensures few { result ≤ 7 }
+{
+    match d {
+        1 => 1,
+        2 => 3,
+        _ => 7,
+    }
+}
+
+/// The family of this number: for each of up to four variables a nonempty set of values, as the bits of a byte.
+fn family(number: u32, d: u8) -> [u8; 4] {
+    let mut sets_left = number;
+    let mut family = [0; 4];
+    for set in family.iter_mut() {
+        *set = 1 + (sets_left % sets(d)) as u8;
+        sets_left /= sets(d);
+    }
+    family
+}
+
+/// How many families there are for so many variables.
+fn families(n: u8, d: u8) -> u32 {
+    let mut count = 1u32;
+    for _ in 0..n {
+        count = count.wrapping_mul(sets(d));
+    }
+    count
+}
+
+/// Whether a value is a member of a set.
+fn has(set: u8, x: u8) -> bool {
+    x < 8 && (set >> x) & 1 == 1
+}
+
+/// The set of a variable.
+fn set_of(family: &[u8; 4], v: u8) -> u8 {
+    family.get(usize::from(v)).copied().unwrap_or(0)
+}
+
+/// Whether each value of the first set has one of the second set with which the candidate, of two variables, holds, or
+/// doesn't hold. The first set is that of the scope's first variable, or of its second one.
+fn is_supported(
+    lang: &Language,
+    c: Candidate,
+    holding: bool,
+    family: &[u8; 4],
+    from_first: bool,
+) -> bool
+    requires candidate { IsCandidate lang.now c }
+{
+    let scope = lang.scope(c.scope);
+    let (Some(u), Some(v)) = (scope.first(), scope.last()) else {
+        return false;
+    };
+    let (from, to) = if from_first { (*u, *v) } else { (*v, *u) };
+    for x in 0..lang.d() {
+        let mut supports = 0u32;
+        for y in 0..lang.d() {
+            let tuple = if from_first { [x, y] } else { [y, x] };
+            let e = assigned(lang, scope, &tuple);
+            if has(set_of(family, to), y) && lang.candidate_violated(c, &e) != holding {
+                supports = supports.wrapping_add(1);
+            }
+        }
+        if has(set_of(family, from), x) && supports == 0 {
+            return false;
+        }
+    }
+    true
+}
+
+/// Whether a family is arc consistent for the learned candidates and against one.
+fn is_consistent(
+    rt: &impl Abort,
+    lang: &Language,
+    learned: &[Candidate],
+    c: Candidate,
+    family: &[u8; 4],
+) -> bool {
+    for b in learned {
+        assert!(rt; is_candidate(lang, *b));
+        if !is_supported(lang, *b, true, family, true)
+            || !is_supported(lang, *b, true, family, false)
+        {
+            return false;
+        }
+    }
+    assert!(rt; is_candidate(lang, c));
+    is_supported(lang, c, false, family, true) && is_supported(lang, c, false, family, false)
+}
+
+/// Whether a family has the values of a question alone, where there is one.
+fn is_within(family: &[u8; 4], e: &Partial) -> bool {
+    for v in 0..e.len() {
+        if let Some(x) = e.get(v) {
+            let set = set_of(family, v);
+            if !has(set, x) || set.count_ones() != 1 {
+                return false;
+            }
+        }
+    }
+    true
+}
+
+/// Whether some arc-consistent family lies within what a question leaves, by the plain list of all families.
+fn leaves_family(
     rt: &impl Abort,
     lang: &Language,
     learned: &[Candidate],
     c: Candidate,
     e: &Partial,
-) -> bool
-    requires { IsQuestion lang.now e.now }
-{
-    for b in learned {
-        assert!(rt; is_candidate(lang, *b));
-        if lang.candidate_violated(*b, e) {
+) -> bool {
+    let d = lang.d();
+    for number in 0..families(lang.n(), d) {
+        let family = family(number, d);
+        if is_within(&family, e) && is_consistent(rt, lang, learned, c, &family) {
             return true;
         }
     }
-    assert!(rt; is_candidate(lang, c));
-    lang.scope(c.scope).iter().all(|v| e.get(*v).is_some()) && !lang.candidate_violated(c, e)
+    false
 }
 
 /// All lists of at most n values below d, each before its extensions, values rising.
@@ -135,7 +240,7 @@ fn prefixes(alloc: Global, n: u8, d: u8) -> Result<Vec<Vec<u8>>, Fail> {
     Ok(list)
 }
 
-/// The outcome of a candidate by the plain list of all prefixes.
+/// The outcome of a candidate by the plain lists of all prefixes and families.
 fn outcome_by_list(
     rt: &impl Abort,
     alloc: Global,
@@ -156,7 +261,7 @@ fn outcome_by_list(
     let mut left = budget;
     for prefix in all {
         let e = assigned(lang, &order, prefix);
-        if !breaks(rt, lang, learned, c, &e) {
+        if leaves_family(rt, lang, learned, c, &e) {
             if left == 0 {
                 return Ok(Outcome::Spent);
             }
@@ -393,7 +498,7 @@ fn session(rt: &impl Abort, alloc: Global, numbers: &mut Numbers) -> Result<(), 
     let d = 1 + numbers.below(3) as u8;
     let lang = language(alloc, n, d, numbers.below(512), numbers.below(512))?;
     let all = prefixes(alloc, n, d)?;
-    let budget = 1 + numbers.below(30) as u32;
+    let budget = 1 + numbers.below(8) as u32;
     let mut screen = Screen::new(alloc, &lang)?;
     let mut kept = Kept::of(alloc, &lang)?;
     let mut net = Network::new(alloc, &lang)?;
@@ -413,7 +518,7 @@ fn session(rt: &impl Abort, alloc: Global, numbers: &mut Numbers) -> Result<(), 
 #[test]
 fn as_the_plain_list(rt: HostRuntime) -> Result<(), Fail> {
     let mut numbers = Numbers { state: 1 };
-    for _ in 0..1000 {
+    for _ in 0..300 {
         session(&rt, rt.alloc(), &mut numbers)?;
     }
     Ok(())

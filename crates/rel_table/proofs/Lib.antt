@@ -11,3 +11,4 @@ pub mod Pairwise
 pub mod Falling
 pub mod Inserting
 pub mod Growing
+pub mod Rows

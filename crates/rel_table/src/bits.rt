@@ -1,8 +1,8 @@
 //! Lists of truth values as bits, 64 to a machine word.
 
-ghost use Rattle.std.specs.Prelude.{◌≡◌, ◌≢◌, ◌<◌, ◌↔◌, ℕ, length, map, replicate, set, slice_index_or, IsTrue, IfOk, Bool, false, true, if◌then◌else◌, nat_eq, bit_and};
+ghost use Rattle.std.specs.Prelude.{◌≡◌, ◌≢◌, ◌+◌, ◌<◌, ◌≤◌, ◌↔◌, ℕ, length, map, replicate, set, slice_index_or, IsTrue, IfOk, Bool, false, true, if◌then◌else◌, nat_eq, bit_and};
 ghost use Rattle.std.specs.List.{list_all, zip};
-ghost use Rattle.std.specs.Int.{bit_not, w64};
+ghost use Rattle.std.specs.Int.{bit_at, bit_not, w64};
 ghost use Rattle.rel_table.specs.Relation.{meet, is_above};
 ghost use Rattle.rel_table.specs.Bits.{DifferFirst, Compares};
 
@@ -65,6 +65,23 @@ impl Bits {
         ensures { result ≡ slice_index_or self.now at false }
     {
         (self.words[at / 64] >> (at % 64)) & 1 == 1
+    }
+
+    /// The truth values from a place on, so many, as the lowest bits of a word. Its other bits mean nothing.
+    #[inline]
+    pub(crate) fn row(&self, at: usize, count: usize) -> u64
+        requires some { 1 ≤ count }
+        requires few { count ≤ 64 }
+        requires within { at + count ≤ length self.now }
+        ensures { (k : ℕ) → k < count → nat_eq (bit_at result k) 1 ≡ slice_index_or self.now (at + k) false }
+    {
+        let shift = at % 64;
+        let low = self.words[at / 64] >> shift;
+        if shift + count <= 64 {
+            low
+        } else {
+            low | (self.words[at / 64 + 1] << (64 - shift))
+        }
     }
 
     /// Makes the truth value at a place true.

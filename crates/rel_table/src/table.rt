@@ -1,5 +1,6 @@
-ghost use Rattle.std.specs.Prelude.{◌≡◌, ◌+◌, ◌-◌, ◌*◌, ◌^◌, ◌<◌, ◌≤◌, ◌≢◌, ◌↔◌, ℤ, pos, negsuc, ◌≤ℤ◌, length, replicate, IsTrue, IfOk, IfErr, OnOk, Option, Some, None, Ok, Err, Bool, false, true, if◌then◌else◌, All};
+ghost use Rattle.std.specs.Prelude.{◌≡◌, ◌+◌, ◌-◌, ◌*◌, ◌^◌, ◌<◌, ◌≤◌, ◌≢◌, ◌↔◌, ℕ, ℤ, pos, negsuc, ◌≤ℤ◌, length, replicate, IsTrue, IfOk, IfErr, OnOk, Option, Some, None, Ok, Err, Bool, false, true, if◌then◌else◌, All, nat_eq};
 ghost use Rattle.std.specs.List.{list_all, zip};
+ghost use Rattle.std.specs.Int.{bit_at};
 ghost use Rattle.rel_table.specs.Relation.{place, holds, meet, is_above};
 ghost use Rattle.rel_table.specs.Table.{truth_at, IsTable};
 ghost use Rattle.rel_table.specs.Made.{arity_of, size_for, size_of, is_shown, index_of, place_of_shown, tuple_fault, first_fault, refusal_of, IsMade, Marks, lists};
@@ -214,6 +215,16 @@ impl Table {
         ensures { result ≡ truth_at self.now place }
     {
         self.truth.get(place as usize)
+    }
+
+    /// The truth values from a place on, one for each value, as the lowest bits of a word: bit y is 1 where the tuple y
+    /// places further is in the relation. The bits past the values mean nothing. Reads one word or two.
+    #[inline]
+    pub fn row(&self, place: u32) -> u64
+        requires { place + self.now.value_count ≤ length self.now.truth }
+        ensures { (y : ℕ) → y < self.now.value_count → nat_eq (bit_at result y) 1 ≡ truth_at self.now (place + y) }
+    {
+        self.truth.row(place as usize, self.value_count as usize)
     }
 
     /// Whether a tuple, given by the numbers of its values, is in the relation. Reads one bit.

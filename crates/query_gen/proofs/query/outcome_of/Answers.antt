@@ -1,6 +1,6 @@
 use Rattle.std.proofs.Common.{sym, ◌∙◌, ap, subst, Some}
 use Rattle.language.specs.Language.{variable_count}
-use Rattle.fd_solver.specs.Outcomes.{IsOrder, plain_outcome}
+use Rattle.fd_solver.specs.Outcomes.{IsOrder, search_outcome}
 use Rattle.query_gen.proofs.query.outcome_of.Goals as goal
 
 pub search-requires-clause-order : goal.search-requires-clause-order
@@ -10,5 +10,5 @@ search-requires-clause-order c =
 pub returns-in-Blank : goal.returns-in-Blank
 returns-in-Blank c =
     c.search.ensures
-    ∙ ap (λ list. plain_outcome c.args.lang.now list (Some c.args.c) c.deref.result.now c.args.budget) c.list.ensures
-    ∙ ap (λ order. plain_outcome c.args.lang.now c.args.net.now.list (Some c.args.c) order c.args.budget) (c.deref.ensures.0 ∙ c.order_of.ensures.is)
+    ∙ ap (λ list. search_outcome c.args.lang.now list (Some c.args.c) c.deref.result.now c.args.budget) c.list.ensures
+    ∙ ap (λ order. search_outcome c.args.lang.now c.args.net.now.list (Some c.args.c) order c.args.budget) (c.deref.ensures.0 ∙ c.order_of.ensures.is)

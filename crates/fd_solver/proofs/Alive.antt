@@ -1,0 +1,296 @@
+-- Alive prefixes: what they say of plain ones, their fronts, and the domains on the way down.
+use Rattle.std.proofs.Common.{◌≡◌, ℕ, zero, suc, ◌+◌, ◌<◌, ◌≤◌, Bool, true, false, cond, ◌&&◌, ◌||◌, not, List, [], ◌∷◌, ◌++◌, length, map, take, replicate, Option, Some, None, refl, sym, ◌∙◌, ap, subst, arith, inl, inr, ◌⊎◌, length-append}
+use Rattle.std.specs.Prelude.{◌==◌, ◌≢◌, slice_index_or, slice_set, All, is_some, unwrap_or}
+use Rattle.std.specs.Option.{option_map_or, ForSome}
+use Rattle.std.specs.List.{list_any, list_all, filter}
+use Rattle.std.proofs.Math.ListN.{get_or-eq_default, length-set}
+use Rattle.std.proofs.lemmas.List.{length-map, get_or-map, get_or-set_same, get_or-set_other}
+use Rattle.std.proofs.lemmas.List.Elements.{All-head, All-tail, All-nil, All-cons}
+use Rattle.std.proofs.lemmas.List.FromFn.{length-map-range_with_len}
+use Rattle.std.proofs.lemmas.List.Sums.{list_all-from_AllPass, AllPass-from_list_all}
+use Rattle.std.proofs.lemmas.Bool.{and_parts, and_from, or_left, or_right, or_cases, both_ways, not-true, not_from_false, false_from_ne_true, cases_eq, cases_lt, eq-eqb, eqb-true, ne_eqb}
+use Rattle.assign.specs.Sets.{numbers, has}
+use Rattle.assign.specs.Assignment.{Assignment, value_of, value_beside, assigned, covers, tuple_on, is_complete}
+use Rattle.rel_table.specs.Relation.{holds}
+use Rattle.language.specs.declared.candidates.Candidate.{Candidate}
+use Rattle.language.specs.Answers.{IsNetwork}
+use Rattle.language.specs.Language.{Language, IsLanguage, IsCandidate, IsQuestion, variable_count, scope_of, relation_of, violates, accepts}
+use Rattle.language.specs.Search.{satisfies}
+use Rattle.language.proofs.Accepts.{accepted_at, accepted_from}
+use Rattle.language.proofs.Members.{any_number}
+use Rattle.language.proofs.Beside.{value_of_assigned}
+use Rattle.propagators.specs.Allowed.{AreConstraints, satisfies_one, is_allowed}
+use Rattle.propagators.specs.Families.{Family, Arc, is_wanted, arc_of, arcs_of, is_not_empty, domain_of, left_by, sets_on, has_support, is_consistent, is_arc_consistent, has_family, IsSubfamily, IsLargest, largest}
+use Rattle.propagators.specs.Supports.{IsWithin, IsThrough}
+use Rattle.propagators.proofs.Pruned.{largest_is, supporting, consistent, has_head}
+use Rattle.propagators.proofs.Living.{full_above, largest_tells, largest_long}
+use Rattle.propagators.proofs.Replacing.{supported_through, through_supported, set_at, all_full}
+use Rattle.propagators.proofs.Rounds.{tells_more}
+use Rattle.fd_solver.specs.Outcomes.{is_alive_in}
+use Rattle.fd_solver.proofs.Preorder.{PassesFronts}
+use Rattle.fd_solver.proofs.Fronts.{HasMore, assigned_more, plain_fronts}
+use Rattle.fd_solver.proofs.Orders.{covers_all}
+
+-- ---- what an assignment leaves
+
+pub left_value : (d : ℕ) (e : Assignment) (v x : ℕ) → value_of e v ≡ Some x → slice_index_or (left_by d e) v [] ≡ x ∷ []
+left_value d [] v x h = cc
+left_value d (o ∷ e) zero x h = ap (domain_of d) h
+left_value d (o ∷ e) (suc v) x h = left_value d e v x h
+
+known_one : (o : Option ℕ) → is_some o ≡ true → o ≡ Some (unwrap_or o 0)
+known_one None h = cc
+known_one (Some x) h = refl
+
+-- where e has fewer values than f, it leaves more
+left_more : (d : ℕ) (e f : Assignment) → length e ≡ length f → HasMore e f → ((v x : ℕ) → value_of f v ≡ Some x → x < d) → IsSubfamily (left_by d f) (left_by d e)
+left_more d [] [] long more fits v x h = h
+left_more d [] (u ∷ f) long more fits v x h = absurd (omega arith)
+left_more d (o ∷ e) [] long more fits v x h = absurd (omega arith)
+left_more d (o ∷ e) (u ∷ f) long more fits zero x h = go o u (more 0) (fits 0) h
+  where
+    go : (o u : Option ℕ) → ((y : ℕ) → o ≡ Some y → u ≡ Some y) → ((y : ℕ) → u ≡ Some y → y < d) → has (domain_of d u) x ≡ true → has (domain_of d o) x ≡ true
+    go None None more fits h = h
+    go None (Some y) more fits h = any_number (λ z. z == x) d x (one (or_cases (y == x) false h)) (eq-eqb x x refl)
+      where
+        one : ((y == x) ≡ true) ⊎ (false ≡ true) → x < d
+        one (inl same) = subst (λ (z : ℕ). z < d) (eqb-true y x same) (fits y refl)
+        one (inr never) = absurd (both_ways _ refl never)
+    go (Some y) None more fits h = absurd (let never : None ≡ Some y = more y refl in let is : ⊥ = cc in is)
+    go (Some y) (Some z) more fits h = (let same : Some z ≡ Some y = more y refl in subst (λ (o : Option ℕ). has (domain_of d o) x ≡ true) same h)
+left_more d (o ∷ e) (u ∷ f) long more fits (suc v) x h = left_more d e f (omega arith) (λ w y. more (suc w) y) (λ w y. fits (suc w) y) v x h
+
+-- ---- a tuple within what is left on a covered scope
+
+one_tuple : (d : ℕ) (e : Assignment) (f : Family) (scope tuple : List ℕ) → IsSubfamily f (left_by d e) → covers e scope ≡ true → IsWithin (sets_on f scope) tuple → tuple ≡ tuple_on e scope
+one_tuple d e f [] [] sub h within = refl
+one_tuple d e f [] (x ∷ tuple) sub h within = absurd within
+one_tuple d e f (v ∷ scope) [] sub h within = absurd within
+one_tuple d e f (v ∷ scope) (x ∷ tuple) sub h within =
+    let parts = and_parts (is_some (value_of e v)) (covers e scope) h in
+    let here = sub v x within.0 in
+    let same : unwrap_or (value_of e v) 0 ≡ x = only (unwrap_or (value_of e v) 0) (ap (λ xs. has xs x) (sym (left_value d e v (unwrap_or (value_of e v) 0) (known_one (value_of e v) parts.0))) ∙ here) in
+    let rest = one_tuple d e f scope tuple sub parts.1 within.1 in
+    λ i. sym same i ∷ rest i
+  where
+    only : (y : ℕ) → has (y ∷ []) x ≡ true → y ≡ x
+    only y h = go (or_cases (y == x) false h)
+      where
+        go : ((y == x) ≡ true) ⊎ (false ≡ true) → y ≡ x
+        go (inl same) = eqb-true y x same
+        go (inr never) = absurd (both_ways _ refl never)
+
+member_of_some : (xs : List ℕ) → is_not_empty xs ≡ true → (x : ℕ) × (has xs x ≡ true)
+member_of_some [] h = cc
+member_of_some (x ∷ xs) h = (x, has_head x xs)
+
+-- a consistent family without empty sets accepts the tuple of a covered scope
+accepts_covered : (d : ℕ) (e : Assignment) (f : Family) (a : Arc) → 1 ≤ length a.scope → All (λ v. v < length f) a.scope → IsSubfamily f (left_by d e) → list_all is_not_empty f ≡ true →
+    is_consistent f a.scope a.accepted ≡ true → covers e a.scope ≡ true → a.accepted (tuple_on e a.scope) ≡ true
+accepts_covered d e f a some known sub full ok covered =
+    let v : ℕ = slice_index_or a.scope 0 0 in
+    let one = member_of_some (slice_index_or f v []) (all_full f full v (known 0 0 (omega arith))) in
+    let t = supported_through (sets_on f a.scope) a.accepted 0 one.0 ((supporting a f ok).at 0 one.0 (omega arith) one.1) in
+    ap a.accepted (sym (one_tuple d e f a.scope t.tuple sub covered t.within)) ∙ t.is
+
+-- ---- the conditions of constraints
+
+arcs_parts : (l : Language) (list : List Candidate) (against : Option Candidate) (f : Family) → is_arc_consistent (arcs_of l list against) f ≡ true →
+    (All (λ c. is_consistent f (scope_of l c) (arc_of l c true).accepted ≡ true) list) × (ForSome against (λ c. is_consistent f (scope_of l c) (arc_of l c false).accepted ≡ true))
+arcs_parts l [] None f h = (All-nil (λ c. is_consistent f (scope_of l c) (arc_of l c true).accepted ≡ true), λ c e. (let never : ⊥ = cc in absurd never))
+arcs_parts l [] (Some b) f h = (All-nil (λ c. is_consistent f (scope_of l c) (arc_of l c true).accepted ≡ true),
+    λ c e. (let same : b ≡ c = cc in subst (λ (x : Candidate). is_consistent f (scope_of l x) (arc_of l x false).accepted ≡ true) same (and_parts _ true h).0))
+arcs_parts l (c ∷ list) against f h =
+    let parts = and_parts (is_consistent f (scope_of l c) (arc_of l c true).accepted) (is_arc_consistent (arcs_of l list against) f) h in
+    let rest = arcs_parts l list against f parts.1 in
+    (All-cons (λ c. is_consistent f (scope_of l c) (arc_of l c true).accepted ≡ true) c list parts.0 rest.0, rest.1)
+
+arcs_from : (l : Language) (list : List Candidate) (against : Option Candidate) (f : Family) →
+    All (λ c. is_consistent f (scope_of l c) (arc_of l c true).accepted ≡ true) list → ForSome against (λ c. is_consistent f (scope_of l c) (arc_of l c false).accepted ≡ true) → is_arc_consistent (arcs_of l list against) f ≡ true
+arcs_from l [] None f all one = refl
+arcs_from l [] (Some c) f all one = and_from _ _ (one c refl) refl
+arcs_from l (c ∷ list) against f all one =
+    and_from _ _ (All-head (λ c. is_consistent f (scope_of l c) (arc_of l c true).accepted ≡ true) c list all)
+    (arcs_from l list against f (All-tail (λ c. is_consistent f (scope_of l c) (arc_of l c true).accepted ≡ true) c list all) one)
+
+-- ---- alive is plain
+
+module _ (l : Language) (lawful : IsLanguage l) (list : List Candidate) (against : Option Candidate) where
+  pub family_is_plain : AreConstraints l list against → (e : Assignment) → length e ≡ variable_count l → has_family l list against e ≡ true → is_allowed l list against e ≡ true
+  family_is_plain are e long h = and_from _ _
+      (accepted_from l list e (λ k d low bad. both_ways _ (not-true _ (and_parts (covers e (scope_of l (slice_index_or list k d))) _ bad).1)
+      (holds_at (slice_index_or list k d) true (are.list k d low) (parts.0 k d low) (and_parts (covers e (scope_of l (slice_index_or list k d))) _ bad).0)))
+      (not_from_false _ (failing against are.against parts.1))
+    where
+      arcs : List Arc
+      arcs = arcs_of l list against
+
+      f : Family
+      f = largest (arcs_of l list against) (left_by l.value_count e)
+
+      full : list_all is_not_empty (largest (arcs_of l list against) (left_by l.value_count e)) ≡ true
+      full = sym (largest_tells l list against e) ∙ h
+
+      is : IsLargest (arcs_of l list against) (left_by l.value_count e) (largest (arcs_of l list against) (left_by l.value_count e))
+      is = largest_is (arcs_of l list against) (left_by l.value_count e)
+
+      size : length (largest (arcs_of l list against) (left_by l.value_count e)) ≡ variable_count l
+      size = largest_long (arcs_of l list against) (left_by l.value_count e) ∙ length-map e (domain_of l.value_count) ∙ long
+
+      parts : (All (λ c. is_consistent (largest (arcs_of l list against) (left_by l.value_count e)) (scope_of l c) (arc_of l c true).accepted ≡ true) list)
+          × (ForSome against (λ c. is_consistent (largest (arcs_of l list against) (left_by l.value_count e)) (scope_of l c) (arc_of l c false).accepted ≡ true))
+      parts = arcs_parts l list against (largest (arcs_of l list against) (left_by l.value_count e)) is.consistent
+
+      holds_at : (c : Candidate) (holding : Bool) → IsCandidate l c → is_consistent (largest (arcs_of l list against) (left_by l.value_count e)) (scope_of l c) (arc_of l c holding).accepted ≡ true → covers e (scope_of l c) ≡ true →
+          (arc_of l c holding).accepted (tuple_on e (scope_of l c)) ≡ true
+      holds_at c holding is_c ok covered =
+          accepts_covered l.value_count e (largest (arcs_of l list against) (left_by l.value_count e)) (arc_of l c holding) (lawful.scopes c.scope [] is_c.scope).not_empty
+          (λ k d low. (let at = (lawful.scopes c.scope [] is_c.scope).known k d low in let long = size in omega arith)) is.within full ok covered
+
+      failing : (o : Option Candidate) → ForSome o (IsCandidate l) → ForSome o (λ c. is_consistent (largest (arcs_of l list against) (left_by l.value_count e)) (scope_of l c) (arc_of l c false).accepted ≡ true) → satisfies_one l o e ≡ false
+      failing None known ok = refl
+      failing (Some c) known ok = false_from_ne_true _ (λ bad.
+          let both = and_parts (covers e (scope_of l c)) _ bad in
+          both_ways _ (not-true _ (holds_at c false (known c refl) (ok c refl) both.0)) both.1)
+
+  pub alive_as_family : AreConstraints l list against → (e : Assignment) → length e ≡ variable_count l → (is_allowed l list against e && has_family l list against e) ≡ has_family l list against e
+  alive_as_family are e long = go (has_family l list against e) refl
+    where
+      go : (b : Bool) → has_family l list against e ≡ b → (is_allowed l list against e && has_family l list against e) ≡ has_family l list against e
+      go true h = ap (λ a. a && has_family l list against e) (family_is_plain are e long h)
+      go false h = (λ i. is_allowed l list against e && h i) ∙ none (is_allowed l list against e) ∙ sym h
+        where
+          none : (a : Bool) → (a && false) ≡ false
+          none true = refl
+          none false = refl
+
+-- ---- a complete assignment that is plain is alive
+
+-- the scope of a candidate, or of none
+scope_small : (l : Language) → IsLanguage l → (c : Candidate) → All (λ v. v < variable_count l) (scope_of l c)
+scope_small l lawful c = go (cases_lt c.scope (length l.scopes))
+  where
+    go : (c.scope < length l.scopes) ⊎ (length l.scopes ≤ c.scope) → All (λ v. v < variable_count l) (scope_of l c)
+    go (inl low) = (lawful.scopes c.scope [] low).known
+    go (inr high) = subst (All (λ v. v < variable_count l)) (sym (get_or-eq_default l.scopes [] {n = c.scope} high)) (All-nil (λ v. v < variable_count l))
+
+value_there : (e : Assignment) (v : ℕ) → is_complete e ≡ true → v < length e → value_of e v ≡ Some (unwrap_or (value_of e v) 0)
+value_there e v complete low = known_one (value_of e v) (AllPass-from_list_all is_some e complete v None low)
+
+within_own : (d : ℕ) (e : Assignment) (scope : List ℕ) → is_complete e ≡ true → All (λ v. v < length e) scope → IsWithin (sets_on (left_by d e) scope) (tuple_on e scope)
+within_own d e [] complete small = tt
+within_own d e (v ∷ scope) complete small =
+    (ap (λ xs. has xs (unwrap_or (value_of e v) 0)) (left_value d e v (unwrap_or (value_of e v) 0) (value_there e v complete (All-head (λ v. v < length e) v scope small))) ∙ has_head (unwrap_or (value_of e v) 0) [],
+    within_own d e scope complete (All-tail (λ v. v < length e) v scope small))
+
+consistent_own : (d : ℕ) (e : Assignment) (a : Arc) → is_complete e ≡ true → All (λ v. v < length e) a.scope → a.accepted (tuple_on e a.scope) ≡ true → is_consistent (left_by d e) a.scope a.accepted ≡ true
+consistent_own d e a complete small at = consistent a (left_by d e) (record {
+  at = λ i x low h.
+      let v : ℕ = slice_index_or a.scope i 0 in
+      let below = small i 0 low in
+      let value = value_there e v complete below in
+      through_supported (sets_on (left_by d e) a.scope) a.accepted i x (record {
+        tuple = tuple_on e a.scope;
+        within = within_own d e a.scope complete small;
+        at = get_or-map (λ (v : ℕ). unwrap_or (value_of e v) 0) a.scope i 0 0 low ∙ only (unwrap_or (value_of e v) 0) x (ap (λ xs. has xs x) (sym (left_value d e v (unwrap_or (value_of e v) 0) value)) ∙ h);
+        is = at;
+      });
+})
+  where
+    only : (y x : ℕ) → has (y ∷ []) x ≡ true → y ≡ x
+    only y x h = go (or_cases (y == x) false h)
+      where
+        go : ((y == x) ≡ true) ⊎ (false ≡ true) → y ≡ x
+        go (inl same) = eqb-true y x same
+        go (inr never) = absurd (both_ways _ refl never)
+
+own_full : (d : ℕ) (e : Assignment) → is_complete e ≡ true → list_all is_not_empty (left_by d e) ≡ true
+own_full d [] complete = refl
+own_full d (None ∷ e) complete = cc
+own_full d (Some x ∷ e) complete = own_full d e complete
+
+pub whole_has_family : (l : Language) → IsLanguage l → (list : List Candidate) (against : Option Candidate) (e : Assignment) → length e ≡ variable_count l → is_complete e ≡ true → is_allowed l list against e ≡ true → has_family l list against e ≡ true
+whole_has_family l lawful list against e long complete plain =
+    largest_tells l list against e
+    ∙ full_above (left_by l.value_count e) (largest arcs (left_by l.value_count e)) (sym (largest_long arcs (left_by l.value_count e)))
+    ((largest_is arcs (left_by l.value_count e)).greatest (left_by l.value_count e) (λ v x h. h) own) (own_full l.value_count e complete)
+  where
+    arcs : List Arc
+    arcs = arcs_of l list against
+
+    parts : (accepts l list e ≡ true) × (not (satisfies_one l against e) ≡ true)
+    parts = and_parts (accepts l list e) (not (satisfies_one l against e)) plain
+
+    small : (c : Candidate) → All (λ v. v < length e) (scope_of l c)
+    small c = λ k d low. (let at = scope_small l lawful c k d low in omega arith)
+
+    holding : (g h : Bool) → g ≡ true → (g && not h) ≡ false → h ≡ true
+    holding true true a b = refl
+    holding true false a b = cc
+    holding false h a b = cc
+
+    failing : (g h : Bool) → g ≡ true → (g && h) ≡ false → not h ≡ true
+    failing true true a b = cc
+    failing true false a b = refl
+    failing false h a b = cc
+
+    last : (o : Option Candidate) → not (satisfies_one l o e) ≡ true → ForSome o (λ c. is_consistent (left_by l.value_count e) (scope_of l c) (arc_of l c false).accepted ≡ true)
+    last None h = λ c is. (let never : ⊥ = cc in absurd never)
+    last (Some b) h = λ c is. (let same : b ≡ c = cc in subst (λ (c : Candidate). is_consistent (left_by l.value_count e) (scope_of l c) (arc_of l c false).accepted ≡ true) same
+        (consistent_own l.value_count e (arc_of l b false) complete (small b) (failing (covers e (scope_of l b)) _ (covers_all e (scope_of l b) complete (small b)) (not-true _ h))))
+
+    own : is_arc_consistent (arcs_of l list against) (left_by l.value_count e) ≡ true
+    own = arcs_from l list against (left_by l.value_count e)
+        (λ k d low. consistent_own l.value_count e (arc_of l (slice_index_or list k d) true) complete (small (slice_index_or list k d))
+        (holding (covers e (scope_of l (slice_index_or list k d))) _ (covers_all e (scope_of l (slice_index_or list k d)) complete (small (slice_index_or list k d))) (accepted_at l list e parts.0 k d low)))
+        (last against parts.1)
+
+-- ---- fewer constraints
+
+pub family_of_fewer : (l : Language) (network more : List Candidate) (c : Candidate) (e : Assignment) → has_family l (network ++ more) (Some c) e ≡ true → has_family l network (Some c) e ≡ true
+family_of_fewer l network more c e h =
+    let old = largest_is (arcs_of l (network ++ more) (Some c)) (left_by l.value_count e) in
+    let parts = arcs_parts l (network ++ more) (Some c) (largest (arcs_of l (network ++ more) (Some c)) (left_by l.value_count e)) old.consistent in
+    largest_tells l network (Some c) e
+    ∙ full_above (largest (arcs_of l (network ++ more) (Some c)) (left_by l.value_count e)) (largest (arcs_of l network (Some c)) (left_by l.value_count e))
+    (largest_long (arcs_of l (network ++ more) (Some c)) (left_by l.value_count e) ∙ sym (largest_long (arcs_of l network (Some c)) (left_by l.value_count e)))
+    ((largest_is (arcs_of l network (Some c)) (left_by l.value_count e)).greatest (largest (arcs_of l (network ++ more) (Some c)) (left_by l.value_count e)) old.within
+    (arcs_from l network (Some c) (largest (arcs_of l (network ++ more) (Some c)) (left_by l.value_count e)) (front_all (λ b. is_consistent (largest (arcs_of l (network ++ more) (Some c)) (left_by l.value_count e)) (scope_of l b) (arc_of l b true).accepted ≡ true) network more parts.0) parts.1))
+    (sym (largest_tells l (network ++ more) (Some c) e) ∙ h)
+  where
+    front_all : (P : Candidate → Type 0) (xs ys : List Candidate) → All P (xs ++ ys) → All P xs
+    front_all P [] ys h = All-nil P
+    front_all P (x ∷ xs) ys h = All-cons P x xs (All-head P x (xs ++ ys) h) (front_all P xs ys (All-tail P x (xs ++ ys) h))
+
+-- ---- fronts
+
+beside_small : (d : ℕ) (vars p : List ℕ) (v x : ℕ) → All (λ y. y < d) p → value_beside vars p v ≡ Some x → x < d
+beside_small d [] p v x small h = cc
+beside_small d (w ∷ vars) [] v x small h = cc
+beside_small d (w ∷ vars) (y ∷ p) v x small h = go (w == v) h (beside_small d vars p v x (All-tail (λ z. z < d) y p small))
+  where
+    go : (b : Bool) → cond b (Some y) (value_beside vars p v) ≡ Some x → (value_beside vars p v ≡ Some x → x < d) → x < d
+    go true h rest = let same : y ≡ x = cc in subst (λ z. z < d) same (All-head (λ z. z < d) y p small)
+    go false h rest = rest h
+
+assigned_small : (d n : ℕ) (vars p : List ℕ) → All (λ y. y < d) p → (v x : ℕ) → value_of (assigned n vars p) v ≡ Some x → x < d
+assigned_small d n vars p small v x h = go (cases_lt v n)
+  where
+    go : (v < n) ⊎ (n ≤ v) → x < d
+    go (inl low) = beside_small d vars p v x small (sym (value_of_assigned n vars p v low) ∙ h)
+    go (inr high) = absurd (none_some (sym (get_or-eq_default (assigned n vars p) None {n = v} (omega (arith, length-map-range_with_len (value_beside vars p) 0 n))) ∙ h))
+      where
+        none_some : None ≡ Some x → ⊥
+        none_some e = cc
+
+pub alive_fronts : (l : Language) (list : List Candidate) (against : Option Candidate) (order : List ℕ) → PassesFronts l.value_count (is_alive_in l list against order)
+alive_fronts l list against order = λ p q small h.
+    let n : ℕ = variable_count l in
+    let parts = and_parts (is_allowed l list against (assigned (variable_count l) order (p ++ q))) (has_family l list against (assigned (variable_count l) order (p ++ q))) h in
+    let long : (r : List ℕ) → length (assigned (variable_count l) order r) ≡ variable_count l = λ r. length-map-range_with_len (value_beside order r) 0 (variable_count l) in
+    let left : (r : List ℕ) → length (left_by l.value_count (assigned (variable_count l) order r)) ≡ variable_count l = λ r. length-map (assigned (variable_count l) order r) (domain_of l.value_count) ∙ long r in
+    and_from _ _ (plain_fronts l list against order p q small parts.0)
+    (largest_tells l list against (assigned (variable_count l) order p)
+    ∙ tells_more (arcs_of l list against) (left_by l.value_count (assigned (variable_count l) order (p ++ q))) (left_by l.value_count (assigned (variable_count l) order p)) (left (p ++ q) ∙ sym (left p))
+    (left_more l.value_count (assigned (variable_count l) order p) (assigned (variable_count l) order (p ++ q)) (long p ∙ sym (long (p ++ q))) (assigned_more (variable_count l) order p q) (assigned_small l.value_count (variable_count l) order (p ++ q) small))
+    (sym (largest_tells l list against (assigned (variable_count l) order (p ++ q))) ∙ parts.1))

@@ -1,0 +1,308 @@
+-- The domains below a prefix, from those of the prefix.
+use Rattle.std.proofs.Common.{◌≡◌, ℕ, zero, suc, ◌+◌, ◌<◌, ◌≤◌, Bool, true, false, cond, ◌&&◌, ◌||◌, List, [], ◌∷◌, ◌++◌, length, map, take, replicate, Option, Some, None, refl, sym, ◌∙◌, ap, subst, arith, inl, inr, ◌⊎◌, length-append}
+use Rattle.std.specs.Prelude.{◌==◌, ◌≢◌, slice_index_or, slice_set, All}
+use Rattle.std.specs.List.{list_any, list_all, filter, range_with_len}
+use Rattle.std.proofs.Math.ListN.{get_or-eq_default, length-set}
+use Rattle.std.proofs.lemmas.List.{length-map, get_or-map, get_or-set_same, get_or-set_other, take_all, length-replicate}
+use Rattle.std.proofs.lemmas.List.FromFn.{length-map-range_with_len}
+use Rattle.std.proofs.lemmas.List.Sums.{AllPass-from_list_all}
+use Rattle.std.proofs.lemmas.Bool.{and_parts, and_from, or_left, or_cases, both_ways, eqb-true, cases_eq, cases_lt, eq-eqb, ne_eqb}
+use Rattle.assign.specs.Sets.{numbers, has, with_member}
+use Rattle.assign.specs.Assignment.{Assignment, value_of, value_beside, assigned}
+use Rattle.language.specs.declared.candidates.Candidate.{Candidate}
+use Rattle.language.specs.Language.{Language, IsLanguage, variable_count}
+use Rattle.language.proofs.Members.{any_number}
+use Rattle.language.proofs.Beside.{value_of_assigned, beside_none}
+use Rattle.propagators.specs.Allowed.{AreConstraints, is_allowed}
+use Rattle.propagators.specs.Families.{Family, Arc, arcs_of, is_not_empty, domain_of, left_by, is_consistent, is_arc_consistent, has_family, IsSubfamily, IsLargest, largest}
+use Rattle.propagators.specs.Supports.{DifferAt, AreSettled, IsFamilyOf}
+use Rattle.propagators.proofs.Ones.{has-filter}
+use Rattle.propagators.proofs.Pruned.{largest_is, largest_again, has_head, filter_has}
+use Rattle.propagators.proofs.Living.{largest_tells, largest_long}
+use Rattle.propagators.proofs.Replacing.{all_full, full_from}
+use Rattle.propagators.proofs.Rounds.{stays_consistent, tells_with, empty_stays}
+use Rattle.propagators.proofs.Cutting.{not_with}
+use Rattle.propagators.proofs.Conditions.{arcs_small, family_within}
+use Rattle.fd_solver.specs.Outcomes.{IsOrder, is_alive_in}
+use Rattle.fd_solver.specs.Ready.{IsReady, AreReady, fixed}
+use Rattle.fd_solver.proofs.Filling.{beside_next, beside_push, next_known}
+use Rattle.fd_solver.proofs.Alive.{alive_as_family}
+
+-- ---- one value alone
+
+pub fixed_other : (f : Family) (v x w : ℕ) → v ≢ w → slice_index_or (fixed f v x) w [] ≡ slice_index_or f w []
+fixed_other f v x w other = get_or-set_other f v w (filter (λ y. x == y) (slice_index_or f v [])) [] (λ e. other (sym e))
+
+pub fixed_same : (f : Family) (v x : ℕ) → v < length f → slice_index_or (fixed f v x) v [] ≡ filter (λ y. x == y) (slice_index_or f v [])
+fixed_same f v x low = get_or-set_same f v (filter (λ y. x == y) (slice_index_or f v [])) [] low
+
+pub fixed_within : (f : Family) (v x : ℕ) → v < length f → IsSubfamily (fixed f v x) f
+fixed_within f v x low w y h = go (cases_eq v w)
+  where
+    go : (v ≡ w) ⊎ (v ≢ w) → has (slice_index_or f w []) y ≡ true
+    go (inl same) = ap (λ u. has (slice_index_or f u []) y) (sym same)
+        ∙ (filter_has (λ z. x == z) (slice_index_or f v []) y (sym (ap (λ ys. has ys y) (fixed_same f v x low)) ∙ ap (λ u. has (slice_index_or (fixed f v x) u []) y) same ∙ h)).0
+    go (inr other) = ap (λ ys. has ys y) (sym (fixed_other f v x w other)) ∙ h
+
+some_member : (xs : List ℕ) (x : ℕ) → has xs x ≡ true → is_not_empty xs ≡ true
+some_member [] x h = cc
+some_member (y ∷ xs) x h = refl
+
+pub fixed_full : (f : Family) (v x : ℕ) → v < length f → has (slice_index_or f v []) x ≡ true → list_all is_not_empty f ≡ true → list_all is_not_empty (fixed f v x) ≡ true
+fixed_full f v x low there full = full_from (fixed f v x) (λ w below. go w (let long = length-set f v (filter (λ y. x == y) (slice_index_or f v [])) in let h : w < length f = omega arith in h) (cases_eq v w))
+  where
+    go : (w : ℕ) → w < length f → (v ≡ w) ⊎ (v ≢ w) → is_not_empty (slice_index_or (fixed f v x) w []) ≡ true
+    go w below (inl same) = ap (λ u. is_not_empty (slice_index_or (fixed f v x) u [])) (sym same) ∙ ap is_not_empty (fixed_same f v x low)
+        ∙ some_member (filter (λ y. x == y) (slice_index_or f v [])) x (has-filter (λ y. x == y) (slice_index_or f v []) x ∙ and_from _ _ there (eq-eqb x x refl))
+    go w below (inr other) = ap is_not_empty (fixed_other f v x w other) ∙ all_full f full w below
+
+pub fixed_empty : (f : Family) (v x : ℕ) → v < length f → has (slice_index_or f v []) x ≡ false → list_all is_not_empty (fixed f v x) ≡ false
+fixed_empty f v x low none = go (list_all is_not_empty (fixed f v x)) refl
+  where
+    nothing : (xs : List ℕ) → has xs x ≡ false → filter (λ y. x == y) xs ≡ []
+    nothing [] h = refl
+    nothing (y ∷ xs) h = rw (ne_eqb x y (λ e. both_ways _ h (or_left _ _ (eq-eqb y x (sym e))))) (nothing xs (later (y == x) (has xs x) h))
+      where
+        later : (a b : Bool) → (a || b) ≡ false → b ≡ false
+        later true b h = cc
+        later false b h = h
+
+    go : (b : Bool) → list_all is_not_empty (fixed f v x) ≡ b → b ≡ false
+    go true h = absurd (both_ways _ (ap is_not_empty (fixed_same f v x low ∙ nothing (slice_index_or f v []) none)) (all_full (fixed f v x) h v (let long = length-set f v (filter (λ y. x == y) (slice_index_or f v [])) in omega arith)))
+    go false h = refl
+
+pub fixed_family : (l : Language) (f : Family) (v x : ℕ) → v < length f → IsFamilyOf l f → IsFamilyOf l (fixed f v x)
+fixed_family l f v x low is = family_within l f (fixed f v x) (length-set f v (filter (λ y. x == y) (slice_index_or f v []))) (fixed_within f v x low) is
+
+-- what lacks the variable stays settled
+pub fixed_settled : (l : Language) (list : List Candidate) (against : Option Candidate) (f : Family) (v x : ℕ) → IsLanguage l → AreConstraints l list against → is_arc_consistent (arcs_of l list against) f ≡ true →
+    AreSettled (arcs_of l list against) (with_member [] v) (fixed f v x)
+fixed_settled l list against f v x lawful are ok = λ k a low none.
+    stays_consistent (slice_index_or (arcs_of l list against) k a) f (fixed f v x) (with_member [] v) (arcs_small l list against lawful are k a low)
+    (λ w small apart. fixed_other f v x w (not_with [] v w small apart).1) none
+    (AllPass-from_list_all (λ b. is_consistent f b.scope b.accepted) (arcs_of l list against) ok k a low)
+
+-- ---- below a prefix
+
+left_at : (d n : ℕ) (order p : List ℕ) (w : ℕ) → w < n → slice_index_or (left_by d (assigned n order p)) w [] ≡ domain_of d (value_beside order p w)
+left_at d n order p w low =
+    get_or-map (domain_of d) (assigned n order p) w None [] (let long = length-map-range_with_len (value_beside order p) 0 n in omega arith)
+    ∙ ap (domain_of d) (value_of_assigned n order p w low)
+
+left_past : (d n : ℕ) (order p : List ℕ) (w : ℕ) → n ≤ w → slice_index_or (left_by d (assigned n order p)) w [] ≡ []
+left_past d n order p w high = get_or-eq_default (left_by d (assigned n order p)) [] {n = w}
+    (let size : length (left_by d (assigned n order p)) ≡ n = length-map (assigned n order p) (domain_of d) ∙ length-map-range_with_len (value_beside order p) 0 n in omega arith)
+
+module _ (l : Language) (list : List Candidate) (against : Option Candidate) (order : List ℕ) (is : IsOrder (variable_count l) order) (lawful : IsLanguage l) (are : AreConstraints l list against)
+    (p : List ℕ) (x : ℕ) (f : Family) (short : length p < variable_count l) (value : x < l.value_count) (ready : IsReady l list against (assigned (variable_count l) order p) f) where
+  abbrev n : ℕ
+  n = variable_count l
+
+  abbrev next : ℕ
+  next = slice_index_or order (length p) 0
+
+  abbrev old : Family
+  old = left_by l.value_count (assigned (variable_count l) order p)
+
+  abbrev new : Family
+  new = left_by l.value_count (assigned (variable_count l) order (p ++ x ∷ []))
+
+  known : slice_index_or order (length p) 0 < variable_count l
+  known = next_known (variable_count l) order is p short
+
+  known_in : slice_index_or order (length p) 0 < length f
+  known_in = (let size = ready.family.size in let low = known in omega arith)
+
+  beside_at : (w : ℕ) → value_beside order (p ++ x ∷ []) w ≡ cond (slice_index_or order (length p) 0 == w) (Some x) (value_beside order p w)
+  beside_at w = beside_push order p x w is.different (let size = is.size in omega arith)
+
+  new_there : slice_index_or (left_by l.value_count (assigned (variable_count l) order (p ++ x ∷ []))) (slice_index_or order (length p) 0) [] ≡ x ∷ []
+  new_there = left_at l.value_count (variable_count l) order (p ++ x ∷ []) (slice_index_or order (length p) 0) known
+      ∙ ap (domain_of l.value_count) (beside_at (slice_index_or order (length p) 0) ∙ ap (λ b. cond b (Some x) (value_beside order p (slice_index_or order (length p) 0))) (eq-eqb (slice_index_or order (length p) 0) _ refl))
+
+  new_other : (w : ℕ) → slice_index_or order (length p) 0 ≢ w → slice_index_or (left_by l.value_count (assigned (variable_count l) order (p ++ x ∷ []))) w [] ≡ slice_index_or (left_by l.value_count (assigned (variable_count l) order p)) w []
+  new_other w other = go (cases_lt w (variable_count l))
+    where
+      go : (w < variable_count l) ⊎ (variable_count l ≤ w) → slice_index_or (left_by l.value_count (assigned (variable_count l) order (p ++ x ∷ []))) w [] ≡ slice_index_or (left_by l.value_count (assigned (variable_count l) order p)) w []
+      go (inl low) = left_at l.value_count (variable_count l) order (p ++ x ∷ []) w low
+          ∙ ap (domain_of l.value_count) (beside_at w ∙ ap (λ b. cond b (Some x) (value_beside order p w)) (ne_eqb (slice_index_or order (length p) 0) w other))
+          ∙ sym (left_at l.value_count (variable_count l) order p w low)
+      go (inr high) = left_past l.value_count (variable_count l) order (p ++ x ∷ []) w high ∙ sym (left_past l.value_count (variable_count l) order p w high)
+
+  old_there : slice_index_or (left_by l.value_count (assigned (variable_count l) order p)) (slice_index_or order (length p) 0) [] ≡ numbers l.value_count
+  old_there = left_at l.value_count (variable_count l) order p (slice_index_or order (length p) 0) known ∙ ap (domain_of l.value_count) (beside_next order p is.different (let size = is.size in omega arith))
+
+  new_within : IsSubfamily (left_by l.value_count (assigned (variable_count l) order (p ++ x ∷ []))) (left_by l.value_count (assigned (variable_count l) order p))
+  new_within w y h = go (cases_eq (slice_index_or order (length p) 0) w)
+    where
+      one : has (x ∷ []) y ≡ true → x ≡ y
+      one h = pick (or_cases (x == y) false h)
+        where
+          pick : ((x == y) ≡ true) ⊎ (false ≡ true) → x ≡ y
+          pick (inl same) = eqb-true x y same
+          pick (inr never) = absurd (both_ways _ refl never)
+
+      go : (slice_index_or order (length p) 0 ≡ w) ⊎ (slice_index_or order (length p) 0 ≢ w) → has (slice_index_or (left_by l.value_count (assigned (variable_count l) order p)) w []) y ≡ true
+      go (inl same) =
+          let at : has (x ∷ []) y ≡ true = ap (λ ys. has ys y) (sym new_there) ∙ ap (λ u. has (slice_index_or (left_by l.value_count (assigned (variable_count l) order (p ++ x ∷ []))) u []) y) same ∙ h in
+          ap (λ u. has (slice_index_or (left_by l.value_count (assigned (variable_count l) order p)) u []) y) (sym same) ∙ ap (λ ys. has ys y) old_there
+          ∙ any_number (λ z. z == y) l.value_count y (subst (λ (z : ℕ). z < l.value_count) (one at) value) (eq-eqb y y refl)
+      go (inr other) = ap (λ ys. has ys y) (sym (new_other w other)) ∙ h
+
+  both_are : (w y : ℕ) → has (slice_index_or (fixed f (slice_index_or order (length p) 0) x) w []) y ≡ (has (slice_index_or (left_by l.value_count (assigned (variable_count l) order (p ++ x ∷ []))) w []) y && has (slice_index_or f w []) y)
+  both_are w y = go (cases_eq (slice_index_or order (length p) 0) w)
+    where
+      turned : (a b : Bool) → (a && b) ≡ (b && a)
+      turned true true = refl
+      turned true false = refl
+      turned false true = refl
+      turned false false = refl
+
+      or_none : (b : Bool) → (b || false) ≡ b
+      or_none true = refl
+      or_none false = refl
+
+      inside : (a b : Bool) → (b ≡ true → a ≡ true) → b ≡ (a && b)
+      inside a true h = sym (ap (λ c. c && true) (h refl))
+      inside true false h = refl
+      inside false false h = refl
+
+      go : (slice_index_or order (length p) 0 ≡ w) ⊎ (slice_index_or order (length p) 0 ≢ w) →
+          has (slice_index_or (fixed f (slice_index_or order (length p) 0) x) w []) y ≡ (has (slice_index_or (left_by l.value_count (assigned (variable_count l) order (p ++ x ∷ []))) w []) y && has (slice_index_or f w []) y)
+      go (inl same) = subst (λ (u : ℕ). has (slice_index_or (fixed f (slice_index_or order (length p) 0) x) u []) y ≡ (has (slice_index_or (left_by l.value_count (assigned (variable_count l) order (p ++ x ∷ []))) u []) y && has (slice_index_or f u []) y)) same
+          (ap (λ ys. has ys y) (fixed_same f (slice_index_or order (length p) 0) x known_in) ∙ has-filter (λ z. x == z) (slice_index_or f (slice_index_or order (length p) 0) []) y
+          ∙ turned (has (slice_index_or f (slice_index_or order (length p) 0) []) y) (x == y)
+          ∙ sym (ap (λ b. b && has (slice_index_or f (slice_index_or order (length p) 0) []) y) (ap (λ ys. has ys y) new_there ∙ or_none (x == y))))
+      go (inr other) = ap (λ ys. has ys y) (fixed_other f (slice_index_or order (length p) 0) x w other)
+          ∙ inside _ (has (slice_index_or f w []) y) (λ h. ap (λ ys. has ys y) (new_other w other) ∙ ready.largest.within w y h)
+
+  -- the largest of the fixed family is that of the longer prefix
+  pub below_largest : (g : Family) → IsLargest (arcs_of l list against) (fixed f (slice_index_or order (length p) 0) x) g → IsLargest (arcs_of l list against) (left_by l.value_count (assigned (variable_count l) order (p ++ x ∷ []))) g
+  below_largest g is_g = largest_again (arcs_of l list against) (left_by l.value_count (assigned (variable_count l) order p)) f (left_by l.value_count (assigned (variable_count l) order (p ++ x ∷ [])))
+      (fixed f (slice_index_or order (length p) 0) x) g ready.largest new_within both_are is_g
+
+  long_new : length (left_by l.value_count (assigned (variable_count l) order (p ++ x ∷ []))) ≡ variable_count l
+  long_new = length-map (assigned (variable_count l) order (p ++ x ∷ [])) (domain_of l.value_count) ∙ length-map-range_with_len (value_beside order (p ++ x ∷ [])) 0 (variable_count l)
+
+  alive_by : (g : Family) → length g ≡ variable_count l → IsLargest (arcs_of l list against) (fixed f (slice_index_or order (length p) 0) x) g → is_alive_in l list against order (p ++ x ∷ []) ≡ list_all is_not_empty g
+  alive_by g size is_g =
+      alive_as_family l lawful list against are (assigned (variable_count l) order (p ++ x ∷ [])) (length-map-range_with_len (value_beside order (p ++ x ∷ [])) 0 (variable_count l))
+      ∙ largest_tells l list against (assigned (variable_count l) order (p ++ x ∷ []))
+      ∙ tells_with (arcs_of l list against) (left_by l.value_count (assigned (variable_count l) order (p ++ x ∷ []))) g (size ∙ sym long_new) (below_largest g is_g)
+
+  pub below_alive : (g : Family) → IsFamilyOf l g → IsLargest (arcs_of l list against) (fixed f (slice_index_or order (length p) 0) x) g → list_all is_not_empty g ≡ true → is_alive_in l list against order (p ++ x ∷ []) ≡ true
+  below_alive g family is_g full = alive_by g family.size is_g ∙ full
+
+  pub below_ready : (g : Family) → IsFamilyOf l g → IsLargest (arcs_of l list against) (fixed f (slice_index_or order (length p) 0) x) g → list_all is_not_empty g ≡ true → IsReady l list against (assigned (variable_count l) order (p ++ x ∷ [])) g
+  below_ready g family is_g full = record { largest = below_largest g is_g; full = full; family = family }
+
+  pub below_dead : list_all is_not_empty (largest (arcs_of l list against) (fixed f (slice_index_or order (length p) 0) x)) ≡ false → is_alive_in l list against order (p ++ x ∷ []) ≡ false
+  below_dead none = alive_by (largest (arcs_of l list against) (fixed f (slice_index_or order (length p) 0) x))
+      (largest_long (arcs_of l list against) (fixed f (slice_index_or order (length p) 0) x) ∙ length-set f (slice_index_or order (length p) 0) (filter (λ y. x == y) (slice_index_or f (slice_index_or order (length p) 0) [])) ∙ ready.family.size)
+      (largest_is (arcs_of l list against) (fixed f (slice_index_or order (length p) 0) x)) ∙ none
+
+  pub below_lacking : has (slice_index_or f (slice_index_or order (length p) 0) []) x ≡ false → is_alive_in l list against order (p ++ x ∷ []) ≡ false
+  below_lacking none = below_dead (empty_stays (arcs_of l list against) (fixed f (slice_index_or order (length p) 0) x) (fixed_empty f (slice_index_or order (length p) 0) x known_in none))
+
+  -- as the code has it: the place and the family have names of their own
+  pub entered : (at : ℕ) (h g : Family) (b : Bool) → at ≡ length p → h ≡ f →
+      (b ≡ true → IsLargest (arcs_of l list against) (fixed h (slice_index_or order at 0) x) g) → (b ≡ true → list_all is_not_empty g ≡ true) → (b ≡ true → IsFamilyOf l g) →
+      (b ≡ false → list_all is_not_empty (largest (arcs_of l list against) (fixed h (slice_index_or order at 0) x)) ≡ false) → b ≡ is_alive_in l list against order (p ++ x ∷ [])
+  entered at h g true place same is_g full family dead = sym (below_alive g (family refl) (subst (λ (k : Family). IsLargest (arcs_of l list against) k g) (λ i. fixed (same i) (slice_index_or order (place i) 0) x) (is_g refl)) (full refl))
+  entered at h g false place same is_g full family dead = sym (below_dead (ap (λ (k : Family). list_all is_not_empty (largest (arcs_of l list against) k)) (sym (λ i. fixed (same i) (slice_index_or order (place i) 0) x)) ∙ dead refl))
+
+  pub entered_ready : (at : ℕ) (h g : Family) → at ≡ length p → h ≡ f → IsLargest (arcs_of l list against) (fixed h (slice_index_or order at 0) x) g → list_all is_not_empty g ≡ true → IsFamilyOf l g →
+      IsReady l list against (assigned (variable_count l) order (p ++ x ∷ [])) g
+  entered_ready at h g place same is_g full family = below_ready g family (subst (λ (k : Family). IsLargest (arcs_of l list against) k g) (λ i. fixed (same i) (slice_index_or order (place i) 0) x) is_g) full
+
+-- ---- a family for each depth
+
+module _ (l : Language) (list : List Candidate) (against : Option Candidate) (order : List ℕ) where
+  -- the deepest one
+  pub deepest : (p : List ℕ) (depths : List Family) → AreReady l list against order p depths → IsReady l list against (assigned (variable_count l) order p) (slice_index_or depths (length p) [])
+  deepest p depths ready = subst (λ (q : List ℕ). IsReady l list against (assigned (variable_count l) order q) (slice_index_or depths (length p) [])) (take_all (length p) p (omega arith)) (ready (length p) (omega arith))
+
+  take_front : (k : ℕ) (p q : List ℕ) → k ≤ length p → take k (p ++ q) ≡ take k p
+  take_front zero p q low = refl
+  take_front (suc k) [] q low = absurd (omega arith)
+  take_front (suc k) (x ∷ p) q low = ap (λ xs. x ∷ xs) (take_front k p q (omega arith))
+
+  -- a family written beneath leaves those above
+  pub ready_kept : (p : List ℕ) (depths more : List Family) → ((k : ℕ) → k ≤ length p → slice_index_or more k [] ≡ slice_index_or depths k []) → AreReady l list against order p depths → AreReady l list against order p more
+  ready_kept p depths more same ready = λ k low. subst (IsReady l list against (assigned (variable_count l) order (take k p))) (sym (same k low)) (ready k low)
+
+  pub ready_deeper : (p : List ℕ) (x : ℕ) (depths : List Family) → AreReady l list against order p depths → IsReady l list against (assigned (variable_count l) order (p ++ x ∷ [])) (slice_index_or depths (length p + 1) []) →
+      AreReady l list against order (p ++ x ∷ []) depths
+  ready_deeper p x depths ready new = λ k low. go k low (cases_lt k (length p + 1))
+    where
+      long : length (p ++ x ∷ []) ≡ length p + 1
+      long = length-append p (x ∷ [])
+
+      go : (k : ℕ) → k ≤ length (p ++ x ∷ []) → (k < length p + 1) ⊎ (length p + 1 ≤ k) → IsReady l list against (assigned (variable_count l) order (take k (p ++ x ∷ []))) (slice_index_or depths k [])
+      go k low (inl above) = subst (λ (q : List ℕ). IsReady l list against (assigned (variable_count l) order q) (slice_index_or depths k [])) (sym (take_front k p (x ∷ []) (omega arith))) (ready k (omega arith))
+      go k low (inr here) =
+          let at : length p + 1 ≡ k = (let size = long in omega arith) in
+          subst (λ (q : List ℕ). IsReady l list against (assigned (variable_count l) order q) (slice_index_or depths k [])) (sym (take_all k (p ++ x ∷ []) (let size = long in omega arith)))
+          (subst (λ (j : ℕ). IsReady l list against (assigned (variable_count l) order (p ++ x ∷ [])) (slice_index_or depths j [])) at new)
+
+  pub ready_up : (q : List ℕ) (y : ℕ) (depths : List Family) → AreReady l list against order (q ++ y ∷ []) depths → AreReady l list against order q depths
+  ready_up q y depths ready = λ k low. subst (λ (r : List ℕ). IsReady l list against (assigned (variable_count l) order r) (slice_index_or depths k [])) (take_front k q (y ∷ []) low)
+      (ready k (let size = length-append q (y ∷ []) in omega arith))
+
+  pub ready_first : (depths : List Family) → IsReady l list against (assigned (variable_count l) order []) (slice_index_or depths 0 []) → AreReady l list against order [] depths
+  ready_first depths new = λ k low. subst (λ (j : ℕ). IsReady l list against (assigned (variable_count l) order (take j [])) (slice_index_or depths j [])) (let e : 0 ≡ k = omega arith in e) new
+
+  -- what is ready is alive
+  pub ready_alive : IsLanguage l → AreConstraints l list against → (p : List ℕ) (f : Family) → IsReady l list against (assigned (variable_count l) order p) f → is_alive_in l list against order p ≡ true
+  ready_alive lawful are p f ready =
+      alive_as_family l lawful list against are (assigned (variable_count l) order p) (length-map-range_with_len (value_beside order p) 0 (variable_count l))
+      ∙ largest_tells l list against (assigned (variable_count l) order p)
+      ∙ tells_with (arcs_of l list against) (left_by l.value_count (assigned (variable_count l) order p)) f
+      (ready.family.size ∙ sym (length-map (assigned (variable_count l) order p) (domain_of l.value_count) ∙ length-map-range_with_len (value_beside order p) 0 (variable_count l))) ready.largest
+      ∙ ready.full
+
+  -- a family written at the next depth
+  pub ready_written : (p : List ℕ) (at : ℕ) (depths : List Family) (a g : Family) → at ≡ length p → AreReady l list against order p depths → AreReady l list against order p (slice_set (slice_set depths (at + 1) a) (at + 1) g)
+  ready_written p at depths a g place ready = ready_kept p depths (slice_set (slice_set depths (at + 1) a) (at + 1) g)
+      (λ k low. get_or-set_other (slice_set depths (at + 1) a) (at + 1) k g [] (λ e. omega arith) ∙ get_or-set_other depths (at + 1) k a [] (λ e. omega arith)) ready
+
+  pub deeper_written : (p : List ℕ) (x at : ℕ) (depths : List Family) (a g : Family) → at ≡ length p → at + 1 < length depths → AreReady l list against order p depths → IsReady l list against (assigned (variable_count l) order (p ++ x ∷ [])) g →
+      AreReady l list against order (p ++ x ∷ []) (slice_set (slice_set depths (at + 1) a) (at + 1) g)
+  deeper_written p x at depths a g place low ready new = ready_deeper p x (slice_set (slice_set depths (at + 1) a) (at + 1) g) (ready_written p at depths a g place ready)
+      (subst (IsReady l list against (assigned (variable_count l) order (p ++ x ∷ [])))
+      (sym (ap (λ k. slice_index_or (slice_set (slice_set depths (at + 1) a) (at + 1) g) k []) (let e : length p + 1 ≡ at + 1 = omega arith in e) ∙ get_or-set_same (slice_set depths (at + 1) a) (at + 1) g [] (let size = length-set depths (at + 1) a in omega arith))) new)
+
+-- ---- no value
+
+left_none : (d n : ℕ) → left_by d (replicate n None) ≡ replicate n (numbers d)
+left_none d zero = refl
+left_none d (suc m) = ap (λ (f : Family). numbers d ∷ f) (left_none d m)
+
+value_bound : (d n v x : ℕ) → has (slice_index_or (replicate n (numbers d)) v []) x ≡ true → x < d
+value_bound d zero v x h = cc
+value_bound d (suc m) zero x h = subst (λ (k : ℕ). x < k) (let e : 0 + d ≡ d = omega arith in e) (below_number 0 d x h)
+  where
+    below_number : (a k y : ℕ) → has (range_with_len a k) y ≡ true → y < a + k
+    below_number a zero y h = cc
+    below_number a (suc k) y h = go (or_cases (a == y) (has (range_with_len (a + 1) k) y) h) (below_number (a + 1) k y)
+      where
+        go : ((a == y) ≡ true) ⊎ (has (range_with_len (a + 1) k) y ≡ true) → (has (range_with_len (a + 1) k) y ≡ true → y < a + 1 + k) → y < a + suc k
+        go (inl same) rest = (let e = eqb-true a y same in omega arith)
+        go (inr there) rest = (let low = rest there in omega arith)
+value_bound d (suc m) (suc v) x h = value_bound d m v x h
+
+pub full_family : (l : Language) → IsFamilyOf l (replicate (variable_count l) (numbers l.value_count))
+full_family l = record { size = length-replicate {A = List ℕ} (variable_count l) (numbers l.value_count); values = λ v x h. value_bound l.value_count (variable_count l) v x h }
+
+pub begun_ready : (l : Language) (list : List Candidate) (against : Option Candidate) (full f : Family) (depths : List Family) → full ≡ replicate (variable_count l) (numbers l.value_count) → 0 < length depths →
+    IsLargest (arcs_of l list against) full f → list_all is_not_empty f ≡ true → IsFamilyOf l f → IsReady l list against (replicate (variable_count l) None) (slice_index_or (slice_set depths 0 f) 0 [])
+begun_ready l list against full f depths is some largest_f nonempty family = subst (IsReady l list against (replicate (variable_count l) None)) (sym (get_or-set_same depths 0 f [] some)) (record {
+  largest = subst (λ (g : Family). IsLargest (arcs_of l list against) g f) (is ∙ sym (left_none l.value_count (variable_count l))) largest_f;
+  full = nonempty;
+  family = family;
+})
+
+pub begun_dead : (l : Language) (list : List Candidate) (against : Option Candidate) (full : Family) → full ≡ replicate (variable_count l) (numbers l.value_count) →
+    list_all is_not_empty (largest (arcs_of l list against) full) ≡ false → has_family l list against (replicate (variable_count l) None) ≡ false
+begun_dead l list against full is none = largest_tells l list against (replicate (variable_count l) None)
+    ∙ ap (λ (g : Family). list_all is_not_empty (largest (arcs_of l list against) g)) (left_none l.value_count (variable_count l) ∙ sym is) ∙ none

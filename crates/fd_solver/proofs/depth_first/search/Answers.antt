@@ -1,0 +1,26 @@
+use Rattle.std.proofs.Common.{◌∙◌, ◌&&◌, Bool, true, false, ap, sym, subst, refl, [], ◌≡◌}
+use Rattle.std.specs.Prelude.{slice_index_or}
+use Rattle.language.specs.Language.{variable_count}
+use Rattle.assign.specs.Assignment.{assigned}
+use Rattle.propagators.specs.Allowed.{is_allowed}
+use Rattle.propagators.specs.Families.{has_family}
+use Rattle.fd_solver.specs.Outcomes.{is_alive_in}
+use Rattle.fd_solver.specs.Ready.{IsReady}
+use Rattle.fd_solver.proofs.Filling.{assigned_blank}
+use Rattle.fd_solver.proofs.Alive.{alive_fronts}
+use Rattle.fd_solver.proofs.Narrowing.{ready_first}
+use Rattle.fd_solver.proofs.Turning.{turn_dead}
+use Rattle.fd_solver.proofs.depth_first.search.Goals as goal
+
+pub walk-requires-clause-ready : goal.walk-requires-clause-ready
+walk-requires-clause-ready c = record { depths = ready_first c.args.cons.now.lang.now c.args.cons.now.list.now c.args.cons.now.against c.args.order.now c.begin.new.self.depths
+    (subst (λ e. IsReady c.args.cons.now.lang.now c.args.cons.now.list.now c.args.cons.now.against e (slice_index_or c.begin.new.self.depths 0 [])) (assigned_blank (variable_count c.args.cons.now.lang.now) c.args.order.now c.requires.order) (c.begin.ensures.ready c.if-begin.true)); briefs = c.begin.ensures.briefs }
+
+none : (a b : Bool) → b ≡ false → (a && b) ≡ false
+none true b h = h
+none false b h = refl
+
+pub returns-else-begin : goal.returns-else-begin
+returns-else-begin c = sym (turn_dead c.args.cons.now.lang.now.value_count (variable_count c.args.cons.now.lang.now) (assigned (variable_count c.args.cons.now.lang.now) c.args.order.now)
+    (is_alive_in c.args.cons.now.lang.now c.args.cons.now.list.now c.args.cons.now.against c.args.order.now) c.args.budget (alive_fronts c.args.cons.now.lang.now c.args.cons.now.list.now c.args.cons.now.against c.args.order.now)
+    (none _ _ (ap (has_family c.args.cons.now.lang.now c.args.cons.now.list.now c.args.cons.now.against) (sym (assigned_blank (variable_count c.args.cons.now.lang.now) c.args.order.now c.requires.order)) ∙ c.begin.ensures.dead c.if-begin.false)))

@@ -1,0 +1,34 @@
+-- Domains that are ready for the search below a prefix.
+use Rattle.std.specs.Prelude.{ℕ, ◌≡◌, ◌≤◌, ◌==◌, true, List, [], length, take, slice_index_or, slice_set, Option}
+use Rattle.std.specs.List.{filter, list_all}
+use Rattle.assign.specs.Assignment.{Assignment, assigned}
+use Rattle.language.specs.declared.candidates.Candidate.{Candidate}
+use Rattle.language.specs.Language.{Language, variable_count}
+use Rattle.propagators.specs.Families.{Family, arcs_of, left_by, is_not_empty, IsLargest}
+use Rattle.propagators.specs.Supports.{IsFamilyOf}
+use Rattle.propagators.specs.declared.briefs.Brief.{Brief}
+use Rattle.propagators.specs.Briefs.{AreBriefs}
+
+-- the largest arc-consistent family of what an assignment leaves, with no empty set
+pub record IsReady (l : Language) (list : List Candidate) (against : Option Candidate) (e : Assignment) (f : Family) : Type 0 where
+  pub largest : IsLargest (arcs_of l list against) (left_by l.value_count e) f
+  pub full : list_all is_not_empty f ≡ true
+  pub family : IsFamilyOf l f
+
+-- for each front of a prefix there is one, by its length
+abbrev pub AreReady : Language → List Candidate → Option Candidate → List ℕ → List ℕ → List Family → Type 0
+AreReady l list against order p depths = (k : ℕ) → k ≤ length p → IsReady l list against (assigned (variable_count l) order (take k p)) (slice_index_or depths k [])
+
+-- the family with one value alone left to a variable
+abbrev pub fixed : Family → ℕ → ℕ → Family
+fixed f v x = slice_set f v (filter (λ y. x == y) (slice_index_or f v []))
+
+-- for each depth a family, and the briefs of the conditions
+pub record Room : Type 0 where
+  pub depths : List Family
+  pub briefs : List Brief
+
+-- the room is ready for the search below a prefix
+pub record IsArranged (l : Language) (list : List Candidate) (against : Option Candidate) (order : List ℕ) (p : List ℕ) (w : Room) : Type 0 where
+  pub depths : AreReady l list against order p w.depths
+  pub briefs : AreBriefs l.value_count (arcs_of l list against) w.briefs

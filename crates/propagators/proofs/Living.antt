@@ -1,0 +1,173 @@
+-- A prefix is alive where no set of the largest consistent subfamily of its values is empty.
+use Rattle.std.proofs.Common.{◌≡◌, ℕ, zero, suc, ◌+◌, Bool, true, false, cond, ◌&&◌, ◌||◌, List, [], ◌∷◌, length, map, Option, refl, sym, ◌∙◌, ap, subst, arith, inl, inr, ◌⊎◌}
+use Rattle.std.specs.Prelude.{◌==◌, All, slice_index_or}
+use Rattle.std.specs.List.{filter, list_any, list_all, flat_map}
+use Rattle.std.proofs.lemmas.List.Folds.{list_any-append, Any-from_list_any}
+use Rattle.std.proofs.lemmas.List.Elements.{All-head, All-tail, All-nil, All-cons, All-append, All-map, All-weaker, All-filter, filter_passes}
+use Rattle.std.proofs.lemmas.Bool.{and_parts, and_from, or_left, or_right, or_cases}
+use Rattle.assign.specs.Sets.{has}
+use Rattle.assign.specs.Assignment.{Assignment}
+use Rattle.propagators.specs.Families.{Family, Arc, subsets, is_not_empty, domain_of, families_within, arcs_of, is_arc_consistent, IsSubfamily, is_supported, prune_from, prune, size_of, pruned, largest}
+use Rattle.propagators.specs.Laws.{LargestTells}
+use Rattle.std.proofs.lemmas.List.{length-map}
+use Rattle.language.proofs.Members.{any-filter, any-map, any-flat_map}
+use Rattle.propagators.proofs.Pruned.{largest_is, has_head}
+
+-- ---- the families of an assignment lie within its values, and no set is empty
+
+record IsChoice (d : ℕ) (e : Assignment) (f : Family) : Type 0 where
+  within : IsSubfamily f (map (domain_of d) e)
+  full : list_all is_not_empty f ≡ true
+  long : length f ≡ length e
+
+all_flat : {X Y : Type 0} (P : X → Type 0) (Q : Y → Type 0) (f : X → List Y) (xs : List X) → All P xs → ((x : X) → P x → All Q (f x)) → All Q (flat_map f xs)
+all_flat P Q f [] all h = All-nil Q
+all_flat P Q f (x ∷ xs) all h = All-append Q (f x) (flat_map f xs) (h x (All-head P x xs all)) (all_flat P Q f xs (All-tail P x xs all) h)
+
+abbrev IsIn : List ℕ → List ℕ → Type 0
+IsIn ys s = (x : ℕ) → has s x ≡ true → has ys x ≡ true
+
+subsets_in : (ys : List ℕ) → All (IsIn ys) (subsets ys)
+subsets_in [] = All-cons (IsIn []) [] [] (λ x h. h) (All-nil (IsIn []))
+subsets_in (y ∷ ys) = All-append (IsIn (y ∷ ys)) (map (λ s. y ∷ s) (subsets ys)) (subsets ys)
+    (All-map (IsIn (y ∷ ys)) (λ s. y ∷ s) (subsets ys) (All-weaker (IsIn ys) (λ s. IsIn (y ∷ ys) (y ∷ s)) (λ s h x at. with_one s h x (or_cases _ _ at)) (subsets ys) (subsets_in ys)))
+    (All-weaker (IsIn ys) (IsIn (y ∷ ys)) (λ s h x at. or_right _ _ (h x at)) (subsets ys) (subsets_in ys))
+  where
+    with_one : (s : List ℕ) → IsIn ys s → (x : ℕ) → ((y == x) ≡ true) ⊎ (has s x ≡ true) → ((y == x) || has ys x) ≡ true
+    with_one s h x (inl same) = or_left _ _ same
+    with_one s h x (inr there) = or_right _ _ (h x there)
+
+-- the nonempty sets of values that a variable may have
+abbrev pub domains_within : ℕ → Option ℕ → List (List ℕ)
+domains_within d o = filter is_not_empty (subsets (domain_of d o))
+
+pub families_as : (p : Family → Bool) (d : ℕ) (o : Option ℕ) (e : Assignment) → list_any p (families_within d (o ∷ e)) ≡ list_any (λ xs. list_any (λ rest. p (xs ∷ rest)) (families_within d e)) (domains_within d o)
+families_as p d o e = any-flat_map p (λ (xs : List ℕ). map (λ rest. xs ∷ rest) (families_within d e)) (domains_within d o) ∙ go (domains_within d o)
+  where
+    go : (doms : List (List ℕ)) → list_any (λ xs. list_any p (map (λ rest. xs ∷ rest) (families_within d e))) doms ≡ list_any (λ xs. list_any (λ rest. p (xs ∷ rest)) (families_within d e)) doms
+    go [] = refl
+    go (xs ∷ doms) = λ i. any-map p (λ (rest : Family). xs ∷ rest) (families_within d e) i || go doms i
+
+record IsPart (ys s : List ℕ) : Type 0 where
+  inside : IsIn ys s
+  full : is_not_empty s ≡ true
+
+domains_parts : (d : ℕ) (o : Option ℕ) → All (IsPart (domain_of d o)) (domains_within d o)
+domains_parts d o = λ k x low. record {
+  inside = All-filter is_not_empty (IsIn (domain_of d o)) (subsets (domain_of d o)) (subsets_in (domain_of d o)) k x low;
+  full = filter_passes is_not_empty (subsets (domain_of d o)) k x low;
+}
+
+choices : (d : ℕ) (e : Assignment) → All (IsChoice d e) (families_within d e)
+choices d [] = All-cons (IsChoice d []) [] [] (record { within = λ v x h. h; full = refl; long = refl }) (All-nil (IsChoice d []))
+choices d (o ∷ e) = all_flat (IsPart (domain_of d o)) (IsChoice d (o ∷ e)) (λ (xs : List ℕ). map (λ rest. xs ∷ rest) (families_within d e)) (domains_within d o) (domains_parts d o) (λ xs part.
+    All-map (IsChoice d (o ∷ e)) (λ rest. xs ∷ rest) (families_within d e) (All-weaker (IsChoice d e) (λ rest. IsChoice d (o ∷ e) (xs ∷ rest)) (λ rest is. with_set xs part rest is) (families_within d e) (choices d e)))
+  where
+    with_set : (xs : List ℕ) → IsPart (domain_of d o) xs → (rest : Family) → IsChoice d e rest → IsChoice d (o ∷ e) (xs ∷ rest)
+    with_set xs part rest is = record { within = inside; full = and_from _ _ part.full is.full; long = ap suc is.long }
+      where
+        inside : (v x : ℕ) → has (slice_index_or (xs ∷ rest) v []) x ≡ true → has (slice_index_or (domain_of d o ∷ map (domain_of d) e) v []) x ≡ true
+        inside zero x h = part.inside x h
+        inside (suc v) x h = is.within v x h
+
+-- a family without empty sets that lies within another of the same length
+pub full_above : (f g : Family) → length f ≡ length g → IsSubfamily f g → list_all is_not_empty f ≡ true → list_all is_not_empty g ≡ true
+full_above [] [] long sub h = refl
+full_above [] (ys ∷ g) long sub h = absurd (omega arith)
+full_above (xs ∷ f) [] long sub h = absurd (omega arith)
+full_above (xs ∷ f) (ys ∷ g) long sub h =
+    let parts = and_parts (is_not_empty xs) (list_all is_not_empty f) h in
+    and_from _ _ (go xs ys (λ x. sub 0 x) parts.0) (full_above f g (omega arith) (λ v x. sub (suc v) x) parts.1)
+  where
+    go : (xs ys : List ℕ) → ((x : ℕ) → has xs x ≡ true → has ys x ≡ true) → is_not_empty xs ≡ true → is_not_empty ys ≡ true
+    go [] ys more h = cc
+    go (x ∷ xs) [] more h = absurd (let no : false ≡ true = more x (has_head x xs) in let is : ⊥ = cc in is)
+    go (x ∷ xs) (y ∷ ys) more h = refl
+
+-- ---- what is left after pruning is one of the families
+
+-- xs is among the subsets of ys
+abbrev IsCut : List ℕ → List ℕ → Type 0
+IsCut ys xs = (q : List ℕ → Bool) → q xs ≡ true → list_any q (subsets ys) ≡ true
+
+cut_whole : (ys : List ℕ) → IsCut ys ys
+cut_whole [] q h = or_left _ _ h
+cut_whole (y ∷ ys) q h = list_any-append q (map (λ s. y ∷ s) (subsets ys)) (subsets ys) ∙ or_left _ _ (any-map q (λ s. y ∷ s) (subsets ys) ∙ cut_whole ys (λ s. q (y ∷ s)) h)
+
+cut_filter : (t : ℕ → Bool) (ys : List ℕ) (q : List ℕ → Bool) → list_any (λ s. q (filter t s)) (subsets ys) ≡ true → list_any q (subsets ys) ≡ true
+cut_filter t [] q h = h
+cut_filter t (y ∷ ys) q h =
+    list_any-append q (map (λ s. y ∷ s) (subsets ys)) (subsets ys)
+    ∙ go (t y) refl (or_cases _ _ (sym (list_any-append (λ s. q (filter t s)) (map (λ s. y ∷ s) (subsets ys)) (subsets ys)) ∙ h)) (cut_filter t ys q) (cut_filter t ys (λ s. q (y ∷ s)))
+  where
+    go : (b : Bool) → t y ≡ b → (list_any (λ s. q (filter t s)) (map (λ s. y ∷ s) (subsets ys)) ≡ true) ⊎ (list_any (λ s. q (filter t s)) (subsets ys) ≡ true) →
+        (list_any (λ s. q (filter t s)) (subsets ys) ≡ true → list_any q (subsets ys) ≡ true) → (list_any (λ s. q (y ∷ filter t s)) (subsets ys) ≡ true → list_any (λ s. q (y ∷ s)) (subsets ys) ≡ true) →
+        (list_any q (map (λ s. y ∷ s) (subsets ys)) || list_any q (subsets ys)) ≡ true
+    go true e (inl here) plain with_y = or_left _ _ (any-map q (λ s. y ∷ s) (subsets ys) ∙ with_y (
+        subst (λ b. list_any (λ s. q (cond b (y ∷ filter t s) (filter t s))) (subsets ys) ≡ true) e (sym (any-map (λ s. q (filter t s)) (λ s. y ∷ s) (subsets ys)) ∙ here)))
+    go false e (inl here) plain with_y = or_right _ _ (plain (
+        subst (λ b. list_any (λ s. q (cond b (y ∷ filter t s) (filter t s))) (subsets ys) ≡ true) e (sym (any-map (λ s. q (filter t s)) (λ s. y ∷ s) (subsets ys)) ∙ here)))
+    go b e (inr there) plain with_y = or_right _ _ (plain there)
+
+abbrev AreCuts : Family → Family → Type 0
+AreCuts [] [] = Unit {0}
+AreCuts [] (xs ∷ f) = ⊥
+AreCuts (ys ∷ from) [] = ⊥
+AreCuts (ys ∷ from) (xs ∷ f) = IsCut ys xs × AreCuts from f
+
+cuts_whole : (f : Family) → AreCuts f f
+cuts_whole [] = tt
+cuts_whole (xs ∷ f) = (cut_whole xs, cuts_whole f)
+
+cuts_prune : (arcs : List Arc) (whole : Family) (v : ℕ) (from f : Family) → AreCuts from f → AreCuts from (prune_from arcs whole v f)
+cuts_prune arcs whole v [] [] h = tt
+cuts_prune arcs whole v [] (xs ∷ f) h = absurd h
+cuts_prune arcs whole v (ys ∷ from) [] h = absurd h
+cuts_prune arcs whole v (ys ∷ from) (xs ∷ f) h = (λ q at. cut_filter (is_supported arcs whole v) ys q (h.0 (λ s. q (filter (is_supported arcs whole v) s)) at), cuts_prune arcs whole (v + 1) from f h.1)
+
+cuts_pruned : (k : ℕ) (arcs : List Arc) (from f : Family) → AreCuts from f → AreCuts from (pruned k arcs f)
+cuts_pruned zero arcs from f h = h
+cuts_pruned (suc k) arcs from f h = cuts_pruned k arcs from (prune arcs f) (cuts_prune arcs f 0 from f h)
+
+pub cuts_long : (from f : Family) → AreCuts from f → length from ≡ length f
+cuts_long [] [] h = refl
+cuts_long [] (xs ∷ f) h = absurd h
+cuts_long (ys ∷ from) [] h = absurd h
+cuts_long (ys ∷ from) (xs ∷ f) h = ap suc (cuts_long from f h.1)
+
+a_family : (p : Family → Bool) (d : ℕ) (e : Assignment) (f : Family) → AreCuts (map (domain_of d) e) f → list_all is_not_empty f ≡ true → p f ≡ true → list_any p (families_within d e) ≡ true
+a_family p d [] [] cuts full at = or_left _ _ at
+a_family p d [] (xs ∷ f) cuts full at = absurd cuts
+a_family p d (o ∷ e) [] cuts full at = absurd cuts
+a_family p d (o ∷ e) (xs ∷ f) cuts full at =
+    let parts = and_parts (is_not_empty xs) (list_all is_not_empty f) full in
+    let rest : list_any (λ rest. p (xs ∷ rest)) (families_within d e) ≡ true = a_family (λ rest. p (xs ∷ rest)) d e f cuts.1 parts.1 at in
+    families_as p d o e
+    ∙ any-filter (λ ys. list_any (λ rest. p (ys ∷ rest)) (families_within d e)) is_not_empty (subsets (domain_of d o))
+    ∙ cuts.0 (λ ys. is_not_empty ys && list_any (λ rest. p (ys ∷ rest)) (families_within d e)) (and_from _ _ parts.0 rest)
+
+-- ---- together
+
+true_both : (a b : Bool) → (a ≡ true → b ≡ true) → (b ≡ true → a ≡ true) → a ≡ b
+true_both true b h k = sym (h refl)
+true_both false true h k = k refl
+true_both false false h k = refl
+
+pub living : (arcs : List Arc) (d : ℕ) (e : Assignment) → list_any (is_arc_consistent arcs) (families_within d e) ≡ list_all is_not_empty (largest arcs (map (domain_of d) e))
+living arcs d e = true_both _ _ (λ some.
+    let found = Any-from_list_any (is_arc_consistent arcs) (families_within d e) some in
+    let is = choices d e found.0 found.1 found.2 in
+    let f : Family = slice_index_or (families_within d e) found.0 found.1 in
+    full_above f (largest arcs (map (domain_of d) e))
+    (is.long ∙ sym (length-map e (domain_of d)) ∙ cuts_long (map (domain_of d) e) (largest arcs (map (domain_of d) e)) cuts)
+    ((largest_is arcs (map (domain_of d) e)).greatest f is.within (ap (is_arc_consistent arcs) found.3 ∙ found.4)) is.full)
+    (λ full. a_family (is_arc_consistent arcs) d e (largest arcs (map (domain_of d) e)) cuts full (largest_is arcs (map (domain_of d) e)).consistent)
+  where
+    cuts : AreCuts (map (domain_of d) e) (largest arcs (map (domain_of d) e))
+    cuts = cuts_pruned (size_of (map (domain_of d) e)) arcs (map (domain_of d) e) (map (domain_of d) e) (cuts_whole (map (domain_of d) e))
+
+pub largest_long : (arcs : List Arc) (f : Family) → length (largest arcs f) ≡ length f
+largest_long arcs f = sym (cuts_long f (largest arcs f) (cuts_pruned (size_of f) arcs f f (cuts_whole f)))
+
+pub largest_tells : LargestTells
+largest_tells l list against e = living (arcs_of l list against) l.value_count e

@@ -1,0 +1,35 @@
+use Rattle.std.proofs.Common.{◌≡◌, ◌⊎◌, ◌<◌, ◌+◌, ◌∙◌, ℕ, List, [], true, false, length, refl, sym, subst, arith}
+use Rattle.std.specs.List.{list_any}
+use Rattle.assign.specs.Sets.{has, union}
+use Rattle.propagators.specs.Families.{Family, Arc, arc_of, arcs_of, is_consistent}
+use Rattle.propagators.specs.Supports.{IsRevised, IsDead}
+use Rattle.propagators.proofs.Rounds.{IsPassing, pass_on, pass_either, dead_before, dead_here}
+use Rattle.propagators.proofs.Conditions.{arcs_small}
+use Rattle.propagators.proofs.revising.pass.Goals.{then-not-may_pass+in-Some, else-not-may_pass}
+use Rattle.propagators.proofs.revising.pass.Goals as goal
+
+none : Arc
+none = record { scope = []; accepted = λ tuple. true }
+
+pub returns-in-None-clause-dead : goal.returns-in-None-clause-dead
+returns-in-None-clause-dead c = λ e.
+    (let low : c.loop-i.i < length (arcs_of c.args.cons.now.lang.now c.args.cons.now.list.now c.args.cons.now.against) = (let all = c.count-i-end.ensures in omega arith) in
+    dead_before (arcs_of c.args.cons.now.lang.now c.args.cons.now.list.now c.args.cons.now.against) c.args.doms.now c.loop-i.doms c.loop-i.invariant.underway
+    (dead_here (arcs_of c.args.cons.now.lang.now c.args.cons.now.list.now c.args.cons.now.against) c.loop-i.doms c.loop-i.i none low (subst (λ (a : Arc). IsDead a c.loop-i.doms) (sym (c.condition-holding.ensures.is none)) (c.in-None.ensures.dead refl))))
+
+pub loop-i-preserved : goal.loop-i-preserved
+loop-i-preserved c =
+    let low : c.loop-i.i < length (arcs_of c.args.cons.now.lang.now c.args.cons.now.list.now c.args.cons.now.against) = (let all = c.count-i-end.ensures in omega arith) in
+    let small = arcs_small c.args.cons.now.lang.now c.args.cons.now.list.now c.args.cons.now.against c.requires.lawful c.requires.constraints in
+    elim c.if-not-may_pass.branch [
+      | then-not-may_pass+in-Some w ↦
+          subst (λ (next : List ℕ). IsPassing (arcs_of c.args.cons.now.lang.now c.args.cons.now.list.now c.args.cons.now.against) c.args.changed c.args.doms.now (c.loop-i.i + 1) next c.if-not-may_pass.doms) (sym (w.next-is ∙ w.union-next.ensures))
+          (subst (λ (g : Family). IsPassing (arcs_of c.args.cons.now.lang.now c.args.cons.now.list.now c.args.cons.now.against) c.args.changed c.args.doms.now (c.loop-i.i + 1) (union c.loop-i.next w.in-Some.lost) g) (sym w.doms-is)
+          (pass_on (arcs_of c.args.cons.now.lang.now c.args.cons.now.list.now c.args.cons.now.against) c.args.changed c.args.doms.now c.loop-i.i c.loop-i.next w.in-Some.lost c.loop-i.doms w.revise.new.doms small low c.loop-i.invariant
+          (λ d. subst (λ (a : Arc). IsRevised a c.loop-i.doms w.revise.new.doms) (sym (c.condition-holding.ensures.is d)) w.in-Some.ensures.revised) w.in-Some.ensures.cut))
+      | else-not-may_pass w ↦
+          subst (λ (next : List ℕ). IsPassing (arcs_of c.args.cons.now.lang.now c.args.cons.now.list.now c.args.cons.now.against) c.args.changed c.args.doms.now (c.loop-i.i + 1) next c.if-not-may_pass.doms) (sym w.next-is)
+          (subst (λ (g : Family). IsPassing (arcs_of c.args.cons.now.lang.now c.args.cons.now.list.now c.args.cons.now.against) c.args.changed c.args.doms.now (c.loop-i.i + 1) c.loop-i.next g) (sym w.doms-is)
+          (pass_either (arcs_of c.args.cons.now.lang.now c.args.cons.now.list.now c.args.cons.now.against) c.args.changed c.args.doms.now c.loop-i.i c.loop-i.next c.loop-i.doms (arc_of c.args.cons.now.lang.now c.condition-holding.result.0 c.condition-holding.result.1) small c.loop-i.invariant c.condition-holding.ensures.is
+          (subst (λ (xs : List ℕ). (list_any (has xs) (arc_of c.args.cons.now.lang.now c.condition-holding.result.0 c.condition-holding.result.1).scope ≡ false) ⊎ (is_consistent c.loop-i.doms (arc_of c.args.cons.now.lang.now c.condition-holding.result.0 c.condition-holding.result.1).scope (arc_of c.args.cons.now.lang.now c.condition-holding.result.0 c.condition-holding.result.1).accepted ≡ true)) c.union.ensures (c.may_pass.ensures w.if-not-may_pass.false))))
+    ]

@@ -1,0 +1,14 @@
+use Rattle.std.proofs.Common.{◌<◌, ◌-◌, ◌∙◌, ap, sym, arith, lit≤}
+use Rattle.std.proofs.lemmas.Nat.{one_shl}
+use Rattle.assign.specs.Sets.{numbers}
+use Rattle.propagators.specs.Values.{ones_of}
+use Rattle.propagators.proofs.Ones.{ones_of-first}
+use Rattle.propagators.proofs.values.first_values.Goals as goal
+
+pub returns-then-d-eq64 : goal.returns-then-d-eq64
+returns-then-d-eq64 c = ones_of-first 64 (lit≤ tt) ∙ ap numbers (sym c.if-d-eq64.true)
+
+pub returns-else-d-eq64 : goal.returns-else-d-eq64
+returns-else-d-eq64 c =
+    let small : c.args.d < 64 = (let differs = c.if-d-eq64.false in omega arith) in
+    ap (λ x. ones_of (x - 1)) (one_shl c.args.d 64 small) ∙ ones_of-first c.args.d c.requires

@@ -1,0 +1,118 @@
+ghost use Rattle.std.specs.Prelude.{◌≡◌, ◌<◌, ◌≤◌, ◌==◌, ℕ, [], true, false, not, length, map, take, replicate, slice_index_or, slice_set, All};
+ghost use Rattle.std.specs.List.{filter, list_all, list_any};
+ghost use Rattle.assign.specs.Sets.{numbers, has, IsSet};
+ghost use Rattle.language.specs.Language.{variable_count};
+ghost use Rattle.propagators.specs.Values.{ones_of};
+ghost use Rattle.propagators.specs.Families.{is_not_empty, sets_on, size_of};
+ghost use Rattle.propagators.specs.Supports.{IsFamilyOf};
+ghost use Rattle.propagators.specs.Briefs.{HasTwo};
+
+use crate::values::{first_values, has_two, has_value, only_value};
+use language::Language;
+use std::marker::Model;
+
+/// For each variable of a language a set of values.
+#[derive(Clone, Copy)]
+pub struct Domains {
+    /// For each variable the mask of its values, and then 0.
+    sets: [u64; 128],
+    /// How many variables there are.
+    size: u8,
+}
+
+impl Model for Domains {
+    ghost use Rattle.propagators.specs.Families.{Family};
+
+    ghost Value = { Family };
+
+    ghost use Rattle.propagators.specs.InsideDomains.{seen, AreMasks, masks_of, masks_of-seen};
+
+    ghost view = { seen };
+
+    ghost invariant = { AreMasks };
+
+    ghost inverse = { masks_of };
+
+    ghost inverse_ok = { masks_of-seen };
+}
+
+/// Whether one of these masks is 0.
+fn some_is_zero(masks: &[u64]) -> bool
+    ensures { result ≡ list_any (λ mask. mask == 0) masks.now }
+{
+    masks.iter().any(|mask| *mask == 0)
+}
+
+impl Domains {
+    /// All values for each variable.
+    pub fn full(lang: &Language) -> Domains
+        ensures { result ≡ replicate (variable_count lang.now) (numbers lang.now.value_count) }
+    {
+        let n = lang.n();
+        let all = first_values(lang.d());
+        let mut sets = [0; 128];
+        for v in 0..n as usize {
+            sets[v] = all;
+        }
+        Domains { sets, size: n }
+    }
+
+    /// Takes all other values out of the variable's set, and leaves the other sets.
+    pub fn fix(&mut self, v: u8, value: u8)
+        requires known { v < length self.old }
+        requires small { value < 64 }
+        ensures { self.new ≡ slice_set self.old v (filter (λ x. value == x) (slice_index_or self.old v [])) }
+    {
+        self.sets[v as usize] = only_value(self.sets[v as usize], value);
+    }
+
+    /// Whether the value is in the variable's set.
+    pub fn has(&self, v: u8, value: u8) -> bool
+        requires { v < length self.now }
+        ensures { result ≡ has (slice_index_or self.now v []) value }
+    {
+        has_value(self.sets[v as usize], value)
+    }
+
+    /// Whether some set is empty.
+    pub(crate) fn has_empty(&self) -> bool
+        ensures { result ≡ not (list_all is_not_empty self.now) }
+    {
+        some_is_zero(&self.sets[..self.size as usize])
+    }
+
+    /// Whether a variable has two values.
+    #[inline]
+    pub(crate) fn has_two(&self, v: u8) -> bool
+        requires { v < length self.now }
+        ensures { result ≡ true → HasTwo (slice_index_or self.now v []) }
+    {
+        has_two(self.sets[v as usize])
+    }
+
+    /// The sets of a scope's variables.
+    pub(crate) fn on(&self, scope: &[u8]) -> [u64; 4]
+        requires short { length scope.now ≤ 4 }
+        requires known { All (λ v. v < length self.now) scope.now }
+        ensures { take (length scope.now) (map ones_of result) ≡ sets_on self.now scope.now }
+    {
+        let mut sets = [0; 4];
+        for j in 0..scope.len() {
+            sets[j] = self.sets[scope[j] as usize];
+        }
+        sets
+    }
+
+    /// Leaves the variable these of its values, and says whether it had others.
+    pub(crate) fn cut(&mut self, v: u8, values: u64) -> bool
+        requires known { v < length self.old }
+        requires within { (x : ℕ) → has (ones_of values) x ≡ true → has (slice_index_or self.old v []) x ≡ true }
+        ensures is { self.new ≡ slice_set self.old v (ones_of values) }
+        ensures same { result ≡ false → self.new ≡ self.old }
+        ensures less { result ≡ true → size_of self.new < size_of self.old }
+    {
+        let had = self.sets[v as usize];
+        self.sets[v as usize] = values;
+        had != values
+    }
+}

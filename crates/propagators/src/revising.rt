@@ -1,0 +1,187 @@
+ghost use Rattle.std.specs.Prelude.{◌≡◌, ◌<◌, ◌≤◌, ◌⊎◌, ℕ, [], true, false, All, IfSome, None, length, map, take, slice_index_or};
+ghost use Rattle.std.specs.List.{list_any, list_all};
+ghost use Rattle.assign.specs.Sets.{has};
+ghost use Rattle.language.specs.Language.{IsLanguage, IsCandidate};
+ghost use Rattle.propagators.specs.Allowed.{AreConstraints};
+ghost use Rattle.propagators.specs.Values.{ones_of};
+ghost use Rattle.propagators.specs.Families.{Arc, arc_of, arcs_of, is_consistent, is_not_empty, largest, IsLargest};
+ghost use Rattle.propagators.specs.Supports.{AreDifferent, IsFamilyOf, IsRevised, IsDead, IsCut, AreSettled, AreFewer, IsUnderway, replaced};
+ghost use Rattle.propagators.specs.Briefs.{AreBriefs};
+
+use crate::briefs::{Brief, is_settled};
+use crate::constraints::Constraints;
+use crate::domains::Domains;
+use crate::supports::supported;
+use crate::values::is_empty;
+use assign::VarSet;
+use language::{Candidate, Language};
+
+/// Whether each variable has a value left.
+#[derive(Clone, Copy, Debug, PartialEq, Eq)]
+pub enum Alive {
+    /// Each has one, in the largest arc-consistent subfamily.
+    Yes,
+    /// In that subfamily some variable has none.
+    No,
+}
+
+/// Whether some variable of a scope is a member of a set.
+fn touches(scope: &[u8], set: VarSet) -> bool
+    requires { All (λ v. v < 128) scope.now }
+    ensures { result ≡ list_any (has set) scope.now }
+{
+    for v in scope {
+        if set.has(*v) {
+            return true;
+        }
+    }
+    false
+}
+
+/// Leaves a scope's variables these of their values, and says which of them had others.
+fn cut_all(doms: &mut Domains, scope: &[u8], found: &[u64; 4]) -> VarSet
+    requires short { length scope.now ≤ 4 }
+    requires known { All (λ v. v < length doms.old) scope.now }
+    requires few { length doms.old ≤ 128 }
+    requires different { AreDifferent scope.now }
+    requires within { (j x : ℕ) → j < length scope.now → has (ones_of (slice_index_or found.now j 0)) x ≡ true → has (slice_index_or doms.old (slice_index_or scope.now j 0) []) x ≡ true }
+    ensures is { doms.new ≡ replaced scope.now (take (length scope.now) (map ones_of found.now)) doms.old }
+    ensures cut { IsCut result doms.old doms.new }
+{
+    let mut changed = VarSet::empty();
+    for j in 0..scope.len() {
+        if doms.cut(scope[j], found[j]) {
+            changed = changed.with(scope[j]);
+        }
+    }
+    changed
+}
+
+/// Takes away the values of a scope that the candidate doesn't support, where it is to hold, or not to hold. Says which
+/// variables lost some; `None` where no tuple is left.
+fn revise(lang: &Language, c: Candidate, holding: bool, doms: &mut Domains) -> Option<VarSet>
+    requires lawful { IsLanguage lang.now }
+    requires candidate { IsCandidate lang.now c }
+    requires family { IsFamilyOf lang.now doms.old }
+    ensures revised { IfSome result (λ changed. IsRevised (arc_of lang.now c holding) doms.old doms.new) }
+    ensures cut { IfSome result (λ changed. IsCut changed doms.old doms.new) }
+    ensures dead { result ≡ None → IsDead (arc_of lang.now c holding) doms.old }
+{
+    let scope = lang.scope(c.scope);
+    let found = supported(lang.table_on(c.scope, c.rel), holding, &doms.on(scope));
+    if is_empty(found[0]) {
+        return None;
+    }
+    Some(cut_all(doms, scope, &found))
+}
+
+/// Whether condition i has none of the touched variables, or is consistent: by its brief, where there is one.
+fn may_pass(
+    cons: &Constraints,
+    briefs: &[Brief],
+    doms: &Domains,
+    i: usize,
+    c: Candidate,
+    holding: bool,
+    touched: VarSet,
+) -> bool
+    requires lawful { IsLanguage cons.now.lang.now }
+    requires candidate { IsCandidate cons.now.lang.now c }
+    requires low { i < length (arcs_of cons.now.lang.now cons.now.list.now cons.now.against) }
+    requires is { (a : Arc) → slice_index_or (arcs_of cons.now.lang.now cons.now.list.now cons.now.against) i a ≡ arc_of cons.now.lang.now c holding }
+    requires briefs { AreBriefs cons.now.lang.now.value_count (arcs_of cons.now.lang.now cons.now.list.now cons.now.against) briefs.now }
+    requires family { IsFamilyOf cons.now.lang.now doms.now }
+    ensures { result ≡ true → (list_any (has touched) (arc_of cons.now.lang.now c holding).scope ≡ false) ⊎ (is_consistent doms.now (arc_of cons.now.lang.now c holding).scope (arc_of cons.now.lang.now c holding).accepted ≡ true) }
+{
+    if i < briefs.len() {
+        is_settled(cons.lang, c, holding, briefs[i], touched, doms)
+    } else {
+        !touches(cons.lang.scope(c.scope), touched)
+    }
+}
+
+/// Goes once through the conditions that have a changed variable. Says which variables lost values; `None` where some
+/// variable has none left in an arc-consistent subfamily.
+fn pass(cons: &Constraints, briefs: &[Brief], doms: &mut Domains, changed: VarSet) -> Option<VarSet>
+    requires lawful { IsLanguage cons.now.lang.now }
+    requires constraints { AreConstraints cons.now.lang.now cons.now.list.now cons.now.against }
+    requires briefs { AreBriefs cons.now.lang.now.value_count (arcs_of cons.now.lang.now cons.now.list.now cons.now.against) briefs.now }
+    requires family { IsFamilyOf cons.now.lang.now doms.old }
+    requires full { list_all is_not_empty doms.old ≡ true }
+    requires settled { AreSettled (arcs_of cons.now.lang.now cons.now.list.now cons.now.against) changed doms.old }
+    ensures underway { IfSome result (λ next. IsUnderway (arcs_of cons.now.lang.now cons.now.list.now cons.now.against) doms.old doms.new) }
+    ensures settled { IfSome result (λ next. AreSettled (arcs_of cons.now.lang.now cons.now.list.now cons.now.against) next doms.new) }
+    ensures fewer { IfSome result (λ next. AreFewer next doms.old doms.new) }
+    ensures dead { result ≡ None → list_all is_not_empty (largest (arcs_of cons.now.lang.now cons.now.list.now cons.now.against) doms.old) ≡ false }
+{
+    let mut next = VarSet::empty();
+    for i in 0..cons.count() {
+        let (c, holding) = cons.condition(i);
+        if !may_pass(cons, briefs, doms, i, c, holding, changed.union(next)) {
+            match revise(cons.lang, c, holding, doms) {
+                None => return None,
+                Some(lost) => next = next.union(lost),
+            }
+        }
+    }
+    Some(next)
+}
+
+/// `propagate`, where no set is empty and each condition is consistent that has none of the changed variables. The briefs
+/// are those of the conditions, as far as they go.
+pub fn propagate_after(
+    cons: &Constraints,
+    briefs: &[Brief],
+    doms: &mut Domains,
+    changed: VarSet,
+) -> Alive
+    requires lawful { IsLanguage cons.now.lang.now }
+    requires constraints { AreConstraints cons.now.lang.now cons.now.list.now cons.now.against }
+    requires briefs { AreBriefs cons.now.lang.now.value_count (arcs_of cons.now.lang.now cons.now.list.now cons.now.against) briefs.now }
+    requires family { IsFamilyOf cons.now.lang.now doms.old }
+    requires full { list_all is_not_empty doms.old ≡ true }
+    requires settled { AreSettled (arcs_of cons.now.lang.now cons.now.list.now cons.now.against) changed doms.old }
+    ensures largest { result ≡ Alive.Yes → IsLargest (arcs_of cons.now.lang.now cons.now.list.now cons.now.against) doms.old doms.new }
+    ensures full { result ≡ Alive.Yes → list_all is_not_empty doms.new ≡ true }
+    ensures family { result ≡ Alive.Yes → IsFamilyOf cons.now.lang.now doms.new }
+    ensures dead { result ≡ Alive.No → list_all is_not_empty (largest (arcs_of cons.now.lang.now cons.now.list.now cons.now.against) doms.old) ≡ false }
+{
+    let mut changed = changed;
+    while changed.len() != 0 {
+        match pass(cons, briefs, doms, changed) {
+            None => return Alive::No,
+            Some(next) => changed = next,
+        }
+    }
+    Alive::Yes
+}
+
+/// `propagate` with the briefs of the conditions, as far as they go.
+pub fn propagate_all(cons: &Constraints, briefs: &[Brief], doms: &mut Domains) -> Alive
+    requires constraints { AreConstraints cons.now.lang.now cons.now.list.now cons.now.against }
+    requires briefs { AreBriefs cons.now.lang.now.value_count (arcs_of cons.now.lang.now cons.now.list.now cons.now.against) briefs.now }
+    requires family { IsFamilyOf cons.now.lang.now doms.old }
+    ensures largest { result ≡ Alive.Yes → IsLargest (arcs_of cons.now.lang.now cons.now.list.now cons.now.against) doms.old doms.new }
+    ensures full { result ≡ Alive.Yes → list_all is_not_empty doms.new ≡ true }
+    ensures family { result ≡ Alive.Yes → IsFamilyOf cons.now.lang.now doms.new }
+    ensures dead { result ≡ Alive.No → list_all is_not_empty (largest (arcs_of cons.now.lang.now cons.now.list.now cons.now.against) doms.old) ≡ false }
+{
+    if doms.has_empty() {
+        return Alive::No;
+    }
+    propagate_after(cons, briefs, doms, VarSet::all(cons.lang.n()))
+}
+
+/// Takes away the values that no arc-consistent subfamily has, until what is left is the largest one.
+///
+/// `No` exactly where some variable has no value there; the domains are then of no further use. Takes no memory.
+pub fn propagate(cons: &Constraints, doms: &mut Domains) -> Alive
+    requires constraints { AreConstraints cons.now.lang.now cons.now.list.now cons.now.against }
+    requires family { IsFamilyOf cons.now.lang.now doms.old }
+    ensures largest { result ≡ Alive.Yes → IsLargest (arcs_of cons.now.lang.now cons.now.list.now cons.now.against) doms.old doms.new }
+    ensures full { result ≡ Alive.Yes → list_all is_not_empty doms.new ≡ true }
+    ensures family { result ≡ Alive.Yes → IsFamilyOf cons.now.lang.now doms.new }
+    ensures dead { result ≡ Alive.No → list_all is_not_empty (largest (arcs_of cons.now.lang.now cons.now.list.now cons.now.against) doms.old) ≡ false }
+{
+    propagate_all(cons, &[], doms)
+}

@@ -1,0 +1,125 @@
+//! Which values of some sets an accepted tuple goes through.
+
+ghost use Rattle.std.specs.Prelude.{◌≡◌, ◌+◌, ◌*◌, ◌^◌, ◌<◌, ◌≤◌, ◌==◌, ℕ, List, [], ◌∷◌, length, map, take, All};
+ghost use Rattle.propagators.specs.Values.{ones_of};
+ghost use Rattle.propagators.specs.Supports.{AreSupported, AreBelow, continues};
+
+use crate::values::{either, least_value, passing, with_value, without_value};
+use rel_table::Table;
+
+/// The supported values of one set.
+#[inline]
+fn in_one(table: &Table, holding: bool, at: u32, last: u64) -> u64
+    requires fits { (at + 1) * table.now.value_count ≤ length table.now.truth }
+    requires last { AreBelow table.now.value_count (ones_of last) }
+    ensures { AreSupported (ones_of last ∷ []) (continues table.now holding at) (ones_of result ∷ []) }
+{
+    passing(
+        last,
+        table.row(at * u32::from(table.value_count())),
+        holding,
+    )
+}
+
+/// The supported values of two sets.
+#[inline]
+fn in_two(table: &Table, holding: bool, at: u32, first: u64, last: u64) -> (u64, u64)
+    requires fits { (at + 1) * (table.now.value_count * table.now.value_count) ≤ length table.now.truth }
+    requires first { AreBelow table.now.value_count (ones_of first) }
+    requires last { AreBelow table.now.value_count (ones_of last) }
+    ensures { AreSupported (ones_of first ∷ ones_of last ∷ []) (continues table.now holding at) (ones_of result.0 ∷ ones_of result.1 ∷ []) }
+{
+    let d = u32::from(table.value_count());
+    let (mut a, mut b) = (0, 0);
+    let mut rest = first;
+    while rest != 0 {
+        let x = least_value(rest);
+        rest = without_value(rest, x);
+        let below = in_one(table, holding, at * d + u32::from(x), last);
+        a = with_value(a, x, below);
+        b = either(b, below);
+    }
+    (a, b)
+}
+
+/// The supported values of three sets.
+fn in_three(
+    table: &Table,
+    holding: bool,
+    at: u32,
+    first: u64,
+    second: u64,
+    last: u64,
+) -> (u64, u64, u64)
+    requires fits { (at + 1) * (table.now.value_count * (table.now.value_count * table.now.value_count)) ≤ length table.now.truth }
+    requires first { AreBelow table.now.value_count (ones_of first) }
+    requires second { AreBelow table.now.value_count (ones_of second) }
+    requires last { AreBelow table.now.value_count (ones_of last) }
+    ensures { AreSupported (ones_of first ∷ ones_of second ∷ ones_of last ∷ []) (continues table.now holding at) (ones_of result.0 ∷ ones_of result.1 ∷ ones_of result.2 ∷ []) }
+{
+    let d = u32::from(table.value_count());
+    let (mut a, mut b, mut c) = (0, 0, 0);
+    let mut rest = first;
+    while rest != 0 {
+        let x = least_value(rest);
+        rest = without_value(rest, x);
+        let below = in_two(table, holding, at * d + u32::from(x), second, last);
+        a = with_value(a, x, below.0);
+        b = either(b, below.0);
+        c = either(c, below.1);
+    }
+    (a, b, c)
+}
+
+/// The supported values of four sets.
+fn in_four(
+    table: &Table,
+    holding: bool,
+    first: u64,
+    second: u64,
+    third: u64,
+    last: u64,
+) -> (u64, u64, u64, u64)
+    requires fits { table.now.value_count * (table.now.value_count * (table.now.value_count * table.now.value_count)) ≤ length table.now.truth }
+    requires first { AreBelow table.now.value_count (ones_of first) }
+    requires second { AreBelow table.now.value_count (ones_of second) }
+    requires third { AreBelow table.now.value_count (ones_of third) }
+    requires last { AreBelow table.now.value_count (ones_of last) }
+    ensures { AreSupported (ones_of first ∷ ones_of second ∷ ones_of third ∷ ones_of last ∷ []) (continues table.now holding 0) (ones_of result.0 ∷ ones_of result.1 ∷ ones_of result.2 ∷ ones_of result.3 ∷ []) }
+{
+    let (mut a, mut b, mut c, mut e) = (0, 0, 0, 0);
+    let mut rest = first;
+    while rest != 0 {
+        let x = least_value(rest);
+        rest = without_value(rest, x);
+        let below = in_three(table, holding, u32::from(x), second, third, last);
+        a = with_value(a, x, below.0);
+        b = either(b, below.0);
+        c = either(c, below.1);
+        e = either(e, below.2);
+    }
+    (a, b, c, e)
+}
+
+/// The supported values of a scope's sets.
+pub(crate) fn supported(table: &Table, holding: bool, sets: &[u64; 4]) -> [u64; 4]
+    requires sets { All (λ s. AreBelow table.now.value_count (ones_of s)) (take table.now.arity sets.now) }
+    ensures is { AreSupported (take table.now.arity (map ones_of sets.now)) (continues table.now holding 0) (take table.now.arity (map ones_of result)) }
+    ensures size { length result ≡ 4 }
+{
+    match table.arity() {
+        1 => [in_one(table, holding, 0, sets[0]), 0, 0, 0],
+        2 => {
+            let found = in_two(table, holding, 0, sets[0], sets[1]);
+            [found.0, found.1, 0, 0]
+        }
+        3 => {
+            let found = in_three(table, holding, 0, sets[0], sets[1], sets[2]);
+            [found.0, found.1, found.2, 0]
+        }
+        _ => {
+            let found = in_four(table, holding, sets[0], sets[1], sets[2], sets[3]);
+            [found.0, found.1, found.2, found.3]
+        }
+    }
+}

@@ -1,0 +1,116 @@
+//! Sets of values, each a mask of 64 bits.
+
+ghost use Rattle.std.specs.Prelude.{◌≡◌, ◌≢◌, ◌<◌, ◌≤◌, ◌==◌, ℕ, true, not, ◌&&◌, ◌||◌};
+ghost use Rattle.std.specs.List.{filter};
+ghost use Rattle.assign.specs.Sets.{numbers, has};
+ghost use Rattle.std.specs.Int.{bit_at};
+ghost use Rattle.propagators.specs.Values.{ones_of};
+ghost use Rattle.propagators.specs.Families.{is_not_empty, is_wanted};
+ghost use Rattle.propagators.specs.Briefs.{HasTwo};
+
+/// The first d values.
+pub(crate) fn first_values(d: u8) -> u64
+    requires { d ≤ 64 }
+    ensures { ones_of result ≡ numbers d }
+{
+    if d == 64 { u64::MAX } else { (1 << d) - 1 }
+}
+
+/// Whether x is a member.
+#[inline]
+pub(crate) fn has_value(values: u64, x: u8) -> bool
+    ensures { result ≡ has (ones_of values) x }
+{
+    x < 64 && (values >> x) & 1 == 1
+}
+
+/// The least member.
+#[inline]
+pub(crate) fn least_value(values: u64) -> u8
+    requires { values ≢ 0 }
+    ensures there { has (ones_of values) result ≡ true }
+    ensures low { result < 64 }
+{
+    values.trailing_zeros() as u8
+}
+
+/// The members other than x.
+#[inline]
+pub(crate) fn without_value(values: u64, x: u8) -> u64
+    requires low { x < 64 }
+    requires there { has (ones_of values) x ≡ true }
+    ensures has { (y : ℕ) → has (ones_of result) y ≡ (has (ones_of values) y && not (x == y)) }
+    ensures less { result < values }
+{
+    values & !(1 << x)
+}
+
+/// No member but x.
+#[inline]
+pub(crate) fn only_value(values: u64, x: u8) -> u64
+    requires { x < 64 }
+    ensures { ones_of result ≡ filter (λ y. x == y) (ones_of values) }
+{
+    values & (1 << x)
+}
+
+/// The members, and x where the others have a member.
+#[inline]
+pub(crate) fn with_value(values: u64, x: u8, others: u64) -> u64
+    requires { x < 64 }
+    ensures { (y : ℕ) → has (ones_of result) y ≡ (has (ones_of values) y || (is_not_empty (ones_of others) && (x == y))) }
+{
+    if others == 0 {
+        values
+    } else {
+        values | (1 << x)
+    }
+}
+
+/// The members of one or both.
+#[inline]
+pub(crate) fn either(a: u64, b: u64) -> u64
+    ensures { (y : ℕ) → has (ones_of result) y ≡ (has (ones_of a) y || has (ones_of b) y) }
+{
+    a | b
+}
+
+/// The members that pass a test, whose truth values are the bits of a row, or their contraries.
+#[inline]
+pub(crate) fn passing(values: u64, row: u64, holding: bool) -> u64
+    ensures { (y : ℕ) → has (ones_of result) y ≡ (has (ones_of values) y && is_wanted holding (bit_at row y == 1)) }
+{
+    if holding { values & row } else { values & !row }
+}
+
+/// Whether there is no member.
+#[inline]
+pub(crate) fn is_empty(values: u64) -> bool
+    ensures { result ≡ not (is_not_empty (ones_of values)) }
+{
+    values == 0
+}
+
+/// Whether there are two members. A false no is allowed.
+#[inline]
+pub(crate) fn has_two(values: u64) -> bool
+    ensures { result ≡ true → HasTwo (ones_of values) }
+{
+    values != 0 && without_value(values, least_value(values)) != 0
+}
+
+/// Whether there is one member at most.
+#[inline]
+pub(crate) fn is_single(values: u64) -> bool
+    ensures { result ≡ true → (y z : ℕ) → has (ones_of values) y ≡ true → has (ones_of values) z ≡ true → y ≡ z }
+{
+    values == 0 || without_value(values, least_value(values)) == 0
+}
+
+/// Whether no member of one is a member of the other.
+#[inline]
+pub(crate) fn are_apart(a: u64, b: u64) -> bool
+    ensures { result ≡ true → (y : ℕ) → has (ones_of a) y ≡ true → has (ones_of b) y ≡ true → ⊥ }
+{
+    a & b == 0
+}
