@@ -211,6 +211,7 @@ fn hear_answer<S: Source, K: Sink, D: Disk, T: Teacher<S, K>, P: Keep<D>>(
     requires sound { P.sound keep.old }
     requires live { IsTrue (P.live keep.old) }
     requires sits { P.sits keep.old disk.old }
+    requires fits { T.fits teacher.old (P.lang keep.old) }
     requires put { P.question keep.old ≡ Some question.now }
     requires due { (budget : _) × IsDue (P.lang keep.old) (request_with (P.plan keep.old) budget) (standing_on (P.lang keep.old) (P.record_of keep.old)) question.now }
     ensures again { (budget : _) → IsDue (P.lang keep.old) (request_with (P.plan keep.old) budget) (standing_on (P.lang keep.old) (P.record_of keep.old)) question.now
@@ -225,6 +226,7 @@ fn hear_answer<S: Source, K: Sink, D: Disk, T: Teacher<S, K>, P: Keep<D>>(
         (place_of (standing_on (P.lang keep.old) (P.record_of keep.new)) (S.left source.new) (K.written sink.new))) }
     ensures decided { (m : _) → result ≢ Some (Drove.Undecided m) }
     ensures turn { T.turn teacher.new ≡ T.turn teacher.old }
+    ensures fits { (l : _) → T.fits teacher.old l → T.fits teacher.new l }
     ensures lang { P.lang keep.new ≡ P.lang keep.old }
     ensures plan { P.plan keep.new ≡ P.plan keep.old }
     ensures sound { P.sound keep.new }
@@ -264,6 +266,7 @@ fn take_turn<S: Source, K: Sink, D: Disk, T: Teacher<S, K>, P: Keep<D>>(
     requires sound { P.sound keep.old }
     requires live { IsTrue (P.live keep.old) }
     requires sits { P.sits keep.old disk.old }
+    requires fits { T.fits teacher.old (P.lang keep.old) }
     requires settled { IsSettled (P.lang keep.old) (P.plan keep.old) (standing_on (P.lang keep.old) (P.record_of keep.old)) (P.question keep.old) }
     requires screen { IsMadeFor (P.lang keep.old) screen.old }
     requires remembers { Remembers (P.lang keep.old) (request_with (P.plan keep.old) budget) (standing_on (P.lang keep.old) (P.record_of keep.old)) screen.old }
@@ -281,6 +284,7 @@ fn take_turn<S: Source, K: Sink, D: Disk, T: Teacher<S, K>, P: Keep<D>>(
     ensures open { (m : _) → result ≡ Some (Drove.Undecided m) → TellsOpen (P.lang keep.old) (request_with (P.plan keep.old) budget) (standing_on (P.lang keep.old) (P.record_of keep.new)) screen.new }
     ensures screen { IsMadeFor (P.lang keep.old) screen.new }
     ensures turn { T.turn teacher.new ≡ T.turn teacher.old }
+    ensures fits { (l : _) → T.fits teacher.old l → T.fits teacher.new l }
     ensures lang { P.lang keep.new ≡ P.lang keep.old }
     ensures plan { P.plan keep.new ≡ P.plan keep.old }
     ensures sound { P.sound keep.new }
@@ -322,6 +326,7 @@ pub fn drive<R: Threads + Sync, S: Source, K: Sink, D: Disk, T: Teacher<S, K>, P
     requires sound { P.sound keep.old }
     requires live { IsTrue (P.live keep.old) }
     requires sits { P.sits keep.old disk.old }
+    requires fits { T.fits teacher.old (P.lang keep.old) }
     // where the answers lead to where nothing is open, no question is put
     requires settled { IsSettled (P.lang keep.old) (P.plan keep.old) (standing_on (P.lang keep.old) (P.record_of keep.old)) (P.question keep.old) }
     requires screen { IsMadeFor (P.lang keep.old) screen.old }

@@ -3,6 +3,7 @@ pub mod Answers
 pub mod Search
 pub mod Laws
 pub mod Texts
+pub mod ByName
 pub mod Scopes
 pub mod Choosing
 pub mod Inside

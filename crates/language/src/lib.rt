@@ -15,6 +15,7 @@ mod choosing;
 mod frame;
 mod lang;
 pub mod laws;
+mod named;
 mod numbering;
 mod parts;
 mod places;

@@ -3,3 +3,6 @@ pub mod Cutting
 pub mod Naming
 pub mod Parts
 pub mod Telling
+pub mod TextsRead
+pub mod Joined
+pub mod Items

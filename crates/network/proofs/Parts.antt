@@ -84,14 +84,14 @@ length-meet_all n first [] e all = e
 length-meet_all n first (q ∷ more) e all =
     length-meet_all n (meet first q) more (length-meet first q (e ∙ sym (All-head (λ r. length r ≡ n) q more all)) ∙ e) (All-tail (λ r. length r ≡ n) q more all)
 
-part_of_first : (n : ℕ) (first : Relation) (more : List Relation) → length first ≡ n → All (λ q. length q ≡ n) more → is_part (meet_all first more) first ≡ true
+pub part_of_first : (n : ℕ) (first : Relation) (more : List Relation) → length first ≡ n → All (λ q. length q ≡ n) more → is_part (meet_all first more) first ≡ true
 part_of_first n first [] e all = part-itself first
 part_of_first n first (q ∷ more) e all =
     let long : length (meet first q) ≡ n = length-meet first q (e ∙ sym (All-head (λ r. length r ≡ n) q more all)) ∙ e in
     let rest = All-tail (λ r. length r ≡ n) q more all in
     part_through (meet_all (meet first q) more) (meet first q) first (length-meet_all n (meet first q) more long rest ∙ sym long) (part_of_first n (meet first q) more long rest) (part-left first q)
 
-part_of_more : (n : ℕ) (first : Relation) (more : List Relation) → length first ≡ n → All (λ q. length q ≡ n) more → All (λ q. is_part (meet_all first more) q ≡ true) more
+pub part_of_more : (n : ℕ) (first : Relation) (more : List Relation) → length first ≡ n → All (λ q. length q ≡ n) more → All (λ q. is_part (meet_all first more) q ≡ true) more
 part_of_more n first [] e all = All-nil (λ q. is_part first q ≡ true)
 part_of_more n first (q ∷ more) e all =
     let long : length (meet first q) ≡ n = length-meet first q (e ∙ sym (All-head (λ r. length r ≡ n) q more all)) ∙ e in
@@ -100,7 +100,7 @@ part_of_more n first (q ∷ more) e all =
     (part_through (meet_all (meet first q) more) (meet first q) q (length-meet_all n (meet first q) more long rest ∙ sym long) (part_of_first n (meet first q) more long rest) (part-right first q))
     (part_of_more n (meet first q) more long rest)
 
-part_of_all : (x first : Relation) (more : List Relation) → is_part x first ≡ true → All (λ q. is_part x q ≡ true) more → is_part x (meet_all first more) ≡ true
+pub part_of_all : (x first : Relation) (more : List Relation) → is_part x first ≡ true → All (λ q. is_part x q ≡ true) more → is_part x (meet_all first more) ≡ true
 part_of_all x first [] h all = h
 part_of_all x first (q ∷ more) h all = part_of_all x (meet first q) more (part-meet x first q h (All-head (λ r. is_part x r ≡ true) q more all)) (All-tail (λ r. is_part x r ≡ true) q more all)
 

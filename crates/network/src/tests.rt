@@ -6,7 +6,7 @@ ghost use Rattle.language.specs.Answers.{IsNetwork, has_scope};
 ghost use Rattle.language.specs.Building.{IsOver};
 ghost use Rattle.language.specs.Inside.{given_by};
 
-use crate::{Network, network_text};
+use crate::{Network, net_text, network_text, read_network};
 use assign::Partial;
 use language::{Candidate, Frame, Language, RelPart, ScopePart};
 use rel_table::Table;
@@ -176,5 +176,144 @@ fn forgets_all(rt: HostRuntime) -> Result<(), Fail> {
     assert!(rt; lang.scopes() == 3);
     net.learn(Candidate { scope: 2, rel: 2 });
     assert_eq!(rt; net.item(0), Candidate { scope: 2, rel: 2 });
+    Ok(())
+}
+
+/// What reading a network in JSON tells: its text, or that of the refusal.
+fn told(alloc: Global, lang: &Language, bytes: &[u8]) -> Result<String, Fail> {
+    match read_network(alloc, lang, bytes) {
+        Ok(net) => Ok(network_text(alloc, lang, &net)?),
+        Err(fault) => Ok(net_text(alloc, fault)?),
+    }
+}
+
+/// Networks in JSON over the relations eq, ne and no, and what each tells.
+static TARGETS: [(&str, &str); 40] = [
+    ("[]", ""),
+    (" [ ] ", ""),
+    (r#"[["eq","a","b"]]"#, "eq a b\n"),
+    (r#"[["ne","a","c"],["eq","a","b"]]"#, "ne a c\neq a b\n"),
+    (r#"[["eq&ne","a","b"]]"#, "eq&ne&no a b\n"),
+    (r#"[["ne&eq","a","b"]]"#, "eq&ne&no a b\n"),
+    (r#"[["no","b","c"]]"#, "eq&ne&no b c\n"),
+    (r#"[["no&eq","b","c"]]"#, "eq&ne&no b c\n"),
+    (r#"[["eq&eq","a","b"]]"#, "eq a b\n"),
+    ("", "not json"),
+    ("[", "not json"),
+    (r#"[["eq","a","b"]"#, "not json"),
+    ("[1e999]", "not json"),
+    ("{}", "not list"),
+    ("null", "not list"),
+    (r#""eq a b""#, "not list"),
+    ("1", "not list"),
+    ("[1]", "bad item 0"),
+    ("[[]]", "bad item 0"),
+    (r#"[["eq"]]"#, "bad item 0"),
+    (r#"[["eq","a","b","c","a","b"]]"#, "bad item 0"),
+    (r#"[["eq",1,"b"]]"#, "bad item 0"),
+    (r#"[[["eq"],"a","b"]]"#, "bad item 0"),
+    (r#"[{"eq":["a","b"]}]"#, "bad item 0"),
+    (r#"[["eq","a","b"],null]"#, "bad item 1"),
+    (r#"[["eq","a"]]"#, "unknown scope 0"),
+    (r#"[["eq","b","a"]]"#, "unknown scope 0"),
+    (r#"[["eq","a","a"]]"#, "unknown scope 0"),
+    (r#"[["eq","a","d"]]"#, "unknown scope 0"),
+    (r#"[["eq","a","b","c"]]"#, "unknown scope 0"),
+    (r#"[["lt","b","a"]]"#, "unknown scope 0"),
+    (r#"[["lt","a","b"]]"#, "unknown relation 0"),
+    (r#"[["eq&","a","b"]]"#, "unknown relation 0"),
+    (r#"[["&eq","a","b"]]"#, "unknown relation 0"),
+    (r#"[["","a","b"]]"#, "unknown relation 0"),
+    (r#"[["eq&lt","a","b"],1]"#, "unknown relation 0"),
+    (r#"[["eq ","a","b"]]"#, "unknown relation 0"),
+    (r#"[["eq","a","b"],["lt","a","b"]]"#, "unknown relation 1"),
+    (r#"[["eq","a","b"],["ne","a","b"]]"#, "scope repeated 0 1"),
+    (
+        r#"[["eq","a","c"],["eq","a","b"],["no","b","c"],["ne","a","b"]]"#,
+        "scope repeated 1 3",
+    ),
+];
+
+#[test]
+fn what_targets_tell(rt: HostRuntime) -> Result<(), Fail> {
+    let alloc = rt.alloc();
+    let lang = language(alloc)?;
+    for (text, wanted) in &TARGETS {
+        assert_eq!(rt;
+            told(alloc, &lang, text.as_bytes())?.as_str(),
+            *wanted,
+            "{text}"
+        );
+    }
+    Ok(())
+}
+
+/// At most, at least and unequal.
+fn orders(alloc: Global) -> Result<Vec<RelPart>, Fail>
+    ensures binary { IfOk result (λ v. All (IsOver 2) v.items) }
+    ensures names { IfOk result (λ v. AreNames (map (λ (g : Given). g.name) (map given_by v.items))) }
+{
+    let at_most = [
+        vec![in alloc; 1, 1]?,
+        vec![in alloc; 1, 2]?,
+        vec![in alloc; 2, 2]?,
+    ];
+    let at_least = [
+        vec![in alloc; 1, 1]?,
+        vec![in alloc; 2, 1]?,
+        vec![in alloc; 2, 2]?,
+    ];
+    let unequal = [vec![in alloc; 1, 2]?, vec![in alloc; 2, 1]?];
+    let mut parts = Vec::new(alloc);
+    parts.push(relation(alloc, "le", &at_most)?)?;
+    parts.push(relation(alloc, "ge", &at_least)?)?;
+    parts.push(relation(alloc, "ne", &unequal)?)?;
+    Ok(parts)
+}
+
+/// Names that are joined, in any order, and the relation that they mean.
+static JOINED: [(&str, &str); 8] = [
+    (r#"[["le","a","b"]]"#, "le a b\n"),
+    (r#"[["ge&le","a","b"]]"#, "le&ge a b\n"),
+    (r#"[["le&ne","a","b"]]"#, "le&ne a b\n"),
+    (r#"[["ne&le","a","b"]]"#, "le&ne a b\n"),
+    (r#"[["ne&ge","b","c"]]"#, "ge&ne b c\n"),
+    (r#"[["ne&ge&le","b","c"]]"#, "le&ge&ne b c\n"),
+    (r#"[["le&ge&le&ge","b","c"]]"#, "le&ge b c\n"),
+    (r#"[["le&ge&eq","b","c"]]"#, "unknown relation 0"),
+];
+
+#[test]
+fn joined_names_mean_the_intersection(rt: HostRuntime) -> Result<(), Fail> {
+    let alloc = rt.alloc();
+    let frame = Frame::new(names(alloc)?, 1, 2)?;
+    let lang = Language::build(alloc, frame, orders(alloc)?, ScopePart::All)?;
+    for (text, wanted) in &JOINED {
+        assert_eq!(rt;
+            told(alloc, &lang, text.as_bytes())?.as_str(),
+            *wanted,
+            "{text}"
+        );
+    }
+    Ok(())
+}
+
+/// An empty array and so many spaces.
+fn padded(alloc: Global, spaces: usize) -> Result<String, Fail> {
+    let mut text = String::from_str(alloc, "[]")?;
+    for _ in 0..spaces {
+        text.push(' ')?;
+    }
+    Ok(text)
+}
+
+#[test]
+fn how_long_a_target_may_be(rt: HostRuntime) -> Result<(), Fail> {
+    let alloc = rt.alloc();
+    let lang = language(alloc)?;
+    for (spaces, wanted) in [(4_194_302, ""), (4_194_303, "too long")] {
+        let text = padded(alloc, spaces)?;
+        assert_eq!(rt; told(alloc, &lang, text.as_bytes())?.as_str(), wanted);
+    }
     Ok(())
 }

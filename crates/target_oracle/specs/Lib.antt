@@ -3,3 +3,7 @@ pub mod Words
 pub mod Lines
 pub mod Tells
 pub mod Hearing
+pub mod NetTurns
+pub mod Inside
+pub mod Generator
+pub mod Laws

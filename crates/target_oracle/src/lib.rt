@@ -4,11 +4,16 @@
 //! text that it writes, the reply and the bytes after it. `told` does what the turn says.
 #![tactic(auto)]
 
+mod generator;
+pub mod laws;
 mod lines;
+mod net;
 mod teacher;
 #[cfg(test)]
 mod tests;
 mod words;
 
+pub use generator::generate;
 pub use lines::LineTeacher;
+pub use net::NetTeacher;
 pub use teacher::{Teacher, Told};

@@ -118,7 +118,11 @@ fn question_line(alloc: Global, lang: &Language, k: u32, q: &Partial) -> Result<
 }
 
 impl<S: Source, K: Sink> Teacher<S, K> for LineTeacher {
+    ghost fits = { λ _ _. Unit {0} };
+
     ghost turn = { λ _. line_turn };
+
+    ghost may_say = { λ _ _ _ _. Unit {0} };
 
     fn told(
         &mut self,

@@ -4,6 +4,7 @@ ghost use Rattle.assign.specs.Assignment.{Assignment};
 ghost use Rattle.language.specs.Language.{Language, IsQuestion};
 ghost use Rattle.target_oracle.specs.Turns.{Turns};
 ghost use Rattle.target_oracle.specs.Tells.{Tells};
+ghost use Rattle.target_oracle.specs.declared.teacher.Told.{Told};
 
 use acq_io::{Sink, Source};
 use assign::Partial;
@@ -32,8 +33,14 @@ pub enum Told {
 
 /// Who answers the questions, reading from a source and writing to a sink.
 pub trait Teacher<S: Source, K: Sink> {
+    /// Whether the teacher can answer questions of a language.
+    ghost fits: { Self → Language → Type 0 };
+
     /// What a turn writes and hears.
     ghost turn: { Self → Turns };
+
+    /// What the teacher may say to a question, whether or not source and sink tell their bytes.
+    ghost may_say: { Self → Language → Assignment → Told → Type 0 };
 
     /// Puts question number `k`, counted from 1, and says what comes back.
     fn told(
@@ -45,10 +52,14 @@ pub trait Teacher<S: Source, K: Sink> {
         k: u32,
         q: &Partial,
     ) -> Told
-        requires { IsQuestion lang.now q.now }
+        requires question { IsQuestion lang.now q.now }
+        requires fits { fits self.old lang.now }
         ensures tells { (bytes before : List ℕ) → S.left source.old ≡ Some bytes → K.written sink.old ≡ Some before
             → Tells (turn self.old lang.now k q.now bytes) before (S.left source.new) (K.written sink.new) result }
         ensures same { turn self.new ≡ turn self.old }
+        ensures fits { (l : Language) → fits self.old l → fits self.new l }
+        ensures says { may_say self.old lang.now q.now result }
+        ensures no_more { (l : Language) (e : Assignment) (told : Told) → may_say self.new l e told → may_say self.old l e told }
         ensures later { S.faults source.old ≤ S.faults source.new }
         ensures later_sink { K.faults sink.old ≤ K.faults sink.new }
         ensures read { result ≡ Told.ReadFault → Rose (S.faults source.old) (S.faults source.new) }

@@ -1,12 +1,13 @@
-ghost use Rattle.std.specs.Prelude.{◌≡◌, [], ◌∷◌, All, IfOk, map, string_bytes};
+ghost use Rattle.std.specs.Prelude.{◌≡◌, ◌<◌, ◌≤◌, [], ◌∷◌, All, IfOk, map, string_bytes};
 ghost use Rattle.language.specs.Language.{Given, AreNames};
 ghost use Rattle.language.specs.Inside.{given_by};
 ghost use Rattle.language.specs.Building.{IsOver};
 
-use crate::{LineTeacher, Teacher, Told};
+use crate::{LineTeacher, NetTeacher, Teacher, Told, generate};
 use acq_io::{MemSink, MemSource, Sink, Source};
 use assign::Partial;
-use language::{Frame, Language, RelPart, ScopePart};
+use language::{Candidate, Frame, Language, RelPart, ScopePart};
+use network::read_network;
 use rel_table::Table;
 use std::alloc::{AllocError, Global};
 use std::test::Fail;
@@ -49,18 +50,20 @@ fn pairs(alloc: Global) -> Result<Language, Fail> {
 /// Puts the third question, where both variables are 1.
 fn turn<S: Source, K: Sink, T: Teacher<S, K>>(
     alloc: Global,
+    lang: &Language,
     teacher: &mut T,
     source: &mut S,
     sink: &mut K,
-) -> Result<Told, Fail> {
-    let lang = pairs(alloc)?;
+) -> Result<Told, Fail>
+    requires { T.fits teacher.old lang.now }
+{
     if lang.n() != 2 || lang.d() != 2 {
         return Err(Fail::from("another language"));
     }
     let mut question = Partial::blank(2);
     question.set(0, 0);
     question.set(1, 0);
-    Ok(teacher.told(alloc, source, sink, &lang, 3, &question))
+    Ok(teacher.told(alloc, source, sink, lang, 3, &question))
 }
 
 /// A text that is repeated so many times, between two others.
@@ -115,13 +118,20 @@ static TURNS: [(&str, &str, usize, &str, Told, usize, &str); 14] = [
 #[test]
 fn what_lines_say(rt: HostRuntime) -> Result<(), Fail> {
     let alloc = rt.alloc();
+    let lang = pairs(alloc)?;
     for (head, piece, count, end, told, complaints, left) in &TURNS {
         let input = repeated(alloc, head, piece, *count, end)?;
         let wanted = repeated(alloc, QUESTION, COMPLAINT, *complaints, "")?;
         let mut source = MemSource::new(input.into_bytes(), Vec::new(alloc));
         let mut sink = MemSink::new(alloc, Vec::new(alloc));
         assert_eq!(rt;
-            turn(alloc, &mut LineTeacher::new(), &mut source, &mut sink)?,
+            turn(
+                alloc,
+                &lang,
+                &mut LineTeacher::new(),
+                &mut source,
+                &mut sink
+            )?,
             *told,
             "{head} {piece} {count} {end}"
         );
@@ -149,16 +159,129 @@ static FAULTS: [(u32, u32, Told, &str, &str); 10] = [
 #[test]
 fn each_call_fails_in_turn(rt: HostRuntime) -> Result<(), Fail> {
     let alloc = rt.alloc();
+    let lang = pairs(alloc)?;
     for (read, write, told, wanted, left) in &FAULTS {
         let mut source = MemSource::new(b"x\nyes\n".to_vec(alloc)?, vec![in alloc; *read]?);
         let mut sink = MemSink::new(alloc, vec![in alloc; *write]?);
         assert_eq!(rt;
-            turn(alloc, &mut LineTeacher::new(), &mut source, &mut sink)?,
+            turn(
+                alloc,
+                &lang,
+                &mut LineTeacher::new(),
+                &mut source,
+                &mut sink
+            )?,
             *told,
             "{read} {write}"
         );
         assert_eq!(rt; sink.bytes(), wanted.as_bytes());
         assert_eq!(rt; source.left(), left.as_bytes());
     }
+    Ok(())
+}
+
+/// A network in JSON, whether its teacher is quiet, which call of the sink fails, what is told and what is written.
+static OWNERS: [(&str, bool, u32, Told, &str); 7] = [
+    ("[]", false, 9, Told::Yes, "q3 a=1 b=1 yes\n"),
+    (r#"[["no","a","b"]]"#, false, 9, Told::No, "q3 a=1 b=1 no\n"),
+    ("[]", true, 9, Told::Yes, ""),
+    (r#"[["no","a","b"]]"#, true, 9, Told::No, ""),
+    ("[]", false, 0, Told::WriteFault, ""),
+    (r#"[["no","a","b"]]"#, false, 0, Told::WriteFault, ""),
+    (r#"[["no","a","b"]]"#, true, 0, Told::No, ""),
+];
+
+#[test]
+fn what_networks_say(rt: HostRuntime) -> Result<(), Fail> {
+    let alloc = rt.alloc();
+    let lang = pairs(alloc)?;
+    for (text, quiet, fails, told, wanted) in &OWNERS {
+        let Ok(network) = read_network(alloc, &lang, text.as_bytes()) else {
+            return Err(Fail::from("no network"));
+        };
+        let mut teacher = NetTeacher::new(network, *quiet);
+        let mut source = MemSource::new(b"no\n".to_vec(alloc)?, vec![in alloc; 0]?);
+        let mut sink = MemSink::new(alloc, vec![in alloc; *fails]?);
+        assert_eq!(rt;
+            turn(alloc, &lang, &mut teacher, &mut source, &mut sink)?,
+            *told,
+            "{text}"
+        );
+        assert_eq!(rt; sink.bytes(), wanted.as_bytes(), "{text}");
+        assert_eq!(rt; source.left(), b"no\n".as_slice());
+    }
+    Ok(())
+}
+
+/// One draw more of a plain generator.
+fn drawn(x: &mut u64, below: u64) -> u64
+    requires { 1 ≤ below }
+    ensures { result < below }
+{
+    *x = x
+        .wrapping_mul(6_364_136_223_846_793_005)
+        .wrapping_add(1_442_695_040_888_963_407);
+    (*x >> 32) % below
+}
+
+/// Whether relation r accepts two values: `le`, `ge`, `le&ge`, `ne`, `le&ne`, `ge&ne`, `le&ge&ne`.
+fn is_accepted(r: u64, x: u64, y: u64) -> bool {
+    match r {
+        0 => x <= y,
+        1 => x >= y,
+        2 => x == y,
+        3 => x != y,
+        4 => x < y,
+        5 => x > y,
+        _ => false,
+    }
+}
+
+/// The candidates of a number, by a plain loop.
+fn plain_target(alloc: Global, number: u32) -> Result<Vec<Candidate>, AllocError> {
+    let mut x = u64::from(number);
+    let mut hidden = [0u64; 10];
+    for v in 0..10usize {
+        hidden[v] = drawn(&mut x, 3);
+    }
+    let mut target = Vec::new(alloc);
+    let mut scope = 0u16;
+    for v in 0..10usize {
+        for w in v + 1..10 {
+            let rel = drawn(&mut x, 7) as u8;
+            if is_accepted(u64::from(rel), hidden[v], hidden[w]) {
+                target.push(Candidate { scope, rel })?;
+            }
+            scope = scope.saturating_add(1);
+        }
+    }
+    Ok(target)
+}
+
+#[test]
+fn numbers_make_what_a_plain_loop_makes(rt: HostRuntime) -> Result<(), Fail> {
+    let alloc = rt.alloc();
+    for number in 0..60u32 {
+        let Ok((lang, net)) = generate(alloc, number) else {
+            return Err(Fail::from("no memory"));
+        };
+        assert_eq!(rt; lang.n(), 10);
+        assert_eq!(rt; lang.d(), 3);
+        assert_eq!(rt; lang.scopes(), 45);
+        assert_eq!(rt; lang.candidates(), 315);
+        let plain = plain_target(alloc, number)?;
+        assert_eq!(rt; net.list(), plain.as_slice(), "{number}");
+    }
+    Ok(())
+}
+
+#[test]
+fn the_last_number_makes_one_too(rt: HostRuntime) -> Result<(), Fail> {
+    let alloc = rt.alloc();
+    let Ok((_lang, net)) = generate(alloc, u32::MAX) else {
+        return Err(Fail::from("no memory"));
+    };
+    let plain = plain_target(alloc, u32::MAX)?;
+    assert_eq!(rt; net.list(), plain.as_slice());
     Ok(())
 }

@@ -17,6 +17,7 @@ invariant-loop-turn g l =
       remembers : Remembers (g.P.Keep.lang l.keep) (request_with (g.P.Keep.plan l.keep) l.fn.budget) (standing_on (g.P.Keep.lang l.keep) (entries l.keep)) l.screen;
       plan : g.P.Keep.plan l.keep ≡ g.P.Keep.plan l.initial.keep;
       lang : g.P.Keep.lang l.keep ≡ g.P.Keep.lang l.initial.keep;
+      fits : g.T.Teacher.fits l.teacher (g.P.Keep.lang l.keep);
       turn : g.T.Teacher.turn l.teacher ≡ g.T.Teacher.turn l.initial.teacher;
       steps : StepsTo (g.T.Teacher.turn l.initial.teacher) (g.P.Keep.lang l.initial.keep) (request_with (g.P.Keep.plan l.initial.keep) l.fn.budget)
           (place_of (standing_on (g.P.Keep.lang l.initial.keep) (entries l.initial.keep)) (left l.initial.source) (written l.initial.sink))

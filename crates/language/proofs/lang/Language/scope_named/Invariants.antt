@@ -1,0 +1,7 @@
+use Rattle.std.proofs.Common.{◌≡◌, ℕ, ◌<◌, false}
+use Rattle.language.specs.Language.{scope_at}
+use Rattle.language.specs.ByName.{has_names, texts_of}
+use Rattle.language.proofs.lang.Language.scope_named.Given as goal
+
+abbrev pub invariant-loop-s : goal.invariant-loop-s
+invariant-loop-s l = (k : ℕ) → k < l.s → has_names l.self (texts_of l.names) (scope_at l.self k) ≡ false

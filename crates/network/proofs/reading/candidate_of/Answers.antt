@@ -1,0 +1,15 @@
+use Rattle.std.proofs.Common.{◌≡◌, ◌≤◌, List, ℕ, Bor, length, ap, sym, ◌∙◌, arith}
+use Rattle.std.specs.List.{slice_split}
+use Rattle.std.specs.Prelude.{◌==◌}
+use Rattle.std.proofs.lemmas.List.{length-map}
+use Rattle.std.proofs.lemmas.List.Splits.{length-slice_split}
+use Rattle.language.specs.ByName.{texts_of}
+use Rattle.network.proofs.reading.candidate_of.Goals as goal
+
+pub relation_by-requires-clause-some : goal.relation_by-requires-clause-some
+relation_by-requires-clause-some c =
+    let count = length-slice_split (λ (b : ℕ). b == 38) c.args.relation.now in
+    let long : length (texts_of c.in_ok-names.names.items) ≡ length c.in_ok-names.names.items = length-map c.in_ok-names.names.items (λ (name : Bor (List ℕ)). name.now) in
+    let same = ap length c.in_ok-names.ensures in
+    let here = ap length c.deref.ensures.value in
+    omega (arith, count, long, same, here)

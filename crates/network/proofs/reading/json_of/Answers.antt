@@ -1,0 +1,13 @@
+use Rattle.std.proofs.Common.{ap}
+use Rattle.std.specs.Option.{ok_or}
+use Rattle.network.specs.declared.fault.NetFault.TheVariants.{NotJson}
+use Rattle.network.proofs.TextsRead.{json_of-read, json_of-refused, not_both}
+use Rattle.network.proofs.reading.json_of.Goals as goal
+
+pub returns-in-Ok : goal.returns-in-Ok
+returns-in-Ok c = ap (λ o. ok_or o NotJson) (json_of-read c.args.bytes.now _ c.in-Ok.ensures.ok.0 c.in-Ok.ensures.ok.1)
+
+pub returns-else-is_memory : goal.returns-else-is_memory
+returns-else-is_memory c =
+    λ _. let refused = c.in-Err.ensures.err (λ memory. not_both c.is_memory.result c.if-is_memory.false (c.is_memory.ensures.1 memory)) in
+    ap (λ o. ok_or o NotJson) (json_of-refused c.args.bytes.now refused)

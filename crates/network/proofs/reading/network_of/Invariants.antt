@@ -1,0 +1,12 @@
+use Rattle.std.proofs.Common.{◌≡◌, [], drop, length}
+use Rattle.serde_json.specs.View.{items_view}
+use Rattle.language.specs.Answers.{IsNetwork}
+use Rattle.network.specs.Target.{network_from}
+use Rattle.network.proofs.reading.network_of.Given as goal
+
+abbrev pub invariant-loop-item : goal.invariant-loop-item
+invariant-loop-item l = record {
+  rest : network_from l.lang l.net.list (items_view (drop l.item-index l.items)) ≡ network_from l.lang [] (items_view l.items);
+  network : IsNetwork l.lang l.net.list;
+  scopes : l.net.scopes ≡ length l.lang.scopes;
+}

@@ -1,0 +1,9 @@
+use Rattle.std.proofs.Common.{◌≡◌, ◌++◌, drop}
+use Rattle.std.specs.Option.{option_map}
+use Rattle.serde_json.specs.View.{items_view}
+use Rattle.language.specs.ByName.{texts_of}
+use Rattle.network.specs.Target.{each_text}
+use Rattle.network.proofs.reading.texts_in.Given as goal
+
+abbrev pub invariant-loop-value : goal.invariant-loop-value
+invariant-loop-value l = option_map (λ more. texts_of l.texts.items ++ more) (each_text (items_view (drop l.value-index l.list))) ≡ each_text (items_view l.list)

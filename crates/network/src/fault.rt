@@ -1,0 +1,63 @@
+ghost use Rattle.std.specs.Prelude.{◌≡◌, ◌++◌, codes, string_bytes, IfOk};
+ghost use Rattle.network.specs.FaultTexts.{net_fault_text};
+
+use std::alloc::{AllocError, AllocFailed, Global};
+
+/// Why a network in JSON is refused. Items count from 0.
+#[derive(Clone, Copy, Debug, PartialEq, Eq)]
+pub enum NetFault {
+    /// There are more than 4,194,304 bytes.
+    TooLong,
+    /// The bytes aren't a JSON text in UTF-8.
+    NotJson,
+    /// The whole isn't an array.
+    NotList,
+    /// The item isn't an array of 2 to 5 strings.
+    BadItem(u32),
+    /// The item's variables, in the order given, are no scope.
+    UnknownScope(u32),
+    /// A piece of the item's relation is no relation of the scope's arity.
+    UnknownRelation(u32),
+    /// The second item has the scope of the first one, and no other before it has.
+    ScopeRepeated(u32, u32),
+    Memory,
+}
+
+impl From<AllocError> for NetFault {
+    ghost use Rattle.std.specs.Prelude.{◌≡◌};
+    ghost use Rattle.network.specs.declared.fault.NetFault.TheVariants.{Memory};
+
+    ghost from_gives = { λ _ e. e ≡ Memory };
+
+    fn from(_refused: AllocError) -> NetFault {
+        NetFault::Memory
+    }
+}
+
+impl<T: Drop> From<AllocFailed<T>> for NetFault {
+    ghost use Rattle.std.specs.Prelude.{◌≡◌};
+    ghost use Rattle.network.specs.declared.fault.NetFault.TheVariants.{Memory};
+
+    ghost from_gives = { λ _ e. e ≡ Memory };
+
+    fn from(_refused: AllocFailed<T>) -> NetFault {
+        NetFault::Memory
+    }
+}
+
+/// The text of a fault, as a user reads it behind `refused target `. No bytes cause want of memory; it is told as
+/// `memory`.
+pub fn net_text(alloc: Global, fault: NetFault) -> Result<String, AllocError>
+    ensures { IfOk result (λ text. string_bytes text ≡ net_fault_text fault) }
+{
+    match fault {
+        NetFault::TooLong => String::from_str(alloc, "too long"),
+        NetFault::NotJson => String::from_str(alloc, "not json"),
+        NetFault::NotList => String::from_str(alloc, "not list"),
+        NetFault::BadItem(i) => format!(in alloc; "bad item {i}"),
+        NetFault::UnknownScope(i) => format!(in alloc; "unknown scope {i}"),
+        NetFault::UnknownRelation(i) => format!(in alloc; "unknown relation {i}"),
+        NetFault::ScopeRepeated(j, i) => format!(in alloc; "scope repeated {j} {i}"),
+        NetFault::Memory => String::from_str(alloc, "memory"),
+    }
+}

@@ -1,0 +1,16 @@
+use Rattle.std.proofs.Common.{◌≡◌, true, List, sym, subst}
+use Rattle.language.specs.declared.candidates.Candidate.{Candidate}
+use Rattle.language.specs.Language.{accepts}
+use Rattle.target_oracle.specs.Generator.{hidden}
+use Rattle.target_oracle.proofs.Draws.{is_question, is_solution}
+use Rattle.target_oracle.proofs.generator.generate.Goals as goal
+
+pub target-requires : goal.target-requires
+target-requires c = is_question c.args.number c.in_ok-lang.lang c.in_ok-lang.ensures
+
+pub returns-clause-question : goal.returns-clause-question
+returns-clause-question c = is_question c.args.number c.in_ok-lang.lang c.in_ok-lang.ensures
+
+pub returns-clause-solved : goal.returns-clause-solved
+returns-clause-solved c =
+    subst (λ (list : List Candidate). accepts c.in_ok-lang.lang list (hidden c.args.number) ≡ true) (sym c.in_ok-net.ensures.is) (is_solution c.args.number c.in_ok-lang.lang)
