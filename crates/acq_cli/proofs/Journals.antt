@@ -69,30 +69,52 @@ module _ {D : Type 0} (content : D → Option (List ℕ)) (may_leave : D → Lis
   goes_on budget bytes left written left' written' first old new got plan voc events later put lang says read places opening persists fails tries part =
       ⊎_elim
       (λ is.
-        let f = fails is in
-        let last : List Event = answer_event f.question f.reply ∷ [] in
-        record {
-          plan = plan; voc = voc; events = events; says = says; lang = lang; read = read; places = places; later = later;
-          more = f.more; grown = f.grown; tries = tries; part = part; last = last;
-          none_lost = λ no. absurd (no is);
-          one_lost = λ so. (f.question, f.reply, refl);
-          any_moment = joined moment left_since first old new (may_leave first) (OpensWithin plan voc events (later ++ last)) (λ c. may_leave first c ⊎ OpensWithin plan voc events (later ++ last) c) opening f.any_moment
-              (λ c was. inl was) (λ c opens. inr opens);
-          now = f.now;
-        })
+      let f = fails is in
+      let last : List Event = answer_event f.question f.reply ∷ [] in
+      record {
+        plan = plan;
+        voc = voc;
+        events = events;
+        says = says;
+        lang = lang;
+        read = read;
+        places = places;
+        later = later;
+        more = f.more;
+        grown = f.grown;
+        tries = tries;
+        part = part;
+        last = last;
+        none_lost = λ no. absurd (no is);
+        one_lost = λ so. (f.question, f.reply, refl);
+        any_moment = joined moment left_since first old new (may_leave first) (OpensWithin plan voc events (later ++ last)) (λ c. may_leave first c ⊎ OpensWithin plan voc events (later ++ last) c) opening f.any_moment
+            (λ c was. inl was) (λ c opens. inr opens);
+        now = f.now;
+      })
       (λ no.
-        let p = persists no in
-        let same : later ++ [] ≡ later = append-nil later in
-        let Within : List Event → Type 0 = λ l. LeavesOnly moment left_since old new (OpensWithin plan voc events l) in
-        record {
-          plan = plan; voc = voc; events = events; says = says; lang = lang; read = read; places = places; later = later;
-          more = p.more; grown = p.grown; tries = tries; part = part; last = [];
-          none_lost = λ so. refl;
-          one_lost = λ is. absurd (no is);
-          any_moment = joined moment left_since first old new (may_leave first) (OpensWithin plan voc events (later ++ [])) (λ c. may_leave first c ⊎ OpensWithin plan voc events (later ++ []) c) opening (subst Within (sym same) p.any_moment)
-              (λ c was. inl was) (λ c opens. inr opens);
-          now = λ c left. inl (p.now.each c left);
-        })
+      let p = persists no in
+      let same : later ++ [] ≡ later = append-nil later in
+      let Within : List Event → Type 0 = λ l. LeavesOnly moment left_since old new (OpensWithin plan voc events l) in
+      record {
+        plan = plan;
+        voc = voc;
+        events = events;
+        says = says;
+        lang = lang;
+        read = read;
+        places = places;
+        later = later;
+        more = p.more;
+        grown = p.grown;
+        tries = tries;
+        part = part;
+        last = [];
+        none_lost = λ so. refl;
+        one_lost = λ is. absurd (no is);
+        any_moment = joined moment left_since first old new (may_leave first) (OpensWithin plan voc events (later ++ [])) (λ c. may_leave first c ⊎ OpensWithin plan voc events (later ++ []) c) opening (subst Within (sym same) p.any_moment)
+            (λ c was. inl was) (λ c opens. inr opens);
+        now = λ c left. inl (p.now.each c left);
+      })
       (disk_failed got)
 
 -- ---- making a journal

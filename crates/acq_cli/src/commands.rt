@@ -119,8 +119,9 @@ fn say_created<K: Sink>(alloc: Global, lang: &Language, out: &mut K) -> Result<(
     let variables = lang.n();
     let scopes = lang.scopes();
     let candidates = lang.candidates();
-    let Ok(text) = format!(in alloc; "created variables {variables} scopes {scopes} candidates {candidates}\n")
-    else {
+    let Ok(text) = format!(in alloc;
+        "created variables {variables} scopes {scopes} candidates {candidates}\n"
+    ) else {
         return Err(Put::Memory);
     };
     out.write(text.as_bytes())

@@ -141,7 +141,12 @@ fn next_of(session: &Session, place: &mut Place, screen: &mut Screen, budget: u3
 }
 
 /// Puts the question that comes next, if one does.
-fn put_next<D: Disk, P: Keep<D>>(keep: &mut P, place: &mut Place, screen: &mut Screen, budget: u32) -> Next
+fn put_next<D: Disk, P: Keep<D>>(
+    keep: &mut P,
+    place: &mut Place,
+    screen: &mut Screen,
+    budget: u32,
+) -> Next
     requires sound { P.sound keep.old }
     requires settled { IsSettled (P.lang keep.old) (P.plan keep.old) (standing_on (P.lang keep.old) (P.record_of keep.old)) (P.question keep.old) }
     requires screen { IsMadeFor (P.lang keep.old) screen.old }

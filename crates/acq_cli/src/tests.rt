@@ -306,14 +306,44 @@ fn run_on(
 static COMMANDS: [(&str, &str, &str, u8); 10] = [
     ("j run", "yes\n", "refused journal no session\n", 3),
     ("j show", "", "refused journal no session\n", 3),
-    ("j new", "voc", "created variables 2 scopes 1 candidates 3\n", 0),
+    (
+        "j new",
+        "voc",
+        "created variables 2 scopes 1 candidates 3\n",
+        0,
+    ),
     ("j run", "yes", "q1 a=1 b=2\nsuspended 0\n", 6),
-    ("j show", "", "plan quacq\nanswers 0\nlearned 0\nstate idle\n", 0),
+    (
+        "j show",
+        "",
+        "plan quacq\nanswers 0\nlearned 0\nstate idle\n",
+        0,
+    ),
     ("j run", "yes\n", "q1 a=1 b=2\nq2 a=1 b=1\nsuspended 1\n", 6),
-    ("j show", "", "plan quacq\nq1 a=1 b=2 yes\nanswers 1\nlearned 0\nstate idle\n", 0),
-    ("j run --budget 5", "no\n", "q2 a=1 b=1\nconverged 2\nne a b\n", 0),
-    ("j show", "", "plan quacq\nq1 a=1 b=2 yes\nq2 a=1 b=1 no\nanswers 2\nlearned 1\nne a b\nstate idle\n", 0),
-    ("j new --plan scopes", "voc", "refused journal session there\n", 3),
+    (
+        "j show",
+        "",
+        "plan quacq\nq1 a=1 b=2 yes\nanswers 1\nlearned 0\nstate idle\n",
+        0,
+    ),
+    (
+        "j run --budget 5",
+        "no\n",
+        "q2 a=1 b=1\nconverged 2\nne a b\n",
+        0,
+    ),
+    (
+        "j show",
+        "",
+        "plan quacq\nq1 a=1 b=2 yes\nq2 a=1 b=1 no\nanswers 2\nlearned 1\nne a b\nstate idle\n",
+        0,
+    ),
+    (
+        "j new --plan scopes",
+        "voc",
+        "refused journal session there\n",
+        3,
+    ),
 ];
 
 #[test]
@@ -325,7 +355,11 @@ fn a_run_goes_on_where_the_last_one_ended(rt: HostRuntime) -> Result<(), Fail> {
     };
     let mut disk = MemDisk::new(alloc, Vec::new(alloc), Vec::new(alloc), room)?;
     for (options, input, wanted, status) in &COMMANDS {
-        let input = if *input == "voc" { vocabulary_of("two") } else { *input };
+        let input = if *input == "voc" {
+            vocabulary_of("two")
+        } else {
+            *input
+        };
         let (text, ended) = run_on(&rt, alloc, options, input, &mut disk)?;
         assert_eq!(rt; text.as_str(), *wanted, "{options}");
         assert_eq!(rt; ended, *status, "{options}");
@@ -338,7 +372,10 @@ fn a_run_goes_on_where_the_last_one_ended(rt: HostRuntime) -> Result<(), Fail> {
 static FILES: [(&[u8], &str); 3] = [
     (b"xxxxxxxxx", "refused journal no session\n"),
     (b"xxxxxxxxxx", "refused journal not a journal\n"),
-    (b"QUACQJ1\n\x01S\x00\x00\x00\x04\x02voc\x00", "refused journal vocabulary not json\n"),
+    (
+        b"QUACQJ1\n\x01S\x00\x00\x00\x04\x02voc\x00",
+        "refused journal vocabulary not json\n",
+    ),
 ];
 
 #[test]

@@ -358,13 +358,12 @@ fn each_end_is_what_the_answers_say(rt: HostRuntime) -> Result<(), Fail> {
         (2u8, "scopes", 100u32),
         (2, "quacq", 100),
         (2, "quacq", 1),
-        (2, "quacq", 3),
         (3, "quacq", 100),
-        (3, "quacq", 4),
+        (3, "quacq", 2),
         (2, "multi", 100),
         (2, "multi", 1),
         (3, "multi", 100),
-        (3, "multi", 4),
+        (3, "multi", 2),
     ] {
         let mut counts = [0u32; 3];
         for chosen in 1..64u8 {

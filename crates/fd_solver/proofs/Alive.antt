@@ -98,8 +98,10 @@ accepts_covered d e f a some known sub full ok covered =
 arcs_parts : (l : Language) (list : List Candidate) (against : Option Candidate) (f : Family) → is_arc_consistent (arcs_of l list against) f ≡ true →
     (All (λ c. is_consistent f (scope_of l c) (arc_of l c true).accepted ≡ true) list) × (ForSome against (λ c. is_consistent f (scope_of l c) (arc_of l c false).accepted ≡ true))
 arcs_parts l [] None f h = (All-nil (λ c. is_consistent f (scope_of l c) (arc_of l c true).accepted ≡ true), λ c e. (let never : ⊥ = cc in absurd never))
-arcs_parts l [] (Some b) f h = (All-nil (λ c. is_consistent f (scope_of l c) (arc_of l c true).accepted ≡ true),
-    λ c e. (let same : b ≡ c = cc in subst (λ (x : Candidate). is_consistent f (scope_of l x) (arc_of l x false).accepted ≡ true) same (and_parts _ true h).0))
+arcs_parts l [] (Some b) f h = (
+  All-nil (λ c. is_consistent f (scope_of l c) (arc_of l c true).accepted ≡ true),
+  λ c e. (let same : b ≡ c = cc in subst (λ (x : Candidate). is_consistent f (scope_of l x) (arc_of l x false).accepted ≡ true) same (and_parts _ true h).0),
+)
 arcs_parts l (c ∷ list) against f h =
     let parts = and_parts (is_consistent f (scope_of l c) (arc_of l c true).accepted) (is_arc_consistent (arcs_of l list against) f) h in
     let rest = arcs_parts l list against f parts.1 in
@@ -179,9 +181,10 @@ value_there e v complete low = known_one (value_of e v) (AllPass-from_list_all i
 
 within_own : (d : ℕ) (e : Assignment) (scope : List ℕ) → is_complete e ≡ true → All (λ v. v < length e) scope → IsWithin (sets_on (left_by d e) scope) (tuple_on e scope)
 within_own d e [] complete small = tt
-within_own d e (v ∷ scope) complete small =
-    (ap (λ xs. has xs (unwrap_or (value_of e v) 0)) (left_value d e v (unwrap_or (value_of e v) 0) (value_there e v complete (All-head (λ v. v < length e) v scope small))) ∙ has_head (unwrap_or (value_of e v) 0) [],
-    within_own d e scope complete (All-tail (λ v. v < length e) v scope small))
+within_own d e (v ∷ scope) complete small = (
+  ap (λ xs. has xs (unwrap_or (value_of e v) 0)) (left_value d e v (unwrap_or (value_of e v) 0) (value_there e v complete (All-head (λ v. v < length e) v scope small))) ∙ has_head (unwrap_or (value_of e v) 0) [],
+  within_own d e scope complete (All-tail (λ v. v < length e) v scope small),
+)
 
 consistent_own : (d : ℕ) (e : Assignment) (a : Arc) → is_complete e ≡ true → All (λ v. v < length e) a.scope → a.accepted (tuple_on e a.scope) ≡ true → is_consistent (left_by d e) a.scope a.accepted ≡ true
 consistent_own d e a complete small at = consistent a (left_by d e) (record {

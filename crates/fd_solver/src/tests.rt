@@ -232,7 +232,13 @@ fn set_of(family: &[u8; 4], v: u8) -> u8 {
 
 /// Whether each value of the first set has one of the second set with which the candidate, of two variables, holds, or
 /// doesn't hold. The first set is that of the scope's first variable, or of its second one.
-fn is_supported(lang: &Language, c: Candidate, holding: bool, family: &[u8; 4], from_first: bool) -> bool
+fn is_supported(
+    lang: &Language,
+    c: Candidate,
+    holding: bool,
+    family: &[u8; 4],
+    from_first: bool,
+) -> bool
     requires candidate { IsCandidate lang.now c }
 {
     let scope = lang.scope(c.scope);

@@ -12,9 +12,7 @@ ghost use Rattle.fd_solver.specs.Ready.{IsReady, IsArranged, fixed};
 use crate::stack::Stack;
 use assign::VarSet;
 use language::{Language, Memory};
-use propagators::{
-    Alive, Brief, Constraints, Domains, brief_all, propagate_after, propagate_all,
-};
+use propagators::{Alive, Brief, Constraints, Domains, brief_all, propagate_after, propagate_all};
 use std::alloc::Global;
 use std::marker::Model;
 

@@ -88,7 +88,6 @@ both_as {A} {B} P a b v w e f p = let One : A → Type 0 = λ x. P x v in let Tw
 
 module _ {D : Type 0} (content : D → Option (List ℕ)) (may_leave : D → List ℕ → Type 0) (moment : D → ℕ) (left_since : D → ℕ → List ℕ → Type 0)
     (counts_now : (disk : D) (t : ℕ) (c : List ℕ) → t ≤ moment disk → may_leave disk c → left_since disk t c) (only_now : (disk : D) (c : List ℕ) → left_since disk (moment disk) c → may_leave disk c) where
-
   -- before the first call
   pub persists_none : (plan : Plan) (voc : List ℕ) (events : List Event) (disk : D) (bytes : List ℕ) → content disk ≡ Some bytes → ((c : List ℕ) → may_leave disk c → OpensWith plan voc events c) →
       Persists content may_leave moment left_since plan voc events events disk disk

@@ -50,9 +50,10 @@ returns-in-Ok-clause-keeps g c =
     }
 
 pub returns-in-Err-clause-kept : goal.returns-in-Err-clause-kept
-returns-in-Err-clause-kept g c =
-    (⊎_elim (λ memory. inl (c.ended_by.ensures ∙ ap ended_by memory)) (λ failed. inr (c.ended_by.ensures ∙ ap ended_by failed)) c.in-Err.ensures.faults,
-     ap (standing_on (g.P.Keep.lang c.args.keep.now)) c.in-Err.ensures.err)
+returns-in-Err-clause-kept g c = (
+  ⊎_elim (λ memory. inl (c.ended_by.ensures ∙ ap ended_by memory)) (λ failed. inr (c.ended_by.ensures ∙ ap ended_by failed)) c.in-Err.ensures.faults,
+  ap (standing_on (g.P.Keep.lang c.args.keep.now)) c.in-Err.ensures.err,
+)
 
 pub returns-in-Err-clause-keeps : goal.returns-in-Err-clause-keeps
 returns-in-Err-clause-keeps g c =
@@ -64,27 +65,27 @@ returns-in-Err-clause-keeps g c =
     let x = c.args.disk.now in
     let y = c.answer.new.disk in
     ⊎_elim (λ memory.
-      let all = c.in-Err.ensures.memory (ap lost memory) in
-      let HasFailed : Type 0 = Some c.ended_by.result ≡ Some drove.DiskFault in
-      let As : _ → Type 0 = λ d. Keeps D.content D.may_leave D.moment D.left_since P.plan P.voc P.record_of P.question P.writes P.live P.sits D.faults HasFailed old new x d in
-      subst As (sym all.1)
-      (keeps_still D.content D.may_leave D.moment D.left_since g.met.D.Disk.counts_now g.met.D.Disk.only_now P.plan P.voc P.record_of P.question P.writes P.live P.sits D.faults HasFailed old new x
-        (not_memory c.ended_by.result (c.ended_by.ensures ∙ ap ended_by memory)) c.answer.ensures.plan c.answer.ensures.voc c.in-Err.ensures.err c.answer.ensures.writes all.0 c.requires.live
-        (subst (P.sits new) all.1 c.answer.ensures.sits) (λ w bytes told f left. g.met.P.Keep.lasts old x c.requires.sound w c.requires.live c.requires.sits bytes told f left)))
+    let all = c.in-Err.ensures.memory (ap lost memory) in
+    let HasFailed : Type 0 = Some c.ended_by.result ≡ Some drove.DiskFault in
+    let As : _ → Type 0 = λ d. Keeps D.content D.may_leave D.moment D.left_since P.plan P.voc P.record_of P.question P.writes P.live P.sits D.faults HasFailed old new x d in
+    subst As (sym all.1)
+    (keeps_still D.content D.may_leave D.moment D.left_since g.met.D.Disk.counts_now g.met.D.Disk.only_now P.plan P.voc P.record_of P.question P.writes P.live P.sits D.faults HasFailed old new x
+    (not_memory c.ended_by.result (c.ended_by.ensures ∙ ap ended_by memory)) c.answer.ensures.plan c.answer.ensures.voc c.in-Err.ensures.err c.answer.ensures.writes all.0 c.requires.live
+    (subst (P.sits new) all.1 c.answer.ensures.sits) (λ w bytes told f left. g.met.P.Keep.lasts old x c.requires.sound w c.requires.live c.requires.sits bytes told f left)))
     (λ failed.
-      let why = c.in-Err.ensures.failed (ap lost failed) in
-      let is : Some c.ended_by.result ≡ Some drove.DiskFault = ap (λ (d : Drove). Some d) (c.ended_by.ensures ∙ ap ended_by failed) in
-      record {
-        same_voc = c.answer.ensures.voc;
-        same_writes = c.answer.ensures.writes;
-        belongs = c.answer.ensures.sits;
-        later = c.answer.ensures.later;
-        is_live = λ no. absurd (no is);
-        cause = λ so. (why.0, why.2);
-        unwritten = c.answer.ensures.unwritten;
-        persists = λ w bytes told no. absurd (no is);
-        fails = λ w bytes told so.
-            fails_one D.content D.may_leave D.moment D.left_since g.met.D.Disk.counts_now g.met.D.Disk.only_now (P.plan old) (P.voc old) (P.record_of old) (P.record_of new) q c.args.yes (P.question new) x y
-            c.in-Err.ensures.err (c.in-Err.ensures.err_question ∙ c.requires.put.1) (c.answer.ensures.any_moment w bytes told q c.requires.put.1);
-      })
+    let why = c.in-Err.ensures.failed (ap lost failed) in
+    let is : Some c.ended_by.result ≡ Some drove.DiskFault = ap (λ (d : Drove). Some d) (c.ended_by.ensures ∙ ap ended_by failed) in
+    record {
+      same_voc = c.answer.ensures.voc;
+      same_writes = c.answer.ensures.writes;
+      belongs = c.answer.ensures.sits;
+      later = c.answer.ensures.later;
+      is_live = λ no. absurd (no is);
+      cause = λ so. (why.0, why.2);
+      unwritten = c.answer.ensures.unwritten;
+      persists = λ w bytes told no. absurd (no is);
+      fails = λ w bytes told so.
+          fails_one D.content D.may_leave D.moment D.left_since g.met.D.Disk.counts_now g.met.D.Disk.only_now (P.plan old) (P.voc old) (P.record_of old) (P.record_of new) q c.args.yes (P.question new) x y
+          c.in-Err.ensures.err (c.in-Err.ensures.err_question ∙ c.requires.put.1) (c.answer.ensures.any_moment w bytes told q c.requires.put.1);
+    })
     c.in-Err.ensures.faults

@@ -130,4 +130,3 @@ returns-in_default-new-clause-keeps g c =
     let D = g.D.Disk in let P = g.P.Keep in
     keeps_still D.content D.may_leave D.moment D.left_since g.met.D.Disk.counts_now g.met.D.Disk.only_now P.plan P.voc P.record_of P.question P.writes P.live P.sits D.faults _ c.args.keep.now c.args.keep.now c.args.disk.now not_okay refl refl refl refl refl c.requires.live c.requires.sits
     (λ w bytes told f left. g.met.P.Keep.lasts c.args.keep.now c.args.disk.now c.requires.sound w c.requires.live c.requires.sits bytes told f left)
-

@@ -57,6 +57,6 @@ returns-in-Err-clause-sound g c =
       held = held_as s.held c.make_room.new.self (sym c.make_room.ensures.session) (sym c.make_room.ensures.events) c.requires.sound.held;
       read = subst Read (ap lang_in (sym c.make_room.ensures.session)) c.requires.sound.read;
       count = λ live. absurd (⊎_elim
-      (λ full. let all = c.in-Err.ensures.full.0 (ap lost full) in let count = c.requires.sound.count c.requires.live in let room = c.requires.room in let no : ⊥ = omega arith in no)
-      (λ failed. both_ways _ (c.in-Err.ensures.failed (ap lost failed)).1 live) c.in-Err.ensures.faults);
+          (λ full. let all = c.in-Err.ensures.full.0 (ap lost full) in let count = c.requires.sound.count c.requires.live in let room = c.requires.room in let no : ⊥ = omega arith in no)
+          (λ failed. both_ways _ (c.in-Err.ensures.failed (ap lost failed)).1 live) c.in-Err.ensures.faults);
     }
