@@ -1,4 +1,7 @@
 //! A named file as a disk. It tells nothing: no contract can say what a file holds.
+//!
+//! The model of a disk speaks of the file alone. That a new file is found again after a power failure is this adapter's
+//! care: with a write at the file's beginning it has the folder written too.
 
 ghost use Rattle.std.specs.Prelude.{◌≡◌, ◌≤◌, ◌+◌, ◌^◌, ◌-◌, min, None, IfSome, length};
 ghost use Rattle.disk_model.specs.Disk.{Rose, HasCause};
@@ -7,6 +10,7 @@ use disk_model::{Disk, Failed};
 use std::fs::{File, OpenOptions};
 use std::io::ErrorKind;
 use std::os::unix::fs::FileExt;
+use std::path::Path;
 use std::rt::Files;
 
 /// A named file. It is opened at the first call that finds it, and made at the first write. Until then it has no bytes.
@@ -63,6 +67,27 @@ impl<'a, R: Files<File = File>> FileDisk<'a, R> {
             }
         }
     }
+
+    /// Has the file's entry in its folder written.
+    fn sync_folder(&mut self) -> Result<(), Failed>
+        ensures { HasCause self.old.faults self.new.faults result }
+    {
+        let Ok(folder) = File::open(self.rt, folder_of(self.name)) else {
+            return Err(self.fault());
+        };
+        match folder.sync_all() {
+            Ok(()) => Ok(()),
+            Err(_) => Err(self.fault()),
+        }
+    }
+}
+
+/// The folder that a file of this name stands in.
+fn folder_of(name: &str) -> &str {
+    match Path::new(name).parent() {
+        Some(folder) if !folder.as_str().is_empty() => folder.as_str(),
+        _ => ".",
+    }
 }
 
 impl<'a, R: Files<File = File>> Disk for FileDisk<'a, R> {
@@ -109,10 +134,11 @@ impl<'a, R: Files<File = File>> Disk for FileDisk<'a, R> {
         let Some(file) = &self.file else {
             return Err(self.fault());
         };
-        match file.write_all_at(bytes, at) {
-            Ok(()) => Ok(()),
-            Err(_) => Err(self.fault()),
+        if file.write_all_at(bytes, at).is_err() {
+            return Err(self.fault());
         }
+        // A session begins at the file's beginning, so its file may be new.
+        if at == 0 { self.sync_folder() } else { Ok(()) }
     }
 
     fn sync(&mut self) -> Result<(), Failed> {
