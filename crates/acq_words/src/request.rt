@@ -41,11 +41,13 @@ pub enum WordsFault {
 }
 
 /// Why words are refused.
-#[derive(Clone, Copy, Debug, PartialEq, Eq)]
+#[derive(Clone, Copy, Debug, PartialEq, Eq, Error)]
 pub enum UsageFault {
     /// They are no list of words that the program takes.
+    #[error("the words are none that are taken")]
     Words,
     /// The command and the options don't fit.
+    #[error("the command and the options do not fit")]
     Unfit,
 }
 

@@ -1,13 +1,16 @@
 //! Why a call on a disk, or the making of one, gives nothing.
 
 use std::alloc::{AllocError, AllocFailed};
+use thiserror::Error;
 
 /// The disk failed.
-#[derive(Clone, Copy, Debug, PartialEq, Eq)]
+#[derive(Clone, Copy, Debug, PartialEq, Eq, Error)]
+#[error("the disk failed")]
 pub struct Failed;
 
 /// Want of memory.
-#[derive(Clone, Copy, Debug, PartialEq, Eq)]
+#[derive(Clone, Copy, Debug, PartialEq, Eq, Error)]
+#[error("out of memory")]
 pub struct Memory;
 
 impl From<AllocError> for Memory {

@@ -1,24 +1,36 @@
 use rel_table::{CloseFault, Table};
 use smallvec::SmallVec;
+use thiserror::Error;
 
 /// Why there is no language.
-#[derive(Clone, Copy, Debug, PartialEq, Eq)]
+#[derive(Clone, Copy, Debug, PartialEq, Eq, Error)]
 pub enum LangFault {
+    #[error("no variables")]
     NoVariables,
+    #[error("more than 128 variables")]
     TooManyVariables,
+    #[error("bad domain")]
     BadDomain,
+    #[error("no relations")]
     NoRelations,
     /// This scope is empty, longer than 4 or not strictly rising.
+    #[error("scope {0} is no rising list of 1 to 4 variables")]
     ScopeOrder(u32),
     /// There are more than 8,192 scopes.
+    #[error("more than 8,192 scopes")]
     TooManyScopes,
     /// The second scope is the first once more.
+    #[error("scopes {0} and {1} are the same")]
     ScopeRepeated(u32, u32),
     /// One of these scopes lies within the other.
+    #[error("one of scopes {0} and {1} lies within the other")]
     Nested(u32, u32),
     /// No relation has as many places as this scope has variables.
+    #[error("no relation fits scope {0}")]
     NoRelationOfArity(u32),
+    #[error("{0}")]
     Closing(CloseFault),
+    #[error("out of memory")]
     Memory,
 }
 

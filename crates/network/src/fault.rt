@@ -2,24 +2,33 @@ ghost use Rattle.std.specs.Prelude.{◌≡◌, ◌++◌, codes, string_bytes, If
 ghost use Rattle.network.specs.FaultTexts.{net_fault_text};
 
 use std::alloc::{AllocError, AllocFailed, Global};
+use thiserror::Error;
 
 /// Why a network in JSON is refused. Items count from 0.
-#[derive(Clone, Copy, Debug, PartialEq, Eq)]
+#[derive(Clone, Copy, Debug, PartialEq, Eq, Error)]
 pub enum NetFault {
     /// There are more than 4,194,304 bytes.
+    #[error("more than 4,194,304 bytes")]
     TooLong,
     /// The bytes aren't a JSON text in UTF-8.
+    #[error("no JSON text")]
     NotJson,
     /// The whole isn't an array.
+    #[error("no array")]
     NotList,
     /// The item isn't an array of 2 to 5 strings.
+    #[error("item {0} is no array of 2 to 5 strings")]
     BadItem(u32),
     /// The item's variables, in the order given, are no scope.
+    #[error("item {0} names no scope")]
     UnknownScope(u32),
     /// A piece of the item's relation is no relation of the scope's arity.
+    #[error("item {0} names no relation")]
     UnknownRelation(u32),
     /// The second item has the scope of the first one, and no other before it has.
+    #[error("items {0} and {1} have one scope")]
     ScopeRepeated(u32, u32),
+    #[error("out of memory")]
     Memory,
 }
 

@@ -8,32 +8,41 @@ ghost use Rattle.rel_table.specs.Made.{arity_of, size_for, size_of, is_shown, in
 use crate::bits::Bits;
 use std::alloc::Global;
 use std::marker::Model;
+use thiserror::Error;
 
 /// Want of memory: the allocator gave none.
-#[derive(Clone, Copy, Debug, PartialEq, Eq)]
+#[derive(Clone, Copy, Debug, PartialEq, Eq, Error)]
+#[error("out of memory")]
 pub struct Memory;
 
 /// Why no table was made.
-#[derive(Clone, Copy, Debug, PartialEq, Eq)]
+#[derive(Clone, Copy, Debug, PartialEq, Eq, Error)]
 pub enum TableFault {
     /// The arity isn't 1 to 4.
+    #[error("the arity is not 1 to 4")]
     BadArity,
     /// The tuple with this number, from 0, hasn't as many values as the arity says.
+    #[error("tuple {0} has the wrong length")]
     TupleLength(u32),
     /// The tuple with this number, from 0, has a value outside the domain.
+    #[error("tuple {0} has a value outside the domain")]
     ValueOut(u32),
     /// There would be more than 65,536 tuples.
+    #[error("there would be more than 65,536 tuples")]
     TooLarge,
     /// The allocator gave no memory.
+    #[error("out of memory")]
     Memory,
 }
 
 /// Why relations can't be closed under intersection.
-#[derive(Clone, Copy, Debug, PartialEq, Eq)]
+#[derive(Clone, Copy, Debug, PartialEq, Eq, Error)]
 pub enum CloseFault {
     /// There are more than 64 intersections of this arity, and of no smaller one.
+    #[error("more than 64 intersections of arity {0}")]
     TooMany(u8),
     /// The allocator gave no memory.
+    #[error("out of memory")]
     Memory,
 }
 

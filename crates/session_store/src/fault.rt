@@ -7,15 +7,20 @@ ghost use Rattle.session_store.specs.declared.fault.SFault.TheVariants.{Memory};
 use answer_journal::JFault;
 use std::alloc::{AllocError, AllocFailed};
 use voc_read::VocFault;
+use thiserror::Error;
 
 /// Why a call gives nothing. Want of memory is always `Memory`, and never within another fault.
-#[derive(Clone, Copy, Debug, PartialEq, Eq)]
+#[derive(Clone, Copy, Debug, PartialEq, Eq, Error)]
 pub enum SFault {
+    #[error("{0}")]
     Journal(JFault),
+    #[error("vocabulary: {0}")]
     Voc(VocFault),
     /// The question of the event in this record isn't the open one and isn't lawful, or has a value that the vocabulary
     /// lacks. The record of the vocabulary is record 0.
+    #[error("the answer of record {0} has no place")]
     Stray(u32),
+    #[error("out of memory")]
     Memory,
 }
 

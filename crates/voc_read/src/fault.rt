@@ -2,6 +2,7 @@ use language::LangFault;
 use rel_formula::{FormulaFault, TableOfFault};
 use rel_table::TableFault;
 use std::alloc::{AllocError, AllocFailed};
+use thiserror::Error;
 
 /// Where in a vocabulary a fault is.
 #[derive(Clone, Copy, Debug, PartialEq, Eq)]
@@ -18,33 +19,48 @@ pub enum Spot {
 }
 
 /// Why a vocabulary is refused. Numbers count from 0 in the vocabulary's order.
-#[derive(Clone, Copy, Debug, PartialEq, Eq)]
+#[derive(Clone, Copy, Debug, PartialEq, Eq, Error)]
 pub enum VocFault {
     /// There are more than 4,194,304 bytes.
+    #[error("more than 4,194,304 bytes")]
     TooLong,
     /// The bytes aren't a JSON text in UTF-8.
+    #[error("no JSON text")]
     NotJson,
+    #[error("something is missing")]
     Missing(Spot),
+    #[error("something is of the wrong kind")]
     WrongKind(Spot),
+    #[error("an unknown key")]
     UnknownKey(Spot),
     /// The variable's name doesn't have the form of a name.
+    #[error("variable {0} has a bad name")]
     BadName(u32),
     /// Two variables have one name: the second is the first that repeats one, the first is the one that it repeats.
+    #[error("variables {0} and {1} have one name")]
     NameRepeated(u32, u32),
     /// The relation's name doesn't have the form of a name.
+    #[error("relation {0} has a bad name")]
     BadRelName(u32),
     /// Two relations have one name.
+    #[error("relations {0} and {1} have one name")]
     RelRepeated(u32, u32),
     /// The scope names something that is no variable.
+    #[error("scope {0} names no variable")]
     UnknownVariable(u32),
     /// The relation's formula is none.
+    #[error("relation {0}: {1}")]
     Formula(u32, FormulaFault),
     /// The relation has no table.
+    #[error("relation {0}: {1}")]
     Table(u32, TableFault),
     /// The relation's formula has no table.
+    #[error("relation {0}: {1}")]
     TableOf(u32, TableOfFault),
     /// The parts make no language.
+    #[error("{0}")]
     Lang(LangFault),
+    #[error("out of memory")]
     Memory,
 }
 
