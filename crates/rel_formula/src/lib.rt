@@ -13,8 +13,6 @@ mod reading;
 mod step;
 mod tables;
 mod terms;
-#[cfg(test)]
-mod tests;
 mod truths;
 
 pub use fault::{FormulaFault, TableOfFault};

@@ -6,8 +6,6 @@ mod bits;
 mod closing;
 mod places;
 mod table;
-#[cfg(test)]
-mod tests;
 
 pub use closing::{Closed, close};
 pub use places::tuple_of;

@@ -1,7 +1,7 @@
 use Rattle.std.proofs.Common.{◌≡◌}
 use Rattle.std.specs.Prelude.{All}
 use Rattle.rel_table.specs.Table.{TruthTable}
-use Rattle.rel_table.proofs.tests.closed_pairs.Given as goal
+use Rattle.table_trials.proofs.tables.closed_pairs.Given as goal
 
 abbrev pub ghost-close : goal.ghost-close
 ghost-close g a = 2

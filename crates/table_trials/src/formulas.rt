@@ -6,7 +6,7 @@ ghost use Rattle.rel_formula.specs.declared.fault.FormulaFault.TheVariants.{BadS
 ghost use Rattle.rel_formula.specs.declared.step.Arithmetic.TheVariants.{Product, Sum};
 ghost use Rattle.rel_formula.specs.declared.step.Comparison.TheVariants.{Below, Equal};
 
-use crate::*;
+use rel_formula::{FormulaFault, TableOfFault, read_formula, table_of};
 use serde_json::Value;
 use std::alloc::{AllocError, Global};
 use std::test::Fail;

@@ -3,7 +3,7 @@
 ghost use Rattle.std.specs.Prelude.{◌≡◌, All, IfOk};
 ghost use Rattle.rel_table.specs.Table.{TruthTable};
 
-use crate::{CloseFault, Closed, Table, TableFault, close, place_of, table_size, tuple_of};
+use rel_table::{CloseFault, Closed, Table, TableFault, close, place_of, table_size, tuple_of};
 use std::alloc::Global;
 use std::process::Abort;
 use std::test::Fail;
@@ -56,49 +56,51 @@ fn sizes(rt: HostRuntime) {
     }
 }
 
+/// Arities, least values, numbers of values and tuples, and the fault of each.
+const TUPLES: [(i64, i64, u32, &[&[i64]], Option<TableFault>); 14] = [
+    (0, 1, 2, &[&[3]], Some(TableFault::BadArity)),
+    (5, 1, 64, &[], Some(TableFault::BadArity)),
+    (3, 1, 64, &[&[0]], Some(TableFault::TooLarge)),
+    (2, 1, 2, &[&[]], Some(TableFault::TupleLength(0))),
+    (2, 1, 2, &[&[1, 1], &[2]], Some(TableFault::TupleLength(1))),
+    (2, 1, 2, &[&[1, 2, 1]], Some(TableFault::TupleLength(0))),
+    (2, 1, 2, &[&[3]], Some(TableFault::TupleLength(0))),
+    (2, 1, 2, &[&[2, 3], &[1]], Some(TableFault::ValueOut(0))),
+    (
+        2,
+        1,
+        2,
+        &[&[1, 2], &[1], &[0, 1]],
+        Some(TableFault::TupleLength(1)),
+    ),
+    (
+        2,
+        1,
+        2,
+        &[&[1, 2], &[0, 1], &[]],
+        Some(TableFault::ValueOut(1)),
+    ),
+    (
+        1,
+        -3,
+        3,
+        &[&[-3], &[-1], &[0]],
+        Some(TableFault::ValueOut(2)),
+    ),
+    (
+        1,
+        -1_000_000,
+        1,
+        &[&[-1_000_001]],
+        Some(TableFault::ValueOut(0)),
+    ),
+    (1, 999_937, 64, &[&[1_000_000]], None),
+    (4, 0, 16, &[&[15, 0, 15, 0], &[0, 15, 0, 15]], None),
+];
+
 #[test]
 fn the_least_offending_tuple_is_named(rt: HostRuntime) {
-    let rows: [(i64, i64, u32, &[&[i64]], Option<TableFault>); 14] = [
-        (0, 1, 2, &[&[3]], Some(TableFault::BadArity)),
-        (5, 1, 64, &[], Some(TableFault::BadArity)),
-        (3, 1, 64, &[&[0]], Some(TableFault::TooLarge)),
-        (2, 1, 2, &[&[]], Some(TableFault::TupleLength(0))),
-        (2, 1, 2, &[&[1, 1], &[2]], Some(TableFault::TupleLength(1))),
-        (2, 1, 2, &[&[1, 2, 1]], Some(TableFault::TupleLength(0))),
-        (2, 1, 2, &[&[3]], Some(TableFault::TupleLength(0))),
-        (2, 1, 2, &[&[2, 3], &[1]], Some(TableFault::ValueOut(0))),
-        (
-            2,
-            1,
-            2,
-            &[&[1, 2], &[1], &[0, 1]],
-            Some(TableFault::TupleLength(1)),
-        ),
-        (
-            2,
-            1,
-            2,
-            &[&[1, 2], &[0, 1], &[]],
-            Some(TableFault::ValueOut(1)),
-        ),
-        (
-            1,
-            -3,
-            3,
-            &[&[-3], &[-1], &[0]],
-            Some(TableFault::ValueOut(2)),
-        ),
-        (
-            1,
-            -1_000_000,
-            1,
-            &[&[-1_000_001]],
-            Some(TableFault::ValueOut(0)),
-        ),
-        (1, 999_937, 64, &[&[1_000_000]], None),
-        (4, 0, 16, &[&[15, 0, 15, 0], &[0, 15, 0, 15]], None),
-    ];
-    for (arity, lo, d, tuples, fault) in rows {
+    for (arity, lo, d, tuples, fault) in TUPLES {
         assert_eq!(rt;
             made(&rt, rt.alloc(), arity, lo, d, tuples).err(),
             fault,
