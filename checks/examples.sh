@@ -1,0 +1,40 @@
+#!/usr/bin/env bash
+# Each example, run as README.md or the example's own README.md says, prints what is stored with it, to the byte.
+#
+# usage: checks/examples.sh PROGRAM
+#
+# A command there reads `./acquire WORDS < examples/NAME/INPUT`, where INPUT is `input` or ends in `_input`; what it prints is
+# stored under the name that has `printed` for `input`. An input that no command names is a failure.
+set -u
+[ $# -eq 1 ] || { sed -n '2,/^set/s/^#.\{0,1\}//p' "$0"; exit 2; }
+program=$(realpath "$1") || exit 2
+cd "$(dirname "$0")/.." || exit 2
+passed=0
+failed=0
+
+report() {
+    if [ "$1" -eq 0 ]; then
+        passed=$((passed + 1))
+    else
+        failed=$((failed + 1))
+        echo "examples: $2"
+    fi
+}
+
+commands=$(grep -ohE '\./acquire [^<`]*< examples/[a-z_]+/([a-z_]+_)?input' README.md examples/*/README.md | sort -u)
+for input in examples/*/*input; do
+    grep -q "< $input$" <<<"$commands" || report 1 "$input: no README says how to run it"
+done
+set -f
+while read -r _ words; do
+    input=${words#*< }
+    stored=${input%input}printed
+    "$program" ${words%<*} <"$input" 2>&1 | cmp - "$stored"
+    report $((PIPESTATUS[0] + PIPESTATUS[1])) "./acquire $words: it ends with another status than 0, or doesn't print $stored"
+done <<<"$commands"
+
+[ "$("$program")" = "$(grep '^usage: ' docs/formats.md)" ]
+report $? "the usage line isn't that of docs/formats.md"
+
+echo "examples: $passed passed, $failed failed"
+[ "$failed" -eq 0 ]
