@@ -1,9 +1,12 @@
 -- What a run over a journal has done, of its opening and its loop.
 use Rattle.std.proofs.Common.{◌≡◌, ◌≤◌, ◌⊎◌, ℕ, Bool, true, false, IsTrue, List, [], ◌∷◌, ◌++◌, Option, Some, None, Result, Ok, Err, refl, sym, ◌∙◌, ap, subst, inl, inr, ⊎_elim}
-use Rattle.std.specs.Prelude.{IfOk, OnErr, IsErr}
+use Rattle.std.specs.Prelude.{◌≢◌, IfOk, OnErr}
 use Rattle.std.specs.Option.{ForSome}
 use Rattle.std.proofs.lemmas.List.{append-nil}
+use Rattle.acq_io.specs.Streams.{Adds, AddsFront}
 use Rattle.acq_io.specs.declared.streams.Put.{Put}
+use Rattle.acq_io.specs.declared.streams.Put.TheVariants as put
+use Rattle.answer_journal.specs.declared.fault.JFault.TheVariants as journal
 use Rattle.assign.specs.Assignment.{Assignment}
 use Rattle.assign.specs.declared.events.Event.{Event}
 use Rattle.assign.specs.declared.events.Plan.{Plan}
@@ -17,11 +20,14 @@ use Rattle.session_store.specs.Keeping.{Persists, FailsWith}
 use Rattle.session_store.specs.Replay.{HavePlaces}
 use Rattle.session_store.specs.Store.{plan_of, voc_of, events_of, IsThere, opens_there}
 use Rattle.session_store.specs.declared.store.Store.{Store}
+use Rattle.session_store.specs.declared.fault.SFault.{SFault}
+use Rattle.session_store.specs.declared.fault.SFault.TheVariants as store
 use Rattle.voc_read.specs.Vocabulary.{IsVocabulary}
 use Rattle.acq_cli.specs.Breaks.{BreaksRun}
 use Rattle.acq_cli.specs.Places.{request_with}
 use Rattle.acq_cli.specs.Program.{Tries}
-use Rattle.acq_cli.specs.Journals.{GoesOn}
+use Rattle.acq_cli.specs.Journals.{GoesOn, EndsWith, untold}
+use Rattle.acq_cli.proofs.Parts.{written_badly}
 use Rattle.acq_cli.specs.declared.ending.Ending.{Ending}
 use Rattle.acq_cli.specs.declared.ending.Ending.TheVariants as ending
 
@@ -60,13 +66,13 @@ disk_failed (Err e) = inr (err_ok e)
 disk_failed (Ok end) = ⊎_elim (λ is. inl (ap okay is)) (λ other. inr (λ h. other (same_ok end ending.DiskFault h))) (other_ending end)
 
 module _ {D : Type 0} (content : D → Option (List ℕ)) (may_leave : D → List ℕ → Type 0) (moment : D → ℕ) (left_since : D → ℕ → List ℕ → Type 0) where
-  pub goes_on : (budget : ℕ) (bytes : List ℕ) (left written left' written' : Option (List ℕ)) (first old new : D) (got : Result Ending Put) (plan : Plan) (voc : List ℕ) (events later : List Event) (put : Option Assignment) (lang : Language) →
+  pub goes_on : (budget : ℕ) (bytes : List ℕ) (left written left' written' : Option (List ℕ)) (first old new : D) (got : Result Ending Put) (plan : Plan) (voc : List ℕ) (events later : List Event) (open_then : Option Assignment) (lang : Language) →
       SaysSession bytes plan voc events → IsVocabulary voc lang → HavePlaces lang plan events → LeavesOnly moment left_since first old (may_leave first) →
-      ((IsDisk got → ⊥) → Persists content may_leave moment left_since plan voc events later old new) → (IsDisk got → FailsWith content may_leave moment left_since plan voc events later put old new) →
+      ((IsDisk got → ⊥) → Persists content may_leave moment left_since plan voc events later old new) → (IsDisk got → FailsWith content may_leave moment left_since plan voc events later open_then old new) →
       IfOk got (Tries lang (request_with plan budget) (standing_on lang events) (standing_on lang later) left written left' written') →
       OnErr got (BreaksRun lang (request_with plan budget) (standing_on lang events) left written written') →
       GoesOn content may_leave moment left_since budget bytes left written left' written' first new got
-  goes_on budget bytes left written left' written' first old new got plan voc events later put lang says read places opening persists fails tries part =
+  goes_on budget bytes left written left' written' first old new got plan voc events later open_then lang says read places opening persists fails tries part =
       ⊎_elim
       (λ is.
       let f = fails is in
@@ -117,21 +123,79 @@ module _ {D : Type 0} (content : D → Option (List ℕ)) (may_leave : D → Lis
       })
       (disk_failed got)
 
+-- ---- what was said
+
+-- where nothing is written for want of memory
+pub ends_with : (end : Ending) (text : List ℕ) (old new : Option (List ℕ)) (got : Result Ending Put) → IfOk got (λ (e : Ending). (e ≡ end) × Adds old new text) → OnErr got (AddsFront old new text) → (got ≡ Err put.Memory → new ≡ old) →
+    EndsWith end text old new got
+ends_with end text old new (Ok e) told part memory = told
+ends_with end text old new (Err put.Failed) told part memory = part
+ends_with end text old new (Err put.Memory) told part memory = memory refl
+
+pub told_ending : (end : Ending) (text : List ℕ) (old new : Option (List ℕ)) (got : Result Ending Put) → EndsWith end text old new got → IfOk got (λ (e : Ending). (e ≡ end) × Adds old new text)
+told_ending end text old new (Ok e) told = told
+told_ending end text old new (Err e) told = tt
+
+-- where a text couldn't be written
+pub ends_badly : (end : Ending) (text bytes : List ℕ) (old new : Option (List ℕ)) (e : Put) → bytes ≡ text → (written_badly e ≡ Err put.Failed → AddsFront old new bytes) → (written_badly e ≡ Err put.Memory → new ≡ old) →
+    EndsWith end text old new (Err e)
+ends_badly end text bytes old new put.Failed is failed memory = subst (AddsFront old new) is (failed refl)
+ends_badly end text bytes old new put.Memory is failed memory = memory refl
+
+-- where a part of it wasn't
+pub said_badly : (end : Ending) (text : List ℕ) (old new : Option (List ℕ)) (e : Put) → AddsFront old new text → (written_badly e ≡ Err put.Memory → new ≡ old) → EndsWith end text old new (Err e)
+said_badly end text old new put.Failed part memory = part
+said_badly end text old new put.Memory part memory = memory refl
+
+-- ---- faults that aren't told
+
+abbrev wanting : Result Ending Put
+wanting = Err put.Memory
+
+-- the disk failed, or memory was wanted
+pub untold_ends : (fault : SFault) (end : Result Ending Put) → untold fault ≡ Some end → ((fault ≡ store.Journal journal.DiskFault) × (end ≡ okay ending.DiskFault)) ⊎ (end ≡ wanting)
+untold_ends (store.Journal journal.SessionThere) end is = absurd (let no : ⊥ = cc in no)
+untold_ends (store.Journal journal.NoSession) end is = absurd (let no : ⊥ = cc in no)
+untold_ends (store.Journal journal.NotAJournal) end is = absurd (let no : ⊥ = cc in no)
+untold_ends (store.Journal (journal.Damaged at)) end is = absurd (let no : ⊥ = cc in no)
+untold_ends (store.Journal journal.TooManyRecords) end is = absurd (let no : ⊥ = cc in no)
+untold_ends (store.Journal journal.Full) end is = absurd (let no : ⊥ = cc in no)
+untold_ends (store.Journal journal.DiskFault) end is = inl (refl, let same : end ≡ okay ending.DiskFault = cc in same)
+untold_ends (store.Journal journal.Memory) end is = inr (let same : end ≡ wanting = cc in same)
+untold_ends (store.Voc fault) end is = absurd (let no : ⊥ = cc in no)
+untold_ends (store.Stray i) end is = absurd (let no : ⊥ = cc in no)
+untold_ends store.Memory end is = inr (let same : end ≡ wanting = cc in same)
+
+-- what holds of both holds of the ending
+pub untold_has : (P : Result Ending Put → Type 0) (fault : SFault) (end : Result Ending Put) → untold fault ≡ Some end → P (okay ending.DiskFault) → P wanting → P end
+untold_has P fault end is disk memory = ⊎_elim (λ failed. subst P (sym failed.1) disk) (λ want. subst P (sym want) memory) (untold_ends fault end is)
+
+wanting_okay : wanting ≡ okay ending.DiskFault → ⊥
+wanting_okay e = cc
+
+pub untold_disk : (fault : SFault) (end : Result Ending Put) → untold fault ≡ Some end → end ≡ okay ending.DiskFault → fault ≡ store.Journal journal.DiskFault
+untold_disk fault end is ended = ⊎_elim (λ failed. failed.0) (λ want. absurd (wanting_okay (sym want ∙ ended))) (untold_ends fault end is)
+
+pub untold_writes : (fault : SFault) (end : Result Ending Put) → untold fault ≡ Some end → IfOk end (λ e. e ≢ ending.WriteFault)
+untold_writes fault end is = untold_has (λ r. IfOk r (λ e. e ≢ ending.WriteFault)) fault end is (λ e. cc) tt
+
+pub untold_reads : (fault : SFault) (end : Result Ending Put) → untold fault ≡ Some end → IfOk end (λ e. e ≢ ending.ReadFault)
+untold_reads fault end is = untold_has (λ r. IfOk r (λ e. e ≢ ending.ReadFault)) fault end is (λ e. cc) tt
+
+pub untold_failed : (P : Type 0) (fault : SFault) (end : Result Ending Put) → untold fault ≡ Some end → end ≡ Err put.Failed → P
+untold_failed P fault end is = untold_has (λ r. r ≡ Err put.Failed → P) fault end is (λ e. absurd (let no : ⊥ = cc in no)) (λ e. absurd (let no : ⊥ = cc in no))
+
 -- ---- making a journal
 
-pub if_err : (P : Ending → Type 0) (got : Result Ending Put) → IsErr got → IfOk got P
-if_err P (Err e) is = tt
-if_err P (Ok end) is = absurd (let bad : false ≡ true = is in cc)
-
 -- what is left of a store that was just made
-pub made_now : {D : Type 0} (content : D → Option (List ℕ)) (may_leave : D → List ℕ → Type 0) (disk : D) (store : Store) (plan : Plan) (voc : List ℕ) (bytes : List ℕ) → content disk ≡ Some bytes →
-    plan_of store ≡ plan → voc_of store ≡ voc → events_of store ≡ [] → IsThere store.journal (plan_of store) (voc_of store) (events_of store) (may_leave disk) bytes → LeavesNow content may_leave (OpensWith plan voc []) disk
-made_now content may_leave disk store plan voc bytes told planned same none there = record {
+pub made_now : {D : Type 0} (content : D → Option (List ℕ)) (may_leave : D → List ℕ → Type 0) (disk : D) (made : Store) (plan : Plan) (voc : List ℕ) (bytes : List ℕ) → content disk ≡ Some bytes →
+    plan_of made ≡ plan → voc_of made ≡ voc → events_of made ≡ [] → IsThere made.journal (plan_of made) (voc_of made) (events_of made) (may_leave disk) bytes → LeavesNow content may_leave (OpensWith plan voc []) disk
+made_now content may_leave disk made plan voc bytes told planned same none there = record {
   bytes = bytes;
   tells = told;
   each = λ c left.
-      let A : Plan → Type 0 = λ p. OpensWith p (voc_of store) (events_of store) c in
-      let B : List ℕ → Type 0 = λ v. OpensWith plan v (events_of store) c in
+      let A : Plan → Type 0 = λ p. OpensWith p (voc_of made) (events_of made) c in
+      let B : List ℕ → Type 0 = λ v. OpensWith plan v (events_of made) c in
       let C : List Event → Type 0 = λ e. OpensWith plan voc e c in
-      subst C none (subst B same (subst A planned (opens_there store.journal (plan_of store) (voc_of store) (events_of store) (may_leave disk) bytes c there left)));
+      subst C none (subst B same (subst A planned (opens_there made.journal (plan_of made) (voc_of made) (events_of made) (may_leave disk) bytes c there left)));
 }

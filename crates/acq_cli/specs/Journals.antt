@@ -1,5 +1,5 @@
 -- What a command over a journal has done.
-use Rattle.std.specs.Prelude.{◌≡◌, ◌⊎◌, ℕ, List, [], ◌∷◌, ◌++◌, length, Bool, Option, Result, Ok, Err, IfOk, OnErr, codes}
+use Rattle.std.specs.Prelude.{◌≡◌, ◌⊎◌, ℕ, List, [], ◌∷◌, ◌++◌, length, Bool, Option, Some, None, Result, Ok, Err, IfOk, OnErr, codes}
 use Rattle.std.specs.Fmt.{decimal}
 use Rattle.acq_io.specs.Streams.{Adds, AddsFront}
 use Rattle.acq_io.specs.Whole.{Gives, all_of}
@@ -57,12 +57,39 @@ store_text store.Memory = codes "memory"
 abbrev pub journal_refusal_text : SFault → List ℕ
 journal_refusal_text fault = codes "refused journal " ++ (store_text fault ++ 10 ∷ [])
 
+-- ---- What was said
+
+-- The command ended so and wrote this text. Or the output failed, and a front of it was written; or there was no memory
+-- for it, and nothing was.
+abbrev pub EndsWith : Ending → List ℕ → (written written' : Option (List ℕ)) → Result Ending Put → Type 0
+EndsWith end text written written' (Ok e) = (e ≡ end) × Adds written written' text
+EndsWith end text written written' (Err put.Failed) = AddsFront written written' text
+EndsWith end text written written' (Err put.Memory) = written' ≡ written
+
 -- ---- Refusals
 
--- a fault of the disk ends the program without a word, and any other fault is told
-abbrev pub TellsFault : SFault → (written written' : Option (List ℕ)) → Ending → Type 0
-TellsFault fault written written' end =
-    ((fault ≡ store.Journal journal.DiskFault) × (end ≡ ending.DiskFault) × (written' ≡ written)) ⊎ ((end ≡ ending.JournalRefused fault) × Adds written written' (journal_refusal_text fault))
+-- how a command ends where its fault isn't told: for want of memory, and where the disk failed
+abbrev pub untold : SFault → Option (Result Ending Put)
+untold (store.Journal journal.SessionThere) = None
+untold (store.Journal journal.NoSession) = None
+untold (store.Journal journal.NotAJournal) = None
+untold (store.Journal (journal.Damaged at)) = None
+untold (store.Journal journal.TooManyRecords) = None
+untold (store.Journal journal.Full) = None
+untold (store.Journal journal.DiskFault) = Some (Ok ending.DiskFault)
+untold (store.Journal journal.Memory) = Some (Err put.Memory)
+untold (store.Voc fault) = None
+untold (store.Stray i) = None
+untold store.Memory = Some (Err put.Memory)
+
+-- it ends so without a word, or the fault is told
+abbrev pub EndsUntold : Option (Result Ending Put) → SFault → (written written' : Option (List ℕ)) → Result Ending Put → Type 0
+EndsUntold (Some end) fault written written' got = (got ≡ end) × (written' ≡ written)
+EndsUntold None fault written written' got = EndsWith (ending.JournalRefused fault) (journal_refusal_text fault) written written' got
+
+-- what a command without a session does about its fault
+abbrev pub Refuses : SFault → (written written' : Option (List ℕ)) → Result Ending Put → Type 0
+Refuses fault written written' got = EndsUntold (untold fault) fault written written' got
 
 -- ---- Runs over a journal
 
@@ -72,8 +99,7 @@ module _ {D : Type 0} (content : D → Option (List ℕ)) (may_leave : D → Lis
   pub record StaysClosed (bytes : List ℕ) (left written left' written' : Option (List ℕ)) (old new : D) (got : Result Ending Put) : Type 0 where
     pub fault : SFault
     pub why : NotOpened bytes fault
-    pub tells : IfOk got (TellsFault fault written written')
-    pub part : OnErr got (AddsFront written written' (journal_refusal_text fault))
+    pub refuses : Refuses fault written written' got
     pub unread : left' ≡ left
     pub same : content new ≡ content old
     pub any_moment : LeavesOnly moment left_since old new (may_leave old)
@@ -117,17 +143,11 @@ created_text l =
     codes "created variables " ++ (decimal (variable_count l) ++ (codes " scopes " ++ (decimal (length l.scopes) ++ (codes " candidates " ++ (decimal (length (candidates l)) ++ 10 ∷ [])))))
 
 -- a refused vocabulary is told as such
-abbrev pub TellsMaking : SFault → (written written' : Option (List ℕ)) → Ending → Type 0
-TellsMaking (store.Journal f) written written' end = TellsFault (store.Journal f) written written' end
-TellsMaking (store.Voc f) written written' end = (end ≡ ending.VocRefused f) × Adds written written' (refusal_text f)
-TellsMaking (store.Stray i) written written' end = TellsFault (store.Stray i) written written' end
-TellsMaking store.Memory written written' end = TellsFault store.Memory written written' end
-
-abbrev pub making_text : SFault → List ℕ
-making_text (store.Journal f) = journal_refusal_text (store.Journal f)
-making_text (store.Voc f) = refusal_text f
-making_text (store.Stray i) = journal_refusal_text (store.Stray i)
-making_text store.Memory = journal_refusal_text store.Memory
+abbrev pub RefusesMaking : SFault → (written written' : Option (List ℕ)) → Result Ending Put → Type 0
+RefusesMaking (store.Journal f) written written' got = Refuses (store.Journal f) written written' got
+RefusesMaking (store.Voc f) written written' got = EndsWith (ending.VocRefused f) (refusal_text f) written written' got
+RefusesMaking (store.Stray i) written written' got = Refuses (store.Stray i) written written' got
+RefusesMaking store.Memory written written' got = Refuses store.Memory written written' got
 
 module _ {D : Type 0} (content : D → Option (List ℕ)) (may_leave : D → List ℕ → Type 0) (moment : D → ℕ) (left_since : D → ℕ → List ℕ → Type 0) where
   -- The journal is made, and a crash leaves nothing else, whether or not that could be said.
@@ -135,28 +155,26 @@ module _ {D : Type 0} (content : D → Option (List ℕ)) (may_leave : D → Lis
     pub free : HasNoSession bytes
     pub lang : Language
     pub read : IsVocabulary voc lang
-    pub tells : IfOk got (λ (e : Ending). (e ≡ ending.Done) × Adds written written' (created_text lang))
-    pub part : OnErr got (AddsFront written written' (created_text lang))
+    pub tells : EndsWith ending.Done (created_text lang) written written' got
     pub now : LeavesNow content may_leave (OpensWith plan voc []) new
     pub any_moment : LeavesOnly moment left_since old new (IsCreating (may_leave old) plan voc)
 
-  -- It isn't, and nothing of the line that it is made was written.
+  -- It isn't, and what was written is why.
   pub record IsNotMade (plan : Plan) (voc bytes : List ℕ) (written written' : Option (List ℕ)) (old new : D) (got : Result Ending Put) : Type 0 where
     pub fault : SFault
     pub why : NotMade voc bytes fault
-    pub tells : IfOk got (TellsMaking fault written written')
-    pub part : OnErr got (AddsFront written written' (making_text fault))
+    pub refuses : RefusesMaking fault written written' got
     pub untouched : (fault ≡ store.Journal journal.DiskFault) ⊎ (content new ≡ content old)
     pub any_moment : LeavesOnly moment left_since old new (IsCreating (may_leave old) plan voc)
 
   abbrev pub Makes : Plan → (voc bytes : List ℕ) → (written written' : Option (List ℕ)) → D → D → Result Ending Put → Type 0
   Makes plan voc bytes written written' old new got = IsMade plan voc bytes written written' old new got ⊎ IsNotMade plan voc bytes written written' old new got
 
-  -- No vocabulary was read: there are too many bytes, or the input or memory failed. The disk wasn't touched.
+  -- No vocabulary was read: there are too many bytes, which is told, or the input or memory failed, and not a word was
+  -- written. The disk wasn't touched.
   pub record IsNoVocabulary (left written left' written' : Option (List ℕ)) (old new : D) (got : Result Ending Put) : Type 0 where
-    pub why : Gives (all_of 4194304) left left' (Err long.TooLong) ⊎ (got ≡ Ok ending.ReadFault) ⊎ (got ≡ Err put.Memory)
-    pub tells : IfOk got (λ (e : Ending). ((e ≡ ending.VocRefused voc.TooLong) × Adds written written' (refusal_text voc.TooLong)) ⊎ ((e ≡ ending.ReadFault) × (written' ≡ written)))
-    pub part : OnErr got (AddsFront written written' (refusal_text voc.TooLong))
+    pub why : (Gives (all_of 4194304) left left' (Err long.TooLong) × EndsWith (ending.VocRefused voc.TooLong) (refusal_text voc.TooLong) written written' got)
+        ⊎ (((got ≡ Ok ending.ReadFault) ⊎ (got ≡ Err put.Memory)) × (written' ≡ written))
     pub same : new ≡ old
 
   -- A vocabulary was read to its end, and a journal was to be made of it.
@@ -178,8 +196,7 @@ module _ {D : Type 0} (content : D → Option (List ℕ)) (may_leave : D → Lis
     pub lang : Language
     pub read : IsVocabulary voc lang
     pub places : HavePlaces lang plan events
-    pub tells : IfOk got (λ (e : Ending). (e ≡ ending.Done) × Adds written written' (shown_text lang plan (standing_on lang events)))
-    pub part : OnErr got (AddsFront written written' (shown_text lang plan (standing_on lang events)))
+    pub tells : EndsWith ending.Done (shown_text lang plan (standing_on lang events)) written written' got
     pub same : content new ≡ content old
     pub any_moment : LeavesOnly moment left_since old new (may_leave old)
 

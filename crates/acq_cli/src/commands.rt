@@ -7,7 +7,7 @@ ghost use Rattle.acq_io.specs.Streams.{Adds, AddsFront, Rose};
 ghost use Rattle.disk_model.specs.Disk.{LeavesOnly, Rose as DiskRose};
 ghost use Rattle.language.specs.Answers.{standing_on};
 ghost use Rattle.session_core.specs.Settled.{IsSettled};
-ghost use Rattle.acq_cli.specs.Journals.{journal_text, store_text, journal_refusal_text, created_text, making_text, TellsFault, TellsMaking, RunsOn, Makes, News, Shows, shown_text};
+ghost use Rattle.acq_cli.specs.Journals.{journal_text, store_text, created_text, untold, EndsWith, Refuses, RefusesMaking, RunsOn, Makes, News, Shows, shown_text};
 
 use crate::ending::Ending;
 use crate::shows::show;
@@ -53,20 +53,36 @@ fn store_text(alloc: Global, fault: SFault) -> Result<String, AllocError>
     }
 }
 
+/// How a command ends where its fault isn't told: for want of memory, and where the disk failed.
+fn untold(fault: SFault) -> Option<Result<Ending, Put>>
+    ensures { result ≡ untold fault }
+{
+    match fault {
+        SFault::Memory => Some(Err(Put::Memory)),
+        SFault::Journal(JFault::Memory) => Some(Err(Put::Memory)),
+        SFault::Journal(JFault::DiskFault) => Some(Ok(Ending::DiskFault)),
+        SFault::Journal(JFault::SessionThere) => None,
+        SFault::Journal(JFault::NoSession) => None,
+        SFault::Journal(JFault::NotAJournal) => None,
+        SFault::Journal(JFault::Damaged(_)) => None,
+        SFault::Journal(JFault::TooManyRecords) => None,
+        SFault::Journal(JFault::Full) => None,
+        SFault::Voc(_) => None,
+        SFault::Stray(_) => None,
+    }
+}
+
 /// Says why there is no session, but for a fault of the disk and want of memory.
 fn refuse_journal<K: Sink>(alloc: Global, fault: SFault, out: &mut K) -> Result<Ending, Put>
-    ensures tells { IfOk result (TellsFault fault (K.written out.old) (K.written out.new)) }
-    ensures part { OnErr result (AddsFront (K.written out.old) (K.written out.new) (journal_refusal_text fault)) }
+    ensures refuses { Refuses fault (K.written out.old) (K.written out.new) result }
     ensures no_fault { IfOk result (λ ending. ending ≢ Ending.WriteFault) }
     ensures no_read { IfOk result (λ ending. ending ≢ Ending.ReadFault) }
     ensures failed { result ≡ Err Put.Failed → Rose (K.faults out.old) (K.faults out.new) }
     ensures later_sink { K.faults out.old ≤ K.faults out.new }
     ensures lost { result ≡ Ok Ending.DiskFault → fault ≡ SFault.Journal JFault.DiskFault }
 {
-    match fault {
-        SFault::Memory => return Err(Put::Memory),
-        SFault::Journal(JFault::DiskFault) => return Ok(Ending::DiskFault),
-        SFault::Journal(_) | SFault::Voc(_) | SFault::Stray(_) => {}
+    if let Some(end) = untold(fault) {
+        return end;
     }
     let Ok(reason) = store_text(alloc, fault) else {
         return Err(Put::Memory);
@@ -113,6 +129,7 @@ fn lang_of<D: Disk, P: Keep<D>>(keep: &P) -> &Language
 fn say_created<K: Sink>(alloc: Global, lang: &Language, out: &mut K) -> Result<(), Put>
     ensures ok { OnOk result (Adds (K.written out.old) (K.written out.new) (created_text lang.now)) }
     ensures part { OnErr result (AddsFront (K.written out.old) (K.written out.new) (created_text lang.now)) }
+    ensures memory { result ≡ Err Put.Memory → K.written out.new ≡ K.written out.old }
     ensures failed { result ≡ Err Put.Failed → Rose (K.faults out.old) (K.faults out.new) }
     ensures later_sink { K.faults out.old ≤ K.faults out.new }
 {
@@ -129,8 +146,7 @@ fn say_created<K: Sink>(alloc: Global, lang: &Language, out: &mut K) -> Result<(
 
 /// Says why no journal is made.
 fn refuse_making<K: Sink>(alloc: Global, fault: SFault, out: &mut K) -> Result<Ending, Put>
-    ensures tells { IfOk result (TellsMaking fault (K.written out.old) (K.written out.new)) }
-    ensures part { OnErr result (AddsFront (K.written out.old) (K.written out.new) (making_text fault)) }
+    ensures refuses { RefusesMaking fault (K.written out.old) (K.written out.new) result }
     ensures no_fault { IfOk result (λ ending. ending ≢ Ending.WriteFault) }
     ensures no_read { IfOk result (λ ending. ending ≢ Ending.ReadFault) }
     ensures failed { result ≡ Err Put.Failed → Rose (K.faults out.old) (K.faults out.new) }
@@ -197,8 +213,7 @@ fn show_kept<K: Sink, D: Disk, P: Keep<D>>(
 ) -> Result<Ending, Put>
     requires sound { P.sound keep.now }
     requires settled { IsSettled (P.lang keep.now) (P.plan keep.now) (standing_on (P.lang keep.now) (P.record_of keep.now)) (P.question keep.now) }
-    ensures tells { IfOk result (λ ending. (ending ≡ Ending.Done) × Adds (K.written out.old) (K.written out.new) (shown_text (P.lang keep.now) (P.plan keep.now) (standing_on (P.lang keep.now) (P.record_of keep.now)))) }
-    ensures part { OnErr result (AddsFront (K.written out.old) (K.written out.new) (shown_text (P.lang keep.now) (P.plan keep.now) (standing_on (P.lang keep.now) (P.record_of keep.now)))) }
+    ensures tells { EndsWith Ending.Done (shown_text (P.lang keep.now) (P.plan keep.now) (standing_on (P.lang keep.now) (P.record_of keep.now))) (K.written out.old) (K.written out.new) result }
     ensures failed { result ≡ Err Put.Failed → Rose (K.faults out.old) (K.faults out.new) }
 {
     let session = keep.session();

@@ -112,6 +112,7 @@ pub(crate) fn show<K: Sink>(
     requires wide { All IsWide events.now }
     ensures ok { let k = knowledge_of session.now in OnOk result (Adds (K.written out.old) (K.written out.new) (show_text k.lang k.plan (standing_on k.lang events.now) k.network.list)) }
     ensures part { let k = knowledge_of session.now in OnErr result (AddsFront (K.written out.old) (K.written out.new) (show_text k.lang k.plan (standing_on k.lang events.now) k.network.list)) }
+    ensures memory { result ≡ Err Put.Memory → K.written out.new ≡ K.written out.old }
     ensures failed { result ≡ Err Put.Failed → Rose (K.faults out.old) (K.faults out.new) }
     ensures later_sink { K.faults out.old ≤ K.faults out.new }
 {

@@ -272,6 +272,7 @@ fn try_language<R: Threads + Sync, S: Source, K: Sink>(
 pub(crate) fn refuse<K: Sink>(alloc: Global, fault: VocFault, out: &mut K) -> Result<Ending, Put>
     ensures ok { IfOk result (λ ending. (ending ≡ Ending.VocRefused fault) × Adds (K.written out.old) (K.written out.new) (refusal_text fault)) }
     ensures part { OnErr result (AddsFront (K.written out.old) (K.written out.new) (refusal_text fault)) }
+    ensures memory { result ≡ Err Put.Memory → K.written out.new ≡ K.written out.old }
     ensures failed { result ≡ Err Put.Failed → Rose (K.faults out.old) (K.faults out.new) }
     ensures later_sink { K.faults out.old ≤ K.faults out.new }
 {

@@ -26,8 +26,7 @@ returns-in-Err-clause-runs g c bytes told =
     inl (record {
       fault = c.in-Err.fault;
       why = c.in-Err.ensures.refused bytes told;
-      tells = c.refuse_journal.ensures.tells;
-      part = c.refuse_journal.ensures.part;
+      refuses = c.refuse_journal.ensures.refuses;
       unread = refl;
       same = c.open.ensures.same;
       any_moment = c.open.ensures.any_moment;
