@@ -71,14 +71,14 @@ unfolding read_on
 begun l plan = (Idle [] None, refl)
 
 -- nothing of it was written
-pub begun_part : (l : Language) (request : Request) (start : List Answer) (left written : Option (List ℕ)) → IsLanguage l → IsReached l request.plan start → BreaksRun l request start left written written
+pub begun_part : (l : Language) (request : Request) (start : List Answer) (left written : Option (List ℕ)) → IsLanguage l → IsReached l request.plan start → BreaksRun l request start start left written written
 begun_part l request start left written lawful reached bytes before from to =
     let has = run_exists run_laws line_turn l request lawful start bytes reached in
-    record { run = has.run; runs = has.runs; text = record { front = []; back = whole_text l request has.run; parts = refl; put = to ∙ some_text _ _ (sym (append-nil before)) } }
+    record { run = has.run; runs = has.runs; later = has.later; extends = has.extends; text = record { front = []; back = whole_text l request has.run; parts = refl; put = to ∙ some_text _ _ (sym (append-nil before)) } }
 
 module _ (l : Language) (request : Request) (start : List Answer) (left written left' middle written' : Option (List ℕ)) (t : List Answer) where
   -- the lines of its turns are written, and a front of the last ones
-  pub closed_part : (closing : Closing) → RanTo line_turn l request closing (place_of start left written) (place_of t left' middle) → AddsFront middle written' (closing_text l request t closing) → BreaksRun l request start left written written'
+  pub closed_part : (closing : Closing) → RanTo line_turn l request closing (place_of start left written) (place_of t left' middle) → AddsFront middle written' (closing_text l request t closing) → BreaksRun l request start t left written written'
   closed_part closing ran (front, back, parts, adds) bytes before from to =
       let run = ran bytes before from to in
       let Text : Type 0 = List ℕ in
@@ -87,6 +87,8 @@ module _ (l : Language) (request : Request) (start : List Answer) (left written 
       record {
         run = run.run;
         runs = run.runs;
+        later = [];
+        extends = run.answers ∙ sym (append-nil t);
         text = record {
           front = run.run.text ++ front;
           back = back;
@@ -96,13 +98,15 @@ module _ (l : Language) (request : Request) (start : List Answer) (left written 
       }
 
   -- the lines of its turns aren't all written
-  pub cut_part : CutOff line_turn l request (place_of start left written) (place_of t left' middle) → written' ≡ middle → BreaksRun l request start left written written'
+  pub cut_part : CutOff line_turn l request (place_of start left written) (place_of t left' middle) → written' ≡ middle → BreaksRun l request start t left written written'
   cut_part cut same bytes before from to =
       let run = cut bytes before from to in
       let last : List ℕ = closing_text l request run.run.answers run.run.closing in
       record {
         run = run.run;
         runs = run.runs;
+        later = run.later;
+        extends = run.answers;
         text = record {
           front = run.text.front;
           back = run.text.back ++ last;
@@ -155,8 +159,8 @@ module _ (words : List (List ℕ)) (request : Request) (left rest written writte
       let is : Q (first_line_of 4194304 bytes) = subst Q (sym given.gives) (record { fault = fault; refused = refused; is = refl }) in
       inr (record { whole = refusal_text fault; is = subst P (sym taken) (inl is); text = front_of (refusal_text fault) before written written' adds to })
 
-  pub breaks_run : (line : List ℕ) (lang : Language) → got ≡ Ok line → IsVocabulary line lang → BreaksRun lang request [] rest written written' → Breaks words left written written'
-  breaks_run line lang is vocabulary broken bytes before from to =
+  pub breaks_run : (line : List ℕ) (lang : Language) (answers : List Answer) → got ≡ Ok line → IsVocabulary line lang → BreaksRun lang request [] answers rest written written' → Breaks words left written written'
+  breaks_run line lang answers is vocabulary broken bytes before from to =
       let given = given_of (first_line_of 4194304) left rest got bytes gives from in
       let part = broken given.rest before given.left to in
       let whole : List ℕ = whole_text lang request part.run in
@@ -185,7 +189,7 @@ acquires_by words request left rest written left' written' line lang answers end
     go (ending.VocRefused fault) never tried = absurd tried
     go ending.Done never tried = absurd tried
     go (ending.JournalRefused fault) never tried = absurd tried
-    go ending.ReadFault never tried = (ap is_some taken, breaks_run words request left rest written written' (Ok line) taken gives line lang refl vocabulary tried)
+    go ending.ReadFault never tried = (ap is_some taken, breaks_run words request left rest written written' (Ok line) taken gives line lang answers refl vocabulary tried)
     go ending.WriteFault never tried = absurd tried
     go ending.DiskFault never tried = absurd (never refl)
     go ending.JournalFull never tried = absurd tried
@@ -199,9 +203,9 @@ acquires_in words request left rest written left' written' line lang (Ok end) ta
 acquires_in words request left rest written left' written' line lang (Err e) taken gives vocabulary never tries = tt
 
 pub breaks_in : (words : List (List ℕ)) (request : Request) (left rest written written' : Option (List ℕ)) (line : List ℕ) (lang : Language) (got : Result Ending Put) →
-    request_of words ≡ Some request → Gives (first_line_of 4194304) left rest (Ok line) → IsVocabulary line lang → OnErr got (BreaksRun lang request [] rest written written') → OnErr got (Breaks words left written written')
+    request_of words ≡ Some request → Gives (first_line_of 4194304) left rest (Ok line) → IsVocabulary line lang → OnErr got ((answers : List Answer) × BreaksRun lang request [] answers rest written written') → OnErr got (Breaks words left written written')
 breaks_in words request left rest written written' line lang (Ok end) taken gives vocabulary broken = tt
-breaks_in words request left rest written written' line lang (Err e) taken gives vocabulary broken = breaks_run words request left rest written written' (Ok line) taken gives line lang refl vocabulary broken
+breaks_in words request left rest written written' line lang (Err e) taken gives vocabulary (answers, broken) = breaks_run words request left rest written written' (Ok line) taken gives line lang answers refl vocabulary broken
 
 pub breaks_refused : (words : List (List ℕ)) (request : Request) (left rest written written' : Option (List ℕ)) (first : Result (List ℕ) AllFault) (fault : VocFault) (got : Result Ending Put) →
     request_of words ≡ Some request → Gives (first_line_of 4194304) left rest first → IsRefusal fault first → OnErr got (AddsFront written written' (refusal_text fault)) → OnErr got (Breaks words left written written')

@@ -11,7 +11,8 @@ use Rattle.language.specs.Answers.{standing_on}
 use Rattle.target_oracle.specs.Lines.{line_turn}
 use Rattle.query_gen.specs.Marks.{Remembered}
 use Rattle.acq_cli.specs.declared.words.Request.{Request}
-use Rattle.acq_cli.specs.Driven.{Place, Drives, TellsOpen, UnkeptTo}
+use Rattle.assign.specs.Assignment.{Assignment}
+use Rattle.acq_cli.specs.Driven.{Place, Drives, Loses, TellsOpen, UnkeptTo}
 use Rattle.acq_cli.specs.Places.{place_of, request_with}
 use Rattle.acq_cli.proofs.Standings.{carried}
 use Rattle.acq_cli.specs.declared.driving.Drove.{Drove}
@@ -46,7 +47,7 @@ by_drove l request start left written left' middle written' t drove.JournalFull 
 by_drove l request start left written left' middle written' t drove.Memory end h says = absurd says
 
 part_by_drove : (l : Language) (request : Request) (start : List Answer) (left written left' middle written' : Option (List ℕ)) (t : List Answer) (drove : Drove) →
-    Drives line_turn l request (place_of start left written) (place_of t left' middle) drove → SaysPart l request t middle written' drove → BreaksRun l request start left written written'
+    Drives line_turn l request (place_of start left written) (place_of t left' middle) drove → SaysPart l request t middle written' drove → BreaksRun l request start t left written written'
 part_by_drove l request start left written left' middle written' t (drove.Converged m) h part = closed_part l request start left written left' middle written' t Converged h.2 part
 part_by_drove l request start left written left' middle written' t (drove.Collapsed m) h part = closed_part l request start left written left' middle written' t Collapsed h.2 part
 part_by_drove l request start left written left' middle written' t (drove.Undecided m) h part = closed_part l request start left written left' middle written' t Undecided h.2 part
@@ -149,6 +150,9 @@ okay end = Ok end
 abbrev failed : Put → Result Ending Put
 failed e = Err e
 
+err_okay : (e : Put) → failed e ≡ okay ending.DiskFault → ⊥
+err_okay e h = cc
+
 -- What the loop has done about a language and a plan, and what was said of it. The keeper's language and plan are the same
 -- after it.
 module _ (l now : Language) (p still : Plan) (budget : ℕ) (start : List Answer) (later : List Event) (left written left' middle written' : Option (List ℕ)) (screen : Remembered) (how : Drove) (got : Result Ending Put)
@@ -167,7 +171,7 @@ module _ (l now : Language) (p still : Plan) (budget : ℕ) (start : List Answer
   Part x q = HasEnded x (request_with q budget) (standing_on x later) how → ((m : ℕ) → how ≡ drove.Undecided m → TellsOpen x (request_with q budget) (standing_on x later) screen) →
       OnErr got (SaysPart x (request_with q budget) (standing_on x later) middle written' how)
 
-  said : IfOk got (Says l (request_with p budget) (standing_on l later) middle written' how)
+  pub said : IfOk got (Says l (request_with p budget) (standing_on l later) middle written' how)
   said = carried Now now l still p same again says (ended_by l (request_with p budget) (place_of start left written) (standing_on l later) left' middle how drives) opens
 
   said_part : OnErr got (SaysPart l (request_with p budget) (standing_on l later) middle written' how)
@@ -180,10 +184,10 @@ module _ (l now : Language) (p still : Plan) (budget : ℕ) (start : List Answer
       go (Err e) s = s
       go (Ok end) s = by_drove l (request_with p budget) start left written left' middle written' (standing_on l later) how end drives s
 
-  pub broken : OnErr got (BreaksRun l (request_with p budget) start left written written')
+  pub broken : OnErr got (BreaksRun l (request_with p budget) start (standing_on l later) left written written')
   broken = go got said_part
     where
-      go : (r : Result Ending Put) → OnErr r (SaysPart l (request_with p budget) (standing_on l later) middle written' how) → OnErr r (BreaksRun l (request_with p budget) start left written written')
+      go : (r : Result Ending Put) → OnErr r (SaysPart l (request_with p budget) (standing_on l later) middle written' how) → OnErr r (BreaksRun l (request_with p budget) start (standing_on l later) left written written')
       go (Err e) part = part_by_drove l (request_with p budget) start left written left' middle written' (standing_on l later) how drives part
       go (Ok end) part = part
 
@@ -216,6 +220,15 @@ module _ (l now : Language) (p still : Plan) (budget : ℕ) (start : List Answer
       found (Err e) s part = let P : Drove → Type 0 = λ d. SaysPart l (request_with p budget) (standing_on l later) middle written' d in absurd (subst P is part)
       found (Ok end) s part = ap okay (disk_said l (request_with p budget) (standing_on l later) middle written' how end s is)
 
+-- the answer that was lost, where nothing is said after it
+pub lost_then : (l : Language) (request : Request) (a : Place) (t : List Answer) (left' middle written' : Option (List ℕ)) (how : Drove) (got : Result Ending Put) → IfOk got (Says l request t middle written' how) → how ≡ drove.DiskFault → got ≡ Ok ending.DiskFault →
+    (question : Assignment) (reply : Bool) → Loses line_turn l request a (place_of t left' middle) question reply → Loses line_turn l request a (place_of t left' written') question reply
+lost_then l request a t left' middle written' how (Err e) told is ended question reply loses = absurd (err_okay e ended)
+lost_then l request a t left' middle written' how (Ok end) told is ended question reply loses =
+    let P : Drove → Type 0 = λ d. Says l request t middle written' d end in
+    let Lost : Option (List ℕ) → Type 0 = λ w. Loses line_turn l request a (place_of t left' w) question reply in
+    subst Lost (sym (subst P is told).1) loses
+
 never_fault : (l : Language) (request : Request) (start t : List Answer) (left written left' written' : Option (List ℕ)) (end : Ending) → Tries l request start t left written left' written' end → end ≡ ending.WriteFault → ⊥
 never_fault l request start t left written left' written' end tries is = subst (Tries l request start t left written left' written') is tries
 
@@ -237,9 +250,13 @@ fresh_tries l m p q budget events t left written left' written' got same planned
     go (Err e) h = h
     go (Ok end) h = (t, h)
 
-pub fresh_part : (l m : Language) (p q : Plan) (budget : ℕ) (events : List Event) (left written written' : Option (List ℕ)) (got : Result Ending Put) → m ≡ l → q ≡ p → events ≡ [] →
-    OnErr got (BreaksRun m (request_with q budget) (standing_on m events) left written written') → OnErr got (BreaksRun l (request_with p budget) [] left written written')
-fresh_part l m p q budget events left written written' got same planned none part =
-    let None' : List Event → Type 0 = λ es. OnErr got (BreaksRun m (request_with q budget) (standing_on m es) left written written') in
-    let Carried : Language → Plan → Type 0 = λ x r. OnErr got (BreaksRun x (request_with r budget) [] left written written') in
-    carried Carried m l q p same planned (subst None' none part)
+pub fresh_part : (l m : Language) (p q : Plan) (budget : ℕ) (events : List Event) (t : List Answer) (left written written' : Option (List ℕ)) (got : Result Ending Put) → m ≡ l → q ≡ p → events ≡ [] →
+    OnErr got (BreaksRun m (request_with q budget) (standing_on m events) t left written written') → OnErr got ((answers : List Answer) × BreaksRun l (request_with p budget) [] answers left written written')
+fresh_part l m p q budget events t left written written' got same planned none part =
+    let None' : List Event → Type 0 = λ es. OnErr got (BreaksRun m (request_with q budget) (standing_on m es) t left written written') in
+    let Carried : Language → Plan → Type 0 = λ x r. OnErr got (BreaksRun x (request_with r budget) [] t left written written') in
+    go got (carried Carried m l q p same planned (subst None' none part))
+  where
+    go : (r : Result Ending Put) → OnErr r (BreaksRun l (request_with p budget) [] t left written written') → OnErr r ((answers : List Answer) × BreaksRun l (request_with p budget) [] answers left written written')
+    go (Err e) h = (t, h)
+    go (Ok end) h = h

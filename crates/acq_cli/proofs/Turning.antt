@@ -8,7 +8,7 @@ use Rattle.target_oracle.specs.Turns.{Turns, Reply, Said}
 use Rattle.target_oracle.specs.Tells.{Turn, Front}
 use Rattle.acq_cli.specs.Run.{Closing, Converged, Collapsed, Undecided, Suspended, LineTooLong, Unreadable, Runs, Puts, Ends, next_after, after_text, answer, ended}
 use Rattle.acq_cli.specs.declared.words.Request.{Request}
-use Rattle.acq_cli.specs.Driven.{Place, StepsTo, RanTo, CutOff, UnkeptTo, Drives}
+use Rattle.acq_cli.specs.Driven.{Place, StepsTo, RanTo, CutOff, Loses, Drives}
 use Rattle.acq_cli.specs.declared.driving.Drove.{Drove}
 use Rattle.acq_cli.specs.declared.driving.Drove.TheVariants as drove
 use Rattle.acq_cli.proofs.Running.{text_after, runs_said, EndsSo, runs_closed, runs_end, IsReached, RunLaws, turn_exists}
@@ -69,22 +69,22 @@ steps_cut turns l request a b c first second bytes before left written =
       answers = s.answers;
     }
 
-steps_unkept : (turns : Turns) (l : Language) (request : Request) (a b c : Place) → StepsTo turns l request a b → UnkeptTo turns l request b c → UnkeptTo turns l request a c
-steps_unkept turns l request a b c first second bytes before left written =
-    let f = first bytes before left written in
-    let s = second f.rest (before ++ f.done) f.left f.written in
-    let text = (turns l (length c.answers + 1) s.question s.rest).text in
-    record {
-      rest = s.rest;
-      done = f.done ++ s.done;
-      begins = λ run runs. subst (Runs turns l request a.answers bytes) (text_after f.done s.done run) (f.begins (after_text s.done run) (s.begins run runs));
-      question = s.question;
-      puts = s.puts;
-      reply = s.reply;
-      heard = s.heard;
-      left = s.left;
-      written = s.written ∙ some_text _ _ (append_assoc before f.done (s.done ++ text) ∙ ap (λ x. before ++ x) (sym (append_assoc f.done s.done text)));
-    }
+pub steps_loses : (turns : Turns) (l : Language) (request : Request) (a b c : Place) (question : Assignment) (reply : Bool) → StepsTo turns l request a b → Loses turns l request b c question reply → Loses turns l request a c question reply
+steps_loses turns l request a b c question reply first second = record {
+  puts = second.puts;
+  told = λ bytes before left written.
+      let f = first bytes before left written in
+      let s = second.told f.rest (before ++ f.done) f.left f.written in
+      let text = (turns l (length c.answers + 1) question s.rest).text in
+      record {
+        rest = s.rest;
+        done = f.done ++ s.done;
+        begins = λ run runs. subst (Runs turns l request a.answers bytes) (text_after f.done s.done run) (f.begins (after_text s.done run) (s.begins run runs));
+        heard = s.heard;
+        left = s.left;
+        written = s.written ∙ some_text _ _ (append_assoc before f.done (s.done ++ text) ∙ ap (λ x. before ++ x) (sym (append_assoc f.done s.done text)));
+      };
+}
 
 pub steps_end : (turns : Turns) (l : Language) (request : Request) (a b c : Place) (end : Drove) → StepsTo turns l request a b → Drives turns l request b c end → Drives turns l request a c end
 steps_end turns l request a b c (drove.Converged m) steps e = (e.0, e.1, steps_ran turns l request Converged a b c steps e.2)
@@ -95,7 +95,7 @@ steps_end turns l request a b c drove.LineTooLong steps e = steps_ran turns l re
 steps_end turns l request a b c drove.Unreadable steps e = steps_ran turns l request Unreadable a b c steps e
 steps_end turns l request a b c drove.ReadFault steps e = steps_cut turns l request a b c steps e
 steps_end turns l request a b c drove.WriteFault steps e = steps_cut turns l request a b c steps e
-steps_end turns l request a b c drove.DiskFault steps e = (steps_cut turns l request a b c steps e.0, steps_unkept turns l request a b c steps e.1)
+steps_end turns l request a b c drove.DiskFault steps e = (steps_cut turns l request a b c steps e.0, (e.1.0, e.1.1, steps_loses turns l request a b c e.1.0 e.1.1 steps e.1.2))
 steps_end turns l request a b c drove.JournalFull steps e = absurd e
 steps_end turns l request a b c drove.Memory steps e = steps_cut turns l request a b c steps e
 
@@ -172,22 +172,23 @@ cut_turn laws turns l request lawful q a b reached due same told bytes before le
     }
 
 -- a turn whose answer wasn't kept
-pub unkept_turn : (turns : Turns) (l : Language) (request : Request) (q : Assignment) (said : Bool) (a b : Place) → next_after l request a.answers ≡ Some (Puts q) → b.answers ≡ a.answers →
-    ToldSo turns l (length a.answers + 1) q a b (Said said) → UnkeptTo turns l request a b
-unkept_turn turns l request q said a b due same told bytes before left written =
-    let t = told bytes before left written in
-    let Number : List Answer → Type 0 = λ x. (next_after l request x ≡ Some (Puts q)) × Turn (turns l (length x + 1) q bytes) before b.left b.written (Said said) in
-    let here : Number b.answers = subst Number (sym same) (due, t) in
+pub lost_turn : (turns : Turns) (l : Language) (request : Request) (q : Assignment) (said : Bool) (a b : Place) → next_after l request a.answers ≡ Some (Puts q) → b.answers ≡ a.answers →
+    ToldSo turns l (length a.answers + 1) q a b (Said said) → Loses turns l request a b q said
+lost_turn turns l request q said a b due same told =
+    let Due : List Answer → Type 0 = λ x. next_after l request x ≡ Some (Puts q) in
     record {
-      rest = bytes;
-      done = [];
-      begins = λ run runs. let P : List Answer → Type 0 = λ xs. Runs turns l request xs bytes run in subst P same runs;
-      question = q;
-      puts = here.0;
-      reply = said;
-      heard = here.1.heard;
-      left = here.1.rest;
-      written = here.1.text;
+      puts = subst Due (sym same) due;
+      told = λ bytes before left written.
+          let Number : List Answer → Type 0 = λ x. Turn (turns l (length x + 1) q bytes) before b.left b.written (Said said) in
+          let here : Number b.answers = subst Number (sym same) (told bytes before left written) in
+          record {
+            rest = bytes;
+            done = [];
+            begins = λ run runs. let P : List Answer → Type 0 = λ xs. Runs turns l request xs bytes run in subst P same runs;
+            heard = here.heard;
+            left = here.rest;
+            written = here.text;
+          };
     }
 
 -- the same turn, by its language and number

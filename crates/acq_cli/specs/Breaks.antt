@@ -1,5 +1,5 @@
 -- What was written where the program breaks off.
-use Rattle.std.specs.Prelude.{◌≡◌, ◌⊎◌, ℕ, List, [], Option, Some, None, Result, Ok, Err}
+use Rattle.std.specs.Prelude.{◌≡◌, ◌⊎◌, ℕ, List, [], ◌++◌, Option, Some, None, Result, Ok, Err}
 use Rattle.acq_io.specs.Whole.{Gathered, first_line_of}
 use Rattle.acq_io.specs.declared.whole.AllFault.{AllFault}
 use Rattle.acq_io.specs.declared.whole.AllFault.TheVariants.{TooLong}
@@ -17,15 +17,18 @@ use Rattle.acq_cli.specs.declared.words.Request.{Request}
 
 -- ---- A session
 
--- a front of the whole text of a run of these bytes was written, which goes on after these answers
-pub record IsPartOfRun (l : Language) (request : Request) (start : List Answer) (bytes before : List ℕ) (written : Option (List ℕ)) : Type 0 where
+-- A front of the whole text of a run of these bytes was written, which goes on after the first answers. It has those that stand
+-- at last, and maybe more.
+pub record IsPartOfRun (l : Language) (request : Request) (start answers : List Answer) (bytes before : List ℕ) (written : Option (List ℕ)) : Type 0 where
   pub run : Ran
   pub runs : Runs line_turn l request start bytes run
+  pub later : List Answer
+  pub extends : run.answers ≡ answers ++ later
   pub text : Front (whole_text l request run) before written
 
 -- where input and output tell their bytes
-abbrev pub BreaksRun : Language → Request → List Answer → (left written written' : Option (List ℕ)) → Type 0
-BreaksRun l request start left written written' = (bytes before : List ℕ) → left ≡ Some bytes → written ≡ Some before → IsPartOfRun l request start bytes before written'
+abbrev pub BreaksRun : Language → Request → (start answers : List Answer) → (left written written' : Option (List ℕ)) → Type 0
+BreaksRun l request start answers left written written' = (bytes before : List ℕ) → left ≡ Some bytes → written ≡ Some before → IsPartOfRun l request start answers bytes before written'
 
 -- ---- The program
 

@@ -62,20 +62,24 @@ pub record IsCut (turns : Turns) (l : Language) (request : Request) (bytes befor
 abbrev pub CutOff : Turns → Language → Request → Place → Place → Type 0
 CutOff turns l request old new = (bytes before : List ℕ) → old.left ≡ Some bytes → old.written ≡ Some before → IsCut turns l request bytes before old new
 
--- The question that comes next was put: its lines were written, and a reply was heard that doesn't stand.
-pub record IsUnkept (turns : Turns) (l : Language) (request : Request) (bytes before : List ℕ) (old new : Place) : Type 0 where
+-- This question was put: its lines were written, and this reply was heard, which doesn't stand.
+pub record IsUnkept (turns : Turns) (l : Language) (request : Request) (question : Assignment) (reply : Bool) (bytes before : List ℕ) (old new : Place) : Type 0 where
   pub rest : List ℕ
   pub done : List ℕ
   pub begins : (run : Ran) → Runs turns l request new.answers rest run → Runs turns l request old.answers bytes (after_text done run)
-  pub question : Assignment
-  pub puts : next_after l request new.answers ≡ Some (Puts question)
-  pub reply : Bool
   pub heard : (turns l (length new.answers + 1) question rest).heard.reply ≡ Said reply
   pub left : new.left ≡ Some (turns l (length new.answers + 1) question rest).heard.rest
   pub written : new.written ≡ Some (before ++ (done ++ (turns l (length new.answers + 1) question rest).text))
 
+-- This reply to the question that comes next was lost.
+pub record Loses (turns : Turns) (l : Language) (request : Request) (old new : Place) (question : Assignment) (reply : Bool) : Type 0 where
+  pub puts : next_after l request new.answers ≡ Some (Puts question)
+  -- where source and sink tell
+  pub told : (bytes before : List ℕ) → old.left ≡ Some bytes → old.written ≡ Some before → IsUnkept turns l request question reply bytes before old new
+
+-- an answer was lost
 abbrev pub UnkeptTo : Turns → Language → Request → Place → Place → Type 0
-UnkeptTo turns l request old new = (bytes before : List ℕ) → old.left ≡ Some bytes → old.written ≡ Some before → IsUnkept turns l request bytes before old new
+UnkeptTo turns l request old new = (question : Assignment) × (reply : Bool) × Loses turns l request old new question reply
 
 -- nothing is left to ask, and the answers converge on what was learned
 pub record IsDone (l : Language) (request : Request) (t : List Answer) : Type 0 where

@@ -18,6 +18,7 @@ use Rattle.disk_model.specs.Disk.{LeavesOnly}
 use Rattle.language.specs.Language.{Language, variable_count, candidates}
 use Rattle.language.specs.Answers.{standing_on}
 use Rattle.session_store.specs.Kept.{answer_event}
+use Rattle.session_store.specs.Keeping.{IsGrown}
 use Rattle.session_store.specs.Left.{OpensWith, OpensWithin, SaysSession, LeavesNow}
 use Rattle.session_store.specs.Opening.{NotOpened, NotMade}
 use Rattle.session_store.specs.Replay.{HavePlaces}
@@ -25,8 +26,10 @@ use Rattle.session_store.specs.declared.fault.SFault.{SFault}
 use Rattle.session_store.specs.declared.fault.SFault.TheVariants as store
 use Rattle.voc_read.specs.FaultTexts.{fault_text}
 use Rattle.voc_read.specs.Vocabulary.{IsVocabulary}
+use Rattle.target_oracle.specs.Lines.{line_turn}
 use Rattle.acq_cli.specs.Breaks.{BreaksRun}
-use Rattle.acq_cli.specs.Places.{request_with}
+use Rattle.acq_cli.specs.Driven.{Loses}
+use Rattle.acq_cli.specs.Places.{place_of, request_with}
 use Rattle.acq_cli.specs.Program.{Tries}
 use Rattle.acq_cli.specs.Texts.{refusal_text, learned_in}
 use Rattle.acq_cli.specs.Shows.{show_text}
@@ -116,14 +119,14 @@ module _ {D : Type 0} (content : D → Option (List ℕ)) (may_leave : D → Lis
     pub read : IsVocabulary voc lang
     pub places : HavePlaces lang plan events
     pub later : List Event
-    pub more : List Event
-    pub grown : later ≡ events ++ more
+    pub grown : IsGrown events later
     pub tries : IfOk got (Tries lang (request_with plan budget) (standing_on lang events) (standing_on lang later) left written left' written')
-    pub part : OnErr got (BreaksRun lang (request_with plan budget) (standing_on lang events) left written written')
-    -- the answer whose adding failed
+    pub part : OnErr got (BreaksRun lang (request_with plan budget) (standing_on lang events) (standing_on lang later) left written written')
+    -- the answer whose adding failed: that to the question that came next
     pub last : List Event
     pub none_lost : (got ≡ Ok ending.DiskFault → ⊥) → last ≡ []
     pub one_lost : got ≡ Ok ending.DiskFault → (question : Assignment) × (reply : Bool) × (last ≡ answer_event question reply ∷ [])
+        × Loses line_turn lang (request_with plan budget) (place_of (standing_on lang events) left written) (place_of (standing_on lang later) left' written') question reply
     pub any_moment : LeavesOnly moment left_since old new (λ c. may_leave old c ⊎ OpensWithin plan voc events (later ++ last) c)
     pub now : (c : List ℕ) → may_leave new c → OpensWith plan voc later c ⊎ OpensWith plan voc (later ++ last) c
 

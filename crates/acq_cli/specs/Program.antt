@@ -128,11 +128,11 @@ Tries l request start answers left written left' written' (ending.Usage fault) =
 Tries l request start answers left written left' written' (ending.VocRefused fault) = ⊥
 Tries l request start answers left written left' written' ending.Done = ⊥
 Tries l request start answers left written left' written' (ending.JournalRefused fault) = ⊥
-Tries l request start answers left written left' written' ending.ReadFault = BreaksRun l request start left written written'
+Tries l request start answers left written left' written' ending.ReadFault = BreaksRun l request start answers left written written'
 Tries l request start answers left written left' written' ending.WriteFault = ⊥
 -- what was written ends with the lines of the question whose answer wasn't kept
 Tries l request start answers left written left' written' ending.DiskFault =
-    BreaksRun l request start left written written' × UnkeptTo line_turn l request (place_of start left written) (place_of answers left' written')
+    BreaksRun l request start answers left written written' × UnkeptTo line_turn l request (place_of start left written) (place_of answers left' written')
 Tries l request start answers left written left' written' ending.JournalFull = ⊥
 Tries l request start answers left written left' written' ending.Memory = ⊥
 

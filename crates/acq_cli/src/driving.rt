@@ -8,7 +8,7 @@ ghost use Rattle.query_gen.specs.Marks.{IsMadeFor, HasNoMarks, MarksHold};
 ghost use Rattle.session_core.specs.Standing.{Stands, knowledge_of, open_in};
 ghost use Rattle.session_core.specs.Settled.{IsSettled};
 ghost use Rattle.session_store.specs.Keeping.{Keeps};
-ghost use Rattle.acq_cli.specs.Driven.{Drives, IsOwned, LeavesNothing, Remembers, StepsTo, TellsOpen};
+ghost use Rattle.acq_cli.specs.Driven.{Drives, IsOwned, LeavesNothing, Loses, Remembers, StepsTo, TellsOpen};
 ghost use Rattle.acq_cli.specs.Due.{IsDue, NextIs, PutIs, AnswerKept, IsOneMore, ended_by};
 ghost use Rattle.acq_cli.specs.Places.{place_of, request_with};
 
@@ -185,7 +185,7 @@ fn keep_answer<D: Disk, P: Keep<D>>(keep: &mut P, disk: &mut D, yes: bool) -> Op
     ensures lang { P.lang keep.new ≡ P.lang keep.old }
     ensures plan { P.plan keep.new ≡ P.plan keep.old }
     ensures sound { P.sound keep.new }
-    ensures keeps { Keeps D.content D.may_leave D.moment D.left_since P.plan P.voc P.record_of P.question P.writes P.live P.sits D.faults (result ≡ Some Drove.DiskFault) keep.old keep.new disk.old disk.new }
+    ensures keeps { Keeps D.content D.may_leave D.moment D.left_since P.plan P.voc P.record_of P.question P.writes P.live P.sits D.faults (result ≡ Some Drove.DiskFault) (λ asked said. (P.question keep.old ≡ Some asked) × (said ≡ «yes»)) keep.old keep.new disk.old disk.new }
 {
     match keep.answer(disk, yes) {
         Ok(()) => None,
@@ -235,7 +235,12 @@ fn hear_answer<S: Source, K: Sink, D: Disk, T: Teacher<S, K>, P: Keep<D>>(
     ensures lang { P.lang keep.new ≡ P.lang keep.old }
     ensures plan { P.plan keep.new ≡ P.plan keep.old }
     ensures sound { P.sound keep.new }
-    ensures keeps { Keeps D.content D.may_leave D.moment D.left_since P.plan P.voc P.record_of P.question P.writes P.live P.sits D.faults (result ≡ Some Drove.DiskFault) keep.old keep.new disk.old disk.new }
+    ensures keeps { Keeps D.content D.may_leave D.moment D.left_since P.plan P.voc P.record_of P.question P.writes P.live P.sits D.faults (result ≡ Some Drove.DiskFault)
+        (λ asked said. (budget : _) → IsDue (P.lang keep.old) (request_with (P.plan keep.old) budget) (standing_on (P.lang keep.old) (P.record_of keep.old)) question.now
+        → Loses (T.turn teacher.old) (P.lang keep.old) (request_with (P.plan keep.old) budget)
+        (place_of (standing_on (P.lang keep.old) (P.record_of keep.old)) (S.left source.old) (K.written sink.old))
+        (place_of (standing_on (P.lang keep.old) (P.record_of keep.new)) (S.left source.new) (K.written sink.new)) asked said)
+        keep.old keep.new disk.old disk.new }
     ensures later { S.faults source.old ≤ S.faults source.new }
     ensures later_sink { K.faults sink.old ≤ K.faults sink.new }
     ensures read { result ≡ Some Drove.ReadFault → Rose (S.faults source.old) (S.faults source.new) }
@@ -293,7 +298,11 @@ fn take_turn<S: Source, K: Sink, D: Disk, T: Teacher<S, K>, P: Keep<D>>(
     ensures lang { P.lang keep.new ≡ P.lang keep.old }
     ensures plan { P.plan keep.new ≡ P.plan keep.old }
     ensures sound { P.sound keep.new }
-    ensures keeps { Keeps D.content D.may_leave D.moment D.left_since P.plan P.voc P.record_of P.question P.writes P.live P.sits D.faults (result ≡ Some Drove.DiskFault) keep.old keep.new disk.old disk.new }
+    ensures keeps { Keeps D.content D.may_leave D.moment D.left_since P.plan P.voc P.record_of P.question P.writes P.live P.sits D.faults (result ≡ Some Drove.DiskFault)
+        (Loses (T.turn teacher.old) (P.lang keep.old) (request_with (P.plan keep.old) budget)
+        (place_of (standing_on (P.lang keep.old) (P.record_of keep.old)) (S.left source.old) (K.written sink.old))
+        (place_of (standing_on (P.lang keep.old) (P.record_of keep.new)) (S.left source.new) (K.written sink.new)))
+        keep.old keep.new disk.old disk.new }
     ensures later { S.faults source.old ≤ S.faults source.new }
     ensures later_sink { K.faults sink.old ≤ K.faults sink.new }
     ensures read { result ≡ Some Drove.ReadFault → Rose (S.faults source.old) (S.faults source.new) }
@@ -351,8 +360,13 @@ pub fn drive<R: Threads + Sync, S: Source, K: Sink, D: Disk, T: Teacher<S, K>, P
     ensures plan { P.plan keep.new ≡ P.plan keep.old }
     ensures sound { P.sound keep.new }
     // Where nothing is written, the disk isn't touched. Else a crash at any moment leaves the events from before the call and a
-    // front of those of this run, and after it all of them, but for the last one where the disk failed.
-    ensures keeps { Keeps D.content D.may_leave D.moment D.left_since P.plan P.voc P.record_of P.question P.writes P.live P.sits D.faults (result ≡ Drove.DiskFault) keep.old keep.new disk.old disk.new }
+    // front of those of this run, and after it all of them, but for the last one where the disk failed. That one is the answer
+    // to the question that came next.
+    ensures keeps { Keeps D.content D.may_leave D.moment D.left_since P.plan P.voc P.record_of P.question P.writes P.live P.sits D.faults (result ≡ Drove.DiskFault)
+        (Loses (T.turn teacher.old) (P.lang keep.old) (request_with (P.plan keep.old) budget)
+        (place_of (standing_on (P.lang keep.old) (P.record_of keep.old)) (S.left source.old) (K.written sink.old))
+        (place_of (standing_on (P.lang keep.old) (P.record_of keep.new)) (S.left source.new) (K.written sink.new)))
+        keep.old keep.new disk.old disk.new }
     ensures later { S.faults source.old ≤ S.faults source.new }
     ensures later_sink { K.faults sink.old ≤ K.faults sink.new }
     ensures read { result ≡ Drove.ReadFault → Rose (S.faults source.old) (S.faults source.new) }

@@ -10,8 +10,9 @@ ghost use Rattle.query_gen.specs.Marks.{IsMadeFor, is_open};
 ghost use Rattle.session_core.specs.Settled.{IsSettled};
 ghost use Rattle.session_core.specs.Standing.{Stands, knowledge_of};
 ghost use Rattle.session_store.specs.Keeping.{Keeps};
-ghost use Rattle.acq_cli.specs.Driven.{TellsOpen};
-ghost use Rattle.acq_cli.specs.Places.{request_with};
+ghost use Rattle.target_oracle.specs.Lines.{line_turn};
+ghost use Rattle.acq_cli.specs.Driven.{Loses, TellsOpen};
+ghost use Rattle.acq_cli.specs.Places.{place_of, request_with};
 ghost use Rattle.acq_cli.specs.Breaks.{Breaks, BreaksRun};
 ghost use Rattle.acq_cli.specs.Program.{Acquires, HasEnded, Says, SaysPart, Tries};
 ghost use Rattle.disk_model.specs.Disk.{Rose as DiskRose};
@@ -201,13 +202,17 @@ pub(crate) fn ask_on<R: Threads + Sync, S: Source, K: Sink, D: Disk, P: Keep<D>>
     requires small_budget { budget ≤ 1000000000 }
     ensures tries { IfOk result (Tries (P.lang keep.old) (request_with (P.plan keep.old) budget) (standing_on (P.lang keep.old) (P.record_of keep.old)) (standing_on (P.lang keep.old) (P.record_of keep.new))
         (S.left input.old) (K.written out.old) (S.left input.new) (K.written out.new)) }
-    ensures part { OnErr result (BreaksRun (P.lang keep.old) (request_with (P.plan keep.old) budget) (standing_on (P.lang keep.old) (P.record_of keep.old)) (S.left input.old) (K.written out.old) (K.written out.new)) }
+    ensures part { OnErr result (BreaksRun (P.lang keep.old) (request_with (P.plan keep.old) budget) (standing_on (P.lang keep.old) (P.record_of keep.old)) (standing_on (P.lang keep.old) (P.record_of keep.new)) (S.left input.old) (K.written out.old) (K.written out.new)) }
     ensures read { result ≡ Ok Ending.ReadFault → Rose (S.faults input.old) (S.faults input.new) }
     ensures no_fault { IfOk result (λ ending. ending ≢ Ending.WriteFault) }
     ensures failed { result ≡ Err Put.Failed → Rose (K.faults out.old) (K.faults out.new) }
     ensures later { S.faults input.old ≤ S.faults input.new }
     ensures later_sink { K.faults out.old ≤ K.faults out.new }
-    ensures keeps { Keeps D.content D.may_leave D.moment D.left_since P.plan P.voc P.record_of P.question P.writes P.live P.sits D.faults (result ≡ Ok Ending.DiskFault) keep.old keep.new disk.old disk.new }
+    ensures keeps { Keeps D.content D.may_leave D.moment D.left_since P.plan P.voc P.record_of P.question P.writes P.live P.sits D.faults (result ≡ Ok Ending.DiskFault)
+        (Loses line_turn (P.lang keep.old) (request_with (P.plan keep.old) budget)
+        (place_of (standing_on (P.lang keep.old) (P.record_of keep.old)) (S.left input.old) (K.written out.old))
+        (place_of (standing_on (P.lang keep.old) (P.record_of keep.new)) (S.left input.new) (K.written out.new)))
+        keep.old keep.new disk.old disk.new }
     ensures lang { P.lang keep.new ≡ P.lang keep.old }
     ensures plan { P.plan keep.new ≡ P.plan keep.old }
     ensures sound { P.sound keep.new }
@@ -249,7 +254,7 @@ fn try_language<R: Threads + Sync, S: Source, K: Sink>(
     requires some_budget { 1 ≤ request.budget }
     requires small_budget { request.budget ≤ 1000000000 }
     ensures tries { IfOk result (λ ending. (answers : List Answer) × Tries lang request [] answers (S.left input.old) (K.written out.old) (S.left input.new) (K.written out.new) ending) }
-    ensures part { OnErr result (BreaksRun lang request [] (S.left input.old) (K.written out.old) (K.written out.new)) }
+    ensures part { OnErr result ((answers : List Answer) × BreaksRun lang request [] answers (S.left input.old) (K.written out.old) (K.written out.new)) }
     ensures read { result ≡ Ok Ending.ReadFault → Rose (S.faults input.old) (S.faults input.new) }
     ensures no_fault { IfOk result (λ ending. ending ≢ Ending.WriteFault) }
     ensures no_disk { IfOk result (λ ending. ending ≢ Ending.DiskFault) }

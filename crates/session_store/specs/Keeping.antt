@@ -1,52 +1,71 @@
 -- What the calls of a keeper, one after another, have done to it and to its disk.
-use Rattle.std.proofs.Common.{◌≡◌, ◌≤◌, ◌⊎◌, ℕ, Bool, IsTrue, List, [], ◌∷◌, ◌++◌, Option, Some, None, refl, sym, ◌∙◌, ap, subst, inl, inr, arith, append_assoc}
+use Rattle.std.proofs.Common.{◌≡◌, ◌≤◌, ◌⊎◌, ℕ, Bool, IsTrue, List, [], ◌∷◌, ◌++◌, map, Option, Some, None, refl, sym, ◌∙◌, ap, subst, inl, inr, arith, append_assoc}
 use Rattle.std.specs.Prelude.{IsFalse}
 use Rattle.std.specs.Option.{ForSome, ForNone}
-use Rattle.std.proofs.lemmas.List.{append-nil}
+use Rattle.std.proofs.lemmas.List.{append-nil, map-append}
 use Rattle.assign.specs.Assignment.{Assignment}
+use Rattle.assign.specs.Events.{Answer}
 use Rattle.assign.specs.declared.events.Event.{Event}
 use Rattle.assign.specs.declared.events.Plan.{Plan}
 use Rattle.disk_model.specs.Disk.{LeavesOnly, Rose}
 use Rattle.disk_model.specs.Moments.{started, joined, weaker}
-use Rattle.session_store.specs.Kept.{answer_event}
+use Rattle.session_store.specs.Kept.{answer_event, event_for}
 use Rattle.session_store.specs.Left.{OpensWith, OpensWithOrWithout, OpensWithin, LeavesNow}
+
+-- The events of these answers were added.
+pub record IsGrown (before after : List Event) : Type 0 where
+  pub answers : List Answer
+  pub is : after ≡ before ++ map event_for answers
 
 -- the meanings of a disk
 module _ {D : Type 0} (content : D → Option (List ℕ)) (may_leave : D → List ℕ → Type 0) (moment : D → ℕ) (left_since : D → ℕ → List ℕ → Type 0) where
   -- Since the disk was the old one, some events were added. A crash at any moment since then leaves those from before and a
   -- front of the new ones, and a crash now leaves all of them.
   pub record Persists (plan : Plan) (voc : List ℕ) (before after : List Event) (old new : D) : Type 0 where
-    pub more : List Event
-    pub grown : after ≡ before ++ more
     pub now : LeavesNow content may_leave (OpensWith plan voc after) new
     pub any_moment : LeavesOnly moment left_since old new (OpensWithin plan voc before after)
 
-  -- The disk failed while the answer to the question that is put was added. A crash leaves that answer as the last event, or
-  -- leaves it out.
-  pub record FailsWith (plan : Plan) (voc : List ℕ) (before after : List Event) (put : Option Assignment) (old new : D) : Type 0 where
+  -- The disk failed while the answer to the question that is put was added, of which this is known. Where the disk told what
+  -- it held, a crash leaves that answer as the last event, or leaves it out.
+  pub record FailsWith (plan : Plan) (voc : List ℕ) (before after : List Event) (put : Option Assignment) (is_lost : Assignment → Bool → Type 0) (old new : D) : Type 0 where
     pub question : Assignment
     pub reply : Bool
     pub is_put : put ≡ Some question
-    pub more : List Event
-    pub grown : after ≡ before ++ more
-    pub now : (c : List ℕ) → may_leave new c → OpensWithOrWithout plan voc after (answer_event question reply) c
-    pub any_moment : LeavesOnly moment left_since old new (OpensWithin plan voc before (after ++ answer_event question reply ∷ []))
+    pub lost : is_lost question reply
+    pub now : ForSome (content old) (λ _. (c : List ℕ) → may_leave new c → OpensWithOrWithout plan voc after (answer_event question reply) c)
+    pub any_moment : ForSome (content old) (λ _. LeavesOnly moment left_since old new (OpensWithin plan voc before (after ++ answer_event question reply ∷ [])))
 
   -- the meanings of a keeper, and the count of the disk's faults
   module _ {K : Type 0} (plan : K → Plan) (voc : K → List ℕ) (record_of : K → List Event) (question : K → Option Assignment) (writes live : K → Bool) (sits : K → D → Type 0) (faults : D → ℕ) where
-    -- What calls of a keeper have done, of which the last may have met a fault of the disk.
-    pub record Keeps (has_failed : Type 0) (old new : K) (disk_old disk_new : D) : Type 0 where
+    -- What calls of a keeper have done, of which the last may have met a fault of the disk. This is then known of its answer.
+    pub record Keeps (has_failed : Type 0) (is_lost : Assignment → Bool → Type 0) (old new : K) (disk_old disk_new : D) : Type 0 where
       pub same_voc : voc new ≡ voc old
       pub same_writes : writes new ≡ writes old
       pub belongs : sits new disk_new
       pub later : faults disk_old ≤ faults disk_new
       pub is_live : (has_failed → ⊥) → IsTrue (live new)
       pub cause : has_failed → IsTrue (writes old) × Rose (faults disk_old) (faults disk_new)
+      pub grown : IsGrown (record_of old) (record_of new)
       -- where nothing is written, the disk isn't touched
       pub unwritten : IsFalse (writes old) → disk_new ≡ disk_old
       -- else events are added one after the other, where the disk tells
       pub persists : IsTrue (writes old) → ForSome (content disk_old) (λ _. (has_failed → ⊥) → Persists (plan old) (voc old) (record_of old) (record_of new) disk_old disk_new)
-      pub fails : IsTrue (writes old) → ForSome (content disk_old) (λ _. has_failed → FailsWith (plan old) (voc old) (record_of old) (record_of new) (question new) disk_old disk_new)
+      pub fails : has_failed → FailsWith (plan old) (voc old) (record_of old) (record_of new) (question new) is_lost disk_old disk_new
+
+-- ---- events
+
+pub grown_none : (before after : List Event) → after ≡ before → IsGrown before after
+grown_none before after same = record { answers = []; is = same ∙ sym (append-nil before) }
+
+pub grown_one : (before after : List Event) (a : Answer) → after ≡ before ++ event_for a ∷ [] → IsGrown before after
+grown_one before after a is = record { answers = a ∷ []; is = is }
+
+pub grown_then : (one two three : List Event) → IsGrown one two → IsGrown two three → IsGrown one three
+grown_then one two three first second = record {
+  answers = first.answers ++ second.answers;
+  is = second.is ∙ ap (λ (l : List Event). l ++ map event_for second.answers) first.is ∙ append_assoc one (map event_for first.answers) (map event_for second.answers)
+      ∙ ap (λ (l : List Event). one ++ l) (sym (map-append event_for first.answers second.answers));
+}
 
 -- ---- contents
 
@@ -92,39 +111,37 @@ module _ {D : Type 0} (content : D → Option (List ℕ)) (may_leave : D → Lis
   pub persists_none : (plan : Plan) (voc : List ℕ) (events : List Event) (disk : D) (bytes : List ℕ) → content disk ≡ Some bytes → ((c : List ℕ) → may_leave disk c → OpensWith plan voc events c) →
       Persists content may_leave moment left_since plan voc events events disk disk
   persists_none plan voc events disk bytes told opens = record {
-    more = [];
-    grown = sym (append-nil events);
     now = record { bytes = bytes; tells = told; each = opens };
     any_moment = started moment left_since disk (OpensWithin plan voc events events) (λ c left. within_none plan voc events c (opens c (only_now disk c left)));
   }
 
   -- one run after another
-  pub persists_then : (plan : Plan) (voc : List ℕ) (one two three : List Event) (old mid new : D) →
+  pub persists_then : (plan : Plan) (voc : List ℕ) (one two three : List Event) (old mid new : D) → IsGrown one two → IsGrown two three →
       Persists content may_leave moment left_since plan voc one two old mid → Persists content may_leave moment left_since plan voc two three mid new →
       Persists content may_leave moment left_since plan voc one three old new
-  persists_then plan voc one two three old mid new first second = record {
-    more = first.more ++ second.more;
-    grown = second.grown ∙ ap (λ (l : List Event). l ++ second.more) first.grown ∙ append_assoc one first.more second.more;
+  persists_then plan voc one two three old mid new grown longer first second = record {
     now = second.now;
     any_moment = joined moment left_since old mid new (OpensWithin plan voc one two) (OpensWithin plan voc two three) (OpensWithin plan voc one three) first.any_moment second.any_moment
-        (λ c w. within_more plan voc one two three second.more c second.grown w) (λ c w. within_from plan voc one two three first.more c first.grown w);
+        (λ c w. within_more plan voc one two three (map event_for longer.answers) c longer.is w) (λ c w. within_from plan voc one two three (map event_for grown.answers) c grown.is w);
   }
 
-  pub fails_then : (plan : Plan) (voc : List ℕ) (one two three : List Event) (put : Option Assignment) (old mid new : D) →
-      Persists content may_leave moment left_since plan voc one two old mid → FailsWith content may_leave moment left_since plan voc two three put mid new →
-      FailsWith content may_leave moment left_since plan voc one three put old new
-  fails_then plan voc one two three put old mid new first second =
+  pub fails_then : (plan : Plan) (voc : List ℕ) (one two three : List Event) (put : Option Assignment) (is_lost is_then : Assignment → Bool → Type 0) (old mid new : D) → IsGrown one two → IsGrown two three →
+      ((question : Assignment) (reply : Bool) → is_lost question reply → is_then question reply) →
+      ForSome (content old) (λ _. Persists content may_leave moment left_since plan voc one two old mid) → FailsWith content may_leave moment left_since plan voc two three put is_lost mid new →
+      FailsWith content may_leave moment left_since plan voc one three put is_then old new
+  fails_then plan voc one two three put is_lost is_then old mid new grown longer known first second =
       let last : List Event = answer_event second.question second.reply ∷ [] in
-      let longer : three ++ last ≡ two ++ (second.more ++ last) = ap (λ (l : List Event). l ++ last) second.grown ∙ append_assoc two second.more last in
+      let added : three ++ last ≡ two ++ (map event_for longer.answers ++ last) = ap (λ (l : List Event). l ++ last) longer.is ∙ append_assoc two (map event_for longer.answers) last in
       record {
         question = second.question;
         reply = second.reply;
         is_put = second.is_put;
-        more = first.more ++ second.more;
-        grown = second.grown ∙ ap (λ (l : List Event). l ++ second.more) first.grown ∙ append_assoc one first.more second.more;
-        now = second.now;
-        any_moment = joined moment left_since old mid new (OpensWithin plan voc one two) (OpensWithin plan voc two (three ++ last)) (OpensWithin plan voc one (three ++ last)) first.any_moment second.any_moment
-            (λ c w. within_more plan voc one two (three ++ last) (second.more ++ last) c longer w) (λ c w. within_from plan voc one two (three ++ last) first.more c first.grown w);
+        lost = known second.question second.reply second.lost;
+        now = λ bytes told. let f = first bytes told in second.now f.now.bytes f.now.tells;
+        any_moment = λ bytes told.
+            let f = first bytes told in
+            joined moment left_since old mid new (OpensWithin plan voc one two) (OpensWithin plan voc two (three ++ last)) (OpensWithin plan voc one (three ++ last)) f.any_moment (second.any_moment f.now.bytes f.now.tells)
+            (λ c w. within_more plan voc one two (three ++ last) (map event_for longer.answers ++ last) c added w) (λ c w. within_from plan voc one two (three ++ last) (map event_for grown.answers) c grown.is w);
       }
 
   -- an answer that was added
@@ -132,18 +149,16 @@ module _ {D : Type 0} (content : D → Option (List ℕ)) (may_leave : D → Lis
       LeavesNow content may_leave (OpensWith plan voc after) new → LeavesOnly moment left_since old new (OpensWithOrWithout plan voc events e) →
       Persists content may_leave moment left_since plan voc events after old new
   persists_one plan voc events after e old new added now any = record {
-    more = e ∷ [];
-    grown = added;
     now = now;
     any_moment = weaker moment left_since old new (OpensWithOrWithout plan voc events e) (OpensWithin plan voc events after) any
         (λ c w. subst (λ (l : List Event). OpensWithin plan voc events l c) (sym added) (within_one plan voc events e c w));
   }
 
   -- an answer whose adding failed
-  pub fails_one : (plan : Plan) (voc : List ℕ) (events after : List Event) (question : Assignment) (reply : Bool) (put : Option Assignment) (old new : D) → after ≡ events → put ≡ Some question →
-      LeavesOnly moment left_since old new (OpensWithOrWithout plan voc events (answer_event question reply)) →
-      FailsWith content may_leave moment left_since plan voc events after put old new
-  fails_one plan voc events after question reply put old new same is any =
+  pub fails_one : (plan : Plan) (voc : List ℕ) (events after : List Event) (question : Assignment) (reply : Bool) (put : Option Assignment) (is_lost : Assignment → Bool → Type 0) (old new : D) → after ≡ events → put ≡ Some question → is_lost question reply →
+      ForSome (content old) (λ _. LeavesOnly moment left_since old new (OpensWithOrWithout plan voc events (answer_event question reply))) →
+      FailsWith content may_leave moment left_since plan voc events after put is_lost old new
+  fails_one plan voc events after question reply put is_lost old new same is lost any =
       let e : Event = answer_event question reply in
       let as_after : List Event → Type 0 = λ l. (c : List ℕ) → may_leave new c → OpensWithOrWithout plan voc l e c in
       let within_after : List Event → Type 0 = λ l. LeavesOnly moment left_since old new (OpensWithin plan voc events (l ++ e ∷ [])) in
@@ -151,69 +166,76 @@ module _ {D : Type 0} (content : D → Option (List ℕ)) (may_leave : D → Lis
         question = question;
         reply = reply;
         is_put = is;
-        more = [];
-        grown = same ∙ sym (append-nil events);
-        now = subst as_after (sym same) (λ c left. any.each c (counts_now new (moment old) c any.later left));
-        any_moment = subst within_after (sym same) (weaker moment left_since old new (OpensWithOrWithout plan voc events e) (OpensWithin plan voc events (events ++ e ∷ [])) any
+        lost = lost;
+        now = λ bytes told. let run = any bytes told in subst as_after (sym same) (λ c left. run.each c (counts_now new (moment old) c run.later left));
+        any_moment = λ bytes told.
+            subst within_after (sym same) (weaker moment left_since old new (OpensWithOrWithout plan voc events e) (OpensWithin plan voc events (events ++ e ∷ [])) (any bytes told)
             (λ c w. within_one plan voc events e c w));
       }
 
   module _ {K : Type 0} (plan : K → Plan) (voc : K → List ℕ) (record_of : K → List Event) (question : K → Option Assignment) (writes live : K → Bool) (sits : K → D → Type 0) (faults : D → ℕ) where
     -- A keeper that was asked to put a question, or wasn't called, and a disk that wasn't touched.
-    pub keeps_still : (has_failed : Type 0) (old new : K) (disk : D) → (has_failed → ⊥) → plan new ≡ plan old → voc new ≡ voc old → record_of new ≡ record_of old → writes new ≡ writes old → live new ≡ live old →
+    pub keeps_still : (has_failed : Type 0) (is_lost : Assignment → Bool → Type 0) (old new : K) (disk : D) → (has_failed → ⊥) → plan new ≡ plan old → voc new ≡ voc old → record_of new ≡ record_of old → writes new ≡ writes old → live new ≡ live old →
         IsTrue (live old) → sits new disk → (IsTrue (writes old) → ForSome (content disk) (λ _. (c : List ℕ) → may_leave disk c → OpensWith (plan old) (voc old) (record_of old) c)) →
-        Keeps content may_leave moment left_since plan voc record_of question writes live sits faults has_failed old new disk disk
-    keeps_still has_failed old new disk well same_plan same_voc same_record same_writes same_live is_live belongs lasts = record {
+        Keeps content may_leave moment left_since plan voc record_of question writes live sits faults has_failed is_lost old new disk disk
+    keeps_still has_failed is_lost old new disk well same_plan same_voc same_record same_writes same_live is_live belongs lasts = record {
       same_voc = same_voc;
       same_writes = same_writes;
       belongs = belongs;
       later = omega arith;
       is_live = λ no. same_live ∙ is_live;
       cause = λ failed. absurd (well failed);
+      grown = grown_none (record_of old) (record_of new) same_record;
       unwritten = λ no. refl;
       persists = λ w bytes told no.
           let As : List Event → Type 0 = λ l. Persists content may_leave moment left_since (plan old) (voc old) (record_of old) l disk disk in
           subst As (sym same_record) (persists_none (plan old) (voc old) (record_of old) disk bytes told (lasts w bytes told));
-      fails = λ w bytes told failed. absurd (well failed);
+      fails = λ failed. absurd (well failed);
     }
 
     -- calls one after another
-    pub keeps_then : (has_failed : Type 0) (one two three : K) (x y z : D) → plan two ≡ plan one →
-        Keeps content may_leave moment left_since plan voc record_of question writes live sits faults ⊥ one two x y →
-        Keeps content may_leave moment left_since plan voc record_of question writes live sits faults has_failed two three y z →
-        Keeps content may_leave moment left_since plan voc record_of question writes live sits faults has_failed one three x z
-    keeps_then has_failed one two three x y z same_plan first second = record {
+    pub keeps_then : (has_failed : Type 0) (is_lost is_then : Assignment → Bool → Type 0) (one two three : K) (x y z : D) → plan two ≡ plan one →
+        ((question : Assignment) (reply : Bool) → is_lost question reply → is_then question reply) →
+        Keeps content may_leave moment left_since plan voc record_of question writes live sits faults ⊥ (λ q r. ⊥) one two x y →
+        Keeps content may_leave moment left_since plan voc record_of question writes live sits faults has_failed is_lost two three y z →
+        Keeps content may_leave moment left_since plan voc record_of question writes live sits faults has_failed is_then one three x z
+    keeps_then has_failed is_lost is_then one two three x y z same_plan known first second = record {
       same_voc = second.same_voc ∙ first.same_voc;
       same_writes = second.same_writes ∙ first.same_writes;
       belongs = second.belongs;
       later = omega (arith, first.later, second.later);
       is_live = second.is_live;
       cause = λ failed. (sym first.same_writes ∙ (second.cause failed).0, rose_later (faults x) (faults y) (faults z) first.later (second.cause failed).1);
+      grown = grown_then (record_of one) (record_of two) (record_of three) first.grown second.grown;
       unwritten = λ no. second.unwritten (first.same_writes ∙ no) ∙ first.unwritten no;
       persists = λ w bytes told no.
           let f = first.persists w bytes told (λ bad. bad) in
           let s = second.persists (first.same_writes ∙ w) f.now.bytes f.now.tells no in
           let As : Plan → List ℕ → Type 0 = λ p v. Persists content may_leave moment left_since p v (record_of two) (record_of three) y z in
-          persists_then (plan one) (voc one) (record_of one) (record_of two) (record_of three) x y z f (both_as As (plan two) (plan one) (voc two) (voc one) same_plan first.same_voc s);
-      fails = λ w bytes told failed.
-          let f = first.persists w bytes told (λ bad. bad) in
-          let s = second.fails (first.same_writes ∙ w) f.now.bytes f.now.tells failed in
-          let As : Plan → List ℕ → Type 0 = λ p v. FailsWith content may_leave moment left_since p v (record_of two) (record_of three) (question three) y z in
-          fails_then (plan one) (voc one) (record_of one) (record_of two) (record_of three) (question three) x y z f (both_as As (plan two) (plan one) (voc two) (voc one) same_plan first.same_voc s);
+          persists_then (plan one) (voc one) (record_of one) (record_of two) (record_of three) x y z first.grown second.grown f (both_as As (plan two) (plan one) (voc two) (voc one) same_plan first.same_voc s);
+      fails = λ failed.
+          let w : IsTrue (writes one) = sym first.same_writes ∙ (second.cause failed).0 in
+          let As : Plan → List ℕ → Type 0 = λ p v. FailsWith content may_leave moment left_since p v (record_of two) (record_of three) (question three) is_lost y z in
+          fails_then (plan one) (voc one) (record_of one) (record_of two) (record_of three) (question three) is_lost is_then x y z first.grown second.grown known
+          (λ bytes told. first.persists w bytes told (λ bad. bad)) (both_as As (plan two) (plan one) (voc two) (voc one) same_plan first.same_voc (second.fails failed));
     }
 
     -- by another word for the failure
-    pub keeps_as : (bad worse : Type 0) (old new : K) (x y : D) → (worse → bad) → (bad → worse) →
-        Keeps content may_leave moment left_since plan voc record_of question writes live sits faults bad old new x y →
-        Keeps content may_leave moment left_since plan voc record_of question writes live sits faults worse old new x y
-    keeps_as bad worse old new x y to fro keeps = record {
+    pub keeps_as : (bad worse : Type 0) (is_lost is_then : Assignment → Bool → Type 0) (old new : K) (x y : D) → (worse → bad) → (bad → worse) →
+        (worse → (question : Assignment) (reply : Bool) → is_lost question reply → is_then question reply) →
+        Keeps content may_leave moment left_since plan voc record_of question writes live sits faults bad is_lost old new x y →
+        Keeps content may_leave moment left_since plan voc record_of question writes live sits faults worse is_then old new x y
+    keeps_as bad worse is_lost is_then old new x y to fro known keeps = record {
       same_voc = keeps.same_voc;
       same_writes = keeps.same_writes;
       belongs = keeps.belongs;
       later = keeps.later;
       is_live = λ no. keeps.is_live (λ b. no (fro b));
       cause = λ failed. keeps.cause (to failed);
+      grown = keeps.grown;
       unwritten = keeps.unwritten;
       persists = λ w bytes told no. keeps.persists w bytes told (λ b. no (fro b));
-      fails = λ w bytes told failed. keeps.fails w bytes told (to failed);
+      fails = λ failed.
+          let f = keeps.fails (to failed) in
+          record { question = f.question; reply = f.reply; is_put = f.is_put; lost = known failed f.question f.reply f.lost; now = f.now; any_moment = f.any_moment };
     }

@@ -15,6 +15,9 @@ use Rattle.session_laws.specs.Walk.{WalkEnd}
 abbrev pub answer_event : Assignment → Bool → Event
 answer_event q reply = events.Answer (widened q) reply
 
+abbrev pub event_for : Answer → Event
+event_for a = answer_event a.question a.yes
+
 -- after these answers nothing is open, and the question may be put
 pub record IsLawfulAfter (l : Language) (plan : Plan) (t : List Answer) (q : Assignment) : Type 0 where
   pub network : List Candidate

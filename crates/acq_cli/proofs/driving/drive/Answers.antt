@@ -1,4 +1,5 @@
-use Rattle.std.proofs.Common.{Option, Some, None, ◌≡◌, ◌∙◌, ◌+◌, List, length, ap, sym, subst, arith, refl}
+use Rattle.std.proofs.Common.{Bool, Option, Some, None, ◌≡◌, ◌∙◌, ◌+◌, List, length, ap, sym, subst, arith, refl}
+use Rattle.assign.specs.Assignment.{Assignment}
 use Rattle.assign.specs.Events.{Answer}
 use Rattle.assign.specs.declared.events.Plan.{Plan}
 use Rattle.language.specs.Language.{Language, IsLanguage}
@@ -9,7 +10,7 @@ use Rattle.session_laws.specs.Session.{state_after}
 use Rattle.session_laws.proofs.Pending.{ended_is_walked}
 use Rattle.session_core.specs.Settled.{IsSettled}
 use Rattle.target_oracle.specs.Turns.{Turns}
-use Rattle.acq_cli.specs.Driven.{Place, Drives, Remembers, StepsTo, TellsOpen}
+use Rattle.acq_cli.specs.Driven.{Place, Drives, Loses, Remembers, StepsTo, TellsOpen}
 use Rattle.acq_cli.specs.declared.driving.Drove.{Drove}
 use Rattle.acq_cli.specs.declared.driving.Drove.TheVariants as drove
 use Rattle.session_store.specs.Keeping.{keeps_still, keeps_then, keeps_as}
@@ -17,7 +18,7 @@ use Rattle.acq_cli.specs.Places.{place_of, request_with}
 use Rattle.query_gen.proofs.Marking.{no_marks_hold}
 use Rattle.acq_cli.proofs.Standings.{carried, reached, few_answers}
 use Rattle.acq_cli.proofs.Owners.{owned}
-use Rattle.acq_cli.proofs.Turning.{steps_on, steps_end, steps_none}
+use Rattle.acq_cli.proofs.Turning.{steps_on, steps_end, steps_loses, steps_none}
 use Rattle.acq_cli.proofs.driving.drive.Goals as goal
 
 not_failed : None ≡ Some drove.DiskFault → ⊥
@@ -44,7 +45,7 @@ loop-turn-init g c =
       later_sink = omega arith;
       keeps =
           let D = g.D.Disk in let P = g.P.Keep in
-          keeps_still D.content D.may_leave D.moment D.left_since g.met.D.Disk.counts_now g.met.D.Disk.only_now P.plan P.voc P.record_of P.question P.writes P.live P.sits D.faults ⊥ c.args.keep.now c.args.keep.now c.args.disk.now (λ e. e) refl refl refl refl refl c.requires.live c.requires.sits
+          keeps_still D.content D.may_leave D.moment D.left_since g.met.D.Disk.counts_now g.met.D.Disk.only_now P.plan P.voc P.record_of P.question P.writes P.live P.sits D.faults ⊥ (λ q r. ⊥) c.args.keep.now c.args.keep.now c.args.disk.now (λ e. e) refl refl refl refl refl c.requires.live c.requires.sits
           (λ w bytes told f left. g.met.P.Keep.lasts c.args.keep.now c.args.disk.now c.requires.sound w c.requires.live c.requires.sits bytes told f left);
       more = omega arith;
     }
@@ -123,18 +124,35 @@ loop-turn-preserved g c =
       keeps =
           let D = g.D.Disk in let P = g.P.Keep in
           let Failed : Type 0 = c.take_turn.result ≡ Some drove.DiskFault in
-          keeps_then D.content D.may_leave D.moment D.left_since g.met.D.Disk.counts_now g.met.D.Disk.only_now P.plan P.voc P.record_of P.question P.writes P.live P.sits D.faults ⊥ c.args.keep.now c.loop-turn.keep c.take_turn.new.keep c.args.disk.now c.loop-turn.disk c.take_turn.new.disk c.loop-turn.invariant.plan c.loop-turn.invariant.keeps
-          (keeps_as D.content D.may_leave D.moment D.left_since g.met.D.Disk.counts_now g.met.D.Disk.only_now P.plan P.voc P.record_of P.question P.writes P.live P.sits D.faults Failed ⊥ c.loop-turn.keep c.take_turn.new.keep c.loop-turn.disk c.take_turn.new.disk (λ e. absurd e) (λ e. not_failed (sym c.in_default.is ∙ e)) c.take_turn.ensures.keeps);
+          keeps_then D.content D.may_leave D.moment D.left_since g.met.D.Disk.counts_now g.met.D.Disk.only_now P.plan P.voc P.record_of P.question P.writes P.live P.sits D.faults ⊥ (λ q r. ⊥) (λ q r. ⊥) c.args.keep.now c.loop-turn.keep c.take_turn.new.keep c.args.disk.now c.loop-turn.disk c.take_turn.new.disk c.loop-turn.invariant.plan (λ question reply lost. lost) c.loop-turn.invariant.keeps
+          (keeps_as D.content D.may_leave D.moment D.left_since g.met.D.Disk.counts_now g.met.D.Disk.only_now P.plan P.voc P.record_of P.question P.writes P.live P.sits D.faults Failed ⊥ _ (λ q r. ⊥) c.loop-turn.keep c.take_turn.new.keep c.loop-turn.disk c.take_turn.new.disk (λ e. absurd e) (λ e. not_failed (sym c.in_default.is ∙ e)) (λ bad question reply lost. bad) c.take_turn.ensures.keeps);
       more = omega (arith, one, same, c.loop-turn.invariant.more);
     }
 
 pub returns-in-Some-clause-keeps : goal.returns-in-Some-clause-keeps
 returns-in-Some-clause-keeps g c =
     let D = g.D.Disk in let P = g.P.Keep in
+    let l : Language = P.lang c.args.keep.now in
+    let p : Plan = P.plan c.args.keep.now in
+    let turns : Turns = g.T.Teacher.turn c.args.teacher.now in
+    let a : Place = place_of (standing_on l (P.record_of c.args.keep.now)) (g.S.Source.left c.args.source.now) (g.K.Sink.written c.args.sink.now) in
+    let b : Language → Place = λ m. place_of (standing_on m (P.record_of c.loop-turn.keep)) (g.S.Source.left c.loop-turn.source) (g.K.Sink.written c.loop-turn.sink) in
+    let d : Language → Place = λ m. place_of (standing_on m (P.record_of c.take_turn.new.keep)) (g.S.Source.left c.take_turn.new.source) (g.K.Sink.written c.take_turn.new.sink) in
+    let old : Language = P.lang c.loop-turn.keep in
+    let Stepped : Language → Type 0 = λ m. StepsTo turns l (request_with p c.args.budget) a (b m) in
     let Failed : Type 0 = c.in-Some.drove ≡ drove.DiskFault in
     let Told : Type 0 = Some c.in-Some.drove ≡ Some drove.DiskFault in
-    keeps_then D.content D.may_leave D.moment D.left_since g.met.D.Disk.counts_now g.met.D.Disk.only_now P.plan P.voc P.record_of P.question P.writes P.live P.sits D.faults Failed c.args.keep.now c.loop-turn.keep c.take_turn.new.keep c.args.disk.now c.loop-turn.disk c.take_turn.new.disk c.loop-turn.invariant.plan c.loop-turn.invariant.keeps
-    (keeps_as D.content D.may_leave D.moment D.left_since g.met.D.Disk.counts_now g.met.D.Disk.only_now P.plan P.voc P.record_of P.question P.writes P.live P.sits D.faults Told Failed c.loop-turn.keep c.take_turn.new.keep c.loop-turn.disk c.take_turn.new.disk (λ e. ap (λ (d : Drove). Some d) e) (λ (e : Told). some_same c.in-Some.drove e) c.in-Some.ensures.keeps)
+    let Turned : Assignment → Bool → Type 0 = Loses (g.T.Teacher.turn c.loop-turn.teacher) old (request_with (P.plan c.loop-turn.keep) c.args.budget) (b old) (d old) in
+    let Lost : Assignment → Bool → Type 0 = Loses turns l (request_with p c.args.budget) a (d l) in
+    keeps_then D.content D.may_leave D.moment D.left_since g.met.D.Disk.counts_now g.met.D.Disk.only_now P.plan P.voc P.record_of P.question P.writes P.live P.sits D.faults Failed Turned Lost c.args.keep.now c.loop-turn.keep c.take_turn.new.keep c.args.disk.now c.loop-turn.disk c.take_turn.new.disk c.loop-turn.invariant.plan
+    (λ question reply lost.
+    let Taught : Turns → Type 0 = λ t. Loses t old (request_with (P.plan c.loop-turn.keep) c.args.budget) (b old) (d old) question reply in
+    let Spoken : Language → Plan → Type 0 = λ m q. Loses turns m (request_with q c.args.budget) (b m) (d m) question reply in
+    steps_loses turns l (request_with p c.args.budget) a (b l) (d l) question reply (subst Stepped c.loop-turn.invariant.lang c.loop-turn.invariant.steps)
+    (carried Spoken old l (P.plan c.loop-turn.keep) p c.loop-turn.invariant.lang c.loop-turn.invariant.plan (subst Taught c.loop-turn.invariant.turn lost)))
+    c.loop-turn.invariant.keeps
+    (keeps_as D.content D.may_leave D.moment D.left_since g.met.D.Disk.counts_now g.met.D.Disk.only_now P.plan P.voc P.record_of P.question P.writes P.live P.sits D.faults Told Failed Turned Turned c.loop-turn.keep c.take_turn.new.keep c.loop-turn.disk c.take_turn.new.disk
+    (λ e. ap (λ (d : Drove). Some d) e) (λ (e : Told). some_same c.in-Some.drove e) (λ failed question reply lost. lost) c.in-Some.ensures.keeps)
 
 pub take_turn-requires-clause-live : goal.take_turn-requires-clause-live
 take_turn-requires-clause-live g c = c.loop-turn.invariant.keeps.is_live (λ e. e)

@@ -1,15 +1,19 @@
-use Rattle.std.proofs.Common.{◌+◌, ℕ, List, length, true, false, ap, refl, arith, Option}
+use Rattle.std.proofs.Common.{◌≡◌, ◌+◌, ℕ, Bool, List, length, true, false, ap, refl, arith, Option, Some}
+use Rattle.assign.specs.Assignment.{Assignment}
 use Rattle.assign.specs.Events.{Answer}
 use Rattle.assign.specs.declared.events.Plan.{Plan}
 use Rattle.language.specs.Language.{Language}
 use Rattle.language.specs.Answers.{standing_on}
 use Rattle.target_oracle.specs.Turns.{Turns, Said, Stopped, Ended, Overlong, Unread}
 use Rattle.acq_cli.specs.Run.{Suspended, LineTooLong, Unreadable}
+use Rattle.acq_cli.specs.Driven.{Loses}
+use Rattle.acq_cli.specs.Due.{IsDue}
 use Rattle.acq_cli.specs.Places.{place_of, request_with}
-use Rattle.session_store.specs.Keeping.{keeps_still}
+use Rattle.acq_cli.specs.declared.driving.Drove.TheVariants as drove
+use Rattle.session_store.specs.Keeping.{keeps_still, keeps_as}
 use Rattle.acq_cli.proofs.Standings.{AtTurn, at_turn, next_fits, room_left, run_laws}
 use Rattle.acq_cli.proofs.Turning.{told_as, front_as, ran_closed, cut_turn}
-use Rattle.acq_cli.proofs.Answered.{goes_on, one_more, ends}
+use Rattle.acq_cli.proofs.Answered.{goes_on, one_more, ends, loses}
 use Rattle.acq_cli.proofs.driving.hear_answer.Goals as goal
 
 pub overflow_add-count : goal.overflow_add-count
@@ -221,46 +225,100 @@ returns-in-Memory-clause-ends g c budget due =
     let written' : Option (List ℕ) = g.K.Sink.written c.told.new.sink in
     cut_turn run_laws turns l (request_with plan budget) at.lawful c.args.question.now (place_of t left written) (place_of t left' written') at.reached due.puts refl (front_as turns c.lang.result.now l (c.answers-count.result + 1) (length t + 1) c.args.question.now (place_of t left written) (place_of t left' written') at.language (ap (λ n. n + 1) at.number) c.in-Memory.ensures.tells)
 
+pub returns-in-Yes-clause-keeps : goal.returns-in-Yes-clause-keeps
+returns-in-Yes-clause-keeps g c =
+    let D = g.D.Disk in let P = g.P.Keep in
+    let l : Language = P.lang c.args.keep.now in
+    let plan : Plan = P.plan c.args.keep.now in
+    let t : List Answer = standing_on l (P.record_of c.args.keep.now) in
+    let at : AtTurn l plan t c.answers-count.result c.lang.result.now =
+    at_turn c.session-session.result.now l c.lang.result.now plan t c.answers-count.result
+    c.session-session.ensures.stands c.session-session.ensures.lang c.session-session.ensures.plan c.answers-count.ensures c.lang.ensures.is c.lang.ensures.lawful in
+    let turns : Turns = g.T.Teacher.turn c.args.teacher.now in
+    let left : Option (List ℕ) = g.S.Source.left c.args.source.now in
+    let written : Option (List ℕ) = g.K.Sink.written c.args.sink.now in
+    let left' : Option (List ℕ) = g.S.Source.left c.told.new.source in
+    let written' : Option (List ℕ) = g.K.Sink.written c.told.new.sink in
+    let after : List Answer = standing_on l (P.record_of c.keep_answer.new.keep) in
+    let q : Assignment = c.args.question.now in
+    let HasFailed : Type 0 = c.keep_answer.result ≡ Some drove.DiskFault in
+    let Was : Assignment → Bool → Type 0 = λ asked said. (P.question c.args.keep.now ≡ Some asked) × (said ≡ true) in
+    let Lost : Assignment → Bool → Type 0 = λ asked said. (budget : ℕ) → IsDue l (request_with plan budget) t q → Loses turns l (request_with plan budget) (place_of t left written) (place_of after left' written') asked said in
+    keeps_as D.content D.may_leave D.moment D.left_since g.met.D.Disk.counts_now g.met.D.Disk.only_now P.plan P.voc P.record_of P.question P.writes P.live P.sits D.faults HasFailed HasFailed Was Lost c.args.keep.now c.keep_answer.new.keep c.args.disk.now c.keep_answer.new.disk
+    (λ e. e) (λ e. e)
+    (λ failed asked said lost budget due.
+    loses turns l (request_with plan budget) t after q true (P.question c.args.keep.now) left written left' written' c.keep_answer.result drove.DiskFault due c.keep_answer.ensures.kept failed
+    (told_as turns c.lang.result.now l (c.answers-count.result + 1) (length t + 1) q (place_of t left written) (place_of t left' written') (Said true) at.language (ap (λ n. n + 1) at.number) c.in-Yes.ensures.tells)
+    c.requires.put asked said lost)
+    c.keep_answer.ensures.keeps
+
+pub returns-in-No-clause-keeps : goal.returns-in-No-clause-keeps
+returns-in-No-clause-keeps g c =
+    let D = g.D.Disk in let P = g.P.Keep in
+    let l : Language = P.lang c.args.keep.now in
+    let plan : Plan = P.plan c.args.keep.now in
+    let t : List Answer = standing_on l (P.record_of c.args.keep.now) in
+    let at : AtTurn l plan t c.answers-count.result c.lang.result.now =
+    at_turn c.session-session.result.now l c.lang.result.now plan t c.answers-count.result
+    c.session-session.ensures.stands c.session-session.ensures.lang c.session-session.ensures.plan c.answers-count.ensures c.lang.ensures.is c.lang.ensures.lawful in
+    let turns : Turns = g.T.Teacher.turn c.args.teacher.now in
+    let left : Option (List ℕ) = g.S.Source.left c.args.source.now in
+    let written : Option (List ℕ) = g.K.Sink.written c.args.sink.now in
+    let left' : Option (List ℕ) = g.S.Source.left c.told.new.source in
+    let written' : Option (List ℕ) = g.K.Sink.written c.told.new.sink in
+    let after : List Answer = standing_on l (P.record_of c.keep_answer-in-No.new.keep) in
+    let q : Assignment = c.args.question.now in
+    let HasFailed : Type 0 = c.keep_answer-in-No.result ≡ Some drove.DiskFault in
+    let Was : Assignment → Bool → Type 0 = λ asked said. (P.question c.args.keep.now ≡ Some asked) × (said ≡ false) in
+    let Lost : Assignment → Bool → Type 0 = λ asked said. (budget : ℕ) → IsDue l (request_with plan budget) t q → Loses turns l (request_with plan budget) (place_of t left written) (place_of after left' written') asked said in
+    keeps_as D.content D.may_leave D.moment D.left_since g.met.D.Disk.counts_now g.met.D.Disk.only_now P.plan P.voc P.record_of P.question P.writes P.live P.sits D.faults HasFailed HasFailed Was Lost c.args.keep.now c.keep_answer-in-No.new.keep c.args.disk.now c.keep_answer-in-No.new.disk
+    (λ e. e) (λ e. e)
+    (λ failed asked said lost budget due.
+    loses turns l (request_with plan budget) t after q false (P.question c.args.keep.now) left written left' written' c.keep_answer-in-No.result drove.DiskFault due c.keep_answer-in-No.ensures.kept failed
+    (told_as turns c.lang.result.now l (c.answers-count.result + 1) (length t + 1) q (place_of t left written) (place_of t left' written') (Said false) at.language (ap (λ n. n + 1) at.number) c.in-No.ensures.tells)
+    c.requires.put asked said lost)
+    c.keep_answer-in-No.ensures.keeps
+
 pub returns-in-Stop-clause-keeps : goal.returns-in-Stop-clause-keeps
 returns-in-Stop-clause-keeps g c =
     let D = g.D.Disk in let P = g.P.Keep in
-    keeps_still D.content D.may_leave D.moment D.left_since g.met.D.Disk.counts_now g.met.D.Disk.only_now P.plan P.voc P.record_of P.question P.writes P.live P.sits D.faults _ c.args.keep.now c.args.keep.now c.args.disk.now (λ (e : _). cc) refl refl refl refl refl c.requires.live c.requires.sits
+    keeps_still D.content D.may_leave D.moment D.left_since g.met.D.Disk.counts_now g.met.D.Disk.only_now P.plan P.voc P.record_of P.question P.writes P.live P.sits D.faults _ _ c.args.keep.now c.args.keep.now c.args.disk.now (λ (e : _). cc) refl refl refl refl refl c.requires.live c.requires.sits
     (λ w bytes told f left. g.met.P.Keep.lasts c.args.keep.now c.args.disk.now c.requires.sound w c.requires.live c.requires.sits bytes told f left)
 
 pub returns-in-End-clause-keeps : goal.returns-in-End-clause-keeps
 returns-in-End-clause-keeps g c =
     let D = g.D.Disk in let P = g.P.Keep in
-    keeps_still D.content D.may_leave D.moment D.left_since g.met.D.Disk.counts_now g.met.D.Disk.only_now P.plan P.voc P.record_of P.question P.writes P.live P.sits D.faults _ c.args.keep.now c.args.keep.now c.args.disk.now (λ (e : _). cc) refl refl refl refl refl c.requires.live c.requires.sits
+    keeps_still D.content D.may_leave D.moment D.left_since g.met.D.Disk.counts_now g.met.D.Disk.only_now P.plan P.voc P.record_of P.question P.writes P.live P.sits D.faults _ _ c.args.keep.now c.args.keep.now c.args.disk.now (λ (e : _). cc) refl refl refl refl refl c.requires.live c.requires.sits
     (λ w bytes told f left. g.met.P.Keep.lasts c.args.keep.now c.args.disk.now c.requires.sound w c.requires.live c.requires.sits bytes told f left)
 
 pub returns-in-TooLong-clause-keeps : goal.returns-in-TooLong-clause-keeps
 returns-in-TooLong-clause-keeps g c =
     let D = g.D.Disk in let P = g.P.Keep in
-    keeps_still D.content D.may_leave D.moment D.left_since g.met.D.Disk.counts_now g.met.D.Disk.only_now P.plan P.voc P.record_of P.question P.writes P.live P.sits D.faults _ c.args.keep.now c.args.keep.now c.args.disk.now (λ (e : _). cc) refl refl refl refl refl c.requires.live c.requires.sits
+    keeps_still D.content D.may_leave D.moment D.left_since g.met.D.Disk.counts_now g.met.D.Disk.only_now P.plan P.voc P.record_of P.question P.writes P.live P.sits D.faults _ _ c.args.keep.now c.args.keep.now c.args.disk.now (λ (e : _). cc) refl refl refl refl refl c.requires.live c.requires.sits
     (λ w bytes told f left. g.met.P.Keep.lasts c.args.keep.now c.args.disk.now c.requires.sound w c.requires.live c.requires.sits bytes told f left)
 
 pub returns-in-Unreadable-clause-keeps : goal.returns-in-Unreadable-clause-keeps
 returns-in-Unreadable-clause-keeps g c =
     let D = g.D.Disk in let P = g.P.Keep in
-    keeps_still D.content D.may_leave D.moment D.left_since g.met.D.Disk.counts_now g.met.D.Disk.only_now P.plan P.voc P.record_of P.question P.writes P.live P.sits D.faults _ c.args.keep.now c.args.keep.now c.args.disk.now (λ (e : _). cc) refl refl refl refl refl c.requires.live c.requires.sits
+    keeps_still D.content D.may_leave D.moment D.left_since g.met.D.Disk.counts_now g.met.D.Disk.only_now P.plan P.voc P.record_of P.question P.writes P.live P.sits D.faults _ _ c.args.keep.now c.args.keep.now c.args.disk.now (λ (e : _). cc) refl refl refl refl refl c.requires.live c.requires.sits
     (λ w bytes told f left. g.met.P.Keep.lasts c.args.keep.now c.args.disk.now c.requires.sound w c.requires.live c.requires.sits bytes told f left)
 
 pub returns-in-ReadFault-clause-keeps : goal.returns-in-ReadFault-clause-keeps
 returns-in-ReadFault-clause-keeps g c =
     let D = g.D.Disk in let P = g.P.Keep in
-    keeps_still D.content D.may_leave D.moment D.left_since g.met.D.Disk.counts_now g.met.D.Disk.only_now P.plan P.voc P.record_of P.question P.writes P.live P.sits D.faults _ c.args.keep.now c.args.keep.now c.args.disk.now (λ (e : _). cc) refl refl refl refl refl c.requires.live c.requires.sits
+    keeps_still D.content D.may_leave D.moment D.left_since g.met.D.Disk.counts_now g.met.D.Disk.only_now P.plan P.voc P.record_of P.question P.writes P.live P.sits D.faults _ _ c.args.keep.now c.args.keep.now c.args.disk.now (λ (e : _). cc) refl refl refl refl refl c.requires.live c.requires.sits
     (λ w bytes told f left. g.met.P.Keep.lasts c.args.keep.now c.args.disk.now c.requires.sound w c.requires.live c.requires.sits bytes told f left)
 
 pub returns-in-WriteFault-clause-keeps : goal.returns-in-WriteFault-clause-keeps
 returns-in-WriteFault-clause-keeps g c =
     let D = g.D.Disk in let P = g.P.Keep in
-    keeps_still D.content D.may_leave D.moment D.left_since g.met.D.Disk.counts_now g.met.D.Disk.only_now P.plan P.voc P.record_of P.question P.writes P.live P.sits D.faults _ c.args.keep.now c.args.keep.now c.args.disk.now (λ (e : _). cc) refl refl refl refl refl c.requires.live c.requires.sits
+    keeps_still D.content D.may_leave D.moment D.left_since g.met.D.Disk.counts_now g.met.D.Disk.only_now P.plan P.voc P.record_of P.question P.writes P.live P.sits D.faults _ _ c.args.keep.now c.args.keep.now c.args.disk.now (λ (e : _). cc) refl refl refl refl refl c.requires.live c.requires.sits
     (λ w bytes told f left. g.met.P.Keep.lasts c.args.keep.now c.args.disk.now c.requires.sound w c.requires.live c.requires.sits bytes told f left)
 
 pub returns-in-Memory-clause-keeps : goal.returns-in-Memory-clause-keeps
 returns-in-Memory-clause-keeps g c =
     let D = g.D.Disk in let P = g.P.Keep in
-    keeps_still D.content D.may_leave D.moment D.left_since g.met.D.Disk.counts_now g.met.D.Disk.only_now P.plan P.voc P.record_of P.question P.writes P.live P.sits D.faults _ c.args.keep.now c.args.keep.now c.args.disk.now (λ (e : _). cc) refl refl refl refl refl c.requires.live c.requires.sits
+    keeps_still D.content D.may_leave D.moment D.left_since g.met.D.Disk.counts_now g.met.D.Disk.only_now P.plan P.voc P.record_of P.question P.writes P.live P.sits D.faults _ _ c.args.keep.now c.args.keep.now c.args.disk.now (λ (e : _). cc) refl refl refl refl refl c.requires.live c.requires.sits
     (λ w bytes told f left. g.met.P.Keep.lasts c.args.keep.now c.args.disk.now c.requires.sound w c.requires.live c.requires.sits bytes told f left)
 
 pub keep_answer-requires-clause-room : goal.keep_answer-requires-clause-room

@@ -1,10 +1,11 @@
-use Rattle.std.proofs.Common.{◌≡◌, ◌∙◌, ◌⊎◌, ℕ, ap, sym, subst, refl, length, List, Option, Some, None, inl, inr, ⊎_elim, Result, Err}
+use Rattle.std.proofs.Common.{◌≡◌, ◌∙◌, ◌⊎◌, ℕ, Bool, ap, sym, subst, refl, length, List, Option, Some, None, inl, inr, ⊎_elim, Result, Err}
 use Rattle.assign.specs.Assignment.{Assignment}
 use Rattle.language.specs.Answers.{standing_on}
-use Rattle.session_store.specs.Keeping.{Keeps, keeps_still, persists_one, fails_one}
+use Rattle.session_store.specs.Keeping.{Keeps, grown_none, grown_one, keeps_still, persists_one, fails_one}
 use Rattle.session_store.specs.Kept.{answer_event}
 use Rattle.session_store.specs.declared.fault.SFault.{SFault}
 use Rattle.session_store.specs.declared.fault.SFault.TheVariants as store
+use Rattle.acq_cli.specs.Run.{answer}
 use Rattle.acq_cli.specs.Due.{ended_by}
 use Rattle.acq_cli.specs.declared.driving.Drove.{Drove}
 use Rattle.acq_cli.specs.declared.driving.Drove.TheVariants as drove
@@ -42,11 +43,12 @@ returns-in-Ok-clause-keeps g c =
       later = c.answer.ensures.later;
       is_live = λ no. c.in-Ok.ensures.still_live;
       cause = λ failed. absurd (not_failed failed);
+      grown = grown_one (P.record_of old) (P.record_of new) (answer q c.args.yes) (c.in-Ok.ensures.ok q c.requires.put.1);
       unwritten = c.answer.ensures.unwritten;
       persists = λ w bytes told no.
           persists_one D.content D.may_leave D.moment D.left_since g.met.D.Disk.counts_now g.met.D.Disk.only_now (P.plan old) (P.voc old) (P.record_of old) (P.record_of new) (answer_event q c.args.yes) c.args.disk.now c.answer.new.disk
           (c.in-Ok.ensures.ok q c.requires.put.1) (c.in-Ok.ensures.written w bytes told) (c.answer.ensures.any_moment w bytes told q c.requires.put.1);
-      fails = λ w bytes told failed. absurd (not_failed failed);
+      fails = λ failed. absurd (not_failed failed);
     }
 
 pub returns-in-Err-clause-kept : goal.returns-in-Err-clause-kept
@@ -64,12 +66,13 @@ returns-in-Err-clause-keeps g c =
     let new = c.answer.new.self in
     let x = c.args.disk.now in
     let y = c.answer.new.disk in
+    let Lost : Assignment → Bool → Type 0 = λ asked said. (P.question old ≡ Some asked) × (said ≡ c.args.yes) in
     ⊎_elim (λ memory.
     let all = c.in-Err.ensures.memory (ap lost memory) in
     let HasFailed : Type 0 = Some c.ended_by.result ≡ Some drove.DiskFault in
-    let As : _ → Type 0 = λ d. Keeps D.content D.may_leave D.moment D.left_since P.plan P.voc P.record_of P.question P.writes P.live P.sits D.faults HasFailed old new x d in
+    let As : _ → Type 0 = λ d. Keeps D.content D.may_leave D.moment D.left_since P.plan P.voc P.record_of P.question P.writes P.live P.sits D.faults HasFailed Lost old new x d in
     subst As (sym all.1)
-    (keeps_still D.content D.may_leave D.moment D.left_since g.met.D.Disk.counts_now g.met.D.Disk.only_now P.plan P.voc P.record_of P.question P.writes P.live P.sits D.faults HasFailed old new x
+    (keeps_still D.content D.may_leave D.moment D.left_since g.met.D.Disk.counts_now g.met.D.Disk.only_now P.plan P.voc P.record_of P.question P.writes P.live P.sits D.faults HasFailed Lost old new x
     (not_memory c.ended_by.result (c.ended_by.ensures ∙ ap ended_by memory)) c.answer.ensures.plan c.answer.ensures.voc c.in-Err.ensures.err c.answer.ensures.writes all.0 c.requires.live
     (subst (P.sits new) all.1 c.answer.ensures.sits) (λ w bytes told f left. g.met.P.Keep.lasts old x c.requires.sound w c.requires.live c.requires.sits bytes told f left)))
     (λ failed.
@@ -82,10 +85,11 @@ returns-in-Err-clause-keeps g c =
       later = c.answer.ensures.later;
       is_live = λ no. absurd (no is);
       cause = λ so. (why.0, why.2);
+      grown = grown_none (P.record_of old) (P.record_of new) c.in-Err.ensures.err;
       unwritten = c.answer.ensures.unwritten;
       persists = λ w bytes told no. absurd (no is);
-      fails = λ w bytes told so.
-          fails_one D.content D.may_leave D.moment D.left_since g.met.D.Disk.counts_now g.met.D.Disk.only_now (P.plan old) (P.voc old) (P.record_of old) (P.record_of new) q c.args.yes (P.question new) x y
-          c.in-Err.ensures.err (c.in-Err.ensures.err_question ∙ c.requires.put.1) (c.answer.ensures.any_moment w bytes told q c.requires.put.1);
+      fails = λ so.
+          fails_one D.content D.may_leave D.moment D.left_since g.met.D.Disk.counts_now g.met.D.Disk.only_now (P.plan old) (P.voc old) (P.record_of old) (P.record_of new) q c.args.yes (P.question new) Lost x y
+          c.in-Err.ensures.err (c.in-Err.ensures.err_question ∙ c.requires.put.1) (c.requires.put.1, refl) (λ bytes told. c.answer.ensures.any_moment why.0 bytes told q c.requires.put.1);
     })
     c.in-Err.ensures.faults

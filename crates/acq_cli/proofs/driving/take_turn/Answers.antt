@@ -1,15 +1,17 @@
-use Rattle.std.proofs.Common.{◌≡◌, ◌∙◌, ℕ, List, length, ap, sym, subst, refl, Option}
+use Rattle.std.proofs.Common.{◌≡◌, ◌∙◌, ℕ, Bool, List, length, ap, sym, subst, refl, Option}
+use Rattle.assign.specs.Assignment.{Assignment}
 use Rattle.assign.specs.Events.{Answer}
 use Rattle.language.specs.Language.{Language}
 use Rattle.language.specs.Answers.{standing_on}
 use Rattle.target_oracle.specs.Turns.{Turns}
 use Rattle.acq_cli.specs.declared.words.Request.{Request}
 use Rattle.acq_cli.specs.Run.{Converged, Collapsed, Undecided}
-use Rattle.acq_cli.specs.Driven.{IsDone, IsCollapsed, IsLeftOpen, RanTo, TellsOpen}
+use Rattle.acq_cli.specs.Driven.{IsDone, IsCollapsed, IsLeftOpen, Loses, RanTo, TellsOpen}
 use Rattle.acq_cli.specs.Places.{place_of, request_with}
 use Rattle.session_store.specs.Keeping.{keeps_still, keeps_then}
 use Rattle.acq_cli.proofs.Standings.{due_reached, marks_after}
 use Rattle.acq_cli.proofs.Nexts.{put_due}
+use Rattle.acq_cli.proofs.Answered.{loses_as}
 use Rattle.acq_cli.proofs.Turning.{ran_end}
 use Rattle.acq_cli.proofs.driving.take_turn.Goals as goal
 
@@ -79,31 +81,47 @@ returns-in-Open-clause-remembers g c none =
 pub returns-in-Converged-clause-keeps : goal.returns-in-Converged-clause-keeps
 returns-in-Converged-clause-keeps g c =
     let D = g.D.Disk in let P = g.P.Keep in
-    keeps_still D.content D.may_leave D.moment D.left_since g.met.D.Disk.counts_now g.met.D.Disk.only_now P.plan P.voc P.record_of P.question P.writes P.live P.sits D.faults _ c.args.keep.now c.put_next.new.keep c.args.disk.now (λ (e : _). cc) c.put_next.ensures.plan c.put_next.ensures.voc c.put_next.ensures.events c.put_next.ensures.writes c.put_next.ensures.live
+    keeps_still D.content D.may_leave D.moment D.left_since g.met.D.Disk.counts_now g.met.D.Disk.only_now P.plan P.voc P.record_of P.question P.writes P.live P.sits D.faults _ _ c.args.keep.now c.put_next.new.keep c.args.disk.now (λ (e : _). cc) c.put_next.ensures.plan c.put_next.ensures.voc c.put_next.ensures.events c.put_next.ensures.writes c.put_next.ensures.live
     c.requires.live (c.put_next.ensures.sits c.args.disk.now c.requires.sits)
     (λ w bytes told f left. g.met.P.Keep.lasts c.args.keep.now c.args.disk.now c.requires.sound w c.requires.live c.requires.sits bytes told f left)
 
 pub returns-in-Collapsed-clause-keeps : goal.returns-in-Collapsed-clause-keeps
 returns-in-Collapsed-clause-keeps g c =
     let D = g.D.Disk in let P = g.P.Keep in
-    keeps_still D.content D.may_leave D.moment D.left_since g.met.D.Disk.counts_now g.met.D.Disk.only_now P.plan P.voc P.record_of P.question P.writes P.live P.sits D.faults _ c.args.keep.now c.put_next.new.keep c.args.disk.now (λ (e : _). cc) c.put_next.ensures.plan c.put_next.ensures.voc c.put_next.ensures.events c.put_next.ensures.writes c.put_next.ensures.live
+    keeps_still D.content D.may_leave D.moment D.left_since g.met.D.Disk.counts_now g.met.D.Disk.only_now P.plan P.voc P.record_of P.question P.writes P.live P.sits D.faults _ _ c.args.keep.now c.put_next.new.keep c.args.disk.now (λ (e : _). cc) c.put_next.ensures.plan c.put_next.ensures.voc c.put_next.ensures.events c.put_next.ensures.writes c.put_next.ensures.live
     c.requires.live (c.put_next.ensures.sits c.args.disk.now c.requires.sits)
     (λ w bytes told f left. g.met.P.Keep.lasts c.args.keep.now c.args.disk.now c.requires.sound w c.requires.live c.requires.sits bytes told f left)
 
 pub returns-in-Undecided-clause-keeps : goal.returns-in-Undecided-clause-keeps
 returns-in-Undecided-clause-keeps g c =
     let D = g.D.Disk in let P = g.P.Keep in
-    keeps_still D.content D.may_leave D.moment D.left_since g.met.D.Disk.counts_now g.met.D.Disk.only_now P.plan P.voc P.record_of P.question P.writes P.live P.sits D.faults _ c.args.keep.now c.put_next.new.keep c.args.disk.now (λ (e : _). cc) c.put_next.ensures.plan c.put_next.ensures.voc c.put_next.ensures.events c.put_next.ensures.writes c.put_next.ensures.live
+    keeps_still D.content D.may_leave D.moment D.left_since g.met.D.Disk.counts_now g.met.D.Disk.only_now P.plan P.voc P.record_of P.question P.writes P.live P.sits D.faults _ _ c.args.keep.now c.put_next.new.keep c.args.disk.now (λ (e : _). cc) c.put_next.ensures.plan c.put_next.ensures.voc c.put_next.ensures.events c.put_next.ensures.writes c.put_next.ensures.live
     c.requires.live (c.put_next.ensures.sits c.args.disk.now c.requires.sits)
     (λ w bytes told f left. g.met.P.Keep.lasts c.args.keep.now c.args.disk.now c.requires.sound w c.requires.live c.requires.sits bytes told f left)
 
 pub returns-in-Open-clause-keeps : goal.returns-in-Open-clause-keeps
 returns-in-Open-clause-keeps g c =
     let D = g.D.Disk in let P = g.P.Keep in
-    keeps_then D.content D.may_leave D.moment D.left_since g.met.D.Disk.counts_now g.met.D.Disk.only_now P.plan P.voc P.record_of P.question P.writes P.live P.sits D.faults _ c.args.keep.now c.put_next.new.keep c.hear_answer.new.keep c.args.disk.now c.args.disk.now c.hear_answer.new.disk c.put_next.ensures.plan
-    (keeps_still D.content D.may_leave D.moment D.left_since g.met.D.Disk.counts_now g.met.D.Disk.only_now P.plan P.voc P.record_of P.question P.writes P.live P.sits D.faults ⊥ c.args.keep.now c.put_next.new.keep c.args.disk.now (λ e. e) c.put_next.ensures.plan c.put_next.ensures.voc c.put_next.ensures.events c.put_next.ensures.writes c.put_next.ensures.live
+    let one = c.args.keep.now in
+    let two = c.put_next.new.keep in
+    let three = c.hear_answer.new.keep in
+    let l : Language = P.lang one in
+    let request : Request = request_with (P.plan one) c.args.budget in
+    let t : List Answer = standing_on l (P.record_of one) in
+    let turns : Turns = g.T.Teacher.turn c.args.teacher.now in
+    let left : Option (List ℕ) = g.S.Source.left c.args.source.now in
+    let written : Option (List ℕ) = g.K.Sink.written c.args.sink.now in
+    let left' : Option (List ℕ) = g.S.Source.left c.hear_answer.new.source in
+    let written' : Option (List ℕ) = g.K.Sink.written c.hear_answer.new.sink in
+    let due = put_due l request t (P.question two) c.put_next.result c.in-Open.question c.put_next.ensures.put c.in-Open.is in
+    let Lost : Assignment → Bool → Type 0 = Loses turns l request (place_of t left written) (place_of (standing_on l (P.record_of three)) left' written') in
+    keeps_then D.content D.may_leave D.moment D.left_since g.met.D.Disk.counts_now g.met.D.Disk.only_now P.plan P.voc P.record_of P.question P.writes P.live P.sits D.faults _ _ Lost one two three c.args.disk.now c.args.disk.now c.hear_answer.new.disk c.put_next.ensures.plan
+    (λ asked said lost.
+    loses_as turns l (P.lang two) (P.plan one) (P.plan two) c.args.budget (P.record_of one) (P.record_of two) (P.record_of three) left written left' written' c.in-Open.question asked said
+    c.put_next.ensures.lang c.put_next.ensures.plan c.put_next.ensures.events lost due)
+    (keeps_still D.content D.may_leave D.moment D.left_since g.met.D.Disk.counts_now g.met.D.Disk.only_now P.plan P.voc P.record_of P.question P.writes P.live P.sits D.faults ⊥ (λ q r. ⊥) one two c.args.disk.now (λ e. e) c.put_next.ensures.plan c.put_next.ensures.voc c.put_next.ensures.events c.put_next.ensures.writes c.put_next.ensures.live
     c.requires.live (c.put_next.ensures.sits c.args.disk.now c.requires.sits)
-    (λ w bytes told f left. g.met.P.Keep.lasts c.args.keep.now c.args.disk.now c.requires.sound w c.requires.live c.requires.sits bytes told f left))
+    (λ w bytes told f left. g.met.P.Keep.lasts one c.args.disk.now c.requires.sound w c.requires.live c.requires.sits bytes told f left))
     c.hear_answer.ensures.keeps
 
 pub hear_answer-requires-clause-live : goal.hear_answer-requires-clause-live

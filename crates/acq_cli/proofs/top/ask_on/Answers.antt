@@ -1,6 +1,7 @@
-use Rattle.std.proofs.Common.{◌≡◌, ◌∙◌, List, Option, Result, Ok, Err, sym, ap, subst, refl}
+use Rattle.std.proofs.Common.{◌≡◌, ◌∙◌, Bool, List, Option, Result, Ok, Err, sym, ap, subst, refl}
 use Rattle.acq_io.specs.declared.streams.Put.{Put}
 use Rattle.acq_io.specs.declared.streams.Put.TheVariants as puts
+use Rattle.assign.specs.Assignment.{Assignment}
 use Rattle.assign.specs.Events.{Answer}
 use Rattle.assign.specs.declared.events.Event.{Event}
 use Rattle.language.specs.Language.{Language}
@@ -8,13 +9,15 @@ use Rattle.language.specs.Answers.{standing_on}
 use Rattle.query_gen.specs.Marks.{IsMadeFor}
 use Rattle.session_core.specs.Standing.{Stands, knowledge_of}
 use Rattle.session_store.specs.Keeping.{keeps_still, keeps_as}
-use Rattle.acq_cli.specs.Places.{request_with}
+use Rattle.target_oracle.specs.Lines.{line_turn}
+use Rattle.acq_cli.specs.Driven.{Loses}
+use Rattle.acq_cli.specs.Places.{place_of, request_with}
 use Rattle.acq_cli.specs.declared.driving.Drove.TheVariants as drove
 use Rattle.acq_cli.specs.declared.ending.Ending.{Ending}
 use Rattle.acq_cli.specs.declared.ending.Ending.TheVariants as ending
 use Rattle.acq_cli.proofs.Parts.{begun_part}
 use Rattle.acq_cli.proofs.Standings.{at_turn}
-use Rattle.acq_cli.proofs.Tries.{tried, broken, read_of, disk_of, disk_told, no_fault}
+use Rattle.acq_cli.proofs.Tries.{tried, broken, said, lost_then, read_of, disk_of, disk_told, no_fault}
 use Rattle.acq_cli.proofs.top.ask_on.Goals as goal
 
 pub returns-clause-tries : goal.returns-clause-tries
@@ -75,19 +78,36 @@ returns-clause-keeps g c =
     let P = g.P.Keep in
     let old = c.args.keep.now in
     let new = c.drive-drove.new.keep in
+    let l = P.lang old in
+    let p = P.plan old in
+    let request = request_with p c.args.budget in
     let k = knowledge_of c.session-session.result.now in
     let later : List Event = P.record_of new in
-    let same : k.lang ≡ P.lang old = c.session-session.ensures.lang ∙ c.drive-drove.ensures.lang in
-    let again : k.plan ≡ P.plan old = c.session-session.ensures.plan ∙ c.drive-drove.ensures.plan in
+    let start = standing_on l (P.record_of old) in
+    let left = g.S.Source.left c.args.input.now in
+    let written = g.K.Sink.written c.args.out.now in
+    let left' = g.S.Source.left c.drive-drove.new.source in
+    let middle = g.K.Sink.written c.drive-drove.new.sink in
+    let written' = g.K.Sink.written c.say.new.out in
+    let same : k.lang ≡ l = c.session-session.ensures.lang ∙ c.drive-drove.ensures.lang in
+    let again : k.plan ≡ p = c.session-session.ensures.plan ∙ c.drive-drove.ensures.plan in
     let Here : Language → Type 0 = λ m. Stands c.session-session.result.now (standing_on m later) in
     let stands : Here k.lang = subst Here (sym c.session-session.ensures.lang) c.session-session.ensures.stands in
-    keeps_as D.content D.may_leave D.moment D.left_since g.met.D.Disk.counts_now g.met.D.Disk.only_now P.plan P.voc P.record_of P.question P.writes P.live P.sits D.faults (c.drive-drove.result ≡ drove.DiskFault) (c.say.result ≡ Ok ending.DiskFault) old new c.args.disk.now c.drive-drove.new.disk
-    (disk_of (P.lang old) k.lang (P.plan old) k.plan c.args.budget (standing_on (P.lang old) (P.record_of old)) later (g.S.Source.left c.args.input.now) (g.K.Sink.written c.args.out.now)
-    (g.S.Source.left c.drive-drove.new.source) (g.K.Sink.written c.drive-drove.new.sink) (g.K.Sink.written c.say.new.out) c.drive-drove.new.screen c.drive-drove.result c.say.result same again
-    c.drive-drove.ensures.ends c.drive-drove.ensures.open (c.say.ensures.says c.args.budget (standing_on k.lang later) stands) (c.say.ensures.part c.args.budget (standing_on k.lang later) stands))
-    (disk_told (P.lang old) k.lang (P.plan old) k.plan c.args.budget (standing_on (P.lang old) (P.record_of old)) later (g.S.Source.left c.args.input.now) (g.K.Sink.written c.args.out.now)
-    (g.S.Source.left c.drive-drove.new.source) (g.K.Sink.written c.drive-drove.new.sink) (g.K.Sink.written c.say.new.out) c.drive-drove.new.screen c.drive-drove.result c.say.result same again
-    c.drive-drove.ensures.ends c.drive-drove.ensures.open (c.say.ensures.says c.args.budget (standing_on k.lang later) stands) (c.say.ensures.part c.args.budget (standing_on k.lang later) stands))
+    let says = c.say.ensures.says c.args.budget (standing_on k.lang later) stands in
+    let parts = c.say.ensures.part c.args.budget (standing_on k.lang later) stands in
+    let Failed : Type 0 = c.drive-drove.result ≡ drove.DiskFault in
+    let Ended : Type 0 = c.say.result ≡ Ok ending.DiskFault in
+    let was : Ended → Failed =
+    disk_of l k.lang p k.plan c.args.budget start later left written left' middle written' c.drive-drove.new.screen c.drive-drove.result c.say.result same again c.drive-drove.ensures.ends c.drive-drove.ensures.open says parts in
+    let Lost : Assignment → Bool → Type 0 = Loses line_turn l request (place_of start left written) (place_of (standing_on l later) left' middle) in
+    let Then : Assignment → Bool → Type 0 = Loses line_turn l request (place_of start left written) (place_of (standing_on l later) left' written') in
+    keeps_as D.content D.may_leave D.moment D.left_since g.met.D.Disk.counts_now g.met.D.Disk.only_now P.plan P.voc P.record_of P.question P.writes P.live P.sits D.faults Failed Ended Lost Then old new c.args.disk.now c.drive-drove.new.disk
+    was
+    (disk_told l k.lang p k.plan c.args.budget start later left written left' middle written' c.drive-drove.new.screen c.drive-drove.result c.say.result same again c.drive-drove.ensures.ends c.drive-drove.ensures.open says parts)
+    (λ ended question reply lost.
+    lost_then l request (place_of start left written) (standing_on l later) left' middle written' c.drive-drove.result c.say.result
+    (said l k.lang p k.plan c.args.budget start later left written left' middle written' c.drive-drove.new.screen c.drive-drove.result c.say.result same again c.drive-drove.ensures.ends c.drive-drove.ensures.open says parts)
+    (was ended) ended question reply lost)
     c.drive-drove.ensures.keeps
 
 pub say-requires : goal.say-requires
@@ -112,7 +132,7 @@ returns-in_default-clause-part g c =
 pub returns-in_default-clause-keeps : goal.returns-in_default-clause-keeps
 returns-in_default-clause-keeps g c =
     let D = g.D.Disk in let P = g.P.Keep in
-    keeps_still D.content D.may_leave D.moment D.left_since g.met.D.Disk.counts_now g.met.D.Disk.only_now P.plan P.voc P.record_of P.question P.writes P.live P.sits D.faults _ c.args.keep.now c.args.keep.now c.args.disk.now not_okay refl refl refl refl refl c.requires.live c.requires.sits
+    keeps_still D.content D.may_leave D.moment D.left_since g.met.D.Disk.counts_now g.met.D.Disk.only_now P.plan P.voc P.record_of P.question P.writes P.live P.sits D.faults _ _ c.args.keep.now c.args.keep.now c.args.disk.now not_okay refl refl refl refl refl c.requires.live c.requires.sits
     (λ w bytes told f left. g.met.P.Keep.lasts c.args.keep.now c.args.disk.now c.requires.sound w c.requires.live c.requires.sits bytes told f left)
 
 pub returns-in_default-new-clause-part : goal.returns-in_default-new-clause-part
@@ -128,5 +148,5 @@ returns-in_default-new-clause-part g c =
 pub returns-in_default-new-clause-keeps : goal.returns-in_default-new-clause-keeps
 returns-in_default-new-clause-keeps g c =
     let D = g.D.Disk in let P = g.P.Keep in
-    keeps_still D.content D.may_leave D.moment D.left_since g.met.D.Disk.counts_now g.met.D.Disk.only_now P.plan P.voc P.record_of P.question P.writes P.live P.sits D.faults _ c.args.keep.now c.args.keep.now c.args.disk.now not_okay refl refl refl refl refl c.requires.live c.requires.sits
+    keeps_still D.content D.may_leave D.moment D.left_since g.met.D.Disk.counts_now g.met.D.Disk.only_now P.plan P.voc P.record_of P.question P.writes P.live P.sits D.faults _ _ c.args.keep.now c.args.keep.now c.args.disk.now not_okay refl refl refl refl refl c.requires.live c.requires.sits
     (λ w bytes told f left. g.met.P.Keep.lasts c.args.keep.now c.args.disk.now c.requires.sound w c.requires.live c.requires.sits bytes told f left)
