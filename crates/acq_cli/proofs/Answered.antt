@@ -8,13 +8,15 @@ use Rattle.assign.specs.declared.events.Plan.{Plan}
 use Rattle.language.specs.Language.{Language, IsLanguage}
 use Rattle.language.specs.Answers.{standing_on}
 use Rattle.target_oracle.specs.Turns.{Turns, Said}
-use Rattle.acq_cli.specs.Run.{answer}
+use Rattle.acq_cli.specs.Run.{Puts, next_after, answer}
 use Rattle.acq_cli.specs.declared.words.Request.{Request}
 use Rattle.session_store.specs.Keeping.{both_as}
 use Rattle.acq_cli.specs.Driven.{StepsTo, CutOff, Loses, Drives}
-use Rattle.acq_cli.specs.Due.{IsDue, IsOneMore, AnswerKept}
+use Rattle.acq_cli.specs.Added.{IsAdded}
+use Rattle.acq_cli.specs.Due.{IsDue, IsOneMore, AnswerKept, EventKept}
 use Rattle.acq_cli.specs.Places.{place_of, request_with}
 use Rattle.acq_cli.specs.declared.driving.Drove.{Drove}
+use Rattle.acq_cli.proofs.Added.{added_none, added_one}
 use Rattle.acq_cli.proofs.Running.{IsReached}
 use Rattle.acq_cli.proofs.Standings.{run_laws}
 use Rattle.acq_cli.proofs.Turning.{ToldSo, front_of_turn, step_said, cut_turn, lost_turn}
@@ -42,7 +44,7 @@ module _ (turns : Turns) (l : Language) (request : Request) (t after : List Answ
       (front_of_turn turns l (length t + 1) q (place_of t left written) (place_of after left' written') (Said said) told) in
       let P : Drove → Type 0 = Drives turns l request (place_of t left written) (place_of after left' written') in
       ⊎_elim (λ memory. subst P (sym memory) cut)
-      (λ failed. subst P (sym failed) (cut, (q, said, lost_turn turns l request q said (place_of t left written) (place_of after left' written') due.puts kept.1 told))) kept.0
+      (λ failed. subst P (sym failed) (cut, (q, said, lost_turn turns l request q said (place_of t left written) (place_of after left' written') due.puts due.fits kept.1 told))) kept.0
 
   -- the answer that is lost where the disk failed
   pub loses : (end : Option Drove) (how : Drove) → IsDue l request t q → AnswerKept said put t after end → end ≡ Some how →
@@ -53,7 +55,14 @@ module _ (turns : Turns) (l : Language) (request : Request) (t after : List Answ
       let same : Some q ≡ Some asked = sym open_now ∙ lost.0 in
       let here : q ≡ asked = cc in
       let P : Assignment → Bool → Type 0 = λ x r. Loses turns l request (place_of t left written) (place_of after left' written') x r in
-      both_as P q asked said reply here (sym lost.1) (lost_turn turns l request q said (place_of t left written) (place_of after left' written') due.puts kept.1 told)
+      both_as P q asked said reply here (sym lost.1) (lost_turn turns l request q said (place_of t left written) (place_of after left' written') due.puts due.fits kept.1 told)
+
+  -- what is kept of it
+  pub adds : (end : Option Drove) (before later : List Event) → t ≡ standing_on l before → IsLanguage l → IsDue l request t q → put ≡ Some q → EventKept said put before later end → IsAdded l request.plan before later
+  adds None before later stand lawful due is kept =
+      let Due : List Answer → Type 0 = λ x. next_after l request x ≡ Some (Puts q) in
+      added_one run_laws l lawful request before later q said due.fits.size (subst Due stand due.puts) (kept q is)
+  adds (Some end) before later stand lawful due is kept = added_none l request.plan before later kept
 
 -- the same, by the language, plan and events that are the same after the question was put
 pub loses_as : (turns : Turns) (l m : Language) (p r : Plan) (budget : ℕ) (es fs later : List Event) (left written left' written' : Option (List ℕ)) (q asked : Assignment) (said : Bool) → m ≡ l → r ≡ p → fs ≡ es →

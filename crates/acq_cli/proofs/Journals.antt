@@ -12,11 +12,11 @@ use Rattle.assign.specs.declared.events.Event.{Event}
 use Rattle.assign.specs.declared.events.Plan.{Plan}
 use Rattle.disk_model.specs.Disk.{LeavesOnly}
 use Rattle.disk_model.specs.Moments.{joined}
-use Rattle.language.specs.Language.{Language}
+use Rattle.language.specs.Language.{Language, IsLanguage}
 use Rattle.language.specs.Answers.{standing_on}
 use Rattle.session_store.specs.Kept.{answer_event}
 use Rattle.session_store.specs.Left.{OpensWith, OpensWithin, SaysSession, LeavesNow}
-use Rattle.session_store.specs.Keeping.{IsGrown, Persists, FailsWith}
+use Rattle.session_store.specs.Keeping.{Persists, FailsWith}
 use Rattle.session_store.specs.Replay.{HavePlaces}
 use Rattle.session_store.specs.Store.{plan_of, voc_of, events_of, IsThere, opens_there}
 use Rattle.session_store.specs.declared.store.Store.{Store}
@@ -25,6 +25,9 @@ use Rattle.session_store.specs.declared.fault.SFault.TheVariants as store
 use Rattle.voc_read.specs.Vocabulary.{IsVocabulary}
 use Rattle.acq_cli.specs.Breaks.{BreaksRun}
 use Rattle.target_oracle.specs.Lines.{line_turn}
+use Rattle.acq_cli.specs.Added.{IsAdded}
+use Rattle.acq_cli.proofs.Added.{placed_event}
+use Rattle.acq_cli.proofs.Standings.{run_laws}
 use Rattle.acq_cli.specs.Driven.{Loses}
 use Rattle.acq_cli.specs.Places.{place_of, request_with}
 use Rattle.acq_cli.specs.Program.{Tries}
@@ -69,14 +72,14 @@ disk_failed (Ok end) = ⊎_elim (λ is. inl (ap okay is)) (λ other. inr (λ h. 
 
 module _ {D : Type 0} (content : D → Option (List ℕ)) (may_leave : D → List ℕ → Type 0) (moment : D → ℕ) (left_since : D → ℕ → List ℕ → Type 0) where
   pub goes_on : (budget : ℕ) (bytes : List ℕ) (left written left' written' : Option (List ℕ)) (first old new : D) (got : Result Ending Put) (plan : Plan) (voc : List ℕ) (events later : List Event) (open_then : Option Assignment) (lang : Language) →
-      SaysSession bytes plan voc events → IsVocabulary voc lang → HavePlaces lang plan events → content old ≡ Some bytes → LeavesOnly moment left_since first old (may_leave first) → IsGrown events later →
+      SaysSession bytes plan voc events → IsVocabulary voc lang → HavePlaces lang plan events → content old ≡ Some bytes → LeavesOnly moment left_since first old (may_leave first) → IsLanguage lang → IsAdded lang plan events later →
       ((IsDisk got → ⊥) → Persists content may_leave moment left_since plan voc events later old new) →
       (IsDisk got → FailsWith content may_leave moment left_since plan voc events later open_then
       (Loses line_turn lang (request_with plan budget) (place_of (standing_on lang events) left written) (place_of (standing_on lang later) left' written')) old new) →
       IfOk got (Tries lang (request_with plan budget) (standing_on lang events) (standing_on lang later) left written left' written') →
       OnErr got (BreaksRun lang (request_with plan budget) (standing_on lang events) (standing_on lang later) left written written') →
       GoesOn content may_leave moment left_since budget bytes left written left' written' first new got
-  goes_on budget bytes left written left' written' first old new got plan voc events later open_then lang says read places told opening grown persists fails tries part =
+  goes_on budget bytes left written left' written' first old new got plan voc events later open_then lang says read places told opening lawful added persists fails tries part =
       ⊎_elim
       (λ is.
       let f = fails is in
@@ -90,12 +93,13 @@ module _ {D : Type 0} (content : D → Option (List ℕ)) (may_leave : D → Lis
         read = read;
         places = places;
         later = later;
-        grown = grown;
+        added = added;
         tries = tries;
         part = part;
         last = last;
         none_lost = λ no. absurd (no is);
         one_lost = λ so. (f.question, f.reply, refl, f.lost);
+        all_places = placed_event run_laws lang lawful (request_with plan budget) later f.question f.reply f.lost.fits.size f.lost.puts (added.places places);
         any_moment = joined moment left_since first old new (may_leave first) (OpensWithin plan voc events (later ++ last)) (λ c. may_leave first c ⊎ OpensWithin plan voc events (later ++ last) c) opening (f.any_moment bytes told)
             (λ c was. inl was) (λ c opens. inr opens);
         now = f.now bytes told;
@@ -113,12 +117,13 @@ module _ {D : Type 0} (content : D → Option (List ℕ)) (may_leave : D → Lis
         read = read;
         places = places;
         later = later;
-        grown = grown;
+        added = added;
         tries = tries;
         part = part;
         last = [];
         none_lost = λ so. refl;
         one_lost = λ is. absurd (no is);
+        all_places = let Placed : List Event → Type 0 = λ x. HavePlaces lang plan x in subst Placed (sym same) (added.places places);
         any_moment = joined moment left_since first old new (may_leave first) (OpensWithin plan voc events (later ++ [])) (λ c. may_leave first c ⊎ OpensWithin plan voc events (later ++ []) c) opening (subst Within (sym same) p.any_moment)
             (λ c was. inl was) (λ c opens. inr opens);
         now = λ c left. inl (p.now.each c left);

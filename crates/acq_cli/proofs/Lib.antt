@@ -2,6 +2,7 @@ pub mod Questions
 pub mod Running
 pub mod Turning
 pub mod Standings
+pub mod Added
 pub mod Answered
 pub mod Nexts
 pub mod OpenCandidates

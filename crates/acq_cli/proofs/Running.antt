@@ -96,20 +96,18 @@ idle_place laws l lawful Scopes budget t network end q reply h = laws.places.sco
 idle_place laws l lawful Quacq budget t network end q reply h = laws.places.put l Quacq t network end q reply (laws.lawful l budget t network q lawful (searched_is _ q h)).quacq
 idle_place laws l lawful Multi budget t network end q reply h = laws.places.put l Multi t network end q reply (laws.lawful l budget t network q lawful (searched_is _ q h)).multi
 
+pub step_at : RunLaws → (l : Language) → IsLanguage l → (request : Request) (t : List Answer) (state : State) (q : Assignment) (reply : Bool) →
+    state_after l request.plan t ≡ At state → next_at l request t state ≡ Puts q → (next : State) × (step l request.plan t (answer q reply) state ≡ Some next)
+step_at laws l lawful request t (Idle network end) q reply at h = idle_place laws l lawful request.plan request.budget t network end q reply h
+step_at laws l lawful request t (Halving e set replies network walk) q reply at h = laws.places.opened l request.plan t (Halving e set replies network walk) q reply (puts_is Collapsed _ q h)
+step_at laws l lawful request t (Choosing s choices network walk) q reply at h = laws.places.opened l request.plan t (Choosing s choices network walk) q reply (puts_is Collapsed _ q h)
+step_at laws l lawful request t (Walking set walk network) q reply at h = laws.places.opened l request.plan t (Walking set walk network) q reply (puts_is Collapsed _ q h)
+step_at laws l lawful request t (Over network) q reply at h = cc
+
 place_at : RunLaws → (l : Language) → IsLanguage l → (request : Request) (t : List Answer) (state : State) (q : Assignment) (reply : Bool) →
     state_after l request.plan t ≡ At state → next_at l request t state ≡ Puts q → IsReached l request.plan (t ++ answer q reply ∷ [])
-place_at laws l lawful request t (Idle network end) q reply at h =
-    let next = idle_place laws l lawful request.plan request.budget t network end q reply h in (next.0, laws.more l request.plan t (answer q reply) (Idle network end) next.0 at next.1)
-place_at laws l lawful request t (Halving e set replies network walk) q reply at h =
-    let next = laws.places.opened l request.plan t (Halving e set replies network walk) q reply (puts_is Collapsed _ q h) in
-    (next.0, laws.more l request.plan t (answer q reply) (Halving e set replies network walk) next.0 at next.1)
-place_at laws l lawful request t (Choosing s choices network walk) q reply at h =
-    let next = laws.places.opened l request.plan t (Choosing s choices network walk) q reply (puts_is Collapsed _ q h) in
-    (next.0, laws.more l request.plan t (answer q reply) (Choosing s choices network walk) next.0 at next.1)
-place_at laws l lawful request t (Walking set walk network) q reply at h =
-    let next = laws.places.opened l request.plan t (Walking set walk network) q reply (puts_is Collapsed _ q h) in
-    (next.0, laws.more l request.plan t (answer q reply) (Walking set walk network) next.0 at next.1)
-place_at laws l lawful request t (Over network) q reply at h = cc
+place_at laws l lawful request t state q reply at h =
+    let next = step_at laws l lawful request t state q reply at h in (next.0, laws.more l request.plan t (answer q reply) state next.0 at next.1)
 
 pub placed : RunLaws → (l : Language) → IsLanguage l → (request : Request) (t : List Answer) (q : Assignment) (reply : Bool) →
     IsReached l request.plan t → next_after l request t ≡ Some (Puts q) → IsReached l request.plan (t ++ answer q reply ∷ [])

@@ -3,7 +3,7 @@ use Rattle.std.proofs.Common.{◌≡◌, ℕ, ◌+◌, List, [], ◌∷◌, ◌+
 use Rattle.std.proofs.lemmas.List.{append-nil}
 use Rattle.assign.specs.Assignment.{Assignment}
 use Rattle.assign.specs.Events.{Answer}
-use Rattle.language.specs.Language.{Language, IsLanguage}
+use Rattle.language.specs.Language.{Language, IsLanguage, IsQuestion}
 use Rattle.target_oracle.specs.Turns.{Turns, Reply, Said}
 use Rattle.target_oracle.specs.Tells.{Turn, Front}
 use Rattle.acq_cli.specs.Run.{Closing, Converged, Collapsed, Undecided, Suspended, LineTooLong, Unreadable, Runs, Puts, Ends, next_after, after_text, answer, ended}
@@ -72,6 +72,7 @@ steps_cut turns l request a b c first second bytes before left written =
 pub steps_loses : (turns : Turns) (l : Language) (request : Request) (a b c : Place) (question : Assignment) (reply : Bool) → StepsTo turns l request a b → Loses turns l request b c question reply → Loses turns l request a c question reply
 steps_loses turns l request a b c question reply first second = record {
   puts = second.puts;
+  fits = second.fits;
   told = λ bytes before left written.
       let f = first bytes before left written in
       let s = second.told f.rest (before ++ f.done) f.left f.written in
@@ -172,12 +173,13 @@ cut_turn laws turns l request lawful q a b reached due same told bytes before le
     }
 
 -- a turn whose answer wasn't kept
-pub lost_turn : (turns : Turns) (l : Language) (request : Request) (q : Assignment) (said : Bool) (a b : Place) → next_after l request a.answers ≡ Some (Puts q) → b.answers ≡ a.answers →
+pub lost_turn : (turns : Turns) (l : Language) (request : Request) (q : Assignment) (said : Bool) (a b : Place) → next_after l request a.answers ≡ Some (Puts q) → IsQuestion l q → b.answers ≡ a.answers →
     ToldSo turns l (length a.answers + 1) q a b (Said said) → Loses turns l request a b q said
-lost_turn turns l request q said a b due same told =
+lost_turn turns l request q said a b due fits same told =
     let Due : List Answer → Type 0 = λ x. next_after l request x ≡ Some (Puts q) in
     record {
       puts = subst Due (sym same) due;
+      fits = fits;
       told = λ bytes before left written.
           let Number : List Answer → Type 0 = λ x. Turn (turns l (length x + 1) q bytes) before b.left b.written (Said said) in
           let here : Number b.answers = subst Number (sym same) (told bytes before left written) in

@@ -5,7 +5,7 @@ use Rattle.assign.specs.Events.{Answer}
 use Rattle.assign.specs.declared.events.Plan.{Plan}
 use Rattle.assign.specs.declared.events.Plan.TheVariants.{Scopes, Multi}
 use Rattle.language.specs.declared.candidates.Candidate.{Candidate}
-use Rattle.language.specs.Language.{Language, HasSameSolutions, IsCandidate}
+use Rattle.language.specs.Language.{Language, HasSameSolutions, IsCandidate, IsQuestion}
 use Rattle.language.specs.Answers.{IsNetwork, IsCovered, IsConverged, NoneAgrees, kept}
 use Rattle.fd_solver.specs.Outcomes.{outcome_of_candidate}
 use Rattle.query_gen.specs.Questions.{is_among, is_spent}
@@ -74,6 +74,7 @@ pub record IsUnkept (turns : Turns) (l : Language) (request : Request) (question
 -- This reply to the question that comes next was lost.
 pub record Loses (turns : Turns) (l : Language) (request : Request) (old new : Place) (question : Assignment) (reply : Bool) : Type 0 where
   pub puts : next_after l request new.answers ≡ Some (Puts question)
+  pub fits : IsQuestion l question
   -- where source and sink tell
   pub told : (bytes before : List ℕ) → old.left ≡ Some bytes → old.written ≡ Some before → IsUnkept turns l request question reply bytes before old new
 

@@ -2,8 +2,9 @@
 use Rattle.std.specs.Prelude.{◌≡◌, ◌⊎◌, Bool, List, [], ◌∷◌, ◌++◌, Option, Some, None}
 use Rattle.assign.specs.Assignment.{Assignment}
 use Rattle.assign.specs.Events.{Answer}
+use Rattle.assign.specs.declared.events.Event.{Event}
 use Rattle.language.specs.Language.{Language, IsQuestion}
-use Rattle.session_store.specs.Kept.{IsLawfulAfter}
+use Rattle.session_store.specs.Kept.{IsLawfulAfter, answer_event}
 use Rattle.session_store.specs.declared.fault.SFault.{SFault}
 use Rattle.session_store.specs.declared.fault.SFault.TheVariants as store
 use Rattle.acq_cli.specs.Run.{Puts, Ends, Collapsed, next_after, answer}
@@ -59,3 +60,8 @@ ended_by (store.Stray number) = drove.DiskFault
 abbrev pub AnswerKept : Bool → Option Assignment → List Answer → List Answer → Option Drove → Type 0
 AnswerKept said put old new None = (q : Assignment) → put ≡ Some q → new ≡ old ++ answer q said ∷ []
 AnswerKept said put old new (Some end) = ((end ≡ drove.Memory) ⊎ (end ≡ drove.DiskFault)) × (new ≡ old)
+
+-- its event was added, or none was
+abbrev pub EventKept : Bool → Option Assignment → List Event → List Event → Option Drove → Type 0
+EventKept said put old new None = (q : Assignment) → put ≡ Some q → new ≡ old ++ answer_event q said ∷ []
+EventKept said put old new (Some end) = new ≡ old

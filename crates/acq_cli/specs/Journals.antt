@@ -18,7 +18,6 @@ use Rattle.disk_model.specs.Disk.{LeavesOnly}
 use Rattle.language.specs.Language.{Language, variable_count, candidates}
 use Rattle.language.specs.Answers.{standing_on}
 use Rattle.session_store.specs.Kept.{answer_event}
-use Rattle.session_store.specs.Keeping.{IsGrown}
 use Rattle.session_store.specs.Left.{OpensWith, OpensWithin, SaysSession, LeavesNow}
 use Rattle.session_store.specs.Opening.{NotOpened, NotMade}
 use Rattle.session_store.specs.Replay.{HavePlaces}
@@ -28,6 +27,7 @@ use Rattle.voc_read.specs.FaultTexts.{fault_text}
 use Rattle.voc_read.specs.Vocabulary.{IsVocabulary}
 use Rattle.target_oracle.specs.Lines.{line_turn}
 use Rattle.acq_cli.specs.Breaks.{BreaksRun}
+use Rattle.acq_cli.specs.Added.{IsAdded}
 use Rattle.acq_cli.specs.Driven.{Loses}
 use Rattle.acq_cli.specs.Places.{place_of, request_with}
 use Rattle.acq_cli.specs.Program.{Tries}
@@ -119,7 +119,7 @@ module _ {D : Type 0} (content : D → Option (List ℕ)) (may_leave : D → Lis
     pub read : IsVocabulary voc lang
     pub places : HavePlaces lang plan events
     pub later : List Event
-    pub grown : IsGrown events later
+    pub added : IsAdded lang plan events later
     pub tries : IfOk got (Tries lang (request_with plan budget) (standing_on lang events) (standing_on lang later) left written left' written')
     pub part : OnErr got (BreaksRun lang (request_with plan budget) (standing_on lang events) (standing_on lang later) left written written')
     -- the answer whose adding failed: that to the question that came next
@@ -127,6 +127,8 @@ module _ {D : Type 0} (content : D → Option (List ℕ)) (may_leave : D → Lis
     pub none_lost : (got ≡ Ok ending.DiskFault → ⊥) → last ≡ []
     pub one_lost : got ≡ Ok ending.DiskFault → (question : Assignment) × (reply : Bool) × (last ≡ answer_event question reply ∷ [])
         × Loses line_turn lang (request_with plan budget) (place_of (standing_on lang events) left written) (place_of (standing_on lang later) left' written') question reply
+    -- each event has its place, and so has the lost one
+    pub all_places : HavePlaces lang plan (later ++ last)
     pub any_moment : LeavesOnly moment left_since old new (λ c. may_leave old c ⊎ OpensWithin plan voc events (later ++ last) c)
     pub now : (c : List ℕ) → may_leave new c → OpensWith plan voc later c ⊎ OpensWith plan voc (later ++ last) c
 

@@ -1,5 +1,6 @@
 pub mod Run
 pub mod Driven
+pub mod Added
 pub mod Due
 pub mod Places
 pub mod Texts

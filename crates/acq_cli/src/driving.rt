@@ -9,7 +9,8 @@ ghost use Rattle.session_core.specs.Standing.{Stands, knowledge_of, open_in};
 ghost use Rattle.session_core.specs.Settled.{IsSettled};
 ghost use Rattle.session_store.specs.Keeping.{Keeps};
 ghost use Rattle.acq_cli.specs.Driven.{Drives, IsOwned, LeavesNothing, Loses, Remembers, StepsTo, TellsOpen};
-ghost use Rattle.acq_cli.specs.Due.{IsDue, NextIs, PutIs, AnswerKept, IsOneMore, ended_by};
+ghost use Rattle.acq_cli.specs.Added.{IsAdded};
+ghost use Rattle.acq_cli.specs.Due.{IsDue, NextIs, PutIs, AnswerKept, EventKept, IsOneMore, ended_by};
 ghost use Rattle.acq_cli.specs.Places.{place_of, request_with};
 
 use acq_io::{Sink, Source};
@@ -181,6 +182,7 @@ fn keep_answer<D: Disk, P: Keep<D>>(keep: &mut P, disk: &mut D, yes: bool) -> Op
     requires sits { P.sits keep.old disk.old }
     requires put { (q : _) × (P.question keep.old ≡ Some q) × (length q ≡ length (P.lang keep.old).names) }
     ensures kept { AnswerKept «yes» (P.question keep.old) (standing_on (P.lang keep.old) (P.record_of keep.old)) (standing_on (P.lang keep.old) (P.record_of keep.new)) result }
+    ensures events { EventKept «yes» (P.question keep.old) (P.record_of keep.old) (P.record_of keep.new) result }
     ensures settled { result ≡ None → IsSettled (P.lang keep.old) (P.plan keep.old) (standing_on (P.lang keep.old) (P.record_of keep.new)) (P.question keep.new) }
     ensures lang { P.lang keep.new ≡ P.lang keep.old }
     ensures plan { P.plan keep.new ≡ P.plan keep.old }
@@ -235,6 +237,7 @@ fn hear_answer<S: Source, K: Sink, D: Disk, T: Teacher<S, K>, P: Keep<D>>(
     ensures lang { P.lang keep.new ≡ P.lang keep.old }
     ensures plan { P.plan keep.new ≡ P.plan keep.old }
     ensures sound { P.sound keep.new }
+    ensures added { IsAdded (P.lang keep.old) (P.plan keep.old) (P.record_of keep.old) (P.record_of keep.new) }
     ensures keeps { Keeps D.content D.may_leave D.moment D.left_since P.plan P.voc P.record_of P.question P.writes P.live P.sits D.faults (result ≡ Some Drove.DiskFault)
         (λ asked said. (budget : _) → IsDue (P.lang keep.old) (request_with (P.plan keep.old) budget) (standing_on (P.lang keep.old) (P.record_of keep.old)) question.now
         → Loses (T.turn teacher.old) (P.lang keep.old) (request_with (P.plan keep.old) budget)
@@ -298,6 +301,7 @@ fn take_turn<S: Source, K: Sink, D: Disk, T: Teacher<S, K>, P: Keep<D>>(
     ensures lang { P.lang keep.new ≡ P.lang keep.old }
     ensures plan { P.plan keep.new ≡ P.plan keep.old }
     ensures sound { P.sound keep.new }
+    ensures added { IsAdded (P.lang keep.old) (P.plan keep.old) (P.record_of keep.old) (P.record_of keep.new) }
     ensures keeps { Keeps D.content D.may_leave D.moment D.left_since P.plan P.voc P.record_of P.question P.writes P.live P.sits D.faults (result ≡ Some Drove.DiskFault)
         (Loses (T.turn teacher.old) (P.lang keep.old) (request_with (P.plan keep.old) budget)
         (place_of (standing_on (P.lang keep.old) (P.record_of keep.old)) (S.left source.old) (K.written sink.old))
@@ -359,6 +363,7 @@ pub fn drive<R: Threads + Sync, S: Source, K: Sink, D: Disk, T: Teacher<S, K>, P
     ensures lang { P.lang keep.new ≡ P.lang keep.old }
     ensures plan { P.plan keep.new ≡ P.plan keep.old }
     ensures sound { P.sound keep.new }
+    ensures added { IsAdded (P.lang keep.old) (P.plan keep.old) (P.record_of keep.old) (P.record_of keep.new) }
     // Where nothing is written, the disk isn't touched. Else a crash at any moment leaves the events from before the call and a
     // front of those of this run, and after it all of them, but for the last one where the disk failed. That one is the answer
     // to the question that came next.

@@ -4,7 +4,7 @@ ghost use Rattle.assign.specs.declared.events.Plan.{Plan};
 ghost use Rattle.std.specs.String.{string_bytes};
 ghost use Rattle.acq_io.specs.Streams.{Adds, AddsFront, Rose};
 ghost use Rattle.assign.specs.Events.{Answer};
-ghost use Rattle.language.specs.Language.{candidates};
+ghost use Rattle.language.specs.Language.{IsLanguage, candidates};
 ghost use Rattle.language.specs.Answers.{IsNetwork, standing_on};
 ghost use Rattle.query_gen.specs.Marks.{IsMadeFor, is_open};
 ghost use Rattle.session_core.specs.Settled.{IsSettled};
@@ -12,6 +12,7 @@ ghost use Rattle.session_core.specs.Standing.{Stands, knowledge_of};
 ghost use Rattle.session_store.specs.Keeping.{Keeps};
 ghost use Rattle.target_oracle.specs.Lines.{line_turn};
 ghost use Rattle.acq_cli.specs.Driven.{Loses, TellsOpen};
+ghost use Rattle.acq_cli.specs.Added.{IsAdded};
 ghost use Rattle.acq_cli.specs.Places.{place_of, request_with};
 ghost use Rattle.acq_cli.specs.Breaks.{Breaks, BreaksRun};
 ghost use Rattle.acq_cli.specs.Program.{Acquires, HasEnded, Says, SaysPart, Tries};
@@ -208,12 +209,14 @@ pub(crate) fn ask_on<R: Threads + Sync, S: Source, K: Sink, D: Disk, P: Keep<D>>
     ensures failed { result ≡ Err Put.Failed → Rose (K.faults out.old) (K.faults out.new) }
     ensures later { S.faults input.old ≤ S.faults input.new }
     ensures later_sink { K.faults out.old ≤ K.faults out.new }
+    ensures added { IsAdded (P.lang keep.old) (P.plan keep.old) (P.record_of keep.old) (P.record_of keep.new) }
     ensures keeps { Keeps D.content D.may_leave D.moment D.left_since P.plan P.voc P.record_of P.question P.writes P.live P.sits D.faults (result ≡ Ok Ending.DiskFault)
         (Loses line_turn (P.lang keep.old) (request_with (P.plan keep.old) budget)
         (place_of (standing_on (P.lang keep.old) (P.record_of keep.old)) (S.left input.old) (K.written out.old))
         (place_of (standing_on (P.lang keep.old) (P.record_of keep.new)) (S.left input.new) (K.written out.new)))
         keep.old keep.new disk.old disk.new }
     ensures lang { P.lang keep.new ≡ P.lang keep.old }
+    ensures lawful { IsLanguage (P.lang keep.old) }
     ensures plan { P.plan keep.new ≡ P.plan keep.old }
     ensures sound { P.sound keep.new }
 {

@@ -17,6 +17,8 @@ use Rattle.session_store.specs.Keeping.{keeps_still, keeps_then, keeps_as}
 use Rattle.acq_cli.specs.Places.{place_of, request_with}
 use Rattle.query_gen.proofs.Marking.{no_marks_hold}
 use Rattle.acq_cli.proofs.Standings.{carried, reached, few_answers}
+use Rattle.acq_cli.specs.Added.{IsAdded}
+use Rattle.acq_cli.proofs.Added.{added_none, added_then}
 use Rattle.acq_cli.proofs.Owners.{owned}
 use Rattle.acq_cli.proofs.Turning.{steps_on, steps_end, steps_loses, steps_none}
 use Rattle.acq_cli.proofs.driving.drive.Goals as goal
@@ -43,6 +45,7 @@ loop-turn-init g c =
       steps = steps_none (g.T.Teacher.turn c.args.teacher.now) l (request_with (g.P.Keep.plan c.args.keep.now) c.args.budget) a;
       later = omega arith;
       later_sink = omega arith;
+      added = added_none l (g.P.Keep.plan c.args.keep.now) (g.P.Keep.record_of c.args.keep.now) (g.P.Keep.record_of c.args.keep.now) refl;
       keeps =
           let D = g.D.Disk in let P = g.P.Keep in
           keeps_still D.content D.may_leave D.moment D.left_since g.met.D.Disk.counts_now g.met.D.Disk.only_now P.plan P.voc P.record_of P.question P.writes P.live P.sits D.faults ⊥ (λ q r. ⊥) c.args.keep.now c.args.keep.now c.args.disk.now (λ e. e) refl refl refl refl refl c.requires.live c.requires.sits
@@ -121,6 +124,9 @@ loop-turn-preserved g c =
           (carried Spoken old l before p c.loop-turn.invariant.lang c.loop-turn.invariant.plan (subst Turned c.loop-turn.invariant.turn (c.take_turn.ensures.again c.in_default.is))));
       later = omega (arith, c.take_turn.ensures.later, c.loop-turn.invariant.later);
       later_sink = omega (arith, c.take_turn.ensures.later_sink, c.loop-turn.invariant.later_sink);
+      added = added_then l p (g.P.Keep.record_of c.args.keep.now) (g.P.Keep.record_of c.loop-turn.keep) (g.P.Keep.record_of c.take_turn.new.keep) c.loop-turn.invariant.added
+          (let Added : Language → Plan → Type 0 = λ m q. IsAdded m q (g.P.Keep.record_of c.loop-turn.keep) (g.P.Keep.record_of c.take_turn.new.keep) in
+          carried Added old l before p c.loop-turn.invariant.lang c.loop-turn.invariant.plan c.take_turn.ensures.added);
       keeps =
           let D = g.D.Disk in let P = g.P.Keep in
           let Failed : Type 0 = c.take_turn.result ≡ Some drove.DiskFault in
@@ -128,6 +134,15 @@ loop-turn-preserved g c =
           (keeps_as D.content D.may_leave D.moment D.left_since g.met.D.Disk.counts_now g.met.D.Disk.only_now P.plan P.voc P.record_of P.question P.writes P.live P.sits D.faults Failed ⊥ _ (λ q r. ⊥) c.loop-turn.keep c.take_turn.new.keep c.loop-turn.disk c.take_turn.new.disk (λ e. absurd e) (λ e. not_failed (sym c.in_default.is ∙ e)) (λ bad question reply lost. bad) c.take_turn.ensures.keeps);
       more = omega (arith, one, same, c.loop-turn.invariant.more);
     }
+
+pub returns-in-Some-clause-added : goal.returns-in-Some-clause-added
+returns-in-Some-clause-added g c =
+    let P = g.P.Keep in
+    let l : Language = P.lang c.args.keep.now in
+    let p : Plan = P.plan c.args.keep.now in
+    let Added : Language → Plan → Type 0 = λ m q. IsAdded m q (P.record_of c.loop-turn.keep) (P.record_of c.take_turn.new.keep) in
+    added_then l p (P.record_of c.args.keep.now) (P.record_of c.loop-turn.keep) (P.record_of c.take_turn.new.keep) c.loop-turn.invariant.added
+    (carried Added (P.lang c.loop-turn.keep) l (P.plan c.loop-turn.keep) p c.loop-turn.invariant.lang c.loop-turn.invariant.plan c.take_turn.ensures.added)
 
 pub returns-in-Some-clause-keeps : goal.returns-in-Some-clause-keeps
 returns-in-Some-clause-keeps g c =

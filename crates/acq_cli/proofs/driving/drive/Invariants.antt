@@ -3,6 +3,7 @@ use Rattle.language.specs.Answers.{standing_on}
 use Rattle.query_gen.specs.Marks.{IsMadeFor}
 use Rattle.session_core.specs.Settled.{IsSettled}
 use Rattle.session_store.specs.Keeping.{Keeps}
+use Rattle.acq_cli.specs.Added.{IsAdded}
 use Rattle.acq_cli.specs.Driven.{Remembers, StepsTo}
 use Rattle.acq_cli.specs.Places.{place_of, request_with}
 use Rattle.acq_cli.proofs.driving.drive.Given as goal
@@ -24,6 +25,7 @@ invariant-loop-turn g l =
           (place_of (standing_on (g.P.Keep.lang l.keep) (entries l.keep)) (left l.source) (written l.sink));
       later : g.S.Source.faults l.initial.source ≤ g.S.Source.faults l.source;
       later_sink : g.K.Sink.faults l.initial.sink ≤ g.K.Sink.faults l.sink;
+      added : IsAdded (g.P.Keep.lang l.initial.keep) (g.P.Keep.plan l.initial.keep) (entries l.initial.keep) (entries l.keep);
       keeps : Keeps g.D.Disk.content g.D.Disk.may_leave g.D.Disk.moment g.D.Disk.left_since g.P.Keep.plan g.P.Keep.voc g.P.Keep.record_of g.P.Keep.question g.P.Keep.writes g.P.Keep.live g.P.Keep.sits g.D.Disk.faults ⊥ (λ q r. ⊥)
           l.initial.keep l.keep l.initial.disk l.disk;
       more : l._turn ≤ length (standing_on (g.P.Keep.lang l.keep) (entries l.keep));

@@ -13,7 +13,8 @@ use Rattle.acq_cli.specs.declared.driving.Drove.TheVariants as drove
 use Rattle.session_store.specs.Keeping.{keeps_still, keeps_as}
 use Rattle.acq_cli.proofs.Standings.{AtTurn, at_turn, next_fits, room_left, run_laws}
 use Rattle.acq_cli.proofs.Turning.{told_as, front_as, ran_closed, cut_turn}
-use Rattle.acq_cli.proofs.Answered.{goes_on, one_more, ends, loses}
+use Rattle.acq_cli.proofs.Added.{added_none}
+use Rattle.acq_cli.proofs.Answered.{goes_on, one_more, ends, loses, adds}
 use Rattle.acq_cli.proofs.driving.hear_answer.Goals as goal
 
 pub overflow_add-count : goal.overflow_add-count
@@ -224,6 +225,55 @@ returns-in-Memory-clause-ends g c budget due =
     let left' : Option (List ℕ) = g.S.Source.left c.told.new.source in
     let written' : Option (List ℕ) = g.K.Sink.written c.told.new.sink in
     cut_turn run_laws turns l (request_with plan budget) at.lawful c.args.question.now (place_of t left written) (place_of t left' written') at.reached due.puts refl (front_as turns c.lang.result.now l (c.answers-count.result + 1) (length t + 1) c.args.question.now (place_of t left written) (place_of t left' written') at.language (ap (λ n. n + 1) at.number) c.in-Memory.ensures.tells)
+
+pub returns-in-Yes-clause-added : goal.returns-in-Yes-clause-added
+returns-in-Yes-clause-added g c =
+    let P = g.P.Keep in
+    let l : Language = P.lang c.args.keep.now in
+    let plan : Plan = P.plan c.args.keep.now in
+    let events = P.record_of c.args.keep.now in
+    let t : List Answer = standing_on l events in
+    let at : AtTurn l plan t c.answers-count.result c.lang.result.now =
+    at_turn c.session-session.result.now l c.lang.result.now plan t c.answers-count.result
+    c.session-session.ensures.stands c.session-session.ensures.lang c.session-session.ensures.plan c.answers-count.ensures c.lang.ensures.is c.lang.ensures.lawful in
+    let left : Option (List ℕ) = g.S.Source.left c.args.source.now in
+    let written : Option (List ℕ) = g.K.Sink.written c.args.sink.now in
+    adds (g.T.Teacher.turn c.args.teacher.now) l (request_with plan c.requires.due.0) t t c.args.question.now true (P.question c.args.keep.now) left written left written c.keep_answer.result events (P.record_of c.keep_answer.new.keep) refl at.lawful c.requires.due.1 c.requires.put c.keep_answer.ensures.events
+
+pub returns-in-No-clause-added : goal.returns-in-No-clause-added
+returns-in-No-clause-added g c =
+    let P = g.P.Keep in
+    let l : Language = P.lang c.args.keep.now in
+    let plan : Plan = P.plan c.args.keep.now in
+    let events = P.record_of c.args.keep.now in
+    let t : List Answer = standing_on l events in
+    let at : AtTurn l plan t c.answers-count.result c.lang.result.now =
+    at_turn c.session-session.result.now l c.lang.result.now plan t c.answers-count.result
+    c.session-session.ensures.stands c.session-session.ensures.lang c.session-session.ensures.plan c.answers-count.ensures c.lang.ensures.is c.lang.ensures.lawful in
+    let left : Option (List ℕ) = g.S.Source.left c.args.source.now in
+    let written : Option (List ℕ) = g.K.Sink.written c.args.sink.now in
+    adds (g.T.Teacher.turn c.args.teacher.now) l (request_with plan c.requires.due.0) t t c.args.question.now false (P.question c.args.keep.now) left written left written c.keep_answer-in-No.result events (P.record_of c.keep_answer-in-No.new.keep) refl at.lawful c.requires.due.1 c.requires.put c.keep_answer-in-No.ensures.events
+
+pub returns-in-Stop-clause-added : goal.returns-in-Stop-clause-added
+returns-in-Stop-clause-added g c = added_none (g.P.Keep.lang c.args.keep.now) (g.P.Keep.plan c.args.keep.now) (g.P.Keep.record_of c.args.keep.now) (g.P.Keep.record_of c.args.keep.now) refl
+
+pub returns-in-End-clause-added : goal.returns-in-End-clause-added
+returns-in-End-clause-added g c = added_none (g.P.Keep.lang c.args.keep.now) (g.P.Keep.plan c.args.keep.now) (g.P.Keep.record_of c.args.keep.now) (g.P.Keep.record_of c.args.keep.now) refl
+
+pub returns-in-TooLong-clause-added : goal.returns-in-TooLong-clause-added
+returns-in-TooLong-clause-added g c = added_none (g.P.Keep.lang c.args.keep.now) (g.P.Keep.plan c.args.keep.now) (g.P.Keep.record_of c.args.keep.now) (g.P.Keep.record_of c.args.keep.now) refl
+
+pub returns-in-Unreadable-clause-added : goal.returns-in-Unreadable-clause-added
+returns-in-Unreadable-clause-added g c = added_none (g.P.Keep.lang c.args.keep.now) (g.P.Keep.plan c.args.keep.now) (g.P.Keep.record_of c.args.keep.now) (g.P.Keep.record_of c.args.keep.now) refl
+
+pub returns-in-ReadFault-clause-added : goal.returns-in-ReadFault-clause-added
+returns-in-ReadFault-clause-added g c = added_none (g.P.Keep.lang c.args.keep.now) (g.P.Keep.plan c.args.keep.now) (g.P.Keep.record_of c.args.keep.now) (g.P.Keep.record_of c.args.keep.now) refl
+
+pub returns-in-WriteFault-clause-added : goal.returns-in-WriteFault-clause-added
+returns-in-WriteFault-clause-added g c = added_none (g.P.Keep.lang c.args.keep.now) (g.P.Keep.plan c.args.keep.now) (g.P.Keep.record_of c.args.keep.now) (g.P.Keep.record_of c.args.keep.now) refl
+
+pub returns-in-Memory-clause-added : goal.returns-in-Memory-clause-added
+returns-in-Memory-clause-added g c = added_none (g.P.Keep.lang c.args.keep.now) (g.P.Keep.plan c.args.keep.now) (g.P.Keep.record_of c.args.keep.now) (g.P.Keep.record_of c.args.keep.now) refl
 
 pub returns-in-Yes-clause-keeps : goal.returns-in-Yes-clause-keeps
 returns-in-Yes-clause-keeps g c =

@@ -20,6 +20,12 @@ returns-in-Ok-clause-kept g c = λ q put.
     ap (standing_on (g.P.Keep.lang c.args.keep.now)) (c.in-Ok.ensures.ok q put)
     ∙ cut_to-standing-push (length (g.P.Keep.lang c.args.keep.now).names) (g.P.Keep.record_of c.args.keep.now) q c.args.yes (same_length q c.requires.put.0 (g.P.Keep.question c.args.keep.now) put c.requires.put.1 ∙ c.requires.put.2)
 
+pub returns-in-Ok-clause-events : goal.returns-in-Ok-clause-events
+returns-in-Ok-clause-events g c = λ q put. c.in-Ok.ensures.ok q put
+
+pub returns-in-Err-clause-events : goal.returns-in-Err-clause-events
+returns-in-Err-clause-events g c = c.in-Err.ensures.err
+
 abbrev lost : SFault → Result (Unit {0}) SFault
 lost e = Err e
 

@@ -11,6 +11,7 @@ use Rattle.acq_cli.specs.Places.{place_of, request_with}
 use Rattle.session_store.specs.Keeping.{keeps_still, keeps_then}
 use Rattle.acq_cli.proofs.Standings.{due_reached, marks_after}
 use Rattle.acq_cli.proofs.Nexts.{put_due}
+use Rattle.acq_cli.proofs.Added.{added_none, added_as}
 use Rattle.acq_cli.proofs.Answered.{loses_as}
 use Rattle.acq_cli.proofs.Turning.{ran_end}
 use Rattle.acq_cli.proofs.driving.take_turn.Goals as goal
@@ -77,6 +78,25 @@ returns-in-Open-clause-remembers g c none =
     let due = put_due l request t (g.P.Keep.question c.put_next.new.keep) c.put_next.result c.in-Open.question c.put_next.ensures.put c.in-Open.is in
     marks_after l (g.P.Keep.lang c.put_next.new.keep) request (g.P.Keep.record_of c.args.keep.now) (g.P.Keep.record_of c.put_next.new.keep) (g.P.Keep.record_of c.hear_answer.new.keep)
     c.put_next.new.screen c.put_next.ensures.lang c.put_next.ensures.events (due_reached l request t _ due.puts) (c.hear_answer.ensures.more none) c.put_next.ensures.remembers
+
+pub returns-in-Converged-clause-added : goal.returns-in-Converged-clause-added
+returns-in-Converged-clause-added g c =
+    added_none (g.P.Keep.lang c.args.keep.now) (g.P.Keep.plan c.args.keep.now) (g.P.Keep.record_of c.args.keep.now) (g.P.Keep.record_of c.put_next.new.keep) c.put_next.ensures.events
+
+pub returns-in-Collapsed-clause-added : goal.returns-in-Collapsed-clause-added
+returns-in-Collapsed-clause-added g c =
+    added_none (g.P.Keep.lang c.args.keep.now) (g.P.Keep.plan c.args.keep.now) (g.P.Keep.record_of c.args.keep.now) (g.P.Keep.record_of c.put_next.new.keep) c.put_next.ensures.events
+
+pub returns-in-Undecided-clause-added : goal.returns-in-Undecided-clause-added
+returns-in-Undecided-clause-added g c =
+    added_none (g.P.Keep.lang c.args.keep.now) (g.P.Keep.plan c.args.keep.now) (g.P.Keep.record_of c.args.keep.now) (g.P.Keep.record_of c.put_next.new.keep) c.put_next.ensures.events
+
+pub returns-in-Open-clause-added : goal.returns-in-Open-clause-added
+returns-in-Open-clause-added g c =
+    let P = g.P.Keep in
+    let one = c.args.keep.now in
+    let two = c.put_next.new.keep in
+    added_as (P.lang one) (P.lang two) (P.plan one) (P.plan two) (P.record_of one) (P.record_of two) (P.record_of c.hear_answer.new.keep) c.put_next.ensures.lang c.put_next.ensures.plan c.put_next.ensures.events c.hear_answer.ensures.added
 
 pub returns-in-Converged-clause-keeps : goal.returns-in-Converged-clause-keeps
 returns-in-Converged-clause-keeps g c =

@@ -4,7 +4,7 @@ use Rattle.acq_io.specs.declared.streams.Put.TheVariants as puts
 use Rattle.assign.specs.Assignment.{Assignment}
 use Rattle.assign.specs.Events.{Answer}
 use Rattle.assign.specs.declared.events.Event.{Event}
-use Rattle.language.specs.Language.{Language}
+use Rattle.language.specs.Language.{Language, IsLanguage}
 use Rattle.language.specs.Answers.{standing_on}
 use Rattle.query_gen.specs.Marks.{IsMadeFor}
 use Rattle.session_core.specs.Standing.{Stands, knowledge_of}
@@ -15,6 +15,7 @@ use Rattle.acq_cli.specs.Places.{place_of, request_with}
 use Rattle.acq_cli.specs.declared.driving.Drove.TheVariants as drove
 use Rattle.acq_cli.specs.declared.ending.Ending.{Ending}
 use Rattle.acq_cli.specs.declared.ending.Ending.TheVariants as ending
+use Rattle.acq_cli.proofs.Added.{added_none}
 use Rattle.acq_cli.proofs.Parts.{begun_part}
 use Rattle.acq_cli.proofs.Standings.{at_turn}
 use Rattle.acq_cli.proofs.Tries.{tried, broken, said, lost_then, read_of, disk_of, disk_told, no_fault}
@@ -109,6 +110,21 @@ returns-clause-keeps g c =
     (said l k.lang p k.plan c.args.budget start later left written left' middle written' c.drive-drove.new.screen c.drive-drove.result c.say.result same again c.drive-drove.ensures.ends c.drive-drove.ensures.open says parts)
     (was ended) ended question reply lost)
     c.drive-drove.ensures.keeps
+
+pub returns-in_default-clause-added : goal.returns-in_default-clause-added
+returns-in_default-clause-added g c = added_none (g.P.Keep.lang c.args.keep.now) (g.P.Keep.plan c.args.keep.now) (g.P.Keep.record_of c.args.keep.now) (g.P.Keep.record_of c.args.keep.now) refl
+
+pub returns-in_default-new-clause-added : goal.returns-in_default-new-clause-added
+returns-in_default-new-clause-added g c = added_none (g.P.Keep.lang c.args.keep.now) (g.P.Keep.plan c.args.keep.now) (g.P.Keep.record_of c.args.keep.now) (g.P.Keep.record_of c.args.keep.now) refl
+
+pub returns-clause-lawful : goal.returns-clause-lawful
+returns-clause-lawful g c = subst IsLanguage (c.lang-lang.ensures.is ∙ c.session-start.ensures.lang) c.lang-lang.ensures.lawful
+
+pub returns-in_default-clause-lawful : goal.returns-in_default-clause-lawful
+returns-in_default-clause-lawful g c = subst IsLanguage (c.lang-lang.ensures.is ∙ c.session-start.ensures.lang) c.lang-lang.ensures.lawful
+
+pub returns-in_default-new-clause-lawful : goal.returns-in_default-new-clause-lawful
+returns-in_default-new-clause-lawful g c = subst IsLanguage (c.lang-lang.ensures.is ∙ c.session-start.ensures.lang) c.lang-lang.ensures.lawful
 
 pub say-requires : goal.say-requires
 say-requires g c =
