@@ -71,15 +71,15 @@ disk_failed (Err e) = inr (err_ok e)
 disk_failed (Ok end) = ⊎_elim (λ is. inl (ap okay is)) (λ other. inr (λ h. other (same_ok end ending.DiskFault h))) (other_ending end)
 
 module _ {D : Type 0} (content : D → Option (List ℕ)) (may_leave : D → List ℕ → Type 0) (moment : D → ℕ) (left_since : D → ℕ → List ℕ → Type 0) where
-  pub goes_on : (budget : ℕ) (bytes : List ℕ) (left written left' written' : Option (List ℕ)) (first old new : D) (got : Result Ending Put) (plan : Plan) (voc : List ℕ) (events later : List Event) (open_then : Option Assignment) (lang : Language) →
-      SaysSession bytes plan voc events → IsVocabulary voc lang → HavePlaces lang plan events → content old ≡ Some bytes → LeavesOnly moment left_since first old (may_leave first) → IsLanguage lang → IsAdded lang plan events later →
-      ((IsDisk got → ⊥) → Persists content may_leave moment left_since plan voc events later old new) →
+  pub goes_on : (budget : ℕ) (left written left' written' : Option (List ℕ)) (first old new : D) (got : Result Ending Put) (plan : Plan) (voc : List ℕ) (events later : List Event) (open_then : Option Assignment) (lang : Language) →
+      ForSome (content first) (λ bytes. SaysSession bytes plan voc events) → IsVocabulary voc lang → HavePlaces lang plan events → content old ≡ content first → LeavesOnly moment left_since first old (may_leave first) →
+      IsLanguage lang → IsAdded lang plan events later → ((IsDisk got → ⊥) → ForSome (content old) (λ _. Persists content may_leave moment left_since plan voc events later old new)) →
       (IsDisk got → FailsWith content may_leave moment left_since plan voc events later open_then
       (Loses line_turn lang (request_with plan budget) (place_of (standing_on lang events) left written) (place_of (standing_on lang later) left' written')) old new) →
       IfOk got (Tries lang (request_with plan budget) (standing_on lang events) (standing_on lang later) left written left' written') →
       OnErr got (BreaksRun lang (request_with plan budget) (standing_on lang events) (standing_on lang later) left written written') →
-      GoesOn content may_leave moment left_since budget bytes left written left' written' first new got
-  goes_on budget bytes left written left' written' first old new got plan voc events later open_then lang says read places told opening lawful added persists fails tries part =
+      GoesOn content may_leave moment left_since budget left written left' written' first new got
+  goes_on budget left written left' written' first old new got plan voc events later open_then lang says read places still opening lawful added persists fails tries part =
       ⊎_elim
       (λ is.
       let f = fails is in
@@ -100,9 +100,10 @@ module _ {D : Type 0} (content : D → Option (List ℕ)) (may_leave : D → Lis
         none_lost = λ no. absurd (no is);
         one_lost = λ so. (f.question, f.reply, refl, f.lost);
         all_places = placed_event run_laws lang lawful (request_with plan budget) later f.question f.reply f.lost.fits.size f.lost.puts (added.places places);
-        any_moment = joined moment left_since first old new (may_leave first) (OpensWithin plan voc events (later ++ last)) (λ c. may_leave first c ⊎ OpensWithin plan voc events (later ++ last) c) opening (f.any_moment bytes told)
+        any_moment = λ bytes told.
+            joined moment left_since first old new (may_leave first) (OpensWithin plan voc events (later ++ last)) (λ c. may_leave first c ⊎ OpensWithin plan voc events (later ++ last) c) opening (f.any_moment bytes (still ∙ told))
             (λ c was. inl was) (λ c opens. inr opens);
-        now = f.now bytes told;
+        now = λ bytes told. f.now bytes (still ∙ told);
       })
       (λ no.
       let p = persists no in
@@ -124,9 +125,10 @@ module _ {D : Type 0} (content : D → Option (List ℕ)) (may_leave : D → Lis
         none_lost = λ so. refl;
         one_lost = λ is. absurd (no is);
         all_places = let Placed : List Event → Type 0 = λ x. HavePlaces lang plan x in subst Placed (sym same) (added.places places);
-        any_moment = joined moment left_since first old new (may_leave first) (OpensWithin plan voc events (later ++ [])) (λ c. may_leave first c ⊎ OpensWithin plan voc events (later ++ []) c) opening (subst Within (sym same) p.any_moment)
-            (λ c was. inl was) (λ c opens. inr opens);
-        now = λ c left. inl (p.now.each c left);
+        any_moment = λ bytes told.
+            joined moment left_since first old new (may_leave first) (OpensWithin plan voc events (later ++ [])) (λ c. may_leave first c ⊎ OpensWithin plan voc events (later ++ []) c) opening
+            (subst Within (sym same) (p bytes (still ∙ told)).any_moment) (λ c was. inl was) (λ c opens. inr opens);
+        now = λ bytes told c left. inl ((p bytes (still ∙ told)).now.each c left);
       })
       (disk_failed got)
 

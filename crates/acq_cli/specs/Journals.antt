@@ -1,11 +1,13 @@
 -- What a command over a journal has done.
 use Rattle.std.specs.Prelude.{◌≡◌, ◌⊎◌, ℕ, List, [], ◌∷◌, ◌++◌, length, Bool, Option, Some, None, Result, Ok, Err, IfOk, OnErr, codes}
 use Rattle.std.specs.Fmt.{decimal}
+use Rattle.std.specs.Option.{ForSome}
 use Rattle.acq_io.specs.Streams.{Adds, AddsFront}
 use Rattle.acq_io.specs.Whole.{Gives, all_of}
 use Rattle.acq_io.specs.declared.whole.AllFault.TheVariants as long
 use Rattle.acq_io.specs.declared.streams.Put.{Put}
 use Rattle.acq_io.specs.declared.streams.Put.TheVariants as put
+use Rattle.voc_read.specs.declared.fault.VocFault.{VocFault}
 use Rattle.voc_read.specs.declared.fault.VocFault.TheVariants as voc
 use Rattle.answer_journal.specs.declared.fault.JFault.{JFault}
 use Rattle.answer_journal.specs.declared.fault.JFault.TheVariants as journal
@@ -24,7 +26,7 @@ use Rattle.session_store.specs.Replay.{HavePlaces}
 use Rattle.session_store.specs.declared.fault.SFault.{SFault}
 use Rattle.session_store.specs.declared.fault.SFault.TheVariants as store
 use Rattle.voc_read.specs.FaultTexts.{fault_text}
-use Rattle.voc_read.specs.Vocabulary.{IsVocabulary}
+use Rattle.voc_read.specs.Vocabulary.{IsVocabulary, refusal_of_vocabulary}
 use Rattle.target_oracle.specs.Lines.{line_turn}
 use Rattle.acq_cli.specs.Breaks.{BreaksRun}
 use Rattle.acq_cli.specs.Added.{IsAdded}
@@ -98,23 +100,23 @@ Refuses fault written written' got = EndsUntold (untold fault) fault written wri
 
 -- the meanings of a disk
 module _ {D : Type 0} (content : D → Option (List ℕ)) (may_leave : D → List ℕ → Type 0) (moment : D → ℕ) (left_since : D → ℕ → List ℕ → Type 0) where
-  -- The journal wasn't opened, for what its bytes say. The disk holds what it held.
-  pub record StaysClosed (bytes : List ℕ) (left written left' written' : Option (List ℕ)) (old new : D) (got : Result Ending Put) : Type 0 where
+  -- The journal wasn't opened, for what its bytes say where the disk tells them. The disk holds what it held.
+  pub record StaysClosed (left written left' written' : Option (List ℕ)) (old new : D) (got : Result Ending Put) : Type 0 where
     pub fault : SFault
-    pub why : NotOpened bytes fault
+    pub why : ForSome (content old) (λ bytes. NotOpened bytes fault)
     pub refuses : Refuses fault written written' got
     pub unread : left' ≡ left
     pub same : content new ≡ content old
     pub any_moment : LeavesOnly moment left_since old new (may_leave old)
 
-  -- The run goes on from the events of the journal, and adds some. A crash at any moment leaves what it might have left
-  -- before, or those events and a front of the added ones. A crash at the end leaves all of them, and where the disk failed
-  -- the answer too whose adding failed, or not.
-  pub record GoesOn (budget : ℕ) (bytes : List ℕ) (left written left' written' : Option (List ℕ)) (old new : D) (got : Result Ending Put) : Type 0 where
+  -- The run goes on from some events, which are those of the journal where the disk tells its bytes, and adds some. Where it
+  -- tells them, a crash at any moment leaves what it might have left before, or those events and a front of the added ones. A
+  -- crash at the end leaves all of them, and where the disk failed the answer too whose adding failed, or not.
+  pub record GoesOn (budget : ℕ) (left written left' written' : Option (List ℕ)) (old new : D) (got : Result Ending Put) : Type 0 where
     pub plan : Plan
     pub voc : List ℕ
     pub events : List Event
-    pub says : SaysSession bytes plan voc events
+    pub says : ForSome (content old) (λ bytes. SaysSession bytes plan voc events)
     pub lang : Language
     pub read : IsVocabulary voc lang
     pub places : HavePlaces lang plan events
@@ -129,11 +131,11 @@ module _ {D : Type 0} (content : D → Option (List ℕ)) (may_leave : D → Lis
         × Loses line_turn lang (request_with plan budget) (place_of (standing_on lang events) left written) (place_of (standing_on lang later) left' written') question reply
     -- each event has its place, and so has the lost one
     pub all_places : HavePlaces lang plan (later ++ last)
-    pub any_moment : LeavesOnly moment left_since old new (λ c. may_leave old c ⊎ OpensWithin plan voc events (later ++ last) c)
-    pub now : (c : List ℕ) → may_leave new c → OpensWith plan voc later c ⊎ OpensWith plan voc (later ++ last) c
+    pub any_moment : ForSome (content old) (λ _. LeavesOnly moment left_since old new (λ c. may_leave old c ⊎ OpensWithin plan voc events (later ++ last) c))
+    pub now : ForSome (content old) (λ _. (c : List ℕ) → may_leave new c → OpensWith plan voc later c ⊎ OpensWith plan voc (later ++ last) c)
 
-  abbrev pub RunsOn : ℕ → List ℕ → (left written left' written' : Option (List ℕ)) → D → D → Result Ending Put → Type 0
-  RunsOn budget bytes left written left' written' old new got = StaysClosed bytes left written left' written' old new got ⊎ GoesOn budget bytes left written left' written' old new got
+  abbrev pub RunsOn : ℕ → (left written left' written' : Option (List ℕ)) → D → D → Result Ending Put → Type 0
+  RunsOn budget left written left' written' old new got = StaysClosed left written left' written' old new got ⊎ GoesOn budget left written left' written' old new got
 
 -- ---- Showing a session
 
@@ -156,24 +158,26 @@ RefusesMaking store.Memory written written' got = Refuses store.Memory written w
 
 module _ {D : Type 0} (content : D → Option (List ℕ)) (may_leave : D → List ℕ → Type 0) (moment : D → ℕ) (left_since : D → ℕ → List ℕ → Type 0) where
   -- The journal is made, and a crash leaves nothing else, whether or not that could be said.
-  pub record IsMade (plan : Plan) (voc bytes : List ℕ) (written written' : Option (List ℕ)) (old new : D) (got : Result Ending Put) : Type 0 where
-    pub free : HasNoSession bytes
+  pub record IsMade (plan : Plan) (voc : List ℕ) (written written' : Option (List ℕ)) (old new : D) (got : Result Ending Put) : Type 0 where
+    pub free : ForSome (content old) HasNoSession
     pub lang : Language
     pub read : IsVocabulary voc lang
     pub tells : EndsWith ending.Done (created_text lang) written written' got
-    pub now : LeavesNow content may_leave (OpensWith plan voc []) new
-    pub any_moment : LeavesOnly moment left_since old new (IsCreating (may_leave old) plan voc)
+    pub now : ForSome (content old) (λ _. LeavesNow content may_leave (OpensWith plan voc []) new)
+    pub any_moment : ForSome (content old) (λ _. LeavesOnly moment left_since old new (IsCreating (may_leave old) plan voc))
 
   -- It isn't, and what was written is why.
-  pub record IsNotMade (plan : Plan) (voc bytes : List ℕ) (written written' : Option (List ℕ)) (old new : D) (got : Result Ending Put) : Type 0 where
+  pub record IsNotMade (plan : Plan) (voc : List ℕ) (written written' : Option (List ℕ)) (old new : D) (got : Result Ending Put) : Type 0 where
     pub fault : SFault
-    pub why : NotMade voc bytes fault
+    pub why : ForSome (content old) (λ bytes. NotMade voc bytes fault)
+    -- a vocabulary is refused for what it says, before the disk is touched
+    pub unread : (f : VocFault) → fault ≡ store.Voc f → (refusal_of_vocabulary voc ≡ Some f) × (new ≡ old)
     pub refuses : RefusesMaking fault written written' got
     pub untouched : (fault ≡ store.Journal journal.DiskFault) ⊎ (content new ≡ content old)
-    pub any_moment : LeavesOnly moment left_since old new (IsCreating (may_leave old) plan voc)
+    pub any_moment : ForSome (content old) (λ _. LeavesOnly moment left_since old new (IsCreating (may_leave old) plan voc))
 
-  abbrev pub Makes : Plan → (voc bytes : List ℕ) → (written written' : Option (List ℕ)) → D → D → Result Ending Put → Type 0
-  Makes plan voc bytes written written' old new got = IsMade plan voc bytes written written' old new got ⊎ IsNotMade plan voc bytes written written' old new got
+  abbrev pub Makes : Plan → List ℕ → (written written' : Option (List ℕ)) → D → D → Result Ending Put → Type 0
+  Makes plan voc written written' old new got = IsMade plan voc written written' old new got ⊎ IsNotMade plan voc written written' old new got
 
   -- No vocabulary was read: there are too many bytes, which is told, or the input or memory failed, and not a word was
   -- written. The disk wasn't touched.
@@ -183,21 +187,21 @@ module _ {D : Type 0} (content : D → Option (List ℕ)) (may_leave : D → Lis
     pub same : new ≡ old
 
   -- A vocabulary was read to its end, and a journal was to be made of it.
-  pub record IsVocabularyRead (plan : Plan) (bytes : List ℕ) (left written left' written' : Option (List ℕ)) (old new : D) (got : Result Ending Put) : Type 0 where
+  pub record IsVocabularyRead (plan : Plan) (left written left' written' : Option (List ℕ)) (old new : D) (got : Result Ending Put) : Type 0 where
     pub voc : List ℕ
     pub gives : Gives (all_of 4194304) left left' (Ok voc)
-    pub makes : Makes plan voc bytes written written' old new got
+    pub makes : Makes plan voc written written' old new got
 
-  abbrev pub News : Plan → List ℕ → (left written left' written' : Option (List ℕ)) → D → D → Result Ending Put → Type 0
-  News plan bytes left written left' written' old new got = IsNoVocabulary left written left' written' old new got ⊎ IsVocabularyRead plan bytes left written left' written' old new got
+  abbrev pub News : Plan → (left written left' written' : Option (List ℕ)) → D → D → Result Ending Put → Type 0
+  News plan left written left' written' old new got = IsNoVocabulary left written left' written' old new got ⊎ IsVocabularyRead plan left written left' written' old new got
 
 module _ {D : Type 0} (content : D → Option (List ℕ)) (may_leave : D → List ℕ → Type 0) (moment : D → ℕ) (left_since : D → ℕ → List ℕ → Type 0) where
-  -- The session of the journal is shown. The disk holds what it held.
-  pub record IsShown (bytes : List ℕ) (written written' : Option (List ℕ)) (old new : D) (got : Result Ending Put) : Type 0 where
+  -- A session is shown, which is that of the journal where the disk tells its bytes. The disk holds what it held.
+  pub record IsShown (written written' : Option (List ℕ)) (old new : D) (got : Result Ending Put) : Type 0 where
     pub plan : Plan
     pub voc : List ℕ
     pub events : List Event
-    pub says : SaysSession bytes plan voc events
+    pub says : ForSome (content old) (λ bytes. SaysSession bytes plan voc events)
     pub lang : Language
     pub read : IsVocabulary voc lang
     pub places : HavePlaces lang plan events
@@ -205,8 +209,8 @@ module _ {D : Type 0} (content : D → Option (List ℕ)) (may_leave : D → Lis
     pub same : content new ≡ content old
     pub any_moment : LeavesOnly moment left_since old new (may_leave old)
 
-  abbrev pub Shows : List ℕ → (left written written' : Option (List ℕ)) → D → D → Result Ending Put → Type 0
-  Shows bytes left written written' old new got = StaysClosed content may_leave moment left_since bytes left written left written' old new got ⊎ IsShown bytes written written' old new got
+  abbrev pub Shows : (left written written' : Option (List ℕ)) → D → D → Result Ending Put → Type 0
+  Shows left written written' old new got = StaysClosed content may_leave moment left_since left written left written' old new got ⊎ IsShown written written' old new got
 
 -- the ending of the program, where the output may have failed or memory was wanted
 abbrev pub ended_as : Result Ending Put → Ending

@@ -1,7 +1,6 @@
 //! The commands over a journal.
 
 ghost use Rattle.std.specs.Prelude.{◌≡◌, ◌≢◌, ◌≤◌, ℕ, List, Option, IfOk, OnOk, OnErr, Ok, Err};
-ghost use Rattle.std.specs.Option.{ForSome};
 ghost use Rattle.std.specs.String.{string_bytes};
 ghost use Rattle.acq_io.specs.Streams.{Adds, AddsFront, Rose};
 ghost use Rattle.disk_model.specs.Disk.{LeavesOnly, Rose as DiskRose};
@@ -105,7 +104,7 @@ pub fn run_journal<R: Threads + Sync, S: Source, K: Sink, D: Disk>(
 ) -> Result<Ending, Put>
     requires some_budget { 1 ≤ budget }
     requires small_budget { budget ≤ 1000000000 }
-    ensures runs { ForSome (D.content disk.old) (λ bytes. RunsOn D.content D.may_leave D.moment D.left_since budget bytes (S.left input.old) (K.written out.old) (S.left input.new) (K.written out.new) disk.old disk.new result) }
+    ensures runs { RunsOn D.content D.may_leave D.moment D.left_since budget (S.left input.old) (K.written out.old) (S.left input.new) (K.written out.new) disk.old disk.new result }
     ensures read { result ≡ Ok Ending.ReadFault → Rose (S.faults input.old) (S.faults input.new) }
     ensures no_fault { IfOk result (λ ending. ending ≢ Ending.WriteFault) }
     ensures failed { result ≡ Err Put.Failed → Rose (K.faults out.old) (K.faults out.new) }
@@ -168,7 +167,7 @@ pub fn make_journal<K: Sink, D: Disk>(
     out: &mut K,
     disk: &mut D,
 ) -> Result<Ending, Put>
-    ensures makes { ForSome (D.content disk.old) (λ bytes. Makes D.content D.may_leave D.moment D.left_since plan voc.now bytes (K.written out.old) (K.written out.new) disk.old disk.new result) }
+    ensures makes { Makes D.content D.may_leave D.moment D.left_since plan voc.now (K.written out.old) (K.written out.new) disk.old disk.new result }
     ensures no_fault { IfOk result (λ ending. ending ≢ Ending.WriteFault) }
     ensures no_read { IfOk result (λ ending. ending ≢ Ending.ReadFault) }
     ensures failed { result ≡ Err Put.Failed → Rose (K.faults out.old) (K.faults out.new) }
@@ -191,7 +190,7 @@ pub fn new_journal<S: Source, K: Sink, D: Disk>(
     out: &mut K,
     disk: &mut D,
 ) -> Result<Ending, Put>
-    ensures news { ForSome (D.content disk.old) (λ bytes. News D.content D.may_leave D.moment D.left_since plan bytes (S.left input.old) (K.written out.old) (S.left input.new) (K.written out.new) disk.old disk.new result) }
+    ensures news { News D.content D.may_leave D.moment D.left_since plan (S.left input.old) (K.written out.old) (S.left input.new) (K.written out.new) disk.old disk.new result }
     ensures read { result ≡ Ok Ending.ReadFault → Rose (S.faults input.old) (S.faults input.new) }
     ensures no_fault { IfOk result (λ ending. ending ≢ Ending.WriteFault) }
     ensures failed { result ≡ Err Put.Failed → Rose (K.faults out.old) (K.faults out.new) }
@@ -228,7 +227,7 @@ pub fn show_journal<K: Sink, D: Disk>(
     out: &mut K,
     disk: &mut D,
 ) -> Result<Ending, Put>
-    ensures shows { (left : Option (List ℕ)) → ForSome (D.content disk.old) (λ bytes. Shows D.content D.may_leave D.moment D.left_since bytes left (K.written out.old) (K.written out.new) disk.old disk.new result) }
+    ensures shows { (left : Option (List ℕ)) → Shows D.content D.may_leave D.moment D.left_since left (K.written out.old) (K.written out.new) disk.old disk.new result }
     ensures same { D.content disk.new ≡ D.content disk.old }
     ensures any_moment { LeavesOnly D.moment D.left_since disk.old disk.new (D.may_leave disk.old) }
     ensures no_fault { IfOk result (λ ending. ending ≢ Ending.WriteFault) }

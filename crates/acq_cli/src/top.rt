@@ -1,5 +1,4 @@
 ghost use Rattle.std.specs.Prelude.{◌≡◌, ◌≤◌, ◌≢◌, ℕ, List, [], map, filter, Some, None, IsTrue, IfOk, OnOk, OnErr, Ok, Err};
-ghost use Rattle.std.specs.Option.{ForSome};
 ghost use Rattle.assign.specs.declared.events.Plan.{Plan};
 ghost use Rattle.std.specs.String.{string_bytes};
 ghost use Rattle.acq_io.specs.Streams.{Adds, AddsFront, Rose};
@@ -338,12 +337,12 @@ fn perform<R: Threads + Sync, S: Source, K: Sink, D: Disk>(
     ensures acquires { journal_command_of (map string_bytes words.now) ≡ None → IfOk result (Acquires (map string_bytes words.now) (S.left input.old) (K.written out.old) (S.left input.new) (K.written out.new)) }
     ensures part { journal_command_of (map string_bytes words.now) ≡ None → OnErr result (Breaks (map string_bytes words.now) (S.left input.old) (K.written out.old) (K.written out.new)) }
     ensures untouched { journal_command_of (map string_bytes words.now) ≡ None → disk.new ≡ disk.old }
-    ensures news { (plan : Plan) → journal_command_of (map string_bytes words.now) ≡ Some (JournalCommand.New plan) → ForSome (D.content disk.old) (λ bytes.
-        News D.content D.may_leave D.moment D.left_since plan bytes (S.left input.old) (K.written out.old) (S.left input.new) (K.written out.new) disk.old disk.new result) }
-    ensures runs { (budget : ℕ) → journal_command_of (map string_bytes words.now) ≡ Some (JournalCommand.Run budget) → ForSome (D.content disk.old) (λ bytes.
-        RunsOn D.content D.may_leave D.moment D.left_since budget bytes (S.left input.old) (K.written out.old) (S.left input.new) (K.written out.new) disk.old disk.new result) }
-    ensures shows { journal_command_of (map string_bytes words.now) ≡ Some JournalCommand.Show → ForSome (D.content disk.old) (λ bytes.
-        Shows D.content D.may_leave D.moment D.left_since bytes (S.left input.old) (K.written out.old) (K.written out.new) disk.old disk.new result) }
+    ensures news { (plan : Plan) → journal_command_of (map string_bytes words.now) ≡ Some (JournalCommand.New plan) →
+        News D.content D.may_leave D.moment D.left_since plan (S.left input.old) (K.written out.old) (S.left input.new) (K.written out.new) disk.old disk.new result }
+    ensures runs { (budget : ℕ) → journal_command_of (map string_bytes words.now) ≡ Some (JournalCommand.Run budget) →
+        RunsOn D.content D.may_leave D.moment D.left_since budget (S.left input.old) (K.written out.old) (S.left input.new) (K.written out.new) disk.old disk.new result }
+    ensures shows { journal_command_of (map string_bytes words.now) ≡ Some JournalCommand.Show →
+        Shows D.content D.may_leave D.moment D.left_since (S.left input.old) (K.written out.old) (K.written out.new) disk.old disk.new result }
     ensures unread { journal_command_of (map string_bytes words.now) ≡ Some JournalCommand.Show → S.left input.new ≡ S.left input.old }
     ensures read { result ≡ Ok Ending.ReadFault → Rose (S.faults input.old) (S.faults input.new) }
     ensures no_fault { IfOk result (λ ending. ending ≢ Ending.WriteFault) }
@@ -369,12 +368,12 @@ pub fn acquire<R: Threads + Sync, S: Source, K: Sink, D: Disk>(
 ) -> Ending
     ensures acquires { journal_command_of (map string_bytes words.now) ≡ None → Acquires (map string_bytes words.now) (S.left input.old) (K.written out.old) (S.left input.new) (K.written out.new) result }
     ensures untouched { journal_command_of (map string_bytes words.now) ≡ None → disk.new ≡ disk.old }
-    ensures news { (plan : Plan) → journal_command_of (map string_bytes words.now) ≡ Some (JournalCommand.New plan) → ForSome (D.content disk.old) (λ bytes. (got : _) × (result ≡ ended_as got)
-        × News D.content D.may_leave D.moment D.left_since plan bytes (S.left input.old) (K.written out.old) (S.left input.new) (K.written out.new) disk.old disk.new got) }
-    ensures runs { (budget : ℕ) → journal_command_of (map string_bytes words.now) ≡ Some (JournalCommand.Run budget) → ForSome (D.content disk.old) (λ bytes. (got : _) × (result ≡ ended_as got)
-        × RunsOn D.content D.may_leave D.moment D.left_since budget bytes (S.left input.old) (K.written out.old) (S.left input.new) (K.written out.new) disk.old disk.new got) }
-    ensures shows { journal_command_of (map string_bytes words.now) ≡ Some JournalCommand.Show → ForSome (D.content disk.old) (λ bytes. (got : _) × (result ≡ ended_as got)
-        × Shows D.content D.may_leave D.moment D.left_since bytes (S.left input.old) (K.written out.old) (K.written out.new) disk.old disk.new got) }
+    ensures news { (plan : Plan) → journal_command_of (map string_bytes words.now) ≡ Some (JournalCommand.New plan) → (got : _) × (result ≡ ended_as got)
+        × News D.content D.may_leave D.moment D.left_since plan (S.left input.old) (K.written out.old) (S.left input.new) (K.written out.new) disk.old disk.new got }
+    ensures runs { (budget : ℕ) → journal_command_of (map string_bytes words.now) ≡ Some (JournalCommand.Run budget) → (got : _) × (result ≡ ended_as got)
+        × RunsOn D.content D.may_leave D.moment D.left_since budget (S.left input.old) (K.written out.old) (S.left input.new) (K.written out.new) disk.old disk.new got }
+    ensures shows { journal_command_of (map string_bytes words.now) ≡ Some JournalCommand.Show → (got : _) × (result ≡ ended_as got)
+        × Shows D.content D.may_leave D.moment D.left_since (S.left input.old) (K.written out.old) (K.written out.new) disk.old disk.new got }
     ensures unread { journal_command_of (map string_bytes words.now) ≡ Some JournalCommand.Show → S.left input.new ≡ S.left input.old }
     ensures read { result ≡ Ending.ReadFault → Rose (S.faults input.old) (S.faults input.new) }
     ensures write { result ≡ Ending.WriteFault → Rose (K.faults out.old) (K.faults out.new) }

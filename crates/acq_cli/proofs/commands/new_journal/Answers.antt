@@ -11,7 +11,7 @@ abbrev fault_of : AllFault → Result (Vec ℕ Global) AllFault
 fault_of e = Err e
 
 pub returns-in-Err-TooLong-clause-news : goal.returns-in-Err-TooLong-clause-news
-returns-in-Err-TooLong-clause-news g c bytes told =
+returns-in-Err-TooLong-clause-news g c =
     let old : Option (List ℕ) = g.K.Sink.written c.args.out.now in
     let new : Option (List ℕ) = g.K.Sink.written c.refuse.new.out in
     inl (record {
@@ -21,13 +21,13 @@ returns-in-Err-TooLong-clause-news g c bytes told =
     })
 
 pub returns-in-Err-Fault-clause-news : goal.returns-in-Err-Fault-clause-news
-returns-in-Err-Fault-clause-news g c bytes told = inl (record { why = inr (inl refl, refl); same = refl })
+returns-in-Err-Fault-clause-news g c = inl (record { why = inr (inl refl, refl); same = refl })
 
 pub returns-in-Err-Memory-clause-news : goal.returns-in-Err-Memory-clause-news
-returns-in-Err-Memory-clause-news g c bytes told = inl (record { why = inr (inr refl, refl); same = refl })
+returns-in-Err-Memory-clause-news g c = inl (record { why = inr (inr refl, refl); same = refl })
 
 pub returns-in-Ok-clause-news : goal.returns-in-Ok-clause-news
-returns-in-Ok-clause-news g c bytes told =
+returns-in-Ok-clause-news g c =
     let D = g.D.Disk in
-    let Made : List ℕ → Type 0 = λ v. Makes D.content D.may_leave D.moment D.left_since c.args.plan v bytes (g.K.Sink.written c.args.out.now) (g.K.Sink.written c.make_journal.new.out) c.args.disk.now c.make_journal.new.disk c.make_journal.result in
-    inr (record { voc = c.in-Ok.voc.items; gives = c.in-Ok.ensures.all; makes = subst Made c.deref.ensures.value (c.make_journal.ensures.makes bytes told) })
+    let Made : List ℕ → Type 0 = λ v. Makes D.content D.may_leave D.moment D.left_since c.args.plan v (g.K.Sink.written c.args.out.now) (g.K.Sink.written c.make_journal.new.out) c.args.disk.now c.make_journal.new.disk c.make_journal.result in
+    inr (record { voc = c.in-Ok.voc.items; gives = c.in-Ok.ensures.all; makes = subst Made c.deref.ensures.value c.make_journal.ensures.makes })

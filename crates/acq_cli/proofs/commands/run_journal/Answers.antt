@@ -10,22 +10,21 @@ abbrev not_opened : SFault → Result Store SFault
 not_opened e = Err e
 
 pub returns-in-Ok-clause-runs : goal.returns-in-Ok-clause-runs
-returns-in-Ok-clause-runs g c bytes told =
+returns-in-Ok-clause-runs g c =
     let D = g.D.Disk in
     let store = c.in-Ok.store in
     let after = c.ask_on.new.keep in
-    let told_then = c.open.ensures.same ∙ told in
-    inr (goes_on D.content D.may_leave D.moment D.left_since c.args.budget bytes (g.S.Source.left c.args.input.now) (g.K.Sink.written c.args.out.now) (g.S.Source.left c.ask_on.new.input) (g.K.Sink.written c.ask_on.new.out)
+    inr (goes_on D.content D.may_leave D.moment D.left_since c.args.budget (g.S.Source.left c.args.input.now) (g.K.Sink.written c.args.out.now) (g.S.Source.left c.ask_on.new.input) (g.K.Sink.written c.ask_on.new.out)
     c.args.disk.now c.open.new.disk c.ask_on.new.disk c.ask_on.result (plan_of store) (voc_of store) (events_of store) (events_of after) (question_of after) (lang_of store)
-    (c.in-Ok.ensures.opened bytes told) c.in-Ok.ensures.sound.read c.in-Ok.ensures.places told_then c.open.ensures.any_moment c.ask_on.ensures.lawful c.ask_on.ensures.added
-    (λ no. c.ask_on.ensures.keeps.persists refl bytes told_then no) (λ is. c.ask_on.ensures.keeps.fails is)
+    c.in-Ok.ensures.opened c.in-Ok.ensures.sound.read c.in-Ok.ensures.places c.open.ensures.same c.open.ensures.any_moment c.ask_on.ensures.lawful c.ask_on.ensures.added
+    (λ no bytes told. c.ask_on.ensures.keeps.persists refl bytes told no) (λ is. c.ask_on.ensures.keeps.fails is)
     c.ask_on.ensures.tries c.ask_on.ensures.part)
 
 pub returns-in-Err-clause-runs : goal.returns-in-Err-clause-runs
-returns-in-Err-clause-runs g c bytes told =
+returns-in-Err-clause-runs g c =
     inl (record {
       fault = c.in-Err.fault;
-      why = c.in-Err.ensures.refused bytes told;
+      why = c.in-Err.ensures.refused;
       refuses = c.refuse_journal.ensures.refuses;
       unread = refl;
       same = c.open.ensures.same;

@@ -6,13 +6,13 @@ use Rattle.acq_cli.proofs.Journals.{told_ending}
 use Rattle.acq_cli.proofs.commands.show_journal.Goals as goal
 
 pub returns-in-Ok-clause-shows : goal.returns-in-Ok-clause-shows
-returns-in-Ok-clause-shows g c left bytes told =
+returns-in-Ok-clause-shows g c left =
     let store = c.in-Ok.store in
     inr (record {
       plan = plan_of store;
       voc = voc_of store;
       events = events_of store;
-      says = c.in-Ok.ensures.opened bytes told;
+      says = c.in-Ok.ensures.opened;
       lang = lang_of store;
       read = c.in-Ok.ensures.sound.read;
       places = c.in-Ok.ensures.places;
@@ -22,10 +22,10 @@ returns-in-Ok-clause-shows g c left bytes told =
     })
 
 pub returns-in-Err-clause-shows : goal.returns-in-Err-clause-shows
-returns-in-Err-clause-shows g c left bytes told =
+returns-in-Err-clause-shows g c left =
     inl (record {
       fault = c.in-Err.fault;
-      why = c.in-Err.ensures.refused bytes told;
+      why = c.in-Err.ensures.refused;
       refuses = c.refuse_journal.ensures.refuses;
       unread = refl;
       same = c.open.ensures.same;
