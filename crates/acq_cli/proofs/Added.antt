@@ -3,6 +3,7 @@ use Rattle.std.proofs.Common.{◌≡◌, ◌⊎◌, ℕ, ◌+◌, ◌-◌, ◌<�
 use Rattle.std.specs.Prelude.{is_some}
 use Rattle.std.specs.List.{list_any}
 use Rattle.std.proofs.lemmas.Bool.{cases_lt}
+use Rattle.std.proofs.lemmas.Bool.Decides.{nat_tests}
 use Rattle.std.proofs.lemmas.List.{append-nil, map-append, get_or-replicate, get_or-append_right, get_or_past, length-replicate}
 use Rattle.assign.specs.Sets.{MOST, numbers}
 use Rattle.assign.specs.Assignment.{Assignment, value_of, widened}
@@ -42,7 +43,7 @@ pub none_past : (q : Assignment) (n : ℕ) → length q ≡ n → is_past n (wid
 none_past q n size = none_passes (λ v. nat_le n v && is_some (value_of (widened q) v)) each (numbers 128)
   where
     below : (v : ℕ) → v < n → nat_le n v ≡ false
-    below v low = grind (arith, low)
+    below v low = grind (arith, nat_tests)
 
     go : (v : ℕ) (b : Bool) → (v < n) ⊎ (n ≤ v) → nat_le n v ≡ b → (nat_le n v && is_some (value_of (widened q) v)) ≡ false
     go v false which is = ap (λ b. b && is_some (value_of (widened q) v)) is

@@ -141,9 +141,10 @@ ends_with end text old new (Ok e) told part memory = told
 ends_with end text old new (Err put.Failed) told part memory = part
 ends_with end text old new (Err put.Memory) told part memory = memory refl
 
-pub told_ending : (end : Ending) (text : List ℕ) (old new : Option (List ℕ)) (got : Result Ending Put) → EndsWith end text old new got → IfOk got (λ (e : Ending). (e ≡ end) × Adds old new text)
-told_ending end text old new (Ok e) told = told
-told_ending end text old new (Err e) told = tt
+-- it ends in no other way
+pub ends_only : (end other : Ending) (text : List ℕ) (old new : Option (List ℕ)) (got : Result Ending Put) → (end ≡ other → ⊥) → EndsWith end text old new got → IfOk got (λ (e : Ending). e ≢ other)
+ends_only end other text old new (Ok e) apart (is, said) = λ same. apart (sym is ∙ same)
+ends_only end other text old new (Err e) apart told = tt
 
 -- where a text couldn't be written
 pub ends_badly : (end : Ending) (text bytes : List ℕ) (old new : Option (List ℕ)) (e : Put) → bytes ≡ text → (written_badly e ≡ Err put.Failed → AddsFront old new bytes) → (written_badly e ≡ Err put.Memory → new ≡ old) →

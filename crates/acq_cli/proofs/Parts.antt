@@ -52,11 +52,6 @@ pub on_err : {A : Type 0} (got : Result A Put) {P : Type 0} → P → OnErr got 
 on_err (Ok done) part = tt
 on_err (Err e) part = part
 
--- what ends in one way ends in no other
-pub ends_so : (got : Result Ending Put) (end other : Ending) (P : Type 0) → (end ≡ other → ⊥) → IfOk got (λ e. (e ≡ end) × P) → IfOk got (λ e. e ≢ other)
-ends_so (Ok e) end other P apart (is, said) = λ same. apart (sym is ∙ same)
-ends_so (Err f) end other P apart told = tt
-
 pub done_writes : ending.Done ≡ ending.WriteFault → ⊥
 done_writes e = cc
 

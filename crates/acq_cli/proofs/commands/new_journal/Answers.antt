@@ -15,8 +15,10 @@ returns-in-Err-TooLong-clause-news g c =
     let old : Option (List ℕ) = g.K.Sink.written c.args.out.now in
     let new : Option (List ℕ) = g.K.Sink.written c.refuse.new.out in
     inl (record {
-      why = inl (c.read_all.ensures.too_long (c.in-Err-TooLong.is ∙ ap fault_of c.in-Err-TooLong.field-0-is),
-          ends_with (ending.VocRefused voc.TooLong) (refusal_text voc.TooLong) old new c.refuse.result c.refuse.ensures.ok c.refuse.ensures.part c.refuse.ensures.memory);
+      why = inl (
+        c.read_all.ensures.too_long (c.in-Err-TooLong.is ∙ ap fault_of c.in-Err-TooLong.field-0-is),
+        ends_with (ending.VocRefused voc.TooLong) (refusal_text voc.TooLong) old new c.refuse.result c.refuse.ensures.ok c.refuse.ensures.part c.refuse.ensures.memory,
+      );
       same = refl;
     })
 
