@@ -6,7 +6,7 @@ mod EventLoop
 mod WholeFile
 mod Sizes
 mod Emptied
-mod OnlyRead
+pub mod OnlyRead
 mod PieceLemmas
 mod Readings
 mod FirstPiece

@@ -1,11 +1,11 @@
 //! Making a journal.
 
-ghost use Rattle.std.specs.Prelude.{◌≡◌, ◌≢◌, ◌<◌, ◌≤◌, ◌+◌, ◌^◌, ◌⊎◌, List, [], ◌∷◌, ◌++◌, ℕ, Some, None, IsTrue, IfOk, IfErr, IsErr, IsErrOf, OnOk, length};
+ghost use Rattle.std.specs.Prelude.{◌≡◌, ◌≢◌, ◌<◌, ◌≤◌, ◌+◌, ◌^◌, ◌⊎◌, List, [], ◌∷◌, ◌++◌, ℕ, Some, None, IsTrue, IfOk, IfErr, IsErr, IsErrOf, IsSome, OnOk, length};
 ghost use Rattle.std.specs.Option.{ForSome, ForNone};
 ghost use Rattle.disk_model.specs.Disk.{Only, LeavesOnly, Rose, HasCause};
 ghost use Rattle.answer_journal.specs.Format.{MAGIC, plan_byte, session_tail};
 ghost use Rattle.answer_journal.specs.Journal.{IsClosedAfter, HasNoSession};
-ghost use Rattle.answer_journal.specs.Steps.{IsSettled};
+ghost use Rattle.answer_journal.specs.Steps.{IsSettled, IsOnlyRead};
 ghost use Rattle.answer_journal.specs.Place.{Sits};
 ghost use Rattle.answer_journal.specs.Heads.{IsHead};
 ghost use Rattle.answer_journal.specs.Making.{StartsWith, IsCreating, CreateRefused};
@@ -20,8 +20,8 @@ use std::alloc::{AllocError, Global};
 /// Makes a journal on a file that holds none: with this plan, these bytes of a vocabulary, and no event.
 ///
 /// `NotAJournal` and `SessionThere` are told by the first nine bytes. All memory is taken before the first write. Where the
-/// file was longer, its old bytes stay behind the new end; nothing is cut off. After `DiskFault` the file may have no session
-/// or the new one.
+/// file was longer, its old bytes stay behind the new end; nothing is cut off. After `DiskFault` a file that had no session
+/// may have none or the new one, and any other is as it was.
 pub fn create<D: Disk>(
     alloc: Global,
     disk: &mut D,
@@ -34,14 +34,21 @@ pub fn create<D: Disk>(
     ensures durable { ForSome (D.content disk.new) (λ bytes. OnOk result (Only bytes (D.may_leave disk.new))) }
     ensures live { IfOk result (λ j. IsTrue j.live) }
     ensures records { IfOk result (λ j. j.records ≡ 1) }
+
+    // A disk that tells goes on telling, and one that doesn't never begins to.
     ensures silent { ForNone (D.content disk.old) (D.content disk.new ≡ None) }
+    ensures told { ForSome (D.content disk.old) (λ _. IsSome (D.content disk.new)) }
 
     // It is made only where there is no session, and refused by what the bytes say.
     ensures free { ForSome (D.content disk.old) (λ bytes. OnOk result (HasNoSession bytes)) }
     ensures refused { ForSome (D.content disk.old) (λ bytes. IfErr result (CreateRefused bytes)) }
-    ensures untouched { IfErr result (λ e. (e ≡ JFault.DiskFault) ⊎ (D.content disk.new ≡ D.content disk.old)) }
     ensures failed { IsErrOf result JFault.DiskFault → Rose (D.faults disk.old) (D.faults disk.new) }
     ensures later { D.faults disk.old ≤ D.faults disk.new }
+
+    // Where the disk didn't fail, a refusal leaves the file and each content of a crash as they were. Where the file holds a
+    // session or is no journal, it leaves them so whatever failed.
+    ensures untouched { IfErr result (λ e. (e ≡ JFault.DiskFault) ⊎ IsOnlyRead D.content D.may_leave D.moment D.left_since disk.old disk.new) }
+    ensures spared { ForSome (D.content disk.old) (λ bytes. HasNoSession bytes ⊎ IsOnlyRead D.content D.may_leave D.moment D.left_since disk.old disk.new) }
 
     // A crash at any moment leaves what it might have left before, or no session, or the new one with no event.
     ensures any_moment { ForSome (D.content disk.old) (λ _. LeavesOnly D.moment D.left_since disk.old disk.new (IsCreating (D.may_leave disk.old) plan voc.now)) }
@@ -66,6 +73,7 @@ fn empty<D: Disk>(disk: &mut D, head: Head) -> Result<(), Failed>
     ensures emptied { ForSome (D.content disk.old) (λ _. OnOk result (IsSettled (D.content disk.new) (D.may_leave disk.new) (IsClosedAfter MAGIC))) }
     ensures any_moment { ForSome (D.content disk.old) (λ _. LeavesOnly D.moment D.left_since disk.old disk.new HasNoSession) }
     ensures silent { ForNone (D.content disk.old) (D.content disk.new ≡ None) }
+    ensures told { ForSome (D.content disk.old) (λ _. IsSome (D.content disk.new)) }
     ensures cause { HasCause (D.faults disk.old) (D.faults disk.new) result }
 {
     match head {

@@ -1,6 +1,6 @@
 //! The place behind the last record, and what is added there.
 
-ghost use Rattle.std.specs.Prelude.{◌≡◌, ◌<◌, ◌≤◌, ◌+◌, ◌*◌, ◌⊎◌, ◌↔◌, List, ℕ, Some, None, IsTrue, IsFalse, IsErr, IfErr, IsErrOf, OnOk, length};
+ghost use Rattle.std.specs.Prelude.{◌≡◌, ◌<◌, ◌≤◌, ◌+◌, ◌*◌, ◌⊎◌, ◌↔◌, List, ℕ, Some, None, IsTrue, IsFalse, IsErr, IfErr, IsErrOf, IsSome, OnOk, length};
 ghost use Rattle.std.specs.Option.{ForSome, ForNone};
 ghost use Rattle.disk_model.specs.Disk.{Only, LeavesOnly, Rose};
 ghost use Rattle.answer_journal.specs.Storable.{IsStorableEvent};
@@ -81,9 +81,12 @@ impl Journal {
         ensures added { ForSome (D.content disk.old) (λ old. OnOk result (IsSettled (D.content disk.new) (D.may_leave disk.new) (HasNew old event.now))) }
         ensures sits { ForSome (D.content disk.new) (λ bytes. OnOk result (Sits self.new bytes)) }
         ensures durable { ForSome (D.content disk.new) (λ bytes. OnOk result (Only bytes (D.may_leave disk.new))) }
-        ensures silent { ForNone (D.content disk.old) (D.content disk.new ≡ None) }
         ensures counted { OnOk result (self.new.records ≡ self.old.records + 1) }
         ensures live { OnOk result (IsTrue self.new.live) }
+
+        // A disk that tells goes on telling, and one that doesn't never begins to.
+        ensures silent { ForNone (D.content disk.old) (D.content disk.new ≡ None) }
+        ensures told { ForSome (D.content disk.old) (λ _. IsSome (D.content disk.new)) }
 
         // A crash at any moment leaves the events from before the call, with the new one or without.
         ensures any_moment { ForSome (D.content disk.old) (λ old. LeavesOnly D.moment D.left_since disk.old disk.new (IsOldOrNew old event.now)) }
