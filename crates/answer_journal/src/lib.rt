@@ -26,6 +26,3 @@ pub use fault::JFault;
 pub use journal::{Journal, MOST_RECORDS};
 pub use laws::{no_two_readings, no_two_sessions};
 pub use opening::{Opened, open};
-
-#[cfg(test)]
-mod tests;

@@ -21,6 +21,3 @@ pub use disk::Disk;
 pub use fault::{Failed, Memory};
 pub use fuse_disk::FuseDisk;
 pub use mem_disk::{MemDisk, Room};
-
-#[cfg(test)]
-mod tests;

@@ -1,7 +1,9 @@
+//! Disks in memory: calls that must fail, and what a crash leaves.
+
 ghost use Rattle.std.specs.Prelude.{◌≡◌, IfOk, length};
 ghost use Rattle.disk_model.specs.MemDisk.{content_of};
 
-use crate::{Disk, FuseDisk, MemDisk, Memory, Room};
+use disk_model::{Disk, FuseDisk, MemDisk, Memory, Room};
 use std::alloc::Global;
 use std::test::Fail;
 
@@ -15,10 +17,10 @@ enum Call<'a> {
 
 /// Calls on a disk with the bytes `abc`, which of them pass, and the bytes behind them.
 #[derive(Clone, Copy)]
-struct Row<'a> {
-    fails: &'a [u32],
-    calls: &'a [(Call<'a>, bool)],
-    content: &'a [u8],
+struct Row {
+    fails: &'static [u32],
+    calls: &'static [(Call<'static>, bool)],
+    content: &'static [u8],
 }
 
 const ROOM: Room = Room { bytes: 6, calls: 3 };
@@ -43,53 +45,54 @@ fn does_pass(disk: &mut MemDisk, call: Call<'_>) -> bool {
     }
 }
 
+static ROWS: [Row; 3] = [
+    // The numbers of the calls.
+    Row {
+        fails: &[0, 2, 5],
+        calls: &[
+            (Call::Len, false),
+            (Call::Len, true),
+            (Call::Read, false),
+            (Call::Read, true),
+            (Call::Write(3, b"d"), true),
+            (Call::Write(4, b"e"), false),
+            (Call::Write(4, b"f"), true),
+            (Call::Sync, true),
+        ],
+        content: b"abcdf",
+    },
+    Row {
+        fails: &[1],
+        calls: &[
+            (Call::Write(0, b"x"), true),
+            (Call::Sync, false),
+            (Call::Sync, true),
+        ],
+        content: b"xbc",
+    },
+    // No room for the file, for all bytes that are written, and for a fourth write or sync.
+    Row {
+        fails: &[],
+        calls: &[
+            (Call::Write(3, b"defg"), false),
+            (Call::Write(3, b"def"), true),
+            (Call::Write(6, b"g"), false),
+            (Call::Write(0, b"vwxy"), false),
+            (Call::Write(0, b"xyz"), true),
+            (Call::Write(0, b"a"), false),
+            (Call::Write(0, b""), true),
+            (Call::Write(0, b""), false),
+            (Call::Sync, false),
+            (Call::Len, true),
+            (Call::Read, true),
+        ],
+        content: b"xyzdef",
+    },
+];
+
 #[test]
 fn a_call_fails_exactly_where_it_must(rt: HostRuntime) -> Result<(), Fail> {
-    let rows = [
-        // The numbers of the calls.
-        Row {
-            fails: &[0, 2, 5],
-            calls: &[
-                (Call::Len, false),
-                (Call::Len, true),
-                (Call::Read, false),
-                (Call::Read, true),
-                (Call::Write(3, b"d"), true),
-                (Call::Write(4, b"e"), false),
-                (Call::Write(4, b"f"), true),
-                (Call::Sync, true),
-            ],
-            content: b"abcdf",
-        },
-        Row {
-            fails: &[1],
-            calls: &[
-                (Call::Write(0, b"x"), true),
-                (Call::Sync, false),
-                (Call::Sync, true),
-            ],
-            content: b"xbc",
-        },
-        // No room for the file, for all bytes that are written, and for a fourth write or sync.
-        Row {
-            fails: &[],
-            calls: &[
-                (Call::Write(3, b"defg"), false),
-                (Call::Write(3, b"def"), true),
-                (Call::Write(6, b"g"), false),
-                (Call::Write(0, b"vwxy"), false),
-                (Call::Write(0, b"xyz"), true),
-                (Call::Write(0, b"a"), false),
-                (Call::Write(0, b""), true),
-                (Call::Write(0, b""), false),
-                (Call::Sync, false),
-                (Call::Len, true),
-                (Call::Read, true),
-            ],
-            content: b"xyzdef",
-        },
-    ];
-    for row in &rows {
+    for row in &ROWS {
         let mut disk = disk_of_three(rt.alloc(), row.fails)?;
         for (call, passes) in row.calls {
             assert_eq!(rt; does_pass(&mut disk, *call), *passes);

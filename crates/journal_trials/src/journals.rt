@@ -1,29 +1,15 @@
-ghost use Rattle.std.specs.Prelude.{◌≡◌, ◌≤◌, length, IfOk};
-ghost use Rattle.answer_journal.specs.Storable.{IsStorableEvent};
-ghost use Rattle.disk_model.specs.MemDisk.{content_of};
+//! Journals: the worked file, cut and changed in each byte; calls that fail in turn, and crashes.
 
-use crate::{JFault, Journal, Opened, create, open};
+ghost use Rattle.answer_journal.specs.Storable.{IsStorableEvent};
+
+use crate::files::{VOCABULARY, disk_with, worked_file};
+use answer_journal::{JFault, Journal, Opened, create, open};
 use assign::{Event, Partial, Plan};
-use disk_model::{Disk, FuseDisk, MemDisk, Memory, Room};
-use std::alloc::{AllocError, Global};
+use disk_model::{Disk, FuseDisk};
+use std::alloc::Global;
 use std::ops::Range;
 use std::process::Abort;
 use std::test::Fail;
-
-/// 168 bytes.
-const VOCABULARY: &[u8] =
-    br#"{"variables":["a","b"],"domain":[1,2],"relations":[{"name":"eq","arity":2,"formula":["=","$0","$1"]},{"name":"ne","arity":2,"formula":["!=","$0","$1"]}],"scopes":"all"}"#;
-
-/// What stands before the vocabulary where the plan is `Quacq`.
-const FRONT: &[u8] = b"QUACQJ1\n\x01S\x00\x00\x00\xa9\x02";
-
-/// The record of the answer yes to `a=1 b=2`, from its gate on.
-const ANSWER: &[u8] = &[1, 0x41, 0, 0, 0, 6, 1, 2, 0, 0, 1, 1];
-
-const ROOM: Room = Room {
-    bytes: 1000,
-    calls: 20,
-};
 
 /// How a file opens.
 #[derive(Clone, Copy, Debug, PartialEq, Eq)]
@@ -47,24 +33,6 @@ fn answer(yes: bool) -> Event
     question.set(0, 0);
     question.set(1, 1);
     Event::Answer { question, yes }
-}
-
-fn disk_with(rt: &impl Abort, alloc: Global, content: &[u8]) -> Result<MemDisk, Memory>
-    ensures { IfOk result (λ disk. content_of disk ≡ content.now) }
-{
-    assert!(rt; content.len() <= 1000);
-    MemDisk::new(alloc, content.to_vec(alloc)?, Vec::new(alloc), ROOM)
-}
-
-/// A journal with the worked vocabulary, of so many of the worked answers, and a closed gate.
-fn worked_file(alloc: Global, answers: u32) -> Result<Vec<u8>, AllocError> {
-    let mut bytes = FRONT.to_vec(alloc)?;
-    bytes.extend_from_slice(VOCABULARY)?;
-    for _ in 0..answers {
-        bytes.extend_from_slice(ANSWER)?;
-    }
-    bytes.push(0)?;
-    Ok(bytes)
 }
 
 #[test]
