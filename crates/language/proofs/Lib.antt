@@ -18,7 +18,6 @@ pub mod Pascal
 pub mod Adding
 pub mod Lawful
 pub mod Listed
-pub mod Naming
 pub mod Lists
 pub mod Beside
 pub mod Accepts

@@ -16,18 +16,16 @@ mod frame;
 mod lang;
 pub mod laws;
 mod named;
+mod names;
 mod numbering;
 mod parts;
 mod places;
-#[cfg(test)]
-mod scope_tests;
 mod scopes;
-#[cfg(test)]
-mod tests;
 mod texts;
 
 pub use candidates::{Candidate, ScopeId};
 pub use frame::Frame;
 pub use lang::Language;
+pub use names::is_name;
 pub use parts::{LangFault, RelPart, ScopePart};
 pub use rel_table::Memory;

@@ -11,8 +11,6 @@ mod fault;
 pub mod laws;
 mod network;
 mod reading;
-#[cfg(test)]
-mod tests;
 mod text;
 
 pub use fault::{NetFault, net_text};

@@ -13,8 +13,6 @@ mod reading;
 mod relations;
 mod rules;
 mod scopes;
-#[cfg(test)]
-mod tests;
 mod text;
 mod values;
 

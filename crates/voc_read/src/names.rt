@@ -1,35 +1,14 @@
 // The names of variables and of relations.
 ghost use Rattle.std.specs.Prelude.{◌≡◌, ◌<◌, ◌^◌, not, length, map, string_bytes, position, None, IfOk, OnOk};
-ghost use Rattle.std.specs.List.{list_all};
-ghost use Rattle.language.specs.Language.{is_name, is_name_byte, AreNames};
+ghost use Rattle.language.specs.Language.{is_name, AreNames};
 ghost use Rattle.voc_read.specs.Names.{first_repeat, names_refusal};
 ghost use Rattle.voc_read.specs.Answers.{Refuses};
 ghost use Rattle.voc_read.specs.Texts.{texts_of};
 
 use crate::fault::VocFault;
 use indexmap::IndexSet;
+use language::is_name;
 use std::alloc::{AllocError, Global};
-
-/// A byte that a name may have.
-fn is_name_byte(byte: u8) -> bool
-    ensures { result ≡ is_name_byte byte }
-{
-    byte.is_ascii_graphic() && byte != b'=' && byte != b'&'
-}
-
-/// Whether each byte may stand in a name.
-fn are_name_bytes(bytes: &[u8]) -> bool
-    ensures { result ≡ list_all is_name_byte bytes.now }
-{
-    bytes.iter().all(|byte| is_name_byte(*byte))
-}
-
-/// Whether a text has the form of a name.
-pub fn is_name(name: &str) -> bool
-    ensures { result ≡ is_name name.now }
-{
-    !name.is_empty() && name.len() <= 64 && are_name_bytes(name.as_bytes())
-}
 
 /// The number of the first name that doesn't have the form of one.
 pub fn first_bad(names: &[&str]) -> Option<usize>
