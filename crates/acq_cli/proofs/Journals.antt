@@ -1,6 +1,6 @@
 -- What a run over a journal has done, of its opening and its loop.
 use Rattle.std.proofs.Common.{◌≡◌, ◌≤◌, ◌⊎◌, ℕ, Bool, true, false, IsTrue, List, [], ◌∷◌, ◌++◌, Option, Some, None, Result, Ok, Err, refl, sym, ◌∙◌, ap, subst, inl, inr, ⊎_elim}
-use Rattle.std.specs.Prelude.{◌≢◌, IfOk, OnErr}
+use Rattle.std.specs.Prelude.{◌≢◌, IfOk, OnErr, IsSome}
 use Rattle.std.specs.Option.{ForSome}
 use Rattle.std.proofs.lemmas.List.{append-nil}
 use Rattle.acq_io.specs.Streams.{Adds, AddsFront}
@@ -15,7 +15,7 @@ use Rattle.disk_model.specs.Moments.{joined}
 use Rattle.language.specs.Language.{Language, IsLanguage}
 use Rattle.language.specs.Answers.{standing_on}
 use Rattle.session_store.specs.Kept.{answer_event}
-use Rattle.session_store.specs.Left.{OpensWith, OpensWithin, SaysSession, LeavesNow}
+use Rattle.session_store.specs.Left.{OpensWith, OpensWithin, SaysSession, LeavesNow, bytes_told}
 use Rattle.session_store.specs.Keeping.{Persists, FailsWith}
 use Rattle.session_store.specs.Replay.{HavePlaces}
 use Rattle.session_store.specs.Store.{plan_of, voc_of, events_of, IsThere, opens_there}
@@ -73,13 +73,13 @@ disk_failed (Ok end) = ⊎_elim (λ is. inl (ap okay is)) (λ other. inr (λ h. 
 module _ {D : Type 0} (content : D → Option (List ℕ)) (may_leave : D → List ℕ → Type 0) (moment : D → ℕ) (left_since : D → ℕ → List ℕ → Type 0) where
   pub goes_on : (budget : ℕ) (left written left' written' : Option (List ℕ)) (first old new : D) (got : Result Ending Put) (plan : Plan) (voc : List ℕ) (events later : List Event) (open_then : Option Assignment) (lang : Language) →
       ForSome (content first) (λ bytes. SaysSession bytes plan voc events) → IsVocabulary voc lang → HavePlaces lang plan events → content old ≡ content first → LeavesOnly moment left_since first old (may_leave first) →
-      IsLanguage lang → IsAdded lang plan events later → ((IsDisk got → ⊥) → ForSome (content old) (λ _. Persists content may_leave moment left_since plan voc events later old new)) →
+      IsLanguage lang → IsAdded lang plan events later → ForSome (content old) (λ _. IsSome (content new)) → ((IsDisk got → ⊥) → ForSome (content old) (λ _. Persists content may_leave moment left_since plan voc events later old new)) →
       (IsDisk got → FailsWith content may_leave moment left_since plan voc events later open_then
       (Loses line_turn lang (request_with plan budget) (place_of (standing_on lang events) left written) (place_of (standing_on lang later) left' written')) old new) →
       IfOk got (Tries lang (request_with plan budget) (standing_on lang events) (standing_on lang later) left written left' written') →
       OnErr got (BreaksRun lang (request_with plan budget) (standing_on lang events) (standing_on lang later) left written written') →
       GoesOn content may_leave moment left_since budget left written left' written' first new got
-  goes_on budget left written left' written' first old new got plan voc events later open_then lang says read places still opening lawful added persists fails tries part =
+  goes_on budget left written left' written' first old new got plan voc events later open_then lang says read places still opening lawful added on persists fails tries part =
       ⊎_elim
       (λ is.
       let f = fails is in
@@ -103,7 +103,7 @@ module _ {D : Type 0} (content : D → Option (List ℕ)) (may_leave : D → Lis
         any_moment = λ bytes told.
             joined moment left_since first old new (may_leave first) (OpensWithin plan voc events (later ++ last)) (λ c. may_leave first c ⊎ OpensWithin plan voc events (later ++ last) c) opening (f.any_moment bytes (still ∙ told))
             (λ c was. inl was) (λ c opens. inr opens);
-        now = λ bytes told. f.now bytes (still ∙ told);
+        now = λ bytes told. let t = bytes_told (content new) (on bytes (still ∙ told)) in record { bytes = t.0; tells = t.1; each = f.now bytes (still ∙ told) };
       })
       (λ no.
       let p = persists no in
@@ -128,7 +128,7 @@ module _ {D : Type 0} (content : D → Option (List ℕ)) (may_leave : D → Lis
         any_moment = λ bytes told.
             joined moment left_since first old new (may_leave first) (OpensWithin plan voc events (later ++ [])) (λ c. may_leave first c ⊎ OpensWithin plan voc events (later ++ []) c) opening
             (subst Within (sym same) (p bytes (still ∙ told)).any_moment) (λ c was. inl was) (λ c opens. inr opens);
-        now = λ bytes told c left. inl ((p bytes (still ∙ told)).now.each c left);
+        now = λ bytes told. let n = (p bytes (still ∙ told)).now in record { bytes = n.bytes; tells = n.tells; each = λ c left. inl (n.each c left) };
       })
       (disk_failed got)
 

@@ -1,5 +1,5 @@
 -- What a command over a journal has done.
-use Rattle.std.specs.Prelude.{◌≡◌, ◌⊎◌, ℕ, List, [], ◌∷◌, ◌++◌, length, Bool, Option, Some, None, Result, Ok, Err, IfOk, OnErr, codes}
+use Rattle.std.specs.Prelude.{◌≡◌, ◌⊎◌, ℕ, List, [], ◌∷◌, ◌++◌, length, Bool, Option, Some, None, Result, Ok, Err, IfOk, OnErr, IsSome, codes}
 use Rattle.std.specs.Fmt.{decimal}
 use Rattle.std.specs.Option.{ForSome}
 use Rattle.acq_io.specs.Streams.{Adds, AddsFront}
@@ -13,6 +13,7 @@ use Rattle.answer_journal.specs.declared.fault.JFault.{JFault}
 use Rattle.answer_journal.specs.declared.fault.JFault.TheVariants as journal
 use Rattle.answer_journal.specs.Journal.{HasNoSession}
 use Rattle.answer_journal.specs.Making.{IsCreating}
+use Rattle.answer_journal.specs.Steps.{IsOnlyRead}
 use Rattle.assign.specs.Assignment.{Assignment}
 use Rattle.assign.specs.declared.events.Event.{Event}
 use Rattle.assign.specs.declared.events.Plan.{Plan}
@@ -132,7 +133,7 @@ module _ {D : Type 0} (content : D → Option (List ℕ)) (may_leave : D → Lis
     -- each event has its place, and so has the lost one
     pub all_places : HavePlaces lang plan (later ++ last)
     pub any_moment : ForSome (content old) (λ _. LeavesOnly moment left_since old new (λ c. may_leave old c ⊎ OpensWithin plan voc events (later ++ last) c))
-    pub now : ForSome (content old) (λ _. (c : List ℕ) → may_leave new c → OpensWith plan voc later c ⊎ OpensWith plan voc (later ++ last) c)
+    pub now : ForSome (content old) (λ _. LeavesNow content may_leave (λ c. OpensWith plan voc later c ⊎ OpensWith plan voc (later ++ last) c) new)
 
   abbrev pub RunsOn : ℕ → (left written left' written' : Option (List ℕ)) → D → D → Result Ending Put → Type 0
   RunsOn budget left written left' written' old new got = StaysClosed left written left' written' old new got ⊎ GoesOn budget left written left' written' old new got
@@ -173,7 +174,10 @@ module _ {D : Type 0} (content : D → Option (List ℕ)) (may_leave : D → Lis
     -- a vocabulary is refused for what it says, before the disk is touched
     pub unread : (f : VocFault) → fault ≡ store.Voc f → (refusal_of_vocabulary voc ≡ Some f) × (new ≡ old)
     pub refuses : RefusesMaking fault written written' got
-    pub untouched : (fault ≡ store.Journal journal.DiskFault) ⊎ (content new ≡ content old)
+    -- the file and each content of a crash are as they were, but where the disk failed over a file that had no session
+    pub untouched : (fault ≡ store.Journal journal.DiskFault) ⊎ IsOnlyRead content may_leave moment left_since old new
+    pub spared : ForSome (content old) (λ bytes. HasNoSession bytes ⊎ IsOnlyRead content may_leave moment left_since old new)
+    pub told : ForSome (content old) (λ _. IsSome (content new))
     pub any_moment : ForSome (content old) (λ _. LeavesOnly moment left_since old new (IsCreating (may_leave old) plan voc))
 
   abbrev pub Makes : Plan → List ℕ → (written written' : Option (List ℕ)) → D → D → Result Ending Put → Type 0

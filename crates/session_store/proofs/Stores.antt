@@ -1,5 +1,5 @@
 -- A store beside its disk.
-use Rattle.std.proofs.Common.{◌≡◌, ◌≤◌, ◌<◌, ◌⊎◌, ℕ, length, List, [], ◌∷◌, ◌++◌, Option, Some, None, Result, Err, IsTrue, refl, sym, ◌∙◌, ap, subst, inl, inr}
+use Rattle.std.proofs.Common.{◌≡◌, ◌≤◌, ◌<◌, ◌⊎◌, ℕ, length, List, [], ◌∷◌, ◌++◌, Option, Some, None, Result, Ok, Err, IfErr, IsTrue, refl, sym, ◌∙◌, ap, subst, inl, inr}
 use Rattle.std.specs.Option.{ForSome, ForNone}
 use Rattle.assign.specs.declared.events.Event.{Event}
 use Rattle.assign.specs.declared.events.Plan.{Plan}
@@ -109,6 +109,11 @@ no_voc journal.Memory f e = cc
 pub unless_failed : {A : Type 0} (fault : JFault) → (fault ≡ journal.DiskFault) ⊎ A → (of_journal fault ≡ store.Journal journal.DiskFault) ⊎ A
 unless_failed fault (inl failed) = inl (ap of_journal failed)
 unless_failed fault (inr holds) = inr holds
+
+-- where nothing was written, this holds of each error
+pub of_each_error : {A : Type 0} (r : Result Store SFault) → A → IfErr r (λ e. (e ≡ store.Journal journal.DiskFault) ⊎ A)
+of_each_error (Ok s) a = tt
+of_each_error (Err e) a = inr a
 
 -- why no journal was made
 pub not_made : (voc bytes : List ℕ) (fault : JFault) → refusal_of_vocabulary voc ≡ None → CreateRefused bytes fault → NotMade voc bytes (of_journal fault)

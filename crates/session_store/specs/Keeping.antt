@@ -1,5 +1,5 @@
 -- What the calls of a keeper, one after another, have done to it and to its disk.
-use Rattle.std.proofs.Common.{◌≡◌, ◌≤◌, ◌⊎◌, ℕ, Bool, IsTrue, List, [], ◌∷◌, ◌++◌, map, Option, Some, None, refl, sym, ◌∙◌, ap, subst, inl, inr, arith, append_assoc}
+use Rattle.std.proofs.Common.{◌≡◌, ◌≤◌, ◌⊎◌, ℕ, Bool, IsTrue, List, [], ◌∷◌, ◌++◌, map, Option, Some, None, is_some, IsSome, refl, sym, ◌∙◌, ap, subst, inl, inr, arith, append_assoc}
 use Rattle.std.specs.Prelude.{IsFalse}
 use Rattle.std.specs.Option.{ForSome, ForNone}
 use Rattle.std.proofs.lemmas.List.{append-nil, map-append}
@@ -10,7 +10,7 @@ use Rattle.assign.specs.declared.events.Plan.{Plan}
 use Rattle.disk_model.specs.Disk.{LeavesOnly, Rose}
 use Rattle.disk_model.specs.Moments.{started, joined, weaker}
 use Rattle.session_store.specs.Kept.{answer_event, event_for}
-use Rattle.session_store.specs.Left.{OpensWith, OpensWithOrWithout, OpensWithin, LeavesNow}
+use Rattle.session_store.specs.Left.{OpensWith, OpensWithOrWithout, OpensWithin, LeavesNow, bytes_told}
 
 -- The events of these answers were added.
 pub record IsGrown (before after : List Event) : Type 0 where
@@ -44,6 +44,8 @@ module _ {D : Type 0} (content : D → Option (List ℕ)) (may_leave : D → Lis
       pub belongs : sits new disk_new
       pub later : faults disk_old ≤ faults disk_new
       pub is_live : (has_failed → ⊥) → IsTrue (live new)
+      -- a disk that tells goes on telling
+      pub told : ForSome (content disk_old) (λ _. IsSome (content disk_new))
       pub cause : has_failed → IsTrue (writes old) × Rose (faults disk_old) (faults disk_new)
       pub grown : IsGrown (record_of old) (record_of new)
       -- where nothing is written, the disk isn't touched
@@ -184,6 +186,7 @@ module _ {D : Type 0} (content : D → Option (List ℕ)) (may_leave : D → Lis
       belongs = belongs;
       later = omega arith;
       is_live = λ no. same_live ∙ is_live;
+      told = λ bytes is. ap is_some is;
       cause = λ failed. absurd (well failed);
       grown = grown_none (record_of old) (record_of new) same_record;
       unwritten = λ no. refl;
@@ -205,6 +208,7 @@ module _ {D : Type 0} (content : D → Option (List ℕ)) (may_leave : D → Lis
       belongs = second.belongs;
       later = omega (arith, first.later, second.later);
       is_live = second.is_live;
+      told = λ bytes is. let mid = bytes_told (content y) (first.told bytes is) in second.told mid.0 mid.1;
       cause = λ failed. (sym first.same_writes ∙ (second.cause failed).0, rose_later (faults x) (faults y) (faults z) first.later (second.cause failed).1);
       grown = grown_then (record_of one) (record_of two) (record_of three) first.grown second.grown;
       unwritten = λ no. second.unwritten (first.same_writes ∙ no) ∙ first.unwritten no;
@@ -231,6 +235,7 @@ module _ {D : Type 0} (content : D → Option (List ℕ)) (may_leave : D → Lis
       belongs = keeps.belongs;
       later = keeps.later;
       is_live = λ no. keeps.is_live (λ b. no (fro b));
+      told = keeps.told;
       cause = λ failed. keeps.cause (to failed);
       grown = keeps.grown;
       unwritten = keeps.unwritten;

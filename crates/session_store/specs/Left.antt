@@ -1,5 +1,5 @@
 -- What a crash may leave of a disk on which a session is kept.
-use Rattle.std.specs.Prelude.{ℕ, ◌≡◌, ◌⊎◌, List, [], ◌∷◌, ◌++◌, Option, Some, IsTrue, false}
+use Rattle.std.specs.Prelude.{ℕ, ◌≡◌, ◌⊎◌, List, [], ◌∷◌, ◌++◌, Option, Some, None, IsSome, IsTrue, false, refl}
 use Rattle.assign.specs.declared.events.Plan.{Plan}
 use Rattle.assign.specs.declared.events.Event.{Event}
 use Rattle.answer_journal.specs.Journal.{Spells, ReadsAs, Session}
@@ -32,3 +32,8 @@ pub record LeavesNow {D : Type 0} (content : D → Option (List ℕ)) (may_leave
 -- for keepers that write nothing
 pub false_is_not_true : IsTrue false → ⊥
 false_is_not_true e = cc
+
+-- what is told where something is
+pub bytes_told : (content : Option (List ℕ)) → IsSome content → (bytes : List ℕ) × (content ≡ Some bytes)
+bytes_told None is = absurd (false_is_not_true is)
+bytes_told (Some bytes) is = (bytes, refl)

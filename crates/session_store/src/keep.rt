@@ -116,7 +116,10 @@ pub trait Keep<D: Disk> {
         ensures unwritten { IsFalse (writes self.old) → disk.new ≡ disk.old }
         ensures written { IsTrue (writes self.old) → ForSome (D.content disk.old) (λ _. OnOk result (LeavesNow D.content D.may_leave (OpensWith (plan self.old) (voc self.old) (record_of self.new)) disk.new)) }
         ensures any_moment { IsTrue (writes self.old) → ForSome (D.content disk.old) (λ _. ForSome (question self.old) (λ q. LeavesOnly D.moment D.left_since disk.old disk.new (OpensWithOrWithout (plan self.old) (voc self.old) (record_of self.old) (answer_event q «yes»)))) }
-        ensures silent { ForNone (D.content disk.old) (D.content disk.new ≡ None) };
+
+        // A disk that tells goes on telling, and one that doesn't never begins to.
+        ensures silent { ForNone (D.content disk.old) (D.content disk.new ≡ None) }
+        ensures told { ForSome (D.content disk.old) (λ _. IsSome (D.content disk.new)) };
 
     /// What is written is there, whatever a crash leaves.
     ghost lasts: { (keep : Self) (disk : D) → sound keep → IsTrue (writes keep) → IsTrue (live keep) → sits keep disk →

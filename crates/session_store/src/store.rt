@@ -1,9 +1,10 @@
-ghost use Rattle.std.specs.Prelude.{◌≡◌, ◌≤◌, ◌⊎◌, [], List, ℕ, IfOk, IfErr, IsErrOf, OnOk, IsTrue, Some, None, true, length};
+ghost use Rattle.std.specs.Prelude.{◌≡◌, ◌≤◌, ◌⊎◌, [], List, ℕ, IfOk, IfErr, IsErrOf, IsSome, OnOk, IsTrue, Some, None, true, length};
 ghost use Rattle.std.specs.Option.{ForSome, ForNone};
 ghost use Rattle.language.specs.Answers.{standing_on};
 ghost use Rattle.disk_model.specs.Disk.{LeavesOnly, Rose};
 ghost use Rattle.answer_journal.specs.Journal.{HasNoSession};
 ghost use Rattle.answer_journal.specs.Making.{IsCreating};
+ghost use Rattle.answer_journal.specs.Steps.{IsOnlyRead};
 ghost use Rattle.voc_read.specs.Vocabulary.{IsVocabulary, refusal_of_vocabulary};
 ghost use Rattle.session_core.specs.Settled.{IsSettled};
 ghost use Rattle.session_store.specs.Left.{SaysSession};
@@ -64,17 +65,23 @@ impl Store {
         ensures idle { IfOk result (λ store. question_of store ≡ None) }
         ensures live { IfOk result (λ store. IsTrue (is_live_in store)) }
         ensures sits { IfOk result (λ store. SitsOn store (D.content disk.new) (D.may_leave disk.new)) }
+
+        // A disk that tells goes on telling, and one that doesn't never begins to.
         ensures silent { ForNone (D.content disk.old) (D.content disk.new ≡ None) }
-        ensures told { ForSome (D.content disk.old) (λ _. OnOk result ((bytes : List ℕ) × (D.content disk.new ≡ Some bytes))) }
+        ensures told { ForSome (D.content disk.old) (λ _. IsSome (D.content disk.new)) }
 
         // It is made only where there is no session, and refused by what the vocabulary and the bytes of the file say.
         ensures taken { OnOk result (refusal_of_vocabulary voc.now ≡ None) }
         ensures free { ForSome (D.content disk.old) (λ bytes. OnOk result (HasNoSession bytes)) }
         ensures refused { ForSome (D.content disk.old) (λ bytes. IfErr result (NotMade voc.now bytes)) }
         ensures unread { (f : VocFault) → IsErrOf result (SFault.Voc f) → (refusal_of_vocabulary voc.now ≡ Some f) × (disk.new ≡ disk.old) }
-        ensures untouched { IfErr result (λ e. (e ≡ SFault.Journal JFault.DiskFault) ⊎ (D.content disk.new ≡ D.content disk.old)) }
         ensures failed { IsErrOf result (SFault.Journal JFault.DiskFault) → Rose (D.faults disk.old) (D.faults disk.new) }
         ensures later { D.faults disk.old ≤ D.faults disk.new }
+
+        // Where the disk didn't fail, a refusal leaves the file and each content of a crash as they were. Where the file holds
+        // a session or is no journal, it leaves them so whatever failed.
+        ensures untouched { IfErr result (λ e. (e ≡ SFault.Journal JFault.DiskFault) ⊎ IsOnlyRead D.content D.may_leave D.moment D.left_since disk.old disk.new) }
+        ensures spared { ForSome (D.content disk.old) (λ bytes. HasNoSession bytes ⊎ IsOnlyRead D.content D.may_leave D.moment D.left_since disk.old disk.new) }
 
         // A crash at any moment leaves what it might have left before, or no session, or the new one with no event.
         ensures any_moment { ForSome (D.content disk.old) (λ _. LeavesOnly D.moment D.left_since disk.old disk.new (IsCreating (D.may_leave disk.old) plan voc.now)) }

@@ -2,6 +2,7 @@ use Rattle.std.proofs.Common.{◌≡◌, ◌∙◌, refl, sym, ap, subst, ℕ, L
 use Rattle.std.proofs.lemmas.Result.{err_from_is_err_and}
 use Rattle.language.specs.Language.{Language}
 use Rattle.voc_read.specs.Vocabulary.{IsVocabulary}
+use Rattle.session_store.specs.Left.{bytes_told}
 use Rattle.session_store.specs.Store.{lang_of}
 use Rattle.session_store.specs.declared.fault.SFault.{SFault}
 use Rattle.session_store.specs.declared.store.Store.{Store}
@@ -27,7 +28,7 @@ returns-in_err-say_created-in-Ok-clause-makes g c =
       tells = rw (p.1, p.2)
           (said_badly ending.Done (created_text c.lang_of.result.now) (g.K.Sink.written c.args.out.now) (g.K.Sink.written c.say_created.new.out) c.in_err-say_created-in-Ok.field-0.0 c.in_err-say_created-in-Ok.ensures.part c.in_err-say_created-in-Ok.ensures.memory);
       now = λ bytes told.
-          let t = ok.told bytes told in
+          let t = bytes_told (g.D.Disk.content c.create.new.disk) (ok.told bytes told) in
           made_now g.D.Disk.content g.D.Disk.may_leave c.create.new.disk store c.args.plan c.args.voc.now t.0 t.1 ok.plan ok.voc ok.events (ok.sits ok.live t.0 t.1);
       any_moment = ok.any_moment;
     })
@@ -44,7 +45,7 @@ returns-in_ok-say_created-in-Ok-clause-makes g c =
       read = subst Read (sym c.lang_of.ensures.is) (subst Voc ok.voc ok.sound.read);
       tells = (refl, c.in_ok-say_created-in-Ok.ensures.ok);
       now = λ bytes told.
-          let t = ok.told bytes told in
+          let t = bytes_told (g.D.Disk.content c.create.new.disk) (ok.told bytes told) in
           made_now g.D.Disk.content g.D.Disk.may_leave c.create.new.disk store c.args.plan c.args.voc.now t.0 t.1 ok.plan ok.voc ok.events (ok.sits ok.live t.0 t.1);
       any_moment = ok.any_moment;
     })
@@ -57,5 +58,7 @@ returns-in-Err-clause-makes g c =
       unread = λ f is. c.in-Err.ensures.unread f (ap not_made is);
       refuses = c.refuse_making.ensures.refuses;
       untouched = c.in-Err.ensures.untouched;
+      spared = c.in-Err.ensures.spared;
+      told = c.in-Err.ensures.told;
       any_moment = c.create.ensures.any_moment;
     })

@@ -1,15 +1,19 @@
 use Rattle.std.proofs.Common.{◌≡◌, ◌∙◌, ℕ, Bool, List, length, ap, sym, subst, refl, Option}
 use Rattle.assign.specs.Assignment.{Assignment}
 use Rattle.assign.specs.Events.{Answer}
+use Rattle.assign.specs.declared.events.Event.{Event}
+use Rattle.assign.specs.declared.events.Plan.{Plan}
+use Rattle.std.specs.Prelude.{IfSome}
 use Rattle.language.specs.Language.{Language}
 use Rattle.language.specs.Answers.{standing_on}
 use Rattle.target_oracle.specs.Turns.{Turns}
 use Rattle.acq_cli.specs.declared.words.Request.{Request}
 use Rattle.acq_cli.specs.Run.{Converged, Collapsed, Undecided}
-use Rattle.acq_cli.specs.Driven.{IsDone, IsCollapsed, IsLeftOpen, Loses, RanTo, TellsOpen}
+use Rattle.acq_cli.specs.Driven.{Drives, IsDone, IsCollapsed, IsLeftOpen, Loses, RanTo, TellsOpen}
+use Rattle.acq_cli.specs.Due.{IsDue}
 use Rattle.acq_cli.specs.Places.{place_of, request_with}
 use Rattle.session_store.specs.Keeping.{keeps_still, keeps_then}
-use Rattle.acq_cli.proofs.Standings.{due_reached, marks_after}
+use Rattle.acq_cli.proofs.Standings.{carried, due_reached, marks_after}
 use Rattle.acq_cli.proofs.Nexts.{put_due}
 use Rattle.acq_cli.proofs.Added.{added_none, added_as}
 use Rattle.acq_cli.proofs.Answered.{loses_as}
@@ -78,6 +82,30 @@ returns-in-Open-clause-remembers g c none =
     let due = put_due l request t (g.P.Keep.question c.put_next.new.keep) c.put_next.result c.in-Open.question c.put_next.ensures.put c.in-Open.is in
     marks_after l (g.P.Keep.lang c.put_next.new.keep) request (g.P.Keep.record_of c.args.keep.now) (g.P.Keep.record_of c.put_next.new.keep) (g.P.Keep.record_of c.hear_answer.new.keep)
     c.put_next.new.screen c.put_next.ensures.lang c.put_next.ensures.events (due_reached l request t _ due.puts) (c.hear_answer.ensures.more none) c.put_next.ensures.remembers
+
+-- what holds of a language, a plan and events holds of the same ones
+same_there : (P : Language → Plan → List Event → Type 0) (l m : Language) (p q : Plan) (xs ys : List Event) → l ≡ m → p ≡ q → xs ≡ ys → P l p xs → P m q ys
+same_there P l m p q xs ys e f same h =
+    let Spoken : Language → Plan → Type 0 = λ x y. P x y xs in
+    let Kept : List Event → Type 0 = λ zs. P m q zs in
+    subst Kept same (carried Spoken l m p q e f h)
+
+pub returns-in-Open-clause-ends : goal.returns-in-Open-clause-ends
+returns-in-Open-clause-ends g c =
+    let P = g.P.Keep in
+    let one = c.args.keep.now in
+    let two = c.put_next.new.keep in
+    let l : Language = P.lang one in
+    let turns : Turns = g.T.Teacher.turn c.args.teacher.now in
+    let left : Option (List ℕ) = g.S.Source.left c.args.source.now in
+    let written : Option (List ℕ) = g.K.Sink.written c.args.sink.now in
+    let left' : Option (List ℕ) = g.S.Source.left c.hear_answer.new.source in
+    let written' : Option (List ℕ) = g.K.Sink.written c.hear_answer.new.sink in
+    let due = put_due l (request_with (P.plan one) c.args.budget) (standing_on l (P.record_of one)) (P.question two) c.put_next.result c.in-Open.question c.put_next.ensures.put c.in-Open.is in
+    let Ended : Language → Plan → List Event → Type 0 = λ m q es.
+    (budget : ℕ) → IsDue m (request_with q budget) (standing_on m es) c.in-Open.question →
+    IfSome c.hear_answer.result (Drives turns m (request_with q budget) (place_of (standing_on m es) left written) (place_of (standing_on m (P.record_of c.hear_answer.new.keep)) left' written')) in
+    same_there Ended (P.lang two) l (P.plan two) (P.plan one) (P.record_of two) (P.record_of one) c.put_next.ensures.lang c.put_next.ensures.plan c.put_next.ensures.events c.hear_answer.ensures.ends c.args.budget due
 
 pub returns-in-Converged-clause-added : goal.returns-in-Converged-clause-added
 returns-in-Converged-clause-added g c =

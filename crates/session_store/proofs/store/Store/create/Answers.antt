@@ -1,8 +1,27 @@
-use Rattle.std.proofs.Common.{rules, ◌≡◌, ◌∙◌, ap, sym}
+use Rattle.std.proofs.Common.{rules, ◌≡◌, ◌∙◌, ap, sym, inr}
 use Rattle.std.proofs.lemmas.Result.{err_from_is_err_and}
+use Rattle.answer_journal.proofs.OnlyRead.{unread}
 use Rattle.session_store.specs.Held.{plan_in, plan_held, events_held}
-use Rattle.session_store.proofs.Stores.{not_made, no_voc, one_fault, unless_failed, there_made, told_before}
+use Rattle.session_store.proofs.Stores.{not_made, no_voc, one_fault, unless_failed, of_each_error, there_made, told_before}
 use Rattle.session_store.proofs.store.Store.create.Goals as goal
+
+pub returns-in_err-lang-clause-untouched : goal.returns-in_err-lang-clause-untouched
+returns-in_err-lang-clause-untouched g c = of_each_error c.from_residual.result (unread g.D.Disk.content g.D.Disk.may_leave g.D.Disk.moment g.D.Disk.left_since c.args.disk.now (g.met.D.Disk.only_now c.args.disk.now))
+
+pub returns-in_err-lang-clause-spared : goal.returns-in_err-lang-clause-spared
+returns-in_err-lang-clause-spared g c bytes told = inr (unread g.D.Disk.content g.D.Disk.may_leave g.D.Disk.moment g.D.Disk.left_since c.args.disk.now (g.met.D.Disk.only_now c.args.disk.now))
+
+pub returns-in_err-bytes-clause-untouched : goal.returns-in_err-bytes-clause-untouched
+returns-in_err-bytes-clause-untouched g c = of_each_error c.from_residual-in_err-bytes.result (unread g.D.Disk.content g.D.Disk.may_leave g.D.Disk.moment g.D.Disk.left_since c.args.disk.now (g.met.D.Disk.only_now c.args.disk.now))
+
+pub returns-in_err-bytes-clause-spared : goal.returns-in_err-bytes-clause-spared
+returns-in_err-bytes-clause-spared g c bytes told = inr (unread g.D.Disk.content g.D.Disk.may_leave g.D.Disk.moment g.D.Disk.left_since c.args.disk.now (g.met.D.Disk.only_now c.args.disk.now))
+
+pub returns-in_err-begin-clause-untouched : goal.returns-in_err-begin-clause-untouched
+returns-in_err-begin-clause-untouched g c = of_each_error c.from_residual-in_err-begin.result (unread g.D.Disk.content g.D.Disk.may_leave g.D.Disk.moment g.D.Disk.left_since c.args.disk.now (g.met.D.Disk.only_now c.args.disk.now))
+
+pub returns-in_err-begin-clause-spared : goal.returns-in_err-begin-clause-spared
+returns-in_err-begin-clause-spared g c bytes told = inr (unread g.D.Disk.content g.D.Disk.may_leave g.D.Disk.moment g.D.Disk.left_since c.args.disk.now (g.met.D.Disk.only_now c.args.disk.now))
 
 pub returns-in_err-journal-clause-refused : goal.returns-in_err-journal-clause-refused
 returns-in_err-journal-clause-refused g c bytes told =
