@@ -7,8 +7,6 @@
 pub mod laws;
 mod line;
 mod request;
-#[cfg(test)]
-mod tests;
 mod words;
 
 pub use request::{Command, JournalPlace, Request, UsageFault, WordsFault};

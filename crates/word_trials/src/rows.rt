@@ -1,4 +1,6 @@
-use crate::{Command, JournalPlace, Request, UsageFault, WordsFault, read_words};
+//! Rows of words.
+
+use acq_words::{Command, JournalPlace, Request, UsageFault, WordsFault, read_words};
 use assign::Plan;
 use std::alloc::{AllocError, Global};
 use std::test::Fail;

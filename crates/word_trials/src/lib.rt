@@ -1,0 +1,5 @@
+//! The words of the command line: lists of words, and what they ask for.
+#![tactic(auto)]
+
+#[cfg(test)]
+mod rows;
