@@ -1,69 +1,74 @@
 #!/usr/bin/env bash
 # Each misuse in must_not_compile/ must be refused by the compiler, at its line and with its error.
 #
-# A file there is an edit: `crate`, `file`, `old` (a line that stands once in the file), `new` (one line in its place),
-# `only` (the function to check), `error` (the compiler's name for the error), and `sound` (a function of the crate that
-# must check without an error in the untouched copy).
+# A file there is an edit: `crate`, `file`, `old` (a line that stands once in the file), `new` (one line in its place), and
+# `error` (the compiler's name for the error). `rt try` compiles all functions of a program and of the crates below it, and
+# proves nothing. So each edit is compiled in a copy under a program that does nothing, and so are the untouched crates, which
+# must have no error.
 set -u
 top=$(cd "$(dirname "$0")/.." && pwd)
-copy=$(mktemp -d)
-trap 'rm -rf "$copy"' EXIT
+room=$(mktemp -d)
+trap 'rm -rf "$room"' EXIT
 passed=0
 failed=0
 
 field() { sed -n "s/^$1: //p" "$2"; }
 
-report() {
-    if [ "$1" = ok ]; then
-        passed=$((passed + 1))
-    else
-        failed=$((failed + 1))
-        echo "must not compile: $2: $3"
-    fi
+# A copy of the crates, with a program `nothing` over some of them.
+copy_of() {
+    for it in "$top"/crates/*/src; do
+        mkdir -p "$room/$1${it#"$top"}"
+        cp -r "$it/." "$room/$1${it#"$top"}"
+    done
+    mkdir -p "$room/$1/crates/nothing/src"
+    { cat "$top/crates.txt"; echo "nothing: ${*:2}"; } >"$room/$1/crates.txt"
+    printf '//! Does nothing.\n#![tactic(auto)]\n\nfn main() {}\n' >"$room/$1/crates/nothing/src/main.rt"
 }
 
-cp "$top/crates.txt" "$top/HANDLES" "$copy/"
-mkdir "$copy/crates"
-for crate in "$top"/crates/*/; do
-    name=$(basename "$crate")
-    mkdir "$copy/crates/$name"
-    find "$crate" -mindepth 1 -maxdepth 1 ! -name out -exec cp -r {} "$copy/crates/$name/" \;
-done
+compile() { (cd "$room/$1/crates/nothing" && rt try >"$room/$1/log" 2>&1 </dev/null); }
 
-for edit in "$top"/checks/must_not_compile/*.edit; do
-    name=$(basename "$edit" .edit)
+# Compiles the misuse, and writes what is wrong with it, if anything is.
+misuse() {
+    edit=$top/checks/must_not_compile/$1.edit
     crate=$(field crate "$edit")
-    file=$copy/crates/$crate/$(field file "$edit")
-    old=$(field old "$edit")
-    new=$(field new "$edit")
-    line=$(grep -nxF -- "$old" "$file" | cut -d: -f1)
+    name=$crate/$(field file "$edit")
+    copy_of "$1" "$crate"
+    file=$room/$1/crates/$name
+    line=$(grep -nxF -- "$(field old "$edit")" "$file" | cut -d: -f1)
     case $line in
     '' | *[!0-9]*)
-        report bad "$name" "its old line doesn't stand once in the file"
-        continue
+        echo "its old line doesn't stand once in the file"
+        return
         ;;
     esac
-    cp "$file" "$copy/kept"
-    awk -v at="$line" -v new="$new" 'NR == at { print new; next } { print }' "$copy/kept" >"$file"
-    log=$(cd "$copy/crates/$crate" && rt check --only="$(field only "$edit")" 2>&1)
-    cp "$copy/kept" "$file"
-    wanted="$(field file "$edit"):$line:"
-    if printf '%s\n' "$log" | grep -F "$wanted" | grep -qF "error[$(field error "$edit")]"; then
-        report ok "$name"
-    else
-        report bad "$name" "no error[$(field error "$edit")] at $wanted"
-        printf '%s\n' "$log" | tail -n 5
-    fi
-done
+    new=$(field new "$edit") awk -v at="$line" 'NR == at { print ENVIRON["new"]; next } { print }' "$file" >"$room/$1/new"
+    mv "$room/$1/new" "$file"
+    compile "$1"
+    error="error[$(field error "$edit")]"
+    grep -F "/$name:$line:" "$room/$1/log" | grep -qF "$error" && return
+    echo "no $error at $name:$line"
+    tail -n 5 "$room/$1/log"
+}
 
-for sound in $(sed -n 's/^crate: //p;s/^sound: /:/p' "$top"/checks/must_not_compile/*.edit | paste -sd ' ' | sed 's/ :/:/g' | tr ' ' '\n' | sort -u); do
-    crate=${sound%%:*}
-    function=${sound#*:}
-    if (cd "$copy/crates/$crate" && rt check --only="$function" >"$copy/log" 2>&1) && ! grep -qE ': error(\[|:)' "$copy/log"; then
-        report ok "$sound"
+untouched() {
+    copy_of "$1" $(sed -n 's/^crate: //p' "$top"/checks/must_not_compile/*.edit | sort -u)
+    compile "$1" && ! grep -q 'error\(\[\|:\)' "$room/$1/log" && return
+    echo "the untouched crates have an error"
+    tail -n 5 "$room/$1/log"
+}
+
+# As many side by side as there are processors.
+for name in untouched $(cd "$top/checks/must_not_compile" && ls *.edit | sed 's/\.edit$//'); do
+    while [ "$(jobs -rp | wc -l)" -ge "$(nproc)" ]; do wait -n; done
+    if [ "$name" = untouched ]; then untouched "$name"; else misuse "$name"; fi >"$room/$name.said" &
+done
+wait
+for said in "$room"/*.said; do
+    if [ -s "$said" ]; then
+        failed=$((failed + 1))
+        echo "must not compile: $(basename "$said" .said): $(cat "$said")"
     else
-        report bad "$sound" "the untouched crate has an error"
-        tail -n 5 "$copy/log"
+        passed=$((passed + 1))
     fi
 done
 
