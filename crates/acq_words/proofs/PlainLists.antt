@@ -1,5 +1,5 @@
 -- A plain list is taken, and asks for what it reads as.
-use Rattle.std.proofs.Common.{◌≡◌, ◌≢◌, ◌∙◌, ◌<◌, ◌≤◌, ◌==◌, ◌^◌, ℕ, Bool, true, false, not, cond, List, [], ◌∷◌, ◌++◌, length, drop, map, Option, Some, None, option_map, refl, sym, subst, ap, ap₂, arith, codes, ◌&&◌, ◌||◌, IfSome, IsErrOf, lit<, lit≤}
+use Rattle.std.proofs.Common.{◌≡◌, ◌∙◌, ◌<◌, ◌≤◌, ◌==◌, ◌^◌, ℕ, Bool, true, false, not, cond, List, [], ◌∷◌, ◌++◌, length, drop, map, Option, Some, None, option_map, refl, sym, subst, ap, ap₂, arith, codes, ◌&&◌, ◌||◌, IsErrOf, lit<, lit≤}
 use Rattle.std.specs.Prelude.{ℤ, if◌then◌else◌, int_le, nat_lt, pos, unwrap_or, Ok, Err, Result}
 use Rattle.std.specs.Fmt.{decimal}
 use Rattle.std.specs.Char.{digit_value}
@@ -162,23 +162,14 @@ command_reads name.Play = refl
 command_reads name.Show = refl
 command_reads name.Demo = refl
 
-plan_reads : (p : Plan) → p ≢ Multi → plan_named (plan_text p) ≡ Some p
-plan_reads Scopes built = refl
-plan_reads Quacq built = refl
-plan_reads Multi built = absurd (built refl)
+plan_reads : (p : Plan) → plan_named (plan_text p) ≡ Some p
+plan_reads Scopes = refl
+plan_reads Quacq = refl
+plan_reads Multi = refl
 
-plan_built : (options : List Choice) → All (λ c. IsListed c.setting) options → IfSome (plan_given options) (λ p. p ≢ Multi)
-plan_built [] listed = tt
-plan_built (c ∷ options) listed = go c.setting (All-head (λ c. IsListed c.setting) c options listed) (plan_built options (All-tail (λ c. IsListed c.setting) c options listed))
-  where
-    go : (s : Setting) → IsListed s → IfSome (plan_given options) (λ p. p ≢ Multi) → IfSome (plan_given (record { setting = s; is_joined = c.is_joined } ∷ options)) (λ p. p ≢ Multi)
-    go (plan_is p) here rest = here
-    go (budget_is n) here rest = rest
-    go (number_is n) here rest = rest
-
-plan_is_said : (o : Option Plan) → IfSome o (λ p. p ≢ Multi) → plan_said (option_map plan_text o) ≡ Some o
-plan_is_said None built = refl
-plan_is_said (Some p) built = ap (option_map (λ (q : Plan). Some q)) (plan_reads p built)
+plan_is_said : (o : Option Plan) → plan_said (option_map plan_text o) ≡ Some o
+plan_is_said None = refl
+plan_is_said (Some p) = ap (option_map (λ (q : Plan). Some q)) (plan_reads p)
 
 -- ---- All of it
 
@@ -186,7 +177,7 @@ module _ (p : Plain) (plain : IsPlain p) where
   asked : asked_in (positional_rows p.journal (command_text p.command) ++ map row_of (map written_of p.options)) ≡ Some (asked_of p)
   asked =
       ap₂ (λ n o. asked_by n o (option_map number_of (one_of (codes "budget") (map row_of (map written_of p.options)))) (option_map number_of (one_of (codes "number") (map row_of (map written_of p.options)))))
-      (command_reads p.command) (ap plan_said (plan_found p.options) ∙ plan_is_said (plan_given p.options) (plan_built p.options plain.listed))
+      (command_reads p.command) (ap plan_said (plan_found p.options) ∙ plan_is_said (plan_given p.options))
       ∙ ap₂ (λ b n. asked_by (Some p.command) (Some (plan_given p.options)) b n) (budget_found p.options plain.listed) (number_found p.options plain.listed)
 
   pub plain_answer : answer_to (words_of p) ≡ answer_of p
@@ -236,7 +227,7 @@ example_is_plain = (
   record {
     journal = refl;
     once = refl;
-    listed = All-from_recursion (λ c. IsListed c.setting) example.options ((λ e. cc), ((lit≤ tt, lit≤ tt), tt));
+    listed = All-from_recursion (λ c. IsListed c.setting) example.options (tt, ((lit≤ tt, lit≤ tt), tt));
   },
   ap (λ (v : Text). codes ":memory:" ∷ codes "try" ∷ codes "--plan=scopes" ∷ codes "--budget" ∷ v ∷ []) (decimal_digit 5 (lit< tt)),
 )

@@ -1,5 +1,5 @@
 -- Plain lists of words, and what they ask for.
-use Rattle.std.specs.Prelude.{◌≡◌, ◌≢◌, ◌≤◌, ℕ, Bool, true, List, [], ◌∷◌, map, Option, Some, None, codes, Result}
+use Rattle.std.specs.Prelude.{◌≡◌, ◌≤◌, ℕ, Bool, true, List, [], ◌∷◌, map, Option, Some, None, codes, Result}
 use Rattle.std.specs.Fmt.{decimal}
 use Rattle.std.specs.List.{All}
 use Rattle.assign.specs.declared.events.Plan.{Plan}
@@ -62,9 +62,9 @@ words_of p = p.journal ∷ command_text p.command ∷ words_of_options (map writ
 
 -- ---- Which lists are plain
 
--- the value is one that the option has
+-- the value is one that the option has: each plan is
 abbrev pub IsListed : Setting → Type 0
-IsListed (plan_is p) = p ≢ Multi
+IsListed (plan_is p) = Unit {0}
 IsListed (budget_is n) = IsBudget n
 IsListed (number_is n) = n ≤ 4294967295
 

@@ -1,5 +1,5 @@
 -- What words ask for, or why they are refused.
-use Rattle.std.specs.Prelude.{◌≡◌, ◌≢◌, ◌≤◌, ℕ, Bool, true, false, not, ◌&&◌, ◌||◌, List, Option, Some, None, is_some, option_and_then, option_map, unwrap_or, if◌then◌else◌, codes, IfSome, Result, Ok, Err}
+use Rattle.std.specs.Prelude.{◌≡◌, ◌≤◌, ℕ, Bool, true, false, not, ◌&&◌, ◌||◌, List, Option, Some, None, is_some, option_and_then, option_map, unwrap_or, if◌then◌else◌, codes, IfSome, Result, Ok, Err}
 use Rattle.std.specs.Str.{bytes_eq}
 use Rattle.std.specs.String.{string_bytes}
 use Rattle.assign.specs.declared.events.Plan.{Plan}
@@ -38,7 +38,8 @@ abbrev pub plan_named : Text → Option Plan
 plan_named word =
     if bytes_eq word (codes "scopes") then Some Scopes
     else (if bytes_eq word (codes "quacq") then Some Quacq
-    else None)
+    else (if bytes_eq word (codes "multi") then Some Multi
+    else None))
 
 -- ---- What is asked for
 
@@ -149,19 +150,18 @@ IsAnswer answer (Ok request) = answer ≡ Ok (contents_of request)
 IsAnswer answer (Err (Usage fault)) = answer ≡ Err fault
 IsAnswer answer (Err Memory) = Unit {0}
 
--- the budget of a command lies within its limits, and its plan is built
+-- the budget of a command lies within its limits
 abbrev pub IsBudget : ℕ → Type 0
 IsBudget budget = (1 ≤ budget) × (budget ≤ 1000000000)
 
 abbrev pub IsWithin : Command → Type 0
-IsWithin (command.New plan) = plan ≢ Multi
+IsWithin (command.New plan) = Unit {0}
 IsWithin (command.Run budget) = IsBudget budget
-IsWithin (command.Try plan budget) = (plan ≢ Multi) × IsBudget budget
+IsWithin (command.Try plan budget) = IsBudget budget
 IsWithin (command.Play budget) = IsBudget budget
 IsWithin command.Show = Unit {0}
 IsWithin (command.Demo number budget) = IsBudget budget
 
 -- what is given lies within its limits
 pub record IsLawful (a : Asked) : Type 0 where
-  pub plan : IfSome a.plan (λ p. p ≢ Multi)
   pub budget : IfSome a.budget IsBudget

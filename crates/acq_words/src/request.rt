@@ -1,5 +1,4 @@
-ghost use Rattle.std.specs.Prelude.{◌≡◌, ◌≢◌, not, IfSome, IfOk, Some, None};
-ghost use Rattle.assign.specs.declared.events.Plan.TheVariants.{Multi};
+ghost use Rattle.std.specs.Prelude.{◌≡◌, not, IfOk, Some, None};
 ghost use Rattle.acq_words.specs.Request.{IsAnswer, IsLawful, IsWithin, answer_by, command_named, command_of, is_unfit, needs_memory, plan_named, takes_budget, takes_number, takes_plan};
 
 use assign::Plan;
@@ -92,12 +91,12 @@ pub(crate) fn command_named(word: &str) -> Option<CommandName>
 
 /// The plan of this name.
 pub(crate) fn plan_named(word: &str) -> Option<Plan>
-    ensures is { result ≡ plan_named word.now }
-    ensures built { IfSome result (λ p. p ≢ Multi) }
+    ensures { result ≡ plan_named word.now }
 {
     match word {
         "scopes" => Some(Plan::Scopes),
         "quacq" => Some(Plan::Quacq),
+        "multi" => Some(Plan::Multi),
         _ => None,
     }
 }

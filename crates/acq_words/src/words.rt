@@ -1,6 +1,5 @@
-ghost use Rattle.std.specs.Prelude.{◌≡◌, ◌≢◌, map, option_map, IfOk, IfSome, IsErrOf, Some, codes};
+ghost use Rattle.std.specs.Prelude.{◌≡◌, map, option_map, IfOk, IfSome, IsErrOf, Some, codes};
 ghost use Rattle.std.specs.String.{string_bytes};
-ghost use Rattle.assign.specs.declared.events.Plan.TheVariants.{Multi};
 ghost use Rattle.clap.specs.Words.{first_of, found_of, one_of, rows_of};
 ghost use Rattle.acq_words.specs.Numbers.{HaveNumbers, IsNumberIn, number_of};
 ghost use Rattle.acq_words.specs.Plain.{IsPlain, IsPlainList, Plain, answer_of, words_of};
@@ -31,8 +30,7 @@ fn number_said(matches: &ArgMatches, id: &str) -> Option<u32>
 
 /// The plan that was named, if one was. None where it is no plan.
 fn plan_said(matches: &ArgMatches) -> Option<Option<Plan>>
-    ensures is { result ≡ plan_said (first_of (codes "plan") (rows_of (found_of matches.now))) }
-    ensures built { IfSome result (λ plan. IfSome plan (λ p. p ≢ Multi)) }
+    ensures { result ≡ plan_said (first_of (codes "plan") (rows_of (found_of matches.now))) }
 {
     match text_said(matches, "plan") {
         Some(name) => Some(Some(plan_named(name)?)),
