@@ -6,8 +6,8 @@ ghost use Rattle.session_store.specs.declared.fault.SFault.TheVariants.{Memory};
 
 use answer_journal::JFault;
 use std::alloc::{AllocError, AllocFailed};
-use voc_read::VocFault;
 use thiserror::Error;
+use voc_read::VocFault;
 
 /// Why a call gives nothing. Want of memory is always `Memory`, and never within another fault.
 #[derive(Clone, Copy, Debug, PartialEq, Eq, Error)]
