@@ -1,0 +1,14 @@
+//! Small languages, questions and numbers that trials share.
+//!
+//! A language is read from the text of a vocabulary that is written here, so nothing has to be shown of its parts. A caller
+//! may rely on this: a question is one of the language, what `is_candidate` takes is a candidate of it, and a number lies
+//! below its limit.
+#![tactic(auto)]
+
+mod languages;
+mod numbers;
+mod questions;
+
+pub use languages::{Relation, language, places};
+pub use numbers::Numbers;
+pub use questions::{assigned, is_candidate, question};

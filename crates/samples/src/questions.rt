@@ -1,0 +1,39 @@
+ghost use Rattle.std.specs.Prelude.{◌≡◌, true};
+ghost use Rattle.language.specs.Language.{IsQuestion, IsCandidate};
+
+use assign::Partial;
+use language::{Candidate, Language};
+
+/// Whether the numbers are those of a scope and of a relation on it.
+pub fn is_candidate(lang: &Language, c: Candidate) -> bool
+    ensures { result ≡ true → IsCandidate lang.now c }
+{
+    u32::from(c.scope) < lang.scopes() && c.rel < lang.relations_on(c.scope)
+}
+
+/// The question that gives these values, as far as they go, to the variables of an order.
+pub fn assigned(lang: &Language, order: &[u8], values: &[u8]) -> Partial
+    ensures { IsQuestion lang.now result }
+{
+    let mut e = Partial::blank(lang.n());
+    for at in 0..order.len().min(values.len()) {
+        if order[at] < lang.n() && values[at] < lang.d() {
+            e.set(order[at], values[at]);
+        }
+    }
+    e
+}
+
+/// The question about the variables whose bit in `asked` is one, each with the value that its bit in `values` gives.
+pub fn question(lang: &Language, asked: u128, values: u128) -> Partial
+    ensures { IsQuestion lang.now result }
+{
+    let mut q = Partial::blank(lang.n());
+    for v in 0..lang.n() {
+        let value = ((values >> v) & 1) as u8;
+        if (asked >> v) & 1 == 1 && value < lang.d() {
+            q.set(v, value);
+        }
+    }
+    q
+}
