@@ -4,7 +4,6 @@ pub mod Picked
 pub mod Struck
 pub mod Filled
 pub mod Contained
-pub mod Apart
 pub mod Bits
 pub mod Tabled
 pub mod Runs

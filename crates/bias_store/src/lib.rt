@@ -5,12 +5,8 @@
 //! question violates, or by a scope. After `of` no call takes memory, and a `Kept` may be read by several threads.
 #![tactic(auto)]
 
-#[cfg(test)]
-mod fixture;
 mod kept;
 mod masks;
 mod tables;
-#[cfg(test)]
-mod tests;
 
 pub use kept::Kept;

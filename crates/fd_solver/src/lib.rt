@@ -11,8 +11,6 @@ mod depth_first;
 pub mod laws;
 mod outcome;
 mod stack;
-#[cfg(test)]
-mod tests;
 mod work;
 
 pub use depth_first::search;

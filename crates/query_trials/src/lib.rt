@@ -1,5 +1,15 @@
-//! Trials of the next question: known ones, and many beside those that a plain list of all prefixes gives.
+//! Trials of what is still possible, of searches and of the next question, on small languages.
+//!
+//! Nothing here leans on the definitions of the proofs: the candidates stand in plain lists (`possible`), and `plain` goes
+//! over all prefixes and all families of sets of values. `searches` and `questions` hold searches and the next question
+//! against it, and have known ones beside.
 #![tactic(auto)]
 
 #[cfg(test)]
-mod tests;
+mod plain;
+#[cfg(test)]
+mod possible;
+#[cfg(test)]
+mod questions;
+#[cfg(test)]
+mod searches;
