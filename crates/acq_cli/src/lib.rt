@@ -6,8 +6,6 @@ mod driving;
 mod ending;
 mod opens;
 mod shows;
-#[cfg(test)]
-mod tests;
 mod top;
 mod words;
 

@@ -1,0 +1,12 @@
+//! The program as one call: rows of options, vocabularies and answers, with what is printed; calls that fail in turn; and
+//! commands over a journal.
+#![tactic(auto)]
+
+#[cfg(test)]
+mod faults;
+#[cfg(test)]
+mod journals;
+#[cfg(test)]
+mod rows;
+#[cfg(test)]
+mod runs;
