@@ -13,8 +13,6 @@ mod choices;
 pub mod laws;
 pub mod rows;
 mod run;
-#[cfg(test)]
-mod tests;
 mod tuples;
 
 pub use run::{RelNext, RelRun};

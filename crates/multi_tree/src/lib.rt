@@ -13,11 +13,7 @@
 //! `make` takes memory.
 #![tactic(auto)]
 
-#[cfg(test)]
-mod fixture;
 mod stack;
-#[cfg(test)]
-mod tests;
 mod tree;
 
 pub use tree::{Tree, TreeNext};

@@ -1,23 +1,15 @@
-//! The machine and the plain recursion side by side.
+//! A halving and the plain recursion side by side.
 
-use crate::plain::{Halved, halve};
-use crate::{ScopeNext, ScopeRun};
+use crate::sets::set_of;
 use assign::VarSet;
+use find_scope::plain::{Halved, halve};
+use find_scope::{ScopeNext, ScopeRun};
 use std::alloc::Global;
 use std::process::Abort;
 use std::test::Fail;
 
 /// The most replies that are tried: 128 variables take at most 254.
 const MOST_REPLIES: usize = 255;
-
-fn set_of(rt: &impl Abort, members: &[u8]) -> VarSet {
-    let mut set = VarSet::empty();
-    for member in members {
-        assert!(rt; *member < 128);
-        set = set.with(*member);
-    }
-    set
-}
 
 fn start(rt: &impl Abort, all: VarSet) -> ScopeNext {
     assert!(rt; all.len() > 0);
