@@ -7,7 +7,7 @@ use std::test::Fail;
 
 /// Words with one space between each two, the journal that is asked for, and the command or why there is none. Which lists
 /// of the last group are taken is `clap`'s own affair.
-static ROWS: [(&str, &str, Result<Command, UsageFault>); 59] = [
+static ROWS: [(&str, &str, Result<Command, UsageFault>); 63] = [
     (
         ":memory: try",
         ":memory:",
@@ -22,6 +22,11 @@ static ROWS: [(&str, &str, Result<Command, UsageFault>); 59] = [
         ":memory: try --plan=quacq",
         ":memory:",
         Ok(Command::Try(Plan::Quacq, 100_000)),
+    ),
+    (
+        ":memory: try --plan multi",
+        ":memory:",
+        Ok(Command::Try(Plan::Multi, 100_000)),
     ),
     (
         ":memory: try --budget 5",
@@ -88,6 +93,7 @@ static ROWS: [(&str, &str, Result<Command, UsageFault>); 59] = [
         ":memory:",
         Ok(Command::New(Plan::Scopes)),
     ),
+    ("j new --plan=multi", "j", Ok(Command::New(Plan::Multi))),
     ("a/b run", "a/b", Ok(Command::Run(100_000))),
     ("try run --budget=9", "try", Ok(Command::Run(9))),
     (":memory: play", ":memory:", Ok(Command::Play(100_000))),
@@ -122,6 +128,8 @@ static ROWS: [(&str, &str, Result<Command, UsageFault>); 59] = [
     (":memory: show --budget 1", "", Err(UsageFault::Unfit)),
     (":memory: show --plan quacq", "", Err(UsageFault::Unfit)),
     (":memory: run --plan quacq", "", Err(UsageFault::Unfit)),
+    ("j run --plan quacq", "", Err(UsageFault::Unfit)),
+    ("j run --plan multi", "", Err(UsageFault::Unfit)),
     (":memory: play --number=1", "", Err(UsageFault::Unfit)),
     (
         ":memory: try --budget 1 --budget 1",
@@ -147,7 +155,7 @@ static ROWS: [(&str, &str, Result<Command, UsageFault>); 59] = [
     (":memory: stroll", "", Err(UsageFault::Words)),
     (":memory: Try", "", Err(UsageFault::Words)),
     (":memory: try quacq", "", Err(UsageFault::Words)),
-    (":memory: try --plan multi", "", Err(UsageFault::Words)),
+    (":memory: try --plan multis", "", Err(UsageFault::Words)),
     (":memory: try --plan", "", Err(UsageFault::Words)),
     (":memory: try --budget 0", "", Err(UsageFault::Words)),
     (
