@@ -2,9 +2,10 @@
 
 use crate::fold::{Fold, State};
 use crate::plain::{Lists, MOST_VARIABLES, Values, value_of};
-use crate::vocabularies::{Random, language, lists_of};
+use crate::vocabularies::{language, lists_of};
 use assign::{Partial, Plan};
 use language::{Candidate, Language};
+use samples::Numbers;
 use session_core::{Asking, Idle, Session, begin};
 use std::alloc::Global;
 use std::process::Abort;
@@ -24,7 +25,7 @@ const LANGUAGES: u64 = 20_000;
 struct Trial {
     lists: Lists,
     fold: Fold,
-    random: Random,
+    random: Numbers,
     /// The network that the user has in mind, or none: then the answers are random.
     target: Option<Vec<(usize, usize)>>,
 }
@@ -143,9 +144,9 @@ fn is_as_lawful(idle: &Idle, lists: &Lists, fold: &Fold, values: &Values) -> boo
 }
 
 /// Whether the same may be put, where nothing is open: whole examples, parts of them, and such with a value too great.
-fn has_same_lawful(idle: &Idle, lists: &Lists, fold: &Fold, random: &mut Random) -> bool {
+fn has_same_lawful(idle: &Idle, lists: &Lists, fold: &Fold, random: &mut Numbers) -> bool {
     for turn in 0..TRIED {
-        let whole = example(lists, random.below(examples(lists)));
+        let whole = example(lists, random.byte_below(examples(lists)));
         let at = (turn % 2) as usize;
         let mut part = whole;
         part[at] = None;
@@ -162,9 +163,9 @@ fn has_same_lawful(idle: &Idle, lists: &Lists, fold: &Fold, random: &mut Random)
 }
 
 /// A random example that may be put.
-fn lawful_example(lists: &Lists, fold: &Fold, random: &mut Random) -> Option<Values> {
+fn lawful_example(lists: &Lists, fold: &Fold, random: &mut Numbers) -> Option<Values> {
     let count = examples(lists);
-    let from = random.below(count);
+    let from = random.byte_below(count);
     for step in 0..count {
         let number = (u16::from(from) + u16::from(step)) % u16::from(count.max(1));
         let values = example(lists, number as u8);
@@ -176,10 +177,10 @@ fn lawful_example(lists: &Lists, fold: &Fold, random: &mut Random) -> Option<Val
 }
 
 /// A random network: at each scope a relation or none.
-fn target(alloc: Global, random: &mut Random, lists: &Lists) -> Result<Vec<(usize, usize)>, Fail> {
+fn target(alloc: Global, random: &mut Numbers, lists: &Lists) -> Result<Vec<(usize, usize)>, Fail> {
     let mut network = Vec::new(alloc);
     for s in 0..lists.scopes.len() {
-        let r = random.below(8) as usize;
+        let r = random.byte_below(8) as usize;
         if r < lists.relations(s) {
             network.push((s, r))?;
         }
@@ -209,7 +210,7 @@ impl Trial {
             Some(network) => network
                 .iter()
                 .all(|c| !self.lists.violates(c.0, c.1, question)),
-            None => self.random.below(2) == 1,
+            None => self.random.byte_below(2) == 1,
         }
     }
 
@@ -276,7 +277,7 @@ fn run(rt: &impl Abort, alloc: Global, begun: Session, trial: &mut Trial) -> Res
 fn begun_trial(
     alloc: Global,
     lang: &Language,
-    mut random: Random,
+    mut random: Numbers,
     plan: Plan,
     is_true: bool,
 ) -> Result<Trial, Fail> {
@@ -310,7 +311,7 @@ fn session(
     is_true: bool,
     tally: Tally,
 ) -> Result<Tally, Fail> {
-    let mut random = Random::new(seed);
+    let mut random = Numbers::new(seed);
     let lang = language(alloc, &mut random)?;
     let mut trial = begun_trial(alloc, &lang, random, plan, is_true)?;
     let begun = begin(alloc, lang, plan)?;
