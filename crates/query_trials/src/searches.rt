@@ -1,6 +1,6 @@
 //! Known searches, and searches beside the plain lists of all prefixes and of all families of sets of values.
 
-ghost use Rattle.std.specs.Prelude.{◌≡◌, ◌≢◌, ◌<◌, true, All, AllPairs};
+ghost use Rattle.std.specs.Prelude.{◌≡◌, ◌≢◌, true, AllPairs};
 ghost use Rattle.language.specs.Answers.{IsNetwork};
 ghost use Rattle.fd_solver.specs.Outcomes.{IsOrder};
 
