@@ -15,8 +15,6 @@ mod memory;
 mod plain;
 mod standard;
 mod streams;
-#[cfg(test)]
-mod tests;
 mod whole;
 
 pub use lines::{Line, LineGot, read_line};

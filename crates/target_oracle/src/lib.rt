@@ -9,8 +9,6 @@ pub mod laws;
 mod lines;
 mod net;
 mod teacher;
-#[cfg(test)]
-mod tests;
 mod words;
 
 pub use generator::generate;

@@ -1,9 +1,10 @@
+//! What lines and networks say, with each call that fails in turn; targets beside those of a plain loop.
+
 ghost use Rattle.std.specs.Prelude.{◌≡◌, ◌<◌, ◌≤◌, [], ◌∷◌, All, IfOk, map, string_bytes};
 ghost use Rattle.language.specs.Language.{Given, AreNames};
 ghost use Rattle.language.specs.Inside.{given_by};
 ghost use Rattle.language.specs.Building.{IsOver};
 
-use crate::{LineTeacher, NetTeacher, Teacher, Told, generate};
 use acq_io::{MemSink, MemSource, Sink, Source};
 use assign::Partial;
 use language::{Candidate, Frame, Language, RelPart, ScopePart};
@@ -11,6 +12,7 @@ use network::read_network;
 use rel_table::Table;
 use std::alloc::{AllocError, Global};
 use std::test::Fail;
+use target_oracle::{LineTeacher, NetTeacher, Teacher, Told, generate};
 
 fn one_name(alloc: Global, name: &str) -> Result<Vec<String>, AllocError>
     ensures { IfOk result (λ v. map string_bytes v.items ≡ name.now ∷ []) }

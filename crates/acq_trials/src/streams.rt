@@ -1,4 +1,6 @@
-use crate::{
+//! Lines and whole readings; sources and sinks that fail.
+
+use acq_io::{
     AllFault, Failed, Line, LineGot, MemSink, MemSource, PlainSink, PlainSource, Put, Sink, Source,
     StdSink, StdSource, read_all, read_byte, read_first_line, read_line,
 };
