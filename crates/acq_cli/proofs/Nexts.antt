@@ -14,8 +14,8 @@ use Rattle.language.specs.Answers.{IsNetwork, IsCovered, has_scope, kept}
 use Rattle.language.proofs.Covered.{covered_converged}
 use Rattle.language.proofs.Members.{find_some}
 use Rattle.fd_solver.specs.Outcomes.{outcome_of_candidate}
-use Rattle.find_c.specs.Choosing.{splitting_tuple}
-use Rattle.find_c.specs.Scenes.{scene_of, on_scope, free_choices}
+use Rattle.language.specs.TellingApart.{splitting_tuple}
+use Rattle.language.specs.Scenes.{scene_of, on_scope, free_choices}
 use Rattle.query_gen.specs.declared.query.Query.TheVariants as query
 use Rattle.query_gen.specs.Questions.{is_among, is_spent, next_query}
 use Rattle.query_gen.specs.Marks.{Remembered, is_open}
@@ -33,12 +33,12 @@ use Rattle.session_core.specs.Standing.{Stands, Knows, IsAskedIn, knowledge_of}
 use Rattle.session_core.specs.Settled.{IsSettled}
 use Rattle.session_store.specs.Kept.{IsLawfulAfter}
 use Rattle.acq_cli.specs.declared.words.Request.{Request}
-use Rattle.acq_cli.specs.Places.{request_with}
+use Rattle.acq_cli.specs.Points.{request_with}
 use Rattle.acq_cli.specs.Run.{Next, Puts, Ends, Converged, Collapsed, puts_or, searched, idle_next, next_at, next_in, next_after}
 use Rattle.acq_cli.specs.Driven.{IsDone, IsCollapsed, IsLeftOpen, TellsOpen}
 use Rattle.acq_cli.specs.Due.{IsDue, NextIs, PutIs}
-use Rattle.acq_cli.specs.declared.driving.Next.{Next as NextOf}
-use Rattle.acq_cli.specs.declared.driving.Next.TheVariants as nexts
+use Rattle.acq_cli.specs.declared.driving.Upcoming.{Upcoming}
+use Rattle.acq_cli.specs.declared.driving.Upcoming.TheVariants as nexts
 use Rattle.acq_cli.proofs.Questions.{IsLawfulExample, asked_is_example, all_are_implied, undecided_is_spent, kept_network, same_state}
 use Rattle.acq_cli.proofs.Standings.{stands_at}
 
@@ -205,12 +205,12 @@ pub over_at : (budget : ℕ) (over : overs.Collapsed) → OverAt budget (session
 over_at budget over lawful t stands = collapsed over.knowledge.lang (request_with over.knowledge.plan budget) t over.knowledge.network.list lawful stands.after
 
 -- a question that is put is the next one
-pub put_due : (l : Language) (request : Request) (t : List Answer) (put : Option Assignment) (n : NextOf) (q : Assignment) → PutIs l request t put n → (n ≡ nexts.Open q) ⊎ (n ≡ nexts.New q) → IsDue l request t q
+pub put_due : (l : Language) (request : Request) (t : List Answer) (put : Option Assignment) (n : Upcoming) (q : Assignment) → PutIs l request t put n → (n ≡ nexts.Open q) ⊎ (n ≡ nexts.New q) → IsDue l request t q
 put_due l request t put n q is (inl e) = (subst (PutIs l request t put) e is).0
 put_due l request t put n q is (inr e) = (subst (PutIs l request t put) e is).0
 
 -- where none is put anew, the question that is put stays
-pub put_as : (l : Language) (wish : Request) (t : List Answer) (put : Option Assignment) (n : NextOf) → ((q : Assignment) → n ≡ nexts.New q → ⊥) → NextIs l wish t put n → PutIs l wish t put n
+pub put_as : (l : Language) (wish : Request) (t : List Answer) (put : Option Assignment) (n : Upcoming) → ((q : Assignment) → n ≡ nexts.New q → ⊥) → NextIs l wish t put n → PutIs l wish t put n
 put_as l wish t put (nexts.Open q) other is = is
 put_as l wish t put (nexts.New q) other is = absurd (other q refl)
 put_as l wish t put nexts.Converged other is = is

@@ -7,13 +7,13 @@ use Rattle.language.specs.Language.{Language}
 use Rattle.language.specs.Answers.{IsNetwork, agrees}
 use Rattle.target_oracle.specs.Turns.{Turns}
 use Rattle.acq_cli.specs.declared.words.Request.{Request}
-use Rattle.acq_cli.specs.Driven.{Place, Drives, IsOwned}
-use Rattle.acq_cli.specs.Places.{place_of}
+use Rattle.acq_cli.specs.Driven.{Point, Drives, IsOwned}
+use Rattle.acq_cli.specs.Points.{point_of}
 use Rattle.acq_cli.specs.declared.driving.Drove.{Drove}
 use Rattle.acq_cli.specs.declared.driving.Drove.TheVariants as drove
 
-pub owned : (turns : Turns) (l : Language) (request : Request) (old : Place) (t : List Answer) (left written : Option (List ℕ)) (how : Drove) (owner : List Candidate) →
-    Drives turns l request old (place_of t left written) how → IsNetwork l owner → IsTrue (agrees l owner t) → IsOwned l request owner t how
+pub owned : (turns : Turns) (l : Language) (request : Request) (old : Point) (t : List Answer) (left written : Option (List ℕ)) (how : Drove) (owner : List Candidate) →
+    Drives turns l request old (point_of t left written) how → IsNetwork l owner → IsTrue (agrees l owner t) → IsOwned l request owner t how
 owned turns l request old t left written (drove.Converged m) owner h lawful agreeing = (h.1.network, h.1.end, h.1.idle, h.1.converged.only owner lawful agreeing)
 owned turns l request old t left written (drove.Collapsed m) owner h lawful agreeing = h.1.none owner lawful agreeing
 owned turns l request old t left written (drove.Undecided m) owner h lawful agreeing = tt

@@ -19,8 +19,8 @@ use Rattle.voc_read.specs.declared.fault.VocFault.{VocFault}
 use Rattle.acq_cli.specs.Run.{Closing}
 use Rattle.acq_cli.specs.Breaks.{Breaks, BreaksRun, IsRefusal, IsTextOfRefusal, IsTextOfRun, IsWholeText}
 use Rattle.acq_cli.specs.Driven.{RanTo, CutOff}
-use Rattle.acq_cli.specs.Places.{place_of}
-use Rattle.acq_cli.specs.Program.{Acquires, Reads, Tries}
+use Rattle.acq_cli.specs.Points.{point_of}
+use Rattle.acq_cli.specs.Program.{Acquires, ReadsVocabulary, Tries}
 use Rattle.acq_cli.specs.Texts.{closing_text, refusal_text, usage_text, whole_text}
 use Rattle.acq_cli.specs.Words.{request_of}
 use Rattle.acq_cli.specs.declared.words.Request.{Request}
@@ -73,7 +73,7 @@ begun_part l request start left written lawful reached bytes before from to =
 
 module _ (l : Language) (request : Request) (start : List Answer) (left written left' middle written' : Option (List ℕ)) (t : List Answer) where
   -- the lines of its turns are written, and a front of the last ones
-  pub closed_part : (closing : Closing) → RanTo line_turn l request closing (place_of start left written) (place_of t left' middle) → AddsFront middle written' (closing_text l request t closing) → BreaksRun l request start t left written written'
+  pub closed_part : (closing : Closing) → RanTo line_turn l request closing (point_of start left written) (point_of t left' middle) → AddsFront middle written' (closing_text l request t closing) → BreaksRun l request start t left written written'
   closed_part closing ran (front, back, parts, adds) bytes before from to =
       let run = ran bytes before from to in
       let Text : Type 0 = List ℕ in
@@ -93,7 +93,7 @@ module _ (l : Language) (request : Request) (start : List Answer) (left written 
       }
 
   -- the lines of its turns aren't all written
-  pub cut_part : CutOff line_turn l request (place_of start left written) (place_of t left' middle) → written' ≡ middle → BreaksRun l request start t left written written'
+  pub cut_part : CutOff line_turn l request (point_of start left written) (point_of t left' middle) → written' ≡ middle → BreaksRun l request start t left written written'
   cut_part cut same bytes before from to =
       let run = cut bytes before from to in
       let last : List ℕ = closing_text l request run.run.answers run.run.closing in
@@ -170,7 +170,7 @@ pub acquires_by : (words : List (List ℕ)) (request : Request) (left rest writt
     request_of words ≡ Some request → Gives (first_line_of 4194304) left rest (Ok line) → IsVocabulary line lang → (end ≡ ending.DiskFault → ⊥) → Tries lang request [] answers rest written left' written' end → Acquires words left written left' written' end
 acquires_by words request left rest written left' written' line lang answers end taken gives vocabulary never tries = go end never tries
   where
-    reads : (e : Ending) → Tries lang request [] answers rest written left' written' e → Reads words left written left' written' e
+    reads : (e : Ending) → Tries lang request [] answers rest written left' written' e → ReadsVocabulary words left written left' written' e
     reads e tried = record { request = request; taken = taken; line = line; rest = rest; gives = gives; lang = lang; vocabulary = vocabulary; answers = answers; tries = tried }
 
     go : (e : Ending) → (e ≡ ending.DiskFault → ⊥) → Tries lang request [] answers rest written left' written' e → Acquires words left written left' written' e

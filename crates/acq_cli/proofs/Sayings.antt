@@ -12,7 +12,7 @@ use Rattle.session_laws.specs.Session.{Idle, At, state_after}
 use Rattle.session_core.specs.declared.session.Session.{Session}
 use Rattle.session_core.specs.Standing.{Stands, knowledge_of}
 use Rattle.acq_cli.specs.Driven.{TellsOpen}
-use Rattle.acq_cli.specs.Places.{request_with}
+use Rattle.acq_cli.specs.Points.{request_with}
 use Rattle.acq_cli.specs.declared.driving.Drove.{Drove}
 use Rattle.acq_cli.specs.declared.driving.Drove.TheVariants as drove
 use Rattle.acq_cli.specs.declared.ending.Ending.TheVariants as ending

@@ -6,7 +6,7 @@ use Rattle.language.specs.declared.candidates.Candidate.{Candidate}
 use Rattle.language.specs.Language.{Language, IsLanguage}
 use Rattle.query_gen.specs.Marks.{Remembered, MarksHold}
 use Rattle.session_laws.specs.Session.{State, Reading, Stray, At, state_after}
-use Rattle.session_laws.specs.Laws.{network_in, GoesOn}
+use Rattle.session_laws.specs.Laws.{network_in, Extends}
 use Rattle.session_laws.proofs.Folds.{one_answer_more}
 use Rattle.session_laws.proofs.Places.{questions_have_places}
 use Rattle.session_laws.proofs.Counted.{answers_are_at_most}
@@ -33,19 +33,19 @@ run_laws = record { places = questions_have_places; more = one_answer_more; most
 
 -- ---- the state of a session, with its network
 
-pub record StandsAt (k : Knowledge) (t : List Answer) : Type 0 where
+pub record StandsIn (k : Knowledge) (t : List Answer) : Type 0 where
   pub state : State
   pub at : state_after k.lang k.plan t ≡ At state
   pub network : network_in state ≡ k.network.list
 
-put_at : (k : Knowledge) (put : Put) (t : List Answer) → PutAfter k put t → StandsAt k t
+put_at : (k : Knowledge) (put : Put) (t : List Answer) → PutAfter k put t → StandsIn k t
 put_at k (puts.Example e) t after = record { state = _; at = after.idle; network = refl }
 put_at k (puts.OnWalk e set) t after = record { state = _; at = after.walking; network = refl }
 put_at k (puts.Part e set run) t after = record { state = _; at = after.halving; network = refl }
 put_at k (puts.FirstTuple run) t after = record { state = _; at = after.idle; network = refl }
 put_at k (puts.Tuple run) t after = record { state = _; at = after; network = refl }
 
-pub stands_at : (session : Session) (t : List Answer) → Stands session t → StandsAt (knowledge_of session) t
+pub stands_at : (session : Session) (t : List Answer) → Stands session t → StandsIn (knowledge_of session) t
 stands_at (sessions.Idle idle) t h = record { state = _; at = h.after.idle; network = refl }
 stands_at (sessions.Asking asking) t h = put_at asking.knowledge asking.put t h.after
 stands_at (sessions.Over over) t h = record { state = _; at = h.after; network = refl }
@@ -104,7 +104,7 @@ marks_here session l plan budget t screen stands lang planned remembers =
 -- they stay true when an answer is added
 pub marks_on : (l : Language) (request : Request) (t : List Answer) (a : Answer) (screen : Remembered) → IsReached l request.plan t → Remembers l request t screen → Remembers l request (t ++ a ∷ []) screen
 marks_on l request t a screen (state, at) remembers next then =
-    let on : GoesOn (network_in state) (network_in next) = network_grows l request.plan t a state next at then in
+    let on : Extends (network_in state) (network_in next) = network_grows l request.plan t a state next at then in
     subst (λ (n : List Candidate). MarksHold l n request.budget screen) (sym on.is) (marks_stay l (network_in state) on.more request.budget screen (remembers state at))
 
 -- what holds of a language and a plan holds of the same ones

@@ -12,8 +12,8 @@ use Rattle.target_oracle.specs.Lines.{line_turn}
 use Rattle.query_gen.specs.Marks.{Remembered}
 use Rattle.acq_cli.specs.declared.words.Request.{Request}
 use Rattle.assign.specs.Assignment.{Assignment}
-use Rattle.acq_cli.specs.Driven.{Place, Drives, Loses, TellsOpen, UnkeptTo}
-use Rattle.acq_cli.specs.Places.{place_of, request_with}
+use Rattle.acq_cli.specs.Driven.{Point, Drives, Loses, TellsOpen, UnkeptTo}
+use Rattle.acq_cli.specs.Points.{point_of, request_with}
 use Rattle.acq_cli.proofs.Standings.{carried}
 use Rattle.acq_cli.specs.declared.driving.Drove.{Drove}
 use Rattle.acq_cli.specs.declared.driving.Drove.TheVariants as drove
@@ -25,7 +25,7 @@ use Rattle.acq_cli.specs.Run.{Converged, Collapsed, Undecided, Suspended, LineTo
 use Rattle.acq_cli.proofs.Parts.{closed_part, cut_part}
 
 by_drove : (l : Language) (request : Request) (start : List Answer) (left written left' middle written' : Option (List ℕ)) (t : List Answer) (drove : Drove) (end : Ending) →
-    Drives line_turn l request (place_of start left written) (place_of t left' middle) drove → Says l request t middle written' drove end → Tries l request start t left written left' written' end
+    Drives line_turn l request (point_of start left written) (point_of t left' middle) drove → Says l request t middle written' drove end → Tries l request start t left written left' written' end
 by_drove l request start left written left' middle written' t (drove.Converged m) end h says =
     subst (Tries l request start t left written left' written') (sym says.0) (says.1.0, says.1.1, record { middle = middle; ran = h.2; adds = says.1.2 })
 by_drove l request start left written left' middle written' t (drove.Collapsed m) end h says =
@@ -41,13 +41,13 @@ by_drove l request start left written left' middle written' t drove.Unreadable e
 by_drove l request start left written left' middle written' t drove.ReadFault end h says = subst (Tries l request start t left written left' written') (sym says.0) (cut_part l request start left written left' middle written' t h says.1)
 by_drove l request start left written left' middle written' t drove.WriteFault end h says = absurd says
 by_drove l request start left written left' middle written' t drove.DiskFault end h says =
-    let Unkept : Option (List ℕ) → Type 0 = λ w. UnkeptTo line_turn l request (place_of start left written) (place_of t left' w) in
+    let Unkept : Option (List ℕ) → Type 0 = λ w. UnkeptTo line_turn l request (point_of start left written) (point_of t left' w) in
     subst (Tries l request start t left written left' written') (sym says.0) (cut_part l request start left written left' middle written' t h.0 says.1, subst Unkept (sym says.1) h.1)
 by_drove l request start left written left' middle written' t drove.JournalFull end h says = absurd says
 by_drove l request start left written left' middle written' t drove.Memory end h says = absurd says
 
 part_by_drove : (l : Language) (request : Request) (start : List Answer) (left written left' middle written' : Option (List ℕ)) (t : List Answer) (drove : Drove) →
-    Drives line_turn l request (place_of start left written) (place_of t left' middle) drove → SaysPart l request t middle written' drove → BreaksRun l request start t left written written'
+    Drives line_turn l request (point_of start left written) (point_of t left' middle) drove → SaysPart l request t middle written' drove → BreaksRun l request start t left written written'
 part_by_drove l request start left written left' middle written' t (drove.Converged m) h part = closed_part l request start left written left' middle written' t Converged h.2 part
 part_by_drove l request start left written left' middle written' t (drove.Collapsed m) h part = closed_part l request start left written left' middle written' t Collapsed h.2 part
 part_by_drove l request start left written left' middle written' t (drove.Undecided m) h part = closed_part l request start left written left' middle written' t Undecided h.2 part
@@ -60,7 +60,7 @@ part_by_drove l request start left written left' middle written' t drove.DiskFau
 part_by_drove l request start left written left' middle written' t drove.JournalFull h part = absurd part
 part_by_drove l request start left written left' middle written' t drove.Memory h same = cut_part l request start left written left' middle written' t h same
 
-ended_by : (l : Language) (request : Request) (a : Place) (t : List Answer) (left' middle : Option (List ℕ)) (how : Drove) → Drives line_turn l request a (place_of t left' middle) how → HasEnded l request t how
+ended_by : (l : Language) (request : Request) (a : Point) (t : List Answer) (left' middle : Option (List ℕ)) (how : Drove) → Drives line_turn l request a (point_of t left' middle) how → HasEnded l request t how
 ended_by l request a t left' middle (drove.Converged m) h = (h.0, h.1)
 ended_by l request a t left' middle (drove.Collapsed m) h = (h.0, h.1)
 ended_by l request a t left' middle (drove.Undecided m) h = (h.0, h.1)
@@ -157,7 +157,7 @@ err_okay e h = cc
 -- after it.
 module _ (l now : Language) (p still : Plan) (budget : ℕ) (start : List Answer) (later : List Event) (left written left' middle written' : Option (List ℕ)) (screen : Remembered) (how : Drove) (got : Result Ending Put)
     (same : now ≡ l) (again : still ≡ p)
-    (drives : Drives line_turn l (request_with p budget) (place_of start left written) (place_of (standing_on l later) left' middle) how)
+    (drives : Drives line_turn l (request_with p budget) (point_of start left written) (point_of (standing_on l later) left' middle) how)
     (opens : (m : ℕ) → how ≡ drove.Undecided m → TellsOpen l (request_with p budget) (standing_on l later) screen)
     (says : HasEnded now (request_with still budget) (standing_on now later) how → ((m : ℕ) → how ≡ drove.Undecided m → TellsOpen now (request_with still budget) (standing_on now later) screen) →
     IfOk got (Says now (request_with still budget) (standing_on now later) middle written' how))
@@ -172,10 +172,10 @@ module _ (l now : Language) (p still : Plan) (budget : ℕ) (start : List Answer
       OnErr got (SaysPart x (request_with q budget) (standing_on x later) middle written' how)
 
   pub said : IfOk got (Says l (request_with p budget) (standing_on l later) middle written' how)
-  said = carried Now now l still p same again says (ended_by l (request_with p budget) (place_of start left written) (standing_on l later) left' middle how drives) opens
+  said = carried Now now l still p same again says (ended_by l (request_with p budget) (point_of start left written) (standing_on l later) left' middle how drives) opens
 
   said_part : OnErr got (SaysPart l (request_with p budget) (standing_on l later) middle written' how)
-  said_part = carried Part now l still p same again parts (ended_by l (request_with p budget) (place_of start left written) (standing_on l later) left' middle how drives) opens
+  said_part = carried Part now l still p same again parts (ended_by l (request_with p budget) (point_of start left written) (standing_on l later) left' middle how drives) opens
 
   pub tried : IfOk got (Tries l (request_with p budget) start (standing_on l later) left written left' written')
   tried = go got said
@@ -221,12 +221,12 @@ module _ (l now : Language) (p still : Plan) (budget : ℕ) (start : List Answer
       found (Ok end) s part = ap okay (disk_said l (request_with p budget) (standing_on l later) middle written' how end s is)
 
 -- the answer that was lost, where nothing is said after it
-pub lost_then : (l : Language) (request : Request) (a : Place) (t : List Answer) (left' middle written' : Option (List ℕ)) (how : Drove) (got : Result Ending Put) → IfOk got (Says l request t middle written' how) → how ≡ drove.DiskFault → got ≡ Ok ending.DiskFault →
-    (question : Assignment) (reply : Bool) → Loses line_turn l request a (place_of t left' middle) question reply → Loses line_turn l request a (place_of t left' written') question reply
+pub lost_then : (l : Language) (request : Request) (a : Point) (t : List Answer) (left' middle written' : Option (List ℕ)) (how : Drove) (got : Result Ending Put) → IfOk got (Says l request t middle written' how) → how ≡ drove.DiskFault → got ≡ Ok ending.DiskFault →
+    (question : Assignment) (reply : Bool) → Loses line_turn l request a (point_of t left' middle) question reply → Loses line_turn l request a (point_of t left' written') question reply
 lost_then l request a t left' middle written' how (Err e) told is ended question reply loses = absurd (err_okay e ended)
 lost_then l request a t left' middle written' how (Ok end) told is ended question reply loses =
     let P : Drove → Type 0 = λ d. Says l request t middle written' d end in
-    let Lost : Option (List ℕ) → Type 0 = λ w. Loses line_turn l request a (place_of t left' w) question reply in
+    let Lost : Option (List ℕ) → Type 0 = λ w. Loses line_turn l request a (point_of t left' w) question reply in
     subst Lost (sym (subst P is told).1) loses
 
 never_fault : (l : Language) (request : Request) (start t : List Answer) (left written left' written' : Option (List ℕ)) (end : Ending) → Tries l request start t left written left' written' end → end ≡ ending.WriteFault → ⊥

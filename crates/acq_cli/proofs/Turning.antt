@@ -8,7 +8,7 @@ use Rattle.target_oracle.specs.Turns.{Turns, Reply, Said}
 use Rattle.target_oracle.specs.Tells.{Turn, Front}
 use Rattle.acq_cli.specs.Run.{Closing, Converged, Collapsed, Undecided, Suspended, LineTooLong, Unreadable, Runs, Puts, Ends, next_after, after_text, answer, ended}
 use Rattle.acq_cli.specs.declared.words.Request.{Request}
-use Rattle.acq_cli.specs.Driven.{Place, StepsTo, RanTo, CutOff, Loses, Drives}
+use Rattle.acq_cli.specs.Driven.{Point, StepsTo, RanTo, CutOff, Loses, Drives}
 use Rattle.acq_cli.specs.declared.driving.Drove.{Drove}
 use Rattle.acq_cli.specs.declared.driving.Drove.TheVariants as drove
 use Rattle.acq_cli.proofs.Running.{text_after, runs_said, EndsSo, runs_closed, runs_end, IsReached, RunLaws, turn_exists}
@@ -18,7 +18,7 @@ some_text x y e = ap (λ (t : List ℕ). let a : Option (List ℕ) = Some t in a
 
 -- ---- many turns
 
-pub steps_none : (turns : Turns) (l : Language) (request : Request) (a : Place) → StepsTo turns l request a a
+pub steps_none : (turns : Turns) (l : Language) (request : Request) (a : Point) → StepsTo turns l request a a
 steps_none turns l request a bytes before left written = record {
   rest = bytes;
   done = [];
@@ -27,7 +27,7 @@ steps_none turns l request a bytes before left written = record {
   begins = λ run runs. runs;
 }
 
-pub steps_on : (turns : Turns) (l : Language) (request : Request) (a b c : Place) → StepsTo turns l request a b → StepsTo turns l request b c → StepsTo turns l request a c
+pub steps_on : (turns : Turns) (l : Language) (request : Request) (a b c : Point) → StepsTo turns l request a b → StepsTo turns l request b c → StepsTo turns l request a c
 steps_on turns l request a b c first second bytes before left written =
     let f = first bytes before left written in
     let s = second f.rest (before ++ f.done) f.left f.written in
@@ -39,7 +39,7 @@ steps_on turns l request a b c first second bytes before left written =
       begins = λ run runs. subst (Runs turns l request a.answers bytes) (text_after f.done s.done run) (f.begins (after_text s.done run) (s.begins run runs));
     }
 
-steps_ran : (turns : Turns) (l : Language) (request : Request) (closing : Closing) (a b c : Place) → StepsTo turns l request a b → RanTo turns l request closing b c → RanTo turns l request closing a c
+steps_ran : (turns : Turns) (l : Language) (request : Request) (closing : Closing) (a b c : Point) → StepsTo turns l request a b → RanTo turns l request closing b c → RanTo turns l request closing a c
 steps_ran turns l request closing a b c first second bytes before left written =
     let f = first bytes before left written in
     let s = second f.rest (before ++ f.done) f.left f.written in
@@ -52,7 +52,7 @@ steps_ran turns l request closing a b c first second bytes before left written =
       written = s.written ∙ some_text _ _ (append_assoc before f.done s.run.text);
     }
 
-steps_cut : (turns : Turns) (l : Language) (request : Request) (a b c : Place) → StepsTo turns l request a b → CutOff turns l request b c → CutOff turns l request a c
+steps_cut : (turns : Turns) (l : Language) (request : Request) (a b c : Point) → StepsTo turns l request a b → CutOff turns l request b c → CutOff turns l request a c
 steps_cut turns l request a b c first second bytes before left written =
     let f = first bytes before left written in
     let s = second f.rest (before ++ f.done) f.left f.written in
@@ -69,7 +69,7 @@ steps_cut turns l request a b c first second bytes before left written =
       answers = s.answers;
     }
 
-pub steps_loses : (turns : Turns) (l : Language) (request : Request) (a b c : Place) (question : Assignment) (reply : Bool) → StepsTo turns l request a b → Loses turns l request b c question reply → Loses turns l request a c question reply
+pub steps_loses : (turns : Turns) (l : Language) (request : Request) (a b c : Point) (question : Assignment) (reply : Bool) → StepsTo turns l request a b → Loses turns l request b c question reply → Loses turns l request a c question reply
 steps_loses turns l request a b c question reply first second = record {
   puts = second.puts;
   fits = second.fits;
@@ -87,7 +87,7 @@ steps_loses turns l request a b c question reply first second = record {
       };
 }
 
-pub steps_end : (turns : Turns) (l : Language) (request : Request) (a b c : Place) (end : Drove) → StepsTo turns l request a b → Drives turns l request b c end → Drives turns l request a c end
+pub steps_end : (turns : Turns) (l : Language) (request : Request) (a b c : Point) (end : Drove) → StepsTo turns l request a b → Drives turns l request b c end → Drives turns l request a c end
 steps_end turns l request a b c (drove.Converged m) steps e = (e.0, e.1, steps_ran turns l request Converged a b c steps e.2)
 steps_end turns l request a b c (drove.Collapsed m) steps e = (e.0, e.1, steps_ran turns l request Collapsed a b c steps e.2)
 steps_end turns l request a b c (drove.Undecided m) steps e = (e.0, e.1, steps_ran turns l request Undecided a b c steps e.2)
@@ -103,21 +103,21 @@ steps_end turns l request a b c drove.Memory steps e = steps_cut turns l request
 -- ---- one turn
 
 -- where both tell, the turn's reply is this one
-abbrev pub ToldSo : Turns → Language → ℕ → Assignment → Place → Place → Reply → Type 0
+abbrev pub ToldSo : Turns → Language → ℕ → Assignment → Point → Point → Reply → Type 0
 ToldSo turns l k q a b reply = (bytes before : List ℕ) → a.left ≡ Some bytes → a.written ≡ Some before → Turn (turns l k q bytes) before b.left b.written reply
 
 -- where both tell, a front of the turn's text was written
-abbrev pub FrontSo : Turns → Language → ℕ → Assignment → Place → Place → Type 0
+abbrev pub FrontSo : Turns → Language → ℕ → Assignment → Point → Point → Type 0
 FrontSo turns l k q a b = (bytes before : List ℕ) → a.left ≡ Some bytes → a.written ≡ Some before → Front (turns l k q bytes).text before b.written
 
 -- the turn's text, whole
-pub front_of_turn : (turns : Turns) (l : Language) (k : ℕ) (q : Assignment) (a b : Place) (reply : Reply) → ToldSo turns l k q a b reply → FrontSo turns l k q a b
+pub front_of_turn : (turns : Turns) (l : Language) (k : ℕ) (q : Assignment) (a b : Point) (reply : Reply) → ToldSo turns l k q a b reply → FrontSo turns l k q a b
 front_of_turn turns l k q a b reply told bytes before left written =
     let t = told bytes before left written in
     record { front = (turns l k q bytes).text; back = []; parts = sym (append-nil (turns l k q bytes).text); put = t.text }
 
 -- nothing is put
-pub ran_end : (turns : Turns) (l : Language) (request : Request) (closing : Closing) (a : Place) → next_after l request a.answers ≡ Some (Ends closing) → RanTo turns l request closing a a
+pub ran_end : (turns : Turns) (l : Language) (request : Request) (closing : Closing) (a : Point) → next_after l request a.answers ≡ Some (Ends closing) → RanTo turns l request closing a a
 ran_end turns l request closing a due bytes before left written = record {
   run = ended closing a.answers bytes;
   runs = runs_end turns l request a.answers bytes closing due;
@@ -127,7 +127,7 @@ ran_end turns l request closing a due bytes before left written = record {
   written = written ∙ some_text _ _ (sym (append-nil before));
 }
 
-pub step_said : (turns : Turns) (l : Language) (request : Request) (q : Assignment) (said : Bool) (a b : Place) → next_after l request a.answers ≡ Some (Puts q) →
+pub step_said : (turns : Turns) (l : Language) (request : Request) (q : Assignment) (said : Bool) (a b : Point) → next_after l request a.answers ≡ Some (Puts q) →
     b.answers ≡ a.answers ++ answer q said ∷ [] → ToldSo turns l (length a.answers + 1) q a b (Said said) → StepsTo turns l request a b
 step_said turns l request q said a b due added told bytes before left written =
     let t = told bytes before left written in
@@ -140,7 +140,7 @@ step_said turns l request q said a b due added told bytes before left written =
       begins = λ run runs. runs_said turns l request a.answers bytes q said run due t.heard (let P : List Answer → Type 0 = λ xs. Runs turns l request xs turned.heard.rest run in subst P added runs);
     }
 
-pub ran_closed : (turns : Turns) (l : Language) (request : Request) (q : Assignment) (reply : Reply) (closing : Closing) (a b : Place) → next_after l request a.answers ≡ Some (Puts q) → b.answers ≡ a.answers →
+pub ran_closed : (turns : Turns) (l : Language) (request : Request) (q : Assignment) (reply : Reply) (closing : Closing) (a b : Point) → next_after l request a.answers ≡ Some (Puts q) → b.answers ≡ a.answers →
     EndsSo reply closing a.answers q → ToldSo turns l (length a.answers + 1) q a b reply → RanTo turns l request closing a b
 ran_closed turns l request q reply closing a b due same closes told bytes before left written =
     let t = told bytes before left written in
@@ -154,7 +154,7 @@ ran_closed turns l request q reply closing a b due same closes told bytes before
     }
 
 -- a turn that was cut off
-pub cut_turn : RunLaws → (turns : Turns) (l : Language) (request : Request) → IsLanguage l → (q : Assignment) (a b : Place) → IsReached l request.plan a.answers → next_after l request a.answers ≡ Some (Puts q) →
+pub cut_turn : RunLaws → (turns : Turns) (l : Language) (request : Request) → IsLanguage l → (q : Assignment) (a b : Point) → IsReached l request.plan a.answers → next_after l request a.answers ≡ Some (Puts q) →
     b.answers ≡ a.answers → FrontSo turns l (length a.answers + 1) q a b → CutOff turns l request a b
 cut_turn laws turns l request lawful q a b reached due same told bytes before left written =
     let f = told bytes before left written in
@@ -173,7 +173,7 @@ cut_turn laws turns l request lawful q a b reached due same told bytes before le
     }
 
 -- a turn whose answer wasn't kept
-pub lost_turn : (turns : Turns) (l : Language) (request : Request) (q : Assignment) (said : Bool) (a b : Place) → next_after l request a.answers ≡ Some (Puts q) → IsQuestion l q → b.answers ≡ a.answers →
+pub lost_turn : (turns : Turns) (l : Language) (request : Request) (q : Assignment) (said : Bool) (a b : Point) → next_after l request a.answers ≡ Some (Puts q) → IsQuestion l q → b.answers ≡ a.answers →
     ToldSo turns l (length a.answers + 1) q a b (Said said) → Loses turns l request a b q said
 lost_turn turns l request q said a b due fits same told =
     let Due : List Answer → Type 0 = λ x. next_after l request x ≡ Some (Puts q) in
@@ -194,10 +194,10 @@ lost_turn turns l request q said a b due fits same told =
     }
 
 -- the same turn, by its language and number
-pub told_as : (turns : Turns) (l m : Language) (k n : ℕ) (q : Assignment) (a b : Place) (reply : Reply) → l ≡ m → k ≡ n → ToldSo turns l k q a b reply → ToldSo turns m n q a b reply
+pub told_as : (turns : Turns) (l m : Language) (k n : ℕ) (q : Assignment) (a b : Point) (reply : Reply) → l ≡ m → k ≡ n → ToldSo turns l k q a b reply → ToldSo turns m n q a b reply
 told_as turns l m k n q a b reply e f h =
     let P : Language → Type 0 = λ x. ToldSo turns x n q a b reply in let Q : ℕ → Type 0 = λ x. ToldSo turns l x q a b reply in subst P e (subst Q f h)
 
-pub front_as : (turns : Turns) (l m : Language) (k n : ℕ) (q : Assignment) (a b : Place) → l ≡ m → k ≡ n → FrontSo turns l k q a b → FrontSo turns m n q a b
+pub front_as : (turns : Turns) (l m : Language) (k n : ℕ) (q : Assignment) (a b : Point) → l ≡ m → k ≡ n → FrontSo turns l k q a b → FrontSo turns m n q a b
 front_as turns l m k n q a b e f h =
     let P : Language → Type 0 = λ x. FrontSo turns x n q a b in let Q : ℕ → Type 0 = λ x. FrontSo turns l x q a b in subst P e (subst Q f h)

@@ -22,13 +22,13 @@ use Rattle.acq_cli.specs.declared.driving.Drove.{Drove}
 use Rattle.acq_cli.specs.declared.driving.Drove.TheVariants as drove
 
 -- the answers that stand, what a source has left and what a sink has, where they tell
-pub record Place : Type 0 where
+pub record Point : Type 0 where
   pub answers : List Answer
   pub left : Option (List ℕ)
   pub written : Option (List ℕ)
 
 -- what was written so far begins each run that goes on from there
-pub record IsBegun (turns : Turns) (l : Language) (request : Request) (bytes before : List ℕ) (old new : Place) : Type 0 where
+pub record IsBegun (turns : Turns) (l : Language) (request : Request) (bytes before : List ℕ) (old new : Point) : Type 0 where
   pub rest : List ℕ
   pub done : List ℕ
   pub left : new.left ≡ Some rest
@@ -36,11 +36,11 @@ pub record IsBegun (turns : Turns) (l : Language) (request : Request) (bytes bef
   pub begins : (run : Ran) → Runs turns l request new.answers rest run → Runs turns l request old.answers bytes (after_text done run)
 
 -- where source and sink tell
-abbrev pub StepsTo : Turns → Language → Request → Place → Place → Type 0
+abbrev pub StepsTo : Turns → Language → Request → Point → Point → Type 0
 StepsTo turns l request old new = (bytes before : List ℕ) → old.left ≡ Some bytes → old.written ≡ Some before → IsBegun turns l request bytes before old new
 
 -- the run with this closing is what was written and left, and its answers stand
-pub record IsRun (turns : Turns) (l : Language) (request : Request) (bytes before : List ℕ) (end : Closing) (old new : Place) : Type 0 where
+pub record IsRun (turns : Turns) (l : Language) (request : Request) (bytes before : List ℕ) (end : Closing) (old new : Point) : Type 0 where
   pub run : Ran
   pub runs : Runs turns l request old.answers bytes run
   pub closing : run.closing ≡ end
@@ -48,22 +48,22 @@ pub record IsRun (turns : Turns) (l : Language) (request : Request) (bytes befor
   pub left : new.left ≡ Some run.rest
   pub written : new.written ≡ Some (before ++ run.text)
 
-abbrev pub RanTo : Turns → Language → Request → Closing → Place → Place → Type 0
+abbrev pub RanTo : Turns → Language → Request → Closing → Point → Point → Type 0
 RanTo turns l request closing old new = (bytes before : List ℕ) → old.left ≡ Some bytes → old.written ≡ Some before → IsRun turns l request bytes before closing old new
 
 -- what was written is a front of the run's text, and the answers are a front of its answers
-pub record IsCut (turns : Turns) (l : Language) (request : Request) (bytes before : List ℕ) (old new : Place) : Type 0 where
+pub record IsCut (turns : Turns) (l : Language) (request : Request) (bytes before : List ℕ) (old new : Point) : Type 0 where
   pub run : Ran
   pub runs : Runs turns l request old.answers bytes run
   pub text : Front run.text before new.written
   pub later : List Answer
   pub answers : run.answers ≡ new.answers ++ later
 
-abbrev pub CutOff : Turns → Language → Request → Place → Place → Type 0
+abbrev pub CutOff : Turns → Language → Request → Point → Point → Type 0
 CutOff turns l request old new = (bytes before : List ℕ) → old.left ≡ Some bytes → old.written ≡ Some before → IsCut turns l request bytes before old new
 
 -- This question was put: its lines were written, and this reply was heard, which doesn't stand.
-pub record IsUnkept (turns : Turns) (l : Language) (request : Request) (question : Assignment) (reply : Bool) (bytes before : List ℕ) (old new : Place) : Type 0 where
+pub record IsUnkept (turns : Turns) (l : Language) (request : Request) (question : Assignment) (reply : Bool) (bytes before : List ℕ) (old new : Point) : Type 0 where
   pub rest : List ℕ
   pub done : List ℕ
   pub begins : (run : Ran) → Runs turns l request new.answers rest run → Runs turns l request old.answers bytes (after_text done run)
@@ -72,14 +72,14 @@ pub record IsUnkept (turns : Turns) (l : Language) (request : Request) (question
   pub written : new.written ≡ Some (before ++ (done ++ (turns l (length new.answers + 1) question rest).text))
 
 -- This reply to the question that comes next was lost.
-pub record Loses (turns : Turns) (l : Language) (request : Request) (old new : Place) (question : Assignment) (reply : Bool) : Type 0 where
+pub record Loses (turns : Turns) (l : Language) (request : Request) (old new : Point) (question : Assignment) (reply : Bool) : Type 0 where
   pub puts : next_after l request new.answers ≡ Some (Puts question)
   pub fits : IsQuestion l question
   -- where source and sink tell
   pub told : (bytes before : List ℕ) → old.left ≡ Some bytes → old.written ≡ Some before → IsUnkept turns l request question reply bytes before old new
 
 -- an answer was lost
-abbrev pub UnkeptTo : Turns → Language → Request → Place → Place → Type 0
+abbrev pub UnkeptTo : Turns → Language → Request → Point → Point → Type 0
 UnkeptTo turns l request old new = (question : Assignment) × (reply : Bool) × Loses turns l request old new question reply
 
 -- nothing is left to ask, and the answers converge on what was learned
@@ -109,7 +109,7 @@ pub record IsLeftOpen (l : Language) (request : Request) (t : List Answer) : Typ
   pub plan : request.plan ≢ Scopes
 
 -- The loop ends so only in this way.
-abbrev pub Drives : Turns → Language → Request → Place → Place → Drove → Type 0
+abbrev pub Drives : Turns → Language → Request → Point → Point → Drove → Type 0
 Drives turns l request old new (drove.Converged m) = (m ≡ length new.answers) × IsDone l request new.answers × RanTo turns l request Converged old new
 Drives turns l request old new (drove.Collapsed m) = (m ≡ length new.answers) × IsCollapsed l request new.answers × RanTo turns l request Collapsed old new
 Drives turns l request old new (drove.Undecided m) = (m ≡ length new.answers) × IsLeftOpen l request new.answers × RanTo turns l request Undecided old new

@@ -12,8 +12,8 @@ use Rattle.acq_cli.specs.Driven.{IsDone, IsCollapsed, IsLeftOpen}
 use Rattle.acq_cli.specs.declared.words.Request.{Request}
 use Rattle.acq_cli.specs.declared.driving.Drove.{Drove}
 use Rattle.acq_cli.specs.declared.driving.Drove.TheVariants as drove
-use Rattle.acq_cli.specs.declared.driving.Next.{Next}
-use Rattle.acq_cli.specs.declared.driving.Next.TheVariants as next
+use Rattle.acq_cli.specs.declared.driving.Upcoming.{Upcoming}
+use Rattle.acq_cli.specs.declared.driving.Upcoming.TheVariants as next
 
 -- this question comes next
 pub record IsDue (l : Language) (request : Request) (t : List Answer) (q : Assignment) : Type 0 where
@@ -21,7 +21,7 @@ pub record IsDue (l : Language) (request : Request) (t : List Answer) (q : Assig
   pub fits : IsQuestion l q
 
 -- no question comes: the answers converge, or no network agrees with them, or the budget was too small
-abbrev pub NoneIsDue : Language → Request → List Answer → Next → Type 0
+abbrev pub NoneIsDue : Language → Request → List Answer → Upcoming → Type 0
 NoneIsDue l request t (next.Open q) = ⊥
 NoneIsDue l request t (next.New q) = ⊥
 NoneIsDue l request t next.Converged = IsDone l request t
@@ -29,7 +29,7 @@ NoneIsDue l request t next.Collapsed = IsCollapsed l request t × (next_after l 
 NoneIsDue l request t next.Undecided = IsLeftOpen l request t
 
 -- what comes next after these answers, where this question is put or none is
-abbrev pub NextIs : Language → Request → List Answer → Option Assignment → Next → Type 0
+abbrev pub NextIs : Language → Request → List Answer → Option Assignment → Upcoming → Type 0
 NextIs l request t put (next.Open q) = IsDue l request t q × (put ≡ Some q)
 NextIs l request t put (next.New q) = IsDue l request t q × (put ≡ None) × IsLawfulAfter l request.plan t q
 NextIs l request t put next.Converged = NoneIsDue l request t next.Converged
@@ -37,7 +37,7 @@ NextIs l request t put next.Collapsed = NoneIsDue l request t next.Collapsed
 NextIs l request t put next.Undecided = NoneIsDue l request t next.Undecided
 
 -- the question that is put is the next one, or none is
-abbrev pub PutIs : Language → Request → List Answer → Option Assignment → Next → Type 0
+abbrev pub PutIs : Language → Request → List Answer → Option Assignment → Upcoming → Type 0
 PutIs l request t put (next.Open q) = IsDue l request t q × (put ≡ Some q)
 PutIs l request t put (next.New q) = IsDue l request t q × (put ≡ Some q)
 PutIs l request t put next.Converged = NoneIsDue l request t next.Converged

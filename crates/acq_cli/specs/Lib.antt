@@ -2,7 +2,7 @@ pub mod Run
 pub mod Driven
 pub mod Added
 pub mod Due
-pub mod Places
+pub mod Points
 pub mod Texts
 pub mod Breaks
 pub mod Program

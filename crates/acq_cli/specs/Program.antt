@@ -20,7 +20,7 @@ use Rattle.voc_read.specs.declared.fault.VocFault.{VocFault}
 use Rattle.acq_cli.specs.Run.{Converged, Collapsed, Undecided, Suspended, LineTooLong, Unreadable, Closing, Ends, next_after}
 use Rattle.acq_cli.specs.Breaks.{Breaks, BreaksRun, IsRefusal}
 use Rattle.acq_cli.specs.Driven.{IsDone, IsCollapsed, IsLeftOpen, RanTo, UnkeptTo}
-use Rattle.acq_cli.specs.Places.{place_of}
+use Rattle.acq_cli.specs.Points.{point_of}
 use Rattle.acq_cli.specs.Texts.{closing_text, collapsed_text, converged_text, open_candidates, refusal_text, refused_text, suspended_text, too_long_text, undecided_text, usage_text}
 use Rattle.acq_cli.specs.Words.{request_of}
 use Rattle.acq_cli.specs.declared.words.Request.{Request}
@@ -62,7 +62,7 @@ pub record LeavesOpen (l : Language) (request : Request) (m : ℕ) (answers : Li
 -- the run of the lines after these answers with this closing, and then its last text
 pub record Closes (l : Language) (request : Request) (start : List Answer) (left written left' written' : Option (List ℕ)) (closing : Closing) (answers : List Answer) (text : List ℕ) : Type 0 where
   pub middle : Option (List ℕ)
-  pub ran : RanTo line_turn l request closing (place_of start left written) (place_of answers left' middle)
+  pub ran : RanTo line_turn l request closing (point_of start left written) (point_of answers left' middle)
   pub adds : Adds middle written' text
 
 -- what the loop has found where it says so, and the count is that of the answers
@@ -132,12 +132,12 @@ Tries l request start answers left written left' written' ending.ReadFault = Bre
 Tries l request start answers left written left' written' ending.WriteFault = ⊥
 -- what was written ends with the lines of the question whose answer wasn't kept
 Tries l request start answers left written left' written' ending.DiskFault =
-    BreaksRun l request start answers left written written' × UnkeptTo line_turn l request (place_of start left written) (place_of answers left' written')
+    BreaksRun l request start answers left written written' × UnkeptTo line_turn l request (point_of start left written) (point_of answers left' written')
 Tries l request start answers left written left' written' ending.JournalFull = ⊥
 Tries l request start answers left written left' written' ending.Memory = ⊥
 
 -- the words ask for this, and the first line of the input is a vocabulary
-pub record Reads (words : List (List ℕ)) (left written left' written' : Option (List ℕ)) (end : Ending) : Type 0 where
+pub record ReadsVocabulary (words : List (List ℕ)) (left written left' written' : Option (List ℕ)) (end : Ending) : Type 0 where
   pub request : Request
   pub taken : request_of words ≡ Some request
   pub line : List ℕ
@@ -160,12 +160,12 @@ are_taken words = is_some (request_of words)
 
 -- what the program has done
 abbrev pub Acquires : List (List ℕ) → (left written left' written' : Option (List ℕ)) → Ending → Type 0
-Acquires words left written left' written' (ending.Converged m) = Reads words left written left' written' (ending.Converged m)
-Acquires words left written left' written' (ending.Collapsed m) = Reads words left written left' written' (ending.Collapsed m)
-Acquires words left written left' written' (ending.Undecided m) = Reads words left written left' written' (ending.Undecided m)
-Acquires words left written left' written' (ending.Suspended m) = Reads words left written left' written' (ending.Suspended m)
-Acquires words left written left' written' ending.LineTooLong = Reads words left written left' written' ending.LineTooLong
-Acquires words left written left' written' ending.Unreadable = Reads words left written left' written' ending.Unreadable
+Acquires words left written left' written' (ending.Converged m) = ReadsVocabulary words left written left' written' (ending.Converged m)
+Acquires words left written left' written' (ending.Collapsed m) = ReadsVocabulary words left written left' written' (ending.Collapsed m)
+Acquires words left written left' written' (ending.Undecided m) = ReadsVocabulary words left written left' written' (ending.Undecided m)
+Acquires words left written left' written' (ending.Suspended m) = ReadsVocabulary words left written left' written' (ending.Suspended m)
+Acquires words left written left' written' ending.LineTooLong = ReadsVocabulary words left written left' written' ending.LineTooLong
+Acquires words left written left' written' ending.Unreadable = ReadsVocabulary words left written left' written' ending.Unreadable
 Acquires words left written left' written' (ending.Usage fault) = (are_taken words ≡ false) × (left' ≡ left) × Adds written written' usage_text
 Acquires words left written left' written' (ending.VocRefused fault) =
     (are_taken words ≡ true) × IsRefused fault left left' × Adds written written' (refusal_text fault)

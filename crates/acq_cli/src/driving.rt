@@ -11,7 +11,7 @@ ghost use Rattle.session_store.specs.Keeping.{Keeps};
 ghost use Rattle.acq_cli.specs.Driven.{Drives, IsOwned, LeavesNothing, Loses, Remembers, StepsTo, TellsOpen};
 ghost use Rattle.acq_cli.specs.Added.{IsAdded};
 ghost use Rattle.acq_cli.specs.Due.{IsDue, NextIs, PutIs, AnswerKept, EventKept, IsOneMore, ended_by};
-ghost use Rattle.acq_cli.specs.Places.{place_of, request_with};
+ghost use Rattle.acq_cli.specs.Points.{point_of, request_with};
 
 use acq_io::{Sink, Source};
 use assign::{Partial, Plan};
@@ -50,7 +50,7 @@ pub enum Drove {
 
 /// What comes next in a session.
 #[derive(Clone, Copy, Debug, PartialEq, Eq)]
-enum Next {
+enum Upcoming {
     /// A question that is put already.
     Open(Partial),
     /// A question that may be put.
@@ -64,21 +64,21 @@ enum Next {
 }
 
 /// What comes next in plan Scopes, where nothing is open.
-fn scoped_next(idle: &Idle) -> Next
+fn scoped_next(idle: &Idle) -> Upcoming
     requires plan { (knowledge_of (Session.Idle idle.now)).plan ≡ Scopes }
     ensures next { (t : List Answer) (budget : _) → let k = knowledge_of (Session.Idle idle.now) in Stands (Session.Idle idle.now) t
         → NextIs k.lang (request_with k.plan budget) t None result }
-    ensures decided { result ≢ Next.Undecided }
+    ensures decided { result ≢ Upcoming.Undecided }
 {
     let _lang = idle.lang();
     match idle.scope_question() {
-        Some(question) => Next::New(question),
-        None => Next::Converged,
+        Some(question) => Upcoming::New(question),
+        None => Upcoming::Converged,
     }
 }
 
 /// What the search says, in the other plans, where nothing is open.
-fn searched_next(idle: &Idle, place: &mut Place, screen: &mut Screen, budget: u32) -> Next
+fn searched_next(idle: &Idle, place: &mut Place, screen: &mut Screen, budget: u32) -> Upcoming
     requires plan { (knowledge_of (Session.Idle idle.now)).plan ≢ Scopes }
     requires screen { IsMadeFor (knowledge_of (Session.Idle idle.now)).lang screen.old }
     requires marks { let k = knowledge_of (Session.Idle idle.now) in MarksHold k.lang k.network.list budget screen.old }
@@ -87,7 +87,7 @@ fn searched_next(idle: &Idle, place: &mut Place, screen: &mut Screen, budget: u3
     ensures next { (t : List Answer) → let k = knowledge_of (Session.Idle idle.now) in Stands (Session.Idle idle.now) t → NextIs k.lang (request_with k.plan budget) t None result }
     ensures screen { IsMadeFor (knowledge_of (Session.Idle idle.now)).lang screen.new }
     ensures marks { let k = knowledge_of (Session.Idle idle.now) in MarksHold k.lang k.network.list budget screen.new }
-    ensures open { (t : List Answer) → let k = knowledge_of (Session.Idle idle.now) in Stands (Session.Idle idle.now) t → result ≡ Next.Undecided → TellsOpen k.lang (request_with k.plan budget) t screen.new }
+    ensures open { (t : List Answer) → let k = knowledge_of (Session.Idle idle.now) in Stands (Session.Idle idle.now) t → result ≡ Upcoming.Undecided → TellsOpen k.lang (request_with k.plan budget) t screen.new }
 {
     let query = next_query(
         &mut place.work,
@@ -98,14 +98,14 @@ fn searched_next(idle: &Idle, place: &mut Place, screen: &mut Screen, budget: u3
         budget,
     );
     match query {
-        Query::Ask(question) => Next::New(question),
-        Query::AllImplied => Next::Converged,
-        Query::Undecided => Next::Undecided,
+        Query::Ask(question) => Upcoming::New(question),
+        Query::AllImplied => Upcoming::Converged,
+        Query::Undecided => Upcoming::Undecided,
     }
 }
 
 /// What comes next where nothing is open.
-fn idle_next(idle: &Idle, place: &mut Place, screen: &mut Screen, budget: u32) -> Next
+fn idle_next(idle: &Idle, place: &mut Place, screen: &mut Screen, budget: u32) -> Upcoming
     requires screen { IsMadeFor (knowledge_of (Session.Idle idle.now)).lang screen.old }
     requires marks { let k = knowledge_of (Session.Idle idle.now) in MarksHold k.lang k.network.list budget screen.old }
     requires some_budget { 1 ≤ budget }
@@ -113,7 +113,7 @@ fn idle_next(idle: &Idle, place: &mut Place, screen: &mut Screen, budget: u32) -
     ensures next { (t : List Answer) → let k = knowledge_of (Session.Idle idle.now) in Stands (Session.Idle idle.now) t → NextIs k.lang (request_with k.plan budget) t None result }
     ensures screen { IsMadeFor (knowledge_of (Session.Idle idle.now)).lang screen.new }
     ensures marks { let k = knowledge_of (Session.Idle idle.now) in MarksHold k.lang k.network.list budget screen.new }
-    ensures open { (t : List Answer) → let k = knowledge_of (Session.Idle idle.now) in Stands (Session.Idle idle.now) t → result ≡ Next.Undecided → TellsOpen k.lang (request_with k.plan budget) t screen.new }
+    ensures open { (t : List Answer) → let k = knowledge_of (Session.Idle idle.now) in Stands (Session.Idle idle.now) t → result ≡ Upcoming.Undecided → TellsOpen k.lang (request_with k.plan budget) t screen.new }
 {
     match idle.plan() {
         Plan::Scopes => scoped_next(idle),
@@ -122,7 +122,7 @@ fn idle_next(idle: &Idle, place: &mut Place, screen: &mut Screen, budget: u32) -
 }
 
 /// What comes next in a session.
-fn next_of(session: &Session, place: &mut Place, screen: &mut Screen, budget: u32) -> Next
+fn next_of(session: &Session, place: &mut Place, screen: &mut Screen, budget: u32) -> Upcoming
     requires screen { IsMadeFor (knowledge_of session.now).lang screen.old }
     requires marks { let k = knowledge_of session.now in MarksHold k.lang k.network.list budget screen.old }
     requires some_budget { 1 ≤ budget }
@@ -131,13 +131,13 @@ fn next_of(session: &Session, place: &mut Place, screen: &mut Screen, budget: u3
         → NextIs k.lang (request_with k.plan budget) t (open_in session.now) result }
     ensures screen { IsMadeFor (knowledge_of session.now).lang screen.new }
     ensures marks { let k = knowledge_of session.now in MarksHold k.lang k.network.list budget screen.new }
-    ensures open { (t : List Answer) → let k = knowledge_of session.now in Stands session.now t → result ≡ Next.Undecided → TellsOpen k.lang (request_with k.plan budget) t screen.new }
+    ensures open { (t : List Answer) → let k = knowledge_of session.now in Stands session.now t → result ≡ Upcoming.Undecided → TellsOpen k.lang (request_with k.plan budget) t screen.new }
 {
     let _lang = session.lang();
     match session {
         Session::Idle(idle) => idle_next(idle, place, screen, budget),
-        Session::Asking(asking) => Next::Open(asking.question()),
-        Session::Over(_) => Next::Collapsed,
+        Session::Asking(asking) => Upcoming::Open(asking.question()),
+        Session::Over(_) => Upcoming::Collapsed,
     }
 }
 
@@ -147,7 +147,7 @@ fn put_next<D: Disk, P: Keep<D>>(
     place: &mut Place,
     screen: &mut Screen,
     budget: u32,
-) -> Next
+) -> Upcoming
     requires sound { P.sound keep.old }
     requires settled { IsSettled (P.lang keep.old) (P.plan keep.old) (standing_on (P.lang keep.old) (P.record_of keep.old)) (P.question keep.old) }
     requires screen { IsMadeFor (P.lang keep.old) screen.old }
@@ -165,10 +165,10 @@ fn put_next<D: Disk, P: Keep<D>>(
     ensures sits { (disk : D) → P.sits keep.old disk → P.sits keep.new disk }
     ensures screen { IsMadeFor (P.lang keep.old) screen.new }
     ensures remembers { Remembers (P.lang keep.old) (request_with (P.plan keep.old) budget) (standing_on (P.lang keep.old) (P.record_of keep.old)) screen.new }
-    ensures open { result ≡ Next.Undecided → TellsOpen (P.lang keep.old) (request_with (P.plan keep.old) budget) (standing_on (P.lang keep.old) (P.record_of keep.old)) screen.new }
+    ensures open { result ≡ Upcoming.Undecided → TellsOpen (P.lang keep.old) (request_with (P.plan keep.old) budget) (standing_on (P.lang keep.old) (P.record_of keep.old)) screen.new }
 {
     let next = next_of(keep.session(), place, screen, budget);
-    if let Next::New(question) = next {
+    if let Upcoming::New(question) = next {
         keep.ask(question);
     }
     next
@@ -223,14 +223,14 @@ fn hear_answer<S: Source, K: Sink, D: Disk, T: Teacher<S, K>, P: Keep<D>>(
     requires due { (budget : _) × IsDue (P.lang keep.old) (request_with (P.plan keep.old) budget) (standing_on (P.lang keep.old) (P.record_of keep.old)) question.now }
     ensures again { (budget : _) → IsDue (P.lang keep.old) (request_with (P.plan keep.old) budget) (standing_on (P.lang keep.old) (P.record_of keep.old)) question.now
         → result ≡ None → StepsTo (T.turn teacher.old) (P.lang keep.old) (request_with (P.plan keep.old) budget)
-        (place_of (standing_on (P.lang keep.old) (P.record_of keep.old)) (S.left source.old) (K.written sink.old))
-        (place_of (standing_on (P.lang keep.old) (P.record_of keep.new)) (S.left source.new) (K.written sink.new)) }
+        (point_of (standing_on (P.lang keep.old) (P.record_of keep.old)) (S.left source.old) (K.written sink.old))
+        (point_of (standing_on (P.lang keep.old) (P.record_of keep.new)) (S.left source.new) (K.written sink.new)) }
     ensures more { result ≡ None → IsOneMore (standing_on (P.lang keep.old) (P.record_of keep.old)) (standing_on (P.lang keep.old) (P.record_of keep.new)) }
     ensures settled { result ≡ None → IsSettled (P.lang keep.old) (P.plan keep.old) (standing_on (P.lang keep.old) (P.record_of keep.new)) (P.question keep.new) }
     ensures ends { (budget : _) → IsDue (P.lang keep.old) (request_with (P.plan keep.old) budget) (standing_on (P.lang keep.old) (P.record_of keep.old)) question.now
         → IfSome result (Drives (T.turn teacher.old) (P.lang keep.old) (request_with (P.plan keep.old) budget)
-        (place_of (standing_on (P.lang keep.old) (P.record_of keep.old)) (S.left source.old) (K.written sink.old))
-        (place_of (standing_on (P.lang keep.old) (P.record_of keep.new)) (S.left source.new) (K.written sink.new))) }
+        (point_of (standing_on (P.lang keep.old) (P.record_of keep.old)) (S.left source.old) (K.written sink.old))
+        (point_of (standing_on (P.lang keep.old) (P.record_of keep.new)) (S.left source.new) (K.written sink.new))) }
     ensures decided { (m : _) → result ≢ Some (Drove.Undecided m) }
     ensures turn { T.turn teacher.new ≡ T.turn teacher.old }
     ensures fits { (l : _) → T.fits teacher.old l → T.fits teacher.new l }
@@ -241,8 +241,8 @@ fn hear_answer<S: Source, K: Sink, D: Disk, T: Teacher<S, K>, P: Keep<D>>(
     ensures keeps { Keeps D.content D.may_leave D.moment D.left_since P.plan P.voc P.record_of P.question P.writes P.live P.sits D.faults (result ≡ Some Drove.DiskFault)
         (λ asked said. (budget : _) → IsDue (P.lang keep.old) (request_with (P.plan keep.old) budget) (standing_on (P.lang keep.old) (P.record_of keep.old)) question.now
         → Loses (T.turn teacher.old) (P.lang keep.old) (request_with (P.plan keep.old) budget)
-        (place_of (standing_on (P.lang keep.old) (P.record_of keep.old)) (S.left source.old) (K.written sink.old))
-        (place_of (standing_on (P.lang keep.old) (P.record_of keep.new)) (S.left source.new) (K.written sink.new)) asked said)
+        (point_of (standing_on (P.lang keep.old) (P.record_of keep.old)) (S.left source.old) (K.written sink.old))
+        (point_of (standing_on (P.lang keep.old) (P.record_of keep.new)) (S.left source.new) (K.written sink.new)) asked said)
         keep.old keep.new disk.old disk.new }
     ensures later { S.faults source.old ≤ S.faults source.new }
     ensures later_sink { K.faults sink.old ≤ K.faults sink.new }
@@ -286,14 +286,14 @@ fn take_turn<S: Source, K: Sink, D: Disk, T: Teacher<S, K>, P: Keep<D>>(
     requires some_budget { 1 ≤ budget }
     requires small_budget { budget ≤ 1000000000 }
     ensures again { result ≡ None → StepsTo (T.turn teacher.old) (P.lang keep.old) (request_with (P.plan keep.old) budget)
-        (place_of (standing_on (P.lang keep.old) (P.record_of keep.old)) (S.left source.old) (K.written sink.old))
-        (place_of (standing_on (P.lang keep.old) (P.record_of keep.new)) (S.left source.new) (K.written sink.new)) }
+        (point_of (standing_on (P.lang keep.old) (P.record_of keep.old)) (S.left source.old) (K.written sink.old))
+        (point_of (standing_on (P.lang keep.old) (P.record_of keep.new)) (S.left source.new) (K.written sink.new)) }
     ensures more { result ≡ None → length (standing_on (P.lang keep.old) (P.record_of keep.new)) ≡ length (standing_on (P.lang keep.old) (P.record_of keep.old)) + 1 }
     ensures settled { result ≡ None → IsSettled (P.lang keep.old) (P.plan keep.old) (standing_on (P.lang keep.old) (P.record_of keep.new)) (P.question keep.new) }
     ensures remembers { result ≡ None → Remembers (P.lang keep.old) (request_with (P.plan keep.old) budget) (standing_on (P.lang keep.old) (P.record_of keep.new)) screen.new }
     ensures ends { IfSome result (Drives (T.turn teacher.old) (P.lang keep.old) (request_with (P.plan keep.old) budget)
-        (place_of (standing_on (P.lang keep.old) (P.record_of keep.old)) (S.left source.old) (K.written sink.old))
-        (place_of (standing_on (P.lang keep.old) (P.record_of keep.new)) (S.left source.new) (K.written sink.new))) }
+        (point_of (standing_on (P.lang keep.old) (P.record_of keep.old)) (S.left source.old) (K.written sink.old))
+        (point_of (standing_on (P.lang keep.old) (P.record_of keep.new)) (S.left source.new) (K.written sink.new))) }
     ensures open { (m : _) → result ≡ Some (Drove.Undecided m) → TellsOpen (P.lang keep.old) (request_with (P.plan keep.old) budget) (standing_on (P.lang keep.old) (P.record_of keep.new)) screen.new }
     ensures screen { IsMadeFor (P.lang keep.old) screen.new }
     ensures turn { T.turn teacher.new ≡ T.turn teacher.old }
@@ -304,8 +304,8 @@ fn take_turn<S: Source, K: Sink, D: Disk, T: Teacher<S, K>, P: Keep<D>>(
     ensures added { IsAdded (P.lang keep.old) (P.plan keep.old) (P.record_of keep.old) (P.record_of keep.new) }
     ensures keeps { Keeps D.content D.may_leave D.moment D.left_since P.plan P.voc P.record_of P.question P.writes P.live P.sits D.faults (result ≡ Some Drove.DiskFault)
         (Loses (T.turn teacher.old) (P.lang keep.old) (request_with (P.plan keep.old) budget)
-        (place_of (standing_on (P.lang keep.old) (P.record_of keep.old)) (S.left source.old) (K.written sink.old))
-        (place_of (standing_on (P.lang keep.old) (P.record_of keep.new)) (S.left source.new) (K.written sink.new)))
+        (point_of (standing_on (P.lang keep.old) (P.record_of keep.old)) (S.left source.old) (K.written sink.old))
+        (point_of (standing_on (P.lang keep.old) (P.record_of keep.new)) (S.left source.new) (K.written sink.new)))
         keep.old keep.new disk.old disk.new }
     ensures later { S.faults source.old ≤ S.faults source.new }
     ensures later_sink { K.faults sink.old ≤ K.faults sink.new }
@@ -313,12 +313,12 @@ fn take_turn<S: Source, K: Sink, D: Disk, T: Teacher<S, K>, P: Keep<D>>(
     ensures write { result ≡ Some Drove.WriteFault → Rose (K.faults sink.old) (K.faults sink.new) }
 {
     match put_next::<D, P>(keep, place, screen, budget) {
-        Next::Open(question) | Next::New(question) => {
+        Upcoming::Open(question) | Upcoming::New(question) => {
             hear_answer(alloc, source, sink, disk, teacher, keep, &question)
         }
-        Next::Converged => Some(Drove::Converged(keep.session().answers())),
-        Next::Collapsed => Some(Drove::Collapsed(keep.session().answers())),
-        Next::Undecided => Some(Drove::Undecided(keep.session().answers())),
+        Upcoming::Converged => Some(Drove::Converged(keep.session().answers())),
+        Upcoming::Collapsed => Some(Drove::Collapsed(keep.session().answers())),
+        Upcoming::Undecided => Some(Drove::Undecided(keep.session().answers())),
     }
 }
 
@@ -352,8 +352,8 @@ pub fn drive<R: Threads + Sync, S: Source, K: Sink, D: Disk, T: Teacher<S, K>, P
     requires some_budget { 1 ≤ budget }
     requires small_budget { budget ≤ 1000000000 }
     ensures ends { Drives (T.turn teacher.old) (P.lang keep.old) (request_with (P.plan keep.old) budget)
-        (place_of (standing_on (P.lang keep.old) (P.record_of keep.old)) (S.left source.old) (K.written sink.old))
-        (place_of (standing_on (P.lang keep.old) (P.record_of keep.new)) (S.left source.new) (K.written sink.new)) result }
+        (point_of (standing_on (P.lang keep.old) (P.record_of keep.old)) (S.left source.old) (K.written sink.old))
+        (point_of (standing_on (P.lang keep.old) (P.record_of keep.new)) (S.left source.new) (K.written sink.new)) result }
     ensures owner { (owner : List Candidate) → IsNetwork (P.lang keep.old) owner → IsTrue (agrees (P.lang keep.old) owner (standing_on (P.lang keep.old) (P.record_of keep.new)))
         → IsOwned (P.lang keep.old) (request_with (P.plan keep.old) budget) owner (standing_on (P.lang keep.old) (P.record_of keep.new)) result }
     ensures walked { LeavesNothing (P.lang keep.old) (P.plan keep.old) (standing_on (P.lang keep.old) (P.record_of keep.new)) }
@@ -369,8 +369,8 @@ pub fn drive<R: Threads + Sync, S: Source, K: Sink, D: Disk, T: Teacher<S, K>, P
     // to the question that came next.
     ensures keeps { Keeps D.content D.may_leave D.moment D.left_since P.plan P.voc P.record_of P.question P.writes P.live P.sits D.faults (result ≡ Drove.DiskFault)
         (Loses (T.turn teacher.old) (P.lang keep.old) (request_with (P.plan keep.old) budget)
-        (place_of (standing_on (P.lang keep.old) (P.record_of keep.old)) (S.left source.old) (K.written sink.old))
-        (place_of (standing_on (P.lang keep.old) (P.record_of keep.new)) (S.left source.new) (K.written sink.new)))
+        (point_of (standing_on (P.lang keep.old) (P.record_of keep.old)) (S.left source.old) (K.written sink.old))
+        (point_of (standing_on (P.lang keep.old) (P.record_of keep.new)) (S.left source.new) (K.written sink.new)))
         keep.old keep.new disk.old disk.new }
     ensures later { S.faults source.old ≤ S.faults source.new }
     ensures later_sink { K.faults sink.old ≤ K.faults sink.new }

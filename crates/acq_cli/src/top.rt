@@ -12,7 +12,7 @@ ghost use Rattle.session_store.specs.Keeping.{Keeps};
 ghost use Rattle.target_oracle.specs.Lines.{line_turn};
 ghost use Rattle.acq_cli.specs.Driven.{Loses, TellsOpen};
 ghost use Rattle.acq_cli.specs.Added.{IsAdded};
-ghost use Rattle.acq_cli.specs.Places.{place_of, request_with};
+ghost use Rattle.acq_cli.specs.Points.{point_of, request_with};
 ghost use Rattle.acq_cli.specs.Breaks.{Breaks, BreaksRun};
 ghost use Rattle.acq_cli.specs.Program.{Acquires, HasEnded, Says, SaysPart, Tries};
 ghost use Rattle.disk_model.specs.Disk.{Rose as DiskRose};
@@ -211,8 +211,8 @@ pub(crate) fn ask_on<R: Threads + Sync, S: Source, K: Sink, D: Disk, P: Keep<D>>
     ensures added { IsAdded (P.lang keep.old) (P.plan keep.old) (P.record_of keep.old) (P.record_of keep.new) }
     ensures keeps { Keeps D.content D.may_leave D.moment D.left_since P.plan P.voc P.record_of P.question P.writes P.live P.sits D.faults (result ≡ Ok Ending.DiskFault)
         (Loses line_turn (P.lang keep.old) (request_with (P.plan keep.old) budget)
-        (place_of (standing_on (P.lang keep.old) (P.record_of keep.old)) (S.left input.old) (K.written out.old))
-        (place_of (standing_on (P.lang keep.old) (P.record_of keep.new)) (S.left input.new) (K.written out.new)))
+        (point_of (standing_on (P.lang keep.old) (P.record_of keep.old)) (S.left input.old) (K.written out.old))
+        (point_of (standing_on (P.lang keep.old) (P.record_of keep.new)) (S.left input.new) (K.written out.new)))
         keep.old keep.new disk.old disk.new }
     ensures lang { P.lang keep.new ≡ P.lang keep.old }
     ensures lawful { IsLanguage (P.lang keep.old) }

@@ -9,7 +9,7 @@ use Rattle.answer_journal.specs.Storable.{IsStorableEvent}
 use Rattle.answer_journal.specs.Format.{MOST_RECORDS, MAGIC, session_tail, event_tail, event_record, written}
 use Rattle.answer_journal.specs.Journal.{IsClosedAfter, Spells}
 use Rattle.answer_journal.specs.Steps.{HasRecord, IsWithOrWithout}
-use Rattle.answer_journal.specs.Place.{Place, Sits, HasNew, IsOldOrNew}
+use Rattle.answer_journal.specs.End.{End, Sits, HasNew, IsOldOrNew}
 use Rattle.answer_journal.specs.Unique.{spells_once}
 
 pub written-push : (plan : Plan) (voc : List ℕ) (events : List Event) (event : Event) → written plan voc (events ++ event ∷ []) ≡ written plan voc events ++ event_record event
@@ -40,7 +40,7 @@ has_more plan voc events event old new fits few spelled r = record {
   };
 }
 
-module _ (place : Place) (old : List ℕ) (sits : Sits place old) where
+module _ (place : End) (old : List ℕ) (sits : Sits place old) where
   pub front_is : take place.at old ≡ written sits.plan sits.voc sits.events
   front_is = gate_at sits.plan sits.voc sits.events place.at old sits.spelled.rest sits.gate
 
@@ -71,7 +71,7 @@ module _ (place : Place) (old : List ℕ) (sits : Sits place old) where
         let front : take place.at old ≡ written plan voc events = front_is ∙ (λ i. written (once.0 i) (once.1 i) (once.2 i)) in
         inl (record { session = spelled.session; storable = spelled.storable; few = spelled.few; rest = subst (λ (l : List ℕ). IsClosedAfter l new) front c })
 
-    pub sits_on : (next : Place) (new : List ℕ) → HasRecord (take place.at old) (event_tail event ++ 0 ∷ []) new → next.at ≡ place.at + length (event_tail event ++ 0 ∷ []) → next.records ≡ place.records + 1 → Sits next new
+    pub sits_on : (next : End) (new : List ℕ) → HasRecord (take place.at old) (event_tail event ++ 0 ∷ []) new → next.at ≡ place.at + length (event_tail event ++ 0 ∷ []) → next.records ≡ place.records + 1 → Sits next new
     sits_on next new r at_is records_is = record {
       plan = sits.plan;
       voc = sits.voc;

@@ -8,7 +8,7 @@ use Rattle.answer_journal.specs.Storable.{IsStorableSession}
 use Rattle.answer_journal.specs.Format.{MAGIC, session_tail}
 use Rattle.answer_journal.specs.Journal.{IsClosedAfter, HasNoSession}
 use Rattle.answer_journal.specs.Steps.{HasRecord, IsWithOrWithout}
-use Rattle.answer_journal.specs.Place.{Place, Sits}
+use Rattle.answer_journal.specs.End.{End, Sits}
 use Rattle.answer_journal.specs.Heads.{IsHead}
 use Rattle.answer_journal.specs.Making.{StartsWith, IsCreating}
 use Rattle.answer_journal.specs.Unique.{written_split}
@@ -65,7 +65,7 @@ pub creating : (before : List ℕ → Type 0) (mid c : List ℕ) (plan : Plan) (
 creating before mid c plan voc rest session closed is (inl shut) = inr (inl (inr (subst (λ (l : List ℕ). IsClosedAfter l c) (magic_first mid closed) shut)))
 creating before mid c plan voc rest session closed is (inr r) = inr (inr (starts mid c plan voc rest session closed is r))
 
-pub sits : (new : List ℕ) (plan : Plan) (voc : List ℕ) (place : Place) → StartsWith plan voc new → place.at ≡ 8 + length (session_tail plan voc ++ 0 ∷ []) → place.records ≡ 1 → Sits place new
+pub sits : (new : List ℕ) (plan : Plan) (voc : List ℕ) (place : End) → StartsWith plan voc new → place.at ≡ 8 + length (session_tail plan voc ++ 0 ∷ []) → place.records ≡ 1 → Sits place new
 sits new plan voc place starts_so at_is one = record {
   plan = plan;
   voc = voc;

@@ -7,7 +7,7 @@ use Rattle.answer_journal.specs.declared.pieces.Reached.{Reached}
 use Rattle.answer_journal.specs.declared.pieces.Reached.TheVariants.{Closed, Further}
 use Rattle.answer_journal.specs.Format.{MOST_RECORDS, event_record}
 use Rattle.answer_journal.specs.Storable.{IsStorableEvent}
-use Rattle.answer_journal.specs.Journal.{IsClosedAfter, GoesOn, ReadsAs, NoSession, NotAJournal, TooManyRecords, Damaged}
+use Rattle.answer_journal.specs.Journal.{IsClosedAfter, HasGateBehind, ReadsAs, NoSession, NotAJournal, TooManyRecords, Damaged}
 use Rattle.answer_journal.specs.Unique.{Stuck}
 
 -- These events stand here, and then a closed gate.
@@ -38,7 +38,7 @@ pub record Overflows (bytes : List ℕ) : Type 0 where
   pub events : List Event
   pub storable : All IsStorableEvent events
   pub many : length events ≡ MOST_RECORDS
-  pub rest : GoesOn (flat_map event_record events) bytes
+  pub rest : HasGateBehind (flat_map event_record events) bytes
 
 -- why the events of these bytes, which begin at the place start, aren't read
 abbrev pub EventsRefused : ℕ → List ℕ → JFault → Type 0
@@ -52,9 +52,9 @@ EventsRefused start bytes faults.Full = ⊥
 EventsRefused start bytes faults.DiskFault = ⊥
 
 -- the place of the gate that a piece was read up to
-abbrev pub place_of : Reached → ℕ
-place_of (Closed place) = place
-place_of (Further place) = place
+abbrev pub gate_reached : Reached → ℕ
+gate_reached (Closed place) = place
+gate_reached (Further place) = place
 
 -- the gate there is closed, or the bytes go on behind the events
 abbrev pub IsReached : List ℕ → List Event → Reached → Type 0

@@ -22,7 +22,7 @@ pub record Spells (bytes : List ℕ) (plan : Plan) (voc : List ℕ) (events : Li
 -- ---- Refusals
 
 -- these bytes, an open or closed gate, and then anything
-pub record GoesOn (front bytes : List ℕ) : Type 0 where
+pub record HasGateBehind (front bytes : List ℕ) : Type 0 where
   pub gate : ℕ
   pub behind : List ℕ
   pub is : bytes ≡ front ++ gate ∷ behind
@@ -43,8 +43,8 @@ IsFront (Records plan voc events) = (IsStorableSession plan voc) × All IsStorab
 
 -- one whole record more, and a gate behind it
 abbrev pub HasNextRecord : Front → List ℕ → Type 0
-HasNextRecord Bare bytes = (plan : Plan) × (voc : List ℕ) × (IsStorableSession plan voc) × GoesOn (written plan voc []) bytes
-HasNextRecord (Records plan voc events) bytes = (event : Event) × IsStorableEvent event × GoesOn (written plan voc (events ++ event ∷ [])) bytes
+HasNextRecord Bare bytes = (plan : Plan) × (voc : List ℕ) × (IsStorableSession plan voc) × HasGateBehind (written plan voc []) bytes
+HasNextRecord (Records plan voc events) bytes = (event : Event) × IsStorableEvent event × HasGateBehind (written plan voc (events ++ event ∷ [])) bytes
 
 -- the open gate at this byte isn't followed by a whole record and a gate
 pub record IsDamagedAt (at : ℕ) (bytes : List ℕ) : Type 0 where
@@ -63,7 +63,7 @@ pub record HasTooManyRecords (bytes : List ℕ) : Type 0 where
   pub session : IsStorableSession plan voc
   pub storable : All IsStorableEvent events
   pub many : length events ≡ MOST_RECORDS
-  pub rest : GoesOn (written plan voc events) bytes
+  pub rest : HasGateBehind (written plan voc events) bytes
 
 -- what a journal says, or why it says nothing
 pub data Reading : Type 0 where

@@ -3,7 +3,7 @@ pub mod Storable
 pub mod Journal
 pub mod Steps
 pub mod Unique
-pub mod Place
+pub mod End
 pub mod Pairs
 pub mod Found
 pub mod Heads

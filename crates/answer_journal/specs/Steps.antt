@@ -4,7 +4,7 @@ use Rattle.disk_model.specs.Disk.{Only, AddsNothing, LeavesOnly}
 use Rattle.answer_journal.specs.Journal.{IsClosedAfter}
 
 -- The disk tells what a read gives, which has P, and a crash leaves nothing else.
-pub record IsSettled (content : Option (List ℕ)) (may_leave : List ℕ → Type 0) (P : List ℕ → Type 0) : Type 0 where
+pub record IsOnDisk (content : Option (List ℕ)) (may_leave : List ℕ → Type 0) (P : List ℕ → Type 0) : Type 0 where
   pub now : List ℕ
   pub tells : content ≡ Some now
   pub durable : Only now may_leave

@@ -5,8 +5,8 @@ ghost use Rattle.std.specs.Option.{ForSome, ForNone};
 ghost use Rattle.disk_model.specs.Disk.{Only, LeavesOnly, Rose, HasCause};
 ghost use Rattle.answer_journal.specs.Format.{MAGIC, plan_byte, session_tail};
 ghost use Rattle.answer_journal.specs.Journal.{IsClosedAfter, HasNoSession};
-ghost use Rattle.answer_journal.specs.Steps.{IsSettled, IsOnlyRead};
-ghost use Rattle.answer_journal.specs.Place.{Sits};
+ghost use Rattle.answer_journal.specs.Steps.{IsOnDisk, IsOnlyRead};
+ghost use Rattle.answer_journal.specs.End.{Sits};
 ghost use Rattle.answer_journal.specs.Heads.{IsHead};
 ghost use Rattle.answer_journal.specs.Making.{StartsWith, IsCreating, CreateRefused};
 
@@ -29,7 +29,7 @@ pub fn create<D: Disk>(
     voc: &[u8],
 ) -> Result<Journal, JFault>
     requires short { length voc.now ≤ 4194304 }
-    ensures created { ForSome (D.content disk.old) (λ _. OnOk result (IsSettled (D.content disk.new) (D.may_leave disk.new) (StartsWith plan voc.now))) }
+    ensures created { ForSome (D.content disk.old) (λ _. OnOk result (IsOnDisk (D.content disk.new) (D.may_leave disk.new) (StartsWith plan voc.now))) }
     ensures sits { ForSome (D.content disk.new) (λ bytes. IfOk result (λ j. Sits j bytes)) }
     ensures durable { ForSome (D.content disk.new) (λ bytes. OnOk result (Only bytes (D.may_leave disk.new))) }
     ensures live { IfOk result (λ j. IsTrue j.live) }
@@ -70,7 +70,7 @@ fn empty<D: Disk>(disk: &mut D, head: Head) -> Result<(), Failed>
     requires head { ForSome (D.content disk.old) (λ bytes. IsHead bytes head) }
     requires free { (head ≡ Head.Short) ⊎ (head ≡ Head.Closed) }
     requires durable { ForSome (D.content disk.old) (λ bytes. Only bytes (D.may_leave disk.old)) }
-    ensures emptied { ForSome (D.content disk.old) (λ _. OnOk result (IsSettled (D.content disk.new) (D.may_leave disk.new) (IsClosedAfter MAGIC))) }
+    ensures emptied { ForSome (D.content disk.old) (λ _. OnOk result (IsOnDisk (D.content disk.new) (D.may_leave disk.new) (IsClosedAfter MAGIC))) }
     ensures any_moment { ForSome (D.content disk.old) (λ _. LeavesOnly D.moment D.left_since disk.old disk.new HasNoSession) }
     ensures silent { ForNone (D.content disk.old) (D.content disk.new ≡ None) }
     ensures told { ForSome (D.content disk.old) (λ _. IsSome (D.content disk.new)) }

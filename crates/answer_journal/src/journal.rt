@@ -4,7 +4,7 @@ ghost use Rattle.std.specs.Prelude.{◌≡◌, ◌<◌, ◌≤◌, ◌+◌, ◌*
 ghost use Rattle.std.specs.Option.{ForSome, ForNone};
 ghost use Rattle.disk_model.specs.Disk.{Only, LeavesOnly, Rose};
 ghost use Rattle.answer_journal.specs.Storable.{IsStorableEvent};
-ghost use Rattle.answer_journal.specs.Steps.{IsSettled};
+ghost use Rattle.answer_journal.specs.Steps.{IsOnDisk};
 
 use crate::JFault;
 use crate::encode::encode;
@@ -27,9 +27,9 @@ pub struct Journal {
 
 impl Model for Journal {
     ghost use Rattle.std.specs.Prelude.{ℕ, ◌≤◌, ◌+◌, ◌*◌};
-    ghost use Rattle.answer_journal.specs.Place.{Place};
+    ghost use Rattle.answer_journal.specs.End.{End};
 
-    ghost Value = { Place };
+    ghost Value = { End };
 
     ghost view = { λ j. record { at = j.at; records = j.records; live = j.live } };
 
@@ -39,7 +39,7 @@ impl Model for Journal {
 }
 
 impl Journal {
-    ghost use Rattle.answer_journal.specs.Place.{Sits, HasNew, IsOldOrNew};
+    ghost use Rattle.answer_journal.specs.End.{Sits, HasNew, IsOldOrNew};
 
     // A live journal.
     pub(crate) fn at(at: u64, records: u32) -> Journal
@@ -78,7 +78,7 @@ impl Journal {
         requires sits { ForSome (D.content disk.old) (Sits self.old) }
         requires durable { ForSome (D.content disk.old) (λ bytes. Only bytes (D.may_leave disk.old)) }
 
-        ensures added { ForSome (D.content disk.old) (λ old. OnOk result (IsSettled (D.content disk.new) (D.may_leave disk.new) (HasNew old event.now))) }
+        ensures added { ForSome (D.content disk.old) (λ old. OnOk result (IsOnDisk (D.content disk.new) (D.may_leave disk.new) (HasNew old event.now))) }
         ensures sits { ForSome (D.content disk.new) (λ bytes. OnOk result (Sits self.new bytes)) }
         ensures durable { ForSome (D.content disk.new) (λ bytes. OnOk result (Only bytes (D.may_leave disk.new))) }
         ensures counted { OnOk result (self.new.records ≡ self.old.records + 1) }

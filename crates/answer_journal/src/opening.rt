@@ -5,7 +5,7 @@ ghost use Rattle.std.specs.Option.{ForSome, ForNone};
 ghost use Rattle.disk_model.specs.Disk.{Only, LeavesOnly, Rose};
 ghost use Rattle.answer_journal.specs.Storable.{IsStorableEvent};
 ghost use Rattle.answer_journal.specs.Journal.{ReadsAs, Session};
-ghost use Rattle.answer_journal.specs.Place.{Sits};
+ghost use Rattle.answer_journal.specs.End.{Sits};
 ghost use Rattle.answer_journal.specs.Found.{Refused};
 
 use crate::decode::session_of;

@@ -6,7 +6,7 @@ ghost use Rattle.disk_model.specs.Disk.{Rose};
 ghost use Rattle.answer_journal.specs.Format.{event_record};
 ghost use Rattle.answer_journal.specs.Storable.{IsStorableEvent};
 ghost use Rattle.answer_journal.specs.Steps.{IsOnlyRead};
-ghost use Rattle.answer_journal.specs.Found.{HasEvents, BeginsWith, EventsRefused, place_of, IsReached, IsProgress};
+ghost use Rattle.answer_journal.specs.Found.{HasEvents, BeginsWith, EventsRefused, gate_reached, IsReached, IsProgress};
 
 use crate::decode::event_of;
 use crate::encode::LONGEST;
@@ -68,7 +68,7 @@ fn events_in(
     requires storable { All IsStorableEvent events.old.items }
     requires few { length events.old.items < 1000000 }
     ensures read { (bytes more : List ℕ) (start : ℕ) → BeginsWith bytes events.old.items (piece.now ++ more) → (IsTrue is_last → more ≡ []) → at ≡ start + length (flat_map event_record events.old.items) → MatchResult result (IsReached bytes events.new.items) (EventsRefused start bytes) }
-    ensures place { IfOk result (λ reached. place_of reached + length (flat_map event_record events.old.items) ≡ at + length (flat_map event_record events.new.items)) }
+    ensures place { IfOk result (λ reached. gate_reached reached + length (flat_map event_record events.old.items) ≡ at + length (flat_map event_record events.new.items)) }
     ensures storable { OnOk result (All IsStorableEvent events.new.items) }
     ensures few { OnOk result (length events.new.items < 1000000) }
     ensures progress { (IsFalse is_last → 264 < length piece.now) → IfOk result (IsProgress (length events.old.items) (length events.new.items)) }

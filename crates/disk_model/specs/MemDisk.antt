@@ -59,8 +59,8 @@ pub record IsFresh (content fails : List ℕ) (room : Room) (d : MemDisk) : Type
   pub no_faults : faults_of d ≡ 0
 
 -- the next call is one of those that fail
-abbrev pub IsDue : MemDisk → Type 0
-IsDue d = Any (λ k. k ≡ calls_of d) (fails_of d)
+abbrev pub FailsNext : MemDisk → Type 0
+FailsNext d = Any (λ k. k ≡ calls_of d) (fails_of d)
 
 -- as many writes and syncs were made as there is room for
 abbrev pub IsWornOut : MemDisk → Type 0

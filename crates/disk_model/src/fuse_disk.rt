@@ -53,7 +53,7 @@ impl FuseDisk {
 }
 
 impl Disk for FuseDisk {
-    ghost use Rattle.disk_model.specs.MemDisk.{content_of, steps_in, images_of, moment_of, left_of, IsDue, IsWornOut, Outgrows, HasSameRecord, tells_truth, counts, only};
+    ghost use Rattle.disk_model.specs.MemDisk.{content_of, steps_in, images_of, moment_of, left_of, FailsNext, IsWornOut, Outgrows, HasSameRecord, tells_truth, counts, only};
     ghost use Rattle.disk_model.specs.FuseDisk.{inner_of, passes_of, faults_of};
 
     ghost content = { λ d. Some (content_of (inner_of d)) };
@@ -80,7 +80,7 @@ impl Disk for FuseDisk {
         ensures cause { HasCause (faults_of self.old) (faults_of self.new) result }
 
         // It fails exactly where no pass is left, or the disk within fails.
-        ensures exact { IsErr result ↔ ((passes_of self.old ≡ 0) ⊎ IsDue (inner_of self.old)) }
+        ensures exact { IsErr result ↔ ((passes_of self.old ≡ 0) ⊎ FailsNext (inner_of self.old)) }
         ensures passed { passes_of self.new ≡ passes_of self.old - 1 }
         ensures kept { HasSameRecord (inner_of self.old) (inner_of self.new) }
     {
@@ -97,7 +97,7 @@ impl Disk for FuseDisk {
         ensures cause { HasCause (faults_of self.old) (faults_of self.new) result }
 
         // It fails exactly where no pass is left, or the disk within fails.
-        ensures exact { IsErr result ↔ ((passes_of self.old ≡ 0) ⊎ IsDue (inner_of self.old)) }
+        ensures exact { IsErr result ↔ ((passes_of self.old ≡ 0) ⊎ FailsNext (inner_of self.old)) }
         ensures passed { passes_of self.new ≡ passes_of self.old - 1 }
         ensures kept { HasSameRecord (inner_of self.old) (inner_of self.new) }
         ensures unread { OnErr result (buf.new ≡ buf.old) }
@@ -115,7 +115,7 @@ impl Disk for FuseDisk {
         ensures cause { HasCause (faults_of self.old) (faults_of self.new) result }
 
         // It fails exactly where no pass is left, or the disk within fails.
-        ensures exact { IsErr result ↔ ((passes_of self.old ≡ 0) ⊎ IsDue (inner_of self.old) ⊎ Outgrows (inner_of self.old) at (length bytes.now) ⊎ IsWornOut (inner_of self.old)) }
+        ensures exact { IsErr result ↔ ((passes_of self.old ≡ 0) ⊎ FailsNext (inner_of self.old) ⊎ Outgrows (inner_of self.old) at (length bytes.now) ⊎ IsWornOut (inner_of self.old)) }
         ensures passed { passes_of self.new ≡ passes_of self.old - 1 }
         ensures kept { OnErr result (HasSameRecord (inner_of self.old) (inner_of self.new)) }
         ensures noted { OnOk result (steps_in (inner_of self.new) ≡ steps_in (inner_of self.old) ++ Wrote at bytes.now ∷ []) }
@@ -132,7 +132,7 @@ impl Disk for FuseDisk {
         ensures cause { HasCause (faults_of self.old) (faults_of self.new) result }
 
         // It fails exactly where no pass is left, or the disk within fails.
-        ensures exact { IsErr result ↔ ((passes_of self.old ≡ 0) ⊎ IsDue (inner_of self.old) ⊎ IsWornOut (inner_of self.old)) }
+        ensures exact { IsErr result ↔ ((passes_of self.old ≡ 0) ⊎ FailsNext (inner_of self.old) ⊎ IsWornOut (inner_of self.old)) }
         ensures passed { passes_of self.new ≡ passes_of self.old - 1 }
         ensures kept { OnErr result (HasSameRecord (inner_of self.old) (inner_of self.new)) }
         ensures noted { OnOk result (steps_in (inner_of self.new) ≡ steps_in (inner_of self.old) ++ Synced ∷ []) }

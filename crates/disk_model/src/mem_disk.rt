@@ -34,7 +34,7 @@ pub struct MemDisk {
 }
 
 impl MemDisk {
-    ghost use Rattle.disk_model.specs.MemDisk.{content_of, start_of, steps_in, moment_of, room_of, IsFresh, IsDue, HasSameRecord, IsCounted, Outgrows, IsWornOut};
+    ghost use Rattle.disk_model.specs.MemDisk.{content_of, start_of, steps_in, moment_of, room_of, IsFresh, FailsNext, HasSameRecord, IsCounted, Outgrows, IsWornOut};
 
     /// A disk with these bytes, all of them durable, whose calls with these numbers fail. All memory is taken here.
     pub fn new(
@@ -88,7 +88,7 @@ impl MemDisk {
 
     /// Begins a call: it is counted, and fails where its number is one of those that fail, or where it has no room.
     fn begin(&mut self, has_room: bool) -> Result<(), Failed>
-        ensures exact { IsErr result ↔ (IsDue self.old ⊎ IsFalse has_room) }
+        ensures exact { IsErr result ↔ (FailsNext self.old ⊎ IsFalse has_room) }
         ensures counted { IsCounted self.old self.new (is_err result) }
         ensures kept { HasSameRecord self.old self.new }
     {
@@ -121,7 +121,7 @@ impl MemDisk {
 }
 
 impl Disk for MemDisk {
-    ghost use Rattle.disk_model.specs.MemDisk.{content_of, start_of, steps_in, images_of, moment_of, left_of, faults_of, IsDue, IsWornOut, Outgrows, HasSameRecord, IsCounted, tells_truth, counts, only};
+    ghost use Rattle.disk_model.specs.MemDisk.{content_of, start_of, steps_in, images_of, moment_of, left_of, faults_of, FailsNext, IsWornOut, Outgrows, HasSameRecord, IsCounted, tells_truth, counts, only};
 
     ghost content = { λ d. Some (content_of d) };
 
@@ -147,7 +147,7 @@ impl Disk for MemDisk {
         ensures cause { HasCause (faults_of self.old) (faults_of self.new) result }
 
         // It fails exactly where its number is one of those, and changes nothing but the counts.
-        ensures exact { IsErr result ↔ IsDue self.old }
+        ensures exact { IsErr result ↔ FailsNext self.old }
         ensures counted { IsCounted self.old self.new (is_err result) }
         ensures kept { HasSameRecord self.old self.new }
     {
@@ -164,7 +164,7 @@ impl Disk for MemDisk {
         ensures cause { HasCause (faults_of self.old) (faults_of self.new) result }
 
         // It fails exactly where its number is one of those, and changes nothing but the counts.
-        ensures exact { IsErr result ↔ IsDue self.old }
+        ensures exact { IsErr result ↔ FailsNext self.old }
         ensures counted { IsCounted self.old self.new (is_err result) }
         ensures kept { HasSameRecord self.old self.new }
         ensures unread { OnErr result (buf.new ≡ buf.old) }
@@ -182,7 +182,7 @@ impl Disk for MemDisk {
         ensures cause { HasCause (faults_of self.old) (faults_of self.new) result }
 
         // It fails exactly where its number is one of those, or no room is left, and then changes nothing but the counts.
-        ensures exact { IsErr result ↔ (IsDue self.old ⊎ Outgrows self.old at (length bytes.now) ⊎ IsWornOut self.old) }
+        ensures exact { IsErr result ↔ (FailsNext self.old ⊎ Outgrows self.old at (length bytes.now) ⊎ IsWornOut self.old) }
         ensures counted { IsCounted self.old self.new (is_err result) }
         ensures kept { OnErr result (HasSameRecord self.old self.new) }
         ensures start { start_of self.new ≡ start_of self.old }
@@ -201,7 +201,7 @@ impl Disk for MemDisk {
         ensures cause { HasCause (faults_of self.old) (faults_of self.new) result }
 
         // It fails exactly where its number is one of those, or no room is left, and then changes nothing but the counts.
-        ensures exact { IsErr result ↔ (IsDue self.old ⊎ IsWornOut self.old) }
+        ensures exact { IsErr result ↔ (FailsNext self.old ⊎ IsWornOut self.old) }
         ensures counted { IsCounted self.old self.new (is_err result) }
         ensures kept { OnErr result (HasSameRecord self.old self.new) }
         ensures start { start_of self.new ≡ start_of self.old }

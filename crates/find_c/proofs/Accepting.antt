@@ -7,8 +7,8 @@ use Rattle.language.specs.Language.{Language, relations_on}
 use Rattle.bias_store.specs.Masks.{ones_of}
 use Rattle.bias_store.specs.Accepting.{accepting_on}
 use Rattle.bias_store.proofs.Bits.{IsMaskOf, any_accepting_bit}
-use Rattle.find_c.specs.Choosing.{Choice, Scene}
-use Rattle.find_c.specs.Scenes.{scene_of}
+use Rattle.language.specs.TellingApart.{Choice, Scene}
+use Rattle.language.specs.Scenes.{scene_of}
 use Rattle.find_c.specs.Choices.{is_accepting, allows_at}
 
 pub mask_all : (scene : Scene) (place r mask : ℕ) → r ≡ length scene.relations → IsMaskOf scene.relations place r mask → (c : Choice) → is_accepting mask c ≡ allows_at scene place c

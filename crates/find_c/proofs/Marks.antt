@@ -9,7 +9,7 @@ use Rattle.std.proofs.lemmas.Nat.Bits.{bit_at-lt, bit_at_and, bit_at_not}
 use Rattle.std.proofs.lemmas.List.Elements.{filter-append}
 use Rattle.assign.specs.SetLemmas.{is_one}
 use Rattle.bias_store.specs.Masks.{ones_of}
-use Rattle.find_c.specs.Choosing.{Choice, remaining}
+use Rattle.language.specs.TellingApart.{Choice, remaining}
 use Rattle.find_c.specs.Choices.{choices_of, is_accepting}
 use Rattle.bias_store.proofs.Ones.{ones_of-passing, ones_of-zero, no_ones}
 

@@ -10,11 +10,11 @@ use Rattle.language.proofs.Members.{find_some}
 use Rattle.rel_table.specs.Relation.{tuples}
 use Rattle.rel_table.proofs.PlaceLemmas.{length-tuples, get_or-tuples, length-tuple_at, tuple_at-below}
 use Rattle.language.proofs.Lists.{find_all}
-use Rattle.find_c.specs.Choosing.{Choice, Scene, Got, allows, tells_apart, splitting_tuple, after_reply, remaining, choose}
-use Rattle.find_c.specs.Choosing.{Wants as WantsReply}
-use Rattle.find_c.specs.Scenes.{scene_of}
+use Rattle.language.specs.TellingApart.{Choice, Scene, Got, allows, tells_apart, splitting_tuple, after_reply, remaining, choose}
+use Rattle.language.specs.TellingApart.{Wants as WantsReply}
+use Rattle.language.specs.Scenes.{scene_of}
 use Rattle.find_c.specs.Run.{Run, IsRun, IsChoiceOn}
-use Rattle.find_c.specs.Standing.{StandsAt}
+use Rattle.find_c.specs.Standing.{StandsFor}
 use Rattle.find_c.specs.declared.run.RelNext.{RelNext}
 use Rattle.find_c.specs.declared.run.RelNext.TheVariants.{Wants}
 use Rattle.find_c.proofs.Lawful.{few_places}
@@ -39,8 +39,8 @@ unfolding choose
 choose_on scene cs u some reply more = rw some
 
 -- where a run stands after replies, what stands where its choices do after one more stands after all of them
-pub stands_after : (l : Language) (run : Run) → IsRun l run → (s : ℕ) (next : RelNext) (reply : Bool) → s ≡ run.scope → StandsAt l s (after_reply (scene_of l run.scope) run.tuple reply run.choices) [] next →
-    (choices : List Choice) (replies : List Bool) → StandsAt l run.scope choices replies (Wants run) → StandsAt l run.scope choices (replies ++ reply ∷ []) next
+pub stands_after : (l : Language) (run : Run) → IsRun l run → (s : ℕ) (next : RelNext) (reply : Bool) → s ≡ run.scope → StandsFor next l s (after_reply (scene_of l run.scope) run.tuple reply run.choices) [] →
+    (choices : List Choice) (replies : List Bool) → StandsFor (Wants run) l run.scope choices replies → StandsFor next l run.scope choices (replies ++ reply ∷ [])
 stands_after l run is s next reply same now choices replies before more =
     now more ∙ ap (λ t. choose (scene_of l t) (after_reply (scene_of l run.scope) run.tuple reply run.choices) more) same
     ∙ sym (choose_on (scene_of l run.scope) run.choices run.tuple is.tuple reply more)

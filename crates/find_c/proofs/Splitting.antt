@@ -6,7 +6,7 @@ use Rattle.std.specs.List.{filter, list_any}
 use Rattle.std.proofs.lemmas.List.{drop_all}
 use Rattle.rel_table.specs.Relation.{place, tuples}
 use Rattle.rel_table.proofs.PlaceLemmas.{length-tuples, get_or-tuples, place-tuple_at}
-use Rattle.find_c.specs.Choosing.{Choice, Scene, allows, tells_apart, after_reply}
+use Rattle.language.specs.TellingApart.{Choice, Scene, allows, tells_apart, after_reply}
 use Rattle.find_c.specs.Choices.{is_accepting, allows_at}
 
 -- a choice allows a tuple where it allows its place

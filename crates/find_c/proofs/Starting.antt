@@ -14,11 +14,11 @@ use Rattle.language.specs.Answers.{IsNetwork}
 use Rattle.bias_store.specs.Masks.{ones_of}
 use Rattle.bias_store.specs.KeptSet.{kept_relations}
 use Rattle.language.proofs.Lists.{nothing_passes}
-use Rattle.find_c.specs.Choosing.{Choice, Got, remaining, tells_apart, choose}
-use Rattle.find_c.specs.Scenes.{scene_of, free_choices, violated_choices}
+use Rattle.language.specs.TellingApart.{Choice, Got, remaining, tells_apart, choose}
+use Rattle.language.specs.Scenes.{scene_of, free_choices, violated_choices}
 use Rattle.find_c.specs.Choices.{choices_of, is_accepting, allows_at}
 use Rattle.find_c.specs.Run.{IsChoiceOn}
-use Rattle.find_c.specs.Standing.{IsSettled, IsFree}
+use Rattle.find_c.specs.Standing.{LeavesChoices, IsFree}
 use Rattle.find_c.specs.declared.run.RelNext.{RelNext}
 use Rattle.find_c.specs.declared.run.RelNext.TheVariants.{Free}
 use Rattle.find_c.proofs.Marks.{beq_false}
@@ -137,9 +137,9 @@ not_among (c ∷ cs) (zero, low, e) = cc
 not_among (c ∷ cs) (suc k, low, e) = not_among cs (k, omega arith, e)
 
 -- it isn't free where each choice is a relation
-pub not_free : (l : Language) (s : ℕ) (cs : List Candidate) (next : RelNext) → IsSettled l s (map (λ (c : Candidate). Some c.rel) cs) next → next ≢ Free
+pub not_free : (l : Language) (s : ℕ) (cs : List Candidate) (next : RelNext) → LeavesChoices l s (map (λ (c : Candidate). Some c.rel) cs) next → next ≢ Free
 not_free l s cs next settled is =
-    let free : IsFree l s (map (λ (c : Candidate). Some c.rel) cs) = subst (IsSettled l s (map (λ (c : Candidate). Some c.rel) cs)) is settled in
+    let free : IsFree l s (map (λ (c : Candidate). Some c.rel) cs) = subst (LeavesChoices l s (map (λ (c : Candidate). Some c.rel) cs)) is settled in
     not_among cs free.among
 
 -- where there are none, it stands at none

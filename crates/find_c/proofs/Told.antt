@@ -3,16 +3,16 @@ use Rattle.std.proofs.Common.{◌≡◌, ℕ, List, [], Some, None, refl, sym, �
 use Rattle.std.proofs.lemmas.List.{append-nil}
 use Rattle.language.specs.declared.candidates.Candidate.{Candidate}
 use Rattle.language.specs.Language.{Language}
-use Rattle.find_c.specs.Choosing.{Choice, Chosen, Got, choose}
-use Rattle.find_c.specs.Choosing.{Wants as WantsReply}
-use Rattle.find_c.specs.Scenes.{scene_of}
+use Rattle.language.specs.TellingApart.{Choice, Chosen, Got, choose}
+use Rattle.language.specs.TellingApart.{Wants as WantsReply}
+use Rattle.language.specs.Scenes.{scene_of}
 use Rattle.find_c.specs.Run.{Run}
-use Rattle.find_c.specs.Standing.{IsSettled, IsTold, StandingTells, left_of}
+use Rattle.find_c.specs.Standing.{LeavesChoices, IsTold, StandingTells, left_of}
 use Rattle.find_c.specs.declared.run.RelNext.{RelNext}
 use Rattle.find_c.specs.declared.run.RelNext.TheVariants.{Nothing, Wants, Found, Free}
 use Rattle.find_c.proofs.Replies.{choose_wants}
 
-told_so : (l : Language) (s : ℕ) (left : List Choice) (told : Chosen) (next : RelNext) → left_of l next [] ≡ told → IsSettled l s left next → IsTold s told next
+told_so : (l : Language) (s : ℕ) (left : List Choice) (told : Chosen) (next : RelNext) → left_of l next [] ≡ told → LeavesChoices l s left next → IsTold s told next
 told_so l s left told Nothing e is = record {
   waits = λ run f. cc;
   wanted = λ tuple f. absurd (let none : Got None ≡ WantsReply tuple = e ∙ f in cc);

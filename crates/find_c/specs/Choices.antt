@@ -2,7 +2,7 @@
 use Rattle.std.specs.Prelude.{ℕ, ◌==◌, Bool, true, false, List, [], ◌∷◌, ◌++◌, map, Some, None, slice_index_or, if◌then◌else◌}
 use Rattle.std.specs.Int.{bit_at}
 use Rattle.bias_store.specs.Masks.{ones_of}
-use Rattle.find_c.specs.Choosing.{Choice, Scene}
+use Rattle.language.specs.TellingApart.{Choice, Scene}
 
 -- the relations of a mask as choices, and none where it is one
 abbrev pub choices_of : ℕ → Bool → List Choice

@@ -1,5 +1,3 @@
-pub mod Choosing
-pub mod Scenes
 pub mod Choices
 pub mod Run
 pub mod Standing

@@ -4,9 +4,9 @@ use Rattle.language.specs.declared.candidates.Candidate.{Candidate}
 use Rattle.language.specs.Language.{Language, IsCandidate}
 use Rattle.find_c.specs.declared.run.RelNext.{RelNext}
 use Rattle.find_c.specs.declared.run.RelNext.TheVariants.{Nothing, Wants, Found, Free}
-use Rattle.find_c.specs.Choosing.{Choice, Chosen, Got, choose, splitting_tuple, remaining}
-use Rattle.find_c.specs.Choosing.{Wants as WantsReply}
-use Rattle.find_c.specs.Scenes.{scene_of}
+use Rattle.language.specs.TellingApart.{Choice, Chosen, Got, choose, splitting_tuple, remaining}
+use Rattle.language.specs.TellingApart.{Wants as WantsReply}
+use Rattle.language.specs.Scenes.{scene_of}
 use Rattle.find_c.specs.Run.{Run, IsRun}
 
 -- what comes of further replies
@@ -17,8 +17,8 @@ left_of l (Found c) replies = Got (Some c.rel)
 left_of l Free replies = Got None
 
 -- it makes of further replies what the choices on a scope make of all of them
-abbrev pub StandsAt : Language → ℕ → List Choice → List Bool → RelNext → Type 0
-StandsAt l s choices replies next = (more : List Bool) → left_of l next more ≡ choose (scene_of l s) choices (replies ++ more)
+abbrev pub StandsFor : RelNext → Language → ℕ → List Choice → List Bool → Type 0
+StandsFor next l s choices replies = (more : List Bool) → left_of l next more ≡ choose (scene_of l s) choices (replies ++ more)
 
 -- a run on the scope, with just these choices left
 pub record IsRunOn (l : Language) (s : ℕ) (left : List Choice) (run : Run) : Type 0 where
@@ -40,11 +40,11 @@ pub record IsFree (l : Language) (s : ℕ) (choices : List Choice) : Type 0 wher
   pub remains : remaining choices ≡ None
 
 -- where these choices on a scope stand: there are none, they differ, or one remains
-abbrev pub IsSettled : Language → ℕ → List Choice → RelNext → Type 0
-IsSettled l s choices Nothing = choices ≡ []
-IsSettled l s choices (Wants run) = IsRunOn l s choices run
-IsSettled l s choices (Found c) = IsFound l s choices c
-IsSettled l s choices Free = IsFree l s choices
+abbrev pub LeavesChoices : Language → ℕ → List Choice → RelNext → Type 0
+LeavesChoices l s choices Nothing = choices ≡ []
+LeavesChoices l s choices (Wants run) = IsRunOn l s choices run
+LeavesChoices l s choices (Found c) = IsFound l s choices c
+LeavesChoices l s choices Free = IsFree l s choices
 
 -- Where a telling apart stands tells what is chosen, and the other way round.
 pub record IsTold (s : ℕ) (told : Chosen) (next : RelNext) : Type 0 where
@@ -61,4 +61,4 @@ pub record IsTold (s : ℕ) (told : Chosen) (next : RelNext) : Type 0 where
 -- so of each answer of a call, where it stands after replies
 abbrev pub StandingTells : Type 0
 StandingTells = (l : Language) (s : ℕ) (choices left : List Choice) (replies : List Bool) (next : RelNext) →
-    StandsAt l s choices replies next → IsSettled l s left next → IsTold s (choose (scene_of l s) choices replies) next
+    StandsFor next l s choices replies → LeavesChoices l s left next → IsTold s (choose (scene_of l s) choices replies) next

@@ -3,7 +3,7 @@
 ghost use Rattle.std.specs.Prelude.{◌≡◌, ◌&&◌, ◌↔◌, not, [], IsTrue};
 ghost use Rattle.std.specs.List.{list_any, filter};
 ghost use Rattle.std.specs.Bool.{beq};
-ghost use Rattle.find_c.specs.Choosing.{remaining};
+ghost use Rattle.language.specs.TellingApart.{remaining};
 ghost use Rattle.find_c.specs.Choices.{choices_of, is_accepting};
 
 use std::marker::Model;
@@ -19,7 +19,7 @@ pub struct Choices {
 
 impl Model for Choices {
     ghost use Rattle.std.specs.Prelude.{List, ◌<◌, ◌^◌};
-    ghost use Rattle.find_c.specs.Choosing.{Choice};
+    ghost use Rattle.language.specs.TellingApart.{Choice};
     ghost use Rattle.find_c.specs.Choices.{choices_of};
 
     ghost Value = { List Choice };

@@ -5,8 +5,8 @@
 //! a no those that reject it. That the least tuple in table order is asked is this project's own choice.
 //!
 //! A `RelRun` is seen as its scope, the choices that are left and the tuple that is asked about. The floor above may
-//! rely on two facts after each call: what the answer says of the choices that are left (`IsSettled`), and that it
-//! stands where the choices stand after all replies (`StandsAt`). No call takes memory.
+//! rely on two facts after each call: what the answer says of the choices that are left (`LeavesChoices`), and that it
+//! stands where the choices stand after all replies (`StandsFor`). No call takes memory.
 #![tactic(auto)]
 
 mod choices;

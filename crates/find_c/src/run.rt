@@ -4,11 +4,11 @@ ghost use Rattle.std.specs.Prelude.{◌≡◌, ◌≢◌, ◌↔◌, ◌^◌, �
 ghost use Rattle.std.specs.Option.{ForSome};
 ghost use Rattle.language.specs.Language.{scope_at, IsQuestion};
 ghost use Rattle.bias_store.specs.KeptSet.{IsMadeFor};
-ghost use Rattle.find_c.specs.Choosing.{Choice, splitting_tuple, after_reply};
-ghost use Rattle.find_c.specs.Scenes.{scene_of, on_scope, free_choices, violated_choices};
+ghost use Rattle.language.specs.TellingApart.{Choice, splitting_tuple, after_reply};
+ghost use Rattle.language.specs.Scenes.{scene_of, on_scope, free_choices, violated_choices};
 ghost use Rattle.find_c.specs.Choices.{is_accepting, allows_at};
 ghost use Rattle.find_c.specs.Run.{IsRun, IsChoiceOn};
-ghost use Rattle.find_c.specs.Standing.{IsSettled, StandsAt};
+ghost use Rattle.find_c.specs.Standing.{LeavesChoices, StandsFor};
 
 use crate::choices::Choices;
 use crate::tuples::Tuple;
@@ -53,8 +53,8 @@ impl RelRun {
         requires made { IsMadeFor lang.now kept.now }
         requires scope { s < length lang.now.scopes }
         requires question { IsQuestion lang.now e.now }
-        ensures settled { IsSettled lang.now s (violated_choices lang.now kept.now.members e.now s) result }
-        ensures stands { StandsAt lang.now s (violated_choices lang.now kept.now.members e.now s) [] result }
+        ensures settled { LeavesChoices lang.now s (violated_choices lang.now kept.now.members e.now s) result }
+        ensures stands { StandsFor result lang.now s (violated_choices lang.now kept.now.members e.now s) [] }
         ensures nothing { (result ≡ RelNext.Nothing) ↔ (violated_choices lang.now kept.now.members e.now s ≡ []) }
         ensures no_free { result ≢ RelNext.Free }
     {
@@ -65,8 +65,8 @@ impl RelRun {
     pub fn start_free(lang: &Language, kept: &Kept, s: ScopeId) -> RelNext
         requires made { IsMadeFor lang.now kept.now }
         requires scope { s < length lang.now.scopes }
-        ensures settled { IsSettled lang.now s (free_choices kept.now.members s) result }
-        ensures stands { StandsAt lang.now s (free_choices kept.now.members s) [] result }
+        ensures settled { LeavesChoices lang.now s (free_choices kept.now.members s) result }
+        ensures stands { StandsFor result lang.now s (free_choices kept.now.members s) [] }
         ensures some { result ≢ RelNext.Nothing }
     {
         settle(lang, Some(kept), s, Choices::new(kept.on_scope(s), true))
@@ -96,10 +96,10 @@ impl RelRun {
     /// Takes the reply: whether the question is a solution.
     pub fn reply(self, lang: &Language, yes: bool) -> RelNext
         requires { IsRun lang.now self }
-        ensures settled { IsSettled lang.now self.scope (after_reply (scene_of lang.now self.scope) self.tuple «yes» self.choices) result }
+        ensures settled { LeavesChoices lang.now self.scope (after_reply (scene_of lang.now self.scope) self.tuple «yes» self.choices) result }
         ensures stands { (choices : List Choice) (replies : List Bool) →
-            StandsAt lang.now self.scope choices replies (RelNext.Wants self) →
-            StandsAt lang.now self.scope choices (replies ++ yes ∷ []) result }
+            StandsFor (RelNext.Wants self) lang.now self.scope choices replies →
+            StandsFor result lang.now self.scope choices (replies ++ yes ∷ []) }
         ensures some { result ≢ RelNext.Nothing }
     {
         let RelRun {
@@ -137,8 +137,8 @@ fn settle(lang: &Language, kept: Option<&Kept>, scope: ScopeId, choices: Choices
     requires kept { ForSome kept (λ k. IsMadeFor lang.now k.now) }
     requires scope { scope < length lang.now.scopes }
     requires known { All (IsChoiceOn lang.now scope) choices }
-    ensures settled { IsSettled lang.now scope choices result }
-    ensures stands { StandsAt lang.now scope choices [] result }
+    ensures settled { LeavesChoices lang.now scope choices result }
+    ensures stands { StandsFor result lang.now scope choices [] }
     ensures nothing { (result ≡ RelNext.Nothing) ↔ (choices ≡ []) }
 {
     if choices.is_empty() {

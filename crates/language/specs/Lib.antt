@@ -10,3 +10,5 @@ pub mod Inside
 pub mod Building
 pub mod Framing
 pub mod Built
+pub mod TellingApart
+pub mod Scenes

@@ -15,7 +15,7 @@ use Rattle.rel_formula.specs.declared.step.Operator.{Operator}
 use Rattle.rel_formula.specs.declared.step.Operator.TheVariants as kind
 use Rattle.rel_formula.specs.declared.step.TermOperator.{TermOperator}
 use Rattle.rel_formula.specs.declared.step.TermOperator.TheVariants.{Absolute}
-use Rattle.rel_formula.specs.Adding.{Adds, Reads}
+use Rattle.rel_formula.specs.Adding.{Adds, ReadsSteps}
 use Rattle.rel_formula.specs.Answers.{then_on}
 use Rattle.rel_formula.specs.Formula.{Term, absolute}
 use Rattle.rel_formula.specs.Names.{operand_count, operator_in, term_takes, as_term_operator, term_operator_in}
@@ -65,7 +65,7 @@ term_call_is arity depth node next (head ∷ operands) op e same =
 
 -- the reading of operands, as the reading of their array, one node before
 pub of_call : {Tree : Type 0} (steps_of : Tree → List Step) (stated inner : Result (Tree × ℕ) FormulaFault) (node start : ℕ) (old new : Reading) (result : Result ⊤ FormulaFault) →
-    stated ≡ inner → node ≤ start → Reads steps_of inner start old new result → Reads steps_of stated node old new result
+    stated ≡ inner → node ≤ start → ReadsSteps steps_of inner start old new result → ReadsSteps steps_of stated node old new result
 of_call steps_of stated inner node start old new (Ok u) e low adds = record {
   tree = adds.tree;
   read = e ∙ adds.read;
@@ -84,7 +84,7 @@ one_term arity depth node next value tree e =
 pub absolute_read : (arity depth : ℕ) (operands : List Value) (value : Value) (old mid new : Reading) (result : Result ⊤ FormulaFault) → operands ≡ value ∷ [] → 1 ≤ old.next →
     Adds term_steps (read_term arity depth old.next (view value)) old.next old mid → OnOk result (new.steps.items ≡ mid.steps.items ++ step.Absolute ∷ []) → new.next ≡ mid.next →
     IfErr result (λ fault. fault ≡ Memory) →
-    Reads term_steps (then_on (read_terms arity depth old.next (items_view operands)) (λ read. Ok (applied Absolute read.0, read.1))) (old.next - 1) old new result
+    ReadsSteps term_steps (then_on (read_terms arity depth old.next (items_view operands)) (λ read. Ok (applied Absolute read.0, read.1))) (old.next - 1) old new result
 absolute_read arity depth operands value old mid new (Ok u) e low adds put same memory =
     let size : length new.steps.items ≡ length mid.steps.items + 1 = ap length put ∙ length-append mid.steps.items (step.Absolute ∷ []) in
     let before = adds.few in

@@ -13,7 +13,7 @@ use Rattle.rel_formula.specs.declared.step.TruthOperator.{TruthOperator}
 use Rattle.rel_formula.specs.declared.step.TruthOperator.TheVariants as op
 use Rattle.rel_formula.specs.declared.step.Comparison.{Comparison}
 use Rattle.rel_formula.specs.declared.step.Connective.{Connective}
-use Rattle.rel_formula.specs.Adding.{Adds, Reads}
+use Rattle.rel_formula.specs.Adding.{Adds, ReadsSteps}
 use Rattle.rel_formula.specs.Answers.{then_on}
 use Rattle.rel_formula.specs.Formula.{Term, Truth, compared, opposite}
 use Rattle.rel_formula.specs.Names.{operand_count, operator_in, truth_takes, as_truth_operator, truth_operator_in}
@@ -74,7 +74,7 @@ two_terms arity depth node middle next first second a b e f =
 pub negated_read : (arity depth : ℕ) (operands : List Value) (value : Value) (old mid new : Reading) (result : Result ⊤ FormulaFault) → operands ≡ value ∷ [] → 1 ≤ old.next →
     Adds truth_steps (read_truth arity depth old.next (view value)) old.next old mid → OnOk result (new.steps.items ≡ mid.steps.items ++ step.Negate ∷ []) → new.next ≡ mid.next →
     IfErr result (λ fault. fault ≡ Memory) →
-    Reads truth_steps (then_on (read_truths arity depth old.next (items_view operands)) (λ read. Ok (negated read.0, read.1))) (old.next - 1) old new result
+    ReadsSteps truth_steps (then_on (read_truths arity depth old.next (items_view operands)) (λ read. Ok (negated read.0, read.1))) (old.next - 1) old new result
 negated_read arity depth operands value old mid new (Ok u) e low adds put same memory =
     let size : length new.steps.items ≡ length mid.steps.items + 1 = ap length put ∙ length-append mid.steps.items (step.Negate ∷ []) in
     let before = adds.few in
@@ -101,7 +101,7 @@ pair_of (v ∷ w ∷ x ∷ more) first second two is too = absurd (omega arith)
 pub compared_read : (o : Comparison) (arity depth : ℕ) (operands : List Value) (first second : Value) (old mid late new : Reading) (result : Result ⊤ FormulaFault) → operands ≡ first ∷ second ∷ [] →
     Adds term_steps (read_term arity depth old.next (view first)) old.next old mid → Adds term_steps (read_term arity depth mid.next (view second)) mid.next mid late →
     OnOk result (new.steps.items ≡ late.steps.items ++ step.Compare o ∷ []) → new.next ≡ late.next → IfErr result (λ fault. fault ≡ Memory) →
-    Reads truth_steps (then_on (read_terms arity depth old.next (items_view operands)) (λ read. Ok (comparison_of o read.0, read.1))) old.next old new result
+    ReadsSteps truth_steps (then_on (read_terms arity depth old.next (items_view operands)) (λ read. Ok (comparison_of o read.0, read.1))) old.next old new result
 compared_read o arity depth operands first second old mid late new (Ok u) e a b put same memory =
     let size : length new.steps.items ≡ length late.steps.items + 1 = ap length put ∙ length-append late.steps.items (step.Compare o ∷ []) in
     let before = a.few in

@@ -14,6 +14,6 @@ pub record Adds {Tree : Type 0} (steps_of : Tree → List Step) (stated : Result
   pub nodes : new.next ≤ 200
 
 -- the stated tree was added, or its fault is the answer, want of memory aside
-abbrev pub Reads : {Tree : Type 0} → (Tree → List Step) → Result (Tree × ℕ) FormulaFault → ℕ → Reading → Reading → Result ⊤ FormulaFault → Type 0
-Reads steps_of stated start old new (Ok _) = Adds steps_of stated start old new
-Reads steps_of stated start old new (Err fault) = fault ≢ Memory → stated ≡ Err fault
+abbrev pub ReadsSteps : {Tree : Type 0} → (Tree → List Step) → Result (Tree × ℕ) FormulaFault → ℕ → Reading → Reading → Result ⊤ FormulaFault → Type 0
+ReadsSteps steps_of stated start old new (Ok _) = Adds steps_of stated start old new
+ReadsSteps steps_of stated start old new (Err fault) = fault ≢ Memory → stated ≡ Err fault

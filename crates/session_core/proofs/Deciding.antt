@@ -9,8 +9,8 @@ use Rattle.language.specs.Language.{Language}
 use Rattle.language.specs.Answers.{has_scope}
 use Rattle.language.proofs.Members.{any-filter, any-map}
 use Rattle.rel_table.specs.Relation.{tuples}
-use Rattle.find_c.specs.Choosing.{Choice, Scene, allows, tells_apart, splitting_tuple}
-use Rattle.find_c.specs.Scenes.{scene_of, free_choices}
+use Rattle.language.specs.TellingApart.{Choice, Scene, allows, tells_apart, splitting_tuple}
+use Rattle.language.specs.Scenes.{scene_of, free_choices}
 use Rattle.session_laws.specs.Session.{is_undecided}
 use Rattle.language.proofs.Lists.{any_weaker}
 

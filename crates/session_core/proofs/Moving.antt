@@ -15,8 +15,8 @@ use Rattle.language.specs.Answers.{has_scope, kept}
 use Rattle.find_scope.specs.Run.{Run as ScopeRun}
 use Rattle.find_scope.proofs.Moves.{standing_tells}
 use Rattle.find_c.specs.Run.{Run, IsRun}
-use Rattle.find_c.specs.Choosing.{Choice, splitting_tuple, after_reply}
-use Rattle.find_c.specs.Scenes.{scene_of, free_choices, violated_choices}
+use Rattle.language.specs.TellingApart.{Choice, splitting_tuple, after_reply}
+use Rattle.language.specs.Scenes.{scene_of, free_choices, violated_choices}
 use Rattle.session_laws.specs.Session.{State, Idle, Choosing, At, begun, is_lawful, settle_choices, settle_halving, is_undecided, next_scope, read_on, state_after}
 use Rattle.session_laws.proofs.Folds.{one_answer_more}
 use Rattle.session_laws.proofs.Steps.{kept_steps}
@@ -25,7 +25,7 @@ use Rattle.session_laws.proofs.Limits.{answers_fit}
 use Rattle.session_core.specs.declared.knowledge.Knowledge.{Knowledge}
 use Rattle.session_core.specs.Sound.{NoneBefore, AreUnlearned, IsNew, IsFirst}
 use Rattle.session_core.specs.Known.{IsAnswered}
-use Rattle.session_core.specs.Putting.{IsDue}
+use Rattle.session_core.specs.Putting.{IsFirstTuple}
 use Rattle.session_core.specs.Standing.{question_of, Knows, LeadsTo, IsNewAfter, WalksAfter, HalvesAfter}
 use Rattle.session_core.specs.Leading.{part_replied, IsLed}
 use Rattle.multi_tree.specs.Stage.{Stage, walk_in, first_asked}
@@ -215,7 +215,7 @@ pub tuple_led : (k k' : Knowledge) (q : Assignment) (run : Run) (reply : Bool) (
 tuple_led k k' q run reply t lawful same knows is sound at =
     choices_led k k' q run reply t lawful same knows is (open_step one_answer_more k.lang k.plan t run.scope run.choices k.network.list (walk_in k.tree) run.tuple reply at sound.tuple)
 
-pub first_led : (k k' : Knowledge) (q : Assignment) (run : Run) (reply : Bool) (t : List Answer) → IsLanguage k'.lang → IsAnswered k q reply k' → Knows k t → q ≡ question_of k.lang run → IsDue k run →
+pub first_led : (k k' : Knowledge) (q : Assignment) (run : Run) (reply : Bool) (t : List Answer) → IsLanguage k'.lang → IsAnswered k q reply k' → Knows k t → q ≡ question_of k.lang run → IsFirstTuple k run →
     IsNewAfter k (question_of k.lang run) t →
     IsLed k' (t ++ said q reply ∷ []) (settle_choices k'.lang (t ++ said q reply ∷ []) run.scope (left_after k'.lang run reply) k'.network.list (walk_in k'.tree))
 first_led k k' q run reply t lawful same knows is due new =

@@ -4,7 +4,7 @@ use Rattle.assign.specs.Assignment.{Assignment}
 use Rattle.assign.specs.Events.{Answer}
 use Rattle.language.specs.declared.candidates.Candidate.{Candidate}
 use Rattle.session_laws.specs.Session.{Idle, Halving, Choosing, Walking, At}
-use Rattle.find_c.specs.Choosing.{Choice}
+use Rattle.language.specs.TellingApart.{Choice}
 use Rattle.session_laws.specs.Walk.{Walk, WalkEnd}
 use Rattle.session_core.specs.declared.knowledge.Knowledge.{Knowledge}
 use Rattle.session_core.specs.declared.put.Put.{Put}
@@ -12,9 +12,9 @@ use Rattle.session_core.specs.declared.put.Put.TheVariants as puts
 use Rattle.session_core.specs.declared.session.Session.{Session}
 use Rattle.session_core.specs.declared.session.Session.TheVariants as sessions
 use Rattle.session_core.specs.Standing.{Stands, LeadsTo, PutAfter, knowledge_of, open_in}
-use Rattle.session_core.specs.Settled.{GoesOn, HasNoNew, IsSettled}
+use Rattle.session_core.specs.Settled.{IsNoneNew, HasNoNew, IsSettled}
 
-never_idle : (k : Knowledge) (put : Put) (t : List Answer) (network : List Candidate) (end : Option WalkEnd) → GoesOn put → PutAfter k put t → LeadsTo k t (Idle network end) → ⊥
+never_idle : (k : Knowledge) (put : Put) (t : List Answer) (network : List Candidate) (end : Option WalkEnd) → IsNoneNew put → PutAfter k put t → LeadsTo k t (Idle network end) → ⊥
 never_idle k (puts.Example e) t network end on after idle = on
 never_idle k (puts.OnWalk e set) t network end on after idle = let no : ⊥ = apart_walking (sym idle ∙ after.walking) in no
   where

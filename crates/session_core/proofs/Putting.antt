@@ -7,8 +7,8 @@ use Rattle.assign.specs.declared.events.Plan.TheVariants.{Scopes}
 use Rattle.language.specs.declared.candidates.Candidate.{Candidate}
 use Rattle.language.specs.Language.{Language}
 use Rattle.find_c.specs.Run.{Run}
-use Rattle.find_c.specs.Choosing.{splitting_tuple}
-use Rattle.find_c.specs.Scenes.{scene_of}
+use Rattle.language.specs.TellingApart.{splitting_tuple}
+use Rattle.language.specs.Scenes.{scene_of}
 use Rattle.session_laws.specs.Session.{is_just, is_lawful, scope_question}
 use Rattle.session_laws.proofs.Folds.{same_assignment, assignment_same}
 use Rattle.session_core.specs.Sound.{IsFirst}

@@ -15,8 +15,8 @@ use Rattle.language.specs.Answers.{kept}
 use Rattle.find_scope.specs.Halving.{Wants, halve}
 use Rattle.find_c.specs.Run.{Run}
 use Rattle.find_c.specs.Standing.{IsRunOn, IsFound, IsFree}
-use Rattle.find_c.specs.Choosing.{Choice, splitting_tuple, after_reply}
-use Rattle.find_c.specs.Scenes.{scene_of, on_scope, free_choices, violated_choices}
+use Rattle.language.specs.TellingApart.{Choice, splitting_tuple, after_reply}
+use Rattle.language.specs.Scenes.{scene_of, on_scope, free_choices, violated_choices}
 use Rattle.session_laws.specs.Walk.{Walk, WalkEnd}
 use Rattle.session_laws.specs.Session.{State, Idle, Halving, Choosing, Walking, At, at_turn, replied, begun, learn, chosen, go_on, if_passes, is_just, replied_tuple, settle_choices, settle_halving, found, begin_choosing, Over, wanted_set, on_scope_asked, scope_question, is_undecided, next_scope, is_lawful, state_after}
 use Rattle.session_laws.specs.Laws.{OneAnswerMore}

@@ -17,12 +17,12 @@ pub record IsLed (k : Knowledge) (t : List Answer) (state : State) : Type 0 wher
   pub knows : Knows k t
 
 -- where answers lead to the state, the session stands after them
-abbrev pub StandsAt : Knowledge → (List Answer → State) → Session → Type 0
-StandsAt k state session = (t : List Answer) → IsLed k t (state t) → Stands session t
+abbrev pub StandsWhere : Knowledge → (List Answer → State) → Session → Type 0
+StandsWhere k state session = (t : List Answer) → IsLed k t (state t) → Stands session t
 
 -- where nothing is open after the answers, however a walk ended, the session stands after them
 abbrev pub StandsWhereIdle : Knowledge → Session → Type 0
-StandsWhereIdle k session = (end : Option WalkEnd) → StandsAt k (λ t. Idle k.network.list end) session
+StandsWhereIdle k session = (end : Option WalkEnd) → StandsWhere k (λ t. Idle k.network.list end) session
 
 -- what the answer about an example on a set makes of a walk, or of none
 abbrev pub part_replied : Language → List Answer → Assignment → List ℕ → Bool → List Candidate → Stage → State

@@ -26,7 +26,7 @@ pub record IsOnWalk (k : Knowledge) (e : Assignment) (set : List ℕ) : Type 0 w
   pub asked : asked_in k.tree ≡ Some set
 
 -- the first question of plan Scopes
-pub record IsDue (k : Knowledge) (run : Run) : Type 0 where
+pub record IsFirstTuple (k : Knowledge) (run : Run) : Type 0 where
   pub plan : k.plan ≡ Scopes
   pub first : IsFirst k.lang k.kept.members k.network.list run
 
@@ -39,7 +39,7 @@ abbrev pub IsPut : Knowledge → Put → Type 0
 IsPut k (Example e) = IsExample k e
 IsPut k (OnWalk e set) = IsOnWalk k e set
 IsPut k (Part e set run) = IsQuestion k.lang e
-IsPut k (FirstTuple run) = IsDue k run
+IsPut k (FirstTuple run) = IsFirstTuple k run
 IsPut k (Tuple run) = IsTelling k run
 
 pub IsPut-prop : (k : Knowledge) (put : Put) → IsProp (IsPut k put)

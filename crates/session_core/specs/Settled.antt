@@ -17,15 +17,15 @@ abbrev pub IsSettled : Language → Plan → List Answer → Option Assignment �
 IsSettled l plan t put = (network : List Candidate) (end : Option WalkEnd) → state_after l plan t ≡ At (Idle network end) → put ≡ None
 
 -- the question goes on with what an answer began
-abbrev pub GoesOn : Put → Type 0
-GoesOn (puts.Example e) = ⊥
-GoesOn (puts.OnWalk e set) = Unit {0}
-GoesOn (puts.Part e set run) = Unit {0}
-GoesOn (puts.FirstTuple run) = ⊥
-GoesOn (puts.Tuple run) = Unit {0}
+abbrev pub IsNoneNew : Put → Type 0
+IsNoneNew (puts.Example e) = ⊥
+IsNoneNew (puts.OnWalk e set) = Unit {0}
+IsNoneNew (puts.Part e set run) = Unit {0}
+IsNoneNew (puts.FirstTuple run) = ⊥
+IsNoneNew (puts.Tuple run) = Unit {0}
 
 -- no new question is put
 abbrev pub HasNoNew : Session → Type 0
 HasNoNew (sessions.Idle idle) = Unit {0}
-HasNoNew (sessions.Asking asking) = GoesOn asking.put
+HasNoNew (sessions.Asking asking) = IsNoneNew asking.put
 HasNoNew (sessions.Over over) = Unit {0}

@@ -8,9 +8,9 @@ use Rattle.language.specs.Answers.{has_scope}
 use Rattle.find_scope.specs.declared.run.ScopeNext.{ScopeNext}
 use Rattle.find_scope.specs.declared.run.ScopeNext.TheVariants.{Wants, Found}
 use Rattle.find_c.specs.Run.{Run, IsRun}
-use Rattle.find_c.specs.Choosing.{Choice}
-use Rattle.find_c.specs.Scenes.{free_choices}
-use Rattle.find_c.specs.Standing.{IsSettled}
+use Rattle.language.specs.TellingApart.{Choice}
+use Rattle.language.specs.Scenes.{free_choices}
+use Rattle.find_c.specs.Standing.{LeavesChoices}
 use Rattle.find_c.specs.declared.run.RelNext.{RelNext}
 use Rattle.session_laws.specs.Walk.{violates_some}
 use Rattle.session_laws.specs.Session.{is_undecided, next_scope}
@@ -58,7 +58,7 @@ FirstRun l live network (Some run) = IsFirst l live network run
 pub record AreChoices (l : Language) (network : List Candidate) (next : RelNext) : Type 0 where
   pub scope : ℕ
   pub choices : List Choice
-  pub settled : IsSettled l scope choices next
+  pub settled : LeavesChoices l scope choices next
   pub free : has_scope network scope ≡ false
 
 -- ---- halving

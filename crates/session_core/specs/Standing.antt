@@ -9,7 +9,7 @@ use Rattle.find_scope.specs.Run.{Run as ScopeRun}
 use Rattle.find_scope.specs.Standing.{StandsFor}
 use Rattle.find_scope.specs.declared.run.ScopeNext.TheVariants.{Wants}
 use Rattle.find_c.specs.Run.{Run}
-use Rattle.find_c.specs.Scenes.{on_scope}
+use Rattle.language.specs.Scenes.{on_scope}
 use Rattle.session_laws.specs.Walk.{Walk, WalkEnd}
 use Rattle.multi_tree.specs.Stage.{Asked, walk_in}
 use Rattle.session_laws.specs.Session.{State, At, is_lawful, open_question, state_after, Idle as IdleState, Halving as HalvingState, Choosing as ChoosingState, Walking as WalkingState, Over as OverState}

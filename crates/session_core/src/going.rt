@@ -9,14 +9,14 @@ ghost use Rattle.language.specs.Language.{scope_number, IsCandidate, IsQuestion}
 ghost use Rattle.language.specs.Answers.{has_scope};
 ghost use Rattle.find_scope.specs.Standing.{StandsFor};
 ghost use Rattle.find_c.specs.Run.{IsRun};
-ghost use Rattle.find_c.specs.Choosing.{Choice, after_reply};
-ghost use Rattle.find_c.specs.Scenes.{scene_of};
-ghost use Rattle.find_c.specs.Standing.{IsSettled};
+ghost use Rattle.language.specs.TellingApart.{Choice, after_reply};
+ghost use Rattle.language.specs.Scenes.{scene_of};
+ghost use Rattle.find_c.specs.Standing.{LeavesChoices};
 ghost use Rattle.session_laws.specs.Session.{found, go_on, settle_choices, settle_halving};
 ghost use Rattle.multi_tree.specs.Stage.{walk_in, asked_in};
 ghost use Rattle.session_core.specs.Sound.{AreChoices};
 ghost use Rattle.session_core.specs.Standing.{knowledge_of};
-ghost use Rattle.session_core.specs.Leading.{part_replied, HasPutAgain, StandsAt};
+ghost use Rattle.session_core.specs.Leading.{part_replied, HasPutAgain, StandsWhere};
 ghost use Rattle.session_core.specs.Settled.{HasNoNew};
 
 use crate::halving::settle;
@@ -34,7 +34,7 @@ fn walked(knowledge: Knowledge) -> Session
     ensures lang { (knowledge_of result).lang ≡ knowledge.lang }
     ensures plan { (knowledge_of result).plan ≡ knowledge.plan }
     ensures none_new { HasNoNew result }
-    ensures stands { let k = knowledge in StandsAt k (λ t. go_on k.lang t k.network.list (walk_in k.tree)) result }
+    ensures stands { let k = knowledge in StandsWhere k (λ t. go_on k.lang t k.network.list (walk_in k.tree)) result }
 {
     let Knowledge {
         lang,
@@ -72,7 +72,7 @@ pub(crate) fn learned(knowledge: Knowledge, c: Candidate) -> Session
     ensures lang { (knowledge_of result).lang ≡ knowledge.lang }
     ensures plan { (knowledge_of result).plan ≡ knowledge.plan }
     ensures none_new { HasNoNew result }
-    ensures stands { let k = knowledge in StandsAt k (λ t. go_on k.lang t (k.network.list ++ c ∷ []) (walk_in k.tree)) result }
+    ensures stands { let k = knowledge in StandsWhere k (λ t. go_on k.lang t (k.network.list ++ c ∷ []) (walk_in k.tree)) result }
 {
     let Knowledge {
         lang,
@@ -103,8 +103,8 @@ pub(crate) fn chosen(knowledge: Knowledge, next: RelNext) -> Session
     ensures lang { (knowledge_of result).lang ≡ knowledge.lang }
     ensures plan { (knowledge_of result).plan ≡ knowledge.plan }
     ensures none_new { HasNoNew result }
-    ensures stands { (s : ℕ) (choices : List Choice) → let k = knowledge in IsSettled k.lang s choices next →
-        StandsAt k (λ t. settle_choices k.lang t s choices k.network.list (walk_in k.tree)) result }
+    ensures stands { (s : ℕ) (choices : List Choice) → let k = knowledge in LeavesChoices k.lang s choices next →
+        StandsWhere k (λ t. settle_choices k.lang t s choices k.network.list (walk_in k.tree)) result }
 {
     match next {
         RelNext::Wants(run) => Session::Asking(Asking {
@@ -123,7 +123,7 @@ fn found(knowledge: Knowledge, example: Partial, set: VarSet) -> Session
     ensures lang { (knowledge_of result).lang ≡ knowledge.lang }
     ensures plan { (knowledge_of result).plan ≡ knowledge.plan }
     ensures none_new { HasNoNew result }
-    ensures stands { let k = knowledge in StandsAt k (λ t. found k.lang t example k.network.list (walk_in k.tree) (scope_number k.lang set)) result }
+    ensures stands { let k = knowledge in StandsWhere k (λ t. found k.lang t example k.network.list (walk_in k.tree) (scope_number k.lang set)) result }
 {
     let Some(s) = knowledge.lang.scope_of(set) else {
         return Session::Over(Collapsed { knowledge });
@@ -146,7 +146,7 @@ pub(crate) fn halved(
     ensures plan { (knowledge_of result).plan ≡ knowledge.plan }
     ensures none_new { HasNoNew result }
     ensures stands { (replies : List Bool) → let k = knowledge in StandsFor next set replies →
-        StandsAt k (λ t. settle_halving k.lang t example set replies k.network.list (walk_in k.tree)) result }
+        StandsWhere k (λ t. settle_halving k.lang t example set replies k.network.list (walk_in k.tree)) result }
 {
     let size = set.len();
     match settle(&knowledge.lang, &knowledge.kept, &example, size, next) {
@@ -199,7 +199,7 @@ pub(crate) fn part_answered(
     ensures lang { (knowledge_of result).lang ≡ knowledge.lang }
     ensures plan { (knowledge_of result).plan ≡ knowledge.plan }
     ensures none_new { HasNoNew result }
-    ensures stands { let k = knowledge in StandsAt k (λ t. part_replied k.lang t example set «yes» k.network.list k.tree) result }
+    ensures stands { let k = knowledge in StandsWhere k (λ t. part_replied k.lang t example set «yes» k.network.list k.tree) result }
 {
     if yes {
         return walked(knowledge);
@@ -216,7 +216,7 @@ pub(crate) fn tuple_answered(knowledge: Knowledge, run: RelRun, yes: bool) -> Se
     ensures plan { (knowledge_of result).plan ≡ knowledge.plan }
     ensures none_new { HasNoNew result }
     ensures stands { let k = knowledge in
-        StandsAt k (λ t. settle_choices k.lang t run.scope (after_reply (scene_of k.lang run.scope) run.tuple «yes» run.choices) k.network.list (walk_in k.tree)) result }
+        StandsWhere k (λ t. settle_choices k.lang t run.scope (after_reply (scene_of k.lang run.scope) run.tuple «yes» run.choices) k.network.list (walk_in k.tree)) result }
 {
     let next = run.reply(&knowledge.lang, yes);
     chosen(knowledge, next)

@@ -14,10 +14,10 @@ use Rattle.rel_table.specs.Relation.{Relation, tuples}
 use Rattle.language.specs.Language.{Language, IsLanguage, IsCandidate, candidates, candidates_on, relations_of, violates, accepts}
 use Rattle.assign.specs.Events.{Answer}
 use Rattle.language.specs.Answers.{IsNetwork, IsNoOn, has_scope, agrees, is_struck, kept}
-use Rattle.find_c.specs.Choosing.{Choice, Scene, allows, tells_apart, splitting_tuple, after_reply, remaining}
+use Rattle.language.specs.TellingApart.{Choice, Scene, allows, tells_apart, splitting_tuple, after_reply, remaining}
 use Rattle.language.proofs.Lists.{find_all, all_below}
 use Rattle.session_laws.specs.Session.{next_scope, learn}
-use Rattle.find_c.specs.Scenes.{scene_of, on_scope, free_choices}
+use Rattle.language.specs.Scenes.{scene_of, on_scope, free_choices}
 use Rattle.language.proofs.Covered.{IsTold, both_true}
 use Rattle.session_laws.proofs.OnScope.{exact_question, violates_there, accepts_learned}
 use Rattle.rel_table.proofs.Tables.{same_table, one_number}

@@ -16,12 +16,12 @@ use Rattle.assign.specs.Events.{Answer}
 use Rattle.language.specs.Answers.{IsNoOn, has_scope, kept}
 use Rattle.find_scope.specs.Bound.{log_up}
 use Rattle.find_scope.specs.Halving.{Halved, Wants, Got, halve}
-use Rattle.find_c.specs.Choosing.{Choice, splitting_tuple, after_reply}
+use Rattle.language.specs.TellingApart.{Choice, splitting_tuple, after_reply}
 use Rattle.find_scope.proofs.Counts.{sub_length, log_up_holds, noes_are_few}
 use Rattle.language.proofs.Accepts.{accepted_at}
 use Rattle.session_laws.specs.Walk.{Walk, Turn, Asks, violates_some, next_turn}
 use Rattle.session_laws.specs.Session.{State, Idle, Halving, Choosing, Walking, Over, At, MOST_SETS, wanted_set, next_scope, at_turn, settle_choices, begin_choosing, found, with_quiet_replies, halved, settle_halving, is_just, replied, replied_tuple, on_scope_asked, begun, is_lawful, step, state_after}
-use Rattle.find_c.specs.Scenes.{scene_of, on_scope, free_choices, violated_choices}
+use Rattle.language.specs.Scenes.{scene_of, on_scope, free_choices, violated_choices}
 use Rattle.session_laws.specs.Laws.{AnswersAreFew, AnswersAreAtMost, LearnedAreFew}
 use Rattle.language.proofs.Covered.{denied}
 use Rattle.language.proofs.Members.{any-map}

@@ -14,11 +14,11 @@ use Rattle.language.specs.Language.{Language, IsLanguage, IsCandidate, variable_
 use Rattle.assign.specs.Events.{Answer}
 use Rattle.language.specs.Answers.{agrees, is_struck, kept}
 use Rattle.find_scope.specs.Bound.{log_up}
-use Rattle.find_c.specs.Choosing.{Choice, allows, tells_apart, splitting_tuple, after_reply, remaining}
+use Rattle.language.specs.TellingApart.{Choice, allows, tells_apart, splitting_tuple, after_reply, remaining}
 use Rattle.language.proofs.Lists.{find_all}
 use Rattle.session_laws.specs.Walk.{Walk, Asks, violates_some, learned_within, parts_without, take_set, next_turn}
 use Rattle.session_laws.specs.Session.{State, Idle, Halving, Choosing, Walking, Over, learn, at_turn, go_on, settle_choices, chosen}
-use Rattle.find_c.specs.Scenes.{scene_of, on_scope}
+use Rattle.language.specs.Scenes.{scene_of, on_scope}
 use Rattle.language.proofs.Covered.{not_struck, denied}
 use Rattle.assign.proofs.Masks.{rises_where}
 use Rattle.language.proofs.Members.{any-filter, any_candidate, find_some}

@@ -7,7 +7,7 @@ use Rattle.assign.specs.Assignment.{Assignment, is_same_assignment, is_same_valu
 use Rattle.assign.specs.Events.{Answer}
 use Rattle.assign.specs.declared.events.Plan.{Plan}
 use Rattle.language.specs.Language.{Language}
-use Rattle.find_c.specs.Scenes.{on_scope}
+use Rattle.language.specs.Scenes.{on_scope}
 use Rattle.session_laws.specs.Session.{State, Idle, At, if_passes, is_just, then_on, step, read_on, state_after}
 use Rattle.session_laws.specs.Laws.{OneAnswerMore}
 

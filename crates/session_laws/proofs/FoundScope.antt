@@ -16,8 +16,8 @@ use Rattle.language.specs.Language.{Language, IsLanguage, IsCandidate, candidate
 use Rattle.assign.specs.Events.{Answer}
 use Rattle.language.specs.Answers.{IsNoOn, NoneAgrees, has_scope, agrees, is_struck, kept}
 use Rattle.find_scope.specs.Halving.{Got, halve}
-use Rattle.find_c.specs.Choosing.{Choice}
-use Rattle.find_c.specs.Scenes.{violated_choices}
+use Rattle.language.specs.TellingApart.{Choice}
+use Rattle.language.specs.Scenes.{violated_choices}
 use Rattle.session_laws.specs.Session.{learn}
 use Rattle.language.proofs.Covered.{same_scope}
 use Rattle.find_scope.proofs.Runs.{IsKnown}

@@ -8,7 +8,7 @@ use Rattle.language.specs.declared.candidates.Candidate.{Candidate}
 use Rattle.language.specs.Language.{Language, IsCandidate, candidates, violates}
 use Rattle.assign.specs.Events.{Answer}
 use Rattle.language.specs.Answers.{has_scope, is_struck, kept}
-use Rattle.find_c.specs.Choosing.{Choice}
+use Rattle.language.specs.TellingApart.{Choice}
 use Rattle.session_laws.specs.Walk.{violates_some}
 use Rattle.language.proofs.Members.{any-filter}
 use Rattle.session_laws.proofs.Lists.{any_imp, fewer_in, more_in}

@@ -13,8 +13,8 @@ use Rattle.language.specs.declared.candidates.Candidate.{Candidate}
 use Rattle.rel_table.specs.Relation.{holds}
 use Rattle.language.specs.Language.{Language, IsLanguage, variable_count, relations_of, violates, accepts}
 use Rattle.language.specs.Answers.{IsNetwork, has_scope}
-use Rattle.find_c.specs.Choosing.{Choice, allows}
-use Rattle.find_c.specs.Scenes.{scene_of, on_scope}
+use Rattle.language.specs.TellingApart.{Choice, allows}
+use Rattle.language.specs.Scenes.{scene_of, on_scope}
 use Rattle.language.proofs.Beside.{value_of_assigned, scope_rises}
 use Rattle.session_laws.specs.Session.{learn}
 use Rattle.language.proofs.Covered.{only_there, rejected_on, none_on}

@@ -21,8 +21,8 @@ use Rattle.language.proofs.Lists.{find_all}
 use Rattle.language.proofs.Members.{any-filter, any-map, any_candidate, any_number}
 use Rattle.find_scope.specs.Halving.{Halved, Wants, Got, halve}
 use Rattle.find_scope.proofs.Got.{sub_within, within_sub}
-use Rattle.find_c.specs.Choosing.{Choice, splitting_tuple, after_reply, remaining}
-use Rattle.find_c.specs.Scenes.{scene_of, on_scope, free_choices, violated_choices}
+use Rattle.language.specs.TellingApart.{Choice, splitting_tuple, after_reply, remaining}
+use Rattle.language.specs.Scenes.{scene_of, on_scope, free_choices, violated_choices}
 use Rattle.session_laws.specs.Walk.{Walk, WalkEnd, Ended, Capped, Turn, Asks, violates_some, learned_within, parts_without, take_set, next_turn}
 use Rattle.session_laws.specs.Session.{State, Idle, Halving, Choosing, Walking, Over, At, MOST_SETS, next_scope, learn, at_turn, go_on, settle_choices, chosen, begin_choosing, found, with_quiet_replies, halved, settle_halving, is_just, replied, replied_tuple, on_scope_asked, begun, is_lawful, step, state_after, end_in}
 use Rattle.session_laws.specs.Laws.{IsWalked, EndedIsWalked}

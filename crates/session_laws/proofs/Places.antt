@@ -10,10 +10,10 @@ use Rattle.language.specs.Language.{Language, variable_count}
 use Rattle.assign.specs.Events.{Answer}
 use Rattle.language.specs.Answers.{kept}
 use Rattle.find_scope.specs.Halving.{Halved, Wants, Got, halve}
-use Rattle.find_c.specs.Choosing.{Choice, splitting_tuple, remaining}
+use Rattle.language.specs.TellingApart.{Choice, splitting_tuple, remaining}
 use Rattle.session_laws.specs.Walk.{Walk, Turn, Asks, Ends, next_turn}
 use Rattle.session_laws.specs.Session.{State, Idle, Halving, Choosing, Walking, Over, MOST_SETS, wanted_set, open_question, next_scope, learn, at_turn, go_on, settle_choices, chosen, begin_choosing, found, with_quiet_replies, halved, settle_halving, if_passes, is_just, replied, replied_tuple, on_scope_asked, begun, step}
-use Rattle.find_c.specs.Scenes.{scene_of, on_scope, free_choices, violated_choices}
+use Rattle.language.specs.Scenes.{scene_of, on_scope, free_choices, violated_choices}
 use Rattle.session_laws.specs.Laws.{QuestionsHavePlaces, NeverStuck}
 use Rattle.session_laws.proofs.Folds.{passed, assignment_same, reached}
 use Rattle.session_laws.proofs.States.{halving_asks}

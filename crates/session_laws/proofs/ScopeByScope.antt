@@ -9,11 +9,11 @@ use Rattle.rel_table.specs.Relation.{holds, tuples}
 use Rattle.language.specs.Language.{Language, IsLanguage, IsCandidate, IsImplied, scope_of, relation_of}
 use Rattle.assign.specs.Events.{Answer}
 use Rattle.language.specs.Answers.{has_scope, is_struck, kept}
-use Rattle.find_c.specs.Choosing.{Choice, allows, tells_apart, splitting_tuple, after_reply}
+use Rattle.language.specs.TellingApart.{Choice, allows, tells_apart, splitting_tuple, after_reply}
 use Rattle.assign.specs.declared.events.Plan.TheVariants.{Scopes}
 use Rattle.language.proofs.Beside.{tuple_fits}
 use Rattle.session_laws.specs.Session.{State, Idle, Halving, Choosing, Walking, Over, At, next_scope, settle_choices, chosen, is_just, replied, replied_tuple, on_scope_asked, step, state_after}
-use Rattle.find_c.specs.Scenes.{scene_of, on_scope, free_choices}
+use Rattle.language.specs.Scenes.{scene_of, on_scope, free_choices}
 use Rattle.session_laws.specs.Laws.{ScopesAreCovered, ScopesNeverOver}
 use Rattle.language.proofs.Members.{any_tuple, any_number, find_none}
 use Rattle.session_laws.proofs.Lists.{is_none_option}

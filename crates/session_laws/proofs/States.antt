@@ -14,11 +14,11 @@ use Rattle.language.specs.Language.{Language, IsLanguage, IsCandidate, IsImplied
 use Rattle.assign.specs.Events.{Answer}
 use Rattle.language.specs.Answers.{NoneAgrees, has_scope, is_struck, kept}
 use Rattle.find_scope.specs.Halving.{Halved, Wants, Got, halve}
-use Rattle.find_c.specs.Choosing.{Choice, splitting_tuple, after_reply, remaining}
+use Rattle.language.specs.TellingApart.{Choice, splitting_tuple, after_reply, remaining}
 use Rattle.language.proofs.Accepts.{accepted_at, accepted_from}
 use Rattle.session_laws.specs.Walk.{Walk, Turn, Asks, violates_some, learned_within, parts_without, take_set, next_turn}
 use Rattle.session_laws.specs.Session.{State, Idle, Halving, Choosing, Walking, Over, At, MOST_SETS, wanted_set, next_scope, learn, at_turn, go_on, settle_choices, chosen, begin_choosing, found, is_quiet, with_quiet_replies, halved, settle_halving, is_just, replied, replied_tuple, on_scope_asked, begun, is_lawful, step, state_after}
-use Rattle.find_c.specs.Scenes.{scene_of, on_scope, free_choices, violated_choices}
+use Rattle.language.specs.Scenes.{scene_of, on_scope, free_choices, violated_choices}
 use Rattle.session_laws.specs.Laws.{IsAsking, HalvingAsks, IdleIsInStep, ImpliedIsCovered, OverMeansNone}
 use Rattle.session_laws.proofs.Fuel.{fuel_is_enough}
 use Rattle.assign.proofs.Masks.{rises_where}

@@ -137,7 +137,7 @@ network_in (Walking set walk network) = network
 network_in (Over network) = network
 
 -- the new list goes on where the old one ends
-pub record GoesOn (old new : List Candidate) : Type 0 where
+pub record Extends (old new : List Candidate) : Type 0 where
   pub more : List Candidate
   pub is : new ≡ old ++ more
 
@@ -145,7 +145,7 @@ pub record GoesOn (old new : List Candidate) : Type 0 where
 abbrev pub NetworkGrows : Type 0
 NetworkGrows =
     (l : Language) (plan : Plan) (t : List Answer) (a : Answer) (state next : State) →
-    state_after l plan t ≡ At state → state_after l plan (t ++ a ∷ []) ≡ At next → GoesOn (network_in state) (network_in next)
+    state_after l plan t ≡ At state → state_after l plan (t ++ a ∷ []) ≡ At next → Extends (network_in state) (network_in next)
 
 -- ---- What a walk of an example leaves
 

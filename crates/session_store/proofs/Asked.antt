@@ -17,8 +17,8 @@ use Rattle.language.specs.Language.{Language, IsLanguage, IsCandidate, candidate
 use Rattle.language.specs.Answers.{kept, is_struck, has_scope}
 use Rattle.language.proofs.Lists.{find_all, all_below}
 use Rattle.language.proofs.Members.{any-filter}
-use Rattle.find_c.specs.Choosing.{Choice, splitting_tuple, tells_apart}
-use Rattle.find_c.specs.Scenes.{scene_of, on_scope, free_choices}
+use Rattle.language.specs.TellingApart.{Choice, splitting_tuple, tells_apart}
+use Rattle.language.specs.Scenes.{scene_of, on_scope, free_choices}
 use Rattle.rel_table.specs.Relation.{tuples}
 use Rattle.session_laws.specs.Walk.{violates_some}
 use Rattle.session_laws.specs.Session.{State, Idle, Halving, Choosing, Walking, Over, At, state_after, wanted_set, next_scope, is_undecided, scope_question, is_just, is_lawful, open_question}

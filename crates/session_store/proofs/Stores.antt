@@ -5,8 +5,8 @@ use Rattle.assign.specs.declared.events.Event.{Event}
 use Rattle.assign.specs.declared.events.Plan.{Plan}
 use Rattle.disk_model.specs.Disk.{Only, LeavesOnly}
 use Rattle.disk_model.specs.Moments.{started, weaker}
-use Rattle.answer_journal.specs.Place.{Place, Sits, HasNew, IsOldOrNew}
-use Rattle.answer_journal.specs.Steps.{IsSettled}
+use Rattle.answer_journal.specs.End.{End, Sits, HasNew, IsOldOrNew}
+use Rattle.answer_journal.specs.Steps.{IsOnDisk}
 use Rattle.answer_journal.specs.Making.{StartsWith, CreateRefused}
 use Rattle.answer_journal.specs.Found.{Refused}
 use Rattle.answer_journal.specs.declared.fault.JFault.{JFault}
@@ -30,7 +30,7 @@ use Rattle.session_store.specs.Store.{IsThere, SitsOn, plan_of, voc_of, events_o
 use Rattle.session_store.specs.declared.store.Store.{Store}
 
 -- it is there by the same plan and the same events
-pub there_as : (place : Place) (p q : Plan) (voc : List ℕ) (e f : List Event) (may_leave : List ℕ → Type 0) (bytes : List ℕ) → p ≡ q → e ≡ f → IsThere place p voc e may_leave bytes → IsThere place q voc f may_leave bytes
+pub there_as : (place : End) (p q : Plan) (voc : List ℕ) (e f : List Event) (may_leave : List ℕ → Type 0) (bytes : List ℕ) → p ≡ q → e ≡ f → IsThere place p voc e may_leave bytes → IsThere place q voc f may_leave bytes
 there_as place p q voc e f may_leave bytes same equal there =
     let One : Plan → Type 0 = λ x. IsThere place x voc e may_leave bytes in
     let Two : List Event → Type 0 = λ x. IsThere place q voc x may_leave bytes in
@@ -39,8 +39,8 @@ there_as place p q voc e f may_leave bytes same equal there =
 pub sits_as : (old new : Store) (content : Option (List ℕ)) (may_leave : List ℕ → Type 0) → old.journal ≡ new.journal → voc_of old ≡ voc_of new → plan_of old ≡ plan_of new → events_of old ≡ events_of new →
     SitsOn old content may_leave → SitsOn new content may_leave
 sits_as old new content may_leave journal voc plan events sits live bytes told =
-    let Placed : Place → Type 0 = λ j. IsTrue j.live in
-    let One : Place → Type 0 = λ j. IsThere j (plan_of old) (voc_of old) (events_of old) may_leave bytes in
+    let Placed : End → Type 0 = λ j. IsTrue j.live in
+    let One : End → Type 0 = λ j. IsThere j (plan_of old) (voc_of old) (events_of old) may_leave bytes in
     let Two : List ℕ → Type 0 = λ v. IsThere new.journal (plan_of old) v (events_of old) may_leave bytes in
     there_as new.journal (plan_of old) (plan_of new) (voc_of new) (events_of old) (events_of new) may_leave bytes plan events
     (subst Two voc (subst One journal (sits (subst Placed (sym journal) live) bytes told)))
@@ -48,19 +48,19 @@ sits_as old new content may_leave journal voc plan events sits live bytes told =
 module _ {D : Type 0} (content : D → Option (List ℕ)) (may_leave : D → List ℕ → Type 0) (moment : D → ℕ) (left_since : D → ℕ → List ℕ → Type 0)
     (only_now : (disk : D) (c : List ℕ) → left_since disk (moment disk) c → may_leave disk c) where
   -- nothing was done
-  pub nothing_left : (place : Place) (plan : Plan) (voc : List ℕ) (events : List Event) (e : Event) (disk : D) (bytes : List ℕ) → IsThere place plan voc events (may_leave disk) bytes →
+  pub nothing_left : (place : End) (plan : Plan) (voc : List ℕ) (events : List Event) (e : Event) (disk : D) (bytes : List ℕ) → IsThere place plan voc events (may_leave disk) bytes →
       LeavesOnly moment left_since disk disk (OpensWithOrWithout plan voc events e)
   nothing_left place plan voc events e disk bytes there =
       started moment left_since disk (OpensWithOrWithout plan voc events e) (λ c left. inl (opens_there place plan voc events (may_leave disk) bytes c there (only_now disk c left)))
 
   -- what the append said, of this plan and these events
-  pub left_by_append : (place : Place) (plan : Plan) (voc : List ℕ) (events : List Event) (e : Event) (old new : D) (bytes : List ℕ) → IsThere place plan voc events (may_leave old) bytes →
+  pub left_by_append : (place : End) (plan : Plan) (voc : List ℕ) (events : List Event) (e : Event) (old new : D) (bytes : List ℕ) → IsThere place plan voc events (may_leave old) bytes →
       LeavesOnly moment left_since old new (IsOldOrNew bytes e) → LeavesOnly moment left_since old new (OpensWithOrWithout plan voc events e)
   left_by_append place plan voc events e old new bytes there any =
       weaker moment left_since old new (IsOldOrNew bytes e) (OpensWithOrWithout plan voc events e) any (λ c either. either plan voc events there.opens)
 
-  pub now_by_append : (place : Place) (plan : Plan) (voc : List ℕ) (events : List Event) (e : Event) (old new : D) (bytes : List ℕ) → IsThere place plan voc events (may_leave old) bytes →
-      IsSettled (content new) (may_leave new) (HasNew bytes e) → LeavesNow content may_leave (OpensWith plan voc (events ++ e ∷ [])) new
+  pub now_by_append : (place : End) (plan : Plan) (voc : List ℕ) (events : List Event) (e : Event) (old new : D) (bytes : List ℕ) → IsThere place plan voc events (may_leave old) bytes →
+      IsOnDisk (content new) (may_leave new) (HasNew bytes e) → LeavesNow content may_leave (OpensWith plan voc (events ++ e ∷ [])) new
   now_by_append place plan voc events e old new bytes there settled =
       let opens : OpensWith plan voc (events ++ e ∷ []) settled.now = settled.holds plan voc events there.opens in
       record { bytes = settled.now; tells = settled.tells; each = λ c left. subst (OpensWith plan voc (events ++ e ∷ [])) (sym (settled.durable c left)) opens }
@@ -81,8 +81,8 @@ held_as old new session events held =
     record { stands = subst Two events (subst One session held.stands); few = subst (λ (e : List Event). length e < 1000000) events held.few; wide = subst (All IsWide) events held.wide }
 
 -- a new store, whose journal was just made
-pub there_made : (place : Place) (plan asked : Plan) (voc given : List ℕ) (events : List Event) (content : Option (List ℕ)) (may_leave : List ℕ → Type 0) (bytes : List ℕ) → content ≡ Some bytes → asked ≡ plan → given ≡ voc → events ≡ [] →
-    Sits place bytes → Only bytes may_leave → IsSettled content may_leave (StartsWith asked given) → IsThere place plan voc events may_leave bytes
+pub there_made : (place : End) (plan asked : Plan) (voc given : List ℕ) (events : List Event) (content : Option (List ℕ)) (may_leave : List ℕ → Type 0) (bytes : List ℕ) → content ≡ Some bytes → asked ≡ plan → given ≡ voc → events ≡ [] →
+    Sits place bytes → Only bytes may_leave → IsOnDisk content may_leave (StartsWith asked given) → IsThere place plan voc events may_leave bytes
 there_made place plan asked voc given events content may_leave bytes told planned same none sits only settled =
     let here : settled.now ≡ bytes = some_once content settled.now bytes settled.tells told in
     let A : Plan → Type 0 = λ p. OpensWith p given [] bytes in

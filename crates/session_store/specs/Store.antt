@@ -7,7 +7,7 @@ use Rattle.assign.specs.declared.events.Event.{Event}
 use Rattle.assign.specs.declared.events.Plan.{Plan}
 use Rattle.language.specs.Language.{Language}
 use Rattle.disk_model.specs.Disk.{Only}
-use Rattle.answer_journal.specs.Place.{Place, Sits}
+use Rattle.answer_journal.specs.End.{End, Sits}
 use Rattle.voc_read.specs.Vocabulary.{IsVocabulary}
 use Rattle.session_store.specs.Held.{lang_held, plan_held, question_held, events_held, IsHeld}
 use Rattle.session_store.specs.Left.{OpensWith}
@@ -39,7 +39,7 @@ pub record IsSound (store : Store) : Type 0 where
   pub count : IsTrue (is_live_in store) → store.journal.records ≡ length (events_of store) + 1
 
 -- The bytes open with the session and its events, the journal stands behind them, and a crash leaves nothing else.
-pub record IsThere (place : Place) (plan : Plan) (voc : List ℕ) (events : List Event) (may_leave : List ℕ → Type 0) (bytes : List ℕ) : Type 0 where
+pub record IsThere (place : End) (plan : Plan) (voc : List ℕ) (events : List Event) (may_leave : List ℕ → Type 0) (bytes : List ℕ) : Type 0 where
   pub behind : Sits place bytes
   pub opens : OpensWith plan voc events bytes
   pub durable : Only bytes may_leave
@@ -49,5 +49,5 @@ abbrev pub SitsOn : Store → Option (List ℕ) → (List ℕ → Type 0) → Ty
 SitsOn store content may_leave = IsTrue (is_live_in store) → ForSome content (IsThere store.journal (plan_of store) (voc_of store) (events_of store) may_leave)
 
 -- each content that a crash may leave opens with the session and its events
-pub opens_there : (place : Place) (plan : Plan) (voc : List ℕ) (events : List Event) (may_leave : List ℕ → Type 0) (bytes c : List ℕ) → IsThere place plan voc events may_leave bytes → may_leave c → OpensWith plan voc events c
+pub opens_there : (place : End) (plan : Plan) (voc : List ℕ) (events : List Event) (may_leave : List ℕ → Type 0) (bytes c : List ℕ) → IsThere place plan voc events may_leave bytes → may_leave c → OpensWith plan voc events c
 opens_there place plan voc events may_leave bytes c there left = subst (OpensWith plan voc events) (sym (there.durable c left)) there.opens

@@ -10,11 +10,11 @@ use Rattle.session_laws.specs.Session.{state_after}
 use Rattle.session_laws.proofs.Pending.{ended_is_walked}
 use Rattle.session_core.specs.Settled.{IsSettled}
 use Rattle.target_oracle.specs.Turns.{Turns}
-use Rattle.acq_cli.specs.Driven.{Place, Drives, Loses, Remembers, StepsTo, TellsOpen}
+use Rattle.acq_cli.specs.Driven.{Point, Drives, Loses, Remembers, StepsTo, TellsOpen}
 use Rattle.acq_cli.specs.declared.driving.Drove.{Drove}
 use Rattle.acq_cli.specs.declared.driving.Drove.TheVariants as drove
 use Rattle.session_store.specs.Keeping.{keeps_still, keeps_then, keeps_as}
-use Rattle.acq_cli.specs.Places.{place_of, request_with}
+use Rattle.acq_cli.specs.Points.{point_of, request_with}
 use Rattle.query_gen.proofs.Marking.{no_marks_hold}
 use Rattle.acq_cli.proofs.Standings.{carried, reached, few_answers}
 use Rattle.acq_cli.specs.Added.{IsAdded}
@@ -32,7 +32,7 @@ some_same d e = cc
 pub loop-turn-init : goal.loop-turn-init
 loop-turn-init g c =
     let l : Language = g.P.Keep.lang c.args.keep.now in
-    let a : Place = place_of (standing_on l (g.P.Keep.record_of c.args.keep.now)) (g.S.Source.left c.args.source.now) (g.K.Sink.written c.args.sink.now) in
+    let a : Point = point_of (standing_on l (g.P.Keep.record_of c.args.keep.now)) (g.S.Source.left c.args.source.now) (g.K.Sink.written c.args.sink.now) in
     record {
       sound = c.requires.sound;
       settled = c.requires.settled;
@@ -58,9 +58,9 @@ returns-in-Some-clause-ends g c =
     let l : Language = g.P.Keep.lang c.args.keep.now in
     let p : Plan = g.P.Keep.plan c.args.keep.now in
     let turns : Turns = g.T.Teacher.turn c.args.teacher.now in
-    let a : Place = place_of (standing_on l (g.P.Keep.record_of c.args.keep.now)) (g.S.Source.left c.args.source.now) (g.K.Sink.written c.args.sink.now) in
-    let b : Language → Place = λ m. place_of (standing_on m (g.P.Keep.record_of c.loop-turn.keep)) (g.S.Source.left c.loop-turn.source) (g.K.Sink.written c.loop-turn.sink) in
-    let d : Language → Place = λ m. place_of (standing_on m (g.P.Keep.record_of c.take_turn.new.keep)) (g.S.Source.left c.take_turn.new.source) (g.K.Sink.written c.take_turn.new.sink) in
+    let a : Point = point_of (standing_on l (g.P.Keep.record_of c.args.keep.now)) (g.S.Source.left c.args.source.now) (g.K.Sink.written c.args.sink.now) in
+    let b : Language → Point = λ m. point_of (standing_on m (g.P.Keep.record_of c.loop-turn.keep)) (g.S.Source.left c.loop-turn.source) (g.K.Sink.written c.loop-turn.sink) in
+    let d : Language → Point = λ m. point_of (standing_on m (g.P.Keep.record_of c.take_turn.new.keep)) (g.S.Source.left c.take_turn.new.source) (g.K.Sink.written c.take_turn.new.sink) in
     let old : Language = g.P.Keep.lang c.loop-turn.keep in
     let Turned : Turns → Type 0 = λ t. Drives t old (request_with (g.P.Keep.plan c.loop-turn.keep) c.args.budget) (b old) (d old) c.in-Some.drove in
     let Spoken : Language → Plan → Type 0 = λ m q. Drives turns m (request_with q c.args.budget) (b m) (d m) c.in-Some.drove in
@@ -71,7 +71,7 @@ returns-in-Some-clause-ends g c =
 pub returns-in-Some-clause-owner : goal.returns-in-Some-clause-owner
 returns-in-Some-clause-owner g c owner lawful agreeing =
     let l : Language = g.P.Keep.lang c.args.keep.now in
-    let a : Place = place_of (standing_on l (g.P.Keep.record_of c.args.keep.now)) (g.S.Source.left c.args.source.now) (g.K.Sink.written c.args.sink.now) in
+    let a : Point = point_of (standing_on l (g.P.Keep.record_of c.args.keep.now)) (g.S.Source.left c.args.source.now) (g.K.Sink.written c.args.sink.now) in
     owned (g.T.Teacher.turn c.args.teacher.now) l (request_with (g.P.Keep.plan c.args.keep.now) c.args.budget) a (standing_on l (g.P.Keep.record_of c.take_turn.new.keep))
     (g.S.Source.left c.take_turn.new.source) (g.K.Sink.written c.take_turn.new.sink) c.in-Some.drove owner (returns-in-Some-clause-ends g c) lawful agreeing
 
@@ -92,9 +92,9 @@ loop-turn-preserved g c =
     let l : Language = g.P.Keep.lang c.args.keep.now in
     let p : Plan = g.P.Keep.plan c.args.keep.now in
     let turns : Turns = g.T.Teacher.turn c.args.teacher.now in
-    let a : Place = place_of (standing_on l (g.P.Keep.record_of c.args.keep.now)) (g.S.Source.left c.args.source.now) (g.K.Sink.written c.args.sink.now) in
-    let b : Language → Place = λ m. place_of (standing_on m (g.P.Keep.record_of c.loop-turn.keep)) (g.S.Source.left c.loop-turn.source) (g.K.Sink.written c.loop-turn.sink) in
-    let d : Language → Place = λ m. place_of (standing_on m (g.P.Keep.record_of c.take_turn.new.keep)) (g.S.Source.left c.take_turn.new.source) (g.K.Sink.written c.take_turn.new.sink) in
+    let a : Point = point_of (standing_on l (g.P.Keep.record_of c.args.keep.now)) (g.S.Source.left c.args.source.now) (g.K.Sink.written c.args.sink.now) in
+    let b : Language → Point = λ m. point_of (standing_on m (g.P.Keep.record_of c.loop-turn.keep)) (g.S.Source.left c.loop-turn.source) (g.K.Sink.written c.loop-turn.sink) in
+    let d : Language → Point = λ m. point_of (standing_on m (g.P.Keep.record_of c.take_turn.new.keep)) (g.S.Source.left c.take_turn.new.source) (g.K.Sink.written c.take_turn.new.sink) in
     let old : Language = g.P.Keep.lang c.loop-turn.keep in
     let new : Language = g.P.Keep.lang c.take_turn.new.keep in
     let before : Plan = g.P.Keep.plan c.loop-turn.keep in
@@ -150,9 +150,9 @@ returns-in-Some-clause-keeps g c =
     let l : Language = P.lang c.args.keep.now in
     let p : Plan = P.plan c.args.keep.now in
     let turns : Turns = g.T.Teacher.turn c.args.teacher.now in
-    let a : Place = place_of (standing_on l (P.record_of c.args.keep.now)) (g.S.Source.left c.args.source.now) (g.K.Sink.written c.args.sink.now) in
-    let b : Language → Place = λ m. place_of (standing_on m (P.record_of c.loop-turn.keep)) (g.S.Source.left c.loop-turn.source) (g.K.Sink.written c.loop-turn.sink) in
-    let d : Language → Place = λ m. place_of (standing_on m (P.record_of c.take_turn.new.keep)) (g.S.Source.left c.take_turn.new.source) (g.K.Sink.written c.take_turn.new.sink) in
+    let a : Point = point_of (standing_on l (P.record_of c.args.keep.now)) (g.S.Source.left c.args.source.now) (g.K.Sink.written c.args.sink.now) in
+    let b : Language → Point = λ m. point_of (standing_on m (P.record_of c.loop-turn.keep)) (g.S.Source.left c.loop-turn.source) (g.K.Sink.written c.loop-turn.sink) in
+    let d : Language → Point = λ m. point_of (standing_on m (P.record_of c.take_turn.new.keep)) (g.S.Source.left c.take_turn.new.source) (g.K.Sink.written c.take_turn.new.sink) in
     let old : Language = P.lang c.loop-turn.keep in
     let Stepped : Language → Type 0 = λ m. StepsTo turns l (request_with p c.args.budget) a (b m) in
     let Failed : Type 0 = c.in-Some.drove ≡ drove.DiskFault in

@@ -5,7 +5,7 @@ use Rattle.session_core.specs.Settled.{IsSettled}
 use Rattle.session_store.specs.Keeping.{Keeps}
 use Rattle.acq_cli.specs.Added.{IsAdded}
 use Rattle.acq_cli.specs.Driven.{Remembers, StepsTo}
-use Rattle.acq_cli.specs.Places.{place_of, request_with}
+use Rattle.acq_cli.specs.Points.{point_of, request_with}
 use Rattle.acq_cli.proofs.driving.drive.Given as goal
 
 abbrev pub invariant-loop-turn : goal.invariant-loop-turn
@@ -21,8 +21,8 @@ invariant-loop-turn g l =
       fits : g.T.Teacher.fits l.teacher (g.P.Keep.lang l.keep);
       turn : g.T.Teacher.turn l.teacher ≡ g.T.Teacher.turn l.initial.teacher;
       steps : StepsTo (g.T.Teacher.turn l.initial.teacher) (g.P.Keep.lang l.initial.keep) (request_with (g.P.Keep.plan l.initial.keep) l.fn.budget)
-          (place_of (standing_on (g.P.Keep.lang l.initial.keep) (entries l.initial.keep)) (left l.initial.source) (written l.initial.sink))
-          (place_of (standing_on (g.P.Keep.lang l.keep) (entries l.keep)) (left l.source) (written l.sink));
+          (point_of (standing_on (g.P.Keep.lang l.initial.keep) (entries l.initial.keep)) (left l.initial.source) (written l.initial.sink))
+          (point_of (standing_on (g.P.Keep.lang l.keep) (entries l.keep)) (left l.source) (written l.sink));
       later : g.S.Source.faults l.initial.source ≤ g.S.Source.faults l.source;
       later_sink : g.K.Sink.faults l.initial.sink ≤ g.K.Sink.faults l.sink;
       added : IsAdded (g.P.Keep.lang l.initial.keep) (g.P.Keep.plan l.initial.keep) (entries l.initial.keep) (entries l.keep);

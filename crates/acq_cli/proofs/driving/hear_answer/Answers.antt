@@ -8,7 +8,7 @@ use Rattle.target_oracle.specs.Turns.{Turns, Said, Stopped, Ended, Overlong, Unr
 use Rattle.acq_cli.specs.Run.{Suspended, LineTooLong, Unreadable}
 use Rattle.acq_cli.specs.Driven.{Loses}
 use Rattle.acq_cli.specs.Due.{IsDue}
-use Rattle.acq_cli.specs.Places.{place_of, request_with}
+use Rattle.acq_cli.specs.Points.{point_of, request_with}
 use Rattle.acq_cli.specs.declared.driving.Drove.TheVariants as drove
 use Rattle.session_store.specs.Keeping.{keeps_still, keeps_as}
 use Rattle.acq_cli.proofs.Standings.{AtTurn, at_turn, next_fits, room_left, run_laws}
@@ -42,7 +42,7 @@ returns-in-Yes-clause-again g c budget due =
     let written' : Option (List ℕ) = g.K.Sink.written c.told.new.sink in
     let after : List Answer = standing_on l (g.P.Keep.record_of c.keep_answer.new.keep) in
     goes_on turns l (request_with plan budget) t after c.args.question.now true (g.P.Keep.question c.args.keep.now) left written left' written' c.keep_answer.result due c.requires.put c.keep_answer.ensures.kept
-    (told_as turns c.lang.result.now l (c.answers-count.result + 1) (length t + 1) c.args.question.now (place_of t left written) (place_of t left' written') (Said true) at.language (ap (λ n. n + 1) at.number) c.in-Yes.ensures.tells)
+    (told_as turns c.lang.result.now l (c.answers-count.result + 1) (length t + 1) c.args.question.now (point_of t left written) (point_of t left' written') (Said true) at.language (ap (λ n. n + 1) at.number) c.in-Yes.ensures.tells)
 
 pub returns-in-Yes-clause-more : goal.returns-in-Yes-clause-more
 returns-in-Yes-clause-more g c =
@@ -72,7 +72,7 @@ returns-in-Yes-clause-ends g c budget due =
     let written' : Option (List ℕ) = g.K.Sink.written c.told.new.sink in
     let after : List Answer = standing_on l (g.P.Keep.record_of c.keep_answer.new.keep) in
     ends turns l (request_with plan budget) t after c.args.question.now true (g.P.Keep.question c.args.keep.now) left written left' written' c.keep_answer.result at.lawful at.reached due c.keep_answer.ensures.kept
-    (told_as turns c.lang.result.now l (c.answers-count.result + 1) (length t + 1) c.args.question.now (place_of t left written) (place_of t left' written') (Said true) at.language (ap (λ n. n + 1) at.number) c.in-Yes.ensures.tells)
+    (told_as turns c.lang.result.now l (c.answers-count.result + 1) (length t + 1) c.args.question.now (point_of t left written) (point_of t left' written') (Said true) at.language (ap (λ n. n + 1) at.number) c.in-Yes.ensures.tells)
 
 pub returns-in-No-clause-again : goal.returns-in-No-clause-again
 returns-in-No-clause-again g c budget due =
@@ -89,7 +89,7 @@ returns-in-No-clause-again g c budget due =
     let written' : Option (List ℕ) = g.K.Sink.written c.told.new.sink in
     let after : List Answer = standing_on l (g.P.Keep.record_of c.keep_answer-in-No.new.keep) in
     goes_on turns l (request_with plan budget) t after c.args.question.now false (g.P.Keep.question c.args.keep.now) left written left' written' c.keep_answer-in-No.result due c.requires.put c.keep_answer-in-No.ensures.kept
-    (told_as turns c.lang.result.now l (c.answers-count.result + 1) (length t + 1) c.args.question.now (place_of t left written) (place_of t left' written') (Said false) at.language (ap (λ n. n + 1) at.number) c.in-No.ensures.tells)
+    (told_as turns c.lang.result.now l (c.answers-count.result + 1) (length t + 1) c.args.question.now (point_of t left written) (point_of t left' written') (Said false) at.language (ap (λ n. n + 1) at.number) c.in-No.ensures.tells)
 
 pub returns-in-No-clause-more : goal.returns-in-No-clause-more
 returns-in-No-clause-more g c =
@@ -119,7 +119,7 @@ returns-in-No-clause-ends g c budget due =
     let written' : Option (List ℕ) = g.K.Sink.written c.told.new.sink in
     let after : List Answer = standing_on l (g.P.Keep.record_of c.keep_answer-in-No.new.keep) in
     ends turns l (request_with plan budget) t after c.args.question.now false (g.P.Keep.question c.args.keep.now) left written left' written' c.keep_answer-in-No.result at.lawful at.reached due c.keep_answer-in-No.ensures.kept
-    (told_as turns c.lang.result.now l (c.answers-count.result + 1) (length t + 1) c.args.question.now (place_of t left written) (place_of t left' written') (Said false) at.language (ap (λ n. n + 1) at.number) c.in-No.ensures.tells)
+    (told_as turns c.lang.result.now l (c.answers-count.result + 1) (length t + 1) c.args.question.now (point_of t left written) (point_of t left' written') (Said false) at.language (ap (λ n. n + 1) at.number) c.in-No.ensures.tells)
 
 pub returns-in-Stop-clause-ends : goal.returns-in-Stop-clause-ends
 returns-in-Stop-clause-ends g c budget due =
@@ -134,7 +134,7 @@ returns-in-Stop-clause-ends g c budget due =
     let written : Option (List ℕ) = g.K.Sink.written c.args.sink.now in
     let left' : Option (List ℕ) = g.S.Source.left c.told.new.source in
     let written' : Option (List ℕ) = g.K.Sink.written c.told.new.sink in
-    (at.number, ran_closed turns l (request_with plan budget) c.args.question.now Stopped Suspended (place_of t left written) (place_of t left' written') due.puts refl (λ again rest. refl) (told_as turns c.lang.result.now l (c.answers-count.result + 1) (length t + 1) c.args.question.now (place_of t left written) (place_of t left' written') (Stopped) at.language (ap (λ n. n + 1) at.number) c.in-Stop.ensures.tells))
+    (at.number, ran_closed turns l (request_with plan budget) c.args.question.now Stopped Suspended (point_of t left written) (point_of t left' written') due.puts refl (λ again rest. refl) (told_as turns c.lang.result.now l (c.answers-count.result + 1) (length t + 1) c.args.question.now (point_of t left written) (point_of t left' written') (Stopped) at.language (ap (λ n. n + 1) at.number) c.in-Stop.ensures.tells))
 
 pub returns-in-End-clause-ends : goal.returns-in-End-clause-ends
 returns-in-End-clause-ends g c budget due =
@@ -149,7 +149,7 @@ returns-in-End-clause-ends g c budget due =
     let written : Option (List ℕ) = g.K.Sink.written c.args.sink.now in
     let left' : Option (List ℕ) = g.S.Source.left c.told.new.source in
     let written' : Option (List ℕ) = g.K.Sink.written c.told.new.sink in
-    (at.number, ran_closed turns l (request_with plan budget) c.args.question.now Ended Suspended (place_of t left written) (place_of t left' written') due.puts refl (λ again rest. refl) (told_as turns c.lang.result.now l (c.answers-count.result + 1) (length t + 1) c.args.question.now (place_of t left written) (place_of t left' written') (Ended) at.language (ap (λ n. n + 1) at.number) c.in-End.ensures.tells))
+    (at.number, ran_closed turns l (request_with plan budget) c.args.question.now Ended Suspended (point_of t left written) (point_of t left' written') due.puts refl (λ again rest. refl) (told_as turns c.lang.result.now l (c.answers-count.result + 1) (length t + 1) c.args.question.now (point_of t left written) (point_of t left' written') (Ended) at.language (ap (λ n. n + 1) at.number) c.in-End.ensures.tells))
 
 pub returns-in-TooLong-clause-ends : goal.returns-in-TooLong-clause-ends
 returns-in-TooLong-clause-ends g c budget due =
@@ -164,7 +164,7 @@ returns-in-TooLong-clause-ends g c budget due =
     let written : Option (List ℕ) = g.K.Sink.written c.args.sink.now in
     let left' : Option (List ℕ) = g.S.Source.left c.told.new.source in
     let written' : Option (List ℕ) = g.K.Sink.written c.told.new.sink in
-    ran_closed turns l (request_with plan budget) c.args.question.now Overlong LineTooLong (place_of t left written) (place_of t left' written') due.puts refl (λ again rest. refl) (told_as turns c.lang.result.now l (c.answers-count.result + 1) (length t + 1) c.args.question.now (place_of t left written) (place_of t left' written') (Overlong) at.language (ap (λ n. n + 1) at.number) c.in-TooLong.ensures.tells)
+    ran_closed turns l (request_with plan budget) c.args.question.now Overlong LineTooLong (point_of t left written) (point_of t left' written') due.puts refl (λ again rest. refl) (told_as turns c.lang.result.now l (c.answers-count.result + 1) (length t + 1) c.args.question.now (point_of t left written) (point_of t left' written') (Overlong) at.language (ap (λ n. n + 1) at.number) c.in-TooLong.ensures.tells)
 
 pub returns-in-Unreadable-clause-ends : goal.returns-in-Unreadable-clause-ends
 returns-in-Unreadable-clause-ends g c budget due =
@@ -179,7 +179,7 @@ returns-in-Unreadable-clause-ends g c budget due =
     let written : Option (List ℕ) = g.K.Sink.written c.args.sink.now in
     let left' : Option (List ℕ) = g.S.Source.left c.told.new.source in
     let written' : Option (List ℕ) = g.K.Sink.written c.told.new.sink in
-    ran_closed turns l (request_with plan budget) c.args.question.now Unread Unreadable (place_of t left written) (place_of t left' written') due.puts refl (λ again rest. refl) (told_as turns c.lang.result.now l (c.answers-count.result + 1) (length t + 1) c.args.question.now (place_of t left written) (place_of t left' written') (Unread) at.language (ap (λ n. n + 1) at.number) c.in-Unreadable.ensures.tells)
+    ran_closed turns l (request_with plan budget) c.args.question.now Unread Unreadable (point_of t left written) (point_of t left' written') due.puts refl (λ again rest. refl) (told_as turns c.lang.result.now l (c.answers-count.result + 1) (length t + 1) c.args.question.now (point_of t left written) (point_of t left' written') (Unread) at.language (ap (λ n. n + 1) at.number) c.in-Unreadable.ensures.tells)
 
 pub returns-in-ReadFault-clause-ends : goal.returns-in-ReadFault-clause-ends
 returns-in-ReadFault-clause-ends g c budget due =
@@ -194,7 +194,7 @@ returns-in-ReadFault-clause-ends g c budget due =
     let written : Option (List ℕ) = g.K.Sink.written c.args.sink.now in
     let left' : Option (List ℕ) = g.S.Source.left c.told.new.source in
     let written' : Option (List ℕ) = g.K.Sink.written c.told.new.sink in
-    cut_turn run_laws turns l (request_with plan budget) at.lawful c.args.question.now (place_of t left written) (place_of t left' written') at.reached due.puts refl (front_as turns c.lang.result.now l (c.answers-count.result + 1) (length t + 1) c.args.question.now (place_of t left written) (place_of t left' written') at.language (ap (λ n. n + 1) at.number) c.in-ReadFault.ensures.tells)
+    cut_turn run_laws turns l (request_with plan budget) at.lawful c.args.question.now (point_of t left written) (point_of t left' written') at.reached due.puts refl (front_as turns c.lang.result.now l (c.answers-count.result + 1) (length t + 1) c.args.question.now (point_of t left written) (point_of t left' written') at.language (ap (λ n. n + 1) at.number) c.in-ReadFault.ensures.tells)
 
 pub returns-in-WriteFault-clause-ends : goal.returns-in-WriteFault-clause-ends
 returns-in-WriteFault-clause-ends g c budget due =
@@ -209,7 +209,7 @@ returns-in-WriteFault-clause-ends g c budget due =
     let written : Option (List ℕ) = g.K.Sink.written c.args.sink.now in
     let left' : Option (List ℕ) = g.S.Source.left c.told.new.source in
     let written' : Option (List ℕ) = g.K.Sink.written c.told.new.sink in
-    cut_turn run_laws turns l (request_with plan budget) at.lawful c.args.question.now (place_of t left written) (place_of t left' written') at.reached due.puts refl (front_as turns c.lang.result.now l (c.answers-count.result + 1) (length t + 1) c.args.question.now (place_of t left written) (place_of t left' written') at.language (ap (λ n. n + 1) at.number) c.in-WriteFault.ensures.tells)
+    cut_turn run_laws turns l (request_with plan budget) at.lawful c.args.question.now (point_of t left written) (point_of t left' written') at.reached due.puts refl (front_as turns c.lang.result.now l (c.answers-count.result + 1) (length t + 1) c.args.question.now (point_of t left written) (point_of t left' written') at.language (ap (λ n. n + 1) at.number) c.in-WriteFault.ensures.tells)
 
 pub returns-in-Memory-clause-ends : goal.returns-in-Memory-clause-ends
 returns-in-Memory-clause-ends g c budget due =
@@ -224,7 +224,7 @@ returns-in-Memory-clause-ends g c budget due =
     let written : Option (List ℕ) = g.K.Sink.written c.args.sink.now in
     let left' : Option (List ℕ) = g.S.Source.left c.told.new.source in
     let written' : Option (List ℕ) = g.K.Sink.written c.told.new.sink in
-    cut_turn run_laws turns l (request_with plan budget) at.lawful c.args.question.now (place_of t left written) (place_of t left' written') at.reached due.puts refl (front_as turns c.lang.result.now l (c.answers-count.result + 1) (length t + 1) c.args.question.now (place_of t left written) (place_of t left' written') at.language (ap (λ n. n + 1) at.number) c.in-Memory.ensures.tells)
+    cut_turn run_laws turns l (request_with plan budget) at.lawful c.args.question.now (point_of t left written) (point_of t left' written') at.reached due.puts refl (front_as turns c.lang.result.now l (c.answers-count.result + 1) (length t + 1) c.args.question.now (point_of t left written) (point_of t left' written') at.language (ap (λ n. n + 1) at.number) c.in-Memory.ensures.tells)
 
 pub returns-in-Yes-clause-added : goal.returns-in-Yes-clause-added
 returns-in-Yes-clause-added g c =
@@ -293,12 +293,12 @@ returns-in-Yes-clause-keeps g c =
     let q : Assignment = c.args.question.now in
     let HasFailed : Type 0 = c.keep_answer.result ≡ Some drove.DiskFault in
     let Was : Assignment → Bool → Type 0 = λ asked said. (P.question c.args.keep.now ≡ Some asked) × (said ≡ true) in
-    let Lost : Assignment → Bool → Type 0 = λ asked said. (budget : ℕ) → IsDue l (request_with plan budget) t q → Loses turns l (request_with plan budget) (place_of t left written) (place_of after left' written') asked said in
+    let Lost : Assignment → Bool → Type 0 = λ asked said. (budget : ℕ) → IsDue l (request_with plan budget) t q → Loses turns l (request_with plan budget) (point_of t left written) (point_of after left' written') asked said in
     keeps_as D.content D.may_leave D.moment D.left_since g.met.D.Disk.counts_now g.met.D.Disk.only_now P.plan P.voc P.record_of P.question P.writes P.live P.sits D.faults HasFailed HasFailed Was Lost c.args.keep.now c.keep_answer.new.keep c.args.disk.now c.keep_answer.new.disk
     (λ e. e) (λ e. e)
     (λ failed asked said lost budget due.
     loses turns l (request_with plan budget) t after q true (P.question c.args.keep.now) left written left' written' c.keep_answer.result drove.DiskFault due c.keep_answer.ensures.kept failed
-    (told_as turns c.lang.result.now l (c.answers-count.result + 1) (length t + 1) q (place_of t left written) (place_of t left' written') (Said true) at.language (ap (λ n. n + 1) at.number) c.in-Yes.ensures.tells)
+    (told_as turns c.lang.result.now l (c.answers-count.result + 1) (length t + 1) q (point_of t left written) (point_of t left' written') (Said true) at.language (ap (λ n. n + 1) at.number) c.in-Yes.ensures.tells)
     c.requires.put asked said lost)
     c.keep_answer.ensures.keeps
 
@@ -320,12 +320,12 @@ returns-in-No-clause-keeps g c =
     let q : Assignment = c.args.question.now in
     let HasFailed : Type 0 = c.keep_answer-in-No.result ≡ Some drove.DiskFault in
     let Was : Assignment → Bool → Type 0 = λ asked said. (P.question c.args.keep.now ≡ Some asked) × (said ≡ false) in
-    let Lost : Assignment → Bool → Type 0 = λ asked said. (budget : ℕ) → IsDue l (request_with plan budget) t q → Loses turns l (request_with plan budget) (place_of t left written) (place_of after left' written') asked said in
+    let Lost : Assignment → Bool → Type 0 = λ asked said. (budget : ℕ) → IsDue l (request_with plan budget) t q → Loses turns l (request_with plan budget) (point_of t left written) (point_of after left' written') asked said in
     keeps_as D.content D.may_leave D.moment D.left_since g.met.D.Disk.counts_now g.met.D.Disk.only_now P.plan P.voc P.record_of P.question P.writes P.live P.sits D.faults HasFailed HasFailed Was Lost c.args.keep.now c.keep_answer-in-No.new.keep c.args.disk.now c.keep_answer-in-No.new.disk
     (λ e. e) (λ e. e)
     (λ failed asked said lost budget due.
     loses turns l (request_with plan budget) t after q false (P.question c.args.keep.now) left written left' written' c.keep_answer-in-No.result drove.DiskFault due c.keep_answer-in-No.ensures.kept failed
-    (told_as turns c.lang.result.now l (c.answers-count.result + 1) (length t + 1) q (place_of t left written) (place_of t left' written') (Said false) at.language (ap (λ n. n + 1) at.number) c.in-No.ensures.tells)
+    (told_as turns c.lang.result.now l (c.answers-count.result + 1) (length t + 1) q (point_of t left written) (point_of t left' written') (Said false) at.language (ap (λ n. n + 1) at.number) c.in-No.ensures.tells)
     c.requires.put asked said lost)
     c.keep_answer-in-No.ensures.keeps
 

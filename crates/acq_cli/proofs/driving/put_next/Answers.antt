@@ -9,7 +9,7 @@ use Rattle.session_core.specs.Settled.{IsSettled}
 use Rattle.session_core.specs.Standing.{knowledge_of, open_in}
 use Rattle.acq_cli.specs.Driven.{TellsOpen}
 use Rattle.acq_cli.specs.Due.{NextIs}
-use Rattle.acq_cli.specs.Places.{request_with}
+use Rattle.acq_cli.specs.Points.{request_with}
 use Rattle.acq_cli.proofs.Nexts.{put_as}
 use Rattle.acq_cli.proofs.Standings.{carried, marks_here, marks_there}
 use Rattle.acq_cli.proofs.driving.put_next.Goals as goal

@@ -11,7 +11,7 @@ use Rattle.acq_cli.specs.declared.words.Request.{Request}
 use Rattle.acq_cli.specs.Run.{Converged, Collapsed, Undecided}
 use Rattle.acq_cli.specs.Driven.{Drives, IsDone, IsCollapsed, IsLeftOpen, Loses, RanTo, TellsOpen}
 use Rattle.acq_cli.specs.Due.{IsDue}
-use Rattle.acq_cli.specs.Places.{place_of, request_with}
+use Rattle.acq_cli.specs.Points.{point_of, request_with}
 use Rattle.session_store.specs.Keeping.{keeps_still, keeps_then}
 use Rattle.acq_cli.proofs.Standings.{carried, due_reached, marks_after}
 use Rattle.acq_cli.proofs.Nexts.{put_due}
@@ -29,10 +29,10 @@ returns-in-Converged-clause-ends g c =
     let turns : Turns = g.T.Teacher.turn c.args.teacher.now in
     let left : Option (List ℕ) = g.S.Source.left c.args.source.now in
     let written : Option (List ℕ) = g.K.Sink.written c.args.sink.now in
-    let Ran : List Answer → Type 0 = λ x. RanTo turns l request Converged (place_of t left written) (place_of x left written) in (
+    let Ran : List Answer → Type 0 = λ x. RanTo turns l request Converged (point_of t left written) (point_of x left written) in (
       c.answers.ensures ∙ c.session.ensures.stands.knows.count ∙ ap (λ m. length (standing_on m (g.P.Keep.record_of c.put_next.new.keep))) c.put_next.ensures.lang,
       subst (IsDone l request) (sym same) c.in-Converged.ensures.put,
-      subst Ran (sym same) (ran_end turns l request Converged (place_of t left written) c.in-Converged.ensures.put.ends),
+      subst Ran (sym same) (ran_end turns l request Converged (point_of t left written) c.in-Converged.ensures.put.ends),
     )
 
 pub returns-in-Collapsed-clause-ends : goal.returns-in-Collapsed-clause-ends
@@ -44,10 +44,10 @@ returns-in-Collapsed-clause-ends g c =
     let turns : Turns = g.T.Teacher.turn c.args.teacher.now in
     let left : Option (List ℕ) = g.S.Source.left c.args.source.now in
     let written : Option (List ℕ) = g.K.Sink.written c.args.sink.now in
-    let Ran : List Answer → Type 0 = λ x. RanTo turns l request Collapsed (place_of t left written) (place_of x left written) in (
+    let Ran : List Answer → Type 0 = λ x. RanTo turns l request Collapsed (point_of t left written) (point_of x left written) in (
       c.answers-in-Collapsed.ensures ∙ c.session-in-Collapsed.ensures.stands.knows.count ∙ ap (λ m. length (standing_on m (g.P.Keep.record_of c.put_next.new.keep))) c.put_next.ensures.lang,
       subst (IsCollapsed l request) (sym same) c.in-Collapsed.ensures.put.0,
-      subst Ran (sym same) (ran_end turns l request Collapsed (place_of t left written) c.in-Collapsed.ensures.put.1),
+      subst Ran (sym same) (ran_end turns l request Collapsed (point_of t left written) c.in-Collapsed.ensures.put.1),
     )
 
 pub returns-in-Undecided-clause-ends : goal.returns-in-Undecided-clause-ends
@@ -59,10 +59,10 @@ returns-in-Undecided-clause-ends g c =
     let turns : Turns = g.T.Teacher.turn c.args.teacher.now in
     let left : Option (List ℕ) = g.S.Source.left c.args.source.now in
     let written : Option (List ℕ) = g.K.Sink.written c.args.sink.now in
-    let Ran : List Answer → Type 0 = λ x. RanTo turns l request Undecided (place_of t left written) (place_of x left written) in (
+    let Ran : List Answer → Type 0 = λ x. RanTo turns l request Undecided (point_of t left written) (point_of x left written) in (
       c.answers-in-Undecided.ensures ∙ c.session-in-Undecided.ensures.stands.knows.count ∙ ap (λ m. length (standing_on m (g.P.Keep.record_of c.put_next.new.keep))) c.put_next.ensures.lang,
       subst (IsLeftOpen l request) (sym same) c.in-Undecided.ensures.put,
-      subst Ran (sym same) (ran_end turns l request Undecided (place_of t left written) c.in-Undecided.ensures.put.ends),
+      subst Ran (sym same) (ran_end turns l request Undecided (point_of t left written) c.in-Undecided.ensures.put.ends),
     )
 
 pub returns-in-Undecided-clause-open : goal.returns-in-Undecided-clause-open
@@ -104,7 +104,7 @@ returns-in-Open-clause-ends g c =
     let due = put_due l (request_with (P.plan one) c.args.budget) (standing_on l (P.record_of one)) (P.question two) c.put_next.result c.in-Open.question c.put_next.ensures.put c.in-Open.is in
     let Ended : Language → Plan → List Event → Type 0 = λ m q es.
     (budget : ℕ) → IsDue m (request_with q budget) (standing_on m es) c.in-Open.question →
-    IfSome c.hear_answer.result (Drives turns m (request_with q budget) (place_of (standing_on m es) left written) (place_of (standing_on m (P.record_of c.hear_answer.new.keep)) left' written')) in
+    IfSome c.hear_answer.result (Drives turns m (request_with q budget) (point_of (standing_on m es) left written) (point_of (standing_on m (P.record_of c.hear_answer.new.keep)) left' written')) in
     same_there Ended (P.lang two) l (P.plan two) (P.plan one) (P.record_of two) (P.record_of one) c.put_next.ensures.lang c.put_next.ensures.plan c.put_next.ensures.events c.hear_answer.ensures.ends c.args.budget due
 
 pub returns-in-Converged-clause-added : goal.returns-in-Converged-clause-added
@@ -162,7 +162,7 @@ returns-in-Open-clause-keeps g c =
     let left' : Option (List ℕ) = g.S.Source.left c.hear_answer.new.source in
     let written' : Option (List ℕ) = g.K.Sink.written c.hear_answer.new.sink in
     let due = put_due l request t (P.question two) c.put_next.result c.in-Open.question c.put_next.ensures.put c.in-Open.is in
-    let Lost : Assignment → Bool → Type 0 = Loses turns l request (place_of t left written) (place_of (standing_on l (P.record_of three)) left' written') in
+    let Lost : Assignment → Bool → Type 0 = Loses turns l request (point_of t left written) (point_of (standing_on l (P.record_of three)) left' written') in
     keeps_then D.content D.may_leave D.moment D.left_since g.met.D.Disk.counts_now g.met.D.Disk.only_now P.plan P.voc P.record_of P.question P.writes P.live P.sits D.faults _ _ Lost one two three c.args.disk.now c.args.disk.now c.hear_answer.new.disk c.put_next.ensures.plan
     (λ asked said lost.
     loses_as turns l (P.lang two) (P.plan one) (P.plan two) c.args.budget (P.record_of one) (P.record_of two) (P.record_of three) left written left' written' c.in-Open.question asked said

@@ -11,7 +11,7 @@ use Rattle.session_core.specs.Standing.{Stands, knowledge_of}
 use Rattle.session_store.specs.Keeping.{keeps_still, keeps_as}
 use Rattle.target_oracle.specs.Lines.{line_turn}
 use Rattle.acq_cli.specs.Driven.{Loses}
-use Rattle.acq_cli.specs.Places.{place_of, request_with}
+use Rattle.acq_cli.specs.Points.{point_of, request_with}
 use Rattle.acq_cli.specs.declared.driving.Drove.TheVariants as drove
 use Rattle.acq_cli.specs.declared.ending.Ending.{Ending}
 use Rattle.acq_cli.specs.declared.ending.Ending.TheVariants as ending
@@ -100,13 +100,13 @@ returns-clause-keeps g c =
     let Ended : Type 0 = c.say.result ≡ Ok ending.DiskFault in
     let was : Ended → Failed =
     disk_of l k.lang p k.plan c.args.budget start later left written left' middle written' c.drive-drove.new.screen c.drive-drove.result c.say.result same again c.drive-drove.ensures.ends c.drive-drove.ensures.open says parts in
-    let Lost : Assignment → Bool → Type 0 = Loses line_turn l request (place_of start left written) (place_of (standing_on l later) left' middle) in
-    let Then : Assignment → Bool → Type 0 = Loses line_turn l request (place_of start left written) (place_of (standing_on l later) left' written') in
+    let Lost : Assignment → Bool → Type 0 = Loses line_turn l request (point_of start left written) (point_of (standing_on l later) left' middle) in
+    let Then : Assignment → Bool → Type 0 = Loses line_turn l request (point_of start left written) (point_of (standing_on l later) left' written') in
     keeps_as D.content D.may_leave D.moment D.left_since g.met.D.Disk.counts_now g.met.D.Disk.only_now P.plan P.voc P.record_of P.question P.writes P.live P.sits D.faults Failed Ended Lost Then old new c.args.disk.now c.drive-drove.new.disk
     was
     (disk_told l k.lang p k.plan c.args.budget start later left written left' middle written' c.drive-drove.new.screen c.drive-drove.result c.say.result same again c.drive-drove.ensures.ends c.drive-drove.ensures.open says parts)
     (λ ended question reply lost.
-    lost_then l request (place_of start left written) (standing_on l later) left' middle written' c.drive-drove.result c.say.result
+    lost_then l request (point_of start left written) (standing_on l later) left' middle written' c.drive-drove.result c.say.result
     (said l k.lang p k.plan c.args.budget start later left written left' middle written' c.drive-drove.new.screen c.drive-drove.result c.say.result same again c.drive-drove.ensures.ends c.drive-drove.ensures.open says parts)
     (was ended) ended question reply lost)
     c.drive-drove.ensures.keeps

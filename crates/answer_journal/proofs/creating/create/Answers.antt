@@ -5,7 +5,7 @@ use Rattle.answer_journal.specs.Format.{session_tail}
 use Rattle.answer_journal.specs.Journal.{HasNoSession}
 use Rattle.answer_journal.specs.Steps.{IsWithOrWithout}
 use Rattle.answer_journal.specs.Making.{IsCreating}
-use Rattle.answer_journal.specs.Place.{Sits}
+use Rattle.answer_journal.specs.End.{Sits}
 use Rattle.answer_journal.proofs.Gate.{told_before, told_same}
 use Rattle.answer_journal.proofs.Emptied.{head_free, starts, creating, sits}
 use Rattle.answer_journal.proofs.Sizes.{session_size}

@@ -2,7 +2,7 @@ use Rattle.std.proofs.Common.{◌≡◌, ◌+◌, ◌∙◌, ℕ, List, length, 
 use borrow.Author.Tests.{ltb-true}
 use Rattle.std.proofs.lemmas.Result.{err_from_is_err_and}
 use Rattle.answer_journal.specs.Format.{event_record}
-use Rattle.answer_journal.specs.Found.{BeginsWith, place_of, IsReached}
+use Rattle.answer_journal.specs.Found.{BeginsWith, gate_reached, IsReached}
 use Rattle.answer_journal.proofs.Sizes.{events_size}
 use Rattle.answer_journal.proofs.EventLoop.{rest_at}
 use Rattle.answer_journal.proofs.OnlyRead.{read_more}
@@ -32,7 +32,7 @@ pub pieces-preserved : goal.pieces-preserved
 pieces-preserved g c =
     let D = g.D.Disk in
     let next = c.events_in.new.events.items in
-    let place : c.in-Further.place ≡ c.args.start + length (flat_map event_record next) = omega (arith, ap place_of c.in-Further.is, c.in_ok-place.ensures.place, c.pieces.invariant.place) in
+    let place : c.in-Further.place ≡ c.args.start + length (flat_map event_record next) = omega (arith, ap gate_reached c.in-Further.is, c.in_ok-place.ensures.place, c.pieces.invariant.place) in
     record {
       read = λ x told.
           let t = c.in_ok-count.ensures.told x (c.pieces.invariant.only_read.same ∙ told) in

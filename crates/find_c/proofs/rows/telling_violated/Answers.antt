@@ -1,5 +1,5 @@
 use Rattle.std.proofs.Common.{refl}
-use Rattle.find_c.specs.Choosing.{choose}
+use Rattle.language.specs.TellingApart.{choose}
 use Rattle.find_c.proofs.rows.telling_violated.Goals as goal
 
 pub returns : goal.returns

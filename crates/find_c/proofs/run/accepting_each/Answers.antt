@@ -1,6 +1,6 @@
 use Rattle.std.proofs.Common.{arith}
 use Rattle.language.specs.Language.{relations_on}
-use Rattle.find_c.specs.Scenes.{scene_of}
+use Rattle.language.specs.Scenes.{scene_of}
 use Rattle.bias_store.proofs.Bits.{no_mask, mask_more}
 use Rattle.find_c.proofs.Accepting.{mask_all}
 use Rattle.find_c.proofs.run.accepting_each.Goals as goal

@@ -1,7 +1,7 @@
 use Rattle.std.proofs.Common.{sym, ◌∙◌, ap}
 use Rattle.std.proofs.lemmas.Bool.{both_ways}
-use Rattle.find_c.specs.Choosing.{Got, choose}
-use Rattle.find_c.specs.Scenes.{scene_of}
+use Rattle.language.specs.TellingApart.{Got, choose}
+use Rattle.language.specs.Scenes.{scene_of}
 use Rattle.find_c.proofs.Replies.{choose_ended}
 use Rattle.find_c.proofs.Starting.{none_among, nothing_stands}
 use Rattle.find_c.proofs.run.settle.Goals as goal

@@ -1,6 +1,6 @@
 use Rattle.std.proofs.Common.{◌^◌, length, get_or, Some, [], sym, ◌∙◌, ap, arith}
 use Rattle.rel_table.specs.Relation.{tuples}
-use Rattle.find_c.specs.Scenes.{scene_of}
+use Rattle.language.specs.Scenes.{scene_of}
 use Rattle.find_c.proofs.Splitting.{found_here, found_later, found_nowhere}
 use Rattle.find_c.proofs.run.splitting_tuple.Goals as goal
 

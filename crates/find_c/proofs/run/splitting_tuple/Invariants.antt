@@ -2,8 +2,8 @@ use Rattle.std.proofs.Common.{◌≡◌, drop, length}
 use Rattle.std.specs.Prelude.{find}
 use Rattle.language.specs.Language.{scope_at}
 use Rattle.rel_table.specs.Relation.{tuples}
-use Rattle.find_c.specs.Choosing.{tells_apart, splitting_tuple}
-use Rattle.find_c.specs.Scenes.{scene_of}
+use Rattle.language.specs.TellingApart.{tells_apart, splitting_tuple}
+use Rattle.language.specs.Scenes.{scene_of}
 use Rattle.find_c.proofs.run.splitting_tuple.Given as goal
 
 abbrev pub invariant-loop-place : goal.invariant-loop-place

@@ -1,5 +1,5 @@
 use Rattle.std.proofs.Common.{subst}
-use Rattle.find_c.specs.Standing.{IsSettled}
+use Rattle.find_c.specs.Standing.{LeavesChoices}
 use Rattle.multi_tree.specs.Stage.{walk_in}
 use Rattle.session_core.specs.declared.knowledge.Knowledge.{Knowledge}
 use Rattle.session_core.proofs.Steps.{has_learned}
@@ -9,4 +9,4 @@ use Rattle.session_core.proofs.going.chosen.Goals as goal
 pub returns-in-Found-clause-stands : goal.returns-in-Found-clause-stands
 returns-in-Found-clause-stands c = λ s choices is t led.
     let k : Knowledge = c.args.knowledge in
-    c.learned.ensures.stands t (led_as k t _ _ (has_learned k.lang t s choices k.network.list (walk_in k.tree) c.in-Found.c (subst (IsSettled k.lang s choices) c.in-Found.is is)) led)
+    c.learned.ensures.stands t (led_as k t _ _ (has_learned k.lang t s choices k.network.list (walk_in k.tree) c.in-Found.c (subst (LeavesChoices k.lang s choices) c.in-Found.is is)) led)

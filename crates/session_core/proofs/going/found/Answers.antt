@@ -1,5 +1,5 @@
 use Rattle.std.proofs.Common.{sym, ◌∙◌}
-use Rattle.find_c.specs.Scenes.{violated_choices}
+use Rattle.language.specs.Scenes.{violated_choices}
 use Rattle.multi_tree.specs.Stage.{walk_in}
 use Rattle.session_core.specs.declared.knowledge.Knowledge.{Knowledge}
 use Rattle.session_core.proofs.Steps.{found_choices}

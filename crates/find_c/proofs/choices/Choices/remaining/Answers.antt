@@ -3,7 +3,7 @@ use Rattle.std.specs.Prelude.{◌==◌}
 use Rattle.std.specs.Int.{w64}
 use Rattle.std.proofs.lemmas.Nat.Bits.{bit_at-trailing_zeros}
 use Rattle.std.proofs.lemmas.Bool.{eqb-true}
-use Rattle.find_c.specs.Choosing.{remaining}
+use Rattle.language.specs.TellingApart.{remaining}
 use Rattle.find_c.specs.Choices.{choices_of}
 use Rattle.find_c.proofs.Marks.{remaining_free, remaining_lowest, none_of_nothing}
 use Rattle.find_c.proofs.choices.Choices.remaining.Goals as goal

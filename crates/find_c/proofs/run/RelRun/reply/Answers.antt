@@ -4,11 +4,11 @@ use Rattle.std.specs.Bool.{beq}
 use Rattle.std.specs.List.{filter}
 use Rattle.language.specs.Language.{Language}
 use Rattle.rel_table.specs.Relation.{place}
-use Rattle.find_c.specs.Choosing.{Choice, after_reply}
-use Rattle.find_c.specs.Scenes.{scene_of}
+use Rattle.language.specs.TellingApart.{Choice, after_reply}
+use Rattle.language.specs.Scenes.{scene_of}
 use Rattle.find_c.specs.Choices.{is_accepting, allows_at}
 use Rattle.find_c.specs.Run.{Run, IsRun, IsChoiceOn}
-use Rattle.find_c.specs.Standing.{IsSettled, StandsAt}
+use Rattle.find_c.specs.Standing.{LeavesChoices, StandsFor}
 use Rattle.find_c.specs.declared.run.RelRun.TheInside.{Inside}
 use Rattle.find_c.proofs.Splitting.{agreeing_is}
 use Rattle.find_c.proofs.Replies.{run_tuple, run_places, run_leaves_some, known_after, stands_after}
@@ -56,15 +56,15 @@ settle-requires-clause-known c =
 pub returns-clause-settled : goal.returns-clause-settled
 returns-clause-settled c =
     let is = left c.args.lang.now c.self.inside _ _ _ _ _ c.args.yes c.d.ensures.is c.values.ensures c.place_of-place.ensures.is c.accepting.ensures c.agreeing.ensures in
-    subst (λ (run : Run). IsSettled c.args.lang.now run.scope (after_reply (scene_of c.args.lang.now run.scope) run.tuple c.args.yes run.choices) c.settle.result) c.self.view_is
-    (subst (λ cs. IsSettled c.args.lang.now c.self.inside.scope cs c.settle.result) is c.settle.ensures.settled)
+    subst (λ (run : Run). LeavesChoices c.args.lang.now run.scope (after_reply (scene_of c.args.lang.now run.scope) run.tuple c.args.yes run.choices) c.settle.result) c.self.view_is
+    (subst (λ cs. LeavesChoices c.args.lang.now c.self.inside.scope cs c.settle.result) is c.settle.ensures.settled)
 
 pub returns-clause-stands : goal.returns-clause-stands
 returns-clause-stands c =
     let is = left c.args.lang.now c.self.inside _ _ _ _ _ c.args.yes c.d.ensures.is c.values.ensures c.place_of-place.ensures.is c.accepting.ensures c.agreeing.ensures in
     stands_after c.args.lang.now c.args.self c.requires c.self.inside.scope c.settle.result c.args.yes (ap (λ (run : Run). run.scope) c.self.view_is)
-    (subst (λ (run : Run). StandsAt c.args.lang.now c.self.inside.scope (after_reply (scene_of c.args.lang.now run.scope) run.tuple c.args.yes run.choices) [] c.settle.result) c.self.view_is
-    (subst (λ cs. StandsAt c.args.lang.now c.self.inside.scope cs [] c.settle.result) is c.settle.ensures.stands))
+    (subst (λ (run : Run). StandsFor c.settle.result c.args.lang.now c.self.inside.scope (after_reply (scene_of c.args.lang.now run.scope) run.tuple c.args.yes run.choices) []) c.self.view_is
+    (subst (λ cs. StandsFor c.settle.result c.args.lang.now c.self.inside.scope cs []) is c.settle.ensures.stands))
 
 pub returns-clause-some : goal.returns-clause-some
 returns-clause-some c = λ nothing.

@@ -2,7 +2,7 @@ use Rattle.std.proofs.Common.{sym, subst, filter, ◌&&◌}
 use Rattle.std.specs.Prelude.{◌==◌, All}
 use Rattle.language.specs.Language.{violates}
 use Rattle.find_c.specs.Run.{IsChoiceOn}
-use Rattle.find_c.specs.Standing.{IsSettled}
+use Rattle.find_c.specs.Standing.{LeavesChoices}
 use Rattle.find_c.proofs.Starting.{violated_known, not_free}
 use Rattle.find_c.proofs.run.RelRun.start.Goals as goal
 
@@ -13,4 +13,4 @@ settle-requires-clause-known c =
 pub returns-clause-no_free : goal.returns-clause-no_free
 returns-clause-no_free c =
     not_free c.args.lang.now c.args.s (filter (λ x. (x.scope == c.args.s) && violates c.args.lang.now x c.args.e.now) c.args.kept.now.members) c.settle.result
-    (subst (λ cs. IsSettled c.args.lang.now c.args.s cs c.settle.result) c.violated_choices.ensures c.settle.ensures.settled)
+    (subst (λ cs. LeavesChoices c.args.lang.now c.args.s cs c.settle.result) c.violated_choices.ensures c.settle.ensures.settled)

@@ -1,7 +1,7 @@
 use Rattle.std.proofs.Common.{[], sym, ◌∙◌, subst}
 use Rattle.std.specs.Prelude.{All}
 use Rattle.find_c.specs.Run.{IsChoiceOn}
-use Rattle.find_c.specs.Standing.{IsSettled, StandsAt}
+use Rattle.find_c.specs.Standing.{LeavesChoices, StandsFor}
 use Rattle.find_c.proofs.Marks.{free_is_some}
 use Rattle.find_c.proofs.Starting.{free_marked, free_known}
 use Rattle.find_c.proofs.run.RelRun.start_free.Goals as goal
@@ -13,11 +13,11 @@ settle-requires-clause-known c =
 
 pub returns-clause-settled : goal.returns-clause-settled
 returns-clause-settled c =
-    subst (λ cs. IsSettled c.args.lang.now c.args.s cs c.settle.result) (c.new.ensures ∙ free_marked c.args.kept.now.members c.args.s c.on_scope.result c.on_scope.ensures) c.settle.ensures.settled
+    subst (λ cs. LeavesChoices c.args.lang.now c.args.s cs c.settle.result) (c.new.ensures ∙ free_marked c.args.kept.now.members c.args.s c.on_scope.result c.on_scope.ensures) c.settle.ensures.settled
 
 pub returns-clause-stands : goal.returns-clause-stands
 returns-clause-stands c =
-    subst (λ cs. StandsAt c.args.lang.now c.args.s cs [] c.settle.result) (c.new.ensures ∙ free_marked c.args.kept.now.members c.args.s c.on_scope.result c.on_scope.ensures) c.settle.ensures.stands
+    subst (λ cs. StandsFor c.settle.result c.args.lang.now c.args.s cs []) (c.new.ensures ∙ free_marked c.args.kept.now.members c.args.s c.on_scope.result c.on_scope.ensures) c.settle.ensures.stands
 
 pub returns-clause-some : goal.returns-clause-some
 returns-clause-some c = λ nothing. free_is_some c.on_scope.result (sym c.new.ensures ∙ c.settle.ensures.nothing.0 nothing)

@@ -6,7 +6,7 @@ use Rattle.answer_journal.specs.Format.{written}
 use Rattle.answer_journal.specs.Journal.{Spells}
 
 -- what a journal remembers of its file
-pub record Place : Type 0 where
+pub record End : Type 0 where
   -- the place of the closed gate
   pub at : ℕ
   -- how many records stand before it
@@ -14,7 +14,7 @@ pub record Place : Type 0 where
   pub live : Bool
 
 -- The journal stands behind all records of these bytes.
-pub record Sits (place : Place) (bytes : List ℕ) : Type 0 where
+pub record Sits (place : End) (bytes : List ℕ) : Type 0 where
   pub plan : Plan
   pub voc : List ℕ
   pub events : List Event
