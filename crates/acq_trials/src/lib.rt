@@ -1,12 +1,7 @@
-//! The program on small vocabularies whole: it is given every list of answers, and its end is compared with plain
-//! enumeration. Beside it the parts that it reads and asks by.
+//! Small vocabularies whole: the program is given every list of answers, and its end is compared with plain enumeration.
 #![tactic(auto)]
 
 #[cfg(test)]
 mod small;
-#[cfg(test)]
-mod streams;
-#[cfg(test)]
-mod teachers;
 #[cfg(test)]
 mod trials;
