@@ -68,6 +68,24 @@ impl<'a, R: Files<File = File>> FileDisk<'a, R> {
         }
     }
 
+    /// Writes all of these bytes. A session begins at the file's beginning, and its file may be new then, so its folder is
+    /// written too.
+    fn write_whole(&mut self, at: u64, bytes: &[u8]) -> Result<(), Failed>
+        ensures { HasCause self.old.faults self.new.faults result }
+    {
+        self.find(true)?;
+        let Some(file) = &self.file else {
+            return Err(self.fault());
+        };
+        if file.write_all_at(bytes, at).is_err() {
+            return Err(self.fault());
+        }
+        if at == 0 {
+            return self.sync_folder();
+        }
+        Ok(())
+    }
+
     /// Has the file's entry in its folder written.
     fn sync_folder(&mut self) -> Result<(), Failed>
         ensures { HasCause self.old.faults self.new.faults result }
@@ -130,15 +148,7 @@ impl<'a, R: Files<File = File>> Disk for FileDisk<'a, R> {
     }
 
     fn write_at(&mut self, at: u64, bytes: &[u8]) -> Result<(), Failed> {
-        self.find(true)?;
-        let Some(file) = &self.file else {
-            return Err(self.fault());
-        };
-        if file.write_all_at(bytes, at).is_err() {
-            return Err(self.fault());
-        }
-        // A session begins at the file's beginning, so its file may be new.
-        if at == 0 { self.sync_folder() } else { Ok(()) }
+        self.write_whole(at, bytes)
     }
 
     fn sync(&mut self) -> Result<(), Failed> {
