@@ -77,6 +77,7 @@ pub record IsMadeOf (frame : Frame) (parts : List RelPart) (a : Inside) : Type 0
   pub scopes : AreScopes (length frame.names) (map given_by parts) a.scopes.items
   pub sized : All (λ (scope : Scope). length (variables_in scope) ≡ scope.size) a.scopes.items
   pub relations : (arity : ℕ) → 1 ≤ arity → arity ≤ 4 → IsClosedOf frame.value_count arity (map given_by parts) (get_or a.relations (arity - 1) [])
+  pub four : length a.relations ≡ 4
   pub numbers : a.numbers.items ≡ first_numbers a.relations a.scopes.items
 
 -- the language over a frame
@@ -154,6 +155,7 @@ built frame parts listed a is_frame made scopes = record {
   value_count = made.value_count;
   given = ap (map given_by) made.given;
   scopes = scopes;
+  four = length-map a.relations truths ∙ made.four;
   lawful = (sound frame parts a is_frame made).lawful;
 }
 

@@ -22,3 +22,4 @@ pub mod Lists
 pub mod Beside
 pub mod Accepts
 pub mod ByNames
+pub mod OneLanguage

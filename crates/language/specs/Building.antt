@@ -165,11 +165,12 @@ abbrev pub build_refusal : ℕ → List Given → Option (List (List ℕ)) → O
 build_refusal n [] listed = Some NoRelations
 build_refusal n (g ∷ given) listed = option_or (scopes_refusal (g ∷ given) (scopes_of n (g ∷ given) listed)) (closing_refusal (g ∷ given))
 
--- The language of a frame, of relations and of scopes.
+-- The language of a frame, of relations and of scopes: it has four lists of relations, for the arities 1 to 4.
 pub record IsBuilt (frame : Frame) (parts : List Given) (listed : Option (List (List ℕ))) (l : Language) : Type 0 where
   pub names : l.names ≡ frame.names
   pub least_value : l.least_value ≡ frame.least_value
   pub value_count : l.value_count ≡ frame.value_count
   pub given : l.given ≡ parts
   pub scopes : l.scopes ≡ scopes_of (length frame.names) parts listed
+  pub four : length l.relations ≡ 4
   pub lawful : IsLanguage l

@@ -1,9 +1,10 @@
 -- Laws over the definitions alone.
-use Rattle.std.specs.Prelude.{◌≡◌, ◌<◌, ◌||◌, List, length, slice_index_or}
+use Rattle.std.specs.Prelude.{◌≡◌, ℕ, ◌<◌, ◌||◌, List, Option, length, slice_index_or}
 use Rattle.language.specs.declared.candidates.Candidate.{Candidate}
 use Rattle.assign.specs.Assignment.{Assignment}
-use Rattle.language.specs.Language.{Language, IsLanguage, IsCandidate, candidates, number_of, violates}
+use Rattle.language.specs.Language.{Language, Given, IsLanguage, IsCandidate, candidates, number_of, violates}
 use Rattle.assign.specs.Events.{Answer}
+use Rattle.language.specs.Building.{Frame, IsBuilt}
 use Rattle.language.specs.Answers.{IsNetwork, IsCovered, IsConverged}
 
 -- a candidate that is violated wherever one of two is
@@ -33,3 +34,9 @@ pub record AreNumbered (l : Language) : Type 0 where
 
 abbrev pub CandidatesAreNumbered : Type 0
 CandidatesAreNumbered = (l : Language) → AreNumbered l
+
+-- of the same frame, relations and scopes no two languages are built
+abbrev pub BuiltIsOne : Type 0
+BuiltIsOne =
+    (frame : Frame) (parts : List Given) (listed : Option (List (List ℕ))) (l other : Language) →
+    IsBuilt frame parts listed l → IsBuilt frame parts listed other → l ≡ other

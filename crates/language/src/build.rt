@@ -23,9 +23,7 @@ fn tables_of(alloc: Global, rels: &[RelPart]) -> Result<Vec<Table>, Memory>
         let _arity = rel.table.arity();
         // A relation meets itself in itself.
         let copy = rel.table.meet(alloc, &rel.table)?;
-        let Ok(()) = tables.push(copy) else {
-            return Err(Memory);
-        };
+        tables.push(copy)?;
     }
     Ok(tables)
 }
@@ -35,13 +33,12 @@ fn closed_relations(alloc: Global, rels: &[RelPart]) -> Result<Closed, LangFault
     ghost d: { ℕ }
     requires tables { All (IsOver d) rels.now }
     ensures closed { IfOk result (λ lists. (arity : ℕ) → 1 ≤ arity → arity ≤ 4 → IsClosedOf d arity (map given_by rels.now) (slice_index_or lists (arity - 1) [])) }
+    ensures four { IfOk result (λ lists. length lists ≡ 4) }
     ensures made { OnOk result (closing_refusal (map given_by rels.now) ≡ None) }
     ensures lawful { OnOk result (All (λ (part : RelPart). IsTable part.table) rels.now) }
     ensures refused { IfErr result (λ e. e ≢ LangFault.Memory → closing_refusal (map given_by rels.now) ≡ Some e) }
 {
-    let Ok(tables) = tables_of(alloc, rels) else {
-        return Err(LangFault::Memory);
-    };
+    let tables = tables_of(alloc, rels)?;
     match close(alloc, &tables) {
         Ok(closed) => Ok(closed),
         Err(CloseFault::TooMany(arity)) => Err(LangFault::Closing(CloseFault::TooMany(arity))),
@@ -75,9 +72,7 @@ impl Language {
         }
         let scopes = stated_scopes(alloc, frame.names.len() as u8, &rels, scopes)?;
         let relations = closed_relations(alloc, &rels)?;
-        let Ok(numbers) = first_numbers(alloc, &scopes, &relations) else {
-            return Err(LangFault::Memory);
-        };
+        let numbers = first_numbers(alloc, &scopes, &relations)?;
         let Frame {
             names,
             least_value,

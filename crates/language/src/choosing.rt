@@ -61,7 +61,7 @@ fn count_all(n: u8, rels: &[RelPart]) -> u32
 }
 
 /// The variable after the last one, and the first where there is none.
-fn past(scope: Scope, n: u8) -> u8
+fn first_past(scope: Scope, n: u8) -> u8
     requires short { scope.size ≤ 4 }
     requires known { All (λ v. v < n) (variables_in scope) }
     requires few { n ≤ 128 }
@@ -93,14 +93,14 @@ fn with_longer(mut longer: Vec<Scope>, scope: Scope, n: u8) -> Result<Vec<Scope>
     ensures is { IfOk result (λ v. map variables_in v.items ≡ map variables_in longer.items ++ longer_by n 0 (variables_in scope)) }
     ensures size { IfOk result (λ v. All (λ s. s.size ≡ scope.size + 1) longer.items → All (λ s. s.size ≡ scope.size + 1) v.items) }
 {
-    for v in past(scope, n)..n {
+    for v in first_past(scope, n)..n {
         longer.push(with_last(scope, v))?;
     }
     Ok(longer)
 }
 
 /// The lists that have one variable more, in lexicographic order if these are.
-fn lengthened(alloc: Global, n: u8, scopes: &[Scope], size: u8) -> Result<Vec<Scope>, AllocError>
+fn one_longer(alloc: Global, n: u8, scopes: &[Scope], size: u8) -> Result<Vec<Scope>, AllocError>
     requires few { n ≤ 128 }
     requires short { size ≤ 3 }
     requires sized { All (λ s. s.size ≡ size) scopes.now }
@@ -128,7 +128,7 @@ fn rising_scopes(alloc: Global, n: u8, size: u8) -> Result<Vec<Scope>, AllocErro
         variables: [0; 4],
     })?;
     for shorter in 0..size {
-        scopes = lengthened(alloc, n, &scopes, shorter)?;
+        scopes = one_longer(alloc, n, &scopes, shorter)?;
     }
     Ok(scopes)
 }
@@ -179,8 +179,5 @@ pub(crate) fn all_scopes(alloc: Global, n: u8, rels: &[RelPart]) -> Result<Vec<S
     if count_all(n, rels) as usize > MOST_SCOPES {
         return Err(LangFault::TooManyScopes);
     }
-    match each_arity(alloc, n, rels) {
-        Ok(scopes) => Ok(scopes),
-        Err(_) => Err(LangFault::Memory),
-    }
+    Ok(each_arity(alloc, n, rels)?)
 }

@@ -190,10 +190,8 @@ impl Language {
     pub fn question_text(&self, alloc: Global, k: u32, q: &Partial) -> Result<String, Memory>
         ensures { IfOk result (λ t. string_bytes t ≡ question_text self.now k q.now) }
     {
-        match text_of_question(alloc, k, self.least_value, &self.names, q) {
-            Ok(text) => Ok(text),
-            Err(_) => Err(Memory),
-        }
+        let text = text_of_question(alloc, k, self.least_value, &self.names, q)?;
+        Ok(text)
     }
 
     /// The names of the relations that contain the candidate's, and those of its variables: `eq&ne a b`.
@@ -203,10 +201,8 @@ impl Language {
     {
         let table = self.table_on(c.scope, c.rel);
         let scope = self.scope(c.scope);
-        match text_of_candidate(alloc, &self.given, table, &self.names, scope) {
-            Ok(text) => Ok(text),
-            Err(_) => Err(Memory),
-        }
+        let text = text_of_candidate(alloc, &self.given, table, &self.names, scope)?;
+        Ok(text)
     }
 }
 

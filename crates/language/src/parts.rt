@@ -1,5 +1,6 @@
-use rel_table::{CloseFault, Table};
+use rel_table::{CloseFault, Memory, Table};
 use smallvec::SmallVec;
+use std::alloc::AllocError;
 use thiserror::Error;
 
 /// Why there is no language.
@@ -32,6 +33,28 @@ pub enum LangFault {
     Closing(CloseFault),
     #[error("out of memory")]
     Memory,
+}
+
+impl From<AllocError> for LangFault {
+    ghost use Rattle.std.specs.Prelude.{◌≡◌};
+    ghost use Rattle.language.specs.declared.parts.LangFault.TheVariants.{Memory};
+
+    ghost from_gives = { λ _ e. e ≡ Memory };
+
+    fn from(_refused: AllocError) -> LangFault {
+        LangFault::Memory
+    }
+}
+
+impl From<Memory> for LangFault {
+    ghost use Rattle.std.specs.Prelude.{◌≡◌};
+    ghost use Rattle.language.specs.declared.parts.LangFault.TheVariants.{Memory};
+
+    ghost from_gives = { λ _ e. e ≡ Memory };
+
+    fn from(_refused: Memory) -> LangFault {
+        LangFault::Memory
+    }
 }
 
 /// A relation of the vocabulary.

@@ -61,7 +61,7 @@ fn is_ordered(variables: &[u8]) -> bool
 }
 
 /// The scope of these variables, which are in order.
-fn copied(variables: &[u8]) -> Scope
+fn to_scope(variables: &[u8]) -> Scope
     requires { IsTrue (is_ordered variables.now) }
     ensures is { variables_in result ≡ variables.now }
     ensures some { 1 ≤ result.size }
@@ -83,7 +83,7 @@ fn copies(alloc: Global, listed: &[SmallVec<u8, 4>]) -> Result<Vec<Scope>, Alloc
 {
     let mut scopes = Vec::with_capacity(alloc, listed.len())?;
     for scope in listed {
-        scopes.push(copied(scope.as_slice()))?;
+        scopes.push(to_scope(scope.as_slice()))?;
     }
     Ok(scopes)
 }
@@ -112,10 +112,7 @@ fn listed_scopes(alloc: Global, listed: &[SmallVec<u8, 4>]) -> Result<Vec<Scope>
     if listed.len() > MOST_SCOPES {
         return Err(LangFault::TooManyScopes);
     }
-    match copies(alloc, listed) {
-        Ok(scopes) => Ok(scopes),
-        Err(_) => Err(LangFault::Memory),
-    }
+    Ok(copies(alloc, listed)?)
 }
 
 /// The scopes of a part, each in order, and not too many.
@@ -155,9 +152,7 @@ pub(crate) fn stated_scopes(
     ensures refused { IfErr result (λ e. let given = map given_by rels.now in e ≢ LangFault.Memory → scopes_refusal given (scopes_of n given (listed_in part)) ≡ Some e) }
 {
     let scopes = scopes_in(alloc, n, rels, &part)?;
-    let Ok(sets) = sets_of(alloc, &scopes) else {
-        return Err(LangFault::Memory);
-    };
+    let sets = sets_of(alloc, &scopes)?;
     match refusal_of(rels, &sets) {
         Some(fault) => Err(fault),
         None => Ok(scopes),

@@ -37,10 +37,8 @@ impl Stack {
     pub fn make(alloc: Global) -> Result<Stack, Memory>
         ensures { IfOk result (λ stack. stack ≡ []) }
     {
-        match Vec::with_capacity(alloc, PLACES) {
-            Ok(sets) => Ok(Stack { sets }),
-            Err(_) => Err(Memory),
-        }
+        let sets = Vec::with_capacity(alloc, PLACES)?;
+        Ok(Stack { sets })
     }
 
     pub fn is_empty(&self) -> bool

@@ -1,6 +1,7 @@
 ghost use Rattle.std.specs.Prelude.{◌≡◌, ◌++◌, codes, string_bytes, IfOk};
 ghost use Rattle.network.specs.FaultTexts.{net_fault_text};
 
+use language::Memory;
 use std::alloc::{AllocError, AllocFailed, Global};
 use thiserror::Error;
 
@@ -50,6 +51,17 @@ impl<T: Drop> From<AllocFailed<T>> for NetFault {
     ghost from_gives = { λ _ e. e ≡ Memory };
 
     fn from(_refused: AllocFailed<T>) -> NetFault {
+        NetFault::Memory
+    }
+}
+
+impl From<Memory> for NetFault {
+    ghost use Rattle.std.specs.Prelude.{◌≡◌};
+    ghost use Rattle.network.specs.declared.fault.NetFault.TheVariants.{Memory};
+
+    ghost from_gives = { λ _ e. e ≡ Memory };
+
+    fn from(_refused: Memory) -> NetFault {
         NetFault::Memory
     }
 }

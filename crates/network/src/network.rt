@@ -35,10 +35,8 @@ impl Network {
         ensures scopes { IfOk result (λ net. net.scopes ≡ length lang.now.scopes) }
     {
         let scopes = lang.scopes();
-        match Vec::with_capacity(alloc, scopes as usize) {
-            Ok(list) => Ok(Network { scopes, list }),
-            Err(_) => Err(Memory),
-        }
+        let list = Vec::with_capacity(alloc, scopes as usize)?;
+        Ok(Network { scopes, list })
     }
 
     /// Puts a candidate at the end. The room is there: on each scope at most one is learned.

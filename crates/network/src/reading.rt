@@ -155,9 +155,7 @@ fn network_of(alloc: Global, lang: &Language, items: &[Value]) -> Result<Network
     ensures network { IfOk result (λ (net : Learned). IsNetwork lang.now net.list) }
     ensures scopes { IfOk result (λ (net : Learned). net.scopes ≡ length lang.now.scopes) }
 {
-    let Ok(mut net) = Network::new(alloc, lang) else {
-        return Err(NetFault::Memory);
-    };
+    let mut net = Network::new(alloc, lang)?;
     for item in items {
         let c = candidate_in(alloc, lang, &net, item)?;
         net.learn(c);

@@ -15,9 +15,7 @@ pub fn network_text(alloc: Global, lang: &Language, net: &Network) -> Result<Str
     let mut text = String::new(alloc);
     for c in net.list() {
         let line = lang.candidate_text(alloc, *c)?;
-        let Ok(()) = add_line(&mut text, &line) else {
-            return Err(Memory);
-        };
+        add_line(&mut text, &line)?;
     }
     Ok(text)
 }

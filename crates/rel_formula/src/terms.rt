@@ -59,7 +59,7 @@ impl Reading {
         let operator = term_operator_in(items, node)?;
         let operands = &items[1..];
         match operator {
-            TermOperator::Arithmetic(operator) => self.combined(
+            TermOperator::Arithmetic(operator) => self.read_arithmetic(
                 arity,
                 operator,
                 operands,
@@ -83,7 +83,7 @@ impl Reading {
 
     /// What an operator makes of its operands, from the left.
     #[cycle(terms)]
-    fn combined(
+    fn read_arithmetic(
         &mut self,
         arity: u8,
         operator: Arithmetic,

@@ -56,24 +56,24 @@ impl Reading {
         let operator = truth_operator_in(items, node)?;
         let operands = &items[1..];
         match operator {
-            TruthOperator::Comparison(operator) => self.compared(
+            TruthOperator::Comparison(operator) => self.read_comparison(
                 arity,
                 operator,
                 operands,
                 depth + 1,
             ),
-            TruthOperator::Connective(operator) => self.connected(
+            TruthOperator::Connective(operator) => self.read_connective(
                 arity,
                 operator,
                 operands,
                 depth + 1,
             ),
-            TruthOperator::Not => self.negated(arity, operands, depth + 1),
+            TruthOperator::Not => self.read_negation(arity, operands, depth + 1),
         }
     }
 
     /// A comparison of two numbers.
-    fn compared(
+    fn read_comparison(
         &mut self,
         arity: u8,
         operator: Comparison,
@@ -91,7 +91,12 @@ impl Reading {
 
     /// The opposite of one truth.
     #[cycle(truths)]
-    fn negated(&mut self, arity: u8, operands: &[Value], depth: u32) -> Result<(), FormulaFault>
+    fn read_negation(
+        &mut self,
+        arity: u8,
+        operands: &[Value],
+        depth: u32,
+    ) -> Result<(), FormulaFault>
         requires depth { depth ≤ 33 }
         requires one { length operands.now ≡ 1 }
         requires begun { 1 ≤ self.old.next }
@@ -103,7 +108,7 @@ impl Reading {
 
     /// What a connective makes of its truths, from the left.
     #[cycle(truths)]
-    fn connected(
+    fn read_connective(
         &mut self,
         arity: u8,
         operator: Connective,

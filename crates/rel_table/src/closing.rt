@@ -53,16 +53,14 @@ pub fn close(alloc: Global, file: &[Table]) -> Result<Closed, CloseFault>
     ghost d: { ℕ }
     requires values { All (λ (t : TruthTable). t.value_count ≡ d) file.now }
     ensures closed { IfOk result (λ lists. (arity : ℕ) → 1 ≤ arity → arity ≤ 4 → IsClosed arity d file.now (slice_index_or lists (arity - 1) [])) }
+    ensures four { IfOk result (λ lists. length lists ≡ 4) }
     ensures refused { IfErr result (λ e. IsRefused file.now e) }
     ensures exact { OnOk result ((arity : ℕ) → 1 ≤ arity → arity ≤ 4 → HasTooMany (relations_of arity file.now) → ⊥) }
 {
     let mut lists = Vec::new(alloc);
     for arity in 1..5 {
         let list = close_arity(alloc, file, arity)?;
-        let Ok(more) = pushed(lists, list) else {
-            return Err(CloseFault::Memory);
-        };
-        lists = more;
+        lists = add_item(lists, list)?;
     }
     Ok(Closed { lists })
 }
@@ -95,9 +93,7 @@ fn with_meets(alloc: Global, closed: Vec<Table>, table: &Table) -> Result<Vec<Ta
     ensures refused { IfErr result (λ e. e ≢ CloseFault.Memory → e ≡ CloseFault.TooMany table.now.arity) }
     ensures many { IfErr result (λ e. e ≢ CloseFault.Memory → (file : List Relation) → IsClosing file (relations_in closed.items) → HasTooMany (file ++ table.now.truth ∷ [])) }
 {
-    let Ok(meets) = meets_with(alloc, &closed, table) else {
-        return Err(CloseFault::Memory);
-    };
+    let meets = meets_with(alloc, &closed, table)?;
     let mut grown = closed;
     for meet in &meets {
         grown = with_relation(alloc, grown, meet)?;
@@ -115,21 +111,19 @@ fn meets_with(alloc: Global, closed: &[Table], table: &Table) -> Result<Vec<Tabl
     let mut meets = Vec::new(alloc);
     for other in closed {
         let both = other.meet(alloc, table)?;
-        meets = pushed(meets, both)?;
+        meets = add_item(meets, both)?;
     }
     // A relation meets itself in itself.
     let copy = table.meet(alloc, table)?;
-    pushed(meets, copy)
+    add_item(meets, copy)
 }
 
 /// One more at the end.
-fn pushed<T: Drop>(mut items: Vec<T>, item: T) -> Result<Vec<T>, Memory>
+fn add_item<T: Drop>(mut items: Vec<T>, item: T) -> Result<Vec<T>, Memory>
     ensures { IfOk result (λ v. v.items ≡ items.items ++ item ∷ []) }
 {
-    match items.push(item) {
-        Ok(()) => Ok(items),
-        Err(_) => Err(Memory),
-    }
+    items.push(item)?;
+    Ok(items)
 }
 
 /// How many of these relations, which stand in falling order, come before another; None where it is one of them.
@@ -174,11 +168,7 @@ fn with_relation(
     if ordered.len() == MOST_RELATIONS {
         return Err(CloseFault::TooMany(table.arity()));
     }
-    let Ok(copy) = table.meet(alloc, table) else {
-        return Err(CloseFault::Memory);
-    };
-    match ordered.insert(at, copy) {
-        Ok(()) => Ok(ordered),
-        Err(_) => Err(CloseFault::Memory),
-    }
+    let copy = table.meet(alloc, table)?;
+    ordered.insert(at, copy)?;
+    Ok(ordered)
 }

@@ -6,7 +6,7 @@ ghost use Rattle.rel_table.specs.Table.{truth_at, IsTable};
 ghost use Rattle.rel_table.specs.Made.{arity_of, size_for, size_of, is_shown, index_of, place_of_shown, tuple_fault, first_fault, refusal_of, IsMade, Marks, lists};
 
 use crate::bits::Bits;
-use std::alloc::Global;
+use std::alloc::{AllocError, AllocFailed, Global};
 use std::marker::Model;
 use thiserror::Error;
 
@@ -14,6 +14,18 @@ use thiserror::Error;
 #[derive(Clone, Copy, Debug, PartialEq, Eq, Error)]
 #[error("out of memory")]
 pub struct Memory;
+
+impl From<AllocError> for Memory {
+    fn from(_: AllocError) -> Self {
+        Memory
+    }
+}
+
+impl<T: Drop> From<AllocFailed<T>> for Memory {
+    fn from(_: AllocFailed<T>) -> Self {
+        Memory
+    }
+}
 
 /// Why no table was made.
 #[derive(Clone, Copy, Debug, PartialEq, Eq, Error)]
@@ -44,6 +56,39 @@ pub enum CloseFault {
     /// The allocator gave no memory.
     #[error("out of memory")]
     Memory,
+}
+
+impl From<AllocError> for TableFault {
+    ghost use Rattle.std.specs.Prelude.{◌≡◌};
+    ghost use Rattle.rel_table.specs.declared.table.TableFault.TheVariants.{Memory};
+
+    ghost from_gives = { λ _ e. e ≡ Memory };
+
+    fn from(_refused: AllocError) -> TableFault {
+        TableFault::Memory
+    }
+}
+
+impl From<Memory> for CloseFault {
+    ghost use Rattle.std.specs.Prelude.{◌≡◌};
+    ghost use Rattle.rel_table.specs.declared.table.CloseFault.TheVariants.{Memory};
+
+    ghost from_gives = { λ _ e. e ≡ Memory };
+
+    fn from(_refused: Memory) -> CloseFault {
+        CloseFault::Memory
+    }
+}
+
+impl<T: Drop> From<AllocFailed<T>> for CloseFault {
+    ghost use Rattle.std.specs.Prelude.{◌≡◌};
+    ghost use Rattle.rel_table.specs.declared.table.CloseFault.TheVariants.{Memory};
+
+    ghost from_gives = { λ _ e. e ≡ Memory };
+
+    fn from(_refused: AllocFailed<T>) -> CloseFault {
+        CloseFault::Memory
+    }
 }
 
 /// The most places that a table has: one for each tuple.
@@ -156,9 +201,7 @@ impl Table {
             return Err(TableFault::BadArity);
         };
         let size = power(d, a)?;
-        let Ok(truth) = Bits::all_false(alloc, size as usize) else {
-            return Err(TableFault::Memory);
-        };
+        let truth = Bits::all_false(alloc, size as usize)?;
         match mark_all(a, lo, d, tuples, truth) {
             Err(fault) => Err(fault),
             Ok(truth) => Ok(Table {
@@ -184,9 +227,7 @@ impl Table {
         requires fits { length truth.now ≤ 65536 }
         ensures { IfOk result (λ t. t ≡ record { arity = arity; value_count = value_count; truth = truth.now }) }
     {
-        let Ok(truth) = Bits::of(alloc, truth) else {
-            return Err(Memory);
-        };
+        let truth = Bits::of(alloc, truth)?;
         Ok(Table {
             arity,
             value_count,
@@ -272,9 +313,7 @@ impl Table {
         ensures values { IfOk result (λ t. t.value_count ≡ self.now.value_count) }
         ensures truth { IfOk result (λ t. t.truth ≡ meet self.now.truth o.now.truth) }
     {
-        let Ok(truth) = self.truth.meet(alloc, &o.truth) else {
-            return Err(Memory);
-        };
+        let truth = self.truth.meet(alloc, &o.truth)?;
         Ok(Table {
             arity: self.arity,
             value_count: self.value_count,

@@ -47,10 +47,8 @@ fn part(alloc: Global, name: &str, truth: &[bool]) -> Result<RelPart, Memory>
     ensures over { IfOk result (IsOver 3) }
 {
     let table = Table::from_truth(alloc, 2, 3, truth)?;
-    match String::from_str(alloc, name) {
-        Ok(name) => Ok(RelPart { name, table }),
-        Err(_) => Err(Memory),
-    }
+    let name = String::from_str(alloc, name)?;
+    Ok(RelPart { name, table })
 }
 
 /// At most, at least, unequal.
@@ -64,10 +62,7 @@ fn relations(alloc: Global) -> Result<Vec<RelPart>, Memory>
     let le = part(alloc, "le", &at_most)?;
     let ge = part(alloc, "ge", &at_least)?;
     let ne = part(alloc, "ne", &unequal)?;
-    match vec![in alloc; le, ge, ne] {
-        Ok(parts) => Ok(parts),
-        Err(_) => Err(Memory),
-    }
+    Ok(vec![in alloc; le, ge, ne]?)
 }
 
 /// Whether a language wasn't built for want of memory.
@@ -84,9 +79,7 @@ fn is_memory(fault: LangFault) -> bool
 fn language(alloc: Global) -> Result<Language, Memory>
     ensures { IfOk result IsGenerated }
 {
-    let Ok(names) = names(alloc) else {
-        return Err(Memory);
-    };
+    let names = names(alloc)?;
     let Ok(frame) = Frame::new(names, 1, 3) else {
         unreachable!()
     };

@@ -34,7 +34,7 @@ fn len_before_blanks(line: &[u8]) -> usize
 }
 
 /// The line without the blanks at its two ends.
-fn trimmed(line: &[u8]) -> &[u8]
+fn trim(line: &[u8]) -> &[u8]
     ensures { result.now ≡ trimmed line.now }
 {
     let line = &line[blanks_before(line)..];
@@ -67,5 +67,5 @@ fn told_by(word: &[u8]) -> Option<Told>
 pub(crate) fn told_in(line: &[u8]) -> Option<Told>
     ensures { result ≡ option_map told_of (reply_of (trimmed line.now)) }
 {
-    told_by(trimmed(line))
+    told_by(trim(line))
 }

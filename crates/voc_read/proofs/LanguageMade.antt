@@ -50,6 +50,7 @@ module _ (o : OutlineData) (frame : build.Frame) (least_value : ℤ) (value_coun
       value_count = built.value_count ∙ read.framed.value_count;
       given = built.given;
       scopes = built.scopes ∙ ap (λ names. build.scopes_of (length names) given listed) read.framed.names;
+      four = built.four;
       lawful = built.lawful;
     };
   }

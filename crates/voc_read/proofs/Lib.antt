@@ -13,3 +13,4 @@ pub mod KnownScopes
 pub mod Refused
 pub mod NumberSteps
 pub mod LanguageMade
+pub mod OneReading

@@ -6,3 +6,7 @@ use Rattle.voc_read.specs.Vocabulary.{IsVocabulary, refusal_of_vocabulary}
 -- what describes a language isn't refused
 abbrev pub ReadIsNotRefused : Type 0
 ReadIsNotRefused = (bytes : List ℕ) (l : Language) → IsVocabulary bytes l → refusal_of_vocabulary bytes ≡ None
+
+-- no bytes describe two languages
+abbrev pub NoTwoLanguages : Type 0
+NoTwoLanguages = (bytes : List ℕ) (l other : Language) → IsVocabulary bytes l → IsVocabulary bytes other → l ≡ other

@@ -50,9 +50,13 @@ parts_in whole = then_on (held_by whole) (λ held. then_on (outline_of held) par
 abbrev pub json_of : List ℕ → Option Data
 json_of bytes = if is_utf8 bytes then read bytes else None
 
+-- the most bytes that a vocabulary has
+abbrev pub MOST_VOCABULARY : ℕ
+MOST_VOCABULARY = 4194304
+
 -- the parts that the bytes hold
 unfoldable pub parts_of : List ℕ → Result Parts VocFault
-parts_of bytes = if nat_lt 4194304 (length bytes) then Err TooLong else then_on (ok_or (json_of bytes) NotJson) parts_in
+parts_of bytes = if nat_lt MOST_VOCABULARY (length bytes) then Err TooLong else then_on (ok_or (json_of bytes) NotJson) parts_in
 
 -- the names and the values
 abbrev pub frame_of : Parts → Frame

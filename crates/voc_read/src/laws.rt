@@ -1,8 +1,13 @@
 //! Laws of the definitions, as contracts of functions that do nothing.
 
-ghost use Rattle.voc_read.specs.Laws.{ReadIsNotRefused};
+ghost use Rattle.voc_read.specs.Laws.{NoTwoLanguages, ReadIsNotRefused};
 
 /// What describes a language isn't refused.
 pub fn read_is_not_refused()
     ensures { ReadIsNotRefused }
+{}
+
+/// No bytes describe two languages.
+pub fn no_two_languages()
+    ensures { NoTwoLanguages }
 {}

@@ -17,5 +17,5 @@ mod text;
 mod values;
 
 pub use fault::{Spot, VocFault};
-pub use reading::read_vocabulary;
+pub use reading::{MOST_VOCABULARY, read_vocabulary};
 pub use text::voc_text;

@@ -12,7 +12,7 @@ ghost use Rattle.voc_read.specs.Widest.{items_widest};
 
 use crate::domain::Domain;
 use crate::fault::VocFault;
-use crate::names::{check_names, copied};
+use crate::names::{check_names, to_strings};
 use crate::outline::Outline;
 use crate::relations::given_of;
 use crate::scopes::scopes_of;
@@ -36,7 +36,7 @@ fn frame_of(alloc: Global, outline: &Outline<'_>) -> Result<Frame, VocFault>
     ensures refused { Refuses (outline_refusal (outline_data outline.now)) result }
     ensures frame { IfOk result (IsFrameOf (outline_data outline.now)) }
 {
-    let names = copied(alloc, &outline.names)?;
+    let names = to_strings(alloc, &outline.names)?;
     match Frame::new(names, outline.least_value, outline.greatest_value) {
         Ok(frame) => Ok(frame),
         Err(fault) => Err(VocFault::Lang(fault)),

@@ -33,7 +33,7 @@ pub fn first_repeat(alloc: Global, names: &[&str]) -> Result<Option<(u32, u32)>,
 }
 
 /// These names by number, where no two are equal.
-pub fn numbered<'a>(alloc: Global, names: &[&'a str]) -> Result<IndexSet<&'a str>, AllocError>
+pub fn index_names<'a>(alloc: Global, names: &[&'a str]) -> Result<IndexSet<&'a str>, AllocError>
     requires few { length names.now < 2 ^ 32 }
     requires apart { first_repeat (texts_of names.now) ≡ None }
     ensures { IfOk result (λ set. texts_of set.keys ≡ texts_of names.now) }
@@ -62,7 +62,7 @@ pub fn check_names(alloc: Global, names: &[&str]) -> Result<(), VocFault>
 }
 
 /// Copies of the names.
-pub fn copied(alloc: Global, names: &[&str]) -> Result<Vec<String>, AllocError>
+pub fn to_strings(alloc: Global, names: &[&str]) -> Result<Vec<String>, AllocError>
     ensures { IfOk result (λ v. map string_bytes v.items ≡ texts_of names.now) }
 {
     let mut copies = Vec::new(alloc);

@@ -13,7 +13,7 @@ use serde_json::Value;
 use std::alloc::Global;
 
 /// The most bytes that a vocabulary has.
-const MOST_BYTES: usize = 4_194_304;
+pub const MOST_VOCABULARY: u32 = 4_194_304;
 
 /// The language that a JSON value holds, or its first fault.
 fn read_whole(alloc: Global, whole: &Value) -> Result<Language, VocFault>
@@ -33,7 +33,7 @@ pub fn read_vocabulary(alloc: Global, bytes: &[u8]) -> Result<Language, VocFault
     ensures taken { OnOk result (refusal_of_vocabulary bytes.now ≡ None) }
     ensures refused { IfErr result (λ e. e ≢ VocFault.Memory → refusal_of_vocabulary bytes.now ≡ Some e) }
 {
-    if bytes.len() > MOST_BYTES {
+    if bytes.len() > MOST_VOCABULARY as usize {
         return Err(VocFault::TooLong);
     }
     let whole = json_of(alloc, bytes)?;

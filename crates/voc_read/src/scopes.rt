@@ -10,7 +10,7 @@ ghost use Rattle.voc_read.specs.Scopes.{number_of, numbers_of, scope_of, scopes_
 ghost use Rattle.voc_read.specs.Texts.{texts_of};
 
 use crate::fault::{Spot, VocFault};
-use crate::names::numbered;
+use crate::names::index_names;
 use crate::values::text_list;
 use indexmap::IndexSet;
 use language::ScopePart;
@@ -96,7 +96,7 @@ pub fn scopes_of(
     match listed {
         None => Ok(ScopePart::All),
         Some(list) => {
-            let numbers = numbered(alloc, names)?;
+            let numbers = index_names(alloc, names)?;
             let scopes = scopes_in(alloc, &numbers, list)?;
             Ok(ScopePart::Listed(scopes))
         }

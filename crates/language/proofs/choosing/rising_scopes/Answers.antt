@@ -6,8 +6,8 @@ use Rattle.language.specs.Choosing.{longer_by}
 use Rattle.language.proofs.Rising.{lists_known, lists_next}
 use Rattle.language.proofs.choosing.rising_scopes.Goals as goal
 
-pub lengthened-requires-clause-known : goal.lengthened-requires-clause-known
-lengthened-requires-clause-known c =
+pub one_longer-requires-clause-known : goal.one_longer-requires-clause-known
+one_longer-requires-clause-known c =
     subst (All (All (λ v. v < c.args.n))) (sym (ap (map variables_in) c.deref.ensures.value ∙ c.loop-shorter.invariant.is)) (lists_known c.args.n c.loop-shorter.shorter)
 
 pub loop-shorter-preserved : goal.loop-shorter-preserved

@@ -16,5 +16,5 @@ returns-then-listed-gt-MOST_SCOPES-clause-refused c = λ _ given. many given c.a
 pub copies-requires : goal.copies-requires
 copies-requires c = all_pass (λ (scope : SmallVec ℕ 4 Global). is_ordered scope.items) c.args.listed.now (sym c.first_unordered.ensures ∙ c.in_default.is)
 
-pub returns-in-Ok-clause-ordered : goal.returns-in-Ok-clause-ordered
-returns-in-Ok-clause-ordered c = first_is c.args.listed.now ∙ sym c.first_unordered.ensures ∙ c.in_default.is
+pub returns-clause-ordered : goal.returns-clause-ordered
+returns-clause-ordered c = first_is c.args.listed.now ∙ sym c.first_unordered.ensures ∙ c.in_default.is

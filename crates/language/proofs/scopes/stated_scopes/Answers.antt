@@ -20,4 +20,4 @@ returns-clause-sound c =
     let listed = listed_in c.args.part in
     sound c.args.n given (scopes_of c.args.n given listed) c.in_ok-scopes.scopes.items c.in_ok-scopes.ensures.is c.in_ok-scopes.ensures.few c.in_ok-scopes.ensures.sized
     c.in_ok-scopes.ensures.ordered (known_in c.args.n given listed c.requires.known)
-    (sym (ap (scope_list_refusal given) (c.deref-2.ensures.value ∙ c.in-Ok.ensures ∙ ap (map variables_in) c.deref.ensures.value ∙ c.in_ok-scopes.ensures.is)) ∙ sym c.refusal_of.ensures ∙ c.in-None.is)
+    (sym (ap (scope_list_refusal given) (c.deref-2.ensures.value ∙ c.in_ok-sets.ensures ∙ ap (map variables_in) c.deref.ensures.value ∙ c.in_ok-scopes.ensures.is)) ∙ sym c.refusal_of.ensures ∙ c.in-None.is)

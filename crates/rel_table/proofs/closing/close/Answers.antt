@@ -1,4 +1,4 @@
-use Rattle.std.proofs.Common.{◌-◌, length, ap, arith}
+use Rattle.std.proofs.Common.{length, ap, arith}
 use Rattle.std.proofs.lemmas.Result.{err_from_is_err_and}
 use Rattle.rel_table.specs.Closing.{relations_of}
 use Rattle.rel_table.proofs.Growing.{few_of, refused, lists_more, length_more, not_too_many}
@@ -12,10 +12,10 @@ returns-in_err-list-clause-refused g c =
 
 pub loop-arity-preserved : goal.loop-arity-preserved
 loop-arity-preserved g c =
-    let is = c.in-Ok.ensures in
+    let is = c.in_ok-lists.ensures in
     record {
       count = omega (arith, ap length is, length_more c.loop-arity.lists.items c.in_ok-list.list, c.loop-arity.invariant.count);
-      closed = λ a some low. lists_more g.d c.args.file.now c.loop-arity.lists.items c.in-Ok.more.items c.in_ok-list.list c.loop-arity.arity c.loop-arity.invariant.count is c.loop-arity.invariant.closed
+      closed = λ a some low. lists_more g.d c.args.file.now c.loop-arity.lists.items c.in_ok-lists.lists.items c.in_ok-list.list c.loop-arity.arity c.loop-arity.invariant.count is c.loop-arity.invariant.closed
           c.in_ok-list.ensures.closed a some low;
     }
 

@@ -10,9 +10,9 @@ use Rattle.rel_table.proofs.closing.meets_with.Goals as goal
 
 pub returns-clause-meets : goal.returns-clause-meets
 returns-clause-meets c =
-    IfOk-weaker c.pushed-2.result (λ (v : Vec TruthTable Global). v.items ≡ c.loop-other.meets.items ++ c.in_ok-copy.copy ∷ []) _
+    IfOk-weaker c.add_item-2.result (λ (v : Vec TruthTable Global). v.items ≡ c.loop-other.meets.items ++ c.in_ok-copy.copy ∷ []) _
     (λ v e. meets_done c.args.closed.now c.loop-other.meets.items v.items c.loop-other.other-index c.args.table.now.truth c.in_ok-copy.copy c.loop-other-test.false c.loop-other.invariant.meets c.in_ok-copy.ensures.truth e)
-    c.pushed-2.ensures
+    c.add_item-2.ensures
 
 pub returns-clause-kinds : goal.returns-clause-kinds
 returns-clause-kinds c =
@@ -22,6 +22,6 @@ returns-clause-kinds c =
       values = c.in_ok-copy.ensures.values;
       size = ap length (c.in_ok-copy.ensures.truth ∙ meet_itself c.args.table.now.truth) ∙ c.requires.size;
     } in
-    IfOk-weaker c.pushed-2.result (λ (v : Vec TruthTable Global). v.items ≡ c.loop-other.meets.items ++ c.in_ok-copy.copy ∷ []) _
+    IfOk-weaker c.add_item-2.result (λ (v : Vec TruthTable Global). v.items ≡ c.loop-other.meets.items ++ c.in_ok-copy.copy ∷ []) _
     (λ v e. subst (All K) (sym e) (All-push K c.loop-other.meets.items c.in_ok-copy.copy c.loop-other.invariant.kinds kind))
-    c.pushed-2.ensures
+    c.add_item-2.ensures

@@ -1,4 +1,4 @@
-use Rattle.std.proofs.Common.{◌≡◌, ℕ, ◌+◌, ◌∷◌, [], ◌++◌, map, take, sym, subst, ◌∙◌, ap}
+use Rattle.std.proofs.Common.{◌≡◌, ℕ, ◌∷◌, [], ◌++◌, map, take, sym, subst, ◌∙◌, ap}
 use Rattle.std.specs.Prelude.{All}
 use Rattle.std.proofs.lemmas.List.{take_all}
 use Rattle.std.proofs.lemmas.Result.{err_from_is_err_and}
@@ -6,17 +6,17 @@ use Rattle.rel_table.specs.Relation.{meet}
 use Rattle.rel_table.specs.InOrder.{IsInOrder}
 use Rattle.rel_table.specs.Closing.{relations_in, IsOfKind}
 use Rattle.rel_table.proofs.Inserting.{relations_more, in_order_alone}
-use Rattle.rel_table.proofs.Growing.{grown, closing_more, overflowed}
+use Rattle.rel_table.proofs.Growing.{closing_more, overflowed}
 use Rattle.rel_table.proofs.closing.with_meets.Goals as goal
 
 pub returns-in_err-grown-clause-many : goal.returns-in_err-grown-clause-many
 returns-in_err-grown-clause-many c =
-    let p = err_from_is_err_and c.from_residual.result c.from_residual.ensures.1 in
+    let p = err_from_is_err_and c.from_residual-in_err-grown.result c.from_residual-in_err-grown.ensures.1 in
     let closed = relations_in c.args.closed.items in
     let meets = c.deref-meet-items.result.now in
     let i = c.loop-meet.meet-index in
     let all : relations_in meets ≡ map (λ r. meet r c.args.table.now.truth) closed ++ c.args.table.now.truth ∷ [] =
-    ap relations_in c.deref-meet-items.ensures.value ∙ c.in-Ok.ensures.meets ∙ ap (λ xs. map (λ r. meet r c.args.table.now.truth) (relations_in xs) ++ c.args.table.now.truth ∷ []) c.deref.ensures.value in
+    ap relations_in c.deref-meet-items.ensures.value ∙ c.in_ok-meets.ensures.meets ∙ ap (λ xs. map (λ r. meet r c.args.table.now.truth) (relations_in xs) ++ c.args.table.now.truth ∷ []) c.deref.ensures.value in
     rw (p.1, p.2) (λ told file closing. overflowed file closed c.args.table.now.truth meets i c.meet-item.result closing all c.loop-meet-test.true c.meet-item.is
     (c.in_err-grown.ensures.many told (closed ++ relations_in (take i meets)) (c.loop-meet.invariant.order closed (in_order_alone closed closing.falling))))
 
@@ -25,7 +25,7 @@ loop-meet-preserved c =
     let meets = c.deref-meet-items.result.now in
     let i = c.loop-meet.meet-index in
     let kind : IsOfKind c.args.table.now.arity c.args.table.now.value_count c.meet-item.result =
-    subst (IsOfKind c.args.table.now.arity c.args.table.now.value_count) (sym c.meet-item.is) (subst (All (IsOfKind c.args.table.now.arity c.args.table.now.value_count)) (sym c.deref-meet-items.ensures.value) c.in-Ok.ensures.kinds i c.meet-item.result c.loop-meet-test.true) in
+    subst (IsOfKind c.args.table.now.arity c.args.table.now.value_count) (sym c.meet-item.is) (subst (All (IsOfKind c.args.table.now.arity c.args.table.now.value_count)) (sym c.deref-meet-items.ensures.value) c.in_ok-meets.ensures.kinds i c.meet-item.result c.loop-meet-test.true) in
     record {
       order = λ relations order. subst (λ rs. IsInOrder rs (relations_in c.in_ok-grown.grown.items)) (sym (relations_more relations meets i c.meet-item.result c.loop-meet-test.true c.meet-item.is))
           (c.in_ok-grown.ensures.order (relations ++ relations_in (take i meets)) (c.loop-meet.invariant.order relations order));
@@ -39,7 +39,7 @@ returns-clause-closing c = λ file closing.
     let closed = relations_in c.args.closed.items in
     let meets = c.deref-meet-items.result.now in
     let all : relations_in meets ≡ map (λ r. meet r c.args.table.now.truth) closed ++ c.args.table.now.truth ∷ [] =
-    ap relations_in c.deref-meet-items.ensures.value ∙ c.in-Ok.ensures.meets ∙ ap (λ xs. map (λ r. meet r c.args.table.now.truth) (relations_in xs) ++ c.args.table.now.truth ∷ []) c.deref.ensures.value in
+    ap relations_in c.deref-meet-items.ensures.value ∙ c.in_ok-meets.ensures.meets ∙ ap (λ xs. map (λ r. meet r c.args.table.now.truth) (relations_in xs) ++ c.args.table.now.truth ∷ []) c.deref.ensures.value in
     closing_more file closed (relations_in c.loop-meet.grown.items) c.args.table.now.truth closing
     (subst (λ rs. IsInOrder (closed ++ rs) (relations_in c.loop-meet.grown.items)) (ap relations_in (take_all c.loop-meet.meet-index meets c.loop-meet-test.false) ∙ all)
     (c.loop-meet.invariant.order closed (in_order_alone closed closing.falling)))

@@ -16,7 +16,7 @@ returns-then-len-eq-MOST_RELATIONS-clause-many c = λ told relations order.
     one_too_many relations c.deref.result.now c.args.ordered.items c.args.table.now.truth c.in-Some.at c.deref.ensures.value order full
     c.in-Some.ensures.within c.in-Some.ensures.before c.in-Some.ensures.after
 
-pub returns-in-Ok-insert-clause-order : goal.returns-in-Ok-insert-clause-order
-returns-in-Ok-insert-clause-order c = λ relations order.
-    put_in relations c.deref.result.now c.args.ordered.items c.insert.new.self.items c.args.table.now.truth c.in-Some.at c.in-Ok.copy c.deref.ensures.value order
-    c.in-Ok-insert.ensures.items c.in-Ok.ensures.truth c.in-Some.ensures.within c.in-Some.ensures.before c.in-Some.ensures.after
+pub returns-clause-order : goal.returns-clause-order
+returns-clause-order c = λ relations order.
+    put_in relations c.deref.result.now c.args.ordered.items c.insert.new.self.items c.args.table.now.truth c.in-Some.at c.in_ok-copy.copy c.deref.ensures.value order
+    c.in_ok-insert.ensures.items c.in_ok-copy.ensures.truth c.in-Some.ensures.within c.in-Some.ensures.before c.in-Some.ensures.after

@@ -16,9 +16,9 @@ use Rattle.language.specs.Building.{Frame, IsFrame, listed_in, scopes_of, scopes
 use Rattle.language.specs.Inside.{given_by, first_numbers}
 use Rattle.language.proofs.Built.{IsMadeOf, sound, built, refused_scopes, values_of, values_of-over}
 use Rattle.language.proofs.lang.Language.build.Goals as goal
-use Rattle.language.proofs.lang.Language.build.Goals.{In-Ok}
+use Rattle.language.proofs.lang.Language.build.Goals.{In_ok-numbers}
 
-abbrev fields : (c : In-Ok) → Inside
+abbrev fields : (c : In_ok-numbers) → Inside
 fields c = record {
   names = c.frame.inside.names;
   least_value = to_z w64 (of_z w64 c.frame.inside.least_value);
@@ -26,17 +26,17 @@ fields c = record {
   given = c.args.rels;
   scopes = c.in_ok-scopes.scopes;
   relations = c.in_ok-relations.relations;
-  numbers = c.in-Ok.numbers;
+  numbers = c.in_ok-numbers.numbers;
 }
 
-count : (c : In-Ok) → c.len.result ≡ length c.args.frame.names
+count : (c : In_ok-numbers) → c.len.result ≡ length c.args.frame.names
 count c =
     (let long : c.len.result ≡ length c.frame.inside.names.items = omega arith in long) ∙ sym (length-map c.frame.inside.names.items (λ (s : String Global). string_bytes s)) ∙ ap (λ (f : Frame). length f.names) c.frame.view_is
 
-is_frame : (c : In-Ok) → IsFrame c.args.frame
+is_frame : (c : In_ok-numbers) → IsFrame c.args.frame
 is_frame c = subst IsFrame c.frame.view_is c.frame.invariant
 
-made : (c : In-Ok) → IsMadeOf c.args.frame c.args.rels.items (fields c)
+made : (c : In_ok-numbers) → IsMadeOf c.args.frame c.args.rels.items (fields c)
 made c =
     let some : 1 ≤ length c.args.rels.items = (let e = eqb-false _ _ (sym c.is_empty.ensures ∙ c.if-is_empty.false) in omega (arith, e)) in
     let small = to_z-of_z w64 c.frame.inside.least_value (least_fits c.frame.inside.least_value c.frame.inside.value_count c.frame.invariant.some_value c.frame.invariant.low c.frame.invariant.high) in
@@ -51,19 +51,20 @@ made c =
       relation_names = c.requires.names;
       scopes = subst (λ (n : ℕ). AreScopes n (map given_by c.args.rels.items) c.in_ok-scopes.scopes.items) (count c)
           (subst (λ (parts : List RelPart). AreScopes c.len.result (map given_by parts) c.in_ok-scopes.scopes.items) c.deref.ensures.value c.in_ok-scopes.ensures.sound);
-      sized = subst (All (λ (scope : Scope). length (variables_in scope) ≡ scope.size)) c.deref-3.ensures.value c.in-Ok.ensures.sized;
+      sized = subst (All (λ (scope : Scope). length (variables_in scope) ≡ scope.size)) c.deref-3.ensures.value c.in_ok-numbers.ensures.sized;
       relations = λ arity some short. subst (λ (d : ℕ). IsClosedOf d arity (map given_by c.args.rels.items) (get_or c.in_ok-relations.relations (arity - 1) [])) d
           (subst (λ (parts : List RelPart). IsClosedOf (values_of c.deref-2.result.now) arity (map given_by parts) (get_or c.in_ok-relations.relations (arity - 1) [])) c.deref-2.ensures.value
           (c.in_ok-relations.ensures.closed arity some short));
-      numbers = c.in-Ok.ensures.is ∙ ap (first_numbers c.in_ok-relations.relations) c.deref-3.ensures.value;
+      four = c.in_ok-relations.ensures.four;
+      numbers = c.in_ok-numbers.ensures.is ∙ ap (first_numbers c.in_ok-relations.relations) c.deref-3.ensures.value;
     }
 
 pub invariant_of-result : goal.invariant_of-result
-invariant_of-result c = let at = (goal.at.invariant_of-result c).In-Ok in sound at.args.frame at.args.rels.items (fields at) (is_frame at) (made at)
+invariant_of-result c = let at = (goal.at.invariant_of-result c).In_ok-numbers in sound at.args.frame at.args.rels.items (fields at) (is_frame at) (made at)
 
 pub returns-clause-built : goal.returns-clause-built
 returns-clause-built c =
-    let at = (goal.at.returns-clause-built c).In-Ok in
+    let at = (goal.at.returns-clause-built c).In_ok-numbers in
     built at.args.frame at.args.rels.items (listed_in at.args.scopes) (fields at) (is_frame at) (made at)
     (subst (λ (n : ℕ). map variables_in at.in_ok-scopes.scopes.items ≡ scopes_of n (map given_by at.args.rels.items) (listed_in at.args.scopes)) (count at)
     (subst (λ (parts : List RelPart). map variables_in at.in_ok-scopes.scopes.items ≡ scopes_of at.len.result (map given_by parts) (listed_in at.args.scopes)) at.deref.ensures.value at.in_ok-scopes.ensures.is))

@@ -9,11 +9,11 @@ use Rattle.language.proofs.lang.Language.candidate_text.Goals as goal
 pub text_of_candidate-requires-clause-names : goal.text_of_candidate-requires-clause-names
 text_of_candidate-requires-clause-names c = some_name c.self.inside c.self.invariant c.deref.result.now c.deref.ensures.value
 
-pub returns-in-Ok : goal.returns-in-Ok
-returns-in-Ok c =
+pub returns : goal.returns
+returns c =
     text_here c.args.self.now c.args.c c.table_on-table.result.now.arity c.table_on-table.result.now.truth c.scope-scope.result.now
-    (map given_by c.deref.result.now) (map (λ (s : String Global). string_bytes s) c.deref-2.result.now) (string_bytes c.in-Ok.text)
+    (map given_by c.deref.result.now) (map (λ (s : String Global). string_bytes s) c.deref-2.result.now) (string_bytes c.in_ok-text.text)
     c.table_on-table.ensures.arity c.table_on-table.ensures.is c.scope-scope.ensures.is
     (ap (map given_by) c.deref.ensures.value ∙ ap (λ (l : Language). l.given) c.self.view_is)
     (ap (map (λ (s : String Global). string_bytes s)) c.deref-2.ensures.value ∙ ap (λ (l : Language). l.names) c.self.view_is)
-    c.in-Ok.ensures
+    c.in_ok-text.ensures

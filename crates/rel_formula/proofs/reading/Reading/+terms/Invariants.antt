@@ -13,8 +13,8 @@ decreases-term_call l = 3 * (40 - l.depth) + 1
 abbrev pub decreases-absolute : goal.decreases-absolute
 decreases-absolute l = 3 * (40 - l.depth) + 3
 
-abbrev pub decreases-combined : goal.decreases-combined
-decreases-combined l = 3 * (40 - l.depth) + 3
+abbrev pub decreases-read_arithmetic : goal.decreases-read_arithmetic
+decreases-read_arithmetic l = 3 * (40 - l.depth) + 3
 
-abbrev pub invariant-combined-loop-operand : goal.invariant-combined-loop-operand
-invariant-combined-loop-operand l = SoFar (term_way l.operator l.arity l.depth) l.operands (drop l.operand-index l.operand-items) l.fn.self l.self
+abbrev pub invariant-read_arithmetic-loop-operand : goal.invariant-read_arithmetic-loop-operand
+invariant-read_arithmetic-loop-operand l = SoFar (term_way l.operator l.arity l.depth) l.operands (drop l.operand-index l.operand-items) l.fn.self l.self

@@ -10,11 +10,11 @@ decreases-truth l = 3 * (40 - l.depth) + 2
 abbrev pub decreases-truth_call : goal.decreases-truth_call
 decreases-truth_call l = 3 * (40 - l.depth) + 1
 
-abbrev pub decreases-negated : goal.decreases-negated
-decreases-negated l = 3 * (40 - l.depth) + 3
+abbrev pub decreases-read_negation : goal.decreases-read_negation
+decreases-read_negation l = 3 * (40 - l.depth) + 3
 
-abbrev pub decreases-connected : goal.decreases-connected
-decreases-connected l = 3 * (40 - l.depth) + 3
+abbrev pub decreases-read_connective : goal.decreases-read_connective
+decreases-read_connective l = 3 * (40 - l.depth) + 3
 
-abbrev pub invariant-connected-loop-operand : goal.invariant-connected-loop-operand
-invariant-connected-loop-operand l = SoFar (truth_way l.operator l.arity l.depth) l.operands (drop l.operand-index l.operand-items) l.fn.self l.self
+abbrev pub invariant-read_connective-loop-operand : goal.invariant-read_connective-loop-operand
+invariant-read_connective-loop-operand l = SoFar (truth_way l.operator l.arity l.depth) l.operands (drop l.operand-index l.operand-items) l.fn.self l.self

@@ -4,7 +4,7 @@ use Rattle.std.specs.List.{flat_map}
 use Rattle.language.specs.declared.scopes.Scope.{Scope}
 use Rattle.language.specs.Scopes.{variables_in}
 use Rattle.language.specs.Choosing.{longer_by}
-use Rattle.language.proofs.choosing.lengthened.Given as goal
+use Rattle.language.proofs.choosing.one_longer.Given as goal
 
 abbrev pub invariant-loop-scope : goal.invariant-loop-scope
 invariant-loop-scope l = record {

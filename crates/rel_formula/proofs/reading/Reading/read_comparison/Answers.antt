@@ -1,5 +1,5 @@
 use Rattle.rel_formula.proofs.TruthOperands.{pair_of, compared_read}
-use Rattle.rel_formula.proofs.reading.Reading.compared.Goals as goal
+use Rattle.rel_formula.proofs.reading.Reading.read_comparison.Goals as goal
 
 pub returns : goal.returns
 returns c =

@@ -2,7 +2,7 @@ use Rattle.std.proofs.Common.{arith, ◌≡◌, ◌++◌, ◌∷◌, [], None, d
 use Rattle.voc_read.specs.Names.{repeat_after}
 use Rattle.voc_read.specs.Texts.{texts_of}
 use Rattle.voc_read.proofs.Repeats.{goes_on, is_no_repeat}
-use Rattle.voc_read.proofs.names.numbered.Goals as goal
+use Rattle.voc_read.proofs.names.index_names.Goals as goal
 
 pub loop-name-preserved : goal.loop-name-preserved
 loop-name-preserved c =

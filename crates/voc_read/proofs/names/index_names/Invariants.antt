@@ -1,7 +1,7 @@
 use Rattle.std.proofs.Common.{◌≡◌, take, drop}
 use Rattle.voc_read.specs.Names.{first_repeat, repeat_after}
 use Rattle.voc_read.specs.Texts.{texts_of}
-use Rattle.voc_read.proofs.names.numbered.Given as goal
+use Rattle.voc_read.proofs.names.index_names.Given as goal
 
 abbrev pub invariant-loop-name : goal.invariant-loop-name
 invariant-loop-name l = record {

@@ -3,7 +3,7 @@ use Rattle.std.specs.Prelude.{All}
 use Rattle.std.proofs.lemmas.List.Elements.{All-get_or}
 use Rattle.language.specs.Scopes.{variables_in}
 use Rattle.language.proofs.Stated.{all_of}
-use Rattle.language.proofs.choosing.lengthened.Goals as goal
+use Rattle.language.proofs.choosing.one_longer.Goals as goal
 
 pub with_longer-requires-clause-known : goal.with_longer-requires-clause-known
 with_longer-requires-clause-known c =

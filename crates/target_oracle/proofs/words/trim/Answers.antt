@@ -2,7 +2,7 @@ use Rattle.std.proofs.Common.{◌≡◌, ℕ, ◌+◌, ◌-◌, ◌≤◌, List,
 use Rattle.std.proofs.lemmas.List.{take_all, length-drop}
 use Rattle.std.specs.List.{prefix_len, suffix_len}
 use Rattle.target_oracle.specs.Words.{is_blank, trimmed, trimmed_after}
-use Rattle.target_oracle.proofs.words.trimmed.Goals as goal
+use Rattle.target_oracle.proofs.words.trim.Goals as goal
 
 -- the part that the code takes is the trimmed line
 trimmed_is : (line part : List ℕ) (n m : ℕ) → n ≡ prefix_len is_blank line → part ≡ drop n line → m + suffix_len is_blank part ≡ length part → take m part ≡ trimmed line
