@@ -71,9 +71,6 @@ fixed_empty f v x low none = go (list_all is_not_empty (fixed f v x)) refl
     go true h = absurd (both_ways _ (ap is_not_empty (fixed_same f v x low ∙ nothing (slice_index_or f v []) none)) (all_full (fixed f v x) h v (let long = length-set f v (filter (λ y. x == y) (slice_index_or f v [])) in omega arith)))
     go false h = refl
 
-pub fixed_family : (l : Language) (f : Family) (v x : ℕ) → v < length f → IsFamilyOf l f → IsFamilyOf l (fixed f v x)
-fixed_family l f v x low is = family_within l f (fixed f v x) (length-set f v (filter (λ y. x == y) (slice_index_or f v []))) (fixed_within f v x low) is
-
 -- what lacks the variable stays settled
 pub fixed_settled : (l : Language) (list : List Candidate) (against : Option Candidate) (f : Family) (v x : ℕ) → IsLanguage l → AreConstraints l list against → is_arc_consistent (arcs_of l list against) f ≡ true →
     AreSettled (arcs_of l list against) (with_member [] v) (fixed f v x)
@@ -277,22 +274,6 @@ module _ (l : Language) (list : List Candidate) (against : Option Candidate) (or
 left_none : (d n : ℕ) → left_by d (replicate n None) ≡ replicate n (numbers d)
 left_none d zero = refl
 left_none d (suc m) = ap (λ (f : Family). numbers d ∷ f) (left_none d m)
-
-value_bound : (d n v x : ℕ) → has (slice_index_or (replicate n (numbers d)) v []) x ≡ true → x < d
-value_bound d zero v x h = cc
-value_bound d (suc m) zero x h = subst (λ (k : ℕ). x < k) (let e : 0 + d ≡ d = omega arith in e) (below_number 0 d x h)
-  where
-    below_number : (a k y : ℕ) → has (range_with_len a k) y ≡ true → y < a + k
-    below_number a zero y h = cc
-    below_number a (suc k) y h = go (or_cases (a == y) (has (range_with_len (a + 1) k) y) h) (below_number (a + 1) k y)
-      where
-        go : ((a == y) ≡ true) ⊎ (has (range_with_len (a + 1) k) y ≡ true) → (has (range_with_len (a + 1) k) y ≡ true → y < a + 1 + k) → y < a + suc k
-        go (inl same) rest = (let e = eqb-true a y same in omega arith)
-        go (inr there) rest = (let low = rest there in omega arith)
-value_bound d (suc m) (suc v) x h = value_bound d m v x h
-
-pub full_family : (l : Language) → IsFamilyOf l (replicate (variable_count l) (numbers l.value_count))
-full_family l = record { size = length-replicate {A = List ℕ} (variable_count l) (numbers l.value_count); values = λ v x h. value_bound l.value_count (variable_count l) v x h }
 
 pub begun_ready : (l : Language) (list : List Candidate) (against : Option Candidate) (full f : Family) (depths : List Family) → full ≡ replicate (variable_count l) (numbers l.value_count) → 0 < length depths →
     IsLargest (arcs_of l list against) full f → list_all is_not_empty f ≡ true → IsFamilyOf l f → IsReady l list against (replicate (variable_count l) None) (slice_index_or (slice_set depths 0 f) 0 [])

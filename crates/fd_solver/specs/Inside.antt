@@ -4,7 +4,7 @@ use Rattle.fd_solver.specs.Ready.{Room}
 use Rattle.fd_solver.specs.declared.work.Work.TheInside.{Inside}
 
 abbrev pub seen : Inside → Room
-seen a = record { depths = a.depths.items; briefs = a.briefs.items }
+seen a = record { depths = a.depths.items; plan = a.plan }
 
 -- from no value up to 128
 abbrev pub IsDeep : Inside → Type 0

@@ -6,8 +6,8 @@ use Rattle.language.specs.declared.candidates.Candidate.{Candidate}
 use Rattle.language.specs.Language.{Language, variable_count}
 use Rattle.propagators.specs.Families.{Family, arcs_of, left_by, is_not_empty, IsLargest}
 use Rattle.propagators.specs.Supports.{IsFamilyOf}
-use Rattle.propagators.specs.declared.briefs.Brief.{Brief}
-use Rattle.propagators.specs.Briefs.{AreBriefs}
+use Rattle.propagators.specs.declared.plan.Plan.{Plan}
+use Rattle.propagators.specs.Plans.{IsPlanOf}
 
 -- the largest arc-consistent family of what an assignment leaves, with no empty set
 pub record IsReady (l : Language) (list : List Candidate) (against : Option Candidate) (e : Assignment) (f : Family) : Type 0 where
@@ -23,12 +23,12 @@ AreReady l list against order p depths = (k : ℕ) → k ≤ length p → IsRead
 abbrev pub fixed : Family → ℕ → ℕ → Family
 fixed f v x = slice_set f v (filter (λ y. x == y) (slice_index_or f v []))
 
--- for each depth a family, and the briefs of the conditions
+-- for each depth a family, and what is known of the conditions
 pub record Room : Type 0 where
   pub depths : List Family
-  pub briefs : List Brief
+  pub plan : Plan
 
 -- the room is ready for the search below a prefix
 pub record IsArranged (l : Language) (list : List Candidate) (against : Option Candidate) (order : List ℕ) (p : List ℕ) (w : Room) : Type 0 where
   pub depths : AreReady l list against order p w.depths
-  pub briefs : AreBriefs l.value_count (arcs_of l list against) w.briefs
+  pub plan : IsPlanOf l.value_count (arcs_of l list against) w.plan

@@ -6,13 +6,13 @@ ghost use Rattle.propagators.specs.Allowed.{AreConstraints};
 ghost use Rattle.propagators.specs.Families.{arcs_of, has_family, is_not_empty, is_arc_consistent, largest, IsLargest};
 ghost use Rattle.propagators.specs.Supports.{IsFamilyOf};
 ghost use Rattle.fd_solver.specs.Outcomes.{IsOrder, is_alive_in};
-ghost use Rattle.propagators.specs.Briefs.{AreBriefs};
+ghost use Rattle.propagators.specs.Plans.{IsPlanOf};
 ghost use Rattle.fd_solver.specs.Ready.{IsReady, IsArranged, fixed};
 
 use crate::stack::Stack;
 use assign::VarSet;
 use language::{Language, Memory};
-use propagators::{Alive, Brief, Constraints, Domains, brief_all, propagate_after, propagate_all};
+use propagators::{Alive, Constraints, Domains, Plan, propagate_after, propagate_all};
 use std::alloc::Global;
 use std::marker::Model;
 
@@ -24,8 +24,8 @@ const DEPTHS: usize = 129;
 pub struct Work {
     /// For each depth the values that are left to the variables, where so many have one.
     depths: Vec<Domains>,
-    /// The briefs of the conditions, as many as there is room for.
-    briefs: Vec<Brief>,
+    /// What is known of the conditions.
+    plan: Plan,
 }
 
 impl Model for Work {
@@ -42,10 +42,10 @@ impl Model for Work {
 
 /// Gives a variable one of its values, and takes the values away that don't go with it. Says whether each variable has one
 /// left.
-fn narrow(cons: &Constraints, briefs: &[Brief], doms: &mut Domains, v: u8, x: u8) -> bool
+fn narrow(cons: &Constraints, plan: &Plan, doms: &mut Domains, v: u8, x: u8) -> bool
     requires lawful { IsLanguage cons.now.lang.now }
     requires constraints { AreConstraints cons.now.lang.now cons.now.list.now cons.now.against }
-    requires briefs { AreBriefs cons.now.lang.now.value_count (arcs_of cons.now.lang.now cons.now.list.now cons.now.against) briefs.now }
+    requires plan { IsPlanOf cons.now.lang.now.value_count (arcs_of cons.now.lang.now cons.now.list.now cons.now.against) plan.now }
     requires family { IsFamilyOf cons.now.lang.now doms.old }
     requires full { list_all is_not_empty doms.old ≡ true }
     requires consistent { is_arc_consistent (arcs_of cons.now.lang.now cons.now.list.now cons.now.against) doms.old ≡ true }
@@ -57,7 +57,7 @@ fn narrow(cons: &Constraints, briefs: &[Brief], doms: &mut Domains, v: u8, x: u8
     ensures dead { result ≡ false → list_all is_not_empty (largest (arcs_of cons.now.lang.now cons.now.list.now cons.now.against) (fixed doms.old v x)) ≡ false }
 {
     doms.fix(v, x);
-    match propagate_after(cons, briefs, doms, VarSet::empty().with(v)) {
+    match propagate_after(cons, plan, doms, VarSet::empty().with(v)) {
         Alive::Yes => true,
         Alive::No => false,
     }
@@ -72,8 +72,8 @@ impl Work {
         let Ok(depths) = vec![in alloc; Domains::full(lang); DEPTHS] else {
             return Err(Memory);
         };
-        match vec![in alloc; Brief::blank(); lang.scopes() as usize + 1] {
-            Ok(briefs) => Ok(Work { depths, briefs }),
+        match Plan::new(alloc, lang.scopes() as usize + 1) {
+            Ok(plan) => Ok(Work { depths, plan }),
             Err(_) => Err(Memory),
         }
     }
@@ -82,13 +82,13 @@ impl Work {
     pub(crate) fn begin(&mut self, cons: &Constraints) -> bool
         requires lawful { IsLanguage cons.now.lang.now }
         requires constraints { AreConstraints cons.now.lang.now cons.now.list.now cons.now.against }
-        ensures briefs { AreBriefs cons.now.lang.now.value_count (arcs_of cons.now.lang.now cons.now.list.now cons.now.against) self.new.briefs }
+        ensures plan { IsPlanOf cons.now.lang.now.value_count (arcs_of cons.now.lang.now cons.now.list.now cons.now.against) self.new.plan }
         ensures ready { result ≡ true → IsReady cons.now.lang.now cons.now.list.now cons.now.against (replicate (variable_count cons.now.lang.now) None) (slice_index_or self.new.depths 0 []) }
         ensures dead { result ≡ false → has_family cons.now.lang.now cons.now.list.now cons.now.against (replicate (variable_count cons.now.lang.now) None) ≡ false }
     {
-        brief_all(cons, &mut self.briefs);
+        self.plan.arrange(cons);
         let mut root = Domains::full(cons.lang);
-        match propagate_all(cons, &self.briefs, &mut root) {
+        match propagate_all(cons, &self.plan, &mut root) {
             Alive::Yes => {
                 self.depths[0] = root;
                 true
@@ -115,6 +115,6 @@ impl Work {
             return false;
         }
         self.depths[at + 1] = self.depths[at];
-        narrow(cons, &self.briefs, &mut self.depths[at + 1], v, x)
+        narrow(cons, &self.plan, &mut self.depths[at + 1], v, x)
     }
 }

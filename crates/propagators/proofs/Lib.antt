@@ -9,3 +9,4 @@ pub mod Filled
 pub mod Cutting
 pub mod Conditions
 pub mod Loose
+pub mod Visiting

@@ -108,7 +108,7 @@ replaced_sets (v ∷ scope) (xs ∷ found) f apart long known =
     let rest = replaced_sets scope found (slice_set f v xs) apart.1 (omega arith) (λ k d h. (let at = All-tail (λ v. v < length f) v scope known k d h in let size = length-set f v xs in omega arith)) in
     λ i. own i ∷ rest i
 
-member_place : (scope : List ℕ) (v : ℕ) → has scope v ≡ true → (i : ℕ) × (i < length scope) × (slice_index_or scope i 0 ≡ v)
+pub member_place : (scope : List ℕ) (v : ℕ) → has scope v ≡ true → (i : ℕ) × (i < length scope) × (slice_index_or scope i 0 ≡ v)
 member_place [] v h = cc
 member_place (w ∷ scope) v h = go (or_cases (w == v) (has scope v) h) (member_place scope v)
   where

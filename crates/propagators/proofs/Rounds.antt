@@ -196,7 +196,7 @@ settled_largest arcs from f changed over is settled = record {
 abbrev pub turns_left : Family → List ℕ → ℕ
 turns_left f changed = size_of f + size_of f + min 1 (length changed)
 
-no_members : (xs : List ℕ) → ((v : ℕ) → has xs v ≡ false) → length xs ≡ 0
+pub no_members : (xs : List ℕ) → ((v : ℕ) → has xs v ≡ false) → length xs ≡ 0
 no_members [] h = refl
 no_members (x ∷ xs) h = absurd (both_ways _ (h x) (or_left _ _ (eq-eqb x x refl)))
 

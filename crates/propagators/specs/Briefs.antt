@@ -17,9 +17,8 @@ pub record IsLoose (d : ℕ) (accepted : List ℕ → Bool) : Type 0 where
   pub rows : (x y z : ℕ) → x < d → y < d → z < d → accepted (x ∷ y ∷ []) ≡ false → accepted (x ∷ z ∷ []) ≡ false → y ≡ z
   pub columns : (x w y : ℕ) → x < d → w < d → y < d → accepted (x ∷ y ∷ []) ≡ false → accepted (w ∷ y ∷ []) ≡ false → x ≡ w
 
--- the variables of the scope, and whether there are two and none is rejected with two values of the other
+-- where it says so, the scope has two variables, and none is rejected with two values of the other
 pub record IsBriefOf (d : ℕ) (a : Arc) (b : Brief) : Type 0 where
-  pub scope : b.scope ≡ a.scope
   pub two : b.is_loose ≡ true → length a.scope ≡ 2
   pub loose : b.is_loose ≡ true → IsLoose d a.accepted
 

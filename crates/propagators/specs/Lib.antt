@@ -6,3 +6,4 @@ pub mod ValueLemmas
 pub mod InsideDomains
 pub mod Supports
 pub mod Briefs
+pub mod Plans

@@ -1,7 +1,7 @@
 ghost use Rattle.std.specs.Prelude.{◌≡◌, ◌<◌, ◌≤◌, ◌==◌, ℕ, [], true, false, not, length, map, take, replicate, slice_index_or, slice_set, All};
 ghost use Rattle.std.specs.List.{filter, list_all, list_any};
 ghost use Rattle.assign.specs.Sets.{numbers, has, IsSet};
-ghost use Rattle.language.specs.Language.{variable_count};
+ghost use Rattle.language.specs.Language.{Language, variable_count};
 ghost use Rattle.propagators.specs.Values.{ones_of};
 ghost use Rattle.propagators.specs.Families.{is_not_empty, sets_on, size_of};
 ghost use Rattle.propagators.specs.Supports.{IsFamilyOf};
@@ -46,7 +46,8 @@ fn some_is_zero(masks: &[u64]) -> bool
 impl Domains {
     /// All values for each variable.
     pub fn full(lang: &Language) -> Domains
-        ensures { result ≡ replicate (variable_count lang.now) (numbers lang.now.value_count) }
+        ensures is { result ≡ replicate (variable_count lang.now) (numbers lang.now.value_count) }
+        ensures family { IsFamilyOf lang.now result }
     {
         let n = lang.n();
         let all = first_values(lang.d());
@@ -61,7 +62,8 @@ impl Domains {
     pub fn fix(&mut self, v: u8, value: u8)
         requires known { v < length self.old }
         requires small { value < 64 }
-        ensures { self.new ≡ slice_set self.old v (filter (λ x. value == x) (slice_index_or self.old v [])) }
+        ensures is { self.new ≡ slice_set self.old v (filter (λ x. value == x) (slice_index_or self.old v [])) }
+        ensures family { (l : Language) → IsFamilyOf l self.old → IsFamilyOf l self.new }
     {
         self.sets[v as usize] = only_value(self.sets[v as usize], value);
     }

@@ -9,11 +9,14 @@ mod briefs;
 mod constraints;
 mod domains;
 pub mod laws;
+mod plan;
 mod revising;
 mod supports;
 mod values;
+mod visits;
 
-pub use briefs::{Brief, brief_all};
 pub use constraints::Constraints;
 pub use domains::Domains;
-pub use revising::{Alive, propagate, propagate_after, propagate_all};
+pub use plan::Plan;
+pub use revising::{Alive, propagate};
+pub use visits::{propagate_after, propagate_all};

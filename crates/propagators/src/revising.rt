@@ -1,14 +1,12 @@
-ghost use Rattle.std.specs.Prelude.{◌≡◌, ◌<◌, ◌≤◌, ◌⊎◌, ℕ, [], true, false, All, IfSome, None, length, map, take, slice_index_or};
+ghost use Rattle.std.specs.Prelude.{◌≡◌, ◌<◌, ◌≤◌, ℕ, [], true, false, All, IfSome, None, length, map, take, slice_index_or};
 ghost use Rattle.std.specs.List.{list_any, list_all};
 ghost use Rattle.assign.specs.Sets.{has};
 ghost use Rattle.language.specs.Language.{IsLanguage, IsCandidate};
 ghost use Rattle.propagators.specs.Allowed.{AreConstraints};
 ghost use Rattle.propagators.specs.Values.{ones_of};
-ghost use Rattle.propagators.specs.Families.{Arc, arc_of, arcs_of, is_consistent, is_not_empty, largest, IsLargest};
+ghost use Rattle.propagators.specs.Families.{arc_of, arcs_of, is_not_empty, largest, IsLargest};
 ghost use Rattle.propagators.specs.Supports.{AreDifferent, IsFamilyOf, IsRevised, IsDead, IsCut, AreSettled, AreFewer, IsUnderway, replaced};
-ghost use Rattle.propagators.specs.Briefs.{AreBriefs};
 
-use crate::briefs::{Brief, is_settled};
 use crate::constraints::Constraints;
 use crate::domains::Domains;
 use crate::supports::supported;
@@ -59,7 +57,12 @@ fn cut_all(doms: &mut Domains, scope: &[u8], found: &[u64; 4]) -> VarSet
 
 /// Takes away the values of a scope that the candidate doesn't support, where it is to hold, or not to hold. Says which
 /// variables lost some; `None` where no tuple is left.
-fn revise(lang: &Language, c: Candidate, holding: bool, doms: &mut Domains) -> Option<VarSet>
+pub(crate) fn revise(
+    lang: &Language,
+    c: Candidate,
+    holding: bool,
+    doms: &mut Domains,
+) -> Option<VarSet>
     requires lawful { IsLanguage lang.now }
     requires candidate { IsCandidate lang.now c }
     requires family { IsFamilyOf lang.now doms.old }
@@ -75,37 +78,11 @@ fn revise(lang: &Language, c: Candidate, holding: bool, doms: &mut Domains) -> O
     Some(cut_all(doms, scope, &found))
 }
 
-/// Whether condition i has none of the touched variables, or is consistent: by its brief, where there is one.
-fn may_pass(
-    cons: &Constraints,
-    briefs: &[Brief],
-    doms: &Domains,
-    i: usize,
-    c: Candidate,
-    holding: bool,
-    touched: VarSet,
-) -> bool
-    requires lawful { IsLanguage cons.now.lang.now }
-    requires candidate { IsCandidate cons.now.lang.now c }
-    requires low { i < length (arcs_of cons.now.lang.now cons.now.list.now cons.now.against) }
-    requires is { (a : Arc) → slice_index_or (arcs_of cons.now.lang.now cons.now.list.now cons.now.against) i a ≡ arc_of cons.now.lang.now c holding }
-    requires briefs { AreBriefs cons.now.lang.now.value_count (arcs_of cons.now.lang.now cons.now.list.now cons.now.against) briefs.now }
-    requires family { IsFamilyOf cons.now.lang.now doms.now }
-    ensures { result ≡ true → (list_any (has touched) (arc_of cons.now.lang.now c holding).scope ≡ false) ⊎ (is_consistent doms.now (arc_of cons.now.lang.now c holding).scope (arc_of cons.now.lang.now c holding).accepted ≡ true) }
-{
-    if i < briefs.len() {
-        is_settled(cons.lang, c, holding, briefs[i], touched, doms)
-    } else {
-        !touches(cons.lang.scope(c.scope), touched)
-    }
-}
-
 /// Goes once through the conditions that have a changed variable. Says which variables lost values; `None` where some
 /// variable has none left in an arc-consistent subfamily.
-fn pass(cons: &Constraints, briefs: &[Brief], doms: &mut Domains, changed: VarSet) -> Option<VarSet>
+fn pass(cons: &Constraints, doms: &mut Domains, changed: VarSet) -> Option<VarSet>
     requires lawful { IsLanguage cons.now.lang.now }
     requires constraints { AreConstraints cons.now.lang.now cons.now.list.now cons.now.against }
-    requires briefs { AreBriefs cons.now.lang.now.value_count (arcs_of cons.now.lang.now cons.now.list.now cons.now.against) briefs.now }
     requires family { IsFamilyOf cons.now.lang.now doms.old }
     requires full { list_all is_not_empty doms.old ≡ true }
     requires settled { AreSettled (arcs_of cons.now.lang.now cons.now.list.now cons.now.against) changed doms.old }
@@ -117,7 +94,7 @@ fn pass(cons: &Constraints, briefs: &[Brief], doms: &mut Domains, changed: VarSe
     let mut next = VarSet::empty();
     for i in 0..cons.count() {
         let (c, holding) = cons.condition(i);
-        if !may_pass(cons, briefs, doms, i, c, holding, changed.union(next)) {
+        if touches(cons.lang.scope(c.scope), changed.union(next)) {
             match revise(cons.lang, c, holding, doms) {
                 None => return None,
                 Some(lost) => next = next.union(lost),
@@ -127,17 +104,11 @@ fn pass(cons: &Constraints, briefs: &[Brief], doms: &mut Domains, changed: VarSe
     Some(next)
 }
 
-/// `propagate`, where no set is empty and each condition is consistent that has none of the changed variables. The briefs
-/// are those of the conditions, as far as they go.
-pub fn propagate_after(
-    cons: &Constraints,
-    briefs: &[Brief],
-    doms: &mut Domains,
-    changed: VarSet,
-) -> Alive
+/// Goes through the conditions until none takes a value away. At first each condition is consistent that has none of the
+/// changed variables, and no set is empty.
+pub(crate) fn settle(cons: &Constraints, doms: &mut Domains, changed: VarSet) -> Alive
     requires lawful { IsLanguage cons.now.lang.now }
     requires constraints { AreConstraints cons.now.lang.now cons.now.list.now cons.now.against }
-    requires briefs { AreBriefs cons.now.lang.now.value_count (arcs_of cons.now.lang.now cons.now.list.now cons.now.against) briefs.now }
     requires family { IsFamilyOf cons.now.lang.now doms.old }
     requires full { list_all is_not_empty doms.old ≡ true }
     requires settled { AreSettled (arcs_of cons.now.lang.now cons.now.list.now cons.now.against) changed doms.old }
@@ -148,28 +119,12 @@ pub fn propagate_after(
 {
     let mut changed = changed;
     while changed.len() != 0 {
-        match pass(cons, briefs, doms, changed) {
+        match pass(cons, doms, changed) {
             None => return Alive::No,
             Some(next) => changed = next,
         }
     }
     Alive::Yes
-}
-
-/// `propagate` with the briefs of the conditions, as far as they go.
-pub fn propagate_all(cons: &Constraints, briefs: &[Brief], doms: &mut Domains) -> Alive
-    requires constraints { AreConstraints cons.now.lang.now cons.now.list.now cons.now.against }
-    requires briefs { AreBriefs cons.now.lang.now.value_count (arcs_of cons.now.lang.now cons.now.list.now cons.now.against) briefs.now }
-    requires family { IsFamilyOf cons.now.lang.now doms.old }
-    ensures largest { result ≡ Alive.Yes → IsLargest (arcs_of cons.now.lang.now cons.now.list.now cons.now.against) doms.old doms.new }
-    ensures full { result ≡ Alive.Yes → list_all is_not_empty doms.new ≡ true }
-    ensures family { result ≡ Alive.Yes → IsFamilyOf cons.now.lang.now doms.new }
-    ensures dead { result ≡ Alive.No → list_all is_not_empty (largest (arcs_of cons.now.lang.now cons.now.list.now cons.now.against) doms.old) ≡ false }
-{
-    if doms.has_empty() {
-        return Alive::No;
-    }
-    propagate_after(cons, briefs, doms, VarSet::all(cons.lang.n()))
 }
 
 /// Takes away the values that no arc-consistent subfamily has, until what is left is the largest one.
@@ -183,5 +138,8 @@ pub fn propagate(cons: &Constraints, doms: &mut Domains) -> Alive
     ensures family { result ≡ Alive.Yes → IsFamilyOf cons.now.lang.now doms.new }
     ensures dead { result ≡ Alive.No → list_all is_not_empty (largest (arcs_of cons.now.lang.now cons.now.list.now cons.now.against) doms.old) ≡ false }
 {
-    propagate_all(cons, &[], doms)
+    if doms.has_empty() {
+        return Alive::No;
+    }
+    settle(cons, doms, VarSet::all(cons.lang.n()))
 }

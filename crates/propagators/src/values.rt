@@ -114,3 +114,12 @@ pub(crate) fn are_apart(a: u64, b: u64) -> bool
 {
     a & b == 0
 }
+
+/// The members, and x.
+#[inline]
+pub(crate) fn add_value(values: u64, x: u8) -> u64
+    requires { x < 64 }
+    ensures { (y : ℕ) → has (ones_of result) y ≡ (has (ones_of values) y || (x == y)) }
+{
+    values | (1 << x)
+}

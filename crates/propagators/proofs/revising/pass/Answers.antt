@@ -1,11 +1,11 @@
-use Rattle.std.proofs.Common.{◌≡◌, ◌⊎◌, ◌<◌, ◌+◌, ◌∙◌, ℕ, List, [], true, false, length, refl, sym, subst, arith}
+use Rattle.std.proofs.Common.{◌<◌, ◌+◌, ◌∙◌, ℕ, List, [], true, ap, length, refl, sym, subst, arith}
 use Rattle.std.specs.List.{list_any}
 use Rattle.assign.specs.Sets.{has, union}
-use Rattle.propagators.specs.Families.{Family, Arc, arc_of, arcs_of, is_consistent}
+use Rattle.propagators.specs.Families.{Family, Arc, arcs_of}
 use Rattle.propagators.specs.Supports.{IsRevised, IsDead}
-use Rattle.propagators.proofs.Rounds.{IsPassing, pass_on, pass_either, dead_before, dead_here}
+use Rattle.propagators.proofs.Rounds.{IsPassing, pass_on, pass_over, dead_before, dead_here}
 use Rattle.propagators.proofs.Conditions.{arcs_small}
-use Rattle.propagators.proofs.revising.pass.Goals.{then-not-may_pass+in-Some, else-not-may_pass}
+use Rattle.propagators.proofs.revising.pass.Goals.{then-touches+in-Some, else-touches}
 use Rattle.propagators.proofs.revising.pass.Goals as goal
 
 none : Arc
@@ -21,15 +21,16 @@ pub loop-i-preserved : goal.loop-i-preserved
 loop-i-preserved c =
     let low : c.loop-i.i < length (arcs_of c.args.cons.now.lang.now c.args.cons.now.list.now c.args.cons.now.against) = (let all = c.count-i-end.ensures in omega arith) in
     let small = arcs_small c.args.cons.now.lang.now c.args.cons.now.list.now c.args.cons.now.against c.requires.lawful c.requires.constraints in
-    elim c.if-not-may_pass.branch [
-      | then-not-may_pass+in-Some w ↦
-          subst (λ (next : List ℕ). IsPassing (arcs_of c.args.cons.now.lang.now c.args.cons.now.list.now c.args.cons.now.against) c.args.changed c.args.doms.now (c.loop-i.i + 1) next c.if-not-may_pass.doms) (sym (w.next-is ∙ w.union-next.ensures))
+    elim c.if-touches.branch [
+      | then-touches+in-Some w ↦
+          subst (λ (next : List ℕ). IsPassing (arcs_of c.args.cons.now.lang.now c.args.cons.now.list.now c.args.cons.now.against) c.args.changed c.args.doms.now (c.loop-i.i + 1) next c.if-touches.doms) (sym (w.next-is ∙ w.union-next.ensures))
           (subst (λ (g : Family). IsPassing (arcs_of c.args.cons.now.lang.now c.args.cons.now.list.now c.args.cons.now.against) c.args.changed c.args.doms.now (c.loop-i.i + 1) (union c.loop-i.next w.in-Some.lost) g) (sym w.doms-is)
           (pass_on (arcs_of c.args.cons.now.lang.now c.args.cons.now.list.now c.args.cons.now.against) c.args.changed c.args.doms.now c.loop-i.i c.loop-i.next w.in-Some.lost c.loop-i.doms w.revise.new.doms small low c.loop-i.invariant
           (λ d. subst (λ (a : Arc). IsRevised a c.loop-i.doms w.revise.new.doms) (sym (c.condition-holding.ensures.is d)) w.in-Some.ensures.revised) w.in-Some.ensures.cut))
-      | else-not-may_pass w ↦
-          subst (λ (next : List ℕ). IsPassing (arcs_of c.args.cons.now.lang.now c.args.cons.now.list.now c.args.cons.now.against) c.args.changed c.args.doms.now (c.loop-i.i + 1) next c.if-not-may_pass.doms) (sym w.next-is)
+      | else-touches w ↦
+          subst (λ (next : List ℕ). IsPassing (arcs_of c.args.cons.now.lang.now c.args.cons.now.list.now c.args.cons.now.against) c.args.changed c.args.doms.now (c.loop-i.i + 1) next c.if-touches.doms) (sym w.next-is)
           (subst (λ (g : Family). IsPassing (arcs_of c.args.cons.now.lang.now c.args.cons.now.list.now c.args.cons.now.against) c.args.changed c.args.doms.now (c.loop-i.i + 1) c.loop-i.next g) (sym w.doms-is)
-          (pass_either (arcs_of c.args.cons.now.lang.now c.args.cons.now.list.now c.args.cons.now.against) c.args.changed c.args.doms.now c.loop-i.i c.loop-i.next c.loop-i.doms (arc_of c.args.cons.now.lang.now c.condition-holding.result.0 c.condition-holding.result.1) small c.loop-i.invariant c.condition-holding.ensures.is
-          (subst (λ (xs : List ℕ). (list_any (has xs) (arc_of c.args.cons.now.lang.now c.condition-holding.result.0 c.condition-holding.result.1).scope ≡ false) ⊎ (is_consistent c.loop-i.doms (arc_of c.args.cons.now.lang.now c.condition-holding.result.0 c.condition-holding.result.1).scope (arc_of c.args.cons.now.lang.now c.condition-holding.result.0 c.condition-holding.result.1).accepted ≡ true)) c.union.ensures (c.may_pass.ensures w.if-not-may_pass.false))))
+          (pass_over (arcs_of c.args.cons.now.lang.now c.args.cons.now.list.now c.args.cons.now.against) c.args.changed c.args.doms.now c.loop-i.i c.loop-i.next c.loop-i.doms small c.loop-i.invariant
+          (λ d. ap (λ (a : Arc). list_any (has (union c.args.changed c.loop-i.next)) a.scope) (c.condition-holding.ensures.is d)
+          ∙ (λ i. list_any (has (sym c.union.ensures i)) (sym c.scope.ensures.is i)) ∙ sym c.touches.ensures ∙ w.if-touches.false)))
     ]

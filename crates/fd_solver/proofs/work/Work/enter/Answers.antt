@@ -4,7 +4,7 @@ use Rattle.std.proofs.lemmas.List.{get_or_read, get_or-set_same}
 use Rattle.std.proofs.Math.ListN.{length-set}
 use Rattle.assign.specs.Sets.{has}
 use Rattle.propagators.specs.Families.{Family, arcs_of}
-use Rattle.propagators.specs.Briefs.{AreBriefs}
+use Rattle.propagators.specs.Plans.{IsPlanOf}
 use Rattle.fd_solver.specs.Ready.{AreReady, Room}
 use Rattle.fd_solver.proofs.Narrowing.{deepest, below_lacking, entered, entered_ready, deeper_written}
 use Rattle.fd_solver.proofs.work.Work.enter.Goals as goal
@@ -51,5 +51,5 @@ returns-clause-deeper c = λ alive. record {
       (subst (AreReady c.args.cons.now.lang.now c.args.cons.now.list.now c.args.cons.now.against c.args.order.now c.args.prefix.now) (sym (ap (λ (w : Room). w.depths) c.self.view_is)) c.requires.ready.depths)
       (entered_ready c.args.cons.now.lang.now c.args.cons.now.list.now c.args.cons.now.against c.args.order.now c.requires.order c.requires.lawful c.requires.constraints c.args.prefix.now c.args.x (slice_index_or c.args.self.now.depths (length c.args.prefix.now) []) c.requires.short c.requires.value (deepest c.args.cons.now.lang.now c.args.cons.now.list.now c.args.cons.now.against c.args.order.now c.args.prefix.now c.args.self.now.depths c.requires.ready.depths)
       c.len-at.result c.index_mut-2.result.now c.narrow.new.doms at same (c.narrow.ensures.largest alive) (c.narrow.ensures.full alive) (c.narrow.ensures.family alive)));
-  briefs = subst (AreBriefs c.args.cons.now.lang.now.value_count (arcs_of c.args.cons.now.lang.now c.args.cons.now.list.now c.args.cons.now.against)) (sym (ap (λ (w : Room). w.briefs) c.self.view_is)) c.requires.ready.briefs;
+  plan = subst (IsPlanOf c.args.cons.now.lang.now.value_count (arcs_of c.args.cons.now.lang.now c.args.cons.now.list.now c.args.cons.now.against)) (sym (ap (λ (w : Room). w.plan) c.self.view_is)) c.requires.ready.plan;
 }

@@ -1,6 +1,7 @@
-use Rattle.std.proofs.Common.{◌∙◌, ap, arith, replicate}
+use Rattle.std.proofs.Common.{◌∙◌, ap, sym, subst, arith, replicate}
 use Rattle.assign.specs.Sets.{numbers}
-use Rattle.propagators.proofs.Filled.{fill_next, full_masks, full_seen}
+use Rattle.propagators.proofs.Filled.{fill_next, full_masks, full_seen, full_family}
+use Rattle.propagators.specs.Supports.{IsFamilyOf}
 use Rattle.propagators.proofs.domains.Domains.full.Goals as goal
 
 pub loop-v-preserved : goal.loop-v-preserved
@@ -9,5 +10,8 @@ loop-v-preserved c = fill_next c.loop-v.sets c.first_values-all.result c.loop-v.
 pub invariant_of-result : goal.invariant_of-result
 invariant_of-result c = full_masks c.loop-v.sets c.first_values-all.result c.loop-v.v c.n-n.result (let few = c.n-n.ensures.lawful.few_variables in omega arith) c.first_values-all.type_inv c.loop-v.invariant (omega arith)
 
-pub returns : goal.returns
-returns c = full_seen c.loop-v.sets c.first_values-all.result c.loop-v.v c.n-n.result c.loop-v.invariant (omega arith) ∙ (λ i. replicate (c.n-n.ensures.is i) ((c.first_values-all.ensures ∙ ap numbers c.d.ensures.is) i))
+pub returns-clause-is : goal.returns-clause-is
+returns-clause-is c = full_seen c.loop-v.sets c.first_values-all.result c.loop-v.v c.n-n.result c.loop-v.invariant (omega arith) ∙ (λ i. replicate (c.n-n.ensures.is i) ((c.first_values-all.ensures ∙ ap numbers c.d.ensures.is) i))
+
+pub returns-clause-family : goal.returns-clause-family
+returns-clause-family c = subst (IsFamilyOf c.args.lang.now) (sym (returns-clause-is c)) (full_family c.args.lang.now)

@@ -6,7 +6,7 @@ use Rattle.propagators.specs.Families.{arcs_of}
 use Rattle.propagators.specs.Supports.{AreSettled}
 use Rattle.propagators.proofs.Rounds.{empty_stays}
 use Rattle.propagators.proofs.Conditions.{all_settled, arcs_over}
-use Rattle.propagators.proofs.revising.propagate_all.Goals as goal
+use Rattle.propagators.proofs.visits.propagate_all.Goals as goal
 
 pub returns-then-has_empty-clause-dead : goal.returns-then-has_empty-clause-dead
 returns-then-has_empty-clause-dead c = λ e. empty_stays (arcs_of c.args.cons.now.lang.now c.args.cons.now.list.now c.args.cons.now.against) c.args.doms.now (not-true _ (sym c.has_empty.ensures ∙ c.if-has_empty.true))

@@ -2,7 +2,7 @@ use Rattle.std.proofs.Common.{◌≡◌, ℕ, List, [], ◌∷◌, length, refl,
 use Rattle.propagators.specs.Families.{arcs_of}
 use Rattle.propagators.proofs.Rounds.{dead_before, turn_falls, settled_largest}
 use Rattle.propagators.proofs.Conditions.{family_under}
-use Rattle.propagators.proofs.revising.propagate_after.Goals as goal
+use Rattle.propagators.proofs.revising.settle.Goals as goal
 
 pub returns-in-None-clause-dead : goal.returns-in-None-clause-dead
 returns-in-None-clause-dead c = λ e. dead_before (arcs_of c.args.cons.now.lang.now c.args.cons.now.list.now c.args.cons.now.against) c.args.doms.now c.loop-changed.doms c.loop-changed.invariant.0 (c.in-None.ensures.dead refl)

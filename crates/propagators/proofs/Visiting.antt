@@ -1,0 +1,284 @@
+-- Looking at the conditions of changed variables.
+use Rattle.std.proofs.Common.{◌≡◌, ℕ, zero, suc, ◌+◌, ◌-◌, ◌*◌, ◌/◌, ◌%◌, ◌<◌, ◌≤◌, Bool, true, false, ◌&&◌, ◌||◌, not, List, [], ◌∷◌, length, Some, None, refl, sym, ◌∙◌, ap, subst, arith, inl, inr, ◌⊎◌}
+use Rattle.std.specs.Prelude.{◌==◌, ◌≢◌, slice_index_or, slice_set, All, min}
+use Rattle.std.specs.List.{list_any, list_all}
+use Rattle.std.proofs.lemmas.List.Elements.{All-head, All-tail}
+use Rattle.std.proofs.lemmas.List.{get_or-set_same, get_or-set_other}
+use Rattle.std.proofs.lemmas.Bool.{or_left, or_right, both_ways, cases_eq, cases_lt, eq-eqb, eqb-true, ne_eqb}
+use Rattle.std.proofs.lemmas.Nat.{div-add-mod', div-mul-add, mod-mul-add, mod_below, div_below}
+use Rattle.assign.specs.Sets.{numbers, has, union, without, least_of, Rises, IsSet}
+use Rattle.assign.specs.SetLemmas.{has-set_where, set_where-same}
+use Rattle.assign.proofs.Masks.{canonical, rises_lower, lacks}
+use Rattle.propagators.specs.Values.{ones_of}
+use Rattle.propagators.specs.Families.{Family, Arc, is_consistent, is_not_empty, size_of}
+use Rattle.propagators.specs.Supports.{IsRevised, DifferAt, AreSettled, AreFewer, IsCut, IsUnderway}
+use Rattle.propagators.specs.Plans.{AreNoted, AreLeft, IsLooked}
+use Rattle.propagators.proofs.Ones.{ones_of-zero}
+use Rattle.propagators.proofs.Replacing.{member_place}
+use Rattle.propagators.proofs.Rounds.{stays_consistent, touch_union, underway_begin, underway_step, underway_more, AreSmall, no_members}
+
+none : Arc
+none = record { scope = []; accepted = λ t. true }
+
+no_or : (a b : Bool) → (a || b) ≡ false → (a ≡ false) × (b ≡ false)
+no_or true b h = cc
+no_or false b h = (refl, h)
+
+-- ---- one look
+
+-- nothing was to be done
+pub looked_over : (arcs : List Arc) (i : ℕ) (waiting : List ℕ) (f : Family) → list_all is_not_empty f ≡ true →
+    ((a : Arc) → i < length arcs → is_consistent f (slice_index_or arcs i a).scope (slice_index_or arcs i a).accepted ≡ true) → IsLooked arcs i waiting waiting f f
+looked_over arcs i waiting f full here = record {
+  underway = underway_begin arcs f full;
+  left = inl (refl, refl);
+  here = here;
+  before = λ k a low h. h;
+  stays = λ k a low h ok. ok;
+}
+
+underway_one : (arcs : List Arc) (i : ℕ) (f g : Family) → i < length arcs → list_all is_not_empty f ≡ true → ((a : Arc) → IsRevised (slice_index_or arcs i a) f g) → IsUnderway arcs f g
+underway_one arcs i f g low full to = underway_step arcs f f g i none low (underway_begin arcs f full) (to none)
+
+-- the condition was revised, and no variable lost a value
+pub looked_same : (arcs : List Arc) (i : ℕ) (waiting lost : List ℕ) (f g : Family) → AreSmall arcs → i < length arcs → list_all is_not_empty f ≡ true →
+    ((a : Arc) → IsRevised (slice_index_or arcs i a) f g) → IsCut lost f g → length lost ≡ 0 → IsLooked arcs i waiting waiting f g
+looked_same arcs i waiting lost f g small low full to cut nothing = record {
+  underway = underway_one arcs i f g low full to;
+  left = left cut.fewer;
+  here = λ a below. (to a).consistent;
+  before = λ k a below h. h;
+  stays = λ k a below h ok. stays_consistent (slice_index_or arcs k a) f g lost (small k a below) cut.differ (untouched (slice_index_or arcs k a).scope lost nothing) ok;
+}
+  where
+    untouched : (scope lost : List ℕ) → length lost ≡ 0 → list_any (has lost) scope ≡ false
+    untouched scope (x ∷ lost) none = absurd (omega arith)
+    untouched [] [] none = refl
+    untouched (v ∷ scope) [] none = untouched scope [] none
+
+    left : AreFewer lost f g → AreLeft waiting waiting f g
+    left (inl same) = inl (refl, same.1)
+    left (inr less) = inr less
+
+-- the condition was revised, and some variable lost a value
+pub looked_changed : (arcs : List Arc) (i : ℕ) (waiting lost : List ℕ) (f g : Family) → AreSmall arcs → i < length arcs → list_all is_not_empty f ≡ true →
+    ((a : Arc) → IsRevised (slice_index_or arcs i a) f g) → IsCut lost f g → length lost ≢ 0 → IsLooked arcs i waiting (union waiting lost) f g
+looked_changed arcs i waiting lost f g small low full to cut some = record {
+  underway = underway_one arcs i f g low full to;
+  left = left cut.fewer;
+  here = λ a below. (to a).consistent;
+  before = λ k a below h. (parts k a below h).0;
+  stays = λ k a below h ok. stays_consistent (slice_index_or arcs k a) f g lost (small k a below) cut.differ (parts k a below h).1 ok;
+}
+  where
+    parts : (k : ℕ) (a : Arc) → k < length arcs → list_any (has (union waiting lost)) (slice_index_or arcs k a).scope ≡ false →
+        (list_any (has waiting) (slice_index_or arcs k a).scope ≡ false) × (list_any (has lost) (slice_index_or arcs k a).scope ≡ false)
+    parts k a below h = no_or _ _ (sym (touch_union waiting lost (slice_index_or arcs k a).scope (small k a below)) ∙ h)
+
+    left : AreFewer lost f g → AreLeft waiting (union waiting lost) f g
+    left (inl same) = absurd (some (no_members lost same.0))
+    left (inr less) = inr less
+
+-- ---- the conditions of one variable
+
+-- what is looked at is consistent where it has no waiting variable
+pub record IsVisiting (arcs : List Arc) (begun : List ℕ) (from : Family) (done : ℕ → Type 0) (waiting : List ℕ) (f : Family) : Type 0 where
+  pub underway : IsUnderway arcs from f
+  pub left : AreLeft begun waiting from f
+  pub settled : (k : ℕ) (a : Arc) → k < length arcs → list_any (has waiting) (slice_index_or arcs k a).scope ≡ false → done k → is_consistent f (slice_index_or arcs k a).scope (slice_index_or arcs k a).accepted ≡ true
+
+-- the condition hasn't the variable
+abbrev pub Lacks : List Arc → ℕ → ℕ → Type 0
+Lacks arcs v k = (a : Arc) → has (slice_index_or arcs k a).scope v ≡ false
+
+-- the words before w are looked at
+abbrev pub IsBefore : List Arc → ℕ → ℕ → ℕ → Type 0
+IsBefore arcs v w k = (k < w * 64) ⊎ Lacks arcs v k
+
+-- and word w, but for what is left of it
+abbrev pub IsGone : ℕ → ℕ → ℕ → Type 0
+IsGone w rest k = (b : ℕ) × (b < 64) × (k ≡ w * 64 + b) × (has (ones_of rest) b ≡ false)
+
+abbrev pub IsWithout : List Arc → ℕ → ℕ → ℕ → ℕ → Type 0
+IsWithout arcs v w rest k = IsBefore arcs v w k ⊎ IsGone w rest k
+
+touch_without : (changed : List ℕ) (v : ℕ) (scope : List ℕ) → All (λ u. u < 128) scope → has scope v ≡ false → list_any (has (without changed v)) scope ≡ false → list_any (has changed) scope ≡ false
+touch_without changed v [] small lacking h = refl
+touch_without changed v (u ∷ scope) small lacking h =
+    let here = no_or (u == v) (has scope v) lacking in
+    let parts = no_or (has (without changed v) u) (list_any (has (without changed v)) scope) h in
+    let low = All-head (λ u. u < 128) u scope small in
+    let not_u : has changed u ≡ false = keep (has changed u) (v == u) (other here.0) (sym (has-set_where (λ w. has changed w && not (has (v ∷ []) w)) u low) ∙ parts.0) in
+    (λ i. not_u i || touch_without changed v scope (All-tail (λ u. u < 128) u scope small) here.1 parts.1 i)
+  where
+    other : (u == v) ≡ false → (v == u) ≡ false
+    other e = go (cases_eq v u)
+      where
+        go : (v ≡ u) ⊎ (v ≢ u) → (v == u) ≡ false
+        go (inl same) = absurd (both_ways _ e (eq-eqb u v (sym same)))
+        go (inr apart) = ne_eqb v u apart
+
+    keep : (a b : Bool) → b ≡ false → (a && not (b || false)) ≡ false → a ≡ false
+    keep true true e h = cc
+    keep true false e h = h
+    keep false b e h = refl
+
+pub visit_begin : (arcs : List Arc) (changed : List ℕ) (v : ℕ) (f : Family) → AreSmall arcs → list_all is_not_empty f ≡ true → AreSettled arcs changed f → IsVisiting arcs (without changed v) f (IsBefore arcs v 0) (without changed v) f
+visit_begin arcs changed v f small full settled = record {
+  underway = underway_begin arcs f full;
+  left = inl (refl, refl);
+  settled = λ k a low h is. go k a low h is;
+}
+  where
+    go : (k : ℕ) (a : Arc) → k < length arcs → list_any (has (without changed v)) (slice_index_or arcs k a).scope ≡ false → IsBefore arcs v 0 k → is_consistent f (slice_index_or arcs k a).scope (slice_index_or arcs k a).accepted ≡ true
+    go k a low h (inl never) = absurd (omega arith)
+    go k a low h (inr lacking) = settled k a low (touch_without changed v (slice_index_or arcs k a).scope (small k a low) (lacking a) h)
+
+-- what isn't in the word of the variable lacks it
+pub visit_word : (arcs : List Arc) (words v w : ℕ) (sets begun : List ℕ) (from : Family) (waiting : List ℕ) (f : Family) (word : ℕ) → AreNoted arcs words sets → w < words → word ≡ slice_index_or sets (v * words + w) 0 →
+    IsVisiting arcs begun from (IsBefore arcs v w) waiting f → IsVisiting arcs begun from (IsWithout arcs v w word) waiting f
+visit_word arcs words v w sets begun from waiting f word noted room at is = record {
+  underway = is.underway;
+  left = is.left;
+  settled = λ k a low h done. go k a low h done;
+}
+  where
+    go : (k : ℕ) (a : Arc) → k < length arcs → list_any (has waiting) (slice_index_or arcs k a).scope ≡ false → IsWithout arcs v w word k → is_consistent f (slice_index_or arcs k a).scope (slice_index_or arcs k a).accepted ≡ true
+    go k a low h (inl before) = is.settled k a low h before
+    go k a low h (inr gone) = is.settled k a low h (inr (λ b. lacking b (has (slice_index_or arcs k b).scope v) refl))
+      where
+        where_ : slice_index_or sets (v * words + k / 64) 0 ≡ word
+        where_ = ap (λ j. slice_index_or sets (v * words + j) 0) (ap (λ j. j / 64) gone.2 ∙ div-mul-add w 64 gone.0 gone.1) ∙ sym at
+
+        bit : k % 64 ≡ gone.0
+        bit = ap (λ j. j % 64) gone.2 ∙ mod-mul-add w 64 gone.0 gone.1
+
+        within : k < words * 64
+        within = (let is = gone.2 in let b = gone.1 in omega arith)
+
+        lacking : (b : Arc) (q : Bool) → has (slice_index_or arcs k b).scope v ≡ q → q ≡ false
+        lacking b false e = refl
+        lacking b true e = absurd (both_ways _ gone.3 (ap (λ j. has (ones_of word) j) (sym bit) ∙ ap (λ m. has (ones_of m) (k % 64)) (sym where_) ∙ noted k v b low within e))
+
+-- one look more
+pub visit_look : (arcs : List Arc) (v w : ℕ) (begun : List ℕ) (from : Family) (rest later b i : ℕ) (waiting next : List ℕ) (f g : Family) →
+    b < 64 → ((y : ℕ) → has (ones_of later) y ≡ (has (ones_of rest) y && not (b == y))) → i ≡ w * 64 + b →
+    IsVisiting arcs begun from (IsWithout arcs v w rest) waiting f → IsLooked arcs i waiting next f g → IsVisiting arcs begun from (IsWithout arcs v w later) next g
+visit_look arcs v w begun from rest later b i waiting next f g small goes at is to = record {
+  underway = underway_more arcs from f g is.underway to.underway;
+  left = left is.left to.left;
+  settled = λ k a low h done. go k a low h done;
+}
+  where
+    left : AreLeft begun waiting from f → AreLeft waiting next f g → AreLeft begun next from g
+    left (inl one) (inl two) = inl (two.0 ∙ one.0, two.1 ∙ one.1)
+    left (inl one) (inr two) = inr (let same = ap size_of one.1 in omega arith)
+    left (inr one) (inl two) = inr (let same = ap size_of two.1 in omega arith)
+    left (inr one) (inr two) = inr (omega arith)
+
+    old : (k : ℕ) (a : Arc) → k < length arcs → list_any (has next) (slice_index_or arcs k a).scope ≡ false → IsWithout arcs v w rest k → is_consistent g (slice_index_or arcs k a).scope (slice_index_or arcs k a).accepted ≡ true
+    old k a low h done = to.stays k a low h (is.settled k a low (to.before k a low h) done)
+
+    go : (k : ℕ) (a : Arc) → k < length arcs → list_any (has next) (slice_index_or arcs k a).scope ≡ false → IsWithout arcs v w later k → is_consistent g (slice_index_or arcs k a).scope (slice_index_or arcs k a).accepted ≡ true
+    go k a low h (inl before) = old k a low h (inl before)
+    go k a low h (inr gone) = pick (cases_eq k i)
+      where
+        still : (p q : Bool) → q ≡ false → (p && not q) ≡ false → p ≡ false
+        still true true e n = cc
+        still true false e n = n
+        still false q e n = refl
+
+        pick : (k ≡ i) ⊎ (k ≢ i) → is_consistent g (slice_index_or arcs k a).scope (slice_index_or arcs k a).accepted ≡ true
+        pick (inl same) = subst (λ (j : ℕ). is_consistent g (slice_index_or arcs j a).scope (slice_index_or arcs j a).accepted ≡ true) (sym same) (to.here a (subst (λ (j : ℕ). j < length arcs) same low))
+        pick (inr other) = old k a low h (inr (
+          gone.0,
+          gone.1,
+          gone.2,
+          still (has (ones_of rest) gone.0) (b == gone.0) (ne_eqb b gone.0 (λ e. other (gone.2 ∙ ap (λ j. w * 64 + j) (sym e) ∙ sym at))) (sym (goes gone.0) ∙ gone.3),
+        ))
+
+-- nothing is left of the word
+pub visit_next : (arcs : List Arc) (v w : ℕ) (begun : List ℕ) (from : Family) (rest : ℕ) (waiting : List ℕ) (f : Family) → rest ≡ 0 →
+    IsVisiting arcs begun from (IsWithout arcs v w rest) waiting f → IsVisiting arcs begun from (IsBefore arcs v (w + 1)) waiting f
+visit_next arcs v w begun from rest waiting f over is = record {
+  underway = is.underway;
+  left = is.left;
+  settled = λ k a low h done. go k a low h done;
+}
+  where
+    go : (k : ℕ) (a : Arc) → k < length arcs → list_any (has waiting) (slice_index_or arcs k a).scope ≡ false → IsBefore arcs v (w + 1) k → is_consistent f (slice_index_or arcs k a).scope (slice_index_or arcs k a).accepted ≡ true
+    go k a low h (inr lacking) = is.settled k a low h (inl (inr lacking))
+    go k a low h (inl before) = pick (cases_lt k (w * 64))
+      where
+        pick : (k < w * 64) ⊎ (w * 64 ≤ k) → is_consistent f (slice_index_or arcs k a).scope (slice_index_or arcs k a).accepted ≡ true
+        pick (inl earlier) = is.settled k a low h (inl (inl earlier))
+        pick (inr late) = is.settled k a low h (inr (k - w * 64, omega arith, omega arith, ap (λ m. has (ones_of m) (k - w * 64)) over ∙ ap (λ xs. has xs (k - w * 64)) ones_of-zero))
+
+pub visit_end : (arcs : List Arc) (v w : ℕ) (begun : List ℕ) (from : Family) (waiting : List ℕ) (f : Family) → length arcs ≤ w * 64 → IsVisiting arcs begun from (IsBefore arcs v w) waiting f → AreSettled arcs waiting f
+visit_end arcs v w begun from waiting f all is = λ k a low h. is.settled k a low h (inl (omega arith))
+
+-- ---- all changed variables
+
+-- the values and the variables that are left
+abbrev pub visits_left : Family → List ℕ → ℕ
+visits_left f changed = size_of f * 129 + min 128 (length changed)
+
+without_least : (v : ℕ) (rest : List ℕ) → Rises 0 (v ∷ rest) → without (v ∷ rest) v ≡ rest
+without_least v rest r = set_where-same _ (has rest) (λ w low. go w (v == w) refl) ∙ canonical rest (rises_lower 0 (v + 1) rest (omega arith) r.2)
+  where
+    and_true : (b : Bool) → (b && true) ≡ b
+    and_true true = refl
+    and_true false = refl
+
+    go : (w : ℕ) (b : Bool) → (v == w) ≡ b → ((b || has rest w) && not (b || false)) ≡ has rest w
+    go w true same = sym (subst (λ (u : ℕ). has rest u ≡ false) (eqb-true v w same) (lacks (v + 1) v rest (omega arith) r.2))
+    go w false other = and_true (has rest w)
+
+pub visits_fall : (f g : Family) (changed next : List ℕ) (v : ℕ) → length changed ≤ 128 → IsSet changed → least_of changed ≡ Some v → AreLeft (without changed v) next f g → visits_left g next < visits_left f changed
+visits_fall f g [] next v few set least to = cc
+visits_fall f g (u ∷ rest) next v few set least to = go to
+  where
+    same : u ≡ v
+    same = cc
+
+    fewer : length (without (u ∷ rest) v) ≡ length rest
+    fewer = ap length (subst (λ (w : ℕ). without (u ∷ rest) w ≡ rest) same (without_least u rest set))
+
+    go : AreLeft (without (u ∷ rest) v) next f g → visits_left g next < visits_left f (u ∷ rest)
+    go (inl is) = (let size = ap size_of is.1 in let long : length next ≡ length rest = ap length is.0 ∙ fewer in omega arith)
+    go (inr less) = omega arith
+
+-- ---- noting a condition
+
+pub set_grows : (sets : List ℕ) (at m x : ℕ) → at < length sets → ((y : ℕ) → has (ones_of m) y ≡ (has (ones_of (slice_index_or sets at 0)) y || (x == y))) → (q b : ℕ) → has (ones_of (slice_index_or sets q 0)) b ≡ true → has (ones_of (slice_index_or (slice_set sets at m) q 0)) b ≡ true
+set_grows sets at m x low is q b h = go (cases_eq q at)
+  where
+    go : (q ≡ at) ⊎ (q ≢ at) → has (ones_of (slice_index_or (slice_set sets at m) q 0)) b ≡ true
+    go (inl same) = ap (λ k. has (ones_of (slice_index_or (slice_set sets at m) k 0)) b) same ∙ ap (λ k. has (ones_of k) b) (get_or-set_same sets at m 0 low) ∙ is b ∙ or_left _ _ (ap (λ k. has (ones_of (slice_index_or sets k 0)) b) (sym same) ∙ h)
+    go (inr other) = ap (λ k. has (ones_of k) b) (get_or-set_other sets at q m 0 other) ∙ h
+
+pub set_there : (sets : List ℕ) (at m x : ℕ) → at < length sets → ((y : ℕ) → has (ones_of m) y ≡ (has (ones_of (slice_index_or sets at 0)) y || (x == y))) → has (ones_of (slice_index_or (slice_set sets at m) at 0)) x ≡ true
+set_there sets at m x low is = ap (λ k. has (ones_of k) x) (get_or-set_same sets at m 0 low) ∙ is x ∙ or_right _ _ (eq-eqb x x refl)
+
+pub noted_more : (scope : List ℕ) (words i index : ℕ) (sets : List ℕ) (at m v : ℕ) → at ≡ v * words + i / 64 → v ≡ slice_index_or scope index 0 → at < length sets →
+    ((y : ℕ) → has (ones_of m) y ≡ (has (ones_of (slice_index_or sets at 0)) y || (i % 64 == y))) →
+    ((j : ℕ) → j < index → has (ones_of (slice_index_or sets (slice_index_or scope j 0 * words + i / 64) 0)) (i % 64) ≡ true) →
+    (j : ℕ) → j < index + 1 → has (ones_of (slice_index_or (slice_set sets at m) (slice_index_or scope j 0 * words + i / 64) 0)) (i % 64) ≡ true
+noted_more scope words i index sets at m v place var low is old j below = go (cases_eq j index)
+  where
+    go : (j ≡ index) ⊎ (j ≢ index) → has (ones_of (slice_index_or (slice_set sets at m) (slice_index_or scope j 0 * words + i / 64) 0)) (i % 64) ≡ true
+    go (inl same) = ap (λ k. has (ones_of (slice_index_or (slice_set sets at m) k 0)) (i % 64)) (sym (place ∙ ap (λ u. u * words + i / 64) (var ∙ ap (λ k. slice_index_or scope k 0) (sym same)))) ∙ set_there sets at m (i % 64) low is
+    go (inr other) = set_grows sets at m (i % 64) low is (slice_index_or scope j 0 * words + i / 64) (i % 64) (old j (omega arith))
+
+pub noted_next : (arcs : List Arc) (words i : ℕ) (scope sets more : List ℕ) → ((a : Arc) → (slice_index_or arcs i a).scope ≡ scope) →
+    ((q b : ℕ) → has (ones_of (slice_index_or sets q 0)) b ≡ true → has (ones_of (slice_index_or more q 0)) b ≡ true) →
+    ((j : ℕ) → j < length scope → has (ones_of (slice_index_or more (slice_index_or scope j 0 * words + i / 64) 0)) (i % 64) ≡ true) →
+    ((k v : ℕ) (a : Arc) → k < i → has (slice_index_or arcs k a).scope v ≡ true → has (ones_of (slice_index_or sets (v * words + k / 64) 0)) (k % 64) ≡ true) →
+    (k v : ℕ) (a : Arc) → k < i + 1 → has (slice_index_or arcs k a).scope v ≡ true → has (ones_of (slice_index_or more (v * words + k / 64) 0)) (k % 64) ≡ true
+noted_next arcs words i scope sets more is grows there old k v a low h = go (cases_eq k i)
+  where
+    go : (k ≡ i) ⊎ (k ≢ i) → has (ones_of (slice_index_or more (v * words + k / 64) 0)) (k % 64) ≡ true
+    go (inr other) = grows (v * words + k / 64) (k % 64) (old k v a (omega arith) h)
+    go (inl same) =
+        let at = member_place scope v (ap (λ (xs : List ℕ). has xs v) (sym (is a)) ∙ ap (λ j. has (slice_index_or arcs j a).scope v) (sym same) ∙ h) in
+        ap (λ j. has (ones_of (slice_index_or more (v * words + j / 64) 0)) (j % 64)) same ∙ ap (λ u. has (ones_of (slice_index_or more (u * words + i / 64) 0)) (i % 64)) (sym at.2) ∙ there at.0 at.1

@@ -1,0 +1,20 @@
+use Rattle.std.proofs.Common.{◌≡◌, ◌<◌, ◌+◌, ◌*◌, ◌/◌, ◌%◌, ◌∙◌, length, arith}
+use Rattle.std.proofs.Math.ListN.{length-set}
+use Rattle.std.proofs.lemmas.Nat.{mul-add-lt, div_below}
+use Rattle.propagators.proofs.Visiting.{set_grows, noted_more}
+use Rattle.propagators.proofs.visits.note.Goals as goal
+
+pub loop-v-preserved : goal.loop-v-preserved
+loop-v-preserved c =
+    let small = c.requires.known c.loop-v.v-index 0 c.loop-v-test.true in
+    let is = c.from.ensures in
+    let v : c.from.result < 128 = omega arith in
+    let word : c.args.i / 64 < c.args.words = div_below c.args.i 64 c.args.words (omega arith) c.requires.low in
+    let fits = mul-add-lt c.from.result c.args.words (c.args.i / 64) 128 v word in
+    let long = c.loop-v.invariant.long in
+    let low : c.from.result * c.args.words + c.args.i / 64 < length c.loop-v.sets = omega arith in
+    record {
+      long = length-set c.loop-v.sets (c.from.result * c.args.words + c.args.i / 64) c.add_value.result ∙ c.loop-v.invariant.long;
+      grows = λ q b h. set_grows c.loop-v.sets (c.from.result * c.args.words + c.args.i / 64) c.add_value.result (c.args.i % 64) low c.add_value.ensures q b (c.loop-v.invariant.grows q b h);
+      there = noted_more c.args.scope.now c.args.words c.args.i c.loop-v.v-index c.loop-v.sets (c.from.result * c.args.words + c.args.i / 64) c.add_value.result c.from.result (let e : c.from.result * c.args.words + c.args.i / 64 ≡ c.from.result * c.args.words + c.args.i / 64 = cc in e) c.from.ensures low c.add_value.ensures c.loop-v.invariant.there;
+    }

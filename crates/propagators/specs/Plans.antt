@@ -1,0 +1,34 @@
+-- Which conditions each variable has, and what looking at one of them does.
+use Rattle.std.specs.Prelude.{ℕ, ◌+◌, ◌*◌, ◌/◌, ◌%◌, ◌≡◌, ◌<◌, ◌⊎◌, Bool, true, false, List, length, slice_index_or}
+use Rattle.std.specs.List.{list_any}
+use Rattle.assign.specs.Sets.{has}
+use Rattle.propagators.specs.Values.{ones_of}
+use Rattle.propagators.specs.Families.{Family, Arc, is_consistent, size_of}
+use Rattle.propagators.specs.Supports.{IsUnderway}
+use Rattle.propagators.specs.Briefs.{AreBriefs}
+use Rattle.propagators.specs.declared.plan.Plan.{Plan}
+
+-- each variable's set, in so many words, has the conditions on it, as far as there is room
+abbrev pub AreNoted : List Arc → ℕ → List ℕ → Type 0
+AreNoted arcs words sets =
+    (k v : ℕ) (a : Arc) → k < length arcs → k < words * 64 → has (slice_index_or arcs k a).scope v ≡ true → has (ones_of (slice_index_or sets (v * words + k / 64) 0)) (k % 64) ≡ true
+
+-- a plan of these conditions
+pub record IsPlanOf (d : ℕ) (arcs : List Arc) (p : Plan) : Type 0 where
+  pub briefs : AreBriefs d arcs p.briefs.items
+  pub noted : AreNoted arcs p.words p.sets.items
+
+-- the same variables are waiting and nothing has changed, or values were taken away
+abbrev pub AreLeft : List ℕ → List ℕ → Family → Family → Type 0
+AreLeft waiting next f g = ((next ≡ waiting) × (g ≡ f)) ⊎ (size_of g < size_of f)
+
+-- g is f after a look at condition i, and next are the variables that are waiting then
+pub record IsLooked (arcs : List Arc) (i : ℕ) (waiting next : List ℕ) (f g : Family) : Type 0 where
+  pub underway : IsUnderway arcs f g
+  pub left : AreLeft waiting next f g
+  -- the condition is consistent, if there is one
+  pub here : (a : Arc) → i < length arcs → is_consistent g (slice_index_or arcs i a).scope (slice_index_or arcs i a).accepted ≡ true
+  -- a condition without a waiting variable had none before, and stays consistent
+  pub before : (k : ℕ) (a : Arc) → k < length arcs → list_any (has next) (slice_index_or arcs k a).scope ≡ false → list_any (has waiting) (slice_index_or arcs k a).scope ≡ false
+  pub stays : (k : ℕ) (a : Arc) → k < length arcs → list_any (has next) (slice_index_or arcs k a).scope ≡ false →
+      is_consistent f (slice_index_or arcs k a).scope (slice_index_or arcs k a).accepted ≡ true → is_consistent g (slice_index_or arcs k a).scope (slice_index_or arcs k a).accepted ≡ true

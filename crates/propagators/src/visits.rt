@@ -1,0 +1,215 @@
+//! Propagation with a plan: only the conditions of a changed variable are looked at.
+
+ghost use Rattle.std.specs.Prelude.{◌≡◌, ◌<◌, ◌≤◌, ◌+◌, ◌*◌, ◌/◌, ◌%◌, ℕ, true, false, All, IfSome, None, length, slice_index_or};
+ghost use Rattle.std.specs.List.{list_all};
+ghost use Rattle.assign.specs.Sets.{has, without};
+ghost use Rattle.language.specs.Language.{IsLanguage};
+ghost use Rattle.propagators.specs.Allowed.{AreConstraints};
+ghost use Rattle.propagators.specs.Values.{ones_of};
+ghost use Rattle.propagators.specs.Families.{arcs_of, is_not_empty, largest, IsLargest};
+ghost use Rattle.propagators.specs.Supports.{IsFamilyOf, AreSettled, IsUnderway};
+ghost use Rattle.propagators.specs.Plans.{IsPlanOf, AreNoted, IsLooked, AreLeft};
+
+use crate::briefs::{Brief, brief_all, have_two};
+use crate::constraints::Constraints;
+use crate::domains::Domains;
+use crate::plan::Plan;
+use crate::revising::{Alive, revise, settle};
+use crate::values::{add_value, least_value, without_value};
+use assign::VarSet;
+use std::alloc::{AllocError, Global};
+
+/// Notes a condition with the variables of its scope.
+fn note(sets: &mut [u64], words: usize, scope: &[u8], i: usize)
+    requires long { length sets.old ≡ 128 * words }
+    requires low { i < words * 64 }
+    requires known { All (λ v. v < 128) scope.now }
+    ensures grows { (q b : ℕ) → has (ones_of (slice_index_or sets.old q 0)) b ≡ true → has (ones_of (slice_index_or sets.new q 0)) b ≡ true }
+    ensures there { (j : ℕ) → j < length scope.now → has (ones_of (slice_index_or sets.new (slice_index_or scope.now j 0 * words + i / 64) 0)) (i % 64) ≡ true }
+{
+    for v in scope {
+        let at = usize::from(*v) * words + i / 64;
+        sets[at] = add_value(sets[at], (i % 64) as u8);
+    }
+}
+
+/// Notes the conditions with their variables, as far as there is room.
+fn note_all(cons: &Constraints, sets: &mut [u64], words: usize)
+    requires lawful { IsLanguage cons.now.lang.now }
+    requires constraints { AreConstraints cons.now.lang.now cons.now.list.now cons.now.against }
+    requires long { length sets.old ≡ 128 * words }
+    ensures { AreNoted (arcs_of cons.now.lang.now cons.now.list.now cons.now.against) words sets.new }
+{
+    sets.fill(0);
+    for i in 0..cons.count().min(words * 64) {
+        let (c, _holding) = cons.condition(i);
+        note(sets, words, cons.lang.scope(c.scope), i);
+    }
+}
+
+impl Plan {
+    /// Room for so many conditions.
+    pub fn new(alloc: Global, room: usize) -> Result<Plan, AllocError>
+        requires { room ≤ 65536 }
+    {
+        let words = room.div_ceil(64);
+        Ok(Plan {
+            briefs: vec![in alloc; Brief::blank(); room]?,
+            words,
+            sets: vec![in alloc; 0; 128 * words]?,
+        })
+    }
+
+    /// Makes the plan one of these conditions. With more than there is room for it is of no use.
+    pub fn arrange(&mut self, cons: &Constraints)
+        requires lawful { IsLanguage cons.now.lang.now }
+        requires constraints { AreConstraints cons.now.lang.now cons.now.list.now cons.now.against }
+        ensures { IsPlanOf cons.now.lang.now.value_count (arcs_of cons.now.lang.now cons.now.list.now cons.now.against) self.new }
+    {
+        brief_all(cons, &mut self.briefs);
+        note_all(cons, &mut self.sets, self.words);
+    }
+}
+
+/// Looks at condition i, if there is one. To the variables that are waiting are added those that lost values; `None`
+/// where some variable has none left in an arc-consistent subfamily.
+fn look_at(
+    cons: &Constraints,
+    plan: &Plan,
+    i: usize,
+    doms: &mut Domains,
+    waiting: VarSet,
+) -> Option<VarSet>
+    requires lawful { IsLanguage cons.now.lang.now }
+    requires constraints { AreConstraints cons.now.lang.now cons.now.list.now cons.now.against }
+    requires plan { IsPlanOf cons.now.lang.now.value_count (arcs_of cons.now.lang.now cons.now.list.now cons.now.against) plan.now }
+    requires room { length (arcs_of cons.now.lang.now cons.now.list.now cons.now.against) ≤ length plan.now.briefs.items }
+    requires family { IsFamilyOf cons.now.lang.now doms.old }
+    requires full { list_all is_not_empty doms.old ≡ true }
+    ensures looked { IfSome result (λ next. IsLooked (arcs_of cons.now.lang.now cons.now.list.now cons.now.against) i waiting next doms.old doms.new) }
+    ensures dead { result ≡ None → list_all is_not_empty (largest (arcs_of cons.now.lang.now cons.now.list.now cons.now.against) doms.old) ≡ false }
+{
+    if i >= cons.count() {
+        return Some(waiting);
+    }
+    let (c, holding) = cons.condition(i);
+    if plan.briefs[i].is_loose && have_two(doms, cons.lang.scope(c.scope)) {
+        return Some(waiting);
+    }
+    match revise(cons.lang, c, holding, doms) {
+        None => None,
+        Some(lost) => {
+            if lost.len() == 0 {
+                Some(waiting)
+            } else {
+                Some(waiting.union(lost))
+            }
+        }
+    }
+}
+
+/// Looks at the conditions of a changed variable. Says which variables are waiting then; `None` where some variable has no
+/// value left in an arc-consistent subfamily.
+fn visit(
+    cons: &Constraints,
+    plan: &Plan,
+    doms: &mut Domains,
+    changed: VarSet,
+    v: u8,
+) -> Option<VarSet>
+    requires lawful { IsLanguage cons.now.lang.now }
+    requires constraints { AreConstraints cons.now.lang.now cons.now.list.now cons.now.against }
+    requires plan { IsPlanOf cons.now.lang.now.value_count (arcs_of cons.now.lang.now cons.now.list.now cons.now.against) plan.now }
+    requires room { length (arcs_of cons.now.lang.now cons.now.list.now cons.now.against) ≤ length plan.now.briefs.items }
+    requires family { IsFamilyOf cons.now.lang.now doms.old }
+    requires full { list_all is_not_empty doms.old ≡ true }
+    requires settled { AreSettled (arcs_of cons.now.lang.now cons.now.list.now cons.now.against) changed doms.old }
+    requires known { v < 128 }
+    ensures underway { IfSome result (λ next. IsUnderway (arcs_of cons.now.lang.now cons.now.list.now cons.now.against) doms.old doms.new) }
+    ensures settled { IfSome result (λ next. AreSettled (arcs_of cons.now.lang.now cons.now.list.now cons.now.against) next doms.new) }
+    ensures left { IfSome result (λ next. AreLeft (without changed v) next doms.old doms.new) }
+    ensures dead { result ≡ None → list_all is_not_empty (largest (arcs_of cons.now.lang.now cons.now.list.now cons.now.against) doms.old) ≡ false }
+{
+    let mut waiting = changed.without(v);
+    for w in 0..cons.count().div_ceil(64) {
+        let mut rest = plan.sets[usize::from(v) * plan.words + w];
+        while rest != 0 {
+            let b = least_value(rest);
+            rest = without_value(rest, b);
+            match look_at(cons, plan, w * 64 + usize::from(b), doms, waiting) {
+                None => return None,
+                Some(next) => waiting = next,
+            }
+        }
+    }
+    Some(waiting)
+}
+
+/// Looks at the conditions of changed variables until none takes a value away.
+fn visit_all(cons: &Constraints, plan: &Plan, doms: &mut Domains, changed: VarSet) -> Alive
+    requires lawful { IsLanguage cons.now.lang.now }
+    requires constraints { AreConstraints cons.now.lang.now cons.now.list.now cons.now.against }
+    requires plan { IsPlanOf cons.now.lang.now.value_count (arcs_of cons.now.lang.now cons.now.list.now cons.now.against) plan.now }
+    requires room { length (arcs_of cons.now.lang.now cons.now.list.now cons.now.against) ≤ length plan.now.briefs.items }
+    requires family { IsFamilyOf cons.now.lang.now doms.old }
+    requires full { list_all is_not_empty doms.old ≡ true }
+    requires settled { AreSettled (arcs_of cons.now.lang.now cons.now.list.now cons.now.against) changed doms.old }
+    ensures largest { result ≡ Alive.Yes → IsLargest (arcs_of cons.now.lang.now cons.now.list.now cons.now.against) doms.old doms.new }
+    ensures full { result ≡ Alive.Yes → list_all is_not_empty doms.new ≡ true }
+    ensures family { result ≡ Alive.Yes → IsFamilyOf cons.now.lang.now doms.new }
+    ensures dead { result ≡ Alive.No → list_all is_not_empty (largest (arcs_of cons.now.lang.now cons.now.list.now cons.now.against) doms.old) ≡ false }
+{
+    let mut changed = changed;
+    while changed.len() != 0 {
+        let Some(v) = changed.least() else {
+            unreachable!()
+        };
+        match visit(cons, plan, doms, changed, v) {
+            None => return Alive::No,
+            Some(next) => changed = next,
+        }
+    }
+    Alive::Yes
+}
+
+/// `propagate`, where no set is empty and each condition is consistent that has none of the changed variables. The plan is
+/// one of the conditions.
+pub fn propagate_after(
+    cons: &Constraints,
+    plan: &Plan,
+    doms: &mut Domains,
+    changed: VarSet,
+) -> Alive
+    requires lawful { IsLanguage cons.now.lang.now }
+    requires constraints { AreConstraints cons.now.lang.now cons.now.list.now cons.now.against }
+    requires plan { IsPlanOf cons.now.lang.now.value_count (arcs_of cons.now.lang.now cons.now.list.now cons.now.against) plan.now }
+    requires family { IsFamilyOf cons.now.lang.now doms.old }
+    requires full { list_all is_not_empty doms.old ≡ true }
+    requires settled { AreSettled (arcs_of cons.now.lang.now cons.now.list.now cons.now.against) changed doms.old }
+    ensures largest { result ≡ Alive.Yes → IsLargest (arcs_of cons.now.lang.now cons.now.list.now cons.now.against) doms.old doms.new }
+    ensures full { result ≡ Alive.Yes → list_all is_not_empty doms.new ≡ true }
+    ensures family { result ≡ Alive.Yes → IsFamilyOf cons.now.lang.now doms.new }
+    ensures dead { result ≡ Alive.No → list_all is_not_empty (largest (arcs_of cons.now.lang.now cons.now.list.now cons.now.against) doms.old) ≡ false }
+{
+    if cons.count() <= plan.briefs.len() {
+        visit_all(cons, plan, doms, changed)
+    } else {
+        settle(cons, doms, changed)
+    }
+}
+
+/// `propagate` with a plan of the conditions.
+pub fn propagate_all(cons: &Constraints, plan: &Plan, doms: &mut Domains) -> Alive
+    requires constraints { AreConstraints cons.now.lang.now cons.now.list.now cons.now.against }
+    requires plan { IsPlanOf cons.now.lang.now.value_count (arcs_of cons.now.lang.now cons.now.list.now cons.now.against) plan.now }
+    requires family { IsFamilyOf cons.now.lang.now doms.old }
+    ensures largest { result ≡ Alive.Yes → IsLargest (arcs_of cons.now.lang.now cons.now.list.now cons.now.against) doms.old doms.new }
+    ensures full { result ≡ Alive.Yes → list_all is_not_empty doms.new ≡ true }
+    ensures family { result ≡ Alive.Yes → IsFamilyOf cons.now.lang.now doms.new }
+    ensures dead { result ≡ Alive.No → list_all is_not_empty (largest (arcs_of cons.now.lang.now cons.now.list.now cons.now.against) doms.old) ≡ false }
+{
+    if doms.has_empty() {
+        return Alive::No;
+    }
+    propagate_after(cons, plan, doms, VarSet::all(cons.lang.n()))
+}
