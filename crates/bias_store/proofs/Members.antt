@@ -16,7 +16,7 @@ use Rattle.bias_store.specs.Inside.{candidates_at, members_from}
 abbrev pub candidate_at : ℕ → ℕ → Candidate
 candidate_at s r = record { scope = s; rel = r }
 
-filter-map : {X Y : Type 0} (p : Y → Bool) (f : X → Y) (xs : List X) → filter p (map f xs) ≡ map f (filter (λ x. p (f x)) xs)
+pub filter-map : {X Y : Type 0} (p : Y → Bool) (f : X → Y) (xs : List X) → filter p (map f xs) ≡ map f (filter (λ x. p (f x)) xs)
 filter-map p f [] = refl
 filter-map p f (x ∷ xs) = go (p (f x)) (filter-map p f xs)
   where

@@ -1,14 +1,14 @@
 -- The relations of a mask: of none, of the first ones, of those that pass a test, and how many they are.
 use Rattle.std.proofs.Common.{◌≡◌, ℕ, zero, suc, ◌+◌, ◌-◌, ◌<◌, ◌≤◌, ◌^◌, Bool, true, false, cond, ◌&&◌, ◌||◌, not, List, [], ◌∷◌, length, refl, sym, ◌∙◌, ap, subst, arith, inl, inr, ◌⊎◌, lit≤}
-use Rattle.std.specs.Prelude.{◌==◌, bit_and, min, count_ones}
+use Rattle.std.specs.Prelude.{◌==◌, ◌≢◌, bit_and, min, count_ones}
 use Rattle.std.specs.List.{filter, range_with_len}
 use Rattle.std.specs.Int.{bit_at, bit_not, w64}
-use Rattle.std.proofs.lemmas.Bool.{cases_lt, eqb-true, eq-eqb}
+use Rattle.std.proofs.lemmas.Bool.{cases_eq, cases_lt, eqb-true, eq-eqb, ne_eqb}
 use Rattle.std.proofs.Math.Nat.{pow-le-pow_right}
-use Rattle.std.proofs.lemmas.Nat.{zero_from_ones}
+use Rattle.std.proofs.lemmas.Nat.{zero_from_ones, pow_below}
 use Rattle.std.proofs.lemmas.Nat.Bits.{bit_at-lt, bit_at_and, bit_at_not, bit_at_above}
 use Rattle.assign.specs.Sets.{numbers, has, set_where, members_of}
-use Rattle.assign.specs.SetLemmas.{filter_agree_from, is_one, has-members_of, has-set_where_above}
+use Rattle.assign.specs.SetLemmas.{filter_agree_from, is_one, is_one-pow, has-members_of, has-set_where_above}
 use Rattle.assign.proofs.Masks.{members_of-ones, length-members_of}
 use Rattle.language.proofs.Members.{any_number}
 use Rattle.bias_store.specs.Masks.{ones_of}
@@ -99,7 +99,7 @@ is_one-passing : (mask other : ℕ) (ok : ℕ → Bool) (r : ℕ) → r < 64 →
 is_one-passing mask other ok r low is =
     sym (has-ones_of mask r low) ∙ ap (λ xs. has xs r) is ∙ has-filter ok (ones_of other) r ∙ ap (λ b. b && ok r) (has-ones_of other r low)
 
-and_bits : (x y : ℕ) → x < 2 → y < 2 → (min x (1 - y) == 1) ≡ ((x == 1) && not (y == 1))
+and_bits : (x y : ℕ) → x < 2 → y < 2 → (min x y == 1) ≡ ((x == 1) && (y == 1))
 and_bits zero zero h k = refl
 and_bits zero (suc zero) h k = refl
 and_bits (suc zero) zero h k = refl
@@ -108,10 +108,19 @@ and_bits zero (suc (suc y)) h k = absurd (omega arith)
 and_bits (suc zero) (suc (suc y)) h k = absurd (omega arith)
 and_bits (suc (suc x)) y h k = absurd (omega arith)
 
+not_bit : (x : ℕ) → x < 2 → (1 - x == 1) ≡ not (x == 1)
+not_bit zero h = refl
+not_bit (suc zero) h = refl
+not_bit (suc (suc x)) h = absurd (omega arith)
+
+pub is_one-and : (a b r : ℕ) → is_one (bit_and a b) r ≡ (is_one a r && is_one b r)
+is_one-and a b r = ap (λ x. x == 1) (bit_at_and a b r) ∙ and_bits (bit_at a r) (bit_at b r) (bit_at-lt a r) (bit_at-lt b r)
+
+pub is_one-not : (a r : ℕ) → a < 2 ^ 64 → r < 64 → is_one (bit_not w64 a) r ≡ not (is_one a r)
+is_one-not a r h low = ap (λ x. x == 1) (bit_at_not w64 a r h low) ∙ not_bit (bit_at a r) (bit_at-lt a r)
+
 pub is_one-and_not : (a b r : ℕ) → b < 2 ^ 64 → r < 64 → is_one (bit_and a (bit_not w64 b)) r ≡ (is_one a r && not (is_one b r))
-is_one-and_not a b r h low =
-    ap (λ x. x == 1) (bit_at_and a (bit_not w64 b) r ∙ ap (min (bit_at a r)) (bit_at_not w64 b r h low))
-    ∙ and_bits (bit_at a r) (bit_at b r) (bit_at-lt a r) (bit_at-lt b r)
+is_one-and_not a b r h low = is_one-and a (bit_not w64 b) r ∙ ap (λ t. is_one a r && t) (is_one-not b r h low)
 
 rest_of : (one fails : Bool) → (one && not (one && fails)) ≡ (one && not fails)
 rest_of true fails = refl
@@ -122,3 +131,44 @@ pub ones_of-and_not : (relations failing : ℕ) (fails : ℕ → Bool) → faili
     ones_of (bit_and relations (bit_not w64 failing)) ≡ filter (λ r. not (fails r)) (ones_of relations)
 ones_of-and_not relations failing fails small is = ones_of-passing _ relations (λ r. not (fails r)) (λ r low.
     is_one-and_not relations failing r small low ∙ ap (λ b. is_one relations r && not b) (is_one-passing failing relations fails r low is) ∙ rest_of (is_one relations r) (fails r))
+
+-- ---- the least one, and the others
+
+-- of the numbers from a on the first that passes, and the others that do
+first_and_others : (p : ℕ → Bool) (a n v : ℕ) → a ≤ v → v < a + n → p v ≡ true → ((w : ℕ) → a ≤ w → w < v → p w ≡ false) →
+    filter p (range_with_len a n) ≡ v ∷ filter (λ k. p k && not (v == k)) (range_with_len a n)
+first_and_others p a zero v low high at none = absurd (omega arith)
+first_and_others p a (suc n) v low high at none = go (cases_eq a v) (λ next. first_and_others p (a + 1) n v next (omega arith) at (λ w l h. none w (omega arith) h))
+  where
+    passing : List ℕ
+    passing = filter p (range_with_len (a + 1) n)
+
+    others : List ℕ
+    others = filter (λ k. p k && not (v == k)) (range_with_len (a + 1) n)
+
+    kept_apart : (w : ℕ) → v ≢ w → p w ≡ (p w && not (v == w))
+    kept_apart w other = sym (ap (λ b. p w && not b) (ne_eqb v w other) ∙ and_same (p w))
+      where
+        and_same : (b : Bool) → (b && true) ≡ b
+        and_same true = refl
+        and_same false = refl
+
+    left_out : (b : Bool) → (b && false) ≡ false
+    left_out true = refl
+    left_out false = refl
+
+    go : (a ≡ v) ⊎ (a ≢ v) → (a + 1 ≤ v → passing ≡ v ∷ others) → filter p (range_with_len a (suc n)) ≡ v ∷ filter (λ k. p k && not (v == k)) (range_with_len a (suc n))
+    go (inl same) further =
+        ap (λ b. cond b (a ∷ passing) passing) (ap p same ∙ at)
+        ∙ (λ i. same i ∷ filter_agree_from p (λ k. p k && not (v == k)) (a + 1) n (λ w from below. kept_apart w (λ e. omega arith)) i)
+        ∙ ap (λ b. v ∷ cond b (a ∷ others) others) (sym (ap (λ b. p a && not b) (eq-eqb v a (sym same)) ∙ left_out (p a)))
+    go (inr other) further =
+        ap (λ b. cond b (a ∷ passing) passing) (none a (omega arith) (omega arith)) ∙ further (omega arith)
+        ∙ ap (λ b. v ∷ cond (b && not (v == a)) (a ∷ others) others) (sym (none a (omega arith) (omega arith)))
+
+pub ones_of-first_and_others : (mask v : ℕ) → v < 64 → bit_at mask v ≡ 1 → ((w : ℕ) → w < v → bit_at mask w ≡ 0) → ones_of mask ≡ v ∷ ones_of (bit_and mask (bit_not w64 (2 ^ v)))
+unfolding ones_of
+ones_of-first_and_others mask v low at none =
+    first_and_others (is_one mask) 0 64 v (omega arith) (omega arith) (ap (λ x. x == 1) at) (λ w from below. ap (λ x. x == 1) (none w below))
+    ∙ ap (λ xs. v ∷ xs) (filter_agree_from (λ k. is_one mask k && not (v == k)) (is_one (bit_and mask (bit_not w64 (2 ^ v)))) 0 64
+    (λ k from below. sym (is_one-and_not mask (2 ^ v) k (pow_below v 64 low) (omega arith) ∙ ap (λ b. is_one mask k && not b) (is_one-pow v k))))

@@ -45,6 +45,9 @@ fn violated_on(tables: &Tables, lang: &Language, s: ScopeId, q: &Partial, relati
     requires question { IsQuestion lang.now q.now }
     ensures { ones_of result ≡ filter (λ r. violates lang.now (record { scope = s; rel = r }) q.now) (ones_of relations) }
 {
+    if relations == 0 {
+        return 0;
+    }
     match lang.place_on(s, q) {
         None => 0,
         Some(place) => relations & !tables.accepting(lang, s, place),
@@ -86,6 +89,7 @@ impl Kept {
     }
 
     /// The kept relations on a scope: bit r is one where relation r is kept, in the language's order of relations.
+    #[inline]
     pub fn on_scope(&self, s: ScopeId) -> u64
         requires { s < self.now.scopes }
         ensures { ones_of result ≡ kept_relations self.now.members s }
@@ -110,13 +114,13 @@ impl Kept {
         ensures { result ≡ list_any (λ c. violates lang.now c q.now) self.now.members }
     {
         let scopes = lang.scopes() as ScopeId;
-        let mut s = self.tables.asked_from(lang, 0, q);
+        let (mut s, mut end) = self.tables.asked_from(lang, 0, 0, q);
         while s < scopes {
             let relations = self.relations[usize::from(s)];
             if violated_on(&self.tables, lang, s, q, relations) != 0 {
                 return true;
             }
-            s = self.tables.asked_from(lang, s + 1, q);
+            (s, end) = self.tables.asked_from(lang, s + 1, end, q);
         }
         false
     }
@@ -134,13 +138,13 @@ impl Kept {
     {
         let count_before = self.count;
         let scopes = lang.scopes() as ScopeId;
-        let mut s = self.tables.asked_from(lang, 0, q);
+        let (mut s, mut end) = self.tables.asked_from(lang, 0, 0, q);
         while s < scopes {
             let relations = self.relations[usize::from(s)];
             let violated = violated_on(&self.tables, lang, s, q, relations);
             self.relations[usize::from(s)] = relations & !violated;
             self.count -= relation_count(violated);
-            s = self.tables.asked_from(lang, s + 1, q);
+            (s, end) = self.tables.asked_from(lang, s + 1, end, q);
         }
         count_before - self.count
     }

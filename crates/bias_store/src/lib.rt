@@ -10,3 +10,4 @@ mod masks;
 mod tables;
 
 pub use kept::Kept;
+pub use masks::split_first;

@@ -1,6 +1,6 @@
 //! Sets of relations on a scope, each a mask of 64 bits.
 
-ghost use Rattle.std.specs.Prelude.{◌≡◌, ◌≤◌, length};
+ghost use Rattle.std.specs.Prelude.{◌≡◌, ◌≢◌, ◌≤◌, ◌∷◌, length};
 ghost use Rattle.assign.specs.Sets.{numbers, has};
 ghost use Rattle.bias_store.specs.Masks.{ones_of};
 
@@ -28,4 +28,14 @@ pub(crate) fn relation_count(relations: u64) -> u32
     ensures { result ≡ length (ones_of relations) }
 {
     relations.count_ones()
+}
+
+/// The least of some relations, and the others.
+#[inline]
+pub fn split_first(relations: u64) -> (u8, u64)
+    requires { relations ≢ 0 }
+    ensures { ones_of relations ≡ result.0 ∷ ones_of result.1 }
+{
+    let r = relations.trailing_zeros() as u8;
+    (r, relations & !(1 << r))
 }

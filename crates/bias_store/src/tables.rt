@@ -107,24 +107,47 @@ impl Tables {
         }
     }
 
-    /// The first scope from this one on of whose first variable the question gives a value, and how many scopes there are
-    /// where there is none. A run of scopes with the same first variable is passed over in one step.
-    pub(crate) fn asked_from(&self, lang: &Language, s: ScopeId, q: &Partial) -> ScopeId
+    /// The first scope from this one on whose first variable the question gives a value, and where the run of scopes with this
+    /// first variable ends. How many scopes there are, where there is none. Before `end`, where such a run ends, it is this scope.
+    #[inline]
+    pub(crate) fn asked_from(
+        &self,
+        lang: &Language,
+        s: ScopeId,
+        end: ScopeId,
+        q: &Partial,
+    ) -> (ScopeId, ScopeId)
         requires made { IsAcceptingOf lang.now self.now }
         requires scope { s ≤ length lang.now.scopes }
-        ensures ahead { s ≤ result }
-        ensures within { result ≤ length lang.now.scopes }
-        ensures passed { (k : ℕ) → s ≤ k → k < result → covers q.now (scope_at lang.now k) ≡ false }
+        ensures ahead { s ≤ result.0 }
+        ensures within { result.0 ≤ length lang.now.scopes }
+        ensures passed { (k : ℕ) → s ≤ k → k < result.0 → covers q.now (scope_at lang.now k) ≡ false }
+    {
+        if s < end {
+            (s, end)
+        } else {
+            self.asked_run(lang, s, q)
+        }
+    }
+
+    /// The same, where no run goes on. A run whose first variable the question leaves open is passed over in one step.
+    fn asked_run(&self, lang: &Language, s: ScopeId, q: &Partial) -> (ScopeId, ScopeId)
+        requires made { IsAcceptingOf lang.now self.now }
+        requires scope { s ≤ length lang.now.scopes }
+        ensures ahead { s ≤ result.0 }
+        ensures within { result.0 ≤ length lang.now.scopes }
+        ensures passed { (k : ℕ) → s ≤ k → k < result.0 → covers q.now (scope_at lang.now k) ≡ false }
     {
         let scopes = lang.scopes() as ScopeId;
         let mut at = s;
         while at < scopes {
+            let end = self.next[usize::from(at)];
             if q.get(lang.scope(at)[0]).is_some() {
-                return at;
+                return (at, end);
             }
-            at = self.next[usize::from(at)];
+            at = end;
         }
-        at
+        (at, at)
     }
 
     /// The relations on a scope that accept the tuple at a place: bit r is one exactly where relation r does.

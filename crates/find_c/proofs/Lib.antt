@@ -2,6 +2,7 @@ pub mod Marks
 pub mod Accepting
 pub mod Lawful
 pub mod Splitting
+pub mod Differences
 pub mod Replies
 pub mod Filling
 pub mod Starting

@@ -1,23 +1,22 @@
 -- The search for the least tuple on which two choices differ.
-use Rattle.std.proofs.Common.{◌≡◌, ℕ, suc, ◌+◌, ◌^◌, ◌<◌, ◌≤◌, Bool, true, false, cond, ◌&&◌, not, List, [], length, drop, get_or, Some, None, refl, sym, ◌∙◌, ap, arith, drop-cons}
-use Rattle.std.specs.Prelude.{find}
+use Rattle.std.proofs.Common.{◌≡◌, ℕ, zero, suc, ◌+◌, ◌*◌, ◌^◌, ◌<◌, ◌≤◌, Bool, true, false, cond, ◌&&◌, not, List, [], length, drop, get_or, Some, None, refl, sym, ◌∙◌, ap, arith, drop-cons, pow-suc, suc-mul, mul_comm}
+use Rattle.std.specs.Prelude.{◌==◌, find}
 use Rattle.std.specs.Bool.{beq}
+use Rattle.std.specs.Int.{trailing_zeros, w64}
+use lib.Count.{count_trailing_zeros}
 use Rattle.std.specs.List.{filter, list_any}
 use Rattle.std.proofs.lemmas.List.{drop_all}
+use Rattle.std.proofs.lemmas.Nat.Bits.{bit_at-zero, bit_at-trailing_zeros}
+use Rattle.assign.specs.SetLemmas.{is_one}
 use Rattle.rel_table.specs.Relation.{place, tuples}
 use Rattle.rel_table.proofs.PlaceLemmas.{length-tuples, get_or-tuples, place-tuple_at}
 use Rattle.language.specs.TellingApart.{Choice, Scene, allows, tells_apart, after_reply}
-use Rattle.find_c.specs.Choices.{is_accepting, allows_at}
+use Rattle.find_c.specs.Choices.{is_accepting, allows_at, differ_at}
 
 -- a choice allows a tuple where it allows its place
 pub allows_there : (scene : Scene) (u : List ℕ) (p : ℕ) → place scene.value_count u ≡ p → (c : Choice) → allows_at scene p c ≡ allows scene u c
 allows_there scene u p e None = refl
 allows_there scene u p e (Some r) = ap (λ k. get_or (get_or scene.relations r []) k false) (sym e)
-
-pub differ_there : (scene : Scene) (cs : List Choice) (u : List ℕ) (p mask : ℕ) → place scene.value_count u ≡ p → ((c : Choice) → is_accepting mask c ≡ allows_at scene p c) →
-    (list_any (is_accepting mask) cs && list_any (λ c. not (is_accepting mask c)) cs) ≡ tells_apart scene cs u
-differ_there scene cs u p mask e each =
-    λ i. list_any (λ c. (each c ∙ allows_there scene u p e c) i) cs && list_any (λ c. not ((each c ∙ allows_there scene u p e c) i)) cs
 
 -- the choices that agree with the mask agree with the reply
 pub agreeing_is : (scene : Scene) (cs next : List Choice) (u : List ℕ) (p mask : ℕ) (reply : Bool) → place scene.value_count u ≡ p → ((c : Choice) → is_accepting mask c ≡ allows_at scene p c) →
@@ -30,25 +29,86 @@ there d a p low = ap (place d) (get_or-tuples d a p low) ∙ place-tuple_at d a 
 find_from : {X : Type 0} (t : X → Bool) (xs : List X) (k : ℕ) (x : X) → k < length xs → find t (drop k xs) ≡ cond (t (get_or xs k x)) (Some (get_or xs k x)) (find t (drop (k + 1) xs))
 find_from t xs k x low = ap (find t) (drop-cons xs k x low) ∙ ap (λ j. cond (t (get_or xs k x)) (Some (get_or xs k x)) (find t (drop j xs))) (let e : suc k ≡ k + 1 = omega arith in e)
 
-module _ (scene : Scene) (cs : List Choice) (p mask : ℕ) (low : p < scene.value_count ^ scene.arity) (each : (c : Choice) → is_accepting mask c ≡ allows_at scene p c) (is : Bool)
-    (tells : is ≡ (list_any (is_accepting mask) cs && list_any (λ c. not (is_accepting mask c)) cs)) where
-  within : p < length (tuples scene.value_count scene.arity)
-  within = omega (arith, low, length-tuples scene.value_count scene.arity)
+-- ---- from a place on
 
-  here : is ≡ tells_apart scene cs (get_or (tuples scene.value_count scene.arity) p [])
-  here = tells ∙ differ_there scene cs (get_or (tuples scene.value_count scene.arity) p []) p mask (there scene.value_count scene.arity p low) each
+module _ (scene : Scene) (cs : List Choice) where
+  abbrev us : List (List ℕ)
+  us = tuples scene.value_count scene.arity
 
-  -- the tuple at this place tells them apart
-  pub found_here : is ≡ true → find (tells_apart scene cs) (drop p (tuples scene.value_count scene.arity)) ≡ Some (get_or (tuples scene.value_count scene.arity) p [])
-  found_here yes_here =
-      find_from (tells_apart scene cs) (tuples scene.value_count scene.arity) p [] within
-      ∙ ap (λ b. cond b (Some (get_or (tuples scene.value_count scene.arity) p [])) (find (tells_apart scene cs) (drop (p + 1) (tuples scene.value_count scene.arity)))) (sym here ∙ yes_here)
+  tells_there : (p : ℕ) → p < scene.value_count ^ scene.arity → differ_at scene cs p ≡ tells_apart scene cs (get_or us p [])
+  tells_there p low = λ i.
+      list_any (λ c. allows_there scene (get_or us p []) p (there scene.value_count scene.arity p low) c i) cs
+      && list_any (λ c. not (allows_there scene (get_or us p []) p (there scene.value_count scene.arity p low) c i)) cs
 
-  -- it doesn't
-  pub found_later : is ≡ false → find (tells_apart scene cs) (drop p (tuples scene.value_count scene.arity)) ≡ find (tells_apart scene cs) (drop (p + 1) (tuples scene.value_count scene.arity))
-  found_later no_here =
-      find_from (tells_apart scene cs) (tuples scene.value_count scene.arity) p [] within
-      ∙ ap (λ b. cond b (Some (get_or (tuples scene.value_count scene.arity) p [])) (find (tells_apart scene cs) (drop (p + 1) (tuples scene.value_count scene.arity)))) (sym here ∙ no_here)
+  turn : (p : ℕ) → p < scene.value_count ^ scene.arity → find (tells_apart scene cs) (drop p us) ≡ cond (differ_at scene cs p) (Some (get_or us p [])) (find (tells_apart scene cs) (drop (p + 1) us))
+  turn p low =
+      find_from (tells_apart scene cs) us p [] (omega (arith, low, length-tuples scene.value_count scene.arity))
+      ∙ ap (λ b. cond b (Some (get_or us p [])) (find (tells_apart scene cs) (drop (p + 1) us))) (sym (tells_there p low))
+
+  -- they differ at none of these places
+  pub none_until : (p n : ℕ) → p + n ≤ scene.value_count ^ scene.arity → ((k : ℕ) → k < n → differ_at scene cs (p + k) ≡ false) →
+      find (tells_apart scene cs) (drop p us) ≡ find (tells_apart scene cs) (drop (p + n) us)
+  none_until p zero fits none = ap (λ k. find (tells_apart scene cs) (drop k us)) (let e : p ≡ p + 0 = omega arith in e)
+  none_until p (suc n) fits none =
+      turn p (omega arith)
+      ∙ ap (λ b. cond b (Some (get_or us p [])) (find (tells_apart scene cs) (drop (p + 1) us))) (ap (differ_at scene cs) (let e : p ≡ p + 0 = omega arith in e) ∙ none 0 (omega arith))
+      ∙ none_until (p + 1) n (omega arith) (λ k low. ap (differ_at scene cs) (let e : p + 1 + k ≡ p + suc k = omega arith in e) ∙ none (suc k) (omega arith))
+      ∙ ap (λ k. find (tells_apart scene cs) (drop k us)) (let e : p + 1 + n ≡ p + suc n = omega arith in e)
+
+  -- they do at this one first
+  pub first_at : (p n : ℕ) → p + n < scene.value_count ^ scene.arity → ((k : ℕ) → k < n → differ_at scene cs (p + k) ≡ false) → differ_at scene cs (p + n) ≡ true →
+      find (tells_apart scene cs) (drop p us) ≡ Some (get_or us (p + n) [])
+  first_at p n fits none here =
+      none_until p n (omega arith) none ∙ turn (p + n) fits
+      ∙ ap (λ b. cond b (Some (get_or us (p + n) [])) (find (tells_apart scene cs) (drop (p + n + 1) us))) here
 
 pub found_nowhere : (scene : Scene) (cs : List Choice) (p : ℕ) → scene.value_count ^ scene.arity ≤ p → find (tells_apart scene cs) (drop p (tuples scene.value_count scene.arity)) ≡ None
 found_nowhere scene cs p past = ap (find (tells_apart scene cs)) (drop_all p (tuples scene.value_count scene.arity) (omega (arith, past, length-tuples scene.value_count scene.arity)))
+
+-- ---- a row of places at once
+
+-- the place of a mask's lowest one, or 64 where it has none
+pub record IsLowest (mask y : ℕ) : Type 0 where
+  pub none : (k : ℕ) → k < y → is_one mask k ≡ false
+  pub one : y < 64 → is_one mask y ≡ true
+
+no_lowest : trailing_zeros w64 0 ≡ 64
+unfolding count_trailing_zeros
+no_lowest = refl
+
+pub lowest_is : (mask : ℕ) → mask < 2 ^ 64 → IsLowest mask (trailing_zeros w64 mask)
+lowest_is zero fits = record { none = λ k below. ap (λ x. x == 1) (bit_at-zero k); one = λ small. absurd (let all = no_lowest in omega arith) }
+lowest_is (suc m) fits = let low = bit_at-trailing_zeros w64 (suc m) (omega arith) fits in record { none = λ k below. ap (λ x. x == 1) (low.2 k below); one = λ small. ap (λ x. x == 1) low.1 }
+
+module _ (scene : Scene) (cs : List Choice) (p mask y : ℕ) (fits : p + scene.value_count ≤ scene.value_count ^ scene.arity) (small : scene.value_count ≤ 64)
+    (tells : (k : ℕ) → k < scene.value_count → is_one mask k ≡ differ_at scene cs (p + k)) (lowest : IsLowest mask y) where
+  -- they differ within the row
+  pub found_in_row : y < scene.value_count → find (tells_apart scene cs) (drop p (tuples scene.value_count scene.arity)) ≡ Some (get_or (tuples scene.value_count scene.arity) (p + y) [])
+  found_in_row within = first_at scene cs p y (omega arith) (λ k below. sym (tells k (omega arith)) ∙ lowest.none k below) (sym (tells y within) ∙ lowest.one (omega arith))
+
+  -- they don't
+  pub found_past_row : scene.value_count ≤ y → find (tells_apart scene cs) (drop p (tuples scene.value_count scene.arity)) ≡ find (tells_apart scene cs) (drop (p + scene.value_count) (tuples scene.value_count scene.arity))
+  found_past_row past = none_until scene cs p scene.value_count fits (λ k below. sym (tells k below) ∙ lowest.none k (omega arith))
+
+-- so many rows are left from a place on
+pub record IsAtRow (d places p : ℕ) : Type 0 where
+  pub rows : ℕ
+  pub end : p + rows * d ≡ places
+
+pub at_first_row : (d a : ℕ) → 1 ≤ a → IsAtRow d (d ^ a) 0
+at_first_row d zero some = absurd (omega arith)
+at_first_row d (suc a) some = record { rows = d ^ a; end = omega (arith, pow-suc d a, mul_comm d (d ^ a)) }
+
+pub row_fits : (d places p : ℕ) → IsAtRow d places p → p < places → p + d ≤ places
+row_fits d places p is low = go is.rows is.end
+  where
+    go : (rows : ℕ) → p + rows * d ≡ places → p + d ≤ places
+    go zero end = omega arith
+    go (suc rows) end = omega (arith, suc-mul rows d)
+
+pub at_next_row : (d places p : ℕ) → IsAtRow d places p → p < places → IsAtRow d places (p + d)
+at_next_row d places p is low = go is.rows is.end
+  where
+    go : (rows : ℕ) → p + rows * d ≡ places → IsAtRow d places (p + d)
+    go zero end = absurd (omega arith)
+    go (suc rows) end = record { rows = rows; end = omega (arith, suc-mul rows d) }

@@ -1,5 +1,6 @@
 -- Choices as the relations of a mask, with the choice of none or without it.
-use Rattle.std.specs.Prelude.{ℕ, ◌==◌, Bool, true, false, List, [], ◌∷◌, ◌++◌, map, Some, None, slice_index_or, if◌then◌else◌}
+use Rattle.std.specs.Prelude.{ℕ, ◌==◌, Bool, true, false, not, ◌&&◌, List, [], ◌∷◌, ◌++◌, map, Some, None, slice_index_or, if◌then◌else◌}
+use Rattle.std.specs.List.{list_any}
 use Rattle.std.specs.Int.{bit_at}
 use Rattle.bias_store.specs.Masks.{ones_of}
 use Rattle.language.specs.TellingApart.{Choice, Scene}
@@ -17,3 +18,7 @@ is_accepting accepting (Some r) = bit_at accepting r == 1
 abbrev pub allows_at : Scene → ℕ → Choice → Bool
 allows_at scene place None = true
 allows_at scene place (Some r) = slice_index_or (slice_index_or scene.relations r []) place false
+
+-- whether some choice accepts the tuple at a place and some rejects it
+abbrev pub differ_at : Scene → List Choice → ℕ → Bool
+differ_at scene choices place = list_any (allows_at scene place) choices && list_any (λ c. not (allows_at scene place c)) choices

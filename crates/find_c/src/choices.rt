@@ -1,11 +1,17 @@
 //! The choices that are left on a scope.
 
-ghost use Rattle.std.specs.Prelude.{◌≡◌, ◌&&◌, ◌↔◌, not, [], IsTrue};
-ghost use Rattle.std.specs.List.{list_any, filter};
+ghost use Rattle.std.specs.Prelude.{ℕ, ◌≡◌, ◌+◌, ◌^◌, ◌<◌, ◌≤◌, ◌==◌, ◌↔◌, [], length, All, IsTrue};
+ghost use Rattle.std.specs.List.{filter};
 ghost use Rattle.std.specs.Bool.{beq};
+ghost use Rattle.std.specs.Int.{bit_at};
+ghost use Rattle.language.specs.Language.{IsLanguage, scope_at};
+ghost use Rattle.language.specs.Scenes.{scene_of};
 ghost use Rattle.language.specs.TellingApart.{remaining};
-ghost use Rattle.find_c.specs.Choices.{choices_of, is_accepting};
+ghost use Rattle.find_c.specs.Choices.{choices_of, is_accepting, differ_at};
+ghost use Rattle.find_c.specs.Run.{IsChoiceOn};
 
+use bias_store::split_first;
+use language::{Language, ScopeId};
 use std::marker::Model;
 
 /// Relations on a scope, and perhaps the choice of none of them, which accepts every tuple.
@@ -42,11 +48,30 @@ impl Choices {
         !self.free && self.relations == 0
     }
 
-    /// Whether some choice accepts a tuple and some rejects it, given the relations that accept it.
-    pub fn differ(&self, accepting: u64) -> bool
-        ensures { result ≡ (list_any (is_accepting accepting) self.now && list_any (λ c. not (is_accepting accepting c)) self.now) }
+    /// Where two choices differ among the places from one on, one for each value of the last variable: bit y is 1 exactly
+    /// where they do y places further. The bits past the values mean nothing.
+    pub fn differences(&self, lang: &Language, s: ScopeId, place: u32) -> u64
+        requires lawful { IsLanguage lang.now }
+        requires scope { s < length lang.now.scopes }
+        requires known { All (IsChoiceOn lang.now s) self.now }
+        requires row { place + lang.now.value_count ≤ lang.now.value_count ^ length (scope_at lang.now s) }
+        ensures { (y : ℕ) → y < lang.now.value_count → (bit_at result y == 1) ≡ differ_at (scene_of lang.now s) self.now (place + y) }
     {
-        !self.agreeing(accepting, true).is_empty() && !self.agreeing(accepting, false).is_empty()
+        let (mut accepted, mut rejected) = (0, 0);
+        let mut left = self.relations;
+        while left != 0 {
+            let (r, rest) = split_first(left);
+            let row = lang.table_on(s, r).row(place);
+            accepted |= row;
+            rejected |= !row;
+            left = rest;
+        }
+        // None of the relations accepts every tuple.
+        if self.free {
+            rejected
+        } else {
+            accepted & rejected
+        }
     }
 
     /// The choices that accept a tuple, or those that reject it, given the relations that accept it.
@@ -73,7 +98,7 @@ impl Choices {
         if self.free || self.relations == 0 {
             None
         } else {
-            Some(self.relations.trailing_zeros() as u8)
+            Some(split_first(self.relations).0)
         }
     }
 }

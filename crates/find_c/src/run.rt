@@ -1,7 +1,6 @@
 //! Telling the choices on a scope apart, a reply at a time.
 
 ghost use Rattle.std.specs.Prelude.{◌≡◌, ◌≢◌, ◌↔◌, ◌^◌, ◌<◌, Bool, List, [], ◌∷◌, ◌++◌, length, All};
-ghost use Rattle.std.specs.Option.{ForSome};
 ghost use Rattle.language.specs.Language.{scope_at, IsQuestion};
 ghost use Rattle.bias_store.specs.KeptSet.{IsMadeFor};
 ghost use Rattle.language.specs.TellingApart.{Choice, splitting_tuple, after_reply};
@@ -58,7 +57,7 @@ impl RelRun {
         ensures nothing { (result ≡ RelNext.Nothing) ↔ (violated_choices lang.now kept.now.members e.now s ≡ []) }
         ensures no_free { result ≢ RelNext.Free }
     {
-        settle(lang, Some(kept), s, violated_choices(lang, kept, s, e))
+        settle(lang, s, violated_choices(lang, kept, s, e))
     }
 
     /// Begins with all kept candidates on a scope, and none of them as a further choice.
@@ -69,7 +68,7 @@ impl RelRun {
         ensures stands { StandsFor result lang.now s (free_choices kept.now.members s) [] }
         ensures some { result ≢ RelNext.Nothing }
     {
-        settle(lang, Some(kept), s, Choices::new(kept.on_scope(s), true))
+        settle(lang, s, Choices::new(kept.on_scope(s), true))
     }
 
     /// The scope whose relations are told apart.
@@ -110,9 +109,8 @@ impl RelRun {
         let place = place_of(lang.d(), tuple.values()) as u32;
         settle(
             lang,
-            None,
             scope,
-            choices.agreeing(accepting(lang, None, scope, place), yes),
+            choices.agreeing(accepting(lang, scope, place), yes),
         )
     }
 }
@@ -133,8 +131,7 @@ fn violated_choices(lang: &Language, kept: &Kept, s: ScopeId, e: &Partial) -> Ch
 }
 
 /// Where choices on a scope stand.
-fn settle(lang: &Language, kept: Option<&Kept>, scope: ScopeId, choices: Choices) -> RelNext
-    requires kept { ForSome kept (λ k. IsMadeFor lang.now k.now) }
+fn settle(lang: &Language, scope: ScopeId, choices: Choices) -> RelNext
     requires scope { scope < length lang.now.scopes }
     requires known { All (IsChoiceOn lang.now scope) choices }
     ensures settled { LeavesChoices lang.now scope choices result }
@@ -144,7 +141,7 @@ fn settle(lang: &Language, kept: Option<&Kept>, scope: ScopeId, choices: Choices
     if choices.is_empty() {
         return RelNext::Nothing;
     }
-    if let Some(tuple) = splitting_tuple(lang, kept, scope, &choices) {
+    if let Some(tuple) = splitting_tuple(lang, scope, &choices) {
         return RelNext::Wants(RelRun {
             scope,
             choices,
@@ -157,43 +154,30 @@ fn settle(lang: &Language, kept: Option<&Kept>, scope: ScopeId, choices: Choices
     }
 }
 
-/// The least tuple on which two choices differ.
-fn splitting_tuple(
-    lang: &Language,
-    kept: Option<&Kept>,
-    s: ScopeId,
-    choices: &Choices,
-) -> Option<Tuple>
-    requires kept { ForSome kept (λ k. IsMadeFor lang.now k.now) }
+/// The least tuple on which two choices differ. Looked for among all values of the last variable at once.
+fn splitting_tuple(lang: &Language, s: ScopeId, choices: &Choices) -> Option<Tuple>
     requires scope { s < length lang.now.scopes }
+    requires known { All (IsChoiceOn lang.now s) choices.now }
     ensures { result ≡ splitting_tuple (scene_of lang.now s) choices.now }
 {
     let value_count = lang.d();
+    let row = u32::from(value_count);
     let size = lang.scope(s).len() as u8;
-    for place in 0..u32::from(value_count).pow(u32::from(size)) {
-        if choices.differ(accepting(lang, kept, s, place)) {
-            return Some(Tuple::at(value_count, size, place));
+    let places = row.pow(u32::from(size));
+    let mut place = 0;
+    while place < places {
+        // 64, which is no value of a row, where they don't differ.
+        let y = choices.differences(lang, s, place).trailing_zeros();
+        if y < row {
+            return Some(Tuple::at(value_count, size, place + y));
         }
+        place += row;
     }
     None
 }
 
-/// The relations on a scope that accept the tuple at a place: bit r is 1 exactly where relation r does. They are read off
-/// the kept candidates where these are at hand, and asked of the language one by one where not.
-fn accepting(lang: &Language, kept: Option<&Kept>, s: ScopeId, place: u32) -> u64
-    requires kept { ForSome kept (λ k. IsMadeFor lang.now k.now) }
-    requires scope { s < length lang.now.scopes }
-    requires place { place < lang.now.value_count ^ length (scope_at lang.now s) }
-    ensures { (c : Choice) → is_accepting result c ≡ allows_at (scene_of lang.now s) place c }
-{
-    match kept {
-        Some(kept) => kept.accepting(lang, s, place),
-        None => accepting_each(lang, s, place),
-    }
-}
-
-/// The relations on a scope that accept the tuple at a place, asked one by one.
-fn accepting_each(lang: &Language, s: ScopeId, place: u32) -> u64
+/// The relations on a scope that accept the tuple at a place: bit r is 1 exactly where relation r does.
+fn accepting(lang: &Language, s: ScopeId, place: u32) -> u64
     requires scope { s < length lang.now.scopes }
     requires place { place < lang.now.value_count ^ length (scope_at lang.now s) }
     ensures { (c : Choice) → is_accepting result c ≡ allows_at (scene_of lang.now s) place c }

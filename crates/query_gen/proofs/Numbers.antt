@@ -9,15 +9,14 @@ use Rattle.language.specs.declared.candidates.Candidate.{Candidate}
 use Rattle.language.specs.Language.{Language, IsCandidate, candidates, number_of}
 use Rattle.language.proofs.Counting.{numbered}
 use Rattle.query_gen.specs.Marks.{Remembered, IsMadeFor}
-use Rattle.query_gen.specs.Inside.{candidate_at}
 
 -- the first candidate on a scope
 abbrev pub first_on : ℕ → Candidate
 first_on s = record { scope = s; rel = 0 }
 
--- the candidate of a number is the one that has it
-pub candidate_is : (l : Language) (c : Candidate) (number : ℕ) → IsCandidate l c → number_of l c ≡ number → candidate_at l number ≡ c
-candidate_is l c number is at = ap (λ n. get_or (candidates l) n (first_on 0)) (sym at) ∙ (numbered l).there c (first_on 0) is
+-- no two candidates have one number
+pub same_number : (l : Language) (c d : Candidate) → IsCandidate l c → IsCandidate l d → number_of l c ≡ number_of l d → c ≡ d
+same_number l c d is_c is_d same = sym ((numbered l).there c (first_on 0) is_c) ∙ ap (λ n. get_or (candidates l) n (first_on 0)) same ∙ (numbered l).there d (first_on 0) is_d
 
 pub number_below : (l : Language) (c : Candidate) → IsCandidate l c → number_of l c < length (candidates l)
 number_below l c is = (numbered l).below c is

@@ -16,10 +16,9 @@ use Rattle.fd_solver.specs.Outcomes.{outcome_of_candidate}
 use Rattle.fd_solver.specs.Laws.{AbsentIsImplied, SpentIsLong, FoundIsLawful, IsQuestionAgainst}
 use Rattle.query_gen.specs.declared.query.Query.TheVariants.{Ask, AllImplied, Undecided}
 use Rattle.query_gen.specs.Questions.{is_among, found_in, query_from}
-use Rattle.query_gen.specs.Inside.{kept_outcome}
 use Rattle.query_gen.specs.Laws.{AllAreImplied, AskedIsLawful, UndecidedIsSpent}
 use Rattle.query_gen.proofs.Among.{among_contained, contained_among}
-use Rattle.query_gen.proofs.Asking.{query_on, query_spent, query_begin, outcomes_from}
+use Rattle.query_gen.proofs.Asking.{query_on, query_spent, query_all, kept_outcome, all_outcomes}
 
 -- ---- Lists of outcomes
 
@@ -77,7 +76,7 @@ module _ (l : Language) (network kept : List Candidate) (budget : ℕ) where
   of c = outcome_of_candidate l network c budget
 
   -- what is true of each outcome is true of each kept candidate's
-  each_kept : (P : Outcome → Type 0) → IsNetwork l kept → All P (outcomes_from l network kept budget 0) → All (λ c. P (of c)) kept
+  each_kept : (P : Outcome → Type 0) → IsNetwork l kept → All P (all_outcomes l network kept budget) → All (λ c. P (of c)) kept
   each_kept P known all = λ k d low.
       (let c : Candidate = get_or kept k d in
       let is : IsCandidate l c = known k d low in
@@ -90,7 +89,7 @@ module _ (l : Language) (network kept : List Candidate) (budget : ℕ) where
       subst P at (all number Absent (let long = length-map (candidates l) (kept_outcome l network kept budget) in omega arith)))
 
   -- an outcome that says something is some kept candidate's
-  some_kept : (o : Outcome) → (o ≡ Absent → ⊥) → Has (outcomes_from l network kept budget 0) o → Any (λ c. of c ≡ o) kept
+  some_kept : (o : Outcome) → (o ≡ Absent → ⊥) → Has (all_outcomes l network kept budget) o → Any (λ c. of c ≡ o) kept
   some_kept o other (k, low, at) =
       let c : Candidate = get_or (candidates l) k (record { scope = 0; rel = 0 }) in
       let below : k < length (candidates l) = (let long = length-map (candidates l) (kept_outcome l network kept budget) in omega arith) in
@@ -108,25 +107,25 @@ any_weaker P Q cs every (k, c, low, at, p) = (k, c, low, at, subst (λ (x : Cand
 pub all_are_implied : AbsentIsImplied → AllAreImplied
 all_are_implied absent_is_implied l network kept budget lawful known h = λ k d low.
     absent_is_implied l network (get_or kept k d) budget lawful (known k d low)
-    (each_kept l network kept budget (λ o. o ≡ Absent) known (each_absent (outcomes_from l network kept budget 0) (query_begin l network kept budget ∙ h)) k d low)
+    (each_kept l network kept budget (λ o. o ≡ Absent) known (each_absent (all_outcomes l network kept budget) (query_all l network kept budget ∙ h)) k d low)
 
 pub asked_is_lawful : FoundIsLawful → AskedIsLawful
 asked_is_lawful found_is_lawful l network kept budget e lawful known h =
     any_weaker (λ c. outcome_of_candidate l network c budget ≡ Found e) (λ c. IsQuestionAgainst l network c e) kept
     (λ k d low is. found_is_lawful l network (get_or kept k d) budget e lawful (known k d low) is)
-    (some_kept l network kept budget (Found e) isn't_absent (found_there (outcomes_from l network kept budget 0) false e (query_begin l network kept budget ∙ h)))
+    (some_kept l network kept budget (Found e) isn't_absent (found_there (all_outcomes l network kept budget) false e (query_all l network kept budget ∙ h)))
   where
     isn't_absent : Found e ≡ Absent → ⊥
     isn't_absent same = cc
 
 pub undecided_is_spent : AbsentIsImplied → SpentIsLong → UndecidedIsSpent
 undecided_is_spent absent_is_implied spent_is_long l network kept budget lawful known h = record {
-  some = some_kept l network kept budget Spent isn't_absent (spent_there (outcomes_from l network kept budget 0) begun);
-  each = λ k d low. told (get_or kept k d) (known k d low) (each_kept l network kept budget IsNone known (none_found (outcomes_from l network kept budget 0) false begun) k d low);
+  some = some_kept l network kept budget Spent isn't_absent (spent_there (all_outcomes l network kept budget) begun);
+  each = λ k d low. told (get_or kept k d) (known k d low) (each_kept l network kept budget IsNone known (none_found (all_outcomes l network kept budget) false begun) k d low);
 }
   where
-    begun : query_on false (outcomes_from l network kept budget 0) ≡ Undecided
-    begun = query_begin l network kept budget ∙ h
+    begun : query_on false (all_outcomes l network kept budget) ≡ Undecided
+    begun = query_all l network kept budget ∙ h
 
     isn't_absent : Spent ≡ Absent → ⊥
     isn't_absent same = cc

@@ -1,20 +1,20 @@
 //! The next question.
 
-ghost use Rattle.std.specs.Prelude.{◌≡◌, ◌<◌, ◌≤◌, ◌&&◌, length};
-ghost use Rattle.language.specs.Language.{IsCandidate, candidates};
+ghost use Rattle.std.specs.Prelude.{◌≡◌, ◌<◌, ◌≤◌, ◌&&◌, true, None, length, map};
+ghost use Rattle.language.specs.Language.{IsCandidate};
 ghost use Rattle.language.specs.Answers.{IsNetwork};
 ghost use Rattle.bias_store.specs.KeptSet.{IsMadeFor as IsKeptOf};
 ghost use Rattle.fd_solver.specs.Outcomes.{outcome_of_candidate};
-ghost use Rattle.query_gen.specs.Questions.{is_among, is_spent, next_query};
+ghost use Rattle.query_gen.specs.Questions.{is_among, is_spent, found_in, next_query};
 ghost use Rattle.query_gen.specs.Marks.{IsMadeFor, MarksHold, is_open};
-ghost use Rattle.query_gen.specs.Inside.{with_mark, mark_for, candidate_at, kept_outcome, kept_mark};
+ghost use Rattle.query_gen.specs.Inside.{mark_for, kept_on, outcome_among, IsBegun, IsMarked, GoesOn, IsBlanked};
 
 use crate::order::order_of;
 use crate::screen::{Mark, Screen};
 use assign::Partial;
-use bias_store::Kept;
+use bias_store::{Kept, split_first};
 use fd_solver::{Outcome, Work, search};
-use language::{Candidate, Language};
+use language::{Candidate, Language, ScopeId};
 use network::Network;
 use propagators::Constraints;
 
@@ -70,41 +70,84 @@ fn mark_for(outcome: &Outcome) -> Mark
     }
 }
 
-/// The outcome of the candidate of this number, which is marked with it. There is nothing to ask about one that isn't
-/// kept: it loses its mark.
+/// The outcome of a candidate, which is marked with it.
 fn outcome_at(
+    work: &mut Work,
+    screen: &mut Screen,
+    lang: &Language,
+    net: &Network,
+    budget: u32,
+    c: Candidate,
+) -> Outcome
+    requires candidate { IsCandidate lang.now c }
+    requires screen { IsBegun lang.now net.now.list budget screen.old }
+    requires network { IsNetwork lang.now net.now.list }
+    requires budget { 1 ≤ budget }
+    ensures is { result ≡ outcome_of_candidate lang.now net.now.list c budget }
+    ensures screen { GoesOn lang.now net.now.list budget screen.old screen.new }
+    ensures marked { IsMarked lang.now net.now.list budget screen.new c }
+{
+    let number = lang.number_of(c);
+    let outcome = outcome_of(work, screen.mark(number), lang, net, budget, c);
+    screen.set_mark(number, mark_for(&outcome));
+    outcome
+}
+
+/// The outcome of the kept candidates on a scope: that of the first that is found, else "spent" where one is. Each is marked
+/// with its own, up to the first that is found.
+fn outcome_on(
     work: &mut Work,
     screen: &mut Screen,
     lang: &Language,
     kept: &Kept,
     net: &Network,
     budget: u32,
-    number: u32,
+    scope: ScopeId,
 ) -> Outcome
-    requires known { number < length (candidates lang.now) }
-    requires screen { IsMadeFor lang.now screen.old }
-    requires marks { MarksHold lang.now net.now.list budget screen.old }
-    requires learned { screen.old.learned ≡ length net.now.list }
-    requires budgeted { screen.old.budget ≡ budget }
+    requires scope { scope < length lang.now.scopes }
+    requires screen { IsBegun lang.now net.now.list budget screen.old }
+    requires kept { IsKeptOf lang.now kept.now }
     requires network { IsNetwork lang.now net.now.list }
     requires budget { 1 ≤ budget }
-    ensures is { result ≡ kept_outcome lang.now net.now.list kept.now.members budget (candidate_at lang.now number) }
-    ensures marks { screen.new ≡ with_mark screen.old number (kept_mark lang.now net.now.list kept.now.members budget (candidate_at lang.now number)) }
+    ensures is { result ≡ outcome_among (map (λ c. outcome_of_candidate lang.now net.now.list c budget) (kept_on lang.now kept.now.members scope)) }
+    ensures screen { GoesOn lang.now net.now.list budget screen.old screen.new }
+    ensures marked { found_in result ≡ None → (c : Candidate) → IsCandidate lang.now c → c.scope ≡ scope → is_among kept.now.members c ≡ true → IsMarked lang.now net.now.list budget screen.new c }
 {
-    let c = lang.candidate(number);
-    if !kept.is_kept(c) {
-        screen.set_mark(number, Mark::Blank);
-        return Outcome::Absent;
+    let mut some_spent = false;
+    let mut left = kept.on_scope(scope);
+    while left != 0 {
+        let (rel, rest) = split_first(left);
+        match outcome_at(work, screen, lang, net, budget, Candidate { scope, rel }) {
+            Outcome::Found(e) => return Outcome::Found(e),
+            Outcome::Absent => {}
+            Outcome::Spent => some_spent = true,
+        }
+        left = rest;
     }
-    let outcome = outcome_of(work, screen.mark(number), lang, net, budget, c);
-    screen.set_mark(number, mark_for(&outcome));
-    outcome
+    if some_spent {
+        Outcome::Spent
+    } else {
+        Outcome::Absent
+    }
+}
+
+/// Takes the marks of the candidates that aren't kept away.
+fn blank_others(screen: &mut Screen, lang: &Language, kept: &Kept)
+    requires { IsMadeFor lang.now screen.old }
+    ensures { IsBlanked lang.now kept.now.members screen.old screen.new }
+{
+    for number in 0..lang.candidates() {
+        if !kept.is_kept(lang.candidate(number)) {
+            screen.set_mark(number, Mark::Blank);
+        }
+    }
 }
 
 /// The next question: that of the first kept candidate, in candidate order, whose search under the budget finds one.
 ///
 /// The budget is how many members of its walk the search for one candidate may look at. A candidate whose mark tells
-/// the outcome isn't searched again. The cost without any search is a step for each candidate of the language.
+/// the outcome isn't searched again. The cost without any search is a step for each scope and for each kept candidate, and where
+/// the outcome is `Undecided` one for each candidate of the language.
 pub fn next_query(
     work: &mut Work,
     screen: &mut Screen,
@@ -128,16 +171,17 @@ pub fn next_query(
 {
     screen.begin(net.len(), budget);
     let mut some_spent = false;
-    for number in 0..lang.candidates() {
-        match outcome_at(work, screen, lang, kept, net, budget, number) {
+    for scope in 0..lang.scopes() as ScopeId {
+        match outcome_on(work, screen, lang, kept, net, budget, scope) {
             Outcome::Found(e) => return Query::Ask(e),
             Outcome::Absent => {}
             Outcome::Spent => some_spent = true,
         }
     }
-    if some_spent {
-        Query::Undecided
-    } else {
-        Query::AllImplied
+    if !some_spent {
+        return Query::AllImplied;
     }
+    // Only here the marks tell which candidates are open.
+    blank_others(screen, lang, kept);
+    Query::Undecided
 }

@@ -34,7 +34,7 @@ fn kept_after(lang: &Language, mut kept: Kept, q: &Partial, yes: bool) -> Kept
 
 impl Knowledge {
     /// After an answer to a question: a yes strikes the candidates that it violates.
-    pub(crate) fn answered(self, q: &Partial, yes: bool) -> Knowledge
+    pub(crate) fn with_answer(self, q: &Partial, yes: bool) -> Knowledge
         requires { IsQuestion self.lang q.now }
         ensures answered { IsAnswered self q.now «yes» result }
         ensures lawful { IsLanguage result.lang }

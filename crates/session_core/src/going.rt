@@ -30,7 +30,7 @@ use language::Candidate;
 use multi_tree::TreeNext;
 
 /// The walk of an example goes on, where there is one, and else nothing is open.
-fn walked(knowledge: Knowledge) -> Session
+fn walk_on(knowledge: Knowledge) -> Session
     ensures lang { (knowledge_of result).lang ≡ knowledge.lang }
     ensures plan { (knowledge_of result).plan ≡ knowledge.plan }
     ensures none_new { HasNoNew result }
@@ -66,7 +66,7 @@ fn walked(knowledge: Knowledge) -> Session
 }
 
 /// A candidate is learned, and its scope leaves the kept ones.
-pub(crate) fn learned(knowledge: Knowledge, c: Candidate) -> Session
+pub(crate) fn learn(knowledge: Knowledge, c: Candidate) -> Session
     requires candidate { IsCandidate knowledge.lang c }
     requires fresh { has_scope knowledge.network.list c.scope ≡ false }
     ensures lang { (knowledge_of result).lang ≡ knowledge.lang }
@@ -85,7 +85,7 @@ pub(crate) fn learned(knowledge: Knowledge, c: Candidate) -> Session
     } = knowledge;
     kept.drop_scope(c.scope);
     network.learn(c);
-    walked(Knowledge {
+    walk_on(Knowledge {
         lang,
         plan,
         kept,
@@ -97,7 +97,7 @@ pub(crate) fn learned(knowledge: Knowledge, c: Candidate) -> Session
 }
 
 /// Choices on a scope are told apart further, or what remains of them is learned.
-pub(crate) fn chosen(knowledge: Knowledge, next: RelNext) -> Session
+pub(crate) fn tell_apart(knowledge: Knowledge, next: RelNext) -> Session
     requires choices { AreChoices knowledge.lang knowledge.network.list next }
     requires some { next ≢ RelNext.Nothing }
     ensures lang { (knowledge_of result).lang ≡ knowledge.lang }
@@ -111,14 +111,14 @@ pub(crate) fn chosen(knowledge: Knowledge, next: RelNext) -> Session
             knowledge,
             put: Put::Tuple(run),
         }),
-        RelNext::Found(c) => learned(knowledge, c),
-        RelNext::Free => walked(knowledge),
+        RelNext::Found(c) => learn(knowledge, c),
+        RelNext::Free => walk_on(knowledge),
         RelNext::Nothing => unreachable!(),
     }
 }
 
 /// The set that a halving found: a scope with kept candidates that the example violates, or nothing can be learned.
-fn found(knowledge: Knowledge, example: Partial, set: VarSet) -> Session
+fn take_found(knowledge: Knowledge, example: Partial, set: VarSet) -> Session
     requires question { IsQuestion knowledge.lang example }
     ensures lang { (knowledge_of result).lang ≡ knowledge.lang }
     ensures plan { (knowledge_of result).plan ≡ knowledge.plan }
@@ -130,12 +130,12 @@ fn found(knowledge: Knowledge, example: Partial, set: VarSet) -> Session
     };
     match RelRun::start(&knowledge.lang, &knowledge.kept, s, &example) {
         RelNext::Nothing => Session::Over(Collapsed { knowledge }),
-        next => chosen(knowledge, next),
+        next => tell_apart(knowledge, next),
     }
 }
 
 /// The halving of a set of an example's variables goes on by itself, and then asks or has found a set.
-pub(crate) fn halved(
+pub(crate) fn halve_on(
     knowledge: Knowledge,
     example: Partial,
     set: VarSet,
@@ -154,7 +154,7 @@ pub(crate) fn halved(
             knowledge,
             put: Put::Part { example, set, run },
         }),
-        ScopeNext::Found(got) => found(knowledge, example, got),
+        ScopeNext::Found(got) => take_found(knowledge, example, got),
     }
 }
 
@@ -202,10 +202,10 @@ pub(crate) fn part_answered(
     ensures stands { let k = knowledge in StandsWhere k (λ t. part_replied k.lang t example set «yes» k.network.list k.tree) result }
 {
     if yes {
-        return walked(knowledge);
+        return walk_on(knowledge);
     }
     let knowledge = with_set_again(knowledge);
-    halved(knowledge, example, set, ScopeRun::start(set))
+    halve_on(knowledge, example, set, ScopeRun::start(set))
 }
 
 /// A tuple on a scope is answered.
@@ -219,5 +219,5 @@ pub(crate) fn tuple_answered(knowledge: Knowledge, run: RelRun, yes: bool) -> Se
         StandsWhere k (λ t. settle_choices k.lang t run.scope (after_reply (scene_of k.lang run.scope) run.tuple «yes» run.choices) k.network.list (walk_in k.tree)) result }
 {
     let next = run.reply(&knowledge.lang, yes);
-    chosen(knowledge, next)
+    tell_apart(knowledge, next)
 }

@@ -12,7 +12,7 @@ ghost use Rattle.session_core.specs.Standing.{Stands, IsAskedAfter, knowledge_of
 ghost use Rattle.session_core.specs.Leading.{StandsWhereIdle};
 
 use crate::examples::is_example;
-use crate::going::{halved, part_answered, tuple_answered};
+use crate::going::{halve_on, part_answered, tuple_answered};
 use crate::knowledge::Knowledge;
 use crate::put::Put;
 use crate::scopes::first_run;
@@ -56,16 +56,16 @@ impl Session {
         ensures plan { (knowledge_of result).plan ≡ (knowledge_of self).plan }
     {
         match self {
-            Session::Idle(idle) => idle.knowledge.restarted(),
-            Session::Asking(asking) => asking.knowledge.restarted(),
-            Session::Over(over) => over.knowledge.restarted(),
+            Session::Idle(idle) => idle.knowledge.fresh_session(),
+            Session::Asking(asking) => asking.knowledge.fresh_session(),
+            Session::Over(over) => over.knowledge.fresh_session(),
         }
     }
 }
 
 impl Knowledge {
     /// The session of the same language and plan that knows nothing yet.
-    fn restarted(self) -> Session
+    fn fresh_session(self) -> Session
         ensures stands { Stands result [] }
         ensures idle { open_in result ≡ None }
         ensures lang { (knowledge_of result).lang ≡ self.lang }
@@ -289,14 +289,14 @@ impl Asking {
     {
         let question = self.question();
         let Asking { knowledge, put } = self;
-        let knowledge = knowledge.answered(&question, yes);
+        let knowledge = knowledge.with_answer(&question, yes);
         match put {
             Put::Example(example) => {
                 let all = VarSet::all(knowledge.lang.n());
                 part_answered(knowledge, example, all, yes)
             }
             Put::OnWalk { example, set } => part_answered(knowledge, example, set, yes),
-            Put::Part { example, set, run } => halved(knowledge, example, set, run.reply(yes)),
+            Put::Part { example, set, run } => halve_on(knowledge, example, set, run.reply(yes)),
             Put::FirstTuple(run) => tuple_answered(knowledge, run, yes),
             Put::Tuple(run) => tuple_answered(knowledge, run, yes),
         }

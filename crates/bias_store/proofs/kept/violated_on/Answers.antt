@@ -1,4 +1,5 @@
-use Rattle.std.proofs.Common.{◌∙◌, sym}
+use Rattle.std.proofs.Common.{◌∙◌, ap, sym}
+use Rattle.std.specs.List.{filter}
 use Rattle.language.specs.Language.{violates}
 use Rattle.language.proofs.Lists.{nothing_passes}
 use Rattle.bias_store.specs.Masks.{ones_of}
@@ -6,6 +7,9 @@ use Rattle.bias_store.proofs.Ones.{ones_of-zero}
 use Rattle.bias_store.proofs.Picked.{bare}
 use Rattle.bias_store.proofs.Bits.{without_accepting}
 use Rattle.bias_store.proofs.kept.violated_on.Goals as goal
+
+pub returns-then-relations-eq0 : goal.returns-then-relations-eq0
+returns-then-relations-eq0 c = ones_of-zero ∙ sym (ap (filter (λ r. violates c.args.lang.now (record { scope = c.args.s; rel = r }) c.args.q.now)) (ap ones_of c.if-relations-eq0.true ∙ ones_of-zero))
 
 pub returns-in-None : goal.returns-in-None
 returns-in-None c =

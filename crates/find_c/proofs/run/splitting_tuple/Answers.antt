@@ -1,29 +1,67 @@
-use Rattle.std.proofs.Common.{◌^◌, length, get_or, Some, [], sym, ◌∙◌, ap, arith}
+use Rattle.std.proofs.Common.{◌≡◌, ◌+◌, ◌^◌, length, drop, get_or, Some, [], refl, sym, ◌∙◌, ap, subst, arith}
+use Rattle.std.specs.Prelude.{find}
+use Rattle.std.specs.Int.{trailing_zeros, w64}
 use Rattle.rel_table.specs.Relation.{tuples}
+use Rattle.language.specs.Language.{scope_at}
+use Rattle.language.specs.TellingApart.{tells_apart}
 use Rattle.language.specs.Scenes.{scene_of}
-use Rattle.find_c.proofs.Splitting.{found_here, found_later, found_nowhere}
+use Rattle.find_c.proofs.Lawful.{few_places}
+use Rattle.find_c.proofs.Splitting.{found_in_row, found_past_row, found_nowhere, lowest_is, IsAtRow, at_first_row, row_fits, at_next_row}
 use Rattle.find_c.proofs.run.splitting_tuple.Goals as goal
 
-pub returns-then-differ : goal.returns-then-differ
-returns-then-differ c =
+pub loop-place-init : goal.loop-place-init
+loop-place-init c =
+    let scope = c.d-value_count.ensures.lawful.scopes c.args.s [] c.requires.scope in
+    record { found = refl; row = at_first_row c.args.lang.now.value_count (length (scope_at c.args.lang.now c.args.s)) scope.not_empty }
+
+pub differences-y-requires-clause-row : goal.differences-y-requires-clause-row
+differences-y-requires-clause-row c =
+    let all : c.pow-places.result ≡ c.args.lang.now.value_count ^ length (scope_at c.args.lang.now c.args.s) = c.pow-places.ensures ∙ (λ i. (c.from-row.ensures ∙ c.d-value_count.ensures.is) i ^ (c.from.ensures ∙ ap length c.scope.ensures.is) i) in
+    let low = c.loop-place-test.true in
+    let fits = row_fits c.args.lang.now.value_count (c.args.lang.now.value_count ^ length (scope_at c.args.lang.now c.args.s)) c.loop-place.place c.loop-place.invariant.row (omega arith) in
+    fits
+
+pub overflow_add-place : goal.overflow_add-place
+overflow_add-place c =
+    let all : c.pow-places.result ≡ c.args.lang.now.value_count ^ length (scope_at c.args.lang.now c.args.s) = c.pow-places.ensures ∙ (λ i. (c.from-row.ensures ∙ c.d-value_count.ensures.is) i ^ (c.from.ensures ∙ ap length c.scope.ensures.is) i) in
+    let low = c.loop-place-test.true in
+    let fits = row_fits c.args.lang.now.value_count (c.args.lang.now.value_count ^ length (scope_at c.args.lang.now c.args.s)) c.loop-place.place c.loop-place.invariant.row (omega arith) in
+    let few = few_places c.args.lang.now c.d-value_count.ensures.lawful c.args.s c.requires.scope in
+    let row = c.from-row.ensures in
+    let values = c.d-value_count.ensures.is in
+    omega arith
+
+pub returns-then-y-row : goal.returns-then-y-row
+returns-then-y-row c =
+    let all : c.pow-places.result ≡ c.args.lang.now.value_count ^ length (scope_at c.args.lang.now c.args.s) = c.pow-places.ensures ∙ (λ i. (c.from-row.ensures ∙ c.d-value_count.ensures.is) i ^ (c.from.ensures ∙ ap length c.scope.ensures.is) i) in
+    let low = c.loop-place-test.true in
+    let fits = row_fits c.args.lang.now.value_count (c.args.lang.now.value_count ^ length (scope_at c.args.lang.now c.args.s)) c.loop-place.place c.loop-place.invariant.row (omega arith) in
     let values = c.d-value_count.ensures.is in
     let size = ap length c.scope.ensures.is in
-    let places = c.pow-place-end.ensures ∙ (λ i. (c.from.ensures ∙ values) i ^ (c.from-2.ensures ∙ size) i) in
-    ap Some (c.at.ensures ∙ (λ i. get_or (tuples (values i) (size i)) c.loop-place.place []))
-    ∙ sym (found_here (scene_of c.args.lang.now c.args.s) c.args.choices.now c.loop-place.place c.accepting.result (omega (arith, places)) c.accepting.ensures c.differ.result c.differ.ensures c.if-differ.true)
-    ∙ c.loop-place.invariant
+    let y = trailing_zeros w64 c.differences-y.result in
+    ap Some (c.at.ensures ∙ (λ i. get_or (tuples (values i) (size i)) (c.loop-place.place + y) []))
+    ∙ sym (found_in_row (scene_of c.args.lang.now c.args.s) c.args.choices.now c.loop-place.place c.differences-y.result y fits c.d-value_count.ensures.lawful.few_values c.differences-y.ensures
+    (lowest_is c.differences-y.result c.differences-y.type_inv) (let row = c.from-row.ensures in let below = c.if-y-row.true in omega arith))
+    ∙ c.loop-place.invariant.found
 
 pub loop-place-preserved : goal.loop-place-preserved
 loop-place-preserved c =
-    let values = c.d-value_count.ensures.is in
-    let size = ap length c.scope.ensures.is in
-    let places = c.pow-place-end.ensures ∙ (λ i. (c.from.ensures ∙ values) i ^ (c.from-2.ensures ∙ size) i) in
-    sym (found_later (scene_of c.args.lang.now c.args.s) c.args.choices.now c.loop-place.place c.accepting.result (omega (arith, places)) c.accepting.ensures c.differ.result c.differ.ensures c.if-differ.false)
-    ∙ c.loop-place.invariant
+    let all : c.pow-places.result ≡ c.args.lang.now.value_count ^ length (scope_at c.args.lang.now c.args.s) = c.pow-places.ensures ∙ (λ i. (c.from-row.ensures ∙ c.d-value_count.ensures.is) i ^ (c.from.ensures ∙ ap length c.scope.ensures.is) i) in
+    let low = c.loop-place-test.true in
+    let fits = row_fits c.args.lang.now.value_count (c.args.lang.now.value_count ^ length (scope_at c.args.lang.now c.args.s)) c.loop-place.place c.loop-place.invariant.row (omega arith) in
+    let row : c.from-row.result ≡ c.args.lang.now.value_count = c.from-row.ensures ∙ c.d-value_count.ensures.is in
+    let past = c.if-y-row.false in
+    let y = trailing_zeros w64 c.differences-y.result in
+    record {
+      found = ap (λ n. find (tells_apart (scene_of c.args.lang.now c.args.s) c.args.choices.now) (drop (c.loop-place.place + n) (tuples c.args.lang.now.value_count (length (scope_at c.args.lang.now c.args.s))))) row
+          ∙ sym (found_past_row (scene_of c.args.lang.now c.args.s) c.args.choices.now c.loop-place.place c.differences-y.result y fits c.d-value_count.ensures.lawful.few_values c.differences-y.ensures
+          (lowest_is c.differences-y.result c.differences-y.type_inv) (omega arith))
+          ∙ c.loop-place.invariant.found;
+      row = subst (λ n. IsAtRow c.args.lang.now.value_count (c.args.lang.now.value_count ^ length (scope_at c.args.lang.now c.args.s)) (c.loop-place.place + n)) (sym row)
+          (at_next_row c.args.lang.now.value_count (c.args.lang.now.value_count ^ length (scope_at c.args.lang.now c.args.s)) c.loop-place.place c.loop-place.invariant.row (omega arith));
+    }
 
 pub returns : goal.returns
 returns c =
-    let values = c.d-value_count.ensures.is in
-    let size = ap length c.scope.ensures.is in
-    let places = c.pow-place-end.ensures ∙ (λ i. (c.from.ensures ∙ values) i ^ (c.from-2.ensures ∙ size) i) in
-    sym (found_nowhere (scene_of c.args.lang.now c.args.s) c.args.choices.now c.loop-place.place (omega (arith, places))) ∙ c.loop-place.invariant
+    let all : c.pow-places.result ≡ c.args.lang.now.value_count ^ length (scope_at c.args.lang.now c.args.s) = c.pow-places.ensures ∙ (λ i. (c.from-row.ensures ∙ c.d-value_count.ensures.is) i ^ (c.from.ensures ∙ ap length c.scope.ensures.is) i) in
+    sym (found_nowhere (scene_of c.args.lang.now c.args.s) c.args.choices.now c.loop-place.place (let past = c.loop-place-test.false in omega arith)) ∙ c.loop-place.invariant.found

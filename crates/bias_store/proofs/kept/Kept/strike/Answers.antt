@@ -39,7 +39,7 @@ pub loop-s-init : goal.loop-s-init
 loop-s-init c =
     let old = c.self.inside.relations.items in
     record {
-      struck = struck_skip (λ b. violates c.args.lang.now b c.args.q.now) old old 0 c.asked_from-s.result c.self.inside.count c.self.inside.count
+      struck = struck_skip (λ b. violates c.args.lang.now b c.args.q.now) old old 0 c.asked_from-s.result.0 c.self.inside.count c.self.inside.count
           (begins (λ b. violates c.args.lang.now b c.args.q.now) old c.self.inside.count c.self.invariant)
           c.asked_from-s.ensures.ahead (λ k from until. open_violates c.args.lang.now k c.args.q.now (c.asked_from-s.ensures.passed k from until));
       within = c.asked_from-s.ensures.within;
@@ -54,14 +54,14 @@ loop-s-preserved c =
     let made = c.requires.made.scopes in
     let long = c.loop-s.invariant.struck.long in
     record {
-      struck = struck_skip (λ b. violates c.args.lang.now b c.args.q.now) old _ (c.loop-s.s + 1) c.asked_from-s-in-loop-s.result c.self.inside.count (c.loop-s.self-inside.count - c.relation_count.result)
+      struck = struck_skip (λ b. violates c.args.lang.now b c.args.q.now) old _ (c.loop-s.s + 1) c.asked_from.result.0 c.self.inside.count (c.loop-s.self-inside.count - c.relation_count.result)
           (subst
           (λ (i : ℕ). IsStruck (λ b. violates c.args.lang.now b c.args.q.now) old (slice_set now i (bit_and c.index-relations.result.now (bit_not w64 c.violated_on-violated.result))) (c.loop-s.s + 1) c.self.inside.count
           (c.loop-s.self-inside.count - c.relation_count.result)) (sym c.from-in-loop-s.ensures)
           (struck_more (λ b. violates c.args.lang.now b c.args.q.now) old now c.loop-s.s c.self.inside.count c.loop-s.self-inside.count c.index-relations.result.now c.violated_on-violated.result c.relation_count.result c.loop-s.invariant.struck (omega arith)
           (read_at now c.loop-s.s c.from.result c.index-relations.result.now (omega arith) c.from.ensures c.index-relations.ensures) c.violated_on-violated.type_inv c.violated_on-violated.ensures c.relation_count.ensures))
-          c.asked_from-s-in-loop-s.ensures.ahead (λ k from until. open_violates c.args.lang.now k c.args.q.now (c.asked_from-s-in-loop-s.ensures.passed k from until));
-      within = c.asked_from-s-in-loop-s.ensures.within;
+          c.asked_from.ensures.ahead (λ k from until. open_violates c.args.lang.now k c.args.q.now (c.asked_from.ensures.passed k from until));
+      within = c.asked_from.ensures.within;
       tables = c.loop-s.invariant.tables;
     }
 

@@ -47,13 +47,13 @@ loop-s-preserved c =
     let so_far : (k : ℕ) → k < c.loop-s.s + 1 → list_any (λ r. violates c.args.lang.now (record { scope = k; rel = r }) c.args.q.now) (ones_of (slice_index_or masks k 0)) ≡ false =
     below_more (λ k. list_any (λ r. violates c.args.lang.now (record { scope = k; rel = r }) c.args.q.now) (ones_of (slice_index_or masks k 0)) ≡ false) c.loop-s.s c.loop-s.invariant.1
     (ap (λ m. list_any fails (ones_of m)) (sym here) ∙ none_fails fails c.index-relations.result.now c.violated_on.result c.violated_on.ensures c.if-violated_on-ne0.false) in
-    let on : (k : ℕ) → k < c.asked_from-s-in-loop-s.result → (k < c.loop-s.s + 1) ⊎ (c.loop-s.s + 1 ≤ k) → list_any (λ r. violates c.args.lang.now (record { scope = k; rel = r }) c.args.q.now) (ones_of (slice_index_or masks k 0)) ≡ false =
+    let on : (k : ℕ) → k < c.asked_from.result.0 → (k < c.loop-s.s + 1) ⊎ (c.loop-s.s + 1 ≤ k) → list_any (λ r. violates c.args.lang.now (record { scope = k; rel = r }) c.args.q.now) (ones_of (slice_index_or masks k 0)) ≡ false =
     λ k until side. elim side [
       | inl before ↦ so_far k before
       | inr from ↦ none_of (λ r. violates c.args.lang.now (record { scope = k; rel = r }) c.args.q.now) (ones_of (slice_index_or masks k 0))
-          (open_violates c.args.lang.now k c.args.q.now (c.asked_from-s-in-loop-s.ensures.passed k from until))
+          (open_violates c.args.lang.now k c.args.q.now (c.asked_from.ensures.passed k from until))
     ] in
-    (c.asked_from-s-in-loop-s.ensures.within, λ k until. on k until (cases_lt k (c.loop-s.s + 1)))
+    (c.asked_from.ensures.within, λ k until. on k until (cases_lt k (c.loop-s.s + 1)))
 
 pub returns : goal.returns
 returns c =

@@ -17,9 +17,9 @@ part_answered-requires-clause-some c =
 
 pub returns-in-Example-clause-stands : goal.returns-in-Example-clause-stands
 returns-in-Example-clause-stands c = λ t q asked stands.
-    let k' : Knowledge = c.answered-knowledge.result in
+    let k' : Knowledge = c.with_answer-knowledge.result in
     let e : Assignment = c.in-Example.example in
-    let h = heard c.args.self (Example e) c.question-question.result q c.args.yes t k' c.in-Example.is c.question-question.ensures.is asked stands c.answered-knowledge.ensures.lawful c.answered-knowledge.ensures.answered in
+    let h = heard c.args.self (Example e) c.question-question.result q c.args.yes t k' c.in-Example.is c.question-question.ensures.is asked stands c.with_answer-knowledge.ensures.lawful c.with_answer-knowledge.ensures.answered in
     let all = ap numbers c.n.ensures.is in
     c.part_answered.ensures.stands (t ++ said q c.args.yes ∷ [])
     (led_as k' (t ++ said q c.args.yes ∷ []) _ _
@@ -28,31 +28,31 @@ returns-in-Example-clause-stands c = λ t q asked stands.
 
 pub returns-in-OnWalk-clause-stands : goal.returns-in-OnWalk-clause-stands
 returns-in-OnWalk-clause-stands c = λ t q asked stands.
-    let k' : Knowledge = c.answered-knowledge.result in
+    let k' : Knowledge = c.with_answer-knowledge.result in
     let e : Assignment = c.in-OnWalk.example in
-    let h = heard c.args.self (OnWalk e c.in-OnWalk.set) c.question-question.result q c.args.yes t k' c.in-OnWalk.is c.question-question.ensures.is asked stands c.answered-knowledge.ensures.lawful c.answered-knowledge.ensures.answered in
+    let h = heard c.args.self (OnWalk e c.in-OnWalk.set) c.question-question.result q c.args.yes t k' c.in-OnWalk.is c.question-question.ensures.is asked stands c.with_answer-knowledge.ensures.lawful c.with_answer-knowledge.ensures.answered in
     c.part_answered-in-OnWalk.ensures.stands (t ++ said q c.args.yes ∷ []) (walk_heard c.args.self e q c.in-OnWalk.set c.args.yes t k' h)
 
 pub returns-in-Part-clause-stands : goal.returns-in-Part-clause-stands
 returns-in-Part-clause-stands c = λ t q asked stands.
-    let k' : Knowledge = c.answered-knowledge.result in
+    let k' : Knowledge = c.with_answer-knowledge.result in
     let e : Assignment = c.in-Part.example in
     let run = c.in-Part.run' in
-    let h = heard c.args.self (Part e c.in-Part.set run) c.question-question.result q c.args.yes t k' c.in-Part.is c.question-question.ensures.is asked stands c.answered-knowledge.ensures.lawful c.answered-knowledge.ensures.answered in
+    let h = heard c.args.self (Part e c.in-Part.set run) c.question-question.result q c.args.yes t k' c.in-Part.is c.question-question.ensures.is asked stands c.with_answer-knowledge.ensures.lawful c.with_answer-knowledge.ensures.answered in
     let now = replies_of c.args.self e q c.in-Part.set run c.args.yes t k' h in
-    c.halved.ensures.stands (now.replies ++ c.args.yes ∷ []) (c.reply.ensures c.in-Part.set now.replies now.running)
+    c.halve_on.ensures.stands (now.replies ++ c.args.yes ∷ []) (c.reply.ensures c.in-Part.set now.replies now.running)
     (t ++ said q c.args.yes ∷ []) (part_heard c.args.self e q c.in-Part.set run c.args.yes t k' h)
 
 pub returns-in-FirstTuple-clause-stands : goal.returns-in-FirstTuple-clause-stands
 returns-in-FirstTuple-clause-stands c = λ t q asked stands.
-    let k' : Knowledge = c.answered-knowledge.result in
+    let k' : Knowledge = c.with_answer-knowledge.result in
     let run = c.in-FirstTuple.run' in
-    let h = heard c.args.self (FirstTuple run) c.question-question.result q c.args.yes t k' c.in-FirstTuple.is c.question-question.ensures.is asked stands c.answered-knowledge.ensures.lawful c.answered-knowledge.ensures.answered in
+    let h = heard c.args.self (FirstTuple run) c.question-question.result q c.args.yes t k' c.in-FirstTuple.is c.question-question.ensures.is asked stands c.with_answer-knowledge.ensures.lawful c.with_answer-knowledge.ensures.answered in
     c.tuple_answered.ensures.stands (t ++ said q c.args.yes ∷ []) (first_heard c.args.self q run c.args.yes t k' h)
 
 pub returns-in-Tuple-clause-stands : goal.returns-in-Tuple-clause-stands
 returns-in-Tuple-clause-stands c = λ t q asked stands.
-    let k' : Knowledge = c.answered-knowledge.result in
+    let k' : Knowledge = c.with_answer-knowledge.result in
     let run = c.in-Tuple.run' in
-    let h = heard c.args.self (Tuple run) c.question-question.result q c.args.yes t k' c.in-Tuple.is c.question-question.ensures.is asked stands c.answered-knowledge.ensures.lawful c.answered-knowledge.ensures.answered in
+    let h = heard c.args.self (Tuple run) c.question-question.result q c.args.yes t k' c.in-Tuple.is c.question-question.ensures.is asked stands c.with_answer-knowledge.ensures.lawful c.with_answer-knowledge.ensures.answered in
     c.tuple_answered-in-Tuple.ensures.stands (t ++ said q c.args.yes ∷ []) (tuple_heard c.args.self q run c.args.yes t k' h)

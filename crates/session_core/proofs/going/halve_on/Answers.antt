@@ -6,7 +6,7 @@ use Rattle.multi_tree.specs.Stage.{walk_in}
 use Rattle.session_core.specs.declared.knowledge.Knowledge.{Knowledge}
 use Rattle.session_core.proofs.Moving.{led_as}
 use Rattle.session_core.proofs.Settling.{all_replies, settled_part, settled_found}
-use Rattle.session_core.proofs.going.halved.Goals as goal
+use Rattle.session_core.proofs.going.halve_on.Goals as goal
 
 pub returns-in-Wants-clause-stands : goal.returns-in-Wants-clause-stands
 returns-in-Wants-clause-stands c = λ replies stands t led.
@@ -27,4 +27,4 @@ returns-in-Found-clause-stands c = λ replies stands t led.
     let k : Knowledge = c.args.knowledge in
     let set : List ℕ = c.args.set in
     let at = subst (λ (next : ScopeNext). StandsFor next set (all_replies k.lang k.kept.members c.args.example set replies)) c.in-Found.is (c.settle.ensures set replies (sym c.len-size.ensures.count) stands) in
-    c.found.ensures.stands t (led_as k t _ _ (settled_found k.lang t c.args.example set replies k.network.list k.kept.members (walk_in k.tree) c.in-Found.got led.knows.kept at) led)
+    c.take_found.ensures.stands t (led_as k t _ _ (settled_found k.lang t c.args.example set replies k.network.list k.kept.members (walk_in k.tree) c.in-Found.got led.knows.kept at) led)

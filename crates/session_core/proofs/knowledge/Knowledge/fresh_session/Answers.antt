@@ -4,7 +4,7 @@ use Rattle.language.specs.Language.{candidates}
 use Rattle.language.specs.Answers.{kept}
 use Rattle.session_laws.specs.Session.{At, Idle}
 use Rattle.session_core.proofs.Moving.{filter_all, state_nil}
-use Rattle.session_core.proofs.knowledge.Knowledge.restarted.Goals as goal
+use Rattle.session_core.proofs.knowledge.Knowledge.fresh_session.Goals as goal
 
 pub returns-clause-stands : goal.returns-clause-stands
 returns-clause-stands c =

@@ -9,10 +9,10 @@ use Rattle.multi_tree.specs.Stage.{walk_in}
 use Rattle.session_core.specs.declared.knowledge.Knowledge.{Knowledge}
 use Rattle.session_core.specs.Sound.{AreUnlearned}
 use Rattle.session_core.proofs.Moving.{decided_learned, kept_learned, unlearned_after}
-use Rattle.session_core.proofs.going.learned.Goals as goal
+use Rattle.session_core.proofs.going.learn.Goals as goal
 
-pub invariant_of-walked : goal.invariant_of-walked
-invariant_of-walked c =
+pub invariant_of-walk_on : goal.invariant_of-walk_on
+invariant_of-walk_on c =
     let k : Knowledge = c.args.knowledge in
     let left : Candidate → Bool = λ (d : Candidate). not (c.args.c.scope == d.scope) in
     let more : List Candidate = c.learn.new.self.list in
@@ -30,7 +30,7 @@ invariant_of-walked c =
 pub returns-clause-stands : goal.returns-clause-stands
 returns-clause-stands c = λ t led.
     let k : Knowledge = c.args.knowledge in
-    c.walked.ensures.stands t (record {
+    c.walk_on.ensures.stands t (record {
       at = led.at ∙ ap (λ (cs : List Candidate). At (go_on k.lang t cs (walk_in k.tree))) (sym c.learn.ensures.list);
       knows = record {
         kept = c.drop_scope.ensures.kept ∙ ap (filter (λ (d : Candidate). not (c.args.c.scope == d.scope))) led.knows.kept ∙ sym (kept_learned k.lang t k.network.list c.args.c)

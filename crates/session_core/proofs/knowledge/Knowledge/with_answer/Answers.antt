@@ -3,7 +3,7 @@ use Rattle.language.specs.declared.candidates.Candidate.{Candidate}
 use Rattle.language.specs.Language.{violates}
 use Rattle.session_core.specs.declared.knowledge.Knowledge.{Knowledge}
 use Rattle.session_core.proofs.Moving.{decided_on, unlearned_struck}
-use Rattle.session_core.proofs.knowledge.Knowledge.answered.Goals as goal
+use Rattle.session_core.proofs.knowledge.Knowledge.with_answer.Goals as goal
 
 pub invariant_of-result : goal.invariant_of-result
 invariant_of-result c =

@@ -1,7 +1,7 @@
 use Rattle.std.proofs.Common.{◌≡◌, ℕ, ◌-◌, ◌<◌, ◌≤◌, false, length}
 use Rattle.assign.specs.Assignment.{covers}
 use Rattle.language.specs.Language.{scope_at}
-use Rattle.bias_store.proofs.tables.Tables.asked_from.Given as goal
+use Rattle.bias_store.proofs.tables.Tables.asked_run.Given as goal
 
 abbrev pub invariant-loop-at : goal.invariant-loop-at
 invariant-loop-at l = record {

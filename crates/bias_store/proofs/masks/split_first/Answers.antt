@@ -1,0 +1,16 @@
+use Rattle.std.proofs.Common.{◌<◌, ◌∷◌, ◌∙◌, ap, sym, arith}
+use Rattle.std.specs.Prelude.{bit_and}
+use Rattle.std.specs.Int.{bit_not, trailing_zeros, w64}
+use Rattle.std.proofs.lemmas.Nat.{one_shl}
+use Rattle.std.proofs.lemmas.Nat.Bits.{bit_at-trailing_zeros}
+use Rattle.bias_store.specs.Masks.{ones_of}
+use Rattle.bias_store.proofs.Ones.{ones_of-first_and_others}
+use Rattle.bias_store.proofs.masks.split_first.Goals as goal
+
+pub returns : goal.returns
+returns c =
+    let some = c.requires in
+    let positive : 0 < c.args.relations = omega arith in
+    let low = bit_at-trailing_zeros w64 c.args.relations positive c.ranges.relations.fits in
+    ones_of-first_and_others c.args.relations _ low.0 low.1 low.2
+    ∙ ap (λ m. trailing_zeros w64 c.args.relations ∷ ones_of (bit_and c.args.relations (bit_not w64 m))) (sym (one_shl _ 64 low.0))

@@ -1,0 +1,83 @@
+-- Where choices differ, from rows of their tables, one relation after another.
+use Rattle.std.proofs.Common.{◌≡◌, ℕ, ◌+◌, ◌<◌, Bool, true, false, ◌&&◌, ◌||◌, not, List, [], ◌∷◌, ◌++◌, map, length, Some, None, refl, sym, ◌∙◌, ap}
+use Rattle.std.specs.Prelude.{◌==◌, bit_or, bit_and, All}
+use Rattle.std.specs.List.{list_any}
+use Rattle.std.proofs.lemmas.List.Folds.{list_any-append}
+use Rattle.std.proofs.lemmas.Nat.Bits.{bit_at-zero}
+use Rattle.std.proofs.lemmas.List.Elements.{All-nil, All-cons, All-head, All-tail}
+use Rattle.assign.specs.SetLemmas.{is_one, is_one-or}
+use Rattle.language.specs.Language.{Language, relations_on}
+use Rattle.language.specs.TellingApart.{Choice, Scene}
+use Rattle.bias_store.specs.Masks.{ones_of}
+use Rattle.bias_store.proofs.Ones.{is_one-and}
+use Rattle.find_c.specs.Choices.{choices_of, allows_at, differ_at}
+use Rattle.find_c.specs.Run.{IsChoiceOn}
+use Rattle.find_c.proofs.Marks.{none_of_nothing}
+
+or_assoc : (a b c : Bool) → ((a || b) || c) ≡ (a || (b || c))
+or_assoc true b c = refl
+or_assoc false b c = refl
+
+or_false : (b : Bool) → (b || false) ≡ b
+or_false true = refl
+or_false false = refl
+
+or_true : (b : Bool) → (b || true) ≡ true
+or_true true = refl
+or_true false = refl
+
+-- what the bits of a mask say of the relations that were looked at, and the other ones of themselves, is what all say
+abbrev pub IsSeen : Scene → ℕ → (ℕ → Choice → Bool) → ℕ → ℕ → ℕ → Type 0
+IsSeen scene place test relations mask left =
+    (y : ℕ) → y < scene.value_count → (is_one mask y || list_any (test (place + y)) (choices_of left false)) ≡ list_any (test (place + y)) (choices_of relations false)
+
+abbrev pub rejects_at : Scene → ℕ → Choice → Bool
+rejects_at scene place c = not (allows_at scene place c)
+
+pub seen_none : (scene : Scene) (place : ℕ) (test : ℕ → Choice → Bool) (relations : ℕ) → IsSeen scene place test relations 0 relations
+seen_none scene place test relations y low = ap (λ x. (x == 1) || list_any (test (place + y)) (choices_of relations false)) (bit_at-zero y)
+
+-- one relation more was looked at
+pub seen_more : (scene : Scene) (place : ℕ) (test : ℕ → Choice → Bool) (relations mask left r others row : ℕ) → ones_of left ≡ r ∷ ones_of others →
+    ((y : ℕ) → y < scene.value_count → is_one row y ≡ test (place + y) (Some r)) → IsSeen scene place test relations mask left → IsSeen scene place test relations (bit_or mask row) others
+seen_more scene place test relations mask left r others row is tells before y low =
+    ap (λ b. b || list_any (test (place + y)) (choices_of others false)) (is_one-or mask row y ∙ ap (λ b. is_one mask y || b) (tells y low))
+    ∙ or_assoc (is_one mask y) (test (place + y) (Some r)) (list_any (test (place + y)) (choices_of others false))
+    ∙ ap (λ rs. is_one mask y || list_any (test (place + y)) (map (λ k. let c : Choice = Some k in c) rs ++ [])) (sym is)
+    ∙ before y low
+
+-- all were
+seen_all : (scene : Scene) (place : ℕ) (test : ℕ → Choice → Bool) (relations mask left : ℕ) → left ≡ 0 → IsSeen scene place test relations mask left →
+    (y : ℕ) → y < scene.value_count → is_one mask y ≡ list_any (test (place + y)) (choices_of relations false)
+seen_all scene place test relations mask left none before y low =
+    sym (or_false (is_one mask y)) ∙ ap (λ cs. is_one mask y || list_any (test (place + y)) cs) (sym (none_of_nothing left none)) ∙ before y low
+
+module _ (scene : Scene) (place relations accepted rejected left : ℕ) (none : left ≡ 0)
+    (accepts : IsSeen scene place (allows_at scene) relations accepted left) (rejects : IsSeen scene place (rejects_at scene) relations rejected left) (y : ℕ) (low : y < scene.value_count) where
+  pub differ_bound : is_one (bit_and accepted rejected) y ≡ differ_at scene (choices_of relations false) (place + y)
+  differ_bound =
+      is_one-and accepted rejected y
+      ∙ (λ i. seen_all scene place (allows_at scene) relations accepted left none accepts y low i && seen_all scene place (rejects_at scene) relations rejected left none rejects y low i)
+
+  -- none of the relations accepts every tuple
+  pub differ_free : is_one rejected y ≡ differ_at scene (choices_of relations true) (place + y)
+  differ_free =
+      seen_all scene place (rejects_at scene) relations rejected left none rejects y low
+      ∙ list_any-append (rejects_at scene (place + y)) rs [] ∙ sym (list_any-append (rejects_at scene (place + y)) rs (None ∷ []))
+      ∙ ap (λ b. b && list_any (rejects_at scene (place + y)) (choices_of relations true))
+      (sym (list_any-append (allows_at scene (place + y)) rs (None ∷ []) ∙ or_true (list_any (allows_at scene (place + y)) rs)))
+    where
+      rs : List Choice
+      rs = map (λ r. Some r) (ones_of relations)
+
+-- ---- they are of the scope
+
+known_relations : (l : Language) (s : ℕ) (rs : List ℕ) (rest : List Choice) → All (IsChoiceOn l s) (map (λ r. let c : Choice = Some r in c) rs ++ rest) → All (λ r. r < length (relations_on l s)) rs
+known_relations l s [] rest known = All-nil (λ r. r < length (relations_on l s))
+known_relations l s (r ∷ rs) rest known =
+    All-cons (λ r. r < length (relations_on l s)) r rs (All-head (IsChoiceOn l s) (Some r) (map (λ r. Some r) rs ++ rest) known r refl)
+    (known_relations l s rs rest (All-tail (IsChoiceOn l s) (Some r) (map (λ r. Some r) rs ++ rest) known))
+
+pub known_of : (l : Language) (s relations : ℕ) (free : Bool) → All (IsChoiceOn l s) (choices_of relations free) → All (λ r. r < length (relations_on l s)) (ones_of relations)
+known_of l s relations true known = known_relations l s (ones_of relations) (None ∷ []) known
+known_of l s relations false known = known_relations l s (ones_of relations) [] known

@@ -1,0 +1,49 @@
+use Rattle.std.proofs.Common.{◌≡◌, ℕ, ◌+◌, ◌<◌, ◌∙◌, Some, ap, sym, subst, not, length, get_or, false, arith}
+use Rattle.std.specs.Prelude.{All}
+use Rattle.std.specs.Int.{bit_not, w64}
+use Rattle.std.proofs.lemmas.List.Elements.{All-head, All-tail}
+use Rattle.assign.specs.SetLemmas.{is_one}
+use Rattle.language.specs.Language.{relations_on}
+use Rattle.language.specs.Scenes.{scene_of}
+use Rattle.bias_store.specs.Masks.{ones_of}
+use Rattle.bias_store.proofs.Ones.{is_one-not}
+use Rattle.find_c.specs.Choices.{choices_of, allows_at, differ_at}
+use Rattle.find_c.specs.Run.{IsChoiceOn}
+use Rattle.find_c.proofs.Differences.{known_of, seen_none, seen_more, rejects_at, differ_bound, differ_free}
+use Rattle.find_c.proofs.choices.Choices.differences.Goals as goal
+
+pub loop-left-init : goal.loop-left-init
+loop-left-init c = record {
+  known = known_of c.args.lang.now c.args.s c.self.inside.relations c.self.inside.free (subst (λ cs. All (IsChoiceOn c.args.lang.now c.args.s) cs) (sym c.self.view_is) c.requires.known);
+  accepts = seen_none (scene_of c.args.lang.now c.args.s) c.args.place (allows_at (scene_of c.args.lang.now c.args.s)) c.self.inside.relations;
+  rejects = seen_none (scene_of c.args.lang.now c.args.s) c.args.place (rejects_at (scene_of c.args.lang.now c.args.s)) c.self.inside.relations;
+}
+
+pub table_on-requires-clause-rel : goal.table_on-requires-clause-rel
+table_on-requires-clause-rel c = All-head (λ r. r < length (relations_on c.args.lang.now c.args.s)) c.split_first-r.result.0 (ones_of c.split_first-r.result.1) (subst (λ rs. All (λ r. r < length (relations_on c.args.lang.now c.args.s)) rs) c.split_first-r.ensures c.loop-left.invariant.known)
+
+pub row-row-requires : goal.row-row-requires
+row-row-requires c = let fits = c.requires.row in let size = c.table_on.ensures.size in let values = c.table_on.ensures.values in omega arith
+
+tells : (c : goal.After-row-row) → (y : ℕ) → y < c.args.lang.now.value_count → is_one c.row-row.result y ≡ allows_at (scene_of c.args.lang.now c.args.s) (c.args.place + y) (Some c.split_first-r.result.0)
+tells c y low = c.row-row.ensures y (let values = c.table_on.ensures.values in omega arith) ∙ ap (λ t. get_or t (c.args.place + y) false) c.table_on.ensures.is
+
+pub loop-left-preserved : goal.loop-left-preserved
+loop-left-preserved c =
+    let scene = scene_of c.args.lang.now c.args.s in
+    record {
+      known = All-tail (λ r. r < length (relations_on c.args.lang.now c.args.s)) c.split_first-r.result.0 (ones_of c.split_first-r.result.1) (subst (λ rs. All (λ r. r < length (relations_on c.args.lang.now c.args.s)) rs) c.split_first-r.ensures c.loop-left.invariant.known);
+      accepts = seen_more scene c.args.place (allows_at scene) c.self.inside.relations c.loop-left.accepted c.loop-left.left c.split_first-r.result.0 c.split_first-r.result.1 c.row-row.result c.split_first-r.ensures (tells c) c.loop-left.invariant.accepts;
+      rejects = seen_more scene c.args.place (rejects_at scene) c.self.inside.relations c.loop-left.rejected c.loop-left.left c.split_first-r.result.0 c.split_first-r.result.1 (bit_not w64 c.row-row.result) c.split_first-r.ensures
+          (λ y low. is_one-not c.row-row.result y c.row-row.type_inv (let few = c.requires.lawful.few_values in omega arith) ∙ ap not (tells c y low)) c.loop-left.invariant.rejects;
+    }
+
+pub returns-then-self : goal.returns-then-self
+returns-then-self c = λ y low.
+    differ_free (scene_of c.args.lang.now c.args.s) c.args.place c.self.inside.relations c.loop-left.accepted c.loop-left.rejected c.loop-left.left c.loop-left-test.false c.loop-left.invariant.accepts c.loop-left.invariant.rejects y low
+    ∙ ap (λ cs. differ_at (scene_of c.args.lang.now c.args.s) cs (c.args.place + y)) (ap (choices_of c.self.inside.relations) (sym c.if-self.true) ∙ c.self.view_is)
+
+pub returns-else-self : goal.returns-else-self
+returns-else-self c = λ y low.
+    differ_bound (scene_of c.args.lang.now c.args.s) c.args.place c.self.inside.relations c.loop-left.accepted c.loop-left.rejected c.loop-left.left c.loop-left-test.false c.loop-left.invariant.accepts c.loop-left.invariant.rejects y low
+    ∙ ap (λ cs. differ_at (scene_of c.args.lang.now c.args.s) cs (c.args.place + y)) (ap (choices_of c.self.inside.relations) (sym c.if-self.false) ∙ c.self.view_is)
