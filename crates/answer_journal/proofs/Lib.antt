@@ -10,3 +10,4 @@ pub mod OnlyRead
 mod PieceLemmas
 mod Readings
 mod FirstPiece
+pub mod SomeBytes

@@ -42,6 +42,8 @@ pub fn create<D: Disk>(
     // It is made only where there is no session, and refused by what the bytes say.
     ensures free { ForSome (D.content disk.old) (λ bytes. OnOk result (HasNoSession bytes)) }
     ensures refused { ForSome (D.content disk.old) (λ bytes. IfErr result (CreateRefused bytes)) }
+    // where the disk tells nothing, by what some bytes say
+    ensures some_refusal { IfErr result (λ e. (bytes : List ℕ) × CreateRefused bytes e) }
     ensures failed { IsErrOf result JFault.DiskFault → Rose (D.faults disk.old) (D.faults disk.new) }
     ensures later { D.faults disk.old ≤ D.faults disk.new }
 

@@ -2,7 +2,7 @@
 
 ghost use Rattle.std.specs.Prelude.{◌≡◌, ◌<◌, ◌≤◌, ◌+◌, ◌*◌, ◌⊎◌, ◌↔◌, List, ℕ, Some, None, IsTrue, IsFalse, IsErr, IfErr, IsErrOf, IsSome, OnOk, length};
 ghost use Rattle.std.specs.Option.{ForSome, ForNone};
-ghost use Rattle.disk_model.specs.Disk.{Only, LeavesOnly, Rose};
+ghost use Rattle.disk_model.specs.Disk.{Only, LeavesOnly, AreCalls, Rose};
 ghost use Rattle.answer_journal.specs.Storable.{IsStorableEvent};
 ghost use Rattle.answer_journal.specs.Steps.{IsOnDisk};
 
@@ -97,6 +97,10 @@ impl Journal {
         ensures full_keeps { IsErrOf result JFault.Full → (self.new ≡ self.old) × (disk.new ≡ disk.old) }
         ensures failed { IsErrOf result JFault.DiskFault → Rose (D.faults disk.old) (D.faults disk.new) × IsFalse self.new.live }
         ensures later { D.faults disk.old ≤ D.faults disk.new }
+
+        // It makes four calls to the disk, and no more where it fails.
+        ensures calls { OnOk result (AreCalls 4 (D.calls disk.old) (D.calls disk.new)) }
+        ensures few_calls { D.calls disk.new ≤ D.calls disk.old + 4 }
     {
         if self.records >= MOST_RECORDS {
             return Err(JFault::Full);

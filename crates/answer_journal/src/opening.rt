@@ -49,6 +49,10 @@ pub fn open<D: Disk>(alloc: Global, disk: &mut D) -> Result<Opened, JFault>
     ensures failed { IsErrOf result JFault.DiskFault → Rose (D.faults disk.old) (D.faults disk.new) }
     ensures later { D.faults disk.old ≤ D.faults disk.new }
 
+    // Where the disk tells nothing, either is what some bytes say.
+    ensures some_session { IfOk result (λ o. (bytes : List ℕ) × ReadsAs bytes (Session o.plan o.voc.items o.events.items)) }
+    ensures some_refusal { IfErr result (λ e. (e ≡ JFault.DiskFault) ⊎ ((bytes : List ℕ) × Refused bytes e)) }
+
     // It writes nothing.
     ensures same { D.content disk.new ≡ D.content disk.old }
     ensures any_moment { LeavesOnly D.moment D.left_since disk.old disk.new (D.may_leave disk.old) }

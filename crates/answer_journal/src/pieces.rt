@@ -37,6 +37,7 @@ pub(crate) fn events_of<D: Disk>(
     requires within { ForSome (D.content disk.old) (λ bytes. start < length bytes) }
     ensures found { ForSome (D.content disk.old) (λ bytes. IfOk result (λ found. HasEvents (drop start bytes) found.0.items)) }
     ensures refused { ForSome (D.content disk.old) (λ bytes. IfErr result (λ e. (e ≡ JFault.DiskFault) ⊎ EventsRefused start (drop start bytes) e)) }
+    ensures some_bytes { IfErr result (λ e. (e ≡ JFault.DiskFault) ⊎ ((bytes : List ℕ) × EventsRefused start bytes e)) }
     ensures place { IfOk result (λ found. found.1 ≡ start + length (flat_map event_record found.0.items)) }
     ensures storable { IfOk result (λ found. All IsStorableEvent found.0.items) }
     ensures few { IfOk result (λ found. length found.0.items < 1000000) }
@@ -68,6 +69,7 @@ fn events_in(
     requires storable { All IsStorableEvent events.old.items }
     requires few { length events.old.items < 1000000 }
     ensures read { (bytes more : List ℕ) (start : ℕ) → BeginsWith bytes events.old.items (piece.now ++ more) → (IsTrue is_last → more ≡ []) → at ≡ start + length (flat_map event_record events.old.items) → MatchResult result (IsReached bytes events.new.items) (EventsRefused start bytes) }
+    ensures some_bytes { (start : ℕ) → at ≡ start + length (flat_map event_record events.old.items) → IfErr result (λ e. (bytes : List ℕ) × EventsRefused start bytes e) }
     ensures place { IfOk result (λ reached. gate_reached reached + length (flat_map event_record events.old.items) ≡ at + length (flat_map event_record events.new.items)) }
     ensures storable { OnOk result (All IsStorableEvent events.new.items) }
     ensures few { OnOk result (length events.new.items < 1000000) }

@@ -48,6 +48,11 @@ pub record LeavesOnly {D : Type 0} (moment : D → ℕ) (left_since : D → ℕ 
 abbrev pub Rose : ℕ → ℕ → Type 0
 Rose before now = min (before + 1) (2 ^ 64 - 1) ≤ now
 
+-- So many calls more are counted, or the count stands at its last value.
+pub record AreCalls (n before now : ℕ) : Type 0 where
+  pub at_most : now ≤ before + n
+  pub at_least : min (before + n) (2 ^ 64 - 1) ≤ now
+
 -- A call fails only where the count of faults rose in it.
 pub record HasCause {T E : Type 0} (before now : ℕ) (result : Result T E) : Type 0 where
   pub later : before ≤ now

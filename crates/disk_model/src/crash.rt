@@ -128,7 +128,7 @@ fn torn_image(
     let mut torn = Vec::new(alloc);
     for cut in 0..size {
         torn.push(part_copy(alloc, image, at, &bytes[..cut], size)?)?;
-        let garbled = garbled(alloc, bytes, cut, garbage)?;
+        let garbled = garble(alloc, bytes, cut, garbage)?;
         torn.push(part_copy(alloc, image, at, &garbled, size)?)?;
     }
     torn.push(part_copy(alloc, image, at, bytes, size)?)?;
@@ -136,7 +136,7 @@ fn torn_image(
 }
 
 /// The first bytes, and garbage in the place of the others.
-fn garbled(alloc: Global, bytes: &[u8], cut: usize, garbage: u8) -> Result<Vec<u8>, AllocError>
+fn garble(alloc: Global, bytes: &[u8], cut: usize, garbage: u8) -> Result<Vec<u8>, AllocError>
     requires { cut ≤ length bytes.now }
     ensures { IfOk result (λ garbled. garbled.items ≡ take cut bytes.now ++ replicate (length bytes.now - cut) garbage) }
 {

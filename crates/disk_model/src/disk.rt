@@ -2,7 +2,7 @@
 
 ghost use Rattle.std.specs.Prelude.{◌≡◌, ◌<◌, ◌≤◌, ℕ, min, ◌-◌, ◌++◌, List, Option, Some, None, length, take, drop, IfOk, OnOk};
 ghost use Rattle.std.specs.Option.{ForSome, ForNone};
-ghost use Rattle.disk_model.specs.Disk.{Torn, IsWritten, Follows, Only, AddsNothing, Elapses, HasCause};
+ghost use Rattle.disk_model.specs.Disk.{Torn, IsWritten, Follows, Only, AddsNothing, Elapses, AreCalls, HasCause};
 
 use crate::Failed;
 
@@ -23,6 +23,9 @@ pub trait Disk {
     /// What a crash at some moment from that one on might have left.
     ghost left_since: { Self → ℕ → List ℕ → Type 0 };
 
+    /// How often the disk was called, if it counts its calls. One that doesn't stands at the last value of a count.
+    ghost calls: { Self → ℕ };
+
     /// How often the disk has failed.
     ghost faults: { Self → ℕ };
 
@@ -32,6 +35,7 @@ pub trait Disk {
         ensures same { content self.new ≡ content self.old }
         ensures crash { AddsNothing (may_leave self.old) (may_leave self.new) }
         ensures time { Elapses (moment self.old) (moment self.new) (left_since self.old) (left_since self.new) (may_leave self.new) }
+        ensures one_call { AreCalls 1 (calls self.old) (calls self.new) }
         ensures cause { HasCause (faults self.old) (faults self.new) result };
 
     /// Reads the bytes from a place on, as many as the buffer takes or the file has, and says how many.
@@ -41,6 +45,7 @@ pub trait Disk {
         ensures same { content self.new ≡ content self.old }
         ensures crash { AddsNothing (may_leave self.old) (may_leave self.new) }
         ensures time { Elapses (moment self.old) (moment self.new) (left_since self.old) (left_since self.new) (may_leave self.new) }
+        ensures one_call { AreCalls 1 (calls self.old) (calls self.new) }
         ensures cause { HasCause (faults self.old) (faults self.new) result };
 
     /// Writes over what stands there, and past the end. A write that fails may have been made in part.
@@ -50,6 +55,7 @@ pub trait Disk {
         ensures silent { ForNone (content self.old) (content self.new ≡ None) }
         ensures crash { Follows (Torn at (length bytes.now)) (may_leave self.old) (may_leave self.new) }
         ensures time { Elapses (moment self.old) (moment self.new) (left_since self.old) (left_since self.new) (may_leave self.new) }
+        ensures one_call { AreCalls 1 (calls self.old) (calls self.new) }
         ensures cause { HasCause (faults self.old) (faults self.new) result };
 
     /// After it, a crash leaves what a read gives.
@@ -58,6 +64,7 @@ pub trait Disk {
         ensures same { content self.new ≡ content self.old }
         ensures crash { AddsNothing (may_leave self.old) (may_leave self.new) }
         ensures time { Elapses (moment self.old) (moment self.new) (left_since self.old) (left_since self.new) (may_leave self.new) }
+        ensures one_call { AreCalls 1 (calls self.old) (calls self.new) }
         ensures cause { HasCause (faults self.old) (faults self.new) result };
 
     /// What a read gives may be left.

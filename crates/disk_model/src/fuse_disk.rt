@@ -1,8 +1,8 @@
 //! A disk in memory that passes a number of calls and then fails every call.
 
-ghost use Rattle.std.specs.Prelude.{◌≡◌, ◌≤◌, ◌<◌, ◌+◌, ◌-◌, ◌⊎◌, ◌↔◌, ◌++◌, [], ◌∷◌, ℕ, min, Some, None, List, IsTrue, IsErr, IfOk, OnOk, OnErr, length, take, drop};
+ghost use Rattle.std.specs.Prelude.{◌≡◌, ◌≤◌, ◌<◌, ◌+◌, ◌-◌, ◌⊎◌, ◌↔◌, ◌++◌, [], ◌∷◌, ℕ, min, Some, None, List, IsTrue, IsErr, is_err, IfOk, OnOk, OnErr, length, take, drop};
 ghost use Rattle.std.specs.Option.{ForSome, ForNone};
-ghost use Rattle.disk_model.specs.Disk.{Torn, IsWritten, Follows, Only, AddsNothing, Elapses, HasCause};
+ghost use Rattle.disk_model.specs.Disk.{Torn, IsWritten, Follows, Only, AddsNothing, Elapses, AreCalls, HasCause};
 ghost use Rattle.disk_model.specs.Record.{Wrote, Synced};
 
 use crate::{Disk, Failed, MemDisk};
@@ -54,7 +54,7 @@ impl FuseDisk {
 
 impl Disk for FuseDisk {
     ghost use Rattle.disk_model.specs.MemDisk.{content_of, steps_in, images_of, moment_of, left_of, FailsNext, IsWornOut, Outgrows, HasSameRecord, tells_truth, counts, only};
-    ghost use Rattle.disk_model.specs.FuseDisk.{inner_of, passes_of, faults_of};
+    ghost use Rattle.disk_model.specs.FuseDisk.{inner_of, passes_of, calls_of, faults_of, HasPassed};
 
     ghost content = { λ d. Some (content_of (inner_of d)) };
 
@@ -63,6 +63,8 @@ impl Disk for FuseDisk {
     ghost moment = { λ d. moment_of (inner_of d) };
 
     ghost left_since = { λ d. left_of (inner_of d) };
+
+    ghost calls = { calls_of };
 
     ghost faults = { faults_of };
 
@@ -77,11 +79,13 @@ impl Disk for FuseDisk {
         ensures same { Some (content_of (inner_of self.new)) ≡ Some (content_of (inner_of self.old)) }
         ensures crash { AddsNothing (images_of (inner_of self.old)) (images_of (inner_of self.new)) }
         ensures time { Elapses (moment_of (inner_of self.old)) (moment_of (inner_of self.new)) (left_of (inner_of self.old)) (left_of (inner_of self.new)) (images_of (inner_of self.new)) }
+        ensures one_call { AreCalls 1 (calls_of self.old) (calls_of self.new) }
         ensures cause { HasCause (faults_of self.old) (faults_of self.new) result }
 
         // It fails exactly where no pass is left, or the disk within fails.
         ensures exact { IsErr result ↔ ((passes_of self.old ≡ 0) ⊎ FailsNext (inner_of self.old)) }
         ensures passed { passes_of self.new ≡ passes_of self.old - 1 }
+        ensures once { HasPassed self.old self.new (is_err result) }
         ensures kept { HasSameRecord (inner_of self.old) (inner_of self.new) }
     {
         self.burn()?;
@@ -94,11 +98,13 @@ impl Disk for FuseDisk {
         ensures same { Some (content_of (inner_of self.new)) ≡ Some (content_of (inner_of self.old)) }
         ensures crash { AddsNothing (images_of (inner_of self.old)) (images_of (inner_of self.new)) }
         ensures time { Elapses (moment_of (inner_of self.old)) (moment_of (inner_of self.new)) (left_of (inner_of self.old)) (left_of (inner_of self.new)) (images_of (inner_of self.new)) }
+        ensures one_call { AreCalls 1 (calls_of self.old) (calls_of self.new) }
         ensures cause { HasCause (faults_of self.old) (faults_of self.new) result }
 
         // It fails exactly where no pass is left, or the disk within fails.
         ensures exact { IsErr result ↔ ((passes_of self.old ≡ 0) ⊎ FailsNext (inner_of self.old)) }
         ensures passed { passes_of self.new ≡ passes_of self.old - 1 }
+        ensures once { HasPassed self.old self.new (is_err result) }
         ensures kept { HasSameRecord (inner_of self.old) (inner_of self.new) }
         ensures unread { OnErr result (buf.new ≡ buf.old) }
     {
@@ -112,11 +118,13 @@ impl Disk for FuseDisk {
         ensures silent { ForNone (Some (content_of (inner_of self.old))) (Some (content_of (inner_of self.new)) ≡ None) }
         ensures crash { Follows (Torn at (length bytes.now)) (images_of (inner_of self.old)) (images_of (inner_of self.new)) }
         ensures time { Elapses (moment_of (inner_of self.old)) (moment_of (inner_of self.new)) (left_of (inner_of self.old)) (left_of (inner_of self.new)) (images_of (inner_of self.new)) }
+        ensures one_call { AreCalls 1 (calls_of self.old) (calls_of self.new) }
         ensures cause { HasCause (faults_of self.old) (faults_of self.new) result }
 
         // It fails exactly where no pass is left, or the disk within fails.
         ensures exact { IsErr result ↔ ((passes_of self.old ≡ 0) ⊎ FailsNext (inner_of self.old) ⊎ Outgrows (inner_of self.old) at (length bytes.now) ⊎ IsWornOut (inner_of self.old)) }
         ensures passed { passes_of self.new ≡ passes_of self.old - 1 }
+        ensures once { HasPassed self.old self.new (is_err result) }
         ensures kept { OnErr result (HasSameRecord (inner_of self.old) (inner_of self.new)) }
         ensures noted { OnOk result (steps_in (inner_of self.new) ≡ steps_in (inner_of self.old) ++ Wrote at bytes.now ∷ []) }
     {
@@ -129,11 +137,13 @@ impl Disk for FuseDisk {
         ensures same { Some (content_of (inner_of self.new)) ≡ Some (content_of (inner_of self.old)) }
         ensures crash { AddsNothing (images_of (inner_of self.old)) (images_of (inner_of self.new)) }
         ensures time { Elapses (moment_of (inner_of self.old)) (moment_of (inner_of self.new)) (left_of (inner_of self.old)) (left_of (inner_of self.new)) (images_of (inner_of self.new)) }
+        ensures one_call { AreCalls 1 (calls_of self.old) (calls_of self.new) }
         ensures cause { HasCause (faults_of self.old) (faults_of self.new) result }
 
         // It fails exactly where no pass is left, or the disk within fails.
         ensures exact { IsErr result ↔ ((passes_of self.old ≡ 0) ⊎ FailsNext (inner_of self.old) ⊎ IsWornOut (inner_of self.old)) }
         ensures passed { passes_of self.new ≡ passes_of self.old - 1 }
+        ensures once { HasPassed self.old self.new (is_err result) }
         ensures kept { OnErr result (HasSameRecord (inner_of self.old) (inner_of self.new)) }
         ensures noted { OnOk result (steps_in (inner_of self.new) ≡ steps_in (inner_of self.old) ++ Synced ∷ []) }
     {

@@ -2,7 +2,7 @@
 
 ghost use Rattle.std.specs.Prelude.{◌≡◌, ◌≤◌, ◌<◌, ◌+◌, ◌-◌, ◌⊎◌, ◌↔◌, ◌++◌, [], ◌∷◌, ℕ, min, Some, None, List, Bool, IsTrue, IsFalse, IsErr, is_err, IfOk, OnOk, OnErr, All, length, take, drop};
 ghost use Rattle.std.specs.Option.{ForSome, ForNone};
-ghost use Rattle.disk_model.specs.Disk.{Torn, IsWritten, Follows, Only, AddsNothing, Elapses, HasCause};
+ghost use Rattle.disk_model.specs.Disk.{Torn, IsWritten, Follows, Only, AddsNothing, Elapses, AreCalls, HasCause};
 ghost use Rattle.disk_model.specs.Record.{Wrote, Synced};
 ghost use Rattle.disk_model.specs.Crash.{AreImages};
 
@@ -121,7 +121,7 @@ impl MemDisk {
 }
 
 impl Disk for MemDisk {
-    ghost use Rattle.disk_model.specs.MemDisk.{content_of, start_of, steps_in, images_of, moment_of, left_of, faults_of, FailsNext, IsWornOut, Outgrows, HasSameRecord, IsCounted, tells_truth, counts, only};
+    ghost use Rattle.disk_model.specs.MemDisk.{content_of, start_of, steps_in, images_of, moment_of, left_of, calls_of, faults_of, FailsNext, IsWornOut, Outgrows, HasSameRecord, IsCounted, tells_truth, counts, only};
 
     ghost content = { λ d. Some (content_of d) };
 
@@ -130,6 +130,8 @@ impl Disk for MemDisk {
     ghost moment = { moment_of };
 
     ghost left_since = { left_of };
+
+    ghost calls = { calls_of };
 
     ghost faults = { faults_of };
 
@@ -144,6 +146,7 @@ impl Disk for MemDisk {
         ensures same { Some (content_of self.new) ≡ Some (content_of self.old) }
         ensures crash { AddsNothing (images_of self.old) (images_of self.new) }
         ensures time { Elapses (moment_of self.old) (moment_of self.new) (left_of self.old) (left_of self.new) (images_of self.new) }
+        ensures one_call { AreCalls 1 (calls_of self.old) (calls_of self.new) }
         ensures cause { HasCause (faults_of self.old) (faults_of self.new) result }
 
         // It fails exactly where its number is one of those, and changes nothing but the counts.
@@ -161,6 +164,7 @@ impl Disk for MemDisk {
         ensures same { Some (content_of self.new) ≡ Some (content_of self.old) }
         ensures crash { AddsNothing (images_of self.old) (images_of self.new) }
         ensures time { Elapses (moment_of self.old) (moment_of self.new) (left_of self.old) (left_of self.new) (images_of self.new) }
+        ensures one_call { AreCalls 1 (calls_of self.old) (calls_of self.new) }
         ensures cause { HasCause (faults_of self.old) (faults_of self.new) result }
 
         // It fails exactly where its number is one of those, and changes nothing but the counts.
@@ -179,6 +183,7 @@ impl Disk for MemDisk {
         ensures silent { ForNone (Some (content_of self.old)) (Some (content_of self.new) ≡ None) }
         ensures crash { Follows (Torn at (length bytes.now)) (images_of self.old) (images_of self.new) }
         ensures time { Elapses (moment_of self.old) (moment_of self.new) (left_of self.old) (left_of self.new) (images_of self.new) }
+        ensures one_call { AreCalls 1 (calls_of self.old) (calls_of self.new) }
         ensures cause { HasCause (faults_of self.old) (faults_of self.new) result }
 
         // It fails exactly where its number is one of those, or no room is left, and then changes nothing but the counts.
@@ -198,6 +203,7 @@ impl Disk for MemDisk {
         ensures same { Some (content_of self.new) ≡ Some (content_of self.old) }
         ensures crash { AddsNothing (images_of self.old) (images_of self.new) }
         ensures time { Elapses (moment_of self.old) (moment_of self.new) (left_of self.old) (left_of self.new) (images_of self.new) }
+        ensures one_call { AreCalls 1 (calls_of self.old) (calls_of self.new) }
         ensures cause { HasCause (faults_of self.old) (faults_of self.new) result }
 
         // It fails exactly where its number is one of those, or no room is left, and then changes nothing but the counts.

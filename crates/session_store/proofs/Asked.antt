@@ -1,8 +1,7 @@
 -- A question that is asked gives a value to some variable, so that a record can hold it.
-use Rattle.std.proofs.Common.{◌≡◌, ℕ, zero, suc, ◌+◌, ◌-◌, ◌<◌, ◌≤◌, Bool, true, false, ◌||◌, ◌&&◌, not, List, [], ◌∷◌, ◌++◌, length, replicate, Option, Some, None, refl, sym, ◌∙◌, ap, subst, arith, inl, inr, ◌⊎◌, ⊎_elim, length-append}
-use Rattle.std.specs.Prelude.{All, slice_index_or, is_some, option_map, option_and_then, filter, find}
-use Rattle.std.specs.List.{list_any, list_all}
-use Rattle.std.specs.Option.{ForSome}
+use Rattle.std.proofs.Common.{◌≡◌, ℕ, ◌-◌, ◌<◌, ◌≤◌, Bool, true, false, ◌&&◌, not, List, [], ◌∷◌, length, replicate, Option, Some, None, refl, sym, ◌∙◌, ap, arith, inl, inr, ◌⊎◌, ⊎_elim}
+use Rattle.std.specs.Prelude.{All, slice_index_or, is_some, option_map}
+use Rattle.std.specs.List.{list_any}
 use Rattle.std.proofs.lemmas.Bool.{and_parts, or_cases, or_left, cases_lt}
 use Rattle.std.proofs.lemmas.List.Elements.{All-head, All-tail}
 use Rattle.std.proofs.lemmas.List.Folds.{list_any-append, list_any_at}
@@ -21,7 +20,7 @@ use Rattle.language.specs.TellingApart.{Choice, splitting_tuple, tells_apart}
 use Rattle.language.specs.Scenes.{scene_of, on_scope, free_choices}
 use Rattle.rel_table.specs.Relation.{tuples}
 use Rattle.session_laws.specs.Walk.{violates_some}
-use Rattle.session_laws.specs.Session.{State, Idle, Halving, Choosing, Walking, Over, At, state_after, wanted_set, next_scope, is_undecided, scope_question, is_just, is_lawful, open_question}
+use Rattle.session_laws.specs.Session.{State, Idle, Halving, Choosing, Walking, Over, At, state_after, wanted_set, next_scope, is_undecided, scope_question, is_just, is_lawful}
 use Rattle.session_laws.proofs.Lists.{tuples_long}
 use Rattle.session_laws.proofs.OnScope.{covers_assigned}
 use Rattle.session_laws.proofs.Choices.{all_candidates}

@@ -1,10 +1,9 @@
 -- How a session is led through events.
-use Rattle.std.proofs.Common.{◌≡◌, ℕ, zero, suc, ◌+◌, ◌<◌, ◌≤◌, Bool, true, false, cond, List, [], ◌∷◌, ◌++◌, length, get_or, map, take, drop, Option, Some, None, refl, sym, ◌∙◌, ap, subst, arith, length-append, length-take-le}
+use Rattle.std.proofs.Common.{◌≡◌, ℕ, suc, ◌+◌, ◌<◌, ◌≤◌, Bool, true, false, cond, List, [], ◌∷◌, ◌++◌, length, get_or, take, drop, Option, Some, None, refl, sym, ◌∙◌, ap, subst, arith, length-take-le}
 use Rattle.std.proofs.lemmas.List.{drop_all}
-use Rattle.std.proofs.lemmas.List.{map-append, append-nil}
 use Rattle.std.proofs.Math.Seq.{take-suc, drop-cons}
 use Rattle.assign.specs.Assignment.{Assignment}
-use Rattle.assign.specs.Events.{Answer, standing, cut_to}
+use Rattle.assign.specs.Events.{Answer}
 use Rattle.assign.specs.declared.events.Event.{Event}
 use Rattle.assign.specs.declared.events.Event.TheVariants as events
 use Rattle.assign.specs.declared.events.Plan.{Plan}
@@ -14,12 +13,11 @@ use Rattle.std.specs.Prelude.{IfSome, IfNone}
 use Rattle.std.proofs.lemmas.Bool.{false_from_ne_true}
 use Rattle.assign.specs.Assignment.{is_same_assignment}
 use Rattle.session_laws.specs.Walk.{WalkEnd}
-use Rattle.session_laws.specs.Session.{State, Idle, Halving, Choosing, Walking, Over, Reading, At, Stray, then_on, step, state_after, read_on, open_question, is_just, if_passes, replied, begun, is_lawful}
+use Rattle.session_laws.specs.Session.{State, Idle, Halving, Choosing, Walking, Over, At, Stray, then_on, step, state_after, read_on, open_question, is_just, if_passes, replied, begun, is_lawful}
 use Rattle.session_laws.proofs.Folds.{same_assignment, one_answer_more}
 use Rattle.session_laws.proofs.Places.{questions_have_places}
 use Rattle.language.specs.Answers.{kept}
 use Rattle.session_core.specs.declared.session.Session.{Session}
-use Rattle.session_core.specs.declared.session.Session.TheVariants as sessions
 use Rattle.session_core.specs.Standing.{Stands, IsAskedIn, knowledge_of, open_in}
 use Rattle.session_core.specs.Settled.{IsSettled}
 use Rattle.session_store.specs.Replay.{is_past, first_options, seen, event_of, answer_to, step_of, replay_on, replay, IsMoved, IsAt, MovesTo, StaysAt, MovesBy, HasNoPlace, IsReplayed}

@@ -1,6 +1,6 @@
 -- A store beside its disk.
-use Rattle.std.proofs.Common.{◌≡◌, ◌≤◌, ◌<◌, ◌⊎◌, ℕ, length, List, [], ◌∷◌, ◌++◌, Option, Some, None, Result, Ok, Err, IfErr, IsTrue, refl, sym, ◌∙◌, ap, subst, inl, inr}
-use Rattle.std.specs.Option.{ForSome, ForNone}
+use Rattle.std.proofs.Common.{◌≡◌, ◌<◌, ◌⊎◌, ℕ, length, List, [], ◌∷◌, ◌++◌, Option, Some, None, Result, Ok, Err, IfErr, IsTrue, refl, sym, ◌∙◌, ap, subst, inl, inr}
+use Rattle.std.specs.Option.{ForNone}
 use Rattle.assign.specs.declared.events.Event.{Event}
 use Rattle.assign.specs.declared.events.Plan.{Plan}
 use Rattle.disk_model.specs.Disk.{Only, LeavesOnly}
@@ -26,7 +26,7 @@ use Rattle.session_store.specs.declared.fault.SFault.TheVariants as store
 use Rattle.session_store.specs.declared.held.Held.{Held}
 use Rattle.session_store.proofs.Replaying.{both_same}
 use Rattle.session_store.specs.Left.{SaysSession, OpensWith, OpensWithOrWithout, LeavesNow}
-use Rattle.session_store.specs.Store.{IsThere, SitsOn, plan_of, voc_of, events_of, is_live_in, opens_there}
+use Rattle.session_store.specs.Store.{IsThere, SitsOn, plan_of, voc_of, events_of, opens_there}
 use Rattle.session_store.specs.declared.store.Store.{Store}
 
 -- it is there by the same plan and the same events

@@ -1,10 +1,8 @@
 -- Faults of the floors below, as those of a store. Want of memory is always its own.
 use Rattle.answer_journal.specs.declared.fault.JFault.{JFault}
 use Rattle.answer_journal.specs.declared.fault.JFault.TheVariants as journal
-use Rattle.voc_read.specs.declared.fault.VocFault.{VocFault}
-use Rattle.voc_read.specs.declared.fault.VocFault.TheVariants as voc
 use Rattle.session_store.specs.declared.fault.SFault.{SFault}
-use Rattle.session_store.specs.declared.fault.SFault.TheVariants.{Journal, Voc, Memory}
+use Rattle.session_store.specs.declared.fault.SFault.TheVariants.{Journal, Memory}
 
 abbrev pub of_journal : JFault → SFault
 of_journal journal.Memory = Memory

@@ -3,6 +3,7 @@ pub mod Left
 pub mod Keeping
 pub mod Held
 pub mod Replay
+pub mod Laws
 pub mod Faults
 pub mod Loose
 pub mod Store

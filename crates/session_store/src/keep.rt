@@ -122,6 +122,6 @@ pub trait Keep<D: Disk> {
         ensures told { ForSome (D.content disk.old) (λ _. IsSome (D.content disk.new)) };
 
     /// What is written is there, whatever a crash leaves.
-    ghost lasts: { (keep : Self) (disk : D) → sound keep → IsTrue (writes keep) → IsTrue (live keep) → sits keep disk →
+    ghost lasts: { (keep : Self) (disk : D) → IsTrue (writes keep) → IsTrue (live keep) → sits keep disk →
         ForSome (D.content disk) (λ _. (c : List ℕ) → D.may_leave disk c → OpensWith (plan keep) (voc keep) (record_of keep) c) };
 }

@@ -11,6 +11,7 @@
 mod fault;
 mod held;
 mod keep;
+pub mod laws;
 mod loose;
 mod replay;
 mod store;

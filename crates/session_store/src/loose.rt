@@ -52,7 +52,7 @@ impl<D: Disk> Keep<D> for Loose {
 
     ghost sits = { λ _ _. ⊤ };
 
-    ghost lasts = { λ keep disk sound writes live sits. absurd (false_is_not_true writes) };
+    ghost lasts = { λ keep disk writes live sits. absurd (false_is_not_true writes) };
 
     fn session(&self) -> &Session {
         self.held.session()

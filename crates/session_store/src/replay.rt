@@ -56,7 +56,7 @@ fn session_answered(session: Session, question: &Partial, yes: bool) -> Option<S
 }
 
 /// The session after the event of an answer, if that has a place.
-fn answered(session: Session, question: &Partial, yes: bool) -> Option<Session>
+fn with_answer(session: Session, question: &Partial, yes: bool) -> Option<Session>
     requires { length question.now ≡ 128 }
     ensures some { IfSome result (MovesBy session (event_of question.now «yes»)) }
     ensures none { IfNone result (HasNoPlace session (event_of question.now «yes»)) }
@@ -69,18 +69,18 @@ fn answered(session: Session, question: &Partial, yes: bool) -> Option<Session>
 }
 
 /// The session after one event more, if that has a place.
-fn moved(session: Session, event: &Event) -> Option<Session>
+fn with_event(session: Session, event: &Event) -> Option<Session>
     requires { IsStorableEvent event.now }
     ensures some { IfSome result (MovesBy session event.now) }
     ensures none { IfNone result (HasNoPlace session event.now) }
 {
     match event {
-        Event::Answer { question, yes } => answered(session, question, *yes),
+        Event::Answer { question, yes } => with_answer(session, question, *yes),
     }
 }
 
 /// The session after these events, or the number of the first that has no place, from 1.
-pub(crate) fn replayed(session: Session, events: &[Event]) -> Result<Session, SFault>
+pub(crate) fn replay(session: Session, events: &[Event]) -> Result<Session, SFault>
     requires storable { All IsStorableEvent events.now }
     requires few { length events.now ≤ 1000000 }
     requires starts { Stands session [] }
@@ -94,7 +94,7 @@ pub(crate) fn replayed(session: Session, events: &[Event]) -> Result<Session, SF
 {
     let mut session = session;
     for (i, event) in events.iter().enumerate() {
-        match moved(session, event) {
+        match with_event(session, event) {
             Some(next) => session = next,
             None => return Err(SFault::Stray(i as u32 + 1)),
         }

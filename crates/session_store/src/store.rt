@@ -15,7 +15,7 @@ ghost use Rattle.session_store.specs.Store.{lang_of, plan_of, question_of, event
 use crate::SFault;
 use crate::held::Held;
 use crate::keep::Keep;
-use crate::replay::replayed;
+use crate::replay::replay;
 use answer_journal::{JFault, Journal, Opened};
 use assign::{Event, Partial, Plan};
 use disk_model::Disk;
@@ -74,6 +74,8 @@ impl Store {
         ensures taken { OnOk result (refusal_of_vocabulary voc.now ≡ None) }
         ensures free { ForSome (D.content disk.old) (λ bytes. OnOk result (HasNoSession bytes)) }
         ensures refused { ForSome (D.content disk.old) (λ bytes. IfErr result (NotMade voc.now bytes)) }
+        // where the disk tells nothing, by what some bytes say
+        ensures some_refusal { IfErr result (λ e. (bytes : List ℕ) × NotMade voc.now bytes e) }
         ensures unread { (f : VocFault) → IsErrOf result (SFault.Voc f) → (refusal_of_vocabulary voc.now ≡ Some f) × (disk.new ≡ disk.old) }
         ensures failed { IsErrOf result (SFault.Journal JFault.DiskFault) → Rose (D.faults disk.old) (D.faults disk.new) }
         ensures later { D.faults disk.old ≤ D.faults disk.new }
@@ -112,6 +114,10 @@ impl Store {
         ensures failed { IsErrOf result (SFault.Journal JFault.DiskFault) → Rose (D.faults disk.old) (D.faults disk.new) }
         ensures later { D.faults disk.old ≤ D.faults disk.new }
 
+        // Where the disk tells nothing, either is what some bytes say.
+        ensures some_session { IfOk result (λ store. (bytes : List ℕ) × SaysSession bytes (plan_of store) (voc_of store) (events_of store)) }
+        ensures some_refusal { IfErr result (λ e. (bytes : List ℕ) × NotOpened bytes e) }
+
         // It writes nothing.
         ensures same { D.content disk.new ≡ D.content disk.old }
         ensures any_moment { LeavesOnly D.moment D.left_since disk.old disk.new (D.may_leave disk.old) }
@@ -124,7 +130,7 @@ impl Store {
         } = answer_journal::open(alloc, disk)?;
         let lang = language_of(alloc, &voc)?;
         let start = begin(alloc, lang, plan)?;
-        let session = replayed(start, &events)?;
+        let session = replay(start, &events)?;
         Ok(Store {
             held: Held::new(session, events),
             journal,
@@ -162,7 +168,7 @@ impl<D: Disk> Keep<D> for Store {
 
     ghost sits = { λ store disk. SitsOn store (D.content disk) (D.may_leave disk) };
 
-    ghost lasts = { λ keep disk sound writes live sits bytes told c left. opens_there keep.journal (plan_of keep) (voc_of keep) (events_of keep) (D.may_leave disk) bytes c (sits live bytes told) left };
+    ghost lasts = { λ keep disk writes live sits bytes told c left. opens_there keep.journal (plan_of keep) (voc_of keep) (events_of keep) (D.may_leave disk) bytes c (sits live bytes told) left };
 
     fn session(&self) -> &Session {
         self.held.session()

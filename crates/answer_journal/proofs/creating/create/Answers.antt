@@ -9,6 +9,7 @@ use Rattle.answer_journal.specs.End.{Sits}
 use Rattle.answer_journal.proofs.Gate.{told_before, told_same}
 use Rattle.answer_journal.proofs.Emptied.{head_free, starts, creating, sits}
 use Rattle.answer_journal.proofs.Sizes.{session_size}
+use Rattle.answer_journal.proofs.SomeBytes.{session_there_somewhere, not_made_somewhere}
 use Rattle.answer_journal.proofs.creating.create.Goals as goal
 
 pub returns-in_err-add_record-clause-any_moment : goal.returns-in_err-add_record-clause-any_moment
@@ -62,3 +63,15 @@ returns-clause-any_moment g c old told =
     joined g.D.Disk.moment g.D.Disk.left_since c.args.disk.now c.head_of.new.disk c.empty.new.disk before HasNoSession P c.head_of.ensures.only_read.any_moment (c.empty.ensures.any_moment old told_mid) (λ f was. inl was) (λ f none. inr (inl none)) in
     joined g.D.Disk.moment g.D.Disk.left_since c.args.disk.now c.empty.new.disk c.add_record.new.disk P (IsWithOrWithout (take 8 s.now) c.deref.result.now) P first (c.add_record.ensures.any_moment s.now s.tells)
     (λ f was. was) (λ f w. creating before s.now f c.args.plan c.args.voc.now c.deref.result.now (record { short = c.requires.short }) s.holds rest_is w)
+
+pub returns-in-Foreign-clause-some_refusal : goal.returns-in-Foreign-clause-some_refusal
+returns-in-Foreign-clause-some_refusal g c = not_made_somewhere
+
+pub returns-in-Open-clause-some_refusal : goal.returns-in-Open-clause-some_refusal
+returns-in-Open-clause-some_refusal g c = session_there_somewhere
+
+pub returns-in_err-add_record-clause-spared : goal.returns-in_err-add_record-clause-spared
+returns-in_err-add_record-clause-spared g c old told = inl (head_free old c.in_ok-head.head (c.in_ok-head.ensures.head old told) c.in-Short.is)
+
+pub returns-clause-spared : goal.returns-clause-spared
+returns-clause-spared g c old told = inl (head_free old c.in_ok-head.head (c.in_ok-head.ensures.head old told) c.in-Short.is)

@@ -1,13 +1,14 @@
-use Rattle.std.proofs.Common.{◌≡◌, ◌<◌, ◌≤◌, ◌⊎◌, ◌+◌, ◌-◌, ◌++◌, ◌∙◌, ℕ, List, length, drop, inl, inr, ⊎_elim, sym, subst, arith, take_at}
+use Rattle.std.proofs.Common.{◌≡◌, ◌<◌, ◌≤◌, ◌⊎◌, ◌+◌, ◌-◌, ◌++◌, ◌∙◌, ℕ, List, length, drop, inl, inr, ⊎_elim, ap, sym, subst, arith, take_at}
 use Rattle.std.proofs.lemmas.Result.{err_from_is_err_and}
 use Rattle.answer_journal.specs.Format.{session_tail}
 use Rattle.answer_journal.specs.Heads.{IsHead}
-use Rattle.answer_journal.specs.Journal.{Spells}
+use Rattle.answer_journal.specs.Journal.{Spells, ReadsAs, Session}
 use Rattle.answer_journal.specs.Found.{EventsRefused, HasEvents}
 use Rattle.answer_journal.proofs.Sizes.{events_size}
 use Rattle.answer_journal.proofs.OnlyRead.{read_more, then_read}
 use Rattle.answer_journal.proofs.WholeFile.{damaged_first, rest_is, spells, refused, place_is}
 use Rattle.answer_journal.proofs.FirstPiece.{rest_within, none_first, start_is, spelled_first}
+use Rattle.answer_journal.proofs.SomeBytes.{foreign_somewhere, damaged_somewhere, begins_at, refused_somewhere, session_somewhere}
 use Rattle.answer_journal.proofs.opening.open.Goals as goal
 
 pub returns-in_default-clause-refused : goal.returns-in_default-clause-refused
@@ -102,3 +103,28 @@ returns-clause-sits g c x told =
       gate = c.at.ensures.place ∙ place_is c.in-Some.plan c.in-Some.voc.now events start c.in_ok-events.at begins c.in_ok-events.ensures.place;
       count = omega (arith, c.at.ensures.records, c.len.ensures);
     }
+
+pub returns-in-Foreign-clause-some_refusal : goal.returns-in-Foreign-clause-some_refusal
+returns-in-Foreign-clause-some_refusal g c = inr foreign_somewhere
+
+pub returns-in_default-clause-some_refusal : goal.returns-in_default-clause-some_refusal
+returns-in_default-clause-some_refusal g c = inr damaged_somewhere
+
+pub returns-in_err-events-clause-some_refusal : goal.returns-in_err-events-clause-some_refusal
+returns-in_err-events-clause-some_refusal g c =
+    let whole = c.deref.ensures.value ∙ take_at c.read.new.buf _ c.in_ok-buffer.buffer.len (c.read.auto.buf ∙ c.deref_mut.ensures.len) in
+    let found = c.in-Some.ensures.found in
+    let tail = session_tail c.in-Some.plan c.in-Some.voc.now in
+    let fits : c.in_ok-count.count ≤ length c.deref.result.now = omega (arith, c.in_ok-count.ensures.fits, ap length whole, c.read.auto.buf) in
+    let begins = begins_at c.in_ok-count.count c.deref.result.now tail c.in-Some.rest.now fits found.1 in
+    let p = err_from_is_err_and c.from_residual-in_err-events.result c.from_residual-in_err-events.ensures.1 in
+    rw (p.1, p.2) (⊎_elim (λ failed. inl failed)
+    (λ r. inr (refused_somewhere c.in-Some.plan c.in-Some.voc.now (9 + (c.in_ok-count.count - length c.in-Some.rest.now)) c.in_err-events.field-0.0 found.0 begins r))
+    c.in_err-events.ensures.some_bytes)
+
+pub returns-clause-some_session : goal.returns-clause-some_session
+returns-clause-some_session g c =
+    let events = c.in_ok-events.events.items in
+    let voc_is = c.in_ok-voc.ensures.items_if_clones_equal (λ a b same. same) in
+    let Spelled : List ℕ → Type 0 = λ l. (bytes : List ℕ) × ReadsAs bytes (Session c.in-Some.plan l events) in
+    subst Spelled (sym voc_is) (session_somewhere c.in-Some.plan c.in-Some.voc.now events c.in-Some.ensures.found.0 c.in_ok-events.ensures.storable c.in_ok-events.ensures.few)

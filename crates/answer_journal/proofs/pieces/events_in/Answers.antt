@@ -4,6 +4,7 @@ use Rattle.answer_journal.specs.Format.{MOST_RECORDS, event_tail}
 use Rattle.answer_journal.specs.Storable.{IsStorableEvent}
 use Rattle.answer_journal.proofs.EventLoop.{behind_first, one_gate, IsWide, has_events, breaks_off, one_more, overflows, sizes_more}
 use Rattle.answer_journal.proofs.pieces.events_in.Goals.{then-is_last, else-is_last+then-rest-gt-LONGEST}
+use Rattle.answer_journal.proofs.SomeBytes.{breaks_off_somewhere, overflows_somewhere}
 use Rattle.answer_journal.proofs.pieces.events_in.Goals as goal
 
 pub returns-in_default-clause-read : goal.returns-in_default-clause-read
@@ -56,3 +57,18 @@ records-preserved c =
 
 pub returns-clause-read : goal.returns-clause-read
 returns-clause-read c bytes more start begins last at_is = (_, c.records.invariant.read bytes more begins)
+
+pub returns-in_default-clause-some_bytes : goal.returns-in_default-clause-some_bytes
+returns-in_default-clause-some_bytes c start at_is =
+    breaks_off_somewhere c.records.events.items start _ c.records.invariant.storable c.records.invariant.few (omega (arith, at_is, c.records.invariant.sizes, c.records.invariant.shorter))
+
+pub returns-in_default-event_of-clause-some_bytes : goal.returns-in_default-event_of-clause-some_bytes
+returns-in_default-event_of-clause-some_bytes c start at_is =
+    breaks_off_somewhere c.records.events.items start _ c.records.invariant.storable c.records.invariant.few (omega (arith, at_is, c.records.invariant.sizes, c.records.invariant.shorter))
+
+pub returns-then-len-clause-some_bytes : goal.returns-then-len-clause-some_bytes
+returns-then-len-clause-some_bytes c start at_is =
+    let old = c.records.events.items in
+    overflows_somewhere c.push.new.self.items
+    (subst (All IsStorableEvent) (sym c.in_ok-push.ensures.items) (All-push IsStorableEvent old c.in-Some.event c.records.invariant.storable c.in-Some.ensures.found.0))
+    (omega (arith, c.in_ok-push.ensures.len, c.records.invariant.few))

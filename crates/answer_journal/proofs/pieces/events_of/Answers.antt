@@ -47,3 +47,8 @@ pieces-preserved g c =
       only_read = read_more D.content D.may_leave D.moment D.left_since c.args.disk.now c.pieces.disk c.read.new.self c.pieces.invariant.only_read c.read.ensures.same c.read.ensures.crash c.read.ensures.time;
       later = omega (arith, c.read.ensures.cause.later, c.pieces.invariant.later);
     }
+
+pub returns-in_err-place-clause-some_bytes : goal.returns-in_err-place-clause-some_bytes
+returns-in_err-place-clause-some_bytes g c =
+    let p = err_from_is_err_and c.from_residual-in_err-place.result c.from_residual-in_err-place.ensures.1 in
+    rw (p.1, p.2) (inr (c.in_err-place.ensures.some_bytes c.args.start c.pieces.invariant.place))

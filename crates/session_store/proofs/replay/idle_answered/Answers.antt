@@ -1,6 +1,6 @@
 use Rattle.std.proofs.Common.{◌∙◌, sym}
 use Rattle.session_store.specs.Replay.{answer_to}
-use Rattle.session_store.proofs.Replaying.{idle_is, lawful_steps, unlawful_stays, moved_to}
+use Rattle.session_store.proofs.Replaying.{idle_is, lawful_steps, moved_to}
 use Rattle.session_store.proofs.replay.idle_answered.Goals as goal
 
 pub returns-then-is_lawful-clause-some : goal.returns-then-is_lawful-clause-some

@@ -1,6 +1,5 @@
 use Rattle.std.proofs.Common.{sym, subst, List}
 use Rattle.assign.specs.Events.{Answer}
-use Rattle.assign.specs.declared.events.Event.{Event}
 use Rattle.language.specs.Language.{Language, IsLanguage}
 use Rattle.language.specs.Answers.{standing_on}
 use Rattle.session_core.specs.Standing.{Stands}

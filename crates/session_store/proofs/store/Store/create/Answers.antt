@@ -44,3 +44,9 @@ returns-clause-sits g c live bytes told =
     let same : c.in_ok-bytes.bytes.items ≡ c.args.voc.now = search rules in
     there_made c.in_ok-journal.journal (plan_held c.new-held.result) c.args.plan c.in_ok-bytes.bytes.items c.args.voc.now (events_held c.new-held.result) (g.D.Disk.content c.create.new.disk) (g.D.Disk.may_leave c.create.new.disk) bytes told
     (sym (ap plan_in c.new-held.ensures.session ∙ c.in_ok-begin.ensures.plan)) (sym same) (c.new-held.ensures.events ∙ c.new.ensures.items) (c.in_ok-journal.ensures.sits bytes told) (c.in_ok-journal.ensures.durable bytes told) (c.in_ok-journal.ensures.created was.0 was.1)
+
+pub returns-in_err-journal-clause-some_refusal : goal.returns-in_err-journal-clause-some_refusal
+returns-in_err-journal-clause-some_refusal g c =
+    let p = err_from_is_err_and c.from_residual-in_err-journal.result c.from_residual-in_err-journal.ensures.1 in
+    let some = c.in_err-journal.ensures.some_refusal in
+    rw (p.1, p.2) (some.0, not_made c.args.voc.now some.0 c.in_err-journal.field-0.0 c.in_ok-lang.ensures.taken some.1)

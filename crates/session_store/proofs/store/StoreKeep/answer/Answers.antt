@@ -1,4 +1,4 @@
-use Rattle.std.proofs.Common.{◌≡◌, ◌<◌, ◌+◌, ◌++◌, ◌∷◌, [], ◌∙◌, List, ℕ, length, refl, sym, ap, subst, arith, ⊎_elim, Result, Err}
+use Rattle.std.proofs.Common.{◌≡◌, ◌++◌, ◌∷◌, [], ◌∙◌, List, refl, sym, ap, subst, arith, ⊎_elim, Result, Err}
 use Rattle.std.proofs.lemmas.Bool.{both_ways}
 use Rattle.answer_journal.specs.declared.fault.JFault.{JFault}
 use Rattle.assign.specs.declared.events.Event.{Event}
@@ -8,7 +8,7 @@ use Rattle.session_store.specs.Held.{lang_in, plan_in}
 use Rattle.session_store.specs.Left.{OpensWith, LeavesNow}
 use Rattle.session_store.specs.Store.{plan_of, voc_of, events_of}
 use Rattle.session_store.specs.Kept.{answer_event}
-use Rattle.session_store.proofs.Stores.{sits_as, held_as, nothing_left, left_by_append, now_by_append, told_before, some_once, there_as}
+use Rattle.session_store.proofs.Stores.{sits_as, held_as, nothing_left, now_by_append, told_before, some_once, there_as}
 use Rattle.session_store.proofs.store.StoreKeep.answer.Goals as goal
 
 abbrev lost : JFault → Result (Unit {0}) JFault

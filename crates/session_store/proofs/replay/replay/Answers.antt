@@ -1,9 +1,9 @@
-use Rattle.std.proofs.Common.{◌+◌, refl, subst, sym, arith}
+use Rattle.std.proofs.Common.{◌+◌, refl, subst, arith}
 use Rattle.assign.specs.declared.events.Event.{Event}
 use Rattle.session_core.specs.Standing.{knowledge_of}
 use Rattle.session_store.specs.Replay.{MovesBy, HasNoPlace}
 use Rattle.session_store.proofs.Replaying.{replay_none, replay_more, replay_strays, replay_ends}
-use Rattle.session_store.proofs.replay.replayed.Goals as goal
+use Rattle.session_store.proofs.replay.replay.Goals as goal
 
 pub loop-i-init : goal.loop-i-init
 loop-i-init c = replay_none c.args.session c.args.events.now c.requires.starts c.requires.idle

@@ -1,10 +1,10 @@
-use Rattle.std.proofs.Common.{◌≡◌, ◌∙◌, sym, ap, subst, take}
+use Rattle.std.proofs.Common.{◌∙◌, sym, ap, subst}
 use Rattle.assign.specs.Assignment.{Assignment}
 use Rattle.language.specs.Language.{variable_count}
 use Rattle.session_core.specs.declared.session.Session.{Session}
 use Rattle.session_store.specs.Replay.{event_of, MovesTo, StaysAt, MovesBy, HasNoPlace}
 use Rattle.session_store.proofs.Replaying.{some_map, none_map, moves_by, stays_by}
-use Rattle.session_store.proofs.replay.answered.Goals as goal
+use Rattle.session_store.proofs.replay.with_answer.Goals as goal
 
 pub returns-clause-some : goal.returns-clause-some
 returns-clause-some c =
