@@ -20,7 +20,7 @@ use Rattle.session_store.specs.Keeping.{both_as}
 use Rattle.session_store.specs.Replay.{is_past, first_options, seen, step_of, replay_on, replay, HavePlaces}
 use Rattle.acq_cli.specs.Added.{IsAdded}
 use Rattle.acq_cli.specs.Run.{Puts, next_at, next_in, next_after, answer}
-use Rattle.acq_cli.specs.declared.words.Request.{Request}
+use Rattle.acq_cli.specs.declared.terms.Terms.{Terms}
 use Rattle.acq_cli.proofs.Running.{RunLaws, step_at}
 
 -- ---- the options past the variables
@@ -103,18 +103,18 @@ replay_more l plan (events.Answer q reply ∷ past) before e start state next h 
         ap (λ o. then_on (length before + 1) o (λ s. replay_on l plan (before ++ first_options (variable_count l) q reply ∷ []) s (past ++ e ∷ []))) is ∙ rest middle h
 
 -- the answer to the question that comes next has a place behind events that have one
-pub placed_event : RunLaws → (l : Language) → IsLanguage l → (request : Request) (past : List Event) (q : Assignment) (reply : Bool) → length q ≡ variable_count l →
-    next_after l request (standing_on l past) ≡ Some (Puts q) → HavePlaces l request.plan past → HavePlaces l request.plan (past ++ answer_event q reply ∷ [])
-placed_event laws l lawful request past q reply size due (state, at) =
+pub placed_event : RunLaws → (l : Language) → IsLanguage l → (terms : Terms) (past : List Event) (q : Assignment) (reply : Bool) → length q ≡ variable_count l →
+    next_after l terms (standing_on l past) ≡ Some (Puts q) → HavePlaces l terms.plan past → HavePlaces l terms.plan (past ++ answer_event q reply ∷ [])
+placed_event laws l lawful terms past q reply size due (state, at) =
     let t : List Answer = standing_on l past in
-    let there : state_after l request.plan t ≡ At state = read_from l request.plan past [] (Idle [] None) state at in
-    let e : Some (next_at l request t state) ≡ Some (Puts q) = sym (ap (next_in l request t) there) ∙ due in
-    let puts : next_at l request t state ≡ Puts q = cc in
-    let next = step_at laws l lawful request t state q reply there puts in
-    let same : step_of l request.plan t (answer_event q reply) state ≡ Some next.0 =
-    ap (λ b. cond b None (step l request.plan t (first_options (variable_count l) (widened q) reply) state)) (none_past q (variable_count l) size)
-    ∙ ap (λ x. step l request.plan t (answer x reply) state) (take-widened q (variable_count l) size) ∙ next.1 in
-    (next.0, replay_more l request.plan past [] (answer_event q reply) (Idle [] None) state next.0 at same)
+    let there : state_after l terms.plan t ≡ At state = read_from l terms.plan past [] (Idle [] None) state at in
+    let e : Some (next_at l terms t state) ≡ Some (Puts q) = sym (ap (next_in l terms t) there) ∙ due in
+    let puts : next_at l terms t state ≡ Puts q = cc in
+    let next = step_at laws l lawful terms t state q reply there puts in
+    let same : step_of l terms.plan t (answer_event q reply) state ≡ Some next.0 =
+    ap (λ b. cond b None (step l terms.plan t (first_options (variable_count l) (widened q) reply) state)) (none_past q (variable_count l) size)
+    ∙ ap (λ x. step l terms.plan t (answer x reply) state) (take-widened q (variable_count l) size) ∙ next.1 in
+    (next.0, replay_more l terms.plan past [] (answer_event q reply) (Idle [] None) state next.0 at same)
 
 -- ---- what was added
 
@@ -126,15 +126,15 @@ added_none l plan before after same = record {
   places = let Placed : List Event → Type 0 = λ x. HavePlaces l plan x in λ places. subst Placed (sym same) places;
 }
 
-pub added_one : RunLaws → (l : Language) → IsLanguage l → (request : Request) (before after : List Event) (q : Assignment) (reply : Bool) → length q ≡ variable_count l →
-    next_after l request (standing_on l before) ≡ Some (Puts q) → after ≡ before ++ answer_event q reply ∷ [] → IsAdded l request.plan before after
-added_one laws l lawful request before after q reply size due is = record {
+pub added_one : RunLaws → (l : Language) → IsLanguage l → (terms : Terms) (before after : List Event) (q : Assignment) (reply : Bool) → length q ≡ variable_count l →
+    next_after l terms (standing_on l before) ≡ Some (Puts q) → after ≡ before ++ answer_event q reply ∷ [] → IsAdded l terms.plan before after
+added_one laws l lawful terms before after q reply size due is = record {
   answers = answer q reply ∷ [];
   is = is;
   stand = ap (standing_on l) is ∙ cut_to-standing-push (variable_count l) before q reply size;
   places =
-      let Placed : List Event → Type 0 = λ x. HavePlaces l request.plan x in
-      λ places. subst Placed (sym is) (placed_event laws l lawful request before q reply size due places);
+      let Placed : List Event → Type 0 = λ x. HavePlaces l terms.plan x in
+      λ places. subst Placed (sym is) (placed_event laws l lawful terms before q reply size due places);
 }
 
 pub added_then : (l : Language) (plan : Plan) (one two three : List Event) → IsAdded l plan one two → IsAdded l plan two three → IsAdded l plan one three

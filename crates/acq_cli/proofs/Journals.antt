@@ -29,7 +29,7 @@ use Rattle.acq_cli.specs.Added.{IsAdded}
 use Rattle.acq_cli.proofs.Added.{placed_event}
 use Rattle.acq_cli.proofs.Standings.{run_laws}
 use Rattle.acq_cli.specs.Driven.{Loses}
-use Rattle.acq_cli.specs.Points.{point_of, request_with}
+use Rattle.acq_cli.specs.Points.{point_of, terms_with}
 use Rattle.acq_cli.specs.Program.{Tries}
 use Rattle.acq_cli.specs.Journals.{GoesOn, EndsWith, untold}
 use Rattle.acq_cli.proofs.Parts.{written_badly}
@@ -75,9 +75,9 @@ module _ {D : Type 0} (content : D → Option (List ℕ)) (may_leave : D → Lis
       ForSome (content first) (λ bytes. SaysSession bytes plan voc events) → IsVocabulary voc lang → HavePlaces lang plan events → content old ≡ content first → LeavesOnly moment left_since first old (may_leave first) →
       IsLanguage lang → IsAdded lang plan events later → ForSome (content old) (λ _. IsSome (content new)) → ((IsDisk got → ⊥) → ForSome (content old) (λ _. Persists content may_leave moment left_since plan voc events later old new)) →
       (IsDisk got → FailsWith content may_leave moment left_since plan voc events later open_then
-      (Loses line_turn lang (request_with plan budget) (point_of (standing_on lang events) left written) (point_of (standing_on lang later) left' written')) old new) →
-      IfOk got (Tries lang (request_with plan budget) (standing_on lang events) (standing_on lang later) left written left' written') →
-      OnErr got (BreaksRun lang (request_with plan budget) (standing_on lang events) (standing_on lang later) left written written') →
+      (Loses line_turn lang (terms_with plan budget) (point_of (standing_on lang events) left written) (point_of (standing_on lang later) left' written')) old new) →
+      IfOk got (Tries lang (terms_with plan budget) (standing_on lang events) (standing_on lang later) left written left' written') →
+      OnErr got (BreaksRun lang (terms_with plan budget) (standing_on lang events) (standing_on lang later) left written written') →
       GoesOn content may_leave moment left_since budget left written left' written' first new got
   goes_on budget left written left' written' first old new got plan voc events later open_then lang says read places still opening lawful added on persists fails tries part =
       ⊎_elim
@@ -99,7 +99,7 @@ module _ {D : Type 0} (content : D → Option (List ℕ)) (may_leave : D → Lis
         last = last;
         none_lost = λ no. absurd (no is);
         one_lost = λ so. (f.question, f.reply, refl, f.lost);
-        all_places = placed_event run_laws lang lawful (request_with plan budget) later f.question f.reply f.lost.fits.size f.lost.puts (added.places places);
+        all_places = placed_event run_laws lang lawful (terms_with plan budget) later f.question f.reply f.lost.fits.size f.lost.puts (added.places places);
         any_moment = λ bytes told.
             joined moment left_since first old new (may_leave first) (OpensWithin plan voc events (later ++ last)) (λ c. may_leave first c ⊎ OpensWithin plan voc events (later ++ last) c) opening (f.any_moment bytes (still ∙ told))
             (λ c was. inl was) (λ c opens. inr opens);

@@ -9,8 +9,10 @@ pub mod OpenCandidates
 pub mod OpenLines
 pub mod Sayings
 pub mod Owners
+pub mod Walked
 pub mod Parts
 pub mod Tries
 pub mod Journals
+pub mod Asked
+pub mod Exactly
 pub mod Showing
-pub mod Wordings

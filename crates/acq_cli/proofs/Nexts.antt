@@ -32,8 +32,8 @@ use Rattle.session_core.specs.declared.session.Session.TheVariants as sessions
 use Rattle.session_core.specs.Standing.{Stands, Knows, IsAskedIn, knowledge_of}
 use Rattle.session_core.specs.Settled.{IsSettled}
 use Rattle.session_store.specs.Kept.{IsLawfulAfter}
-use Rattle.acq_cli.specs.declared.words.Request.{Request}
-use Rattle.acq_cli.specs.Points.{request_with}
+use Rattle.acq_cli.specs.declared.terms.Terms.{Terms}
+use Rattle.acq_cli.specs.Points.{terms_with}
 use Rattle.acq_cli.specs.Run.{Next, Puts, Ends, Converged, Collapsed, puts_or, searched, idle_next, next_at, next_in, next_after}
 use Rattle.acq_cli.specs.Driven.{IsDone, IsCollapsed, IsLeftOpen, TellsOpen}
 use Rattle.acq_cli.specs.Due.{IsDue, NextIs, PutIs}
@@ -47,30 +47,30 @@ some_of q = Some q
 
 -- a session with nothing open stands for these answers
 module _ (k : Knowledge) (t : List Answer) (budget : ℕ) (end : Option WalkEnd) (at : state_after k.lang k.plan t ≡ At (Idle k.network.list end)) (knows : Knows k t) where
-  abbrev request : Request
-  request = request_with k.plan budget
+  abbrev terms : Terms
+  terms = terms_with k.plan budget
 
   abbrev live : List Candidate
   live = kept k.lang t k.network.list
 
   -- what comes next, by what is kept
-  idle_is : next_after k.lang request t ≡ Some (idle_next k.lang k.plan budget k.kept.members k.network.list)
-  idle_is = ap (next_in k.lang request t) at ∙ ap (λ cs. Some (idle_next k.lang k.plan budget cs k.network.list)) (sym knows.kept)
+  idle_is : next_after k.lang terms t ≡ Some (idle_next k.lang k.plan budget k.kept.members k.network.list)
+  idle_is = ap (next_in k.lang terms t) at ∙ ap (λ cs. Some (idle_next k.lang k.plan budget cs k.network.list)) (sym knows.kept)
 
-  scoped_is : k.plan ≡ Scopes → (o : Option Assignment) → o ≡ scope_question k.lang k.kept.members k.network.list → next_after k.lang request t ≡ Some (puts_or Converged o)
+  scoped_is : k.plan ≡ Scopes → (o : Option Assignment) → o ≡ scope_question k.lang k.kept.members k.network.list → next_after k.lang terms t ≡ Some (puts_or Converged o)
   scoped_is plan o due = idle_is ∙ ap (λ p. Some (idle_next k.lang p budget k.kept.members k.network.list)) plan ∙ ap (λ q. Some (puts_or Converged q)) (sym due)
 
   lawful_after : (q : Assignment) → is_lawful k.lang k.plan live k.network.list q ≡ true → IsLawfulAfter k.lang k.plan t q
   lawful_after q lawful = record { network = k.network.list; end = end; idle = at; lawful = lawful }
 
-  pub scoped_new : k.plan ≡ Scopes → (q : Assignment) → some_of q ≡ scope_question k.lang k.kept.members k.network.list → IsQuestion k.lang q → IsDue k.lang request t q × IsLawfulAfter k.lang k.plan t q
+  pub scoped_new : k.plan ≡ Scopes → (q : Assignment) → some_of q ≡ scope_question k.lang k.kept.members k.network.list → IsQuestion k.lang q → IsDue k.lang terms t q × IsLawfulAfter k.lang k.plan t q
   scoped_new plan q due fits = (
     record { puts = scoped_is plan (Some q) due; fits = fits },
     lawful_after q (ap (λ p. is_lawful k.lang p live k.network.list q) plan
         ∙ ap (λ o. is_just o q) (sym (due ∙ ap (λ cs. scope_question k.lang cs k.network.list) knows.kept)) ∙ assignment_same q),
   )
 
-  done : IsLanguage k.lang → next_after k.lang request t ≡ Some (Ends Converged) → IsNetwork k.lang k.network.list × IsCovered k.lang k.network.list t → IsDone k.lang request t
+  done : IsLanguage k.lang → next_after k.lang terms t ≡ Some (Ends Converged) → IsNetwork k.lang k.network.list × IsCovered k.lang k.network.list t → IsDone k.lang terms t
   done lawful ends covered = record {
     network = k.network.list;
     end = end;
@@ -80,7 +80,7 @@ module _ (k : Knowledge) (t : List Answer) (budget : ℕ) (end : Option WalkEnd)
     converged = covered_converged k.lang k.network.list t lawful covered.0 covered.1;
   }
 
-  pub scoped_done : IsLanguage k.lang → k.plan ≡ Scopes → None ≡ scope_question k.lang k.kept.members k.network.list → IsDone k.lang request t
+  pub scoped_done : IsLanguage k.lang → k.plan ≡ Scopes → None ≡ scope_question k.lang k.kept.members k.network.list → IsDone k.lang terms t
   scoped_done lawful plan none =
       done lawful (scoped_is plan None none)
       (scopes_are_covered k.lang t k.network.list end lawful (ap (λ p. state_after k.lang p t) (sym plan) ∙ at)
@@ -117,7 +117,7 @@ module _ (k : Knowledge) (t : List Answer) (budget : ℕ) (end : Option WalkEnd)
   searched_by Quacq other cs = refl
   searched_by Multi other cs = refl
 
-  searched_is : k.plan ≢ Scopes → next_after k.lang request t ≡ Some (searched (next_query k.lang k.network.list k.kept.members budget))
+  searched_is : k.plan ≢ Scopes → next_after k.lang terms t ≡ Some (searched (next_query k.lang k.network.list k.kept.members budget))
   searched_is other = idle_is ∙ ap (λ n. let o : Option Next = Some n in o) (searched_by k.plan other k.kept.members)
 
   there : next_query k.lang k.network.list k.kept.members budget ≡ next_query k.lang k.network.list live budget
@@ -128,19 +128,19 @@ module _ (k : Knowledge) (t : List Answer) (budget : ℕ) (end : Option WalkEnd)
   example_by Quacq other q lawful = lawful.quacq
   example_by Multi other q lawful = lawful.multi
 
-  pub searched_new : IsLanguage k.lang → k.plan ≢ Scopes → (q : Assignment) → next_query k.lang k.network.list k.kept.members budget ≡ query.Ask q → IsDue k.lang request t q × IsLawfulAfter k.lang k.plan t q
+  pub searched_new : IsLanguage k.lang → k.plan ≢ Scopes → (q : Assignment) → next_query k.lang k.network.list k.kept.members budget ≡ query.Ask q → IsDue k.lang terms t q × IsLawfulAfter k.lang k.plan t q
   searched_new lawful other q asks =
       let example = asked_is_example k.lang budget t k.network.list q lawful (sym there ∙ asks) in (
         record { puts = searched_is other ∙ ap (λ x. Some (searched x)) asks; fits = example.fits },
         lawful_after q (example_by k.plan other q example),
       )
 
-  pub searched_done : IsLanguage k.lang → k.plan ≢ Scopes → next_query k.lang k.network.list k.kept.members budget ≡ query.AllImplied → IsDone k.lang request t
+  pub searched_done : IsLanguage k.lang → k.plan ≢ Scopes → next_query k.lang k.network.list k.kept.members budget ≡ query.AllImplied → IsDone k.lang terms t
   searched_done lawful other none =
       done lawful (searched_is other ∙ ap (λ x. Some (searched x)) none)
       (implied_is_covered k.lang k.plan t k.network.list end lawful at (all_are_implied k.lang k.network.list live budget lawful (kept_network k.lang t k.network.list) (sym there ∙ none)))
 
-  pub searched_open : IsLanguage k.lang → k.plan ≢ Scopes → next_query k.lang k.network.list k.kept.members budget ≡ query.Undecided → IsLeftOpen k.lang request t
+  pub searched_open : IsLanguage k.lang → k.plan ≢ Scopes → next_query k.lang k.network.list k.kept.members budget ≡ query.Undecided → IsLeftOpen k.lang terms t
   searched_open lawful other none = record {
     network = k.network.list;
     end = end;
@@ -154,7 +154,7 @@ module _ (k : Knowledge) (t : List Answer) (budget : ℕ) (end : Option WalkEnd)
   -- the screen tells the kept candidates whose searches were spent
   pub tells_open : (screen : Remembered) →
       ((c : Candidate) → IsCandidate k.lang c → is_open k.lang screen c ≡ (is_among k.kept.members c && is_spent (outcome_of_candidate k.lang k.network.list c budget))) →
-      TellsOpen k.lang request t screen
+      TellsOpen k.lang terms t screen
   tells_open screen tells network ended idle c is =
       let same : k.network.list ≡ network = ap network_in (same_state _ _ (sym at ∙ idle)) in
       let P : List Candidate → Type 0 = λ n. is_open k.lang screen c ≡ (is_among (kept k.lang t n) c && is_spent (outcome_of_candidate k.lang n c budget)) in
@@ -162,32 +162,32 @@ module _ (k : Knowledge) (t : List Answer) (budget : ℕ) (end : Option WalkEnd)
 
 -- ---- where a question is open
 
-open_is : (l : Language) (request : Request) (t : List Answer) (q : Assignment) (state : State) → state_after l request.plan t ≡ At state → (o : Option Assignment) → o ≡ Some q →
-    next_at l request t state ≡ puts_or Collapsed o → next_after l request t ≡ Some (Puts q)
-open_is l request t q state at o is next = ap (next_in l request t) at ∙ ap (λ n. let s : Option Next = Some n in s) (next ∙ ap (puts_or Collapsed) is)
+open_is : (l : Language) (terms : Terms) (t : List Answer) (q : Assignment) (state : State) → state_after l terms.plan t ≡ At state → (o : Option Assignment) → o ≡ Some q →
+    next_at l terms t state ≡ puts_or Collapsed o → next_after l terms t ≡ Some (Puts q)
+open_is l terms t q state at o is next = ap (next_in l terms t) at ∙ ap (λ n. let s : Option Next = Some n in s) (next ∙ ap (puts_or Collapsed) is)
 
-pub asked_due : (l : Language) (request : Request) (t : List Answer) (q : Assignment) (put : Option Assignment) (state : State) → state_after l request.plan t ≡ At state → IsAskedIn l request.plan t q state →
-    put ≡ Some q → IsSettled l request.plan t put → next_after l request t ≡ Some (Puts q)
-asked_due l request t q put (Idle network end) at asked is settled = absurd (none_some q (sym (settled network end at) ∙ is))
+pub asked_due : (l : Language) (terms : Terms) (t : List Answer) (q : Assignment) (put : Option Assignment) (state : State) → state_after l terms.plan t ≡ At state → IsAskedIn l terms.plan t q state →
+    put ≡ Some q → IsSettled l terms.plan t put → next_after l terms t ≡ Some (Puts q)
+asked_due l terms t q put (Idle network end) at asked is settled = absurd (none_some q (sym (settled network end at) ∙ is))
   where
     none_some : (e : Assignment) → None ≡ Some e → ⊥
     none_some e h = cc
-asked_due l request t q put (Halving e set replies network walk) at asked is settled = open_is l request t q (Halving e set replies network walk) at (open_question l (Halving e set replies network walk)) asked refl
-asked_due l request t q put (Choosing s choices network walk) at asked is settled = open_is l request t q (Choosing s choices network walk) at (open_question l (Choosing s choices network walk)) asked refl
-asked_due l request t q put (Walking set walk network) at asked is settled = open_is l request t q (Walking set walk network) at (open_question l (Walking set walk network)) asked refl
-asked_due l request t q put (Over network) at asked is settled = absurd asked
+asked_due l terms t q put (Halving e set replies network walk) at asked is settled = open_is l terms t q (Halving e set replies network walk) at (open_question l (Halving e set replies network walk)) asked refl
+asked_due l terms t q put (Choosing s choices network walk) at asked is settled = open_is l terms t q (Choosing s choices network walk) at (open_question l (Choosing s choices network walk)) asked refl
+asked_due l terms t q put (Walking set walk network) at asked is settled = open_is l terms t q (Walking set walk network) at (open_question l (Walking set walk network)) asked refl
+asked_due l terms t q put (Over network) at asked is settled = absurd asked
 
 -- ---- where no network agrees
 
-pub collapsed : (l : Language) (request : Request) (t : List Answer) (network : List Candidate) → IsLanguage l → state_after l request.plan t ≡ At (Over network) → IsCollapsed l request t × (next_after l request t ≡ Some (Ends Collapsed))
-collapsed l request t network lawful at = (
+pub collapsed : (l : Language) (terms : Terms) (t : List Answer) (network : List Candidate) → IsLanguage l → state_after l terms.plan t ≡ At (Over network) → IsCollapsed l terms t × (next_after l terms t ≡ Some (Ends Collapsed))
+collapsed l terms t network lawful at = (
   record {
     network = network;
     over = at;
-    none = over_means_none l request.plan t network lawful at;
+    none = over_means_none l terms.plan t network lawful at;
     plan = λ scopes. scopes_never_over l t network lawful (ap (λ p. state_after l p t) (sym scopes) ∙ at);
   },
-  ap (next_in l request t) at,
+  ap (next_in l terms t) at,
 )
 
 -- what a session has learned is what the answers lead to
@@ -199,18 +199,18 @@ learned_is session t network end stands at =
 -- where no network agrees, a session says so
 abbrev pub OverAt : ℕ → Session → Type 0
 OverAt budget s = IsLanguage (knowledge_of s).lang → (t : List Answer) → Stands s t →
-    IsCollapsed (knowledge_of s).lang (request_with (knowledge_of s).plan budget) t × (next_after (knowledge_of s).lang (request_with (knowledge_of s).plan budget) t ≡ Some (Ends Collapsed))
+    IsCollapsed (knowledge_of s).lang (terms_with (knowledge_of s).plan budget) t × (next_after (knowledge_of s).lang (terms_with (knowledge_of s).plan budget) t ≡ Some (Ends Collapsed))
 
 pub over_at : (budget : ℕ) (over : overs.Collapsed) → OverAt budget (sessions.Over over)
-over_at budget over lawful t stands = collapsed over.knowledge.lang (request_with over.knowledge.plan budget) t over.knowledge.network.list lawful stands.after
+over_at budget over lawful t stands = collapsed over.knowledge.lang (terms_with over.knowledge.plan budget) t over.knowledge.network.list lawful stands.after
 
 -- a question that is put is the next one
-pub put_due : (l : Language) (request : Request) (t : List Answer) (put : Option Assignment) (n : Upcoming) (q : Assignment) → PutIs l request t put n → (n ≡ nexts.Open q) ⊎ (n ≡ nexts.New q) → IsDue l request t q
-put_due l request t put n q is (inl e) = (subst (PutIs l request t put) e is).0
-put_due l request t put n q is (inr e) = (subst (PutIs l request t put) e is).0
+pub put_due : (l : Language) (terms : Terms) (t : List Answer) (put : Option Assignment) (n : Upcoming) (q : Assignment) → PutIs l terms t put n → (n ≡ nexts.Open q) ⊎ (n ≡ nexts.New q) → IsDue l terms t q
+put_due l terms t put n q is (inl e) = (subst (PutIs l terms t put) e is).0
+put_due l terms t put n q is (inr e) = (subst (PutIs l terms t put) e is).0
 
 -- where none is put anew, the question that is put stays
-pub put_as : (l : Language) (wish : Request) (t : List Answer) (put : Option Assignment) (n : Upcoming) → ((q : Assignment) → n ≡ nexts.New q → ⊥) → NextIs l wish t put n → PutIs l wish t put n
+pub put_as : (l : Language) (wish : Terms) (t : List Answer) (put : Option Assignment) (n : Upcoming) → ((q : Assignment) → n ≡ nexts.New q → ⊥) → NextIs l wish t put n → PutIs l wish t put n
 put_as l wish t put (nexts.Open q) other is = is
 put_as l wish t put (nexts.New q) other is = absurd (other q refl)
 put_as l wish t put nexts.Converged other is = is

@@ -18,7 +18,7 @@ use Rattle.query_gen.specs.Marks.{Remembered, is_open}
 use Rattle.session_laws.specs.Walk.{WalkEnd}
 use Rattle.session_laws.specs.Session.{Idle, At, state_after}
 use Rattle.session_laws.proofs.Choices.{all_candidates}
-use Rattle.acq_cli.specs.declared.words.Request.{Request}
+use Rattle.acq_cli.specs.declared.terms.Terms.{Terms}
 use Rattle.acq_cli.specs.Driven.{IsLeftOpen, TellsOpen}
 use Rattle.acq_cli.specs.Program.{LeavesOpen}
 use Rattle.acq_cli.specs.Texts.{open_candidates}
@@ -60,11 +60,11 @@ filter_some p (x ∷ xs) some = go (p x) refl (filter_some p xs)
 
 -- ---- what the screen tells
 
-pub opens_are : (l : Language) (request : Request) (t : List Answer) (network : List Candidate) (end : Option WalkEnd) (screen : Remembered) → state_after l request.plan t ≡ At (Idle network end) → TellsOpen l request t screen →
-    filter (is_open l screen) (candidates l) ≡ open_candidates l request t network
-opens_are l request t network end screen idle tells =
+pub opens_are : (l : Language) (terms : Terms) (t : List Answer) (network : List Candidate) (end : Option WalkEnd) (screen : Remembered) → state_after l terms.plan t ≡ At (Idle network end) → TellsOpen l terms t screen →
+    filter (is_open l screen) (candidates l) ≡ open_candidates l terms t network
+opens_are l terms t network end screen idle tells =
     let live : List Candidate = kept l t network in
-    let spent : Candidate → Bool = λ c. is_spent (outcome_of_candidate l network c request.budget) in
+    let spent : Candidate → Bool = λ c. is_spent (outcome_of_candidate l network c terms.budget) in
     filter_alike (IsCandidate l) (is_open l screen) (λ c. is_among live c && spent c) (candidates l) (all_candidates l) (λ c is. tells network end idle c is)
     ∙ filter_both (is_among live) spent (candidates l)
     ∙ ap (filter spent) (picked_are_in_order l _)
@@ -78,26 +78,26 @@ among_itself : (cs : List Candidate) → All (λ c. IsTrue (is_among cs c)) cs
 among_itself cs k d low =
     list_any_at (λ e. (e.scope == (get_or cs k d).scope) && (e.rel == (get_or cs k d).rel)) cs k d low (and_from _ _ (eq-eqb (get_or cs k d).scope (get_or cs k d).scope refl) (eq-eqb (get_or cs k d).rel (get_or cs k d).rel refl))
 
-pub leaves_open : (l : Language) (request : Request) (t : List Answer) (m : ℕ) → m ≡ length t → (left : IsLeftOpen l request t) → LeavesOpen l request m t left.network
-leaves_open l request t m number left =
+pub leaves_open : (l : Language) (terms : Terms) (t : List Answer) (m : ℕ) → m ≡ length t → (left : IsLeftOpen l terms t) → LeavesOpen l terms m t left.network
+leaves_open l terms t m number left =
     let network : List Candidate = left.network in
     let live : List Candidate = kept l t network in
-    let spent : Candidate → Bool = λ c. is_spent (outcome_of_candidate l network c request.budget) in
+    let spent : Candidate → Bool = λ c. is_spent (outcome_of_candidate l network c terms.budget) in
     record {
       number = number;
       end = left.end;
       idle = left.idle;
       ends = left.ends;
       plan = left.plan;
-      some = let any : Any (λ c. outcome_of_candidate l network c request.budget ≡ Spent) live = left.undecided.some in
+      some = let any : Any (λ c. outcome_of_candidate l network c terms.budget ≡ Spent) live = left.undecided.some in
           filter_some spent live (list_any_at spent live any.0 any.1 any.2 (ap spent any.3 ∙ ap is_spent any.4));
       each = λ k d low. (
         All-filter spent (λ c. IsTrue (is_among live c)) live (among_itself live) k d low,
-        spent_is_long l network (get_or (filter spent live) k d) request.budget (is_spent_true _ (filter_passes spent live k d low)),
+        spent_is_long l network (get_or (filter spent live) k d) terms.budget (is_spent_true _ (filter_passes spent live k d low)),
       );
       rest = λ k d low other. implied network (get_or live k d) (left.undecided.each k d low) other;
     }
   where
-    implied : (network : List Candidate) (c : Candidate) → ((outcome_of_candidate l network c request.budget ≡ Spent) × (request.budget < plain_size l network c)) ⊎ IsImplied l network c → (outcome_of_candidate l network c request.budget ≢ Spent) → IsImplied l network c
+    implied : (network : List Candidate) (c : Candidate) → ((outcome_of_candidate l network c terms.budget ≡ Spent) × (terms.budget < plain_size l network c)) ⊎ IsImplied l network c → (outcome_of_candidate l network c terms.budget ≢ Spent) → IsImplied l network c
     implied network c (inl long) other = absurd (other long.0)
     implied network c (inr is) other = is

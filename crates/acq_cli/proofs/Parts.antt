@@ -1,7 +1,7 @@
 -- What was written where it could not be written whole.
 use Rattle.std.proofs.Common.{◌≡◌, ℕ, List, [], ◌++◌, ap, sym, subst, refl, ◌∙◌, Option, Some, None, Result, Ok, Err, inl, inr, append_assoc}
 use Rattle.std.proofs.lemmas.List.{append-nil}
-use Rattle.std.specs.Prelude.{◌≢◌, IfOk, OnErr, is_some}
+use Rattle.std.specs.Prelude.{IfOk, OnErr}
 use Rattle.std.specs.Option.{option_map}
 use Rattle.acq_io.specs.Streams.{AddsFront}
 use Rattle.acq_io.specs.Whole.{Gathered, gathered, Gives, first_line_of}
@@ -16,14 +16,13 @@ use Rattle.target_oracle.specs.Lines.{line_turn}
 use Rattle.target_oracle.specs.Tells.{Front}
 use Rattle.voc_read.specs.Vocabulary.{IsVocabulary}
 use Rattle.voc_read.specs.declared.fault.VocFault.{VocFault}
-use Rattle.acq_cli.specs.Run.{Closing}
+use Rattle.acq_cli.specs.Run.{Closing, next_after}
 use Rattle.acq_cli.specs.Breaks.{Breaks, BreaksRun, IsRefusal, IsTextOfRefusal, IsTextOfRun, IsWholeText}
-use Rattle.acq_cli.specs.Driven.{RanTo, CutOff}
+use Rattle.acq_cli.specs.Driven.{RanTo, CutOff, StopsAt, next_lines}
 use Rattle.acq_cli.specs.Points.{point_of}
 use Rattle.acq_cli.specs.Program.{Acquires, ReadsVocabulary, Tries}
-use Rattle.acq_cli.specs.Texts.{closing_text, refusal_text, usage_text, whole_text}
-use Rattle.acq_cli.specs.Words.{request_of}
-use Rattle.acq_cli.specs.declared.words.Request.{Request}
+use Rattle.acq_cli.specs.Texts.{closing_text, refusal_text, whole_text}
+use Rattle.acq_cli.specs.declared.terms.Terms.{Terms}
 use Rattle.acq_cli.proofs.Running.{IsReached, run_exists}
 use Rattle.acq_cli.proofs.Standings.{run_laws}
 use Rattle.acq_cli.proofs.Turning.{some_text}
@@ -66,19 +65,31 @@ unfolding read_on
 begun l plan = (Idle [] None, refl)
 
 -- nothing of it was written
-pub begun_part : (l : Language) (request : Request) (start : List Answer) (left written : Option (List ℕ)) → IsLanguage l → IsReached l request.plan start → BreaksRun l request start start left written written
-begun_part l request start left written lawful reached bytes before from to =
-    let has = run_exists run_laws line_turn l request lawful start bytes reached in
-    record { run = has.run; runs = has.runs; later = has.later; extends = has.extends; text = record { front = []; back = whole_text l request has.run; parts = refl; put = to ∙ some_text _ _ (sym (append-nil before)) } }
+pub begun_part : (l : Language) (terms : Terms) (start : List Answer) (left written : Option (List ℕ)) → IsLanguage l → IsReached l terms.plan start → BreaksRun l terms start start left written written
+begun_part l terms start left written lawful reached bytes before from to =
+    let has = run_exists run_laws line_turn l terms lawful start bytes reached in
+    record {
+      run = has.run;
+      runs = has.runs;
+      later = has.later;
+      extends = has.extends;
+      text = record { front = []; back = whole_text l terms has.run; parts = refl; put = to ∙ some_text _ _ (sym (append-nil before)) };
+      held = inr (record {
+        rest = bytes;
+        done = [];
+        begins = λ run runs. runs;
+        text = record { front = []; back = next_lines line_turn l start bytes (next_after l terms start); parts = refl; put = to ∙ some_text _ _ (sym (append-nil before) ∙ sym (append-nil (before ++ []))) };
+      });
+    }
 
-module _ (l : Language) (request : Request) (start : List Answer) (left written left' middle written' : Option (List ℕ)) (t : List Answer) where
+module _ (l : Language) (terms : Terms) (start : List Answer) (left written left' middle written' : Option (List ℕ)) (t : List Answer) where
   -- the lines of its turns are written, and a front of the last ones
-  pub closed_part : (closing : Closing) → RanTo line_turn l request closing (point_of start left written) (point_of t left' middle) → AddsFront middle written' (closing_text l request t closing) → BreaksRun l request start t left written written'
+  pub closed_part : (closing : Closing) → RanTo line_turn l terms closing (point_of start left written) (point_of t left' middle) → AddsFront middle written' (closing_text l terms t closing) → BreaksRun l terms start t left written written'
   closed_part closing ran (front, back, parts, adds) bytes before from to =
       let run = ran bytes before from to in
       let Text : Type 0 = List ℕ in
-      let last : closing_text l request run.run.answers run.run.closing ≡ front ++ back =
-      (λ i. closing_text l request (run.answers i) (run.closing i)) ∙ parts in
+      let last : closing_text l terms run.run.answers run.run.closing ≡ front ++ back =
+      (λ i. closing_text l terms (run.answers i) (run.closing i)) ∙ parts in
       record {
         run = run.run;
         runs = run.runs;
@@ -90,13 +101,14 @@ module _ (l : Language) (request : Request) (start : List Answer) (left written 
           parts = ap (λ x. run.run.text ++ x) last ∙ sym (append_assoc run.run.text front back);
           put = adds ∙ ap (option_map (λ w. w ++ front)) run.written ∙ some_text _ _ (append_assoc before run.run.text front);
         };
+        held = inl refl;
       }
 
   -- the lines of its turns aren't all written
-  pub cut_part : CutOff line_turn l request (point_of start left written) (point_of t left' middle) → written' ≡ middle → BreaksRun l request start t left written written'
+  pub cut_part : CutOff line_turn l terms (point_of start left written) (point_of t left' middle) → written' ≡ middle → BreaksRun l terms start t left written written'
   cut_part cut same bytes before from to =
       let run = cut bytes before from to in
-      let last : List ℕ = closing_text l request run.run.answers run.run.closing in
+      let last : List ℕ = closing_text l terms run.run.answers run.run.closing in
       record {
         run = run.run;
         runs = run.runs;
@@ -108,6 +120,7 @@ module _ (l : Language) (request : Request) (start : List Answer) (left written 
           parts = ap (λ x. x ++ last) run.text.parts ∙ append_assoc run.text.front run.text.back last;
           put = same ∙ run.text.put;
         };
+        held = let Stops : Option (List ℕ) → Type 0 = λ w. StopsAt line_turn l terms start t bytes before w in inr (subst Stops (sym same) run.stops);
       }
 
 -- ---- the text of the program
@@ -135,45 +148,38 @@ given_of f left left' got bytes gives told = go left' (sym (ap (option_map f) to
 front_of : (text before : List ℕ) (written written' : Option (List ℕ)) → AddsFront written written' text → written ≡ Some before → Front text before written'
 front_of text before written written' (front, back, parts, adds) told = record { front = front; back = back; parts = parts; put = adds ∙ ap (option_map (λ w. w ++ front)) told }
 
-pub breaks_nothing : (words : List (List ℕ)) (left written written' : Option (List ℕ)) → written' ≡ written → Breaks words left written written'
-breaks_nothing words left written written' same bytes before from to = inl (same ∙ to)
+-- nothing was written
+pub breaks_nothing : (terms : Terms) (left written written' : Option (List ℕ)) → written' ≡ written → Breaks terms left written written'
+breaks_nothing terms left written written' same bytes before from to = inl (same ∙ to)
 
-pub breaks_usage : (words : List (List ℕ)) (left written written' : Option (List ℕ)) → request_of words ≡ None → AddsFront written written' usage_text → Breaks words left written written'
-breaks_usage words left written written' none adds bytes before from to =
-    let P : Option Request → Type 0 = λ request. IsWholeText request bytes usage_text in
-    inr (record { whole = usage_text; is = subst P (sym none) refl; text = front_of usage_text before written written' adds to })
-
--- the words are taken, and this is given of the first line
-module _ (words : List (List ℕ)) (request : Request) (left rest written written' : Option (List ℕ)) (got : Result (List ℕ) AllFault)
-    (taken : request_of words ≡ Some request) (gives : Gives (first_line_of 4194304) left rest got) where
-  pub breaks_refusal : (fault : VocFault) → IsRefusal fault got → AddsFront written written' (refusal_text fault) → Breaks words left written written'
+-- this is given of the first line
+module _ (terms : Terms) (left rest written written' : Option (List ℕ)) (got : Result (List ℕ) AllFault) (gives : Gives (first_line_of 4194304) left rest got) where
+  pub breaks_refusal : (fault : VocFault) → IsRefusal fault got → AddsFront written written' (refusal_text fault) → Breaks terms left written written'
   breaks_refusal fault refused adds bytes before from to =
       let given = given_of (first_line_of 4194304) left rest got bytes gives from in
-      let P : Option Request → Type 0 = λ request. IsWholeText request bytes (refusal_text fault) in
       let Q : Gathered → Type 0 = λ first. IsTextOfRefusal first (refusal_text fault) in
       let is : Q (first_line_of 4194304 bytes) = subst Q (sym given.gives) (record { fault = fault; refused = refused; is = refl }) in
-      inr (record { whole = refusal_text fault; is = subst P (sym taken) (inl is); text = front_of (refusal_text fault) before written written' adds to })
+      inr (record { whole = refusal_text fault; is = inl is; text = front_of (refusal_text fault) before written written' adds to })
 
-  pub breaks_run : (line : List ℕ) (lang : Language) (answers : List Answer) → got ≡ Ok line → IsVocabulary line lang → BreaksRun lang request [] answers rest written written' → Breaks words left written written'
+  pub breaks_run : (line : List ℕ) (lang : Language) (answers : List Answer) → got ≡ Ok line → IsVocabulary line lang → BreaksRun lang terms [] answers rest written written' → Breaks terms left written written'
   breaks_run line lang answers is vocabulary broken bytes before from to =
       let given = given_of (first_line_of 4194304) left rest got bytes gives from in
       let part = broken given.rest before given.left to in
-      let whole : List ℕ = whole_text lang request part.run in
-      let P : Option Request → Type 0 = λ request. IsWholeText request bytes whole in
-      let Q : Gathered → Type 0 = λ first. IsTextOfRun request first whole in
+      let whole : List ℕ = whole_text lang terms part.run in
+      let Q : Gathered → Type 0 = λ first. IsTextOfRun terms first whole in
       let run : Q (first_line_of 4194304 bytes) =
       subst Q (sym given.gives) (record { line = line; got = is; lang = lang; vocabulary = vocabulary; run = part.run; runs = part.runs; is = refl }) in
-      inr (record { whole = whole; is = subst P (sym taken) (inr run); text = part.text })
+      inr (record { whole = whole; is = inr run; text = part.text })
 
 -- what was done about a vocabulary is what the program has done
-pub acquires_by : (words : List (List ℕ)) (request : Request) (left rest written left' written' : Option (List ℕ)) (line : List ℕ) (lang : Language) (answers : List Answer) (end : Ending) →
-    request_of words ≡ Some request → Gives (first_line_of 4194304) left rest (Ok line) → IsVocabulary line lang → (end ≡ ending.DiskFault → ⊥) → Tries lang request [] answers rest written left' written' end → Acquires words left written left' written' end
-acquires_by words request left rest written left' written' line lang answers end taken gives vocabulary never tries = go end never tries
+pub acquires_by : (terms : Terms) (left rest written left' written' : Option (List ℕ)) (line : List ℕ) (lang : Language) (answers : List Answer) (end : Ending) →
+    Gives (first_line_of 4194304) left rest (Ok line) → IsVocabulary line lang → (end ≡ ending.DiskFault → ⊥) → Tries lang terms [] answers rest written left' written' end → Acquires terms left written left' written' end
+acquires_by terms left rest written left' written' line lang answers end gives vocabulary never tries = go end never tries
   where
-    reads : (e : Ending) → Tries lang request [] answers rest written left' written' e → ReadsVocabulary words left written left' written' e
-    reads e tried = record { request = request; taken = taken; line = line; rest = rest; gives = gives; lang = lang; vocabulary = vocabulary; answers = answers; tries = tried }
+    reads : (e : Ending) → Tries lang terms [] answers rest written left' written' e → ReadsVocabulary terms left written left' written' e
+    reads e tried = record { line = line; rest = rest; gives = gives; lang = lang; vocabulary = vocabulary; answers = answers; tries = tried }
 
-    go : (e : Ending) → (e ≡ ending.DiskFault → ⊥) → Tries lang request [] answers rest written left' written' e → Acquires words left written left' written' e
+    go : (e : Ending) → (e ≡ ending.DiskFault → ⊥) → Tries lang terms [] answers rest written left' written' e → Acquires terms left written left' written' e
     go (ending.Converged m) never tried = reads (ending.Converged m) tried
     go (ending.Collapsed m) never tried = reads (ending.Collapsed m) tried
     go (ending.Undecided m) never tried = reads (ending.Undecided m) tried
@@ -184,25 +190,25 @@ acquires_by words request left rest written left' written' line lang answers end
     go (ending.VocRefused fault) never tried = absurd tried
     go ending.Done never tried = absurd tried
     go (ending.JournalRefused fault) never tried = absurd tried
-    go ending.ReadFault never tried = (ap is_some taken, breaks_run words request left rest written written' (Ok line) taken gives line lang answers refl vocabulary tried)
+    go ending.ReadFault never tried = breaks_run terms left rest written written' (Ok line) gives line lang answers refl vocabulary tried
     go ending.WriteFault never tried = absurd tried
     go ending.DiskFault never tried = absurd (never refl)
     go ending.JournalFull never tried = absurd tried
     go ending.Memory never tried = absurd tried
 
-pub acquires_in : (words : List (List ℕ)) (request : Request) (left rest written left' written' : Option (List ℕ)) (line : List ℕ) (lang : Language) (got : Result Ending Put) →
-    request_of words ≡ Some request → Gives (first_line_of 4194304) left rest (Ok line) → IsVocabulary line lang → IfOk got (λ (e : Ending). e ≡ ending.DiskFault → ⊥) →
-    IfOk got (λ (e : Ending). (answers : List Answer) × Tries lang request [] answers rest written left' written' e) → IfOk got (Acquires words left written left' written')
-acquires_in words request left rest written left' written' line lang (Ok end) taken gives vocabulary never (answers, tries) =
-    acquires_by words request left rest written left' written' line lang answers end taken gives vocabulary never tries
-acquires_in words request left rest written left' written' line lang (Err e) taken gives vocabulary never tries = tt
+pub acquires_in : (terms : Terms) (left rest written left' written' : Option (List ℕ)) (line : List ℕ) (lang : Language) (got : Result Ending Put) →
+    Gives (first_line_of 4194304) left rest (Ok line) → IsVocabulary line lang → IfOk got (λ (e : Ending). e ≡ ending.DiskFault → ⊥) →
+    IfOk got (λ (e : Ending). (answers : List Answer) × Tries lang terms [] answers rest written left' written' e) → IfOk got (Acquires terms left written left' written')
+acquires_in terms left rest written left' written' line lang (Ok end) gives vocabulary never (answers, tries) =
+    acquires_by terms left rest written left' written' line lang answers end gives vocabulary never tries
+acquires_in terms left rest written left' written' line lang (Err e) gives vocabulary never tries = tt
 
-pub breaks_in : (words : List (List ℕ)) (request : Request) (left rest written written' : Option (List ℕ)) (line : List ℕ) (lang : Language) (got : Result Ending Put) →
-    request_of words ≡ Some request → Gives (first_line_of 4194304) left rest (Ok line) → IsVocabulary line lang → OnErr got ((answers : List Answer) × BreaksRun lang request [] answers rest written written') → OnErr got (Breaks words left written written')
-breaks_in words request left rest written written' line lang (Ok end) taken gives vocabulary broken = tt
-breaks_in words request left rest written written' line lang (Err e) taken gives vocabulary (answers, broken) = breaks_run words request left rest written written' (Ok line) taken gives line lang answers refl vocabulary broken
+pub breaks_in : (terms : Terms) (left rest written written' : Option (List ℕ)) (line : List ℕ) (lang : Language) (got : Result Ending Put) →
+    Gives (first_line_of 4194304) left rest (Ok line) → IsVocabulary line lang → OnErr got ((answers : List Answer) × BreaksRun lang terms [] answers rest written written') → OnErr got (Breaks terms left written written')
+breaks_in terms left rest written written' line lang (Ok end) gives vocabulary broken = tt
+breaks_in terms left rest written written' line lang (Err e) gives vocabulary (answers, broken) = breaks_run terms left rest written written' (Ok line) gives line lang answers refl vocabulary broken
 
-pub breaks_refused : (words : List (List ℕ)) (request : Request) (left rest written written' : Option (List ℕ)) (first : Result (List ℕ) AllFault) (fault : VocFault) (got : Result Ending Put) →
-    request_of words ≡ Some request → Gives (first_line_of 4194304) left rest first → IsRefusal fault first → OnErr got (AddsFront written written' (refusal_text fault)) → OnErr got (Breaks words left written written')
-breaks_refused words request left rest written written' first fault (Ok end) taken gives refused adds = tt
-breaks_refused words request left rest written written' first fault (Err e) taken gives refused adds = breaks_refusal words request left rest written written' first taken gives fault refused adds
+pub breaks_refused : (terms : Terms) (left rest written written' : Option (List ℕ)) (first : Result (List ℕ) AllFault) (fault : VocFault) (got : Result Ending Put) →
+    Gives (first_line_of 4194304) left rest first → IsRefusal fault first → OnErr got (AddsFront written written' (refusal_text fault)) → OnErr got (Breaks terms left written written')
+breaks_refused terms left rest written written' first fault (Ok end) gives refused adds = tt
+breaks_refused terms left rest written written' first fault (Err e) gives refused adds = breaks_refusal terms left rest written written' first gives fault refused adds

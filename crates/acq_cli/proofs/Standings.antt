@@ -18,7 +18,7 @@ use Rattle.session_core.specs.declared.knowledge.Knowledge.{Knowledge}
 use Rattle.session_core.specs.declared.put.Put.{Put}
 use Rattle.session_core.specs.declared.put.Put.TheVariants as puts
 use Rattle.session_core.specs.Standing.{Stands, PutAfter, knowledge_of}
-use Rattle.acq_cli.specs.declared.words.Request.{Request}
+use Rattle.acq_cli.specs.declared.terms.Terms.{Terms}
 use Rattle.assign.specs.declared.events.Event.{Event}
 use Rattle.language.specs.Answers.{standing_on}
 use Rattle.session_store.proofs.Replaying.{standing_count}
@@ -102,31 +102,31 @@ marks_here session l plan budget t screen stands lang planned remembers =
     subst P (sym lang) (subst (λ (n : List Candidate). MarksHold l n budget screen) there.network marks)
 
 -- they stay true when an answer is added
-pub marks_on : (l : Language) (request : Request) (t : List Answer) (a : Answer) (screen : Remembered) → IsReached l request.plan t → Remembers l request t screen → Remembers l request (t ++ a ∷ []) screen
-marks_on l request t a screen (state, at) remembers next then =
-    let on : Extends (network_in state) (network_in next) = network_grows l request.plan t a state next at then in
-    subst (λ (n : List Candidate). MarksHold l n request.budget screen) (sym on.is) (marks_stay l (network_in state) on.more request.budget screen (remembers state at))
+pub marks_on : (l : Language) (terms : Terms) (t : List Answer) (a : Answer) (screen : Remembered) → IsReached l terms.plan t → Remembers l terms t screen → Remembers l terms (t ++ a ∷ []) screen
+marks_on l terms t a screen (state, at) remembers next then =
+    let on : Extends (network_in state) (network_in next) = network_grows l terms.plan t a state next at then in
+    subst (λ (n : List Candidate). MarksHold l n terms.budget screen) (sym on.is) (marks_stay l (network_in state) on.more terms.budget screen (remembers state at))
 
 -- what holds of a language and a plan holds of the same ones
 pub carried : (P : Language → Plan → Type 0) (l m : Language) (p q : Plan) → l ≡ m → p ≡ q → P l p → P m q
 carried P l m p q e f h = subst (λ (x : Language). P x q) e (subst (P l) f h)
 
 -- what comes next comes after answers that have a place
-pub due_reached : (l : Language) (request : Request) (t : List Answer) (n : Next) → next_after l request t ≡ Some n → IsReached l request.plan t
-due_reached l request t n due = go (state_after l request.plan t) refl
+pub due_reached : (l : Language) (terms : Terms) (t : List Answer) (n : Next) → next_after l terms t ≡ Some n → IsReached l terms.plan t
+due_reached l terms t n due = go (state_after l terms.plan t) refl
   where
     none_some : None ≡ Some n → ⊥
     none_some e = cc
 
-    go : (r : Reading) → state_after l request.plan t ≡ r → IsReached l request.plan t
-    go (Stray number) at = absurd (none_some (sym (ap (next_in l request t) at) ∙ due))
+    go : (r : Reading) → state_after l terms.plan t ≡ r → IsReached l terms.plan t
+    go (Stray number) at = absurd (none_some (sym (ap (next_in l terms t) at) ∙ due))
     go (At state) at = (state, at)
 
 -- marks stay true over a turn
-pub marks_after : (l m : Language) (request : Request) (events same later : List Event) (screen : Remembered) → m ≡ l → same ≡ events → IsReached l request.plan (standing_on l events) →
-    IsOneMore (standing_on m same) (standing_on m later) → Remembers l request (standing_on l events) screen → Remembers l request (standing_on l later) screen
-marks_after l m request events same later screen lang record_is reached one remembers =
+pub marks_after : (l m : Language) (terms : Terms) (events same later : List Event) (screen : Remembered) → m ≡ l → same ≡ events → IsReached l terms.plan (standing_on l events) →
+    IsOneMore (standing_on m same) (standing_on m later) → Remembers l terms (standing_on l events) screen → Remembers l terms (standing_on l later) screen
+marks_after l m terms events same later screen lang record_is reached one remembers =
     let grown : standing_on l later ≡ standing_on l events ++ one.more ∷ [] =
     ap (λ x. standing_on x later) (sym lang) ∙ one.is ∙ ap (λ x. standing_on x same ++ one.more ∷ []) lang ∙ ap (λ es. standing_on l es ++ one.more ∷ []) record_is in
-    let P : List Answer → Type 0 = λ ts. Remembers l request ts screen in
-    subst P (sym grown) (marks_on l request (standing_on l events) one.more screen reached remembers)
+    let P : List Answer → Type 0 = λ ts. Remembers l terms ts screen in
+    subst P (sym grown) (marks_on l terms (standing_on l events) one.more screen reached remembers)

@@ -6,9 +6,9 @@ use Rattle.assign.specs.Events.{Answer}
 use Rattle.language.specs.Language.{Language, IsLanguage, IsQuestion}
 use Rattle.target_oracle.specs.Turns.{Turns, Reply, Said}
 use Rattle.target_oracle.specs.Tells.{Turn, Front}
-use Rattle.acq_cli.specs.Run.{Closing, Converged, Collapsed, Undecided, Suspended, LineTooLong, Unreadable, Runs, Puts, Ends, next_after, after_text, answer, ended}
-use Rattle.acq_cli.specs.declared.words.Request.{Request}
-use Rattle.acq_cli.specs.Driven.{Point, StepsTo, RanTo, CutOff, Loses, Drives}
+use Rattle.acq_cli.specs.Run.{Closing, Converged, Collapsed, Undecided, Suspended, LineTooLong, Unreadable, Runs, Next, Puts, Ends, next_after, after_text, answer, ended}
+use Rattle.acq_cli.specs.declared.terms.Terms.{Terms}
+use Rattle.acq_cli.specs.Driven.{Point, StepsTo, RanTo, CutOff, StopsAt, next_lines, Loses, Drives}
 use Rattle.acq_cli.specs.declared.driving.Drove.{Drove}
 use Rattle.acq_cli.specs.declared.driving.Drove.TheVariants as drove
 use Rattle.acq_cli.proofs.Running.{text_after, runs_said, EndsSo, runs_closed, runs_end, IsReached, RunLaws, turn_exists}
@@ -18,8 +18,8 @@ some_text x y e = ap (λ (t : List ℕ). let a : Option (List ℕ) = Some t in a
 
 -- ---- many turns
 
-pub steps_none : (turns : Turns) (l : Language) (request : Request) (a : Point) → StepsTo turns l request a a
-steps_none turns l request a bytes before left written = record {
+pub steps_none : (turns : Turns) (l : Language) (terms : Terms) (a : Point) → StepsTo turns l terms a a
+steps_none turns l terms a bytes before left written = record {
   rest = bytes;
   done = [];
   left = left;
@@ -27,8 +27,8 @@ steps_none turns l request a bytes before left written = record {
   begins = λ run runs. runs;
 }
 
-pub steps_on : (turns : Turns) (l : Language) (request : Request) (a b c : Point) → StepsTo turns l request a b → StepsTo turns l request b c → StepsTo turns l request a c
-steps_on turns l request a b c first second bytes before left written =
+pub steps_on : (turns : Turns) (l : Language) (terms : Terms) (a b c : Point) → StepsTo turns l terms a b → StepsTo turns l terms b c → StepsTo turns l terms a c
+steps_on turns l terms a b c first second bytes before left written =
     let f = first bytes before left written in
     let s = second f.rest (before ++ f.done) f.left f.written in
     record {
@@ -36,11 +36,11 @@ steps_on turns l request a b c first second bytes before left written =
       done = f.done ++ s.done;
       left = s.left;
       written = s.written ∙ some_text _ _ (append_assoc before f.done s.done);
-      begins = λ run runs. subst (Runs turns l request a.answers bytes) (text_after f.done s.done run) (f.begins (after_text s.done run) (s.begins run runs));
+      begins = λ run runs. subst (Runs turns l terms a.answers bytes) (text_after f.done s.done run) (f.begins (after_text s.done run) (s.begins run runs));
     }
 
-steps_ran : (turns : Turns) (l : Language) (request : Request) (closing : Closing) (a b c : Point) → StepsTo turns l request a b → RanTo turns l request closing b c → RanTo turns l request closing a c
-steps_ran turns l request closing a b c first second bytes before left written =
+steps_ran : (turns : Turns) (l : Language) (terms : Terms) (closing : Closing) (a b c : Point) → StepsTo turns l terms a b → RanTo turns l terms closing b c → RanTo turns l terms closing a c
+steps_ran turns l terms closing a b c first second bytes before left written =
     let f = first bytes before left written in
     let s = second f.rest (before ++ f.done) f.left f.written in
     record {
@@ -52,8 +52,8 @@ steps_ran turns l request closing a b c first second bytes before left written =
       written = s.written ∙ some_text _ _ (append_assoc before f.done s.run.text);
     }
 
-steps_cut : (turns : Turns) (l : Language) (request : Request) (a b c : Point) → StepsTo turns l request a b → CutOff turns l request b c → CutOff turns l request a c
-steps_cut turns l request a b c first second bytes before left written =
+steps_cut : (turns : Turns) (l : Language) (terms : Terms) (a b c : Point) → StepsTo turns l terms a b → CutOff turns l terms b c → CutOff turns l terms a c
+steps_cut turns l terms a b c first second bytes before left written =
     let f = first bytes before left written in
     let s = second f.rest (before ++ f.done) f.left f.written in
     record {
@@ -67,10 +67,21 @@ steps_cut turns l request a b c first second bytes before left written =
       };
       later = s.later;
       answers = s.answers;
+      stops = record {
+        rest = s.stops.rest;
+        done = f.done ++ s.stops.done;
+        begins = λ run runs. subst (Runs turns l terms a.answers bytes) (text_after f.done s.stops.done run) (f.begins (after_text s.stops.done run) (s.stops.begins run runs));
+        text = record {
+          front = s.stops.text.front;
+          back = s.stops.text.back;
+          parts = s.stops.text.parts;
+          put = s.stops.text.put ∙ some_text _ _ (ap (λ x. x ++ s.stops.text.front) (append_assoc before f.done s.stops.done));
+        };
+      };
     }
 
-pub steps_loses : (turns : Turns) (l : Language) (request : Request) (a b c : Point) (question : Assignment) (reply : Bool) → StepsTo turns l request a b → Loses turns l request b c question reply → Loses turns l request a c question reply
-steps_loses turns l request a b c question reply first second = record {
+pub steps_loses : (turns : Turns) (l : Language) (terms : Terms) (a b c : Point) (question : Assignment) (reply : Bool) → StepsTo turns l terms a b → Loses turns l terms b c question reply → Loses turns l terms a c question reply
+steps_loses turns l terms a b c question reply first second = record {
   puts = second.puts;
   fits = second.fits;
   told = λ bytes before left written.
@@ -80,25 +91,25 @@ steps_loses turns l request a b c question reply first second = record {
       record {
         rest = s.rest;
         done = f.done ++ s.done;
-        begins = λ run runs. subst (Runs turns l request a.answers bytes) (text_after f.done s.done run) (f.begins (after_text s.done run) (s.begins run runs));
+        begins = λ run runs. subst (Runs turns l terms a.answers bytes) (text_after f.done s.done run) (f.begins (after_text s.done run) (s.begins run runs));
         heard = s.heard;
         left = s.left;
         written = s.written ∙ some_text _ _ (append_assoc before f.done (s.done ++ text) ∙ ap (λ x. before ++ x) (sym (append_assoc f.done s.done text)));
       };
 }
 
-pub steps_end : (turns : Turns) (l : Language) (request : Request) (a b c : Point) (end : Drove) → StepsTo turns l request a b → Drives turns l request b c end → Drives turns l request a c end
-steps_end turns l request a b c (drove.Converged m) steps e = (e.0, e.1, steps_ran turns l request Converged a b c steps e.2)
-steps_end turns l request a b c (drove.Collapsed m) steps e = (e.0, e.1, steps_ran turns l request Collapsed a b c steps e.2)
-steps_end turns l request a b c (drove.Undecided m) steps e = (e.0, e.1, steps_ran turns l request Undecided a b c steps e.2)
-steps_end turns l request a b c (drove.Suspended m) steps e = (e.0, steps_ran turns l request Suspended a b c steps e.1)
-steps_end turns l request a b c drove.LineTooLong steps e = steps_ran turns l request LineTooLong a b c steps e
-steps_end turns l request a b c drove.Unreadable steps e = steps_ran turns l request Unreadable a b c steps e
-steps_end turns l request a b c drove.ReadFault steps e = steps_cut turns l request a b c steps e
-steps_end turns l request a b c drove.WriteFault steps e = steps_cut turns l request a b c steps e
-steps_end turns l request a b c drove.DiskFault steps e = (steps_cut turns l request a b c steps e.0, (e.1.0, e.1.1, steps_loses turns l request a b c e.1.0 e.1.1 steps e.1.2))
-steps_end turns l request a b c drove.JournalFull steps e = absurd e
-steps_end turns l request a b c drove.Memory steps e = steps_cut turns l request a b c steps e
+pub steps_end : (turns : Turns) (l : Language) (terms : Terms) (a b c : Point) (end : Drove) → StepsTo turns l terms a b → Drives turns l terms b c end → Drives turns l terms a c end
+steps_end turns l terms a b c (drove.Converged m) steps e = (e.0, e.1, steps_ran turns l terms Converged a b c steps e.2)
+steps_end turns l terms a b c (drove.Collapsed m) steps e = (e.0, e.1, steps_ran turns l terms Collapsed a b c steps e.2)
+steps_end turns l terms a b c (drove.Undecided m) steps e = (e.0, e.1, steps_ran turns l terms Undecided a b c steps e.2)
+steps_end turns l terms a b c (drove.Suspended m) steps e = (e.0, steps_ran turns l terms Suspended a b c steps e.1)
+steps_end turns l terms a b c drove.LineTooLong steps e = steps_ran turns l terms LineTooLong a b c steps e
+steps_end turns l terms a b c drove.Unreadable steps e = steps_ran turns l terms Unreadable a b c steps e
+steps_end turns l terms a b c drove.ReadFault steps e = steps_cut turns l terms a b c steps e
+steps_end turns l terms a b c drove.WriteFault steps e = steps_cut turns l terms a b c steps e
+steps_end turns l terms a b c drove.DiskFault steps e = (steps_cut turns l terms a b c steps e.0, (e.1.0, e.1.1, steps_loses turns l terms a b c e.1.0 e.1.1 steps e.1.2))
+steps_end turns l terms a b c drove.JournalFull steps e = absurd e
+steps_end turns l terms a b c drove.Memory steps e = steps_cut turns l terms a b c steps e
 
 -- ---- one turn
 
@@ -117,19 +128,19 @@ front_of_turn turns l k q a b reply told bytes before left written =
     record { front = (turns l k q bytes).text; back = []; parts = sym (append-nil (turns l k q bytes).text); put = t.text }
 
 -- nothing is put
-pub ran_end : (turns : Turns) (l : Language) (request : Request) (closing : Closing) (a : Point) → next_after l request a.answers ≡ Some (Ends closing) → RanTo turns l request closing a a
-ran_end turns l request closing a due bytes before left written = record {
+pub ran_end : (turns : Turns) (l : Language) (terms : Terms) (closing : Closing) (a : Point) → next_after l terms a.answers ≡ Some (Ends closing) → RanTo turns l terms closing a a
+ran_end turns l terms closing a due bytes before left written = record {
   run = ended closing a.answers bytes;
-  runs = runs_end turns l request a.answers bytes closing due;
+  runs = runs_end turns l terms a.answers bytes closing due;
   closing = refl;
   answers = refl;
   left = left;
   written = written ∙ some_text _ _ (sym (append-nil before));
 }
 
-pub step_said : (turns : Turns) (l : Language) (request : Request) (q : Assignment) (said : Bool) (a b : Point) → next_after l request a.answers ≡ Some (Puts q) →
-    b.answers ≡ a.answers ++ answer q said ∷ [] → ToldSo turns l (length a.answers + 1) q a b (Said said) → StepsTo turns l request a b
-step_said turns l request q said a b due added told bytes before left written =
+pub step_said : (turns : Turns) (l : Language) (terms : Terms) (q : Assignment) (said : Bool) (a b : Point) → next_after l terms a.answers ≡ Some (Puts q) →
+    b.answers ≡ a.answers ++ answer q said ∷ [] → ToldSo turns l (length a.answers + 1) q a b (Said said) → StepsTo turns l terms a b
+step_said turns l terms q said a b due added told bytes before left written =
     let t = told bytes before left written in
     let turned = turns l (length a.answers + 1) q bytes in
     record {
@@ -137,16 +148,16 @@ step_said turns l request q said a b due added told bytes before left written =
       done = turned.text;
       left = t.rest;
       written = t.text;
-      begins = λ run runs. runs_said turns l request a.answers bytes q said run due t.heard (let P : List Answer → Type 0 = λ xs. Runs turns l request xs turned.heard.rest run in subst P added runs);
+      begins = λ run runs. runs_said turns l terms a.answers bytes q said run due t.heard (let P : List Answer → Type 0 = λ xs. Runs turns l terms xs turned.heard.rest run in subst P added runs);
     }
 
-pub ran_closed : (turns : Turns) (l : Language) (request : Request) (q : Assignment) (reply : Reply) (closing : Closing) (a b : Point) → next_after l request a.answers ≡ Some (Puts q) → b.answers ≡ a.answers →
-    EndsSo reply closing a.answers q → ToldSo turns l (length a.answers + 1) q a b reply → RanTo turns l request closing a b
-ran_closed turns l request q reply closing a b due same closes told bytes before left written =
+pub ran_closed : (turns : Turns) (l : Language) (terms : Terms) (q : Assignment) (reply : Reply) (closing : Closing) (a b : Point) → next_after l terms a.answers ≡ Some (Puts q) → b.answers ≡ a.answers →
+    EndsSo reply closing a.answers q → ToldSo turns l (length a.answers + 1) q a b reply → RanTo turns l terms closing a b
+ran_closed turns l terms q reply closing a b due same closes told bytes before left written =
     let t = told bytes before left written in
     record {
       run = _;
-      runs = runs_closed turns l request a.answers bytes q reply closing due t.heard closes;
+      runs = runs_closed turns l terms a.answers bytes q reply closing due t.heard closes;
       closing = refl;
       answers = sym same;
       left = t.rest;
@@ -154,11 +165,11 @@ ran_closed turns l request q reply closing a b due same closes told bytes before
     }
 
 -- a turn that was cut off
-pub cut_turn : RunLaws → (turns : Turns) (l : Language) (request : Request) → IsLanguage l → (q : Assignment) (a b : Point) → IsReached l request.plan a.answers → next_after l request a.answers ≡ Some (Puts q) →
-    b.answers ≡ a.answers → FrontSo turns l (length a.answers + 1) q a b → CutOff turns l request a b
-cut_turn laws turns l request lawful q a b reached due same told bytes before left written =
+pub cut_turn : RunLaws → (turns : Turns) (l : Language) (terms : Terms) → IsLanguage l → (q : Assignment) (a b : Point) → IsReached l terms.plan a.answers → next_after l terms a.answers ≡ Some (Puts q) →
+    b.answers ≡ a.answers → FrontSo turns l (length a.answers + 1) q a b → CutOff turns l terms a b
+cut_turn laws turns l terms lawful q a b reached due same told bytes before left written =
     let f = told bytes before left written in
-    let turn = turn_exists laws turns l request lawful a.answers bytes q reached due in
+    let turn = turn_exists laws turns l terms lawful a.answers bytes q reached due in
     record {
       run = turn.has.run;
       runs = turn.has.runs;
@@ -170,13 +181,22 @@ cut_turn laws turns l request lawful q a b reached due same told bytes before le
       };
       later = turn.has.later;
       answers = turn.has.extends ∙ ap (λ x. x ++ turn.has.later) (sym same);
+      stops =
+          let Stops : List Answer → Type 0 = λ x. StopsAt turns l terms a.answers x bytes before b.written in
+          let Lines : Option Next → Type 0 = λ n. Front (next_lines turns l a.answers bytes n) (before ++ []) b.written in
+          subst Stops (sym same) (record {
+            rest = bytes;
+            done = [];
+            begins = λ run runs. runs;
+            text = subst Lines (sym due) (record { front = f.front; back = f.back; parts = f.parts; put = f.put ∙ some_text _ _ (ap (λ x. x ++ f.front) (sym (append-nil before))) });
+          });
     }
 
 -- a turn whose answer wasn't kept
-pub lost_turn : (turns : Turns) (l : Language) (request : Request) (q : Assignment) (said : Bool) (a b : Point) → next_after l request a.answers ≡ Some (Puts q) → IsQuestion l q → b.answers ≡ a.answers →
-    ToldSo turns l (length a.answers + 1) q a b (Said said) → Loses turns l request a b q said
-lost_turn turns l request q said a b due fits same told =
-    let Due : List Answer → Type 0 = λ x. next_after l request x ≡ Some (Puts q) in
+pub lost_turn : (turns : Turns) (l : Language) (terms : Terms) (q : Assignment) (said : Bool) (a b : Point) → next_after l terms a.answers ≡ Some (Puts q) → IsQuestion l q → b.answers ≡ a.answers →
+    ToldSo turns l (length a.answers + 1) q a b (Said said) → Loses turns l terms a b q said
+lost_turn turns l terms q said a b due fits same told =
+    let Due : List Answer → Type 0 = λ x. next_after l terms x ≡ Some (Puts q) in
     record {
       puts = subst Due (sym same) due;
       fits = fits;
@@ -186,7 +206,7 @@ lost_turn turns l request q said a b due fits same told =
           record {
             rest = bytes;
             done = [];
-            begins = λ run runs. let P : List Answer → Type 0 = λ xs. Runs turns l request xs bytes run in subst P same runs;
+            begins = λ run runs. let P : List Answer → Type 0 = λ xs. Runs turns l terms xs bytes run in subst P same runs;
             heard = here.heard;
             left = here.rest;
             written = here.text;

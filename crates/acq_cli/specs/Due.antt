@@ -9,40 +9,40 @@ use Rattle.session_store.specs.declared.fault.SFault.{SFault}
 use Rattle.session_store.specs.declared.fault.SFault.TheVariants as store
 use Rattle.acq_cli.specs.Run.{Puts, Ends, Collapsed, next_after, answer}
 use Rattle.acq_cli.specs.Driven.{IsDone, IsCollapsed, IsLeftOpen}
-use Rattle.acq_cli.specs.declared.words.Request.{Request}
+use Rattle.acq_cli.specs.declared.terms.Terms.{Terms}
 use Rattle.acq_cli.specs.declared.driving.Drove.{Drove}
 use Rattle.acq_cli.specs.declared.driving.Drove.TheVariants as drove
 use Rattle.acq_cli.specs.declared.driving.Upcoming.{Upcoming}
 use Rattle.acq_cli.specs.declared.driving.Upcoming.TheVariants as next
 
 -- this question comes next
-pub record IsDue (l : Language) (request : Request) (t : List Answer) (q : Assignment) : Type 0 where
-  pub puts : next_after l request t ≡ Some (Puts q)
+pub record IsDue (l : Language) (terms : Terms) (t : List Answer) (q : Assignment) : Type 0 where
+  pub puts : next_after l terms t ≡ Some (Puts q)
   pub fits : IsQuestion l q
 
 -- no question comes: the answers converge, or no network agrees with them, or the budget was too small
-abbrev pub NoneIsDue : Language → Request → List Answer → Upcoming → Type 0
-NoneIsDue l request t (next.Open q) = ⊥
-NoneIsDue l request t (next.New q) = ⊥
-NoneIsDue l request t next.Converged = IsDone l request t
-NoneIsDue l request t next.Collapsed = IsCollapsed l request t × (next_after l request t ≡ Some (Ends Collapsed))
-NoneIsDue l request t next.Undecided = IsLeftOpen l request t
+abbrev pub NoneIsDue : Language → Terms → List Answer → Upcoming → Type 0
+NoneIsDue l terms t (next.Open q) = ⊥
+NoneIsDue l terms t (next.New q) = ⊥
+NoneIsDue l terms t next.Converged = IsDone l terms t
+NoneIsDue l terms t next.Collapsed = IsCollapsed l terms t × (next_after l terms t ≡ Some (Ends Collapsed))
+NoneIsDue l terms t next.Undecided = IsLeftOpen l terms t
 
 -- what comes next after these answers, where this question is put or none is
-abbrev pub NextIs : Language → Request → List Answer → Option Assignment → Upcoming → Type 0
-NextIs l request t put (next.Open q) = IsDue l request t q × (put ≡ Some q)
-NextIs l request t put (next.New q) = IsDue l request t q × (put ≡ None) × IsLawfulAfter l request.plan t q
-NextIs l request t put next.Converged = NoneIsDue l request t next.Converged
-NextIs l request t put next.Collapsed = NoneIsDue l request t next.Collapsed
-NextIs l request t put next.Undecided = NoneIsDue l request t next.Undecided
+abbrev pub NextIs : Language → Terms → List Answer → Option Assignment → Upcoming → Type 0
+NextIs l terms t put (next.Open q) = IsDue l terms t q × (put ≡ Some q)
+NextIs l terms t put (next.New q) = IsDue l terms t q × (put ≡ None) × IsLawfulAfter l terms.plan t q
+NextIs l terms t put next.Converged = NoneIsDue l terms t next.Converged
+NextIs l terms t put next.Collapsed = NoneIsDue l terms t next.Collapsed
+NextIs l terms t put next.Undecided = NoneIsDue l terms t next.Undecided
 
 -- the question that is put is the next one, or none is
-abbrev pub PutIs : Language → Request → List Answer → Option Assignment → Upcoming → Type 0
-PutIs l request t put (next.Open q) = IsDue l request t q × (put ≡ Some q)
-PutIs l request t put (next.New q) = IsDue l request t q × (put ≡ Some q)
-PutIs l request t put next.Converged = NoneIsDue l request t next.Converged
-PutIs l request t put next.Collapsed = NoneIsDue l request t next.Collapsed
-PutIs l request t put next.Undecided = NoneIsDue l request t next.Undecided
+abbrev pub PutIs : Language → Terms → List Answer → Option Assignment → Upcoming → Type 0
+PutIs l terms t put (next.Open q) = IsDue l terms t q × (put ≡ Some q)
+PutIs l terms t put (next.New q) = IsDue l terms t q × (put ≡ Some q)
+PutIs l terms t put next.Converged = NoneIsDue l terms t next.Converged
+PutIs l terms t put next.Collapsed = NoneIsDue l terms t next.Collapsed
+PutIs l terms t put next.Undecided = NoneIsDue l terms t next.Undecided
 
 -- the same answers and one more
 pub record IsOneMore (old new : List Answer) : Type 0 where

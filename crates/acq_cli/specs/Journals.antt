@@ -32,7 +32,7 @@ use Rattle.target_oracle.specs.Lines.{line_turn}
 use Rattle.acq_cli.specs.Breaks.{BreaksRun}
 use Rattle.acq_cli.specs.Added.{IsAdded}
 use Rattle.acq_cli.specs.Driven.{Loses}
-use Rattle.acq_cli.specs.Points.{point_of, request_with}
+use Rattle.acq_cli.specs.Points.{point_of, terms_with}
 use Rattle.acq_cli.specs.Program.{Tries}
 use Rattle.acq_cli.specs.Texts.{refusal_text, learned_in}
 use Rattle.acq_cli.specs.Shows.{show_text}
@@ -123,13 +123,13 @@ module _ {D : Type 0} (content : D → Option (List ℕ)) (may_leave : D → Lis
     pub places : HavePlaces lang plan events
     pub later : List Event
     pub added : IsAdded lang plan events later
-    pub tries : IfOk got (Tries lang (request_with plan budget) (standing_on lang events) (standing_on lang later) left written left' written')
-    pub part : OnErr got (BreaksRun lang (request_with plan budget) (standing_on lang events) (standing_on lang later) left written written')
+    pub tries : IfOk got (Tries lang (terms_with plan budget) (standing_on lang events) (standing_on lang later) left written left' written')
+    pub part : OnErr got (BreaksRun lang (terms_with plan budget) (standing_on lang events) (standing_on lang later) left written written')
     -- the answer whose adding failed: that to the question that came next
     pub last : List Event
     pub none_lost : (got ≡ Ok ending.DiskFault → ⊥) → last ≡ []
     pub one_lost : got ≡ Ok ending.DiskFault → (question : Assignment) × (reply : Bool) × (last ≡ answer_event question reply ∷ [])
-        × Loses line_turn lang (request_with plan budget) (point_of (standing_on lang events) left written) (point_of (standing_on lang later) left' written') question reply
+        × Loses line_turn lang (terms_with plan budget) (point_of (standing_on lang events) left written) (point_of (standing_on lang later) left' written') question reply
     -- each event has its place, and so has the lost one
     pub all_places : HavePlaces lang plan (later ++ last)
     pub any_moment : ForSome (content old) (λ _. LeavesOnly moment left_since old new (λ c. may_leave old c ⊎ OpensWithin plan voc events (later ++ last) c))

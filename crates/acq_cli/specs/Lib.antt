@@ -9,3 +9,4 @@ pub mod Program
 pub mod Words
 pub mod Shows
 pub mod Journals
+pub mod Exactly

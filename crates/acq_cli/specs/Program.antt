@@ -1,5 +1,5 @@
 -- What the program has done, by how it ended.
-use Rattle.std.specs.Prelude.{◌≡◌, ◌≢◌, ◌<◌, ℕ, Bool, true, false, IsTrue, List, [], length, All, Option, Some, is_some, Result, Ok}
+use Rattle.std.specs.Prelude.{◌≡◌, ◌≢◌, ◌<◌, ℕ, IsTrue, List, [], length, All, Option, Some, Result, Ok}
 use Rattle.acq_io.specs.Streams.{Adds, AddsFront}
 use Rattle.acq_io.specs.Whole.{Gives, first_line_of}
 use Rattle.acq_io.specs.declared.whole.AllFault.{AllFault}
@@ -19,134 +19,133 @@ use Rattle.voc_read.specs.Vocabulary.{IsVocabulary}
 use Rattle.voc_read.specs.declared.fault.VocFault.{VocFault}
 use Rattle.acq_cli.specs.Run.{Converged, Collapsed, Undecided, Suspended, LineTooLong, Unreadable, Closing, Ends, next_after}
 use Rattle.acq_cli.specs.Breaks.{Breaks, BreaksRun, IsRefusal}
-use Rattle.acq_cli.specs.Driven.{IsDone, IsCollapsed, IsLeftOpen, RanTo, UnkeptTo}
+use Rattle.acq_cli.specs.Driven.{IsDone, IsCollapsed, IsLeftOpen, LeavesNothing, RanTo, UnkeptTo}
 use Rattle.acq_cli.specs.Points.{point_of}
-use Rattle.acq_cli.specs.Texts.{closing_text, collapsed_text, converged_text, open_candidates, refusal_text, refused_text, suspended_text, too_long_text, undecided_text, usage_text}
-use Rattle.acq_cli.specs.Words.{request_of}
-use Rattle.acq_cli.specs.declared.words.Request.{Request}
+use Rattle.acq_cli.specs.Texts.{closing_text, collapsed_text, converged_text, open_candidates, refusal_text, refused_text, suspended_text, too_long_text, undecided_text}
+use Rattle.acq_cli.specs.declared.terms.Terms.{Terms}
 use Rattle.acq_cli.specs.declared.driving.Drove.{Drove}
 use Rattle.acq_cli.specs.declared.driving.Drove.TheVariants as drove
 use Rattle.acq_cli.specs.declared.ending.Ending.{Ending}
 use Rattle.acq_cli.specs.declared.ending.Ending.TheVariants as ending
 
 -- these answers stand at the end, and each network that agrees with them has the solutions of the learned one
-pub record Concludes (l : Language) (request : Request) (m : ℕ) (answers : List Answer) (network : List Candidate) : Type 0 where
+pub record Concludes (l : Language) (terms : Terms) (m : ℕ) (answers : List Answer) (network : List Candidate) : Type 0 where
   pub number : m ≡ length answers
   pub end : Option WalkEnd
-  pub idle : state_after l request.plan answers ≡ At (Idle network end)
-  pub ends : next_after l request answers ≡ Some (Ends Converged)
+  pub idle : state_after l terms.plan answers ≡ At (Idle network end)
+  pub ends : next_after l terms answers ≡ Some (Ends Converged)
   pub covered : IsCovered l network answers
   pub converged : IsConverged l network answers
   -- a network that gave each answer has exactly the solutions of the learned one
   pub owner : (owner : List Candidate) → IsNetwork l owner → IsTrue (agrees l owner answers) → HasSameSolutions l owner network
 
 -- these answers stand at the end, and no network agrees with them
-pub record Refutes (l : Language) (request : Request) (m : ℕ) (answers : List Answer) : Type 0 where
+pub record Refutes (l : Language) (terms : Terms) (m : ℕ) (answers : List Answer) : Type 0 where
   pub number : m ≡ length answers
-  pub collapsed : IsCollapsed l request answers
+  pub collapsed : IsCollapsed l terms answers
 
 -- these answers stand at the end, and the budget was too small to say more
-pub record LeavesOpen (l : Language) (request : Request) (m : ℕ) (answers : List Answer) (network : List Candidate) : Type 0 where
+pub record LeavesOpen (l : Language) (terms : Terms) (m : ℕ) (answers : List Answer) (network : List Candidate) : Type 0 where
   pub number : m ≡ length answers
   pub end : Option WalkEnd
-  pub idle : state_after l request.plan answers ≡ At (Idle network end)
-  pub ends : next_after l request answers ≡ Some (Ends Undecided)
-  pub plan : request.plan ≢ Scopes
+  pub idle : state_after l terms.plan answers ≡ At (Idle network end)
+  pub ends : next_after l terms answers ≡ Some (Ends Undecided)
+  pub plan : terms.plan ≢ Scopes
   -- some candidate is listed
-  pub some : open_candidates l request answers network ≢ []
+  pub some : open_candidates l terms answers network ≢ []
   -- each that is listed is kept, and its search has more steps than the budget
-  pub each : All (λ c. IsTrue (is_among (kept l answers network) c) × (request.budget < plain_size l network c)) (open_candidates l request answers network)
+  pub each : All (λ c. IsTrue (is_among (kept l answers network) c) × (terms.budget < plain_size l network c)) (open_candidates l terms answers network)
   -- each other that is kept is implied
-  pub rest : All (λ c. (outcome_of_candidate l network c request.budget ≢ Spent) → IsImplied l network c) (kept l answers network)
+  pub rest : All (λ c. (outcome_of_candidate l network c terms.budget ≢ Spent) → IsImplied l network c) (kept l answers network)
 
 -- the run of the lines after these answers with this closing, and then its last text
-pub record Closes (l : Language) (request : Request) (start : List Answer) (left written left' written' : Option (List ℕ)) (closing : Closing) (answers : List Answer) (text : List ℕ) : Type 0 where
+pub record Closes (l : Language) (terms : Terms) (start : List Answer) (left written left' written' : Option (List ℕ)) (closing : Closing) (answers : List Answer) (text : List ℕ) : Type 0 where
   pub middle : Option (List ℕ)
-  pub ran : RanTo line_turn l request closing (point_of start left written) (point_of answers left' middle)
+  pub ran : RanTo line_turn l terms closing (point_of start left written) (point_of answers left' middle)
   pub adds : Adds middle written' text
+  -- an example whose walk has ended, and wasn't cut off, is used up
+  pub walked : LeavesNothing l terms.plan answers
 
 -- what the loop has found where it says so, and the count is that of the answers
-abbrev pub HasEnded : Language → Request → List Answer → Drove → Type 0
-HasEnded l request t (drove.Converged m) = (m ≡ length t) × IsDone l request t
-HasEnded l request t (drove.Collapsed m) = (m ≡ length t) × IsCollapsed l request t
-HasEnded l request t (drove.Undecided m) = (m ≡ length t) × IsLeftOpen l request t
-HasEnded l request t (drove.Suspended m) = m ≡ length t
-HasEnded l request t drove.LineTooLong = Unit {0}
-HasEnded l request t drove.Unreadable = Unit {0}
-HasEnded l request t drove.ReadFault = Unit {0}
-HasEnded l request t drove.WriteFault = Unit {0}
-HasEnded l request t drove.DiskFault = Unit {0}
-HasEnded l request t drove.JournalFull = ⊥
-HasEnded l request t drove.Memory = Unit {0}
+abbrev pub HasEnded : Language → Terms → List Answer → Drove → Type 0
+HasEnded l terms t (drove.Converged m) = (m ≡ length t) × IsDone l terms t
+HasEnded l terms t (drove.Collapsed m) = (m ≡ length t) × IsCollapsed l terms t
+HasEnded l terms t (drove.Undecided m) = (m ≡ length t) × IsLeftOpen l terms t
+HasEnded l terms t (drove.Suspended m) = m ≡ length t
+HasEnded l terms t drove.LineTooLong = Unit {0}
+HasEnded l terms t drove.Unreadable = Unit {0}
+HasEnded l terms t drove.ReadFault = Unit {0}
+HasEnded l terms t drove.WriteFault = Unit {0}
+HasEnded l terms t drove.DiskFault = Unit {0}
+HasEnded l terms t drove.JournalFull = ⊥
+HasEnded l terms t drove.Memory = Unit {0}
 
 -- what was said of how the loop ended
-abbrev pub Says : Language → Request → List Answer → (written written' : Option (List ℕ)) → Drove → Ending → Type 0
-Says l request t written written' (drove.Converged m) end =
-    (end ≡ ending.Converged m) × ((network : List Candidate) × Concludes l request m t network × Adds written written' (converged_text l network m))
-Says l request t written written' (drove.Collapsed m) end = (end ≡ ending.Collapsed m) × Refutes l request m t × Adds written written' (collapsed_text m)
-Says l request t written written' (drove.Undecided m) end =
-    (end ≡ ending.Undecided m) × ((network : List Candidate) × LeavesOpen l request m t network × Adds written written' (undecided_text l network (open_candidates l request t network) m))
-Says l request t written written' (drove.Suspended m) end = (end ≡ ending.Suspended m) × (m ≡ length t) × Adds written written' (suspended_text m)
-Says l request t written written' drove.LineTooLong end = (end ≡ ending.LineTooLong) × Adds written written' too_long_text
-Says l request t written written' drove.Unreadable end = (end ≡ ending.Unreadable) × Adds written written' refused_text
-Says l request t written written' drove.ReadFault end = (end ≡ ending.ReadFault) × (written' ≡ written)
-Says l request t written written' drove.WriteFault end = ⊥
-Says l request t written written' drove.DiskFault end = (end ≡ ending.DiskFault) × (written' ≡ written)
-Says l request t written written' drove.JournalFull end = ⊥
-Says l request t written written' drove.Memory end = ⊥
+abbrev pub Says : Language → Terms → List Answer → (written written' : Option (List ℕ)) → Drove → Ending → Type 0
+Says l terms t written written' (drove.Converged m) end =
+    (end ≡ ending.Converged m) × ((network : List Candidate) × Concludes l terms m t network × Adds written written' (converged_text l network m))
+Says l terms t written written' (drove.Collapsed m) end = (end ≡ ending.Collapsed m) × Refutes l terms m t × Adds written written' (collapsed_text m)
+Says l terms t written written' (drove.Undecided m) end =
+    (end ≡ ending.Undecided m) × ((network : List Candidate) × LeavesOpen l terms m t network × Adds written written' (undecided_text l network (open_candidates l terms t network) m))
+Says l terms t written written' (drove.Suspended m) end = (end ≡ ending.Suspended m) × (m ≡ length t) × Adds written written' (suspended_text m)
+Says l terms t written written' drove.LineTooLong end = (end ≡ ending.LineTooLong) × Adds written written' too_long_text
+Says l terms t written written' drove.Unreadable end = (end ≡ ending.Unreadable) × Adds written written' refused_text
+Says l terms t written written' drove.ReadFault end = (end ≡ ending.ReadFault) × (written' ≡ written)
+Says l terms t written written' drove.WriteFault end = ⊥
+Says l terms t written written' drove.DiskFault end = (end ≡ ending.DiskFault) × (written' ≡ written)
+Says l terms t written written' drove.JournalFull end = ⊥
+Says l terms t written written' drove.Memory end = ⊥
 
 -- what was written where it could not be said whole
-abbrev pub SaysPart : Language → Request → List Answer → (written written' : Option (List ℕ)) → Drove → Type 0
-SaysPart l request t written written' (drove.Converged m) = AddsFront written written' (closing_text l request t Converged)
-SaysPart l request t written written' (drove.Collapsed m) = AddsFront written written' (closing_text l request t Collapsed)
-SaysPart l request t written written' (drove.Undecided m) = AddsFront written written' (closing_text l request t Undecided)
-SaysPart l request t written written' (drove.Suspended m) = AddsFront written written' (closing_text l request t Suspended)
-SaysPart l request t written written' drove.LineTooLong = AddsFront written written' (closing_text l request t LineTooLong)
-SaysPart l request t written written' drove.Unreadable = AddsFront written written' (closing_text l request t Unreadable)
-SaysPart l request t written written' drove.ReadFault = ⊥
-SaysPart l request t written written' drove.WriteFault = written' ≡ written
-SaysPart l request t written written' drove.DiskFault = ⊥
-SaysPart l request t written written' drove.JournalFull = ⊥
-SaysPart l request t written written' drove.Memory = written' ≡ written
+abbrev pub SaysPart : Language → Terms → List Answer → (written written' : Option (List ℕ)) → Drove → Type 0
+SaysPart l terms t written written' (drove.Converged m) = AddsFront written written' (closing_text l terms t Converged)
+SaysPart l terms t written written' (drove.Collapsed m) = AddsFront written written' (closing_text l terms t Collapsed)
+SaysPart l terms t written written' (drove.Undecided m) = AddsFront written written' (closing_text l terms t Undecided)
+SaysPart l terms t written written' (drove.Suspended m) = AddsFront written written' (closing_text l terms t Suspended)
+SaysPart l terms t written written' drove.LineTooLong = AddsFront written written' (closing_text l terms t LineTooLong)
+SaysPart l terms t written written' drove.Unreadable = AddsFront written written' (closing_text l terms t Unreadable)
+SaysPart l terms t written written' drove.ReadFault = ⊥
+SaysPart l terms t written written' drove.WriteFault = written' ≡ written
+SaysPart l terms t written written' drove.DiskFault = ⊥
+SaysPart l terms t written written' drove.JournalFull = ⊥
+SaysPart l terms t written written' drove.Memory = written' ≡ written
 
 -- what was done about a language, from the answers at first to those at last
-abbrev pub Tries : Language → Request → (start answers : List Answer) → (left written left' written' : Option (List ℕ)) → Ending → Type 0
-Tries l request start answers left written left' written' (ending.Converged m) =
-    (network : List Candidate) × Concludes l request m answers network × Closes l request start left written left' written' Converged answers (converged_text l network m)
-Tries l request start answers left written left' written' (ending.Collapsed m) =
-    Refutes l request m answers × Closes l request start left written left' written' Collapsed answers (collapsed_text m)
-Tries l request start answers left written left' written' (ending.Undecided m) =
-    (network : List Candidate) × LeavesOpen l request m answers network
-    × Closes l request start left written left' written' Undecided answers (undecided_text l network (open_candidates l request answers network) m)
-Tries l request start answers left written left' written' (ending.Suspended m) =
-    (m ≡ length answers) × Closes l request start left written left' written' Suspended answers (suspended_text m)
-Tries l request start answers left written left' written' ending.LineTooLong =
-    Closes l request start left written left' written' LineTooLong answers too_long_text
-Tries l request start answers left written left' written' ending.Unreadable =
-    Closes l request start left written left' written' Unreadable answers refused_text
-Tries l request start answers left written left' written' (ending.Usage fault) = ⊥
-Tries l request start answers left written left' written' (ending.VocRefused fault) = ⊥
-Tries l request start answers left written left' written' ending.Done = ⊥
-Tries l request start answers left written left' written' (ending.JournalRefused fault) = ⊥
-Tries l request start answers left written left' written' ending.ReadFault = BreaksRun l request start answers left written written'
-Tries l request start answers left written left' written' ending.WriteFault = ⊥
+abbrev pub Tries : Language → Terms → (start answers : List Answer) → (left written left' written' : Option (List ℕ)) → Ending → Type 0
+Tries l terms start answers left written left' written' (ending.Converged m) =
+    (network : List Candidate) × Concludes l terms m answers network × Closes l terms start left written left' written' Converged answers (converged_text l network m)
+Tries l terms start answers left written left' written' (ending.Collapsed m) =
+    Refutes l terms m answers × Closes l terms start left written left' written' Collapsed answers (collapsed_text m)
+Tries l terms start answers left written left' written' (ending.Undecided m) =
+    (network : List Candidate) × LeavesOpen l terms m answers network
+    × Closes l terms start left written left' written' Undecided answers (undecided_text l network (open_candidates l terms answers network) m)
+Tries l terms start answers left written left' written' (ending.Suspended m) =
+    (m ≡ length answers) × Closes l terms start left written left' written' Suspended answers (suspended_text m)
+Tries l terms start answers left written left' written' ending.LineTooLong =
+    Closes l terms start left written left' written' LineTooLong answers too_long_text
+Tries l terms start answers left written left' written' ending.Unreadable =
+    Closes l terms start left written left' written' Unreadable answers refused_text
+Tries l terms start answers left written left' written' (ending.Usage fault) = ⊥
+Tries l terms start answers left written left' written' (ending.VocRefused fault) = ⊥
+Tries l terms start answers left written left' written' ending.Done = ⊥
+Tries l terms start answers left written left' written' (ending.JournalRefused fault) = ⊥
+Tries l terms start answers left written left' written' ending.ReadFault = BreaksRun l terms start answers left written written'
+Tries l terms start answers left written left' written' ending.WriteFault = ⊥
 -- what was written ends with the lines of the question whose answer wasn't kept
-Tries l request start answers left written left' written' ending.DiskFault =
-    BreaksRun l request start answers left written written' × UnkeptTo line_turn l request (point_of start left written) (point_of answers left' written')
-Tries l request start answers left written left' written' ending.JournalFull = ⊥
-Tries l request start answers left written left' written' ending.Memory = ⊥
+Tries l terms start answers left written left' written' ending.DiskFault =
+    BreaksRun l terms start answers left written written' × UnkeptTo line_turn l terms (point_of start left written) (point_of answers left' written')
+Tries l terms start answers left written left' written' ending.JournalFull = ⊥
+Tries l terms start answers left written left' written' ending.Memory = ⊥
 
--- the words ask for this, and the first line of the input is a vocabulary
-pub record ReadsVocabulary (words : List (List ℕ)) (left written left' written' : Option (List ℕ)) (end : Ending) : Type 0 where
-  pub request : Request
-  pub taken : request_of words ≡ Some request
+-- the first line of the input is a vocabulary
+pub record ReadsVocabulary (terms : Terms) (left written left' written' : Option (List ℕ)) (end : Ending) : Type 0 where
   pub line : List ℕ
   pub rest : Option (List ℕ)
   pub gives : Gives (first_line_of 4194304) left rest (Ok line)
   pub lang : Language
   pub vocabulary : IsVocabulary line lang
   pub answers : List Answer
-  pub tries : Tries lang request [] answers rest written left' written' end
+  pub tries : Tries lang terms [] answers rest written left' written' end
 
 -- the first line is refused
 pub record IsRefused (fault : VocFault) (left left' : Option (List ℕ)) : Type 0 where
@@ -154,28 +153,23 @@ pub record IsRefused (fault : VocFault) (left left' : Option (List ℕ)) : Type 
   pub gives : Gives (first_line_of 4194304) left left' got
   pub refused : IsRefusal fault got
 
--- whether the words are taken
-abbrev pub are_taken : List (List ℕ) → Bool
-are_taken words = is_some (request_of words)
-
--- what the program has done
-abbrev pub Acquires : List (List ℕ) → (left written left' written' : Option (List ℕ)) → Ending → Type 0
-Acquires words left written left' written' (ending.Converged m) = ReadsVocabulary words left written left' written' (ending.Converged m)
-Acquires words left written left' written' (ending.Collapsed m) = ReadsVocabulary words left written left' written' (ending.Collapsed m)
-Acquires words left written left' written' (ending.Undecided m) = ReadsVocabulary words left written left' written' (ending.Undecided m)
-Acquires words left written left' written' (ending.Suspended m) = ReadsVocabulary words left written left' written' (ending.Suspended m)
-Acquires words left written left' written' ending.LineTooLong = ReadsVocabulary words left written left' written' ending.LineTooLong
-Acquires words left written left' written' ending.Unreadable = ReadsVocabulary words left written left' written' ending.Unreadable
-Acquires words left written left' written' (ending.Usage fault) = (are_taken words ≡ false) × (left' ≡ left) × Adds written written' usage_text
-Acquires words left written left' written' (ending.VocRefused fault) =
-    (are_taken words ≡ true) × IsRefused fault left left' × Adds written written' (refusal_text fault)
-Acquires words left written left' written' ending.ReadFault = (are_taken words ≡ true) × Breaks words left written written'
-Acquires words left written left' written' ending.Done = ⊥
-Acquires words left written left' written' (ending.JournalRefused fault) = ⊥
-Acquires words left written left' written' ending.DiskFault = ⊥
-Acquires words left written left' written' ending.JournalFull = ⊥
-Acquires words left written left' written' ending.WriteFault = Breaks words left written written'
-Acquires words left written left' written' ending.Memory = Breaks words left written written'
+-- what `try` has done
+abbrev pub Acquires : Terms → (left written left' written' : Option (List ℕ)) → Ending → Type 0
+Acquires terms left written left' written' (ending.Converged m) = ReadsVocabulary terms left written left' written' (ending.Converged m)
+Acquires terms left written left' written' (ending.Collapsed m) = ReadsVocabulary terms left written left' written' (ending.Collapsed m)
+Acquires terms left written left' written' (ending.Undecided m) = ReadsVocabulary terms left written left' written' (ending.Undecided m)
+Acquires terms left written left' written' (ending.Suspended m) = ReadsVocabulary terms left written left' written' (ending.Suspended m)
+Acquires terms left written left' written' ending.LineTooLong = ReadsVocabulary terms left written left' written' ending.LineTooLong
+Acquires terms left written left' written' ending.Unreadable = ReadsVocabulary terms left written left' written' ending.Unreadable
+Acquires terms left written left' written' (ending.Usage fault) = ⊥
+Acquires terms left written left' written' (ending.VocRefused fault) = IsRefused fault left left' × Adds written written' (refusal_text fault)
+Acquires terms left written left' written' ending.ReadFault = Breaks terms left written written'
+Acquires terms left written left' written' ending.Done = ⊥
+Acquires terms left written left' written' (ending.JournalRefused fault) = ⊥
+Acquires terms left written left' written' ending.DiskFault = ⊥
+Acquires terms left written left' written' ending.JournalFull = ⊥
+Acquires terms left written left' written' ending.WriteFault = Breaks terms left written written'
+Acquires terms left written left' written' ending.Memory = Breaks terms left written written'
 
 -- the exit status
 abbrev pub status_of : Ending → ℕ

@@ -12,7 +12,7 @@ use Rattle.query_gen.specs.declared.query.Query.{Query}
 use Rattle.query_gen.specs.declared.query.Query.TheVariants as query
 use Rattle.query_gen.specs.Questions.{next_query}
 use Rattle.session_laws.specs.Session.{State, Idle, Halving, Choosing, Walking, Over, Reading, At, Stray, open_question, scope_question, state_after}
-use Rattle.acq_cli.specs.declared.words.Request.{Request}
+use Rattle.acq_cli.specs.declared.terms.Terms.{Terms}
 use Rattle.target_oracle.specs.Turns.{Turns, Turned, Reply, Said, Stopped, Ended, Overlong, Unread}
 
 -- how a run ends
@@ -46,20 +46,20 @@ idle_next l Quacq budget live network = searched (next_query l network live budg
 idle_next l Multi budget live network = searched (next_query l network live budget)
 
 -- what a state has next: the open question, where there is one
-abbrev pub next_at : Language → Request → List Answer → State → Next
-next_at l request t (Idle network end) = idle_next l request.plan request.budget (kept l t network) network
-next_at l request t (Halving e set replies network walk) = puts_or Collapsed (open_question l (Halving e set replies network walk))
-next_at l request t (Choosing s choices network walk) = puts_or Collapsed (open_question l (Choosing s choices network walk))
-next_at l request t (Walking set walk network) = puts_or Collapsed (open_question l (Walking set walk network))
-next_at l request t (Over network) = Ends Collapsed
+abbrev pub next_at : Language → Terms → List Answer → State → Next
+next_at l terms t (Idle network end) = idle_next l terms.plan terms.budget (kept l t network) network
+next_at l terms t (Halving e set replies network walk) = puts_or Collapsed (open_question l (Halving e set replies network walk))
+next_at l terms t (Choosing s choices network walk) = puts_or Collapsed (open_question l (Choosing s choices network walk))
+next_at l terms t (Walking set walk network) = puts_or Collapsed (open_question l (Walking set walk network))
+next_at l terms t (Over network) = Ends Collapsed
 
-abbrev pub next_in : Language → Request → List Answer → Reading → Option Next
-next_in l request t (Stray number) = None
-next_in l request t (At state) = Some (next_at l request t state)
+abbrev pub next_in : Language → Terms → List Answer → Reading → Option Next
+next_in l terms t (Stray number) = None
+next_in l terms t (At state) = Some (next_at l terms t state)
 
 -- what comes next after these answers, if they can be answers
-abbrev pub next_after : Language → Request → List Answer → Option Next
-next_after l request t = next_in l request t (state_after l request.plan t)
+abbrev pub next_after : Language → Terms → List Answer → Option Next
+next_after l terms t = next_in l terms t (state_after l terms.plan t)
 
 -- what a run has written, how it ended, the answers that stand after it, and the bytes that it left
 pub record Ran : Type 0 where
@@ -94,12 +94,12 @@ next_on put t bytes (Some (Ends closing)) = Some (ended closing t bytes)
 next_on put t bytes (Some (Puts q)) = put q
 
 -- The run of at most so many turns; none where it takes more. Question number m + 1 comes after m answers.
-unfoldable pub ran : Turns → Language → Request → ℕ → List Answer → List ℕ → Option Ran
-ran turns l request zero t bytes = None
-ran turns l request (suc count) t bytes =
-    next_on (λ q. turned_on (ran turns l request count) t q (turns l (length t + 1) q bytes)) t bytes (next_after l request t)
+unfoldable pub ran : Turns → Language → Terms → ℕ → List Answer → List ℕ → Option Ran
+ran turns l terms zero t bytes = None
+ran turns l terms (suc count) t bytes =
+    next_on (λ q. turned_on (ran turns l terms count) t q (turns l (length t + 1) q bytes)) t bytes (next_after l terms t)
 
 -- the run of some number of turns
-pub record Runs (turns : Turns) (l : Language) (request : Request) (t : List Answer) (bytes : List ℕ) (run : Ran) : Type 0 where
+pub record Runs (turns : Turns) (l : Language) (terms : Terms) (t : List Answer) (bytes : List ℕ) (run : Ran) : Type 0 where
   pub count : ℕ
-  pub is : ran turns l request count t bytes ≡ Some run
+  pub is : ran turns l terms count t bytes ≡ Some run

@@ -15,7 +15,7 @@ use Rattle.session_laws.specs.Laws.{network_in}
 use Rattle.voc_read.specs.FaultTexts.{fault_text}
 use Rattle.voc_read.specs.declared.fault.VocFault.{VocFault}
 use Rattle.acq_cli.specs.Run.{Closing, Converged, Collapsed, Undecided, Suspended, LineTooLong, Unreadable, Ran}
-use Rattle.acq_cli.specs.declared.words.Request.{Request}
+use Rattle.acq_cli.specs.declared.terms.Terms.{Terms}
 
 abbrev pub usage_text : List ℕ
 usage_text = codes "usage: acquire JOURNAL COMMAND [--plan P] [--budget N] [--number N]" ++ 10 ∷ []
@@ -30,8 +30,8 @@ abbrev pub collapsed_text : ℕ → List ℕ
 collapsed_text m = codes "collapsed " ++ (decimal m ++ 10 ∷ [])
 
 -- the kept candidates whose searches the budget was too small for
-abbrev pub open_candidates : Language → Request → List Answer → List Candidate → List Candidate
-open_candidates l request t network = filter (λ c. is_spent (outcome_of_candidate l network c request.budget)) (kept l t network)
+abbrev pub open_candidates : Language → Terms → List Answer → List Candidate → List Candidate
+open_candidates l terms t network = filter (λ c. is_spent (outcome_of_candidate l network c terms.budget)) (kept l t network)
 
 abbrev pub open_line : Language → Candidate → List ℕ
 open_line l c = codes "open " ++ (candidate_text l c ++ 10 ∷ [])
@@ -53,18 +53,18 @@ abbrev pub learned_in : Reading → List Candidate
 learned_in (Stray number) = []
 learned_in (At state) = network_in state
 
-abbrev pub learned_after : Language → Request → List Answer → List Candidate
-learned_after l request t = learned_in (state_after l request.plan t)
+abbrev pub learned_after : Language → Terms → List Answer → List Candidate
+learned_after l terms t = learned_in (state_after l terms.plan t)
 
 -- the last lines of a session that ends so, where these answers stand
-abbrev pub closing_text : Language → Request → List Answer → Closing → List ℕ
-closing_text l request t Converged = converged_text l (learned_after l request t) (length t)
-closing_text l request t Collapsed = collapsed_text (length t)
-closing_text l request t Undecided = undecided_text l (learned_after l request t) (open_candidates l request t (learned_after l request t)) (length t)
-closing_text l request t Suspended = suspended_text (length t)
-closing_text l request t LineTooLong = too_long_text
-closing_text l request t Unreadable = refused_text
+abbrev pub closing_text : Language → Terms → List Answer → Closing → List ℕ
+closing_text l terms t Converged = converged_text l (learned_after l terms t) (length t)
+closing_text l terms t Collapsed = collapsed_text (length t)
+closing_text l terms t Undecided = undecided_text l (learned_after l terms t) (open_candidates l terms t (learned_after l terms t)) (length t)
+closing_text l terms t Suspended = suspended_text (length t)
+closing_text l terms t LineTooLong = too_long_text
+closing_text l terms t Unreadable = refused_text
 
 -- the text of a run with its last lines
-abbrev pub whole_text : Language → Request → Ran → List ℕ
-whole_text l request run = run.text ++ closing_text l request run.answers run.closing
+abbrev pub whole_text : Language → Terms → Ran → List ℕ
+whole_text l terms run = run.text ++ closing_text l terms run.answers run.closing

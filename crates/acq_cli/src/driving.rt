@@ -11,7 +11,7 @@ ghost use Rattle.session_store.specs.Keeping.{Keeps};
 ghost use Rattle.acq_cli.specs.Driven.{Drives, IsOwned, LeavesNothing, Loses, Remembers, StepsTo, TellsOpen};
 ghost use Rattle.acq_cli.specs.Added.{IsAdded};
 ghost use Rattle.acq_cli.specs.Due.{IsDue, NextIs, PutIs, AnswerKept, EventKept, IsOneMore, ended_by};
-ghost use Rattle.acq_cli.specs.Points.{point_of, request_with};
+ghost use Rattle.acq_cli.specs.Points.{point_of, terms_with};
 
 use acq_io::{Sink, Source};
 use assign::{Partial, Plan};
@@ -67,7 +67,7 @@ enum Upcoming {
 fn scoped_next(idle: &Idle) -> Upcoming
     requires plan { (knowledge_of (Session.Idle idle.now)).plan ≡ Scopes }
     ensures next { (t : List Answer) (budget : _) → let k = knowledge_of (Session.Idle idle.now) in Stands (Session.Idle idle.now) t
-        → NextIs k.lang (request_with k.plan budget) t None result }
+        → NextIs k.lang (terms_with k.plan budget) t None result }
     ensures decided { result ≢ Upcoming.Undecided }
 {
     let _lang = idle.lang();
@@ -84,10 +84,10 @@ fn searched_next(idle: &Idle, place: &mut Place, screen: &mut Screen, budget: u3
     requires marks { let k = knowledge_of (Session.Idle idle.now) in MarksHold k.lang k.network.list budget screen.old }
     requires some_budget { 1 ≤ budget }
     requires small_budget { budget ≤ 1000000000 }
-    ensures next { (t : List Answer) → let k = knowledge_of (Session.Idle idle.now) in Stands (Session.Idle idle.now) t → NextIs k.lang (request_with k.plan budget) t None result }
+    ensures next { (t : List Answer) → let k = knowledge_of (Session.Idle idle.now) in Stands (Session.Idle idle.now) t → NextIs k.lang (terms_with k.plan budget) t None result }
     ensures screen { IsMadeFor (knowledge_of (Session.Idle idle.now)).lang screen.new }
     ensures marks { let k = knowledge_of (Session.Idle idle.now) in MarksHold k.lang k.network.list budget screen.new }
-    ensures open { (t : List Answer) → let k = knowledge_of (Session.Idle idle.now) in Stands (Session.Idle idle.now) t → result ≡ Upcoming.Undecided → TellsOpen k.lang (request_with k.plan budget) t screen.new }
+    ensures open { (t : List Answer) → let k = knowledge_of (Session.Idle idle.now) in Stands (Session.Idle idle.now) t → result ≡ Upcoming.Undecided → TellsOpen k.lang (terms_with k.plan budget) t screen.new }
 {
     let query = next_query(
         &mut place.work,
@@ -110,10 +110,10 @@ fn idle_next(idle: &Idle, place: &mut Place, screen: &mut Screen, budget: u32) -
     requires marks { let k = knowledge_of (Session.Idle idle.now) in MarksHold k.lang k.network.list budget screen.old }
     requires some_budget { 1 ≤ budget }
     requires small_budget { budget ≤ 1000000000 }
-    ensures next { (t : List Answer) → let k = knowledge_of (Session.Idle idle.now) in Stands (Session.Idle idle.now) t → NextIs k.lang (request_with k.plan budget) t None result }
+    ensures next { (t : List Answer) → let k = knowledge_of (Session.Idle idle.now) in Stands (Session.Idle idle.now) t → NextIs k.lang (terms_with k.plan budget) t None result }
     ensures screen { IsMadeFor (knowledge_of (Session.Idle idle.now)).lang screen.new }
     ensures marks { let k = knowledge_of (Session.Idle idle.now) in MarksHold k.lang k.network.list budget screen.new }
-    ensures open { (t : List Answer) → let k = knowledge_of (Session.Idle idle.now) in Stands (Session.Idle idle.now) t → result ≡ Upcoming.Undecided → TellsOpen k.lang (request_with k.plan budget) t screen.new }
+    ensures open { (t : List Answer) → let k = knowledge_of (Session.Idle idle.now) in Stands (Session.Idle idle.now) t → result ≡ Upcoming.Undecided → TellsOpen k.lang (terms_with k.plan budget) t screen.new }
 {
     match idle.plan() {
         Plan::Scopes => scoped_next(idle),
@@ -128,10 +128,10 @@ fn next_of(session: &Session, place: &mut Place, screen: &mut Screen, budget: u3
     requires some_budget { 1 ≤ budget }
     requires small_budget { budget ≤ 1000000000 }
     ensures next { (t : List Answer) → let k = knowledge_of session.now in Stands session.now t → IsSettled k.lang k.plan t (open_in session.now)
-        → NextIs k.lang (request_with k.plan budget) t (open_in session.now) result }
+        → NextIs k.lang (terms_with k.plan budget) t (open_in session.now) result }
     ensures screen { IsMadeFor (knowledge_of session.now).lang screen.new }
     ensures marks { let k = knowledge_of session.now in MarksHold k.lang k.network.list budget screen.new }
-    ensures open { (t : List Answer) → let k = knowledge_of session.now in Stands session.now t → result ≡ Upcoming.Undecided → TellsOpen k.lang (request_with k.plan budget) t screen.new }
+    ensures open { (t : List Answer) → let k = knowledge_of session.now in Stands session.now t → result ≡ Upcoming.Undecided → TellsOpen k.lang (terms_with k.plan budget) t screen.new }
 {
     let _lang = session.lang();
     match session {
@@ -151,10 +151,10 @@ fn put_next<D: Disk, P: Keep<D>>(
     requires sound { P.sound keep.old }
     requires settled { IsSettled (P.lang keep.old) (P.plan keep.old) (standing_on (P.lang keep.old) (P.record_of keep.old)) (P.question keep.old) }
     requires screen { IsMadeFor (P.lang keep.old) screen.old }
-    requires remembers { Remembers (P.lang keep.old) (request_with (P.plan keep.old) budget) (standing_on (P.lang keep.old) (P.record_of keep.old)) screen.old }
+    requires remembers { Remembers (P.lang keep.old) (terms_with (P.plan keep.old) budget) (standing_on (P.lang keep.old) (P.record_of keep.old)) screen.old }
     requires some_budget { 1 ≤ budget }
     requires small_budget { budget ≤ 1000000000 }
-    ensures put { PutIs (P.lang keep.old) (request_with (P.plan keep.old) budget) (standing_on (P.lang keep.old) (P.record_of keep.old)) (P.question keep.new) result }
+    ensures put { PutIs (P.lang keep.old) (terms_with (P.plan keep.old) budget) (standing_on (P.lang keep.old) (P.record_of keep.old)) (P.question keep.new) result }
     ensures events { P.record_of keep.new ≡ P.record_of keep.old }
     ensures lang { P.lang keep.new ≡ P.lang keep.old }
     ensures plan { P.plan keep.new ≡ P.plan keep.old }
@@ -164,8 +164,8 @@ fn put_next<D: Disk, P: Keep<D>>(
     ensures live { P.live keep.new ≡ P.live keep.old }
     ensures sits { (disk : D) → P.sits keep.old disk → P.sits keep.new disk }
     ensures screen { IsMadeFor (P.lang keep.old) screen.new }
-    ensures remembers { Remembers (P.lang keep.old) (request_with (P.plan keep.old) budget) (standing_on (P.lang keep.old) (P.record_of keep.old)) screen.new }
-    ensures open { result ≡ Upcoming.Undecided → TellsOpen (P.lang keep.old) (request_with (P.plan keep.old) budget) (standing_on (P.lang keep.old) (P.record_of keep.old)) screen.new }
+    ensures remembers { Remembers (P.lang keep.old) (terms_with (P.plan keep.old) budget) (standing_on (P.lang keep.old) (P.record_of keep.old)) screen.new }
+    ensures open { result ≡ Upcoming.Undecided → TellsOpen (P.lang keep.old) (terms_with (P.plan keep.old) budget) (standing_on (P.lang keep.old) (P.record_of keep.old)) screen.new }
 {
     let next = next_of(keep.session(), place, screen, budget);
     if let Upcoming::New(question) = next {
@@ -220,15 +220,15 @@ fn hear_answer<S: Source, K: Sink, D: Disk, T: Teacher<S, K>, P: Keep<D>>(
     requires sits { P.sits keep.old disk.old }
     requires fits { T.fits teacher.old (P.lang keep.old) }
     requires put { P.question keep.old ≡ Some question.now }
-    requires due { (budget : _) × IsDue (P.lang keep.old) (request_with (P.plan keep.old) budget) (standing_on (P.lang keep.old) (P.record_of keep.old)) question.now }
-    ensures again { (budget : _) → IsDue (P.lang keep.old) (request_with (P.plan keep.old) budget) (standing_on (P.lang keep.old) (P.record_of keep.old)) question.now
-        → result ≡ None → StepsTo (T.turn teacher.old) (P.lang keep.old) (request_with (P.plan keep.old) budget)
+    requires due { (budget : _) × IsDue (P.lang keep.old) (terms_with (P.plan keep.old) budget) (standing_on (P.lang keep.old) (P.record_of keep.old)) question.now }
+    ensures again { (budget : _) → IsDue (P.lang keep.old) (terms_with (P.plan keep.old) budget) (standing_on (P.lang keep.old) (P.record_of keep.old)) question.now
+        → result ≡ None → StepsTo (T.turn teacher.old) (P.lang keep.old) (terms_with (P.plan keep.old) budget)
         (point_of (standing_on (P.lang keep.old) (P.record_of keep.old)) (S.left source.old) (K.written sink.old))
         (point_of (standing_on (P.lang keep.old) (P.record_of keep.new)) (S.left source.new) (K.written sink.new)) }
     ensures more { result ≡ None → IsOneMore (standing_on (P.lang keep.old) (P.record_of keep.old)) (standing_on (P.lang keep.old) (P.record_of keep.new)) }
     ensures settled { result ≡ None → IsSettled (P.lang keep.old) (P.plan keep.old) (standing_on (P.lang keep.old) (P.record_of keep.new)) (P.question keep.new) }
-    ensures ends { (budget : _) → IsDue (P.lang keep.old) (request_with (P.plan keep.old) budget) (standing_on (P.lang keep.old) (P.record_of keep.old)) question.now
-        → IfSome result (Drives (T.turn teacher.old) (P.lang keep.old) (request_with (P.plan keep.old) budget)
+    ensures ends { (budget : _) → IsDue (P.lang keep.old) (terms_with (P.plan keep.old) budget) (standing_on (P.lang keep.old) (P.record_of keep.old)) question.now
+        → IfSome result (Drives (T.turn teacher.old) (P.lang keep.old) (terms_with (P.plan keep.old) budget)
         (point_of (standing_on (P.lang keep.old) (P.record_of keep.old)) (S.left source.old) (K.written sink.old))
         (point_of (standing_on (P.lang keep.old) (P.record_of keep.new)) (S.left source.new) (K.written sink.new))) }
     ensures decided { (m : _) → result ≢ Some (Drove.Undecided m) }
@@ -239,8 +239,8 @@ fn hear_answer<S: Source, K: Sink, D: Disk, T: Teacher<S, K>, P: Keep<D>>(
     ensures sound { P.sound keep.new }
     ensures added { IsAdded (P.lang keep.old) (P.plan keep.old) (P.record_of keep.old) (P.record_of keep.new) }
     ensures keeps { Keeps D.content D.may_leave D.moment D.left_since P.plan P.voc P.record_of P.question P.writes P.live P.sits D.faults (result ≡ Some Drove.DiskFault)
-        (λ asked said. (budget : _) → IsDue (P.lang keep.old) (request_with (P.plan keep.old) budget) (standing_on (P.lang keep.old) (P.record_of keep.old)) question.now
-        → Loses (T.turn teacher.old) (P.lang keep.old) (request_with (P.plan keep.old) budget)
+        (λ asked said. (budget : _) → IsDue (P.lang keep.old) (terms_with (P.plan keep.old) budget) (standing_on (P.lang keep.old) (P.record_of keep.old)) question.now
+        → Loses (T.turn teacher.old) (P.lang keep.old) (terms_with (P.plan keep.old) budget)
         (point_of (standing_on (P.lang keep.old) (P.record_of keep.old)) (S.left source.old) (K.written sink.old))
         (point_of (standing_on (P.lang keep.old) (P.record_of keep.new)) (S.left source.new) (K.written sink.new)) asked said)
         keep.old keep.new disk.old disk.new }
@@ -282,19 +282,19 @@ fn take_turn<S: Source, K: Sink, D: Disk, T: Teacher<S, K>, P: Keep<D>>(
     requires fits { T.fits teacher.old (P.lang keep.old) }
     requires settled { IsSettled (P.lang keep.old) (P.plan keep.old) (standing_on (P.lang keep.old) (P.record_of keep.old)) (P.question keep.old) }
     requires screen { IsMadeFor (P.lang keep.old) screen.old }
-    requires remembers { Remembers (P.lang keep.old) (request_with (P.plan keep.old) budget) (standing_on (P.lang keep.old) (P.record_of keep.old)) screen.old }
+    requires remembers { Remembers (P.lang keep.old) (terms_with (P.plan keep.old) budget) (standing_on (P.lang keep.old) (P.record_of keep.old)) screen.old }
     requires some_budget { 1 ≤ budget }
     requires small_budget { budget ≤ 1000000000 }
-    ensures again { result ≡ None → StepsTo (T.turn teacher.old) (P.lang keep.old) (request_with (P.plan keep.old) budget)
+    ensures again { result ≡ None → StepsTo (T.turn teacher.old) (P.lang keep.old) (terms_with (P.plan keep.old) budget)
         (point_of (standing_on (P.lang keep.old) (P.record_of keep.old)) (S.left source.old) (K.written sink.old))
         (point_of (standing_on (P.lang keep.old) (P.record_of keep.new)) (S.left source.new) (K.written sink.new)) }
     ensures more { result ≡ None → length (standing_on (P.lang keep.old) (P.record_of keep.new)) ≡ length (standing_on (P.lang keep.old) (P.record_of keep.old)) + 1 }
     ensures settled { result ≡ None → IsSettled (P.lang keep.old) (P.plan keep.old) (standing_on (P.lang keep.old) (P.record_of keep.new)) (P.question keep.new) }
-    ensures remembers { result ≡ None → Remembers (P.lang keep.old) (request_with (P.plan keep.old) budget) (standing_on (P.lang keep.old) (P.record_of keep.new)) screen.new }
-    ensures ends { IfSome result (Drives (T.turn teacher.old) (P.lang keep.old) (request_with (P.plan keep.old) budget)
+    ensures remembers { result ≡ None → Remembers (P.lang keep.old) (terms_with (P.plan keep.old) budget) (standing_on (P.lang keep.old) (P.record_of keep.new)) screen.new }
+    ensures ends { IfSome result (Drives (T.turn teacher.old) (P.lang keep.old) (terms_with (P.plan keep.old) budget)
         (point_of (standing_on (P.lang keep.old) (P.record_of keep.old)) (S.left source.old) (K.written sink.old))
         (point_of (standing_on (P.lang keep.old) (P.record_of keep.new)) (S.left source.new) (K.written sink.new))) }
-    ensures open { (m : _) → result ≡ Some (Drove.Undecided m) → TellsOpen (P.lang keep.old) (request_with (P.plan keep.old) budget) (standing_on (P.lang keep.old) (P.record_of keep.new)) screen.new }
+    ensures open { (m : _) → result ≡ Some (Drove.Undecided m) → TellsOpen (P.lang keep.old) (terms_with (P.plan keep.old) budget) (standing_on (P.lang keep.old) (P.record_of keep.new)) screen.new }
     ensures screen { IsMadeFor (P.lang keep.old) screen.new }
     ensures turn { T.turn teacher.new ≡ T.turn teacher.old }
     ensures fits { (l : _) → T.fits teacher.old l → T.fits teacher.new l }
@@ -303,7 +303,7 @@ fn take_turn<S: Source, K: Sink, D: Disk, T: Teacher<S, K>, P: Keep<D>>(
     ensures sound { P.sound keep.new }
     ensures added { IsAdded (P.lang keep.old) (P.plan keep.old) (P.record_of keep.old) (P.record_of keep.new) }
     ensures keeps { Keeps D.content D.may_leave D.moment D.left_since P.plan P.voc P.record_of P.question P.writes P.live P.sits D.faults (result ≡ Some Drove.DiskFault)
-        (Loses (T.turn teacher.old) (P.lang keep.old) (request_with (P.plan keep.old) budget)
+        (Loses (T.turn teacher.old) (P.lang keep.old) (terms_with (P.plan keep.old) budget)
         (point_of (standing_on (P.lang keep.old) (P.record_of keep.old)) (S.left source.old) (K.written sink.old))
         (point_of (standing_on (P.lang keep.old) (P.record_of keep.new)) (S.left source.new) (K.written sink.new)))
         keep.old keep.new disk.old disk.new }
@@ -351,14 +351,14 @@ pub fn drive<R: Threads + Sync, S: Source, K: Sink, D: Disk, T: Teacher<S, K>, P
     requires unmarked { HasNoMarks screen.old }
     requires some_budget { 1 ≤ budget }
     requires small_budget { budget ≤ 1000000000 }
-    ensures ends { Drives (T.turn teacher.old) (P.lang keep.old) (request_with (P.plan keep.old) budget)
+    ensures ends { Drives (T.turn teacher.old) (P.lang keep.old) (terms_with (P.plan keep.old) budget)
         (point_of (standing_on (P.lang keep.old) (P.record_of keep.old)) (S.left source.old) (K.written sink.old))
         (point_of (standing_on (P.lang keep.old) (P.record_of keep.new)) (S.left source.new) (K.written sink.new)) result }
     ensures owner { (owner : List Candidate) → IsNetwork (P.lang keep.old) owner → IsTrue (agrees (P.lang keep.old) owner (standing_on (P.lang keep.old) (P.record_of keep.new)))
-        → IsOwned (P.lang keep.old) (request_with (P.plan keep.old) budget) owner (standing_on (P.lang keep.old) (P.record_of keep.new)) result }
+        → IsOwned (P.lang keep.old) (terms_with (P.plan keep.old) budget) owner (standing_on (P.lang keep.old) (P.record_of keep.new)) result }
     ensures walked { LeavesNothing (P.lang keep.old) (P.plan keep.old) (standing_on (P.lang keep.old) (P.record_of keep.new)) }
     // where it is undecided, the screen tells the open candidates
-    ensures open { (m : _) → result ≡ Drove.Undecided m → TellsOpen (P.lang keep.old) (request_with (P.plan keep.old) budget) (standing_on (P.lang keep.old) (P.record_of keep.new)) screen.new }
+    ensures open { (m : _) → result ≡ Drove.Undecided m → TellsOpen (P.lang keep.old) (terms_with (P.plan keep.old) budget) (standing_on (P.lang keep.old) (P.record_of keep.new)) screen.new }
     ensures screen { IsMadeFor (P.lang keep.old) screen.new }
     ensures lang { P.lang keep.new ≡ P.lang keep.old }
     ensures plan { P.plan keep.new ≡ P.plan keep.old }
@@ -368,7 +368,7 @@ pub fn drive<R: Threads + Sync, S: Source, K: Sink, D: Disk, T: Teacher<S, K>, P
     // front of those of this run, and after it all of them, but for the last one where the disk failed. That one is the answer
     // to the question that came next.
     ensures keeps { Keeps D.content D.may_leave D.moment D.left_since P.plan P.voc P.record_of P.question P.writes P.live P.sits D.faults (result ≡ Drove.DiskFault)
-        (Loses (T.turn teacher.old) (P.lang keep.old) (request_with (P.plan keep.old) budget)
+        (Loses (T.turn teacher.old) (P.lang keep.old) (terms_with (P.plan keep.old) budget)
         (point_of (standing_on (P.lang keep.old) (P.record_of keep.old)) (S.left source.old) (K.written sink.old))
         (point_of (standing_on (P.lang keep.old) (P.record_of keep.new)) (S.left source.new) (K.written sink.new)))
         keep.old keep.new disk.old disk.new }

@@ -1,15 +1,9 @@
 ghost use Rattle.std.specs.Prelude.{◌≡◌};
 ghost use Rattle.acq_cli.specs.Program.{status_of};
 
+use acq_words::UsageFault;
 use session_store::SFault;
 use voc_read::VocFault;
-
-/// Why the words are refused.
-#[derive(Clone, Copy, Debug, PartialEq, Eq)]
-pub enum UsageFault {
-    /// They are no list of words that the program takes.
-    Words,
-}
 
 /// How the program ended. The number is that of the answers that stand.
 #[derive(Clone, Copy, Debug, PartialEq, Eq)]

@@ -6,10 +6,11 @@ mod driving;
 mod ending;
 mod opens;
 mod shows;
+mod terms;
 mod top;
-mod words;
 
+pub use acq_words::{Command, JournalPlace, Request, UsageFault, WordsFault, read_words};
 pub use driving::{Drove, drive};
-pub use ending::{Ending, UsageFault};
+pub use ending::Ending;
+pub use terms::Terms;
 pub use top::acquire;
-pub use words::{JournalCommand, Request, journal_command_of};

@@ -1,4 +1,4 @@
-ghost use Rattle.std.specs.Prelude.{◌≡◌, ◌≤◌, ◌≢◌, ℕ, List, [], map, filter, Some, None, IsTrue, IfOk, OnOk, OnErr, Ok, Err};
+ghost use Rattle.std.specs.Prelude.{◌≡◌, ◌≤◌, ◌≢◌, ℕ, List, [], map, filter, false, IsTrue, IfOk, OnOk, OnErr, Ok, Err};
 ghost use Rattle.assign.specs.declared.events.Plan.{Plan};
 ghost use Rattle.std.specs.String.{string_bytes};
 ghost use Rattle.acq_io.specs.Streams.{Adds, AddsFront, Rose};
@@ -12,20 +12,24 @@ ghost use Rattle.session_store.specs.Keeping.{Keeps};
 ghost use Rattle.target_oracle.specs.Lines.{line_turn};
 ghost use Rattle.acq_cli.specs.Driven.{Loses, TellsOpen};
 ghost use Rattle.acq_cli.specs.Added.{IsAdded};
-ghost use Rattle.acq_cli.specs.Points.{point_of, request_with};
+ghost use Rattle.acq_cli.specs.Points.{point_of, terms_with};
 ghost use Rattle.acq_cli.specs.Breaks.{Breaks, BreaksRun};
 ghost use Rattle.acq_cli.specs.Program.{Acquires, HasEnded, Says, SaysPart, Tries};
 ghost use Rattle.disk_model.specs.Disk.{Rose as DiskRose};
-ghost use Rattle.acq_cli.specs.Journals.{RunsOn, News, Shows, ended_as};
-ghost use Rattle.acq_cli.specs.Words.{journal_command_of};
-ghost use Rattle.acq_cli.specs.Texts.{collapsed_text, converged_text, refusal_text, suspended_text, undecided_text};
+ghost use Rattle.acq_words.specs.Request.{IsWithin};
+ghost use Rattle.acq_cli.specs.Journals.{EndsWith, RunsOn, News, Shows, ended_as};
+ghost use Rattle.acq_cli.specs.Exactly.{NewEnds, RunEnds, ShowEnds};
+ghost use Rattle.acq_cli.specs.Words.{IsAsked, command_asked, is_over_journal, is_reading};
+ghost use Rattle.acq_cli.specs.Texts.{collapsed_text, converged_text, refusal_text, suspended_text, undecided_text, usage_text};
 
 use crate::commands::{new_journal, run_journal, show_journal};
 use crate::driving::{Drove, drive};
-use crate::ending::{Ending, UsageFault};
+use crate::ending::Ending;
 use crate::opens::open_lines;
-use crate::words::{JournalCommand, Request, journal_command_of, request_of};
+use crate::terms::Terms;
 use acq_io::{AllFault, Put, Sink, Source, read_first_line};
+use acq_words::{Command, UsageFault, WordsFault, read_words};
+use answer_journal::no_two_readings;
 use disk_model::{Disk, MemDisk, Room};
 use language::{Language, Memory};
 use network::network_text;
@@ -123,12 +127,12 @@ pub(crate) fn say<K: Sink>(
     out: &mut K,
 ) -> Result<Ending, Put>
     requires made { IsMadeFor (knowledge_of session.now).lang screen.now }
-    ensures says { (budget : _) (t : List Answer) → Stands session.now t → let k = knowledge_of session.now in let request = request_with k.plan budget in
-        HasEnded k.lang request t drove → ((m : _) → drove ≡ Drove.Undecided m → TellsOpen k.lang request t screen.now)
-        → IfOk result (Says k.lang request t (K.written out.old) (K.written out.new) drove) }
-    ensures part { (budget : _) (t : List Answer) → Stands session.now t → let k = knowledge_of session.now in let request = request_with k.plan budget in
-        HasEnded k.lang request t drove → ((m : _) → drove ≡ Drove.Undecided m → TellsOpen k.lang request t screen.now)
-        → OnErr result (SaysPart k.lang request t (K.written out.old) (K.written out.new) drove) }
+    ensures says { (budget : _) (t : List Answer) → Stands session.now t → let k = knowledge_of session.now in let terms = terms_with k.plan budget in
+        HasEnded k.lang terms t drove → ((m : _) → drove ≡ Drove.Undecided m → TellsOpen k.lang terms t screen.now)
+        → IfOk result (Says k.lang terms t (K.written out.old) (K.written out.new) drove) }
+    ensures part { (budget : _) (t : List Answer) → Stands session.now t → let k = knowledge_of session.now in let terms = terms_with k.plan budget in
+        HasEnded k.lang terms t drove → ((m : _) → drove ≡ Drove.Undecided m → TellsOpen k.lang terms t screen.now)
+        → OnErr result (SaysPart k.lang terms t (K.written out.old) (K.written out.new) drove) }
     ensures failed { result ≡ Err Put.Failed → drove ≢ Drove.WriteFault → Rose (K.faults out.old) (K.faults out.new) }
     ensures later_sink { K.faults out.old ≤ K.faults out.new }
 {
@@ -200,9 +204,9 @@ pub(crate) fn ask_on<R: Threads + Sync, S: Source, K: Sink, D: Disk, P: Keep<D>>
     requires settled { IsSettled (P.lang keep.old) (P.plan keep.old) (standing_on (P.lang keep.old) (P.record_of keep.old)) (P.question keep.old) }
     requires some_budget { 1 ≤ budget }
     requires small_budget { budget ≤ 1000000000 }
-    ensures tries { IfOk result (Tries (P.lang keep.old) (request_with (P.plan keep.old) budget) (standing_on (P.lang keep.old) (P.record_of keep.old)) (standing_on (P.lang keep.old) (P.record_of keep.new))
+    ensures tries { IfOk result (Tries (P.lang keep.old) (terms_with (P.plan keep.old) budget) (standing_on (P.lang keep.old) (P.record_of keep.old)) (standing_on (P.lang keep.old) (P.record_of keep.new))
         (S.left input.old) (K.written out.old) (S.left input.new) (K.written out.new)) }
-    ensures part { OnErr result (BreaksRun (P.lang keep.old) (request_with (P.plan keep.old) budget) (standing_on (P.lang keep.old) (P.record_of keep.old)) (standing_on (P.lang keep.old) (P.record_of keep.new)) (S.left input.old) (K.written out.old) (K.written out.new)) }
+    ensures part { OnErr result (BreaksRun (P.lang keep.old) (terms_with (P.plan keep.old) budget) (standing_on (P.lang keep.old) (P.record_of keep.old)) (standing_on (P.lang keep.old) (P.record_of keep.new)) (S.left input.old) (K.written out.old) (K.written out.new)) }
     ensures read { result ≡ Ok Ending.ReadFault → Rose (S.faults input.old) (S.faults input.new) }
     ensures no_fault { IfOk result (λ ending. ending ≢ Ending.WriteFault) }
     ensures failed { result ≡ Err Put.Failed → Rose (K.faults out.old) (K.faults out.new) }
@@ -210,7 +214,7 @@ pub(crate) fn ask_on<R: Threads + Sync, S: Source, K: Sink, D: Disk, P: Keep<D>>
     ensures later_sink { K.faults out.old ≤ K.faults out.new }
     ensures added { IsAdded (P.lang keep.old) (P.plan keep.old) (P.record_of keep.old) (P.record_of keep.new) }
     ensures keeps { Keeps D.content D.may_leave D.moment D.left_since P.plan P.voc P.record_of P.question P.writes P.live P.sits D.faults (result ≡ Ok Ending.DiskFault)
-        (Loses line_turn (P.lang keep.old) (request_with (P.plan keep.old) budget)
+        (Loses line_turn (P.lang keep.old) (terms_with (P.plan keep.old) budget)
         (point_of (standing_on (P.lang keep.old) (P.record_of keep.old)) (S.left input.old) (K.written out.old))
         (point_of (standing_on (P.lang keep.old) (P.record_of keep.new)) (S.left input.new) (K.written out.new)))
         keep.old keep.new disk.old disk.new }
@@ -249,14 +253,14 @@ fn try_language<R: Threads + Sync, S: Source, K: Sink>(
     rt: &R,
     alloc: Global,
     lang: Language,
-    request: Request,
+    terms: Terms,
     input: &mut S,
     out: &mut K,
 ) -> Result<Ending, Put>
-    requires some_budget { 1 ≤ request.budget }
-    requires small_budget { request.budget ≤ 1000000000 }
-    ensures tries { IfOk result (λ ending. (answers : List Answer) × Tries lang request [] answers (S.left input.old) (K.written out.old) (S.left input.new) (K.written out.new) ending) }
-    ensures part { OnErr result ((answers : List Answer) × BreaksRun lang request [] answers (S.left input.old) (K.written out.old) (K.written out.new)) }
+    requires some_budget { 1 ≤ terms.budget }
+    requires small_budget { terms.budget ≤ 1000000000 }
+    ensures tries { IfOk result (λ ending. (answers : List Answer) × Tries lang terms [] answers (S.left input.old) (K.written out.old) (S.left input.new) (K.written out.new) ending) }
+    ensures part { OnErr result ((answers : List Answer) × BreaksRun lang terms [] answers (S.left input.old) (K.written out.old) (K.written out.new)) }
     ensures read { result ≡ Ok Ending.ReadFault → Rose (S.faults input.old) (S.faults input.new) }
     ensures no_fault { IfOk result (λ ending. ending ≢ Ending.WriteFault) }
     ensures no_disk { IfOk result (λ ending. ending ≢ Ending.DiskFault) }
@@ -269,10 +273,10 @@ fn try_language<R: Threads + Sync, S: Source, K: Sink>(
     let Ok(mut disk) = MemDisk::new(alloc, Vec::new(alloc), Vec::new(alloc), room) else {
         return Err(Put::Memory);
     };
-    let Ok(mut keep) = Loose::new(alloc, lang, request.plan) else {
+    let Ok(mut keep) = Loose::new(alloc, lang, terms.plan) else {
         return Err(Put::Memory);
     };
-    ask_on(rt, alloc, request.budget, input, out, &mut disk, &mut keep)
+    ask_on(rt, alloc, terms.budget, input, out, &mut disk, &mut keep)
 }
 
 /// Refuses the vocabulary.
@@ -293,24 +297,22 @@ pub(crate) fn refuse<K: Sink>(alloc: Global, fault: VocFault, out: &mut K) -> Re
     Ok(Ending::VocRefused(fault))
 }
 
-/// What the program does, and how it ends where the output takes all.
-fn respond<R: Threads + Sync, S: Source, K: Sink>(
+/// Reads a vocabulary's line, and asks about it.
+fn try_input<R: Threads + Sync, S: Source, K: Sink>(
     rt: &R,
     alloc: Global,
-    words: &[String],
+    terms: Terms,
     input: &mut S,
     out: &mut K,
 ) -> Result<Ending, Put>
-    ensures acquires { IfOk result (Acquires (map string_bytes words.now) (S.left input.old) (K.written out.old) (S.left input.new) (K.written out.new)) }
-    ensures part { OnErr result (Breaks (map string_bytes words.now) (S.left input.old) (K.written out.old) (K.written out.new)) }
+    requires some_budget { 1 ≤ terms.budget }
+    requires small_budget { terms.budget ≤ 1000000000 }
+    ensures acquires { IfOk result (Acquires terms (S.left input.old) (K.written out.old) (S.left input.new) (K.written out.new)) }
+    ensures part { OnErr result (Breaks terms (S.left input.old) (K.written out.old) (K.written out.new)) }
     ensures read { result ≡ Ok Ending.ReadFault → Rose (S.faults input.old) (S.faults input.new) }
     ensures no_fault { IfOk result (λ ending. ending ≢ Ending.WriteFault) }
     ensures failed { result ≡ Err Put.Failed → Rose (K.faults out.old) (K.faults out.new) }
 {
-    let Some(request) = request_of(words) else {
-        out.write(USAGE)?;
-        return Ok(Ending::Usage(UsageFault::Words));
-    };
     let line = match read_first_line(alloc, input, MOST_VOCABULARY) {
         Ok(line) => line,
         Err(AllFault::TooLong) => return refuse(alloc, VocFault::TooLong, out),
@@ -318,9 +320,29 @@ fn respond<R: Threads + Sync, S: Source, K: Sink>(
         Err(AllFault::Memory) => return Err(Put::Memory),
     };
     match read_vocabulary(alloc, &line) {
-        Ok(lang) => try_language(rt, alloc, lang, request, input, out),
+        Ok(lang) => try_language(rt, alloc, lang, terms, input, out),
         Err(VocFault::Memory) => Err(Put::Memory),
         Err(fault) => refuse(alloc, fault, out),
+    }
+}
+
+/// Says how the program is used, where the words are refused.
+fn refuse_words<K: Sink>(fault: UsageFault, out: &mut K) -> Result<Ending, Put>
+    ensures tells { EndsWith (Ending.Usage fault) usage_text (K.written out.old) (K.written out.new) result }
+    ensures failed { result ≡ Err Put.Failed → Rose (K.faults out.old) (K.faults out.new) }
+{
+    out.write(USAGE)?;
+    Ok(Ending::Usage(fault))
+}
+
+/// The command that the words ask for.
+fn command_asked(alloc: Global, words: &[String]) -> Result<Command, WordsFault>
+    ensures is { IsAsked (command_asked (map string_bytes words.now)) result }
+    ensures within { IfOk result IsWithin }
+{
+    match read_words(alloc, words) {
+        Ok(request) => Ok(request.command),
+        Err(fault) => Err(fault),
     }
 }
 
@@ -334,26 +356,35 @@ fn perform<R: Threads + Sync, S: Source, K: Sink, D: Disk>(
     out: &mut K,
     disk: &mut D,
 ) -> Result<Ending, Put>
-    ensures acquires { journal_command_of (map string_bytes words.now) ≡ None → IfOk result (Acquires (map string_bytes words.now) (S.left input.old) (K.written out.old) (S.left input.new) (K.written out.new)) }
-    ensures part { journal_command_of (map string_bytes words.now) ≡ None → OnErr result (Breaks (map string_bytes words.now) (S.left input.old) (K.written out.old) (K.written out.new)) }
-    ensures untouched { journal_command_of (map string_bytes words.now) ≡ None → disk.new ≡ disk.old }
-    ensures news { (plan : Plan) → journal_command_of (map string_bytes words.now) ≡ Some (JournalCommand.New plan) →
+    ensures acquires { (plan : Plan) (budget : ℕ) → command_asked (map string_bytes words.now) ≡ Ok (Command.Try plan budget) →
+        Acquires (terms_with plan budget) (S.left input.old) (K.written out.old) (S.left input.new) (K.written out.new) (ended_as result) }
+    ensures untouched { is_over_journal (command_asked (map string_bytes words.now)) ≡ false → disk.new ≡ disk.old }
+    ensures news { (plan : Plan) → command_asked (map string_bytes words.now) ≡ Ok (Command.New plan) →
         News D.content D.may_leave D.moment D.left_since plan (S.left input.old) (K.written out.old) (S.left input.new) (K.written out.new) disk.old disk.new result }
-    ensures runs { (budget : ℕ) → journal_command_of (map string_bytes words.now) ≡ Some (JournalCommand.Run budget) →
+    ensures runs { (budget : ℕ) → command_asked (map string_bytes words.now) ≡ Ok (Command.Run budget) →
         RunsOn D.content D.may_leave D.moment D.left_since budget (S.left input.old) (K.written out.old) (S.left input.new) (K.written out.new) disk.old disk.new result }
-    ensures shows { journal_command_of (map string_bytes words.now) ≡ Some JournalCommand.Show →
+    ensures shows { command_asked (map string_bytes words.now) ≡ Ok Command.Show →
         Shows D.content D.may_leave D.moment D.left_since (S.left input.old) (K.written out.old) (K.written out.new) disk.old disk.new result }
-    ensures unread { journal_command_of (map string_bytes words.now) ≡ Some JournalCommand.Show → S.left input.new ≡ S.left input.old }
+    ensures unread { is_reading (command_asked (map string_bytes words.now)) ≡ false → S.left input.new ≡ S.left input.old }
+    ensures refuses { (fault : UsageFault) → command_asked (map string_bytes words.now) ≡ Err fault →
+        EndsWith (Ending.Usage fault) usage_text (K.written out.old) (K.written out.new) result }
     ensures read { result ≡ Ok Ending.ReadFault → Rose (S.faults input.old) (S.faults input.new) }
     ensures no_fault { IfOk result (λ ending. ending ≢ Ending.WriteFault) }
     ensures failed { result ≡ Err Put.Failed → Rose (K.faults out.old) (K.faults out.new) }
     ensures lost { result ≡ Ok Ending.DiskFault → DiskRose (D.faults disk.old) (D.faults disk.new) }
 {
-    match journal_command_of(words) {
-        Some(JournalCommand::New(plan)) => new_journal(alloc, plan, input, out, disk),
-        Some(JournalCommand::Run(budget)) => run_journal(rt, alloc, budget, input, out, disk),
-        Some(JournalCommand::Show) => show_journal(alloc, out, disk),
-        None => respond(rt, alloc, words, input, out),
+    let command = match command_asked(alloc, words) {
+        Ok(command) => command,
+        Err(WordsFault::Usage(fault)) => return refuse_words(fault, out),
+        Err(WordsFault::Memory) => return Err(Put::Memory),
+    };
+    match command {
+        Command::New(plan) => new_journal(alloc, plan, input, out, disk),
+        Command::Run(budget) => run_journal(rt, alloc, budget, input, out, disk),
+        Command::Try(plan, budget) => try_input(rt, alloc, Terms { plan, budget }, input, out),
+        Command::Show => show_journal(alloc, out, disk),
+        // These aren't built yet.
+        Command::Play(_) | Command::Demo(_, _) => refuse_words(UsageFault::Words, out),
     }
 }
 
@@ -366,19 +397,29 @@ pub fn acquire<R: Threads + Sync, S: Source, K: Sink, D: Disk>(
     out: &mut K,
     disk: &mut D,
 ) -> Ending
-    ensures acquires { journal_command_of (map string_bytes words.now) ≡ None → Acquires (map string_bytes words.now) (S.left input.old) (K.written out.old) (S.left input.new) (K.written out.new) result }
-    ensures untouched { journal_command_of (map string_bytes words.now) ≡ None → disk.new ≡ disk.old }
-    ensures news { (plan : Plan) → journal_command_of (map string_bytes words.now) ≡ Some (JournalCommand.New plan) → (got : _) × (result ≡ ended_as got)
+    ensures acquires { (plan : Plan) (budget : ℕ) → command_asked (map string_bytes words.now) ≡ Ok (Command.Try plan budget) →
+        Acquires (terms_with plan budget) (S.left input.old) (K.written out.old) (S.left input.new) (K.written out.new) result }
+    ensures untouched { is_over_journal (command_asked (map string_bytes words.now)) ≡ false → disk.new ≡ disk.old }
+    ensures news { (plan : Plan) → command_asked (map string_bytes words.now) ≡ Ok (Command.New plan) → (got : _) × (result ≡ ended_as got)
         × News D.content D.may_leave D.moment D.left_since plan (S.left input.old) (K.written out.old) (S.left input.new) (K.written out.new) disk.old disk.new got }
-    ensures runs { (budget : ℕ) → journal_command_of (map string_bytes words.now) ≡ Some (JournalCommand.Run budget) → (got : _) × (result ≡ ended_as got)
+    ensures runs { (budget : ℕ) → command_asked (map string_bytes words.now) ≡ Ok (Command.Run budget) → (got : _) × (result ≡ ended_as got)
         × RunsOn D.content D.may_leave D.moment D.left_since budget (S.left input.old) (K.written out.old) (S.left input.new) (K.written out.new) disk.old disk.new got }
-    ensures shows { journal_command_of (map string_bytes words.now) ≡ Some JournalCommand.Show → (got : _) × (result ≡ ended_as got)
+    ensures shows { command_asked (map string_bytes words.now) ≡ Ok Command.Show → (got : _) × (result ≡ ended_as got)
         × Shows D.content D.may_leave D.moment D.left_since (S.left input.old) (K.written out.old) (K.written out.new) disk.old disk.new got }
-    ensures unread { journal_command_of (map string_bytes words.now) ≡ Some JournalCommand.Show → S.left input.new ≡ S.left input.old }
+    ensures unread { is_reading (command_asked (map string_bytes words.now)) ≡ false → S.left input.new ≡ S.left input.old }
+    ensures refuses { (fault : UsageFault) → command_asked (map string_bytes words.now) ≡ Err fault → (got : _) × (result ≡ ended_as got)
+        × EndsWith (Ending.Usage fault) usage_text (K.written out.old) (K.written out.new) got }
+    ensures usage { (fault : UsageFault) → result ≡ Ending.Usage fault → command_asked (map string_bytes words.now) ≡ Err fault }
     ensures read { result ≡ Ending.ReadFault → Rose (S.faults input.old) (S.faults input.new) }
     ensures write { result ≡ Ending.WriteFault → Rose (K.faults out.old) (K.faults out.new) }
     ensures lost { result ≡ Ending.DiskFault → DiskRose (D.faults disk.old) (D.faults disk.new) }
+    // `new` and `show` are done, and a journal is refused, exactly where the bytes say so.
+    ensures made { (plan : Plan) → command_asked (map string_bytes words.now) ≡ Ok (Command.New plan) → NewEnds (S.left input.old) (D.content disk.old) result }
+    ensures opened { (budget : ℕ) → command_asked (map string_bytes words.now) ≡ Ok (Command.Run budget) → RunEnds (D.content disk.old) result }
+    ensures shown { command_asked (map string_bytes words.now) ≡ Ok Command.Show → ShowEnds (D.content disk.old) result }
 {
+    // a law: what refuses a file is the only reason
+    no_two_readings();
     match perform(rt, alloc, words, input, out, disk) {
         Ok(ending) => ending,
         Err(Put::Failed) => Ending::WriteFault,

@@ -117,6 +117,8 @@ impl<'a, R: Files<File = File>> Disk for FileDisk<'a, R> {
 
     ghost left_since = { λ d t c. Unit {0} };
 
+    ghost calls = { λ d. 2 ^ 64 - 1 };
+
     ghost faults = { λ d. d.faults };
 
     ghost reads_true = { λ d x told. tt };

@@ -4,9 +4,10 @@
 mod file;
 
 use crate::file::FileDisk;
-use acq_cli::{Ending, acquire, journal_command_of};
+use acq_cli::{Ending, JournalPlace, WordsFault, acquire, read_words};
 use acq_io::{StdSink, StdSource};
 use disk_model::{MemDisk, Room};
+use std::alloc::Global;
 use std::env;
 use std::io::ErrorKind;
 use std::process::ExitCode;
@@ -29,23 +30,26 @@ fn words_of(rt: &(impl Env + AllocGlobal)) -> Option<Vec<String>> {
     Some(words)
 }
 
-/// The file that a command over a journal names. None where the words are no such command, or mean no file.
-fn file_of(words: &[String]) -> Option<&str> {
-    journal_command_of(words)?;
-    let name = words.first()?.as_str();
-    if name == ":memory:" {
-        return None;
+/// Where the journal is. In memory too where the words are refused, which `acquire` tells. None where there is no memory to
+/// read them.
+fn place_of(alloc: Global, words: &[String]) -> Option<JournalPlace> {
+    match read_words(alloc, words) {
+        Ok(request) => Some(request.journal),
+        Err(WordsFault::Usage(_)) => Some(JournalPlace::InMemory),
+        Err(WordsFault::Memory) => None,
     }
-    Some(name)
 }
 
 fn main(rt: HostRuntime) -> ExitCode {
     let Some(words) = words_of(&rt) else {
         return ExitCode::from(Ending::Memory.status());
     };
+    let Some(place) = place_of(rt.alloc(), &words) else {
+        return ExitCode::from(Ending::Memory.status());
+    };
     let mut input = StdSource::new(rt.stdin());
     let mut out = StdSink::new(rt.stdout());
-    if let Some(name) = file_of(&words) {
+    if let JournalPlace::File(name) = &place {
         let mut disk = FileDisk::new(&rt, name);
         let ending = acquire(&rt, rt.alloc(), &words, &mut input, &mut out, &mut disk);
         return ExitCode::from(ending.status());

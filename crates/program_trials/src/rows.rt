@@ -1,6 +1,7 @@
 //! Rows of options, vocabularies and answers, and what is printed.
 
-use crate::runs::{ended, repeated, try_with, vocabulary_of};
+use crate::runs::{ended, no_disk, repeated, run_on, try_with, vocabulary_of};
+use acq_cli::{Ending, UsageFault};
 use std::alloc::{AllocError, Global};
 use std::test::Fail;
 use std::thread::Threads;
@@ -33,8 +34,8 @@ const ROWS: &str = "|two|yes no|q1 a=1 b=2/q2 a=1 b=1/converged 2/ne a b/|0
 --plan scopes --plan=scopes|two|yes no|usage: acquire JOURNAL COMMAND [--plan P] [--budget N] [--number N]/|1
 --budget 0|two|yes no|usage: acquire JOURNAL COMMAND [--plan P] [--budget N] [--number N]/|1
 --budget 1000000001|two|yes no|usage: acquire JOURNAL COMMAND [--plan P] [--budget N] [--number N]/|1
---budget 007|two|yes no|usage: acquire JOURNAL COMMAND [--plan P] [--budget N] [--number N]/|1
---budget +7|two|yes no|usage: acquire JOURNAL COMMAND [--plan P] [--budget N] [--number N]/|1
+--budget 007|two|yes no|q1 a=1 b=2/q2 a=1 b=1/converged 2/ne a b/|0
+--budget +7|two|yes no|q1 a=1 b=2/q2 a=1 b=1/converged 2/ne a b/|0
 --budget|two|yes no|usage: acquire JOURNAL COMMAND [--plan P] [--budget N] [--number N]/|1
 --budget=|two|yes no|usage: acquire JOURNAL COMMAND [--plan P] [--budget N] [--number N]/|1
 --plan multis|two|yes no|usage: acquire JOURNAL COMMAND [--plan P] [--budget N] [--number N]/|1
@@ -57,6 +58,37 @@ fn is_met(rt: &(impl Threads + Sync), alloc: Global, row: &str) -> Result<bool, 
 fn rows(rt: HostRuntime) -> Result<(), Fail> {
     for row in ROWS.split('\n') {
         assert!(rt; is_met(&rt, rt.alloc(), row)?, "{row}");
+    }
+    Ok(())
+}
+
+/// Words that are refused, and why.
+static REFUSED: [(&str, UsageFault); 10] = [
+    ("", UsageFault::Words),
+    ("--help", UsageFault::Words),
+    (":memory: try --budget 0", UsageFault::Words),
+    (":memory: try --budget 1 --budget 1", UsageFault::Words),
+    ("j try", UsageFault::Unfit),
+    (":memory: demo", UsageFault::Unfit),
+    ("j run --plan quacq", UsageFault::Unfit),
+    ("j run --plan multi", UsageFault::Unfit),
+    // These commands aren't built yet.
+    (":memory: demo --number 0", UsageFault::Words),
+    ("j play", UsageFault::Words),
+];
+
+#[test]
+fn refused_words(rt: HostRuntime) -> Result<(), Fail> {
+    let alloc = rt.alloc();
+    for (line, fault) in &REFUSED {
+        let mut disk = no_disk(alloc)?;
+        let ran = run_on(&rt, alloc, line, "", &mut disk)?;
+        assert_eq!(rt; ran.ending, Ending::Usage(*fault), "{line}");
+        assert_eq!(rt; ran.status, 1);
+        assert_eq!(rt;
+            ran.text.as_str(),
+            "usage: acquire JOURNAL COMMAND [--plan P] [--budget N] [--number N]\n"
+        );
     }
     Ok(())
 }

@@ -1,6 +1,6 @@
 //! Vocabularies by name, and runs of the program in memory.
 
-use acq_cli::acquire;
+use acq_cli::{Ending, acquire};
 use acq_io::{PlainSink, PlainSource};
 use disk_model::{MemDisk, Memory, Room};
 use std::alloc::{AllocError, Global};
@@ -75,10 +75,11 @@ pub(crate) fn no_disk(alloc: Global) -> Result<MemDisk, Memory> {
     MemDisk::new(alloc, Vec::new(alloc), Vec::new(alloc), room)
 }
 
-/// What a run printed, and its status.
+/// What a run printed, how it ended, and its status.
 #[derive(Debug, PartialEq, Eq, Drop)]
 pub(crate) struct Ran {
     pub(crate) text: String,
+    pub(crate) ending: Ending,
     pub(crate) status: u8,
 }
 
@@ -99,6 +100,7 @@ pub(crate) fn run_on(
     };
     Ok(Ran {
         text: String::from_str(alloc, text)?,
+        ending,
         status: ending.status(),
     })
 }

@@ -6,20 +6,19 @@ use Rattle.language.specs.Language.{Language, IsLanguage}
 use Rattle.language.specs.Answers.{standing_on}
 use Rattle.query_gen.specs.Marks.{IsMadeFor}
 use Rattle.session_laws.specs.Laws.{network_in}
-use Rattle.session_laws.specs.Session.{state_after}
-use Rattle.session_laws.proofs.Pending.{ended_is_walked}
 use Rattle.session_core.specs.Settled.{IsSettled}
 use Rattle.target_oracle.specs.Turns.{Turns}
 use Rattle.acq_cli.specs.Driven.{Point, Drives, Loses, Remembers, StepsTo, TellsOpen}
 use Rattle.acq_cli.specs.declared.driving.Drove.{Drove}
 use Rattle.acq_cli.specs.declared.driving.Drove.TheVariants as drove
 use Rattle.session_store.specs.Keeping.{keeps_still, keeps_then, keeps_as}
-use Rattle.acq_cli.specs.Points.{point_of, request_with}
+use Rattle.acq_cli.specs.Points.{point_of, terms_with}
 use Rattle.query_gen.proofs.Marking.{no_marks_hold}
 use Rattle.acq_cli.proofs.Standings.{carried, reached, few_answers}
 use Rattle.acq_cli.specs.Added.{IsAdded}
 use Rattle.acq_cli.proofs.Added.{added_none, added_then}
 use Rattle.acq_cli.proofs.Owners.{owned}
+use Rattle.acq_cli.proofs.Walked.{leaves_nothing}
 use Rattle.acq_cli.proofs.Turning.{steps_on, steps_end, steps_loses, steps_none}
 use Rattle.acq_cli.proofs.driving.drive.Goals as goal
 
@@ -42,14 +41,14 @@ loop-turn-init g c =
       lang = refl;
       fits = c.requires.fits;
       turn = refl;
-      steps = steps_none (g.T.Teacher.turn c.args.teacher.now) l (request_with (g.P.Keep.plan c.args.keep.now) c.args.budget) a;
+      steps = steps_none (g.T.Teacher.turn c.args.teacher.now) l (terms_with (g.P.Keep.plan c.args.keep.now) c.args.budget) a;
       later = omega arith;
       later_sink = omega arith;
       added = added_none l (g.P.Keep.plan c.args.keep.now) (g.P.Keep.record_of c.args.keep.now) (g.P.Keep.record_of c.args.keep.now) refl;
       keeps =
           let D = g.D.Disk in let P = g.P.Keep in
           keeps_still D.content D.may_leave D.moment D.left_since g.met.D.Disk.counts_now g.met.D.Disk.only_now P.plan P.voc P.record_of P.question P.writes P.live P.sits D.faults ⊥ (λ q r. ⊥) c.args.keep.now c.args.keep.now c.args.disk.now (λ e. e) refl refl refl refl refl c.requires.live c.requires.sits
-          (λ w bytes told f left. g.met.P.Keep.lasts c.args.keep.now c.args.disk.now c.requires.sound w c.requires.live c.requires.sits bytes told f left);
+          (λ w bytes told f left. g.met.P.Keep.lasts c.args.keep.now c.args.disk.now w c.requires.live c.requires.sits bytes told f left);
       more = omega arith;
     }
 
@@ -62,30 +61,29 @@ returns-in-Some-clause-ends g c =
     let b : Language → Point = λ m. point_of (standing_on m (g.P.Keep.record_of c.loop-turn.keep)) (g.S.Source.left c.loop-turn.source) (g.K.Sink.written c.loop-turn.sink) in
     let d : Language → Point = λ m. point_of (standing_on m (g.P.Keep.record_of c.take_turn.new.keep)) (g.S.Source.left c.take_turn.new.source) (g.K.Sink.written c.take_turn.new.sink) in
     let old : Language = g.P.Keep.lang c.loop-turn.keep in
-    let Turned : Turns → Type 0 = λ t. Drives t old (request_with (g.P.Keep.plan c.loop-turn.keep) c.args.budget) (b old) (d old) c.in-Some.drove in
-    let Spoken : Language → Plan → Type 0 = λ m q. Drives turns m (request_with q c.args.budget) (b m) (d m) c.in-Some.drove in
-    let Stepped : Language → Type 0 = λ m. StepsTo turns l (request_with p c.args.budget) a (b m) in
-    steps_end turns l (request_with p c.args.budget) a (b l) (d l) c.in-Some.drove (subst Stepped c.loop-turn.invariant.lang c.loop-turn.invariant.steps)
+    let Turned : Turns → Type 0 = λ t. Drives t old (terms_with (g.P.Keep.plan c.loop-turn.keep) c.args.budget) (b old) (d old) c.in-Some.drove in
+    let Spoken : Language → Plan → Type 0 = λ m q. Drives turns m (terms_with q c.args.budget) (b m) (d m) c.in-Some.drove in
+    let Stepped : Language → Type 0 = λ m. StepsTo turns l (terms_with p c.args.budget) a (b m) in
+    steps_end turns l (terms_with p c.args.budget) a (b l) (d l) c.in-Some.drove (subst Stepped c.loop-turn.invariant.lang c.loop-turn.invariant.steps)
     (carried Spoken old l (g.P.Keep.plan c.loop-turn.keep) p c.loop-turn.invariant.lang c.loop-turn.invariant.plan (subst Turned c.loop-turn.invariant.turn c.in-Some.ensures.ends))
 
 pub returns-in-Some-clause-owner : goal.returns-in-Some-clause-owner
 returns-in-Some-clause-owner g c owner lawful agreeing =
     let l : Language = g.P.Keep.lang c.args.keep.now in
     let a : Point = point_of (standing_on l (g.P.Keep.record_of c.args.keep.now)) (g.S.Source.left c.args.source.now) (g.K.Sink.written c.args.sink.now) in
-    owned (g.T.Teacher.turn c.args.teacher.now) l (request_with (g.P.Keep.plan c.args.keep.now) c.args.budget) a (standing_on l (g.P.Keep.record_of c.take_turn.new.keep))
+    owned (g.T.Teacher.turn c.args.teacher.now) l (terms_with (g.P.Keep.plan c.args.keep.now) c.args.budget) a (standing_on l (g.P.Keep.record_of c.take_turn.new.keep))
     (g.S.Source.left c.take_turn.new.source) (g.K.Sink.written c.take_turn.new.sink) c.in-Some.drove owner (returns-in-Some-clause-ends g c) lawful agreeing
 
 pub returns-in-Some-clause-open : goal.returns-in-Some-clause-open
 returns-in-Some-clause-open g c m is =
-    let Open : Language → Plan → Type 0 = λ n q. TellsOpen n (request_with q c.args.budget) (standing_on n (g.P.Keep.record_of c.take_turn.new.keep)) c.take_turn.new.screen in
+    let Open : Language → Plan → Type 0 = λ n q. TellsOpen n (terms_with q c.args.budget) (standing_on n (g.P.Keep.record_of c.take_turn.new.keep)) c.take_turn.new.screen in
     carried Open (g.P.Keep.lang c.loop-turn.keep) (g.P.Keep.lang c.args.keep.now) (g.P.Keep.plan c.loop-turn.keep) (g.P.Keep.plan c.args.keep.now)
     c.loop-turn.invariant.lang c.loop-turn.invariant.plan (c.in-Some.ensures.open m (ap (λ (x : Drove). let o : Option Drove = Some x in o) is))
 
 pub returns-in-Some-clause-walked : goal.returns-in-Some-clause-walked
-returns-in-Some-clause-walked g c e state multi at ended =
+returns-in-Some-clause-walked g c =
     let l : Language = g.P.Keep.lang c.args.keep.now in
-    let t : List Answer = standing_on l (g.P.Keep.record_of c.take_turn.new.keep) in
-    ended_is_walked l t state e (subst IsLanguage (c.lang.ensures.is ∙ c.session.ensures.lang) c.lang.ensures.lawful) (ap (λ (p : Plan). state_after l p t) (sym multi) ∙ at) ended
+    leaves_nothing l (g.P.Keep.plan c.args.keep.now) (standing_on l (g.P.Keep.record_of c.take_turn.new.keep)) (subst IsLanguage (c.lang.ensures.is ∙ c.session.ensures.lang) c.lang.ensures.lawful)
 
 pub loop-turn-preserved : goal.loop-turn-preserved
 loop-turn-preserved g c =
@@ -99,12 +97,12 @@ loop-turn-preserved g c =
     let new : Language = g.P.Keep.lang c.take_turn.new.keep in
     let before : Plan = g.P.Keep.plan c.loop-turn.keep in
     let after : Plan = g.P.Keep.plan c.take_turn.new.keep in
-    let Turned : Turns → Type 0 = λ t. StepsTo t old (request_with before c.args.budget) (b old) (d old) in
-    let Spoken : Language → Plan → Type 0 = λ m q. StepsTo turns m (request_with q c.args.budget) (b m) (d m) in
-    let Stepped : Language → Type 0 = λ m. StepsTo turns l (request_with p c.args.budget) a (b m) in
-    let Ended : Language → Type 0 = λ m. StepsTo turns l (request_with p c.args.budget) a (d m) in
+    let Turned : Turns → Type 0 = λ t. StepsTo t old (terms_with before c.args.budget) (b old) (d old) in
+    let Spoken : Language → Plan → Type 0 = λ m q. StepsTo turns m (terms_with q c.args.budget) (b m) (d m) in
+    let Stepped : Language → Type 0 = λ m. StepsTo turns l (terms_with p c.args.budget) a (b m) in
+    let Ended : Language → Type 0 = λ m. StepsTo turns l (terms_with p c.args.budget) a (d m) in
     let Settled : Language → Plan → Type 0 = λ m q. IsSettled m q (standing_on m (g.P.Keep.record_of c.take_turn.new.keep)) (g.P.Keep.question c.take_turn.new.keep) in
-    let Remembered : Language → Plan → Type 0 = λ m q. Remembers m (request_with q c.args.budget) (standing_on m (g.P.Keep.record_of c.take_turn.new.keep)) c.take_turn.new.screen in
+    let Remembered : Language → Plan → Type 0 = λ m q. Remembers m (terms_with q c.args.budget) (standing_on m (g.P.Keep.record_of c.take_turn.new.keep)) c.take_turn.new.screen in
     let Made : Language → Type 0 = λ m. IsMadeFor m c.take_turn.new.screen in
     let Fits : Language → Type 0 = λ m. g.T.Teacher.fits c.take_turn.new.teacher m in
     let still : l ≡ new = sym (c.take_turn.ensures.lang ∙ c.loop-turn.invariant.lang) in
@@ -120,7 +118,7 @@ loop-turn-preserved g c =
       lang = c.take_turn.ensures.lang ∙ c.loop-turn.invariant.lang;
       fits = subst Fits (sym c.take_turn.ensures.lang) (c.take_turn.ensures.fits old c.loop-turn.invariant.fits);
       turn = c.take_turn.ensures.turn ∙ c.loop-turn.invariant.turn;
-      steps = subst Ended still (steps_on turns l (request_with p c.args.budget) a (b l) (d l) (subst Stepped c.loop-turn.invariant.lang c.loop-turn.invariant.steps)
+      steps = subst Ended still (steps_on turns l (terms_with p c.args.budget) a (b l) (d l) (subst Stepped c.loop-turn.invariant.lang c.loop-turn.invariant.steps)
           (carried Spoken old l before p c.loop-turn.invariant.lang c.loop-turn.invariant.plan (subst Turned c.loop-turn.invariant.turn (c.take_turn.ensures.again c.in_default.is))));
       later = omega (arith, c.take_turn.ensures.later, c.loop-turn.invariant.later);
       later_sink = omega (arith, c.take_turn.ensures.later_sink, c.loop-turn.invariant.later_sink);
@@ -154,16 +152,16 @@ returns-in-Some-clause-keeps g c =
     let b : Language → Point = λ m. point_of (standing_on m (P.record_of c.loop-turn.keep)) (g.S.Source.left c.loop-turn.source) (g.K.Sink.written c.loop-turn.sink) in
     let d : Language → Point = λ m. point_of (standing_on m (P.record_of c.take_turn.new.keep)) (g.S.Source.left c.take_turn.new.source) (g.K.Sink.written c.take_turn.new.sink) in
     let old : Language = P.lang c.loop-turn.keep in
-    let Stepped : Language → Type 0 = λ m. StepsTo turns l (request_with p c.args.budget) a (b m) in
+    let Stepped : Language → Type 0 = λ m. StepsTo turns l (terms_with p c.args.budget) a (b m) in
     let Failed : Type 0 = c.in-Some.drove ≡ drove.DiskFault in
     let Told : Type 0 = Some c.in-Some.drove ≡ Some drove.DiskFault in
-    let Turned : Assignment → Bool → Type 0 = Loses (g.T.Teacher.turn c.loop-turn.teacher) old (request_with (P.plan c.loop-turn.keep) c.args.budget) (b old) (d old) in
-    let Lost : Assignment → Bool → Type 0 = Loses turns l (request_with p c.args.budget) a (d l) in
+    let Turned : Assignment → Bool → Type 0 = Loses (g.T.Teacher.turn c.loop-turn.teacher) old (terms_with (P.plan c.loop-turn.keep) c.args.budget) (b old) (d old) in
+    let Lost : Assignment → Bool → Type 0 = Loses turns l (terms_with p c.args.budget) a (d l) in
     keeps_then D.content D.may_leave D.moment D.left_since g.met.D.Disk.counts_now g.met.D.Disk.only_now P.plan P.voc P.record_of P.question P.writes P.live P.sits D.faults Failed Turned Lost c.args.keep.now c.loop-turn.keep c.take_turn.new.keep c.args.disk.now c.loop-turn.disk c.take_turn.new.disk c.loop-turn.invariant.plan
     (λ question reply lost.
-    let Taught : Turns → Type 0 = λ t. Loses t old (request_with (P.plan c.loop-turn.keep) c.args.budget) (b old) (d old) question reply in
-    let Spoken : Language → Plan → Type 0 = λ m q. Loses turns m (request_with q c.args.budget) (b m) (d m) question reply in
-    steps_loses turns l (request_with p c.args.budget) a (b l) (d l) question reply (subst Stepped c.loop-turn.invariant.lang c.loop-turn.invariant.steps)
+    let Taught : Turns → Type 0 = λ t. Loses t old (terms_with (P.plan c.loop-turn.keep) c.args.budget) (b old) (d old) question reply in
+    let Spoken : Language → Plan → Type 0 = λ m q. Loses turns m (terms_with q c.args.budget) (b m) (d m) question reply in
+    steps_loses turns l (terms_with p c.args.budget) a (b l) (d l) question reply (subst Stepped c.loop-turn.invariant.lang c.loop-turn.invariant.steps)
     (carried Spoken old l (P.plan c.loop-turn.keep) p c.loop-turn.invariant.lang c.loop-turn.invariant.plan (subst Taught c.loop-turn.invariant.turn lost)))
     c.loop-turn.invariant.keeps
     (keeps_as D.content D.may_leave D.moment D.left_since g.met.D.Disk.counts_now g.met.D.Disk.only_now P.plan P.voc P.record_of P.question P.writes P.live P.sits D.faults Told Failed Turned Turned c.loop-turn.keep c.take_turn.new.keep c.loop-turn.disk c.take_turn.new.disk

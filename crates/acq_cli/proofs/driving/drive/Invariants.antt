@@ -5,7 +5,7 @@ use Rattle.session_core.specs.Settled.{IsSettled}
 use Rattle.session_store.specs.Keeping.{Keeps}
 use Rattle.acq_cli.specs.Added.{IsAdded}
 use Rattle.acq_cli.specs.Driven.{Remembers, StepsTo}
-use Rattle.acq_cli.specs.Points.{point_of, request_with}
+use Rattle.acq_cli.specs.Points.{point_of, terms_with}
 use Rattle.acq_cli.proofs.driving.drive.Given as goal
 
 abbrev pub invariant-loop-turn : goal.invariant-loop-turn
@@ -15,12 +15,12 @@ invariant-loop-turn g l =
       sound : g.P.Keep.sound l.keep;
       settled : IsSettled (g.P.Keep.lang l.keep) (g.P.Keep.plan l.keep) (standing_on (g.P.Keep.lang l.keep) (entries l.keep)) (g.P.Keep.question l.keep);
       screen : IsMadeFor (g.P.Keep.lang l.keep) l.screen;
-      remembers : Remembers (g.P.Keep.lang l.keep) (request_with (g.P.Keep.plan l.keep) l.fn.budget) (standing_on (g.P.Keep.lang l.keep) (entries l.keep)) l.screen;
+      remembers : Remembers (g.P.Keep.lang l.keep) (terms_with (g.P.Keep.plan l.keep) l.fn.budget) (standing_on (g.P.Keep.lang l.keep) (entries l.keep)) l.screen;
       plan : g.P.Keep.plan l.keep ≡ g.P.Keep.plan l.initial.keep;
       lang : g.P.Keep.lang l.keep ≡ g.P.Keep.lang l.initial.keep;
       fits : g.T.Teacher.fits l.teacher (g.P.Keep.lang l.keep);
       turn : g.T.Teacher.turn l.teacher ≡ g.T.Teacher.turn l.initial.teacher;
-      steps : StepsTo (g.T.Teacher.turn l.initial.teacher) (g.P.Keep.lang l.initial.keep) (request_with (g.P.Keep.plan l.initial.keep) l.fn.budget)
+      steps : StepsTo (g.T.Teacher.turn l.initial.teacher) (g.P.Keep.lang l.initial.keep) (terms_with (g.P.Keep.plan l.initial.keep) l.fn.budget)
           (point_of (standing_on (g.P.Keep.lang l.initial.keep) (entries l.initial.keep)) (left l.initial.source) (written l.initial.sink))
           (point_of (standing_on (g.P.Keep.lang l.keep) (entries l.keep)) (left l.source) (written l.sink));
       later : g.S.Source.faults l.initial.source ≤ g.S.Source.faults l.source;

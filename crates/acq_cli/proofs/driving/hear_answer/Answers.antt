@@ -8,7 +8,7 @@ use Rattle.target_oracle.specs.Turns.{Turns, Said, Stopped, Ended, Overlong, Unr
 use Rattle.acq_cli.specs.Run.{Suspended, LineTooLong, Unreadable}
 use Rattle.acq_cli.specs.Driven.{Loses}
 use Rattle.acq_cli.specs.Due.{IsDue}
-use Rattle.acq_cli.specs.Points.{point_of, request_with}
+use Rattle.acq_cli.specs.Points.{point_of, terms_with}
 use Rattle.acq_cli.specs.declared.driving.Drove.TheVariants as drove
 use Rattle.session_store.specs.Keeping.{keeps_still, keeps_as}
 use Rattle.acq_cli.proofs.Standings.{AtTurn, at_turn, next_fits, room_left, run_laws}
@@ -41,7 +41,7 @@ returns-in-Yes-clause-again g c budget due =
     let left' : Option (List ℕ) = g.S.Source.left c.told.new.source in
     let written' : Option (List ℕ) = g.K.Sink.written c.told.new.sink in
     let after : List Answer = standing_on l (g.P.Keep.record_of c.keep_answer.new.keep) in
-    goes_on turns l (request_with plan budget) t after c.args.question.now true (g.P.Keep.question c.args.keep.now) left written left' written' c.keep_answer.result due c.requires.put c.keep_answer.ensures.kept
+    goes_on turns l (terms_with plan budget) t after c.args.question.now true (g.P.Keep.question c.args.keep.now) left written left' written' c.keep_answer.result due c.requires.put c.keep_answer.ensures.kept
     (told_as turns c.lang.result.now l (c.answers-count.result + 1) (length t + 1) c.args.question.now (point_of t left written) (point_of t left' written') (Said true) at.language (ap (λ n. n + 1) at.number) c.in-Yes.ensures.tells)
 
 pub returns-in-Yes-clause-more : goal.returns-in-Yes-clause-more
@@ -55,7 +55,7 @@ returns-in-Yes-clause-more g c =
     let left' : Option (List ℕ) = g.S.Source.left c.told.new.source in
     let written' : Option (List ℕ) = g.K.Sink.written c.told.new.sink in
     let after : List Answer = standing_on l (g.P.Keep.record_of c.keep_answer.new.keep) in
-    one_more turns l (request_with plan 1) t after c.args.question.now true (g.P.Keep.question c.args.keep.now) left written left' written' c.keep_answer.result c.requires.put c.keep_answer.ensures.kept
+    one_more turns l (terms_with plan 1) t after c.args.question.now true (g.P.Keep.question c.args.keep.now) left written left' written' c.keep_answer.result c.requires.put c.keep_answer.ensures.kept
 
 pub returns-in-Yes-clause-ends : goal.returns-in-Yes-clause-ends
 returns-in-Yes-clause-ends g c budget due =
@@ -71,7 +71,7 @@ returns-in-Yes-clause-ends g c budget due =
     let left' : Option (List ℕ) = g.S.Source.left c.told.new.source in
     let written' : Option (List ℕ) = g.K.Sink.written c.told.new.sink in
     let after : List Answer = standing_on l (g.P.Keep.record_of c.keep_answer.new.keep) in
-    ends turns l (request_with plan budget) t after c.args.question.now true (g.P.Keep.question c.args.keep.now) left written left' written' c.keep_answer.result at.lawful at.reached due c.keep_answer.ensures.kept
+    ends turns l (terms_with plan budget) t after c.args.question.now true (g.P.Keep.question c.args.keep.now) left written left' written' c.keep_answer.result at.lawful at.reached due c.keep_answer.ensures.kept
     (told_as turns c.lang.result.now l (c.answers-count.result + 1) (length t + 1) c.args.question.now (point_of t left written) (point_of t left' written') (Said true) at.language (ap (λ n. n + 1) at.number) c.in-Yes.ensures.tells)
 
 pub returns-in-No-clause-again : goal.returns-in-No-clause-again
@@ -88,7 +88,7 @@ returns-in-No-clause-again g c budget due =
     let left' : Option (List ℕ) = g.S.Source.left c.told.new.source in
     let written' : Option (List ℕ) = g.K.Sink.written c.told.new.sink in
     let after : List Answer = standing_on l (g.P.Keep.record_of c.keep_answer-in-No.new.keep) in
-    goes_on turns l (request_with plan budget) t after c.args.question.now false (g.P.Keep.question c.args.keep.now) left written left' written' c.keep_answer-in-No.result due c.requires.put c.keep_answer-in-No.ensures.kept
+    goes_on turns l (terms_with plan budget) t after c.args.question.now false (g.P.Keep.question c.args.keep.now) left written left' written' c.keep_answer-in-No.result due c.requires.put c.keep_answer-in-No.ensures.kept
     (told_as turns c.lang.result.now l (c.answers-count.result + 1) (length t + 1) c.args.question.now (point_of t left written) (point_of t left' written') (Said false) at.language (ap (λ n. n + 1) at.number) c.in-No.ensures.tells)
 
 pub returns-in-No-clause-more : goal.returns-in-No-clause-more
@@ -102,7 +102,7 @@ returns-in-No-clause-more g c =
     let left' : Option (List ℕ) = g.S.Source.left c.told.new.source in
     let written' : Option (List ℕ) = g.K.Sink.written c.told.new.sink in
     let after : List Answer = standing_on l (g.P.Keep.record_of c.keep_answer-in-No.new.keep) in
-    one_more turns l (request_with plan 1) t after c.args.question.now false (g.P.Keep.question c.args.keep.now) left written left' written' c.keep_answer-in-No.result c.requires.put c.keep_answer-in-No.ensures.kept
+    one_more turns l (terms_with plan 1) t after c.args.question.now false (g.P.Keep.question c.args.keep.now) left written left' written' c.keep_answer-in-No.result c.requires.put c.keep_answer-in-No.ensures.kept
 
 pub returns-in-No-clause-ends : goal.returns-in-No-clause-ends
 returns-in-No-clause-ends g c budget due =
@@ -118,7 +118,7 @@ returns-in-No-clause-ends g c budget due =
     let left' : Option (List ℕ) = g.S.Source.left c.told.new.source in
     let written' : Option (List ℕ) = g.K.Sink.written c.told.new.sink in
     let after : List Answer = standing_on l (g.P.Keep.record_of c.keep_answer-in-No.new.keep) in
-    ends turns l (request_with plan budget) t after c.args.question.now false (g.P.Keep.question c.args.keep.now) left written left' written' c.keep_answer-in-No.result at.lawful at.reached due c.keep_answer-in-No.ensures.kept
+    ends turns l (terms_with plan budget) t after c.args.question.now false (g.P.Keep.question c.args.keep.now) left written left' written' c.keep_answer-in-No.result at.lawful at.reached due c.keep_answer-in-No.ensures.kept
     (told_as turns c.lang.result.now l (c.answers-count.result + 1) (length t + 1) c.args.question.now (point_of t left written) (point_of t left' written') (Said false) at.language (ap (λ n. n + 1) at.number) c.in-No.ensures.tells)
 
 pub returns-in-Stop-clause-ends : goal.returns-in-Stop-clause-ends
@@ -134,7 +134,7 @@ returns-in-Stop-clause-ends g c budget due =
     let written : Option (List ℕ) = g.K.Sink.written c.args.sink.now in
     let left' : Option (List ℕ) = g.S.Source.left c.told.new.source in
     let written' : Option (List ℕ) = g.K.Sink.written c.told.new.sink in
-    (at.number, ran_closed turns l (request_with plan budget) c.args.question.now Stopped Suspended (point_of t left written) (point_of t left' written') due.puts refl (λ again rest. refl) (told_as turns c.lang.result.now l (c.answers-count.result + 1) (length t + 1) c.args.question.now (point_of t left written) (point_of t left' written') (Stopped) at.language (ap (λ n. n + 1) at.number) c.in-Stop.ensures.tells))
+    (at.number, ran_closed turns l (terms_with plan budget) c.args.question.now Stopped Suspended (point_of t left written) (point_of t left' written') due.puts refl (λ again rest. refl) (told_as turns c.lang.result.now l (c.answers-count.result + 1) (length t + 1) c.args.question.now (point_of t left written) (point_of t left' written') (Stopped) at.language (ap (λ n. n + 1) at.number) c.in-Stop.ensures.tells))
 
 pub returns-in-End-clause-ends : goal.returns-in-End-clause-ends
 returns-in-End-clause-ends g c budget due =
@@ -149,7 +149,7 @@ returns-in-End-clause-ends g c budget due =
     let written : Option (List ℕ) = g.K.Sink.written c.args.sink.now in
     let left' : Option (List ℕ) = g.S.Source.left c.told.new.source in
     let written' : Option (List ℕ) = g.K.Sink.written c.told.new.sink in
-    (at.number, ran_closed turns l (request_with plan budget) c.args.question.now Ended Suspended (point_of t left written) (point_of t left' written') due.puts refl (λ again rest. refl) (told_as turns c.lang.result.now l (c.answers-count.result + 1) (length t + 1) c.args.question.now (point_of t left written) (point_of t left' written') (Ended) at.language (ap (λ n. n + 1) at.number) c.in-End.ensures.tells))
+    (at.number, ran_closed turns l (terms_with plan budget) c.args.question.now Ended Suspended (point_of t left written) (point_of t left' written') due.puts refl (λ again rest. refl) (told_as turns c.lang.result.now l (c.answers-count.result + 1) (length t + 1) c.args.question.now (point_of t left written) (point_of t left' written') (Ended) at.language (ap (λ n. n + 1) at.number) c.in-End.ensures.tells))
 
 pub returns-in-TooLong-clause-ends : goal.returns-in-TooLong-clause-ends
 returns-in-TooLong-clause-ends g c budget due =
@@ -164,7 +164,7 @@ returns-in-TooLong-clause-ends g c budget due =
     let written : Option (List ℕ) = g.K.Sink.written c.args.sink.now in
     let left' : Option (List ℕ) = g.S.Source.left c.told.new.source in
     let written' : Option (List ℕ) = g.K.Sink.written c.told.new.sink in
-    ran_closed turns l (request_with plan budget) c.args.question.now Overlong LineTooLong (point_of t left written) (point_of t left' written') due.puts refl (λ again rest. refl) (told_as turns c.lang.result.now l (c.answers-count.result + 1) (length t + 1) c.args.question.now (point_of t left written) (point_of t left' written') (Overlong) at.language (ap (λ n. n + 1) at.number) c.in-TooLong.ensures.tells)
+    ran_closed turns l (terms_with plan budget) c.args.question.now Overlong LineTooLong (point_of t left written) (point_of t left' written') due.puts refl (λ again rest. refl) (told_as turns c.lang.result.now l (c.answers-count.result + 1) (length t + 1) c.args.question.now (point_of t left written) (point_of t left' written') (Overlong) at.language (ap (λ n. n + 1) at.number) c.in-TooLong.ensures.tells)
 
 pub returns-in-Unreadable-clause-ends : goal.returns-in-Unreadable-clause-ends
 returns-in-Unreadable-clause-ends g c budget due =
@@ -179,7 +179,7 @@ returns-in-Unreadable-clause-ends g c budget due =
     let written : Option (List ℕ) = g.K.Sink.written c.args.sink.now in
     let left' : Option (List ℕ) = g.S.Source.left c.told.new.source in
     let written' : Option (List ℕ) = g.K.Sink.written c.told.new.sink in
-    ran_closed turns l (request_with plan budget) c.args.question.now Unread Unreadable (point_of t left written) (point_of t left' written') due.puts refl (λ again rest. refl) (told_as turns c.lang.result.now l (c.answers-count.result + 1) (length t + 1) c.args.question.now (point_of t left written) (point_of t left' written') (Unread) at.language (ap (λ n. n + 1) at.number) c.in-Unreadable.ensures.tells)
+    ran_closed turns l (terms_with plan budget) c.args.question.now Unread Unreadable (point_of t left written) (point_of t left' written') due.puts refl (λ again rest. refl) (told_as turns c.lang.result.now l (c.answers-count.result + 1) (length t + 1) c.args.question.now (point_of t left written) (point_of t left' written') (Unread) at.language (ap (λ n. n + 1) at.number) c.in-Unreadable.ensures.tells)
 
 pub returns-in-ReadFault-clause-ends : goal.returns-in-ReadFault-clause-ends
 returns-in-ReadFault-clause-ends g c budget due =
@@ -194,7 +194,7 @@ returns-in-ReadFault-clause-ends g c budget due =
     let written : Option (List ℕ) = g.K.Sink.written c.args.sink.now in
     let left' : Option (List ℕ) = g.S.Source.left c.told.new.source in
     let written' : Option (List ℕ) = g.K.Sink.written c.told.new.sink in
-    cut_turn run_laws turns l (request_with plan budget) at.lawful c.args.question.now (point_of t left written) (point_of t left' written') at.reached due.puts refl (front_as turns c.lang.result.now l (c.answers-count.result + 1) (length t + 1) c.args.question.now (point_of t left written) (point_of t left' written') at.language (ap (λ n. n + 1) at.number) c.in-ReadFault.ensures.tells)
+    cut_turn run_laws turns l (terms_with plan budget) at.lawful c.args.question.now (point_of t left written) (point_of t left' written') at.reached due.puts refl (front_as turns c.lang.result.now l (c.answers-count.result + 1) (length t + 1) c.args.question.now (point_of t left written) (point_of t left' written') at.language (ap (λ n. n + 1) at.number) c.in-ReadFault.ensures.tells)
 
 pub returns-in-WriteFault-clause-ends : goal.returns-in-WriteFault-clause-ends
 returns-in-WriteFault-clause-ends g c budget due =
@@ -209,7 +209,7 @@ returns-in-WriteFault-clause-ends g c budget due =
     let written : Option (List ℕ) = g.K.Sink.written c.args.sink.now in
     let left' : Option (List ℕ) = g.S.Source.left c.told.new.source in
     let written' : Option (List ℕ) = g.K.Sink.written c.told.new.sink in
-    cut_turn run_laws turns l (request_with plan budget) at.lawful c.args.question.now (point_of t left written) (point_of t left' written') at.reached due.puts refl (front_as turns c.lang.result.now l (c.answers-count.result + 1) (length t + 1) c.args.question.now (point_of t left written) (point_of t left' written') at.language (ap (λ n. n + 1) at.number) c.in-WriteFault.ensures.tells)
+    cut_turn run_laws turns l (terms_with plan budget) at.lawful c.args.question.now (point_of t left written) (point_of t left' written') at.reached due.puts refl (front_as turns c.lang.result.now l (c.answers-count.result + 1) (length t + 1) c.args.question.now (point_of t left written) (point_of t left' written') at.language (ap (λ n. n + 1) at.number) c.in-WriteFault.ensures.tells)
 
 pub returns-in-Memory-clause-ends : goal.returns-in-Memory-clause-ends
 returns-in-Memory-clause-ends g c budget due =
@@ -224,7 +224,7 @@ returns-in-Memory-clause-ends g c budget due =
     let written : Option (List ℕ) = g.K.Sink.written c.args.sink.now in
     let left' : Option (List ℕ) = g.S.Source.left c.told.new.source in
     let written' : Option (List ℕ) = g.K.Sink.written c.told.new.sink in
-    cut_turn run_laws turns l (request_with plan budget) at.lawful c.args.question.now (point_of t left written) (point_of t left' written') at.reached due.puts refl (front_as turns c.lang.result.now l (c.answers-count.result + 1) (length t + 1) c.args.question.now (point_of t left written) (point_of t left' written') at.language (ap (λ n. n + 1) at.number) c.in-Memory.ensures.tells)
+    cut_turn run_laws turns l (terms_with plan budget) at.lawful c.args.question.now (point_of t left written) (point_of t left' written') at.reached due.puts refl (front_as turns c.lang.result.now l (c.answers-count.result + 1) (length t + 1) c.args.question.now (point_of t left written) (point_of t left' written') at.language (ap (λ n. n + 1) at.number) c.in-Memory.ensures.tells)
 
 pub returns-in-Yes-clause-added : goal.returns-in-Yes-clause-added
 returns-in-Yes-clause-added g c =
@@ -238,7 +238,7 @@ returns-in-Yes-clause-added g c =
     c.session-session.ensures.stands c.session-session.ensures.lang c.session-session.ensures.plan c.answers-count.ensures c.lang.ensures.is c.lang.ensures.lawful in
     let left : Option (List ℕ) = g.S.Source.left c.args.source.now in
     let written : Option (List ℕ) = g.K.Sink.written c.args.sink.now in
-    adds (g.T.Teacher.turn c.args.teacher.now) l (request_with plan c.requires.due.0) t t c.args.question.now true (P.question c.args.keep.now) left written left written c.keep_answer.result events (P.record_of c.keep_answer.new.keep) refl at.lawful c.requires.due.1 c.requires.put c.keep_answer.ensures.events
+    adds (g.T.Teacher.turn c.args.teacher.now) l (terms_with plan c.requires.due.0) t t c.args.question.now true (P.question c.args.keep.now) left written left written c.keep_answer.result events (P.record_of c.keep_answer.new.keep) refl at.lawful c.requires.due.1 c.requires.put c.keep_answer.ensures.events
 
 pub returns-in-No-clause-added : goal.returns-in-No-clause-added
 returns-in-No-clause-added g c =
@@ -252,7 +252,7 @@ returns-in-No-clause-added g c =
     c.session-session.ensures.stands c.session-session.ensures.lang c.session-session.ensures.plan c.answers-count.ensures c.lang.ensures.is c.lang.ensures.lawful in
     let left : Option (List ℕ) = g.S.Source.left c.args.source.now in
     let written : Option (List ℕ) = g.K.Sink.written c.args.sink.now in
-    adds (g.T.Teacher.turn c.args.teacher.now) l (request_with plan c.requires.due.0) t t c.args.question.now false (P.question c.args.keep.now) left written left written c.keep_answer-in-No.result events (P.record_of c.keep_answer-in-No.new.keep) refl at.lawful c.requires.due.1 c.requires.put c.keep_answer-in-No.ensures.events
+    adds (g.T.Teacher.turn c.args.teacher.now) l (terms_with plan c.requires.due.0) t t c.args.question.now false (P.question c.args.keep.now) left written left written c.keep_answer-in-No.result events (P.record_of c.keep_answer-in-No.new.keep) refl at.lawful c.requires.due.1 c.requires.put c.keep_answer-in-No.ensures.events
 
 pub returns-in-Stop-clause-added : goal.returns-in-Stop-clause-added
 returns-in-Stop-clause-added g c = added_none (g.P.Keep.lang c.args.keep.now) (g.P.Keep.plan c.args.keep.now) (g.P.Keep.record_of c.args.keep.now) (g.P.Keep.record_of c.args.keep.now) refl
@@ -293,11 +293,11 @@ returns-in-Yes-clause-keeps g c =
     let q : Assignment = c.args.question.now in
     let HasFailed : Type 0 = c.keep_answer.result ≡ Some drove.DiskFault in
     let Was : Assignment → Bool → Type 0 = λ asked said. (P.question c.args.keep.now ≡ Some asked) × (said ≡ true) in
-    let Lost : Assignment → Bool → Type 0 = λ asked said. (budget : ℕ) → IsDue l (request_with plan budget) t q → Loses turns l (request_with plan budget) (point_of t left written) (point_of after left' written') asked said in
+    let Lost : Assignment → Bool → Type 0 = λ asked said. (budget : ℕ) → IsDue l (terms_with plan budget) t q → Loses turns l (terms_with plan budget) (point_of t left written) (point_of after left' written') asked said in
     keeps_as D.content D.may_leave D.moment D.left_since g.met.D.Disk.counts_now g.met.D.Disk.only_now P.plan P.voc P.record_of P.question P.writes P.live P.sits D.faults HasFailed HasFailed Was Lost c.args.keep.now c.keep_answer.new.keep c.args.disk.now c.keep_answer.new.disk
     (λ e. e) (λ e. e)
     (λ failed asked said lost budget due.
-    loses turns l (request_with plan budget) t after q true (P.question c.args.keep.now) left written left' written' c.keep_answer.result drove.DiskFault due c.keep_answer.ensures.kept failed
+    loses turns l (terms_with plan budget) t after q true (P.question c.args.keep.now) left written left' written' c.keep_answer.result drove.DiskFault due c.keep_answer.ensures.kept failed
     (told_as turns c.lang.result.now l (c.answers-count.result + 1) (length t + 1) q (point_of t left written) (point_of t left' written') (Said true) at.language (ap (λ n. n + 1) at.number) c.in-Yes.ensures.tells)
     c.requires.put asked said lost)
     c.keep_answer.ensures.keeps
@@ -320,11 +320,11 @@ returns-in-No-clause-keeps g c =
     let q : Assignment = c.args.question.now in
     let HasFailed : Type 0 = c.keep_answer-in-No.result ≡ Some drove.DiskFault in
     let Was : Assignment → Bool → Type 0 = λ asked said. (P.question c.args.keep.now ≡ Some asked) × (said ≡ false) in
-    let Lost : Assignment → Bool → Type 0 = λ asked said. (budget : ℕ) → IsDue l (request_with plan budget) t q → Loses turns l (request_with plan budget) (point_of t left written) (point_of after left' written') asked said in
+    let Lost : Assignment → Bool → Type 0 = λ asked said. (budget : ℕ) → IsDue l (terms_with plan budget) t q → Loses turns l (terms_with plan budget) (point_of t left written) (point_of after left' written') asked said in
     keeps_as D.content D.may_leave D.moment D.left_since g.met.D.Disk.counts_now g.met.D.Disk.only_now P.plan P.voc P.record_of P.question P.writes P.live P.sits D.faults HasFailed HasFailed Was Lost c.args.keep.now c.keep_answer-in-No.new.keep c.args.disk.now c.keep_answer-in-No.new.disk
     (λ e. e) (λ e. e)
     (λ failed asked said lost budget due.
-    loses turns l (request_with plan budget) t after q false (P.question c.args.keep.now) left written left' written' c.keep_answer-in-No.result drove.DiskFault due c.keep_answer-in-No.ensures.kept failed
+    loses turns l (terms_with plan budget) t after q false (P.question c.args.keep.now) left written left' written' c.keep_answer-in-No.result drove.DiskFault due c.keep_answer-in-No.ensures.kept failed
     (told_as turns c.lang.result.now l (c.answers-count.result + 1) (length t + 1) q (point_of t left written) (point_of t left' written') (Said false) at.language (ap (λ n. n + 1) at.number) c.in-No.ensures.tells)
     c.requires.put asked said lost)
     c.keep_answer-in-No.ensures.keeps
@@ -333,43 +333,43 @@ pub returns-in-Stop-clause-keeps : goal.returns-in-Stop-clause-keeps
 returns-in-Stop-clause-keeps g c =
     let D = g.D.Disk in let P = g.P.Keep in
     keeps_still D.content D.may_leave D.moment D.left_since g.met.D.Disk.counts_now g.met.D.Disk.only_now P.plan P.voc P.record_of P.question P.writes P.live P.sits D.faults _ _ c.args.keep.now c.args.keep.now c.args.disk.now (λ (e : _). cc) refl refl refl refl refl c.requires.live c.requires.sits
-    (λ w bytes told f left. g.met.P.Keep.lasts c.args.keep.now c.args.disk.now c.requires.sound w c.requires.live c.requires.sits bytes told f left)
+    (λ w bytes told f left. g.met.P.Keep.lasts c.args.keep.now c.args.disk.now w c.requires.live c.requires.sits bytes told f left)
 
 pub returns-in-End-clause-keeps : goal.returns-in-End-clause-keeps
 returns-in-End-clause-keeps g c =
     let D = g.D.Disk in let P = g.P.Keep in
     keeps_still D.content D.may_leave D.moment D.left_since g.met.D.Disk.counts_now g.met.D.Disk.only_now P.plan P.voc P.record_of P.question P.writes P.live P.sits D.faults _ _ c.args.keep.now c.args.keep.now c.args.disk.now (λ (e : _). cc) refl refl refl refl refl c.requires.live c.requires.sits
-    (λ w bytes told f left. g.met.P.Keep.lasts c.args.keep.now c.args.disk.now c.requires.sound w c.requires.live c.requires.sits bytes told f left)
+    (λ w bytes told f left. g.met.P.Keep.lasts c.args.keep.now c.args.disk.now w c.requires.live c.requires.sits bytes told f left)
 
 pub returns-in-TooLong-clause-keeps : goal.returns-in-TooLong-clause-keeps
 returns-in-TooLong-clause-keeps g c =
     let D = g.D.Disk in let P = g.P.Keep in
     keeps_still D.content D.may_leave D.moment D.left_since g.met.D.Disk.counts_now g.met.D.Disk.only_now P.plan P.voc P.record_of P.question P.writes P.live P.sits D.faults _ _ c.args.keep.now c.args.keep.now c.args.disk.now (λ (e : _). cc) refl refl refl refl refl c.requires.live c.requires.sits
-    (λ w bytes told f left. g.met.P.Keep.lasts c.args.keep.now c.args.disk.now c.requires.sound w c.requires.live c.requires.sits bytes told f left)
+    (λ w bytes told f left. g.met.P.Keep.lasts c.args.keep.now c.args.disk.now w c.requires.live c.requires.sits bytes told f left)
 
 pub returns-in-Unreadable-clause-keeps : goal.returns-in-Unreadable-clause-keeps
 returns-in-Unreadable-clause-keeps g c =
     let D = g.D.Disk in let P = g.P.Keep in
     keeps_still D.content D.may_leave D.moment D.left_since g.met.D.Disk.counts_now g.met.D.Disk.only_now P.plan P.voc P.record_of P.question P.writes P.live P.sits D.faults _ _ c.args.keep.now c.args.keep.now c.args.disk.now (λ (e : _). cc) refl refl refl refl refl c.requires.live c.requires.sits
-    (λ w bytes told f left. g.met.P.Keep.lasts c.args.keep.now c.args.disk.now c.requires.sound w c.requires.live c.requires.sits bytes told f left)
+    (λ w bytes told f left. g.met.P.Keep.lasts c.args.keep.now c.args.disk.now w c.requires.live c.requires.sits bytes told f left)
 
 pub returns-in-ReadFault-clause-keeps : goal.returns-in-ReadFault-clause-keeps
 returns-in-ReadFault-clause-keeps g c =
     let D = g.D.Disk in let P = g.P.Keep in
     keeps_still D.content D.may_leave D.moment D.left_since g.met.D.Disk.counts_now g.met.D.Disk.only_now P.plan P.voc P.record_of P.question P.writes P.live P.sits D.faults _ _ c.args.keep.now c.args.keep.now c.args.disk.now (λ (e : _). cc) refl refl refl refl refl c.requires.live c.requires.sits
-    (λ w bytes told f left. g.met.P.Keep.lasts c.args.keep.now c.args.disk.now c.requires.sound w c.requires.live c.requires.sits bytes told f left)
+    (λ w bytes told f left. g.met.P.Keep.lasts c.args.keep.now c.args.disk.now w c.requires.live c.requires.sits bytes told f left)
 
 pub returns-in-WriteFault-clause-keeps : goal.returns-in-WriteFault-clause-keeps
 returns-in-WriteFault-clause-keeps g c =
     let D = g.D.Disk in let P = g.P.Keep in
     keeps_still D.content D.may_leave D.moment D.left_since g.met.D.Disk.counts_now g.met.D.Disk.only_now P.plan P.voc P.record_of P.question P.writes P.live P.sits D.faults _ _ c.args.keep.now c.args.keep.now c.args.disk.now (λ (e : _). cc) refl refl refl refl refl c.requires.live c.requires.sits
-    (λ w bytes told f left. g.met.P.Keep.lasts c.args.keep.now c.args.disk.now c.requires.sound w c.requires.live c.requires.sits bytes told f left)
+    (λ w bytes told f left. g.met.P.Keep.lasts c.args.keep.now c.args.disk.now w c.requires.live c.requires.sits bytes told f left)
 
 pub returns-in-Memory-clause-keeps : goal.returns-in-Memory-clause-keeps
 returns-in-Memory-clause-keeps g c =
     let D = g.D.Disk in let P = g.P.Keep in
     keeps_still D.content D.may_leave D.moment D.left_since g.met.D.Disk.counts_now g.met.D.Disk.only_now P.plan P.voc P.record_of P.question P.writes P.live P.sits D.faults _ _ c.args.keep.now c.args.keep.now c.args.disk.now (λ (e : _). cc) refl refl refl refl refl c.requires.live c.requires.sits
-    (λ w bytes told f left. g.met.P.Keep.lasts c.args.keep.now c.args.disk.now c.requires.sound w c.requires.live c.requires.sits bytes told f left)
+    (λ w bytes told f left. g.met.P.Keep.lasts c.args.keep.now c.args.disk.now w c.requires.live c.requires.sits bytes told f left)
 
 pub keep_answer-requires-clause-room : goal.keep_answer-requires-clause-room
 keep_answer-requires-clause-room g c =

@@ -81,7 +81,7 @@ returns-in-Err-clause-keeps g c =
     subst As (sym all.1)
     (keeps_still D.content D.may_leave D.moment D.left_since g.met.D.Disk.counts_now g.met.D.Disk.only_now P.plan P.voc P.record_of P.question P.writes P.live P.sits D.faults HasFailed Lost old new x
     (not_memory c.ended_by.result (c.ended_by.ensures ∙ ap ended_by memory)) c.answer.ensures.plan c.answer.ensures.voc c.in-Err.ensures.err c.answer.ensures.writes all.0 c.requires.live
-    (subst (P.sits new) all.1 c.answer.ensures.sits) (λ w bytes told f left. g.met.P.Keep.lasts old x c.requires.sound w c.requires.live c.requires.sits bytes told f left)))
+    (subst (P.sits new) all.1 c.answer.ensures.sits) (λ w bytes told f left. g.met.P.Keep.lasts old x w c.requires.live c.requires.sits bytes told f left)))
     (λ failed.
     let why = c.in-Err.ensures.failed (ap lost failed) in
     let is : Some c.ended_by.result ≡ Some drove.DiskFault = ap (λ (d : Drove). Some d) (c.ended_by.ensures ∙ ap ended_by failed) in

@@ -9,7 +9,7 @@ use Rattle.session_core.specs.Settled.{IsSettled}
 use Rattle.session_core.specs.Standing.{knowledge_of, open_in}
 use Rattle.acq_cli.specs.Driven.{TellsOpen}
 use Rattle.acq_cli.specs.Due.{NextIs}
-use Rattle.acq_cli.specs.Points.{request_with}
+use Rattle.acq_cli.specs.Points.{terms_with}
 use Rattle.acq_cli.proofs.Nexts.{put_as}
 use Rattle.acq_cli.proofs.Standings.{carried, marks_here, marks_there}
 use Rattle.acq_cli.proofs.driving.put_next.Goals as goal
@@ -30,14 +30,14 @@ returns-in_default g c =
     let there : Option Assignment = g.P.Keep.question c.args.keep.now in
     let Settled : Language → Plan → Type 0 = λ m q. IsSettled m q t (open_in s) in
     let Quiet : Option Assignment → Type 0 = λ o. IsSettled l p t o in
-    let Comes : Language → Plan → Type 0 = λ m q. NextIs m (request_with q c.args.budget) t (open_in s) c.next_of-next.result in
-    let Put : Option Assignment → Type 0 = λ o. NextIs l (request_with p c.args.budget) t o c.next_of-next.result in
+    let Comes : Language → Plan → Type 0 = λ m q. NextIs m (terms_with q c.args.budget) t (open_in s) c.next_of-next.result in
+    let Put : Option Assignment → Type 0 = λ o. NextIs l (terms_with p c.args.budget) t o c.next_of-next.result in
     let Made : Language → Type 0 = λ m. IsMadeFor m c.next_of-next.new.screen in
-    let Open : Language → Plan → Type 0 = λ m q. TellsOpen m (request_with q c.args.budget) t c.next_of-next.new.screen in
+    let Open : Language → Plan → Type 0 = λ m q. TellsOpen m (terms_with q c.args.budget) t c.next_of-next.new.screen in
     let settled : IsSettled k.lang k.plan t (open_in s) = carried Settled l k.lang p k.plan (sym told.lang) (sym told.plan) (subst Quiet (sym told.question) c.requires.settled) in
-    let comes : NextIs l (request_with p c.args.budget) t (open_in s) c.next_of-next.result = carried Comes k.lang l k.plan p told.lang told.plan (c.next_of-next.ensures.next t told.stands settled) in
+    let comes : NextIs l (terms_with p c.args.budget) t (open_in s) c.next_of-next.result = carried Comes k.lang l k.plan p told.lang told.plan (c.next_of-next.ensures.next t told.stands settled) in
     record {
-      put = put_as l (request_with p c.args.budget) t there c.next_of-next.result c.in_default.not-New (subst Put told.question comes);
+      put = put_as l (terms_with p c.args.budget) t there c.next_of-next.result c.in_default.not-New (subst Put told.question comes);
       events = refl;
       lang = refl;
       plan = refl;

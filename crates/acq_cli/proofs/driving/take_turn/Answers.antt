@@ -7,11 +7,11 @@ use Rattle.std.specs.Prelude.{IfSome}
 use Rattle.language.specs.Language.{Language}
 use Rattle.language.specs.Answers.{standing_on}
 use Rattle.target_oracle.specs.Turns.{Turns}
-use Rattle.acq_cli.specs.declared.words.Request.{Request}
+use Rattle.acq_cli.specs.declared.terms.Terms.{Terms}
 use Rattle.acq_cli.specs.Run.{Converged, Collapsed, Undecided}
 use Rattle.acq_cli.specs.Driven.{Drives, IsDone, IsCollapsed, IsLeftOpen, Loses, RanTo, TellsOpen}
 use Rattle.acq_cli.specs.Due.{IsDue}
-use Rattle.acq_cli.specs.Points.{point_of, request_with}
+use Rattle.acq_cli.specs.Points.{point_of, terms_with}
 use Rattle.session_store.specs.Keeping.{keeps_still, keeps_then}
 use Rattle.acq_cli.proofs.Standings.{carried, due_reached, marks_after}
 use Rattle.acq_cli.proofs.Nexts.{put_due}
@@ -23,65 +23,65 @@ use Rattle.acq_cli.proofs.driving.take_turn.Goals as goal
 pub returns-in-Converged-clause-ends : goal.returns-in-Converged-clause-ends
 returns-in-Converged-clause-ends g c =
     let l : Language = g.P.Keep.lang c.args.keep.now in
-    let request : Request = request_with (g.P.Keep.plan c.args.keep.now) c.args.budget in
+    let terms : Terms = terms_with (g.P.Keep.plan c.args.keep.now) c.args.budget in
     let t : List Answer = standing_on l (g.P.Keep.record_of c.args.keep.now) in
     let same : standing_on l (g.P.Keep.record_of c.put_next.new.keep) ≡ t = ap (standing_on l) c.put_next.ensures.events in
     let turns : Turns = g.T.Teacher.turn c.args.teacher.now in
     let left : Option (List ℕ) = g.S.Source.left c.args.source.now in
     let written : Option (List ℕ) = g.K.Sink.written c.args.sink.now in
-    let Ran : List Answer → Type 0 = λ x. RanTo turns l request Converged (point_of t left written) (point_of x left written) in (
+    let Ran : List Answer → Type 0 = λ x. RanTo turns l terms Converged (point_of t left written) (point_of x left written) in (
       c.answers.ensures ∙ c.session.ensures.stands.knows.count ∙ ap (λ m. length (standing_on m (g.P.Keep.record_of c.put_next.new.keep))) c.put_next.ensures.lang,
-      subst (IsDone l request) (sym same) c.in-Converged.ensures.put,
-      subst Ran (sym same) (ran_end turns l request Converged (point_of t left written) c.in-Converged.ensures.put.ends),
+      subst (IsDone l terms) (sym same) c.in-Converged.ensures.put,
+      subst Ran (sym same) (ran_end turns l terms Converged (point_of t left written) c.in-Converged.ensures.put.ends),
     )
 
 pub returns-in-Collapsed-clause-ends : goal.returns-in-Collapsed-clause-ends
 returns-in-Collapsed-clause-ends g c =
     let l : Language = g.P.Keep.lang c.args.keep.now in
-    let request : Request = request_with (g.P.Keep.plan c.args.keep.now) c.args.budget in
+    let terms : Terms = terms_with (g.P.Keep.plan c.args.keep.now) c.args.budget in
     let t : List Answer = standing_on l (g.P.Keep.record_of c.args.keep.now) in
     let same : standing_on l (g.P.Keep.record_of c.put_next.new.keep) ≡ t = ap (standing_on l) c.put_next.ensures.events in
     let turns : Turns = g.T.Teacher.turn c.args.teacher.now in
     let left : Option (List ℕ) = g.S.Source.left c.args.source.now in
     let written : Option (List ℕ) = g.K.Sink.written c.args.sink.now in
-    let Ran : List Answer → Type 0 = λ x. RanTo turns l request Collapsed (point_of t left written) (point_of x left written) in (
+    let Ran : List Answer → Type 0 = λ x. RanTo turns l terms Collapsed (point_of t left written) (point_of x left written) in (
       c.answers-in-Collapsed.ensures ∙ c.session-in-Collapsed.ensures.stands.knows.count ∙ ap (λ m. length (standing_on m (g.P.Keep.record_of c.put_next.new.keep))) c.put_next.ensures.lang,
-      subst (IsCollapsed l request) (sym same) c.in-Collapsed.ensures.put.0,
-      subst Ran (sym same) (ran_end turns l request Collapsed (point_of t left written) c.in-Collapsed.ensures.put.1),
+      subst (IsCollapsed l terms) (sym same) c.in-Collapsed.ensures.put.0,
+      subst Ran (sym same) (ran_end turns l terms Collapsed (point_of t left written) c.in-Collapsed.ensures.put.1),
     )
 
 pub returns-in-Undecided-clause-ends : goal.returns-in-Undecided-clause-ends
 returns-in-Undecided-clause-ends g c =
     let l : Language = g.P.Keep.lang c.args.keep.now in
-    let request : Request = request_with (g.P.Keep.plan c.args.keep.now) c.args.budget in
+    let terms : Terms = terms_with (g.P.Keep.plan c.args.keep.now) c.args.budget in
     let t : List Answer = standing_on l (g.P.Keep.record_of c.args.keep.now) in
     let same : standing_on l (g.P.Keep.record_of c.put_next.new.keep) ≡ t = ap (standing_on l) c.put_next.ensures.events in
     let turns : Turns = g.T.Teacher.turn c.args.teacher.now in
     let left : Option (List ℕ) = g.S.Source.left c.args.source.now in
     let written : Option (List ℕ) = g.K.Sink.written c.args.sink.now in
-    let Ran : List Answer → Type 0 = λ x. RanTo turns l request Undecided (point_of t left written) (point_of x left written) in (
+    let Ran : List Answer → Type 0 = λ x. RanTo turns l terms Undecided (point_of t left written) (point_of x left written) in (
       c.answers-in-Undecided.ensures ∙ c.session-in-Undecided.ensures.stands.knows.count ∙ ap (λ m. length (standing_on m (g.P.Keep.record_of c.put_next.new.keep))) c.put_next.ensures.lang,
-      subst (IsLeftOpen l request) (sym same) c.in-Undecided.ensures.put,
-      subst Ran (sym same) (ran_end turns l request Undecided (point_of t left written) c.in-Undecided.ensures.put.ends),
+      subst (IsLeftOpen l terms) (sym same) c.in-Undecided.ensures.put,
+      subst Ran (sym same) (ran_end turns l terms Undecided (point_of t left written) c.in-Undecided.ensures.put.ends),
     )
 
 pub returns-in-Undecided-clause-open : goal.returns-in-Undecided-clause-open
 returns-in-Undecided-clause-open g c m is =
     let l : Language = g.P.Keep.lang c.args.keep.now in
-    let request : Request = request_with (g.P.Keep.plan c.args.keep.now) c.args.budget in
+    let terms : Terms = terms_with (g.P.Keep.plan c.args.keep.now) c.args.budget in
     let t : List Answer = standing_on l (g.P.Keep.record_of c.args.keep.now) in
     let same : standing_on l (g.P.Keep.record_of c.put_next.new.keep) ≡ t = ap (standing_on l) c.put_next.ensures.events in
-    let P : List Answer → Type 0 = λ x. TellsOpen l request x c.put_next.new.screen in
+    let P : List Answer → Type 0 = λ x. TellsOpen l terms x c.put_next.new.screen in
     subst P (sym same) (c.in-Undecided.ensures.open refl)
 
 pub returns-in-Open-clause-remembers : goal.returns-in-Open-clause-remembers
 returns-in-Open-clause-remembers g c none =
     let l : Language = g.P.Keep.lang c.args.keep.now in
-    let request : Request = request_with (g.P.Keep.plan c.args.keep.now) c.args.budget in
+    let terms : Terms = terms_with (g.P.Keep.plan c.args.keep.now) c.args.budget in
     let t : List Answer = standing_on l (g.P.Keep.record_of c.args.keep.now) in
-    let due = put_due l request t (g.P.Keep.question c.put_next.new.keep) c.put_next.result c.in-Open.question c.put_next.ensures.put c.in-Open.is in
-    marks_after l (g.P.Keep.lang c.put_next.new.keep) request (g.P.Keep.record_of c.args.keep.now) (g.P.Keep.record_of c.put_next.new.keep) (g.P.Keep.record_of c.hear_answer.new.keep)
-    c.put_next.new.screen c.put_next.ensures.lang c.put_next.ensures.events (due_reached l request t _ due.puts) (c.hear_answer.ensures.more none) c.put_next.ensures.remembers
+    let due = put_due l terms t (g.P.Keep.question c.put_next.new.keep) c.put_next.result c.in-Open.question c.put_next.ensures.put c.in-Open.is in
+    marks_after l (g.P.Keep.lang c.put_next.new.keep) terms (g.P.Keep.record_of c.args.keep.now) (g.P.Keep.record_of c.put_next.new.keep) (g.P.Keep.record_of c.hear_answer.new.keep)
+    c.put_next.new.screen c.put_next.ensures.lang c.put_next.ensures.events (due_reached l terms t _ due.puts) (c.hear_answer.ensures.more none) c.put_next.ensures.remembers
 
 -- what holds of a language, a plan and events holds of the same ones
 same_there : (P : Language → Plan → List Event → Type 0) (l m : Language) (p q : Plan) (xs ys : List Event) → l ≡ m → p ≡ q → xs ≡ ys → P l p xs → P m q ys
@@ -101,10 +101,10 @@ returns-in-Open-clause-ends g c =
     let written : Option (List ℕ) = g.K.Sink.written c.args.sink.now in
     let left' : Option (List ℕ) = g.S.Source.left c.hear_answer.new.source in
     let written' : Option (List ℕ) = g.K.Sink.written c.hear_answer.new.sink in
-    let due = put_due l (request_with (P.plan one) c.args.budget) (standing_on l (P.record_of one)) (P.question two) c.put_next.result c.in-Open.question c.put_next.ensures.put c.in-Open.is in
+    let due = put_due l (terms_with (P.plan one) c.args.budget) (standing_on l (P.record_of one)) (P.question two) c.put_next.result c.in-Open.question c.put_next.ensures.put c.in-Open.is in
     let Ended : Language → Plan → List Event → Type 0 = λ m q es.
-    (budget : ℕ) → IsDue m (request_with q budget) (standing_on m es) c.in-Open.question →
-    IfSome c.hear_answer.result (Drives turns m (request_with q budget) (point_of (standing_on m es) left written) (point_of (standing_on m (P.record_of c.hear_answer.new.keep)) left' written')) in
+    (budget : ℕ) → IsDue m (terms_with q budget) (standing_on m es) c.in-Open.question →
+    IfSome c.hear_answer.result (Drives turns m (terms_with q budget) (point_of (standing_on m es) left written) (point_of (standing_on m (P.record_of c.hear_answer.new.keep)) left' written')) in
     same_there Ended (P.lang two) l (P.plan two) (P.plan one) (P.record_of two) (P.record_of one) c.put_next.ensures.lang c.put_next.ensures.plan c.put_next.ensures.events c.hear_answer.ensures.ends c.args.budget due
 
 pub returns-in-Converged-clause-added : goal.returns-in-Converged-clause-added
@@ -131,21 +131,21 @@ returns-in-Converged-clause-keeps g c =
     let D = g.D.Disk in let P = g.P.Keep in
     keeps_still D.content D.may_leave D.moment D.left_since g.met.D.Disk.counts_now g.met.D.Disk.only_now P.plan P.voc P.record_of P.question P.writes P.live P.sits D.faults _ _ c.args.keep.now c.put_next.new.keep c.args.disk.now (λ (e : _). cc) c.put_next.ensures.plan c.put_next.ensures.voc c.put_next.ensures.events c.put_next.ensures.writes c.put_next.ensures.live
     c.requires.live (c.put_next.ensures.sits c.args.disk.now c.requires.sits)
-    (λ w bytes told f left. g.met.P.Keep.lasts c.args.keep.now c.args.disk.now c.requires.sound w c.requires.live c.requires.sits bytes told f left)
+    (λ w bytes told f left. g.met.P.Keep.lasts c.args.keep.now c.args.disk.now w c.requires.live c.requires.sits bytes told f left)
 
 pub returns-in-Collapsed-clause-keeps : goal.returns-in-Collapsed-clause-keeps
 returns-in-Collapsed-clause-keeps g c =
     let D = g.D.Disk in let P = g.P.Keep in
     keeps_still D.content D.may_leave D.moment D.left_since g.met.D.Disk.counts_now g.met.D.Disk.only_now P.plan P.voc P.record_of P.question P.writes P.live P.sits D.faults _ _ c.args.keep.now c.put_next.new.keep c.args.disk.now (λ (e : _). cc) c.put_next.ensures.plan c.put_next.ensures.voc c.put_next.ensures.events c.put_next.ensures.writes c.put_next.ensures.live
     c.requires.live (c.put_next.ensures.sits c.args.disk.now c.requires.sits)
-    (λ w bytes told f left. g.met.P.Keep.lasts c.args.keep.now c.args.disk.now c.requires.sound w c.requires.live c.requires.sits bytes told f left)
+    (λ w bytes told f left. g.met.P.Keep.lasts c.args.keep.now c.args.disk.now w c.requires.live c.requires.sits bytes told f left)
 
 pub returns-in-Undecided-clause-keeps : goal.returns-in-Undecided-clause-keeps
 returns-in-Undecided-clause-keeps g c =
     let D = g.D.Disk in let P = g.P.Keep in
     keeps_still D.content D.may_leave D.moment D.left_since g.met.D.Disk.counts_now g.met.D.Disk.only_now P.plan P.voc P.record_of P.question P.writes P.live P.sits D.faults _ _ c.args.keep.now c.put_next.new.keep c.args.disk.now (λ (e : _). cc) c.put_next.ensures.plan c.put_next.ensures.voc c.put_next.ensures.events c.put_next.ensures.writes c.put_next.ensures.live
     c.requires.live (c.put_next.ensures.sits c.args.disk.now c.requires.sits)
-    (λ w bytes told f left. g.met.P.Keep.lasts c.args.keep.now c.args.disk.now c.requires.sound w c.requires.live c.requires.sits bytes told f left)
+    (λ w bytes told f left. g.met.P.Keep.lasts c.args.keep.now c.args.disk.now w c.requires.live c.requires.sits bytes told f left)
 
 pub returns-in-Open-clause-keeps : goal.returns-in-Open-clause-keeps
 returns-in-Open-clause-keeps g c =
@@ -154,22 +154,22 @@ returns-in-Open-clause-keeps g c =
     let two = c.put_next.new.keep in
     let three = c.hear_answer.new.keep in
     let l : Language = P.lang one in
-    let request : Request = request_with (P.plan one) c.args.budget in
+    let terms : Terms = terms_with (P.plan one) c.args.budget in
     let t : List Answer = standing_on l (P.record_of one) in
     let turns : Turns = g.T.Teacher.turn c.args.teacher.now in
     let left : Option (List ℕ) = g.S.Source.left c.args.source.now in
     let written : Option (List ℕ) = g.K.Sink.written c.args.sink.now in
     let left' : Option (List ℕ) = g.S.Source.left c.hear_answer.new.source in
     let written' : Option (List ℕ) = g.K.Sink.written c.hear_answer.new.sink in
-    let due = put_due l request t (P.question two) c.put_next.result c.in-Open.question c.put_next.ensures.put c.in-Open.is in
-    let Lost : Assignment → Bool → Type 0 = Loses turns l request (point_of t left written) (point_of (standing_on l (P.record_of three)) left' written') in
+    let due = put_due l terms t (P.question two) c.put_next.result c.in-Open.question c.put_next.ensures.put c.in-Open.is in
+    let Lost : Assignment → Bool → Type 0 = Loses turns l terms (point_of t left written) (point_of (standing_on l (P.record_of three)) left' written') in
     keeps_then D.content D.may_leave D.moment D.left_since g.met.D.Disk.counts_now g.met.D.Disk.only_now P.plan P.voc P.record_of P.question P.writes P.live P.sits D.faults _ _ Lost one two three c.args.disk.now c.args.disk.now c.hear_answer.new.disk c.put_next.ensures.plan
     (λ asked said lost.
     loses_as turns l (P.lang two) (P.plan one) (P.plan two) c.args.budget (P.record_of one) (P.record_of two) (P.record_of three) left written left' written' c.in-Open.question asked said
     c.put_next.ensures.lang c.put_next.ensures.plan c.put_next.ensures.events lost due)
     (keeps_still D.content D.may_leave D.moment D.left_since g.met.D.Disk.counts_now g.met.D.Disk.only_now P.plan P.voc P.record_of P.question P.writes P.live P.sits D.faults ⊥ (λ q r. ⊥) one two c.args.disk.now (λ e. e) c.put_next.ensures.plan c.put_next.ensures.voc c.put_next.ensures.events c.put_next.ensures.writes c.put_next.ensures.live
     c.requires.live (c.put_next.ensures.sits c.args.disk.now c.requires.sits)
-    (λ w bytes told f left. g.met.P.Keep.lasts one c.args.disk.now c.requires.sound w c.requires.live c.requires.sits bytes told f left))
+    (λ w bytes told f left. g.met.P.Keep.lasts one c.args.disk.now w c.requires.live c.requires.sits bytes told f left))
     c.hear_answer.ensures.keeps
 
 pub hear_answer-requires-clause-live : goal.hear_answer-requires-clause-live

@@ -1,8 +1,7 @@
-use Rattle.std.proofs.Common.{◌≡◌, ◌∙◌, Bool, List, Option, Result, Ok, Err, sym, ap, subst, refl}
+use Rattle.std.proofs.Common.{◌≡◌, ◌∙◌, Bool, List, Result, Ok, Err, sym, subst, refl}
 use Rattle.acq_io.specs.declared.streams.Put.{Put}
 use Rattle.acq_io.specs.declared.streams.Put.TheVariants as puts
 use Rattle.assign.specs.Assignment.{Assignment}
-use Rattle.assign.specs.Events.{Answer}
 use Rattle.assign.specs.declared.events.Event.{Event}
 use Rattle.language.specs.Language.{Language, IsLanguage}
 use Rattle.language.specs.Answers.{standing_on}
@@ -11,7 +10,7 @@ use Rattle.session_core.specs.Standing.{Stands, knowledge_of}
 use Rattle.session_store.specs.Keeping.{keeps_still, keeps_as}
 use Rattle.target_oracle.specs.Lines.{line_turn}
 use Rattle.acq_cli.specs.Driven.{Loses}
-use Rattle.acq_cli.specs.Points.{point_of, request_with}
+use Rattle.acq_cli.specs.Points.{point_of, terms_with}
 use Rattle.acq_cli.specs.declared.driving.Drove.TheVariants as drove
 use Rattle.acq_cli.specs.declared.ending.Ending.{Ending}
 use Rattle.acq_cli.specs.declared.ending.Ending.TheVariants as ending
@@ -33,7 +32,7 @@ returns-clause-tries g c =
     let Here : Language → Type 0 = λ m. Stands c.session-session.result.now (standing_on m later) in
     let stands : Here k.lang = subst Here (sym c.session-session.ensures.lang) c.session-session.ensures.stands in
     tried (P.lang old) k.lang (P.plan old) k.plan c.args.budget (standing_on (P.lang old) (P.record_of old)) later (g.S.Source.left c.args.input.now) (g.K.Sink.written c.args.out.now)
-    (g.S.Source.left c.drive-drove.new.source) (g.K.Sink.written c.drive-drove.new.sink) (g.K.Sink.written c.say.new.out) c.drive-drove.new.screen c.drive-drove.result c.say.result same again
+    (g.S.Source.left c.drive-drove.new.source) (g.K.Sink.written c.drive-drove.new.sink) (g.K.Sink.written c.say.new.out) c.drive-drove.new.screen c.drive-drove.result c.say.result same again c.drive-drove.ensures.walked
     c.drive-drove.ensures.ends c.drive-drove.ensures.open (c.say.ensures.says c.args.budget (standing_on k.lang later) stands) (c.say.ensures.part c.args.budget (standing_on k.lang later) stands)
 
 pub returns-clause-part : goal.returns-clause-part
@@ -48,7 +47,7 @@ returns-clause-part g c =
     let Here : Language → Type 0 = λ m. Stands c.session-session.result.now (standing_on m later) in
     let stands : Here k.lang = subst Here (sym c.session-session.ensures.lang) c.session-session.ensures.stands in
     broken (P.lang old) k.lang (P.plan old) k.plan c.args.budget (standing_on (P.lang old) (P.record_of old)) later (g.S.Source.left c.args.input.now) (g.K.Sink.written c.args.out.now)
-    (g.S.Source.left c.drive-drove.new.source) (g.K.Sink.written c.drive-drove.new.sink) (g.K.Sink.written c.say.new.out) c.drive-drove.new.screen c.drive-drove.result c.say.result same again
+    (g.S.Source.left c.drive-drove.new.source) (g.K.Sink.written c.drive-drove.new.sink) (g.K.Sink.written c.say.new.out) c.drive-drove.new.screen c.drive-drove.result c.say.result same again c.drive-drove.ensures.walked
     c.drive-drove.ensures.ends c.drive-drove.ensures.open (c.say.ensures.says c.args.budget (standing_on k.lang later) stands) (c.say.ensures.part c.args.budget (standing_on k.lang later) stands)
 
 pub returns-clause-read : goal.returns-clause-read
@@ -63,14 +62,14 @@ returns-clause-read g c is =
     let Here : Language → Type 0 = λ m. Stands c.session-session.result.now (standing_on m later) in
     let stands : Here k.lang = subst Here (sym c.session-session.ensures.lang) c.session-session.ensures.stands in
     c.drive-drove.ensures.read (read_of (P.lang old) k.lang (P.plan old) k.plan c.args.budget (standing_on (P.lang old) (P.record_of old)) later (g.S.Source.left c.args.input.now) (g.K.Sink.written c.args.out.now)
-    (g.S.Source.left c.drive-drove.new.source) (g.K.Sink.written c.drive-drove.new.sink) (g.K.Sink.written c.say.new.out) c.drive-drove.new.screen c.drive-drove.result c.say.result same again
+    (g.S.Source.left c.drive-drove.new.source) (g.K.Sink.written c.drive-drove.new.sink) (g.K.Sink.written c.say.new.out) c.drive-drove.new.screen c.drive-drove.result c.say.result same again c.drive-drove.ensures.walked
     c.drive-drove.ensures.ends c.drive-drove.ensures.open (c.say.ensures.says c.args.budget (standing_on k.lang later) stands) (c.say.ensures.part c.args.budget (standing_on k.lang later) stands) is)
 
 pub returns-clause-no_fault : goal.returns-clause-no_fault
 returns-clause-no_fault g c =
     let P = g.P.Keep in
     let l = P.lang c.args.keep.now in
-    no_fault l (request_with (P.plan c.args.keep.now) c.args.budget) (standing_on l (P.record_of c.args.keep.now)) (standing_on l (P.record_of c.drive-drove.new.keep)) (g.S.Source.left c.args.input.now) (g.K.Sink.written c.args.out.now)
+    no_fault l (terms_with (P.plan c.args.keep.now) c.args.budget) (standing_on l (P.record_of c.args.keep.now)) (standing_on l (P.record_of c.drive-drove.new.keep)) (g.S.Source.left c.args.input.now) (g.K.Sink.written c.args.out.now)
     (g.S.Source.left c.drive-drove.new.source) (g.K.Sink.written c.say.new.out) c.say.result (returns-clause-tries g c)
 
 pub returns-clause-keeps : goal.returns-clause-keeps
@@ -81,7 +80,7 @@ returns-clause-keeps g c =
     let new = c.drive-drove.new.keep in
     let l = P.lang old in
     let p = P.plan old in
-    let request = request_with p c.args.budget in
+    let terms = terms_with p c.args.budget in
     let k = knowledge_of c.session-session.result.now in
     let later : List Event = P.record_of new in
     let start = standing_on l (P.record_of old) in
@@ -99,15 +98,15 @@ returns-clause-keeps g c =
     let Failed : Type 0 = c.drive-drove.result ≡ drove.DiskFault in
     let Ended : Type 0 = c.say.result ≡ Ok ending.DiskFault in
     let was : Ended → Failed =
-    disk_of l k.lang p k.plan c.args.budget start later left written left' middle written' c.drive-drove.new.screen c.drive-drove.result c.say.result same again c.drive-drove.ensures.ends c.drive-drove.ensures.open says parts in
-    let Lost : Assignment → Bool → Type 0 = Loses line_turn l request (point_of start left written) (point_of (standing_on l later) left' middle) in
-    let Then : Assignment → Bool → Type 0 = Loses line_turn l request (point_of start left written) (point_of (standing_on l later) left' written') in
+    disk_of l k.lang p k.plan c.args.budget start later left written left' middle written' c.drive-drove.new.screen c.drive-drove.result c.say.result same again c.drive-drove.ensures.walked c.drive-drove.ensures.ends c.drive-drove.ensures.open says parts in
+    let Lost : Assignment → Bool → Type 0 = Loses line_turn l terms (point_of start left written) (point_of (standing_on l later) left' middle) in
+    let Then : Assignment → Bool → Type 0 = Loses line_turn l terms (point_of start left written) (point_of (standing_on l later) left' written') in
     keeps_as D.content D.may_leave D.moment D.left_since g.met.D.Disk.counts_now g.met.D.Disk.only_now P.plan P.voc P.record_of P.question P.writes P.live P.sits D.faults Failed Ended Lost Then old new c.args.disk.now c.drive-drove.new.disk
     was
-    (disk_told l k.lang p k.plan c.args.budget start later left written left' middle written' c.drive-drove.new.screen c.drive-drove.result c.say.result same again c.drive-drove.ensures.ends c.drive-drove.ensures.open says parts)
+    (disk_told l k.lang p k.plan c.args.budget start later left written left' middle written' c.drive-drove.new.screen c.drive-drove.result c.say.result same again c.drive-drove.ensures.walked c.drive-drove.ensures.ends c.drive-drove.ensures.open says parts)
     (λ ended question reply lost.
-    lost_then l request (point_of start left written) (standing_on l later) left' middle written' c.drive-drove.result c.say.result
-    (said l k.lang p k.plan c.args.budget start later left written left' middle written' c.drive-drove.new.screen c.drive-drove.result c.say.result same again c.drive-drove.ensures.ends c.drive-drove.ensures.open says parts)
+    lost_then l terms (point_of start left written) (standing_on l later) left' middle written' c.drive-drove.result c.say.result
+    (said l k.lang p k.plan c.args.budget start later left written left' middle written' c.drive-drove.new.screen c.drive-drove.result c.say.result same again c.drive-drove.ensures.walked c.drive-drove.ensures.ends c.drive-drove.ensures.open says parts)
     (was ended) ended question reply lost)
     c.drive-drove.ensures.keeps
 
@@ -143,13 +142,13 @@ returns-in_default-clause-part g c =
     let t = standing_on l (P.record_of c.args.keep.now) in
     let s = c.session-start.result.now in
     let at = at_turn s l c.lang-lang.result.now plan t (knowledge_of s).answers c.session-start.ensures.stands c.session-start.ensures.lang c.session-start.ensures.plan refl c.lang-lang.ensures.is c.lang-lang.ensures.lawful in
-    begun_part l (request_with plan c.args.budget) t (g.S.Source.left c.args.input.now) (g.K.Sink.written c.args.out.now) at.lawful at.reached
+    begun_part l (terms_with plan c.args.budget) t (g.S.Source.left c.args.input.now) (g.K.Sink.written c.args.out.now) at.lawful at.reached
 
 pub returns-in_default-clause-keeps : goal.returns-in_default-clause-keeps
 returns-in_default-clause-keeps g c =
     let D = g.D.Disk in let P = g.P.Keep in
     keeps_still D.content D.may_leave D.moment D.left_since g.met.D.Disk.counts_now g.met.D.Disk.only_now P.plan P.voc P.record_of P.question P.writes P.live P.sits D.faults _ _ c.args.keep.now c.args.keep.now c.args.disk.now not_okay refl refl refl refl refl c.requires.live c.requires.sits
-    (λ w bytes told f left. g.met.P.Keep.lasts c.args.keep.now c.args.disk.now c.requires.sound w c.requires.live c.requires.sits bytes told f left)
+    (λ w bytes told f left. g.met.P.Keep.lasts c.args.keep.now c.args.disk.now w c.requires.live c.requires.sits bytes told f left)
 
 pub returns-in_default-new-clause-part : goal.returns-in_default-new-clause-part
 returns-in_default-new-clause-part g c =
@@ -159,10 +158,10 @@ returns-in_default-new-clause-part g c =
     let t = standing_on l (P.record_of c.args.keep.now) in
     let s = c.session-start.result.now in
     let at = at_turn s l c.lang-lang.result.now plan t (knowledge_of s).answers c.session-start.ensures.stands c.session-start.ensures.lang c.session-start.ensures.plan refl c.lang-lang.ensures.is c.lang-lang.ensures.lawful in
-    begun_part l (request_with plan c.args.budget) t (g.S.Source.left c.args.input.now) (g.K.Sink.written c.args.out.now) at.lawful at.reached
+    begun_part l (terms_with plan c.args.budget) t (g.S.Source.left c.args.input.now) (g.K.Sink.written c.args.out.now) at.lawful at.reached
 
 pub returns-in_default-new-clause-keeps : goal.returns-in_default-new-clause-keeps
 returns-in_default-new-clause-keeps g c =
     let D = g.D.Disk in let P = g.P.Keep in
     keeps_still D.content D.may_leave D.moment D.left_since g.met.D.Disk.counts_now g.met.D.Disk.only_now P.plan P.voc P.record_of P.question P.writes P.live P.sits D.faults _ _ c.args.keep.now c.args.keep.now c.args.disk.now not_okay refl refl refl refl refl c.requires.live c.requires.sits
-    (λ w bytes told f left. g.met.P.Keep.lasts c.args.keep.now c.args.disk.now c.requires.sound w c.requires.live c.requires.sits bytes told f left)
+    (λ w bytes told f left. g.met.P.Keep.lasts c.args.keep.now c.args.disk.now w c.requires.live c.requires.sits bytes told f left)

@@ -1,0 +1,148 @@
+-- What was done about the words.
+use Rattle.std.proofs.Common.{◌≡◌, ◌∙◌, ℕ, List, Option, Result, Ok, Err, refl, sym, ap, subst, inl, ⊎_elim}
+use Rattle.acq_io.specs.declared.streams.Put.{Put}
+use Rattle.acq_io.specs.declared.streams.Put.TheVariants as put
+use Rattle.acq_words.specs.Request.{Contents, IsAnswer, answer_to, contents_of}
+use Rattle.acq_words.specs.declared.request.Command.{Command}
+use Rattle.acq_words.specs.declared.request.Command.TheVariants as command
+use Rattle.acq_words.specs.declared.request.Request.{Request}
+use Rattle.acq_words.specs.declared.request.UsageFault.{UsageFault}
+use Rattle.acq_words.specs.declared.request.WordsFault.{WordsFault}
+use Rattle.acq_words.specs.declared.request.WordsFault.TheVariants.{Usage, Memory}
+use Rattle.answer_journal.specs.declared.fault.JFault.TheVariants as journal
+use Rattle.assign.specs.declared.events.Plan.{Plan}
+use Rattle.disk_model.specs.Moments.{started}
+use Rattle.session_store.specs.declared.fault.SFault.{SFault}
+use Rattle.session_store.specs.declared.fault.SFault.TheVariants as store
+use Rattle.acq_cli.specs.Journals.{EndsWith, News, Refuses, RefusesMaking, RunsOn, Shows, StaysClosed}
+use Rattle.acq_cli.specs.Points.{terms_with}
+use Rattle.acq_cli.specs.Program.{Acquires}
+use Rattle.acq_cli.specs.Texts.{usage_text}
+use Rattle.acq_cli.specs.Words.{IsAsked, built, command_asked, command_in}
+use Rattle.acq_cli.specs.declared.ending.Ending.{Ending}
+use Rattle.acq_cli.specs.declared.ending.Ending.TheVariants as ending
+
+-- ---- What is asked for
+
+pub is_asked : (words : List (List ℕ)) (request : Request) → answer_to words ≡ Ok (contents_of request) → command_asked words ≡ built request.command
+unfolding command_asked
+is_asked words request is = ap command_in is
+
+pub is_refused : (words : List (List ℕ)) (fault : WordsFault) → IsAnswer (answer_to words) (Err fault) → IsAsked (command_asked words) (Err fault)
+unfolding command_asked
+is_refused words (Usage fault) is = ap command_in is
+is_refused words Memory is = tt
+
+abbrev asking : Command → Result Command UsageFault
+asking c = Ok c
+
+-- a command that isn't built is never asked for
+not_built : (c d : Command) → built c ≡ asking d → ((budget : ℕ) → d ≡ command.Play budget → ⊥) × ((number budget : ℕ) → d ≡ command.Demo number budget → ⊥)
+not_built (command.New plan) d is = (λ budget e. cc, λ number budget e. cc)
+not_built (command.Run own) d is = (λ budget e. cc, λ number budget e. cc)
+not_built (command.Try plan own) d is = (λ budget e. cc, λ number budget e. cc)
+not_built command.Show d is = (λ budget e. cc, λ number budget e. cc)
+not_built (command.Play own) d is = absurd (let no : ⊥ = cc in no)
+not_built (command.Demo own other) d is = absurd (let no : ⊥ = cc in no)
+
+no_play : (words : List (List ℕ)) (budget : ℕ) → command_asked words ≡ asking (command.Play budget) → ⊥
+unfolding command_asked
+no_play words budget is = of (answer_to words) is
+  where
+    of : (answer : Result Contents UsageFault) → command_in answer ≡ asking (command.Play budget) → ⊥
+    of (Ok contents) e = (not_built contents.command (command.Play budget) e).0 budget refl
+    of (Err fault) e = cc
+
+no_demo : (words : List (List ℕ)) (number budget : ℕ) → command_asked words ≡ asking (command.Demo number budget) → ⊥
+unfolding command_asked
+no_demo words number budget is = of (answer_to words) is
+  where
+    of : (answer : Result Contents UsageFault) → command_in answer ≡ asking (command.Demo number budget) → ⊥
+    of (Ok contents) e = (not_built contents.command (command.Demo number budget) e).1 number budget refl
+    of (Err fault) e = cc
+
+-- ---- Want of memory, before anything is done
+
+abbrev wanting : Result Ending Put
+wanting = Err put.Memory
+
+module _ {D : Type 0} (content : D → Option (List ℕ)) (may_leave : D → List ℕ → Type 0) (moment : D → ℕ) (left_since : D → ℕ → List ℕ → Type 0) where
+  module _ (only_now : (disk : D) (c : List ℕ) → left_since disk (moment disk) c → may_leave disk c) (left written : Option (List ℕ)) (disk : D) where
+    stays : StaysClosed content may_leave moment left_since left written left written disk disk wanting
+    stays = record {
+      fault = store.Memory;
+      why = λ bytes told. tt;
+      refuses = (refl, refl);
+      unread = refl;
+      same = refl;
+      any_moment = started moment left_since disk (may_leave disk) (only_now disk);
+    }
+
+    pub no_run : (budget : ℕ) → RunsOn content may_leave moment left_since budget left written left written disk disk wanting
+    no_run budget = inl stays
+
+    pub no_show : Shows content may_leave moment left_since left written written disk disk wanting
+    no_show = inl stays
+
+-- ---- A usage line is told for refused words alone
+
+abbrev using_so : UsageFault → Result Ending Put
+using_so fault = Ok (ending.Usage fault)
+
+refuses_usage : (fault : SFault) (usage : UsageFault) (written written' : Option (List ℕ)) → Refuses fault written written' (using_so usage) → ⊥
+refuses_usage (store.Journal journal.SessionThere) usage written written' (is, told) = cc
+refuses_usage (store.Journal journal.NoSession) usage written written' (is, told) = cc
+refuses_usage (store.Journal journal.NotAJournal) usage written written' (is, told) = cc
+refuses_usage (store.Journal (journal.Damaged at)) usage written written' (is, told) = cc
+refuses_usage (store.Journal journal.TooManyRecords) usage written written' (is, told) = cc
+refuses_usage (store.Journal journal.Full) usage written written' (is, told) = cc
+refuses_usage (store.Journal journal.DiskFault) usage written written' (is, told) = cc
+refuses_usage (store.Journal journal.Memory) usage written written' (is, told) = cc
+refuses_usage (store.Voc fault) usage written written' (is, told) = cc
+refuses_usage (store.Stray i) usage written written' (is, told) = cc
+refuses_usage store.Memory usage written written' (is, told) = cc
+
+making_usage : (fault : SFault) (usage : UsageFault) (written written' : Option (List ℕ)) → RefusesMaking fault written written' (using_so usage) → ⊥
+making_usage (store.Journal fault) usage written written' refuses = refuses_usage (store.Journal fault) usage written written' refuses
+making_usage (store.Voc fault) usage written written' (is, told) = cc
+making_usage (store.Stray i) usage written written' refuses = refuses_usage (store.Stray i) usage written written' refuses
+making_usage store.Memory usage written written' refuses = refuses_usage store.Memory usage written written' refuses
+
+ends_usage : (end : Ending) (usage : UsageFault) (text : List ℕ) (written written' : Option (List ℕ)) → (ending.Usage usage ≡ end → ⊥) → EndsWith end text written written' (using_so usage) → ⊥
+ends_usage end usage text written written' other (is, told) = other is
+
+module _ {D : Type 0} (content : D → Option (List ℕ)) (may_leave : D → List ℕ → Type 0) (moment : D → ℕ) (left_since : D → ℕ → List ℕ → Type 0) (left written left' written' : Option (List ℕ)) (old new : D) where
+  new_usage : (plan : Plan) (usage : UsageFault) → News content may_leave moment left_since plan left written left' written' old new (using_so usage) → ⊥
+  new_usage plan usage news =
+      ⊎_elim
+      (λ none. ⊎_elim (λ long. let is : ending.Usage usage ≡ _ = long.1.0 in cc) (λ other. ⊎_elim (λ e. cc) (λ e. cc) other.0) none.why)
+      (λ read. ⊎_elim (λ made. let is : ending.Usage usage ≡ ending.Done = made.tells.0 in cc) (λ not_made. making_usage not_made.fault usage written written' not_made.refuses) read.makes)
+      news
+
+  run_usage : (budget : ℕ) (usage : UsageFault) → RunsOn content may_leave moment left_since budget left written left' written' old new (using_so usage) → ⊥
+  run_usage budget usage runs = ⊎_elim (λ closed. refuses_usage closed.fault usage written written' closed.refuses) (λ goes_on. goes_on.tries) runs
+
+  show_usage : (usage : UsageFault) → Shows content may_leave moment left_since left written written' old new (using_so usage) → ⊥
+  show_usage usage shows =
+      ⊎_elim (λ closed. refuses_usage closed.fault usage written written' closed.refuses) (λ shown. let is : ending.Usage usage ≡ ending.Done = shown.tells.0 in cc) shows
+
+  pub usage_is : (words : List (List ℕ)) (end : Ending) →
+      ((plan : Plan) (budget : ℕ) → command_asked words ≡ Ok (command.Try plan budget) → Acquires (terms_with plan budget) left written left' written' end) →
+      ((plan : Plan) → command_asked words ≡ Ok (command.New plan) → News content may_leave moment left_since plan left written left' written' old new (Ok end)) →
+      ((budget : ℕ) → command_asked words ≡ Ok (command.Run budget) → RunsOn content may_leave moment left_since budget left written left' written' old new (Ok end)) →
+      (command_asked words ≡ Ok command.Show → Shows content may_leave moment left_since left written written' old new (Ok end)) →
+      ((fault : UsageFault) → command_asked words ≡ Err fault → EndsWith (ending.Usage fault) usage_text written written' (Ok end)) →
+      (usage : UsageFault) → end ≡ ending.Usage usage → command_asked words ≡ Err usage
+  usage_is words end tries news runs shows refuses usage is = of (command_asked words) refl
+    where
+      same : (a b : UsageFault) → ending.Usage a ≡ ending.Usage b → a ≡ b
+      same a b e = cc
+
+      of : (asked : Result Command UsageFault) → command_asked words ≡ asked → command_asked words ≡ Err usage
+      of (Err fault) e = e ∙ ap (λ (f : UsageFault). let r : Result Command UsageFault = Err f in r) (same fault usage (sym (refuses fault e).0 ∙ is))
+      of (Ok (command.New plan)) e = let P : Ending → Type 0 = λ x. News content may_leave moment left_since plan left written left' written' old new (Ok x) in absurd (new_usage plan usage (subst P is (news plan e)))
+      of (Ok (command.Run budget)) e = let P : Ending → Type 0 = λ x. RunsOn content may_leave moment left_since budget left written left' written' old new (Ok x) in absurd (run_usage budget usage (subst P is (runs budget e)))
+      of (Ok (command.Try plan budget)) e = let P : Ending → Type 0 = λ x. Acquires (terms_with plan budget) left written left' written' x in absurd (subst P is (tries plan budget e))
+      of (Ok command.Show) e = let P : Ending → Type 0 = λ x. Shows content may_leave moment left_since left written written' old new (Ok x) in absurd (show_usage usage (subst P is (shows e)))
+      of (Ok (command.Play budget)) e = absurd (no_play words budget e)
+      of (Ok (command.Demo number budget)) e = absurd (no_demo words number budget e)
