@@ -33,8 +33,12 @@ while read -r _ words; do
     report $((PIPESTATUS[0] + PIPESTATUS[1])) "./acquire $words: it ends with another status than 0, or doesn't print $stored"
 done <<<"$commands"
 
-[ "$("$program")" = "$(grep '^usage: ' docs/formats.md)" ]
-report $? "the usage line isn't that of docs/formats.md"
+# No words, and a word that isn't UTF-8.
+usage=$(grep '^usage: ' docs/formats.md)
+for words in "" $':memory: try\xff'; do
+    [ "$("$program" $words </dev/null; echo $?)" = "$usage"$'\n1' ]
+    report $? "'$words': no usage line as in docs/formats.md, or another status than 1"
+done
 
 echo "examples: $passed passed, $failed failed"
 [ "$failed" -eq 0 ]

@@ -223,4 +223,5 @@ def main():
     print(f"owners: {sessions} sessions, each ending as the answers say: {said}")
 
 
-main()
+if __name__ == "__main__":
+    main()

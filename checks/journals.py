@@ -1,0 +1,279 @@
+#!/usr/bin/env python3
+"""The commands over real files, and at a terminal.
+
+usage: checks/journals.py PROGRAM
+
+Rows of commands over one file, files that are no journal, files that can't be opened or written, a disk that is full, and a
+person at a terminal who presses Ctrl-C between two answers and goes on later. A limit on the length of files, by which a write
+fails as it does where no room is left, stands for the full disk. Where this runs as root, the rows on files that may not be read
+or written are run as nobody.
+"""
+
+import os
+import pty
+import resource
+import select
+import shutil
+import signal
+import subprocess
+import sys
+import tempfile
+import termios
+import time
+
+TOP = os.path.join(os.path.dirname(os.path.abspath(__file__)), "..")
+NOBODY = 65534
+WORKED = bytes.fromhex("01 41 00 00 00 06 01 02 00 00 01 01 00")
+
+# Commands one after the other over one file: the words, the input (None is the vocabulary), what is printed, the status, and
+# how many bytes the file has then.
+COMMANDS = [
+    ("show", b"", "refused journal no session\n", 3, None),
+    ("run", b"yes\n", "refused journal no session\n", 3, None),
+    ("new", b'{"variables"', "refused vocabulary not json\n", 2, None),
+    ("new", None, "created variables 2 scopes 1 candidates 3\n", 0, 184),
+    ("run", b"yes", "q1 a=1 b=2\nsuspended 0\n", 6, 184),
+    ("show", b"", "plan quacq\nanswers 0\nlearned 0\nstate idle\n", 0, 184),
+    ("run", b"yes\n", "q1 a=1 b=2\nq2 a=1 b=1\nsuspended 1\n", 6, 196),
+    ("show", b"", "plan quacq\nq1 a=1 b=2 yes\nanswers 1\nlearned 0\nstate idle\n", 0, 196),
+    ("new", None, "refused journal session there\n", 3, 196),
+    ("run", b"maybe\nstop\n", "q2 a=1 b=1\nnot an answer\nsuspended 1\n", 6, 196),
+    ("run", b"no\n", "q2 a=1 b=1\nconverged 2\nne a b\n", 0, 208),
+    ("run", b"", "converged 2\nne a b\n", 0, 208),
+    ("show", b"", "plan quacq\nq1 a=1 b=2 yes\nq2 a=1 b=1 no\nanswers 2\nlearned 1\nne a b\nstate idle\n", 0, 208),
+    ("new --plan scopes", None, "refused journal session there\n", 3, 208),
+]
+
+
+class Room:
+    """A folder, the program and the vocabulary, and how many rows were as they should be."""
+
+    def __init__(self, folder, program):
+        self.folder = folder
+        os.chmod(folder, 0o755)
+        self.program = shutil.copy(program, os.path.join(folder, "program"))
+        with open(os.path.join(TOP, "examples/first/vocabulary.json"), "rb") as file:
+            self.vocabulary = file.read().strip()
+        self.passed = self.failed = 0
+
+    def report(self, row, wanted, got):
+        if wanted == got:
+            self.passed += 1
+        else:
+            self.failed += 1
+            print(f"journals: {row}: {got!r} and not {wanted!r}")
+
+    def path(self, name):
+        return os.path.join(self.folder, name)
+
+    def put(self, name, content):
+        with open(self.path(name), "wb") as file:
+            file.write(content)
+        return self.path(name)
+
+    def look(self, journal, words, given=b"", limit=None, user=None):
+        """What a command prints, and its status. Files may get `limit` bytes long, if there is one."""
+
+        def prepare():
+            if limit is not None:
+                signal.signal(signal.SIGXFSZ, signal.SIG_IGN)
+                resource.setrlimit(resource.RLIMIT_FSIZE, (limit, limit))
+
+        done = subprocess.run(
+            [self.program, journal, *words.split()],
+            input=self.vocabulary if given is None else given,
+            stdout=subprocess.PIPE,
+            timeout=20,
+            preexec_fn=prepare,
+            user=user,
+            check=False,
+        )
+        return done.stdout.decode(), done.returncode
+
+
+def content_of(journal):
+    if not os.path.exists(journal):
+        return None
+    with open(journal, "rb") as file:
+        return file.read()
+
+
+def over_one_file(room):
+    journal = room.path("rows")
+    for number, (words, given, text, status, length) in enumerate(COMMANDS):
+        room.report(f"row {number}, {words}", (text, status), room.look(journal, words, given))
+        content = content_of(journal)
+        room.report(f"row {number}, its length", length, content and len(content))
+    room.report("the worked bytes", WORKED, content_of(journal)[183:195] + b"\0")
+
+
+def worked_journal(room, name="worked"):
+    """The file of 196 bytes, with one answer."""
+    journal = room.path(name)
+    room.look(journal, "new", None)
+    room.look(journal, "run", b"yes\n")
+    return journal
+
+
+def no_journals(room):
+    """Files that are refused, or have another answer than they had, each byte of them as before."""
+    whole = content_of(worked_journal(room))
+    none = "plan quacq\nanswers 0\nlearned 0\nstate idle\n"
+    files = [
+        ("9 bytes", b"x" * 9, "refused journal no session\n"),
+        ("10 bytes", b"x" * 10, "refused journal not a journal\n"),
+        ("a cut record", whole[:190], "refused journal damaged 183\n"),
+        ("a cut gate", whole[:195], "refused journal damaged 183\n"),
+        ("a closed gate", whole[:183] + b"\0" + whole[184:], None),
+        ("a closed first gate", whole[:8] + b"\0" + whole[9:], "refused journal no session\n"),
+        ("a value that isn't there", whole[:194] + b"\2" + whole[195:], "refused journal stray 1\n"),
+        ("another vocabulary", whole[:15] + b"[" + whole[16:], "refused journal vocabulary not json\n"),
+    ]
+    for name, content, refusal in files:
+        journal = room.put("file", content)
+        run = (refusal, 3) if refusal else ("q1 a=1 b=2\nsuspended 0\n", 6)
+        room.report(f"{name}, run", run, room.look(journal, "run"))
+        room.report(f"{name}, show", (refusal, 3) if refusal else (none, 0), room.look(journal, "show"))
+        room.report(f"{name}, untouched", content, content_of(journal))
+    journal = room.put("file", b"x" * 10)
+    room.report("10 bytes, new", ("refused journal not a journal\n", 3), room.look(journal, "new", None))
+    room.report("10 bytes, new, untouched", b"x" * 10, content_of(journal))
+    journal = room.put("file", b"x" * 9)
+    room.report("9 bytes, new", 0, room.look(journal, "new", None)[1])
+    room.report("9 bytes, new, made", whole[:183] + b"\0", content_of(journal))
+
+
+def no_files(room):
+    """Each command ends with status 10 and no line, and changes nothing."""
+    user = NOBODY if os.geteuid() == 0 else None
+    os.mkdir(room.path("folder"))
+    os.mkfifo(room.path("pipe"))
+    places = [room.path("folder"), room.path("pipe")]
+    if os.path.exists("/dev/full"):
+        places.append("/dev/full")
+    for name, mode in [("unreadable", 0o200), ("unwritable", 0o444)]:
+        journal = worked_journal(room, name)
+        if user is not None:
+            os.chown(journal, user, user)
+        os.chmod(journal, mode)
+        places.append(journal)
+    for place in places:
+        before = os.stat(place)
+        for words, given in [("new", None), ("run", b"yes\n"), ("show", b"")]:
+            room.report(f"{place}, {words}", ("", 10), room.look(place, words, given, user=user))
+        after = os.stat(place)
+        room.report(
+            f"{place}, untouched",
+            (before.st_mode, before.st_size, before.st_mtime_ns),
+            (after.st_mode, after.st_size, after.st_mtime_ns),
+        )
+    os.mkdir(room.path("locked"), 0o555)
+    for place in [room.path("missing/journal"), room.path("locked/journal")]:
+        room.report(f"{place}, new", ("", 10), room.look(place, "new", None, user=user))
+        room.report(f"{place}, run", ("refused journal no session\n", 3), room.look(place, "run", user=user))
+        room.report(f"{place}, nothing is made", False, os.path.exists(place))
+
+
+def full_disk(room):
+    """No more than so many bytes: the program ends with status 10, and no answer is there that isn't whole."""
+    for limit in [0, 5, 9, 100, 183]:
+        journal = room.path(f"new {limit}")
+        room.report(f"new at {limit} bytes", ("", 10), room.look(journal, "new", None, limit=limit))
+        room.report(f"then show at {limit}", ("refused journal no session\n", 3), room.look(journal, "show"))
+        room.report(f"then new at {limit}", 0, room.look(journal, "new", None)[1])
+        room.report(f"then run at {limit}", 0, room.look(journal, "run", b"yes\nno\n")[1])
+    for limit in [184, 185, 190, 195]:
+        journal = room.path(f"run {limit}")
+        room.look(journal, "new", None)
+        room.report(f"run at {limit} bytes", ("q1 a=1 b=2\n", 10), room.look(journal, "run", b"yes\nno\n", limit=limit))
+        room.report(f"then run at {limit}", ("q1 a=1 b=2\nsuspended 0\n", 6), room.look(journal, "run"))
+        # The other answer, over what is left of the first.
+        room.look(journal, "run", b"no\n")
+        shown = "plan quacq\nq1 a=1 b=2 no\nanswers 1\n"
+        room.report(f"then show at {limit}", shown, room.look(journal, "show")[0][: len(shown)])
+    journal = room.path("run 196")
+    room.look(journal, "new", None)
+    room.report("run at 196 bytes", ("q1 a=1 b=2\nq2 a=1 b=1\n", 10), room.look(journal, "run", b"yes\nno\n", limit=196))
+    room.report("then run at 196", ("q2 a=1 b=1\nsuspended 1\n", 6), room.look(journal, "run"))
+
+
+class Terminal:
+    """A program whose input and output are a terminal, which shows what the program writes and no typed letter."""
+
+    def __init__(self, *words):
+        self.child, self.end = pty.fork()
+        if self.child == 0:
+            os.execv(words[0], words)
+        modes = termios.tcgetattr(self.end)
+        modes[3] &= ~termios.ECHO
+        termios.tcsetattr(self.end, termios.TCSANOW, modes)
+        self.seen = ""
+
+    def type(self, keys):
+        os.write(self.end, keys)
+
+    def read_until(self, text):
+        """What is shown up to this text, or after ten seconds without it all that was."""
+        limit = time.monotonic() + 10
+        while text not in self.seen and time.monotonic() < limit:
+            if not select.select([self.end], [], [], 0.1)[0]:
+                continue
+            try:
+                piece = os.read(self.end, 4096)
+            except OSError:
+                break
+            if not piece:
+                break
+            self.seen += piece.decode().replace("\r\n", "\n")
+        before, found, self.seen = self.seen.partition(text)
+        return before + found
+
+    def wait(self):
+        """The rest of what is shown, and the status, or the signal as a negative number."""
+        rest = self.read_until("no such text")
+        _, status = os.waitpid(self.child, 0)
+        os.close(self.end)
+        return rest, os.waitstatus_to_exitcode(status)
+
+
+def at_a_terminal(room):
+    journal = room.path("terminal")
+    room.look(journal, "new", None)
+    first = Terminal(room.program, journal, "run")
+    room.report("the question before anything is typed", "q1 a=1 b=2\n", first.read_until("b=2\n"))
+    first.type(b"perhaps\n")
+    room.report("no answer", "not an answer\n", first.read_until("answer\n"))
+    first.type(b"yes\n")
+    room.report("the next question", "q2 a=1 b=1\n", first.read_until("b=1\n"))
+    first.type(b"n\x03")
+    room.report("Ctrl-C", ("", -signal.SIGINT), first.wait())
+    second = Terminal(room.program, journal, "run")
+    room.report("the same question later", "q2 a=1 b=1\n", second.read_until("b=1\n"))
+    second.type(b"\x04")
+    room.report("Ctrl-D", ("suspended 1\n", 6), second.wait())
+    third = Terminal(room.program, journal, "run")
+    room.report("and once more", "q2 a=1 b=1\n", third.read_until("b=1\n"))
+    third.type(b"no\n")
+    room.report("the end", ("converged 2\nne a b\n", 0), third.wait())
+    trying = Terminal(room.program, ":memory:", "try")
+    trying.type(room.vocabulary + b"\n")
+    room.report("try", "q1 a=1 b=2\n", trying.read_until("b=2\n"))
+    trying.type(b"no\n")
+    room.report("try, the next question", "q2 a=1 b=1\n", trying.read_until("b=1\n"))
+    trying.type(b"stop\n")
+    room.report("try, the end", ("suspended 1\n", 6), trying.wait())
+
+
+def main():
+    if len(sys.argv) != 2:
+        print(__doc__)
+        sys.exit(2)
+    with tempfile.TemporaryDirectory() as folder:
+        room = Room(folder, sys.argv[1])
+        for part in [over_one_file, no_journals, no_files, full_disk, at_a_terminal]:
+            part(room)
+    print(f"journals: {room.passed} passed, {room.failed} failed")
+    sys.exit(1 if room.failed else 0)
+
+
+main()
