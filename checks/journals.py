@@ -203,6 +203,8 @@ class Terminal:
     def __init__(self, *words):
         self.child, self.end = pty.fork()
         if self.child == 0:
+            # In the background of a script Ctrl-C is ignored, and a child inherits that.
+            signal.signal(signal.SIGINT, signal.SIG_DFL)
             os.execv(words[0], words)
         modes = termios.tcgetattr(self.end)
         modes[3] &= ~termios.ECHO
@@ -231,7 +233,14 @@ class Terminal:
     def wait(self):
         """The rest of what is shown, and the status, or the signal as a negative number."""
         rest = self.read_until("no such text")
-        _, status = os.waitpid(self.child, 0)
+        limit = time.monotonic() + 10
+        ended, status = os.waitpid(self.child, os.WNOHANG)
+        while not ended and time.monotonic() < limit:
+            time.sleep(0.01)
+            ended, status = os.waitpid(self.child, os.WNOHANG)
+        if not ended:
+            os.kill(self.child, signal.SIGKILL)
+            _, status = os.waitpid(self.child, 0)
         os.close(self.end)
         return rest, os.waitstatus_to_exitcode(status)
 
