@@ -42,6 +42,11 @@ arcs_over l list against lawful are = All-append (IsOver (variable_count l)) (ma
 pub arcs_small : (l : Language) (list : List Candidate) (against : Option Candidate) → IsLanguage l → AreConstraints l list against → (k : ℕ) (d : Arc) → k < length (arcs_of l list against) → All (λ v. v < 128) (slice_index_or (arcs_of l list against) k d).scope
 arcs_small l list against lawful are k d low = λ i e below. (let at = (arcs_over l list against lawful are k d low).known i e below in let few = lawful.few_variables in omega arith)
 
+-- the conditions are on variables of a family
+pub arcs_within : (l : Language) (list : List Candidate) (against : Option Candidate) → IsLanguage l → AreConstraints l list against → (f : Family) → IsFamilyOf l f → (k : ℕ) (d : Arc) → k < length (arcs_of l list against) →
+    All (λ v. v < length f) (slice_index_or (arcs_of l list against) k d).scope
+arcs_within l list against lawful are f family k d low = λ i e below. (let at = (arcs_over l list against lawful are k d low).known i e below in let size = family.size in omega arith)
+
 -- where all variables have changed, no condition has to be settled
 pub all_settled : (arcs : List Arc) (n : ℕ) (f : Family) → All (IsOver n) arcs → AreSettled arcs (numbers n) f
 all_settled arcs n f over = λ k a low none. absurd (touched (slice_index_or arcs k a).scope (over k a low).some (over k a low).known none)
@@ -56,6 +61,21 @@ rises_different a (x ∷ xs) r = (lacks (x + 1) x xs (omega arith) r.2, rises_di
 
 pub scope_different : (n : ℕ) (scope : List ℕ) → n ≤ 128 → IsScope n scope → AreDifferent scope
 scope_different n scope few is = rises_different 0 scope (scope_rises n scope few is.rising is.known)
+
+abbrev pub IsApart : Arc → Type 0
+IsApart a = AreDifferent a.scope
+
+pub arcs_different : (l : Language) (list : List Candidate) (against : Option Candidate) → IsLanguage l → AreConstraints l list against → (k : ℕ) (d : Arc) → k < length (arcs_of l list against) → AreDifferent (slice_index_or (arcs_of l list against) k d).scope
+arcs_different l list against lawful are = All-append IsApart (map (λ c. arc_of l c true) list) _
+    (All-map IsApart (λ c. arc_of l c true) list (λ k d low. one (slice_index_or list k d) (are.list k d low)))
+    (last against are)
+  where
+    one : (c : Candidate) → IsCandidate l c → AreDifferent (scope_of l c)
+    one c is = scope_different (variable_count l) (scope_of l c) lawful.few_variables (lawful.scopes c.scope [] is.scope)
+
+    last : (o : Option Candidate) → AreConstraints l list o → All IsApart (option_map_or (λ c. arc_of l c false ∷ []) o [])
+    last None are = All-nil IsApart
+    last (Some c) are = All-cons IsApart (arc_of l c false) [] (one c (are.against c refl)) (All-nil IsApart)
 
 -- ---- families
 

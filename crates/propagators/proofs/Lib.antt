@@ -10,3 +10,6 @@ pub mod Cutting
 pub mod Conditions
 pub mod Loose
 pub mod Visiting
+pub mod Beside
+pub mod Masking
+pub mod Lazy

@@ -15,7 +15,7 @@ use Rattle.language.proofs.Members.{any_number}
 use Rattle.propagators.specs.Values.{ones_of}
 use Rattle.propagators.specs.Families.{Family, Arc, is_wanted, arc_of, sets_on, is_consistent}
 use Rattle.propagators.specs.Supports.{IsThrough, AreBelow, continues}
-use Rattle.propagators.specs.Briefs.{HasTwo, IsLoose}
+use Rattle.propagators.specs.Loose.{HasTwo, IsLoose}
 use Rattle.propagators.proofs.Pruned.{consistent, has_head}
 use Rattle.propagators.proofs.Replacing.{through_supported}
 
@@ -47,7 +47,7 @@ one_member xs rest x goes none y z at_y at_z = sym (is y at_y) ∙ is z at_z
 
 module _ (d : ℕ) (accepted : List ℕ → Bool) (loose : IsLoose d accepted) where
   -- each value of the first variable goes with one of two values of the second
-  in_row : (xs : List ℕ) (x : ℕ) → x < d → AreBelow d xs → HasTwo xs → (y : ℕ) × (has xs y ≡ true) × (accepted (x ∷ y ∷ []) ≡ true)
+  pub in_row : (xs : List ℕ) (x : ℕ) → x < d → AreBelow d xs → HasTwo xs → (y : ℕ) × (has xs y ≡ true) × (accepted (x ∷ y ∷ []) ≡ true)
   in_row xs x low below two = go (accepted (x ∷ two.first ∷ [])) (accepted (x ∷ two.second ∷ [])) refl refl
     where
       go : (a b : Bool) → accepted (x ∷ two.first ∷ []) ≡ a → accepted (x ∷ two.second ∷ []) ≡ b → (y : ℕ) × (has xs y ≡ true) × (accepted (x ∷ y ∷ []) ≡ true)
@@ -55,7 +55,7 @@ module _ (d : ℕ) (accepted : List ℕ → Bool) (loose : IsLoose d accepted) w
       go false true e f = (two.second, two.also, f)
       go false false e f = absurd (two.apart (loose.rows x two.first two.second low (below two.first two.there) (below two.second two.also) e f))
 
-  in_column : (xs : List ℕ) (y : ℕ) → y < d → AreBelow d xs → HasTwo xs → (x : ℕ) × (has xs x ≡ true) × (accepted (x ∷ y ∷ []) ≡ true)
+  pub in_column : (xs : List ℕ) (y : ℕ) → y < d → AreBelow d xs → HasTwo xs → (x : ℕ) × (has xs x ≡ true) × (accepted (x ∷ y ∷ []) ≡ true)
   in_column xs y low below two = go (accepted (two.first ∷ y ∷ [])) (accepted (two.second ∷ y ∷ [])) refl refl
     where
       go : (a b : Bool) → accepted (two.first ∷ y ∷ []) ≡ a → accepted (two.second ∷ y ∷ []) ≡ b → (x : ℕ) × (has xs x ≡ true) × (accepted (x ∷ y ∷ []) ≡ true)

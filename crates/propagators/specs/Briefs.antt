@@ -1,27 +1,41 @@
 -- What is known of a condition before the search.
-use Rattle.std.specs.Prelude.{ℕ, ◌≡◌, ◌≢◌, ◌<◌, Bool, true, false, List, [], ◌∷◌, length, slice_index_or}
+use Rattle.std.specs.Prelude.{ℕ, ◌+◌, ◌*◌, ◌≡◌, ◌<◌, ◌==◌, true, List, [], ◌∷◌, length, slice_index_or}
+use Rattle.std.specs.Int.{bit_at}
 use Rattle.assign.specs.Sets.{has}
-use Rattle.propagators.specs.Families.{Arc}
+use Rattle.rel_table.specs.Table.{TruthTable}
+use Rattle.propagators.specs.Values.{ones_of}
+use Rattle.propagators.specs.Families.{Arc, is_wanted}
+use Rattle.propagators.specs.Supports.{continues}
+use Rattle.propagators.specs.Loose.{IsLoose}
+use Rattle.propagators.specs.declared.briefs.Pair.{Pair}
 use Rattle.propagators.specs.declared.briefs.Brief.{Brief}
+use Rattle.propagators.specs.declared.briefs.Brief.TheVariants.{Two, Whole}
+use Rattle.propagators.specs.declared.plan.PairMasks.{PairMasks}
 
--- two members
-pub record HasTwo (xs : List ℕ) : Type 0 where
-  pub first : ℕ
-  pub second : ℕ
-  pub there : has xs first ≡ true
-  pub also : has xs second ≡ true
-  pub apart : first ≢ second
+-- a condition on two variables, whose relation's masks are these
+pub record IsPairOf (d : ℕ) (m : PairMasks) (a : Arc) (p : Pair) : Type 0 where
+  pub scope : a.scope ≡ p.first ∷ p.second ∷ []
+  pub low : p.rel < 64
+  pub row : (x y : ℕ) → x < d → y < d → a.accepted (x ∷ y ∷ []) ≡ is_wanted p.holding (bit_at (slice_index_or m.rows.items (p.rel * 64 + x) 0) y == 1)
+  pub column : (x y : ℕ) → x < d → y < d → a.accepted (x ∷ y ∷ []) ≡ is_wanted p.holding (bit_at (slice_index_or m.columns.items (p.rel * 64 + y) 0) x == 1)
+  pub loose : p.is_loose ≡ true → IsLoose d a.accepted
 
--- no value of either variable is rejected with two values of the other
-pub record IsLoose (d : ℕ) (accepted : List ℕ → Bool) : Type 0 where
-  pub rows : (x y z : ℕ) → x < d → y < d → z < d → accepted (x ∷ y ∷ []) ≡ false → accepted (x ∷ z ∷ []) ≡ false → y ≡ z
-  pub columns : (x w y : ℕ) → x < d → w < d → y < d → accepted (x ∷ y ∷ []) ≡ false → accepted (w ∷ y ∷ []) ≡ false → x ≡ w
-
--- where it says so, the scope has two variables, and none is rejected with two values of the other
-pub record IsBriefOf (d : ℕ) (a : Arc) (b : Brief) : Type 0 where
-  pub two : b.is_loose ≡ true → length a.scope ≡ 2
-  pub loose : b.is_loose ≡ true → IsLoose d a.accepted
+abbrev pub IsBriefOf : ℕ → PairMasks → Arc → Brief → Type 0
+IsBriefOf d m a (Two p) = IsPairOf d m a p
+IsBriefOf d m a Whole = Unit {0}
 
 -- the first conditions have theirs, as far as these go
-abbrev pub AreBriefs : ℕ → List Arc → List Brief → Type 0
-AreBriefs d arcs briefs = (k : ℕ) (a : Arc) (b : Brief) → k < length briefs → k < length arcs → IsBriefOf d (slice_index_or arcs k a) (slice_index_or briefs k b)
+abbrev pub AreBriefs : ℕ → PairMasks → List Arc → List Brief → Type 0
+AreBriefs d m arcs briefs = (k : ℕ) (a : Arc) (b : Brief) → k < length briefs → k < length arcs → IsBriefOf d m (slice_index_or arcs k a) (slice_index_or briefs k b)
+
+-- a condition on two variables by its relation, which is one of those known
+pub record IsPairIn (of : ℕ → TruthTable) (seen : ℕ) (a : Arc) (p : Pair) : Type 0 where
+  pub scope : a.scope ≡ p.first ∷ p.second ∷ []
+  pub low : p.rel < 64
+  pub known : has (ones_of seen) p.rel ≡ true
+  pub accepted : a.accepted ≡ continues (of p.rel) p.holding 0
+  pub loose : p.is_loose ≡ true → IsLoose (of p.rel).value_count (continues (of p.rel) p.holding 0)
+
+abbrev pub IsBriefIn : (ℕ → TruthTable) → ℕ → Arc → Brief → Type 0
+IsBriefIn of seen a (Two p) = IsPairIn of seen a p
+IsBriefIn of seen a Whole = Unit {0}

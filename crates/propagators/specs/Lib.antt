@@ -5,5 +5,7 @@ pub mod Values
 pub mod ValueLemmas
 pub mod InsideDomains
 pub mod Supports
+pub mod Loose
+pub mod Pairs
 pub mod Briefs
 pub mod Plans

@@ -1,10 +1,11 @@
 -- Which conditions each variable has, and what looking at one of them does.
-use Rattle.std.specs.Prelude.{ℕ, ◌+◌, ◌*◌, ◌/◌, ◌%◌, ◌≡◌, ◌<◌, ◌⊎◌, Bool, true, false, List, length, slice_index_or}
+use Rattle.std.specs.Prelude.{ℕ, ◌+◌, ◌*◌, ◌/◌, ◌%◌, ◌≡◌, ◌<◌, ◌⊎◌, true, false, List, length, slice_index_or}
 use Rattle.std.specs.List.{list_any}
 use Rattle.assign.specs.Sets.{has}
 use Rattle.propagators.specs.Values.{ones_of}
 use Rattle.propagators.specs.Families.{Family, Arc, is_consistent, size_of}
 use Rattle.propagators.specs.Supports.{IsUnderway}
+use Rattle.propagators.specs.Loose.{IsLoose}
 use Rattle.propagators.specs.Briefs.{AreBriefs}
 use Rattle.propagators.specs.declared.plan.Plan.{Plan}
 
@@ -13,10 +14,20 @@ abbrev pub AreNoted : List Arc → ℕ → List ℕ → Type 0
 AreNoted arcs words sets =
     (k v : ℕ) (a : Arc) → k < length arcs → k < words * 64 → has (slice_index_or arcs k a).scope v ≡ true → has (ones_of (slice_index_or sets (v * words + k / 64) 0)) (k % 64) ≡ true
 
+-- a loose condition on two variables
+pub record IsLoosePair (d : ℕ) (a : Arc) : Type 0 where
+  pub long : length a.scope ≡ 2
+  pub loose : IsLoose d a.accepted
+
+-- of the first conditions each that a variable has is a loose one on two variables, but for these variables
+abbrev pub AreTight : ℕ → List Arc → ℕ → List ℕ → Type 0
+AreTight d arcs count tight = (k v : ℕ) (a : Arc) → k < length arcs → k < count → has (slice_index_or arcs k a).scope v ≡ true → has tight v ≡ false → IsLoosePair d (slice_index_or arcs k a)
+
 -- a plan of these conditions
 pub record IsPlanOf (d : ℕ) (arcs : List Arc) (p : Plan) : Type 0 where
-  pub briefs : AreBriefs d arcs p.briefs.items
+  pub briefs : AreBriefs d p.masks arcs p.briefs.items
   pub noted : AreNoted arcs p.words p.sets.items
+  pub tight : AreTight d arcs (length p.briefs.items) p.tight
 
 -- the same variables are waiting and nothing has changed, or values were taken away
 abbrev pub AreLeft : List ℕ → List ℕ → Family → Family → Type 0

@@ -1,84 +1,115 @@
 //! What is known of a condition before a search.
 
-ghost use Rattle.std.specs.Prelude.{◌≡◌, ◌<◌, [], true, length, slice_index_or, All};
+ghost use Rattle.std.specs.Prelude.{◌≡◌, ◌<◌, ℕ, true, false, length, slice_index_or};
+ghost use Rattle.assign.specs.Sets.{has};
 ghost use Rattle.language.specs.Language.{IsLanguage, IsCandidate};
 ghost use Rattle.propagators.specs.Allowed.{AreConstraints};
-ghost use Rattle.propagators.specs.Families.{arc_of, arcs_of};
-ghost use Rattle.propagators.specs.Supports.{continues};
-ghost use Rattle.propagators.specs.Briefs.{HasTwo, IsLoose, IsBriefOf, AreBriefs};
+ghost use Rattle.propagators.specs.Values.{ones_of};
+ghost use Rattle.propagators.specs.Families.{Arc, arc_of, arcs_of};
+ghost use Rattle.propagators.specs.Pairs.{pairs_of, AreRight};
+ghost use Rattle.propagators.specs.Briefs.{IsBriefOf, IsBriefIn, AreBriefs};
+ghost use Rattle.propagators.specs.Plans.{IsLoosePair, AreTight};
 
 use crate::constraints::Constraints;
-use crate::domains::Domains;
-use crate::values::{are_apart, either, first_values, is_single, passing};
+use crate::plan::PairMasks;
+use assign::VarSet;
 use language::{Candidate, Language};
-use rel_table::Table;
 
-/// What is known of a condition before a search.
+/// A condition on two variables.
 #[derive(Clone, Copy)]
-pub struct Brief {
-    /// Whether its scope has two variables, and it rejects no value of either with two values of the other. Then it takes
-    /// nothing away while both have two values.
+pub struct Pair {
+    pub(crate) first: u8,
+    pub(crate) second: u8,
+    /// The number of its relation.
+    pub(crate) rel: u8,
+    /// Whether the relation is to hold, or not to hold.
+    pub(crate) holding: bool,
+    /// Whether it rejects no value of either variable with two values of the other. Then it takes nothing away while both
+    /// have two values.
     pub(crate) is_loose: bool,
 }
 
+/// What is known of a condition before a search.
+#[derive(Clone, Copy)]
+pub enum Brief {
+    /// It has two variables.
+    Two(Pair),
+    /// It has one, three or four variables.
+    Whole,
+}
+
 impl Brief {
-    /// Nothing yet.
-    pub(crate) fn blank() -> Brief {
-        Brief { is_loose: false }
-    }
-}
-
-/// Whether a relation of two variables rejects no value of either with two values of the other.
-fn is_loose(table: &Table, holding: bool) -> bool
-    requires { table.now.arity ≡ 2 }
-    ensures { result ≡ true → IsLoose table.now.value_count (continues table.now holding 0) }
-{
-    let d = table.value_count();
-    let all = first_values(d);
-    let mut seen = 0;
-    for x in 0..d {
-        let rejected = passing(all, table.row(u32::from(x) * u32::from(d)), !holding);
-        if !is_single(rejected) || !are_apart(seen, rejected) {
-            return false;
+    /// Whether the condition has two variables and is loose.
+    fn is_loose(self) -> bool
+        ensures { result ≡ true → (d : ℕ) (m : PairMasks) (a : Arc) → IsBriefOf d m a self → IsLoosePair d a }
+    {
+        match self {
+            Brief::Two(pair) => pair.is_loose,
+            Brief::Whole => false,
         }
-        seen = either(seen, rejected);
     }
-    true
 }
 
-/// The brief of a candidate, where it is to hold, or not to hold.
-fn brief_of(lang: &Language, c: Candidate, holding: bool) -> Brief
+/// The brief of a candidate, where it is to hold, or not to hold. The masks of its relation are made.
+fn brief_of(lang: &Language, c: Candidate, holding: bool, masks: &mut PairMasks) -> Brief
     requires lawful { IsLanguage lang.now }
     requires candidate { IsCandidate lang.now c }
-    ensures { IsBriefOf lang.now.value_count (arc_of lang.now c holding) result }
+    requires right { AreRight (pairs_of lang.now) masks.old }
+    ensures right { AreRight (pairs_of lang.now) masks.new }
+    ensures grows { (r : ℕ) → has (ones_of masks.old.known) r ≡ true → has (ones_of masks.new.known) r ≡ true }
+    ensures is { IsBriefIn (pairs_of lang.now) masks.new.known (arc_of lang.now c holding) result }
 {
-    let table = lang.table_on(c.scope, c.rel);
-    Brief {
-        is_loose: table.arity() == 2 && is_loose(table, holding),
+    let scope = lang.scope(c.scope);
+    if scope.len() != 2 {
+        return Brief::Whole;
     }
+    let table = lang.table_on(c.scope, c.rel);
+    masks.learn(table, c.rel);
+    Brief::Two(Pair {
+        first: scope[0],
+        second: scope[1],
+        rel: c.rel,
+        holding,
+        is_loose: masks.is_loose(table, c.rel, holding),
+    })
 }
 
-/// The briefs of the first conditions, as many as there is room for.
-pub(crate) fn brief_all(cons: &Constraints, briefs: &mut [Brief])
+/// The briefs of the first conditions, as many as there is room for, and the masks of their relations.
+pub(crate) fn brief_all(cons: &Constraints, masks: &mut PairMasks, briefs: &mut [Brief])
     requires lawful { IsLanguage cons.now.lang.now }
     requires constraints { AreConstraints cons.now.lang.now cons.now.list.now cons.now.against }
-    ensures { AreBriefs cons.now.lang.now.value_count (arcs_of cons.now.lang.now cons.now.list.now cons.now.against) briefs.new }
+    ensures { AreBriefs cons.now.lang.now.value_count masks.new (arcs_of cons.now.lang.now cons.now.list.now cons.now.against) briefs.new }
 {
+    masks.clear();
     for i in 0..briefs.len().min(cons.count()) {
         let (c, holding) = cons.condition(i);
-        briefs[i] = brief_of(cons.lang, c, holding);
+        briefs[i] = brief_of(cons.lang, c, holding, masks);
     }
 }
 
-/// Whether each variable of a scope has two values.
-pub(crate) fn have_two(doms: &Domains, scope: &[u8]) -> bool
-    requires { All (λ v. v < length doms.now) scope.now }
-    ensures { result ≡ true → All (λ v. HasTwo (slice_index_or doms.now v [])) scope.now }
+/// The variables of condition i, unless it is loose.
+fn tight_on(cons: &Constraints, i: usize, brief: Brief) -> VarSet
+    requires constraints { AreConstraints cons.now.lang.now cons.now.list.now cons.now.against }
+    requires low { i < length (arcs_of cons.now.lang.now cons.now.list.now cons.now.against) }
+    ensures { (d v : ℕ) (m : PairMasks) (a : Arc) → IsBriefOf d m (slice_index_or (arcs_of cons.now.lang.now cons.now.list.now cons.now.against) i a) brief → has (slice_index_or (arcs_of cons.now.lang.now cons.now.list.now cons.now.against) i a).scope v ≡ true → has result v ≡ false → IsLoosePair d (slice_index_or (arcs_of cons.now.lang.now cons.now.list.now cons.now.against) i a) }
 {
-    for v in scope {
-        if !doms.has_two(*v) {
-            return false;
-        }
+    if brief.is_loose() {
+        return VarSet::empty();
     }
-    true
+    let (c, _holding) = cons.condition(i);
+    cons.lang.scope_set(c.scope)
+}
+
+/// The variables that have a condition which isn't loose, of the first conditions, as many as there are briefs.
+pub(crate) fn tight_in(cons: &Constraints, masks: &PairMasks, briefs: &[Brief]) -> VarSet
+    requires lawful { IsLanguage cons.now.lang.now }
+    requires constraints { AreConstraints cons.now.lang.now cons.now.list.now cons.now.against }
+    requires briefs { AreBriefs cons.now.lang.now.value_count masks.now (arcs_of cons.now.lang.now cons.now.list.now cons.now.against) briefs.now }
+    ensures { AreTight cons.now.lang.now.value_count (arcs_of cons.now.lang.now cons.now.list.now cons.now.against) (length briefs.now) result }
+{
+    let mut tight = VarSet::empty();
+    for i in 0..briefs.len().min(cons.count()) {
+        tight = tight.union(tight_on(cons, i, briefs[i]));
+    }
+    tight
 }

@@ -1,13 +1,15 @@
-ghost use Rattle.std.specs.Prelude.{◌≡◌, ◌<◌, ◌≤◌, ◌==◌, ℕ, [], true, false, not, length, map, take, replicate, slice_index_or, slice_set, All};
+ghost use Rattle.std.specs.Prelude.{◌≡◌, ◌<◌, ◌≤◌, ◌==◌, ℕ, [], true, false, not, length, map, take, replicate, slice_index_or, slice_set, All, IfSome, None};
 ghost use Rattle.std.specs.List.{filter, list_all, list_any};
+ghost use Rattle.std.specs.Int.{bit_at};
 ghost use Rattle.assign.specs.Sets.{numbers, has, IsSet};
 ghost use Rattle.language.specs.Language.{Language, variable_count};
 ghost use Rattle.propagators.specs.Values.{ones_of};
-ghost use Rattle.propagators.specs.Families.{is_not_empty, sets_on, size_of};
+ghost use Rattle.propagators.specs.Families.{is_not_empty, is_wanted, sets_on, size_of};
 ghost use Rattle.propagators.specs.Supports.{IsFamilyOf};
-ghost use Rattle.propagators.specs.Briefs.{HasTwo};
+ghost use Rattle.propagators.specs.Loose.{HasTwo};
+ghost use Rattle.propagators.specs.Pairs.{IsOnly, IsLeft};
 
-use crate::values::{first_values, has_two, has_value, only_value};
+use crate::values::{first_values, has_value, is_empty, only_member, only_value, passing};
 use language::Language;
 use std::marker::Model;
 
@@ -18,6 +20,13 @@ pub struct Domains {
     sets: [u64; 128],
     /// How many variables there are.
     size: u8,
+}
+
+/// What is left to a variable of its values.
+pub enum Left {
+    Nothing,
+    Fewer,
+    Same,
 }
 
 impl Model for Domains {
@@ -83,13 +92,33 @@ impl Domains {
         some_is_zero(&self.sets[..self.size as usize])
     }
 
-    /// Whether a variable has two values.
+    /// The variable's value, where it has one alone.
     #[inline]
-    pub(crate) fn has_two(&self, v: u8) -> bool
+    pub(crate) fn only(&self, v: u8) -> Option<u8>
         requires { v < length self.now }
-        ensures { result ≡ true → HasTwo (slice_index_or self.now v []) }
+        ensures only { IfSome result (λ x. IsOnly (slice_index_or self.now v []) x) }
+        ensures two { result ≡ None → is_not_empty (slice_index_or self.now v []) ≡ true → HasTwo (slice_index_or self.now v []) }
     {
-        has_two(self.sets[v as usize])
+        only_member(self.sets[v as usize])
+    }
+
+    /// Leaves the variable those of its values that pass: whose bit in the row is 1, or is 0 where the row isn't to hold.
+    /// Where none passes, all are left.
+    #[inline]
+    pub(crate) fn keep(&mut self, v: u8, row: u64, holding: bool) -> Left
+        requires { v < length self.old }
+        ensures { IsLeft v (λ x. is_wanted holding (bit_at row x == 1)) self.old self.new result }
+    {
+        let had = self.sets[v as usize];
+        let values = passing(had, row, holding);
+        if is_empty(values) {
+            return Left::Nothing;
+        }
+        if self.cut(v, values) {
+            Left::Fewer
+        } else {
+            Left::Same
+        }
     }
 
     /// The sets of a scope's variables.

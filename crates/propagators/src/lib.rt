@@ -9,6 +9,7 @@ mod briefs;
 mod constraints;
 mod domains;
 pub mod laws;
+mod pairs;
 mod plan;
 mod revising;
 mod supports;

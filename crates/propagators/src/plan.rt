@@ -1,12 +1,32 @@
 ghost use Rattle.std.specs.Prelude.{◌≡◌, ◌≤◌, ◌*◌, length};
 
 use crate::briefs::Brief;
+use assign::VarSet;
+
+/// For relations of two variables, by number, and each value of either variable, the values of the other that go with it.
+#[derive(Drop)]
+pub struct PairMasks {
+    /// For relation r and a value x of the first variable the mask of the second one's values, at 64 r + x.
+    pub(crate) rows: Vec<u64>,
+    /// For relation r and a value y of the second variable the mask of the first one's values, at 64 r + y.
+    pub(crate) columns: Vec<u64>,
+    /// The relations whose masks are made.
+    pub(crate) known: u64,
+    /// Those of them that reject no value of either variable with two values of the other.
+    pub(crate) loose: u64,
+    ghost rows_long: { length rows.items ≡ 4096 },
+    ghost columns_long: { length columns.items ≡ 4096 },
+}
 
 /// What is known of the conditions before a search.
 #[derive(Drop)]
 pub struct Plan {
     /// What is known of each condition, as far as there is room.
     pub(crate) briefs: Vec<Brief>,
+    /// The masks of the relations of the conditions on two variables.
+    pub(crate) masks: PairMasks,
+    /// The variables that have a condition which isn't loose.
+    pub(crate) tight: VarSet,
     /// How many words a set of conditions has.
     pub(crate) words: usize,
     /// For each variable the set of its conditions, in so many words: condition i is bit i % 64 of word i / 64.

@@ -1,12 +1,13 @@
 //! Sets of values, each a mask of 64 bits.
 
-ghost use Rattle.std.specs.Prelude.{◌≡◌, ◌≢◌, ◌<◌, ◌≤◌, ◌==◌, ℕ, true, not, ◌&&◌, ◌||◌};
+ghost use Rattle.std.specs.Prelude.{◌≡◌, ◌≢◌, ◌<◌, ◌≤◌, ◌==◌, ℕ, true, not, ◌&&◌, ◌||◌, IfSome, None};
 ghost use Rattle.std.specs.List.{filter};
 ghost use Rattle.assign.specs.Sets.{numbers, has};
 ghost use Rattle.std.specs.Int.{bit_at};
 ghost use Rattle.propagators.specs.Values.{ones_of};
 ghost use Rattle.propagators.specs.Families.{is_not_empty, is_wanted};
-ghost use Rattle.propagators.specs.Briefs.{HasTwo};
+ghost use Rattle.propagators.specs.Loose.{HasTwo};
+ghost use Rattle.propagators.specs.Pairs.{IsOnly};
 
 /// The first d values.
 pub(crate) fn first_values(d: u8) -> u64
@@ -91,12 +92,21 @@ pub(crate) fn is_empty(values: u64) -> bool
     values == 0
 }
 
-/// Whether there are two members. A false no is allowed.
+/// The one member, where there are no others.
 #[inline]
-pub(crate) fn has_two(values: u64) -> bool
-    ensures { result ≡ true → HasTwo (ones_of values) }
+pub(crate) fn only_member(values: u64) -> Option<u8>
+    ensures only { IfSome result (λ x. IsOnly (ones_of values) x) }
+    ensures two { result ≡ None → is_not_empty (ones_of values) ≡ true → HasTwo (ones_of values) }
 {
-    values != 0 && without_value(values, least_value(values)) != 0
+    if values == 0 {
+        return None;
+    }
+    let x = least_value(values);
+    if without_value(values, x) == 0 {
+        Some(x)
+    } else {
+        None
+    }
 }
 
 /// Whether there is one member at most.
@@ -122,4 +132,13 @@ pub(crate) fn add_value(values: u64, x: u8) -> u64
     ensures { (y : ℕ) → has (ones_of result) y ≡ (has (ones_of values) y || (x == y)) }
 {
     values | (1 << x)
+}
+
+/// The members, and x where it is to be one.
+#[inline]
+pub(crate) fn add_where(values: u64, x: u8, is_one: bool) -> u64
+    requires { x < 64 }
+    ensures { (y : ℕ) → has (ones_of result) y ≡ (has (ones_of values) y || (is_one && (x == y))) }
+{
+    if is_one { add_value(values, x) } else { values }
 }

@@ -1,19 +1,23 @@
 //! Propagation with a plan: only the conditions of a changed variable are looked at.
 
-ghost use Rattle.std.specs.Prelude.{◌≡◌, ◌<◌, ◌≤◌, ◌+◌, ◌*◌, ◌/◌, ◌%◌, ℕ, true, false, All, IfSome, None, length, slice_index_or};
+ghost use Rattle.std.specs.Prelude.{◌≡◌, ◌<◌, ◌≤◌, ◌+◌, ◌*◌, ◌/◌, ◌%◌, ◌==◌, ℕ, [], true, false, All, IfSome, IfOk, None, length, slice_index_or};
+ghost use Rattle.std.specs.Int.{bit_at};
 ghost use Rattle.std.specs.List.{list_all};
 ghost use Rattle.assign.specs.Sets.{has, without};
 ghost use Rattle.language.specs.Language.{IsLanguage};
 ghost use Rattle.propagators.specs.Allowed.{AreConstraints};
 ghost use Rattle.propagators.specs.Values.{ones_of};
-ghost use Rattle.propagators.specs.Families.{arcs_of, is_not_empty, largest, IsLargest};
-ghost use Rattle.propagators.specs.Supports.{IsFamilyOf, AreSettled, IsUnderway};
+ghost use Rattle.propagators.specs.Families.{Arc, arcs_of, is_not_empty, is_wanted, largest, IsLargest};
+ghost use Rattle.propagators.specs.Supports.{AreBelow, IsFamilyOf, AreSettled, IsUnderway};
+ghost use Rattle.propagators.specs.Loose.{HasTwo};
+ghost use Rattle.propagators.specs.Pairs.{IsBeside};
+ghost use Rattle.propagators.specs.Briefs.{IsPairOf};
 ghost use Rattle.propagators.specs.Plans.{IsPlanOf, AreNoted, IsLooked, AreLeft};
 
-use crate::briefs::{Brief, brief_all, have_two};
+use crate::briefs::{Brief, Pair, brief_all, tight_in};
 use crate::constraints::Constraints;
-use crate::domains::Domains;
-use crate::plan::Plan;
+use crate::domains::{Domains, Left};
+use crate::plan::{PairMasks, Plan};
 use crate::revising::{Alive, revise, settle};
 use crate::values::{add_value, least_value, without_value};
 use assign::VarSet;
@@ -48,13 +52,17 @@ fn note_all(cons: &Constraints, sets: &mut [u64], words: usize)
 }
 
 impl Plan {
-    /// Room for so many conditions.
+    /// Room for so many conditions: some 22 bytes for each, and 64 KB for the masks of relations. `AllocError` where the
+    /// allocator gives no memory.
     pub fn new(alloc: Global, room: usize) -> Result<Plan, AllocError>
         requires { room ≤ 65536 }
+        ensures { IfOk result (λ p. length p.briefs.items ≡ room) }
     {
         let words = room.div_ceil(64);
         Ok(Plan {
-            briefs: vec![in alloc; Brief::blank(); room]?,
+            briefs: vec![in alloc; Brief::Whole; room]?,
+            masks: PairMasks::new(alloc)?,
+            tight: VarSet::empty(),
             words,
             sets: vec![in alloc; 0; 128 * words]?,
         })
@@ -66,45 +74,126 @@ impl Plan {
         requires constraints { AreConstraints cons.now.lang.now cons.now.list.now cons.now.against }
         ensures { IsPlanOf cons.now.lang.now.value_count (arcs_of cons.now.lang.now cons.now.list.now cons.now.against) self.new }
     {
-        brief_all(cons, &mut self.briefs);
+        brief_all(cons, &mut self.masks, &mut self.briefs);
+        self.tight = tight_in(cons, &self.masks, &self.briefs);
         note_all(cons, &mut self.sets, self.words);
     }
 }
 
-/// Looks at condition i, if there is one. To the variables that are waiting are added those that lost values; `None`
+/// The variable of a pair whose other variable has one value alone, and the mask of its values that go with that one.
+fn beside(masks: &PairMasks, pair: Pair, doms: &Domains) -> Option<(u8, u64)>
+    requires rel { pair.rel < 64 }
+    requires first { pair.first < length doms.now }
+    requires second { pair.second < length doms.now }
+    requires small { (v : ℕ) → AreBelow 64 (slice_index_or doms.now v []) }
+    requires full { list_all is_not_empty doms.now ≡ true }
+    ensures beside { IfSome result (λ r. (d : ℕ) (a : Arc) → IsPairOf d masks.now a pair → ((v : ℕ) → AreBelow d (slice_index_or doms.now v [])) → IsBeside d a doms.now r.0 (λ x. is_wanted pair.holding (bit_at r.1 x == 1))) }
+    ensures known { IfSome result (λ r. r.0 < length doms.now) }
+    ensures two { result ≡ None → HasTwo (slice_index_or doms.now pair.first []) × HasTwo (slice_index_or doms.now pair.second []) }
+{
+    if let Some(x) = doms.only(pair.first) {
+        return Some((pair.second, masks.row(pair.rel, x)));
+    }
+    if let Some(y) = doms.only(pair.second) {
+        return Some((pair.first, masks.column(pair.rel, y)));
+    }
+    None
+}
+
+/// Revises condition i. To the variables that are waiting are added those that lost values; `No` where some variable has
+/// none left in an arc-consistent subfamily.
+fn look_at_whole(cons: &Constraints, i: usize, doms: &mut Domains, waiting: &mut VarSet) -> Alive
+    requires lawful { IsLanguage cons.now.lang.now }
+    requires constraints { AreConstraints cons.now.lang.now cons.now.list.now cons.now.against }
+    requires low { i < length (arcs_of cons.now.lang.now cons.now.list.now cons.now.against) }
+    requires family { IsFamilyOf cons.now.lang.now doms.old }
+    requires full { list_all is_not_empty doms.old ≡ true }
+    ensures looked { result ≡ Alive.Yes → IsLooked (arcs_of cons.now.lang.now cons.now.list.now cons.now.against) i waiting.old waiting.new doms.old doms.new }
+    ensures dead { result ≡ Alive.No → list_all is_not_empty (largest (arcs_of cons.now.lang.now cons.now.list.now cons.now.against) doms.old) ≡ false }
+{
+    let (c, holding) = cons.condition(i);
+    match revise(cons.lang, c, holding, doms) {
+        None => Alive::No,
+        Some(lost) => {
+            if lost.len() == 0 {
+                return Alive::Yes;
+            }
+            *waiting = waiting.union(lost);
+            Alive::Yes
+        }
+    }
+}
+
+/// `look_at_whole` for a condition on two variables. Where one of them has one value alone, a mask tells what goes with it.
+fn look_at_pair(
+    cons: &Constraints,
+    plan: &Plan,
+    pair: Pair,
+    i: usize,
+    doms: &mut Domains,
+    waiting: &mut VarSet,
+) -> Alive
+    requires lawful { IsLanguage cons.now.lang.now }
+    requires constraints { AreConstraints cons.now.lang.now cons.now.list.now cons.now.against }
+    requires plan { IsPlanOf cons.now.lang.now.value_count (arcs_of cons.now.lang.now cons.now.list.now cons.now.against) plan.now }
+    requires room { length (arcs_of cons.now.lang.now cons.now.list.now cons.now.against) ≤ length plan.now.briefs.items }
+    requires pair { (a : Arc) → IsPairOf cons.now.lang.now.value_count plan.now.masks (slice_index_or (arcs_of cons.now.lang.now cons.now.list.now cons.now.against) i a) pair }
+    requires low { i < length (arcs_of cons.now.lang.now cons.now.list.now cons.now.against) }
+    requires family { IsFamilyOf cons.now.lang.now doms.old }
+    requires full { list_all is_not_empty doms.old ≡ true }
+    ensures looked { result ≡ Alive.Yes → IsLooked (arcs_of cons.now.lang.now cons.now.list.now cons.now.against) i waiting.old waiting.new doms.old doms.new }
+    ensures dead { result ≡ Alive.No → list_all is_not_empty (largest (arcs_of cons.now.lang.now cons.now.list.now cons.now.against) doms.old) ≡ false }
+{
+    let Some((v, row)) = beside(&plan.masks, pair, doms) else {
+        if pair.is_loose {
+            return Alive::Yes;
+        }
+        return look_at_whole(cons, i, doms, waiting);
+    };
+    match doms.keep(v, row, pair.holding) {
+        Left::Nothing => Alive::No,
+        Left::Fewer => {
+            if plan.tight.has(v) {
+                *waiting = waiting.with(v);
+                return Alive::Yes;
+            }
+            match doms.only(v) {
+                Some(_) => {
+                    *waiting = waiting.with(v);
+                    Alive::Yes
+                }
+                // Its conditions are loose, and stay consistent while it has two values.
+                None => Alive::Yes,
+            }
+        }
+        Left::Same => Alive::Yes,
+    }
+}
+
+/// Looks at condition i, if there is one. To the variables that are waiting are added those that lost values; `No`
 /// where some variable has none left in an arc-consistent subfamily.
 fn look_at(
     cons: &Constraints,
     plan: &Plan,
     i: usize,
     doms: &mut Domains,
-    waiting: VarSet,
-) -> Option<VarSet>
+    waiting: &mut VarSet,
+) -> Alive
     requires lawful { IsLanguage cons.now.lang.now }
     requires constraints { AreConstraints cons.now.lang.now cons.now.list.now cons.now.against }
     requires plan { IsPlanOf cons.now.lang.now.value_count (arcs_of cons.now.lang.now cons.now.list.now cons.now.against) plan.now }
     requires room { length (arcs_of cons.now.lang.now cons.now.list.now cons.now.against) ≤ length plan.now.briefs.items }
     requires family { IsFamilyOf cons.now.lang.now doms.old }
     requires full { list_all is_not_empty doms.old ≡ true }
-    ensures looked { IfSome result (λ next. IsLooked (arcs_of cons.now.lang.now cons.now.list.now cons.now.against) i waiting next doms.old doms.new) }
-    ensures dead { result ≡ None → list_all is_not_empty (largest (arcs_of cons.now.lang.now cons.now.list.now cons.now.against) doms.old) ≡ false }
+    ensures looked { result ≡ Alive.Yes → IsLooked (arcs_of cons.now.lang.now cons.now.list.now cons.now.against) i waiting.old waiting.new doms.old doms.new }
+    ensures dead { result ≡ Alive.No → list_all is_not_empty (largest (arcs_of cons.now.lang.now cons.now.list.now cons.now.against) doms.old) ≡ false }
 {
     if i >= cons.count() {
-        return Some(waiting);
+        return Alive::Yes;
     }
-    let (c, holding) = cons.condition(i);
-    if plan.briefs[i].is_loose && have_two(doms, cons.lang.scope(c.scope)) {
-        return Some(waiting);
-    }
-    match revise(cons.lang, c, holding, doms) {
-        None => None,
-        Some(lost) => {
-            if lost.len() == 0 {
-                Some(waiting)
-            } else {
-                Some(waiting.union(lost))
-            }
-        }
+    match plan.briefs[i] {
+        Brief::Two(pair) => look_at_pair(cons, plan, pair, i, doms, waiting),
+        Brief::Whole => look_at_whole(cons, i, doms, waiting),
     }
 }
 
@@ -136,9 +225,9 @@ fn visit(
         while rest != 0 {
             let b = least_value(rest);
             rest = without_value(rest, b);
-            match look_at(cons, plan, w * 64 + usize::from(b), doms, waiting) {
-                None => return None,
-                Some(next) => waiting = next,
+            match look_at(cons, plan, w * 64 + usize::from(b), doms, &mut waiting) {
+                Alive::No => return None,
+                Alive::Yes => {}
             }
         }
     }

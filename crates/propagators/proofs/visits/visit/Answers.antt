@@ -31,8 +31,8 @@ loop-rest-init c =
     ∙ ap (λ v. slice_index_or c.args.plan.now.sets.items (v * c.args.plan.now.words + c.loop-w.w) 0) c.from.ensures)
     c.loop-w.invariant
 
-pub returns-in-None-clause-dead : goal.returns-in-None-clause-dead
-returns-in-None-clause-dead c = λ e. dead_before (arcs_of c.args.cons.now.lang.now c.args.cons.now.list.now c.args.cons.now.against) c.args.doms.now c.loop-rest.doms c.loop-rest.invariant.underway (c.in-None.ensures.dead refl)
+pub returns-in-No-clause-dead : goal.returns-in-No-clause-dead
+returns-in-No-clause-dead c = λ e. dead_before (arcs_of c.args.cons.now.lang.now c.args.cons.now.list.now c.args.cons.now.against) c.args.doms.now c.loop-rest.doms c.loop-rest.invariant.underway (c.in-No.ensures.dead refl)
 
 pub loop-w-preserved : goal.loop-w-preserved
 loop-w-preserved c = visit_next (arcs_of c.args.cons.now.lang.now c.args.cons.now.list.now c.args.cons.now.against) c.args.v c.loop-w.w (without c.args.changed c.args.v) c.args.doms.now c.loop-rest.rest c.loop-rest.waiting c.loop-rest.doms c.loop-rest-test.false c.loop-rest.invariant

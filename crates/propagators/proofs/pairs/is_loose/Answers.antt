@@ -1,7 +1,7 @@
 use Rattle.std.proofs.Common.{◌∙◌}
 use Rattle.propagators.specs.Supports.{continues}
 use Rattle.propagators.proofs.Loose.{loose_more, row_rejects}
-use Rattle.propagators.proofs.briefs.is_loose.Goals as goal
+use Rattle.propagators.proofs.pairs.is_loose.Goals as goal
 
 pub loop-x-preserved : goal.loop-x-preserved
 loop-x-preserved c =

@@ -1,0 +1,179 @@
+-- The masks of relations of two variables, and the briefs that rest on them.
+use Rattle.std.proofs.Common.{◌≡◌, ℕ, ◌+◌, ◌*◌, ◌<◌, ◌≤◌, Bool, true, false, ◌&&◌, ◌||◌, List, [], ◌∷◌, length, refl, sym, ◌∙◌, ap, subst, arith, inl, inr, ◌⊎◌}
+use Rattle.std.specs.Prelude.{◌==◌, ◌≢◌, slice_index_or, slice_set}
+use Rattle.std.specs.Int.{bit_at}
+use Rattle.std.proofs.lemmas.List.{get_or-set_same, get_or-set_other}
+use Rattle.std.proofs.lemmas.Bool.{both_ways, cases_eq, cases_lt, eq-eqb, eqb-true, ne_eqb, or_cases, and_parts}
+use Rattle.assign.specs.Sets.{has}
+use Rattle.rel_table.specs.Table.{TruthTable, truth_at}
+use Rattle.propagators.specs.Values.{ones_of}
+use Rattle.propagators.specs.Families.{Arc, is_wanted}
+use Rattle.propagators.specs.Supports.{continues}
+use Rattle.propagators.specs.Loose.{IsLoose}
+use Rattle.propagators.specs.Pairs.{AreMasksOf, goes, AreRight}
+use Rattle.propagators.specs.Briefs.{IsBriefOf, IsBriefIn}
+use Rattle.propagators.specs.declared.briefs.Brief.{Brief}
+use Rattle.propagators.specs.declared.briefs.Brief.TheVariants.{Two, Whole}
+use Rattle.propagators.specs.declared.plan.PairMasks.{PairMasks}
+use Rattle.propagators.proofs.Ones.{ones_of-zero, has-ones_of}
+
+-- ---- one mask after another
+
+-- the masks of the first k values
+abbrev pub AreMasksBelow : ℕ → (ℕ → ℕ → Bool) → List ℕ → ℕ → ℕ → Type 0
+AreMasksBelow d together masks at k = (x y : ℕ) → x < k → y < d → (bit_at (slice_index_or masks (at + x) 0) y == 1) ≡ together x y
+
+-- the masks outside of 64 places are the old ones
+abbrev pub AreOutside : List ℕ → List ℕ → ℕ → Type 0
+AreOutside old masks at = (k : ℕ) → (k < at) ⊎ (at + 64 ≤ k) → slice_index_or masks k 0 ≡ slice_index_or old k 0
+
+pub mask_more : (d : ℕ) (together : ℕ → ℕ → Bool) (masks : List ℕ) (at k m place : ℕ) → place ≡ at + k → at + k < length masks → ((y : ℕ) → y < d → (bit_at m y == 1) ≡ together k y) →
+    AreMasksBelow d together masks at k → AreMasksBelow d together (slice_set masks place m) at (k + 1)
+mask_more d together masks at k m place is low right old x y below few = go (cases_eq x k)
+  where
+    go : (x ≡ k) ⊎ (x ≢ k) → (bit_at (slice_index_or (slice_set masks place m) (at + x) 0) y == 1) ≡ together x y
+    go (inl same) =
+        ap (λ p. bit_at (slice_index_or (slice_set masks p m) (at + x) 0) y == 1) is
+        ∙ ap (λ z. bit_at (slice_index_or (slice_set masks (at + k) m) (at + z) 0) y == 1) same
+        ∙ ap (λ v. bit_at v y == 1) (get_or-set_same masks (at + k) m 0 low) ∙ right y few ∙ ap (λ z. together z y) (sym same)
+    go (inr other) = ap (λ v. bit_at v y == 1) (get_or-set_other masks place (at + x) m 0 (λ e. other (omega arith))) ∙ old x y (omega arith) few
+
+pub outside_more : (old masks : List ℕ) (at k m place : ℕ) → place ≡ at + k → k < 64 → AreOutside old masks at → AreOutside old (slice_set masks place m) at
+outside_more old masks at k m place is low same q out = get_or-set_other masks place q m 0 (apart out) ∙ same q out
+  where
+    apart : (q < at) ⊎ (at + 64 ≤ q) → q ≢ place
+    apart (inl before) e = omega arith
+    apart (inr after) e = omega arith
+
+-- ---- one value of a column after another
+
+pub record IsColumnBelow (table : TruthTable) (y x column : ℕ) : Type 0 where
+  pub below : (z : ℕ) → z < x → has (ones_of column) z ≡ goes table z y
+  pub above : (z : ℕ) → x ≤ z → has (ones_of column) z ≡ false
+
+pub column_begin : (table : TruthTable) (y : ℕ) → IsColumnBelow table y 0 0
+column_begin table y = record { below = λ z low. absurd (omega arith); above = λ z low. ap (λ xs. has xs z) ones_of-zero }
+
+or_none : (a b : Bool) → a ≡ false → (a || b) ≡ b
+or_none true b h = cc
+or_none false b h = refl
+
+none_or : (a b c : Bool) → c ≡ false → (a || (b && c)) ≡ a
+none_or true b c h = refl
+none_or false true c h = h
+none_or false false c h = refl
+
+and_true : (b c : Bool) → c ≡ true → (b && c) ≡ b
+and_true true c h = h
+and_true false c h = refl
+
+pub column_more : (table : TruthTable) (y x column next : ℕ) (held : Bool) → held ≡ goes table x y → ((z : ℕ) → has (ones_of next) z ≡ (has (ones_of column) z || (held && (x == z)))) → IsColumnBelow table y x column → IsColumnBelow table y (x + 1) next
+column_more table y x column next held at is old = record { below = λ z low. below z low (cases_eq z x); above = λ z low. above z low }
+  where
+    below : (z : ℕ) → z < x + 1 → (z ≡ x) ⊎ (z ≢ x) → has (ones_of next) z ≡ goes table z y
+    below z low (inl same) = is z ∙ or_none _ _ (old.above z (omega arith)) ∙ and_true held (x == z) (eq-eqb x z (sym same)) ∙ at ∙ ap (λ w. goes table w y) (sym same)
+    below z low (inr other) = is z ∙ none_or _ held (x == z) (ne_eqb x z (λ e. other (sym e))) ∙ old.below z (omega arith)
+
+    above : (z : ℕ) → x + 1 ≤ z → has (ones_of next) z ≡ false
+    above z low = is z ∙ none_or _ held (x == z) (ne_eqb x z (λ e. omega arith)) ∙ old.above z (omega arith)
+
+pub column_end : (table : TruthTable) (y x column : ℕ) → table.value_count ≤ x → table.value_count ≤ 64 → IsColumnBelow table y x column → (z : ℕ) → z < table.value_count → (bit_at column z == 1) ≡ goes table z y
+column_end table y x column all few is z low = sym (has-ones_of column z (omega arith)) ∙ is.below z (omega arith)
+
+-- ---- a relation more
+
+pub nothing_right : (of : ℕ → TruthTable) (m : PairMasks) → m.known ≡ 0 → m.loose ≡ 0 → AreRight of m
+nothing_right of m known loose = record {
+  small = λ r h. absurd (none m.known known r h);
+  rows = λ r h. absurd (none m.known known r h);
+  columns = λ r h. absurd (none m.known known r h);
+  loose = λ r h. absurd (none m.loose loose r h);
+}
+  where
+    none : (mask : ℕ) → mask ≡ 0 → (r : ℕ) → has (ones_of mask) r ≡ true → ⊥
+    none mask zero_ r h = both_ways _ (ap (λ k. has (ones_of k) r) zero_ ∙ ap (λ xs. has xs r) ones_of-zero) h
+
+-- where the masks of one relation more are written
+pub learned : (of : ℕ → TruthTable) (table : TruthTable) (rel : ℕ) (old new : PairMasks) → of rel ≡ table → table.value_count ≤ 64 →
+    ((r : ℕ) → has (ones_of new.known) r ≡ (has (ones_of old.known) r || (rel == r))) →
+    AreMasksOf table.value_count (goes table) new.rows.items (rel * 64) → AreMasksOf table.value_count (λ y x. goes table x y) new.columns.items (rel * 64) →
+    AreOutside old.rows.items new.rows.items (rel * 64) → AreOutside old.columns.items new.columns.items (rel * 64) →
+    (loose : Bool) → (loose ≡ true → IsLoose table.value_count (continues table true 0)) → ((r : ℕ) → has (ones_of new.loose) r ≡ (has (ones_of old.loose) r || (loose && (rel == r)))) →
+    AreRight of old → AreRight of new
+learned of table rel old new is few known rows columns other_rows other_columns loose told loosens right = record {
+  small = λ r h. small r (or_cases _ _ (sym (known r) ∙ h));
+  rows = λ r h. rows_of r (cases_eq r rel) h;
+  columns = λ r h. columns_of r (cases_eq r rel) h;
+  loose = λ r h. loose_of r (or_cases _ _ (sym (loosens r) ∙ h));
+}
+  where
+    small : (r : ℕ) → (has (ones_of old.known) r ≡ true) ⊎ ((rel == r) ≡ true) → (of r).value_count ≤ 64
+    small r (inl before) = right.small r before
+    small r (inr here) = subst (λ (t : TruthTable). t.value_count ≤ 64) (sym is ∙ ap of (eqb-true rel r here)) few
+
+    was : (r : ℕ) → r ≢ rel → has (ones_of new.known) r ≡ true → has (ones_of old.known) r ≡ true
+    was r other h = go (or_cases _ _ (sym (known r) ∙ h))
+      where
+        go : (has (ones_of old.known) r ≡ true) ⊎ ((rel == r) ≡ true) → has (ones_of old.known) r ≡ true
+        go (inl before) = before
+        go (inr here) = absurd (other (sym (eqb-true rel r here)))
+
+    outside : (r x : ℕ) → r ≢ rel → x < 64 → (r * 64 + x < rel * 64) ⊎ (rel * 64 + 64 ≤ r * 64 + x)
+    outside r x other low = go (cases_lt r rel)
+      where
+        go : (r < rel) ⊎ (rel ≤ r) → (r * 64 + x < rel * 64) ⊎ (rel * 64 + 64 ≤ r * 64 + x)
+        go (inl before) = inl (omega arith)
+        go (inr after) = inr (omega arith)
+
+    rows_of : (r : ℕ) → (r ≡ rel) ⊎ (r ≢ rel) → has (ones_of new.known) r ≡ true → AreMasksOf (of r).value_count (goes (of r)) new.rows.items (r * 64)
+    rows_of r (inl same) h = subst (λ (q : ℕ). AreMasksOf (of q).value_count (goes (of q)) new.rows.items (q * 64)) (sym same) (subst (λ (t : TruthTable). AreMasksOf t.value_count (goes t) new.rows.items (rel * 64)) (sym is) rows)
+    rows_of r (inr other) h = λ x y low few. (
+        let before = was r other h in
+        let small = right.small r before in
+        ap (λ m. bit_at m y == 1) (other_rows (r * 64 + x) (outside r x other (omega arith))) ∙ right.rows r before x y low few)
+
+    columns_of : (r : ℕ) → (r ≡ rel) ⊎ (r ≢ rel) → has (ones_of new.known) r ≡ true → AreMasksOf (of r).value_count (λ y x. goes (of r) x y) new.columns.items (r * 64)
+    columns_of r (inl same) h = subst (λ (q : ℕ). AreMasksOf (of q).value_count (λ y x. goes (of q) x y) new.columns.items (q * 64)) (sym same) (subst (λ (t : TruthTable). AreMasksOf t.value_count (λ y x. goes t x y) new.columns.items (rel * 64)) (sym is) columns)
+    columns_of r (inr other) h = λ x y low few. (
+        let before = was r other h in
+        let small = right.small r before in
+        ap (λ m. bit_at m y == 1) (other_columns (r * 64 + x) (outside r x other (omega arith))) ∙ right.columns r before x y low few)
+
+    loose_of : (r : ℕ) → (has (ones_of old.loose) r ≡ true) ⊎ ((loose && (rel == r)) ≡ true) → IsLoose (of r).value_count (continues (of r) true 0)
+    loose_of r (inl before) = right.loose r before
+    loose_of r (inr here) = (let parts = and_parts loose (rel == r) here in subst (λ (t : TruthTable). IsLoose t.value_count (continues t true 0)) (sym is ∙ ap of (eqb-true rel r parts.1)) (told parts.0))
+
+-- ---- briefs
+
+-- more relations are known
+pub brief_more : (of : ℕ → TruthTable) (known more : ℕ) (a : Arc) (b : Brief) → ((r : ℕ) → has (ones_of known) r ≡ true → has (ones_of more) r ≡ true) → IsBriefIn of known a b → IsBriefIn of more a b
+brief_more of known more a (Two p) grows is = record { scope = is.scope; low = is.low; known = grows p.rel is.known; accepted = is.accepted; loose = is.loose }
+brief_more of known more a Whole grows is = tt
+
+-- with the masks of its relation
+pub brief_told : (of : ℕ → TruthTable) (d : ℕ) (m : PairMasks) (a : Arc) (b : Brief) → ((r : ℕ) → (of r).value_count ≡ d) → AreRight of m → IsBriefIn of m.known a b → IsBriefOf d m a b
+brief_told of d m a (Two p) count right is = record {
+  scope = is.scope;
+  low = is.low;
+  row = λ x y low few. accepts x y ∙ ap (is_wanted p.holding) (sym (right.rows p.rel is.known x y (let e = count p.rel in omega arith) (let e = count p.rel in omega arith)));
+  column = λ x y low few. accepts x y ∙ ap (is_wanted p.holding) (sym (right.columns p.rel is.known y x (let e = count p.rel in omega arith) (let e = count p.rel in omega arith)));
+  loose = λ h. subst (λ (accepted : List ℕ → Bool). IsLoose d accepted) (sym is.accepted) (subst (λ (k : ℕ). IsLoose k (continues (of p.rel) p.holding 0)) (count p.rel) (is.loose h));
+}
+  where
+    accepts : (x y : ℕ) → a.accepted (x ∷ y ∷ []) ≡ is_wanted p.holding (goes (of p.rel) x y)
+    accepts x y = ap (λ (accepted : List ℕ → Bool). accepted (x ∷ y ∷ [])) is.accepted ∙ ap (λ k. is_wanted p.holding (truth_at (of p.rel) (k * (of p.rel).value_count + y))) (let e : 0 * (of p.rel).value_count + x ≡ x = omega arith in e)
+brief_told of d m a Whole count right is = tt
+
+pub briefs_next : (of : ℕ → TruthTable) (known more : ℕ) (arcs : List Arc) (briefs : List Brief) (i : ℕ) (new : Brief) (here : Arc) → i < length briefs → ((a : Arc) → slice_index_or arcs i a ≡ here) → IsBriefIn of more here new →
+    ((r : ℕ) → has (ones_of known) r ≡ true → has (ones_of more) r ≡ true) → ((k : ℕ) (a : Arc) (b : Brief) → k < i → IsBriefIn of known (slice_index_or arcs k a) (slice_index_or briefs k b)) →
+    (k : ℕ) (a : Arc) (b : Brief) → k < i + 1 → IsBriefIn of more (slice_index_or arcs k a) (slice_index_or (slice_set briefs i new) k b)
+briefs_next of known more arcs briefs i new here low is told grows old k a b below = go (cases_eq k i)
+  where
+    go : (k ≡ i) ⊎ (k ≢ i) → IsBriefIn of more (slice_index_or arcs k a) (slice_index_or (slice_set briefs i new) k b)
+    go (inl same) =
+        subst (λ (j : ℕ). IsBriefIn of more (slice_index_or arcs j a) (slice_index_or (slice_set briefs i new) j b)) (sym same)
+        (subst (λ (arc : Arc). IsBriefIn of more arc (slice_index_or (slice_set briefs i new) i b)) (sym (is a))
+        (subst (λ (brief : Brief). IsBriefIn of more here brief) (sym (get_or-set_same briefs i new b low)) told))
+    go (inr other) =
+        subst (λ (brief : Brief). IsBriefIn of more (slice_index_or arcs k a) brief) (sym (get_or-set_other briefs i k new b other))
+        (brief_more of known more (slice_index_or arcs k a) (slice_index_or briefs k b) grows (old k a b (omega arith)))
