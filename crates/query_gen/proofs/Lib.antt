@@ -4,3 +4,4 @@ pub mod Marking
 pub mod OnScope
 pub mod Asking
 pub mod Told
+pub mod Parts

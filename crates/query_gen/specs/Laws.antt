@@ -1,5 +1,5 @@
 -- Laws of the next question, and of what a screen remembers.
-use Rattle.std.specs.Prelude.{ℕ, ◌≡◌, ◌<◌, ◌⊎◌, Bool, List, ◌++◌, filter, All, Any}
+use Rattle.std.specs.Prelude.{ℕ, ◌≡◌, ◌<◌, ◌≤◌, ◌⊎◌, Bool, List, ◌++◌, length, filter, All, Any}
 use Rattle.assign.specs.Assignment.{Assignment}
 use Rattle.language.specs.declared.candidates.Candidate.{Candidate}
 use Rattle.language.specs.Language.{Language, IsLanguage, IsImplied, candidates}
@@ -11,6 +11,7 @@ use Rattle.fd_solver.specs.Laws.{IsQuestionAgainst}
 use Rattle.query_gen.specs.declared.query.Query.TheVariants.{Ask, AllImplied, Undecided}
 use Rattle.query_gen.specs.Questions.{in_order, next_query}
 use Rattle.query_gen.specs.Marks.{Remembered, HasNoMarks, MarksHold}
+use Rattle.query_gen.specs.Parts.{query_in, query_then}
 
 -- Candidates that a test picks from all of them stand in candidate order.
 abbrev pub PickedAreInOrder : Type 0
@@ -47,3 +48,15 @@ abbrev pub MarksStay : Type 0
 MarksStay =
     (l : Language) (network more : List Candidate) (budget : ℕ) (s : Remembered) →
     MarksHold l network budget s → MarksHold l (network ++ more) budget s
+
+-- What the candidates of two parts say is what those of the first say, and then those of the second.
+abbrev pub PartsAreJoined : Type 0
+PartsAreJoined =
+    (l : Language) (network kept : List Candidate) (budget first middle end : ℕ) → first ≤ middle → middle ≤ end →
+    query_in l network kept budget first end ≡ query_then (query_in l network kept budget first middle) (query_in l network kept budget middle end)
+
+-- What all candidates say is the next question.
+abbrev pub WholeIsNext : Type 0
+WholeIsNext =
+    (l : Language) (network kept : List Candidate) (budget : ℕ) →
+    query_in l network kept budget 0 (length (candidates l)) ≡ next_query l network kept budget

@@ -1,6 +1,6 @@
 //! Laws of the next question and of marks. They are claims alone: these functions do nothing.
 
-ghost use Rattle.query_gen.specs.Laws.{PickedAreInOrder, AllAreImplied, AskedIsLawful, UndecidedIsSpent, NoMarksHold, MarksStay};
+ghost use Rattle.query_gen.specs.Laws.{PickedAreInOrder, AllAreImplied, AskedIsLawful, UndecidedIsSpent, NoMarksHold, MarksStay, PartsAreJoined, WholeIsNext};
 
 /// Candidates that a test picks from all of them stand in candidate order.
 pub fn picked_are_in_order()
@@ -30,4 +30,14 @@ pub fn no_marks_hold()
 /// True marks stay true while the network grows, under the same budget.
 pub fn marks_stay()
     ensures { MarksStay }
+{}
+
+/// What two parts of the candidates say together is what the first says, and then the second.
+pub fn parts_are_joined()
+    ensures { PartsAreJoined }
+{}
+
+/// What all candidates say is the next question.
+pub fn whole_is_next()
+    ensures { WholeIsNext }
 {}

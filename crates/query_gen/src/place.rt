@@ -1,26 +1,54 @@
-ghost use Rattle.std.specs.Prelude.{◌≡◌, ◌+◌, ◌/◌, IfOk, length, replicate};
-ghost use Rattle.language.specs.Language.{candidates};
+//! Where one part of the candidates is searched.
 
-use crate::query::Query;
-use fd_solver::Work;
+ghost use Rattle.std.specs.Prelude.{◌≡◌, ◌+◌, ◌-◌, ◌<◌, ◌≤◌, ◌/◌, IfOk, length, replicate, vec_len, false};
+ghost use Rattle.language.specs.Language.{candidates};
+ghost use Rattle.language.specs.Answers.{IsNetwork};
+ghost use Rattle.bias_store.specs.KeptSet.{IsMadeFor as IsKeptOf};
+ghost use Rattle.query_gen.specs.Marks.{IsMadeFor, MarksHold};
+ghost use Rattle.query_gen.specs.Parts.{byte_for, is_ask, IsSearched, IsSearchedTo};
+
+use crate::query::{Query, outcome_of};
+use crate::screen::Screen;
+use bias_store::Kept;
+use fd_solver::{Outcome, Work};
 use language::{Language, Memory};
+use network::Network;
 use std::alloc::Global;
+
+/// The byte of a candidate on which nothing is left to ask.
+pub(crate) const IMPLIED: u8 = 1;
+
+/// The byte of a candidate on which the budget was spent.
+pub(crate) const SPENT: u8 = 2;
 
 /// Where one part of the candidates is searched.
 #[derive(Drop)]
 pub struct Place {
     /// The room of a search.
     pub work: Work,
-    /// A bit for each candidate of the part, in candidate order.
+    /// A byte for each candidate of the part, in candidate order: 1 where the search said that nothing is left to ask, 2
+    /// where the budget was spent, and else 0.
     pub marks: Vec<u8>,
     /// What the kept candidates of the part say.
     pub answer: Query,
 }
 
+/// The byte for an outcome.
+fn byte_for(outcome: &Outcome) -> u8
+    ensures { result ≡ byte_for outcome.now }
+{
+    match outcome {
+        Outcome::Found(_) => 0,
+        Outcome::Absent => IMPLIED,
+        Outcome::Spent => SPENT,
+    }
+}
+
 impl Place {
     /// A place for an eighth of the language's candidates, rounded up. `Memory` where there is none.
     pub fn new(alloc: Global, lang: &Language) -> Result<Place, Memory>
-        ensures { IfOk result (λ p. p.marks.items ≡ replicate ((length (candidates lang.now) + 7) / 8) 0) }
+        ensures marks { IfOk result (λ p. p.marks.items ≡ replicate ((length (candidates lang.now) + 7) / 8) 0) }
+        ensures answer { IfOk result (λ p. p.answer ≡ Query.AllImplied) }
     {
         let work = Work::new(alloc, lang)?;
         let size = lang.candidates().div_ceil(8) as usize;
@@ -31,6 +59,81 @@ impl Place {
                 answer: Query::AllImplied,
             }),
             Err(_) => Err(Memory),
+        }
+    }
+
+    /// Looks through the kept candidates with numbers from `first` to below `end`, up to the first whose search under the
+    /// budget finds a question.
+    ///
+    /// The budget is how many members of its walk the search for one candidate may look at. Afterwards `answer` is what
+    /// these candidates say, and `marks` holds a byte for each of them. A candidate whose mark on the screen tells the
+    /// outcome isn't searched again. The cost without any search is a step for each number.
+    pub fn search(
+        &mut self,
+        screen: &Screen,
+        lang: &Language,
+        kept: &Kept,
+        net: &Network,
+        budget: u32,
+        first: u32,
+        end: u32,
+    )
+        requires screen { IsMadeFor lang.now screen.now }
+        // the marks were set under this budget, and under networks that this one begins with
+        requires marks { MarksHold lang.now net.now.list budget screen.now }
+        requires kept { IsKeptOf lang.now kept.now }
+        requires network { IsNetwork lang.now net.now.list }
+        requires some_budget { 1 ≤ budget }
+        requires small_budget { budget ≤ 1000000000 }
+        requires part { (first ≤ end) × (end ≤ length (candidates lang.now)) }
+        requires room { end - first ≤ vec_len self.old.marks }
+        ensures is { IsSearched lang.now net.now.list kept.now.members budget first end self.new.marks.items self.new.answer }
+        ensures size { vec_len self.new.marks ≡ vec_len self.old.marks }
+    {
+        self.marks.fill(0);
+        self.answer = Query::AllImplied;
+        for number in first..end {
+            self.look_at(screen, lang, kept, net, budget, first, number);
+            if let Query::Ask(_) = self.answer {
+                return;
+            }
+        }
+    }
+
+    /// Looks at the candidate of this number, if it is kept.
+    fn look_at(
+        &mut self,
+        screen: &Screen,
+        lang: &Language,
+        kept: &Kept,
+        net: &Network,
+        budget: u32,
+        first: u32,
+        number: u32,
+    )
+        requires screen { IsMadeFor lang.now screen.now }
+        requires marks { MarksHold lang.now net.now.list budget screen.now }
+        requires kept { IsKeptOf lang.now kept.now }
+        requires network { IsNetwork lang.now net.now.list }
+        requires budget { 1 ≤ budget }
+        requires number { (first ≤ number) × (number < length (candidates lang.now)) }
+        requires room { number - first < vec_len self.old.marks }
+        requires before { IsSearchedTo lang.now net.now.list kept.now.members budget first number self.old.marks.items self.old.answer }
+        requires none { is_ask self.old.answer ≡ false }
+        ensures is { IsSearchedTo lang.now net.now.list kept.now.members budget first (number + 1) self.new.marks.items self.new.answer }
+        ensures size { vec_len self.new.marks ≡ vec_len self.old.marks }
+    {
+        let c = lang.candidate(number);
+        if !kept.is_kept(c) {
+            return;
+        }
+        let mark = screen.mark_under(number, net.len(), budget);
+        let outcome = outcome_of(&mut self.work, mark, lang, net, budget, c);
+        self.marks[(number - first) as usize] = byte_for(&outcome);
+        match outcome {
+            Outcome::Found(e) => self.answer = Query::Ask(e),
+            Outcome::Absent => {}
+            Outcome::Spent => self.answer = Query::Undecided,
         }
     }
 }

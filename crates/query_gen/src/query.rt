@@ -30,7 +30,7 @@ pub enum Query {
 }
 
 /// The outcome of a candidate, searched for where its mark doesn't say it.
-fn outcome_of(
+pub(crate) fn outcome_of(
     work: &mut Work,
     mark: Mark,
     lang: &Language,

@@ -1,12 +1,15 @@
 //! What is remembered of searches.
 
-ghost use Rattle.std.specs.Prelude.{◌≡◌, ◌<◌, IfOk, length, map, slice_index_or};
+ghost use Rattle.std.specs.Prelude.{◌≡◌, ◌<◌, ◌≤◌, ◌-◌, IfOk, List, length, map, slice_index_or, vec_len};
 ghost use Rattle.assign.specs.Sets.{numbers};
 ghost use Rattle.language.specs.Language.{Language, IsCandidate, number_of};
-ghost use Rattle.query_gen.specs.Marks.{IsMadeFor, HasNoMarks, is_mark_spent, is_open};
+ghost use Rattle.query_gen.specs.Marks.{IsMadeFor, HasNoMarks, MarksHold, is_mark_spent, is_open};
 ghost use Rattle.query_gen.specs.Inside.{begun, with_mark, without_spent};
+ghost use Rattle.query_gen.specs.Parts.{mark_taken, IsSearched, HasTaken};
 
+use crate::place::{IMPLIED, Place, SPENT};
 use language::{Candidate, Language, Memory, ScopeId};
+use network::Network;
 use std::alloc::{AllocError, Global};
 use std::marker::Model;
 
@@ -35,6 +38,17 @@ impl Mark {
         match self {
             Mark::Spent => Mark::Blank,
             mark => mark,
+        }
+    }
+
+    /// The mark, once the byte that a search set for the candidate is there.
+    fn taking(self, byte: u8) -> Mark
+        ensures { result ≡ mark_taken self byte }
+    {
+        match byte {
+            IMPLIED => Mark::Implied,
+            SPENT => Mark::Spent,
+            _ => self.without_spent(),
         }
     }
 }
@@ -139,6 +153,39 @@ impl Screen {
         ensures { result ≡ slice_index_or self.now.marks number result }
     {
         self.marks[number as usize]
+    }
+
+    /// The mark of the candidate of this number, where a search with so many learned candidates and this budget begins:
+    /// one that says "spent" counts only under these.
+    pub(crate) fn mark_under(&self, number: u32, learned: u32, budget: u32) -> Mark
+        requires { number < length self.now.marks }
+        ensures { result ≡ slice_index_or (begun self.now learned budget).marks number result }
+    {
+        let mark = self.marks[number as usize];
+        if self.learned == learned && self.budget == budget {
+            mark
+        } else {
+            mark.without_spent()
+        }
+    }
+
+    /// Takes over what the search of a part found, for the candidates with numbers from `first` to below `end`.
+    ///
+    /// The marks "spent" of these go, and those of the place are put in. The other candidates keep the marks that count:
+    /// marks "spent" of another network or budget go everywhere. The marks stay true where the place is as a search of
+    /// these candidates left it, under this network and budget.
+    pub fn take_marks(&mut self, place: &Place, first: u32, end: u32, net: &Network, budget: u32)
+        requires part { (first ≤ end) × (end ≤ length self.old.marks) }
+        requires room { end - first ≤ vec_len place.now.marks }
+        ensures taken { HasTaken place.now.marks.items first end (begun self.old (length net.now.list) budget) self.new }
+        ensures made { (l : Language) → IsMadeFor l self.old → IsMadeFor l self.new }
+        ensures holds { (l : Language) (kept : List Candidate) → IsMadeFor l self.old → MarksHold l net.now.list budget self.old → IsSearched l net.now.list kept budget first end place.now.marks.items place.now.answer → MarksHold l net.now.list budget self.new }
+    {
+        self.begin(net.len(), budget);
+        for number in first..end {
+            let byte = place.marks[(number - first) as usize];
+            self.set_mark(number, self.mark(number).taking(byte));
+        }
     }
 
     /// Marks the candidate of this number.
