@@ -11,40 +11,53 @@ use Rattle.target_oracle.specs.Turns.{Turns, Said}
 use Rattle.acq_cli.specs.Run.{Puts, next_after, answer}
 use Rattle.acq_cli.specs.declared.terms.Terms.{Terms}
 use Rattle.session_store.specs.Keeping.{both_as}
-use Rattle.acq_cli.specs.Driven.{StepsTo, CutOff, Loses, Drives}
+use Rattle.query_gen.specs.Marks.{Remembered, IsMadeFor}
+use Rattle.acq_cli.specs.Driven.{Point, StepsTo, CutOff, Loses, Drives}
+use Rattle.acq_cli.specs.Loop.{EndsAs, HasTurned}
 use Rattle.acq_cli.specs.Added.{IsAdded}
 use Rattle.acq_cli.specs.Due.{IsDue, IsOneMore, AnswerKept, EventKept}
 use Rattle.acq_cli.specs.Points.{point_of, terms_with}
 use Rattle.acq_cli.specs.declared.driving.Drove.{Drove}
+use Rattle.acq_cli.specs.declared.driving.Drove.TheVariants as drove
 use Rattle.acq_cli.proofs.Added.{added_none, added_one}
 use Rattle.acq_cli.proofs.Running.{IsReached}
 use Rattle.acq_cli.proofs.Standings.{run_laws}
 use Rattle.acq_cli.proofs.Turning.{ToldSo, front_of_turn, step_said, cut_turn, lost_turn}
 
+-- an ending that isn't undecided, whatever the screen tells
+pub ends_so : (turns : Turns) (l : Language) (terms : Terms) (a b : Point) (marks : Remembered) (how : Drove) → ((m : ℕ) → how ≡ drove.Undecided m → ⊥) → IsMadeFor l marks → Drives turns l terms a b how → EndsAs turns l terms a b marks how
+ends_so turns l terms a b marks how decided made is = record { ends = is; tells = record { made = made; undecided = λ m e. absurd (decided m e) } }
+
 module _ (turns : Turns) (l : Language) (terms : Terms) (t after : List Answer) (q : Assignment) (said : Bool) (put : Option Assignment) (left written left' written' : Option (List ℕ)) where
   -- the loop goes on
-  pub goes_on : (end : Option Drove) → IsDue l terms t q → put ≡ Some q → AnswerKept said put t after end →
+  goes_on : (end : Option Drove) → IsDue l terms t q → put ≡ Some q → AnswerKept said put t after end →
       ToldSo turns l (length t + 1) q (point_of t left written) (point_of t left' written') (Said said) → end ≡ None →
       StepsTo turns l terms (point_of t left written) (point_of after left' written')
   goes_on None due is kept told none = step_said turns l terms q said (point_of t left written) (point_of after left' written') due.puts (kept q is) told
   goes_on (Some end) due is kept told none = cc
 
-  pub one_more : (end : Option Drove) → put ≡ Some q → AnswerKept said put t after end → end ≡ None → IsOneMore t after
+  one_more : (end : Option Drove) → put ≡ Some q → AnswerKept said put t after end → end ≡ None → IsOneMore t after
   one_more None is kept none = record { more = answer q said; is = kept q is }
   one_more (Some end) is kept none = absurd (let no : ⊥ = cc in no)
 
+  pub turned : (end : Option Drove) → IsDue l terms t q → put ≡ Some q → AnswerKept said put t after end →
+      ToldSo turns l (length t + 1) q (point_of t left written) (point_of t left' written') (Said said) → end ≡ None →
+      HasTurned turns l terms (point_of t left written) (point_of after left' written')
+  turned end due is kept told none = record { steps = goes_on end due is kept told none; one_more = one_more end is kept none }
+
   -- or there was no memory, or the disk failed
-  pub ends : (end : Option Drove) → IsLanguage l → IsReached l terms.plan t → IsDue l terms t q → AnswerKept said put t after end →
+  pub ends : (end : Option Drove) (marks : Remembered) → IsMadeFor l marks → IsLanguage l → IsReached l terms.plan t → IsDue l terms t q → AnswerKept said put t after end →
       ToldSo turns l (length t + 1) q (point_of t left written) (point_of t left' written') (Said said) →
-      IfSome end (Drives turns l terms (point_of t left written) (point_of after left' written'))
-  ends None lawful reached due kept told = tt
-  ends (Some end) lawful reached due kept told =
-      let cut : CutOff turns l terms (point_of t left written) (point_of after left' written') =
-      cut_turn run_laws turns l terms lawful q (point_of t left written) (point_of after left' written') reached due.puts kept.1
-      (front_of_turn turns l (length t + 1) q (point_of t left written) (point_of after left' written') (Said said) told) in
-      let P : Drove → Type 0 = Drives turns l terms (point_of t left written) (point_of after left' written') in
-      ⊎_elim (λ memory. subst P (sym memory) cut)
-      (λ failed. subst P (sym failed) (cut, (q, said, lost_turn turns l terms q said (point_of t left written) (point_of after left' written') due.puts due.fits kept.1 told))) kept.0
+      IfSome end (EndsAs turns l terms (point_of t left written) (point_of after left' written') marks)
+  ends None marks made lawful reached due kept told = tt
+  ends (Some end) marks made lawful reached due kept told =
+      let a : Point = point_of t left written in
+      let b : Point = point_of after left' written' in
+      let cut : CutOff turns l terms a b =
+      cut_turn run_laws turns l terms lawful q a b reached due.puts kept.1 (front_of_turn turns l (length t + 1) q a b (Said said) told) in
+      let P : Drove → Type 0 = EndsAs turns l terms a b marks in
+      ⊎_elim (λ memory. subst P (sym memory) (ends_so turns l terms a b marks drove.Memory (λ m e. cc) made cut))
+      (λ failed. subst P (sym failed) (ends_so turns l terms a b marks drove.DiskFault (λ m e. cc) made (cut, (q, said, lost_turn turns l terms q said a b due.puts due.fits kept.1 told)))) kept.0
 
   -- the answer that is lost where the disk failed
   pub loses : (end : Option Drove) (how : Drove) → IsDue l terms t q → AnswerKept said put t after end → end ≡ Some how →

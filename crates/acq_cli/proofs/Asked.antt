@@ -14,9 +14,12 @@ use Rattle.assign.specs.declared.events.Plan.{Plan}
 use Rattle.disk_model.specs.Moments.{started}
 use Rattle.session_store.specs.declared.fault.SFault.{SFault}
 use Rattle.session_store.specs.declared.fault.SFault.TheVariants as store
-use Rattle.acq_cli.specs.Journals.{EndsWith, News, Refuses, RefusesMaking, RunsOn, Shows, StaysClosed}
+use Rattle.acq_cli.specs.Journals.{EndsWith, Refuses, StaysClosed}
+use Rattle.acq_cli.specs.Making.{News, RefusesMaking}
+use Rattle.acq_cli.specs.Running.{RunsOn}
+use Rattle.acq_cli.specs.Showing.{Shows}
 use Rattle.acq_cli.specs.Points.{terms_with}
-use Rattle.acq_cli.specs.Program.{Acquires}
+use Rattle.acq_cli.specs.Trying.{Acquires}
 use Rattle.acq_cli.specs.Texts.{usage_text}
 use Rattle.acq_cli.specs.Words.{IsAsked, built, command_asked, command_in}
 use Rattle.acq_cli.specs.declared.ending.Ending.{Ending}

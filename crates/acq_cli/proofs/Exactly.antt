@@ -25,9 +25,13 @@ use Rattle.voc_read.specs.Vocabulary.{IsVocabulary, refusal_of_vocabulary}
 use Rattle.voc_read.specs.declared.fault.VocFault.{VocFault}
 use Rattle.voc_read.proofs.Refused.{not_refused}
 use Rattle.acq_cli.specs.Exactly.{IsBrokenOff, HasVocabulary, IsInTheWay, RefusesNew, MakesExactly, NewEnds, RefusesOpening, MustRefuse, OpensExactly, HoldsSession, RunEnds, ShowEnds}
-use Rattle.acq_cli.specs.Journals.{EndsUntold, RefusesMaking, News, RunsOn, Shows, ended_as, untold}
+use Rattle.acq_cli.specs.Journals.{EndsUntold, untold}
+use Rattle.acq_cli.specs.Making.{RefusesMaking, News}
+use Rattle.acq_cli.specs.Running.{RunsOn}
+use Rattle.acq_cli.specs.Showing.{Shows}
+use Rattle.acq_cli.specs.Program.{ended_as}
 use Rattle.acq_cli.specs.Points.{terms_with}
-use Rattle.acq_cli.specs.Program.{Tries}
+use Rattle.acq_cli.specs.Endings.{Tries}
 use Rattle.acq_cli.proofs.Journals.{untold_ends}
 use Rattle.acq_cli.specs.declared.ending.Ending.{Ending}
 use Rattle.acq_cli.specs.declared.ending.Ending.TheVariants as ending

@@ -30,8 +30,9 @@ use Rattle.acq_cli.proofs.Added.{placed_event}
 use Rattle.acq_cli.proofs.Standings.{run_laws}
 use Rattle.acq_cli.specs.Driven.{Loses}
 use Rattle.acq_cli.specs.Points.{point_of, terms_with}
-use Rattle.acq_cli.specs.Program.{Tries}
-use Rattle.acq_cli.specs.Journals.{GoesOn, EndsWith, untold}
+use Rattle.acq_cli.specs.Endings.{Tries}
+use Rattle.acq_cli.specs.Running.{GoesOn}
+use Rattle.acq_cli.specs.Journals.{EndsWith, untold}
 use Rattle.acq_cli.proofs.Parts.{written_badly}
 use Rattle.acq_cli.specs.declared.ending.Ending.{Ending}
 use Rattle.acq_cli.specs.declared.ending.Ending.TheVariants as ending

@@ -209,6 +209,10 @@ pub put_due : (l : Language) (terms : Terms) (t : List Answer) (put : Option Ass
 put_due l terms t put n q is (inl e) = (subst (PutIs l terms t put) e is).0
 put_due l terms t put n q is (inr e) = (subst (PutIs l terms t put) e is).0
 
+pub put_is : (l : Language) (terms : Terms) (t : List Answer) (put : Option Assignment) (n : Upcoming) (q : Assignment) → PutIs l terms t put n → (n ≡ nexts.Open q) ⊎ (n ≡ nexts.New q) → put ≡ Some q
+put_is l terms t put n q is (inl e) = (subst (PutIs l terms t put) e is).1
+put_is l terms t put n q is (inr e) = (subst (PutIs l terms t put) e is).1
+
 -- where none is put anew, the question that is put stays
 pub put_as : (l : Language) (wish : Terms) (t : List Answer) (put : Option Assignment) (n : Upcoming) → ((q : Assignment) → n ≡ nexts.New q → ⊥) → NextIs l wish t put n → PutIs l wish t put n
 put_as l wish t put (nexts.Open q) other is = is

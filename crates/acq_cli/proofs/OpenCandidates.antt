@@ -20,7 +20,7 @@ use Rattle.session_laws.specs.Session.{Idle, At, state_after}
 use Rattle.session_laws.proofs.Choices.{all_candidates}
 use Rattle.acq_cli.specs.declared.terms.Terms.{Terms}
 use Rattle.acq_cli.specs.Driven.{IsLeftOpen, TellsOpen}
-use Rattle.acq_cli.specs.Program.{LeavesOpen}
+use Rattle.acq_cli.specs.Endings.{LeavesOpen}
 use Rattle.acq_cli.specs.Texts.{open_candidates}
 use Rattle.fd_solver.proofs.Outcomes.{spent_is_long}
 use Rattle.query_gen.proofs.Among.{picked_are_in_order}

@@ -17,10 +17,12 @@ use Rattle.target_oracle.specs.Tells.{Front}
 use Rattle.voc_read.specs.Vocabulary.{IsVocabulary}
 use Rattle.voc_read.specs.declared.fault.VocFault.{VocFault}
 use Rattle.acq_cli.specs.Run.{Closing, next_after}
-use Rattle.acq_cli.specs.Breaks.{Breaks, BreaksRun, IsRefusal, IsTextOfRefusal, IsTextOfRun, IsWholeText}
+use Rattle.acq_cli.specs.Trying.{Breaks, IsRefusal, IsTextOfRefusal, IsTextOfRun, IsWholeText}
+use Rattle.acq_cli.specs.Breaks.{BreaksRun}
 use Rattle.acq_cli.specs.Driven.{RanTo, CutOff, StopsAt, next_lines}
 use Rattle.acq_cli.specs.Points.{point_of}
-use Rattle.acq_cli.specs.Program.{Acquires, ReadsVocabulary, Tries}
+use Rattle.acq_cli.specs.Trying.{Acquires, ReadsVocabulary}
+use Rattle.acq_cli.specs.Endings.{Tries}
 use Rattle.acq_cli.specs.Texts.{closing_text, refusal_text, whole_text}
 use Rattle.acq_cli.specs.declared.terms.Terms.{Terms}
 use Rattle.acq_cli.proofs.Running.{IsReached, run_exists}

@@ -16,10 +16,10 @@ use Rattle.acq_cli.specs.Points.{terms_with}
 use Rattle.acq_cli.specs.declared.driving.Drove.{Drove}
 use Rattle.acq_cli.specs.declared.driving.Drove.TheVariants as drove
 use Rattle.acq_cli.specs.declared.ending.Ending.TheVariants as ending
-use Rattle.acq_cli.specs.Program.{HasEnded, Says, SaysPart}
+use Rattle.acq_cli.specs.Endings.{HasEnded, Says, SaysPart}
 use Rattle.acq_cli.specs.Texts.{collapsed_text, converged_text, suspended_text, undecided_text, open_candidates, learned_in, learned_after}
 use Rattle.acq_cli.proofs.Nexts.{learned_is}
-use Rattle.acq_cli.proofs.OpenCandidates.{leaves_open, opens_are}
+use Rattle.acq_cli.proofs.OpenCandidates.{opens_are}
 
 pub says_collapsed : (l : Language) (plan : Plan) (budget : ℕ) (t : List Answer) (written written' : Option (List ℕ)) (m : ℕ) (end : Drove) → end ≡ drove.Collapsed m → HasEnded l (terms_with plan budget) t end → Adds written written' (collapsed_text m) → Says l (terms_with plan budget) t written written' end (ending.Collapsed m)
 says_collapsed l plan budget t written written' m end is ended adds = subst SaysOf (sym is) (told (subst (HasEnded l (terms_with plan budget) t) is ended))
@@ -28,19 +28,7 @@ says_collapsed l plan budget t written written' m end is ended adds = subst Says
     SaysOf e = Says l (terms_with plan budget) t written written' e (ending.Collapsed m)
 
     told : HasEnded l (terms_with plan budget) t (drove.Collapsed m) → SaysOf (drove.Collapsed m)
-    told done = (refl, record { number = done.0; collapsed = done.1 }, adds)
-
-pub part_collapsed : (l : Language) (plan : Plan) (budget : ℕ) (t : List Answer) (written written' : Option (List ℕ)) (m : ℕ) (end : Drove) → end ≡ drove.Collapsed m → HasEnded l (terms_with plan budget) t end → AddsFront written written' (collapsed_text m) → SaysPart l (terms_with plan budget) t written written' end
-part_collapsed l plan budget t written written' m end is ended adds =
-    let P : Drove → Type 0 = SaysPart l (terms_with plan budget) t written written' in
-    let done = subst (HasEnded l (terms_with plan budget) t) is ended in
-    subst P (sym is) (subst (AddsFront written written') (ap collapsed_text done.0) adds)
-
-pub part_suspended : (l : Language) (plan : Plan) (budget : ℕ) (t : List Answer) (written written' : Option (List ℕ)) (m : ℕ) (end : Drove) → end ≡ drove.Suspended m → HasEnded l (terms_with plan budget) t end → AddsFront written written' (suspended_text m) → SaysPart l (terms_with plan budget) t written written' end
-part_suspended l plan budget t written written' m end is ended adds =
-    let P : Drove → Type 0 = SaysPart l (terms_with plan budget) t written written' in
-    let number : m ≡ length t = subst (HasEnded l (terms_with plan budget) t) is ended in
-    subst P (sym is) (subst (AddsFront written written') (ap suspended_text number) adds)
+    told done = (refl, subst (Adds written written') (ap collapsed_text done.0) adds)
 
 module _ (session : Session) (l : Language) (plan : Plan) (budget : ℕ) (t : List Answer) (written written' : Option (List ℕ)) (m : ℕ) (end : Drove) where
   -- the network that the answers lead to is the session's
@@ -48,53 +36,35 @@ module _ (session : Session) (l : Language) (plan : Plan) (budget : ℕ) (t : Li
   same_network stands lang planned network ended at =
       learned_is session t network ended stands (ap (λ x. state_after x (knowledge_of session).plan t) lang ∙ ap (λ p. state_after l p t) planned ∙ at)
 
+  -- the session's network is the one that the answers lead to
+  learned : Stands session t → (knowledge_of session).lang ≡ l → (knowledge_of session).plan ≡ plan → (network : List Candidate) (ended : Option WalkEnd) → state_after l plan t ≡ At (Idle network ended) → (knowledge_of session).network.list ≡ learned_after l (terms_with plan budget) t
+  learned stands lang planned network ended at = same_network stands lang planned network ended at ∙ sym (ap learned_in at)
+
   pub says_converged : end ≡ drove.Converged m → HasEnded l (terms_with plan budget) t end → Stands session t → (knowledge_of session).lang ≡ l → (knowledge_of session).plan ≡ plan →
       Adds written written' (converged_text (knowledge_of session).lang (knowledge_of session).network.list m) →
       Says l (terms_with plan budget) t written written' end (ending.Converged m)
   says_converged is ended stands lang planned adds =
-      subst SaysOf (sym is) (told (subst (HasEnded l (terms_with plan budget) t) is ended))
-    where
-      SaysOf : Drove → Type 0
-      SaysOf e = Says l (terms_with plan budget) t written written' e (ending.Converged m)
-
-      told : HasEnded l (terms_with plan budget) t (drove.Converged m) → SaysOf (drove.Converged m)
-      told done =
-          let same = same_network stands lang planned done.1.network done.1.end done.1.idle in (
-            refl,
-            (
-              done.1.network,
-              record { number = done.0; end = done.1.end; idle = done.1.idle; ends = done.1.ends; covered = done.1.covered; converged = done.1.converged; owner = done.1.converged.only },
-              subst (Adds written written') (ap (λ x. converged_text x (knowledge_of session).network.list m) lang ∙ ap (λ n. converged_text l n m) same) adds,
-            ),
-          )
+      let P : Drove → Type 0 = λ e. Says l (terms_with plan budget) t written written' e (ending.Converged m) in
+      let done = subst (HasEnded l (terms_with plan budget) t) is ended in
+      let net = learned stands lang planned done.1.network done.1.end done.1.idle in
+      subst P (sym is) (refl, subst (Adds written written') (λ i. converged_text (lang i) (net i) (done.0 i)) adds)
 
   pub says_undecided : (screen : Remembered) → end ≡ drove.Undecided m → HasEnded l (terms_with plan budget) t end → TellsOpen l (terms_with plan budget) t screen →
       Stands session t → (knowledge_of session).lang ≡ l → (knowledge_of session).plan ≡ plan →
       Adds written written' (undecided_text (knowledge_of session).lang (knowledge_of session).network.list (filter (is_open (knowledge_of session).lang screen) (candidates (knowledge_of session).lang)) m) →
       Says l (terms_with plan budget) t written written' end (ending.Undecided m)
   says_undecided screen is ended tells stands lang planned adds =
-      subst SaysOf (sym is) (told (subst (HasEnded l (terms_with plan budget) t) is ended))
-    where
-      SaysOf : Drove → Type 0
-      SaysOf e = Says l (terms_with plan budget) t written written' e (ending.Undecided m)
-
-      told : HasEnded l (terms_with plan budget) t (drove.Undecided m) → SaysOf (drove.Undecided m)
-      told done =
-          let same = same_network stands lang planned done.1.network done.1.end done.1.idle in
-          let opens = opens_are l (terms_with plan budget) t done.1.network done.1.end screen done.1.idle tells in (
-            refl,
-            (
-              done.1.network,
-              leaves_open l (terms_with plan budget) t m done.0 done.1,
-              subst (Adds written written')
-                  (ap (λ x. undecided_text x (knowledge_of session).network.list (filter (is_open x screen) (candidates x)) m) lang
-                  ∙ ap (λ n. undecided_text l n (filter (is_open l screen) (candidates l)) m) same ∙ ap (λ cs. undecided_text l done.1.network cs m) opens) adds,
-            ),
-          )
-
-  -- the session's network is the one that the answers lead to
-  learned : Stands session t → (knowledge_of session).lang ≡ l → (knowledge_of session).plan ≡ plan → (network : List Candidate) (ended : Option WalkEnd) → state_after l plan t ≡ At (Idle network ended) → (knowledge_of session).network.list ≡ learned_after l (terms_with plan budget) t
-  learned stands lang planned network ended at = same_network stands lang planned network ended at ∙ sym (ap learned_in at)
+      let P : Drove → Type 0 = λ e. Says l (terms_with plan budget) t written written' e (ending.Undecided m) in
+      let done = subst (HasEnded l (terms_with plan budget) t) is ended in
+      let net = learned stands lang planned done.1.network done.1.end done.1.idle in
+      let opens : filter (is_open l screen) (candidates l) ≡ open_candidates l (terms_with plan budget) t (learned_after l (terms_with plan budget) t) =
+      opens_are l (terms_with plan budget) t done.1.network done.1.end screen done.1.idle tells ∙ ap (open_candidates l (terms_with plan budget) t) (sym (ap learned_in done.1.idle)) in
+      subst P (sym is) (
+        refl,
+        subst (Adds written written')
+            (ap (λ x. undecided_text x (knowledge_of session).network.list (filter (is_open x screen) (candidates x)) m) lang
+            ∙ (λ i. undecided_text l (net i) (opens i) (done.0 i))) adds,
+      )
 
   pub part_converged : end ≡ drove.Converged m → HasEnded l (terms_with plan budget) t end → Stands session t → (knowledge_of session).lang ≡ l → (knowledge_of session).plan ≡ plan →
       AddsFront written written' (converged_text (knowledge_of session).lang (knowledge_of session).network.list m) →

@@ -11,7 +11,7 @@ use Rattle.language.specs.Answers.{standing_on}
 use Rattle.session_core.specs.Standing.{IsAskedIn, Stands, knowledge_of}
 use Rattle.session_core.specs.declared.session.Session.{Session}
 use Rattle.acq_cli.specs.Texts.{learned_in}
-use Rattle.acq_cli.specs.Journals.{shown_text}
+use Rattle.acq_cli.specs.Showing.{shown_text}
 use Rattle.acq_cli.proofs.Standings.{stands_at}
 use Rattle.session_laws.specs.Session.{State, Idle, Halving, Choosing, Walking, Over, At, state_after}
 use Rattle.session_store.specs.Replay.{seen}

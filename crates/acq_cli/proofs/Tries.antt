@@ -1,8 +1,9 @@
 -- What was done about a language, of its loop and what was said.
-use Rattle.std.proofs.lemmas.Bool.{both_ways}
-use Rattle.std.proofs.Common.{◌≡◌, ◌∙◌, ℕ, Bool, true, false, List, [], sym, subst, refl, ap, Option, Result, Ok, Err}
+use Rattle.std.proofs.Common.{◌≡◌, ◌∙◌, ℕ, Bool, true, false, length, List, [], sym, subst, refl, ap, Option, Result, Ok, Err}
 use Rattle.std.specs.Prelude.{IfOk, OnErr}
+use Rattle.acq_io.specs.Streams.{Adds}
 use Rattle.acq_io.specs.declared.streams.Put.{Put}
+use Rattle.acq_io.specs.declared.streams.Put.TheVariants.{Failed, Memory}
 use Rattle.assign.specs.Events.{Answer}
 use Rattle.assign.specs.declared.events.Event.{Event}
 use Rattle.assign.specs.declared.events.Plan.{Plan}
@@ -20,45 +21,78 @@ use Rattle.acq_cli.specs.declared.driving.Drove.TheVariants as drove
 use Rattle.acq_cli.specs.declared.ending.Ending.{Ending}
 use Rattle.acq_cli.specs.declared.ending.Ending.TheVariants as ending
 use Rattle.acq_cli.specs.Breaks.{BreaksRun}
-use Rattle.acq_cli.specs.Program.{HasEnded, Says, SaysPart, Tries}
+use Rattle.acq_cli.specs.Endings.{HasEnded, Says, SaysPart, Tries, ending_of}
+use Rattle.acq_cli.specs.Texts.{collapsed_text, converged_text, suspended_text, undecided_text, open_candidates, learned_in, learned_after}
+use Rattle.acq_cli.proofs.OpenCandidates.{leaves_open}
 use Rattle.acq_cli.specs.Run.{Converged, Collapsed, Undecided, Suspended, LineTooLong, Unreadable}
 use Rattle.acq_cli.proofs.Parts.{closed_part, cut_part}
 
-by_drove : (l : Language) (terms : Terms) (start : List Answer) (left written left' middle written' : Option (List ℕ)) (t : List Answer) (drove : Drove) (end : Ending) → LeavesNothing l terms.plan t →
-    Drives line_turn l terms (point_of start left written) (point_of t left' middle) drove → Says l terms t middle written' drove end → Tries l terms start t left written left' written' end
-by_drove l terms start left written left' middle written' t (drove.Converged m) end walked h says =
-    subst (Tries l terms start t left written left' written') (sym says.0) (says.1.0, says.1.1, record { middle = middle; ran = h.2; adds = says.1.2; walked = walked })
-by_drove l terms start left written left' middle written' t (drove.Collapsed m) end walked h says =
-    subst (Tries l terms start t left written left' written') (sym says.0) (says.1, record { middle = middle; ran = h.2; adds = says.2; walked = walked })
-by_drove l terms start left written left' middle written' t (drove.Undecided m) end walked h says =
-    subst (Tries l terms start t left written left' written') (sym says.0) (says.1.0, says.1.1, record { middle = middle; ran = h.2; adds = says.1.2; walked = walked })
-by_drove l terms start left written left' middle written' t (drove.Suspended m) end walked h says =
-    subst (Tries l terms start t left written left' written') (sym says.0) (says.1, record { middle = middle; ran = h.1; adds = says.2; walked = walked })
-by_drove l terms start left written left' middle written' t drove.LineTooLong end walked h says =
-    subst (Tries l terms start t left written left' written') (sym says.0) (record { middle = middle; ran = h; adds = says.1; walked = walked })
-by_drove l terms start left written left' middle written' t drove.Unreadable end walked h says =
-    subst (Tries l terms start t left written left' written') (sym says.0) (record { middle = middle; ran = h; adds = says.1; walked = walked })
-by_drove l terms start left written left' middle written' t drove.ReadFault end walked h says = subst (Tries l terms start t left written left' written') (sym says.0) (cut_part l terms start left written left' middle written' t h says.1)
-by_drove l terms start left written left' middle written' t drove.WriteFault end walked h says = absurd says
-by_drove l terms start left written left' middle written' t drove.DiskFault end walked h says =
-    let Unkept : Option (List ℕ) → Type 0 = λ w. UnkeptTo line_turn l terms (point_of start left written) (point_of t left' w) in
-    subst (Tries l terms start t left written left' written') (sym says.0) (cut_part l terms start left written left' middle written' t h.0 says.1, subst Unkept (sym says.1) h.1)
-by_drove l terms start left written left' middle written' t drove.JournalFull end walked h says = absurd says
-by_drove l terms start left written left' middle written' t drove.Memory end walked h says = absurd says
+abbrev okay : Ending → Result Ending Put
+okay end = Ok end
 
-part_by_drove : (l : Language) (terms : Terms) (start : List Answer) (left written left' middle written' : Option (List ℕ)) (t : List Answer) (drove : Drove) →
-    Drives line_turn l terms (point_of start left written) (point_of t left' middle) drove → SaysPart l terms t middle written' drove → BreaksRun l terms start t left written written'
-part_by_drove l terms start left written left' middle written' t (drove.Converged m) h part = closed_part l terms start left written left' middle written' t Converged h.2 part
-part_by_drove l terms start left written left' middle written' t (drove.Collapsed m) h part = closed_part l terms start left written left' middle written' t Collapsed h.2 part
-part_by_drove l terms start left written left' middle written' t (drove.Undecided m) h part = closed_part l terms start left written left' middle written' t Undecided h.2 part
-part_by_drove l terms start left written left' middle written' t (drove.Suspended m) h part = closed_part l terms start left written left' middle written' t Suspended h.1 part
-part_by_drove l terms start left written left' middle written' t drove.LineTooLong h part = closed_part l terms start left written left' middle written' t LineTooLong h part
-part_by_drove l terms start left written left' middle written' t drove.Unreadable h part = closed_part l terms start left written left' middle written' t Unreadable h part
-part_by_drove l terms start left written left' middle written' t drove.ReadFault h part = absurd part
-part_by_drove l terms start left written left' middle written' t drove.WriteFault h same = cut_part l terms start left written left' middle written' t h same
-part_by_drove l terms start left written left' middle written' t drove.DiskFault h part = absurd part
-part_by_drove l terms start left written left' middle written' t drove.JournalFull h part = absurd part
-part_by_drove l terms start left written left' middle written' t drove.Memory h same = cut_part l terms start left written left' middle written' t h same
+abbrev failed : Put → Result Ending Put
+failed e = Err e
+
+same_ok : (a b : Ending) → okay a ≡ okay b → a ≡ b
+same_ok a b e = cc
+
+err_ok : (e : Put) (end : Ending) → failed e ≡ okay end → ⊥
+err_ok e end h = cc
+
+not_err : false ≡ true → ⊥
+not_err e = cc
+
+module _ (l : Language) (terms : Terms) (start : List Answer) (left written left' middle written' : Option (List ℕ)) (t : List Answer) where
+  abbrev As : Ending → Type 0
+  As = Tries l terms start t left written left' written'
+
+  by_drove : (how : Drove) (end : Ending) → LeavesNothing l terms.plan t →
+      Drives line_turn l terms (point_of start left written) (point_of t left' middle) how → Says l terms t middle written' how end → Tries l terms start t left written left' written' end
+  by_drove (drove.Converged m) end walked h says =
+      let learned : learned_after l terms t ≡ h.1.network = ap learned_in h.1.idle in
+      let number : length t ≡ m = sym h.0 in
+      subst As (same_ok (ending.Converged m) end says.0) (
+        h.1.network,
+        record { number = h.0; end = h.1.end; idle = h.1.idle; ends = h.1.ends; covered = h.1.covered; converged = h.1.converged; owner = h.1.converged.only },
+        record { middle = middle; ran = h.2; adds = subst (Adds middle written') (λ i. converged_text l (learned i) (number i)) says.1; walked = walked },
+      )
+  by_drove (drove.Collapsed m) end walked h says =
+      subst As (same_ok (ending.Collapsed m) end says.0) (
+        record { number = h.0; collapsed = h.1 },
+        record { middle = middle; ran = h.2; adds = subst (Adds middle written') (ap collapsed_text (sym h.0)) says.1; walked = walked },
+      )
+  by_drove (drove.Undecided m) end walked h says =
+      let learned : learned_after l terms t ≡ h.1.network = ap learned_in h.1.idle in
+      let number : length t ≡ m = sym h.0 in
+      subst As (same_ok (ending.Undecided m) end says.0) (
+        h.1.network,
+        leaves_open l terms t m h.0 h.1,
+        record { middle = middle; ran = h.2; adds = subst (Adds middle written') (λ i. undecided_text l (learned i) (open_candidates l terms t (learned i)) (number i)) says.1; walked = walked },
+      )
+  by_drove (drove.Suspended m) end walked h says =
+      subst As (same_ok (ending.Suspended m) end says.0) (h.0, record { middle = middle; ran = h.1; adds = subst (Adds middle written') (ap suspended_text (sym h.0)) says.1; walked = walked })
+  by_drove drove.LineTooLong end walked h says = subst As (same_ok ending.LineTooLong end says.0) (record { middle = middle; ran = h; adds = says.1; walked = walked })
+  by_drove drove.Unreadable end walked h says = subst As (same_ok ending.Unreadable end says.0) (record { middle = middle; ran = h; adds = says.1; walked = walked })
+  by_drove drove.ReadFault end walked h says = subst As (same_ok ending.ReadFault end says.0) (cut_part l terms start left written left' middle written' t h says.1)
+  by_drove drove.WriteFault end walked h says = absurd (err_ok Failed end says.0)
+  by_drove drove.DiskFault end walked h says =
+      let Unkept : Option (List ℕ) → Type 0 = λ w. UnkeptTo line_turn l terms (point_of start left written) (point_of t left' w) in
+      subst As (same_ok ending.DiskFault end says.0) (cut_part l terms start left written left' middle written' t h.0 says.1, subst Unkept (sym says.1) h.1)
+  by_drove drove.JournalFull end walked h says = absurd h
+  by_drove drove.Memory end walked h says = absurd (err_ok Memory end says.0)
+
+  part_by_drove : (how : Drove) → Drives line_turn l terms (point_of start left written) (point_of t left' middle) how → SaysPart l terms t middle written' how → BreaksRun l terms start t left written written'
+  part_by_drove (drove.Converged m) h part = closed_part l terms start left written left' middle written' t Converged h.2 part
+  part_by_drove (drove.Collapsed m) h part = closed_part l terms start left written left' middle written' t Collapsed h.2 part
+  part_by_drove (drove.Undecided m) h part = closed_part l terms start left written left' middle written' t Undecided h.2 part
+  part_by_drove (drove.Suspended m) h part = closed_part l terms start left written left' middle written' t Suspended h.1 part
+  part_by_drove drove.LineTooLong h part = closed_part l terms start left written left' middle written' t LineTooLong h part
+  part_by_drove drove.Unreadable h part = closed_part l terms start left written left' middle written' t Unreadable h part
+  part_by_drove drove.ReadFault h part = absurd (not_err part.1)
+  part_by_drove drove.WriteFault h part = cut_part l terms start left written left' middle written' t h part.0
+  part_by_drove drove.DiskFault h part = absurd (not_err part.1)
+  part_by_drove drove.JournalFull h part = absurd h
+  part_by_drove drove.Memory h part = cut_part l terms start left written left' middle written' t h part.0
 
 ended_by : (l : Language) (terms : Terms) (a : Point) (t : List Answer) (left' middle : Option (List ℕ)) (how : Drove) → Drives line_turn l terms a (point_of t left' middle) how → HasEnded l terms t how
 ended_by l terms a t left' middle (drove.Converged m) h = (h.0, h.1)
@@ -73,85 +107,36 @@ ended_by l terms a t left' middle drove.DiskFault h = tt
 ended_by l terms a t left' middle drove.JournalFull h = h
 ended_by l terms a t left' middle drove.Memory h = tt
 
-abbrev is_fault : Ending → Bool
-is_fault (ending.Converged m) = false
-is_fault (ending.Usage fault) = false
-is_fault (ending.VocRefused fault) = false
-is_fault ending.Done = false
-is_fault (ending.JournalRefused fault) = false
-is_fault (ending.Collapsed m) = false
-is_fault (ending.Undecided m) = false
-is_fault (ending.Suspended m) = false
-is_fault ending.LineTooLong = false
-is_fault ending.Unreadable = false
-is_fault ending.ReadFault = true
-is_fault ending.WriteFault = false
-is_fault ending.DiskFault = false
-is_fault ending.JournalFull = false
-is_fault ending.Memory = false
+-- a fault that is told is the loop's
+read_by : (how : Drove) (end : Ending) → ending_of how ≡ okay end → end ≡ ending.ReadFault → how ≡ drove.ReadFault
+read_by (drove.Converged m) end so is = cc
+read_by (drove.Collapsed m) end so is = cc
+read_by (drove.Undecided m) end so is = cc
+read_by (drove.Suspended m) end so is = cc
+read_by drove.LineTooLong end so is = cc
+read_by drove.Unreadable end so is = cc
+read_by drove.ReadFault end so is = refl
+read_by drove.WriteFault end so is = cc
+read_by drove.DiskFault end so is = cc
+read_by drove.JournalFull end so is = cc
+read_by drove.Memory end so is = cc
 
-other : (a end : Ending) → is_fault a ≡ false → end ≡ a → end ≡ ending.ReadFault → ⊥
-other a end off is fault = both_ways (is_fault a) off (ap is_fault (sym is ∙ fault))
-
-read_by : (l : Language) (terms : Terms) (t : List Answer) (written written' : Option (List ℕ)) (how : Drove) (end : Ending) → Says l terms t written written' how end → end ≡ ending.ReadFault → how ≡ drove.ReadFault
-read_by l terms t written written' (drove.Converged m) end says is = absurd (other (ending.Converged m) end refl says.0 is)
-read_by l terms t written written' (drove.Collapsed m) end says is = absurd (other (ending.Collapsed m) end refl says.0 is)
-read_by l terms t written written' (drove.Undecided m) end says is = absurd (other (ending.Undecided m) end refl says.0 is)
-read_by l terms t written written' (drove.Suspended m) end says is = absurd (other (ending.Suspended m) end refl says.0 is)
-read_by l terms t written written' drove.LineTooLong end says is = absurd (other ending.LineTooLong end refl says.0 is)
-read_by l terms t written written' drove.Unreadable end says is = absurd (other ending.Unreadable end refl says.0 is)
-read_by l terms t written written' drove.ReadFault end says is = refl
-read_by l terms t written written' drove.WriteFault end says is = absurd says
-read_by l terms t written written' drove.DiskFault end says is = absurd (other ending.DiskFault end refl says.0 is)
-read_by l terms t written written' drove.JournalFull end says is = absurd says
-read_by l terms t written written' drove.Memory end says is = absurd says
-
-abbrev is_disk_fault : Ending → Bool
-is_disk_fault (ending.Converged m) = false
-is_disk_fault (ending.Usage fault) = false
-is_disk_fault (ending.VocRefused fault) = false
-is_disk_fault ending.Done = false
-is_disk_fault (ending.JournalRefused fault) = false
-is_disk_fault (ending.Collapsed m) = false
-is_disk_fault (ending.Undecided m) = false
-is_disk_fault (ending.Suspended m) = false
-is_disk_fault ending.LineTooLong = false
-is_disk_fault ending.Unreadable = false
-is_disk_fault ending.ReadFault = false
-is_disk_fault ending.WriteFault = false
-is_disk_fault ending.DiskFault = true
-is_disk_fault ending.JournalFull = false
-is_disk_fault ending.Memory = false
-
-no_disk : (a end : Ending) → is_disk_fault a ≡ false → end ≡ a → end ≡ ending.DiskFault → ⊥
-no_disk a end off is fault = both_ways (is_disk_fault a) off (ap is_disk_fault (sym is ∙ fault))
-
--- a fault of the disk that is told is the loop's
-disk_by : (l : Language) (terms : Terms) (t : List Answer) (written written' : Option (List ℕ)) (how : Drove) (end : Ending) → Says l terms t written written' how end → end ≡ ending.DiskFault → how ≡ drove.DiskFault
-disk_by l terms t written written' (drove.Converged m) end says is = absurd (no_disk (ending.Converged m) end refl says.0 is)
-disk_by l terms t written written' (drove.Collapsed m) end says is = absurd (no_disk (ending.Collapsed m) end refl says.0 is)
-disk_by l terms t written written' (drove.Undecided m) end says is = absurd (no_disk (ending.Undecided m) end refl says.0 is)
-disk_by l terms t written written' (drove.Suspended m) end says is = absurd (no_disk (ending.Suspended m) end refl says.0 is)
-disk_by l terms t written written' drove.LineTooLong end says is = absurd (no_disk ending.LineTooLong end refl says.0 is)
-disk_by l terms t written written' drove.Unreadable end says is = absurd (no_disk ending.Unreadable end refl says.0 is)
-disk_by l terms t written written' drove.ReadFault end says is = absurd (no_disk ending.ReadFault end refl says.0 is)
-disk_by l terms t written written' drove.WriteFault end says is = absurd says
-disk_by l terms t written written' drove.DiskFault end says is = refl
-disk_by l terms t written written' drove.JournalFull end says is = absurd says
-disk_by l terms t written written' drove.Memory end says is = absurd says
+disk_by : (how : Drove) (end : Ending) → ending_of how ≡ okay end → end ≡ ending.DiskFault → how ≡ drove.DiskFault
+disk_by (drove.Converged m) end so is = cc
+disk_by (drove.Collapsed m) end so is = cc
+disk_by (drove.Undecided m) end so is = cc
+disk_by (drove.Suspended m) end so is = cc
+disk_by drove.LineTooLong end so is = cc
+disk_by drove.Unreadable end so is = cc
+disk_by drove.ReadFault end so is = cc
+disk_by drove.WriteFault end so is = cc
+disk_by drove.DiskFault end so is = refl
+disk_by drove.JournalFull end so is = cc
+disk_by drove.Memory end so is = cc
 
 -- and the other way round
-disk_said : (l : Language) (terms : Terms) (t : List Answer) (written written' : Option (List ℕ)) (how : Drove) (end : Ending) → Says l terms t written written' how end → how ≡ drove.DiskFault → end ≡ ending.DiskFault
-disk_said l terms t written written' how end says is = let P : Drove → Type 0 = λ d. Says l terms t written written' d end in (subst P is says).0
-
-abbrev okay : Ending → Result Ending Put
-okay end = Ok end
-
-abbrev failed : Put → Result Ending Put
-failed e = Err e
-
-err_okay : (e : Put) → failed e ≡ okay ending.DiskFault → ⊥
-err_okay e h = cc
+disk_said : (how : Drove) (end : Ending) → ending_of how ≡ okay end → how ≡ drove.DiskFault → end ≡ ending.DiskFault
+disk_said how end so is = same_ok end ending.DiskFault (sym so ∙ ap ending_of is)
 
 -- What the loop has done about a language and a plan, and what was said of it. The keeper's language and plan are the same
 -- after it.
@@ -191,19 +176,13 @@ module _ (l now : Language) (p still : Plan) (budget : ℕ) (start : List Answer
       go (Err e) part = part_by_drove l (terms_with p budget) start left written left' middle written' (standing_on l later) how drives part
       go (Ok end) part = part
 
-  same_ok : (a b : Ending) → okay a ≡ okay b → a ≡ b
-  same_ok a b e = cc
-
-  err_ok : (e : Put) (end : Ending) → failed e ≡ okay end → ⊥
-  err_ok e end h = cc
-
   -- a read fault that is told is the loop's
   pub read_of : got ≡ Ok ending.ReadFault → how ≡ drove.ReadFault
   read_of is = found got is said
     where
       found : (r : Result Ending Put) → r ≡ Ok ending.ReadFault → IfOk r (Says l (terms_with p budget) (standing_on l later) middle written' how) → how ≡ drove.ReadFault
       found (Err e) is s = absurd (err_ok e ending.ReadFault is)
-      found (Ok end) is s = read_by l (terms_with p budget) (standing_on l later) middle written' how end s (same_ok end ending.ReadFault is)
+      found (Ok end) is s = read_by how end s.0 (same_ok end ending.ReadFault is)
 
   -- so is a fault of the disk
   pub disk_of : got ≡ Ok ending.DiskFault → how ≡ drove.DiskFault
@@ -211,19 +190,19 @@ module _ (l now : Language) (p still : Plan) (budget : ℕ) (start : List Answer
     where
       found : (r : Result Ending Put) → r ≡ Ok ending.DiskFault → IfOk r (Says l (terms_with p budget) (standing_on l later) middle written' how) → how ≡ drove.DiskFault
       found (Err e) is s = absurd (err_ok e ending.DiskFault is)
-      found (Ok end) is s = disk_by l (terms_with p budget) (standing_on l later) middle written' how end s (same_ok end ending.DiskFault is)
+      found (Ok end) is s = disk_by how end s.0 (same_ok end ending.DiskFault is)
 
   pub disk_told : how ≡ drove.DiskFault → got ≡ Ok ending.DiskFault
   disk_told is = found got said said_part
     where
       found : (r : Result Ending Put) → IfOk r (Says l (terms_with p budget) (standing_on l later) middle written' how) → OnErr r (SaysPart l (terms_with p budget) (standing_on l later) middle written' how) → r ≡ Ok ending.DiskFault
-      found (Err e) s part = let P : Drove → Type 0 = λ d. SaysPart l (terms_with p budget) (standing_on l later) middle written' d in absurd (subst P is part)
-      found (Ok end) s part = ap okay (disk_said l (terms_with p budget) (standing_on l later) middle written' how end s is)
+      found (Err e) s part = let P : Drove → Type 0 = λ d. SaysPart l (terms_with p budget) (standing_on l later) middle written' d in absurd (not_err (subst P is part).1)
+      found (Ok end) s part = ap okay (disk_said how end s.0 is)
 
 -- the answer that was lost, where nothing is said after it
 pub lost_then : (l : Language) (terms : Terms) (a : Point) (t : List Answer) (left' middle written' : Option (List ℕ)) (how : Drove) (got : Result Ending Put) → IfOk got (Says l terms t middle written' how) → how ≡ drove.DiskFault → got ≡ Ok ending.DiskFault →
     (question : Assignment) (reply : Bool) → Loses line_turn l terms a (point_of t left' middle) question reply → Loses line_turn l terms a (point_of t left' written') question reply
-lost_then l terms a t left' middle written' how (Err e) told is ended question reply loses = absurd (err_okay e ended)
+lost_then l terms a t left' middle written' how (Err e) told is ended question reply loses = absurd (err_ok e ending.DiskFault ended)
 lost_then l terms a t left' middle written' how (Ok end) told is ended question reply loses =
     let P : Drove → Type 0 = λ d. Says l terms t middle written' d end in
     let Lost : Option (List ℕ) → Type 0 = λ w. Loses line_turn l terms a (point_of t left' w) question reply in

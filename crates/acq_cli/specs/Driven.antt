@@ -143,15 +143,7 @@ Drives turns l terms old new drove.Memory = CutOff turns l terms old new
 abbrev pub IsOwned : Language → Terms → List Candidate → List Answer → Drove → Type 0
 IsOwned l terms owner t (drove.Converged m) = (network : List Candidate) × (end : Option WalkEnd) × (state_after l terms.plan t ≡ At (Idle network end)) × HasSameSolutions l owner network
 IsOwned l terms owner t (drove.Collapsed m) = ⊥
-IsOwned l terms owner t (drove.Undecided m) = Unit {0}
-IsOwned l terms owner t (drove.Suspended m) = Unit {0}
-IsOwned l terms owner t drove.LineTooLong = Unit {0}
-IsOwned l terms owner t drove.Unreadable = Unit {0}
-IsOwned l terms owner t drove.ReadFault = Unit {0}
-IsOwned l terms owner t drove.WriteFault = Unit {0}
-IsOwned l terms owner t drove.DiskFault = Unit {0}
-IsOwned l terms owner t drove.JournalFull = Unit {0}
-IsOwned l terms owner t drove.Memory = Unit {0}
+IsOwned l terms owner t how = Unit {0}
 
 -- how the walk of an example ended that the last answer ended; other plans walk none
 abbrev pub last_walk : Language → Plan → List Answer → Option WalkEnd

@@ -3,10 +3,16 @@ pub mod Driven
 pub mod Added
 pub mod Due
 pub mod Points
+pub mod Loop
 pub mod Texts
 pub mod Breaks
+pub mod Endings
 pub mod Program
 pub mod Words
 pub mod Shows
 pub mod Journals
+pub mod Trying
+pub mod Making
+pub mod Running
+pub mod Showing
 pub mod Exactly

@@ -3,14 +3,18 @@
 ghost use Rattle.std.specs.Prelude.{◌≡◌, ◌≢◌, ◌≤◌, ℕ, List, Option, IfOk, OnOk, OnErr, Ok, Err};
 ghost use Rattle.std.specs.String.{string_bytes};
 ghost use Rattle.acq_io.specs.Streams.{Adds, AddsFront, Rose};
+ghost use Rattle.acq_words.specs.Request.{IsBudget};
 ghost use Rattle.disk_model.specs.Disk.{LeavesOnly, Rose as DiskRose};
 ghost use Rattle.language.specs.Answers.{standing_on};
 ghost use Rattle.session_core.specs.Settled.{IsSettled};
-ghost use Rattle.acq_cli.specs.Journals.{journal_text, store_text, created_text, untold, EndsWith, Refuses, RefusesMaking, RunsOn, Makes, News, Shows, shown_text};
+ghost use Rattle.acq_cli.specs.Journals.{journal_text, store_text, untold, EndsWith, Refuses};
+ghost use Rattle.acq_cli.specs.Making.{created_text, RefusesMaking, Makes, News};
+ghost use Rattle.acq_cli.specs.Running.{RunsOn};
+ghost use Rattle.acq_cli.specs.Showing.{Shows, shown_text};
 
 use crate::ending::Ending;
 use crate::shows::show;
-use crate::top::{MOST_VOCABULARY, ask_on, refuse};
+use crate::top::{ask_on, refuse};
 use acq_io::{AllFault, Put, Sink, Source, read_all};
 use answer_journal::JFault;
 use assign::Plan;
@@ -19,7 +23,7 @@ use language::Language;
 use session_store::{Keep, SFault, Store};
 use std::alloc::{AllocError, Global};
 use std::thread::Threads;
-use voc_read::{VocFault, voc_text};
+use voc_read::{MOST_VOCABULARY, VocFault, voc_text};
 
 /// Why a journal can't be made or read.
 fn journal_text(alloc: Global, fault: JFault) -> Result<String, AllocError>
@@ -102,8 +106,7 @@ pub fn run_journal<R: Threads + Sync, S: Source, K: Sink, D: Disk>(
     out: &mut K,
     disk: &mut D,
 ) -> Result<Ending, Put>
-    requires some_budget { 1 ≤ budget }
-    requires small_budget { budget ≤ 1000000000 }
+    requires { IsBudget budget }
     ensures runs { RunsOn D.content D.may_leave D.moment D.left_since budget (S.left input.old) (K.written out.old) (S.left input.new) (K.written out.new) disk.old disk.new result }
     ensures read { result ≡ Ok Ending.ReadFault → Rose (S.faults input.old) (S.faults input.new) }
     ensures no_fault { IfOk result (λ ending. ending ≢ Ending.WriteFault) }

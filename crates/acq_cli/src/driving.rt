@@ -12,6 +12,8 @@ ghost use Rattle.acq_cli.specs.Driven.{Drives, IsOwned, LeavesNothing, Loses, Re
 ghost use Rattle.acq_cli.specs.Added.{IsAdded};
 ghost use Rattle.acq_cli.specs.Due.{IsDue, NextIs, PutIs, AnswerKept, EventKept, IsOneMore, ended_by};
 ghost use Rattle.acq_cli.specs.Points.{point_of, terms_with};
+ghost use Rattle.acq_cli.specs.Loop.{CountsFaults, EndsAs, HasTurned, IsAtStart, IsKeeping, IsPutNext, IsReady, IsSameSession, OnlyPuts, TeachesOn, TellsCandidates};
+ghost use Rattle.acq_words.specs.Request.{IsBudget};
 
 use acq_io::{Sink, Source};
 use assign::{Partial, Plan};
@@ -82,8 +84,7 @@ fn searched_next(idle: &Idle, place: &mut Place, screen: &mut Screen, budget: u3
     requires plan { (knowledge_of (Session.Idle idle.now)).plan ≢ Scopes }
     requires screen { IsMadeFor (knowledge_of (Session.Idle idle.now)).lang screen.old }
     requires marks { let k = knowledge_of (Session.Idle idle.now) in MarksHold k.lang k.network.list budget screen.old }
-    requires some_budget { 1 ≤ budget }
-    requires small_budget { budget ≤ 1000000000 }
+    requires budget { IsBudget budget }
     ensures next { (t : List Answer) → let k = knowledge_of (Session.Idle idle.now) in Stands (Session.Idle idle.now) t → NextIs k.lang (terms_with k.plan budget) t None result }
     ensures screen { IsMadeFor (knowledge_of (Session.Idle idle.now)).lang screen.new }
     ensures marks { let k = knowledge_of (Session.Idle idle.now) in MarksHold k.lang k.network.list budget screen.new }
@@ -108,8 +109,7 @@ fn searched_next(idle: &Idle, place: &mut Place, screen: &mut Screen, budget: u3
 fn idle_next(idle: &Idle, place: &mut Place, screen: &mut Screen, budget: u32) -> Upcoming
     requires screen { IsMadeFor (knowledge_of (Session.Idle idle.now)).lang screen.old }
     requires marks { let k = knowledge_of (Session.Idle idle.now) in MarksHold k.lang k.network.list budget screen.old }
-    requires some_budget { 1 ≤ budget }
-    requires small_budget { budget ≤ 1000000000 }
+    requires budget { IsBudget budget }
     ensures next { (t : List Answer) → let k = knowledge_of (Session.Idle idle.now) in Stands (Session.Idle idle.now) t → NextIs k.lang (terms_with k.plan budget) t None result }
     ensures screen { IsMadeFor (knowledge_of (Session.Idle idle.now)).lang screen.new }
     ensures marks { let k = knowledge_of (Session.Idle idle.now) in MarksHold k.lang k.network.list budget screen.new }
@@ -125,8 +125,7 @@ fn idle_next(idle: &Idle, place: &mut Place, screen: &mut Screen, budget: u32) -
 fn next_of(session: &Session, place: &mut Place, screen: &mut Screen, budget: u32) -> Upcoming
     requires screen { IsMadeFor (knowledge_of session.now).lang screen.old }
     requires marks { let k = knowledge_of session.now in MarksHold k.lang k.network.list budget screen.old }
-    requires some_budget { 1 ≤ budget }
-    requires small_budget { budget ≤ 1000000000 }
+    requires budget { IsBudget budget }
     ensures next { (t : List Answer) → let k = knowledge_of session.now in Stands session.now t → IsSettled k.lang k.plan t (open_in session.now)
         → NextIs k.lang (terms_with k.plan budget) t (open_in session.now) result }
     ensures screen { IsMadeFor (knowledge_of session.now).lang screen.new }
@@ -149,20 +148,9 @@ fn put_next<D: Disk, P: Keep<D>>(
     budget: u32,
 ) -> Upcoming
     requires sound { P.sound keep.old }
-    requires settled { IsSettled (P.lang keep.old) (P.plan keep.old) (standing_on (P.lang keep.old) (P.record_of keep.old)) (P.question keep.old) }
-    requires screen { IsMadeFor (P.lang keep.old) screen.old }
-    requires remembers { Remembers (P.lang keep.old) (terms_with (P.plan keep.old) budget) (standing_on (P.lang keep.old) (P.record_of keep.old)) screen.old }
-    requires some_budget { 1 ≤ budget }
-    requires small_budget { budget ≤ 1000000000 }
+    requires ready { IsReady (P.lang keep.old) (terms_with (P.plan keep.old) budget) (standing_on (P.lang keep.old) (P.record_of keep.old)) (P.question keep.old) screen.old }
     ensures put { PutIs (P.lang keep.old) (terms_with (P.plan keep.old) budget) (standing_on (P.lang keep.old) (P.record_of keep.old)) (P.question keep.new) result }
-    ensures events { P.record_of keep.new ≡ P.record_of keep.old }
-    ensures lang { P.lang keep.new ≡ P.lang keep.old }
-    ensures plan { P.plan keep.new ≡ P.plan keep.old }
-    ensures sound { P.sound keep.new }
-    ensures voc { P.voc keep.new ≡ P.voc keep.old }
-    ensures writes { P.writes keep.new ≡ P.writes keep.old }
-    ensures live { P.live keep.new ≡ P.live keep.old }
-    ensures sits { (disk : D) → P.sits keep.old disk → P.sits keep.new disk }
+    ensures keeper { OnlyPuts P.lang P.plan P.voc P.record_of P.writes P.live P.sound P.sits keep.old keep.new }
     ensures screen { IsMadeFor (P.lang keep.old) screen.new }
     ensures remembers { Remembers (P.lang keep.old) (terms_with (P.plan keep.old) budget) (standing_on (P.lang keep.old) (P.record_of keep.old)) screen.new }
     ensures open { result ≡ Upcoming.Undecided → TellsOpen (P.lang keep.old) (terms_with (P.plan keep.old) budget) (standing_on (P.lang keep.old) (P.record_of keep.old)) screen.new }
@@ -215,28 +203,20 @@ fn hear_answer<S: Source, K: Sink, D: Disk, T: Teacher<S, K>, P: Keep<D>>(
     keep: &mut P,
     question: &Partial,
 ) -> Option<Drove>
-    requires sound { P.sound keep.old }
-    requires live { IsTrue (P.live keep.old) }
-    requires sits { P.sits keep.old disk.old }
+    requires keeper { IsKeeping P.sound P.live P.sits keep.old disk.old }
     requires fits { T.fits teacher.old (P.lang keep.old) }
-    requires put { P.question keep.old ≡ Some question.now }
-    requires due { (budget : _) × IsDue (P.lang keep.old) (terms_with (P.plan keep.old) budget) (standing_on (P.lang keep.old) (P.record_of keep.old)) question.now }
+    requires put { IsPutNext (P.lang keep.old) (P.plan keep.old) (standing_on (P.lang keep.old) (P.record_of keep.old)) (P.question keep.old) question.now }
     ensures again { (budget : _) → IsDue (P.lang keep.old) (terms_with (P.plan keep.old) budget) (standing_on (P.lang keep.old) (P.record_of keep.old)) question.now
-        → result ≡ None → StepsTo (T.turn teacher.old) (P.lang keep.old) (terms_with (P.plan keep.old) budget)
+        → result ≡ None → HasTurned (T.turn teacher.old) (P.lang keep.old) (terms_with (P.plan keep.old) budget)
         (point_of (standing_on (P.lang keep.old) (P.record_of keep.old)) (S.left source.old) (K.written sink.old))
         (point_of (standing_on (P.lang keep.old) (P.record_of keep.new)) (S.left source.new) (K.written sink.new)) }
-    ensures more { result ≡ None → IsOneMore (standing_on (P.lang keep.old) (P.record_of keep.old)) (standing_on (P.lang keep.old) (P.record_of keep.new)) }
     ensures settled { result ≡ None → IsSettled (P.lang keep.old) (P.plan keep.old) (standing_on (P.lang keep.old) (P.record_of keep.new)) (P.question keep.new) }
-    ensures ends { (budget : _) → IsDue (P.lang keep.old) (terms_with (P.plan keep.old) budget) (standing_on (P.lang keep.old) (P.record_of keep.old)) question.now
-        → IfSome result (Drives (T.turn teacher.old) (P.lang keep.old) (terms_with (P.plan keep.old) budget)
+    ensures ends { (budget : _) (marks : _) → IsDue (P.lang keep.old) (terms_with (P.plan keep.old) budget) (standing_on (P.lang keep.old) (P.record_of keep.old)) question.now → IsMadeFor (P.lang keep.old) marks
+        → IfSome result (EndsAs (T.turn teacher.old) (P.lang keep.old) (terms_with (P.plan keep.old) budget)
         (point_of (standing_on (P.lang keep.old) (P.record_of keep.old)) (S.left source.old) (K.written sink.old))
-        (point_of (standing_on (P.lang keep.old) (P.record_of keep.new)) (S.left source.new) (K.written sink.new))) }
-    ensures decided { (m : _) → result ≢ Some (Drove.Undecided m) }
-    ensures turn { T.turn teacher.new ≡ T.turn teacher.old }
-    ensures fits { (l : _) → T.fits teacher.old l → T.fits teacher.new l }
-    ensures lang { P.lang keep.new ≡ P.lang keep.old }
-    ensures plan { P.plan keep.new ≡ P.plan keep.old }
-    ensures sound { P.sound keep.new }
+        (point_of (standing_on (P.lang keep.old) (P.record_of keep.new)) (S.left source.new) (K.written sink.new)) marks) }
+    ensures teacher { TeachesOn T.turn T.fits teacher.old teacher.new }
+    ensures same { IsSameSession P.lang P.plan P.sound keep.old keep.new }
     ensures added { IsAdded (P.lang keep.old) (P.plan keep.old) (P.record_of keep.old) (P.record_of keep.new) }
     ensures keeps { Keeps D.content D.may_leave D.moment D.left_since P.plan P.voc P.record_of P.question P.writes P.live P.sits D.faults (result ≡ Some Drove.DiskFault)
         (λ asked said. (budget : _) → IsDue (P.lang keep.old) (terms_with (P.plan keep.old) budget) (standing_on (P.lang keep.old) (P.record_of keep.old)) question.now
@@ -244,10 +224,8 @@ fn hear_answer<S: Source, K: Sink, D: Disk, T: Teacher<S, K>, P: Keep<D>>(
         (point_of (standing_on (P.lang keep.old) (P.record_of keep.old)) (S.left source.old) (K.written sink.old))
         (point_of (standing_on (P.lang keep.old) (P.record_of keep.new)) (S.left source.new) (K.written sink.new)) asked said)
         keep.old keep.new disk.old disk.new }
-    ensures later { S.faults source.old ≤ S.faults source.new }
-    ensures later_sink { K.faults sink.old ≤ K.faults sink.new }
-    ensures read { result ≡ Some Drove.ReadFault → Rose (S.faults source.old) (S.faults source.new) }
-    ensures write { result ≡ Some Drove.WriteFault → Rose (K.faults sink.old) (K.faults sink.new) }
+    ensures read { CountsFaults (S.faults source.old) (S.faults source.new) (result ≡ Some Drove.ReadFault) }
+    ensures write { CountsFaults (K.faults sink.old) (K.faults sink.new) (result ≡ Some Drove.WriteFault) }
 {
     let session = keep.session();
     let count = session.answers();
@@ -276,41 +254,26 @@ fn take_turn<S: Source, K: Sink, D: Disk, T: Teacher<S, K>, P: Keep<D>>(
     teacher: &mut T,
     keep: &mut P,
 ) -> Option<Drove>
-    requires sound { P.sound keep.old }
-    requires live { IsTrue (P.live keep.old) }
-    requires sits { P.sits keep.old disk.old }
+    requires keeper { IsKeeping P.sound P.live P.sits keep.old disk.old }
     requires fits { T.fits teacher.old (P.lang keep.old) }
-    requires settled { IsSettled (P.lang keep.old) (P.plan keep.old) (standing_on (P.lang keep.old) (P.record_of keep.old)) (P.question keep.old) }
-    requires screen { IsMadeFor (P.lang keep.old) screen.old }
-    requires remembers { Remembers (P.lang keep.old) (terms_with (P.plan keep.old) budget) (standing_on (P.lang keep.old) (P.record_of keep.old)) screen.old }
-    requires some_budget { 1 ≤ budget }
-    requires small_budget { budget ≤ 1000000000 }
-    ensures again { result ≡ None → StepsTo (T.turn teacher.old) (P.lang keep.old) (terms_with (P.plan keep.old) budget)
+    requires ready { IsReady (P.lang keep.old) (terms_with (P.plan keep.old) budget) (standing_on (P.lang keep.old) (P.record_of keep.old)) (P.question keep.old) screen.old }
+    ensures again { result ≡ None → HasTurned (T.turn teacher.old) (P.lang keep.old) (terms_with (P.plan keep.old) budget)
         (point_of (standing_on (P.lang keep.old) (P.record_of keep.old)) (S.left source.old) (K.written sink.old))
         (point_of (standing_on (P.lang keep.old) (P.record_of keep.new)) (S.left source.new) (K.written sink.new)) }
-    ensures more { result ≡ None → length (standing_on (P.lang keep.old) (P.record_of keep.new)) ≡ length (standing_on (P.lang keep.old) (P.record_of keep.old)) + 1 }
-    ensures settled { result ≡ None → IsSettled (P.lang keep.old) (P.plan keep.old) (standing_on (P.lang keep.old) (P.record_of keep.new)) (P.question keep.new) }
-    ensures remembers { result ≡ None → Remembers (P.lang keep.old) (terms_with (P.plan keep.old) budget) (standing_on (P.lang keep.old) (P.record_of keep.new)) screen.new }
-    ensures ends { IfSome result (Drives (T.turn teacher.old) (P.lang keep.old) (terms_with (P.plan keep.old) budget)
+    ensures ready { result ≡ None → IsReady (P.lang keep.old) (terms_with (P.plan keep.old) budget) (standing_on (P.lang keep.old) (P.record_of keep.new)) (P.question keep.new) screen.new }
+    ensures ends { IfSome result (EndsAs (T.turn teacher.old) (P.lang keep.old) (terms_with (P.plan keep.old) budget)
         (point_of (standing_on (P.lang keep.old) (P.record_of keep.old)) (S.left source.old) (K.written sink.old))
-        (point_of (standing_on (P.lang keep.old) (P.record_of keep.new)) (S.left source.new) (K.written sink.new))) }
-    ensures open { (m : _) → result ≡ Some (Drove.Undecided m) → TellsOpen (P.lang keep.old) (terms_with (P.plan keep.old) budget) (standing_on (P.lang keep.old) (P.record_of keep.new)) screen.new }
-    ensures screen { IsMadeFor (P.lang keep.old) screen.new }
-    ensures turn { T.turn teacher.new ≡ T.turn teacher.old }
-    ensures fits { (l : _) → T.fits teacher.old l → T.fits teacher.new l }
-    ensures lang { P.lang keep.new ≡ P.lang keep.old }
-    ensures plan { P.plan keep.new ≡ P.plan keep.old }
-    ensures sound { P.sound keep.new }
+        (point_of (standing_on (P.lang keep.old) (P.record_of keep.new)) (S.left source.new) (K.written sink.new)) screen.new) }
+    ensures teacher { TeachesOn T.turn T.fits teacher.old teacher.new }
+    ensures same { IsSameSession P.lang P.plan P.sound keep.old keep.new }
     ensures added { IsAdded (P.lang keep.old) (P.plan keep.old) (P.record_of keep.old) (P.record_of keep.new) }
     ensures keeps { Keeps D.content D.may_leave D.moment D.left_since P.plan P.voc P.record_of P.question P.writes P.live P.sits D.faults (result ≡ Some Drove.DiskFault)
         (Loses (T.turn teacher.old) (P.lang keep.old) (terms_with (P.plan keep.old) budget)
         (point_of (standing_on (P.lang keep.old) (P.record_of keep.old)) (S.left source.old) (K.written sink.old))
         (point_of (standing_on (P.lang keep.old) (P.record_of keep.new)) (S.left source.new) (K.written sink.new)))
         keep.old keep.new disk.old disk.new }
-    ensures later { S.faults source.old ≤ S.faults source.new }
-    ensures later_sink { K.faults sink.old ≤ K.faults sink.new }
-    ensures read { result ≡ Some Drove.ReadFault → Rose (S.faults source.old) (S.faults source.new) }
-    ensures write { result ≡ Some Drove.WriteFault → Rose (K.faults sink.old) (K.faults sink.new) }
+    ensures read { CountsFaults (S.faults source.old) (S.faults source.new) (result ≡ Some Drove.ReadFault) }
+    ensures write { CountsFaults (K.faults sink.old) (K.faults sink.new) (result ≡ Some Drove.WriteFault) }
 {
     match put_next::<D, P>(keep, place, screen, budget) {
         Upcoming::Open(question) | Upcoming::New(question) => {
@@ -341,16 +304,10 @@ pub fn drive<R: Threads + Sync, S: Source, K: Sink, D: Disk, T: Teacher<S, K>, P
     teacher: &mut T,
     keep: &mut P,
 ) -> Drove
-    requires sound { P.sound keep.old }
-    requires live { IsTrue (P.live keep.old) }
-    requires sits { P.sits keep.old disk.old }
+    requires keeper { IsKeeping P.sound P.live P.sits keep.old disk.old }
     requires fits { T.fits teacher.old (P.lang keep.old) }
     // where the answers lead to where nothing is open, no question is put
-    requires settled { IsSettled (P.lang keep.old) (P.plan keep.old) (standing_on (P.lang keep.old) (P.record_of keep.old)) (P.question keep.old) }
-    requires screen { IsMadeFor (P.lang keep.old) screen.old }
-    requires unmarked { HasNoMarks screen.old }
-    requires some_budget { 1 ≤ budget }
-    requires small_budget { budget ≤ 1000000000 }
+    requires start { IsAtStart (P.lang keep.old) (terms_with (P.plan keep.old) budget) (standing_on (P.lang keep.old) (P.record_of keep.old)) (P.question keep.old) screen.old }
     ensures ends { Drives (T.turn teacher.old) (P.lang keep.old) (terms_with (P.plan keep.old) budget)
         (point_of (standing_on (P.lang keep.old) (P.record_of keep.old)) (S.left source.old) (K.written sink.old))
         (point_of (standing_on (P.lang keep.old) (P.record_of keep.new)) (S.left source.new) (K.written sink.new)) result }
@@ -358,11 +315,8 @@ pub fn drive<R: Threads + Sync, S: Source, K: Sink, D: Disk, T: Teacher<S, K>, P
         → IsOwned (P.lang keep.old) (terms_with (P.plan keep.old) budget) owner (standing_on (P.lang keep.old) (P.record_of keep.new)) result }
     ensures walked { LeavesNothing (P.lang keep.old) (P.plan keep.old) (standing_on (P.lang keep.old) (P.record_of keep.new)) }
     // where it is undecided, the screen tells the open candidates
-    ensures open { (m : _) → result ≡ Drove.Undecided m → TellsOpen (P.lang keep.old) (terms_with (P.plan keep.old) budget) (standing_on (P.lang keep.old) (P.record_of keep.new)) screen.new }
-    ensures screen { IsMadeFor (P.lang keep.old) screen.new }
-    ensures lang { P.lang keep.new ≡ P.lang keep.old }
-    ensures plan { P.plan keep.new ≡ P.plan keep.old }
-    ensures sound { P.sound keep.new }
+    ensures open { TellsCandidates (P.lang keep.old) (terms_with (P.plan keep.old) budget) (standing_on (P.lang keep.old) (P.record_of keep.new)) screen.new result }
+    ensures same { IsSameSession P.lang P.plan P.sound keep.old keep.new }
     ensures added { IsAdded (P.lang keep.old) (P.plan keep.old) (P.record_of keep.old) (P.record_of keep.new) }
     // Where nothing is written, the disk isn't touched. Else a crash at any moment leaves the events from before the call and a
     // front of those of this run, and after it all of them, but for the last one where the disk failed. That one is the answer
@@ -372,10 +326,8 @@ pub fn drive<R: Threads + Sync, S: Source, K: Sink, D: Disk, T: Teacher<S, K>, P
         (point_of (standing_on (P.lang keep.old) (P.record_of keep.old)) (S.left source.old) (K.written sink.old))
         (point_of (standing_on (P.lang keep.old) (P.record_of keep.new)) (S.left source.new) (K.written sink.new)))
         keep.old keep.new disk.old disk.new }
-    ensures later { S.faults source.old ≤ S.faults source.new }
-    ensures later_sink { K.faults sink.old ≤ K.faults sink.new }
-    ensures read { result ≡ Drove.ReadFault → Rose (S.faults source.old) (S.faults source.new) }
-    ensures write { result ≡ Drove.WriteFault → Rose (K.faults sink.old) (K.faults sink.new) }
+    ensures read { CountsFaults (S.faults source.old) (S.faults source.new) (result ≡ Drove.ReadFault) }
+    ensures write { CountsFaults (K.faults sink.old) (K.faults sink.new) (result ≡ Drove.WriteFault) }
 {
     let _variables = keep.session().lang().n();
     for _turn in 0..MOST_TURNS {

@@ -13,11 +13,19 @@ ghost use Rattle.target_oracle.specs.Lines.{line_turn};
 ghost use Rattle.acq_cli.specs.Driven.{Loses, TellsOpen};
 ghost use Rattle.acq_cli.specs.Added.{IsAdded};
 ghost use Rattle.acq_cli.specs.Points.{point_of, terms_with};
-ghost use Rattle.acq_cli.specs.Breaks.{Breaks, BreaksRun};
-ghost use Rattle.acq_cli.specs.Program.{Acquires, HasEnded, Says, SaysPart, Tries};
+ghost use Rattle.acq_cli.specs.Loop.{CountsFaults, IsKeeping, IsSameSession};
+ghost use Rattle.acq_cli.specs.Trying.{Breaks};
+ghost use Rattle.acq_cli.specs.Breaks.{BreaksRun};
+ghost use Rattle.acq_cli.specs.Trying.{Acquires};
+ghost use Rattle.acq_cli.specs.Endings.{HasEnded, Says, SaysPart, Tries};
+ghost use Rattle.acq_cli.specs.Program.{TellsCauses};
 ghost use Rattle.disk_model.specs.Disk.{Rose as DiskRose};
-ghost use Rattle.acq_words.specs.Request.{IsWithin};
-ghost use Rattle.acq_cli.specs.Journals.{EndsWith, RunsOn, News, Shows, ended_as};
+ghost use Rattle.acq_words.specs.Request.{IsBudget, IsWithin};
+ghost use Rattle.acq_cli.specs.Journals.{EndsWith};
+ghost use Rattle.acq_cli.specs.Running.{RunsOn};
+ghost use Rattle.acq_cli.specs.Making.{News};
+ghost use Rattle.acq_cli.specs.Showing.{Shows};
+ghost use Rattle.acq_cli.specs.Program.{ended_as};
 ghost use Rattle.acq_cli.specs.Exactly.{NewEnds, RunEnds, ShowEnds};
 ghost use Rattle.acq_cli.specs.Words.{IsAsked, command_asked, is_over_journal, is_reading};
 ghost use Rattle.acq_cli.specs.Texts.{collapsed_text, converged_text, refusal_text, suspended_text, undecided_text, usage_text};
@@ -39,10 +47,7 @@ use session_store::{Keep, Loose};
 use std::alloc::Global;
 use std::thread::Threads;
 use target_oracle::LineTeacher;
-use voc_read::{VocFault, read_vocabulary, voc_text};
-
-/// The most bytes that a vocabulary has.
-pub(crate) const MOST_VOCABULARY: u32 = 4_194_304;
+use voc_read::{MOST_VOCABULARY, VocFault, read_vocabulary, voc_text};
 
 const USAGE: &[u8] = b"usage: acquire JOURNAL COMMAND [--plan P] [--budget N] [--number N]\n";
 
@@ -198,30 +203,23 @@ pub(crate) fn ask_on<R: Threads + Sync, S: Source, K: Sink, D: Disk, P: Keep<D>>
     disk: &mut D,
     keep: &mut P,
 ) -> Result<Ending, Put>
-    requires sound { P.sound keep.old }
-    requires live { IsTrue (P.live keep.old) }
-    requires sits { P.sits keep.old disk.old }
+    requires keeper { IsKeeping P.sound P.live P.sits keep.old disk.old }
     requires settled { IsSettled (P.lang keep.old) (P.plan keep.old) (standing_on (P.lang keep.old) (P.record_of keep.old)) (P.question keep.old) }
-    requires some_budget { 1 ≤ budget }
-    requires small_budget { budget ≤ 1000000000 }
+    requires budget { IsBudget budget }
     ensures tries { IfOk result (Tries (P.lang keep.old) (terms_with (P.plan keep.old) budget) (standing_on (P.lang keep.old) (P.record_of keep.old)) (standing_on (P.lang keep.old) (P.record_of keep.new))
         (S.left input.old) (K.written out.old) (S.left input.new) (K.written out.new)) }
     ensures part { OnErr result (BreaksRun (P.lang keep.old) (terms_with (P.plan keep.old) budget) (standing_on (P.lang keep.old) (P.record_of keep.old)) (standing_on (P.lang keep.old) (P.record_of keep.new)) (S.left input.old) (K.written out.old) (K.written out.new)) }
-    ensures read { result ≡ Ok Ending.ReadFault → Rose (S.faults input.old) (S.faults input.new) }
+    ensures read { CountsFaults (S.faults input.old) (S.faults input.new) (result ≡ Ok Ending.ReadFault) }
     ensures no_fault { IfOk result (λ ending. ending ≢ Ending.WriteFault) }
-    ensures failed { result ≡ Err Put.Failed → Rose (K.faults out.old) (K.faults out.new) }
-    ensures later { S.faults input.old ≤ S.faults input.new }
-    ensures later_sink { K.faults out.old ≤ K.faults out.new }
+    ensures failed { CountsFaults (K.faults out.old) (K.faults out.new) (result ≡ Err Put.Failed) }
     ensures added { IsAdded (P.lang keep.old) (P.plan keep.old) (P.record_of keep.old) (P.record_of keep.new) }
     ensures keeps { Keeps D.content D.may_leave D.moment D.left_since P.plan P.voc P.record_of P.question P.writes P.live P.sits D.faults (result ≡ Ok Ending.DiskFault)
         (Loses line_turn (P.lang keep.old) (terms_with (P.plan keep.old) budget)
         (point_of (standing_on (P.lang keep.old) (P.record_of keep.old)) (S.left input.old) (K.written out.old))
         (point_of (standing_on (P.lang keep.old) (P.record_of keep.new)) (S.left input.new) (K.written out.new)))
         keep.old keep.new disk.old disk.new }
-    ensures lang { P.lang keep.new ≡ P.lang keep.old }
+    ensures same { IsSameSession P.lang P.plan P.sound keep.old keep.new }
     ensures lawful { IsLanguage (P.lang keep.old) }
-    ensures plan { P.plan keep.new ≡ P.plan keep.old }
-    ensures sound { P.sound keep.new }
 {
     let start = keep.session();
     let lang = start.lang();
@@ -257,8 +255,7 @@ fn try_language<R: Threads + Sync, S: Source, K: Sink>(
     input: &mut S,
     out: &mut K,
 ) -> Result<Ending, Put>
-    requires some_budget { 1 ≤ terms.budget }
-    requires small_budget { terms.budget ≤ 1000000000 }
+    requires { IsBudget terms.budget }
     ensures tries { IfOk result (λ ending. (answers : List Answer) × Tries lang terms [] answers (S.left input.old) (K.written out.old) (S.left input.new) (K.written out.new) ending) }
     ensures part { OnErr result ((answers : List Answer) × BreaksRun lang terms [] answers (S.left input.old) (K.written out.old) (K.written out.new)) }
     ensures read { result ≡ Ok Ending.ReadFault → Rose (S.faults input.old) (S.faults input.new) }
@@ -305,8 +302,7 @@ fn try_input<R: Threads + Sync, S: Source, K: Sink>(
     input: &mut S,
     out: &mut K,
 ) -> Result<Ending, Put>
-    requires some_budget { 1 ≤ terms.budget }
-    requires small_budget { terms.budget ≤ 1000000000 }
+    requires { IsBudget terms.budget }
     ensures acquires { IfOk result (Acquires terms (S.left input.old) (K.written out.old) (S.left input.new) (K.written out.new)) }
     ensures part { OnErr result (Breaks terms (S.left input.old) (K.written out.old) (K.written out.new)) }
     ensures read { result ≡ Ok Ending.ReadFault → Rose (S.faults input.old) (S.faults input.new) }
@@ -410,9 +406,7 @@ pub fn acquire<R: Threads + Sync, S: Source, K: Sink, D: Disk>(
     ensures refuses { (fault : UsageFault) → command_asked (map string_bytes words.now) ≡ Err fault → (got : _) × (result ≡ ended_as got)
         × EndsWith (Ending.Usage fault) usage_text (K.written out.old) (K.written out.new) got }
     ensures usage { (fault : UsageFault) → result ≡ Ending.Usage fault → command_asked (map string_bytes words.now) ≡ Err fault }
-    ensures read { result ≡ Ending.ReadFault → Rose (S.faults input.old) (S.faults input.new) }
-    ensures write { result ≡ Ending.WriteFault → Rose (K.faults out.old) (K.faults out.new) }
-    ensures lost { result ≡ Ending.DiskFault → DiskRose (D.faults disk.old) (D.faults disk.new) }
+    ensures causes { TellsCauses (S.faults input.old) (S.faults input.new) (K.faults out.old) (K.faults out.new) (D.faults disk.old) (D.faults disk.new) result }
     // `new` and `show` are done, and a journal is refused, exactly where the bytes say so.
     ensures made { (plan : Plan) → command_asked (map string_bytes words.now) ≡ Ok (Command.New plan) → NewEnds (S.left input.old) (D.content disk.old) result }
     ensures opened { (budget : ℕ) → command_asked (map string_bytes words.now) ≡ Ok (Command.Run budget) → RunEnds (D.content disk.old) result }

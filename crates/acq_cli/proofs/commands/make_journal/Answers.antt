@@ -7,7 +7,7 @@ use Rattle.session_store.specs.Store.{lang_of}
 use Rattle.session_store.specs.declared.fault.SFault.{SFault}
 use Rattle.session_store.specs.declared.store.Store.{Store}
 use Rattle.acq_cli.specs.declared.ending.Ending.TheVariants as ending
-use Rattle.acq_cli.specs.Journals.{created_text}
+use Rattle.acq_cli.specs.Making.{created_text}
 use Rattle.acq_cli.proofs.Journals.{made_now, said_badly}
 use Rattle.acq_cli.proofs.commands.make_journal.Goals as goal
 

@@ -2,7 +2,7 @@ use Rattle.std.proofs.Common.{◌≡◌, ◌∙◌, refl, sym, ap, subst, ℕ, L
 use Rattle.acq_io.specs.declared.whole.AllFault.{AllFault}
 use Rattle.voc_read.specs.declared.fault.VocFault.TheVariants as voc
 use Rattle.acq_cli.specs.declared.ending.Ending.TheVariants as ending
-use Rattle.acq_cli.specs.Journals.{Makes}
+use Rattle.acq_cli.specs.Making.{Makes}
 use Rattle.acq_cli.specs.Texts.{refusal_text}
 use Rattle.acq_cli.proofs.Journals.{ends_with}
 use Rattle.acq_cli.proofs.commands.new_journal.Goals as goal

@@ -1,7 +1,8 @@
 use Rattle.std.proofs.Common.{sym, subst, ℕ, List, Option}
 use Rattle.session_store.specs.declared.fault.SFault.{SFault}
 use Rattle.acq_cli.specs.declared.ending.Ending.TheVariants as ending
-use Rattle.acq_cli.specs.Journals.{Refuses, RefusesMaking}
+use Rattle.acq_cli.specs.Journals.{Refuses}
+use Rattle.acq_cli.specs.Making.{RefusesMaking}
 use Rattle.acq_cli.specs.Texts.{refusal_text}
 use Rattle.acq_cli.proofs.Journals.{ends_with}
 use Rattle.acq_cli.proofs.commands.refuse_making.Goals as goal

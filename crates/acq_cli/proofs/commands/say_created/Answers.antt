@@ -2,7 +2,7 @@ use Rattle.std.proofs.Common.{◌≡◌, ◌∙◌, subst, ℕ, List, [], ◌∷
 use Rattle.std.specs.Prelude.{OnOk, OnErr, codes}
 use Rattle.std.specs.Fmt.{decimal}
 use Rattle.acq_io.specs.Streams.{Adds, AddsFront}
-use Rattle.acq_cli.specs.Journals.{created_text}
+use Rattle.acq_cli.specs.Making.{created_text}
 use Rattle.acq_cli.proofs.Parts.{wrote_part}
 use Rattle.acq_cli.proofs.commands.say_created.Goals as goal
 

@@ -2,7 +2,7 @@ use Rattle.std.proofs.Common.{refl, inl, inr}
 use Rattle.session_store.specs.Store.{lang_of, plan_of, voc_of, events_of}
 use Rattle.acq_cli.specs.declared.ending.Ending.TheVariants as ending
 use Rattle.language.specs.Answers.{standing_on}
-use Rattle.acq_cli.specs.Journals.{shown_text}
+use Rattle.acq_cli.specs.Showing.{shown_text}
 use Rattle.acq_cli.proofs.Parts.{done_writes, done_reads}
 use Rattle.acq_cli.proofs.Journals.{ends_only}
 use Rattle.acq_cli.proofs.commands.show_journal.Goals as goal

@@ -4,7 +4,7 @@ use Rattle.acq_io.specs.Streams.{Adds, AddsFront}
 use Rattle.language.specs.Answers.{standing_on}
 use Rattle.session_core.specs.Standing.{knowledge_of}
 use Rattle.acq_cli.specs.declared.ending.Ending.TheVariants as ending
-use Rattle.acq_cli.specs.Journals.{shown_text}
+use Rattle.acq_cli.specs.Showing.{shown_text}
 use Rattle.acq_cli.proofs.Journals.{said_badly}
 use Rattle.acq_cli.proofs.Showing.{shown_as}
 use Rattle.acq_cli.proofs.commands.show_kept.Goals as goal

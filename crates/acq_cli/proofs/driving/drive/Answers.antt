@@ -1,4 +1,4 @@
-use Rattle.std.proofs.Common.{Bool, Option, Some, None, ◌≡◌, ◌∙◌, ◌+◌, List, length, ap, sym, subst, arith, refl}
+use Rattle.std.proofs.Common.{◌∷◌, [], length-append, Bool, Option, Some, None, ◌≡◌, ◌∙◌, ◌+◌, List, length, ap, sym, subst, arith, refl}
 use Rattle.assign.specs.Assignment.{Assignment}
 use Rattle.assign.specs.Events.{Answer}
 use Rattle.assign.specs.declared.events.Plan.{Plan}
@@ -8,7 +8,9 @@ use Rattle.query_gen.specs.Marks.{IsMadeFor}
 use Rattle.session_laws.specs.Laws.{network_in}
 use Rattle.session_core.specs.Settled.{IsSettled}
 use Rattle.target_oracle.specs.Turns.{Turns}
-use Rattle.acq_cli.specs.Driven.{Point, Drives, Loses, Remembers, StepsTo, TellsOpen}
+use Rattle.acq_cli.specs.Driven.{Point, Drives, Loses, Remembers, StepsTo}
+use Rattle.acq_cli.specs.Due.{IsOneMore}
+use Rattle.acq_cli.specs.Loop.{TellsCandidates}
 use Rattle.acq_cli.specs.declared.driving.Drove.{Drove}
 use Rattle.acq_cli.specs.declared.driving.Drove.TheVariants as drove
 use Rattle.session_store.specs.Keeping.{keeps_still, keeps_then, keeps_as}
@@ -22,6 +24,9 @@ use Rattle.acq_cli.proofs.Walked.{leaves_nothing}
 use Rattle.acq_cli.proofs.Turning.{steps_on, steps_end, steps_loses, steps_none}
 use Rattle.acq_cli.proofs.driving.drive.Goals as goal
 
+more_by_one : (old new : List Answer) → IsOneMore old new → length new ≡ length old + 1
+more_by_one old new one = ap length one.is ∙ length-append old (one.more ∷ [])
+
 not_failed : None ≡ Some drove.DiskFault → ⊥
 not_failed e = cc
 
@@ -33,10 +38,10 @@ loop-turn-init g c =
     let l : Language = g.P.Keep.lang c.args.keep.now in
     let a : Point = point_of (standing_on l (g.P.Keep.record_of c.args.keep.now)) (g.S.Source.left c.args.source.now) (g.K.Sink.written c.args.sink.now) in
     record {
-      sound = c.requires.sound;
-      settled = c.requires.settled;
-      screen = c.requires.screen;
-      remembers = λ state at. no_marks_hold l (network_in state) c.args.budget c.args.screen.now c.requires.unmarked;
+      sound = c.requires.keeper.sound;
+      settled = c.requires.start.settled;
+      screen = c.requires.start.made;
+      remembers = λ state at. no_marks_hold l (network_in state) c.args.budget c.args.screen.now c.requires.start.unmarked;
       plan = refl;
       lang = refl;
       fits = c.requires.fits;
@@ -47,8 +52,8 @@ loop-turn-init g c =
       added = added_none l (g.P.Keep.plan c.args.keep.now) (g.P.Keep.record_of c.args.keep.now) (g.P.Keep.record_of c.args.keep.now) refl;
       keeps =
           let D = g.D.Disk in let P = g.P.Keep in
-          keeps_still D.content D.may_leave D.moment D.left_since g.met.D.Disk.counts_now g.met.D.Disk.only_now P.plan P.voc P.record_of P.question P.writes P.live P.sits D.faults ⊥ (λ q r. ⊥) c.args.keep.now c.args.keep.now c.args.disk.now (λ e. e) refl refl refl refl refl c.requires.live c.requires.sits
-          (λ w bytes told f left. g.met.P.Keep.lasts c.args.keep.now c.args.disk.now w c.requires.live c.requires.sits bytes told f left);
+          keeps_still D.content D.may_leave D.moment D.left_since g.met.D.Disk.counts_now g.met.D.Disk.only_now P.plan P.voc P.record_of P.question P.writes P.live P.sits D.faults ⊥ (λ q r. ⊥) c.args.keep.now c.args.keep.now c.args.disk.now (λ e. e) refl refl refl refl refl c.requires.keeper.live c.requires.keeper.sits
+          (λ w bytes told f left. g.met.P.Keep.lasts c.args.keep.now c.args.disk.now w c.requires.keeper.live c.requires.keeper.sits bytes told f left);
       more = omega arith;
     }
 
@@ -65,7 +70,7 @@ returns-in-Some-clause-ends g c =
     let Spoken : Language → Plan → Type 0 = λ m q. Drives turns m (terms_with q c.args.budget) (b m) (d m) c.in-Some.drove in
     let Stepped : Language → Type 0 = λ m. StepsTo turns l (terms_with p c.args.budget) a (b m) in
     steps_end turns l (terms_with p c.args.budget) a (b l) (d l) c.in-Some.drove (subst Stepped c.loop-turn.invariant.lang c.loop-turn.invariant.steps)
-    (carried Spoken old l (g.P.Keep.plan c.loop-turn.keep) p c.loop-turn.invariant.lang c.loop-turn.invariant.plan (subst Turned c.loop-turn.invariant.turn c.in-Some.ensures.ends))
+    (carried Spoken old l (g.P.Keep.plan c.loop-turn.keep) p c.loop-turn.invariant.lang c.loop-turn.invariant.plan (subst Turned c.loop-turn.invariant.turn c.in-Some.ensures.ends.ends))
 
 pub returns-in-Some-clause-owner : goal.returns-in-Some-clause-owner
 returns-in-Some-clause-owner g c owner lawful agreeing =
@@ -75,10 +80,17 @@ returns-in-Some-clause-owner g c owner lawful agreeing =
     (g.S.Source.left c.take_turn.new.source) (g.K.Sink.written c.take_turn.new.sink) c.in-Some.drove owner (returns-in-Some-clause-ends g c) lawful agreeing
 
 pub returns-in-Some-clause-open : goal.returns-in-Some-clause-open
-returns-in-Some-clause-open g c m is =
-    let Open : Language → Plan → Type 0 = λ n q. TellsOpen n (terms_with q c.args.budget) (standing_on n (g.P.Keep.record_of c.take_turn.new.keep)) c.take_turn.new.screen in
-    carried Open (g.P.Keep.lang c.loop-turn.keep) (g.P.Keep.lang c.args.keep.now) (g.P.Keep.plan c.loop-turn.keep) (g.P.Keep.plan c.args.keep.now)
-    c.loop-turn.invariant.lang c.loop-turn.invariant.plan (c.in-Some.ensures.open m (ap (λ (x : Drove). let o : Option Drove = Some x in o) is))
+returns-in-Some-clause-open g c =
+    let Tells : Language → Plan → Type 0 = λ n q. TellsCandidates n (terms_with q c.args.budget) (standing_on n (g.P.Keep.record_of c.take_turn.new.keep)) c.take_turn.new.screen c.in-Some.drove in
+    carried Tells (g.P.Keep.lang c.loop-turn.keep) (g.P.Keep.lang c.args.keep.now) (g.P.Keep.plan c.loop-turn.keep) (g.P.Keep.plan c.args.keep.now)
+    c.loop-turn.invariant.lang c.loop-turn.invariant.plan c.in-Some.ensures.ends.tells
+
+pub returns-in-Some-clause-same : goal.returns-in-Some-clause-same
+returns-in-Some-clause-same g c = record {
+  lang = c.take_turn.ensures.same.lang ∙ c.loop-turn.invariant.lang;
+  plan = c.take_turn.ensures.same.plan ∙ c.loop-turn.invariant.plan;
+  sound = c.take_turn.ensures.same.sound;
+}
 
 pub returns-in-Some-clause-walked : goal.returns-in-Some-clause-walked
 returns-in-Some-clause-walked g c =
@@ -105,23 +117,23 @@ loop-turn-preserved g c =
     let Remembered : Language → Plan → Type 0 = λ m q. Remembers m (terms_with q c.args.budget) (standing_on m (g.P.Keep.record_of c.take_turn.new.keep)) c.take_turn.new.screen in
     let Made : Language → Type 0 = λ m. IsMadeFor m c.take_turn.new.screen in
     let Fits : Language → Type 0 = λ m. g.T.Teacher.fits c.take_turn.new.teacher m in
-    let still : l ≡ new = sym (c.take_turn.ensures.lang ∙ c.loop-turn.invariant.lang) in
-    let one : length (standing_on old (g.P.Keep.record_of c.take_turn.new.keep)) ≡ length (standing_on old (g.P.Keep.record_of c.loop-turn.keep)) + 1 = c.take_turn.ensures.more c.in_default.is in
+    let still : l ≡ new = sym (c.take_turn.ensures.same.lang ∙ c.loop-turn.invariant.lang) in
+    let one : length (standing_on old (g.P.Keep.record_of c.take_turn.new.keep)) ≡ length (standing_on old (g.P.Keep.record_of c.loop-turn.keep)) + 1 = more_by_one _ _ (c.take_turn.ensures.again c.in_default.is).one_more in
     let same : length (standing_on new (g.P.Keep.record_of c.take_turn.new.keep)) ≡ length (standing_on old (g.P.Keep.record_of c.take_turn.new.keep)) =
-    ap (λ m. length (standing_on m (g.P.Keep.record_of c.take_turn.new.keep))) c.take_turn.ensures.lang in
+    ap (λ m. length (standing_on m (g.P.Keep.record_of c.take_turn.new.keep))) c.take_turn.ensures.same.lang in
     record {
-      sound = c.take_turn.ensures.sound;
-      settled = carried Settled old new before after (sym c.take_turn.ensures.lang) (sym c.take_turn.ensures.plan) (c.take_turn.ensures.settled c.in_default.is);
-      screen = subst Made (sym c.take_turn.ensures.lang) c.take_turn.ensures.screen;
-      remembers = carried Remembered old new before after (sym c.take_turn.ensures.lang) (sym c.take_turn.ensures.plan) (c.take_turn.ensures.remembers c.in_default.is);
-      plan = c.take_turn.ensures.plan ∙ c.loop-turn.invariant.plan;
-      lang = c.take_turn.ensures.lang ∙ c.loop-turn.invariant.lang;
-      fits = subst Fits (sym c.take_turn.ensures.lang) (c.take_turn.ensures.fits old c.loop-turn.invariant.fits);
-      turn = c.take_turn.ensures.turn ∙ c.loop-turn.invariant.turn;
+      sound = c.take_turn.ensures.same.sound;
+      settled = carried Settled old new before after (sym c.take_turn.ensures.same.lang) (sym c.take_turn.ensures.same.plan) (c.take_turn.ensures.ready c.in_default.is).settled;
+      screen = subst Made (sym c.take_turn.ensures.same.lang) (c.take_turn.ensures.ready c.in_default.is).made;
+      remembers = carried Remembered old new before after (sym c.take_turn.ensures.same.lang) (sym c.take_turn.ensures.same.plan) (c.take_turn.ensures.ready c.in_default.is).hold;
+      plan = c.take_turn.ensures.same.plan ∙ c.loop-turn.invariant.plan;
+      lang = c.take_turn.ensures.same.lang ∙ c.loop-turn.invariant.lang;
+      fits = subst Fits (sym c.take_turn.ensures.same.lang) (c.take_turn.ensures.teacher.fits old c.loop-turn.invariant.fits);
+      turn = c.take_turn.ensures.teacher.turn ∙ c.loop-turn.invariant.turn;
       steps = subst Ended still (steps_on turns l (terms_with p c.args.budget) a (b l) (d l) (subst Stepped c.loop-turn.invariant.lang c.loop-turn.invariant.steps)
-          (carried Spoken old l before p c.loop-turn.invariant.lang c.loop-turn.invariant.plan (subst Turned c.loop-turn.invariant.turn (c.take_turn.ensures.again c.in_default.is))));
-      later = omega (arith, c.take_turn.ensures.later, c.loop-turn.invariant.later);
-      later_sink = omega (arith, c.take_turn.ensures.later_sink, c.loop-turn.invariant.later_sink);
+          (carried Spoken old l before p c.loop-turn.invariant.lang c.loop-turn.invariant.plan (subst Turned c.loop-turn.invariant.turn (c.take_turn.ensures.again c.in_default.is).steps)));
+      later = omega (arith, c.take_turn.ensures.read.later, c.loop-turn.invariant.later);
+      later_sink = omega (arith, c.take_turn.ensures.write.later, c.loop-turn.invariant.later_sink);
       added = added_then l p (g.P.Keep.record_of c.args.keep.now) (g.P.Keep.record_of c.loop-turn.keep) (g.P.Keep.record_of c.take_turn.new.keep) c.loop-turn.invariant.added
           (let Added : Language → Plan → Type 0 = λ m q. IsAdded m q (g.P.Keep.record_of c.loop-turn.keep) (g.P.Keep.record_of c.take_turn.new.keep) in
           carried Added old l before p c.loop-turn.invariant.lang c.loop-turn.invariant.plan c.take_turn.ensures.added);
@@ -167,11 +179,20 @@ returns-in-Some-clause-keeps g c =
     (keeps_as D.content D.may_leave D.moment D.left_since g.met.D.Disk.counts_now g.met.D.Disk.only_now P.plan P.voc P.record_of P.question P.writes P.live P.sits D.faults Told Failed Turned Turned c.loop-turn.keep c.take_turn.new.keep c.loop-turn.disk c.take_turn.new.disk
     (λ e. ap (λ (d : Drove). Some d) e) (λ (e : Told). some_same c.in-Some.drove e) (λ failed question reply lost. lost) c.in-Some.ensures.keeps)
 
-pub take_turn-requires-clause-live : goal.take_turn-requires-clause-live
-take_turn-requires-clause-live g c = c.loop-turn.invariant.keeps.is_live (λ e. e)
+pub take_turn-requires-clause-keeper : goal.take_turn-requires-clause-keeper
+take_turn-requires-clause-keeper g c = record {
+  sound = c.loop-turn.invariant.sound;
+  live = c.loop-turn.invariant.keeps.is_live (λ e. e);
+  sits = c.loop-turn.invariant.keeps.belongs;
+}
 
-pub take_turn-requires-clause-sits : goal.take_turn-requires-clause-sits
-take_turn-requires-clause-sits g c = c.loop-turn.invariant.keeps.belongs
+pub take_turn-requires-clause-ready : goal.take_turn-requires-clause-ready
+take_turn-requires-clause-ready g c = record {
+  settled = c.loop-turn.invariant.settled;
+  made = c.loop-turn.invariant.screen;
+  hold = c.loop-turn.invariant.remembers;
+  affordable = c.requires.start.affordable;
+}
 
 pub unreachable-requires : goal.unreachable-requires
 unreachable-requires g c =

@@ -14,7 +14,7 @@ use Rattle.session_store.specs.Keeping.{keeps_still, keeps_as}
 use Rattle.acq_cli.proofs.Standings.{AtTurn, at_turn, next_fits, room_left, run_laws}
 use Rattle.acq_cli.proofs.Turning.{told_as, front_as, ran_closed, cut_turn}
 use Rattle.acq_cli.proofs.Added.{added_none}
-use Rattle.acq_cli.proofs.Answered.{goes_on, one_more, ends, loses, adds}
+use Rattle.acq_cli.proofs.Answered.{turned, ends, ends_so, loses, adds}
 use Rattle.acq_cli.proofs.driving.hear_answer.Goals as goal
 
 pub overflow_add-count : goal.overflow_add-count
@@ -41,24 +41,11 @@ returns-in-Yes-clause-again g c budget due =
     let left' : Option (List ℕ) = g.S.Source.left c.told.new.source in
     let written' : Option (List ℕ) = g.K.Sink.written c.told.new.sink in
     let after : List Answer = standing_on l (g.P.Keep.record_of c.keep_answer.new.keep) in
-    goes_on turns l (terms_with plan budget) t after c.args.question.now true (g.P.Keep.question c.args.keep.now) left written left' written' c.keep_answer.result due c.requires.put c.keep_answer.ensures.kept
+    turned turns l (terms_with plan budget) t after c.args.question.now true (g.P.Keep.question c.args.keep.now) left written left' written' c.keep_answer.result due c.requires.put.is c.keep_answer.ensures.kept
     (told_as turns c.lang.result.now l (c.answers-count.result + 1) (length t + 1) c.args.question.now (point_of t left written) (point_of t left' written') (Said true) at.language (ap (λ n. n + 1) at.number) c.in-Yes.ensures.tells)
 
-pub returns-in-Yes-clause-more : goal.returns-in-Yes-clause-more
-returns-in-Yes-clause-more g c =
-    let l : Language = g.P.Keep.lang c.args.keep.now in
-    let plan : Plan = g.P.Keep.plan c.args.keep.now in
-    let t : List Answer = standing_on l (g.P.Keep.record_of c.args.keep.now) in
-    let turns : Turns = g.T.Teacher.turn c.args.teacher.now in
-    let left : Option (List ℕ) = g.S.Source.left c.args.source.now in
-    let written : Option (List ℕ) = g.K.Sink.written c.args.sink.now in
-    let left' : Option (List ℕ) = g.S.Source.left c.told.new.source in
-    let written' : Option (List ℕ) = g.K.Sink.written c.told.new.sink in
-    let after : List Answer = standing_on l (g.P.Keep.record_of c.keep_answer.new.keep) in
-    one_more turns l (terms_with plan 1) t after c.args.question.now true (g.P.Keep.question c.args.keep.now) left written left' written' c.keep_answer.result c.requires.put c.keep_answer.ensures.kept
-
 pub returns-in-Yes-clause-ends : goal.returns-in-Yes-clause-ends
-returns-in-Yes-clause-ends g c budget due =
+returns-in-Yes-clause-ends g c budget marks due made =
     let l : Language = g.P.Keep.lang c.args.keep.now in
     let plan : Plan = g.P.Keep.plan c.args.keep.now in
     let t : List Answer = standing_on l (g.P.Keep.record_of c.args.keep.now) in
@@ -71,7 +58,7 @@ returns-in-Yes-clause-ends g c budget due =
     let left' : Option (List ℕ) = g.S.Source.left c.told.new.source in
     let written' : Option (List ℕ) = g.K.Sink.written c.told.new.sink in
     let after : List Answer = standing_on l (g.P.Keep.record_of c.keep_answer.new.keep) in
-    ends turns l (terms_with plan budget) t after c.args.question.now true (g.P.Keep.question c.args.keep.now) left written left' written' c.keep_answer.result at.lawful at.reached due c.keep_answer.ensures.kept
+    ends turns l (terms_with plan budget) t after c.args.question.now true (g.P.Keep.question c.args.keep.now) left written left' written' c.keep_answer.result marks made at.lawful at.reached due c.keep_answer.ensures.kept
     (told_as turns c.lang.result.now l (c.answers-count.result + 1) (length t + 1) c.args.question.now (point_of t left written) (point_of t left' written') (Said true) at.language (ap (λ n. n + 1) at.number) c.in-Yes.ensures.tells)
 
 pub returns-in-No-clause-again : goal.returns-in-No-clause-again
@@ -88,24 +75,11 @@ returns-in-No-clause-again g c budget due =
     let left' : Option (List ℕ) = g.S.Source.left c.told.new.source in
     let written' : Option (List ℕ) = g.K.Sink.written c.told.new.sink in
     let after : List Answer = standing_on l (g.P.Keep.record_of c.keep_answer-in-No.new.keep) in
-    goes_on turns l (terms_with plan budget) t after c.args.question.now false (g.P.Keep.question c.args.keep.now) left written left' written' c.keep_answer-in-No.result due c.requires.put c.keep_answer-in-No.ensures.kept
+    turned turns l (terms_with plan budget) t after c.args.question.now false (g.P.Keep.question c.args.keep.now) left written left' written' c.keep_answer-in-No.result due c.requires.put.is c.keep_answer-in-No.ensures.kept
     (told_as turns c.lang.result.now l (c.answers-count.result + 1) (length t + 1) c.args.question.now (point_of t left written) (point_of t left' written') (Said false) at.language (ap (λ n. n + 1) at.number) c.in-No.ensures.tells)
 
-pub returns-in-No-clause-more : goal.returns-in-No-clause-more
-returns-in-No-clause-more g c =
-    let l : Language = g.P.Keep.lang c.args.keep.now in
-    let plan : Plan = g.P.Keep.plan c.args.keep.now in
-    let t : List Answer = standing_on l (g.P.Keep.record_of c.args.keep.now) in
-    let turns : Turns = g.T.Teacher.turn c.args.teacher.now in
-    let left : Option (List ℕ) = g.S.Source.left c.args.source.now in
-    let written : Option (List ℕ) = g.K.Sink.written c.args.sink.now in
-    let left' : Option (List ℕ) = g.S.Source.left c.told.new.source in
-    let written' : Option (List ℕ) = g.K.Sink.written c.told.new.sink in
-    let after : List Answer = standing_on l (g.P.Keep.record_of c.keep_answer-in-No.new.keep) in
-    one_more turns l (terms_with plan 1) t after c.args.question.now false (g.P.Keep.question c.args.keep.now) left written left' written' c.keep_answer-in-No.result c.requires.put c.keep_answer-in-No.ensures.kept
-
 pub returns-in-No-clause-ends : goal.returns-in-No-clause-ends
-returns-in-No-clause-ends g c budget due =
+returns-in-No-clause-ends g c budget marks due made =
     let l : Language = g.P.Keep.lang c.args.keep.now in
     let plan : Plan = g.P.Keep.plan c.args.keep.now in
     let t : List Answer = standing_on l (g.P.Keep.record_of c.args.keep.now) in
@@ -118,11 +92,11 @@ returns-in-No-clause-ends g c budget due =
     let left' : Option (List ℕ) = g.S.Source.left c.told.new.source in
     let written' : Option (List ℕ) = g.K.Sink.written c.told.new.sink in
     let after : List Answer = standing_on l (g.P.Keep.record_of c.keep_answer-in-No.new.keep) in
-    ends turns l (terms_with plan budget) t after c.args.question.now false (g.P.Keep.question c.args.keep.now) left written left' written' c.keep_answer-in-No.result at.lawful at.reached due c.keep_answer-in-No.ensures.kept
+    ends turns l (terms_with plan budget) t after c.args.question.now false (g.P.Keep.question c.args.keep.now) left written left' written' c.keep_answer-in-No.result marks made at.lawful at.reached due c.keep_answer-in-No.ensures.kept
     (told_as turns c.lang.result.now l (c.answers-count.result + 1) (length t + 1) c.args.question.now (point_of t left written) (point_of t left' written') (Said false) at.language (ap (λ n. n + 1) at.number) c.in-No.ensures.tells)
 
 pub returns-in-Stop-clause-ends : goal.returns-in-Stop-clause-ends
-returns-in-Stop-clause-ends g c budget due =
+returns-in-Stop-clause-ends g c budget marks due made =
     let l : Language = g.P.Keep.lang c.args.keep.now in
     let plan : Plan = g.P.Keep.plan c.args.keep.now in
     let t : List Answer = standing_on l (g.P.Keep.record_of c.args.keep.now) in
@@ -134,10 +108,11 @@ returns-in-Stop-clause-ends g c budget due =
     let written : Option (List ℕ) = g.K.Sink.written c.args.sink.now in
     let left' : Option (List ℕ) = g.S.Source.left c.told.new.source in
     let written' : Option (List ℕ) = g.K.Sink.written c.told.new.sink in
+    ends_so turns l (terms_with plan budget) (point_of t left written) (point_of t left' written') marks (drove.Suspended c.answers-count.result) (λ m e. cc) made
     (at.number, ran_closed turns l (terms_with plan budget) c.args.question.now Stopped Suspended (point_of t left written) (point_of t left' written') due.puts refl (λ again rest. refl) (told_as turns c.lang.result.now l (c.answers-count.result + 1) (length t + 1) c.args.question.now (point_of t left written) (point_of t left' written') (Stopped) at.language (ap (λ n. n + 1) at.number) c.in-Stop.ensures.tells))
 
 pub returns-in-End-clause-ends : goal.returns-in-End-clause-ends
-returns-in-End-clause-ends g c budget due =
+returns-in-End-clause-ends g c budget marks due made =
     let l : Language = g.P.Keep.lang c.args.keep.now in
     let plan : Plan = g.P.Keep.plan c.args.keep.now in
     let t : List Answer = standing_on l (g.P.Keep.record_of c.args.keep.now) in
@@ -149,10 +124,11 @@ returns-in-End-clause-ends g c budget due =
     let written : Option (List ℕ) = g.K.Sink.written c.args.sink.now in
     let left' : Option (List ℕ) = g.S.Source.left c.told.new.source in
     let written' : Option (List ℕ) = g.K.Sink.written c.told.new.sink in
+    ends_so turns l (terms_with plan budget) (point_of t left written) (point_of t left' written') marks (drove.Suspended c.answers-count.result) (λ m e. cc) made
     (at.number, ran_closed turns l (terms_with plan budget) c.args.question.now Ended Suspended (point_of t left written) (point_of t left' written') due.puts refl (λ again rest. refl) (told_as turns c.lang.result.now l (c.answers-count.result + 1) (length t + 1) c.args.question.now (point_of t left written) (point_of t left' written') (Ended) at.language (ap (λ n. n + 1) at.number) c.in-End.ensures.tells))
 
 pub returns-in-TooLong-clause-ends : goal.returns-in-TooLong-clause-ends
-returns-in-TooLong-clause-ends g c budget due =
+returns-in-TooLong-clause-ends g c budget marks due made =
     let l : Language = g.P.Keep.lang c.args.keep.now in
     let plan : Plan = g.P.Keep.plan c.args.keep.now in
     let t : List Answer = standing_on l (g.P.Keep.record_of c.args.keep.now) in
@@ -164,10 +140,11 @@ returns-in-TooLong-clause-ends g c budget due =
     let written : Option (List ℕ) = g.K.Sink.written c.args.sink.now in
     let left' : Option (List ℕ) = g.S.Source.left c.told.new.source in
     let written' : Option (List ℕ) = g.K.Sink.written c.told.new.sink in
-    ran_closed turns l (terms_with plan budget) c.args.question.now Overlong LineTooLong (point_of t left written) (point_of t left' written') due.puts refl (λ again rest. refl) (told_as turns c.lang.result.now l (c.answers-count.result + 1) (length t + 1) c.args.question.now (point_of t left written) (point_of t left' written') (Overlong) at.language (ap (λ n. n + 1) at.number) c.in-TooLong.ensures.tells)
+    ends_so turns l (terms_with plan budget) (point_of t left written) (point_of t left' written') marks drove.LineTooLong (λ m e. cc) made
+    (ran_closed turns l (terms_with plan budget) c.args.question.now Overlong LineTooLong (point_of t left written) (point_of t left' written') due.puts refl (λ again rest. refl) (told_as turns c.lang.result.now l (c.answers-count.result + 1) (length t + 1) c.args.question.now (point_of t left written) (point_of t left' written') (Overlong) at.language (ap (λ n. n + 1) at.number) c.in-TooLong.ensures.tells))
 
 pub returns-in-Unreadable-clause-ends : goal.returns-in-Unreadable-clause-ends
-returns-in-Unreadable-clause-ends g c budget due =
+returns-in-Unreadable-clause-ends g c budget marks due made =
     let l : Language = g.P.Keep.lang c.args.keep.now in
     let plan : Plan = g.P.Keep.plan c.args.keep.now in
     let t : List Answer = standing_on l (g.P.Keep.record_of c.args.keep.now) in
@@ -179,10 +156,11 @@ returns-in-Unreadable-clause-ends g c budget due =
     let written : Option (List ℕ) = g.K.Sink.written c.args.sink.now in
     let left' : Option (List ℕ) = g.S.Source.left c.told.new.source in
     let written' : Option (List ℕ) = g.K.Sink.written c.told.new.sink in
-    ran_closed turns l (terms_with plan budget) c.args.question.now Unread Unreadable (point_of t left written) (point_of t left' written') due.puts refl (λ again rest. refl) (told_as turns c.lang.result.now l (c.answers-count.result + 1) (length t + 1) c.args.question.now (point_of t left written) (point_of t left' written') (Unread) at.language (ap (λ n. n + 1) at.number) c.in-Unreadable.ensures.tells)
+    ends_so turns l (terms_with plan budget) (point_of t left written) (point_of t left' written') marks drove.Unreadable (λ m e. cc) made
+    (ran_closed turns l (terms_with plan budget) c.args.question.now Unread Unreadable (point_of t left written) (point_of t left' written') due.puts refl (λ again rest. refl) (told_as turns c.lang.result.now l (c.answers-count.result + 1) (length t + 1) c.args.question.now (point_of t left written) (point_of t left' written') (Unread) at.language (ap (λ n. n + 1) at.number) c.in-Unreadable.ensures.tells))
 
 pub returns-in-ReadFault-clause-ends : goal.returns-in-ReadFault-clause-ends
-returns-in-ReadFault-clause-ends g c budget due =
+returns-in-ReadFault-clause-ends g c budget marks due made =
     let l : Language = g.P.Keep.lang c.args.keep.now in
     let plan : Plan = g.P.Keep.plan c.args.keep.now in
     let t : List Answer = standing_on l (g.P.Keep.record_of c.args.keep.now) in
@@ -194,10 +172,11 @@ returns-in-ReadFault-clause-ends g c budget due =
     let written : Option (List ℕ) = g.K.Sink.written c.args.sink.now in
     let left' : Option (List ℕ) = g.S.Source.left c.told.new.source in
     let written' : Option (List ℕ) = g.K.Sink.written c.told.new.sink in
-    cut_turn run_laws turns l (terms_with plan budget) at.lawful c.args.question.now (point_of t left written) (point_of t left' written') at.reached due.puts refl (front_as turns c.lang.result.now l (c.answers-count.result + 1) (length t + 1) c.args.question.now (point_of t left written) (point_of t left' written') at.language (ap (λ n. n + 1) at.number) c.in-ReadFault.ensures.tells)
+    ends_so turns l (terms_with plan budget) (point_of t left written) (point_of t left' written') marks drove.ReadFault (λ m e. cc) made
+    (cut_turn run_laws turns l (terms_with plan budget) at.lawful c.args.question.now (point_of t left written) (point_of t left' written') at.reached due.puts refl (front_as turns c.lang.result.now l (c.answers-count.result + 1) (length t + 1) c.args.question.now (point_of t left written) (point_of t left' written') at.language (ap (λ n. n + 1) at.number) c.in-ReadFault.ensures.tells))
 
 pub returns-in-WriteFault-clause-ends : goal.returns-in-WriteFault-clause-ends
-returns-in-WriteFault-clause-ends g c budget due =
+returns-in-WriteFault-clause-ends g c budget marks due made =
     let l : Language = g.P.Keep.lang c.args.keep.now in
     let plan : Plan = g.P.Keep.plan c.args.keep.now in
     let t : List Answer = standing_on l (g.P.Keep.record_of c.args.keep.now) in
@@ -209,10 +188,11 @@ returns-in-WriteFault-clause-ends g c budget due =
     let written : Option (List ℕ) = g.K.Sink.written c.args.sink.now in
     let left' : Option (List ℕ) = g.S.Source.left c.told.new.source in
     let written' : Option (List ℕ) = g.K.Sink.written c.told.new.sink in
-    cut_turn run_laws turns l (terms_with plan budget) at.lawful c.args.question.now (point_of t left written) (point_of t left' written') at.reached due.puts refl (front_as turns c.lang.result.now l (c.answers-count.result + 1) (length t + 1) c.args.question.now (point_of t left written) (point_of t left' written') at.language (ap (λ n. n + 1) at.number) c.in-WriteFault.ensures.tells)
+    ends_so turns l (terms_with plan budget) (point_of t left written) (point_of t left' written') marks drove.WriteFault (λ m e. cc) made
+    (cut_turn run_laws turns l (terms_with plan budget) at.lawful c.args.question.now (point_of t left written) (point_of t left' written') at.reached due.puts refl (front_as turns c.lang.result.now l (c.answers-count.result + 1) (length t + 1) c.args.question.now (point_of t left written) (point_of t left' written') at.language (ap (λ n. n + 1) at.number) c.in-WriteFault.ensures.tells))
 
 pub returns-in-Memory-clause-ends : goal.returns-in-Memory-clause-ends
-returns-in-Memory-clause-ends g c budget due =
+returns-in-Memory-clause-ends g c budget marks due made =
     let l : Language = g.P.Keep.lang c.args.keep.now in
     let plan : Plan = g.P.Keep.plan c.args.keep.now in
     let t : List Answer = standing_on l (g.P.Keep.record_of c.args.keep.now) in
@@ -224,7 +204,8 @@ returns-in-Memory-clause-ends g c budget due =
     let written : Option (List ℕ) = g.K.Sink.written c.args.sink.now in
     let left' : Option (List ℕ) = g.S.Source.left c.told.new.source in
     let written' : Option (List ℕ) = g.K.Sink.written c.told.new.sink in
-    cut_turn run_laws turns l (terms_with plan budget) at.lawful c.args.question.now (point_of t left written) (point_of t left' written') at.reached due.puts refl (front_as turns c.lang.result.now l (c.answers-count.result + 1) (length t + 1) c.args.question.now (point_of t left written) (point_of t left' written') at.language (ap (λ n. n + 1) at.number) c.in-Memory.ensures.tells)
+    ends_so turns l (terms_with plan budget) (point_of t left written) (point_of t left' written') marks drove.Memory (λ m e. cc) made
+    (cut_turn run_laws turns l (terms_with plan budget) at.lawful c.args.question.now (point_of t left written) (point_of t left' written') at.reached due.puts refl (front_as turns c.lang.result.now l (c.answers-count.result + 1) (length t + 1) c.args.question.now (point_of t left written) (point_of t left' written') at.language (ap (λ n. n + 1) at.number) c.in-Memory.ensures.tells))
 
 pub returns-in-Yes-clause-added : goal.returns-in-Yes-clause-added
 returns-in-Yes-clause-added g c =
@@ -238,7 +219,7 @@ returns-in-Yes-clause-added g c =
     c.session-session.ensures.stands c.session-session.ensures.lang c.session-session.ensures.plan c.answers-count.ensures c.lang.ensures.is c.lang.ensures.lawful in
     let left : Option (List ℕ) = g.S.Source.left c.args.source.now in
     let written : Option (List ℕ) = g.K.Sink.written c.args.sink.now in
-    adds (g.T.Teacher.turn c.args.teacher.now) l (terms_with plan c.requires.due.0) t t c.args.question.now true (P.question c.args.keep.now) left written left written c.keep_answer.result events (P.record_of c.keep_answer.new.keep) refl at.lawful c.requires.due.1 c.requires.put c.keep_answer.ensures.events
+    adds (g.T.Teacher.turn c.args.teacher.now) l (terms_with plan c.requires.put.budget) t t c.args.question.now true (P.question c.args.keep.now) left written left written c.keep_answer.result events (P.record_of c.keep_answer.new.keep) refl at.lawful c.requires.put.due c.requires.put.is c.keep_answer.ensures.events
 
 pub returns-in-No-clause-added : goal.returns-in-No-clause-added
 returns-in-No-clause-added g c =
@@ -252,7 +233,7 @@ returns-in-No-clause-added g c =
     c.session-session.ensures.stands c.session-session.ensures.lang c.session-session.ensures.plan c.answers-count.ensures c.lang.ensures.is c.lang.ensures.lawful in
     let left : Option (List ℕ) = g.S.Source.left c.args.source.now in
     let written : Option (List ℕ) = g.K.Sink.written c.args.sink.now in
-    adds (g.T.Teacher.turn c.args.teacher.now) l (terms_with plan c.requires.due.0) t t c.args.question.now false (P.question c.args.keep.now) left written left written c.keep_answer-in-No.result events (P.record_of c.keep_answer-in-No.new.keep) refl at.lawful c.requires.due.1 c.requires.put c.keep_answer-in-No.ensures.events
+    adds (g.T.Teacher.turn c.args.teacher.now) l (terms_with plan c.requires.put.budget) t t c.args.question.now false (P.question c.args.keep.now) left written left written c.keep_answer-in-No.result events (P.record_of c.keep_answer-in-No.new.keep) refl at.lawful c.requires.put.due c.requires.put.is c.keep_answer-in-No.ensures.events
 
 pub returns-in-Stop-clause-added : goal.returns-in-Stop-clause-added
 returns-in-Stop-clause-added g c = added_none (g.P.Keep.lang c.args.keep.now) (g.P.Keep.plan c.args.keep.now) (g.P.Keep.record_of c.args.keep.now) (g.P.Keep.record_of c.args.keep.now) refl
@@ -299,7 +280,7 @@ returns-in-Yes-clause-keeps g c =
     (λ failed asked said lost budget due.
     loses turns l (terms_with plan budget) t after q true (P.question c.args.keep.now) left written left' written' c.keep_answer.result drove.DiskFault due c.keep_answer.ensures.kept failed
     (told_as turns c.lang.result.now l (c.answers-count.result + 1) (length t + 1) q (point_of t left written) (point_of t left' written') (Said true) at.language (ap (λ n. n + 1) at.number) c.in-Yes.ensures.tells)
-    c.requires.put asked said lost)
+    c.requires.put.is asked said lost)
     c.keep_answer.ensures.keeps
 
 pub returns-in-No-clause-keeps : goal.returns-in-No-clause-keeps
@@ -326,50 +307,50 @@ returns-in-No-clause-keeps g c =
     (λ failed asked said lost budget due.
     loses turns l (terms_with plan budget) t after q false (P.question c.args.keep.now) left written left' written' c.keep_answer-in-No.result drove.DiskFault due c.keep_answer-in-No.ensures.kept failed
     (told_as turns c.lang.result.now l (c.answers-count.result + 1) (length t + 1) q (point_of t left written) (point_of t left' written') (Said false) at.language (ap (λ n. n + 1) at.number) c.in-No.ensures.tells)
-    c.requires.put asked said lost)
+    c.requires.put.is asked said lost)
     c.keep_answer-in-No.ensures.keeps
 
 pub returns-in-Stop-clause-keeps : goal.returns-in-Stop-clause-keeps
 returns-in-Stop-clause-keeps g c =
     let D = g.D.Disk in let P = g.P.Keep in
-    keeps_still D.content D.may_leave D.moment D.left_since g.met.D.Disk.counts_now g.met.D.Disk.only_now P.plan P.voc P.record_of P.question P.writes P.live P.sits D.faults _ _ c.args.keep.now c.args.keep.now c.args.disk.now (λ (e : _). cc) refl refl refl refl refl c.requires.live c.requires.sits
-    (λ w bytes told f left. g.met.P.Keep.lasts c.args.keep.now c.args.disk.now w c.requires.live c.requires.sits bytes told f left)
+    keeps_still D.content D.may_leave D.moment D.left_since g.met.D.Disk.counts_now g.met.D.Disk.only_now P.plan P.voc P.record_of P.question P.writes P.live P.sits D.faults _ _ c.args.keep.now c.args.keep.now c.args.disk.now (λ (e : _). cc) refl refl refl refl refl c.requires.keeper.live c.requires.keeper.sits
+    (λ w bytes told f left. g.met.P.Keep.lasts c.args.keep.now c.args.disk.now w c.requires.keeper.live c.requires.keeper.sits bytes told f left)
 
 pub returns-in-End-clause-keeps : goal.returns-in-End-clause-keeps
 returns-in-End-clause-keeps g c =
     let D = g.D.Disk in let P = g.P.Keep in
-    keeps_still D.content D.may_leave D.moment D.left_since g.met.D.Disk.counts_now g.met.D.Disk.only_now P.plan P.voc P.record_of P.question P.writes P.live P.sits D.faults _ _ c.args.keep.now c.args.keep.now c.args.disk.now (λ (e : _). cc) refl refl refl refl refl c.requires.live c.requires.sits
-    (λ w bytes told f left. g.met.P.Keep.lasts c.args.keep.now c.args.disk.now w c.requires.live c.requires.sits bytes told f left)
+    keeps_still D.content D.may_leave D.moment D.left_since g.met.D.Disk.counts_now g.met.D.Disk.only_now P.plan P.voc P.record_of P.question P.writes P.live P.sits D.faults _ _ c.args.keep.now c.args.keep.now c.args.disk.now (λ (e : _). cc) refl refl refl refl refl c.requires.keeper.live c.requires.keeper.sits
+    (λ w bytes told f left. g.met.P.Keep.lasts c.args.keep.now c.args.disk.now w c.requires.keeper.live c.requires.keeper.sits bytes told f left)
 
 pub returns-in-TooLong-clause-keeps : goal.returns-in-TooLong-clause-keeps
 returns-in-TooLong-clause-keeps g c =
     let D = g.D.Disk in let P = g.P.Keep in
-    keeps_still D.content D.may_leave D.moment D.left_since g.met.D.Disk.counts_now g.met.D.Disk.only_now P.plan P.voc P.record_of P.question P.writes P.live P.sits D.faults _ _ c.args.keep.now c.args.keep.now c.args.disk.now (λ (e : _). cc) refl refl refl refl refl c.requires.live c.requires.sits
-    (λ w bytes told f left. g.met.P.Keep.lasts c.args.keep.now c.args.disk.now w c.requires.live c.requires.sits bytes told f left)
+    keeps_still D.content D.may_leave D.moment D.left_since g.met.D.Disk.counts_now g.met.D.Disk.only_now P.plan P.voc P.record_of P.question P.writes P.live P.sits D.faults _ _ c.args.keep.now c.args.keep.now c.args.disk.now (λ (e : _). cc) refl refl refl refl refl c.requires.keeper.live c.requires.keeper.sits
+    (λ w bytes told f left. g.met.P.Keep.lasts c.args.keep.now c.args.disk.now w c.requires.keeper.live c.requires.keeper.sits bytes told f left)
 
 pub returns-in-Unreadable-clause-keeps : goal.returns-in-Unreadable-clause-keeps
 returns-in-Unreadable-clause-keeps g c =
     let D = g.D.Disk in let P = g.P.Keep in
-    keeps_still D.content D.may_leave D.moment D.left_since g.met.D.Disk.counts_now g.met.D.Disk.only_now P.plan P.voc P.record_of P.question P.writes P.live P.sits D.faults _ _ c.args.keep.now c.args.keep.now c.args.disk.now (λ (e : _). cc) refl refl refl refl refl c.requires.live c.requires.sits
-    (λ w bytes told f left. g.met.P.Keep.lasts c.args.keep.now c.args.disk.now w c.requires.live c.requires.sits bytes told f left)
+    keeps_still D.content D.may_leave D.moment D.left_since g.met.D.Disk.counts_now g.met.D.Disk.only_now P.plan P.voc P.record_of P.question P.writes P.live P.sits D.faults _ _ c.args.keep.now c.args.keep.now c.args.disk.now (λ (e : _). cc) refl refl refl refl refl c.requires.keeper.live c.requires.keeper.sits
+    (λ w bytes told f left. g.met.P.Keep.lasts c.args.keep.now c.args.disk.now w c.requires.keeper.live c.requires.keeper.sits bytes told f left)
 
 pub returns-in-ReadFault-clause-keeps : goal.returns-in-ReadFault-clause-keeps
 returns-in-ReadFault-clause-keeps g c =
     let D = g.D.Disk in let P = g.P.Keep in
-    keeps_still D.content D.may_leave D.moment D.left_since g.met.D.Disk.counts_now g.met.D.Disk.only_now P.plan P.voc P.record_of P.question P.writes P.live P.sits D.faults _ _ c.args.keep.now c.args.keep.now c.args.disk.now (λ (e : _). cc) refl refl refl refl refl c.requires.live c.requires.sits
-    (λ w bytes told f left. g.met.P.Keep.lasts c.args.keep.now c.args.disk.now w c.requires.live c.requires.sits bytes told f left)
+    keeps_still D.content D.may_leave D.moment D.left_since g.met.D.Disk.counts_now g.met.D.Disk.only_now P.plan P.voc P.record_of P.question P.writes P.live P.sits D.faults _ _ c.args.keep.now c.args.keep.now c.args.disk.now (λ (e : _). cc) refl refl refl refl refl c.requires.keeper.live c.requires.keeper.sits
+    (λ w bytes told f left. g.met.P.Keep.lasts c.args.keep.now c.args.disk.now w c.requires.keeper.live c.requires.keeper.sits bytes told f left)
 
 pub returns-in-WriteFault-clause-keeps : goal.returns-in-WriteFault-clause-keeps
 returns-in-WriteFault-clause-keeps g c =
     let D = g.D.Disk in let P = g.P.Keep in
-    keeps_still D.content D.may_leave D.moment D.left_since g.met.D.Disk.counts_now g.met.D.Disk.only_now P.plan P.voc P.record_of P.question P.writes P.live P.sits D.faults _ _ c.args.keep.now c.args.keep.now c.args.disk.now (λ (e : _). cc) refl refl refl refl refl c.requires.live c.requires.sits
-    (λ w bytes told f left. g.met.P.Keep.lasts c.args.keep.now c.args.disk.now w c.requires.live c.requires.sits bytes told f left)
+    keeps_still D.content D.may_leave D.moment D.left_since g.met.D.Disk.counts_now g.met.D.Disk.only_now P.plan P.voc P.record_of P.question P.writes P.live P.sits D.faults _ _ c.args.keep.now c.args.keep.now c.args.disk.now (λ (e : _). cc) refl refl refl refl refl c.requires.keeper.live c.requires.keeper.sits
+    (λ w bytes told f left. g.met.P.Keep.lasts c.args.keep.now c.args.disk.now w c.requires.keeper.live c.requires.keeper.sits bytes told f left)
 
 pub returns-in-Memory-clause-keeps : goal.returns-in-Memory-clause-keeps
 returns-in-Memory-clause-keeps g c =
     let D = g.D.Disk in let P = g.P.Keep in
-    keeps_still D.content D.may_leave D.moment D.left_since g.met.D.Disk.counts_now g.met.D.Disk.only_now P.plan P.voc P.record_of P.question P.writes P.live P.sits D.faults _ _ c.args.keep.now c.args.keep.now c.args.disk.now (λ (e : _). cc) refl refl refl refl refl c.requires.live c.requires.sits
-    (λ w bytes told f left. g.met.P.Keep.lasts c.args.keep.now c.args.disk.now w c.requires.live c.requires.sits bytes told f left)
+    keeps_still D.content D.may_leave D.moment D.left_since g.met.D.Disk.counts_now g.met.D.Disk.only_now P.plan P.voc P.record_of P.question P.writes P.live P.sits D.faults _ _ c.args.keep.now c.args.keep.now c.args.disk.now (λ (e : _). cc) refl refl refl refl refl c.requires.keeper.live c.requires.keeper.sits
+    (λ w bytes told f left. g.met.P.Keep.lasts c.args.keep.now c.args.disk.now w c.requires.keeper.live c.requires.keeper.sits bytes told f left)
 
 pub keep_answer-requires-clause-room : goal.keep_answer-requires-clause-room
 keep_answer-requires-clause-room g c =

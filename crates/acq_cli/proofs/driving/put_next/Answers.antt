@@ -17,7 +17,7 @@ use Rattle.acq_cli.proofs.driving.put_next.Goals as goal
 pub next_of-next-requires-clause-marks : goal.next_of-next-requires-clause-marks
 next_of-next-requires-clause-marks g c =
     marks_here c.session.result.now (g.P.Keep.lang c.args.keep.now) (g.P.Keep.plan c.args.keep.now) c.args.budget
-    (standing_on (g.P.Keep.lang c.args.keep.now) (g.P.Keep.record_of c.args.keep.now)) c.args.screen.now c.session.ensures.stands c.session.ensures.lang c.session.ensures.plan c.requires.remembers
+    (standing_on (g.P.Keep.lang c.args.keep.now) (g.P.Keep.record_of c.args.keep.now)) c.args.screen.now c.session.ensures.stands c.session.ensures.lang c.session.ensures.plan c.requires.ready.hold
 
 pub returns-in_default : goal.returns-in_default
 returns-in_default g c =
@@ -34,18 +34,20 @@ returns-in_default g c =
     let Put : Option Assignment → Type 0 = λ o. NextIs l (terms_with p c.args.budget) t o c.next_of-next.result in
     let Made : Language → Type 0 = λ m. IsMadeFor m c.next_of-next.new.screen in
     let Open : Language → Plan → Type 0 = λ m q. TellsOpen m (terms_with q c.args.budget) t c.next_of-next.new.screen in
-    let settled : IsSettled k.lang k.plan t (open_in s) = carried Settled l k.lang p k.plan (sym told.lang) (sym told.plan) (subst Quiet (sym told.question) c.requires.settled) in
+    let settled : IsSettled k.lang k.plan t (open_in s) = carried Settled l k.lang p k.plan (sym told.lang) (sym told.plan) (subst Quiet (sym told.question) c.requires.ready.settled) in
     let comes : NextIs l (terms_with p c.args.budget) t (open_in s) c.next_of-next.result = carried Comes k.lang l k.plan p told.lang told.plan (c.next_of-next.ensures.next t told.stands settled) in
     record {
       put = put_as l (terms_with p c.args.budget) t there c.next_of-next.result c.in_default.not-New (subst Put told.question comes);
-      events = refl;
-      lang = refl;
-      plan = refl;
-      sound = c.requires.sound;
-      voc = refl;
-      writes = refl;
-      live = refl;
-      sits = λ disk sits. sits;
+      keeper = record {
+        lang = refl;
+        plan = refl;
+        voc = refl;
+        events = refl;
+        writes = refl;
+        live = refl;
+        sound = c.requires.sound;
+        sits = λ disk sits. sits;
+      };
       screen = subst Made told.lang c.next_of-next.ensures.screen;
       remembers = marks_there s l p c.args.budget t c.next_of-next.new.screen told.stands told.lang told.plan c.next_of-next.ensures.marks;
       «open» = λ is. carried Open k.lang l k.plan p told.lang told.plan (c.next_of-next.ensures.«open» t told.stands is);

@@ -27,13 +27,13 @@ returns-clause-tries g c =
     let new = c.drive-drove.new.keep in
     let k = knowledge_of c.session-session.result.now in
     let later : List Event = P.record_of new in
-    let same : k.lang ≡ P.lang old = c.session-session.ensures.lang ∙ c.drive-drove.ensures.lang in
-    let again : k.plan ≡ P.plan old = c.session-session.ensures.plan ∙ c.drive-drove.ensures.plan in
+    let same : k.lang ≡ P.lang old = c.session-session.ensures.lang ∙ c.drive-drove.ensures.same.lang in
+    let again : k.plan ≡ P.plan old = c.session-session.ensures.plan ∙ c.drive-drove.ensures.same.plan in
     let Here : Language → Type 0 = λ m. Stands c.session-session.result.now (standing_on m later) in
     let stands : Here k.lang = subst Here (sym c.session-session.ensures.lang) c.session-session.ensures.stands in
     tried (P.lang old) k.lang (P.plan old) k.plan c.args.budget (standing_on (P.lang old) (P.record_of old)) later (g.S.Source.left c.args.input.now) (g.K.Sink.written c.args.out.now)
     (g.S.Source.left c.drive-drove.new.source) (g.K.Sink.written c.drive-drove.new.sink) (g.K.Sink.written c.say.new.out) c.drive-drove.new.screen c.drive-drove.result c.say.result same again c.drive-drove.ensures.walked
-    c.drive-drove.ensures.ends c.drive-drove.ensures.open (c.say.ensures.says c.args.budget (standing_on k.lang later) stands) (c.say.ensures.part c.args.budget (standing_on k.lang later) stands)
+    c.drive-drove.ensures.ends c.drive-drove.ensures.open.undecided (c.say.ensures.says c.args.budget (standing_on k.lang later) stands) (c.say.ensures.part c.args.budget (standing_on k.lang later) stands)
 
 pub returns-clause-part : goal.returns-clause-part
 returns-clause-part g c =
@@ -42,28 +42,31 @@ returns-clause-part g c =
     let new = c.drive-drove.new.keep in
     let k = knowledge_of c.session-session.result.now in
     let later : List Event = P.record_of new in
-    let same : k.lang ≡ P.lang old = c.session-session.ensures.lang ∙ c.drive-drove.ensures.lang in
-    let again : k.plan ≡ P.plan old = c.session-session.ensures.plan ∙ c.drive-drove.ensures.plan in
+    let same : k.lang ≡ P.lang old = c.session-session.ensures.lang ∙ c.drive-drove.ensures.same.lang in
+    let again : k.plan ≡ P.plan old = c.session-session.ensures.plan ∙ c.drive-drove.ensures.same.plan in
     let Here : Language → Type 0 = λ m. Stands c.session-session.result.now (standing_on m later) in
     let stands : Here k.lang = subst Here (sym c.session-session.ensures.lang) c.session-session.ensures.stands in
     broken (P.lang old) k.lang (P.plan old) k.plan c.args.budget (standing_on (P.lang old) (P.record_of old)) later (g.S.Source.left c.args.input.now) (g.K.Sink.written c.args.out.now)
     (g.S.Source.left c.drive-drove.new.source) (g.K.Sink.written c.drive-drove.new.sink) (g.K.Sink.written c.say.new.out) c.drive-drove.new.screen c.drive-drove.result c.say.result same again c.drive-drove.ensures.walked
-    c.drive-drove.ensures.ends c.drive-drove.ensures.open (c.say.ensures.says c.args.budget (standing_on k.lang later) stands) (c.say.ensures.part c.args.budget (standing_on k.lang later) stands)
+    c.drive-drove.ensures.ends c.drive-drove.ensures.open.undecided (c.say.ensures.says c.args.budget (standing_on k.lang later) stands) (c.say.ensures.part c.args.budget (standing_on k.lang later) stands)
 
 pub returns-clause-read : goal.returns-clause-read
-returns-clause-read g c is =
+returns-clause-read g c =
     let P = g.P.Keep in
     let old = c.args.keep.now in
     let new = c.drive-drove.new.keep in
     let k = knowledge_of c.session-session.result.now in
     let later : List Event = P.record_of new in
-    let same : k.lang ≡ P.lang old = c.session-session.ensures.lang ∙ c.drive-drove.ensures.lang in
-    let again : k.plan ≡ P.plan old = c.session-session.ensures.plan ∙ c.drive-drove.ensures.plan in
+    let same : k.lang ≡ P.lang old = c.session-session.ensures.lang ∙ c.drive-drove.ensures.same.lang in
+    let again : k.plan ≡ P.plan old = c.session-session.ensures.plan ∙ c.drive-drove.ensures.same.plan in
     let Here : Language → Type 0 = λ m. Stands c.session-session.result.now (standing_on m later) in
     let stands : Here k.lang = subst Here (sym c.session-session.ensures.lang) c.session-session.ensures.stands in
-    c.drive-drove.ensures.read (read_of (P.lang old) k.lang (P.plan old) k.plan c.args.budget (standing_on (P.lang old) (P.record_of old)) later (g.S.Source.left c.args.input.now) (g.K.Sink.written c.args.out.now)
-    (g.S.Source.left c.drive-drove.new.source) (g.K.Sink.written c.drive-drove.new.sink) (g.K.Sink.written c.say.new.out) c.drive-drove.new.screen c.drive-drove.result c.say.result same again c.drive-drove.ensures.walked
-    c.drive-drove.ensures.ends c.drive-drove.ensures.open (c.say.ensures.says c.args.budget (standing_on k.lang later) stands) (c.say.ensures.part c.args.budget (standing_on k.lang later) stands) is)
+    record {
+      later = c.drive-drove.ensures.read.later;
+      rose = λ is. c.drive-drove.ensures.read.rose (read_of (P.lang old) k.lang (P.plan old) k.plan c.args.budget (standing_on (P.lang old) (P.record_of old)) later (g.S.Source.left c.args.input.now) (g.K.Sink.written c.args.out.now)
+          (g.S.Source.left c.drive-drove.new.source) (g.K.Sink.written c.drive-drove.new.sink) (g.K.Sink.written c.say.new.out) c.drive-drove.new.screen c.drive-drove.result c.say.result same again c.drive-drove.ensures.walked
+          c.drive-drove.ensures.ends c.drive-drove.ensures.open.undecided (c.say.ensures.says c.args.budget (standing_on k.lang later) stands) (c.say.ensures.part c.args.budget (standing_on k.lang later) stands) is);
+    }
 
 pub returns-clause-no_fault : goal.returns-clause-no_fault
 returns-clause-no_fault g c =
@@ -89,8 +92,8 @@ returns-clause-keeps g c =
     let left' = g.S.Source.left c.drive-drove.new.source in
     let middle = g.K.Sink.written c.drive-drove.new.sink in
     let written' = g.K.Sink.written c.say.new.out in
-    let same : k.lang ≡ l = c.session-session.ensures.lang ∙ c.drive-drove.ensures.lang in
-    let again : k.plan ≡ p = c.session-session.ensures.plan ∙ c.drive-drove.ensures.plan in
+    let same : k.lang ≡ l = c.session-session.ensures.lang ∙ c.drive-drove.ensures.same.lang in
+    let again : k.plan ≡ p = c.session-session.ensures.plan ∙ c.drive-drove.ensures.same.plan in
     let Here : Language → Type 0 = λ m. Stands c.session-session.result.now (standing_on m later) in
     let stands : Here k.lang = subst Here (sym c.session-session.ensures.lang) c.session-session.ensures.stands in
     let says = c.say.ensures.says c.args.budget (standing_on k.lang later) stands in
@@ -98,15 +101,15 @@ returns-clause-keeps g c =
     let Failed : Type 0 = c.drive-drove.result ≡ drove.DiskFault in
     let Ended : Type 0 = c.say.result ≡ Ok ending.DiskFault in
     let was : Ended → Failed =
-    disk_of l k.lang p k.plan c.args.budget start later left written left' middle written' c.drive-drove.new.screen c.drive-drove.result c.say.result same again c.drive-drove.ensures.walked c.drive-drove.ensures.ends c.drive-drove.ensures.open says parts in
+    disk_of l k.lang p k.plan c.args.budget start later left written left' middle written' c.drive-drove.new.screen c.drive-drove.result c.say.result same again c.drive-drove.ensures.walked c.drive-drove.ensures.ends c.drive-drove.ensures.open.undecided says parts in
     let Lost : Assignment → Bool → Type 0 = Loses line_turn l terms (point_of start left written) (point_of (standing_on l later) left' middle) in
     let Then : Assignment → Bool → Type 0 = Loses line_turn l terms (point_of start left written) (point_of (standing_on l later) left' written') in
     keeps_as D.content D.may_leave D.moment D.left_since g.met.D.Disk.counts_now g.met.D.Disk.only_now P.plan P.voc P.record_of P.question P.writes P.live P.sits D.faults Failed Ended Lost Then old new c.args.disk.now c.drive-drove.new.disk
     was
-    (disk_told l k.lang p k.plan c.args.budget start later left written left' middle written' c.drive-drove.new.screen c.drive-drove.result c.say.result same again c.drive-drove.ensures.walked c.drive-drove.ensures.ends c.drive-drove.ensures.open says parts)
+    (disk_told l k.lang p k.plan c.args.budget start later left written left' middle written' c.drive-drove.new.screen c.drive-drove.result c.say.result same again c.drive-drove.ensures.walked c.drive-drove.ensures.ends c.drive-drove.ensures.open.undecided says parts)
     (λ ended question reply lost.
     lost_then l terms (point_of start left written) (standing_on l later) left' middle written' c.drive-drove.result c.say.result
-    (said l k.lang p k.plan c.args.budget start later left written left' middle written' c.drive-drove.new.screen c.drive-drove.result c.say.result same again c.drive-drove.ensures.walked c.drive-drove.ensures.ends c.drive-drove.ensures.open says parts)
+    (said l k.lang p k.plan c.args.budget start later left written left' middle written' c.drive-drove.new.screen c.drive-drove.result c.say.result same again c.drive-drove.ensures.walked c.drive-drove.ensures.ends c.drive-drove.ensures.open.undecided says parts)
     (was ended) ended question reply lost)
     c.drive-drove.ensures.keeps
 
@@ -129,7 +132,7 @@ pub say-requires : goal.say-requires
 say-requires g c =
     let P = g.P.Keep in
     let Made : Language → Type 0 = λ m. IsMadeFor m c.drive-drove.new.screen in
-    record { made = subst Made (sym (c.session-session.ensures.lang ∙ c.drive-drove.ensures.lang)) c.drive-drove.ensures.screen }
+    record { made = subst Made (sym (c.session-session.ensures.lang ∙ c.drive-drove.ensures.same.lang)) c.drive-drove.ensures.open.made }
 
 not_okay : (let r : Result Ending Put = Err puts.Memory in r) ≡ Ok ending.DiskFault → ⊥
 not_okay e = cc
@@ -147,8 +150,8 @@ returns-in_default-clause-part g c =
 pub returns-in_default-clause-keeps : goal.returns-in_default-clause-keeps
 returns-in_default-clause-keeps g c =
     let D = g.D.Disk in let P = g.P.Keep in
-    keeps_still D.content D.may_leave D.moment D.left_since g.met.D.Disk.counts_now g.met.D.Disk.only_now P.plan P.voc P.record_of P.question P.writes P.live P.sits D.faults _ _ c.args.keep.now c.args.keep.now c.args.disk.now not_okay refl refl refl refl refl c.requires.live c.requires.sits
-    (λ w bytes told f left. g.met.P.Keep.lasts c.args.keep.now c.args.disk.now w c.requires.live c.requires.sits bytes told f left)
+    keeps_still D.content D.may_leave D.moment D.left_since g.met.D.Disk.counts_now g.met.D.Disk.only_now P.plan P.voc P.record_of P.question P.writes P.live P.sits D.faults _ _ c.args.keep.now c.args.keep.now c.args.disk.now not_okay refl refl refl refl refl c.requires.keeper.live c.requires.keeper.sits
+    (λ w bytes told f left. g.met.P.Keep.lasts c.args.keep.now c.args.disk.now w c.requires.keeper.live c.requires.keeper.sits bytes told f left)
 
 pub returns-in_default-new-clause-part : goal.returns-in_default-new-clause-part
 returns-in_default-new-clause-part g c =
@@ -163,5 +166,5 @@ returns-in_default-new-clause-part g c =
 pub returns-in_default-new-clause-keeps : goal.returns-in_default-new-clause-keeps
 returns-in_default-new-clause-keeps g c =
     let D = g.D.Disk in let P = g.P.Keep in
-    keeps_still D.content D.may_leave D.moment D.left_since g.met.D.Disk.counts_now g.met.D.Disk.only_now P.plan P.voc P.record_of P.question P.writes P.live P.sits D.faults _ _ c.args.keep.now c.args.keep.now c.args.disk.now not_okay refl refl refl refl refl c.requires.live c.requires.sits
-    (λ w bytes told f left. g.met.P.Keep.lasts c.args.keep.now c.args.disk.now w c.requires.live c.requires.sits bytes told f left)
+    keeps_still D.content D.may_leave D.moment D.left_since g.met.D.Disk.counts_now g.met.D.Disk.only_now P.plan P.voc P.record_of P.question P.writes P.live P.sits D.faults _ _ c.args.keep.now c.args.keep.now c.args.disk.now not_okay refl refl refl refl refl c.requires.keeper.live c.requires.keeper.sits
+    (λ w bytes told f left. g.met.P.Keep.lasts c.args.keep.now c.args.disk.now w c.requires.keeper.live c.requires.keeper.sits bytes told f left)

@@ -1,0 +1,99 @@
+-- What a turn and the loop begin with, how they go on and end, and what stays the same.
+use Rattle.std.specs.Prelude.{◌≡◌, ◌≤◌, ℕ, IsTrue, Bool, List, Option, Some}
+use Rattle.acq_io.specs.Streams.{Rose}
+use Rattle.acq_words.specs.Request.{IsBudget}
+use Rattle.assign.specs.Assignment.{Assignment}
+use Rattle.assign.specs.Events.{Answer}
+use Rattle.assign.specs.declared.events.Event.{Event}
+use Rattle.assign.specs.declared.events.Plan.{Plan}
+use Rattle.language.specs.Language.{Language}
+use Rattle.query_gen.specs.Marks.{Remembered, IsMadeFor, HasNoMarks}
+use Rattle.session_core.specs.Settled.{IsSettled}
+use Rattle.target_oracle.specs.Turns.{Turns}
+use Rattle.acq_cli.specs.Driven.{Point, StepsTo, Drives, Remembers, TellsOpen}
+use Rattle.acq_cli.specs.Due.{IsDue, IsOneMore}
+use Rattle.acq_cli.specs.Points.{terms_with}
+use Rattle.acq_cli.specs.declared.terms.Terms.{Terms}
+use Rattle.acq_cli.specs.declared.driving.Drove.{Drove}
+use Rattle.acq_cli.specs.declared.driving.Drove.TheVariants as drove
+
+-- The count of faults never falls, and it has risen where a fault is told.
+pub record CountsFaults (before now : ℕ) (told : Type 0) : Type 0 where
+  pub later : before ≤ now
+  pub rose : told → Rose before now
+
+-- ---- what is begun with
+
+-- What a turn begins with, after these answers and with this question put: none is put where nothing is open, and the screen's
+-- marks are made for the language and true.
+pub record IsReady (l : Language) (terms : Terms) (t : List Answer) (put : Option Assignment) (marks : Remembered) : Type 0 where
+  pub settled : IsSettled l terms.plan t put
+  pub made : IsMadeFor l marks
+  pub hold : Remembers l terms t marks
+  pub affordable : IsBudget terms.budget
+
+-- what the loop begins with: the same, and no marks
+pub record IsAtStart (l : Language) (terms : Terms) (t : List Answer) (put : Option Assignment) (marks : Remembered) : Type 0 where
+  pub settled : IsSettled l terms.plan t put
+  pub made : IsMadeFor l marks
+  pub unmarked : HasNoMarks marks
+  pub affordable : IsBudget terms.budget
+
+-- this question is put, and it comes next
+pub record IsPutNext (l : Language) (plan : Plan) (t : List Answer) (put : Option Assignment) (q : Assignment) : Type 0 where
+  pub is : put ≡ Some q
+  pub budget : ℕ
+  pub due : IsDue l (terms_with plan budget) t q
+
+-- ---- how it goes on and ends
+
+-- A turn has gone on: its text and what it left begin each run from here, and one answer more stands.
+pub record HasTurned (turns : Turns) (l : Language) (terms : Terms) (old new : Point) : Type 0 where
+  pub steps : StepsTo turns l terms old new
+  pub one_more : IsOneMore old.answers new.answers
+
+-- The screen is made for the language, and where it is undecided it tells the open candidates.
+pub record TellsCandidates (l : Language) (terms : Terms) (t : List Answer) (marks : Remembered) (how : Drove) : Type 0 where
+  pub made : IsMadeFor l marks
+  pub undecided : (m : ℕ) → how ≡ drove.Undecided m → TellsOpen l terms t marks
+
+-- The loop has ended so: what it says is true, and so is what the screen tells.
+pub record EndsAs (turns : Turns) (l : Language) (terms : Terms) (old new : Point) (marks : Remembered) (how : Drove) : Type 0 where
+  pub ends : Drives turns l terms old new how
+  pub tells : TellsCandidates l terms new.answers marks how
+
+-- ---- what stays the same
+
+-- the meanings of a keeper
+module _ {K D : Type 0} (lang_of : K → Language) (plan_of : K → Plan) (voc_of : K → List ℕ) (events_of : K → List Event) (writes_of live_of : K → Bool) (is_sound : K → Type 0) (fits_disk : K → D → Type 0) where
+  -- nothing of it has changed but the question that is put
+  pub record OnlyPuts (old new : K) : Type 0 where
+    pub lang : lang_of new ≡ lang_of old
+    pub plan : plan_of new ≡ plan_of old
+    pub voc : voc_of new ≡ voc_of old
+    pub events : events_of new ≡ events_of old
+    pub writes : writes_of new ≡ writes_of old
+    pub live : live_of new ≡ live_of old
+    pub sound : is_sound new
+    pub sits : (disk : D) → fits_disk old disk → fits_disk new disk
+
+module _ {K D : Type 0} (is_sound : K → Type 0) (live_of : K → Bool) (fits_disk : K → D → Type 0) where
+  -- its session is there, an event may be added, and it and the disk belong together
+  pub record IsKeeping (keep : K) (disk : D) : Type 0 where
+    pub sound : is_sound keep
+    pub live : IsTrue (live_of keep)
+    pub sits : fits_disk keep disk
+
+module _ {K : Type 0} (lang_of : K → Language) (plan_of : K → Plan) (is_sound : K → Type 0) where
+  -- it keeps a session of the same language and plan
+  pub record IsSameSession (old new : K) : Type 0 where
+    pub lang : lang_of new ≡ lang_of old
+    pub plan : plan_of new ≡ plan_of old
+    pub sound : is_sound new
+
+-- the meanings of a teacher
+module _ {T : Type 0} (turns_of : T → Turns) (fits_of : T → Language → Type 0) where
+  -- it teaches as before
+  pub record TeachesOn (old new : T) : Type 0 where
+    pub turn : turns_of new ≡ turns_of old
+    pub fits : (l : Language) → fits_of old l → fits_of new l
