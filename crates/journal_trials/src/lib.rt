@@ -1,4 +1,4 @@
-//! Disks, journals and sessions over a journal: tables of calls, bytes, failures and crashes, with what they give.
+//! Disks and journals: tables of calls, bytes, failures and crashes, with what they give.
 #![tactic(auto)]
 
 #[cfg(test)]

@@ -1,0 +1,14 @@
+//! Sessions over a journal: files that are written out by hand, calls that fail, crashes, and stops beside a session that
+//! never stops.
+#![tactic(auto)]
+
+#[cfg(test)]
+mod created;
+#[cfg(test)]
+mod files;
+#[cfg(test)]
+mod opened;
+#[cfg(test)]
+mod resumed;
+#[cfg(test)]
+mod steps;
