@@ -8,7 +8,7 @@ session is one of plan scopes, with 128 variables, all pairs of them and 64 rela
 nothing has to hold: the longest that was found. Its files are written here by the form in docs/formats.md. Beyond it there is
 no place for a further answer, and beyond 1,000,000 records there are too many.
 
-First comes what an answer takes and, where strace is there, the system calls for one; then for each file the seconds, those of
+First comes what an answer takes, in a file and of `try`, and, where strace is there, the system calls for one; then for each file the seconds, those of
 a processor and, where GNU time is there, the most memory that `run` takes without any answer, and what it prints, and those of
 `show`. Nothing is asserted of the times; a file for which another line comes than the expected one is marked, and then the
 status is 1.
@@ -29,6 +29,8 @@ VARIABLES = 128
 VALUES = 8
 RELATIONS = 64
 ANSWERS = VARIABLES * (VARIABLES - 1) // 2 * RELATIONS
+# How many answers are timed, in a file and of `try`.
+FILED, TRIED = 1_000, 100_000
 
 
 def vocabulary():
@@ -94,7 +96,7 @@ def calls(words, given):
 
 
 def answer_costs(program, folder):
-    """What 1,001 answers take more than one, by the thousand, each the least of five times."""
+    """What many answers take more than one, for each of them, and each the least of five times."""
     journal = os.path.join(folder, "answers")
     kept, loose = [program, journal, "run"], [program, ":memory:", "try", "--plan", "scopes"]
     first = vocabulary() + b"\n"
@@ -106,19 +108,19 @@ def answer_costs(program, folder):
     def in_memory(given):
         return Cost(loose, first + given, subprocess.DEVNULL)
 
-    few, many = b"yes\n", b"yes\n" * 1001
-    for name, start in [(f"in a file in {folder}", in_file), ("of `try`, which keeps none", in_memory)]:
-        costs = [(start(few), start(many)) for _ in range(5)]
+    rows = [(f"in a file in {folder}", in_file, FILED), ("of `try`, which keeps none", in_memory, TRIED)]
+    for name, start, more in rows:
+        costs = [(start(b"yes\n"), start(b"yes\n" * (1 + more))) for _ in range(5)]
         seconds, processor = (
             min(spent(long) for _, long in costs) - min(spent(short) for short, _ in costs)
             for spent in (lambda cost: cost.seconds, lambda cost: cost.processor)
         )
-        print(f"an answer {name}: {seconds * 1000:,.0f} us, {processor * 1000:,.0f} us of a processor")
+        print(f"an answer {name}: {seconds / more * 1e6:,.1f} us, {processor / more * 1e6:,.1f} us of a processor")
     counts = []
-    for given in [few, many]:
+    for given in [b"yes\n", b"yes\n" * (1 + FILED)]:
         write_journal(journal, 1)
         counts.append(calls(kept, given))
-    more = {name: (count - counts[0].get(name, 0)) / 1000 for name, count in counts[1].items()}
+    more = {name: (count - counts[0].get(name, 0)) / FILED for name, count in counts[1].items()}
     told = ", ".join(f"{name} {count:g}" for name, count in sorted(more.items()) if count > 0.5)
     print(f"system calls for an answer: {told or 'strace is not there'}")
 

@@ -22,6 +22,8 @@ import os
 import random
 import subprocess
 import sys
+from operator import itemgetter
+from typing import NamedTuple
 
 TOP = os.path.join(os.path.dirname(os.path.abspath(__file__)), "..")
 PLANS = ["scopes", "quacq", "multi"]
@@ -44,6 +46,11 @@ def python_of(formula):
     return "(" + f" {sign} ".join(texts) + ")"
 
 
+def values_at(scope):
+    """What takes the values of a scope out of those of all variables, as a tuple."""
+    return itemgetter(*scope) if len(scope) > 1 else lambda whole: (whole[scope[0]],)
+
+
 class Task:
     """A vocabulary, and the owner's network: the accepted tuples of each scope that has a constraint."""
 
@@ -58,6 +65,12 @@ class Task:
             tuples = itertools.product(self.values, repeat=relation["arity"])
             self.tables[relation["name"]] = frozenset(t for t in tuples if test(t))
         self.network = dict(self.constraint_of(text) for text in constraints)
+        # What a scope of the network may not have. Tuples with a variable that isn't shown aren't among these.
+        self.unknown = dict.fromkeys(vocabulary["variables"])
+        self.rejected = [
+            (values_at(scope), frozenset(itertools.product(self.values, repeat=len(scope))) - table)
+            for scope, table in self.network.items()
+        ]
 
     def constraint_of(self, text):
         """The scope and the accepted tuples of a constraint as the program prints it."""
@@ -65,11 +78,8 @@ class Task:
         return tuple(scope), frozenset.intersection(*(self.tables[name] for name in names.split("&")))
 
     def accepts(self, shown):
-        return all(
-            tuple(shown[v] for v in scope) in table
-            for scope, table in self.network.items()
-            if all(v in shown for v in scope)
-        )
+        whole = {**self.unknown, **shown}
+        return not any(values_of(whole) in tuples for values_of, tuples in self.rejected)
 
 
 class Cut(Exception):
@@ -113,35 +123,75 @@ def has_solution(variables, values, constraints):
     return search({}, {v: list(values) for v in variables})
 
 
-def learn(program, task, plan):
-    """The questions, as the variables and values that they show, the lines behind them, and the seconds of processor time."""
+class Learned(NamedTuple):
+    """A session of `try`: the questions, as the variables and values that they show, the answers, and the lines behind them;
+    seconds of a processor in all, and the most that passed from one question to the next, if the system tells that."""
+
+    questions: list
+    answers: list
+    last: list
+    seconds: float
+    longest: float | None
+
+    def text(self):
+        lines = (
+            " ".join([f"q{number}", *(f"{name}={value}" for name, value in shown.items())])
+            for number, shown in enumerate(self.questions, 1)
+        )
+        return "".join(f"{line}\n" for line in [*lines, *self.last])
+
+
+def processor_so_far(process):
+    """How many seconds of a processor a running process has taken. None where the system doesn't tell."""
+    try:
+        with open(f"/proc/{process}/schedstat") as file:
+            return int(file.read().split()[0]) / 1e9
+    except (OSError, IndexError):
+        return None
+
+
+def learn(program, task, *words):
+    """A session of `try` with these words, whose owner answers by the task's network."""
     run = subprocess.Popen(
-        [program, ":memory:", "try", "--plan", plan], stdin=subprocess.PIPE, stdout=subprocess.PIPE, text=True
+        [program, ":memory:", "try", *words], stdin=subprocess.PIPE, stdout=subprocess.PIPE, text=True
     )
     run.stdin.write(json.dumps(task.vocabulary, separators=(",", ":")) + "\n")
     run.stdin.flush()
-    questions, last = [], []
+    questions, answers, last, taken = [], [], [], []
     for line in run.stdout:
         number, *parts = line.rstrip("\n").split(" ")
         if last or number != f"q{len(questions) + 1}":
             last.append(line.rstrip("\n"))
             continue
+        taken.append(processor_so_far(run.pid))
         shown = {name: int(value) for name, value in (part.split("=") for part in parts)}
         questions.append(shown)
-        run.stdin.write("yes\n" if task.accepts(shown) else "no\n")
+        answers.append("yes" if task.accepts(shown) else "no")
+        run.stdin.write(f"{answers[-1]}\n")
         run.stdin.flush()
     run.stdin.close()
     _, _, usage = os.wait4(run.pid, 0)
     run.returncode = 0
-    return questions, last, usage.ru_utime + usage.ru_stime
+    seconds = usage.ru_utime + usage.ru_stime
+    if None in taken:
+        return Learned(questions, answers, last, seconds, None)
+    longest = max(later - earlier for earlier, later in itertools.pairwise([0.0, *taken, seconds]))
+    return Learned(questions, answers, last, seconds, longest)
 
 
-def compare(task, last):
-    """How many of the owner's constraints were neither printed nor seen to follow. Fails where the printed ones aren't right."""
+def read_network(task, last):
+    """The printed constraints, and the scopes of the open ones. Fails where a printed one isn't the owner's."""
     printed = dict(task.constraint_of(line) for line in last[1:] if not line.startswith("open "))
     opened = {task.constraint_of(line[5:])[0] for line in last[1:] if line.startswith("open ")}
     for scope, table in printed.items():
         assert task.network.get(scope) == table, f"{scope}: not the owner's constraint"
+    return printed, opened
+
+
+def compare(task, last):
+    """How many constraints were printed, and how many of the owner's were neither printed nor seen to follow. Fails where one
+    that isn't open doesn't follow."""
+    printed, opened = read_network(task, last)
     unseen = 0
     for scope, table in task.network.items():
         if scope in printed:
@@ -184,12 +234,12 @@ def example(name):
     return Task(name, words, lines[ending + 1 :])
 
 
-def latin_square(size):
+def latin_square(size, relations=(EQUAL, DIFFER)):
     """Cells of one row or one column differ."""
     cells = [f"x{row}{column}" for row in range(1, size + 1) for column in range(1, size + 1)]
     pairs = itertools.combinations(cells, 2)
     network = [f"ne {one} {other}" for one, other in pairs if one[1] == other[1] or one[2] == other[2]]
-    return Task(f"Latin square {size} by {size}", vocabulary(cells, [1, size], [EQUAL, DIFFER]), network)
+    return Task(f"Latin square {size} by {size}", vocabulary(cells, [1, size], relations), network)
 
 
 def exams(count, slots, number):
@@ -243,14 +293,14 @@ def zebra():
     return Task("zebra", vocabulary([v for group in groups for v in group], [1, 5], relations), network)
 
 
-def drawn_network(count, values, constraints, number):
+def drawn_network(count, values, constraints, number, relations=(EQUAL, DIFFER)):
     """So many pairs differ, drawn so that some values meet them all; each pair is asked about."""
     draw = random.Random(number)
     names = [f"v{i:02}" for i in range(1, count + 1)]
     hidden = {name: draw.randint(1, values) for name in names}
     pairs = [pair for pair in itertools.combinations(names, 2) if hidden[pair[0]] != hidden[pair[1]]]
     network = [f"ne {one} {other}" for one, other in sorted(draw.sample(pairs, constraints))]
-    return Task(f"{count} variables, {constraints} ne", vocabulary(names, [1, values], [EQUAL, DIFFER]), network)
+    return Task(f"{count} variables, {constraints} ne", vocabulary(names, [1, values], relations), network)
 
 
 def golomb(marks, last):
@@ -303,7 +353,7 @@ def main():
             continue
         cells, spent = [], []
         for plan in PLANS:
-            questions, last, seconds = learn(program, task, plan)
+            questions, _, last, seconds, _ = learn(program, task, "--plan", plan)
             small = sum(len(shown) <= 3 for shown in questions)
             ending = last[0].split(" ")[0]
             try:

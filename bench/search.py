@@ -1,125 +1,190 @@
 #!/usr/bin/env python3
-"""How fast searches are, on two networks that are learned from an owner who answers by them.
+"""What learning costs where there are many questions or long searches, and how that of two programs compares.
 
-usage: bench/search.py PROGRAM [BUDGET]
+usage: bench/search.py PROGRAM [OTHER] [--all] [--case WORD]
 
-PROGRAM is the built program, as crates/acquire/out/acquire. Each network is learned in plan Quacq under some budgets, or
-under BUDGET where it is given. A row shows the questions, the ending, how many constraints were learned, how many
-candidates are left open, and the seconds, with the answers. For each open candidate the last search has looked at as many
-members as the budget says, so open candidates times budget, divided by the seconds, is what was looked at each second at
-least. Nothing is asserted of the times.
+PROGRAM is the built program, as crates/acquire/out/acquire. Each case is learned by `try` from an owner who answers by a
+network. Then the same answers are given once more in one piece, and the processor time of the program alone is taken, its
+start included: the least of three where that is below half a second. A table in Markdown comes: the questions, the ending, how
+many constraints were learned and how many are open; the time, that for a question, and the longest from one question to the
+next; and, where GNU time is there, the most memory. The longest cases come with --all alone; with --case those that have WORD
+in their names.
 
-The networks are a Latin square of 4 by 4 cells, over all pairs of cells, and 122 constraints between 50 variables of 10
-values, drawn once for all so that they have a solution.
+OTHER is a second program, such as an earlier build. It gets the same answers, and further columns have its time, how many times
+as long it takes, and whether it prints the same. Where it doesn't, it learns for itself, and how it ends is said there too.
+
+Nothing is asserted of the times. A printed constraint that isn't the owner's is a fault, and so is a text that differs where
+the answers come in one piece; then the status is 1.
+
+All cases are made here and in bench/questions.py, those that are drawn from fixed numbers.
 """
 
+import argparse
 import itertools
 import json
+import operator
+import os
 import random
 import subprocess
 import sys
-import time
 
-TESTS = {
-    "eq": lambda x, y: x == y,
-    "ne": lambda x, y: x != y,
-    "lt": lambda x, y: x < y,
-    "le": lambda x, y: x <= y,
-    "gt": lambda x, y: x > y,
-    "ge": lambda x, y: x >= y,
-}
-OPERATORS = {"eq": "=", "ne": "!=", "lt": "<", "le": "<=", "gt": ">", "ge": ">="}
+sys.dont_write_bytecode = True
+from journals import Cost
+from questions import AFTER, BEFORE, DIFFER, EQUAL, Task
+from questions import drawn_network, exams, golomb, latin_square, learn, read_network, relation, scopes_of, vocabulary, zebra
+
+NO_LATER, NO_EARLIER = relation("le", ["<=", "$0", "$1"]), relation("ge", [">=", "$0", "$1"])
+ORDERS = [EQUAL, DIFFER, BEFORE, NO_LATER, AFTER, NO_EARLIER]
+SHORT = 0.5
 
 
-def vocabulary(variables, values, relations, scopes):
-    return {
-        "variables": variables,
-        "domain": [1, values],
-        "relations": [
-            {"name": name, "arity": 2, "formula": [OPERATORS[name], "$0", "$1"]}
-            for name in relations
-        ],
-        "scopes": scopes,
-    }
+def sudoku():
+    """Cells of one row, one column or one box differ."""
+    cells = list(itertools.product(range(9), repeat=2))
+    name = lambda cell: f"x{cell[0] + 1}{cell[1] + 1}"
+    box = lambda cell: (cell[0] // 3, cell[1] // 3)
+    meet = lambda one, other: one[0] == other[0] or one[1] == other[1] or box(one) == box(other)
+    network = [f"ne {name(one)} {name(other)}" for one, other in itertools.combinations(cells, 2) if meet(one, other)]
+    return Task("Sudoku 9 by 9", vocabulary([name(cell) for cell in cells], [1, 9], ORDERS), network)
 
 
-def latin_square(size):
-    """Cells differ that share a row or a column."""
-    cells = [f"x{row}{column}" for row in range(1, size + 1) for column in range(1, size + 1)]
-    target = [
-        (one, "ne", other)
-        for one, other in itertools.combinations(cells, 2)
-        if one[1] == other[1] or one[2] == other[2]
-    ]
-    return vocabulary(cells, size, ["eq", "ne"], "all"), target
+def queens(size):
+    """Fields with a queen (1) or without (0): no two on one row, column or diagonal."""
+    fields = list(itertools.product(range(1, size + 1), repeat=2))
+    name = lambda field: f"x{field[0]}{field[1]}"
+
+    def attack(one, other):
+        rows, columns = abs(one[0] - other[0]), abs(one[1] - other[1])
+        return rows == 0 or columns == 0 or rows == columns
+
+    network = [f"nand {name(one)} {name(other)}" for one, other in itertools.combinations(fields, 2) if attack(one, other)]
+    both = ["+", "$0", "$1"]
+    relations = [relation("nand", ["<=", both, 1]), relation("or", [">=", both, 1]), EQUAL, DIFFER]
+    return Task(f"queens on {size} by {size} fields", vocabulary([name(field) for field in fields], [0, 1], relations), network)
 
 
-def drawn_network(size, values, constraints, seed):
-    """Constraints that a hidden solution meets, between pairs of variables; the scopes are these pairs."""
-    draw = random.Random(seed)
-    names = [f"v{i:02}" for i in range(1, size + 1)]
+def mixed_network(count, values, constraints, number):
+    """An order relation on each of so many pairs, drawn so that some values meet them all; each pair is asked about."""
+    draw = random.Random(number)
+    tests = {"ne": operator.ne, "lt": operator.lt, "le": operator.le, "gt": operator.gt, "ge": operator.ge}
+    names = [f"v{i:03}" for i in range(1, count + 1)]
     hidden = {name: draw.randint(1, values) for name in names}
-    pairs = sorted(draw.sample(list(itertools.combinations(names, 2)), constraints))
-    target = []
-    for one, other in pairs:
-        fitting = [name for name, test in TESTS.items() if test(hidden[one], hidden[other])]
-        target.append((one, draw.choice([name for name in fitting if name != "eq"]), other))
-    return vocabulary(names, values, list(TESTS), [list(pair) for pair in pairs]), target
+    network = []
+    for one, other in sorted(draw.sample(list(itertools.combinations(names, 2)), constraints)):
+        met = [name for name, test in tests.items() if test(hidden[one], hidden[other])]
+        network.append(f"{draw.choice(met)} {one} {other}")
+    return Task(f"{count} variables, {constraints} mixed", vocabulary(names, [1, values], ORDERS), network)
 
 
-def is_accepted(target, question):
-    return all(
-        TESTS[relation](question[one], question[other])
-        for one, relation, other in target
-        if one in question and other in question
-    )
+def milliseconds(seconds):
+    return f"{seconds * 1000:,.0f}" if seconds >= 0.01 else f"{seconds * 1000:.1f}"
 
 
-def learn(program, words, target, budget):
-    """Answers by the target until the program ends. Questions, the lines after the last one, and seconds."""
-    began = time.monotonic()
-    run = subprocess.Popen(
-        [program, ":memory:", "try", "--budget", str(budget)],
-        stdin=subprocess.PIPE,
-        stdout=subprocess.PIPE,
-        text=True,
-    )
-    run.stdin.write(json.dumps(words, separators=(",", ":")) + "\n")
-    run.stdin.flush()
-    questions, last = [], []
-    for line in run.stdout:
-        if not last and line.startswith("q"):
-            questions.append(line)
-            shown = dict(part.split("=") for part in line.split()[1:])
-            question = {name: int(value) for name, value in shown.items()}
-            run.stdin.write("yes\n" if is_accepted(target, question) else "no\n")
-            run.stdin.flush()
-        else:
-            last.append(line.rstrip("\n"))
-    run.stdin.close()
-    run.wait()
-    return questions, last, time.monotonic() - began
+class Case:
+    """A task, and the words with which it is learned."""
+
+    def __init__(self, task, *words):
+        self.task = task
+        self.words = words
+        self.name = ", ".join([task.name, *(f"{option[2:]} {value}" for option, value in zip(words[::2], words[1::2]))])
+        self.vocabulary = json.dumps(task.vocabulary, separators=(",", ":"))
+
+    def input_of(self, learned):
+        return "".join(f"{line}\n" for line in [self.vocabulary, *learned.answers]).encode()
+
+
+def cases():
+    """How each case is made, and whether it is a long one."""
+    yield False, lambda: Case(latin_square(4, ORDERS))
+    yield False, lambda: Case(latin_square(5, ORDERS))
+    yield False, lambda: Case(sudoku(), "--budget", "500")
+    yield False, lambda: Case(zebra())
+    yield False, lambda: Case(drawn_network(50, 10, 122, 122, ORDERS))
+    yield False, lambda: Case(mixed_network(50, 10, 122, 122))
+    yield False, lambda: Case(exams(24, 10, 24))
+    yield False, lambda: Case(exams(60, 15, 60))
+    yield False, lambda: Case(golomb(7, 15))
+    yield False, lambda: Case(queens(8))
+    yield True, lambda: Case(drawn_network(128, 10, 300, 300, ORDERS))
+    yield True, lambda: Case(mixed_network(128, 10, 300, 300))
+    yield True, lambda: Case(exams(100, 20, 100))
+    yield True, lambda: Case(exams(100, 20, 100), "--plan", "scopes")
+    yield True, lambda: Case(mixed_network(128, 10, 300, 300), "--plan", "scopes")
+
+
+def replay(program, case, learned):
+    """What the program prints for the same answers in one piece, the least seconds of a processor, and its memory."""
+    cost = Cost([program, ":memory:", "try", *case.words], case.input_of(learned), subprocess.PIPE)
+    seconds = cost.processor
+    if seconds < SHORT:
+        more = (Cost([program, ":memory:", "try", *case.words], case.input_of(learned), subprocess.DEVNULL) for _ in range(2))
+        seconds = min(seconds, *(one.processor for one in more))
+    return cost.text, seconds, cost.memory
+
+
+def compare_with(other, case, learned, seconds):
+    """The cells of the other program."""
+    text, spent, _ = replay(other, case, learned)
+    if text == learned.text():
+        return [milliseconds(spent), f"{spent / seconds:.1f}", "yes"]
+    own = learn(other, case.task, *case.words)
+    _, spent, _ = replay(other, case, own)
+    return [milliseconds(spent), f"{spent / seconds:.1f}", f"no, {own.last[0]}"]
+
+
+def row_of(program, other, case):
+    """The cells of a case. Fails where the program isn't right."""
+    learned = learn(program, case.task, *case.words)
+    printed, _ = read_network(case.task, learned.last)
+    text, seconds, memory = replay(program, case, learned)
+    assert text == learned.text(), "it prints something else where the answers come in one piece"
+    opened = sum(line.startswith("open ") for line in learned.last)
+    count = len(learned.questions)
+    ending = learned.last[0].split(" ")[0]
+    waited = "?" if learned.longest is None else milliseconds(learned.longest)
+    cells = [
+        case.name,
+        f"{len(case.task.vocabulary['variables'])}, {scopes_of(case.task):,}, {len(case.task.network):,}",
+        f"{count:,}",
+        ending,
+        f"{len(printed):,}",
+        f"{opened:,}",
+        milliseconds(seconds),
+        f"{seconds / max(1, count) * 1e6:,.0f}",
+        waited,
+        memory,
+    ]
+    return cells + (compare_with(other, case, learned, seconds) if other else [])
 
 
 def main():
-    program = sys.argv[1]
-    given = [int(word) for word in sys.argv[2:]]
-    networks = [
-        ("4 by 4 Latin square", latin_square(4), [20, 100_000]),
-        ("50 variables, 122 constraints", drawn_network(50, 10, 122, 20131), [10_000, 100_000]),
-    ]
-    for name, (words, target), budgets in networks:
-        for budget in given or budgets:
-            questions, last, seconds = learn(program, words, target, budget)
-            opens = sum(line.startswith("open ") for line in last)
-            learned = len(last) - 1 - opens
-            row = (
-                f"{name}, budget {budget}: {len(questions)} questions, {last[0]}, "
-                f"{learned} learned, {opens} open, {seconds:.2f} s"
-            )
-            if opens:
-                row += f", {opens * budget / seconds:,.0f} members per second at least"
-            print(row)
+    words = argparse.ArgumentParser(usage="bench/search.py PROGRAM [OTHER] [--all] [--case WORD]")
+    words.add_argument("program")
+    words.add_argument("other", nargs="?")
+    words.add_argument("--all", action="store_true")
+    words.add_argument("--case", default="")
+    if len(sys.argv) < 2:
+        print(__doc__)
+        sys.exit(2)
+    given = words.parse_args()
+    program, other = (path and os.path.realpath(path) for path in (given.program, given.other))
+    heads = ["case", "variables, scopes, constraints", "questions", "ending", "learned", "open"]
+    heads += ["ms", "us a question", "longest wait, ms", "memory"]
+    heads += ["ms of the other", "times as long", "the same text"] if other else []
+    print(f"| {' | '.join(heads)} |\n|{'---|' * len(heads)}", flush=True)
+    right = True
+    for is_long, make in cases():
+        if is_long and not (given.all or given.case):
+            continue
+        case = make()
+        if given.case not in case.name:
+            continue
+        try:
+            print(f"| {' | '.join(row_of(program, other, case))} |", flush=True)
+        except AssertionError as fault:
+            print(f"{case.name}: {fault}", flush=True)
+            right = False
+    sys.exit(0 if right else 1)
 
 
 if __name__ == "__main__":
