@@ -1,7 +1,7 @@
--- Pieces that are taken one after another, and what is read of them.
-use Rattle.std.proofs.Common.{◌≡◌, ℕ, List, [], ◌++◌, ap, sym, ◌∙◌, refl, append_assoc, append-nil, Option, Some, None}
+-- Pieces that are taken or added one after another, and what is read of them.
+use Rattle.std.proofs.Common.{◌≡◌, ℕ, List, [], ◌++◌, ap, sym, subst, ◌∙◌, refl, append_assoc, append-nil, Option, Some, None}
 use Rattle.std.specs.Option.{option_map}
-use Rattle.acq_io.specs.Streams.{Takes, WasEmpty}
+use Rattle.acq_io.specs.Streams.{Takes, TakesSome, WasEmpty, Adds, AddsOn}
 
 pub takes_none : (a : Option (List ℕ)) → Takes a a []
 takes_none None = refl
@@ -10,6 +10,23 @@ takes_none (Some bytes) = refl
 pub takes_on : (a b c : Option (List ℕ)) (xs ys : List ℕ) → Takes a b xs → Takes b c ys → Takes a c (xs ++ ys)
 takes_on a b None xs ys h k = h ∙ ap (option_map (λ rest. xs ++ rest)) k
 takes_on a b (Some rest) xs ys h k = h ∙ ap (option_map (λ rest. xs ++ rest)) k ∙ ap (λ bytes. let o : Option (List ℕ) = Some bytes in o) (sym (append_assoc xs ys rest))
+
+pub takes_some_on : (a b c : Option (List ℕ)) → TakesSome a b → TakesSome b c → TakesSome a c
+takes_some_on a b c (xs, h) (ys, k) = (xs ++ ys, takes_on a b c xs ys h k)
+
+pub adds_none : (a : Option (List ℕ)) → Adds a a []
+adds_none None = refl
+adds_none (Some written) = ap (λ bytes. let o : Option (List ℕ) = Some bytes in o) (sym (append-nil written))
+
+pub adds_then : (a b c : Option (List ℕ)) (xs ys : List ℕ) → Adds a b xs → Adds b c ys → Adds a c (xs ++ ys)
+adds_then None b c xs ys h k = cc
+adds_then (Some written) b c xs ys h k =
+    k ∙ ap (option_map (λ bytes. bytes ++ ys)) h ∙ ap (λ bytes. let o : Option (List ℕ) = Some bytes in o) (append_assoc written xs ys)
+
+-- a piece and maybe more, and then more
+pub adds_on : (a b c : Option (List ℕ)) (xs : List ℕ) → AddsOn a b xs → AddsOn b c [] → AddsOn a c xs
+adds_on a b c xs (more, h) (later, k) =
+    (more ++ later, let P : List ℕ → Type 0 = λ piece. Adds a c piece in subst P (append_assoc xs more later) (adds_then a b c (xs ++ more) later h k))
 
 -- what f gives of a piece and the rest, g gives of the rest
 pub gives_on : {R : Type 0} (f g : List ℕ → R) (a b : Option (List ℕ)) (xs : List ℕ) → Takes a b xs → ((rest : List ℕ) → f (xs ++ rest) ≡ g rest) → option_map f a ≡ option_map g b

@@ -25,3 +25,11 @@ Adds before now piece = now ≡ option_map (λ written. written ++ piece) before
 -- where the bytes are told, a front of this piece was added at their end
 abbrev pub AddsFront : Option (List ℕ) → Option (List ℕ) → List ℕ → Type 0
 AddsFront before now piece = (front : List ℕ) × (back : List ℕ) × (piece ≡ front ++ back) × Adds before now front
+
+-- where the bytes are told, some were taken from their front, or none
+abbrev pub TakesSome : Option (List ℕ) → Option (List ℕ) → Type 0
+TakesSome before now = (piece : List ℕ) × Takes before now piece
+
+-- where the bytes are told, this piece was added at their end, and maybe more behind it
+abbrev pub AddsOn : Option (List ℕ) → Option (List ℕ) → List ℕ → Type 0
+AddsOn before now piece = (more : List ℕ) × Adds before now (piece ++ more)

@@ -2,6 +2,7 @@ ghost use Rattle.std.specs.Prelude.{◌≡◌, ℕ, ◌<◌, ◌≤◌, List, le
 ghost use Rattle.std.specs.Option.{option_to_list};
 ghost use Rattle.acq_io.specs.Streams.{Rose, Takes, WasEmpty, Adds, AddsFront};
 
+use std::alloc::AllocError;
 use thiserror::Error;
 
 /// A source has failed, and has counted it.
@@ -18,6 +19,17 @@ pub enum Put {
     /// A sink in memory lacked memory of its own.
     #[error("out of memory")]
     Memory,
+}
+
+impl From<AllocError> for Put {
+    ghost use Rattle.std.specs.Prelude.{◌≡◌};
+    ghost use Rattle.acq_io.specs.declared.streams.Put.TheVariants.{Memory};
+
+    ghost from_gives = { λ _ e. e ≡ Memory };
+
+    fn from(_refused: AllocError) -> Put {
+        Put::Memory
+    }
 }
 
 /// Where bytes come from.

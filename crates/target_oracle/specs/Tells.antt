@@ -1,5 +1,6 @@
 -- What a teacher has written and left, by what it told.
-use Rattle.std.specs.Prelude.{◌≡◌, ℕ, List, ◌++◌, true, false, Option, Some}
+use Rattle.std.specs.Prelude.{◌≡◌, ◌⊎◌, ℕ, List, ◌++◌, true, false, Option, Some}
+use Rattle.acq_io.specs.Streams.{AddsOn, TakesSome}
 use Rattle.target_oracle.specs.Turns.{Turned, Said, Stopped, Ended, Overlong, Unread, Reply}
 use Rattle.target_oracle.specs.declared.teacher.Told.{Told}
 use Rattle.target_oracle.specs.declared.teacher.Told.TheVariants.{Yes, No, Stop, End, TooLong, Unreadable, ReadFault, WriteFault, Memory}
@@ -27,3 +28,8 @@ Tells turned before left written Unreadable = Turn turned before left written Un
 Tells turned before left written ReadFault = Front turned.text before written
 Tells turned before left written WriteFault = Front turned.text before written
 Tells turned before left written Memory = Front turned.text before written
+
+-- What is left of a source is an end of what was left, and this text stood written before any of it was taken.
+pub record AsksFirst (left written left' written' : Option (List ℕ)) (text : List ℕ) : Type 0 where
+  pub takes : TakesSome left left'
+  pub first : (left' ≡ left) ⊎ AddsOn written written' text

@@ -1,5 +1,5 @@
 ghost use Rattle.std.specs.Prelude.{◌≡◌, ◌≢◌, ℕ, zero, suc, ◌+◌, ◌<◌, ◌≤◌, ◌++◌, ◌∷◌, [], List, IfOk, IfSome, Option, Some, None, length, string_bytes};
-ghost use Rattle.acq_io.specs.Streams.{Adds, Rose};
+ghost use Rattle.acq_io.specs.Streams.{Adds, AddsOn, Rose, TakesSome};
 ghost use Rattle.language.specs.Language.{IsQuestion};
 ghost use Rattle.language.specs.Texts.{question_text};
 ghost use Rattle.target_oracle.specs.Lines.{line_turn, no_answer_text};
@@ -34,6 +34,7 @@ const NO_ANSWER: &[u8] = b"not an answer\n";
 /// What a line says. None where it is no answer.
 fn hear_line<S: Source>(source: &mut S) -> Option<Told>
     ensures hears { HearsLine (S.left source.old) (S.left source.new) result }
+    ensures takes { TakesSome (S.left source.old) (S.left source.new) }
     ensures later { S.faults source.old ≤ S.faults source.new }
     ensures read { result ≡ Some Told.ReadFault → Rose (S.faults source.old) (S.faults source.new) }
     ensures write { result ≢ Some Told.WriteFault }
@@ -51,6 +52,7 @@ fn hear_line<S: Source>(source: &mut S) -> Option<Told>
 fn pass_line<K: Sink>(sink: &mut K) -> Option<Told>
     ensures passed { result ≡ None → Adds (K.written sink.old) (K.written sink.new) no_answer_text }
     ensures cut { IfSome result (CutsOff no_answer_text (K.written sink.old) (K.written sink.new)) }
+    ensures adds { AddsOn (K.written sink.old) (K.written sink.new) [] }
     ensures later_sink { K.faults sink.old ≤ K.faults sink.new }
     ensures write { result ≡ Some Told.WriteFault → Rose (K.faults sink.old) (K.faults sink.new) }
 {
@@ -65,6 +67,8 @@ fn pass_line<K: Sink>(sink: &mut K) -> Option<Told>
 fn hear_or_pass<S: Source, K: Sink>(source: &mut S, sink: &mut K) -> Option<Told>
     ensures passes { result ≡ None → Passes (S.left source.old) (K.written sink.old) (S.left source.new) (K.written sink.new) }
     ensures tells { IfSome result (λ told. (patience : ℕ) → TellsOf (suc patience) (S.left source.old) (K.written sink.old) (S.left source.new) (K.written sink.new) told) }
+    ensures takes { TakesSome (S.left source.old) (S.left source.new) }
+    ensures adds { AddsOn (K.written sink.old) (K.written sink.new) [] }
     ensures later { S.faults source.old ≤ S.faults source.new }
     ensures later_sink { K.faults sink.old ≤ K.faults sink.new }
     ensures read { result ≡ Some Told.ReadFault → Rose (S.faults source.old) (S.faults source.new) }
@@ -79,6 +83,7 @@ fn hear_or_pass<S: Source, K: Sink>(source: &mut S, sink: &mut K) -> Option<Told
 /// What a line says where no more may follow.
 fn hear_last<S: Source>(source: &mut S) -> Told
     ensures tells { (written : Option (List ℕ)) → TellsOf zero (S.left source.old) written (S.left source.new) written result }
+    ensures takes { TakesSome (S.left source.old) (S.left source.new) }
     ensures later { S.faults source.old ≤ S.faults source.new }
     ensures read { result ≡ Told.ReadFault → Rose (S.faults source.old) (S.faults source.new) }
     ensures write { result ≢ Told.WriteFault }
@@ -92,6 +97,8 @@ fn hear_last<S: Source>(source: &mut S) -> Told
 /// What the lines say, up to an answer.
 fn hear_lines<S: Source, K: Sink>(source: &mut S, sink: &mut K) -> Told
     ensures tells { TellsOf 999 (S.left source.old) (K.written sink.old) (S.left source.new) (K.written sink.new) result }
+    ensures takes { TakesSome (S.left source.old) (S.left source.new) }
+    ensures adds { AddsOn (K.written sink.old) (K.written sink.new) [] }
     ensures later { S.faults source.old ≤ S.faults source.new }
     ensures later_sink { K.faults sink.old ≤ K.faults sink.new }
     ensures read { result ≡ Told.ReadFault → Rose (S.faults source.old) (S.faults source.new) }
@@ -121,6 +128,8 @@ impl<S: Source, K: Sink> Teacher<S, K> for LineTeacher {
     ghost fits = { λ _ _. Unit {0} };
 
     ghost turn = { λ _. line_turn };
+
+    ghost asks = { λ l k q. question_text l k q ++ 10 ∷ [] };
 
     ghost may_say = { λ _ _ _ _. Unit {0} };
 

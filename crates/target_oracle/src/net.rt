@@ -96,6 +96,9 @@ impl<S: Source, K: Sink> Teacher<S, K> for NetTeacher {
 
     ghost turn = { λ owner. net_turn owner.network owner.quiet };
 
+    // nothing is read
+    ghost asks = { λ _ _ _. [] };
+
     ghost may_say = { λ owner. net_may_say owner.network };
 
     fn told(

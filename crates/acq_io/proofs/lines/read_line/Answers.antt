@@ -1,5 +1,7 @@
-use Rattle.std.proofs.Common.{ap, rules, Ok, Option, Result, ℕ}
+use Rattle.std.proofs.Common.{ap, rules, Ok, Option, Result, ℕ, ◌++◌}
+use Rattle.std.specs.Option.{option_to_list}
 use Rattle.acq_io.specs.declared.streams.Failed.{Failed}
+use Rattle.acq_io.proofs.TakenLemmas.{takes_on}
 use Rattle.acq_io.proofs.ReadLemmas.{reads_line, reads_end, reads_too_long}
 use Rattle.acq_io.proofs.lines.read_line.Goals as goal
 
@@ -14,3 +16,11 @@ returns-in-Ok-Some-eq10-clause-line g c = let kept = c.loop-byte.invariant in le
 pub returns-then-is_full-clause-line : goal.returns-then-is_full-clause-line
 returns-then-is_full-clause-line g c = let kept = c.loop-byte.invariant in let got = c.in-Ok-Some in
     reads_too_long _ _ _ _ got.byte kept.taken (rw got.field-0-is at got.ensures.bytes) kept.one_line got.byte-test.1 (search rules)
+
+pub returns-in-Ok-Some-eq10-clause-takes : goal.returns-in-Ok-Some-eq10-clause-takes
+returns-in-Ok-Some-eq10-clause-takes g c = let got = c.in-Ok-Some-eq10 in
+    (c.loop-byte.line ++ option_to_list got.field-0, takes_on _ _ _ _ (option_to_list got.field-0) c.loop-byte.invariant.taken got.ensures.bytes)
+
+pub returns-then-is_full-clause-takes : goal.returns-then-is_full-clause-takes
+returns-then-is_full-clause-takes g c = let got = c.in-Ok-Some in
+    (c.loop-byte.line ++ option_to_list got.field-0, takes_on _ _ _ _ (option_to_list got.field-0) c.loop-byte.invariant.taken got.ensures.bytes)

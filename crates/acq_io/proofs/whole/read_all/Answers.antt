@@ -20,3 +20,13 @@ returns-then-is_err-clause-stopped g c _ = let kept = c.loop-all.invariant in le
     let piece : List ℕ = take got.count c.read.new.buf in
     let long : length piece ≡ got.count = simp length-take (omega (arith, got.ensures.count)) in
     (c.loop-all.all.items ++ piece, omega (arith, length-append c.loop-all.all.items piece), takes_on _ _ _ _ piece kept.taken got.ensures.bytes)
+
+pub returns-then-count-room-clause-takes : goal.returns-then-count-room-clause-takes
+returns-then-count-room-clause-takes g c =
+    let piece : List ℕ = take c.in-Ok.count c.read.new.buf in
+    (c.loop-all.all.items ++ piece, takes_on _ _ _ _ piece c.loop-all.invariant.taken c.in-Ok.ensures.bytes)
+
+pub returns-then-is_err-clause-takes : goal.returns-then-is_err-clause-takes
+returns-then-is_err-clause-takes g c =
+    let piece : List ℕ = take c.in-Ok.count c.read.new.buf in
+    (c.loop-all.all.items ++ piece, takes_on _ _ _ _ piece c.loop-all.invariant.taken c.in-Ok.ensures.bytes)

@@ -1,5 +1,7 @@
-use Rattle.std.proofs.Common.{ap, arith, Ok, Option, Result, ℕ}
+use Rattle.std.proofs.Common.{ap, arith, Ok, Option, Result, ℕ, ◌++◌}
+use Rattle.std.specs.Option.{option_to_list}
 use Rattle.acq_io.specs.declared.streams.Failed.{Failed}
+use Rattle.acq_io.proofs.TakenLemmas.{takes_on}
 use Rattle.acq_io.proofs.ReadLemmas.{gives_line, gives_only_line, gives_long_line}
 use Rattle.acq_io.proofs.whole.read_first_line.Goals as goal
 
@@ -14,3 +16,15 @@ returns-in-Ok-Some-eq10-clause-line g c = let kept = c.loop-line.invariant in le
 pub returns-then-len-most-clause-too_long : goal.returns-then-len-most-clause-too_long
 returns-then-len-most-clause-too_long g c _ = let kept = c.loop-line.invariant in let got = c.in-Ok-Some in
     gives_long_line _ _ _ _ _ got.byte kept.taken (rw got.field-0-is at got.ensures.bytes) kept.one_line got.byte-test.1 (omega arith)
+
+pub returns-in-Ok-Some-eq10-clause-takes : goal.returns-in-Ok-Some-eq10-clause-takes
+returns-in-Ok-Some-eq10-clause-takes g c = let got = c.in-Ok-Some-eq10 in
+    (c.loop-line.line.items ++ option_to_list got.field-0, takes_on _ _ _ _ (option_to_list got.field-0) c.loop-line.invariant.taken got.ensures.bytes)
+
+pub returns-then-len-most-clause-takes : goal.returns-then-len-most-clause-takes
+returns-then-len-most-clause-takes g c = let got = c.in-Ok-Some in
+    (c.loop-line.line.items ++ option_to_list got.field-0, takes_on _ _ _ _ (option_to_list got.field-0) c.loop-line.invariant.taken got.ensures.bytes)
+
+pub returns-then-is_err-clause-takes : goal.returns-then-is_err-clause-takes
+returns-then-is_err-clause-takes g c = let got = c.in-Ok-Some in
+    (c.loop-line.line.items ++ option_to_list got.field-0, takes_on _ _ _ _ (option_to_list got.field-0) c.loop-line.invariant.taken got.ensures.bytes)

@@ -1,10 +1,13 @@
-use Rattle.std.proofs.Common.{suc, ◌-◌, arith}
+use Rattle.std.proofs.Common.{suc, ◌-◌, [], arith}
+use Rattle.acq_io.proofs.TakenLemmas.{takes_none, takes_some_on, adds_none, adds_on}
 use Rattle.target_oracle.proofs.Hearings.{passed_none, passed_more, passed_tells}
 use Rattle.target_oracle.proofs.lines.hear_lines.Goals as goal
 
 pub loop-passed-init : goal.loop-passed-init
 loop-passed-init g c = record {
   passed = passed_none 999 (g.S.Source.left c.args.source.now) (g.K.Sink.written c.args.sink.now);
+  takes = ([], takes_none (g.S.Source.left c.args.source.now));
+  adds = ([], adds_none (g.K.Sink.written c.args.sink.now));
   later = omega arith;
   later_sink = omega arith;
 }
@@ -14,6 +17,8 @@ loop-passed-preserved g c = record {
   passed = passed_more 999 c.loop-passed._passed (g.S.Source.left c.args.source.now) (g.K.Sink.written c.args.sink.now)
       (g.S.Source.left c.loop-passed.source) (g.K.Sink.written c.loop-passed.sink) (g.S.Source.left c.hear_or_pass.new.source) (g.K.Sink.written c.hear_or_pass.new.sink)
       c.loop-passed.invariant.passed (c.hear_or_pass.ensures.passes c.in_default.is);
+  takes = takes_some_on _ _ _ c.loop-passed.invariant.takes c.hear_or_pass.ensures.takes;
+  adds = adds_on _ _ _ [] c.loop-passed.invariant.adds c.hear_or_pass.ensures.adds;
   later = omega (arith, c.hear_or_pass.ensures.later, c.loop-passed.invariant.later);
   later_sink = omega (arith, c.hear_or_pass.ensures.later_sink, c.loop-passed.invariant.later_sink);
 }
@@ -29,3 +34,15 @@ returns-clause-tells g c =
     passed_tells 999 c.loop-passed._passed 0 (g.S.Source.left c.args.source.now) (g.K.Sink.written c.args.sink.now)
     (g.S.Source.left c.loop-passed.source) (g.K.Sink.written c.loop-passed.sink) (g.S.Source.left c.hear_last.new.source) (g.K.Sink.written c.loop-passed.sink)
     c.hear_last.result (omega (arith, c.loop-passed-test.false, c.loop-passed.auto._passed-end)) c.loop-passed.invariant.passed (c.hear_last.ensures.tells (g.K.Sink.written c.loop-passed.sink))
+
+pub returns-in-Some-clause-takes : goal.returns-in-Some-clause-takes
+returns-in-Some-clause-takes g c = takes_some_on _ _ _ c.loop-passed.invariant.takes c.in-Some.ensures.takes
+
+pub returns-in-Some-clause-adds : goal.returns-in-Some-clause-adds
+returns-in-Some-clause-adds g c = adds_on _ _ _ [] c.loop-passed.invariant.adds c.in-Some.ensures.adds
+
+pub returns-clause-takes : goal.returns-clause-takes
+returns-clause-takes g c = takes_some_on _ _ _ c.loop-passed.invariant.takes c.hear_last.ensures.takes
+
+pub returns-clause-adds : goal.returns-clause-adds
+returns-clause-adds g c = c.loop-passed.invariant.adds
