@@ -2,12 +2,13 @@
 use Rattle.std.proofs.Common.{◌≡◌, ℕ, ◌+◌, ◌-◌, ◌<◌, ◌≤◌, Bool, false, ◌&&◌, ◌||◌, not, List, [], ◌∷◌, length, get_or, Option, Some, None, refl, sym, ◌∙◌, ap, subst, arith, inl, inr, ◌⊎◌, get_or-set_same, get_or-set_other}
 use Rattle.std.specs.Prelude.{slice_set, replicate, is_some}
 use Rattle.std.specs.List.{list_any}
-use Rattle.std.proofs.lemmas.Bool.{cases_eq, cases_lt}
+use Rattle.std.proofs.lemmas.Bool.{cases_eq, cases_lt, false_from_ne_true}
 use Rattle.std.proofs.lemmas.List.{length-set, length-replicate, get_or-replicate}
 use Rattle.assign.specs.Assignment.{Assignment, value_of, covers, tuple_on}
 use Rattle.rel_table.specs.Relation.{holds}
 use Rattle.language.specs.Language.{Language, IsLanguage, IsScope, scope_at, relation_of, violates}
 use Rattle.bias_store.specs.Accepting.{AreRunsFrom}
+use Rattle.bias_store.specs.KeptSet.{CoversOnly}
 use Rattle.bias_store.proofs.Members.{candidate_at, read_at}
 
 -- the last scope's run ends behind it
@@ -79,6 +80,10 @@ run_open l q next s k lawful is here none from until =
 -- nothing on such a scope is violated
 pub open_violates : (l : Language) (s : ℕ) (q : Assignment) → covers q (scope_at l s) ≡ false → (r : ℕ) → violates l (candidate_at s r) q ≡ false
 open_violates l s q none r = ap (λ b. b && not (holds l.value_count (relation_of l (candidate_at s r)) (tuple_on q (scope_at l s)))) none
+
+-- nothing on another scope than the only one that is covered
+pub open_elsewhere : (l : Language) (s : ℕ) (q : Assignment) (n : ℕ) → n ≡ length l.scopes → CoversOnly l s q → (k : ℕ) → k < n → (k ≡ s → ⊥) → (r : ℕ) → violates l (candidate_at k r) q ≡ false
+open_elsewhere l s q n all only k low other = open_violates l k q (false_from_ne_true _ (λ covered. other (only k (omega arith) covered)))
 
 pub none_of : (p : ℕ → Bool) (xs : List ℕ) → ((x : ℕ) → p x ≡ false) → list_any p xs ≡ false
 none_of p [] h = refl

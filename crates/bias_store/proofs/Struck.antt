@@ -79,6 +79,21 @@ struck_skip fails old now s t before count is ahead none = record {
     go k low (inl before) = is.struck k before
     go k low (inr from) = ap ones_of (is.rest k from) ∙ sym (all_pass (λ r. not (fails (candidate_at k r))) (ones_of (slice_index_or old k 0)) (λ r. ap not (none k from low r)))
 
+-- only on one scope any fails
+module _ (fails : Candidate → Bool) (old : List ℕ) (s count relations failing failed : ℕ) (counted : count ≡ length (members_from 0 old)) (low : s < length old) (here : relations ≡ slice_index_or old s 0)
+    (small : failing < 2 ^ 64) (fail : ones_of failing ≡ filter (λ r. fails (candidate_at s r)) (ones_of relations)) (counts : failed ≡ length (ones_of failing))
+    (alone : (k : ℕ) → k < length old → (k ≡ s → ⊥) → (r : ℕ) → fails (candidate_at k r) ≡ false) where
+  up_to : IsStruck fails old old s count count
+  up_to = struck_skip fails old old 0 s count count (begins fails old count counted) (omega arith) (λ k from until. alone k (omega arith) (λ e. omega arith))
+
+  pub enough_alone : failed ≤ count
+  enough_alone = enough fails old old s count count relations failing failed up_to low here small fail counts
+
+  pub struck_alone : IsStruck fails old (slice_set old s (bit_and relations (bit_not w64 failing))) (length old) count (count - failed)
+  struck_alone =
+      struck_skip fails old (slice_set old s (bit_and relations (bit_not w64 failing))) (s + 1) (length old) count (count - failed)
+      (struck_more fails old old s count count relations failing failed up_to low here small fail counts) (omega arith) (λ k from until. alone k until (λ e. omega arith))
+
 -- all scopes are struck
 pub struck_all : (fails : Candidate → Bool) (old now : List ℕ) (s before count : ℕ) → IsStruck fails old now s before count → length old ≤ s → members_from 0 now ≡ filter (λ c. not (fails c)) (members_from 0 old)
 struck_all fails old now s before count is end = filter_of_masks (λ c. not (fails c)) old now is.long (λ k low. is.struck k (omega arith))

@@ -1,8 +1,9 @@
 -- The kept candidates.
-use Rattle.std.specs.Prelude.{ℕ, ◌≡◌, ◌==◌, List, length, map}
+use Rattle.std.specs.Prelude.{ℕ, ◌≡◌, ◌<◌, ◌==◌, true, List, length, map}
 use Rattle.std.specs.List.{filter}
 use Rattle.language.specs.declared.candidates.Candidate.{Candidate}
-use Rattle.language.specs.Language.{Language}
+use Rattle.assign.specs.Assignment.{Assignment, covers}
+use Rattle.language.specs.Language.{Language, scope_at}
 use Rattle.language.specs.Answers.{IsNetwork}
 use Rattle.bias_store.specs.Accepting.{Accepting, IsAcceptingOf}
 
@@ -21,3 +22,7 @@ pub record IsMadeFor (l : Language) (k : KeptSet) : Type 0 where
 -- the relations that are kept on a scope, by number, rising
 abbrev pub kept_relations : List Candidate → ℕ → List ℕ
 kept_relations members s = map (λ c. c.rel) (filter (λ c. c.scope == s) members)
+
+-- no other scope than this one has values for all its variables
+abbrev pub CoversOnly : Language → ℕ → Assignment → Type 0
+CoversOnly l s q = (k : ℕ) → k < length l.scopes → covers q (scope_at l k) ≡ true → k ≡ s

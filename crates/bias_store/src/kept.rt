@@ -5,7 +5,7 @@ ghost use Rattle.std.specs.List.{list_any};
 ghost use Rattle.language.specs.Language.{Language, candidates, relations_on, violates, IsQuestion};
 ghost use Rattle.bias_store.specs.Masks.{ones_of};
 ghost use Rattle.bias_store.specs.Accepting.{accepting_on, places_on, IsAcceptingOf};
-ghost use Rattle.bias_store.specs.KeptSet.{kept_relations, IsMadeFor};
+ghost use Rattle.bias_store.specs.KeptSet.{kept_relations, CoversOnly, IsMadeFor};
 
 use crate::masks::{first_relations, has_relation, relation_count};
 use crate::tables::Tables;
@@ -147,6 +147,21 @@ impl Kept {
             (s, end) = self.tables.asked_from(lang, s + 1, end, q);
         }
         count_before - self.count
+    }
+
+    /// The same for a question that gives values to all variables of no other scope than this one, which alone is looked at.
+    pub fn strike_on(&mut self, lang: &Language, s: ScopeId, q: &Partial)
+        requires made { IsMadeFor lang.now self.old }
+        requires scope { s < length lang.now.scopes }
+        requires question { IsQuestion lang.now q.now }
+        requires alone { CoversOnly lang.now s q.now }
+        ensures kept { self.new.members ≡ filter (λ c. not (violates lang.now c q.now)) self.old.members }
+        ensures made { IsMadeFor lang.now self.new }
+    {
+        let relations = self.relations[usize::from(s)];
+        let struck = violated_on(&self.tables, lang, s, q, relations);
+        self.relations[usize::from(s)] = relations & !struck;
+        self.count -= relation_count(struck);
     }
 
     /// Takes out the candidates on a scope, as when something is learned there.

@@ -8,3 +8,4 @@ pub mod Settling
 pub mod Turning
 pub mod Reached
 pub mod NoNew
+pub mod Scoped

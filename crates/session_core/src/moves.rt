@@ -8,7 +8,9 @@ ghost use Rattle.session_laws.specs.Walk.{Ended};
 ghost use Rattle.session_laws.specs.Session.{is_lawful, scope_question, walk_end};
 ghost use Rattle.session_laws.specs.Laws.{IsWalked};
 ghost use Rattle.session_core.specs.Settled.{IsSettled, HasNoNew};
-ghost use Rattle.session_core.specs.Standing.{Stands, IsAskedAfter, knowledge_of, open_in};
+ghost use Rattle.session_core.specs.Standing.{Stands, IsAskedAfter, knowledge_of, open_in, question_put};
+ghost use Rattle.session_core.specs.Known.{IsAbout};
+ghost use Rattle.session_core.specs.Sound.{FirstRun};
 ghost use Rattle.session_core.specs.Leading.{StandsWhereIdle};
 
 use crate::examples::is_example;
@@ -19,7 +21,8 @@ use crate::scopes::first_run;
 use crate::session::{Asking, Idle, Session};
 use assign::{Partial, Plan, VarSet};
 use bias_store::Kept;
-use language::{Language, Memory};
+use find_c::RelRun;
+use language::{Language, Memory, ScopeId};
 use multi_tree::Tree;
 use network::Network;
 use std::alloc::Global;
@@ -95,12 +98,19 @@ impl Knowledge {
         })
     }
 
+    /// The run on the first scope whose choices differ.
+    fn first_run(&self) -> Option<RelRun>
+        ensures { let k = self.now in FirstRun k.lang k.kept.members k.network.list result }
+    {
+        first_run(&self.lang, &self.kept, self.next)
+    }
+
     /// The first question of the first scope whose choices differ. None where there is none.
     fn first_question(&self) -> Option<Partial>
         ensures is { let k = self.now in result ≡ scope_question k.lang k.kept.members k.network.list }
         ensures fits { IfSome result (IsQuestion self.now.lang) }
     {
-        match first_run(&self.lang, &self.kept, &self.network, self.next) {
+        match self.first_run() {
             Some(run) => Some(run.wants(&self.lang)),
             None => None,
         }
@@ -126,7 +136,7 @@ impl Knowledge {
         ensures stands { StandsWhereIdle self (Session.Asking result) }
     {
         let _ = q;
-        match first_run(&self.lang, &self.kept, &self.network, self.next) {
+        match self.first_run() {
             Some(run) => {
                 let Knowledge {
                     lang,
@@ -249,6 +259,18 @@ impl Idle {
 }
 
 impl Asking {
+    /// The scope of the tuple that is asked about, where it is one.
+    fn scope(&self) -> Option<ScopeId>
+        ensures { let k = knowledge_of (Session.Asking self.now) in IfSome result (IsAbout k.lang (question_put k.lang self.now.put)) }
+    {
+        let _variables = self.knowledge.lang.n();
+        match &self.put {
+            Put::FirstTuple(run) => Some(run.scope()),
+            Put::Tuple(run) => Some(run.scope()),
+            Put::Example(_) | Put::OnWalk { .. } | Put::Part { .. } => None,
+        }
+    }
+
     /// The question that is open. After each list of answers that leads here, it is the one that is asked.
     pub fn question(&self) -> Partial
         ensures is { open_in (Session.Asking self.now) ≡ Some result }
@@ -288,8 +310,9 @@ impl Asking {
             → Stands result (t ++ record { question = q; yes = «yes» } ∷ []) }
     {
         let question = self.question();
+        let scope = self.scope();
         let Asking { knowledge, put } = self;
-        let knowledge = knowledge.with_answer(&question, yes);
+        let knowledge = knowledge.with_answer(&question, scope, yes);
         match put {
             Put::Example(example) => {
                 let all = VarSet::all(knowledge.lang.n());

@@ -21,3 +21,4 @@ pub mod ExampleLanguages
 pub mod NetworkHalves
 pub mod Growing
 pub mod Pending
+pub mod Askable

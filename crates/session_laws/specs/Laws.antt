@@ -1,12 +1,13 @@
 -- Laws of the sessions, over the definitions alone. They hold of every list of answers, true or untrue, and in every plan unless a law names one.
 use Rattle.std.specs.Prelude.{ℕ, ◌*◌, ◌≤◌, ◌≡◌, ◌==◌, Bool, true, false, not, IsTrue, IsFalse, List, [], ◌∷◌, ◌++◌, length, filter, All, AllPairs, Any, Contains, Option, None, Some, is_some}
+use Rattle.std.specs.List.{list_any}
 use Rattle.assign.specs.Sets.{IsSet, has}
 use Rattle.assign.specs.Assignment.{Assignment, restrict}
 use Rattle.assign.specs.Events.{Answer}
 use Rattle.assign.specs.declared.events.Plan.{Plan}
 use Rattle.assign.specs.declared.events.Plan.TheVariants.{Scopes, Multi}
 use Rattle.language.specs.declared.candidates.Candidate.{Candidate}
-use Rattle.language.specs.Language.{Language, IsLanguage, IsImplied, scope_of, violates, accepts}
+use Rattle.language.specs.Language.{Language, IsLanguage, IsQuestion, IsImplied, scope_of, violates, accepts}
 use Rattle.language.specs.Answers.{IsNetwork, IsCovered, NoneAgrees, agrees, kept}
 use Rattle.find_scope.specs.Halving.{Wants, Got, halve}
 use Rattle.find_scope.specs.Laws.{IsTrueTo, IsMinimal}
@@ -47,6 +48,29 @@ abbrev pub NeverStuck : Type 0
 NeverStuck =
     (l : Language) (plan : Plan) (t : List Answer) (state : State) →
     IsLanguage l → state_after l plan t ≡ At state → HasQuestion l state
+
+-- ---- What is asked
+
+-- whether some variable has a value
+abbrev pub has_value : Assignment → Bool
+has_value q = list_any is_some q
+
+-- an assignment of the language's variables to its values that gives some variable one
+pub record IsAskable (l : Language) (q : Assignment) : Type 0 where
+  pub fits : IsQuestion l q
+  pub some : IsTrue (has_value q)
+
+-- Each question that is asked is one, whatever the answers were.
+pub record QuestionsHaveValues : Type 0 where
+  -- the open one
+  pub opened : (l : Language) (plan : Plan) (t : List Answer) (state : State) (q : Assignment) →
+      IsLanguage l → state_after l plan t ≡ At state → open_question l state ≡ Some q → IsAskable l q
+  -- a new one that is lawful, as one that the search finds
+  pub put : (l : Language) (plan : Plan) (t : List Answer) (network : List Candidate) (q : Assignment) →
+      IsLanguage l → IsTrue (is_lawful l plan (kept l t network) network q) → IsAskable l q
+  -- the first of a scope
+  pub scoped : (l : Language) (t : List Answer) (network : List Candidate) (q : Assignment) →
+      IsLanguage l → scope_question l (kept l t network) network ≡ Some q → IsAskable l q
 
 -- ---- What an answer does, as equations for a program's loop
 

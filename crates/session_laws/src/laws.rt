@@ -1,6 +1,6 @@
 //! Laws of the sessions, as contracts of functions that do nothing.
 
-ghost use Rattle.session_laws.specs.Laws.{AnswersAreAtMost, AnswersAreFew, AnswersFit, EndedIsWalked, FuelIsEnough, HalvingAsks, IdleIsInStep, ImpliedIsCovered, KeptSteps, LearnedAreFew, NetworkGrows, NetworkHalves, NeverStuck, OneAnswerMore, OverMeansNone, QuestionsHavePlaces, ScopesAreCovered, ScopesNeverOver, SettleSteps};
+ghost use Rattle.session_laws.specs.Laws.{AnswersAreAtMost, AnswersAreFew, AnswersFit, EndedIsWalked, FuelIsEnough, HalvingAsks, IdleIsInStep, ImpliedIsCovered, KeptSteps, LearnedAreFew, NetworkGrows, NetworkHalves, NeverStuck, OneAnswerMore, OverMeansNone, QuestionsHavePlaces, QuestionsHaveValues, ScopesAreCovered, ScopesNeverOver, SettleSteps};
 
 // ---- One answer, and its place
 
@@ -17,6 +17,13 @@ pub fn questions_have_places()
 /// A session that halves, chooses or walks has an open question.
 pub fn never_stuck()
     ensures { NeverStuck }
+{}
+
+// ---- What is asked
+
+/// Each question that is asked is one of the language, and gives some variable a value.
+pub fn questions_have_values()
+    ensures { QuestionsHaveValues }
 {}
 
 // ---- What an answer does, as equations for a program's loop

@@ -8,6 +8,7 @@
 //! The floor above may rely on these, for every language and every list of answers, true or untrue, and in all plans:
 //!
 //! - One answer more is one step more. Each question that may be put has a place, whatever the reply, and no session is stuck.
+//! - Each question that is asked is one of the language, and gives some variable a value.
 //! - Where nothing is open, the network is one of the language, gives every answer, and has at most one candidate a scope. If
 //!   each kept candidate is implied too, or no scope is next in plan Scopes, it is covered, and so it is what the answers
 //!   converge on (`language::laws::covered_is_converged`).

@@ -121,6 +121,9 @@ pub trait Keep<D: Disk> {
         ensures silent { ForNone (D.content disk.old) (D.content disk.new ≡ None) }
         ensures told { ForSome (D.content disk.old) (λ _. IsSome (D.content disk.new)) };
 
+    /// There are never more records than a journal takes.
+    ghost few: { (keep : Self) → sound keep → length (record_of keep) < 1000000 };
+
     /// What is written is there, whatever a crash leaves.
     ghost lasts: { (keep : Self) (disk : D) → IsTrue (writes keep) → IsTrue (live keep) → sits keep disk →
         ForSome (D.content disk) (λ _. (c : List ℕ) → D.may_leave disk c → OpensWith (plan keep) (voc keep) (record_of keep) c) };

@@ -52,6 +52,8 @@ impl<D: Disk> Keep<D> for Loose {
 
     ghost sits = { λ _ _. ⊤ };
 
+    ghost few = { λ keep sound. sound.few };
+
     ghost lasts = { λ keep disk writes live sits. absurd (false_is_not_true writes) };
 
     fn session(&self) -> &Session {

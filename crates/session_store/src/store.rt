@@ -168,6 +168,8 @@ impl<D: Disk> Keep<D> for Store {
 
     ghost sits = { λ store disk. SitsOn store (D.content disk) (D.may_leave disk) };
 
+    ghost few = { λ keep sound. sound.held.few };
+
     ghost lasts = { λ keep disk writes live sits bytes told c left. opens_there keep.journal (plan_of keep) (voc_of keep) (events_of keep) (D.may_leave disk) bytes c (sits live bytes told) left };
 
     fn session(&self) -> &Session {

@@ -1,5 +1,6 @@
 use Rattle.std.proofs.Common.{sym, ◌∙◌}
-use Rattle.session_core.proofs.Questions.{question_by, question_is}
+use Rattle.session_laws.proofs.Askable.{question_is}
+use Rattle.session_core.proofs.Questions.{question_by}
 use Rattle.session_core.proofs.examples.is_question.Goals as goal
 
 pub returns-then-len-n-clause-is : goal.returns-then-len-n-clause-is

@@ -1,5 +1,7 @@
-use Rattle.session_core.specs.Sound.{NoneBefore}
+use Rattle.std.specs.Prelude.{List}
+use Rattle.language.specs.declared.candidates.Candidate.{Candidate}
+use Rattle.session_core.specs.Sound.{AreUnlearned, NoneBefore}
 use Rattle.session_core.proofs.scopes.first_run.Given as goal
 
 abbrev pub invariant-loop-s : goal.invariant-loop-s
-invariant-loop-s l = NoneBefore l.lang l.kept.members l.network.list l.s
+invariant-loop-s l = (network : List Candidate) → AreUnlearned l.kept.members network → NoneBefore l.lang l.kept.members network l.fn.from → NoneBefore l.lang l.kept.members network l.s

@@ -1,0 +1,61 @@
+use Rattle.std.proofs.Common.{◌≡◌, ◌-◌, ◌<◌, length, not, ◌∙◌, ap, subst, sym, arith}
+use Rattle.std.specs.Prelude.{slice_set, bit_and, All}
+use Rattle.std.specs.List.{filter}
+use Rattle.std.specs.Int.{bit_not, w64}
+use Rattle.language.specs.Language.{violates, IsCandidate}
+use Rattle.bias_store.specs.KeptSet.{KeptSet}
+use Rattle.bias_store.specs.Inside.{members_from}
+use Rattle.bias_store.proofs.Members.{read_at}
+use Rattle.bias_store.proofs.Runs.{open_elsewhere}
+use Rattle.bias_store.proofs.Struck.{IsStruck, enough_alone, struck_alone, struck_all, known_relations, made_still}
+use Rattle.bias_store.proofs.kept.Kept.strike_on.Goals as goal
+
+pub violated_on-struck-requires-clause-known : goal.violated_on-struck-requires-clause-known
+violated_on-struck-requires-clause-known c =
+    let old = c.self.inside.relations.items in
+    let scopes = ap (λ (k : KeptSet). k.scopes) c.self.view_is in
+    let made = c.requires.made.scopes in
+    known_relations c.args.lang.now old c.args.s c.index-relations.result.now (subst (λ (k : KeptSet). All (IsCandidate c.args.lang.now) k.members) (sym c.self.view_is) c.requires.made.known) (omega arith)
+    (read_at old c.args.s c.from.result c.index-relations.result.now (omega arith) c.from.ensures c.index-relations.ensures)
+
+pub overflow_sub-self : goal.overflow_sub-self
+overflow_sub-self c =
+    let old = c.self.inside.relations.items in
+    let scopes = ap (λ (k : KeptSet). k.scopes) c.self.view_is in
+    let made = c.requires.made.scopes in
+    let low : c.args.s < length old = omega arith in
+    enough_alone (λ b. violates c.args.lang.now b c.args.q.now) old c.args.s c.self.inside.count c.index-relations.result.now c.violated_on-struck.result c.relation_count.result c.self.invariant low
+    (read_at old c.args.s c.from.result c.index-relations.result.now low c.from.ensures c.index-relations.ensures) c.violated_on-struck.type_inv c.violated_on-struck.ensures c.relation_count.ensures
+    (open_elsewhere c.args.lang.now c.args.s c.args.q.now (length old) (omega arith) c.requires.alone)
+
+struck : (c : goal.After-self-2-1) →
+    IsStruck (λ b. violates c.args.lang.now b c.args.q.now) c.self.inside.relations.items (slice_set c.self.inside.relations.items c.from-2.result (bit_and c.index-relations.result.now (bit_not w64 c.violated_on-struck.result)))
+    (length c.self.inside.relations.items) c.self.inside.count (c.self.inside.count - c.relation_count.result)
+struck c =
+    let old = c.self.inside.relations.items in
+    let scopes = ap (λ (k : KeptSet). k.scopes) c.self.view_is in
+    let made = c.requires.made.scopes in
+    let low : c.args.s < length old = omega arith in
+    subst
+    (λ i. IsStruck (λ b. violates c.args.lang.now b c.args.q.now) old (slice_set old i (bit_and c.index-relations.result.now (bit_not w64 c.violated_on-struck.result))) (length old) c.self.inside.count
+    (c.self.inside.count - c.relation_count.result)) (sym c.from-2.ensures)
+    (struck_alone (λ b. violates c.args.lang.now b c.args.q.now) old c.args.s c.self.inside.count c.index-relations.result.now c.violated_on-struck.result c.relation_count.result c.self.invariant low
+    (read_at old c.args.s c.from.result c.index-relations.result.now low c.from.ensures c.index-relations.ensures) c.violated_on-struck.type_inv c.violated_on-struck.ensures c.relation_count.ensures
+    (open_elsewhere c.args.lang.now c.args.s c.args.q.now (length old) (omega arith) c.requires.alone))
+
+pub invariant_of-self : goal.invariant_of-self
+invariant_of-self c = (struck c).counted
+
+left : (c : goal.After-self-2-1) →
+    members_from 0 (slice_set c.self.inside.relations.items c.from-2.result (bit_and c.index-relations.result.now (bit_not w64 c.violated_on-struck.result)))
+    ≡ filter (λ b. not (violates c.args.lang.now b c.args.q.now)) c.args.self.now.members
+left c =
+    struck_all (λ b. violates c.args.lang.now b c.args.q.now) c.self.inside.relations.items _ (length c.self.inside.relations.items) c.self.inside.count (c.self.inside.count - c.relation_count.result) (struck c) (omega arith)
+    ∙ ap (λ (k : KeptSet). filter (λ b. not (violates c.args.lang.now b c.args.q.now)) k.members) c.self.view_is
+
+pub returns-clause-kept : goal.returns-clause-kept
+returns-clause-kept c = left c
+
+pub returns-clause-made : goal.returns-clause-made
+returns-clause-made c = made_still c.args.lang.now c.args.self.now _ (λ b. not (violates c.args.lang.now b c.args.q.now)) c.requires.made
+    ((struck c).long ∙ ap (λ (k : KeptSet). k.scopes) c.self.view_is) (left c) (ap (λ (k : KeptSet). k.accepting) c.self.view_is)

@@ -1,0 +1,13 @@
+use Rattle.std.proofs.Common.{sym, ◌∙◌, ap}
+use Rattle.bias_store.specs.Masks.{ones_of}
+use Rattle.bias_store.proofs.Ones.{ones_of-zero, no_ones}
+use Rattle.session_core.proofs.Scoped.{none_undecided, new_run}
+use Rattle.session_core.proofs.scopes.run_on.Goals as goal
+
+pub returns-then-on_scope-eq0 : goal.returns-then-on_scope-eq0
+returns-then-on_scope-eq0 c = λ network unlearned. none_undecided c.args.lang.now c.args.kept.now.members network c.args.s (sym c.on_scope.ensures ∙ ap ones_of c.if-on_scope-eq0.true ∙ ones_of-zero)
+
+pub returns-in-Wants : goal.returns-in-Wants
+returns-in-Wants c = λ network unlearned.
+    new_run c.args.lang.now c.args.kept.now.members network c.args.s c.in-Wants.run' unlearned
+    (λ none. c.if-on_scope-eq0.false (no_ones c.on_scope.result c.on_scope.type_inv (c.on_scope.ensures ∙ none))) c.in-Wants.ensures.settled
