@@ -1,34 +1,31 @@
 -- Alive prefixes: what they say of plain ones, their fronts, and the domains on the way down.
-use Rattle.std.proofs.Common.{◌≡◌, ℕ, zero, suc, ◌+◌, ◌<◌, ◌≤◌, Bool, true, false, cond, ◌&&◌, ◌||◌, not, List, [], ◌∷◌, ◌++◌, length, map, take, replicate, Option, Some, None, refl, sym, ◌∙◌, ap, subst, arith, inl, inr, ◌⊎◌, length-append}
-use Rattle.std.specs.Prelude.{◌==◌, ◌≢◌, slice_index_or, slice_set, All, is_some, unwrap_or}
-use Rattle.std.specs.Option.{option_map_or, ForSome}
-use Rattle.std.specs.List.{list_any, list_all, filter}
-use Rattle.std.proofs.Math.ListN.{get_or-eq_default, length-set}
-use Rattle.std.proofs.lemmas.List.{length-map, get_or-map, get_or-set_same, get_or-set_other}
+use Rattle.std.proofs.Common.{◌≡◌, ℕ, zero, suc, ◌<◌, ◌≤◌, Bool, true, false, cond, ◌&&◌, not, List, [], ◌∷◌, ◌++◌, length, Option, Some, None, refl, sym, ◌∙◌, ap, subst, arith, inl, inr, ◌⊎◌}
+use Rattle.std.specs.Prelude.{◌==◌, slice_index_or, All, is_some, unwrap_or}
+use Rattle.std.specs.Option.{ForSome}
+use Rattle.std.specs.List.{list_all}
+use Rattle.std.proofs.Math.ListN.{get_or-eq_default}
+use Rattle.std.proofs.lemmas.List.{length-map, get_or-map}
 use Rattle.std.proofs.lemmas.List.Elements.{All-head, All-tail, All-nil, All-cons}
 use Rattle.std.proofs.lemmas.List.FromFn.{length-map-range_with_len}
-use Rattle.std.proofs.lemmas.List.Sums.{list_all-from_AllPass, AllPass-from_list_all}
-use Rattle.std.proofs.lemmas.Bool.{and_parts, and_from, or_left, or_right, or_cases, both_ways, not-true, not_from_false, false_from_ne_true, cases_eq, cases_lt, eq-eqb, eqb-true, ne_eqb}
-use Rattle.assign.specs.Sets.{numbers, has}
+use Rattle.std.proofs.lemmas.List.Sums.{AllPass-from_list_all}
+use Rattle.std.proofs.lemmas.Bool.{and_parts, and_from, or_cases, both_ways, not-true, not_from_false, false_from_ne_true, cases_lt, eq-eqb, eqb-true}
+use Rattle.assign.specs.Sets.{has}
 use Rattle.assign.specs.Assignment.{Assignment, value_of, value_beside, assigned, covers, tuple_on, is_complete}
-use Rattle.rel_table.specs.Relation.{holds}
 use Rattle.language.specs.declared.candidates.Candidate.{Candidate}
-use Rattle.language.specs.Answers.{IsNetwork}
-use Rattle.language.specs.Language.{Language, IsLanguage, IsCandidate, IsQuestion, variable_count, scope_of, relation_of, violates, accepts}
-use Rattle.language.specs.Search.{satisfies}
+use Rattle.language.specs.Language.{Language, IsLanguage, IsCandidate, variable_count, scope_of, accepts}
 use Rattle.language.proofs.Accepts.{accepted_at, accepted_from}
 use Rattle.language.proofs.Members.{any_number}
 use Rattle.language.proofs.Beside.{value_of_assigned}
 use Rattle.propagators.specs.Allowed.{AreConstraints, satisfies_one, is_allowed}
-use Rattle.propagators.specs.Families.{Family, Arc, is_wanted, arc_of, arcs_of, is_not_empty, domain_of, left_by, sets_on, has_support, is_consistent, is_arc_consistent, has_family, IsSubfamily, IsLargest, largest}
-use Rattle.propagators.specs.Supports.{IsWithin, IsThrough}
+use Rattle.propagators.specs.Families.{Family, Arc, arc_of, arcs_of, is_not_empty, domain_of, left_by, sets_on, is_consistent, is_arc_consistent, has_family, IsSubfamily, IsLargest, largest}
+use Rattle.propagators.specs.Supports.{IsWithin}
 use Rattle.propagators.proofs.Pruned.{largest_is, supporting, consistent, has_head}
 use Rattle.propagators.proofs.Living.{full_above, largest_tells, largest_long}
-use Rattle.propagators.proofs.Replacing.{supported_through, through_supported, set_at, all_full}
+use Rattle.propagators.proofs.Replacing.{supported_through, through_supported, all_full}
 use Rattle.propagators.proofs.Rounds.{tells_more}
 use Rattle.fd_solver.specs.Outcomes.{is_alive_in}
 use Rattle.fd_solver.proofs.Preorder.{PassesFronts}
-use Rattle.fd_solver.proofs.Fronts.{HasMore, assigned_more, plain_fronts}
+use Rattle.fd_solver.proofs.Fronts.{HasMore, assigned_more}
 use Rattle.fd_solver.proofs.Orders.{covers_all}
 
 -- ---- what an assignment leaves
@@ -155,17 +152,6 @@ module _ (l : Language) (lawful : IsLanguage l) (list : List Candidate) (against
           let both = and_parts (covers e (scope_of l c)) _ bad in
           both_ways _ (not-true _ (holds_at c false (known c refl) (ok c refl) both.0)) both.1)
 
-  pub alive_as_family : AreConstraints l list against → (e : Assignment) → length e ≡ variable_count l → (is_allowed l list against e && has_family l list against e) ≡ has_family l list against e
-  alive_as_family are e long = go (has_family l list against e) refl
-    where
-      go : (b : Bool) → has_family l list against e ≡ b → (is_allowed l list against e && has_family l list against e) ≡ has_family l list against e
-      go true h = ap (λ a. a && has_family l list against e) (family_is_plain are e long h)
-      go false h = (λ i. is_allowed l list against e && h i) ∙ none (is_allowed l list against e) ∙ sym h
-        where
-          none : (a : Bool) → (a && false) ≡ false
-          none true = refl
-          none false = refl
-
 -- ---- a complete assignment that is plain is alive
 
 -- the scope of a candidate, or of none
@@ -289,11 +275,9 @@ assigned_small d n vars p small v x h = go (cases_lt v n)
 pub alive_fronts : (l : Language) (list : List Candidate) (against : Option Candidate) (order : List ℕ) → PassesFronts l.value_count (is_alive_in l list against order)
 alive_fronts l list against order = λ p q small h.
     let n : ℕ = variable_count l in
-    let parts = and_parts (is_allowed l list against (assigned (variable_count l) order (p ++ q))) (has_family l list against (assigned (variable_count l) order (p ++ q))) h in
     let long : (r : List ℕ) → length (assigned (variable_count l) order r) ≡ variable_count l = λ r. length-map-range_with_len (value_beside order r) 0 (variable_count l) in
     let left : (r : List ℕ) → length (left_by l.value_count (assigned (variable_count l) order r)) ≡ variable_count l = λ r. length-map (assigned (variable_count l) order r) (domain_of l.value_count) ∙ long r in
-    and_from _ _ (plain_fronts l list against order p q small parts.0)
-    (largest_tells l list against (assigned (variable_count l) order p)
+    largest_tells l list against (assigned (variable_count l) order p)
     ∙ tells_more (arcs_of l list against) (left_by l.value_count (assigned (variable_count l) order (p ++ q))) (left_by l.value_count (assigned (variable_count l) order p)) (left (p ++ q) ∙ sym (left p))
     (left_more l.value_count (assigned (variable_count l) order p) (assigned (variable_count l) order (p ++ q)) (long p ∙ sym (long (p ++ q))) (assigned_more (variable_count l) order p q) (assigned_small l.value_count (variable_count l) order (p ++ q) small))
-    (sym (largest_tells l list against (assigned (variable_count l) order (p ++ q))) ∙ parts.1))
+    (sym (largest_tells l list against (assigned (variable_count l) order (p ++ q))) ∙ h)

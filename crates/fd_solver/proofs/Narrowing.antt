@@ -1,32 +1,32 @@
 -- The domains below a prefix, from those of the prefix.
-use Rattle.std.proofs.Common.{◌≡◌, ℕ, zero, suc, ◌+◌, ◌<◌, ◌≤◌, Bool, true, false, cond, ◌&&◌, ◌||◌, List, [], ◌∷◌, ◌++◌, length, map, take, replicate, Option, Some, None, refl, sym, ◌∙◌, ap, subst, arith, inl, inr, ◌⊎◌, length-append}
-use Rattle.std.specs.Prelude.{◌==◌, ◌≢◌, slice_index_or, slice_set, All}
-use Rattle.std.specs.List.{list_any, list_all, filter, range_with_len}
+use Rattle.std.proofs.Common.{◌≡◌, ℕ, zero, suc, ◌+◌, ◌<◌, ◌≤◌, Bool, true, false, cond, ◌&&◌, ◌||◌, List, [], ◌∷◌, ◌++◌, length, take, replicate, Option, Some, None, refl, sym, ◌∙◌, ap, subst, arith, inl, inr, ◌⊎◌, length-append}
+use Rattle.std.specs.Prelude.{◌==◌, ◌≢◌, slice_index_or, slice_set}
+use Rattle.std.specs.List.{list_all, filter}
 use Rattle.std.proofs.Math.ListN.{get_or-eq_default, length-set}
-use Rattle.std.proofs.lemmas.List.{length-map, get_or-map, get_or-set_same, get_or-set_other, take_all, length-replicate}
+use Rattle.std.proofs.lemmas.List.{length-map, get_or-map, get_or-set_same, get_or-set_other, take_all}
 use Rattle.std.proofs.lemmas.List.FromFn.{length-map-range_with_len}
 use Rattle.std.proofs.lemmas.List.Sums.{AllPass-from_list_all}
-use Rattle.std.proofs.lemmas.Bool.{and_parts, and_from, or_left, or_cases, both_ways, eqb-true, cases_eq, cases_lt, eq-eqb, ne_eqb}
+use Rattle.std.proofs.lemmas.Bool.{and_from, or_left, or_cases, both_ways, eqb-true, cases_eq, cases_lt, eq-eqb, ne_eqb}
 use Rattle.assign.specs.Sets.{numbers, has, with_member}
-use Rattle.assign.specs.Assignment.{Assignment, value_of, value_beside, assigned}
+use Rattle.assign.specs.Assignment.{value_beside, assigned}
 use Rattle.language.specs.declared.candidates.Candidate.{Candidate}
 use Rattle.language.specs.Language.{Language, IsLanguage, variable_count}
 use Rattle.language.proofs.Members.{any_number}
-use Rattle.language.proofs.Beside.{value_of_assigned, beside_none}
-use Rattle.propagators.specs.Allowed.{AreConstraints, is_allowed}
-use Rattle.propagators.specs.Families.{Family, Arc, arcs_of, is_not_empty, domain_of, left_by, is_consistent, is_arc_consistent, has_family, IsSubfamily, IsLargest, largest}
-use Rattle.propagators.specs.Supports.{DifferAt, AreSettled, IsFamilyOf}
+use Rattle.language.proofs.Beside.{value_of_assigned}
+use Rattle.propagators.specs.Allowed.{AreConstraints}
+use Rattle.propagators.specs.Families.{Family, arcs_of, is_not_empty, domain_of, left_by, is_consistent, is_arc_consistent, has_family, IsSubfamily, IsLargest, largest}
+use Rattle.propagators.specs.Supports.{AreSettled, IsFamilyOf}
+use Rattle.propagators.specs.Propagated.{IsPropagated, RunsEmpty}
 use Rattle.propagators.proofs.Ones.{has-filter}
-use Rattle.propagators.proofs.Pruned.{largest_is, largest_again, has_head, filter_has}
+use Rattle.propagators.proofs.Pruned.{largest_is, largest_again, filter_has}
 use Rattle.propagators.proofs.Living.{largest_tells, largest_long}
 use Rattle.propagators.proofs.Replacing.{all_full, full_from}
 use Rattle.propagators.proofs.Rounds.{stays_consistent, tells_with, empty_stays}
 use Rattle.propagators.proofs.Cutting.{not_with}
-use Rattle.propagators.proofs.Conditions.{arcs_small, family_within}
+use Rattle.propagators.proofs.Conditions.{arcs_small}
 use Rattle.fd_solver.specs.Outcomes.{IsOrder, is_alive_in}
 use Rattle.fd_solver.specs.Ready.{IsReady, AreReady, fixed}
 use Rattle.fd_solver.proofs.Filling.{beside_next, beside_push, next_known}
-use Rattle.fd_solver.proofs.Alive.{alive_as_family}
 
 -- ---- one value alone
 
@@ -183,8 +183,7 @@ module _ (l : Language) (list : List Candidate) (against : Option Candidate) (or
 
   alive_by : (g : Family) → length g ≡ variable_count l → IsLargest (arcs_of l list against) (fixed f (slice_index_or order (length p) 0) x) g → is_alive_in l list against order (p ++ x ∷ []) ≡ list_all is_not_empty g
   alive_by g size is_g =
-      alive_as_family l lawful list against are (assigned (variable_count l) order (p ++ x ∷ [])) (length-map-range_with_len (value_beside order (p ++ x ∷ [])) 0 (variable_count l))
-      ∙ largest_tells l list against (assigned (variable_count l) order (p ++ x ∷ []))
+      largest_tells l list against (assigned (variable_count l) order (p ++ x ∷ []))
       ∙ tells_with (arcs_of l list against) (left_by l.value_count (assigned (variable_count l) order (p ++ x ∷ []))) g (size ∙ sym long_new) (below_largest g is_g)
 
   pub below_alive : (g : Family) → IsFamilyOf l g → IsLargest (arcs_of l list against) (fixed f (slice_index_or order (length p) 0) x) g → list_all is_not_empty g ≡ true → is_alive_in l list against order (p ++ x ∷ []) ≡ true
@@ -203,14 +202,12 @@ module _ (l : Language) (list : List Candidate) (against : Option Candidate) (or
 
   -- as the code has it: the place and the family have names of their own
   pub entered : (at : ℕ) (h g : Family) (b : Bool) → at ≡ length p → h ≡ f →
-      (b ≡ true → IsLargest (arcs_of l list against) (fixed h (slice_index_or order at 0) x) g) → (b ≡ true → list_all is_not_empty g ≡ true) → (b ≡ true → IsFamilyOf l g) →
-      (b ≡ false → list_all is_not_empty (largest (arcs_of l list against) (fixed h (slice_index_or order at 0) x)) ≡ false) → b ≡ is_alive_in l list against order (p ++ x ∷ [])
-  entered at h g true place same is_g full family dead = sym (below_alive g (family refl) (subst (λ (k : Family). IsLargest (arcs_of l list against) k g) (λ i. fixed (same i) (slice_index_or order (place i) 0) x) (is_g refl)) (full refl))
-  entered at h g false place same is_g full family dead = sym (below_dead (ap (λ (k : Family). list_all is_not_empty (largest (arcs_of l list against) k)) (sym (λ i. fixed (same i) (slice_index_or order (place i) 0) x)) ∙ dead refl))
+      (b ≡ true → IsPropagated l (arcs_of l list against) (fixed h (slice_index_or order at 0) x) g) → (b ≡ false → RunsEmpty (arcs_of l list against) (fixed h (slice_index_or order at 0) x)) → b ≡ is_alive_in l list against order (p ++ x ∷ [])
+  entered at h g true place same to dead = sym (below_alive g ((to refl).family) (subst (λ (k : Family). IsLargest (arcs_of l list against) k g) (λ i. fixed (same i) (slice_index_or order (place i) 0) x) ((to refl).largest)) ((to refl).full))
+  entered at h g false place same to dead = sym (below_dead (ap (λ (k : Family). list_all is_not_empty (largest (arcs_of l list against) k)) (sym (λ i. fixed (same i) (slice_index_or order (place i) 0) x)) ∙ dead refl))
 
-  pub entered_ready : (at : ℕ) (h g : Family) → at ≡ length p → h ≡ f → IsLargest (arcs_of l list against) (fixed h (slice_index_or order at 0) x) g → list_all is_not_empty g ≡ true → IsFamilyOf l g →
-      IsReady l list against (assigned (variable_count l) order (p ++ x ∷ [])) g
-  entered_ready at h g place same is_g full family = below_ready g family (subst (λ (k : Family). IsLargest (arcs_of l list against) k g) (λ i. fixed (same i) (slice_index_or order (place i) 0) x) is_g) full
+  pub entered_ready : (at : ℕ) (h g : Family) → at ≡ length p → h ≡ f → IsPropagated l (arcs_of l list against) (fixed h (slice_index_or order at 0) x) g → IsReady l list against (assigned (variable_count l) order (p ++ x ∷ [])) g
+  entered_ready at h g place same to = below_ready g to.family (subst (λ (k : Family). IsLargest (arcs_of l list against) k g) (λ i. fixed (same i) (slice_index_or order (place i) 0) x) to.largest) to.full
 
 -- ---- a family for each depth
 
@@ -250,10 +247,9 @@ module _ (l : Language) (list : List Candidate) (against : Option Candidate) (or
   ready_first depths new = λ k low. subst (λ (j : ℕ). IsReady l list against (assigned (variable_count l) order (take j [])) (slice_index_or depths j [])) (let e : 0 ≡ k = omega arith in e) new
 
   -- what is ready is alive
-  pub ready_alive : IsLanguage l → AreConstraints l list against → (p : List ℕ) (f : Family) → IsReady l list against (assigned (variable_count l) order p) f → is_alive_in l list against order p ≡ true
-  ready_alive lawful are p f ready =
-      alive_as_family l lawful list against are (assigned (variable_count l) order p) (length-map-range_with_len (value_beside order p) 0 (variable_count l))
-      ∙ largest_tells l list against (assigned (variable_count l) order p)
+  pub ready_alive : (p : List ℕ) (f : Family) → IsReady l list against (assigned (variable_count l) order p) f → is_alive_in l list against order p ≡ true
+  ready_alive p f ready =
+      largest_tells l list against (assigned (variable_count l) order p)
       ∙ tells_with (arcs_of l list against) (left_by l.value_count (assigned (variable_count l) order p)) f
       (ready.family.size ∙ sym (length-map (assigned (variable_count l) order p) (domain_of l.value_count) ∙ length-map-range_with_len (value_beside order p) 0 (variable_count l))) ready.largest
       ∙ ready.full
@@ -276,11 +272,11 @@ left_none d zero = refl
 left_none d (suc m) = ap (λ (f : Family). numbers d ∷ f) (left_none d m)
 
 pub begun_ready : (l : Language) (list : List Candidate) (against : Option Candidate) (full f : Family) (depths : List Family) → full ≡ replicate (variable_count l) (numbers l.value_count) → 0 < length depths →
-    IsLargest (arcs_of l list against) full f → list_all is_not_empty f ≡ true → IsFamilyOf l f → IsReady l list against (replicate (variable_count l) None) (slice_index_or (slice_set depths 0 f) 0 [])
-begun_ready l list against full f depths is some largest_f nonempty family = subst (IsReady l list against (replicate (variable_count l) None)) (sym (get_or-set_same depths 0 f [] some)) (record {
-  largest = subst (λ (g : Family). IsLargest (arcs_of l list against) g f) (is ∙ sym (left_none l.value_count (variable_count l))) largest_f;
-  full = nonempty;
-  family = family;
+    IsPropagated l (arcs_of l list against) full f → IsReady l list against (replicate (variable_count l) None) (slice_index_or (slice_set depths 0 f) 0 [])
+begun_ready l list against full f depths is some from = subst (IsReady l list against (replicate (variable_count l) None)) (sym (get_or-set_same depths 0 f [] some)) (record {
+  largest = subst (λ (g : Family). IsLargest (arcs_of l list against) g f) (is ∙ sym (left_none l.value_count (variable_count l))) from.largest;
+  full = from.full;
+  family = from.family;
 })
 
 pub begun_dead : (l : Language) (list : List Candidate) (against : Option Candidate) (full : Family) → full ≡ replicate (variable_count l) (numbers l.value_count) →

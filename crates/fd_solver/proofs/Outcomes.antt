@@ -12,17 +12,19 @@ use Rattle.assign.specs.Assignment.{Assignment, assigned, value_beside, covers, 
 use Rattle.rel_table.specs.Relation.{holds}
 use Rattle.language.specs.declared.candidates.Candidate.{Candidate}
 use Rattle.language.specs.Language.{Language, IsLanguage, IsCandidate, IsImplied, IsQuestion, variable_count, scope_of, relation_of, violates, accepts}
+use Rattle.language.specs.Answers.{IsNetwork}
 use Rattle.language.specs.Search.{order_of, prefixes, assignment_of, satisfies, is_plain}
 use Rattle.language.proofs.Members.{any-filter, any-map, any-flat_map, any_number, find_none, find_some}
 use Rattle.language.proofs.Beside.{tuple_fits}
 use Rattle.language.proofs.Lists.{find_all, all_below, any_weaker}
 use Rattle.fd_solver.specs.declared.outcome.Outcome.TheVariants.{Found, Absent, Spent}
 use Rattle.fd_solver.specs.Outcomes.{outcome_from, outcome_by, is_alive, alive_walk, outcome_of_candidate}
-use Rattle.fd_solver.specs.Laws.{AbsentIsImplied, SpentIsLong, PlainIsLess, IsQuestionAgainst, FoundIsLawful, AbsentStays, AliveIsFamily, WholeIsAlive}
+use Rattle.fd_solver.specs.Laws.{AbsentIsImplied, SpentIsLong, PlainIsLess, IsQuestionAgainst, FoundIsLawful, AbsentStays, AliveIsPlain, AliveIsAllowed, WholeIsAlive}
 use Rattle.fd_solver.proofs.Lists.{find_nothing, fewer_pass, front_of}
 use Rattle.fd_solver.proofs.Preorder.{prefixes_small}
+use Rattle.propagators.specs.Allowed.{AreConstraints}
 use Rattle.propagators.specs.Families.{has_family}
-use Rattle.fd_solver.proofs.Alive.{alive_as_family, whole_has_family, family_of_fewer}
+use Rattle.fd_solver.proofs.Alive.{family_is_plain, whole_has_family, family_of_fewer}
 use Rattle.fd_solver.proofs.Filling.{assigned_fits}
 use Rattle.fd_solver.proofs.Orders.{order_small, order_has, length-order, whole_prefix, covers_all, rises_there}
 
@@ -75,9 +77,7 @@ longer_is_stricter l network more c p h =
     and_from _ _ (front_of (λ b. not (violates l b (assignment_of l c p))) network more both.0) both.1
 
 longer_is_stricter_alive : (l : Language) (network more : List Candidate) (c : Candidate) (p : List ℕ) → is_alive l (network ++ more) c p ≡ true → is_alive l network c p ≡ true
-longer_is_stricter_alive l network more c p h =
-    let both = and_parts (is_plain l (network ++ more) c p) _ h in
-    and_from _ _ (longer_is_stricter l network more c p both.0) (family_of_fewer l network more c (assignment_of l c p) both.1)
+longer_is_stricter_alive l network more c p h = family_of_fewer l network more c (assignment_of l c p) h
 
 -- ---- the prefixes have each list of values
 
@@ -104,6 +104,18 @@ beside_some (w ∷ vars) (x ∷ values) v e = go (w == v) (beside_some vars valu
     go true rest = refl
     go false rest = rest
 
+-- ---- alive prefixes of candidates of the language
+
+constraints : (l : Language) (network : List Candidate) (c : Candidate) → IsNetwork l network → IsCandidate l c → AreConstraints l network (Some c)
+constraints l network c legal is = record { list = legal; against = λ b e. (let same : c ≡ b = cc in subst (IsCandidate l) same is) }
+
+pub alive_is_allowed : AliveIsAllowed
+alive_is_allowed l list against order prefix lawful are h =
+    family_is_plain l lawful list against are (assigned (variable_count l) order prefix) (length-map-range_with_len (value_beside order prefix) 0 (variable_count l)) h
+
+pub alive_is_plain : AliveIsPlain
+alive_is_plain l network c prefix lawful legal is h = alive_is_allowed l network (Some c) (order_of l c) prefix lawful (constraints l network c legal is) h
+
 -- ---- a candidate of the language
 
 module _ (l : Language) (lawful : IsLanguage l) (network : List Candidate) (c : Candidate) (is : IsCandidate l c) where
@@ -127,8 +139,8 @@ module _ (l : Language) (lawful : IsLanguage l) (network : List Candidate) (c : 
   lets_alive e question complete accepted bad =
       let plain = lets_plain e question complete accepted bad in
       let same = whole_prefix l c small e question.size complete in
-      and_from _ _ plain (subst (λ (x : Assignment). has_family l network (Some c) x ≡ true) (sym same)
-      (whole_has_family l lawful network (Some c) e question.size complete (subst (λ (x : Assignment). (accepts l network x && not (satisfies l c x)) ≡ true) same plain)))
+      subst (λ (x : Assignment). has_family l network (Some c) x ≡ true) (sym same)
+      (whole_has_family l lawful network (Some c) e question.size complete (subst (λ (x : Assignment). (accepts l network x && not (satisfies l c x)) ≡ true) same plain))
 
   implied_where_absent : (budget : ℕ) → outcome_of_candidate l network c budget ≡ Absent → IsImplied l network c
   implied_where_absent budget absent = λ e question complete accepted. false_from_ne_true _ (λ bad.
@@ -155,8 +167,8 @@ module _ (l : Language) (lawful : IsLanguage l) (network : List Candidate) (c : 
       go true false h k = refl
       go false b h k = cc
 
-  question_where_found : (budget : ℕ) (e : Assignment) → outcome_of_candidate l network c budget ≡ Found e → IsQuestionAgainst l network c e
-  question_where_found budget e h =
+  question_where_found : IsNetwork l network → (budget : ℕ) (e : Assignment) → outcome_of_candidate l network c budget ≡ Found e → IsQuestionAgainst l network c e
+  question_where_found legal budget e h =
       let walk : List (List ℕ) = alive_walk l network c in
       let was = found_was (assignment_of l c) (find (λ p. length p == variable_count l) (take budget (alive_walk l network c))) (nat_le (length (alive_walk l network c)) budget) e h in
       let long : length was.0 ≡ variable_count l = eqb-true _ _ (find_some (λ p. length p == variable_count l) (take budget (alive_walk l network c)) was.0 was.1) in
@@ -164,7 +176,7 @@ module _ (l : Language) (lawful : IsLanguage l) (network : List Candidate) (c : 
       (All-take (λ p. is_alive l network c p ≡ true) budget (alive_walk l network c) (filter_passes (is_alive l network c) (prefixes l.value_count (variable_count l)))) was.1 in
       let fits = find_all (All (λ x. x < l.value_count)) (λ p. length p == variable_count l) (take budget (alive_walk l network c)) was.0
       (All-take (All (λ x. x < l.value_count)) budget (alive_walk l network c) (All-filter (is_alive l network c) (All (λ x. x < l.value_count)) (prefixes l.value_count (variable_count l)) (prefixes_small l.value_count (variable_count l)))) was.1 in
-      let plain : is_plain l network c was.0 ≡ true = (and_parts (is_plain l network c was.0) _ passes).0 in
+      let plain : is_plain l network c was.0 ≡ true = alive_is_plain l network c was.0 lawful legal is passes in
       let parts = and_parts (accepts l network (assignment_of l c was.0)) (not (satisfies l c (assignment_of l c was.0))) plain in
       let complete = complete_there was.0 long in
       subst (IsQuestionAgainst l network c) was.2 (record {
@@ -180,36 +192,25 @@ pub absent_is_implied : AbsentIsImplied
 absent_is_implied l network c budget lawful is absent = implied_where_absent l lawful network c is budget absent
 
 pub spent_is_long : SpentIsLong
-spent_is_long l network c budget spent =
+spent_is_long l network c budget lawful legal is spent =
     let long = spent_long (variable_count l) (assignment_of l c) (alive_walk l network c) budget spent in
-    let more = fewer_pass (is_alive l network c) (is_plain l network c) (prefixes l.value_count (variable_count l)) (λ p h. (and_parts (is_plain l network c p) _ h).0) in
+    let more = fewer_pass (is_alive l network c) (is_plain l network c) (prefixes l.value_count (variable_count l)) (λ p h. alive_is_plain l network c p lawful legal is h) in
     omega arith
 
 pub plain_is_less : PlainIsLess
 plain_is_less l network more c = fewer_pass (is_plain l (network ++ more) c) (is_plain l network c) (prefixes l.value_count (variable_count l)) (longer_is_stricter l network more c)
 
 pub found_is_lawful : FoundIsLawful
-found_is_lawful l network c budget e lawful is found = question_where_found l lawful network c is budget e found
+found_is_lawful l network c budget e lawful legal is found = question_where_found l lawful network c is legal budget e found
 
 pub absent_stays : AbsentStays
 absent_stays l network more c budget absent = absent_fewer (variable_count l) (assignment_of l c) budget (is_alive l network c) (is_alive l (network ++ more) c) (prefixes l.value_count (variable_count l))
     (longer_is_stricter_alive l network more c) absent
 
-pub alive_is_family : AliveIsFamily
-alive_is_family l list against order prefix lawful are = alive_as_family l lawful list against are (assigned (variable_count l) order prefix) (length-map-range_with_len (value_beside order prefix) 0 (variable_count l))
-
 pub whole_is_alive : WholeIsAlive
-whole_is_alive l network c prefix lawful is long = go (is_plain l network c prefix) refl
+whole_is_alive l network c prefix lawful legal is long = go (is_plain l network c prefix) refl
   where
-    none : (a b : Bool) → a ≡ false → (a && b) ≡ a
-    none true b h = cc
-    none false b h = refl
-
     go : (b : Bool) → is_plain l network c prefix ≡ b → is_alive l network c prefix ≡ is_plain l network c prefix
-    go true plain = ap (λ b. is_plain l network c prefix && b) (whole_has_family l lawful network (Some c) (assignment_of l c prefix)
-        (length-map-range_with_len (value_beside (order_of l c) prefix) 0 (variable_count l)) (complete_there l lawful network c is prefix long) plain) ∙ last (is_plain l network c prefix)
-      where
-        last : (b : Bool) → (b && true) ≡ b
-        last true = refl
-        last false = refl
-    go false plain = none _ _ plain
+    go true plain = whole_has_family l lawful network (Some c) (assignment_of l c prefix)
+        (length-map-range_with_len (value_beside (order_of l c) prefix) 0 (variable_count l)) (complete_there l lawful network c is prefix long) plain ∙ sym plain
+    go false plain = false_from_ne_true _ (λ h. both_ways _ plain (alive_is_plain l network c prefix lawful legal is h)) ∙ sym plain

@@ -1,11 +1,11 @@
 -- Laws of outcomes.
-use Rattle.std.specs.Prelude.{ℕ, ◌<◌, ◌≤◌, ◌≡◌, IsTrue, List, ◌++◌, length, Option}
+use Rattle.std.specs.Prelude.{ℕ, ◌<◌, ◌≤◌, ◌≡◌, true, IsTrue, List, ◌++◌, length, Option}
 use Rattle.assign.specs.Assignment.{Assignment, assigned, is_complete}
 use Rattle.language.specs.declared.candidates.Candidate.{Candidate}
 use Rattle.language.specs.Language.{Language, IsLanguage, IsCandidate, IsQuestion, IsImplied, variable_count, accepts, violates}
+use Rattle.language.specs.Answers.{IsNetwork}
 use Rattle.language.specs.Search.{order_of, is_plain, plain_size}
-use Rattle.propagators.specs.Allowed.{AreConstraints}
-use Rattle.propagators.specs.Families.{has_family}
+use Rattle.propagators.specs.Allowed.{AreConstraints, is_allowed}
 use Rattle.fd_solver.specs.declared.outcome.Outcome.TheVariants.{Found, Absent, Spent}
 use Rattle.fd_solver.specs.Outcomes.{IsOrder, is_alive, is_alive_in, outcome_of_candidate}
 
@@ -23,7 +23,7 @@ AbsentIsImplied =
 abbrev pub SpentIsLong : Type 0
 SpentIsLong =
     (l : Language) (network : List Candidate) (c : Candidate) (budget : ℕ) →
-    outcome_of_candidate l network c budget ≡ Spent → budget < plain_size l network c
+    IsLanguage l → IsNetwork l network → IsCandidate l c → outcome_of_candidate l network c budget ≡ Spent → budget < plain_size l network c
 
 -- A longer network has no more plain prefixes.
 abbrev pub PlainIsLess : Type 0
@@ -40,7 +40,7 @@ pub record IsQuestionAgainst (l : Language) (network : List Candidate) (c : Cand
 abbrev pub FoundIsLawful : Type 0
 FoundIsLawful =
     (l : Language) (network : List Candidate) (c : Candidate) (budget : ℕ) (e : Assignment) →
-    IsLanguage l → IsCandidate l c → outcome_of_candidate l network c budget ≡ Found e → IsQuestionAgainst l network c e
+    IsLanguage l → IsNetwork l network → IsCandidate l c → outcome_of_candidate l network c budget ≡ Found e → IsQuestionAgainst l network c e
 
 -- A search that ends with nothing does so too when the network has grown, under the same budget.
 abbrev pub AbsentStays : Type 0
@@ -48,14 +48,20 @@ AbsentStays =
     (l : Language) (network more : List Candidate) (c : Candidate) (budget : ℕ) →
     outcome_of_candidate l network c budget ≡ Absent → outcome_of_candidate l (network ++ more) c budget ≡ Absent
 
--- A prefix of constraints of the language is alive exactly where it leaves an arc-consistent family of nonempty sets.
-abbrev pub AliveIsFamily : Type 0
-AliveIsFamily =
+-- An alive prefix is plain.
+abbrev pub AliveIsPlain : Type 0
+AliveIsPlain =
+    (l : Language) (network : List Candidate) (c : Candidate) (prefix : List ℕ) →
+    IsLanguage l → IsNetwork l network → IsCandidate l c → is_alive l network c prefix ≡ true → is_plain l network c prefix ≡ true
+
+-- In any order, and with or without a candidate against, what an alive prefix assigns is allowed.
+abbrev pub AliveIsAllowed : Type 0
+AliveIsAllowed =
     (l : Language) (list : List Candidate) (against : Option Candidate) (order prefix : List ℕ) →
-    IsLanguage l → AreConstraints l list against → is_alive_in l list against order prefix ≡ has_family l list against (assigned (variable_count l) order prefix)
+    IsLanguage l → AreConstraints l list against → is_alive_in l list against order prefix ≡ true → is_allowed l list against (assigned (variable_count l) order prefix) ≡ true
 
 -- A prefix with a value for each variable is alive exactly where it is plain.
 abbrev pub WholeIsAlive : Type 0
 WholeIsAlive =
     (l : Language) (network : List Candidate) (c : Candidate) (prefix : List ℕ) →
-    IsLanguage l → IsCandidate l c → length prefix ≡ variable_count l → is_alive l network c prefix ≡ is_plain l network c prefix
+    IsLanguage l → IsNetwork l network → IsCandidate l c → length prefix ≡ variable_count l → is_alive l network c prefix ≡ is_plain l network c prefix

@@ -1,10 +1,9 @@
 -- The outcome of a search under a budget.
-use Rattle.std.specs.Prelude.{ℕ, ◌<◌, ◌≡◌, ◌≢◌, ◌==◌, Bool, true, false, ◌&&◌, List, length, take, find, nat_le, Option, Some, None, All, AllPairs}
+use Rattle.std.specs.Prelude.{ℕ, ◌<◌, ◌≡◌, ◌≢◌, ◌==◌, Bool, true, false, List, length, take, find, nat_le, Option, Some, None, All, AllPairs}
 use Rattle.assign.specs.Assignment.{Assignment, assigned}
 use Rattle.language.specs.declared.candidates.Candidate.{Candidate}
 use Rattle.language.specs.Language.{Language, variable_count}
-use Rattle.language.specs.Search.{assignment_of, is_plain, walk_by}
-use Rattle.propagators.specs.Allowed.{is_allowed}
+use Rattle.language.specs.Search.{assignment_of, walk_by}
 use Rattle.propagators.specs.Families.{has_family}
 use Rattle.fd_solver.specs.declared.outcome.Outcome.{Outcome}
 use Rattle.fd_solver.specs.declared.outcome.Outcome.TheVariants.{Found, Absent, Spent}
@@ -29,9 +28,9 @@ outcome_by n assign members budget = outcome_from assign (find (λ p. length p =
 abbrev pub outcome_of : Language → Candidate → List (List ℕ) → ℕ → Outcome
 outcome_of l c members budget = outcome_by (variable_count l) (assignment_of l c) members budget
 
--- a plain prefix with an arc-consistent family of nonempty sets among the values that it leaves
+-- among the values that a prefix leaves is an arc-consistent family of nonempty sets, for the network and the candidate's contrary
 abbrev pub is_alive : Language → List Candidate → Candidate → List ℕ → Bool
-is_alive l network c prefix = is_plain l network c prefix && has_family l network (Some c) (assignment_of l c prefix)
+is_alive l network c prefix = has_family l network (Some c) (assignment_of l c prefix)
 
 abbrev pub alive_walk : Language → List Candidate → Candidate → List (List ℕ)
 alive_walk l network c = walk_by (is_alive l network c) l
@@ -40,11 +39,9 @@ alive_walk l network c = walk_by (is_alive l network c) l
 abbrev pub outcome_of_candidate : Language → List Candidate → Candidate → ℕ → Outcome
 outcome_of_candidate l network c budget = outcome_of l c (alive_walk l network c) budget
 
--- whether a prefix in this order violates nothing of the list, doesn't satisfy the one against it, and leaves an arc-consistent family of nonempty sets
+-- the same for any list, any order, and perhaps no candidate against
 abbrev pub is_alive_in : Language → List Candidate → Option Candidate → List ℕ → List ℕ → Bool
-is_alive_in l list against order prefix =
-    let e : Assignment = assigned (variable_count l) order prefix in
-    is_allowed l list against e && has_family l list against e
+is_alive_in l list against order prefix = has_family l list against (assigned (variable_count l) order prefix)
 
 -- the outcome of the walk over alive prefixes in this order; in a candidate's own order, against it, this is the candidate's
 abbrev pub search_outcome : Language → List Candidate → Option Candidate → List ℕ → ℕ → Outcome

@@ -1,19 +1,17 @@
 -- Domains that are ready for the search below a prefix.
-use Rattle.std.specs.Prelude.{ℕ, ◌≡◌, ◌≤◌, ◌==◌, true, List, [], length, take, slice_index_or, slice_set, Option}
-use Rattle.std.specs.List.{filter, list_all}
+use Rattle.std.specs.Prelude.{ℕ, ◌≤◌, ◌==◌, List, [], length, take, slice_index_or, slice_set, Option}
+use Rattle.std.specs.List.{filter}
 use Rattle.assign.specs.Assignment.{Assignment, assigned}
 use Rattle.language.specs.declared.candidates.Candidate.{Candidate}
 use Rattle.language.specs.Language.{Language, variable_count}
-use Rattle.propagators.specs.Families.{Family, arcs_of, left_by, is_not_empty, IsLargest}
-use Rattle.propagators.specs.Supports.{IsFamilyOf}
+use Rattle.propagators.specs.Families.{Family, arcs_of, left_by}
+use Rattle.propagators.specs.Propagated.{IsPropagated}
 use Rattle.propagators.specs.declared.plan.Plan.{Plan}
 use Rattle.propagators.specs.Plans.{IsPlanOf}
 
 -- the largest arc-consistent family of what an assignment leaves, with no empty set
-pub record IsReady (l : Language) (list : List Candidate) (against : Option Candidate) (e : Assignment) (f : Family) : Type 0 where
-  pub largest : IsLargest (arcs_of l list against) (left_by l.value_count e) f
-  pub full : list_all is_not_empty f ≡ true
-  pub family : IsFamilyOf l f
+abbrev pub IsReady : Language → List Candidate → Option Candidate → Assignment → Family → Type 0
+IsReady l list against e f = IsPropagated l (arcs_of l list against) (left_by l.value_count e) f
 
 -- for each front of a prefix there is one, by its length
 abbrev pub AreReady : Language → List Candidate → Option Candidate → List ℕ → List ℕ → List Family → Type 0
@@ -27,6 +25,10 @@ fixed f v x = slice_set f v (filter (λ y. x == y) (slice_index_or f v []))
 pub record Room : Type 0 where
   pub depths : List Family
   pub plan : Plan
+
+-- how many conditions it has room for
+abbrev pub room_of : Room → ℕ
+room_of w = length w.plan.briefs.items
 
 -- the room is ready for the search below a prefix
 pub record IsArranged (l : Language) (list : List Candidate) (against : Option Candidate) (order : List ℕ) (p : List ℕ) (w : Room) : Type 0 where

@@ -1,6 +1,6 @@
 //! Laws of outcomes and of the order of a candidate. They are claims alone: these functions do nothing.
 
-ghost use Rattle.fd_solver.specs.Laws.{OrdersAreKnown, AbsentIsImplied, SpentIsLong, PlainIsLess, FoundIsLawful, AbsentStays, AliveIsFamily, WholeIsAlive};
+ghost use Rattle.fd_solver.specs.Laws.{OrdersAreKnown, AbsentIsImplied, SpentIsLong, PlainIsLess, FoundIsLawful, AbsentStays, AliveIsPlain, AliveIsAllowed, WholeIsAlive};
 
 /// A candidate's scope and then the other variables have each variable once.
 pub fn orders_are_known()
@@ -32,12 +32,17 @@ pub fn absent_stays()
     ensures { AbsentStays }
 {}
 
-/// A prefix is alive exactly where it leaves an arc-consistent family of nonempty sets: such a prefix breaks nothing.
-pub fn alive_is_family()
-    ensures { AliveIsFamily }
+/// An alive prefix is plain: it violates nothing of the network and doesn't satisfy the candidate.
+pub fn alive_is_plain()
+    ensures { AliveIsPlain }
 {}
 
-/// A complete prefix is alive exactly where it breaks nothing.
+/// In any order an alive prefix violates nothing of the list, and doesn't satisfy the candidate against it, if there is one.
+pub fn alive_is_allowed()
+    ensures { AliveIsAllowed }
+{}
+
+/// A complete prefix is alive exactly where it is plain.
 pub fn whole_is_alive()
     ensures { WholeIsAlive }
 {}

@@ -1,13 +1,12 @@
-ghost use Rattle.std.specs.Prelude.{◌≡◌, ◌<◌, ◌≤◌, ◌++◌, ◌∷◌, [], true, false, None, length, replicate, slice_index_or};
-ghost use Rattle.std.specs.List.{list_all};
+ghost use Rattle.std.specs.Prelude.{◌≡◌, ◌<◌, ◌≤◌, ◌+◌, ◌++◌, IfOk, ◌∷◌, [], true, false, None, length, replicate, slice_index_or};
 ghost use Rattle.assign.specs.Sets.{has};
 ghost use Rattle.language.specs.Language.{IsLanguage, variable_count};
 ghost use Rattle.propagators.specs.Allowed.{AreConstraints};
-ghost use Rattle.propagators.specs.Families.{arcs_of, has_family, is_not_empty, is_arc_consistent, largest, IsLargest};
-ghost use Rattle.propagators.specs.Supports.{IsFamilyOf};
-ghost use Rattle.fd_solver.specs.Outcomes.{IsOrder, is_alive_in};
+ghost use Rattle.propagators.specs.Families.{arcs_of, has_family, is_arc_consistent};
 ghost use Rattle.propagators.specs.Plans.{IsPlanOf};
-ghost use Rattle.fd_solver.specs.Ready.{IsReady, IsArranged, fixed};
+ghost use Rattle.propagators.specs.Propagated.{AreSome, IsPropagated, RunsEmpty};
+ghost use Rattle.fd_solver.specs.Outcomes.{IsOrder, is_alive_in};
+ghost use Rattle.fd_solver.specs.Ready.{IsReady, IsArranged, fixed, room_of};
 
 use crate::stack::Stack;
 use assign::VarSet;
@@ -46,15 +45,12 @@ fn narrow(cons: &Constraints, plan: &Plan, doms: &mut Domains, v: u8, x: u8) -> 
     requires lawful { IsLanguage cons.now.lang.now }
     requires constraints { AreConstraints cons.now.lang.now cons.now.list.now cons.now.against }
     requires plan { IsPlanOf cons.now.lang.now.value_count (arcs_of cons.now.lang.now cons.now.list.now cons.now.against) plan.now }
-    requires family { IsFamilyOf cons.now.lang.now doms.old }
-    requires full { list_all is_not_empty doms.old ≡ true }
+    requires doms { AreSome cons.now.lang.now doms.old }
     requires consistent { is_arc_consistent (arcs_of cons.now.lang.now cons.now.list.now cons.now.against) doms.old ≡ true }
     requires known { v < variable_count cons.now.lang.now }
     requires there { has (slice_index_or doms.old v []) x ≡ true }
-    ensures largest { result ≡ true → IsLargest (arcs_of cons.now.lang.now cons.now.list.now cons.now.against) (fixed doms.old v x) doms.new }
-    ensures full { result ≡ true → list_all is_not_empty doms.new ≡ true }
-    ensures family { result ≡ true → IsFamilyOf cons.now.lang.now doms.new }
-    ensures dead { result ≡ false → list_all is_not_empty (largest (arcs_of cons.now.lang.now cons.now.list.now cons.now.against) (fixed doms.old v x)) ≡ false }
+    ensures alive { result ≡ true → IsPropagated cons.now.lang.now (arcs_of cons.now.lang.now cons.now.list.now cons.now.against) (fixed doms.old v x) doms.new }
+    ensures dead { result ≡ false → RunsEmpty (arcs_of cons.now.lang.now cons.now.list.now cons.now.against) (fixed doms.old v x) }
 {
     doms.fix(v, x);
     match propagate_after(cons, plan, doms, VarSet::empty().with(v)) {
@@ -64,11 +60,13 @@ fn narrow(cons: &Constraints, plan: &Plan, doms: &mut Domains, v: u8, x: u8) -> 
 }
 
 impl Work {
-    /// Room for the values of each depth, some 132 KB, and for what is known of as many conditions as there are scopes, and
-    /// one more. `Memory` where there is none.
+    /// Room for a search: some 130 KB for the values of each depth, 64 KB for the masks of the relations of two variables, and
+    /// some 22 bytes for each of as many conditions as there are scopes, and one more. `Memory` where there is none.
     ///
     /// With more conditions than that a search is as exact and slower.
-    pub fn new(alloc: Global, lang: &Language) -> Result<Work, Memory> {
+    pub fn new(alloc: Global, lang: &Language) -> Result<Work, Memory>
+        ensures { IfOk result (λ w. room_of w ≡ length lang.now.scopes + 1) }
+    {
         let Ok(depths) = vec![in alloc; Domains::full(lang); DEPTHS] else {
             return Err(Memory);
         };

@@ -6,6 +6,8 @@
 
 mod forked;
 mod gate;
+mod places;
 
 pub use forked::next_query_forked;
 pub use gate::{FreeGate, Gate};
+pub use places::places_for;

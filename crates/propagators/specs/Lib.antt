@@ -9,3 +9,4 @@ pub mod Loose
 pub mod Pairs
 pub mod Briefs
 pub mod Plans
+pub mod Propagated

@@ -1,11 +1,12 @@
 ghost use Rattle.std.specs.Prelude.{◌≡◌, ◌<◌, ◌≤◌, ℕ, [], true, false, All, IfSome, None, length, map, take, slice_index_or};
-ghost use Rattle.std.specs.List.{list_any, list_all};
+ghost use Rattle.std.specs.List.{list_any};
 ghost use Rattle.assign.specs.Sets.{has};
 ghost use Rattle.language.specs.Language.{IsLanguage, IsCandidate};
 ghost use Rattle.propagators.specs.Allowed.{AreConstraints};
 ghost use Rattle.propagators.specs.Values.{ones_of};
-ghost use Rattle.propagators.specs.Families.{arc_of, arcs_of, is_not_empty, largest, IsLargest};
-ghost use Rattle.propagators.specs.Supports.{AreDifferent, IsFamilyOf, IsRevised, IsDead, IsCut, AreSettled, AreFewer, IsUnderway, replaced};
+ghost use Rattle.propagators.specs.Families.{arc_of, arcs_of};
+ghost use Rattle.propagators.specs.Supports.{AreDifferent, IsFamilyOf, IsRevised, IsDead, IsCut, replaced};
+ghost use Rattle.propagators.specs.Propagated.{IsSettledBut, IsPropagated, RunsEmpty, IsPassed};
 
 use crate::constraints::Constraints;
 use crate::domains::Domains;
@@ -83,13 +84,9 @@ pub(crate) fn revise(
 fn pass(cons: &Constraints, doms: &mut Domains, changed: VarSet) -> Option<VarSet>
     requires lawful { IsLanguage cons.now.lang.now }
     requires constraints { AreConstraints cons.now.lang.now cons.now.list.now cons.now.against }
-    requires family { IsFamilyOf cons.now.lang.now doms.old }
-    requires full { list_all is_not_empty doms.old ≡ true }
-    requires settled { AreSettled (arcs_of cons.now.lang.now cons.now.list.now cons.now.against) changed doms.old }
-    ensures underway { IfSome result (λ next. IsUnderway (arcs_of cons.now.lang.now cons.now.list.now cons.now.against) doms.old doms.new) }
-    ensures settled { IfSome result (λ next. AreSettled (arcs_of cons.now.lang.now cons.now.list.now cons.now.against) next doms.new) }
-    ensures fewer { IfSome result (λ next. AreFewer next doms.old doms.new) }
-    ensures dead { result ≡ None → list_all is_not_empty (largest (arcs_of cons.now.lang.now cons.now.list.now cons.now.against) doms.old) ≡ false }
+    requires doms { IsSettledBut cons.now.lang.now (arcs_of cons.now.lang.now cons.now.list.now cons.now.against) changed doms.old }
+    ensures passed { IfSome result (λ next. IsPassed (arcs_of cons.now.lang.now cons.now.list.now cons.now.against) next doms.old doms.new) }
+    ensures dead { result ≡ None → RunsEmpty (arcs_of cons.now.lang.now cons.now.list.now cons.now.against) doms.old }
 {
     let mut next = VarSet::empty();
     for i in 0..cons.count() {
@@ -109,13 +106,9 @@ fn pass(cons: &Constraints, doms: &mut Domains, changed: VarSet) -> Option<VarSe
 pub(crate) fn settle(cons: &Constraints, doms: &mut Domains, changed: VarSet) -> Alive
     requires lawful { IsLanguage cons.now.lang.now }
     requires constraints { AreConstraints cons.now.lang.now cons.now.list.now cons.now.against }
-    requires family { IsFamilyOf cons.now.lang.now doms.old }
-    requires full { list_all is_not_empty doms.old ≡ true }
-    requires settled { AreSettled (arcs_of cons.now.lang.now cons.now.list.now cons.now.against) changed doms.old }
-    ensures largest { result ≡ Alive.Yes → IsLargest (arcs_of cons.now.lang.now cons.now.list.now cons.now.against) doms.old doms.new }
-    ensures full { result ≡ Alive.Yes → list_all is_not_empty doms.new ≡ true }
-    ensures family { result ≡ Alive.Yes → IsFamilyOf cons.now.lang.now doms.new }
-    ensures dead { result ≡ Alive.No → list_all is_not_empty (largest (arcs_of cons.now.lang.now cons.now.list.now cons.now.against) doms.old) ≡ false }
+    requires doms { IsSettledBut cons.now.lang.now (arcs_of cons.now.lang.now cons.now.list.now cons.now.against) changed doms.old }
+    ensures alive { result ≡ Alive.Yes → IsPropagated cons.now.lang.now (arcs_of cons.now.lang.now cons.now.list.now cons.now.against) doms.old doms.new }
+    ensures dead { result ≡ Alive.No → RunsEmpty (arcs_of cons.now.lang.now cons.now.list.now cons.now.against) doms.old }
 {
     let mut changed = changed;
     while changed.len() != 0 {
@@ -133,10 +126,8 @@ pub(crate) fn settle(cons: &Constraints, doms: &mut Domains, changed: VarSet) ->
 pub fn propagate(cons: &Constraints, doms: &mut Domains) -> Alive
     requires constraints { AreConstraints cons.now.lang.now cons.now.list.now cons.now.against }
     requires family { IsFamilyOf cons.now.lang.now doms.old }
-    ensures largest { result ≡ Alive.Yes → IsLargest (arcs_of cons.now.lang.now cons.now.list.now cons.now.against) doms.old doms.new }
-    ensures full { result ≡ Alive.Yes → list_all is_not_empty doms.new ≡ true }
-    ensures family { result ≡ Alive.Yes → IsFamilyOf cons.now.lang.now doms.new }
-    ensures dead { result ≡ Alive.No → list_all is_not_empty (largest (arcs_of cons.now.lang.now cons.now.list.now cons.now.against) doms.old) ≡ false }
+    ensures alive { result ≡ Alive.Yes → IsPropagated cons.now.lang.now (arcs_of cons.now.lang.now cons.now.list.now cons.now.against) doms.old doms.new }
+    ensures dead { result ≡ Alive.No → RunsEmpty (arcs_of cons.now.lang.now cons.now.list.now cons.now.against) doms.old }
 {
     if doms.has_empty() {
         return Alive::No;

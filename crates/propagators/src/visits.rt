@@ -7,12 +7,13 @@ ghost use Rattle.assign.specs.Sets.{has, without};
 ghost use Rattle.language.specs.Language.{IsLanguage};
 ghost use Rattle.propagators.specs.Allowed.{AreConstraints};
 ghost use Rattle.propagators.specs.Values.{ones_of};
-ghost use Rattle.propagators.specs.Families.{Arc, arcs_of, is_not_empty, is_wanted, largest, IsLargest};
-ghost use Rattle.propagators.specs.Supports.{AreBelow, IsFamilyOf, AreSettled, IsUnderway};
+ghost use Rattle.propagators.specs.Families.{Arc, arcs_of, is_not_empty, is_wanted};
+ghost use Rattle.propagators.specs.Supports.{AreBelow, IsFamilyOf};
 ghost use Rattle.propagators.specs.Loose.{HasTwo};
 ghost use Rattle.propagators.specs.Pairs.{IsBeside};
 ghost use Rattle.propagators.specs.Briefs.{IsPairOf};
-ghost use Rattle.propagators.specs.Plans.{IsPlanOf, AreNoted, IsLooked, AreLeft};
+ghost use Rattle.propagators.specs.Plans.{IsPlanOf, AreNoted, IsLooked};
+ghost use Rattle.propagators.specs.Propagated.{AreSome, IsSettledBut, IsPropagated, RunsEmpty, IsWholePlanOf, IsVisited};
 
 use crate::briefs::{Brief, Pair, brief_all, tight_in};
 use crate::constraints::Constraints;
@@ -106,10 +107,9 @@ fn look_at_whole(cons: &Constraints, i: usize, doms: &mut Domains, waiting: &mut
     requires lawful { IsLanguage cons.now.lang.now }
     requires constraints { AreConstraints cons.now.lang.now cons.now.list.now cons.now.against }
     requires low { i < length (arcs_of cons.now.lang.now cons.now.list.now cons.now.against) }
-    requires family { IsFamilyOf cons.now.lang.now doms.old }
-    requires full { list_all is_not_empty doms.old ≡ true }
+    requires doms { AreSome cons.now.lang.now doms.old }
     ensures looked { result ≡ Alive.Yes → IsLooked (arcs_of cons.now.lang.now cons.now.list.now cons.now.against) i waiting.old waiting.new doms.old doms.new }
-    ensures dead { result ≡ Alive.No → list_all is_not_empty (largest (arcs_of cons.now.lang.now cons.now.list.now cons.now.against) doms.old) ≡ false }
+    ensures dead { result ≡ Alive.No → RunsEmpty (arcs_of cons.now.lang.now cons.now.list.now cons.now.against) doms.old }
 {
     let (c, holding) = cons.condition(i);
     match revise(cons.lang, c, holding, doms) {
@@ -135,14 +135,12 @@ fn look_at_pair(
 ) -> Alive
     requires lawful { IsLanguage cons.now.lang.now }
     requires constraints { AreConstraints cons.now.lang.now cons.now.list.now cons.now.against }
-    requires plan { IsPlanOf cons.now.lang.now.value_count (arcs_of cons.now.lang.now cons.now.list.now cons.now.against) plan.now }
-    requires room { length (arcs_of cons.now.lang.now cons.now.list.now cons.now.against) ≤ length plan.now.briefs.items }
+    requires plan { IsWholePlanOf cons.now.lang.now.value_count (arcs_of cons.now.lang.now cons.now.list.now cons.now.against) plan.now }
     requires pair { (a : Arc) → IsPairOf cons.now.lang.now.value_count plan.now.masks (slice_index_or (arcs_of cons.now.lang.now cons.now.list.now cons.now.against) i a) pair }
     requires low { i < length (arcs_of cons.now.lang.now cons.now.list.now cons.now.against) }
-    requires family { IsFamilyOf cons.now.lang.now doms.old }
-    requires full { list_all is_not_empty doms.old ≡ true }
+    requires doms { AreSome cons.now.lang.now doms.old }
     ensures looked { result ≡ Alive.Yes → IsLooked (arcs_of cons.now.lang.now cons.now.list.now cons.now.against) i waiting.old waiting.new doms.old doms.new }
-    ensures dead { result ≡ Alive.No → list_all is_not_empty (largest (arcs_of cons.now.lang.now cons.now.list.now cons.now.against) doms.old) ≡ false }
+    ensures dead { result ≡ Alive.No → RunsEmpty (arcs_of cons.now.lang.now cons.now.list.now cons.now.against) doms.old }
 {
     let Some((v, row)) = beside(&plan.masks, pair, doms) else {
         if pair.is_loose {
@@ -181,12 +179,10 @@ fn look_at(
 ) -> Alive
     requires lawful { IsLanguage cons.now.lang.now }
     requires constraints { AreConstraints cons.now.lang.now cons.now.list.now cons.now.against }
-    requires plan { IsPlanOf cons.now.lang.now.value_count (arcs_of cons.now.lang.now cons.now.list.now cons.now.against) plan.now }
-    requires room { length (arcs_of cons.now.lang.now cons.now.list.now cons.now.against) ≤ length plan.now.briefs.items }
-    requires family { IsFamilyOf cons.now.lang.now doms.old }
-    requires full { list_all is_not_empty doms.old ≡ true }
+    requires plan { IsWholePlanOf cons.now.lang.now.value_count (arcs_of cons.now.lang.now cons.now.list.now cons.now.against) plan.now }
+    requires doms { AreSome cons.now.lang.now doms.old }
     ensures looked { result ≡ Alive.Yes → IsLooked (arcs_of cons.now.lang.now cons.now.list.now cons.now.against) i waiting.old waiting.new doms.old doms.new }
-    ensures dead { result ≡ Alive.No → list_all is_not_empty (largest (arcs_of cons.now.lang.now cons.now.list.now cons.now.against) doms.old) ≡ false }
+    ensures dead { result ≡ Alive.No → RunsEmpty (arcs_of cons.now.lang.now cons.now.list.now cons.now.against) doms.old }
 {
     if i >= cons.count() {
         return Alive::Yes;
@@ -208,16 +204,11 @@ fn visit(
 ) -> Option<VarSet>
     requires lawful { IsLanguage cons.now.lang.now }
     requires constraints { AreConstraints cons.now.lang.now cons.now.list.now cons.now.against }
-    requires plan { IsPlanOf cons.now.lang.now.value_count (arcs_of cons.now.lang.now cons.now.list.now cons.now.against) plan.now }
-    requires room { length (arcs_of cons.now.lang.now cons.now.list.now cons.now.against) ≤ length plan.now.briefs.items }
-    requires family { IsFamilyOf cons.now.lang.now doms.old }
-    requires full { list_all is_not_empty doms.old ≡ true }
-    requires settled { AreSettled (arcs_of cons.now.lang.now cons.now.list.now cons.now.against) changed doms.old }
+    requires plan { IsWholePlanOf cons.now.lang.now.value_count (arcs_of cons.now.lang.now cons.now.list.now cons.now.against) plan.now }
+    requires doms { IsSettledBut cons.now.lang.now (arcs_of cons.now.lang.now cons.now.list.now cons.now.against) changed doms.old }
     requires known { v < 128 }
-    ensures underway { IfSome result (λ next. IsUnderway (arcs_of cons.now.lang.now cons.now.list.now cons.now.against) doms.old doms.new) }
-    ensures settled { IfSome result (λ next. AreSettled (arcs_of cons.now.lang.now cons.now.list.now cons.now.against) next doms.new) }
-    ensures left { IfSome result (λ next. AreLeft (without changed v) next doms.old doms.new) }
-    ensures dead { result ≡ None → list_all is_not_empty (largest (arcs_of cons.now.lang.now cons.now.list.now cons.now.against) doms.old) ≡ false }
+    ensures visited { IfSome result (λ next. IsVisited (arcs_of cons.now.lang.now cons.now.list.now cons.now.against) (without changed v) next doms.old doms.new) }
+    ensures dead { result ≡ None → RunsEmpty (arcs_of cons.now.lang.now cons.now.list.now cons.now.against) doms.old }
 {
     let mut waiting = changed.without(v);
     for w in 0..cons.count().div_ceil(64) {
@@ -238,15 +229,10 @@ fn visit(
 fn visit_all(cons: &Constraints, plan: &Plan, doms: &mut Domains, changed: VarSet) -> Alive
     requires lawful { IsLanguage cons.now.lang.now }
     requires constraints { AreConstraints cons.now.lang.now cons.now.list.now cons.now.against }
-    requires plan { IsPlanOf cons.now.lang.now.value_count (arcs_of cons.now.lang.now cons.now.list.now cons.now.against) plan.now }
-    requires room { length (arcs_of cons.now.lang.now cons.now.list.now cons.now.against) ≤ length plan.now.briefs.items }
-    requires family { IsFamilyOf cons.now.lang.now doms.old }
-    requires full { list_all is_not_empty doms.old ≡ true }
-    requires settled { AreSettled (arcs_of cons.now.lang.now cons.now.list.now cons.now.against) changed doms.old }
-    ensures largest { result ≡ Alive.Yes → IsLargest (arcs_of cons.now.lang.now cons.now.list.now cons.now.against) doms.old doms.new }
-    ensures full { result ≡ Alive.Yes → list_all is_not_empty doms.new ≡ true }
-    ensures family { result ≡ Alive.Yes → IsFamilyOf cons.now.lang.now doms.new }
-    ensures dead { result ≡ Alive.No → list_all is_not_empty (largest (arcs_of cons.now.lang.now cons.now.list.now cons.now.against) doms.old) ≡ false }
+    requires plan { IsWholePlanOf cons.now.lang.now.value_count (arcs_of cons.now.lang.now cons.now.list.now cons.now.against) plan.now }
+    requires doms { IsSettledBut cons.now.lang.now (arcs_of cons.now.lang.now cons.now.list.now cons.now.against) changed doms.old }
+    ensures alive { result ≡ Alive.Yes → IsPropagated cons.now.lang.now (arcs_of cons.now.lang.now cons.now.list.now cons.now.against) doms.old doms.new }
+    ensures dead { result ≡ Alive.No → RunsEmpty (arcs_of cons.now.lang.now cons.now.list.now cons.now.against) doms.old }
 {
     let mut changed = changed;
     while changed.len() != 0 {
@@ -272,13 +258,9 @@ pub fn propagate_after(
     requires lawful { IsLanguage cons.now.lang.now }
     requires constraints { AreConstraints cons.now.lang.now cons.now.list.now cons.now.against }
     requires plan { IsPlanOf cons.now.lang.now.value_count (arcs_of cons.now.lang.now cons.now.list.now cons.now.against) plan.now }
-    requires family { IsFamilyOf cons.now.lang.now doms.old }
-    requires full { list_all is_not_empty doms.old ≡ true }
-    requires settled { AreSettled (arcs_of cons.now.lang.now cons.now.list.now cons.now.against) changed doms.old }
-    ensures largest { result ≡ Alive.Yes → IsLargest (arcs_of cons.now.lang.now cons.now.list.now cons.now.against) doms.old doms.new }
-    ensures full { result ≡ Alive.Yes → list_all is_not_empty doms.new ≡ true }
-    ensures family { result ≡ Alive.Yes → IsFamilyOf cons.now.lang.now doms.new }
-    ensures dead { result ≡ Alive.No → list_all is_not_empty (largest (arcs_of cons.now.lang.now cons.now.list.now cons.now.against) doms.old) ≡ false }
+    requires doms { IsSettledBut cons.now.lang.now (arcs_of cons.now.lang.now cons.now.list.now cons.now.against) changed doms.old }
+    ensures alive { result ≡ Alive.Yes → IsPropagated cons.now.lang.now (arcs_of cons.now.lang.now cons.now.list.now cons.now.against) doms.old doms.new }
+    ensures dead { result ≡ Alive.No → RunsEmpty (arcs_of cons.now.lang.now cons.now.list.now cons.now.against) doms.old }
 {
     if cons.count() <= plan.briefs.len() {
         visit_all(cons, plan, doms, changed)
@@ -292,10 +274,8 @@ pub fn propagate_all(cons: &Constraints, plan: &Plan, doms: &mut Domains) -> Ali
     requires constraints { AreConstraints cons.now.lang.now cons.now.list.now cons.now.against }
     requires plan { IsPlanOf cons.now.lang.now.value_count (arcs_of cons.now.lang.now cons.now.list.now cons.now.against) plan.now }
     requires family { IsFamilyOf cons.now.lang.now doms.old }
-    ensures largest { result ≡ Alive.Yes → IsLargest (arcs_of cons.now.lang.now cons.now.list.now cons.now.against) doms.old doms.new }
-    ensures full { result ≡ Alive.Yes → list_all is_not_empty doms.new ≡ true }
-    ensures family { result ≡ Alive.Yes → IsFamilyOf cons.now.lang.now doms.new }
-    ensures dead { result ≡ Alive.No → list_all is_not_empty (largest (arcs_of cons.now.lang.now cons.now.list.now cons.now.against) doms.old) ≡ false }
+    ensures alive { result ≡ Alive.Yes → IsPropagated cons.now.lang.now (arcs_of cons.now.lang.now cons.now.list.now cons.now.against) doms.old doms.new }
+    ensures dead { result ≡ Alive.No → RunsEmpty (arcs_of cons.now.lang.now cons.now.list.now cons.now.against) doms.old }
 {
     if doms.has_empty() {
         return Alive::No;

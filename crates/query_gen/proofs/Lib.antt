@@ -5,3 +5,4 @@ pub mod OnScope
 pub mod Asking
 pub mod Told
 pub mod Parts
+pub mod Scopes

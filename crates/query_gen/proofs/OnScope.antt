@@ -26,7 +26,7 @@ use Rattle.query_gen.proofs.Asking.{outcome_after}
 
 -- ---- which they are
 
-among_has : (kept : List Candidate) (s r : ℕ) → is_among kept (candidate_at s r) ≡ has (kept_relations kept s) r
+pub among_has : (kept : List Candidate) (s r : ℕ) → is_among kept (candidate_at s r) ≡ has (kept_relations kept s) r
 among_has kept s r = sym (any-map (λ x. x == r) (λ (c : Candidate). c.rel) (filter (λ c. c.scope == s) kept) ∙ any-filter (λ (c : Candidate). c.rel == r) (λ c. c.scope == s) kept)
 
 relations_known : (l : Language) (s : ℕ) (kept : List Candidate) → IsNetwork l kept → All (λ r. r < length (relations_on l s)) (kept_relations kept s)

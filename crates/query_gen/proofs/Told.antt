@@ -1,6 +1,6 @@
 -- What the next question says of the kept candidates.
 use Rattle.std.proofs.Common.{◌≡◌, ℕ, suc, ◌<◌, Bool, true, false, cond, List, [], ◌∷◌, length, map, get_or, refl, sym, ◌∙◌, ap, subst, arith, inl, inr, ◌⊎◌}
-use Rattle.std.specs.Prelude.{All, Any, Contains}
+use Rattle.std.specs.Prelude.{◌≢◌, All, Any, Contains}
 use Rattle.std.specs.List.{filter_map}
 use Rattle.std.proofs.lemmas.List.{get_or-map, length-map}
 use Rattle.std.proofs.lemmas.List.Elements.{All-nil, All-cons, Contains-get_or}
@@ -8,7 +8,6 @@ use Rattle.assign.specs.Assignment.{Assignment}
 use Rattle.language.specs.declared.candidates.Candidate.{Candidate}
 use Rattle.language.specs.Language.{Language, IsCandidate, IsImplied, candidates, number_of}
 use Rattle.language.specs.Answers.{IsNetwork}
-use Rattle.language.specs.Search.{plain_size}
 use Rattle.language.proofs.Counting.{numbered}
 use Rattle.fd_solver.specs.declared.outcome.Outcome.{Outcome}
 use Rattle.fd_solver.specs.declared.outcome.Outcome.TheVariants.{Found, Absent, Spent}
@@ -110,18 +109,19 @@ all_are_implied absent_is_implied l network kept budget lawful known h = λ k d 
     (each_kept l network kept budget (λ o. o ≡ Absent) known (each_absent (all_outcomes l network kept budget) (query_all l network kept budget ∙ h)) k d low)
 
 pub asked_is_lawful : FoundIsLawful → AskedIsLawful
-asked_is_lawful found_is_lawful l network kept budget e lawful known h =
+asked_is_lawful found_is_lawful l network kept budget e lawful legal known h =
     any_weaker (λ c. outcome_of_candidate l network c budget ≡ Found e) (λ c. IsQuestionAgainst l network c e) kept
-    (λ k d low is. found_is_lawful l network (get_or kept k d) budget e lawful (known k d low) is)
+    (λ k d low is. found_is_lawful l network (get_or kept k d) budget e lawful legal (known k d low) is)
     (some_kept l network kept budget (Found e) isn't_absent (found_there (all_outcomes l network kept budget) false e (query_all l network kept budget ∙ h)))
   where
     isn't_absent : Found e ≡ Absent → ⊥
     isn't_absent same = cc
 
 pub undecided_is_spent : AbsentIsImplied → SpentIsLong → UndecidedIsSpent
-undecided_is_spent absent_is_implied spent_is_long l network kept budget lawful known h = record {
+undecided_is_spent absent_is_implied spent_is_long l network kept budget lawful legal known h = record {
   some = some_kept l network kept budget Spent isn't_absent (spent_there (all_outcomes l network kept budget) begun);
-  each = λ k d low. told (get_or kept k d) (known k d low) (each_kept l network kept budget IsNone known (none_found (all_outcomes l network kept budget) false begun) k d low);
+  each = λ k d low spent. spent_is_long l network (get_or kept k d) budget lawful legal (known k d low) spent;
+  rest = λ k d low other. told (get_or kept k d) (known k d low) (each_kept l network kept budget IsNone known (none_found (all_outcomes l network kept budget) false begun) k d low) other;
 }
   where
     begun : query_on false (all_outcomes l network kept budget) ≡ Undecided
@@ -130,7 +130,6 @@ undecided_is_spent absent_is_implied spent_is_long l network kept budget lawful 
     isn't_absent : Spent ≡ Absent → ⊥
     isn't_absent same = cc
 
-    told : (c : Candidate) → IsCandidate l c → IsNone (outcome_of_candidate l network c budget) →
-        ((outcome_of_candidate l network c budget ≡ Spent) × (budget < plain_size l network c)) ⊎ IsImplied l network c
-    told c is (inl spent) = inl (spent, spent_is_long l network c budget spent)
-    told c is (inr absent) = inr (absent_is_implied l network c budget lawful is absent)
+    told : (c : Candidate) → IsCandidate l c → IsNone (outcome_of_candidate l network c budget) → outcome_of_candidate l network c budget ≢ Spent → IsImplied l network c
+    told c is (inl spent) other = absurd (other spent)
+    told c is (inr absent) other = absent_is_implied l network c budget lawful is absent

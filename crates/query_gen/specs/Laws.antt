@@ -1,5 +1,5 @@
 -- Laws of the next question, and of what a screen remembers.
-use Rattle.std.specs.Prelude.{ℕ, ◌≡◌, ◌<◌, ◌≤◌, ◌⊎◌, Bool, List, ◌++◌, length, filter, All, Any}
+use Rattle.std.specs.Prelude.{ℕ, ◌≡◌, ◌≢◌, ◌<◌, ◌≤◌, Bool, List, ◌++◌, length, filter, All, Any}
 use Rattle.assign.specs.Assignment.{Assignment}
 use Rattle.language.specs.declared.candidates.Candidate.{Candidate}
 use Rattle.language.specs.Language.{Language, IsLanguage, IsImplied, candidates}
@@ -27,17 +27,18 @@ AllAreImplied =
 abbrev pub AskedIsLawful : Type 0
 AskedIsLawful =
     (l : Language) (network kept : List Candidate) (budget : ℕ) (e : Assignment) →
-    IsLanguage l → IsNetwork l kept → next_query l network kept budget ≡ Ask e → Any (λ c. IsQuestionAgainst l network c e) kept
+    IsLanguage l → IsNetwork l network → IsNetwork l kept → next_query l network kept budget ≡ Ask e → Any (λ c. IsQuestionAgainst l network c e) kept
 
 -- Some search is spent. Each candidate on which one is has more plain prefixes than the budget, and each other is implied.
 pub record IsUndecided (l : Language) (network kept : List Candidate) (budget : ℕ) : Type 0 where
   pub some : Any (λ c. outcome_of_candidate l network c budget ≡ Spent) kept
-  pub each : All (λ c. ((outcome_of_candidate l network c budget ≡ Spent) × (budget < plain_size l network c)) ⊎ IsImplied l network c) kept
+  pub each : All (λ c. outcome_of_candidate l network c budget ≡ Spent → budget < plain_size l network c) kept
+  pub rest : All (λ c. outcome_of_candidate l network c budget ≢ Spent → IsImplied l network c) kept
 
 abbrev pub UndecidedIsSpent : Type 0
 UndecidedIsSpent =
     (l : Language) (network kept : List Candidate) (budget : ℕ) →
-    IsLanguage l → IsNetwork l kept → next_query l network kept budget ≡ Undecided → IsUndecided l network kept budget
+    IsLanguage l → IsNetwork l network → IsNetwork l kept → next_query l network kept budget ≡ Undecided → IsUndecided l network kept budget
 
 -- No marks are true ones.
 abbrev pub NoMarksHold : Type 0

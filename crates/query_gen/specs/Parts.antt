@@ -1,5 +1,5 @@
 -- A part of the candidates, what its search leaves, and how a screen takes that over.
-use Rattle.std.specs.Prelude.{ℕ, ◌≡◌, ◌==◌, ◌<◌, ◌≤◌, ◌+◌, ◌-◌, ◌/◌, ◌⊎◌, ◌&&◌, not, if◌then◌else◌, Bool, true, false, List, length, map, filter, slice_range, slice_index_or}
+use Rattle.std.specs.Prelude.{ℕ, ◌≡◌, ◌==◌, ◌<◌, ◌≤◌, ◌+◌, ◌-◌, ◌/◌, ◌⊎◌, ◌&&◌, not, if◌then◌else◌, min, max, Bool, true, false, List, length, map, filter, slice_range, slice_index_or}
 use Rattle.language.specs.declared.candidates.Candidate.{Candidate}
 use Rattle.language.specs.Language.{Language, IsCandidate, candidates, number_of}
 use Rattle.fd_solver.specs.declared.outcome.Outcome.{Outcome}
@@ -57,6 +57,25 @@ pub record IsSearched (l : Language) (network kept : List Candidate) (budget fir
 pub record IsSearchedTo (l : Language) (network kept : List Candidate) (budget first number : ℕ) (bytes : List ℕ) (answer : Query) : Type 0 where
   pub searched : IsSearched l network kept budget first number bytes answer
   pub unset : (k : ℕ) → number ≤ first + k → slice_index_or bytes k 0 ≡ 0
+
+-- the number that a search from first to below end comes to, where it has come to this one
+abbrev pub reach : ℕ → ℕ → ℕ → ℕ
+reach first end number = max first (min end number)
+
+-- the number of the first candidate on a scope
+abbrev pub start_of : Language → ℕ → ℕ
+start_of l scope = number_of l (record { scope = scope; rel = 0 })
+
+-- some candidates on the scope may be of the part
+pub record IsScopeOf (l : Language) (first end scope : ℕ) : Type 0 where
+  pub known : scope < length l.scopes
+  pub ends : first < start_of l (scope + 1)
+  pub begins : start_of l scope < end
+  pub rising : first ≤ end
+
+-- a part is searched as far as the scope
+abbrev pub IsSearchedBefore : Language → List Candidate → List Candidate → ℕ → ℕ → ℕ → ℕ → List ℕ → Query → Type 0
+IsSearchedBefore l network kept budget first end scope bytes answer = IsSearchedTo l network kept budget first (reach first end (start_of l scope)) bytes answer
 
 -- a mark, once the byte of a search is there: "spent" counts no longer, and "implied" stays
 abbrev pub mark_taken : Mark → ℕ → Mark

@@ -1,17 +1,17 @@
 //! Where one part of the candidates is searched.
 
-ghost use Rattle.std.specs.Prelude.{◌≡◌, ◌+◌, ◌-◌, ◌<◌, ◌≤◌, ◌/◌, IfOk, length, replicate, vec_len, false};
-ghost use Rattle.language.specs.Language.{candidates};
+ghost use Rattle.std.specs.Prelude.{◌≡◌, ◌+◌, ◌-◌, ◌<◌, ◌≤◌, ◌/◌, IfOk, length, replicate, vec_len, true, false};
+ghost use Rattle.language.specs.Language.{IsCandidate, candidates, number_of};
 ghost use Rattle.language.specs.Answers.{IsNetwork};
 ghost use Rattle.bias_store.specs.KeptSet.{IsMadeFor as IsKeptOf};
 ghost use Rattle.query_gen.specs.Marks.{IsMadeFor, MarksHold};
-ghost use Rattle.query_gen.specs.Parts.{byte_for, is_ask, IsSearched, IsSearchedTo};
+ghost use Rattle.query_gen.specs.Parts.{byte_for, is_ask, IsScopeOf, IsSearched, IsSearchedBefore, IsSearchedTo};
 
 use crate::query::{Query, outcome_of};
-use crate::screen::Screen;
+use crate::screen::{Mark, Screen};
 use bias_store::Kept;
 use fd_solver::{Outcome, Work};
-use language::{Language, Memory};
+use language::{Candidate, Language, Memory, ScopeId};
 use network::Network;
 use std::alloc::Global;
 
@@ -31,6 +31,8 @@ pub struct Place {
     pub marks: Vec<u8>,
     /// What the kept candidates of the part say.
     pub answer: Query,
+    /// How many of them were searched for, since no mark told their outcomes.
+    pub searches: u32,
 }
 
 /// The byte for an outcome.
@@ -57,6 +59,7 @@ impl Place {
                 work,
                 marks,
                 answer: Query::AllImplied,
+                searches: 0,
             }),
             Err(_) => Err(Memory),
         }
@@ -67,7 +70,8 @@ impl Place {
     ///
     /// The budget is how many members of its walk the search for one candidate may look at. Afterwards `answer` is what
     /// these candidates say, and `marks` holds a byte for each of them. A candidate whose mark on the screen tells the
-    /// outcome isn't searched again. The cost without any search is a step for each number.
+    /// outcome isn't searched again. The cost without any search is a step for each scope of the part, for each candidate on those that have a
+    /// kept one, and the setting of a byte for each candidate of the part.
     pub fn search(
         &mut self,
         screen: &Screen,
@@ -92,15 +96,64 @@ impl Place {
     {
         self.marks.fill(0);
         self.answer = Query::AllImplied;
-        for number in first..end {
-            self.look_at(screen, lang, kept, net, budget, first, number);
+        self.searches = 0;
+        if first == end {
+            return;
+        }
+        let start = u32::from(lang.candidate(first).scope);
+        let last = u32::from(lang.candidate(end - 1).scope);
+        for scope in start..last + 1 {
+            let scope = scope as ScopeId;
+            self.search_scope(screen, lang, kept, net, budget, first, end, scope);
             if let Query::Ask(_) = self.answer {
                 return;
             }
         }
     }
 
-    /// Looks at the candidate of this number, if it is kept.
+    /// Looks through the kept candidates on a scope, those of the part, up to the first whose search finds a question.
+    fn search_scope(
+        &mut self,
+        screen: &Screen,
+        lang: &Language,
+        kept: &Kept,
+        net: &Network,
+        budget: u32,
+        first: u32,
+        end: u32,
+        scope: ScopeId,
+    )
+        requires screen { IsMadeFor lang.now screen.now }
+        requires marks { MarksHold lang.now net.now.list budget screen.now }
+        requires kept { IsKeptOf lang.now kept.now }
+        requires network { IsNetwork lang.now net.now.list }
+        requires budget { 1 ≤ budget }
+        requires scope { IsScopeOf lang.now first end scope }
+        requires part { (end ≤ length (candidates lang.now)) × (end - first ≤ vec_len self.old.marks) }
+        requires before { IsSearchedBefore lang.now net.now.list kept.now.members budget first end scope self.old.marks.items self.old.answer }
+        requires none { is_ask self.old.answer ≡ false }
+        ensures further { is_ask self.new.answer ≡ false → IsSearchedBefore lang.now net.now.list kept.now.members budget first end (scope + 1) self.new.marks.items self.new.answer }
+        ensures found { is_ask self.new.answer ≡ true → IsSearched lang.now net.now.list kept.now.members budget first end self.new.marks.items self.new.answer }
+        ensures size { vec_len self.new.marks ≡ vec_len self.old.marks }
+    {
+        if kept.on_scope(scope) == 0 {
+            return;
+        }
+        let count = u32::from(lang.relations_on(scope));
+        let base = lang.number_of(Candidate { scope, rel: 0 });
+        for number in first.max(base)..end.min(base.saturating_add(count)) {
+            let c = Candidate {
+                scope,
+                rel: (number - base) as u8,
+            };
+            self.look_at(screen, lang, kept, net, budget, first, number, c);
+            if let Query::Ask(_) = self.answer {
+                return;
+            }
+        }
+    }
+
+    /// Looks at a candidate, if it is kept.
     fn look_at(
         &mut self,
         screen: &Screen,
@@ -110,24 +163,26 @@ impl Place {
         budget: u32,
         first: u32,
         number: u32,
+        c: Candidate,
     )
         requires screen { IsMadeFor lang.now screen.now }
         requires marks { MarksHold lang.now net.now.list budget screen.now }
         requires kept { IsKeptOf lang.now kept.now }
         requires network { IsNetwork lang.now net.now.list }
         requires budget { 1 ≤ budget }
-        requires number { (first ≤ number) × (number < length (candidates lang.now)) }
+        requires candidate { IsCandidate lang.now c × (number_of lang.now c ≡ number) }
+        requires number { first ≤ number }
         requires room { number - first < vec_len self.old.marks }
         requires before { IsSearchedTo lang.now net.now.list kept.now.members budget first number self.old.marks.items self.old.answer }
         requires none { is_ask self.old.answer ≡ false }
         ensures is { IsSearchedTo lang.now net.now.list kept.now.members budget first (number + 1) self.new.marks.items self.new.answer }
         ensures size { vec_len self.new.marks ≡ vec_len self.old.marks }
     {
-        let c = lang.candidate(number);
         if !kept.is_kept(c) {
             return;
         }
         let mark = screen.mark_under(number, net.len(), budget);
+        self.searches = self.searches.saturating_add(u32::from(mark == Mark::Blank));
         let outcome = outcome_of(&mut self.work, mark, lang, net, budget, c);
         self.marks[(number - first) as usize] = byte_for(&outcome);
         match outcome {

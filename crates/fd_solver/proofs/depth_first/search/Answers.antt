@@ -1,8 +1,7 @@
-use Rattle.std.proofs.Common.{◌∙◌, ◌&&◌, Bool, true, false, ap, sym, subst, refl, [], ◌≡◌}
+use Rattle.std.proofs.Common.{◌∙◌, [], ap, sym, subst}
 use Rattle.std.specs.Prelude.{slice_index_or}
 use Rattle.language.specs.Language.{variable_count}
 use Rattle.assign.specs.Assignment.{assigned}
-use Rattle.propagators.specs.Allowed.{is_allowed}
 use Rattle.propagators.specs.Families.{has_family}
 use Rattle.fd_solver.specs.Outcomes.{is_alive_in}
 use Rattle.fd_solver.specs.Ready.{IsReady}
@@ -19,11 +18,7 @@ walk-requires-clause-ready c = record {
   plan = c.begin.ensures.plan;
 }
 
-none : (a b : Bool) → b ≡ false → (a && b) ≡ false
-none true b h = h
-none false b h = refl
-
 pub returns-else-begin : goal.returns-else-begin
 returns-else-begin c = sym (turn_dead c.args.cons.now.lang.now.value_count (variable_count c.args.cons.now.lang.now) (assigned (variable_count c.args.cons.now.lang.now) c.args.order.now)
     (is_alive_in c.args.cons.now.lang.now c.args.cons.now.list.now c.args.cons.now.against c.args.order.now) c.args.budget (alive_fronts c.args.cons.now.lang.now c.args.cons.now.list.now c.args.cons.now.against c.args.order.now)
-    (none _ _ (ap (has_family c.args.cons.now.lang.now c.args.cons.now.list.now c.args.cons.now.against) (sym (assigned_blank (variable_count c.args.cons.now.lang.now) c.args.order.now c.requires.order)) ∙ c.begin.ensures.dead c.if-begin.false)))
+    (ap (has_family c.args.cons.now.lang.now c.args.cons.now.list.now c.args.cons.now.against) (sym (assigned_blank (variable_count c.args.cons.now.lang.now) c.args.order.now c.requires.order)) ∙ c.begin.ensures.dead c.if-begin.false))

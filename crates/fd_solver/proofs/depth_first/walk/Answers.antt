@@ -1,4 +1,4 @@
-use Rattle.std.proofs.Common.{◌≡◌, ℕ, length, [], ◌∷◌, Some, None, true, false, replicate, sym, ap, refl, ◌∙◌, subst, arith, length-append, List}
+use Rattle.std.proofs.Common.{◌≡◌, ℕ, length, [], ◌∷◌, Some, None, replicate, sym, ap, refl, ◌∙◌, subst, arith, length-append, List}
 use Rattle.std.specs.Prelude.{slice_index_or, slice_set}
 use Rattle.language.specs.Language.{variable_count}
 use Rattle.fd_solver.specs.declared.outcome.Outcome.TheVariants.{Found}
@@ -11,7 +11,7 @@ use Rattle.fd_solver.proofs.depth_first.walk.Goals as goal
 pub loop-x-init : goal.loop-x-init
 loop-x-init c =
     let blank : c.blank-e.result ≡ replicate (variable_count c.args.cons.now.lang.now) None = c.blank-e.ensures ∙ ap (λ k. replicate k None) c.requires.variables in
-    rw (blank, c.new-stack.ensures) (begins c.args.cons.now.lang.now c.args.cons.now.list.now c.args.cons.now.against c.args.order.now c.requires.order c.args.budget c.d-d.ensures.lawful (ready_alive c.args.cons.now.lang.now c.args.cons.now.list.now c.args.cons.now.against c.args.order.now c.d-d.ensures.lawful c.requires.constraints [] (slice_index_or c.args.work.now.depths 0 []) (c.requires.ready.depths 0 (omega arith))) c.requires.budget, c.requires.ready)
+    rw (blank, c.new-stack.ensures) (begins c.args.cons.now.lang.now c.args.cons.now.list.now c.args.cons.now.against c.args.order.now c.requires.order c.args.budget c.d-d.ensures.lawful (ready_alive c.args.cons.now.lang.now c.args.cons.now.list.now c.args.cons.now.against c.args.order.now [] (slice_index_or c.args.work.now.depths 0 []) (c.requires.ready.depths 0 (omega arith))) c.requires.budget, c.requires.ready)
 
 pub returns-then-left-eq0 : goal.returns-then-left-eq0
 returns-then-left-eq0 c = sym (spent c.args.cons.now.lang.now c.args.cons.now.list.now c.args.cons.now.against c.args.order.now c.requires.order c.args.budget c.loop-x.e c.loop-x.stack c.loop-x.x c.loop-x.left c.loop-x.invariant.0 (let d = c.d-d.ensures.is in let low = c.if-x-d.true in omega arith) (sym c.enter.ensures.is ∙ c.if-enter.true) c.if-left-eq0.true)

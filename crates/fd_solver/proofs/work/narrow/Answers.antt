@@ -1,4 +1,4 @@
-use Rattle.std.proofs.Common.{◌≡◌, ◌<◌, ◌∙◌, ℕ, List, [], length, ap, sym, subst, arith}
+use Rattle.std.proofs.Common.{◌<◌, ◌∙◌, ℕ, List, length, ap, sym, subst, arith}
 use Rattle.std.specs.List.{list_all}
 use Rattle.assign.specs.Sets.{with_member}
 use Rattle.propagators.specs.Families.{Family, arcs_of, is_not_empty}
@@ -7,13 +7,12 @@ use Rattle.fd_solver.specs.Ready.{fixed}
 use Rattle.fd_solver.proofs.Narrowing.{fixed_full, fixed_settled}
 use Rattle.fd_solver.proofs.work.narrow.Goals as goal
 
-pub propagate_after-requires-clause-full : goal.propagate_after-requires-clause-full
-propagate_after-requires-clause-full c =
-    let low : c.args.v < length c.args.doms.now = (let size = c.requires.family.size in let known = c.requires.known in omega arith) in
-    ap (list_all is_not_empty) c.fix.ensures.is ∙ fixed_full c.args.doms.now c.args.v c.args.x low c.requires.there c.requires.full
-
-pub propagate_after-requires-clause-settled : goal.propagate_after-requires-clause-settled
-propagate_after-requires-clause-settled c =
-    subst (λ (f : Family). AreSettled (arcs_of c.args.cons.now.lang.now c.args.cons.now.list.now c.args.cons.now.against) c.with.result f) (sym c.fix.ensures.is)
-    (subst (λ (xs : List ℕ). AreSettled (arcs_of c.args.cons.now.lang.now c.args.cons.now.list.now c.args.cons.now.against) xs (fixed c.args.doms.now c.args.v c.args.x)) (sym (c.with.ensures ∙ ap (λ xs. with_member xs c.args.v) c.empty.ensures))
-    (fixed_settled c.args.cons.now.lang.now c.args.cons.now.list.now c.args.cons.now.against c.args.doms.now c.args.v c.args.x c.requires.lawful c.requires.constraints c.requires.consistent))
+pub propagate_after-requires-clause-doms : goal.propagate_after-requires-clause-doms
+propagate_after-requires-clause-doms c = record {
+  family = c.fix.ensures.family c.args.cons.now.lang.now c.requires.doms.family;
+  full = (let low : c.args.v < length c.args.doms.now = (let size = c.requires.doms.family.size in let known = c.requires.known in omega arith) in
+      ap (list_all is_not_empty) c.fix.ensures.is ∙ fixed_full c.args.doms.now c.args.v c.args.x low c.requires.there c.requires.doms.full);
+  settled = subst (λ (f : Family). AreSettled (arcs_of c.args.cons.now.lang.now c.args.cons.now.list.now c.args.cons.now.against) c.with.result f) (sym c.fix.ensures.is)
+      (subst (λ (xs : List ℕ). AreSettled (arcs_of c.args.cons.now.lang.now c.args.cons.now.list.now c.args.cons.now.against) xs (fixed c.args.doms.now c.args.v c.args.x)) (sym (c.with.ensures ∙ ap (λ xs. with_member xs c.args.v) c.empty.ensures))
+      (fixed_settled c.args.cons.now.lang.now c.args.cons.now.list.now c.args.cons.now.against c.args.doms.now c.args.v c.args.x c.requires.lawful c.requires.constraints c.requires.consistent));
+}

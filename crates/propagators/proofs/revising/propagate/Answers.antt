@@ -4,6 +4,7 @@ use Rattle.assign.specs.Sets.{numbers}
 use Rattle.language.specs.Language.{variable_count}
 use Rattle.propagators.specs.Families.{arcs_of}
 use Rattle.propagators.specs.Supports.{AreSettled}
+use Rattle.propagators.proofs.Ones.{not_false}
 use Rattle.propagators.proofs.Rounds.{empty_stays}
 use Rattle.propagators.proofs.Conditions.{all_settled, arcs_over}
 use Rattle.propagators.proofs.revising.propagate.Goals as goal
@@ -11,7 +12,10 @@ use Rattle.propagators.proofs.revising.propagate.Goals as goal
 pub returns-then-has_empty-clause-dead : goal.returns-then-has_empty-clause-dead
 returns-then-has_empty-clause-dead c = λ e. empty_stays (arcs_of c.args.cons.now.lang.now c.args.cons.now.list.now c.args.cons.now.against) c.args.doms.now (not-true _ (sym c.has_empty.ensures ∙ c.if-has_empty.true))
 
-pub settle-requires-clause-settled : goal.settle-requires-clause-settled
-settle-requires-clause-settled c =
-    subst (λ (xs : List ℕ). AreSettled (arcs_of c.args.cons.now.lang.now c.args.cons.now.list.now c.args.cons.now.against) xs c.args.doms.now) (sym (c.all.ensures ∙ ap numbers c.n.ensures.is))
-    (all_settled (arcs_of c.args.cons.now.lang.now c.args.cons.now.list.now c.args.cons.now.against) (variable_count c.args.cons.now.lang.now) c.args.doms.now (arcs_over c.args.cons.now.lang.now c.args.cons.now.list.now c.args.cons.now.against c.n.ensures.lawful c.requires.constraints))
+pub settle-requires-clause-doms : goal.settle-requires-clause-doms
+settle-requires-clause-doms c = record {
+  family = c.requires.family;
+  full = not_false _ (sym c.has_empty.ensures ∙ c.if-has_empty.false);
+  settled = subst (λ (xs : List ℕ). AreSettled (arcs_of c.args.cons.now.lang.now c.args.cons.now.list.now c.args.cons.now.against) xs c.args.doms.now) (sym (c.all.ensures ∙ ap numbers c.n.ensures.is))
+      (all_settled (arcs_of c.args.cons.now.lang.now c.args.cons.now.list.now c.args.cons.now.against) (variable_count c.args.cons.now.lang.now) c.args.doms.now (arcs_over c.args.cons.now.lang.now c.args.cons.now.list.now c.args.cons.now.against c.n.ensures.lawful c.requires.constraints));
+}

@@ -8,16 +8,23 @@ pub returns-in-None-clause-dead : goal.returns-in-None-clause-dead
 returns-in-None-clause-dead c = λ e. dead_before (arcs_of c.args.cons.now.lang.now c.args.cons.now.list.now c.args.cons.now.against) c.args.doms.now c.loop-changed.doms c.loop-changed.invariant.0 (c.in-None.ensures.dead refl)
 
 pub loop-changed-smaller : goal.loop-changed-smaller
-loop-changed-smaller c = turn_falls c.loop-changed.doms c.pass.new.doms c.loop-changed.changed c.in-Some.next (let some = c.loop-changed-test.true in let count = c.len.ensures.count in omega arith) c.in-Some.ensures.fewer
+loop-changed-smaller c = turn_falls c.loop-changed.doms c.pass.new.doms c.loop-changed.changed c.in-Some.next (let some = c.loop-changed-test.true in let count = c.len.ensures.count in omega arith) c.in-Some.ensures.passed.fewer
 
 empty_list : (xs : List ℕ) → length xs ≡ 0 → xs ≡ []
 empty_list [] h = refl
 empty_list (x ∷ xs) h = absurd (omega arith)
 
-pub returns-clause-largest : goal.returns-clause-largest
-returns-clause-largest c = λ e.
-    settled_largest (arcs_of c.args.cons.now.lang.now c.args.cons.now.list.now c.args.cons.now.against) c.args.doms.now c.loop-changed.doms c.loop-changed.changed (empty_list c.loop-changed.changed (let none = c.loop-changed-test.false in let count = c.len.ensures.count in omega arith))
-    c.loop-changed.invariant.0 c.loop-changed.invariant.1
+pub returns-clause-alive : goal.returns-clause-alive
+returns-clause-alive c = λ e. record {
+  largest = settled_largest (arcs_of c.args.cons.now.lang.now c.args.cons.now.list.now c.args.cons.now.against) c.args.doms.now c.loop-changed.doms c.loop-changed.changed (empty_list c.loop-changed.changed (let none = c.loop-changed-test.false in let count = c.len.ensures.count in omega arith))
+      c.loop-changed.invariant.0 c.loop-changed.invariant.1;
+  full = c.loop-changed.invariant.0.full;
+  family = family_under c.args.cons.now.lang.now (arcs_of c.args.cons.now.lang.now c.args.cons.now.list.now c.args.cons.now.against) c.args.doms.now c.loop-changed.doms c.requires.doms.family c.loop-changed.invariant.0;
+}
 
-pub returns-clause-family : goal.returns-clause-family
-returns-clause-family c = λ e. family_under c.args.cons.now.lang.now (arcs_of c.args.cons.now.lang.now c.args.cons.now.list.now c.args.cons.now.against) c.args.doms.now c.loop-changed.doms c.requires.family c.loop-changed.invariant.0
+pub pass-requires-clause-doms : goal.pass-requires-clause-doms
+pass-requires-clause-doms c = record {
+  family = family_under c.args.cons.now.lang.now (arcs_of c.args.cons.now.lang.now c.args.cons.now.list.now c.args.cons.now.against) c.args.doms.now c.loop-changed.doms c.requires.doms.family c.loop-changed.invariant.0;
+  full = c.loop-changed.invariant.0.full;
+  settled = c.loop-changed.invariant.1;
+}

@@ -18,7 +18,7 @@ returns-in-None-clause-dead c = λ e.
 pub returns-then-len-eq0-clause-looked : goal.returns-then-len-eq0-clause-looked
 returns-then-len-eq0-clause-looked c = λ e.
     looked_same (arcs_of c.args.cons.now.lang.now c.args.cons.now.list.now c.args.cons.now.against) c.args.i c.args.waiting.now c.in-Some.lost c.args.doms.now c.revise.new.doms
-    (arcs_small c.args.cons.now.lang.now c.args.cons.now.list.now c.args.cons.now.against c.requires.lawful c.requires.constraints) c.requires.low c.requires.full
+    (arcs_small c.args.cons.now.lang.now c.args.cons.now.list.now c.args.cons.now.against c.requires.lawful c.requires.constraints) c.requires.low c.requires.doms.full
     (λ a. subst (λ (b : Arc). IsRevised b c.args.doms.now c.revise.new.doms) (sym (c.condition-holding.ensures.is a)) c.in-Some.ensures.revised) c.in-Some.ensures.cut
     (let count = c.len.ensures.count in let none = c.if-len-eq0.true in omega arith)
 
@@ -26,6 +26,6 @@ pub returns-else-len-eq0-clause-looked : goal.returns-else-len-eq0-clause-looked
 returns-else-len-eq0-clause-looked c = λ e.
     subst (λ (next : List ℕ). IsLooked (arcs_of c.args.cons.now.lang.now c.args.cons.now.list.now c.args.cons.now.against) c.args.i c.args.waiting.now next c.args.doms.now c.revise.new.doms) (sym c.union.ensures)
     (looked_changed (arcs_of c.args.cons.now.lang.now c.args.cons.now.list.now c.args.cons.now.against) c.args.i c.args.waiting.now c.in-Some.lost c.args.doms.now c.revise.new.doms
-    (arcs_small c.args.cons.now.lang.now c.args.cons.now.list.now c.args.cons.now.against c.requires.lawful c.requires.constraints) c.requires.low c.requires.full
+    (arcs_small c.args.cons.now.lang.now c.args.cons.now.list.now c.args.cons.now.against c.requires.lawful c.requires.constraints) c.requires.low c.requires.doms.full
     (λ a. subst (λ (b : Arc). IsRevised b c.args.doms.now c.revise.new.doms) (sym (c.condition-holding.ensures.is a)) c.in-Some.ensures.revised) c.in-Some.ensures.cut
     (λ none. (let count = c.len.ensures.count in let some = c.if-len-eq0.false in omega arith)))

@@ -12,13 +12,13 @@ pub loop-w-init : goal.loop-w-init
 loop-w-init c =
     subst (λ (xs : List ℕ). IsVisiting (arcs_of c.args.cons.now.lang.now c.args.cons.now.list.now c.args.cons.now.against) (without c.args.changed c.args.v) c.args.doms.now (IsBefore (arcs_of c.args.cons.now.lang.now c.args.cons.now.list.now c.args.cons.now.against) c.args.v 0) xs c.args.doms.now) (sym c.without-waiting.ensures)
     (visit_begin (arcs_of c.args.cons.now.lang.now c.args.cons.now.list.now c.args.cons.now.against) c.args.changed c.args.v c.args.doms.now
-    (arcs_small c.args.cons.now.lang.now c.args.cons.now.list.now c.args.cons.now.against c.requires.lawful c.requires.constraints) c.requires.full c.requires.settled)
+    (arcs_small c.args.cons.now.lang.now c.args.cons.now.list.now c.args.cons.now.against c.requires.lawful c.requires.constraints) c.requires.doms.full c.requires.doms.settled)
 
 pub loop-rest-init : goal.loop-rest-init
 loop-rest-init c =
     let words = c.args.plan.now.room in
     let long = c.args.plan.now.long in
-    let room = c.requires.room in
+    let room = c.requires.plan.room in
     let count = c.count.ensures in
     let end = c.div_ceil-w-end.ensures in
     let is = c.from.ensures in
@@ -26,7 +26,7 @@ loop-rest-init c =
     let word : c.loop-w.w < c.args.plan.now.words = omega arith in
     let fits = mul-add-lt c.args.v c.args.plan.now.words c.loop-w.w 128 c.requires.known word in
     visit_word (arcs_of c.args.cons.now.lang.now c.args.cons.now.list.now c.args.cons.now.against) c.args.plan.now.words c.args.v c.loop-w.w c.args.plan.now.sets.items (without c.args.changed c.args.v) c.args.doms.now c.loop-w.waiting c.loop-w.doms c.index-rest.result.now
-    c.requires.plan.noted word
+    c.requires.plan.plan.noted word
     (get_or_read c.args.plan.now.sets.items (c.from.result * c.args.plan.now.words + c.loop-w.w) c.index-rest.result.now (subst (λ (v : ℕ). v * c.args.plan.now.words + c.loop-w.w < length c.args.plan.now.sets.items) (sym c.from.ensures) (omega arith)) c.index-rest.ensures 0
     ∙ ap (λ v. slice_index_or c.args.plan.now.sets.items (v * c.args.plan.now.words + c.loop-w.w) 0) c.from.ensures)
     c.loop-w.invariant

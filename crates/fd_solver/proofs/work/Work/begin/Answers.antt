@@ -1,13 +1,11 @@
-use Rattle.std.proofs.Common.{◌<◌, ◌∙◌, List, ap, sym, subst, refl, length, arith}
-use Rattle.std.specs.Prelude.{slice_index_or, slice_set}
-use Rattle.propagators.specs.Families.{Family}
+use Rattle.std.proofs.Common.{refl, arith}
 use Rattle.fd_solver.proofs.Narrowing.{begun_ready, begun_dead}
 use Rattle.fd_solver.proofs.work.Work.begin.Goals as goal
 
 pub returns-in-Yes-clause-ready : goal.returns-in-Yes-clause-ready
 returns-in-Yes-clause-ready c = λ e.
     begun_ready c.args.cons.now.lang.now c.args.cons.now.list.now c.args.cons.now.against c.full-root.result c.propagate_all.new.doms c.self.inside.depths.items c.full-root.ensures.is
-    (let deep = c.self.invariant in omega arith) (c.in-Yes.ensures.largest refl) (c.in-Yes.ensures.full refl) (c.in-Yes.ensures.family refl)
+    (let deep = c.self.invariant in omega arith) (c.in-Yes.ensures.alive refl)
 
 pub returns-in-No-clause-dead : goal.returns-in-No-clause-dead
 returns-in-No-clause-dead c = λ e. begun_dead c.args.cons.now.lang.now c.args.cons.now.list.now c.args.cons.now.against c.full-root.result c.full-root.ensures.is (c.in-No.ensures.dead refl)

@@ -1,9 +1,9 @@
-use Rattle.std.proofs.Common.{◌≡◌, ◌<◌, ◌+◌, ◌∙◌, ℕ, List, [], ◌∷◌, false, ap, sym, subst, refl, length, arith}
+use Rattle.std.proofs.Common.{◌≡◌, ◌<◌, ◌+◌, ◌∙◌, [], ap, sym, subst, length, arith}
 use Rattle.std.specs.Prelude.{slice_index_or, slice_set}
 use Rattle.std.proofs.lemmas.List.{get_or_read, get_or-set_same}
 use Rattle.std.proofs.Math.ListN.{length-set}
 use Rattle.assign.specs.Sets.{has}
-use Rattle.propagators.specs.Families.{Family, arcs_of}
+use Rattle.propagators.specs.Families.{arcs_of}
 use Rattle.propagators.specs.Plans.{IsPlanOf}
 use Rattle.fd_solver.specs.Ready.{AreReady, Room}
 use Rattle.fd_solver.proofs.Narrowing.{deepest, below_lacking, entered, entered_ready, deeper_written}
@@ -33,7 +33,7 @@ returns-clause-is c =
     get_or_read (slice_set depths (c.len-at.result + 1) c.index-2.result.now) (c.len-at.result + 1) c.index_mut-2.result.now (let size = length-set depths (c.len-at.result + 1) c.index-2.result.now in omega arith) c.index_mut-2.ensures.value []
     ∙ get_or-set_same depths (c.len-at.result + 1) c.index-2.result.now [] room ∙ read in
     entered c.args.cons.now.lang.now c.args.cons.now.list.now c.args.cons.now.against c.args.order.now c.requires.order c.requires.lawful c.requires.constraints c.args.prefix.now c.args.x (slice_index_or c.args.self.now.depths (length c.args.prefix.now) []) c.requires.short c.requires.value (deepest c.args.cons.now.lang.now c.args.cons.now.list.now c.args.cons.now.against c.args.order.now c.args.prefix.now c.args.self.now.depths c.requires.ready.depths)
-    c.len-at.result c.index_mut-2.result.now c.narrow.new.doms c.narrow.result at same c.narrow.ensures.largest c.narrow.ensures.full c.narrow.ensures.family c.narrow.ensures.dead
+    c.len-at.result c.index_mut-2.result.now c.narrow.new.doms c.narrow.result at same c.narrow.ensures.alive c.narrow.ensures.dead
 
 pub returns-clause-deeper : goal.returns-clause-deeper
 returns-clause-deeper c = λ alive. record {
@@ -50,6 +50,6 @@ returns-clause-deeper c = λ alive. record {
       deeper_written c.args.cons.now.lang.now c.args.cons.now.list.now c.args.cons.now.against c.args.order.now c.args.prefix.now c.args.x c.len-at.result depths c.index-2.result.now c.narrow.new.doms at room
       (subst (AreReady c.args.cons.now.lang.now c.args.cons.now.list.now c.args.cons.now.against c.args.order.now c.args.prefix.now) (sym (ap (λ (w : Room). w.depths) c.self.view_is)) c.requires.ready.depths)
       (entered_ready c.args.cons.now.lang.now c.args.cons.now.list.now c.args.cons.now.against c.args.order.now c.requires.order c.requires.lawful c.requires.constraints c.args.prefix.now c.args.x (slice_index_or c.args.self.now.depths (length c.args.prefix.now) []) c.requires.short c.requires.value (deepest c.args.cons.now.lang.now c.args.cons.now.list.now c.args.cons.now.against c.args.order.now c.args.prefix.now c.args.self.now.depths c.requires.ready.depths)
-      c.len-at.result c.index_mut-2.result.now c.narrow.new.doms at same (c.narrow.ensures.largest alive) (c.narrow.ensures.full alive) (c.narrow.ensures.family alive)));
+      c.len-at.result c.index_mut-2.result.now c.narrow.new.doms at same (c.narrow.ensures.alive alive)));
   plan = subst (IsPlanOf c.args.cons.now.lang.now.value_count (arcs_of c.args.cons.now.lang.now c.args.cons.now.list.now c.args.cons.now.against)) (sym (ap (λ (w : Room). w.plan) c.self.view_is)) c.requires.ready.plan;
 }

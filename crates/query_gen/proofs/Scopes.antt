@@ -1,0 +1,80 @@
+-- A part's search, one scope after another.
+use Rattle.std.proofs.Common.{◌≡◌, ℕ, zero, suc, ◌+◌, ◌-◌, ◌<◌, ◌≤◌, Bool, true, false, List, [], length, get_or, replicate, refl, sym, ◌∙◌, ap, subst, arith, inl, inr, ◌⊎◌}
+use Rattle.std.proofs.lemmas.Bool.{cases_lt}
+use Rattle.std.proofs.lemmas.List.{get_or-replicate, length-replicate}
+use Rattle.std.proofs.Math.ListN.{get_or-eq_default}
+use Rattle.assign.specs.Sets.{has}
+use Rattle.language.specs.declared.candidates.Candidate.{Candidate}
+use Rattle.language.specs.Language.{Language, IsCandidate, candidates, relations_on, number_of}
+use Rattle.language.proofs.Counting.{count, count_more, count_rises}
+use Rattle.bias_store.specs.KeptSet.{kept_relations}
+use Rattle.query_gen.specs.declared.query.Query.{Query}
+use Rattle.query_gen.specs.Questions.{is_among}
+use Rattle.query_gen.specs.Parts.{is_ask, reach, start_of, IsScopeOf, IsSearched, IsSearchedTo, IsSearchedBefore}
+use Rattle.query_gen.proofs.OnScope.{among_has}
+use Rattle.query_gen.proofs.Parts.{next_other}
+
+-- ---- Where scopes begin
+
+start_is : (l : Language) (s : ℕ) → start_of l s ≡ count l s
+start_is l s = omega arith
+
+pub start_next : (l : Language) (s : ℕ) → start_of l (s + 1) ≡ start_of l s + length (relations_on l s)
+start_next l s =
+    let more = count_more l s in let here = start_is l s in let next = start_is l (s + 1) in omega arith
+
+pub start_rises : (l : Language) (s t : ℕ) → s ≤ t → start_of l s ≤ start_of l t
+start_rises l s t low =
+    let rises = count_rises l s t low in let here = start_is l s in let there = start_is l t in omega arith
+
+-- a candidate's number, from where its scope begins
+pub from_start : (l : Language) (c : Candidate) → number_of l c ≡ start_of l c.scope + c.rel
+from_start l c = let here = start_is l c.scope in omega arith
+
+-- the scopes of a part's first and last candidate, and those between them
+pub scope_inside : (l : Language) (first end s : ℕ) (a b : Candidate) → IsCandidate l a → IsCandidate l b → number_of l a ≡ first → number_of l b ≡ end - 1 → first < end → a.scope ≤ s → s < b.scope + 1 → IsScopeOf l first end s
+scope_inside l first end s a b is_a is_b at_a at_b some from to = record {
+  known = (let low = is_b.scope in omega arith);
+  ends =
+      (let number = from_start l a in let rel = is_a.rel in let next = start_next l a.scope in let rises = start_rises l (a.scope + 1) (s + 1) (omega arith) in omega arith);
+  begins = (let number = from_start l b in let rises = start_rises l s b.scope (omega arith) in omega arith);
+  rising = omega arith;
+}
+
+-- ---- A scope that has no kept candidate
+
+passed : (l : Language) (network kept : List Candidate) (budget first s : ℕ) (bytes : List ℕ) (answer : Query) → s < length l.scopes → kept_relations kept s ≡ [] → (k n : ℕ) → first ≤ n → start_of l s ≤ n →
+    n + k ≤ start_of l s + length (relations_on l s) → IsSearchedTo l network kept budget first n bytes answer → IsSearchedTo l network kept budget first (n + k) bytes answer
+passed l network kept budget first s bytes answer low none zero n from on within before =
+    subst (λ (m : ℕ). IsSearchedTo l network kept budget first m bytes answer) (let e : n ≡ n + 0 = omega arith in e) before
+passed l network kept budget first s bytes answer low none (suc k) n from on within before =
+    let c : Candidate = record { scope = s; rel = n - start_of l s } in
+    let is : IsCandidate l c = record { scope = low; rel = omega arith } in
+    let at : number_of l c ≡ n = (let number = from_start l c in omega arith) in
+    let off : is_among kept c ≡ false = among_has kept s (n - start_of l s) ∙ ap (λ rs. has rs (n - start_of l s)) none in
+    subst (λ (m : ℕ). IsSearchedTo l network kept budget first m bytes answer) (let e : (n + 1) + k ≡ n + suc k = omega arith in e)
+    (passed l network kept budget first s bytes answer low none k (n + 1) (omega arith) (omega arith) (omega arith) (next_other l network kept budget first n c bytes answer is at from off before))
+
+pub scope_passed : (l : Language) (network kept : List Candidate) (budget first end s : ℕ) (bytes : List ℕ) (answer : Query) → IsScopeOf l first end s → kept_relations kept s ≡ [] →
+    IsSearchedBefore l network kept budget first end s bytes answer → IsSearchedBefore l network kept budget first end (s + 1) bytes answer
+scope_passed l network kept budget first end s bytes answer inside none before =
+    let next = start_next l s in
+    let ends = inside.ends in
+    let begins = inside.begins in
+    let rising = inside.rising in
+    subst (λ (m : ℕ). IsSearchedTo l network kept budget first m bytes answer)
+    (let e : reach first end (start_of l s) + (reach first end (start_of l (s + 1)) - reach first end (start_of l s)) ≡ reach first end (start_of l (s + 1)) = omega arith in e)
+    (passed l network kept budget first s bytes answer inside.known none (reach first end (start_of l (s + 1)) - reach first end (start_of l s)) (reach first end (start_of l s)) (omega arith) (omega arith) (omega arith) before)
+
+-- bytes that are all 0
+pub blank : (bytes : List ℕ) (n : ℕ) → bytes ≡ replicate {A = ℕ} n 0 → (k : ℕ) → get_or bytes k 0 ≡ 0
+blank bytes n is k = ap (λ (xs : List ℕ). get_or xs k 0) is ∙ go (cases_lt k n)
+  where
+    go : (k < n) ⊎ (n ≤ k) → get_or (replicate {A = ℕ} n 0) k 0 ≡ 0
+    go (inl low) = get_or-replicate n k 0 0 low
+    go (inr past) = get_or-eq_default (replicate {A = ℕ} n 0) 0 (let long = length-replicate {A = ℕ} n 0 in omega arith)
+
+-- ---- One number after another
+
+pub moved : (l : Language) (network kept : List Candidate) (budget first m n : ℕ) (bytes : List ℕ) (answer : Query) → m ≡ n → IsSearchedTo l network kept budget first m bytes answer → IsSearchedTo l network kept budget first n bytes answer
+moved l network kept budget first m n bytes answer same before = subst (λ (k : ℕ). IsSearchedTo l network kept budget first k bytes answer) same before

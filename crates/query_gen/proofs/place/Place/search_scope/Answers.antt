@@ -1,0 +1,42 @@
+use Rattle.std.proofs.Common.{◌≡◌, ◌+◌, ◌<◌, [], sym, ◌∙◌, ap, arith}
+use Rattle.bias_store.specs.Masks.{ones_of}
+use Rattle.bias_store.specs.KeptSet.{kept_relations}
+use Rattle.bias_store.proofs.Ones.{ones_of-zero}
+use Rattle.query_gen.specs.Parts.{is_ask, reach, start_of}
+use Rattle.query_gen.proofs.Parts.{searched_found}
+use Rattle.query_gen.proofs.Scopes.{start_next, scope_passed, moved}
+use Rattle.query_gen.proofs.place.Place.search_scope.Goals as goal
+
+pub returns-then-on_scope-eq0-clause-further : goal.returns-then-on_scope-eq0-clause-further
+returns-then-on_scope-eq0-clause-further c = λ still.
+    let none : kept_relations c.args.kept.now.members c.args.scope ≡ [] = sym c.on_scope.ensures ∙ ap ones_of c.if-on_scope-eq0.true ∙ ones_of-zero in
+    scope_passed c.args.lang.now c.args.net.now.list c.args.kept.now.members c.args.budget c.args.first c.args.end c.args.scope c.args.self.now.marks.items c.args.self.now.answer
+    c.requires.scope none c.requires.before
+
+pub returns-in-Ask-clause-found : goal.returns-in-Ask-clause-found
+returns-in-Ask-clause-found c = λ asks.
+    let from = c.loop-number.auto.number in
+    let low = c.loop-number-test.true in
+    let least = c.max-number.ensures in
+    let most = c.min-number-end.ensures in
+    searched_found c.args.lang.now c.args.net.now.list c.args.kept.now.members c.args.budget c.args.first (c.loop-number.number + 1) c.args.end c.look_at.new.self.marks.items c.look_at.new.self.answer
+    (omega arith) (omega arith) asks c.look_at.ensures.is
+
+pub returns-clause-further : goal.returns-clause-further
+returns-clause-further c = λ still.
+    let from = c.loop-number.auto.number in
+    let within = c.loop-number.auto.number-end in
+    let past = c.loop-number-test.false in
+    let least = c.max-number.ensures in
+    let most = c.min-number-end.ensures in
+    let sum = c.saturating_add.ensures in
+    let base = c.number_of-base.ensures.is in
+    let relations = c.relations_on.ensures.is in
+    let count = c.from-count.ensures in
+    let next = start_next c.args.lang.now c.args.scope in
+    let ends = c.requires.scope.ends in
+    let begins = c.requires.scope.begins in
+    let rising = c.requires.scope.rising in
+    let fits = c.ranges.end.fits in
+    moved c.args.lang.now c.args.net.now.list c.args.kept.now.members c.args.budget c.args.first c.loop-number.number (reach c.args.first c.args.end (start_of c.args.lang.now (c.args.scope + 1))) c.loop-number.self.marks.items c.loop-number.self.answer
+    (omega arith) c.loop-number.invariant.searched
