@@ -22,6 +22,9 @@ use Rattle.acq_cli.specs.Added.{IsAdded}
 use Rattle.acq_cli.specs.Run.{Puts, next_at, next_in, next_after, answer}
 use Rattle.acq_cli.specs.declared.terms.Terms.{Terms}
 use Rattle.acq_cli.proofs.Running.{RunLaws, step_at}
+use Rattle.std.proofs.lemmas.List.Elements.{All-nil, All-cons, All-append}
+use Rattle.target_oracle.specs.NetTurns.{told_of_answer}
+use Rattle.target_oracle.specs.declared.teacher.Told.{Told}
 
 -- ---- the options past the variables
 
@@ -118,18 +121,24 @@ placed_event laws l lawful terms past q reply size due (state, at) =
 
 -- ---- what was added
 
-pub added_none : (l : Language) (plan : Plan) (before after : List Event) → after ≡ before → IsAdded l plan before after
-added_none l plan before after same = record {
+-- this may be said of each answer
+abbrev Given : (Assignment → Told → Type 0) → Answer → Type 0
+Given may a = may a.question (told_of_answer a.yes)
+
+pub added_none : (l : Language) (plan : Plan) (may : Assignment → Told → Type 0) (before after : List Event) → after ≡ before → IsAdded l plan may before after
+added_none l plan may before after same = record {
   answers = [];
+  given = All-nil (Given may);
   is = same ∙ sym (append-nil before);
   stand = ap (standing_on l) same ∙ sym (append-nil (standing_on l before));
   places = let Placed : List Event → Type 0 = λ x. HavePlaces l plan x in λ places. subst Placed (sym same) places;
 }
 
-pub added_one : RunLaws → (l : Language) → IsLanguage l → (terms : Terms) (before after : List Event) (q : Assignment) (reply : Bool) → length q ≡ variable_count l →
-    next_after l terms (standing_on l before) ≡ Some (Puts q) → after ≡ before ++ answer_event q reply ∷ [] → IsAdded l terms.plan before after
-added_one laws l lawful terms before after q reply size due is = record {
+pub added_one : RunLaws → (l : Language) → IsLanguage l → (terms : Terms) (may : Assignment → Told → Type 0) (before after : List Event) (q : Assignment) (reply : Bool) → length q ≡ variable_count l →
+    next_after l terms (standing_on l before) ≡ Some (Puts q) → after ≡ before ++ answer_event q reply ∷ [] → may q (told_of_answer reply) → IsAdded l terms.plan may before after
+added_one laws l lawful terms may before after q reply size due is said = record {
   answers = answer q reply ∷ [];
+  given = All-cons (Given may) (answer q reply) [] said (All-nil (Given may));
   is = is;
   stand = ap (standing_on l) is ∙ cut_to-standing-push (variable_count l) before q reply size;
   places =
@@ -137,18 +146,29 @@ added_one laws l lawful terms before after q reply size due is = record {
       λ places. subst Placed (sym is) (placed_event laws l lawful terms before q reply size due places);
 }
 
-pub added_then : (l : Language) (plan : Plan) (one two three : List Event) → IsAdded l plan one two → IsAdded l plan two three → IsAdded l plan one three
-added_then l plan one two three first second = record {
+pub added_then : (l : Language) (plan : Plan) (may : Assignment → Told → Type 0) (one two three : List Event) → IsAdded l plan may one two → IsAdded l plan may two three → IsAdded l plan may one three
+added_then l plan may one two three first second = record {
   answers = first.answers ++ second.answers;
+  given = All-append (Given may) first.answers second.answers first.given second.given;
   is = second.is ∙ ap (λ (x : List Event). x ++ map event_for second.answers) first.is ∙ append_assoc one (map event_for first.answers) (map event_for second.answers)
       ∙ ap (λ (x : List Event). one ++ x) (sym (map-append event_for first.answers second.answers));
   stand = second.stand ∙ ap (λ (x : List Answer). x ++ second.answers) first.stand ∙ append_assoc (standing_on l one) first.answers second.answers;
   places = λ places. second.places (first.places places);
 }
 
+-- what may be given by one may be given by another
+pub added_more : (l : Language) (plan : Plan) (may more : Assignment → Told → Type 0) (before after : List Event) → ((q : Assignment) (told : Told) → may q told → more q told) → IsAdded l plan may before after → IsAdded l plan more before after
+added_more l plan may more before after weaker added = record {
+  answers = added.answers;
+  given = λ k d low. weaker _ _ (added.given k d low);
+  is = added.is;
+  stand = added.stand;
+  places = added.places;
+}
+
 -- by the language, plan and events that are the same
-pub added_as : (l m : Language) (p r : Plan) (es fs later : List Event) → m ≡ l → r ≡ p → fs ≡ es → IsAdded m r fs later → IsAdded l p es later
-added_as l m p r es fs later lang planned same added =
-    let Spoken : Language → Plan → Type 0 = λ x y. IsAdded x y fs later in
-    let Kept : List Event → Type 0 = λ z. IsAdded l p z later in
+pub added_as : (l m : Language) (p r : Plan) (may : Language → Assignment → Told → Type 0) (es fs later : List Event) → m ≡ l → r ≡ p → fs ≡ es → IsAdded m r (may m) fs later → IsAdded l p (may l) es later
+added_as l m p r may es fs later lang planned same added =
+    let Spoken : Language → Plan → Type 0 = λ x y. IsAdded x y (may x) fs later in
+    let Kept : List Event → Type 0 = λ z. IsAdded l p (may l) z later in
     subst Kept same (both_as Spoken m l r p lang planned added)

@@ -17,11 +17,15 @@ use Rattle.session_store.specs.declared.fault.SFault.TheVariants as store
 use Rattle.acq_cli.specs.Journals.{EndsWith, Refuses, StaysClosed}
 use Rattle.acq_cli.specs.Making.{News, RefusesMaking}
 use Rattle.acq_cli.specs.Running.{RunsOn}
+use Rattle.acq_cli.specs.Playing.{EndsWithout, PlaysOn}
+use Rattle.acq_cli.specs.declared.playing.NoTarget.{NoTarget}
+use Rattle.acq_cli.specs.declared.playing.NoTarget.TheVariants as without
 use Rattle.acq_cli.specs.Showing.{Shows}
 use Rattle.acq_cli.specs.Points.{terms_with}
 use Rattle.acq_cli.specs.Trying.{Acquires}
 use Rattle.acq_cli.specs.Texts.{usage_text}
 use Rattle.acq_cli.specs.Words.{IsAsked, built, command_asked, command_in}
+use Rattle.acq_cli.proofs.Closings.{not_loops}
 use Rattle.acq_cli.specs.declared.ending.Ending.{Ending}
 use Rattle.acq_cli.specs.declared.ending.Ending.TheVariants as ending
 
@@ -40,28 +44,20 @@ abbrev asking : Command → Result Command UsageFault
 asking c = Ok c
 
 -- a command that isn't built is never asked for
-not_built : (c d : Command) → built c ≡ asking d → ((budget : ℕ) → d ≡ command.Play budget → ⊥) × ((number budget : ℕ) → d ≡ command.Demo number budget → ⊥)
-not_built (command.New plan) d is = (λ budget e. cc, λ number budget e. cc)
-not_built (command.Run own) d is = (λ budget e. cc, λ number budget e. cc)
-not_built (command.Try plan own) d is = (λ budget e. cc, λ number budget e. cc)
-not_built command.Show d is = (λ budget e. cc, λ number budget e. cc)
-not_built (command.Play own) d is = absurd (let no : ⊥ = cc in no)
+not_built : (c d : Command) → built c ≡ asking d → (number budget : ℕ) → d ≡ command.Demo number budget → ⊥
+not_built (command.New plan) d is = λ number budget e. cc
+not_built (command.Run own) d is = λ number budget e. cc
+not_built (command.Try plan own) d is = λ number budget e. cc
+not_built command.Show d is = λ number budget e. cc
+not_built (command.Play own) d is = λ number budget e. cc
 not_built (command.Demo own other) d is = absurd (let no : ⊥ = cc in no)
-
-no_play : (words : List (List ℕ)) (budget : ℕ) → command_asked words ≡ asking (command.Play budget) → ⊥
-unfolding command_asked
-no_play words budget is = of (answer_to words) is
-  where
-    of : (answer : Result Contents UsageFault) → command_in answer ≡ asking (command.Play budget) → ⊥
-    of (Ok contents) e = (not_built contents.command (command.Play budget) e).0 budget refl
-    of (Err fault) e = cc
 
 no_demo : (words : List (List ℕ)) (number budget : ℕ) → command_asked words ≡ asking (command.Demo number budget) → ⊥
 unfolding command_asked
 no_demo words number budget is = of (answer_to words) is
   where
     of : (answer : Result Contents UsageFault) → command_in answer ≡ asking (command.Demo number budget) → ⊥
-    of (Ok contents) e = (not_built contents.command (command.Demo number budget) e).1 number budget refl
+    of (Ok contents) e = not_built contents.command (command.Demo number budget) e number budget refl
     of (Err fault) e = cc
 
 -- ---- Want of memory, before anything is done
@@ -83,6 +79,9 @@ module _ {D : Type 0} (content : D → Option (List ℕ)) (may_leave : D → Lis
 
     pub no_run : (budget : ℕ) → RunsOn content may_leave moment left_since budget left written left written disk disk wanting
     no_run budget = inl stays
+
+    pub no_play : (budget : ℕ) → PlaysOn content may_leave moment left_since budget left written left written disk disk wanting
+    no_play budget = inl stays
 
     pub no_show : Shows content may_leave moment left_since left written written disk disk wanting
     no_show = inl stays
@@ -111,6 +110,11 @@ making_usage (store.Voc fault) usage written written' (is, told) = cc
 making_usage (store.Stray i) usage written written' refuses = refuses_usage (store.Stray i) usage written written' refuses
 making_usage store.Memory usage written written' refuses = refuses_usage store.Memory usage written written' refuses
 
+without_usage : (why : NoTarget) (usage : UsageFault) (written written' : Option (List ℕ)) → EndsWithout why written written' (using_so usage) → ⊥
+without_usage (without.Refused fault) usage written written' (is, told) = cc
+without_usage without.ReadFault usage written written' (is, told) = cc
+without_usage without.Memory usage written written' (is, told) = cc
+
 ends_usage : (end : Ending) (usage : UsageFault) (text : List ℕ) (written written' : Option (List ℕ)) → (ending.Usage usage ≡ end → ⊥) → EndsWith end text written written' (using_so usage) → ⊥
 ends_usage end usage text written written' other (is, told) = other is
 
@@ -123,7 +127,14 @@ module _ {D : Type 0} (content : D → Option (List ℕ)) (may_leave : D → Lis
       news
 
   run_usage : (budget : ℕ) (usage : UsageFault) → RunsOn content may_leave moment left_since budget left written left' written' old new (using_so usage) → ⊥
-  run_usage budget usage runs = ⊎_elim (λ closed. refuses_usage closed.fault usage written written' closed.refuses) (λ goes_on. goes_on.tries) runs
+  run_usage budget usage runs = ⊎_elim (λ closed. refuses_usage closed.fault usage written written' closed.refuses) (λ goes_on. not_loops goes_on.tries.how (ending.Usage usage) goes_on.tries.is refl) runs
+
+  play_usage : (budget : ℕ) (usage : UsageFault) → PlaysOn content may_leave moment left_since budget left written left' written' old new (using_so usage) → ⊥
+  play_usage budget usage plays =
+      ⊎_elim (λ closed. refuses_usage closed.fault usage written written' closed.refuses)
+      (λ rest. ⊎_elim (λ stale. let is : ending.Usage usage ≡ ending.NotFresh stale.number = stale.tells.0 in cc)
+      (λ more. ⊎_elim (λ none. without_usage none.why usage written written' none.ends) (λ played. not_loops played.on.tries.how (ending.Usage usage) played.on.tries.is refl) more) rest)
+      plays
 
   show_usage : (usage : UsageFault) → Shows content may_leave moment left_since left written written' old new (using_so usage) → ⊥
   show_usage usage shows =
@@ -133,10 +144,11 @@ module _ {D : Type 0} (content : D → Option (List ℕ)) (may_leave : D → Lis
       ((plan : Plan) (budget : ℕ) → command_asked words ≡ Ok (command.Try plan budget) → Acquires (terms_with plan budget) left written left' written' end) →
       ((plan : Plan) → command_asked words ≡ Ok (command.New plan) → News content may_leave moment left_since plan left written left' written' old new (Ok end)) →
       ((budget : ℕ) → command_asked words ≡ Ok (command.Run budget) → RunsOn content may_leave moment left_since budget left written left' written' old new (Ok end)) →
+      ((budget : ℕ) → command_asked words ≡ Ok (command.Play budget) → PlaysOn content may_leave moment left_since budget left written left' written' old new (Ok end)) →
       (command_asked words ≡ Ok command.Show → Shows content may_leave moment left_since left written written' old new (Ok end)) →
       ((fault : UsageFault) → command_asked words ≡ Err fault → EndsWith (ending.Usage fault) usage_text written written' (Ok end)) →
       (usage : UsageFault) → end ≡ ending.Usage usage → command_asked words ≡ Err usage
-  usage_is words end tries news runs shows refuses usage is = of (command_asked words) refl
+  usage_is words end tries news runs plays shows refuses usage is = of (command_asked words) refl
     where
       same : (a b : UsageFault) → ending.Usage a ≡ ending.Usage b → a ≡ b
       same a b e = cc
@@ -147,5 +159,5 @@ module _ {D : Type 0} (content : D → Option (List ℕ)) (may_leave : D → Lis
       of (Ok (command.Run budget)) e = let P : Ending → Type 0 = λ x. RunsOn content may_leave moment left_since budget left written left' written' old new (Ok x) in absurd (run_usage budget usage (subst P is (runs budget e)))
       of (Ok (command.Try plan budget)) e = let P : Ending → Type 0 = λ x. Acquires (terms_with plan budget) left written left' written' x in absurd (subst P is (tries plan budget e))
       of (Ok command.Show) e = let P : Ending → Type 0 = λ x. Shows content may_leave moment left_since left written written' old new (Ok x) in absurd (show_usage usage (subst P is (shows e)))
-      of (Ok (command.Play budget)) e = absurd (no_play words budget e)
+      of (Ok (command.Play budget)) e = let P : Ending → Type 0 = λ x. PlaysOn content may_leave moment left_since budget left written left' written' old new (Ok x) in absurd (play_usage budget usage (subst P is (plays budget e)))
       of (Ok (command.Demo number budget)) e = absurd (no_demo words number budget e)

@@ -14,7 +14,6 @@ use Rattle.answer_journal.specs.Unique.{spells_once}
 use Rattle.assign.specs.declared.events.Event.{Event}
 use Rattle.assign.specs.declared.events.Plan.{Plan}
 use Rattle.language.specs.Language.{Language}
-use Rattle.language.specs.Answers.{standing_on}
 use Rattle.session_laws.specs.Session.{State, At, Stray}
 use Rattle.session_store.specs.Left.{SaysSession}
 use Rattle.session_store.specs.Opening.{JournalNotOpened, NotMade}
@@ -30,22 +29,12 @@ use Rattle.acq_cli.specs.Making.{RefusesMaking, News}
 use Rattle.acq_cli.specs.Running.{RunsOn}
 use Rattle.acq_cli.specs.Showing.{Shows}
 use Rattle.acq_cli.specs.Program.{ended_as}
-use Rattle.acq_cli.specs.Points.{terms_with}
-use Rattle.acq_cli.specs.Endings.{Tries}
+use Rattle.acq_cli.proofs.Closings.{okay, same_ok, err_ok, not_loops}
 use Rattle.acq_cli.proofs.Journals.{untold_ends}
 use Rattle.acq_cli.specs.declared.ending.Ending.{Ending}
 use Rattle.acq_cli.specs.declared.ending.Ending.TheVariants as ending
 
 -- ---- endings
-
-abbrev okay : Ending → Result Ending Put
-okay end = Ok end
-
-same_ok : (a b : Ending) → okay a ≡ okay b → a ≡ b
-same_ok a b e = cc
-
-err_ok : (e : Put) (end : Ending) → (let r : Result Ending Put = Err e in r) ≡ okay end → ⊥
-err_ok e end h = cc
 
 done_refused : (end : Ending) (f : SFault) → end ≡ ending.Done → end ≡ ending.JournalRefused f → ⊥
 done_refused end f a b = let bad : ending.Done ≡ ending.JournalRefused f = sym a ∙ b in cc
@@ -64,7 +53,7 @@ refused_as f n e = ap (λ (x : SFault). ending.JournalRefused x) e
 
 -- ---- what was read
 
-gives_got : (f : List ℕ → Gathered) (left left' : Option (List ℕ)) (got : Result (List ℕ) AllFault) (bytes : List ℕ) → Gives f left left' got → left ≡ Some bytes → (f bytes).got ≡ got
+pub gives_got : (f : List ℕ → Gathered) (left left' : Option (List ℕ)) (got : Result (List ℕ) AllFault) (bytes : List ℕ) → Gives f left left' got → left ≡ Some bytes → (f bytes).got ≡ got
 gives_got f left left' got bytes gives told = go left' (sym (ap (option_map f) told) ∙ gives)
   where
     same : (a b : Gathered) → (let x : Option Gathered = Some a in x) ≡ Some b → a ≡ b
@@ -77,7 +66,7 @@ gives_got f left left' got bytes gives told = go left' (sym (ap (option_map f) t
     go None e = absurd (none (f bytes) e)
     go (Some rest) e = ap (λ (x : Gathered). x.got) (same (f bytes) (gathered got rest) e)
 
-abbrev fine : List ℕ → Result (List ℕ) AllFault
+abbrev pub fine : List ℕ → Result (List ℕ) AllFault
 fine voc = Ok voc
 
 same_voc : (a b : List ℕ) → fine a ≡ fine b → a ≡ b
@@ -255,12 +244,12 @@ same_stray i j e = cc
 replayed_as : (file : List ℕ) (p q : Plan) (v w : List ℕ) (es fs : List Event) (lang : Language) → SaysSession file p v es → SaysSession file q w fs → replay lang p es ≡ replay lang q fs
 replayed_as file p q v w es fs lang one two = let same = spells_once file p v es q w fs one.1 two.1 in λ i. replay lang (same.0 i) (same.2 i)
 
-vocabulary_as : (file : List ℕ) (p q : Plan) (v w : List ℕ) (es fs : List Event) (lang : Language) → SaysSession file p v es → SaysSession file q w fs → IsVocabulary v lang → IsVocabulary w lang
+pub vocabulary_as : (file : List ℕ) (p q : Plan) (v w : List ℕ) (es fs : List Event) (lang : Language) → SaysSession file p v es → SaysSession file q w fs → IsVocabulary v lang → IsVocabulary w lang
 vocabulary_as file p q v w es fs lang one two read =
     let P : List ℕ → Type 0 = λ x. IsVocabulary x lang in subst P (spells_once file p v es q w fs one.1 two.1).1 read
 
 -- a file that must be refused holds no session
-holds_none : ReadOnce → (file : List ℕ) (f : SFault) → MustRefuse file f → HoldsSession file → ⊥
+pub holds_none : ReadOnce → (file : List ℕ) (f : SFault) → MustRefuse file f → HoldsSession file → ⊥
 holds_none once file (store.Journal f) must h = says_none once file f h.plan h.voc h.events must.0 must.1 h.says
 holds_none once file (store.Voc f) must h = taken_as file h.plan must.plan h.voc must.voc h.events must.events f h.says must.reads (not_refused h.voc h.lang h.read) must.refused
 holds_none once file (store.Stray i) must h =
@@ -297,12 +286,12 @@ only_reason once file (store.Stray i) store.Memory must why = absurd (never_told
 only_reason once file store.Memory n must why = absurd must
 
 -- a command that didn't open a file broke off, or refuses it
-closed_end : (written written' : Option (List ℕ)) (end : Ending) (f : SFault) (o : Option (Result Ending Put)) → untold f ≡ o → EndsUntold o f written written' (okay end) → IsBrokenOff end ⊎ ((untold f ≡ None) × (end ≡ ending.JournalRefused f))
+pub closed_end : (written written' : Option (List ℕ)) (end : Ending) (f : SFault) (o : Option (Result Ending Put)) → untold f ≡ o → EndsUntold o f written written' (okay end) → IsBrokenOff end ⊎ ((untold f ≡ None) × (end ≡ ending.JournalRefused f))
 closed_end written written' end f None is told = inr (is, told.0)
 closed_end written written' end f (Some got) is told =
     ⊎_elim (λ failed. inl (inr (inr (inl (same_ok end ending.DiskFault (told.0 ∙ failed.1)))))) (λ want. absurd (err_ok put.Memory end (sym (told.0 ∙ want)))) (untold_ends f got is)
 
-closed_exactly : ReadOnce → (file : List ℕ) (end : Ending) (f : SFault) → RefusesOpening file f → end ≡ ending.JournalRefused f → OpensExactly file end
+pub closed_exactly : ReadOnce → (file : List ℕ) (end : Ending) (f : SFault) → RefusesOpening file f → end ≡ ending.JournalRefused f → OpensExactly file end
 closed_exactly once file end f why is = record {
   refused = λ n e. subst (RefusesOpening file) (same_reason end f n is e) why;
   refuses = λ n must. is ∙ refused_as f n (only_reason once file n f must why);
@@ -317,7 +306,7 @@ module _ {D : Type 0} (content : D → Option (List ℕ)) (may_leave : D → Lis
   run_ends once budget left written left' written' old new (Ok end) (inr on) = λ file told.
       let held : HoldsSession file = record { plan = on.plan; voc = on.voc; events = on.events; says = on.says file told; lang = on.lang; read = on.read; places = on.places } in
       inr (record {
-        refused = λ f e. absurd (subst (Tries on.lang (terms_with on.plan budget) (standing_on on.lang on.events) (standing_on on.lang on.later) left written left' written') e on.tries);
+        refused = λ f e. absurd (not_loops on.tries.how (ending.JournalRefused f) (on.tries.is ∙ ap okay e) refl);
         refuses = λ f must. absurd (holds_none once file f must held);
       })
 

@@ -13,7 +13,6 @@ use Rattle.assign.specs.declared.events.Plan.{Plan}
 use Rattle.disk_model.specs.Disk.{LeavesOnly}
 use Rattle.disk_model.specs.Moments.{joined}
 use Rattle.language.specs.Language.{Language, IsLanguage}
-use Rattle.language.specs.Answers.{standing_on}
 use Rattle.session_store.specs.Kept.{answer_event}
 use Rattle.session_store.specs.Left.{OpensWith, OpensWithin, SaysSession, LeavesNow, bytes_told}
 use Rattle.session_store.specs.Keeping.{Persists, FailsWith}
@@ -24,7 +23,8 @@ use Rattle.session_store.specs.declared.fault.SFault.{SFault}
 use Rattle.session_store.specs.declared.fault.SFault.TheVariants as store
 use Rattle.voc_read.specs.Vocabulary.{IsVocabulary}
 use Rattle.acq_cli.specs.Breaks.{BreaksRun}
-use Rattle.target_oracle.specs.Lines.{line_turn}
+use Rattle.target_oracle.specs.Turns.{Turns}
+use Rattle.target_oracle.specs.declared.teacher.Told.{Told}
 use Rattle.acq_cli.specs.Added.{IsAdded}
 use Rattle.acq_cli.proofs.Added.{placed_event}
 use Rattle.acq_cli.proofs.Standings.{run_laws}
@@ -33,11 +33,12 @@ use Rattle.acq_cli.specs.Points.{point_of, terms_with}
 use Rattle.acq_cli.specs.Endings.{Tries}
 use Rattle.acq_cli.specs.Running.{GoesOn}
 use Rattle.acq_cli.specs.Journals.{EndsWith, untold}
+use Rattle.acq_cli.proofs.Closings.{okay, same_ok, err_ok}
 use Rattle.acq_cli.proofs.Parts.{written_badly}
 use Rattle.acq_cli.specs.declared.ending.Ending.{Ending}
 use Rattle.acq_cli.specs.declared.ending.Ending.TheVariants as ending
 
-abbrev IsDisk : Result Ending Put → Type 0
+abbrev pub IsDisk : Result Ending Put → Type 0
 IsDisk got = got ≡ Ok ending.DiskFault
 
 other_ending : (e : Ending) → (e ≡ ending.DiskFault) ⊎ (e ≡ ending.DiskFault → ⊥)
@@ -55,83 +56,93 @@ other_ending ending.ReadFault = inr (λ e. cc)
 other_ending ending.WriteFault = inr (λ e. cc)
 other_ending ending.DiskFault = inl refl
 other_ending ending.JournalFull = inr (λ e. cc)
+other_ending (ending.NotFresh m) = inr (λ e. cc)
+other_ending (ending.TargetRefused fault) = inr (λ e. cc)
 other_ending ending.Memory = inr (λ e. cc)
-
-abbrev okay : Ending → Result Ending Put
-okay e = Ok e
-
-same_ok : (a b : Ending) → okay a ≡ okay b → a ≡ b
-same_ok a b e = cc
-
-err_ok : (e : Put) → (let r : Result Ending Put = Err e in r) ≡ Ok ending.DiskFault → ⊥
-err_ok e h = cc
 
 -- whether the disk failed
 pub disk_failed : (got : Result Ending Put) → IsDisk got ⊎ (IsDisk got → ⊥)
-disk_failed (Err e) = inr (err_ok e)
+disk_failed (Err e) = inr (err_ok e ending.DiskFault)
 disk_failed (Ok end) = ⊎_elim (λ is. inl (ap okay is)) (λ other. inr (λ h. other (same_ok end ending.DiskFault h))) (other_ending end)
 
 module _ {D : Type 0} (content : D → Option (List ℕ)) (may_leave : D → List ℕ → Type 0) (moment : D → ℕ) (left_since : D → ℕ → List ℕ → Type 0) where
-  pub goes_on : (budget : ℕ) (left written left' written' : Option (List ℕ)) (first old new : D) (got : Result Ending Put) (plan : Plan) (voc : List ℕ) (events later : List Event) (open_then : Option Assignment) (lang : Language) →
+  -- what holds of its language, plan and events holds of what it is about
+  pub goes_on_with : (P : Language → Plan → List Event → List Event → Type 0) (turns : Turns) (may : Language → Assignment → Told → Type 0) (budget : ℕ) (left written left' written' : Option (List ℕ)) (first old new : D) (got : Result Ending Put) (plan : Plan) (voc : List ℕ) (events later : List Event) (open_then : Option Assignment) (lang : Language) →
       ForSome (content first) (λ bytes. SaysSession bytes plan voc events) → IsVocabulary voc lang → HavePlaces lang plan events → content old ≡ content first → LeavesOnly moment left_since first old (may_leave first) →
-      IsLanguage lang → IsAdded lang plan events later → ForSome (content old) (λ _. IsSome (content new)) → ((IsDisk got → ⊥) → ForSome (content old) (λ _. Persists content may_leave moment left_since plan voc events later old new)) →
+      IsLanguage lang → IsAdded lang plan (may lang) events later → ForSome (content old) (λ _. IsSome (content new)) → ((IsDisk got → ⊥) → ForSome (content old) (λ _. Persists content may_leave moment left_since plan voc events later old new)) →
       (IsDisk got → FailsWith content may_leave moment left_since plan voc events later open_then
-      (Loses line_turn lang (terms_with plan budget) (point_of (standing_on lang events) left written) (point_of (standing_on lang later) left' written')) old new) →
-      IfOk got (Tries lang (terms_with plan budget) (standing_on lang events) (standing_on lang later) left written left' written') →
-      OnErr got (BreaksRun lang (terms_with plan budget) (standing_on lang events) (standing_on lang later) left written written') →
-      GoesOn content may_leave moment left_since budget left written left' written' first new got
-  goes_on budget left written left' written' first old new got plan voc events later open_then lang says read places still opening lawful added on persists fails tries part =
+      (Loses turns lang (terms_with plan budget) (point_of events left written) (point_of later left' written')) old new) →
+      IfOk got (Tries turns lang (terms_with plan budget) events later left written left' written') →
+      OnErr got (BreaksRun turns lang (terms_with plan budget) events later left written written') →
+      P lang plan events later →
+      (on : GoesOn content may_leave moment left_since turns may budget left written left' written' first new got) × P on.lang on.plan on.events on.later
+  goes_on_with P turns may budget left written left' written' first old new got plan voc events later open_then lang says read places still opening lawful added on persists fails tries part has =
       ⊎_elim
       (λ is.
       let f = fails is in
-      let last : List Event = answer_event f.question f.reply ∷ [] in
-      record {
-        plan = plan;
-        voc = voc;
-        events = events;
-        says = says;
-        lang = lang;
-        read = read;
-        places = places;
-        later = later;
-        added = added;
-        tries = tries;
-        part = part;
-        last = last;
-        none_lost = λ no. absurd (no is);
-        one_lost = λ so. (f.question, f.reply, refl, f.lost);
-        all_places = placed_event run_laws lang lawful (terms_with plan budget) later f.question f.reply f.lost.fits.size f.lost.puts (added.places places);
-        any_moment = λ bytes told.
-            joined moment left_since first old new (may_leave first) (OpensWithin plan voc events (later ++ last)) (λ c. may_leave first c ⊎ OpensWithin plan voc events (later ++ last) c) opening (f.any_moment bytes (still ∙ told))
-            (λ c was. inl was) (λ c opens. inr opens);
-        now = λ bytes told. let t = bytes_told (content new) (on bytes (still ∙ told)) in record { bytes = t.0; tells = t.1; each = f.now bytes (still ∙ told) };
-      })
+      let last : List Event = answer_event f.question f.reply ∷ [] in (
+        record {
+          plan = plan;
+          voc = voc;
+          events = events;
+          says = says;
+          lang = lang;
+          read = read;
+          places = places;
+          later = later;
+          added = added;
+          tries = tries;
+          part = part;
+          last = last;
+          none_lost = λ no. absurd (no is);
+          one_lost = λ so. (f.question, f.reply, refl, f.lost);
+          all_places = placed_event run_laws lang lawful (terms_with plan budget) later f.question f.reply f.lost.fits.size f.lost.puts (added.places places);
+          any_moment = λ bytes told.
+              joined moment left_since first old new (may_leave first) (OpensWithin plan voc events (later ++ last)) (λ c. may_leave first c ⊎ OpensWithin plan voc events (later ++ last) c) opening (f.any_moment bytes (still ∙ told))
+              (λ c was. inl was) (λ c opens. inr opens);
+          now = λ bytes told. let t = bytes_told (content new) (on bytes (still ∙ told)) in record { bytes = t.0; tells = t.1; each = f.now bytes (still ∙ told) };
+        },
+        has,
+      ))
       (λ no.
       let p = persists no in
       let same : later ++ [] ≡ later = append-nil later in
-      let Within : List Event → Type 0 = λ l. LeavesOnly moment left_since old new (OpensWithin plan voc events l) in
-      record {
-        plan = plan;
-        voc = voc;
-        events = events;
-        says = says;
-        lang = lang;
-        read = read;
-        places = places;
-        later = later;
-        added = added;
-        tries = tries;
-        part = part;
-        last = [];
-        none_lost = λ so. refl;
-        one_lost = λ is. absurd (no is);
-        all_places = let Placed : List Event → Type 0 = λ x. HavePlaces lang plan x in subst Placed (sym same) (added.places places);
-        any_moment = λ bytes told.
-            joined moment left_since first old new (may_leave first) (OpensWithin plan voc events (later ++ [])) (λ c. may_leave first c ⊎ OpensWithin plan voc events (later ++ []) c) opening
-            (subst Within (sym same) (p bytes (still ∙ told)).any_moment) (λ c was. inl was) (λ c opens. inr opens);
-        now = λ bytes told. let n = (p bytes (still ∙ told)).now in record { bytes = n.bytes; tells = n.tells; each = λ c left. inl (n.each c left) };
-      })
+      let Within : List Event → Type 0 = λ l. LeavesOnly moment left_since old new (OpensWithin plan voc events l) in (
+        record {
+          plan = plan;
+          voc = voc;
+          events = events;
+          says = says;
+          lang = lang;
+          read = read;
+          places = places;
+          later = later;
+          added = added;
+          tries = tries;
+          part = part;
+          last = [];
+          none_lost = λ so. refl;
+          one_lost = λ is. absurd (no is);
+          all_places = let Placed : List Event → Type 0 = λ x. HavePlaces lang plan x in subst Placed (sym same) (added.places places);
+          any_moment = λ bytes told.
+              joined moment left_since first old new (may_leave first) (OpensWithin plan voc events (later ++ [])) (λ c. may_leave first c ⊎ OpensWithin plan voc events (later ++ []) c) opening
+              (subst Within (sym same) (p bytes (still ∙ told)).any_moment) (λ c was. inl was) (λ c opens. inr opens);
+          now = λ bytes told. let n = (p bytes (still ∙ told)).now in record { bytes = n.bytes; tells = n.tells; each = λ c left. inl (n.each c left) };
+        },
+        has,
+      ))
       (disk_failed got)
+
+  pub goes_on : (turns : Turns) (may : Language → Assignment → Told → Type 0) (budget : ℕ) (left written left' written' : Option (List ℕ)) (first old new : D) (got : Result Ending Put) (plan : Plan) (voc : List ℕ) (events later : List Event) (open_then : Option Assignment) (lang : Language) →
+      ForSome (content first) (λ bytes. SaysSession bytes plan voc events) → IsVocabulary voc lang → HavePlaces lang plan events → content old ≡ content first → LeavesOnly moment left_since first old (may_leave first) →
+      IsLanguage lang → IsAdded lang plan (may lang) events later → ForSome (content old) (λ _. IsSome (content new)) → ((IsDisk got → ⊥) → ForSome (content old) (λ _. Persists content may_leave moment left_since plan voc events later old new)) →
+      (IsDisk got → FailsWith content may_leave moment left_since plan voc events later open_then
+      (Loses turns lang (terms_with plan budget) (point_of events left written) (point_of later left' written')) old new) →
+      IfOk got (Tries turns lang (terms_with plan budget) events later left written left' written') →
+      OnErr got (BreaksRun turns lang (terms_with plan budget) events later left written written') →
+      GoesOn content may_leave moment left_since turns may budget left written left' written' first new got
+  goes_on turns may budget left written left' written' first old new got plan voc events later open_then lang says read places still opening lawful added on persists fails tries part =
+      (goes_on_with (λ l p es fs. Unit {0}) turns may budget left written left' written' first old new got plan voc events later open_then lang says read places still opening lawful added on persists fails tries part tt).0
 
 -- ---- what was said
 

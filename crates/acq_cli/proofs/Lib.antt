@@ -8,6 +8,7 @@ pub mod Nexts
 pub mod OpenCandidates
 pub mod OpenLines
 pub mod Sayings
+pub mod Closings
 pub mod Owners
 pub mod Walked
 pub mod Parts
@@ -15,4 +16,5 @@ pub mod Tries
 pub mod Journals
 pub mod Asked
 pub mod Exactly
+pub mod Targets
 pub mod Showing

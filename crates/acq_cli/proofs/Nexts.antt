@@ -40,6 +40,7 @@ use Rattle.acq_cli.specs.Due.{IsDue, NextIs, PutIs}
 use Rattle.acq_cli.specs.declared.driving.Upcoming.{Upcoming}
 use Rattle.acq_cli.specs.declared.driving.Upcoming.TheVariants as nexts
 use Rattle.acq_cli.proofs.Questions.{IsLawfulExample, asked_is_example, all_are_implied, undecided_is_spent, kept_network, same_state}
+use Rattle.acq_cli.proofs.OpenCandidates.{some_open, each_open}
 use Rattle.acq_cli.proofs.Standings.{stands_at}
 
 abbrev pub some_of : (q : Assignment) → Option Assignment
@@ -130,7 +131,7 @@ module _ (k : Knowledge) (t : List Answer) (budget : ℕ) (end : Option WalkEnd)
 
   pub searched_new : IsLanguage k.lang → k.plan ≢ Scopes → (q : Assignment) → next_query k.lang k.network.list k.kept.members budget ≡ query.Ask q → IsDue k.lang terms t q × IsLawfulAfter k.lang k.plan t q
   searched_new lawful other q asks =
-      let example = asked_is_example k.lang budget t k.network.list q lawful (sym there ∙ asks) in (
+      let example = asked_is_example k.lang k.plan budget t k.network.list end q lawful at (sym there ∙ asks) in (
         record { puts = searched_is other ∙ ap (λ x. Some (searched x)) asks; fits = example.fits },
         lawful_after q (example_by k.plan other q example),
       )
@@ -141,15 +142,20 @@ module _ (k : Knowledge) (t : List Answer) (budget : ℕ) (end : Option WalkEnd)
       (implied_is_covered k.lang k.plan t k.network.list end lawful at (all_are_implied k.lang k.network.list live budget lawful (kept_network k.lang t k.network.list) (sym there ∙ none)))
 
   pub searched_open : IsLanguage k.lang → k.plan ≢ Scopes → next_query k.lang k.network.list k.kept.members budget ≡ query.Undecided → IsLeftOpen k.lang terms t
-  searched_open lawful other none = record {
-    network = k.network.list;
-    end = end;
-    idle = at;
-    ends = searched_is other ∙ ap (λ x. Some (searched x)) none;
-    lawful = (idle_is_in_step k.lang k.plan t k.network.list end lawful at).lawful;
-    undecided = undecided_is_spent k.lang k.network.list live budget lawful (kept_network k.lang t k.network.list) (sym there ∙ none);
-    plan = other;
-  }
+  searched_open lawful other none =
+      let lacks = undecided_is_spent k.lang k.network.list live budget lawful (idle_is_in_step k.lang k.plan t k.network.list end lawful at).lawful (kept_network k.lang t k.network.list) (sym there ∙ none) in
+      record {
+        network = k.network.list;
+        end = end;
+        idle = at;
+        ends = searched_is other ∙ ap (λ x. Some (searched x)) none;
+        lawful = (idle_is_in_step k.lang k.plan t k.network.list end lawful at).lawful;
+        undecided = lacks;
+        plan = other;
+        some = some_open k.lang terms t k.network.list lacks;
+        each = each_open k.lang terms t k.network.list lacks;
+        rest = lacks.rest;
+      }
 
   -- the screen tells the kept candidates whose searches were spent
   pub tells_open : (screen : Remembered) →

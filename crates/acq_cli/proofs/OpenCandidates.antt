@@ -1,5 +1,5 @@
 -- The open candidates.
-use Rattle.std.proofs.Common.{◌≡◌, ℕ, ◌<◌, Bool, true, false, cond, ◌||◌, List, [], ◌∷◌, length, get_or, refl, sym, ◌∙◌, ap, inl, inr, ◌⊎◌, Option}
+use Rattle.std.proofs.Common.{◌≡◌, ℕ, ◌<◌, Bool, true, false, cond, ◌||◌, List, [], ◌∷◌, length, get_or, refl, sym, ◌∙◌, ap, Option}
 use Rattle.std.specs.Prelude.{◌≢◌, ◌==◌, ◌&&◌, IsTrue, All, Any}
 use Rattle.std.specs.List.{filter, list_any}
 use Rattle.std.proofs.lemmas.Bool.{and_from, eq-eqb}
@@ -7,22 +7,21 @@ use Rattle.std.proofs.lemmas.List.Elements.{All-filter, All-head, All-tail, filt
 use Rattle.std.proofs.lemmas.List.Folds.{list_any_at}
 use Rattle.assign.specs.Events.{Answer}
 use Rattle.language.specs.declared.candidates.Candidate.{Candidate}
-use Rattle.language.specs.Language.{Language, IsCandidate, IsImplied, candidates}
+use Rattle.language.specs.Language.{Language, IsCandidate, candidates}
 use Rattle.language.specs.Answers.{kept}
 use Rattle.language.specs.Search.{plain_size}
 use Rattle.fd_solver.specs.declared.outcome.Outcome.{Outcome}
 use Rattle.fd_solver.specs.declared.outcome.Outcome.TheVariants.{Found, Absent, Spent}
 use Rattle.fd_solver.specs.Outcomes.{outcome_of_candidate}
 use Rattle.query_gen.specs.Questions.{is_among, is_spent}
+use Rattle.query_gen.specs.Laws.{IsUndecided}
 use Rattle.query_gen.specs.Marks.{Remembered, is_open}
 use Rattle.session_laws.specs.Walk.{WalkEnd}
 use Rattle.session_laws.specs.Session.{Idle, At, state_after}
 use Rattle.session_laws.proofs.Choices.{all_candidates}
 use Rattle.acq_cli.specs.declared.terms.Terms.{Terms}
-use Rattle.acq_cli.specs.Driven.{IsLeftOpen, TellsOpen}
-use Rattle.acq_cli.specs.Endings.{LeavesOpen}
+use Rattle.acq_cli.specs.Driven.{TellsOpen}
 use Rattle.acq_cli.specs.Texts.{open_candidates}
-use Rattle.fd_solver.proofs.Outcomes.{spent_is_long}
 use Rattle.query_gen.proofs.Among.{picked_are_in_order}
 
 -- ---- lists
@@ -78,26 +77,23 @@ among_itself : (cs : List Candidate) → All (λ c. IsTrue (is_among cs c)) cs
 among_itself cs k d low =
     list_any_at (λ e. (e.scope == (get_or cs k d).scope) && (e.rel == (get_or cs k d).rel)) cs k d low (and_from _ _ (eq-eqb (get_or cs k d).scope (get_or cs k d).scope refl) (eq-eqb (get_or cs k d).rel (get_or cs k d).rel refl))
 
-pub leaves_open : (l : Language) (terms : Terms) (t : List Answer) (m : ℕ) → m ≡ length t → (left : IsLeftOpen l terms t) → LeavesOpen l terms m t left.network
-leaves_open l terms t m number left =
-    let network : List Candidate = left.network in
-    let live : List Candidate = kept l t network in
-    let spent : Candidate → Bool = λ c. is_spent (outcome_of_candidate l network c terms.budget) in
-    record {
-      number = number;
-      end = left.end;
-      idle = left.idle;
-      ends = left.ends;
-      plan = left.plan;
-      some = let any : Any (λ c. outcome_of_candidate l network c terms.budget ≡ Spent) live = left.undecided.some in
-          filter_some spent live (list_any_at spent live any.0 any.1 any.2 (ap spent any.3 ∙ ap is_spent any.4));
-      each = λ k d low. (
+-- what the budget was too small for
+module _ (l : Language) (terms : Terms) (t : List Answer) (network : List Candidate) (undecided : IsUndecided l network (kept l t network) terms.budget) where
+  abbrev live : List Candidate
+  live = kept l t network
+
+  abbrev spent : Candidate → Bool
+  spent c = is_spent (outcome_of_candidate l network c terms.budget)
+
+  pub some_open : open_candidates l terms t network ≢ []
+  some_open =
+      let any : Any (λ c. outcome_of_candidate l network c terms.budget ≡ Spent) live = undecided.some in
+      filter_some spent live (list_any_at spent live any.0 any.1 any.2 (ap spent any.3 ∙ ap is_spent any.4))
+
+  pub each_open : All (λ c. IsTrue (is_among live c) × (terms.budget < plain_size l network c)) (open_candidates l terms t network)
+  each_open =
+      let Long : Candidate → Type 0 = λ c. outcome_of_candidate l network c terms.budget ≡ Spent → terms.budget < plain_size l network c in
+      λ k d low. (
         All-filter spent (λ c. IsTrue (is_among live c)) live (among_itself live) k d low,
-        spent_is_long l network (get_or (filter spent live) k d) terms.budget (is_spent_true _ (filter_passes spent live k d low)),
-      );
-      rest = λ k d low other. implied network (get_or live k d) (left.undecided.each k d low) other;
-    }
-  where
-    implied : (network : List Candidate) (c : Candidate) → ((outcome_of_candidate l network c terms.budget ≡ Spent) × (terms.budget < plain_size l network c)) ⊎ IsImplied l network c → (outcome_of_candidate l network c terms.budget ≢ Spent) → IsImplied l network c
-    implied network c (inl long) other = absurd (other long.0)
-    implied network c (inr is) other = is
+        All-filter spent Long live undecided.each k d low (is_spent_true _ (filter_passes spent live k d low)),
+      )

@@ -1,5 +1,5 @@
 -- What was written where it could not be written whole.
-use Rattle.std.proofs.Common.{◌≡◌, ℕ, List, [], ◌++◌, ap, sym, subst, refl, ◌∙◌, Option, Some, None, Result, Ok, Err, inl, inr, append_assoc}
+use Rattle.std.proofs.Common.{◌≡◌, ℕ, List, [], ◌++◌, ap, sym, subst, refl, ◌∙◌, Option, Some, None, Result, Ok, Err, inl, inr, arith, append_assoc}
 use Rattle.std.proofs.lemmas.List.{append-nil}
 use Rattle.std.specs.Prelude.{IfOk, OnErr}
 use Rattle.std.specs.Option.{option_map}
@@ -8,15 +8,17 @@ use Rattle.acq_io.specs.Whole.{Gathered, gathered, Gives, first_line_of}
 use Rattle.acq_io.specs.declared.streams.Put.{Put}
 use Rattle.acq_io.specs.declared.streams.Put.TheVariants.{Failed, Memory}
 use Rattle.acq_io.specs.declared.whole.AllFault.{AllFault}
-use Rattle.assign.specs.Events.{Answer}
+use Rattle.assign.specs.declared.events.Event.{Event}
 use Rattle.assign.specs.declared.events.Plan.{Plan}
 use Rattle.language.specs.Language.{Language, IsLanguage}
+use Rattle.language.specs.Answers.{standing_on}
 use Rattle.session_laws.specs.Session.{Idle, read_on}
 use Rattle.target_oracle.specs.Lines.{line_turn}
+use Rattle.target_oracle.specs.Turns.{Turns}
 use Rattle.target_oracle.specs.Tells.{Front}
 use Rattle.voc_read.specs.Vocabulary.{IsVocabulary}
 use Rattle.voc_read.specs.declared.fault.VocFault.{VocFault}
-use Rattle.acq_cli.specs.Run.{Closing, next_after}
+use Rattle.acq_cli.specs.Run.{Closing, next_on}
 use Rattle.acq_cli.specs.Trying.{Breaks, IsRefusal, IsTextOfRefusal, IsTextOfRun, IsWholeText}
 use Rattle.acq_cli.specs.Breaks.{BreaksRun}
 use Rattle.acq_cli.specs.Driven.{RanTo, CutOff, StopsAt, next_lines}
@@ -25,9 +27,13 @@ use Rattle.acq_cli.specs.Trying.{Acquires, ReadsVocabulary}
 use Rattle.acq_cli.specs.Endings.{Tries}
 use Rattle.acq_cli.specs.Texts.{closing_text, refusal_text, whole_text}
 use Rattle.acq_cli.specs.declared.terms.Terms.{Terms}
-use Rattle.acq_cli.proofs.Running.{IsReached, run_exists}
+use Rattle.acq_cli.proofs.Closings.{okay, not_loops, loops_by, read_by}
+use Rattle.acq_cli.proofs.Running.{IsWithin, run_exists}
 use Rattle.acq_cli.proofs.Standings.{run_laws}
 use Rattle.acq_cli.proofs.Turning.{some_text}
+use Rattle.acq_cli.specs.Closings.{closing_of, ending_of}
+use Rattle.acq_cli.specs.declared.driving.Drove.{Drove}
+use Rattle.acq_cli.specs.declared.driving.Drove.TheVariants as drove
 use Rattle.acq_cli.specs.declared.ending.Ending.{Ending}
 use Rattle.acq_cli.specs.declared.ending.Ending.TheVariants as ending
 
@@ -61,15 +67,15 @@ done_reads e = cc
 
 -- ---- the text of a run
 
--- answers begin where nothing is open
-pub begun : (l : Language) (plan : Plan) → IsReached l plan []
+-- events begin where nothing is open
+pub begun : (l : Language) (plan : Plan) → IsWithin l plan []
 unfolding read_on
-begun l plan = (Idle [] None, refl)
+begun l plan = record { reached = (Idle [] None, refl); few = omega arith }
 
 -- nothing of it was written
-pub begun_part : (l : Language) (terms : Terms) (start : List Answer) (left written : Option (List ℕ)) → IsLanguage l → IsReached l terms.plan start → BreaksRun l terms start start left written written
-begun_part l terms start left written lawful reached bytes before from to =
-    let has = run_exists run_laws line_turn l terms lawful start bytes reached in
+pub begun_part : (turns : Turns) (l : Language) (terms : Terms) (start : List Event) (left written : Option (List ℕ)) → IsLanguage l → IsWithin l terms.plan start → BreaksRun turns l terms start start left written written
+begun_part turns l terms start left written lawful within bytes before from to =
+    let has = run_exists run_laws turns l terms lawful start bytes within in
     record {
       run = has.run;
       runs = has.runs;
@@ -80,23 +86,23 @@ begun_part l terms start left written lawful reached bytes before from to =
         rest = bytes;
         done = [];
         begins = λ run runs. runs;
-        text = record { front = []; back = next_lines line_turn l start bytes (next_after l terms start); parts = refl; put = to ∙ some_text _ _ (sym (append-nil before) ∙ sym (append-nil (before ++ []))) };
+        text = record { front = []; back = next_lines turns l start bytes (next_on l terms start); parts = refl; put = to ∙ some_text _ _ (sym (append-nil before) ∙ sym (append-nil (before ++ []))) };
       });
     }
 
-module _ (l : Language) (terms : Terms) (start : List Answer) (left written left' middle written' : Option (List ℕ)) (t : List Answer) where
+module _ (turns : Turns) (l : Language) (terms : Terms) (start : List Event) (left written left' middle written' : Option (List ℕ)) (events : List Event) where
   -- the lines of its turns are written, and a front of the last ones
-  pub closed_part : (closing : Closing) → RanTo line_turn l terms closing (point_of start left written) (point_of t left' middle) → AddsFront middle written' (closing_text l terms t closing) → BreaksRun l terms start t left written written'
+  pub closed_part : (closing : Closing) → RanTo turns l terms closing (point_of start left written) (point_of events left' middle) → AddsFront middle written' (closing_text l terms (standing_on l events) closing) → BreaksRun turns l terms start events left written written'
   closed_part closing ran (front, back, parts, adds) bytes before from to =
       let run = ran bytes before from to in
       let Text : Type 0 = List ℕ in
-      let last : closing_text l terms run.run.answers run.run.closing ≡ front ++ back =
-      (λ i. closing_text l terms (run.answers i) (run.closing i)) ∙ parts in
+      let last : closing_text l terms (standing_on l run.run.events) run.run.closing ≡ front ++ back =
+      (λ i. closing_text l terms (standing_on l (run.events i)) (run.closing i)) ∙ parts in
       record {
         run = run.run;
         runs = run.runs;
         later = [];
-        extends = run.answers ∙ sym (append-nil t);
+        extends = run.events ∙ sym (append-nil events);
         text = record {
           front = run.run.text ++ front;
           back = back;
@@ -107,22 +113,22 @@ module _ (l : Language) (terms : Terms) (start : List Answer) (left written left
       }
 
   -- the lines of its turns aren't all written
-  pub cut_part : CutOff line_turn l terms (point_of start left written) (point_of t left' middle) → written' ≡ middle → BreaksRun l terms start t left written written'
+  pub cut_part : CutOff turns l terms (point_of start left written) (point_of events left' middle) → written' ≡ middle → BreaksRun turns l terms start events left written written'
   cut_part cut same bytes before from to =
       let run = cut bytes before from to in
-      let last : List ℕ = closing_text l terms run.run.answers run.run.closing in
+      let last : List ℕ = closing_text l terms (standing_on l run.run.events) run.run.closing in
       record {
         run = run.run;
         runs = run.runs;
         later = run.later;
-        extends = run.answers;
+        extends = run.events;
         text = record {
           front = run.text.front;
           back = run.text.back ++ last;
           parts = ap (λ x. x ++ last) run.text.parts ∙ append_assoc run.text.front run.text.back last;
           put = same ∙ run.text.put;
         };
-        held = let Stops : Option (List ℕ) → Type 0 = λ w. StopsAt line_turn l terms start t bytes before w in inr (subst Stops (sym same) run.stops);
+        held = let Stops : Option (List ℕ) → Type 0 = λ w. StopsAt turns l terms start events bytes before w in inr (subst Stops (sym same) run.stops);
       }
 
 -- ---- the text of the program
@@ -150,10 +156,6 @@ given_of f left left' got bytes gives told = go left' (sym (ap (option_map f) to
 front_of : (text before : List ℕ) (written written' : Option (List ℕ)) → AddsFront written written' text → written ≡ Some before → Front text before written'
 front_of text before written written' (front, back, parts, adds) told = record { front = front; back = back; parts = parts; put = adds ∙ ap (option_map (λ w. w ++ front)) told }
 
--- nothing was written
-pub breaks_nothing : (terms : Terms) (left written written' : Option (List ℕ)) → written' ≡ written → Breaks terms left written written'
-breaks_nothing terms left written written' same bytes before from to = inl (same ∙ to)
-
 -- this is given of the first line
 module _ (terms : Terms) (left rest written written' : Option (List ℕ)) (got : Result (List ℕ) AllFault) (gives : Gives (first_line_of 4194304) left rest got) where
   pub breaks_refusal : (fault : VocFault) → IsRefusal fault got → AddsFront written written' (refusal_text fault) → Breaks terms left written written'
@@ -163,8 +165,8 @@ module _ (terms : Terms) (left rest written written' : Option (List ℕ)) (got :
       let is : Q (first_line_of 4194304 bytes) = subst Q (sym given.gives) (record { fault = fault; refused = refused; is = refl }) in
       inr (record { whole = refusal_text fault; is = inl is; text = front_of (refusal_text fault) before written written' adds to })
 
-  pub breaks_run : (line : List ℕ) (lang : Language) (answers : List Answer) → got ≡ Ok line → IsVocabulary line lang → BreaksRun lang terms [] answers rest written written' → Breaks terms left written written'
-  breaks_run line lang answers is vocabulary broken bytes before from to =
+  pub breaks_run : (line : List ℕ) (lang : Language) (events : List Event) → got ≡ Ok line → IsVocabulary line lang → BreaksRun line_turn lang terms [] events rest written written' → Breaks terms left written written'
+  breaks_run line lang events is vocabulary broken bytes before from to =
       let given = given_of (first_line_of 4194304) left rest got bytes gives from in
       let part = broken given.rest before given.left to in
       let whole : List ℕ = whole_text lang terms part.run in
@@ -174,41 +176,46 @@ module _ (terms : Terms) (left rest written written' : Option (List ℕ)) (got :
       inr (record { whole = whole; is = inr run; text = part.text })
 
 -- what was done about a vocabulary is what the program has done
-pub acquires_by : (terms : Terms) (left rest written left' written' : Option (List ℕ)) (line : List ℕ) (lang : Language) (answers : List Answer) (end : Ending) →
-    Gives (first_line_of 4194304) left rest (Ok line) → IsVocabulary line lang → (end ≡ ending.DiskFault → ⊥) → Tries lang terms [] answers rest written left' written' end → Acquires terms left written left' written' end
-acquires_by terms left rest written left' written' line lang answers end gives vocabulary never tries = go end never tries
+pub acquires_by : (terms : Terms) (left rest written left' written' : Option (List ℕ)) (line : List ℕ) (lang : Language) (events : List Event) (end : Ending) →
+    Gives (first_line_of 4194304) left rest (Ok line) → IsVocabulary line lang → (end ≡ ending.DiskFault → ⊥) → Tries line_turn lang terms [] events rest written left' written' end → Acquires terms left written left' written' end
+acquires_by terms left rest written left' written' line lang events end gives vocabulary never tries = go end never tries
   where
-    reads : (e : Ending) → Tries lang terms [] answers rest written left' written' e → ReadsVocabulary terms left written left' written' e
-    reads e tried = record { line = line; rest = rest; gives = gives; lang = lang; vocabulary = vocabulary; answers = answers; tries = tried }
+    reads : (e : Ending) → Tries line_turn lang terms [] events rest written left' written' e → ReadsVocabulary terms left written left' written' e
+    reads e tried = record { line = line; rest = rest; gives = gives; lang = lang; vocabulary = vocabulary; events = events; tries = tried }
 
-    go : (e : Ending) → (e ≡ ending.DiskFault → ⊥) → Tries lang terms [] answers rest written left' written' e → Acquires terms left written left' written' e
+    broken : (e : Ending) (how : Drove) → ending_of how ≡ okay e → e ≡ ending.ReadFault → closing_of how ≡ None
+    broken e how so is = ap closing_of (read_by how e so is)
+
+    go : (e : Ending) → (e ≡ ending.DiskFault → ⊥) → Tries line_turn lang terms [] events rest written left' written' e → Acquires terms left written left' written' e
     go (ending.Converged m) never tried = reads (ending.Converged m) tried
     go (ending.Collapsed m) never tried = reads (ending.Collapsed m) tried
     go (ending.Undecided m) never tried = reads (ending.Undecided m) tried
     go (ending.Suspended m) never tried = reads (ending.Suspended m) tried
     go ending.LineTooLong never tried = reads ending.LineTooLong tried
     go ending.Unreadable never tried = reads ending.Unreadable tried
-    go (ending.Usage fault) never tried = absurd tried
-    go (ending.VocRefused fault) never tried = absurd tried
-    go ending.Done never tried = absurd tried
-    go (ending.JournalRefused fault) never tried = absurd tried
-    go ending.ReadFault never tried = breaks_run terms left rest written written' (Ok line) gives line lang answers refl vocabulary tried
-    go ending.WriteFault never tried = absurd tried
+    go (ending.Usage fault) never tried = absurd (not_loops tried.how (ending.Usage fault) tried.is refl)
+    go (ending.VocRefused fault) never tried = absurd (not_loops tried.how (ending.VocRefused fault) tried.is refl)
+    go ending.Done never tried = absurd (not_loops tried.how ending.Done tried.is refl)
+    go (ending.JournalRefused fault) never tried = absurd (not_loops tried.how (ending.JournalRefused fault) tried.is refl)
+    go ending.ReadFault never tried = breaks_run terms left rest written written' (Ok line) gives line lang events refl vocabulary (tried.broken (broken ending.ReadFault tried.how tried.is refl))
+    go ending.WriteFault never tried = absurd (not_loops tried.how ending.WriteFault tried.is refl)
     go ending.DiskFault never tried = absurd (never refl)
-    go ending.JournalFull never tried = absurd tried
-    go ending.Memory never tried = absurd tried
+    go ending.JournalFull never tried = absurd (tried.never_full (loops_by tried.how drove.JournalFull ending.JournalFull tried.is refl))
+    go ending.Memory never tried = absurd (not_loops tried.how ending.Memory tried.is refl)
+    go (ending.NotFresh m) never tried = absurd (not_loops tried.how (ending.NotFresh m) tried.is refl)
+    go (ending.TargetRefused fault) never tried = absurd (not_loops tried.how (ending.TargetRefused fault) tried.is refl)
 
 pub acquires_in : (terms : Terms) (left rest written left' written' : Option (List ℕ)) (line : List ℕ) (lang : Language) (got : Result Ending Put) →
     Gives (first_line_of 4194304) left rest (Ok line) → IsVocabulary line lang → IfOk got (λ (e : Ending). e ≡ ending.DiskFault → ⊥) →
-    IfOk got (λ (e : Ending). (answers : List Answer) × Tries lang terms [] answers rest written left' written' e) → IfOk got (Acquires terms left written left' written')
-acquires_in terms left rest written left' written' line lang (Ok end) gives vocabulary never (answers, tries) =
-    acquires_by terms left rest written left' written' line lang answers end gives vocabulary never tries
+    IfOk got (λ (e : Ending). (events : List Event) × Tries line_turn lang terms [] events rest written left' written' e) → IfOk got (Acquires terms left written left' written')
+acquires_in terms left rest written left' written' line lang (Ok end) gives vocabulary never (events, tries) =
+    acquires_by terms left rest written left' written' line lang events end gives vocabulary never tries
 acquires_in terms left rest written left' written' line lang (Err e) gives vocabulary never tries = tt
 
 pub breaks_in : (terms : Terms) (left rest written written' : Option (List ℕ)) (line : List ℕ) (lang : Language) (got : Result Ending Put) →
-    Gives (first_line_of 4194304) left rest (Ok line) → IsVocabulary line lang → OnErr got ((answers : List Answer) × BreaksRun lang terms [] answers rest written written') → OnErr got (Breaks terms left written written')
+    Gives (first_line_of 4194304) left rest (Ok line) → IsVocabulary line lang → OnErr got ((events : List Event) × BreaksRun line_turn lang terms [] events rest written written') → OnErr got (Breaks terms left written written')
 breaks_in terms left rest written written' line lang (Ok end) gives vocabulary broken = tt
-breaks_in terms left rest written written' line lang (Err e) gives vocabulary (answers, broken) = breaks_run terms left rest written written' (Ok line) gives line lang answers refl vocabulary broken
+breaks_in terms left rest written written' line lang (Err e) gives vocabulary (events, broken) = breaks_run terms left rest written written' (Ok line) gives line lang events refl vocabulary broken
 
 pub breaks_refused : (terms : Terms) (left rest written written' : Option (List ℕ)) (first : Result (List ℕ) AllFault) (fault : VocFault) (got : Result Ending Put) →
     Gives (first_line_of 4194304) left rest first → IsRefusal fault first → OnErr got (AddsFront written written' (refusal_text fault)) → OnErr got (Breaks terms left written written')

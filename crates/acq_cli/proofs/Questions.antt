@@ -1,5 +1,5 @@
 -- What the next question's search says of a session.
-use Rattle.std.proofs.Common.{◌≡◌, ℕ, true, List, [], ◌∷◌, refl, ◌∙◌, ap}
+use Rattle.std.proofs.Common.{◌≡◌, ℕ, true, List, [], ◌∷◌, Option, refl, ◌∙◌, ap}
 use Rattle.std.specs.Prelude.{IsTrue, All, Any, ◌<◌, ◌&&◌, nat_lt, length, Some, None}
 use Rattle.std.specs.Option.{option_map_or, ForSome}
 use Rattle.std.specs.List.{list_all}
@@ -9,6 +9,7 @@ use Rattle.std.proofs.lemmas.Bool.{and_from, eq-eqb}
 use Rattle.std.proofs.Common.{lt-ltb}
 use Rattle.assign.specs.Assignment.{Assignment, is_complete}
 use Rattle.assign.specs.Events.{Answer}
+use Rattle.assign.specs.declared.events.Plan.{Plan}
 use Rattle.assign.specs.declared.events.Plan.TheVariants.{Quacq, Multi}
 use Rattle.language.specs.declared.candidates.Candidate.{Candidate}
 use Rattle.language.specs.Language.{Language, IsLanguage, IsCandidate, IsQuestion, candidates, is_question, variable_count, accepts, violates}
@@ -21,9 +22,10 @@ use Rattle.query_gen.specs.Questions.{next_query}
 use Rattle.query_gen.specs.Laws.{AskedIsLawful, AllAreImplied, UndecidedIsSpent, MarksStay}
 use Rattle.query_gen.proofs.Told as told
 use Rattle.query_gen.proofs.Marking as marking
-use Rattle.session_laws.specs.Session.{State, At, is_lawful}
-use Rattle.session_laws.specs.Walk.{violates_some}
+use Rattle.session_laws.specs.Session.{State, Idle, At, is_lawful, state_after}
+use Rattle.session_laws.specs.Walk.{WalkEnd, violates_some}
 use Rattle.session_laws.proofs.Choices.{all_candidates}
+use Rattle.session_laws.proofs.States.{idle_is_in_step}
 
 -- a question that may be put in the plans that search
 pub record IsLawfulExample (l : Language) (live network : List Candidate) (q : Assignment) : Type 0 where
@@ -61,10 +63,12 @@ violated_there : (l : Language) (live network : List Candidate) (q : Assignment)
 violated_there l live network q (k, c, low, is, against) =
     list_any_at (λ d. violates l d q) live k c low (ap (λ d. violates l d q) is ∙ against.violates)
 
-pub asked_is_example : (l : Language) (budget : ℕ) (t : List Answer) (network : List Candidate) (q : Assignment) → IsLanguage l → next_query l network (kept l t network) budget ≡ Ask q → IsLawfulExample l (kept l t network) network q
-asked_is_example l budget t network q lawful h =
+pub asked_is_example : (l : Language) (plan : Plan) (budget : ℕ) (t : List Answer) (network : List Candidate) (end : Option WalkEnd) (q : Assignment) → IsLanguage l → state_after l plan t ≡ At (Idle network end) →
+    next_query l network (kept l t network) budget ≡ Ask q → IsLawfulExample l (kept l t network) network q
+asked_is_example l plan budget t network end q lawful at h =
     let live : List Candidate = kept l t network in
-    let any : Any (λ c. IsQuestionAgainst l network c q) live = asked_is_lawful l network live budget q lawful (kept_network l t network) h in
+    let legal : IsNetwork l network = (idle_is_in_step l plan t network end lawful at).lawful in
+    let any : Any (λ c. IsQuestionAgainst l network c q) live = asked_is_lawful l network live budget q lawful legal (kept_network l t network) h in
     let against : IsQuestionAgainst l network any.1 q = any.4 in
     let passes : (is_question l q && is_complete q && accepts l network q && violates_some l live q) ≡ true =
     and_from _ _ (and_from _ _ (and_from _ _ (question_there l q against.question) against.complete) against.accepted) (violated_there l live network q any) in

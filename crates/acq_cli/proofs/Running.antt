@@ -1,25 +1,29 @@
 -- Runs, one turn at a time.
-use Rattle.std.proofs.Common.{◌≡◌, ℕ, zero, suc, ◌+◌, ◌<◌, List, [], ◌∷◌, ◌++◌, Bool, length, ap, sym, ◌∙◌, refl, Option, Some, None, arith, append_assoc, length-append}
+use Rattle.std.proofs.Common.{◌≡◌, ◌≢◌, ℕ, zero, suc, ◌+◌, ◌<◌, ◌≤◌, List, [], ◌∷◌, ◌++◌, Bool, true, false, length, ap, subst, sym, ◌∙◌, refl, Option, Some, None, arith, append_assoc, length-append, ⊎_elim}
+use Rattle.std.specs.Prelude.{◌==◌, nat_eq}
+use Rattle.std.proofs.lemmas.Bool.{cases_lt, eq-eqb, eqb-true}
 use Rattle.std.proofs.lemmas.List.{append-nil}
 use Rattle.std.specs.Option.{option_map}
 use Rattle.assign.specs.Assignment.{Assignment}
 use Rattle.assign.specs.Events.{Answer}
+use Rattle.assign.specs.declared.events.Event.{Event}
 use Rattle.assign.specs.declared.events.Plan.{Plan}
 use Rattle.assign.specs.declared.events.Plan.TheVariants.{Scopes, Quacq, Multi}
+use Rattle.assign.proofs.EventLemmas.{cut_to-standing-push}
 use Rattle.language.specs.declared.candidates.Candidate.{Candidate}
-use Rattle.language.specs.Language.{Language, IsLanguage}
-use Rattle.language.specs.Answers.{kept}
+use Rattle.language.specs.Language.{Language, IsLanguage, variable_count}
+use Rattle.language.specs.Answers.{kept, standing_on}
 use Rattle.query_gen.specs.declared.query.Query.{Query}
 use Rattle.query_gen.specs.declared.query.Query.TheVariants.{Ask, AllImplied, Undecided}
 use Rattle.query_gen.specs.Questions.{next_query}
 use Rattle.session_laws.specs.Walk.{WalkEnd}
+use Rattle.session_store.specs.Kept.{answer_event}
 use Rattle.acq_cli.specs.declared.terms.Terms.{Terms}
 use Rattle.acq_cli.proofs.Questions.{IsLawfulExample}
 use Rattle.session_laws.specs.Session.{State, Idle, Halving, Choosing, Walking, Over, At, step, state_after}
-use Rattle.session_laws.specs.Bound.{most_answers}
-use Rattle.session_laws.specs.Laws.{OneAnswerMore, QuestionsHavePlaces, AnswersAreAtMost}
+use Rattle.session_laws.specs.Laws.{OneAnswerMore, QuestionsHavePlaces, QuestionsHaveValues}
 use Rattle.target_oracle.specs.Turns.{Turns, Turned, Reply, Said, Stopped, Ended, Overlong, Unread}
-use Rattle.acq_cli.specs.Run.{Closing, Suspended, LineTooLong, Unreadable, Collapsed, Converged, Next, Puts, Ends, puts_or, searched, idle_next, next_at, next_in, next_after, Ran, after_text, answer, ended, heard_on, turned_on, next_on, ran, Runs}
+use Rattle.acq_cli.specs.Run.{Closing, Suspended, LineTooLong, Unreadable, Collapsed, Converged, JournalFull, Next, Puts, Ends, puts_or, searched, idle_next, next_at, next_in, next_after, is_full, unless_full, next_on, number_on, Ran, after_text, answer, ended, heard_on, turned_on, put_on, ran, Runs}
 
 -- ---- a turn and what follows
 
@@ -27,45 +31,45 @@ pub text_after : (x y : List ℕ) (run : Ran) → after_text x (after_text y run
 text_after x y run = ap (λ (t : List ℕ). let r : Ran = record run { text = t } in r) (sym (append_assoc x y run.text))
 
 -- a turn that heard an answer
-pub runs_said : (turns : Turns) (l : Language) (terms : Terms) (t : List Answer) (bytes : List ℕ) (q : Assignment) (reply : Bool) (run : Ran) →
-    next_after l terms t ≡ Some (Puts q) → (turns l (length t + 1) q bytes).heard.reply ≡ Said reply →
-    Runs turns l terms (t ++ answer q reply ∷ []) (turns l (length t + 1) q bytes).heard.rest run →
-    Runs turns l terms t bytes (after_text (turns l (length t + 1) q bytes).text run)
+pub runs_said : (turns : Turns) (l : Language) (terms : Terms) (events : List Event) (bytes : List ℕ) (q : Assignment) (reply : Bool) (run : Ran) →
+    next_on l terms events ≡ Some (Puts q) → (turns l (number_on l events) q bytes).heard.reply ≡ Said reply →
+    Runs turns l terms (events ++ answer_event q reply ∷ []) (turns l (number_on l events) q bytes).heard.rest run →
+    Runs turns l terms events bytes (after_text (turns l (number_on l events) q bytes).text run)
 unfolding ran
-runs_said turns l terms t bytes q reply run due heard runs =
-    let turned : Turned = turns l (length t + 1) q bytes in
+runs_said turns l terms events bytes q reply run due heard runs =
+    let turned : Turned = turns l (number_on l events) q bytes in
     record {
       count = suc runs.count;
-      is = ap (next_on (λ p. turned_on (ran turns l terms runs.count) t p (turns l (length t + 1) p bytes)) t bytes) due
-          ∙ ap (λ r. option_map (after_text turned.text) (heard_on (ran turns l terms runs.count) t q turned.heard.rest r)) heard
+      is = ap (put_on (λ p. turned_on (ran turns l terms runs.count) events p (turns l (number_on l events) p bytes)) events bytes) due
+          ∙ ap (λ r. option_map (after_text turned.text) (heard_on (ran turns l terms runs.count) events q turned.heard.rest r)) heard
           ∙ ap (option_map (after_text turned.text)) runs.is;
     }
 
 -- a reply that ends the run so
-abbrev pub EndsSo : Reply → Closing → List Answer → Assignment → Type 0
-EndsSo reply closing t q = (again : List Answer → List ℕ → Option Ran) (rest : List ℕ) → heard_on again t q rest reply ≡ Some (ended closing t rest)
+abbrev pub EndsSo : Reply → Closing → List Event → Assignment → Type 0
+EndsSo reply closing events q = (again : List Event → List ℕ → Option Ran) (rest : List ℕ) → heard_on again events q rest reply ≡ Some (ended closing events rest)
 
 -- a turn that heard such a reply
-pub runs_closed : (turns : Turns) (l : Language) (terms : Terms) (t : List Answer) (bytes : List ℕ) (q : Assignment) (reply : Reply) (closing : Closing) →
-    next_after l terms t ≡ Some (Puts q) → (turns l (length t + 1) q bytes).heard.reply ≡ reply → EndsSo reply closing t q →
-    Runs turns l terms t bytes (after_text (turns l (length t + 1) q bytes).text (ended closing t (turns l (length t + 1) q bytes).heard.rest))
+pub runs_closed : (turns : Turns) (l : Language) (terms : Terms) (events : List Event) (bytes : List ℕ) (q : Assignment) (reply : Reply) (closing : Closing) →
+    next_on l terms events ≡ Some (Puts q) → (turns l (number_on l events) q bytes).heard.reply ≡ reply → EndsSo reply closing events q →
+    Runs turns l terms events bytes (after_text (turns l (number_on l events) q bytes).text (ended closing events (turns l (number_on l events) q bytes).heard.rest))
 unfolding ran
-runs_closed turns l terms t bytes q reply closing due heard closes =
-    let turned : Turned = turns l (length t + 1) q bytes in
+runs_closed turns l terms events bytes q reply closing due heard closes =
+    let turned : Turned = turns l (number_on l events) q bytes in
     record {
       count = 1;
-      is = ap (next_on (λ p. turned_on (ran turns l terms 0) t p (turns l (length t + 1) p bytes)) t bytes) due
-          ∙ ap (λ r. option_map (after_text turned.text) (heard_on (ran turns l terms 0) t q turned.heard.rest r)) heard
+      is = ap (put_on (λ p. turned_on (ran turns l terms 0) events p (turns l (number_on l events) p bytes)) events bytes) due
+          ∙ ap (λ r. option_map (after_text turned.text) (heard_on (ran turns l terms 0) events q turned.heard.rest r)) heard
           ∙ ap (option_map (after_text turned.text)) (closes (ran turns l terms 0) turned.heard.rest);
     }
 
 -- nothing is put any more
-pub runs_end : (turns : Turns) (l : Language) (terms : Terms) (t : List Answer) (bytes : List ℕ) (closing : Closing) →
-    next_after l terms t ≡ Some (Ends closing) → Runs turns l terms t bytes (ended closing t bytes)
+pub runs_end : (turns : Turns) (l : Language) (terms : Terms) (events : List Event) (bytes : List ℕ) (closing : Closing) →
+    next_on l terms events ≡ Some (Ends closing) → Runs turns l terms events bytes (ended closing events bytes)
 unfolding ran
-runs_end turns l terms t bytes closing due = record {
+runs_end turns l terms events bytes closing due = record {
   count = 1;
-  is = ap (next_on (λ p. turned_on (ran turns l terms 0) t p (turns l (length t + 1) p bytes)) t bytes) due;
+  is = ap (put_on (λ p. turned_on (ran turns l terms 0) events p (turns l (number_on l events) p bytes)) events bytes) due;
 }
 
 -- ---- each run comes to an end
@@ -77,8 +81,9 @@ IsReached l plan t = (state : State) × (state_after l plan t ≡ At state)
 pub record RunLaws : Type 0 where
   pub places : QuestionsHavePlaces
   pub more : OneAnswerMore
-  pub most : AnswersAreAtMost
-  pub lawful : (l : Language) (budget : ℕ) (t : List Answer) (network : List Candidate) (q : Assignment) → IsLanguage l → next_query l network (kept l t network) budget ≡ Ask q → IsLawfulExample l (kept l t network) network q
+  pub values : QuestionsHaveValues
+  pub lawful : (l : Language) (plan : Plan) (budget : ℕ) (t : List Answer) (network : List Candidate) (end : Option WalkEnd) (q : Assignment) → IsLanguage l → state_after l plan t ≡ At (Idle network end) →
+      next_query l network (kept l t network) budget ≡ Ask q → IsLawfulExample l (kept l t network) network q
 
 -- what comes next is put, so its answer has a place
 puts_is : (closing : Closing) (o : Option Assignment) (q : Assignment) → puts_or closing o ≡ Puts q → o ≡ Some q
@@ -91,14 +96,14 @@ searched_is AllImplied q h = cc
 searched_is Undecided q h = cc
 
 idle_place : RunLaws → (l : Language) → IsLanguage l → (plan : Plan) (budget : ℕ) (t : List Answer) (network : List Candidate) (end : Option WalkEnd) (q : Assignment) (reply : Bool) →
-    idle_next l plan budget (kept l t network) network ≡ Puts q → (next : State) × (step l plan t (answer q reply) (Idle network end) ≡ Some next)
-idle_place laws l lawful Scopes budget t network end q reply h = laws.places.scoped l t network end q reply (puts_is Converged _ q h)
-idle_place laws l lawful Quacq budget t network end q reply h = laws.places.put l Quacq t network end q reply (laws.lawful l budget t network q lawful (searched_is _ q h)).quacq
-idle_place laws l lawful Multi budget t network end q reply h = laws.places.put l Multi t network end q reply (laws.lawful l budget t network q lawful (searched_is _ q h)).multi
+    state_after l plan t ≡ At (Idle network end) → idle_next l plan budget (kept l t network) network ≡ Puts q → (next : State) × (step l plan t (answer q reply) (Idle network end) ≡ Some next)
+idle_place laws l lawful Scopes budget t network end q reply at h = laws.places.scoped l t network end q reply (puts_is Converged _ q h)
+idle_place laws l lawful Quacq budget t network end q reply at h = laws.places.put l Quacq t network end q reply (laws.lawful l Quacq budget t network end q lawful at (searched_is _ q h)).quacq
+idle_place laws l lawful Multi budget t network end q reply at h = laws.places.put l Multi t network end q reply (laws.lawful l Multi budget t network end q lawful at (searched_is _ q h)).multi
 
 pub step_at : RunLaws → (l : Language) → IsLanguage l → (terms : Terms) (t : List Answer) (state : State) (q : Assignment) (reply : Bool) →
     state_after l terms.plan t ≡ At state → next_at l terms t state ≡ Puts q → (next : State) × (step l terms.plan t (answer q reply) state ≡ Some next)
-step_at laws l lawful terms t (Idle network end) q reply at h = idle_place laws l lawful terms.plan terms.budget t network end q reply h
+step_at laws l lawful terms t (Idle network end) q reply at h = idle_place laws l lawful terms.plan terms.budget t network end q reply at h
 step_at laws l lawful terms t (Halving e set replies network walk) q reply at h = laws.places.opened l terms.plan t (Halving e set replies network walk) q reply (puts_is Collapsed _ q h)
 step_at laws l lawful terms t (Choosing s choices network walk) q reply at h = laws.places.opened l terms.plan t (Choosing s choices network walk) q reply (puts_is Collapsed _ q h)
 step_at laws l lawful terms t (Walking set walk network) q reply at h = laws.places.opened l terms.plan t (Walking set walk network) q reply (puts_is Collapsed _ q h)
@@ -114,62 +119,143 @@ pub placed : RunLaws → (l : Language) → IsLanguage l → (terms : Terms) (t 
 placed laws l lawful terms t q reply (state, at) h =
     place_at laws l lawful terms t state q reply at (let e : Some (next_at l terms t state) ≡ Some (Puts q) = sym (ap (next_in l terms t) at) ∙ h in let same : next_at l terms t state ≡ Puts q = cc in same)
 
--- a run from these answers and bytes, which only adds answers
-pub record HasRun (turns : Turns) (l : Language) (terms : Terms) (t : List Answer) (bytes : List ℕ) : Type 0 where
+-- ---- a question that comes next
+
+-- it has as many options as the language has variables
+idle_sized : RunLaws → (l : Language) → IsLanguage l → (plan : Plan) (budget : ℕ) (t : List Answer) (network : List Candidate) (end : Option WalkEnd) (q : Assignment) →
+    state_after l plan t ≡ At (Idle network end) → idle_next l plan budget (kept l t network) network ≡ Puts q → length q ≡ variable_count l
+idle_sized laws l lawful Scopes budget t network end q at h = (laws.values.scoped l t network q lawful (puts_is Converged _ q h)).fits.size
+idle_sized laws l lawful Quacq budget t network end q at h = (laws.lawful l Quacq budget t network end q lawful at (searched_is _ q h)).fits.size
+idle_sized laws l lawful Multi budget t network end q at h = (laws.lawful l Multi budget t network end q lawful at (searched_is _ q h)).fits.size
+
+sized_at : RunLaws → (l : Language) → IsLanguage l → (terms : Terms) (t : List Answer) (state : State) (q : Assignment) → state_after l terms.plan t ≡ At state → next_at l terms t state ≡ Puts q → length q ≡ variable_count l
+sized_at laws l lawful terms t (Idle network end) q at h = idle_sized laws l lawful terms.plan terms.budget t network end q at h
+sized_at laws l lawful terms t (Halving e set replies network walk) q at h = (laws.values.opened l terms.plan t (Halving e set replies network walk) q lawful at (puts_is Collapsed _ q h)).fits.size
+sized_at laws l lawful terms t (Choosing s choices network walk) q at h = (laws.values.opened l terms.plan t (Choosing s choices network walk) q lawful at (puts_is Collapsed _ q h)).fits.size
+sized_at laws l lawful terms t (Walking set walk network) q at h = (laws.values.opened l terms.plan t (Walking set walk network) q lawful at (puts_is Collapsed _ q h)).fits.size
+sized_at laws l lawful terms t (Over network) q at h = cc
+
+-- events whose answers have places, and fewer than a journal takes
+pub record IsWithin (l : Language) (plan : Plan) (events : List Event) : Type 0 where
+  pub reached : IsReached l plan (standing_on l events)
+  pub few : length events < 1000000
+
+-- where a question comes next, the journal isn't full
+pub record PutsNext (l : Language) (terms : Terms) (events : List Event) (q : Assignment) : Type 0 where
+  pub due : next_after l terms (standing_on l events) ≡ Some (Puts q)
+  pub room : is_full events ≡ false
+
+pub puts_next : (l : Language) (terms : Terms) (events : List Event) (q : Assignment) → next_on l terms events ≡ Some (Puts q) → PutsNext l terms events q
+puts_next l terms events q h = go (next_after l terms (standing_on l events)) (is_full events) refl refl h
+  where
+    go : (o : Option Next) (full : Bool) → next_after l terms (standing_on l events) ≡ o → is_full events ≡ full → option_map (unless_full full) o ≡ Some (Puts q) → PutsNext l terms events q
+    go None full next is e = absurd (let no : ⊥ = cc in no)
+    go (Some (Ends closing)) full next is e = absurd (let no : ⊥ = cc in no)
+    go (Some (Puts p)) true next is e = absurd (let no : ⊥ = cc in no)
+    go (Some (Puts p)) false next is e = record { due = next ∙ e; room = is }
+
+-- a question that is due is put where there is room, and else the run ends
+pub next_put : (l : Language) (terms : Terms) (events : List Event) (q : Assignment) → next_after l terms (standing_on l events) ≡ Some (Puts q) → is_full events ≡ false → next_on l terms events ≡ Some (Puts q)
+next_put l terms events q due room = ap (option_map (unless_full (is_full events))) due ∙ ap (λ b. Some (unless_full b (Puts q))) room
+
+pub next_full : (l : Language) (terms : Terms) (events : List Event) (q : Assignment) → next_after l terms (standing_on l events) ≡ Some (Puts q) → length events + 1 ≡ 1000000 → next_on l terms events ≡ Some (Ends JournalFull)
+next_full l terms events q due full = ap (option_map (unless_full (is_full events))) due ∙ ap (λ b. Some (unless_full b (Puts q))) (eq-eqb (length events + 1) 1000000 full)
+
+pub next_ends : (l : Language) (terms : Terms) (events : List Event) (closing : Closing) → next_after l terms (standing_on l events) ≡ Some (Ends closing) → next_on l terms events ≡ Some (Ends closing)
+next_ends l terms events closing due = ap (option_map (unless_full (is_full events))) due
+
+-- whether there is room, by the number of events
+pub room_not_full : (events : List Event) → length events + 1 < 1000000 → is_full events ≡ false
+room_not_full events room = go (is_full events) refl
+  where
+    go : (b : Bool) → is_full events ≡ b → is_full events ≡ false
+    go false is = is
+    go true is = absurd (let same : length events + 1 ≡ 1000000 = eqb-true (length events + 1) 1000000 is in omega (arith, same, room))
+
+pub not_full_room : (events : List Event) → length events < 1000000 → is_full events ≡ false → length events + 1 < 1000000
+not_full_room events few room = go (length events) few (λ e. absurd (let bad : true ≡ false = sym (eq-eqb (length events + 1) 1000000 e) ∙ room in let no : ⊥ = cc in no))
+  where
+    go : (n : ℕ) → n < 1000000 → (n + 1 ≡ 1000000 → ⊥) → n + 1 < 1000000
+    go n low other = ⊎_elim (λ less. less) (λ more. absurd (other (omega (arith, low, more)))) (cases_lt (n + 1) 1000000)
+
+-- an event more leads to where its answer does
+pub within_on : RunLaws → (l : Language) → IsLanguage l → (terms : Terms) (events : List Event) (q : Assignment) (reply : Bool) →
+    IsWithin l terms.plan events → next_on l terms events ≡ Some (Puts q) → IsWithin l terms.plan (events ++ answer_event q reply ∷ [])
+within_on laws l lawful terms events q reply within next =
+    let puts = puts_next l terms events q next in
+    let Reached : List Answer → Type 0 = IsReached l terms.plan in
+    let state = within.reached.0 in
+    let e : Some (next_at l terms (standing_on l events) state) ≡ Some (Puts q) = sym (ap (next_in l terms (standing_on l events)) within.reached.1) ∙ puts.due in
+    let here : next_at l terms (standing_on l events) state ≡ Puts q = cc in
+    let size : length q ≡ variable_count l = sized_at laws l lawful terms (standing_on l events) state q within.reached.1 here in
+    let room : length events + 1 < 1000000 = not_full_room events within.few puts.room in
+    record {
+      reached = subst Reached (sym (cut_to-standing-push (variable_count l) events q reply size)) (placed laws l lawful terms (standing_on l events) q reply within.reached puts.due);
+      few = omega (arith, room, length-append events (answer_event q reply ∷ []));
+    }
+
+-- ---- a run from some events
+
+-- a run from these events and bytes, which only adds events
+pub record HasRun (turns : Turns) (l : Language) (terms : Terms) (events : List Event) (bytes : List ℕ) : Type 0 where
   pub run : Ran
-  pub runs : Runs turns l terms t bytes run
-  pub later : List Answer
-  pub extends : run.answers ≡ t ++ later
+  pub runs : Runs turns l terms events bytes run
+  pub later : List Event
+  pub extends : run.events ≡ events ++ later
 
 -- a run whose text begins with that of this question's turn
-pub record HasTurn (turns : Turns) (l : Language) (terms : Terms) (t : List Answer) (bytes : List ℕ) (q : Assignment) : Type 0 where
-  pub has : HasRun turns l terms t bytes
+pub record HasTurn (turns : Turns) (l : Language) (terms : Terms) (events : List Event) (bytes : List ℕ) (q : Assignment) : Type 0 where
+  pub has : HasRun turns l terms events bytes
   pub more : List ℕ
-  pub begins : has.run.text ≡ (turns l (length t + 1) q bytes).text ++ more
+  pub begins : has.run.text ≡ (turns l (number_on l events) q bytes).text ++ more
 
-turn_closed : (turns : Turns) (l : Language) (terms : Terms) (t : List Answer) (bytes : List ℕ) (q : Assignment) (reply : Reply) (closing : Closing) → next_after l terms t ≡ Some (Puts q) →
-    (turns l (length t + 1) q bytes).heard.reply ≡ reply → EndsSo reply closing t q → HasTurn turns l terms t bytes q
-turn_closed turns l terms t bytes q reply closing due heard closes = record {
-  has = record { run = _; runs = runs_closed turns l terms t bytes q reply closing due heard closes; later = []; extends = sym (append-nil t) };
+turn_closed : (turns : Turns) (l : Language) (terms : Terms) (events : List Event) (bytes : List ℕ) (q : Assignment) (reply : Reply) (closing : Closing) → next_on l terms events ≡ Some (Puts q) →
+    (turns l (number_on l events) q bytes).heard.reply ≡ reply → EndsSo reply closing events q → HasTurn turns l terms events bytes q
+turn_closed turns l terms events bytes q reply closing due heard closes = record {
+  has = record { run = _; runs = runs_closed turns l terms events bytes q reply closing due heard closes; later = []; extends = sym (append-nil events) };
   more = [];
   begins = refl;
 }
 
 -- a turn, by what was heard
-turn_heard : (turns : Turns) (l : Language) (terms : Terms) (t : List Answer) (bytes : List ℕ) (q : Assignment) → next_after l terms t ≡ Some (Puts q) →
-    (reply : Reply) → (turns l (length t + 1) q bytes).heard.reply ≡ reply →
-    ((said : Bool) (rest : List ℕ) → HasRun turns l terms (t ++ answer q said ∷ []) rest) → HasTurn turns l terms t bytes q
-turn_heard turns l terms t bytes q due (Said said) heard next =
-    let later = next said (turns l (length t + 1) q bytes).heard.rest in
+turn_heard : (turns : Turns) (l : Language) (terms : Terms) (events : List Event) (bytes : List ℕ) (q : Assignment) → next_on l terms events ≡ Some (Puts q) →
+    (reply : Reply) → (turns l (number_on l events) q bytes).heard.reply ≡ reply →
+    ((said : Bool) (rest : List ℕ) → HasRun turns l terms (events ++ answer_event q said ∷ []) rest) → HasTurn turns l terms events bytes q
+turn_heard turns l terms events bytes q due (Said said) heard next =
+    let later = next said (turns l (number_on l events) q bytes).heard.rest in
     record {
-      has = record { run = _; runs = runs_said turns l terms t bytes q said later.run due heard later.runs; later = answer q said ∷ later.later; extends = later.extends ∙ append_assoc t (answer q said ∷ []) later.later };
+      has = record { run = _; runs = runs_said turns l terms events bytes q said later.run due heard later.runs; later = answer_event q said ∷ later.later; extends = later.extends ∙ append_assoc events (answer_event q said ∷ []) later.later };
       more = later.run.text;
       begins = refl;
     }
-turn_heard turns l terms t bytes q due Stopped heard next = turn_closed turns l terms t bytes q Stopped Suspended due heard (λ again rest. refl)
-turn_heard turns l terms t bytes q due Ended heard next = turn_closed turns l terms t bytes q Ended Suspended due heard (λ again rest. refl)
-turn_heard turns l terms t bytes q due Overlong heard next = turn_closed turns l terms t bytes q Overlong LineTooLong due heard (λ again rest. refl)
-turn_heard turns l terms t bytes q due Unread heard next = turn_closed turns l terms t bytes q Unread Unreadable due heard (λ again rest. refl)
+turn_heard turns l terms events bytes q due Stopped heard next = turn_closed turns l terms events bytes q Stopped Suspended due heard (λ again rest. refl)
+turn_heard turns l terms events bytes q due Ended heard next = turn_closed turns l terms events bytes q Ended Suspended due heard (λ again rest. refl)
+turn_heard turns l terms events bytes q due Overlong heard next = turn_closed turns l terms events bytes q Overlong LineTooLong due heard (λ again rest. refl)
+turn_heard turns l terms events bytes q due Unread heard next = turn_closed turns l terms events bytes q Unread Unreadable due heard (λ again rest. refl)
 
-run_next : (turns : Turns) (l : Language) (terms : Terms) (t : List Answer) (bytes : List ℕ) (next : Next) → next_after l terms t ≡ Some next →
-    ((q : Assignment) → next_after l terms t ≡ Some (Puts q) → HasTurn turns l terms t bytes q) → HasRun turns l terms t bytes
-run_next turns l terms t bytes (Puts q) due go = (go q due).has
-run_next turns l terms t bytes (Ends closing) due go = record { run = _; runs = runs_end turns l terms t bytes closing due; later = []; extends = sym (append-nil t) }
+run_next : (turns : Turns) (l : Language) (terms : Terms) (events : List Event) (bytes : List ℕ) (next : Next) → next_on l terms events ≡ Some next →
+    ((q : Assignment) → next_on l terms events ≡ Some (Puts q) → HasTurn turns l terms events bytes q) → HasRun turns l terms events bytes
+run_next turns l terms events bytes (Puts q) due go = (go q due).has
+run_next turns l terms events bytes (Ends closing) due go = record { run = _; runs = runs_end turns l terms events bytes closing due; later = []; extends = sym (append-nil events) }
 
-run_from : RunLaws → (turns : Turns) (l : Language) (terms : Terms) → IsLanguage l → (left : ℕ) (t : List Answer) (bytes : List ℕ) → IsReached l terms.plan t → most_answers l < length t + left → HasRun turns l terms t bytes
-run_from laws turns l terms lawful zero t bytes (state, at) above = absurd (let most = laws.most l terms.plan t state lawful at in omega arith)
-run_from laws turns l terms lawful (suc left) t bytes (state, at) above =
-    run_next turns l terms t bytes (next_at l terms t state) (ap (next_in l terms t) at)
-    (λ q due. turn_heard turns l terms t bytes q due (turns l (length t + 1) q bytes).heard.reply refl
-    (λ said rest. run_from laws turns l terms lawful left (t ++ answer q said ∷ []) rest (placed laws l lawful terms t q said (state, at) due)
-    (omega (arith, length-append t (answer q said ∷ [])))))
+-- by the records that are left
+run_from : RunLaws → (turns : Turns) (l : Language) (terms : Terms) → IsLanguage l → (left : ℕ) (events : List Event) (bytes : List ℕ) → IsWithin l terms.plan events → 1000000 ≤ length events + left → HasRun turns l terms events bytes
+run_from laws turns l terms lawful zero events bytes within above = absurd (let few = within.few in omega (arith, few, above))
+run_from laws turns l terms lawful (suc left) events bytes within above =
+    let t : List Answer = standing_on l events in
+    let next : Next = unless_full (is_full events) (next_at l terms t within.reached.0) in
+    let is : next_on l terms events ≡ Some next = ap (λ r. option_map (unless_full (is_full events)) (next_in l terms t r)) within.reached.1 in
+    run_next turns l terms events bytes next is
+    (λ q due. turn_heard turns l terms events bytes q due (turns l (number_on l events) q bytes).heard.reply refl
+    (λ said rest. run_from laws turns l terms lawful left (events ++ answer_event q said ∷ []) rest (within_on laws l lawful terms events q said within due)
+    (omega (arith, above, length-append events (answer_event q said ∷ [])))))
 
--- from answers that have a place there is a run, whatever the bytes
-pub run_exists : RunLaws → (turns : Turns) (l : Language) (terms : Terms) → IsLanguage l → (t : List Answer) (bytes : List ℕ) → IsReached l terms.plan t → HasRun turns l terms t bytes
-run_exists laws turns l terms lawful t bytes reached = run_from laws turns l terms lawful (most_answers l + 1) t bytes reached (omega arith)
+-- there is a run, whatever the bytes
+pub run_exists : RunLaws → (turns : Turns) (l : Language) (terms : Terms) → IsLanguage l → (events : List Event) (bytes : List ℕ) → IsWithin l terms.plan events → HasRun turns l terms events bytes
+run_exists laws turns l terms lawful events bytes within = run_from laws turns l terms lawful 1000000 events bytes within (omega arith)
 
 -- where a question comes next there is one that begins with its turn
-pub turn_exists : RunLaws → (turns : Turns) (l : Language) (terms : Terms) → IsLanguage l → (t : List Answer) (bytes : List ℕ) (q : Assignment) → IsReached l terms.plan t → next_after l terms t ≡ Some (Puts q) → HasTurn turns l terms t bytes q
-turn_exists laws turns l terms lawful t bytes q reached due =
-    turn_heard turns l terms t bytes q due (turns l (length t + 1) q bytes).heard.reply refl
-    (λ said rest. run_exists laws turns l terms lawful (t ++ answer q said ∷ []) rest (placed laws l lawful terms t q said reached due))
+pub turn_exists : RunLaws → (turns : Turns) (l : Language) (terms : Terms) → IsLanguage l → (events : List Event) (bytes : List ℕ) (q : Assignment) → IsWithin l terms.plan events → next_on l terms events ≡ Some (Puts q) → HasTurn turns l terms events bytes q
+turn_exists laws turns l terms lawful events bytes q within due =
+    turn_heard turns l terms events bytes q due (turns l (number_on l events) q bytes).heard.reply refl
+    (λ said rest. run_exists laws turns l terms lawful (events ++ answer_event q said ∷ []) rest (within_on laws l lawful terms events q said within due))

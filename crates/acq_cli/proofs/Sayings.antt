@@ -11,12 +11,12 @@ use Rattle.session_laws.specs.Walk.{WalkEnd}
 use Rattle.session_laws.specs.Session.{Idle, At, state_after}
 use Rattle.session_core.specs.declared.session.Session.{Session}
 use Rattle.session_core.specs.Standing.{Stands, knowledge_of}
-use Rattle.acq_cli.specs.Driven.{TellsOpen}
+use Rattle.acq_cli.specs.Driven.{HasEnded, TellsOpen}
 use Rattle.acq_cli.specs.Points.{terms_with}
 use Rattle.acq_cli.specs.declared.driving.Drove.{Drove}
 use Rattle.acq_cli.specs.declared.driving.Drove.TheVariants as drove
 use Rattle.acq_cli.specs.declared.ending.Ending.TheVariants as ending
-use Rattle.acq_cli.specs.Endings.{HasEnded, Says, SaysPart}
+use Rattle.acq_cli.specs.Endings.{Says, SaysPart}
 use Rattle.acq_cli.specs.Texts.{collapsed_text, converged_text, suspended_text, undecided_text, open_candidates, learned_in, learned_after}
 use Rattle.acq_cli.proofs.Nexts.{learned_is}
 use Rattle.acq_cli.proofs.OpenCandidates.{opens_are}
@@ -28,7 +28,7 @@ says_collapsed l plan budget t written written' m end is ended adds = subst Says
     SaysOf e = Says l (terms_with plan budget) t written written' e (ending.Collapsed m)
 
     told : HasEnded l (terms_with plan budget) t (drove.Collapsed m) → SaysOf (drove.Collapsed m)
-    told done = (refl, subst (Adds written written') (ap collapsed_text done.0) adds)
+    told done = (refl, subst (Adds written written') (ap collapsed_text done.number) adds)
 
 module _ (session : Session) (l : Language) (plan : Plan) (budget : ℕ) (t : List Answer) (written written' : Option (List ℕ)) (m : ℕ) (end : Drove) where
   -- the network that the answers lead to is the session's
@@ -46,8 +46,8 @@ module _ (session : Session) (l : Language) (plan : Plan) (budget : ℕ) (t : Li
   says_converged is ended stands lang planned adds =
       let P : Drove → Type 0 = λ e. Says l (terms_with plan budget) t written written' e (ending.Converged m) in
       let done = subst (HasEnded l (terms_with plan budget) t) is ended in
-      let net = learned stands lang planned done.1.network done.1.end done.1.idle in
-      subst P (sym is) (refl, subst (Adds written written') (λ i. converged_text (lang i) (net i) (done.0 i)) adds)
+      let net = learned stands lang planned done.found.network done.found.end done.found.idle in
+      subst P (sym is) (refl, subst (Adds written written') (λ i. converged_text (lang i) (net i) (done.number i)) adds)
 
   pub says_undecided : (screen : Remembered) → end ≡ drove.Undecided m → HasEnded l (terms_with plan budget) t end → TellsOpen l (terms_with plan budget) t screen →
       Stands session t → (knowledge_of session).lang ≡ l → (knowledge_of session).plan ≡ plan →
@@ -56,14 +56,14 @@ module _ (session : Session) (l : Language) (plan : Plan) (budget : ℕ) (t : Li
   says_undecided screen is ended tells stands lang planned adds =
       let P : Drove → Type 0 = λ e. Says l (terms_with plan budget) t written written' e (ending.Undecided m) in
       let done = subst (HasEnded l (terms_with plan budget) t) is ended in
-      let net = learned stands lang planned done.1.network done.1.end done.1.idle in
+      let net = learned stands lang planned done.found.network done.found.end done.found.idle in
       let opens : filter (is_open l screen) (candidates l) ≡ open_candidates l (terms_with plan budget) t (learned_after l (terms_with plan budget) t) =
-      opens_are l (terms_with plan budget) t done.1.network done.1.end screen done.1.idle tells ∙ ap (open_candidates l (terms_with plan budget) t) (sym (ap learned_in done.1.idle)) in
+      opens_are l (terms_with plan budget) t done.found.network done.found.end screen done.found.idle tells ∙ ap (open_candidates l (terms_with plan budget) t) (sym (ap learned_in done.found.idle)) in
       subst P (sym is) (
         refl,
         subst (Adds written written')
             (ap (λ x. undecided_text x (knowledge_of session).network.list (filter (is_open x screen) (candidates x)) m) lang
-            ∙ (λ i. undecided_text l (net i) (opens i) (done.0 i))) adds,
+            ∙ (λ i. undecided_text l (net i) (opens i) (done.number i))) adds,
       )
 
   pub part_converged : end ≡ drove.Converged m → HasEnded l (terms_with plan budget) t end → Stands session t → (knowledge_of session).lang ≡ l → (knowledge_of session).plan ≡ plan →
@@ -72,8 +72,8 @@ module _ (session : Session) (l : Language) (plan : Plan) (budget : ℕ) (t : Li
   part_converged is ended stands lang planned adds =
       let P : Drove → Type 0 = SaysPart l (terms_with plan budget) t written written' in
       let done = subst (HasEnded l (terms_with plan budget) t) is ended in
-      let net = learned stands lang planned done.1.network done.1.end done.1.idle in
-      subst P (sym is) (subst (AddsFront written written') (λ i. converged_text (lang i) (net i) (done.0 i)) adds)
+      let net = learned stands lang planned done.found.network done.found.end done.found.idle in
+      subst P (sym is) (subst (AddsFront written written') (λ i. converged_text (lang i) (net i) (done.number i)) adds)
 
   pub part_undecided : (screen : Remembered) → end ≡ drove.Undecided m → HasEnded l (terms_with plan budget) t end → TellsOpen l (terms_with plan budget) t screen →
       Stands session t → (knowledge_of session).lang ≡ l → (knowledge_of session).plan ≡ plan →
@@ -82,10 +82,10 @@ module _ (session : Session) (l : Language) (plan : Plan) (budget : ℕ) (t : Li
   part_undecided screen is ended tells stands lang planned adds =
       let P : Drove → Type 0 = SaysPart l (terms_with plan budget) t written written' in
       let done = subst (HasEnded l (terms_with plan budget) t) is ended in
-      let net = learned stands lang planned done.1.network done.1.end done.1.idle in
+      let net = learned stands lang planned done.found.network done.found.end done.found.idle in
       let opens : filter (is_open l screen) (candidates l) ≡ open_candidates l (terms_with plan budget) t (learned_after l (terms_with plan budget) t) =
-      opens_are l (terms_with plan budget) t done.1.network done.1.end screen done.1.idle tells ∙ ap (open_candidates l (terms_with plan budget) t) (sym (ap learned_in done.1.idle)) in
+      opens_are l (terms_with plan budget) t done.found.network done.found.end screen done.found.idle tells ∙ ap (open_candidates l (terms_with plan budget) t) (sym (ap learned_in done.found.idle)) in
       subst P (sym is)
       (subst (AddsFront written written')
       (ap (λ x. undecided_text x (knowledge_of session).network.list (filter (is_open x screen) (candidates x)) m) lang
-      ∙ (λ i. undecided_text l (net i) (opens i) (done.0 i))) adds)
+      ∙ (λ i. undecided_text l (net i) (opens i) (done.number i))) adds)

@@ -1,15 +1,17 @@
 -- Sessions that stand where answers lead, and what follows of them.
-use Rattle.std.proofs.Common.{Some, None, ◌≡◌, ℕ, ◌+◌, ◌≤◌, ◌<◌, ◌^◌, List, ◌∷◌, [], ◌++◌, refl, length, ap, sym, ◌∙◌, subst, arith}
+use Rattle.std.proofs.Common.{Some, None, ⊎_elim, Bool, true, false, IsTrue, ◌≡◌, ℕ, ◌+◌, ◌≤◌, ◌<◌, ◌^◌, List, ◌∷◌, [], ◌++◌, refl, length, ap, sym, ◌∙◌, subst, arith}
+use Rattle.std.proofs.lemmas.Bool.{cases_lt}
 use Rattle.assign.specs.Events.{Answer}
 use Rattle.assign.specs.declared.events.Plan.{Plan}
 use Rattle.language.specs.declared.candidates.Candidate.{Candidate}
-use Rattle.language.specs.Language.{Language, IsLanguage}
+use Rattle.language.specs.Language.{Language, IsLanguage, variable_count}
 use Rattle.query_gen.specs.Marks.{Remembered, MarksHold}
 use Rattle.session_laws.specs.Session.{State, Reading, Stray, At, state_after}
 use Rattle.session_laws.specs.Laws.{network_in, Extends}
 use Rattle.session_laws.proofs.Folds.{one_answer_more}
 use Rattle.session_laws.proofs.Places.{questions_have_places}
 use Rattle.session_laws.proofs.Counted.{answers_are_at_most}
+use Rattle.session_laws.proofs.Askable.{questions_have_values}
 use Rattle.session_laws.proofs.Growing.{network_grows}
 use Rattle.session_laws.proofs.Limits.{answers_fit}
 use Rattle.session_core.specs.declared.session.Session.{Session}
@@ -21,15 +23,16 @@ use Rattle.session_core.specs.Standing.{Stands, PutAfter, knowledge_of}
 use Rattle.acq_cli.specs.declared.terms.Terms.{Terms}
 use Rattle.assign.specs.declared.events.Event.{Event}
 use Rattle.language.specs.Answers.{standing_on}
-use Rattle.session_store.proofs.Replaying.{standing_count}
+use Rattle.session_store.proofs.Replaying.{standing_count, standing_more}
+use Rattle.session_store.specs.Replay.{seen}
 use Rattle.acq_cli.specs.Run.{Next, next_in, next_after}
 use Rattle.acq_cli.specs.Due.{IsOneMore}
 use Rattle.acq_cli.specs.Driven.{Remembers}
 use Rattle.acq_cli.proofs.Questions.{asked_is_example, marks_stay, same_state}
-use Rattle.acq_cli.proofs.Running.{IsReached, RunLaws}
+use Rattle.acq_cli.proofs.Running.{IsReached, IsWithin, RunLaws}
 
 pub run_laws : RunLaws
-run_laws = record { places = questions_have_places; more = one_answer_more; most = answers_are_at_most; lawful = asked_is_example }
+run_laws = record { places = questions_have_places; more = one_answer_more; values = questions_have_values; lawful = asked_is_example }
 
 -- ---- the state of a session, with its network
 
@@ -123,10 +126,19 @@ due_reached l terms t n due = go (state_after l terms.plan t) refl
     go (At state) at = (state, at)
 
 -- marks stay true over a turn
-pub marks_after : (l m : Language) (terms : Terms) (events same later : List Event) (screen : Remembered) → m ≡ l → same ≡ events → IsReached l terms.plan (standing_on l events) →
-    IsOneMore (standing_on m same) (standing_on m later) → Remembers l terms (standing_on l events) screen → Remembers l terms (standing_on l later) screen
-marks_after l m terms events same later screen lang record_is reached one remembers =
-    let grown : standing_on l later ≡ standing_on l events ++ one.more ∷ [] =
-    ap (λ x. standing_on x later) (sym lang) ∙ one.is ∙ ap (λ x. standing_on x same ++ one.more ∷ []) lang ∙ ap (λ es. standing_on l es ++ one.more ∷ []) record_is in
+pub marks_after : (l : Language) (terms : Terms) (events same later : List Event) (screen : Remembered) → same ≡ events → IsReached l terms.plan (standing_on l events) →
+    IsOneMore same later → Remembers l terms (standing_on l events) screen → Remembers l terms (standing_on l later) screen
+marks_after l terms events same later screen record_is reached one remembers =
+    let next : Answer = seen (variable_count l) one.more in
+    let grown : standing_on l later ≡ standing_on l events ++ next ∷ [] =
+    ap (standing_on l) (one.is ∙ ap (λ (es : List Event). es ++ one.more ∷ []) record_is) ∙ standing_more l events one.more in
     let P : List Answer → Type 0 = λ ts. Remembers l terms ts screen in
-    subst P (sym grown) (marks_on l terms (standing_on l events) one.more screen reached remembers)
+    subst P (sym grown) (marks_on l terms (standing_on l events) next screen reached remembers)
+
+-- the events of a sound keeper, whose answers a session stands for
+pub within : (l : Language) (plan : Plan) (m : Language) (events : List Event) (count : ℕ) → AtTurn l plan (standing_on l events) count m → length events < 1000000 → IsWithin l plan events
+within l plan m events count at few = record { reached = at.reached; few = few }
+
+-- where a keeper isn't full, there is room for one more event
+pub room_unless : (n : ℕ) (full : Bool) → n < 1000000 → (n + 1 ≡ 1000000 → IsTrue full) → full ≡ false → n + 1 < 1000000
+room_unless n full few tells room = ⊎_elim (λ less. less) (λ more. absurd (let bad : true ≡ false = sym (tells (omega (arith, few, more))) ∙ room in let no : ⊥ = cc in no)) (cases_lt (n + 1) 1000000)

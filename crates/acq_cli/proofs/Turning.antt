@@ -1,17 +1,20 @@
 -- What the loop has done after a turn, and after many.
-use Rattle.std.proofs.Common.{◌≡◌, ℕ, ◌+◌, List, [], ◌∷◌, ◌++◌, Bool, length, ap, sym, ◌∙◌, refl, Option, Some, subst, append_assoc}
+use Rattle.std.proofs.Common.{◌≡◌, ℕ, List, [], ◌∷◌, ◌++◌, Bool, ap, sym, ◌∙◌, refl, Option, Some, None, subst, append_assoc}
+use Rattle.std.specs.Prelude.{IfSome}
 use Rattle.std.proofs.lemmas.List.{append-nil}
 use Rattle.assign.specs.Assignment.{Assignment}
-use Rattle.assign.specs.Events.{Answer}
+use Rattle.assign.specs.declared.events.Event.{Event}
 use Rattle.language.specs.Language.{Language, IsLanguage, IsQuestion}
+use Rattle.language.specs.Answers.{standing_on}
+use Rattle.session_store.specs.Kept.{answer_event}
 use Rattle.target_oracle.specs.Turns.{Turns, Reply, Said}
 use Rattle.target_oracle.specs.Tells.{Turn, Front}
-use Rattle.acq_cli.specs.Run.{Closing, Converged, Collapsed, Undecided, Suspended, LineTooLong, Unreadable, Runs, Next, Puts, Ends, next_after, after_text, answer, ended}
+use Rattle.acq_cli.specs.Closings.{closing_of}
+use Rattle.acq_cli.specs.Run.{Closing, Runs, Next, Puts, Ends, next_after, next_on, number_on, after_text, ended}
 use Rattle.acq_cli.specs.declared.terms.Terms.{Terms}
 use Rattle.acq_cli.specs.Driven.{Point, StepsTo, RanTo, CutOff, StopsAt, next_lines, Loses, Drives}
 use Rattle.acq_cli.specs.declared.driving.Drove.{Drove}
-use Rattle.acq_cli.specs.declared.driving.Drove.TheVariants as drove
-use Rattle.acq_cli.proofs.Running.{text_after, runs_said, EndsSo, runs_closed, runs_end, IsReached, RunLaws, turn_exists}
+use Rattle.acq_cli.proofs.Running.{text_after, runs_said, EndsSo, runs_closed, runs_end, IsWithin, PutsNext, puts_next, RunLaws, turn_exists}
 
 pub some_text : (x y : List ℕ) → x ≡ y → (let a : Option (List ℕ) = Some x in a) ≡ Some y
 some_text x y e = ap (λ (t : List ℕ). let a : Option (List ℕ) = Some t in a) e
@@ -36,7 +39,7 @@ steps_on turns l terms a b c first second bytes before left written =
       done = f.done ++ s.done;
       left = s.left;
       written = s.written ∙ some_text _ _ (append_assoc before f.done s.done);
-      begins = λ run runs. subst (Runs turns l terms a.answers bytes) (text_after f.done s.done run) (f.begins (after_text s.done run) (s.begins run runs));
+      begins = λ run runs. subst (Runs turns l terms a.events bytes) (text_after f.done s.done run) (f.begins (after_text s.done run) (s.begins run runs));
     }
 
 steps_ran : (turns : Turns) (l : Language) (terms : Terms) (closing : Closing) (a b c : Point) → StepsTo turns l terms a b → RanTo turns l terms closing b c → RanTo turns l terms closing a c
@@ -47,7 +50,7 @@ steps_ran turns l terms closing a b c first second bytes before left written =
       run = after_text f.done s.run;
       runs = f.begins s.run s.runs;
       closing = s.closing;
-      answers = s.answers;
+      events = s.events;
       left = s.left;
       written = s.written ∙ some_text _ _ (append_assoc before f.done s.run.text);
     }
@@ -66,11 +69,11 @@ steps_cut turns l terms a b c first second bytes before left written =
         put = s.text.put ∙ some_text _ _ (append_assoc before f.done s.text.front);
       };
       later = s.later;
-      answers = s.answers;
+      events = s.events;
       stops = record {
         rest = s.stops.rest;
         done = f.done ++ s.stops.done;
-        begins = λ run runs. subst (Runs turns l terms a.answers bytes) (text_after f.done s.stops.done run) (f.begins (after_text s.stops.done run) (s.stops.begins run runs));
+        begins = λ run runs. subst (Runs turns l terms a.events bytes) (text_after f.done s.stops.done run) (f.begins (after_text s.stops.done run) (s.stops.begins run runs));
         text = record {
           front = s.stops.text.front;
           back = s.stops.text.back;
@@ -87,29 +90,28 @@ steps_loses turns l terms a b c question reply first second = record {
   told = λ bytes before left written.
       let f = first bytes before left written in
       let s = second.told f.rest (before ++ f.done) f.left f.written in
-      let text = (turns l (length c.answers + 1) question s.rest).text in
+      let text = (turns l (number_on l c.events) question s.rest).text in
       record {
         rest = s.rest;
         done = f.done ++ s.done;
-        begins = λ run runs. subst (Runs turns l terms a.answers bytes) (text_after f.done s.done run) (f.begins (after_text s.done run) (s.begins run runs));
+        begins = λ run runs. subst (Runs turns l terms a.events bytes) (text_after f.done s.done run) (f.begins (after_text s.done run) (s.begins run runs));
         heard = s.heard;
         left = s.left;
         written = s.written ∙ some_text _ _ (append_assoc before f.done (s.done ++ text) ∙ ap (λ x. before ++ x) (sym (append_assoc f.done s.done text)));
       };
 }
 
+closed_after : (turns : Turns) (l : Language) (terms : Terms) (a b c : Point) (o : Option Closing) → StepsTo turns l terms a b → IfSome o (λ closing. RanTo turns l terms closing b c) → IfSome o (λ closing. RanTo turns l terms closing a c)
+closed_after turns l terms a b c None steps ran = tt
+closed_after turns l terms a b c (Some closing) steps ran = steps_ran turns l terms closing a b c steps ran
+
 pub steps_end : (turns : Turns) (l : Language) (terms : Terms) (a b c : Point) (end : Drove) → StepsTo turns l terms a b → Drives turns l terms b c end → Drives turns l terms a c end
-steps_end turns l terms a b c (drove.Converged m) steps e = (e.0, e.1, steps_ran turns l terms Converged a b c steps e.2)
-steps_end turns l terms a b c (drove.Collapsed m) steps e = (e.0, e.1, steps_ran turns l terms Collapsed a b c steps e.2)
-steps_end turns l terms a b c (drove.Undecided m) steps e = (e.0, e.1, steps_ran turns l terms Undecided a b c steps e.2)
-steps_end turns l terms a b c (drove.Suspended m) steps e = (e.0, steps_ran turns l terms Suspended a b c steps e.1)
-steps_end turns l terms a b c drove.LineTooLong steps e = steps_ran turns l terms LineTooLong a b c steps e
-steps_end turns l terms a b c drove.Unreadable steps e = steps_ran turns l terms Unreadable a b c steps e
-steps_end turns l terms a b c drove.ReadFault steps e = steps_cut turns l terms a b c steps e
-steps_end turns l terms a b c drove.WriteFault steps e = steps_cut turns l terms a b c steps e
-steps_end turns l terms a b c drove.DiskFault steps e = (steps_cut turns l terms a b c steps e.0, (e.1.0, e.1.1, steps_loses turns l terms a b c e.1.0 e.1.1 steps e.1.2))
-steps_end turns l terms a b c drove.JournalFull steps e = absurd e
-steps_end turns l terms a b c drove.Memory steps e = steps_cut turns l terms a b c steps e
+steps_end turns l terms a b c end steps e = record {
+  says = e.says;
+  closed = closed_after turns l terms a b c (closing_of end) steps e.closed;
+  broken = λ none. steps_cut turns l terms a b c steps (e.broken none);
+  unkept = λ failed. let u = e.unkept failed in (u.0, u.1, steps_loses turns l terms a b c u.0 u.1 steps u.2);
+}
 
 -- ---- one turn
 
@@ -128,48 +130,48 @@ front_of_turn turns l k q a b reply told bytes before left written =
     record { front = (turns l k q bytes).text; back = []; parts = sym (append-nil (turns l k q bytes).text); put = t.text }
 
 -- nothing is put
-pub ran_end : (turns : Turns) (l : Language) (terms : Terms) (closing : Closing) (a : Point) → next_after l terms a.answers ≡ Some (Ends closing) → RanTo turns l terms closing a a
+pub ran_end : (turns : Turns) (l : Language) (terms : Terms) (closing : Closing) (a : Point) → next_on l terms a.events ≡ Some (Ends closing) → RanTo turns l terms closing a a
 ran_end turns l terms closing a due bytes before left written = record {
-  run = ended closing a.answers bytes;
-  runs = runs_end turns l terms a.answers bytes closing due;
+  run = ended closing a.events bytes;
+  runs = runs_end turns l terms a.events bytes closing due;
   closing = refl;
-  answers = refl;
+  events = refl;
   left = left;
   written = written ∙ some_text _ _ (sym (append-nil before));
 }
 
-pub step_said : (turns : Turns) (l : Language) (terms : Terms) (q : Assignment) (said : Bool) (a b : Point) → next_after l terms a.answers ≡ Some (Puts q) →
-    b.answers ≡ a.answers ++ answer q said ∷ [] → ToldSo turns l (length a.answers + 1) q a b (Said said) → StepsTo turns l terms a b
+pub step_said : (turns : Turns) (l : Language) (terms : Terms) (q : Assignment) (said : Bool) (a b : Point) → next_on l terms a.events ≡ Some (Puts q) →
+    b.events ≡ a.events ++ answer_event q said ∷ [] → ToldSo turns l (number_on l a.events) q a b (Said said) → StepsTo turns l terms a b
 step_said turns l terms q said a b due added told bytes before left written =
     let t = told bytes before left written in
-    let turned = turns l (length a.answers + 1) q bytes in
+    let turned = turns l (number_on l a.events) q bytes in
     record {
       rest = turned.heard.rest;
       done = turned.text;
       left = t.rest;
       written = t.text;
-      begins = λ run runs. runs_said turns l terms a.answers bytes q said run due t.heard (let P : List Answer → Type 0 = λ xs. Runs turns l terms xs turned.heard.rest run in subst P added runs);
+      begins = λ run runs. runs_said turns l terms a.events bytes q said run due t.heard (let P : List Event → Type 0 = λ xs. Runs turns l terms xs turned.heard.rest run in subst P added runs);
     }
 
-pub ran_closed : (turns : Turns) (l : Language) (terms : Terms) (q : Assignment) (reply : Reply) (closing : Closing) (a b : Point) → next_after l terms a.answers ≡ Some (Puts q) → b.answers ≡ a.answers →
-    EndsSo reply closing a.answers q → ToldSo turns l (length a.answers + 1) q a b reply → RanTo turns l terms closing a b
+pub ran_closed : (turns : Turns) (l : Language) (terms : Terms) (q : Assignment) (reply : Reply) (closing : Closing) (a b : Point) → next_on l terms a.events ≡ Some (Puts q) → b.events ≡ a.events →
+    EndsSo reply closing a.events q → ToldSo turns l (number_on l a.events) q a b reply → RanTo turns l terms closing a b
 ran_closed turns l terms q reply closing a b due same closes told bytes before left written =
     let t = told bytes before left written in
     record {
       run = _;
-      runs = runs_closed turns l terms a.answers bytes q reply closing due t.heard closes;
+      runs = runs_closed turns l terms a.events bytes q reply closing due t.heard closes;
       closing = refl;
-      answers = sym same;
+      events = sym same;
       left = t.rest;
       written = t.text ∙ some_text _ _ (ap (λ x. before ++ x) (sym (append-nil _)));
     }
 
 -- a turn that was cut off
-pub cut_turn : RunLaws → (turns : Turns) (l : Language) (terms : Terms) → IsLanguage l → (q : Assignment) (a b : Point) → IsReached l terms.plan a.answers → next_after l terms a.answers ≡ Some (Puts q) →
-    b.answers ≡ a.answers → FrontSo turns l (length a.answers + 1) q a b → CutOff turns l terms a b
-cut_turn laws turns l terms lawful q a b reached due same told bytes before left written =
+pub cut_turn : RunLaws → (turns : Turns) (l : Language) (terms : Terms) → IsLanguage l → (q : Assignment) (a b : Point) → IsWithin l terms.plan a.events → next_on l terms a.events ≡ Some (Puts q) →
+    b.events ≡ a.events → FrontSo turns l (number_on l a.events) q a b → CutOff turns l terms a b
+cut_turn laws turns l terms lawful q a b within due same told bytes before left written =
     let f = told bytes before left written in
-    let turn = turn_exists laws turns l terms lawful a.answers bytes q reached due in
+    let turn = turn_exists laws turns l terms lawful a.events bytes q within due in
     record {
       run = turn.has.run;
       runs = turn.has.runs;
@@ -180,10 +182,10 @@ cut_turn laws turns l terms lawful q a b reached due same told bytes before left
         put = f.put;
       };
       later = turn.has.later;
-      answers = turn.has.extends ∙ ap (λ x. x ++ turn.has.later) (sym same);
+      events = turn.has.extends ∙ ap (λ x. x ++ turn.has.later) (sym same);
       stops =
-          let Stops : List Answer → Type 0 = λ x. StopsAt turns l terms a.answers x bytes before b.written in
-          let Lines : Option Next → Type 0 = λ n. Front (next_lines turns l a.answers bytes n) (before ++ []) b.written in
+          let Stops : List Event → Type 0 = λ x. StopsAt turns l terms a.events x bytes before b.written in
+          let Lines : Option Next → Type 0 = λ n. Front (next_lines turns l a.events bytes n) (before ++ []) b.written in
           subst Stops (sym same) (record {
             rest = bytes;
             done = [];
@@ -193,20 +195,20 @@ cut_turn laws turns l terms lawful q a b reached due same told bytes before left
     }
 
 -- a turn whose answer wasn't kept
-pub lost_turn : (turns : Turns) (l : Language) (terms : Terms) (q : Assignment) (said : Bool) (a b : Point) → next_after l terms a.answers ≡ Some (Puts q) → IsQuestion l q → b.answers ≡ a.answers →
-    ToldSo turns l (length a.answers + 1) q a b (Said said) → Loses turns l terms a b q said
+pub lost_turn : (turns : Turns) (l : Language) (terms : Terms) (q : Assignment) (said : Bool) (a b : Point) → next_on l terms a.events ≡ Some (Puts q) → IsQuestion l q → b.events ≡ a.events →
+    ToldSo turns l (number_on l a.events) q a b (Said said) → Loses turns l terms a b q said
 lost_turn turns l terms q said a b due fits same told =
-    let Due : List Answer → Type 0 = λ x. next_after l terms x ≡ Some (Puts q) in
+    let Due : List Event → Type 0 = λ x. next_after l terms (standing_on l x) ≡ Some (Puts q) in
     record {
-      puts = subst Due (sym same) due;
+      puts = subst Due (sym same) (puts_next l terms a.events q due).due;
       fits = fits;
       told = λ bytes before left written.
-          let Number : List Answer → Type 0 = λ x. Turn (turns l (length x + 1) q bytes) before b.left b.written (Said said) in
-          let here : Number b.answers = subst Number (sym same) (told bytes before left written) in
+          let Number : List Event → Type 0 = λ x. Turn (turns l (number_on l x) q bytes) before b.left b.written (Said said) in
+          let here : Number b.events = subst Number (sym same) (told bytes before left written) in
           record {
             rest = bytes;
             done = [];
-            begins = λ run runs. let P : List Answer → Type 0 = λ xs. Runs turns l terms xs bytes run in subst P same runs;
+            begins = λ run runs. let P : List Event → Type 0 = λ xs. Runs turns l terms xs bytes run in subst P same runs;
             heard = here.heard;
             left = here.rest;
             written = here.text;

@@ -1,12 +1,15 @@
 -- What the loop has done, by how it ended.
-use Rattle.std.specs.Prelude.{◌≡◌, ◌≢◌, ℕ, ◌+◌, Bool, List, [], ◌++◌, length, ◌&&◌, Option, Some, None}
+use Rattle.std.specs.Prelude.{◌≡◌, ◌≢◌, ◌<◌, ℕ, Bool, IsTrue, List, [], ◌++◌, length, All, ◌&&◌, Option, Some, None, IfSome}
 use Rattle.assign.specs.Assignment.{Assignment}
 use Rattle.assign.specs.Events.{Answer}
+use Rattle.assign.specs.declared.events.Event.{Event}
 use Rattle.assign.specs.declared.events.Plan.{Plan}
 use Rattle.assign.specs.declared.events.Plan.TheVariants.{Scopes, Quacq, Multi}
 use Rattle.language.specs.declared.candidates.Candidate.{Candidate}
-use Rattle.language.specs.Language.{Language, HasSameSolutions, IsCandidate, IsQuestion}
-use Rattle.language.specs.Answers.{IsNetwork, IsCovered, IsConverged, NoneAgrees, kept}
+use Rattle.language.specs.Language.{Language, HasSameSolutions, IsCandidate, IsImplied, IsQuestion}
+use Rattle.language.specs.Answers.{IsNetwork, IsCovered, IsConverged, NoneAgrees, kept, standing_on}
+use Rattle.language.specs.Search.{plain_size}
+use Rattle.fd_solver.specs.declared.outcome.Outcome.TheVariants.{Spent}
 use Rattle.fd_solver.specs.Outcomes.{outcome_of_candidate}
 use Rattle.query_gen.specs.Questions.{is_among, is_spent}
 use Rattle.query_gen.specs.Marks.{Remembered, MarksHold, is_open}
@@ -16,14 +19,16 @@ use Rattle.session_laws.specs.Walk.{WalkEnd, Ended}
 use Rattle.session_laws.specs.Laws.{IsWalked, network_in}
 use Rattle.target_oracle.specs.Turns.{Turns, Said}
 use Rattle.target_oracle.specs.Tells.{Front}
-use Rattle.acq_cli.specs.Run.{Closing, Converged, Collapsed, Undecided, Suspended, LineTooLong, Unreadable, Next, Puts, Ends, next_after, Ran, Runs, after_text}
+use Rattle.acq_cli.specs.Closings.{closing_of, number_of}
+use Rattle.acq_cli.specs.Run.{Closing, Converged, Collapsed, Undecided, Next, Puts, Ends, next_after, next_on, number_on, Ran, Runs, after_text}
+use Rattle.acq_cli.specs.Texts.{open_candidates}
 use Rattle.acq_cli.specs.declared.terms.Terms.{Terms}
 use Rattle.acq_cli.specs.declared.driving.Drove.{Drove}
 use Rattle.acq_cli.specs.declared.driving.Drove.TheVariants as drove
 
--- the answers that stand, what a source has left and what a sink has, where they tell
+-- the events, what a source has left and what a sink has, where they tell
 pub record Point : Type 0 where
-  pub answers : List Answer
+  pub events : List Event
   pub left : Option (List ℕ)
   pub written : Option (List ℕ)
 
@@ -33,63 +38,63 @@ pub record IsBegun (turns : Turns) (l : Language) (terms : Terms) (bytes before 
   pub done : List ℕ
   pub left : new.left ≡ Some rest
   pub written : new.written ≡ Some (before ++ done)
-  pub begins : (run : Ran) → Runs turns l terms new.answers rest run → Runs turns l terms old.answers bytes (after_text done run)
+  pub begins : (run : Ran) → Runs turns l terms new.events rest run → Runs turns l terms old.events bytes (after_text done run)
 
 -- where source and sink tell
 abbrev pub StepsTo : Turns → Language → Terms → Point → Point → Type 0
 StepsTo turns l terms old new = (bytes before : List ℕ) → old.left ≡ Some bytes → old.written ≡ Some before → IsBegun turns l terms bytes before old new
 
--- the run with this closing is what was written and left, and its answers stand
+-- the run with this closing is what was written and left, and its events are there
 pub record IsRun (turns : Turns) (l : Language) (terms : Terms) (bytes before : List ℕ) (end : Closing) (old new : Point) : Type 0 where
   pub run : Ran
-  pub runs : Runs turns l terms old.answers bytes run
+  pub runs : Runs turns l terms old.events bytes run
   pub closing : run.closing ≡ end
-  pub answers : run.answers ≡ new.answers
+  pub events : run.events ≡ new.events
   pub left : new.left ≡ Some run.rest
   pub written : new.written ≡ Some (before ++ run.text)
 
 abbrev pub RanTo : Turns → Language → Terms → Closing → Point → Point → Type 0
 RanTo turns l terms closing old new = (bytes before : List ℕ) → old.left ≡ Some bytes → old.written ≡ Some before → IsRun turns l terms bytes before closing old new
 
--- the lines of what comes next after these answers, where that is a question
-abbrev pub next_lines : Turns → Language → List Answer → List ℕ → Option Next → List ℕ
-next_lines turns l t bytes None = []
-next_lines turns l t bytes (Some (Ends closing)) = []
-next_lines turns l t bytes (Some (Puts q)) = (turns l (length t + 1) q bytes).text
+-- the lines of what comes next after these events, where that is a question
+abbrev pub next_lines : Turns → Language → List Event → List ℕ → Option Next → List ℕ
+next_lines turns l events bytes None = []
+next_lines turns l events bytes (Some (Ends closing)) = []
+next_lines turns l events bytes (Some (Puts q)) = (turns l (number_on l events) q bytes).text
 
--- What was written goes no further than the lines of the question that comes after these answers. So no answer is missing behind
+-- What was written goes no further than the lines of the question that comes after these events. So no event is missing behind
 -- whose lines something was written.
-pub record StopsAt (turns : Turns) (l : Language) (terms : Terms) (start answers : List Answer) (bytes before : List ℕ) (written : Option (List ℕ)) : Type 0 where
+pub record StopsAt (turns : Turns) (l : Language) (terms : Terms) (start events : List Event) (bytes before : List ℕ) (written : Option (List ℕ)) : Type 0 where
   pub rest : List ℕ
   pub done : List ℕ
-  pub begins : (run : Ran) → Runs turns l terms answers rest run → Runs turns l terms start bytes (after_text done run)
-  pub text : Front (next_lines turns l answers rest (next_after l terms answers)) (before ++ done) written
+  pub begins : (run : Ran) → Runs turns l terms events rest run → Runs turns l terms start bytes (after_text done run)
+  pub text : Front (next_lines turns l events rest (next_on l terms events)) (before ++ done) written
 
--- What was written is a front of the run's text, and the answers are a front of its answers, with each behind whose lines
+-- What was written is a front of the run's text, and the events are a front of its events, with each behind whose lines
 -- something was written.
 pub record IsCut (turns : Turns) (l : Language) (terms : Terms) (bytes before : List ℕ) (old new : Point) : Type 0 where
   pub run : Ran
-  pub runs : Runs turns l terms old.answers bytes run
+  pub runs : Runs turns l terms old.events bytes run
   pub text : Front run.text before new.written
-  pub later : List Answer
-  pub answers : run.answers ≡ new.answers ++ later
-  pub stops : StopsAt turns l terms old.answers new.answers bytes before new.written
+  pub later : List Event
+  pub events : run.events ≡ new.events ++ later
+  pub stops : StopsAt turns l terms old.events new.events bytes before new.written
 
 abbrev pub CutOff : Turns → Language → Terms → Point → Point → Type 0
 CutOff turns l terms old new = (bytes before : List ℕ) → old.left ≡ Some bytes → old.written ≡ Some before → IsCut turns l terms bytes before old new
 
--- This question was put: its lines were written, and this reply was heard, which doesn't stand.
+-- This question was put: its lines were written, and this reply was heard, whose event isn't there.
 pub record IsUnkept (turns : Turns) (l : Language) (terms : Terms) (question : Assignment) (reply : Bool) (bytes before : List ℕ) (old new : Point) : Type 0 where
   pub rest : List ℕ
   pub done : List ℕ
-  pub begins : (run : Ran) → Runs turns l terms new.answers rest run → Runs turns l terms old.answers bytes (after_text done run)
-  pub heard : (turns l (length new.answers + 1) question rest).heard.reply ≡ Said reply
-  pub left : new.left ≡ Some (turns l (length new.answers + 1) question rest).heard.rest
-  pub written : new.written ≡ Some (before ++ (done ++ (turns l (length new.answers + 1) question rest).text))
+  pub begins : (run : Ran) → Runs turns l terms new.events rest run → Runs turns l terms old.events bytes (after_text done run)
+  pub heard : (turns l (number_on l new.events) question rest).heard.reply ≡ Said reply
+  pub left : new.left ≡ Some (turns l (number_on l new.events) question rest).heard.rest
+  pub written : new.written ≡ Some (before ++ (done ++ (turns l (number_on l new.events) question rest).text))
 
 -- This reply to the question that comes next was lost.
 pub record Loses (turns : Turns) (l : Language) (terms : Terms) (old new : Point) (question : Assignment) (reply : Bool) : Type 0 where
-  pub puts : next_after l terms new.answers ≡ Some (Puts question)
+  pub puts : next_after l terms (standing_on l new.events) ≡ Some (Puts question)
   pub fits : IsQuestion l question
   -- where source and sink tell
   pub told : (bytes before : List ℕ) → old.left ≡ Some bytes → old.written ≡ Some before → IsUnkept turns l terms question reply bytes before old new
@@ -123,27 +128,40 @@ pub record IsLeftOpen (l : Language) (terms : Terms) (t : List Answer) : Type 0 
   pub lawful : IsNetwork l network
   pub undecided : IsUndecided l network (kept l t network) terms.budget
   pub plan : terms.plan ≢ Scopes
+  -- some candidate is listed
+  pub some : open_candidates l terms t network ≢ []
+  -- each that is listed is kept, and its search has more steps than the budget
+  pub each : All (λ c. IsTrue (is_among (kept l t network) c) × (terms.budget < plain_size l network c)) (open_candidates l terms t network)
+  -- each other that is kept is implied
+  pub rest : All (λ c. (outcome_of_candidate l network c terms.budget ≢ Spent) → IsImplied l network c) (kept l t network)
+
+-- what a run that closes so has found of the answers that stand
+abbrev pub HasFound : Language → Terms → List Answer → Closing → Type 0
+HasFound l terms t Converged = IsDone l terms t
+HasFound l terms t Collapsed = IsCollapsed l terms t
+HasFound l terms t Undecided = IsLeftOpen l terms t
+HasFound l terms t closing = Unit {0}
+
+-- The number that is told is that of the answers that stand, and what is said of these is true.
+pub record HasEnded (l : Language) (terms : Terms) (t : List Answer) (how : Drove) : Type 0 where
+  pub number : IfSome (number_of how) (λ m. m ≡ length t)
+  pub found : IfSome (closing_of how) (HasFound l terms t)
 
 -- The loop ends so only in this way.
-abbrev pub Drives : Turns → Language → Terms → Point → Point → Drove → Type 0
-Drives turns l terms old new (drove.Converged m) = (m ≡ length new.answers) × IsDone l terms new.answers × RanTo turns l terms Converged old new
-Drives turns l terms old new (drove.Collapsed m) = (m ≡ length new.answers) × IsCollapsed l terms new.answers × RanTo turns l terms Collapsed old new
-Drives turns l terms old new (drove.Undecided m) = (m ≡ length new.answers) × IsLeftOpen l terms new.answers × RanTo turns l terms Undecided old new
-Drives turns l terms old new (drove.Suspended m) = (m ≡ length new.answers) × RanTo turns l terms Suspended old new
-Drives turns l terms old new drove.LineTooLong = RanTo turns l terms LineTooLong old new
-Drives turns l terms old new drove.Unreadable = RanTo turns l terms Unreadable old new
-Drives turns l terms old new drove.ReadFault = CutOff turns l terms old new
-Drives turns l terms old new drove.WriteFault = CutOff turns l terms old new
--- what was written ends with the lines of the question whose answer wasn't kept
-Drives turns l terms old new drove.DiskFault = CutOff turns l terms old new × UnkeptTo turns l terms old new
-Drives turns l terms old new drove.JournalFull = ⊥
-Drives turns l terms old new drove.Memory = CutOff turns l terms old new
+pub record Drives (turns : Turns) (l : Language) (terms : Terms) (old new : Point) (how : Drove) : Type 0 where
+  pub says : HasEnded l terms (standing_on l new.events) how
+  -- the run that is closed so is what was written and left
+  pub closed : IfSome (closing_of how) (λ closing. RanTo turns l terms closing old new)
+  -- where something failed, a front of a run was written
+  pub broken : closing_of how ≡ None → CutOff turns l terms old new
+  -- where the disk failed, what was written ends with the lines of the question whose answer wasn't kept
+  pub unkept : how ≡ drove.DiskFault → UnkeptTo turns l terms old new
 
 -- what comes of it where this network gave each answer: no collapse, and what was learned has exactly its solutions
-abbrev pub IsOwned : Language → Terms → List Candidate → List Answer → Drove → Type 0
-IsOwned l terms owner t (drove.Converged m) = (network : List Candidate) × (end : Option WalkEnd) × (state_after l terms.plan t ≡ At (Idle network end)) × HasSameSolutions l owner network
-IsOwned l terms owner t (drove.Collapsed m) = ⊥
-IsOwned l terms owner t how = Unit {0}
+abbrev pub IsOwned : Language → Terms → List Candidate → List Answer → Closing → Type 0
+IsOwned l terms owner t Converged = (network : List Candidate) × (end : Option WalkEnd) × (state_after l terms.plan t ≡ At (Idle network end)) × HasSameSolutions l owner network
+IsOwned l terms owner t Collapsed = ⊥
+IsOwned l terms owner t closing = Unit {0}
 
 -- how the walk of an example ended that the last answer ended; other plans walk none
 abbrev pub last_walk : Language → Plan → List Answer → Option WalkEnd

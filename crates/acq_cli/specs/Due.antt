@@ -7,7 +7,7 @@ use Rattle.language.specs.Language.{Language, IsQuestion}
 use Rattle.session_store.specs.Kept.{IsLawfulAfter, answer_event}
 use Rattle.session_store.specs.declared.fault.SFault.{SFault}
 use Rattle.session_store.specs.declared.fault.SFault.TheVariants as store
-use Rattle.acq_cli.specs.Run.{Puts, Ends, Collapsed, next_after, answer}
+use Rattle.acq_cli.specs.Run.{Puts, Ends, Collapsed, next_after}
 use Rattle.acq_cli.specs.Driven.{IsDone, IsCollapsed, IsLeftOpen}
 use Rattle.acq_cli.specs.declared.terms.Terms.{Terms}
 use Rattle.acq_cli.specs.declared.driving.Drove.{Drove}
@@ -44,9 +44,9 @@ PutIs l terms t put next.Converged = NoneIsDue l terms t next.Converged
 PutIs l terms t put next.Collapsed = NoneIsDue l terms t next.Collapsed
 PutIs l terms t put next.Undecided = NoneIsDue l terms t next.Undecided
 
--- the same answers and one more
-pub record IsOneMore (old new : List Answer) : Type 0 where
-  pub more : Answer
+-- the same events and one more
+pub record IsOneMore (old new : List Event) : Type 0 where
+  pub more : Event
   pub is : new ≡ old ++ more ∷ []
 
 -- how the loop ends where an answer couldn't be kept
@@ -56,12 +56,7 @@ ended_by (store.Journal fault) = drove.DiskFault
 ended_by (store.Voc fault) = drove.DiskFault
 ended_by (store.Stray number) = drove.DiskFault
 
--- the answer to the question that is put was added, or there was no memory for it, or the disk failed
-abbrev pub AnswerKept : Bool → Option Assignment → List Answer → List Answer → Option Drove → Type 0
-AnswerKept said put old new None = (q : Assignment) → put ≡ Some q → new ≡ old ++ answer q said ∷ []
-AnswerKept said put old new (Some end) = ((end ≡ drove.Memory) ⊎ (end ≡ drove.DiskFault)) × (new ≡ old)
-
--- its event was added, or none was
+-- the event of the answer to the question that is put was added, or there was no memory for it, or the disk failed
 abbrev pub EventKept : Bool → Option Assignment → List Event → List Event → Option Drove → Type 0
 EventKept said put old new None = (q : Assignment) → put ≡ Some q → new ≡ old ++ answer_event q said ∷ []
-EventKept said put old new (Some end) = new ≡ old
+EventKept said put old new (Some end) = ((end ≡ drove.Memory) ⊎ (end ≡ drove.DiskFault)) × (new ≡ old)

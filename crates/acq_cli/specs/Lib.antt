@@ -1,4 +1,5 @@
 pub mod Run
+pub mod Closings
 pub mod Driven
 pub mod Added
 pub mod Due
@@ -16,3 +17,5 @@ pub mod Making
 pub mod Running
 pub mod Showing
 pub mod Exactly
+pub mod Playing
+pub mod Commands

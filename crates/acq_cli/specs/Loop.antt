@@ -1,5 +1,5 @@
 -- What a turn and the loop begin with, how they go on and end, and what stays the same.
-use Rattle.std.specs.Prelude.{◌≡◌, ◌≤◌, ℕ, IsTrue, Bool, List, Option, Some}
+use Rattle.std.specs.Prelude.{◌≡◌, ◌≢◌, ◌≤◌, ◌<◌, ◌+◌, ℕ, IsTrue, Bool, List, length, Option, Some}
 use Rattle.acq_io.specs.Streams.{Rose}
 use Rattle.acq_words.specs.Request.{IsBudget}
 use Rattle.assign.specs.Assignment.{Assignment}
@@ -7,9 +7,13 @@ use Rattle.assign.specs.Events.{Answer}
 use Rattle.assign.specs.declared.events.Event.{Event}
 use Rattle.assign.specs.declared.events.Plan.{Plan}
 use Rattle.language.specs.Language.{Language}
+use Rattle.language.specs.Answers.{standing_on}
+use Rattle.query_gen.specs.declared.place.Place.{Place}
 use Rattle.query_gen.specs.Marks.{Remembered, IsMadeFor, HasNoMarks}
+use Rattle.par_screen.specs.Eighths.{AreMadeFor}
 use Rattle.session_core.specs.Settled.{IsSettled}
 use Rattle.target_oracle.specs.Turns.{Turns}
+use Rattle.target_oracle.specs.declared.teacher.Told.{Told}
 use Rattle.acq_cli.specs.Driven.{Point, StepsTo, Drives, Remembers, TellsOpen}
 use Rattle.acq_cli.specs.Due.{IsDue, IsOneMore}
 use Rattle.acq_cli.specs.Points.{terms_with}
@@ -22,45 +26,54 @@ pub record CountsFaults (before now : ℕ) (told : Type 0) : Type 0 where
   pub later : before ≤ now
   pub rose : told → Rose before now
 
+-- so do the counts of input and output, for their faults
+pub record CountsBoth (input input_now output output_now : ℕ) (read_told write_told : Type 0) : Type 0 where
+  pub read : CountsFaults input input_now read_told
+  pub write : CountsFaults output output_now write_told
+
 -- ---- what is begun with
 
--- What a turn begins with, after these answers and with this question put: none is put where nothing is open, and the screen's
--- marks are made for the language and true.
-pub record IsReady (l : Language) (terms : Terms) (t : List Answer) (put : Option Assignment) (marks : Remembered) : Type 0 where
+-- What a turn begins with, after these answers and with this question put: none is put where nothing is open, places and screen
+-- are made for the language, and the screen's marks are true.
+pub record IsReady (l : Language) (terms : Terms) (t : List Answer) (put : Option Assignment) (places : List Place) (marks : Remembered) : Type 0 where
   pub settled : IsSettled l terms.plan t put
+  pub equipped : AreMadeFor l places
   pub made : IsMadeFor l marks
   pub hold : Remembers l terms t marks
   pub affordable : IsBudget terms.budget
 
 -- what the loop begins with: the same, and no marks
-pub record IsAtStart (l : Language) (terms : Terms) (t : List Answer) (put : Option Assignment) (marks : Remembered) : Type 0 where
+pub record IsAtStart (l : Language) (terms : Terms) (t : List Answer) (put : Option Assignment) (places : List Place) (marks : Remembered) : Type 0 where
   pub settled : IsSettled l terms.plan t put
+  pub equipped : AreMadeFor l places
   pub made : IsMadeFor l marks
   pub unmarked : HasNoMarks marks
   pub affordable : IsBudget terms.budget
 
--- this question is put, and it comes next
-pub record IsPutNext (l : Language) (plan : Plan) (t : List Answer) (put : Option Assignment) (q : Assignment) : Type 0 where
+-- this question is put, it comes next after these events, and there is a record for its answer
+pub record IsPutNext (l : Language) (plan : Plan) (events : List Event) (put : Option Assignment) (q : Assignment) : Type 0 where
   pub is : put ≡ Some q
   pub budget : ℕ
-  pub due : IsDue l (terms_with plan budget) t q
+  pub due : IsDue l (terms_with plan budget) (standing_on l events) q
+  pub room : length events + 1 < 1000000
 
 -- ---- how it goes on and ends
 
--- A turn has gone on: its text and what it left begin each run from here, and one answer more stands.
+-- A turn has gone on: its text and what it left begin each run from here, and there is one event more.
 pub record HasTurned (turns : Turns) (l : Language) (terms : Terms) (old new : Point) : Type 0 where
   pub steps : StepsTo turns l terms old new
-  pub one_more : IsOneMore old.answers new.answers
+  pub one_more : IsOneMore old.events new.events
 
 -- The screen is made for the language, and where it is undecided it tells the open candidates.
 pub record TellsCandidates (l : Language) (terms : Terms) (t : List Answer) (marks : Remembered) (how : Drove) : Type 0 where
   pub made : IsMadeFor l marks
   pub undecided : (m : ℕ) → how ≡ drove.Undecided m → TellsOpen l terms t marks
 
--- The loop has ended so: what it says is true, and so is what the screen tells.
+-- The loop has ended so: what it says is true, and so is what the screen tells. No session takes as many answers as a journal.
 pub record EndsAs (turns : Turns) (l : Language) (terms : Terms) (old new : Point) (marks : Remembered) (how : Drove) : Type 0 where
   pub ends : Drives turns l terms old new how
-  pub tells : TellsCandidates l terms new.answers marks how
+  pub tells : TellsCandidates l terms (standing_on l new.events) marks how
+  pub never_full : how ≢ drove.JournalFull
 
 -- ---- what stays the same
 
@@ -92,8 +105,10 @@ module _ {K : Type 0} (lang_of : K → Language) (plan_of : K → Plan) (is_soun
     pub sound : is_sound new
 
 -- the meanings of a teacher
-module _ {T : Type 0} (turns_of : T → Turns) (fits_of : T → Language → Type 0) where
+module _ {T : Type 0} (turns_of : T → Turns) (fits_of : T → Language → Type 0) (may_of : T → Language → Assignment → Told → Type 0) where
   -- it teaches as before
   pub record TeachesOn (old new : T) : Type 0 where
     pub turn : turns_of new ≡ turns_of old
     pub fits : (l : Language) → fits_of old l → fits_of new l
+    -- what it may say now it might have said before
+    pub no_more : (l : Language) (q : Assignment) (told : Told) → may_of new l q told → may_of old l q told

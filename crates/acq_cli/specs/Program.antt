@@ -36,3 +36,5 @@ status_of ending.WriteFault = 9
 status_of ending.DiskFault = 10
 status_of ending.Memory = 11
 status_of ending.JournalFull = 12
+status_of (ending.NotFresh m) = 13
+status_of (ending.TargetRefused fault) = 14

@@ -1,17 +1,19 @@
--- What a run writes, how it ends, which answers stand after it, and what it leaves.
-use Rattle.std.specs.Prelude.{◌≡◌, ℕ, zero, suc, ◌+◌, List, [], ◌∷◌, ◌++◌, length, Bool, Option, Some, None}
+-- What a run writes, how it ends, its events, and what it leaves.
+use Rattle.std.specs.Prelude.{◌≡◌, ◌==◌, ℕ, zero, suc, ◌+◌, List, [], ◌∷◌, ◌++◌, length, Bool, true, false, Option, Some, None}
 use Rattle.std.specs.Option.{option_map}
 use Rattle.assign.specs.Assignment.{Assignment}
 use Rattle.assign.specs.Events.{Answer}
+use Rattle.assign.specs.declared.events.Event.{Event}
 use Rattle.assign.specs.declared.events.Plan.{Plan}
 use Rattle.assign.specs.declared.events.Plan.TheVariants.{Scopes, Quacq, Multi}
 use Rattle.language.specs.declared.candidates.Candidate.{Candidate}
 use Rattle.language.specs.Language.{Language}
-use Rattle.language.specs.Answers.{kept}
+use Rattle.language.specs.Answers.{kept, standing_on}
 use Rattle.query_gen.specs.declared.query.Query.{Query}
 use Rattle.query_gen.specs.declared.query.Query.TheVariants as query
 use Rattle.query_gen.specs.Questions.{next_query}
 use Rattle.session_laws.specs.Session.{State, Idle, Halving, Choosing, Walking, Over, Reading, At, Stray, open_question, scope_question, state_after}
+use Rattle.session_store.specs.Kept.{answer_event}
 use Rattle.acq_cli.specs.declared.terms.Terms.{Terms}
 use Rattle.target_oracle.specs.Turns.{Turns, Turned, Reply, Said, Stopped, Ended, Overlong, Unread}
 
@@ -23,6 +25,8 @@ pub data Closing : Type 0 where
   Suspended : Closing
   LineTooLong : Closing
   Unreadable : Closing
+  -- a question is due, and no record is left for its answer
+  JournalFull : Closing
 
 -- what comes next in a run
 pub data Next : Type 0 where
@@ -61,11 +65,25 @@ next_in l terms t (At state) = Some (next_at l terms t state)
 abbrev pub next_after : Language → Terms → List Answer → Option Next
 next_after l terms t = next_in l terms t (state_after l terms.plan t)
 
--- what a run has written, how it ended, the answers that stand after it, and the bytes that it left
+-- a journal takes no further event: it has 1,000,000 records, that of the vocabulary and one for each event
+abbrev pub is_full : List Event → Bool
+is_full events = (length events + 1) == 1000000
+
+-- a question is put where there is a record for its answer
+abbrev pub unless_full : Bool → Next → Next
+unless_full full (Ends closing) = Ends closing
+unless_full true (Puts q) = Ends JournalFull
+unless_full false (Puts q) = Puts q
+
+-- what comes next after these events, by the answers that stand
+abbrev pub next_on : Language → Terms → List Event → Option Next
+next_on l terms events = option_map (unless_full (is_full events)) (next_after l terms (standing_on l events))
+
+-- what a run has written, how it ended, its events, and the bytes that it left
 pub record Ran : Type 0 where
   pub text : List ℕ
   pub closing : Closing
-  pub answers : List Answer
+  pub events : List Event
   pub rest : List ℕ
 
 abbrev pub after_text : List ℕ → Ran → Ran
@@ -74,32 +92,36 @@ after_text text run = record run { text = text ++ run.text }
 abbrev pub answer : Assignment → Bool → Answer
 answer q reply = record { question = q; yes = reply }
 
-abbrev pub ended : Closing → List Answer → List ℕ → Ran
-ended closing t rest = record { text = []; closing = closing; answers = t; rest = rest }
+abbrev pub ended : Closing → List Event → List ℕ → Ran
+ended closing events rest = record { text = []; closing = closing; events = events; rest = rest }
 
 -- how it goes on after what was heard
-abbrev pub heard_on : (List Answer → List ℕ → Option Ran) → List Answer → Assignment → List ℕ → Reply → Option Ran
-heard_on again t q rest (Said reply) = again (t ++ answer q reply ∷ []) rest
-heard_on again t q rest Stopped = Some (ended Suspended t rest)
-heard_on again t q rest Ended = Some (ended Suspended t rest)
-heard_on again t q rest Overlong = Some (ended LineTooLong t rest)
-heard_on again t q rest Unread = Some (ended Unreadable t rest)
+abbrev pub heard_on : (List Event → List ℕ → Option Ran) → List Event → Assignment → List ℕ → Reply → Option Ran
+heard_on again events q rest (Said reply) = again (events ++ answer_event q reply ∷ []) rest
+heard_on again events q rest Stopped = Some (ended Suspended events rest)
+heard_on again events q rest Ended = Some (ended Suspended events rest)
+heard_on again events q rest Overlong = Some (ended LineTooLong events rest)
+heard_on again events q rest Unread = Some (ended Unreadable events rest)
 
-abbrev pub turned_on : (List Answer → List ℕ → Option Ran) → List Answer → Assignment → Turned → Option Ran
-turned_on again t q turned = option_map (after_text turned.text) (heard_on again t q turned.heard.rest turned.heard.reply)
+abbrev pub turned_on : (List Event → List ℕ → Option Ran) → List Event → Assignment → Turned → Option Ran
+turned_on again events q turned = option_map (after_text turned.text) (heard_on again events q turned.heard.rest turned.heard.reply)
 
-abbrev pub next_on : (Assignment → Option Ran) → List Answer → List ℕ → Option Next → Option Ran
-next_on put t bytes None = None
-next_on put t bytes (Some (Ends closing)) = Some (ended closing t bytes)
-next_on put t bytes (Some (Puts q)) = put q
+abbrev pub put_on : (Assignment → Option Ran) → List Event → List ℕ → Option Next → Option Ran
+put_on put events bytes None = None
+put_on put events bytes (Some (Ends closing)) = Some (ended closing events bytes)
+put_on put events bytes (Some (Puts q)) = put q
 
--- The run of at most so many turns; none where it takes more. Question number m + 1 comes after m answers.
-unfoldable pub ran : Turns → Language → Terms → ℕ → List Answer → List ℕ → Option Ran
-ran turns l terms zero t bytes = None
-ran turns l terms (suc count) t bytes =
-    next_on (λ q. turned_on (ran turns l terms count) t q (turns l (length t + 1) q bytes)) t bytes (next_after l terms t)
+-- the number of the question that comes next: one more than the answers that stand
+abbrev pub number_on : Language → List Event → ℕ
+number_on l events = length (standing_on l events) + 1
+
+-- the run of at most so many turns; none where it takes more
+unfoldable pub ran : Turns → Language → Terms → ℕ → List Event → List ℕ → Option Ran
+ran turns l terms zero events bytes = None
+ran turns l terms (suc count) events bytes =
+    put_on (λ q. turned_on (ran turns l terms count) events q (turns l (number_on l events) q bytes)) events bytes (next_on l terms events)
 
 -- the run of some number of turns
-pub record Runs (turns : Turns) (l : Language) (terms : Terms) (t : List Answer) (bytes : List ℕ) (run : Ran) : Type 0 where
+pub record Runs (turns : Turns) (l : Language) (terms : Terms) (events : List Event) (bytes : List ℕ) (run : Ran) : Type 0 where
   pub count : ℕ
-  pub is : ran turns l terms count t bytes ≡ Some run
+  pub is : ran turns l terms count events bytes ≡ Some run

@@ -1,4 +1,4 @@
--- What `run` has done.
+-- What a run over a journal has done, and `run`.
 use Rattle.std.specs.Prelude.{◌≡◌, ◌⊎◌, ℕ, List, [], ◌∷◌, ◌++◌, Bool, Option, Result, Ok, IfOk, OnErr}
 use Rattle.std.specs.Option.{ForSome}
 use Rattle.acq_io.specs.declared.streams.Put.{Put}
@@ -7,12 +7,13 @@ use Rattle.assign.specs.declared.events.Event.{Event}
 use Rattle.assign.specs.declared.events.Plan.{Plan}
 use Rattle.disk_model.specs.Disk.{LeavesOnly}
 use Rattle.language.specs.Language.{Language}
-use Rattle.language.specs.Answers.{standing_on}
 use Rattle.session_store.specs.Kept.{answer_event}
 use Rattle.session_store.specs.Left.{OpensWith, OpensWithin, SaysSession, LeavesNow}
 use Rattle.session_store.specs.Replay.{HavePlaces}
 use Rattle.voc_read.specs.Vocabulary.{IsVocabulary}
 use Rattle.target_oracle.specs.Lines.{line_turn}
+use Rattle.target_oracle.specs.Turns.{Turns}
+use Rattle.target_oracle.specs.declared.teacher.Told.{Told}
 use Rattle.acq_cli.specs.Breaks.{BreaksRun}
 use Rattle.acq_cli.specs.Added.{IsAdded}
 use Rattle.acq_cli.specs.Driven.{Loses}
@@ -22,12 +23,16 @@ use Rattle.acq_cli.specs.declared.ending.Ending.{Ending}
 use Rattle.acq_cli.specs.Journals.{StaysClosed}
 use Rattle.acq_cli.specs.declared.ending.Ending.TheVariants as ending
 
+-- a person may give any answer
+abbrev pub any_answer : Language → Assignment → Told → Type 0
+any_answer l q told = Unit {0}
+
 -- the meanings of a disk
 module _ {D : Type 0} (content : D → Option (List ℕ)) (may_leave : D → List ℕ → Type 0) (moment : D → ℕ) (left_since : D → ℕ → List ℕ → Type 0) where
-  -- The run goes on from some events, which are those of the journal where the disk tells its bytes, and adds some. Where it
+  -- The run of these turns goes on from some events, which are those of the journal where the disk tells its bytes, and adds some. Where it
   -- tells them, a crash at any moment leaves what it might have left before, or those events and a front of the added ones. A
   -- crash at the end leaves all of them, and where the disk failed the answer too whose adding failed, or not.
-  pub record GoesOn (budget : ℕ) (left written left' written' : Option (List ℕ)) (old new : D) (got : Result Ending Put) : Type 0 where
+  pub record GoesOn (turns : Turns) (may : Language → Assignment → Told → Type 0) (budget : ℕ) (left written left' written' : Option (List ℕ)) (old new : D) (got : Result Ending Put) : Type 0 where
     pub plan : Plan
     pub voc : List ℕ
     pub events : List Event
@@ -36,18 +41,18 @@ module _ {D : Type 0} (content : D → Option (List ℕ)) (may_leave : D → Lis
     pub read : IsVocabulary voc lang
     pub places : HavePlaces lang plan events
     pub later : List Event
-    pub added : IsAdded lang plan events later
-    pub tries : IfOk got (Tries lang (terms_with plan budget) (standing_on lang events) (standing_on lang later) left written left' written')
-    pub part : OnErr got (BreaksRun lang (terms_with plan budget) (standing_on lang events) (standing_on lang later) left written written')
+    pub added : IsAdded lang plan (may lang) events later
+    pub tries : IfOk got (Tries turns lang (terms_with plan budget) events later left written left' written')
+    pub part : OnErr got (BreaksRun turns lang (terms_with plan budget) events later left written written')
     -- the answer whose adding failed: that to the question that came next
     pub last : List Event
     pub none_lost : (got ≡ Ok ending.DiskFault → ⊥) → last ≡ []
     pub one_lost : got ≡ Ok ending.DiskFault → (question : Assignment) × (reply : Bool) × (last ≡ answer_event question reply ∷ [])
-        × Loses line_turn lang (terms_with plan budget) (point_of (standing_on lang events) left written) (point_of (standing_on lang later) left' written') question reply
+        × Loses turns lang (terms_with plan budget) (point_of events left written) (point_of later left' written') question reply
     -- each event has its place, and so has the lost one
     pub all_places : HavePlaces lang plan (later ++ last)
     pub any_moment : ForSome (content old) (λ _. LeavesOnly moment left_since old new (λ c. may_leave old c ⊎ OpensWithin plan voc events (later ++ last) c))
     pub now : ForSome (content old) (λ _. LeavesNow content may_leave (λ c. OpensWith plan voc later c ⊎ OpensWith plan voc (later ++ last) c) new)
 
   abbrev pub RunsOn : ℕ → (left written left' written' : Option (List ℕ)) → D → D → Result Ending Put → Type 0
-  RunsOn budget left written left' written' old new got = StaysClosed content may_leave moment left_since left written left' written' old new got ⊎ GoesOn budget left written left' written' old new got
+  RunsOn budget left written left' written' old new got = StaysClosed content may_leave moment left_since left written left' written' old new got ⊎ GoesOn line_turn any_answer budget left written left' written' old new got

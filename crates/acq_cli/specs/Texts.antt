@@ -5,16 +5,18 @@ use Rattle.std.specs.Fmt.{decimal}
 use Rattle.assign.specs.Events.{Answer}
 use Rattle.language.specs.declared.candidates.Candidate.{Candidate}
 use Rattle.language.specs.Language.{Language}
-use Rattle.language.specs.Answers.{kept}
+use Rattle.language.specs.Answers.{kept, standing_on}
 use Rattle.language.specs.Texts.{candidate_text}
 use Rattle.network.specs.Texts.{network_text}
+use Rattle.network.specs.FaultTexts.{net_fault_text}
+use Rattle.network.specs.declared.fault.NetFault.{NetFault}
 use Rattle.fd_solver.specs.Outcomes.{outcome_of_candidate}
 use Rattle.query_gen.specs.Questions.{is_spent}
 use Rattle.session_laws.specs.Session.{Reading, Stray, At, state_after}
 use Rattle.session_laws.specs.Laws.{network_in}
 use Rattle.voc_read.specs.FaultTexts.{fault_text}
 use Rattle.voc_read.specs.declared.fault.VocFault.{VocFault}
-use Rattle.acq_cli.specs.Run.{Closing, Converged, Collapsed, Undecided, Suspended, LineTooLong, Unreadable, Ran}
+use Rattle.acq_cli.specs.Run.{Closing, Converged, Collapsed, Undecided, Suspended, LineTooLong, Unreadable, JournalFull, Ran}
 use Rattle.acq_cli.specs.declared.terms.Terms.{Terms}
 
 abbrev pub usage_text : List ℕ
@@ -48,6 +50,15 @@ too_long_text = codes "refused line too long" ++ 10 ∷ []
 abbrev pub refused_text : List ℕ
 refused_text = codes "refused lines" ++ 10 ∷ []
 
+abbrev pub full_text : List ℕ
+full_text = codes "refused journal full" ++ 10 ∷ []
+
+abbrev pub not_fresh_text : ℕ → List ℕ
+not_fresh_text m = codes "refused not fresh " ++ (decimal m ++ 10 ∷ [])
+
+abbrev pub target_refusal_text : NetFault → List ℕ
+target_refusal_text fault = codes "refused target " ++ (net_fault_text fault ++ 10 ∷ [])
+
 -- the network to which answers lead
 abbrev pub learned_in : Reading → List Candidate
 learned_in (Stray number) = []
@@ -64,7 +75,8 @@ closing_text l terms t Undecided = undecided_text l (learned_after l terms t) (o
 closing_text l terms t Suspended = suspended_text (length t)
 closing_text l terms t LineTooLong = too_long_text
 closing_text l terms t Unreadable = refused_text
+closing_text l terms t JournalFull = full_text
 
 -- the text of a run with its last lines
 abbrev pub whole_text : Language → Terms → Ran → List ℕ
-whole_text l terms run = run.text ++ closing_text l terms run.answers run.closing
+whole_text l terms run = run.text ++ closing_text l terms (standing_on l run.events) run.closing

@@ -3,7 +3,7 @@ use Rattle.std.specs.Prelude.{◌≡◌, ℕ, List, [], Option, Some, Result, Ok
 use Rattle.acq_io.specs.Streams.{Adds}
 use Rattle.acq_io.specs.Whole.{Gives, first_line_of, Gathered}
 use Rattle.acq_io.specs.declared.whole.AllFault.{AllFault}
-use Rattle.assign.specs.Events.{Answer}
+use Rattle.assign.specs.declared.events.Event.{Event}
 use Rattle.language.specs.Language.{Language}
 use Rattle.target_oracle.specs.Lines.{line_turn}
 use Rattle.voc_read.specs.Vocabulary.{IsVocabulary, refusal_of_vocabulary}
@@ -61,8 +61,8 @@ pub record ReadsVocabulary (terms : Terms) (left written left' written' : Option
   pub gives : Gives (first_line_of 4194304) left rest (Ok line)
   pub lang : Language
   pub vocabulary : IsVocabulary line lang
-  pub answers : List Answer
-  pub tries : Tries lang terms [] answers rest written left' written' end
+  pub events : List Event
+  pub tries : Tries line_turn lang terms [] events rest written left' written' end
 
 -- the first line is refused
 pub record IsRefused (fault : VocFault) (left left' : Option (List ℕ)) : Type 0 where
@@ -77,6 +77,8 @@ Acquires terms left written left' written' ending.Done = ⊥
 Acquires terms left written left' written' (ending.JournalRefused fault) = ⊥
 Acquires terms left written left' written' ending.DiskFault = ⊥
 Acquires terms left written left' written' ending.JournalFull = ⊥
+Acquires terms left written left' written' (ending.NotFresh m) = ⊥
+Acquires terms left written left' written' (ending.TargetRefused fault) = ⊥
 Acquires terms left written left' written' (ending.VocRefused fault) = IsRefused fault left left' × Adds written written' (refusal_text fault)
 Acquires terms left written left' written' ending.ReadFault = Breaks terms left written written'
 Acquires terms left written left' written' ending.WriteFault = Breaks terms left written written'

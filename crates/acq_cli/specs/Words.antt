@@ -10,7 +10,6 @@ use Rattle.acq_words.specs.declared.request.WordsFault.TheVariants.{Usage, Memor
 
 -- a command that isn't built yet is none
 abbrev pub built : Command → Result Command UsageFault
-built (command.Play budget) = Err Words
 built (command.Demo number budget) = Err Words
 built c = Ok c
 
@@ -26,6 +25,7 @@ command_asked words = command_in (answer_to words)
 abbrev pub is_over_journal : Result Command UsageFault → Bool
 is_over_journal (Ok (command.New plan)) = true
 is_over_journal (Ok (command.Run budget)) = true
+is_over_journal (Ok (command.Play budget)) = true
 is_over_journal (Ok command.Show) = true
 is_over_journal _ = false
 

@@ -20,9 +20,11 @@ use answer_journal::JFault;
 use assign::Plan;
 use disk_model::Disk;
 use language::Language;
+use par_screen::Gate;
 use session_store::{Keep, SFault, Store};
 use std::alloc::{AllocError, Global};
 use std::thread::Threads;
+use target_oracle::LineTeacher;
 use voc_read::{MOST_VOCABULARY, VocFault, voc_text};
 
 /// Why a journal can't be made or read.
@@ -76,7 +78,11 @@ fn untold(fault: SFault) -> Option<Result<Ending, Put>>
 }
 
 /// Says why there is no session, but for a fault of the disk and want of memory.
-fn refuse_journal<K: Sink>(alloc: Global, fault: SFault, out: &mut K) -> Result<Ending, Put>
+pub(crate) fn refuse_journal<K: Sink>(
+    alloc: Global,
+    fault: SFault,
+    out: &mut K,
+) -> Result<Ending, Put>
     ensures refuses { Refuses fault (K.written out.old) (K.written out.new) result }
     ensures no_fault { IfOk result (λ ending. ending ≢ Ending.WriteFault) }
     ensures no_read { IfOk result (λ ending. ending ≢ Ending.ReadFault) }
@@ -98,13 +104,14 @@ fn refuse_journal<K: Sink>(alloc: Global, fault: SFault, out: &mut K) -> Result<
 }
 
 /// Opens a journal, and asks on from where its session stands.
-pub fn run_journal<R: Threads + Sync, S: Source, K: Sink, D: Disk>(
+pub fn run_journal<R: Threads + Sync, S: Source, K: Sink, D: Disk, G: Gate>(
     rt: &R,
     alloc: Global,
     budget: u32,
     input: &mut S,
     out: &mut K,
     disk: &mut D,
+    gate: &G,
 ) -> Result<Ending, Put>
     requires { IsBudget budget }
     ensures runs { RunsOn D.content D.may_leave D.moment D.left_since budget (S.left input.old) (K.written out.old) (S.left input.new) (K.written out.new) disk.old disk.new result }
@@ -114,13 +121,26 @@ pub fn run_journal<R: Threads + Sync, S: Source, K: Sink, D: Disk>(
     ensures lost { result ≡ Ok Ending.DiskFault → DiskRose (D.faults disk.old) (D.faults disk.new) }
 {
     match Store::open(alloc, disk) {
-        Ok(mut store) => ask_on(rt, alloc, budget, input, out, disk, &mut store),
+        Ok(mut store) => {
+            let mut teacher = LineTeacher::new();
+            ask_on(
+                rt,
+                alloc,
+                budget,
+                input,
+                out,
+                disk,
+                &mut teacher,
+                &mut store,
+                gate,
+            )
+        }
         Err(fault) => refuse_journal(alloc, fault, out),
     }
 }
 
 /// The language of a keeper's session.
-fn lang_of<D: Disk, P: Keep<D>>(keep: &P) -> &Language
+pub(crate) fn lang_of<D: Disk, P: Keep<D>>(keep: &P) -> &Language
     requires { P.sound keep.now }
     ensures is { result.now ≡ P.lang keep.now }
 {

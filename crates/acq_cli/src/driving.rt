@@ -1,24 +1,28 @@
-ghost use Rattle.std.specs.Prelude.{◌≡◌, ◌≢◌, ◌+◌, ◌<◌, ◌≤◌, ◌^◌, List, length, Some, None, IfSome, IsTrue};
+ghost use Rattle.std.specs.Prelude.{◌≡◌, ◌≢◌, ◌+◌, ◌<◌, List, length, Some, None, IfSome, IsSome, IsTrue};
 ghost use Rattle.acq_io.specs.Streams.{Rose};
 ghost use Rattle.assign.specs.Events.{Answer};
 ghost use Rattle.assign.specs.declared.events.Plan.TheVariants.{Scopes};
 ghost use Rattle.language.specs.declared.candidates.Candidate.{Candidate};
 ghost use Rattle.language.specs.Answers.{IsNetwork, agrees, standing_on};
 ghost use Rattle.query_gen.specs.Marks.{IsMadeFor, HasNoMarks, MarksHold};
+ghost use Rattle.par_screen.specs.Eighths.{AreMadeFor};
 ghost use Rattle.session_core.specs.Standing.{Stands, knowledge_of, open_in};
 ghost use Rattle.session_core.specs.Settled.{IsSettled};
 ghost use Rattle.session_store.specs.Keeping.{Keeps};
-ghost use Rattle.acq_cli.specs.Driven.{Drives, IsOwned, LeavesNothing, Loses, Remembers, StepsTo, TellsOpen};
+ghost use Rattle.acq_cli.specs.Closings.{closing_of};
+ghost use Rattle.acq_cli.specs.Driven.{Drives, IsOwned, LeavesNothing, Loses, Remembers, TellsOpen};
 ghost use Rattle.acq_cli.specs.Added.{IsAdded};
-ghost use Rattle.acq_cli.specs.Due.{IsDue, NextIs, PutIs, AnswerKept, EventKept, IsOneMore, ended_by};
+ghost use Rattle.acq_cli.specs.Due.{IsDue, NextIs, PutIs, EventKept, ended_by};
 ghost use Rattle.acq_cli.specs.Points.{point_of, terms_with};
-ghost use Rattle.acq_cli.specs.Loop.{CountsFaults, EndsAs, HasTurned, IsAtStart, IsKeeping, IsPutNext, IsReady, IsSameSession, OnlyPuts, TeachesOn, TellsCandidates};
+ghost use Rattle.acq_cli.specs.Loop.{CountsBoth, CountsFaults, EndsAs, HasTurned, IsAtStart, IsKeeping, IsPutNext, IsReady, IsSameSession, OnlyPuts, TeachesOn, TellsCandidates};
 ghost use Rattle.acq_words.specs.Request.{IsBudget};
 
 use acq_io::{Sink, Source};
+use answer_journal::MOST_RECORDS;
 use assign::{Partial, Plan};
 use disk_model::Disk;
-use query_gen::{Place, Query, Screen, next_query};
+use par_screen::{Gate, next_query_forked};
+use query_gen::{Place, Query, Screen};
 use session_core::{Idle, Session};
 use session_store::{Keep, SFault};
 use std::alloc::Global;
@@ -80,18 +84,29 @@ fn scoped_next(idle: &Idle) -> Upcoming
 }
 
 /// What the search says, in the other plans, where nothing is open.
-fn searched_next(idle: &Idle, place: &mut Place, screen: &mut Screen, budget: u32) -> Upcoming
+fn searched_next<R: Threads + Sync, G: Gate>(
+    rt: &R,
+    idle: &Idle,
+    places: &mut [Place; 8],
+    screen: &mut Screen,
+    budget: u32,
+    gate: &G,
+) -> Upcoming
     requires plan { (knowledge_of (Session.Idle idle.now)).plan ≢ Scopes }
+    requires places { AreMadeFor (knowledge_of (Session.Idle idle.now)).lang places.old }
     requires screen { IsMadeFor (knowledge_of (Session.Idle idle.now)).lang screen.old }
     requires marks { let k = knowledge_of (Session.Idle idle.now) in MarksHold k.lang k.network.list budget screen.old }
     requires budget { IsBudget budget }
     ensures next { (t : List Answer) → let k = knowledge_of (Session.Idle idle.now) in Stands (Session.Idle idle.now) t → NextIs k.lang (terms_with k.plan budget) t None result }
+    ensures places { AreMadeFor (knowledge_of (Session.Idle idle.now)).lang places.new }
     ensures screen { IsMadeFor (knowledge_of (Session.Idle idle.now)).lang screen.new }
     ensures marks { let k = knowledge_of (Session.Idle idle.now) in MarksHold k.lang k.network.list budget screen.new }
     ensures open { (t : List Answer) → let k = knowledge_of (Session.Idle idle.now) in Stands (Session.Idle idle.now) t → result ≡ Upcoming.Undecided → TellsOpen k.lang (terms_with k.plan budget) t screen.new }
 {
-    let query = next_query(
-        &mut place.work,
+    let query = next_query_forked(
+        rt,
+        places,
+        gate,
         screen,
         idle.lang(),
         idle.kept(),
@@ -106,56 +121,77 @@ fn searched_next(idle: &Idle, place: &mut Place, screen: &mut Screen, budget: u3
 }
 
 /// What comes next where nothing is open.
-fn idle_next(idle: &Idle, place: &mut Place, screen: &mut Screen, budget: u32) -> Upcoming
+fn idle_next<R: Threads + Sync, G: Gate>(
+    rt: &R,
+    idle: &Idle,
+    places: &mut [Place; 8],
+    screen: &mut Screen,
+    budget: u32,
+    gate: &G,
+) -> Upcoming
+    requires places { AreMadeFor (knowledge_of (Session.Idle idle.now)).lang places.old }
     requires screen { IsMadeFor (knowledge_of (Session.Idle idle.now)).lang screen.old }
     requires marks { let k = knowledge_of (Session.Idle idle.now) in MarksHold k.lang k.network.list budget screen.old }
     requires budget { IsBudget budget }
     ensures next { (t : List Answer) → let k = knowledge_of (Session.Idle idle.now) in Stands (Session.Idle idle.now) t → NextIs k.lang (terms_with k.plan budget) t None result }
+    ensures places { AreMadeFor (knowledge_of (Session.Idle idle.now)).lang places.new }
     ensures screen { IsMadeFor (knowledge_of (Session.Idle idle.now)).lang screen.new }
     ensures marks { let k = knowledge_of (Session.Idle idle.now) in MarksHold k.lang k.network.list budget screen.new }
     ensures open { (t : List Answer) → let k = knowledge_of (Session.Idle idle.now) in Stands (Session.Idle idle.now) t → result ≡ Upcoming.Undecided → TellsOpen k.lang (terms_with k.plan budget) t screen.new }
 {
     match idle.plan() {
         Plan::Scopes => scoped_next(idle),
-        Plan::Quacq | Plan::Multi => searched_next(idle, place, screen, budget),
+        Plan::Quacq | Plan::Multi => searched_next(rt, idle, places, screen, budget, gate),
     }
 }
 
 /// What comes next in a session.
-fn next_of(session: &Session, place: &mut Place, screen: &mut Screen, budget: u32) -> Upcoming
+fn next_of<R: Threads + Sync, G: Gate>(
+    rt: &R,
+    session: &Session,
+    places: &mut [Place; 8],
+    screen: &mut Screen,
+    budget: u32,
+    gate: &G,
+) -> Upcoming
+    requires places { AreMadeFor (knowledge_of session.now).lang places.old }
     requires screen { IsMadeFor (knowledge_of session.now).lang screen.old }
     requires marks { let k = knowledge_of session.now in MarksHold k.lang k.network.list budget screen.old }
     requires budget { IsBudget budget }
     ensures next { (t : List Answer) → let k = knowledge_of session.now in Stands session.now t → IsSettled k.lang k.plan t (open_in session.now)
         → NextIs k.lang (terms_with k.plan budget) t (open_in session.now) result }
+    ensures places { AreMadeFor (knowledge_of session.now).lang places.new }
     ensures screen { IsMadeFor (knowledge_of session.now).lang screen.new }
     ensures marks { let k = knowledge_of session.now in MarksHold k.lang k.network.list budget screen.new }
     ensures open { (t : List Answer) → let k = knowledge_of session.now in Stands session.now t → result ≡ Upcoming.Undecided → TellsOpen k.lang (terms_with k.plan budget) t screen.new }
 {
     let _lang = session.lang();
     match session {
-        Session::Idle(idle) => idle_next(idle, place, screen, budget),
+        Session::Idle(idle) => idle_next(rt, idle, places, screen, budget, gate),
         Session::Asking(asking) => Upcoming::Open(asking.question()),
         Session::Over(_) => Upcoming::Collapsed,
     }
 }
 
 /// Puts the question that comes next, if one does.
-fn put_next<D: Disk, P: Keep<D>>(
+fn put_next<R: Threads + Sync, D: Disk, P: Keep<D>, G: Gate>(
+    rt: &R,
     keep: &mut P,
-    place: &mut Place,
+    places: &mut [Place; 8],
     screen: &mut Screen,
     budget: u32,
+    gate: &G,
 ) -> Upcoming
     requires sound { P.sound keep.old }
-    requires ready { IsReady (P.lang keep.old) (terms_with (P.plan keep.old) budget) (standing_on (P.lang keep.old) (P.record_of keep.old)) (P.question keep.old) screen.old }
+    requires ready { IsReady (P.lang keep.old) (terms_with (P.plan keep.old) budget) (standing_on (P.lang keep.old) (P.record_of keep.old)) (P.question keep.old) places.old screen.old }
     ensures put { PutIs (P.lang keep.old) (terms_with (P.plan keep.old) budget) (standing_on (P.lang keep.old) (P.record_of keep.old)) (P.question keep.new) result }
     ensures keeper { OnlyPuts P.lang P.plan P.voc P.record_of P.writes P.live P.sound P.sits keep.old keep.new }
+    ensures places { AreMadeFor (P.lang keep.old) places.new }
     ensures screen { IsMadeFor (P.lang keep.old) screen.new }
     ensures remembers { Remembers (P.lang keep.old) (terms_with (P.plan keep.old) budget) (standing_on (P.lang keep.old) (P.record_of keep.old)) screen.new }
     ensures open { result ≡ Upcoming.Undecided → TellsOpen (P.lang keep.old) (terms_with (P.plan keep.old) budget) (standing_on (P.lang keep.old) (P.record_of keep.old)) screen.new }
 {
-    let next = next_of(keep.session(), place, screen, budget);
+    let next = next_of(rt, keep.session(), places, screen, budget, gate);
     if let Upcoming::New(question) = next {
         keep.ask(question);
     }
@@ -168,9 +204,8 @@ fn keep_answer<D: Disk, P: Keep<D>>(keep: &mut P, disk: &mut D, yes: bool) -> Op
     requires live { IsTrue (P.live keep.old) }
     requires room { length (P.record_of keep.old) + 1 < 1000000 }
     requires sits { P.sits keep.old disk.old }
-    requires put { (q : _) × (P.question keep.old ≡ Some q) × (length q ≡ length (P.lang keep.old).names) }
-    ensures kept { AnswerKept «yes» (P.question keep.old) (standing_on (P.lang keep.old) (P.record_of keep.old)) (standing_on (P.lang keep.old) (P.record_of keep.new)) result }
-    ensures events { EventKept «yes» (P.question keep.old) (P.record_of keep.old) (P.record_of keep.new) result }
+    requires put { IsSome (P.question keep.old) }
+    ensures kept { EventKept «yes» (P.question keep.old) (P.record_of keep.old) (P.record_of keep.new) result }
     ensures settled { result ≡ None → IsSettled (P.lang keep.old) (P.plan keep.old) (standing_on (P.lang keep.old) (P.record_of keep.new)) (P.question keep.new) }
     ensures lang { P.lang keep.new ≡ P.lang keep.old }
     ensures plan { P.plan keep.new ≡ P.plan keep.old }
@@ -205,24 +240,24 @@ fn hear_answer<S: Source, K: Sink, D: Disk, T: Teacher<S, K>, P: Keep<D>>(
 ) -> Option<Drove>
     requires keeper { IsKeeping P.sound P.live P.sits keep.old disk.old }
     requires fits { T.fits teacher.old (P.lang keep.old) }
-    requires put { IsPutNext (P.lang keep.old) (P.plan keep.old) (standing_on (P.lang keep.old) (P.record_of keep.old)) (P.question keep.old) question.now }
+    requires put { IsPutNext (P.lang keep.old) (P.plan keep.old) (P.record_of keep.old) (P.question keep.old) question.now }
     ensures again { (budget : _) → IsDue (P.lang keep.old) (terms_with (P.plan keep.old) budget) (standing_on (P.lang keep.old) (P.record_of keep.old)) question.now
         → result ≡ None → HasTurned (T.turn teacher.old) (P.lang keep.old) (terms_with (P.plan keep.old) budget)
-        (point_of (standing_on (P.lang keep.old) (P.record_of keep.old)) (S.left source.old) (K.written sink.old))
-        (point_of (standing_on (P.lang keep.old) (P.record_of keep.new)) (S.left source.new) (K.written sink.new)) }
+        (point_of (P.record_of keep.old) (S.left source.old) (K.written sink.old))
+        (point_of (P.record_of keep.new) (S.left source.new) (K.written sink.new)) }
     ensures settled { result ≡ None → IsSettled (P.lang keep.old) (P.plan keep.old) (standing_on (P.lang keep.old) (P.record_of keep.new)) (P.question keep.new) }
     ensures ends { (budget : _) (marks : _) → IsDue (P.lang keep.old) (terms_with (P.plan keep.old) budget) (standing_on (P.lang keep.old) (P.record_of keep.old)) question.now → IsMadeFor (P.lang keep.old) marks
         → IfSome result (EndsAs (T.turn teacher.old) (P.lang keep.old) (terms_with (P.plan keep.old) budget)
-        (point_of (standing_on (P.lang keep.old) (P.record_of keep.old)) (S.left source.old) (K.written sink.old))
-        (point_of (standing_on (P.lang keep.old) (P.record_of keep.new)) (S.left source.new) (K.written sink.new)) marks) }
-    ensures teacher { TeachesOn T.turn T.fits teacher.old teacher.new }
+        (point_of (P.record_of keep.old) (S.left source.old) (K.written sink.old))
+        (point_of (P.record_of keep.new) (S.left source.new) (K.written sink.new)) marks) }
+    ensures teacher { TeachesOn T.turn T.fits T.may_say teacher.old teacher.new }
     ensures same { IsSameSession P.lang P.plan P.sound keep.old keep.new }
-    ensures added { IsAdded (P.lang keep.old) (P.plan keep.old) (P.record_of keep.old) (P.record_of keep.new) }
+    ensures added { IsAdded (P.lang keep.old) (P.plan keep.old) (T.may_say teacher.old (P.lang keep.old)) (P.record_of keep.old) (P.record_of keep.new) }
     ensures keeps { Keeps D.content D.may_leave D.moment D.left_since P.plan P.voc P.record_of P.question P.writes P.live P.sits D.faults (result ≡ Some Drove.DiskFault)
         (λ asked said. (budget : _) → IsDue (P.lang keep.old) (terms_with (P.plan keep.old) budget) (standing_on (P.lang keep.old) (P.record_of keep.old)) question.now
         → Loses (T.turn teacher.old) (P.lang keep.old) (terms_with (P.plan keep.old) budget)
-        (point_of (standing_on (P.lang keep.old) (P.record_of keep.old)) (S.left source.old) (K.written sink.old))
-        (point_of (standing_on (P.lang keep.old) (P.record_of keep.new)) (S.left source.new) (K.written sink.new)) asked said)
+        (point_of (P.record_of keep.old) (S.left source.old) (K.written sink.old))
+        (point_of (P.record_of keep.new) (S.left source.new) (K.written sink.new)) asked said)
         keep.old keep.new disk.old disk.new }
     ensures read { CountsFaults (S.faults source.old) (S.faults source.new) (result ≡ Some Drove.ReadFault) }
     ensures write { CountsFaults (K.faults sink.old) (K.faults sink.new) (result ≡ Some Drove.WriteFault) }
@@ -243,57 +278,8 @@ fn hear_answer<S: Source, K: Sink, D: Disk, T: Teacher<S, K>, P: Keep<D>>(
 }
 
 /// One turn: a question and its answer. None where the loop goes on.
-fn take_turn<S: Source, K: Sink, D: Disk, T: Teacher<S, K>, P: Keep<D>>(
-    alloc: Global,
-    place: &mut Place,
-    screen: &mut Screen,
-    budget: u32,
-    source: &mut S,
-    sink: &mut K,
-    disk: &mut D,
-    teacher: &mut T,
-    keep: &mut P,
-) -> Option<Drove>
-    requires keeper { IsKeeping P.sound P.live P.sits keep.old disk.old }
-    requires fits { T.fits teacher.old (P.lang keep.old) }
-    requires ready { IsReady (P.lang keep.old) (terms_with (P.plan keep.old) budget) (standing_on (P.lang keep.old) (P.record_of keep.old)) (P.question keep.old) screen.old }
-    ensures again { result ≡ None → HasTurned (T.turn teacher.old) (P.lang keep.old) (terms_with (P.plan keep.old) budget)
-        (point_of (standing_on (P.lang keep.old) (P.record_of keep.old)) (S.left source.old) (K.written sink.old))
-        (point_of (standing_on (P.lang keep.old) (P.record_of keep.new)) (S.left source.new) (K.written sink.new)) }
-    ensures ready { result ≡ None → IsReady (P.lang keep.old) (terms_with (P.plan keep.old) budget) (standing_on (P.lang keep.old) (P.record_of keep.new)) (P.question keep.new) screen.new }
-    ensures ends { IfSome result (EndsAs (T.turn teacher.old) (P.lang keep.old) (terms_with (P.plan keep.old) budget)
-        (point_of (standing_on (P.lang keep.old) (P.record_of keep.old)) (S.left source.old) (K.written sink.old))
-        (point_of (standing_on (P.lang keep.old) (P.record_of keep.new)) (S.left source.new) (K.written sink.new)) screen.new) }
-    ensures teacher { TeachesOn T.turn T.fits teacher.old teacher.new }
-    ensures same { IsSameSession P.lang P.plan P.sound keep.old keep.new }
-    ensures added { IsAdded (P.lang keep.old) (P.plan keep.old) (P.record_of keep.old) (P.record_of keep.new) }
-    ensures keeps { Keeps D.content D.may_leave D.moment D.left_since P.plan P.voc P.record_of P.question P.writes P.live P.sits D.faults (result ≡ Some Drove.DiskFault)
-        (Loses (T.turn teacher.old) (P.lang keep.old) (terms_with (P.plan keep.old) budget)
-        (point_of (standing_on (P.lang keep.old) (P.record_of keep.old)) (S.left source.old) (K.written sink.old))
-        (point_of (standing_on (P.lang keep.old) (P.record_of keep.new)) (S.left source.new) (K.written sink.new)))
-        keep.old keep.new disk.old disk.new }
-    ensures read { CountsFaults (S.faults source.old) (S.faults source.new) (result ≡ Some Drove.ReadFault) }
-    ensures write { CountsFaults (K.faults sink.old) (K.faults sink.new) (result ≡ Some Drove.WriteFault) }
-{
-    match put_next::<D, P>(keep, place, screen, budget) {
-        Upcoming::Open(question) | Upcoming::New(question) => {
-            hear_answer(alloc, source, sink, disk, teacher, keep, &question)
-        }
-        Upcoming::Converged => Some(Drove::Converged(keep.session().answers())),
-        Upcoming::Collapsed => Some(Drove::Collapsed(keep.session().answers())),
-        Upcoming::Undecided => Some(Drove::Undecided(keep.session().answers())),
-    }
-}
-
-/// One more than the most answers that a session of any language takes.
-const MOST_TURNS: u32 = 762_754;
-
-/// Asks until nothing is left to ask, no network agrees with the answers, nothing is found to ask under the budget, or
-/// the teacher stops.
-///
-/// Searches use the first of the places. The screen carries what they found from one question to the next.
-pub fn drive<R: Threads + Sync, S: Source, K: Sink, D: Disk, T: Teacher<S, K>, P: Keep<D>>(
-    _rt: &R,
+fn take_turn<R: Threads + Sync, S: Source, K: Sink, D: Disk, T: Teacher<S, K>, P: Keep<D>, G: Gate>(
+    rt: &R,
     alloc: Global,
     places: &mut [Place; 8],
     screen: &mut Screen,
@@ -303,50 +289,96 @@ pub fn drive<R: Threads + Sync, S: Source, K: Sink, D: Disk, T: Teacher<S, K>, P
     disk: &mut D,
     teacher: &mut T,
     keep: &mut P,
+    gate: &G,
+) -> Option<Drove>
+    requires keeper { IsKeeping P.sound P.live P.sits keep.old disk.old }
+    requires fits { T.fits teacher.old (P.lang keep.old) }
+    requires ready { IsReady (P.lang keep.old) (terms_with (P.plan keep.old) budget) (standing_on (P.lang keep.old) (P.record_of keep.old)) (P.question keep.old) places.old screen.old }
+    ensures again { result ≡ None → HasTurned (T.turn teacher.old) (P.lang keep.old) (terms_with (P.plan keep.old) budget)
+        (point_of (P.record_of keep.old) (S.left source.old) (K.written sink.old))
+        (point_of (P.record_of keep.new) (S.left source.new) (K.written sink.new)) }
+    ensures ready { result ≡ None → IsReady (P.lang keep.old) (terms_with (P.plan keep.old) budget) (standing_on (P.lang keep.old) (P.record_of keep.new)) (P.question keep.new) places.new screen.new }
+    ensures ends { IfSome result (EndsAs (T.turn teacher.old) (P.lang keep.old) (terms_with (P.plan keep.old) budget)
+        (point_of (P.record_of keep.old) (S.left source.old) (K.written sink.old))
+        (point_of (P.record_of keep.new) (S.left source.new) (K.written sink.new)) screen.new) }
+    ensures teacher { TeachesOn T.turn T.fits T.may_say teacher.old teacher.new }
+    ensures same { IsSameSession P.lang P.plan P.sound keep.old keep.new }
+    ensures added { IsAdded (P.lang keep.old) (P.plan keep.old) (T.may_say teacher.old (P.lang keep.old)) (P.record_of keep.old) (P.record_of keep.new) }
+    ensures keeps { Keeps D.content D.may_leave D.moment D.left_since P.plan P.voc P.record_of P.question P.writes P.live P.sits D.faults (result ≡ Some Drove.DiskFault)
+        (Loses (T.turn teacher.old) (P.lang keep.old) (terms_with (P.plan keep.old) budget)
+        (point_of (P.record_of keep.old) (S.left source.old) (K.written sink.old))
+        (point_of (P.record_of keep.new) (S.left source.new) (K.written sink.new)))
+        keep.old keep.new disk.old disk.new }
+    ensures read { CountsFaults (S.faults source.old) (S.faults source.new) (result ≡ Some Drove.ReadFault) }
+    ensures write { CountsFaults (K.faults sink.old) (K.faults sink.new) (result ≡ Some Drove.WriteFault) }
+{
+    match put_next::<R, D, P, G>(rt, keep, places, screen, budget, gate) {
+        Upcoming::Open(question) | Upcoming::New(question) => {
+            if keep.is_full() {
+                // for the law that no session takes so many answers
+                let _lang = keep.session().lang();
+                return Some(Drove::JournalFull);
+            }
+            hear_answer(alloc, source, sink, disk, teacher, keep, &question)
+        }
+        Upcoming::Converged => Some(Drove::Converged(keep.session().answers())),
+        Upcoming::Collapsed => Some(Drove::Collapsed(keep.session().answers())),
+        Upcoming::Undecided => Some(Drove::Undecided(keep.session().answers())),
+    }
+}
+
+/// Asks until nothing is left to ask, no network agrees with the answers, nothing is found to ask under the budget, or
+/// the teacher stops.
+///
+/// The gate does the searches, each of an eighth of the candidates in a place of its own. The screen carries what they found from
+/// one question to the next. Places and screen are made for the language.
+pub fn drive<R: Threads + Sync, S: Source, K: Sink, D: Disk, T: Teacher<S, K>, P: Keep<D>, G: Gate>(
+    rt: &R,
+    alloc: Global,
+    places: &mut [Place; 8],
+    screen: &mut Screen,
+    budget: u32,
+    source: &mut S,
+    sink: &mut K,
+    disk: &mut D,
+    teacher: &mut T,
+    keep: &mut P,
+    gate: &G,
 ) -> Drove
     requires keeper { IsKeeping P.sound P.live P.sits keep.old disk.old }
     requires fits { T.fits teacher.old (P.lang keep.old) }
     // where the answers lead to where nothing is open, no question is put
-    requires start { IsAtStart (P.lang keep.old) (terms_with (P.plan keep.old) budget) (standing_on (P.lang keep.old) (P.record_of keep.old)) (P.question keep.old) screen.old }
+    requires start { IsAtStart (P.lang keep.old) (terms_with (P.plan keep.old) budget) (standing_on (P.lang keep.old) (P.record_of keep.old)) (P.question keep.old) places.old screen.old }
     ensures ends { Drives (T.turn teacher.old) (P.lang keep.old) (terms_with (P.plan keep.old) budget)
-        (point_of (standing_on (P.lang keep.old) (P.record_of keep.old)) (S.left source.old) (K.written sink.old))
-        (point_of (standing_on (P.lang keep.old) (P.record_of keep.new)) (S.left source.new) (K.written sink.new)) result }
+        (point_of (P.record_of keep.old) (S.left source.old) (K.written sink.old))
+        (point_of (P.record_of keep.new) (S.left source.new) (K.written sink.new)) result }
     ensures owner { (owner : List Candidate) → IsNetwork (P.lang keep.old) owner → IsTrue (agrees (P.lang keep.old) owner (standing_on (P.lang keep.old) (P.record_of keep.new)))
-        → IsOwned (P.lang keep.old) (terms_with (P.plan keep.old) budget) owner (standing_on (P.lang keep.old) (P.record_of keep.new)) result }
+        → IfSome (closing_of result) (IsOwned (P.lang keep.old) (terms_with (P.plan keep.old) budget) owner (standing_on (P.lang keep.old) (P.record_of keep.new))) }
     ensures walked { LeavesNothing (P.lang keep.old) (P.plan keep.old) (standing_on (P.lang keep.old) (P.record_of keep.new)) }
     // where it is undecided, the screen tells the open candidates
     ensures open { TellsCandidates (P.lang keep.old) (terms_with (P.plan keep.old) budget) (standing_on (P.lang keep.old) (P.record_of keep.new)) screen.new result }
     ensures same { IsSameSession P.lang P.plan P.sound keep.old keep.new }
-    ensures added { IsAdded (P.lang keep.old) (P.plan keep.old) (P.record_of keep.old) (P.record_of keep.new) }
+    ensures added { IsAdded (P.lang keep.old) (P.plan keep.old) (T.may_say teacher.old (P.lang keep.old)) (P.record_of keep.old) (P.record_of keep.new) }
     // Where nothing is written, the disk isn't touched. Else a crash at any moment leaves the events from before the call and a
     // front of those of this run, and after it all of them, but for the last one where the disk failed. That one is the answer
     // to the question that came next.
     ensures keeps { Keeps D.content D.may_leave D.moment D.left_since P.plan P.voc P.record_of P.question P.writes P.live P.sits D.faults (result ≡ Drove.DiskFault)
         (Loses (T.turn teacher.old) (P.lang keep.old) (terms_with (P.plan keep.old) budget)
-        (point_of (standing_on (P.lang keep.old) (P.record_of keep.old)) (S.left source.old) (K.written sink.old))
-        (point_of (standing_on (P.lang keep.old) (P.record_of keep.new)) (S.left source.new) (K.written sink.new)))
+        (point_of (P.record_of keep.old) (S.left source.old) (K.written sink.old))
+        (point_of (P.record_of keep.new) (S.left source.new) (K.written sink.new)))
         keep.old keep.new disk.old disk.new }
-    ensures read { CountsFaults (S.faults source.old) (S.faults source.new) (result ≡ Drove.ReadFault) }
-    ensures write { CountsFaults (K.faults sink.old) (K.faults sink.new) (result ≡ Drove.WriteFault) }
+    ensures faults { CountsBoth (S.faults source.old) (S.faults source.new) (K.faults sink.old) (K.faults sink.new) (result ≡ Drove.ReadFault) (result ≡ Drove.WriteFault) }
+    // no session takes as many answers as a journal
+    ensures never_full { result ≢ Drove.JournalFull }
 {
     let _variables = keep.session().lang().n();
-    for _turn in 0..MOST_TURNS {
+    for _turn in 0..MOST_RECORDS {
         if let Some(drove) = take_turn(
-            alloc,
-            &mut places[0],
-            screen,
-            budget,
-            source,
-            sink,
-            disk,
-            teacher,
-            keep,
+            rt, alloc, places, screen, budget, source, sink, disk, teacher, keep, gate,
         ) {
             return drove;
         }
     }
-    // A turn that goes on adds an answer, and no session of this language takes so many.
-    let session = keep.session();
-    let _lang = session.lang();
+    // A turn that goes on adds an event, and there are never so many.
     unreachable!()
 }

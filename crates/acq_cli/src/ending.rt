@@ -2,6 +2,7 @@ ghost use Rattle.std.specs.Prelude.{◌≡◌};
 ghost use Rattle.acq_cli.specs.Program.{status_of};
 
 use acq_words::UsageFault;
+use network::NetFault;
 use session_store::SFault;
 use voc_read::VocFault;
 
@@ -33,6 +34,10 @@ pub enum Ending {
     Memory,
     /// A question is due, and the journal takes no more records.
     JournalFull,
+    /// So many answers stand already.
+    NotFresh(u32),
+    /// The network that is to answer is refused.
+    TargetRefused(NetFault),
 }
 
 impl Ending {
@@ -54,6 +59,8 @@ impl Ending {
             Ending::DiskFault => 10,
             Ending::Memory => 11,
             Ending::JournalFull => 12,
+            Ending::NotFresh(_) => 13,
+            Ending::TargetRefused(_) => 14,
         }
     }
 }

@@ -5,6 +5,7 @@ mod commands;
 mod driving;
 mod ending;
 mod opens;
+mod playing;
 mod shows;
 mod terms;
 mod top;

@@ -1,4 +1,5 @@
 ghost use Rattle.std.specs.Prelude.{◌≡◌, ◌≤◌, ◌≢◌, ℕ, List, [], map, filter, false, IsTrue, IfOk, OnOk, OnErr, Ok, Err};
+ghost use Rattle.assign.specs.declared.events.Event.{Event};
 ghost use Rattle.assign.specs.declared.events.Plan.{Plan};
 ghost use Rattle.std.specs.String.{string_bytes};
 ghost use Rattle.acq_io.specs.Streams.{Adds, AddsFront, Rose};
@@ -10,23 +11,22 @@ ghost use Rattle.session_core.specs.Settled.{IsSettled};
 ghost use Rattle.session_core.specs.Standing.{Stands, knowledge_of};
 ghost use Rattle.session_store.specs.Keeping.{Keeps};
 ghost use Rattle.target_oracle.specs.Lines.{line_turn};
-ghost use Rattle.acq_cli.specs.Driven.{Loses, TellsOpen};
+ghost use Rattle.acq_cli.specs.Driven.{HasEnded, Loses, TellsOpen};
 ghost use Rattle.acq_cli.specs.Added.{IsAdded};
 ghost use Rattle.acq_cli.specs.Points.{point_of, terms_with};
 ghost use Rattle.acq_cli.specs.Loop.{CountsFaults, IsKeeping, IsSameSession};
-ghost use Rattle.acq_cli.specs.Trying.{Breaks};
 ghost use Rattle.acq_cli.specs.Breaks.{BreaksRun};
-ghost use Rattle.acq_cli.specs.Trying.{Acquires};
-ghost use Rattle.acq_cli.specs.Endings.{HasEnded, Says, SaysPart, Tries};
-ghost use Rattle.acq_cli.specs.Program.{TellsCauses};
+ghost use Rattle.acq_cli.specs.Trying.{Acquires, Breaks};
+ghost use Rattle.acq_cli.specs.Endings.{HasAsked, Says, SaysPart, Tries};
+ghost use Rattle.acq_cli.specs.Program.{TellsCauses, ended_as};
 ghost use Rattle.disk_model.specs.Disk.{Rose as DiskRose};
 ghost use Rattle.acq_words.specs.Request.{IsBudget, IsWithin};
 ghost use Rattle.acq_cli.specs.Journals.{EndsWith};
 ghost use Rattle.acq_cli.specs.Running.{RunsOn};
+ghost use Rattle.acq_cli.specs.Playing.{PlaysOn};
 ghost use Rattle.acq_cli.specs.Making.{News};
 ghost use Rattle.acq_cli.specs.Showing.{Shows};
-ghost use Rattle.acq_cli.specs.Program.{ended_as};
-ghost use Rattle.acq_cli.specs.Exactly.{NewEnds, RunEnds, ShowEnds};
+ghost use Rattle.acq_cli.specs.Commands.{EndsExactly};
 ghost use Rattle.acq_cli.specs.Words.{IsAsked, command_asked, is_over_journal, is_reading};
 ghost use Rattle.acq_cli.specs.Texts.{collapsed_text, converged_text, refusal_text, suspended_text, undecided_text, usage_text};
 
@@ -34,19 +34,21 @@ use crate::commands::{new_journal, run_journal, show_journal};
 use crate::driving::{Drove, drive};
 use crate::ending::Ending;
 use crate::opens::open_lines;
+use crate::playing::play_journal;
 use crate::terms::Terms;
 use acq_io::{AllFault, Put, Sink, Source, read_first_line};
 use acq_words::{Command, UsageFault, WordsFault, read_words};
 use answer_journal::no_two_readings;
 use disk_model::{Disk, MemDisk, Room};
-use language::{Language, Memory};
+use language::Language;
 use network::network_text;
-use query_gen::{Place, Screen};
+use par_screen::{Gate, places_for};
+use query_gen::Screen;
 use session_core::Session;
 use session_store::{Keep, Loose};
 use std::alloc::Global;
 use std::thread::Threads;
-use target_oracle::LineTeacher;
+use target_oracle::{LineTeacher, Teacher};
 use voc_read::{MOST_VOCABULARY, VocFault, read_vocabulary, voc_text};
 
 const USAGE: &[u8] = b"usage: acquire JOURNAL COMMAND [--plan P] [--budget N] [--number N]\n";
@@ -178,45 +180,41 @@ pub(crate) fn say<K: Sink>(
     }
 }
 
-/// The working places of the parts of a search.
-fn places_for(alloc: Global, lang: &Language) -> Result<[Place; 8], Memory> {
-    Ok([
-        Place::new(alloc, lang)?,
-        Place::new(alloc, lang)?,
-        Place::new(alloc, lang)?,
-        Place::new(alloc, lang)?,
-        Place::new(alloc, lang)?,
-        Place::new(alloc, lang)?,
-        Place::new(alloc, lang)?,
-        Place::new(alloc, lang)?,
-    ])
-}
-
-/// Asks on from where a session stands until the answers converge, nothing more can be asked, or the input stops, and says
+/// Asks on from where a session stands until the answers converge, nothing more can be asked, or the teacher stops, and says
 /// how that ended.
-pub(crate) fn ask_on<R: Threads + Sync, S: Source, K: Sink, D: Disk, P: Keep<D>>(
+pub(crate) fn ask_on<
+    R: Threads + Sync,
+    S: Source,
+    K: Sink,
+    D: Disk,
+    T: Teacher<S, K>,
+    P: Keep<D>,
+    G: Gate,
+>(
     rt: &R,
     alloc: Global,
     budget: u32,
     input: &mut S,
     out: &mut K,
     disk: &mut D,
+    teacher: &mut T,
     keep: &mut P,
+    gate: &G,
 ) -> Result<Ending, Put>
     requires keeper { IsKeeping P.sound P.live P.sits keep.old disk.old }
+    requires fits { T.fits teacher.old (P.lang keep.old) }
     requires settled { IsSettled (P.lang keep.old) (P.plan keep.old) (standing_on (P.lang keep.old) (P.record_of keep.old)) (P.question keep.old) }
     requires budget { IsBudget budget }
-    ensures tries { IfOk result (Tries (P.lang keep.old) (terms_with (P.plan keep.old) budget) (standing_on (P.lang keep.old) (P.record_of keep.old)) (standing_on (P.lang keep.old) (P.record_of keep.new))
-        (S.left input.old) (K.written out.old) (S.left input.new) (K.written out.new)) }
-    ensures part { OnErr result (BreaksRun (P.lang keep.old) (terms_with (P.plan keep.old) budget) (standing_on (P.lang keep.old) (P.record_of keep.old)) (standing_on (P.lang keep.old) (P.record_of keep.new)) (S.left input.old) (K.written out.old) (K.written out.new)) }
+    ensures asked { HasAsked (T.turn teacher.old) (P.lang keep.old) (terms_with (P.plan keep.old) budget) (P.record_of keep.old) (P.record_of keep.new)
+        (S.left input.old) (K.written out.old) (S.left input.new) (K.written out.new) result }
     ensures read { CountsFaults (S.faults input.old) (S.faults input.new) (result ≡ Ok Ending.ReadFault) }
     ensures no_fault { IfOk result (λ ending. ending ≢ Ending.WriteFault) }
     ensures failed { CountsFaults (K.faults out.old) (K.faults out.new) (result ≡ Err Put.Failed) }
-    ensures added { IsAdded (P.lang keep.old) (P.plan keep.old) (P.record_of keep.old) (P.record_of keep.new) }
+    ensures added { IsAdded (P.lang keep.old) (P.plan keep.old) (T.may_say teacher.old (P.lang keep.old)) (P.record_of keep.old) (P.record_of keep.new) }
     ensures keeps { Keeps D.content D.may_leave D.moment D.left_since P.plan P.voc P.record_of P.question P.writes P.live P.sits D.faults (result ≡ Ok Ending.DiskFault)
-        (Loses line_turn (P.lang keep.old) (terms_with (P.plan keep.old) budget)
-        (point_of (standing_on (P.lang keep.old) (P.record_of keep.old)) (S.left input.old) (K.written out.old))
-        (point_of (standing_on (P.lang keep.old) (P.record_of keep.new)) (S.left input.new) (K.written out.new)))
+        (Loses (T.turn teacher.old) (P.lang keep.old) (terms_with (P.plan keep.old) budget)
+        (point_of (P.record_of keep.old) (S.left input.old) (K.written out.old))
+        (point_of (P.record_of keep.new) (S.left input.new) (K.written out.new)))
         keep.old keep.new disk.old disk.new }
     ensures same { IsSameSession P.lang P.plan P.sound keep.old keep.new }
     ensures lawful { IsLanguage (P.lang keep.old) }
@@ -229,7 +227,6 @@ pub(crate) fn ask_on<R: Threads + Sync, S: Source, K: Sink, D: Disk, P: Keep<D>>
     let Ok(mut screen) = Screen::new(alloc, lang) else {
         return Err(Put::Memory);
     };
-    let mut teacher = LineTeacher::new();
     let drove = drive(
         rt,
         alloc,
@@ -239,25 +236,27 @@ pub(crate) fn ask_on<R: Threads + Sync, S: Source, K: Sink, D: Disk, P: Keep<D>>
         input,
         out,
         disk,
-        &mut teacher,
+        teacher,
         keep,
+        gate,
     );
     let session = keep.session();
     say(alloc, session, &screen, drove, out)
 }
 
 /// Asks about a language, with the answers in memory. No disk is touched.
-fn try_language<R: Threads + Sync, S: Source, K: Sink>(
+fn try_language<R: Threads + Sync, S: Source, K: Sink, G: Gate>(
     rt: &R,
     alloc: Global,
     lang: Language,
     terms: Terms,
     input: &mut S,
     out: &mut K,
+    gate: &G,
 ) -> Result<Ending, Put>
     requires { IsBudget terms.budget }
-    ensures tries { IfOk result (λ ending. (answers : List Answer) × Tries lang terms [] answers (S.left input.old) (K.written out.old) (S.left input.new) (K.written out.new) ending) }
-    ensures part { OnErr result ((answers : List Answer) × BreaksRun lang terms [] answers (S.left input.old) (K.written out.old) (K.written out.new)) }
+    ensures tries { IfOk result (λ ending. (events : List Event) × Tries line_turn lang terms [] events (S.left input.old) (K.written out.old) (S.left input.new) (K.written out.new) ending) }
+    ensures part { OnErr result ((events : List Event) × BreaksRun line_turn lang terms [] events (S.left input.old) (K.written out.old) (K.written out.new)) }
     ensures read { result ≡ Ok Ending.ReadFault → Rose (S.faults input.old) (S.faults input.new) }
     ensures no_fault { IfOk result (λ ending. ending ≢ Ending.WriteFault) }
     ensures no_disk { IfOk result (λ ending. ending ≢ Ending.DiskFault) }
@@ -273,7 +272,18 @@ fn try_language<R: Threads + Sync, S: Source, K: Sink>(
     let Ok(mut keep) = Loose::new(alloc, lang, terms.plan) else {
         return Err(Put::Memory);
     };
-    ask_on(rt, alloc, terms.budget, input, out, &mut disk, &mut keep)
+    let mut teacher = LineTeacher::new();
+    ask_on(
+        rt,
+        alloc,
+        terms.budget,
+        input,
+        out,
+        &mut disk,
+        &mut teacher,
+        &mut keep,
+        gate,
+    )
 }
 
 /// Refuses the vocabulary.
@@ -295,12 +305,13 @@ pub(crate) fn refuse<K: Sink>(alloc: Global, fault: VocFault, out: &mut K) -> Re
 }
 
 /// Reads a vocabulary's line, and asks about it.
-fn try_input<R: Threads + Sync, S: Source, K: Sink>(
+fn try_input<R: Threads + Sync, S: Source, K: Sink, G: Gate>(
     rt: &R,
     alloc: Global,
     terms: Terms,
     input: &mut S,
     out: &mut K,
+    gate: &G,
 ) -> Result<Ending, Put>
     requires { IsBudget terms.budget }
     ensures acquires { IfOk result (Acquires terms (S.left input.old) (K.written out.old) (S.left input.new) (K.written out.new)) }
@@ -316,7 +327,7 @@ fn try_input<R: Threads + Sync, S: Source, K: Sink>(
         Err(AllFault::Memory) => return Err(Put::Memory),
     };
     match read_vocabulary(alloc, &line) {
-        Ok(lang) => try_language(rt, alloc, lang, terms, input, out),
+        Ok(lang) => try_language(rt, alloc, lang, terms, input, out, gate),
         Err(VocFault::Memory) => Err(Put::Memory),
         Err(fault) => refuse(alloc, fault, out),
     }
@@ -344,13 +355,14 @@ fn command_asked(alloc: Global, words: &[String]) -> Result<Command, WordsFault>
 
 /// What the program does, and how it ends where the output takes all: a command over the journal on the disk, or one that
 /// touches no disk.
-fn perform<R: Threads + Sync, S: Source, K: Sink, D: Disk>(
+fn perform<R: Threads + Sync, S: Source, K: Sink, D: Disk, G: Gate>(
     rt: &R,
     alloc: Global,
     words: &[String],
     input: &mut S,
     out: &mut K,
     disk: &mut D,
+    gate: &G,
 ) -> Result<Ending, Put>
     ensures acquires { (plan : Plan) (budget : ℕ) → command_asked (map string_bytes words.now) ≡ Ok (Command.Try plan budget) →
         Acquires (terms_with plan budget) (S.left input.old) (K.written out.old) (S.left input.new) (K.written out.new) (ended_as result) }
@@ -359,6 +371,8 @@ fn perform<R: Threads + Sync, S: Source, K: Sink, D: Disk>(
         News D.content D.may_leave D.moment D.left_since plan (S.left input.old) (K.written out.old) (S.left input.new) (K.written out.new) disk.old disk.new result }
     ensures runs { (budget : ℕ) → command_asked (map string_bytes words.now) ≡ Ok (Command.Run budget) →
         RunsOn D.content D.may_leave D.moment D.left_since budget (S.left input.old) (K.written out.old) (S.left input.new) (K.written out.new) disk.old disk.new result }
+    ensures plays { (budget : ℕ) → command_asked (map string_bytes words.now) ≡ Ok (Command.Play budget) →
+        PlaysOn D.content D.may_leave D.moment D.left_since budget (S.left input.old) (K.written out.old) (S.left input.new) (K.written out.new) disk.old disk.new result }
     ensures shows { command_asked (map string_bytes words.now) ≡ Ok Command.Show →
         Shows D.content D.may_leave D.moment D.left_since (S.left input.old) (K.written out.old) (K.written out.new) disk.old disk.new result }
     ensures unread { is_reading (command_asked (map string_bytes words.now)) ≡ false → S.left input.new ≡ S.left input.old }
@@ -376,22 +390,32 @@ fn perform<R: Threads + Sync, S: Source, K: Sink, D: Disk>(
     };
     match command {
         Command::New(plan) => new_journal(alloc, plan, input, out, disk),
-        Command::Run(budget) => run_journal(rt, alloc, budget, input, out, disk),
-        Command::Try(plan, budget) => try_input(rt, alloc, Terms { plan, budget }, input, out),
+        Command::Run(budget) => run_journal(rt, alloc, budget, input, out, disk, gate),
+        Command::Try(plan, budget) => try_input(
+            rt,
+            alloc,
+            Terms { plan, budget },
+            input,
+            out,
+            gate,
+        ),
         Command::Show => show_journal(alloc, out, disk),
-        // These aren't built yet.
-        Command::Play(_) | Command::Demo(_, _) => refuse_words(UsageFault::Words, out),
+        Command::Play(budget) => play_journal(rt, alloc, budget, input, out, disk, gate),
+        // This isn't built yet.
+        Command::Demo(_, _) => refuse_words(UsageFault::Words, out),
     }
 }
 
-/// The program: reads the words, and does what they ask for with the input, the output and the disk.
-pub fn acquire<R: Threads + Sync, S: Source, K: Sink, D: Disk>(
+/// The program: reads the words, and does what they ask for with the input, the output and the disk. The gate does the searches
+/// for questions.
+pub fn acquire<R: Threads + Sync, S: Source, K: Sink, D: Disk, G: Gate>(
     rt: &R,
     alloc: Global,
     words: &[String],
     input: &mut S,
     out: &mut K,
     disk: &mut D,
+    gate: &G,
 ) -> Ending
     ensures acquires { (plan : Plan) (budget : ℕ) → command_asked (map string_bytes words.now) ≡ Ok (Command.Try plan budget) →
         Acquires (terms_with plan budget) (S.left input.old) (K.written out.old) (S.left input.new) (K.written out.new) result }
@@ -400,6 +424,8 @@ pub fn acquire<R: Threads + Sync, S: Source, K: Sink, D: Disk>(
         × News D.content D.may_leave D.moment D.left_since plan (S.left input.old) (K.written out.old) (S.left input.new) (K.written out.new) disk.old disk.new got }
     ensures runs { (budget : ℕ) → command_asked (map string_bytes words.now) ≡ Ok (Command.Run budget) → (got : _) × (result ≡ ended_as got)
         × RunsOn D.content D.may_leave D.moment D.left_since budget (S.left input.old) (K.written out.old) (S.left input.new) (K.written out.new) disk.old disk.new got }
+    ensures plays { (budget : ℕ) → command_asked (map string_bytes words.now) ≡ Ok (Command.Play budget) → (got : _) × (result ≡ ended_as got)
+        × PlaysOn D.content D.may_leave D.moment D.left_since budget (S.left input.old) (K.written out.old) (S.left input.new) (K.written out.new) disk.old disk.new got }
     ensures shows { command_asked (map string_bytes words.now) ≡ Ok Command.Show → (got : _) × (result ≡ ended_as got)
         × Shows D.content D.may_leave D.moment D.left_since (S.left input.old) (K.written out.old) (K.written out.new) disk.old disk.new got }
     ensures unread { is_reading (command_asked (map string_bytes words.now)) ≡ false → S.left input.new ≡ S.left input.old }
@@ -407,14 +433,11 @@ pub fn acquire<R: Threads + Sync, S: Source, K: Sink, D: Disk>(
         × EndsWith (Ending.Usage fault) usage_text (K.written out.old) (K.written out.new) got }
     ensures usage { (fault : UsageFault) → result ≡ Ending.Usage fault → command_asked (map string_bytes words.now) ≡ Err fault }
     ensures causes { TellsCauses (S.faults input.old) (S.faults input.new) (K.faults out.old) (K.faults out.new) (D.faults disk.old) (D.faults disk.new) result }
-    // `new` and `show` are done, and a journal is refused, exactly where the bytes say so.
-    ensures made { (plan : Plan) → command_asked (map string_bytes words.now) ≡ Ok (Command.New plan) → NewEnds (S.left input.old) (D.content disk.old) result }
-    ensures opened { (budget : ℕ) → command_asked (map string_bytes words.now) ≡ Ok (Command.Run budget) → RunEnds (D.content disk.old) result }
-    ensures shown { command_asked (map string_bytes words.now) ≡ Ok Command.Show → ShowEnds (D.content disk.old) result }
+    ensures exactly { EndsExactly (command_asked (map string_bytes words.now)) (S.left input.old) (D.content disk.old) result }
 {
     // a law: what refuses a file is the only reason
     no_two_readings();
-    match perform(rt, alloc, words, input, out, disk) {
+    match perform(rt, alloc, words, input, out, disk, gate) {
         Ok(ending) => ending,
         Err(Put::Failed) => Ending::WriteFault,
         Err(Put::Memory) => Ending::Memory,

@@ -7,6 +7,7 @@ use crate::small::{
 use acq_cli::acquire;
 use acq_io::{PlainSink, PlainSource};
 use disk_model::{MemDisk, Room};
+use par_screen::FreeGate;
 use std::alloc::{AllocError, Global};
 use std::test::Fail;
 use std::thread::Threads;
@@ -287,7 +288,15 @@ fn run_of(
     let mut sink = PlainSink::new(alloc);
     let room = Room { bytes: 0, calls: 0 };
     let mut disk = MemDisk::new(alloc, Vec::new(alloc), Vec::new(alloc), room)?;
-    acquire(rt, alloc, &small.words, &mut source, &mut sink, &mut disk);
+    acquire(
+        rt,
+        alloc,
+        &small.words,
+        &mut source,
+        &mut sink,
+        &mut disk,
+        &FreeGate,
+    );
     match std::str::from_utf8(sink.bytes()) {
         Ok(text) => Ok(read_run(alloc, small, text, path)?),
         Err(_) => Err(Fail::from("what is printed is no text")),

@@ -132,9 +132,9 @@ impl<'a, R: Files<File = File>> Disk for FileDisk<'a, R> {
         let Some(file) = &self.file else {
             return Ok(0);
         };
-        match file.metadata() {
-            Ok(about) => Ok(about.len()),
-            Err(_) => Err(self.fault()),
+        match length_of(file) {
+            Some(length) => Ok(length),
+            None => Err(self.fault()),
         }
     }
 
@@ -165,18 +165,34 @@ impl<'a, R: Files<File = File>> Disk for FileDisk<'a, R> {
     }
 }
 
-/// Reads until the buffer is full or the file ends.
+/// How long a file is. Asked again where a signal interrupts the call.
+fn length_of(file: &File) -> Option<u64> {
+    for _turn in 0..u64::MAX {
+        match file.metadata() {
+            Ok(about) => return Some(about.len()),
+            Err(error) if error.kind() == ErrorKind::Interrupted => {}
+            Err(_) => return None,
+        }
+    }
+    None
+}
+
+/// Reads until the buffer is full or the file ends, and again where a signal interrupts the call.
 fn read_all(file: &File, at: u64, buf: &mut [u8]) -> Option<usize>
     ensures { IfSome result (λ n. n ≤ length buf.old) }
 {
     let mut done = 0;
-    while done < buf.len() {
+    for _turn in 0..u64::MAX {
+        if done >= buf.len() {
+            return Some(done);
+        }
         let place = at.checked_add(done as u64)?;
         match file.read_at(&mut buf[done..], place) {
             Ok(0) => return Some(done),
             Ok(count) => done += count,
+            Err(error) if error.kind() == ErrorKind::Interrupted => {}
             Err(_) => return None,
         }
     }
-    Some(done)
+    None
 }

@@ -2,14 +2,17 @@
 #![tactic(auto)]
 
 mod file;
+mod input;
 
 use crate::file::FileDisk;
+use crate::input::Buffered;
 use acq_cli::{Ending, JournalPlace, WordsFault, acquire, read_words};
 use acq_io::{StdSink, StdSource};
 use disk_model::{MemDisk, Room};
+use par_screen::FreeGate;
 use std::alloc::Global;
 use std::env;
-use std::io::ErrorKind;
+use std::io::{ErrorKind, Input};
 use std::process::ExitCode;
 use std::rt::Env;
 
@@ -47,11 +50,19 @@ fn main(rt: HostRuntime) -> ExitCode {
     let Some(place) = place_of(rt.alloc(), &words) else {
         return ExitCode::from(Ending::Memory.status());
     };
-    let mut input = StdSource::new(rt.stdin());
+    let mut input = StdSource::new(Buffered::new(rt.reader()));
     let mut out = StdSink::new(rt.stdout());
     if let JournalPlace::File(name) = &place {
         let mut disk = FileDisk::new(&rt, name);
-        let ending = acquire(&rt, rt.alloc(), &words, &mut input, &mut out, &mut disk);
+        let ending = acquire(
+            &rt,
+            rt.alloc(),
+            &words,
+            &mut input,
+            &mut out,
+            &mut disk,
+            &FreeGate,
+        );
         return ExitCode::from(ending.status());
     }
     let room = Room {
@@ -62,6 +73,14 @@ fn main(rt: HostRuntime) -> ExitCode {
     else {
         return ExitCode::from(Ending::Memory.status());
     };
-    let ending = acquire(&rt, rt.alloc(), &words, &mut input, &mut out, &mut disk);
+    let ending = acquire(
+        &rt,
+        rt.alloc(),
+        &words,
+        &mut input,
+        &mut out,
+        &mut disk,
+        &FreeGate,
+    );
     ExitCode::from(ending.status())
 }

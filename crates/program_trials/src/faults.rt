@@ -3,6 +3,7 @@
 use crate::runs::{no_disk, vocabulary_of, words_of};
 use acq_cli::acquire;
 use acq_io::{MemSink, MemSource};
+use par_screen::FreeGate;
 use std::test::Fail;
 
 /// The bytes of the vocabulary and its newline.
@@ -32,7 +33,15 @@ fn each_call_fails_in_turn(rt: HostRuntime) -> Result<(), Fail> {
         let mut source = MemSource::new(input.into_bytes(), fails);
         let mut sink = MemSink::new(alloc, vec![in alloc; *write]?);
         let mut disk = no_disk(alloc)?;
-        let ending = acquire(&rt, alloc, &words, &mut source, &mut sink, &mut disk);
+        let ending = acquire(
+            &rt,
+            alloc,
+            &words,
+            &mut source,
+            &mut sink,
+            &mut disk,
+            &FreeGate,
+        );
         assert_eq!(rt; ending.status(), *status, "{read} {write}");
         assert_eq!(rt; sink.bytes(), wanted.as_bytes());
         assert_eq!(rt; source.left().len(), *left);
@@ -44,13 +53,26 @@ fn each_call_fails_in_turn(rt: HostRuntime) -> Result<(), Fail> {
 #[test]
 fn nothing_is_read_or_written(rt: HostRuntime) -> Result<(), Fail> {
     let alloc = rt.alloc();
-    let words = words_of(alloc, ":memory: try")?;
-    for (read, write, wanted) in [(0u32, 9u32, 8u8), (9999, 0, 9)] {
+    for (line, read, write, wanted) in [
+        (":memory: try", 0u32, 9u32, 8u8),
+        (":memory: try", 9999, 0, 9),
+        (":memory: try --plan scopes", 0, 9, 8),
+        (":memory: try --plan scopes", 9999, 0, 9),
+    ] {
+        let words = words_of(alloc, line)?;
         let input = String::from_str(alloc, vocabulary_of("two"))?;
         let mut source = MemSource::new(input.into_bytes(), vec![in alloc; read]?);
         let mut sink = MemSink::new(alloc, vec![in alloc; write]?);
         let mut disk = no_disk(alloc)?;
-        let ending = acquire(&rt, alloc, &words, &mut source, &mut sink, &mut disk);
+        let ending = acquire(
+            &rt,
+            alloc,
+            &words,
+            &mut source,
+            &mut sink,
+            &mut disk,
+            &FreeGate,
+        );
         assert_eq!(rt; ending.status(), wanted);
         assert!(rt; sink.bytes().is_empty());
     }

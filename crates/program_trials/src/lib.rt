@@ -7,6 +7,10 @@ mod faults;
 #[cfg(test)]
 mod journals;
 #[cfg(test)]
+mod plays;
+#[cfg(test)]
+mod refused;
+#[cfg(test)]
 mod rows;
 #[cfg(test)]
 mod runs;

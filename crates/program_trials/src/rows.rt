@@ -24,6 +24,10 @@ const ROWS: &str = "|two|yes no|q1 a=1 b=2/q2 a=1 b=1/converged 2/ne a b/|0
 --plan=scopes|order|no no no|q1 a=1 b=1/q2 a=1 b=2/q3 a=2 b=1/converged 3/le&ge&ne a b/|0
 --plan scopes|two|no yes|q1 a=1 b=1/q2 a=1 b=2/converged 2/ne a b/|0
 --plan scopes|tuples|no no|q1 a=1 b=1/q2 a=1 b=2/converged 2/eq&ne a b/|0
+--plan scopes|none|yes yes|q1 a=1 b=1/q2 a=1 b=2/converged 2/|0
+--plan scopes|none||q1 a=1 b=1/suspended 0/|6
+--plan scopes|none|stop|q1 a=1 b=1/suspended 0/|6
+--plan scopes|none|maybe no yes|q1 a=1 b=1/not an answer/q2 a=1 b=2/converged 2/ne a b/|0
 --plan scopes|none|no no|q1 a=1 b=1/q2 a=1 b=2/converged 2/eq&ne&none a b/|0
 --plan scopes --budget 1|two|no yes|q1 a=1 b=1/q2 a=1 b=2/converged 2/ne a b/|0
 --budget=1000000000 --plan=quacq|two|yes no|q1 a=1 b=2/q2 a=1 b=1/converged 2/ne a b/|0
@@ -63,7 +67,7 @@ fn rows(rt: HostRuntime) -> Result<(), Fail> {
 }
 
 /// Words that are refused, and why.
-static REFUSED: [(&str, UsageFault); 10] = [
+static REFUSED: [(&str, UsageFault); 9] = [
     ("", UsageFault::Words),
     ("--help", UsageFault::Words),
     (":memory: try --budget 0", UsageFault::Words),
@@ -72,9 +76,8 @@ static REFUSED: [(&str, UsageFault); 10] = [
     (":memory: demo", UsageFault::Unfit),
     ("j run --plan quacq", UsageFault::Unfit),
     ("j run --plan multi", UsageFault::Unfit),
-    // These commands aren't built yet.
+    // This command isn't built yet.
     (":memory: demo --number 0", UsageFault::Words),
-    ("j play", UsageFault::Words),
 ];
 
 #[test]
@@ -93,41 +96,115 @@ fn refused_words(rt: HostRuntime) -> Result<(), Fail> {
     Ok(())
 }
 
-/// Answer lines: a text that is repeated so many times, between two others. How often it is said that a line is no answer,
-/// what is printed after that, and the status.
-static LINES: [(&str, &str, usize, &str, usize, &str, u8); 4] = [
+/// Answer lines: the options, the vocabulary and its first question; a text that is repeated so many times, between two
+/// others. How often it is said that a line is no answer, what is printed after that, and the status.
+type Lines = (
+    &'static str,
+    &'static str,
+    &'static str,
+    (&'static str, &'static str, usize, &'static str),
+    usize,
+    &'static str,
+    u8,
+);
+
+const TWO: &str = "q2 a=1 b=1\nconverged 2\nne a b\n";
+
+const NONE: &str = "q2 a=1 b=2\nconverged 2\nne a b\n";
+
+const LINES_REFUSED: &str = "refused lines\n";
+
+const LINE_REFUSED: &str = "refused line too long\n";
+
+static LINES: [Lines; 8] = [
     (
         "",
-        "maybe\n",
+        "two",
+        "q1 a=1 b=2\n",
+        ("", "maybe\n", 999, "yes\nno\n"),
         999,
-        "yes\nno\n",
-        999,
-        "q2 a=1 b=1\nconverged 2\nne a b\n",
+        TWO,
         0,
     ),
-    ("", "maybe\n", 1000, "", 999, "refused lines\n", 7),
     (
-        "yes",
-        " ",
-        253,
-        "\nno\n",
+        "",
+        "two",
+        "q1 a=1 b=2\n",
+        ("", "maybe\n", 1000, ""),
+        999,
+        LINES_REFUSED,
+        7,
+    ),
+    (
+        "",
+        "two",
+        "q1 a=1 b=2\n",
+        ("yes", " ", 253, "\nno\n"),
         0,
-        "q2 a=1 b=1\nconverged 2\nne a b\n",
+        TWO,
         0,
     ),
-    ("yes", " ", 254, "\n", 0, "refused line too long\n", 7),
+    (
+        "",
+        "two",
+        "q1 a=1 b=2\n",
+        ("yes", " ", 254, "\n"),
+        0,
+        LINE_REFUSED,
+        7,
+    ),
+    (
+        "--plan scopes",
+        "none",
+        "q1 a=1 b=1\n",
+        ("", "maybe\n", 999, "no\nyes\n"),
+        999,
+        NONE,
+        0,
+    ),
+    (
+        "--plan scopes",
+        "none",
+        "q1 a=1 b=1\n",
+        ("", "maybe\n", 1000, ""),
+        999,
+        LINES_REFUSED,
+        7,
+    ),
+    (
+        "--plan scopes",
+        "none",
+        "q1 a=1 b=1\n",
+        ("no", " ", 254, "\nyes\n"),
+        0,
+        NONE,
+        0,
+    ),
+    (
+        "--plan scopes",
+        "none",
+        "q1 a=1 b=1\n",
+        ("no", " ", 255, "\n"),
+        0,
+        LINE_REFUSED,
+        7,
+    ),
 ];
 
 #[test]
 fn answer_lines(rt: HostRuntime) -> Result<(), Fail> {
     let alloc = rt.alloc();
-    let vocabulary = vocabulary_of("two");
-    for (head, piece, count, end, said, rest, status) in &LINES {
+    for (options, vocabulary, question, (head, piece, count, end), said, rest, status) in &LINES {
+        let vocabulary = vocabulary_of(vocabulary);
         let lines = repeated(alloc, head, piece, *count, end)?;
         let input = format!(in alloc; "{vocabulary}\n{lines}")?;
-        let wanted = repeated(alloc, "q1 a=1 b=2\n", "not an answer\n", *said, rest)?;
-        let ran = try_with(&rt, alloc, "", &input)?;
-        assert_eq!(rt; ran.status, *status, "{head} {piece} {count} {end}");
+        let wanted = repeated(alloc, question, "not an answer\n", *said, rest)?;
+        let ran = try_with(&rt, alloc, options, &input)?;
+        assert_eq!(rt;
+            ran.status,
+            *status,
+            "{options} {head} {piece} {count} {end}"
+        );
         assert_eq!(rt; ran.text, wanted);
     }
     Ok(())

@@ -3,6 +3,7 @@
 use acq_cli::{Ending, acquire};
 use acq_io::{PlainSink, PlainSource};
 use disk_model::{MemDisk, Memory, Room};
+use par_screen::FreeGate;
 use std::alloc::{AllocError, Global};
 use std::test::Fail;
 use std::thread::Threads;
@@ -94,7 +95,7 @@ pub(crate) fn run_on(
     let words = words_of(alloc, line)?;
     let mut source = PlainSource::new(String::from_str(alloc, input)?.into_bytes());
     let mut sink = PlainSink::new(alloc);
-    let ending = acquire(rt, alloc, &words, &mut source, &mut sink, disk);
+    let ending = acquire(rt, alloc, &words, &mut source, &mut sink, disk, &FreeGate);
     let Ok(text) = std::str::from_utf8(sink.bytes()) else {
         return Err(Fail::from("what is printed is no text"));
     };

@@ -1,30 +1,32 @@
 use Rattle.std.proofs.Common.{◌∷◌, [], length-append, Bool, Option, Some, None, ◌≡◌, ◌∙◌, ◌+◌, List, length, ap, sym, subst, arith, refl}
 use Rattle.assign.specs.Assignment.{Assignment}
-use Rattle.assign.specs.Events.{Answer}
+use Rattle.assign.specs.declared.events.Event.{Event}
 use Rattle.assign.specs.declared.events.Plan.{Plan}
 use Rattle.language.specs.Language.{Language, IsLanguage}
 use Rattle.language.specs.Answers.{standing_on}
 use Rattle.query_gen.specs.Marks.{IsMadeFor}
+use Rattle.par_screen.specs.Eighths.{AreMadeFor}
 use Rattle.session_laws.specs.Laws.{network_in}
 use Rattle.session_core.specs.Settled.{IsSettled}
 use Rattle.target_oracle.specs.Turns.{Turns}
+use Rattle.acq_cli.specs.Closings.{closing_of}
 use Rattle.acq_cli.specs.Driven.{Point, Drives, Loses, Remembers, StepsTo}
 use Rattle.acq_cli.specs.Due.{IsOneMore}
 use Rattle.acq_cli.specs.Loop.{TellsCandidates}
 use Rattle.acq_cli.specs.declared.driving.Drove.{Drove}
 use Rattle.acq_cli.specs.declared.driving.Drove.TheVariants as drove
-use Rattle.session_store.specs.Keeping.{keeps_still, keeps_then, keeps_as}
+use Rattle.session_store.specs.Keeping.{keeps_still, keeps_then, keeps_as, rose_later}
 use Rattle.acq_cli.specs.Points.{point_of, terms_with}
 use Rattle.query_gen.proofs.Marking.{no_marks_hold}
-use Rattle.acq_cli.proofs.Standings.{carried, reached, few_answers}
+use Rattle.acq_cli.proofs.Standings.{carried}
 use Rattle.acq_cli.specs.Added.{IsAdded}
-use Rattle.acq_cli.proofs.Added.{added_none, added_then}
+use Rattle.acq_cli.proofs.Added.{added_none, added_then, added_more}
 use Rattle.acq_cli.proofs.Owners.{owned}
 use Rattle.acq_cli.proofs.Walked.{leaves_nothing}
 use Rattle.acq_cli.proofs.Turning.{steps_on, steps_end, steps_loses, steps_none}
 use Rattle.acq_cli.proofs.driving.drive.Goals as goal
 
-more_by_one : (old new : List Answer) → IsOneMore old new → length new ≡ length old + 1
+more_by_one : (old new : List Event) → IsOneMore old new → length new ≡ length old + 1
 more_by_one old new one = ap length one.is ∙ length-append old (one.more ∷ [])
 
 not_failed : None ≡ Some drove.DiskFault → ⊥
@@ -36,10 +38,11 @@ some_same d e = cc
 pub loop-turn-init : goal.loop-turn-init
 loop-turn-init g c =
     let l : Language = g.P.Keep.lang c.args.keep.now in
-    let a : Point = point_of (standing_on l (g.P.Keep.record_of c.args.keep.now)) (g.S.Source.left c.args.source.now) (g.K.Sink.written c.args.sink.now) in
+    let a : Point = point_of (g.P.Keep.record_of c.args.keep.now) (g.S.Source.left c.args.source.now) (g.K.Sink.written c.args.sink.now) in
     record {
       sound = c.requires.keeper.sound;
       settled = c.requires.start.settled;
+      places = c.requires.start.equipped;
       screen = c.requires.start.made;
       remembers = λ state at. no_marks_hold l (network_in state) c.args.budget c.args.screen.now c.requires.start.unmarked;
       plan = refl;
@@ -49,7 +52,8 @@ loop-turn-init g c =
       steps = steps_none (g.T.Teacher.turn c.args.teacher.now) l (terms_with (g.P.Keep.plan c.args.keep.now) c.args.budget) a;
       later = omega arith;
       later_sink = omega arith;
-      added = added_none l (g.P.Keep.plan c.args.keep.now) (g.P.Keep.record_of c.args.keep.now) (g.P.Keep.record_of c.args.keep.now) refl;
+      no_more = λ m q told may. may;
+      added = added_none l (g.P.Keep.plan c.args.keep.now) (g.T.Teacher.may_say c.args.teacher.now l) (g.P.Keep.record_of c.args.keep.now) (g.P.Keep.record_of c.args.keep.now) refl;
       keeps =
           let D = g.D.Disk in let P = g.P.Keep in
           keeps_still D.content D.may_leave D.moment D.left_since g.met.D.Disk.counts_now g.met.D.Disk.only_now P.plan P.voc P.record_of P.question P.writes P.live P.sits D.faults ⊥ (λ q r. ⊥) c.args.keep.now c.args.keep.now c.args.disk.now (λ e. e) refl refl refl refl refl c.requires.keeper.live c.requires.keeper.sits
@@ -62,22 +66,28 @@ returns-in-Some-clause-ends g c =
     let l : Language = g.P.Keep.lang c.args.keep.now in
     let p : Plan = g.P.Keep.plan c.args.keep.now in
     let turns : Turns = g.T.Teacher.turn c.args.teacher.now in
-    let a : Point = point_of (standing_on l (g.P.Keep.record_of c.args.keep.now)) (g.S.Source.left c.args.source.now) (g.K.Sink.written c.args.sink.now) in
-    let b : Language → Point = λ m. point_of (standing_on m (g.P.Keep.record_of c.loop-turn.keep)) (g.S.Source.left c.loop-turn.source) (g.K.Sink.written c.loop-turn.sink) in
-    let d : Language → Point = λ m. point_of (standing_on m (g.P.Keep.record_of c.take_turn.new.keep)) (g.S.Source.left c.take_turn.new.source) (g.K.Sink.written c.take_turn.new.sink) in
+    let a : Point = point_of (g.P.Keep.record_of c.args.keep.now) (g.S.Source.left c.args.source.now) (g.K.Sink.written c.args.sink.now) in
+    let b : Point = point_of (g.P.Keep.record_of c.loop-turn.keep) (g.S.Source.left c.loop-turn.source) (g.K.Sink.written c.loop-turn.sink) in
+    let d : Point = point_of (g.P.Keep.record_of c.take_turn.new.keep) (g.S.Source.left c.take_turn.new.source) (g.K.Sink.written c.take_turn.new.sink) in
     let old : Language = g.P.Keep.lang c.loop-turn.keep in
-    let Turned : Turns → Type 0 = λ t. Drives t old (terms_with (g.P.Keep.plan c.loop-turn.keep) c.args.budget) (b old) (d old) c.in-Some.drove in
-    let Spoken : Language → Plan → Type 0 = λ m q. Drives turns m (terms_with q c.args.budget) (b m) (d m) c.in-Some.drove in
-    let Stepped : Language → Type 0 = λ m. StepsTo turns l (terms_with p c.args.budget) a (b m) in
-    steps_end turns l (terms_with p c.args.budget) a (b l) (d l) c.in-Some.drove (subst Stepped c.loop-turn.invariant.lang c.loop-turn.invariant.steps)
+    let Turned : Turns → Type 0 = λ t. Drives t old (terms_with (g.P.Keep.plan c.loop-turn.keep) c.args.budget) b d c.in-Some.drove in
+    let Spoken : Language → Plan → Type 0 = λ m q. Drives turns m (terms_with q c.args.budget) b d c.in-Some.drove in
+    steps_end turns l (terms_with p c.args.budget) a b d c.in-Some.drove c.loop-turn.invariant.steps
     (carried Spoken old l (g.P.Keep.plan c.loop-turn.keep) p c.loop-turn.invariant.lang c.loop-turn.invariant.plan (subst Turned c.loop-turn.invariant.turn c.in-Some.ensures.ends.ends))
 
 pub returns-in-Some-clause-owner : goal.returns-in-Some-clause-owner
 returns-in-Some-clause-owner g c owner lawful agreeing =
     let l : Language = g.P.Keep.lang c.args.keep.now in
-    let a : Point = point_of (standing_on l (g.P.Keep.record_of c.args.keep.now)) (g.S.Source.left c.args.source.now) (g.K.Sink.written c.args.sink.now) in
-    owned (g.T.Teacher.turn c.args.teacher.now) l (terms_with (g.P.Keep.plan c.args.keep.now) c.args.budget) a (standing_on l (g.P.Keep.record_of c.take_turn.new.keep))
-    (g.S.Source.left c.take_turn.new.source) (g.K.Sink.written c.take_turn.new.sink) c.in-Some.drove owner (returns-in-Some-clause-ends g c) lawful agreeing
+    owned l (terms_with (g.P.Keep.plan c.args.keep.now) c.args.budget) (standing_on l (g.P.Keep.record_of c.take_turn.new.keep)) (closing_of c.in-Some.drove) owner (returns-in-Some-clause-ends g c).says.found lawful agreeing
+
+pub returns-in-Some-clause-never_full : goal.returns-in-Some-clause-never_full
+returns-in-Some-clause-never_full g c = c.in-Some.ensures.ends.never_full
+
+pub returns-in-Some-clause-faults : goal.returns-in-Some-clause-faults
+returns-in-Some-clause-faults g c = record {
+  read = record { later = omega (arith, c.take_turn.ensures.read.later, c.loop-turn.invariant.later); rose = λ is. rose_later _ _ _ c.loop-turn.invariant.later (c.take_turn.ensures.read.rose (c.in-Some.is ∙ ap (λ (d : Drove). Some d) is)) };
+  write = record { later = omega (arith, c.take_turn.ensures.write.later, c.loop-turn.invariant.later_sink); rose = λ is. rose_later _ _ _ c.loop-turn.invariant.later_sink (c.take_turn.ensures.write.rose (c.in-Some.is ∙ ap (λ (d : Drove). Some d) is)) };
+}
 
 pub returns-in-Some-clause-open : goal.returns-in-Some-clause-open
 returns-in-Some-clause-open g c =
@@ -102,47 +112,46 @@ loop-turn-preserved g c =
     let l : Language = g.P.Keep.lang c.args.keep.now in
     let p : Plan = g.P.Keep.plan c.args.keep.now in
     let turns : Turns = g.T.Teacher.turn c.args.teacher.now in
-    let a : Point = point_of (standing_on l (g.P.Keep.record_of c.args.keep.now)) (g.S.Source.left c.args.source.now) (g.K.Sink.written c.args.sink.now) in
-    let b : Language → Point = λ m. point_of (standing_on m (g.P.Keep.record_of c.loop-turn.keep)) (g.S.Source.left c.loop-turn.source) (g.K.Sink.written c.loop-turn.sink) in
-    let d : Language → Point = λ m. point_of (standing_on m (g.P.Keep.record_of c.take_turn.new.keep)) (g.S.Source.left c.take_turn.new.source) (g.K.Sink.written c.take_turn.new.sink) in
+    let a : Point = point_of (g.P.Keep.record_of c.args.keep.now) (g.S.Source.left c.args.source.now) (g.K.Sink.written c.args.sink.now) in
+    let b : Point = point_of (g.P.Keep.record_of c.loop-turn.keep) (g.S.Source.left c.loop-turn.source) (g.K.Sink.written c.loop-turn.sink) in
+    let d : Point = point_of (g.P.Keep.record_of c.take_turn.new.keep) (g.S.Source.left c.take_turn.new.source) (g.K.Sink.written c.take_turn.new.sink) in
     let old : Language = g.P.Keep.lang c.loop-turn.keep in
     let new : Language = g.P.Keep.lang c.take_turn.new.keep in
     let before : Plan = g.P.Keep.plan c.loop-turn.keep in
     let after : Plan = g.P.Keep.plan c.take_turn.new.keep in
-    let Turned : Turns → Type 0 = λ t. StepsTo t old (terms_with before c.args.budget) (b old) (d old) in
-    let Spoken : Language → Plan → Type 0 = λ m q. StepsTo turns m (terms_with q c.args.budget) (b m) (d m) in
-    let Stepped : Language → Type 0 = λ m. StepsTo turns l (terms_with p c.args.budget) a (b m) in
-    let Ended : Language → Type 0 = λ m. StepsTo turns l (terms_with p c.args.budget) a (d m) in
+    let Turned : Turns → Type 0 = λ t. StepsTo t old (terms_with before c.args.budget) b d in
+    let Spoken : Language → Plan → Type 0 = λ m q. StepsTo turns m (terms_with q c.args.budget) b d in
     let Settled : Language → Plan → Type 0 = λ m q. IsSettled m q (standing_on m (g.P.Keep.record_of c.take_turn.new.keep)) (g.P.Keep.question c.take_turn.new.keep) in
     let Remembered : Language → Plan → Type 0 = λ m q. Remembers m (terms_with q c.args.budget) (standing_on m (g.P.Keep.record_of c.take_turn.new.keep)) c.take_turn.new.screen in
+    let Equipped : Language → Type 0 = λ m. AreMadeFor m c.take_turn.new.places in
     let Made : Language → Type 0 = λ m. IsMadeFor m c.take_turn.new.screen in
     let Fits : Language → Type 0 = λ m. g.T.Teacher.fits c.take_turn.new.teacher m in
-    let still : l ≡ new = sym (c.take_turn.ensures.same.lang ∙ c.loop-turn.invariant.lang) in
-    let one : length (standing_on old (g.P.Keep.record_of c.take_turn.new.keep)) ≡ length (standing_on old (g.P.Keep.record_of c.loop-turn.keep)) + 1 = more_by_one _ _ (c.take_turn.ensures.again c.in_default.is).one_more in
-    let same : length (standing_on new (g.P.Keep.record_of c.take_turn.new.keep)) ≡ length (standing_on old (g.P.Keep.record_of c.take_turn.new.keep)) =
-    ap (λ m. length (standing_on m (g.P.Keep.record_of c.take_turn.new.keep))) c.take_turn.ensures.same.lang in
+    let one : length (g.P.Keep.record_of c.take_turn.new.keep) ≡ length (g.P.Keep.record_of c.loop-turn.keep) + 1 = more_by_one _ _ (c.take_turn.ensures.again c.in_default.is).one_more in
     record {
       sound = c.take_turn.ensures.same.sound;
       settled = carried Settled old new before after (sym c.take_turn.ensures.same.lang) (sym c.take_turn.ensures.same.plan) (c.take_turn.ensures.ready c.in_default.is).settled;
+      places = subst Equipped (sym c.take_turn.ensures.same.lang) (c.take_turn.ensures.ready c.in_default.is).equipped;
       screen = subst Made (sym c.take_turn.ensures.same.lang) (c.take_turn.ensures.ready c.in_default.is).made;
       remembers = carried Remembered old new before after (sym c.take_turn.ensures.same.lang) (sym c.take_turn.ensures.same.plan) (c.take_turn.ensures.ready c.in_default.is).hold;
       plan = c.take_turn.ensures.same.plan ∙ c.loop-turn.invariant.plan;
       lang = c.take_turn.ensures.same.lang ∙ c.loop-turn.invariant.lang;
       fits = subst Fits (sym c.take_turn.ensures.same.lang) (c.take_turn.ensures.teacher.fits old c.loop-turn.invariant.fits);
       turn = c.take_turn.ensures.teacher.turn ∙ c.loop-turn.invariant.turn;
-      steps = subst Ended still (steps_on turns l (terms_with p c.args.budget) a (b l) (d l) (subst Stepped c.loop-turn.invariant.lang c.loop-turn.invariant.steps)
-          (carried Spoken old l before p c.loop-turn.invariant.lang c.loop-turn.invariant.plan (subst Turned c.loop-turn.invariant.turn (c.take_turn.ensures.again c.in_default.is).steps)));
+      steps = steps_on turns l (terms_with p c.args.budget) a b d c.loop-turn.invariant.steps
+          (carried Spoken old l before p c.loop-turn.invariant.lang c.loop-turn.invariant.plan (subst Turned c.loop-turn.invariant.turn (c.take_turn.ensures.again c.in_default.is).steps));
       later = omega (arith, c.take_turn.ensures.read.later, c.loop-turn.invariant.later);
       later_sink = omega (arith, c.take_turn.ensures.write.later, c.loop-turn.invariant.later_sink);
-      added = added_then l p (g.P.Keep.record_of c.args.keep.now) (g.P.Keep.record_of c.loop-turn.keep) (g.P.Keep.record_of c.take_turn.new.keep) c.loop-turn.invariant.added
-          (let Added : Language → Plan → Type 0 = λ m q. IsAdded m q (g.P.Keep.record_of c.loop-turn.keep) (g.P.Keep.record_of c.take_turn.new.keep) in
-          carried Added old l before p c.loop-turn.invariant.lang c.loop-turn.invariant.plan c.take_turn.ensures.added);
+      no_more = λ m q told may. c.loop-turn.invariant.no_more m q told (c.take_turn.ensures.teacher.no_more m q told may);
+      added = added_then l p (g.T.Teacher.may_say c.args.teacher.now l) (g.P.Keep.record_of c.args.keep.now) (g.P.Keep.record_of c.loop-turn.keep) (g.P.Keep.record_of c.take_turn.new.keep) c.loop-turn.invariant.added
+          (let Added : Language → Plan → Type 0 = λ m q. IsAdded m q (g.T.Teacher.may_say c.loop-turn.teacher m) (g.P.Keep.record_of c.loop-turn.keep) (g.P.Keep.record_of c.take_turn.new.keep) in
+          added_more l p (g.T.Teacher.may_say c.loop-turn.teacher l) (g.T.Teacher.may_say c.args.teacher.now l) (g.P.Keep.record_of c.loop-turn.keep) (g.P.Keep.record_of c.take_turn.new.keep) (c.loop-turn.invariant.no_more l)
+          (carried Added old l before p c.loop-turn.invariant.lang c.loop-turn.invariant.plan c.take_turn.ensures.added));
       keeps =
           let D = g.D.Disk in let P = g.P.Keep in
           let Failed : Type 0 = c.take_turn.result ≡ Some drove.DiskFault in
           keeps_then D.content D.may_leave D.moment D.left_since g.met.D.Disk.counts_now g.met.D.Disk.only_now P.plan P.voc P.record_of P.question P.writes P.live P.sits D.faults ⊥ (λ q r. ⊥) (λ q r. ⊥) c.args.keep.now c.loop-turn.keep c.take_turn.new.keep c.args.disk.now c.loop-turn.disk c.take_turn.new.disk c.loop-turn.invariant.plan (λ question reply lost. lost) c.loop-turn.invariant.keeps
           (keeps_as D.content D.may_leave D.moment D.left_since g.met.D.Disk.counts_now g.met.D.Disk.only_now P.plan P.voc P.record_of P.question P.writes P.live P.sits D.faults Failed ⊥ _ (λ q r. ⊥) c.loop-turn.keep c.take_turn.new.keep c.loop-turn.disk c.take_turn.new.disk (λ e. absurd e) (λ e. not_failed (sym c.in_default.is ∙ e)) (λ bad question reply lost. bad) c.take_turn.ensures.keeps);
-      more = omega (arith, one, same, c.loop-turn.invariant.more);
+      more = omega (arith, one, c.loop-turn.invariant.more);
     }
 
 pub returns-in-Some-clause-added : goal.returns-in-Some-clause-added
@@ -150,9 +159,10 @@ returns-in-Some-clause-added g c =
     let P = g.P.Keep in
     let l : Language = P.lang c.args.keep.now in
     let p : Plan = P.plan c.args.keep.now in
-    let Added : Language → Plan → Type 0 = λ m q. IsAdded m q (P.record_of c.loop-turn.keep) (P.record_of c.take_turn.new.keep) in
-    added_then l p (P.record_of c.args.keep.now) (P.record_of c.loop-turn.keep) (P.record_of c.take_turn.new.keep) c.loop-turn.invariant.added
-    (carried Added (P.lang c.loop-turn.keep) l (P.plan c.loop-turn.keep) p c.loop-turn.invariant.lang c.loop-turn.invariant.plan c.take_turn.ensures.added)
+    let Added : Language → Plan → Type 0 = λ m q. IsAdded m q (g.T.Teacher.may_say c.loop-turn.teacher m) (P.record_of c.loop-turn.keep) (P.record_of c.take_turn.new.keep) in
+    added_then l p (g.T.Teacher.may_say c.args.teacher.now l) (P.record_of c.args.keep.now) (P.record_of c.loop-turn.keep) (P.record_of c.take_turn.new.keep) c.loop-turn.invariant.added
+    (added_more l p (g.T.Teacher.may_say c.loop-turn.teacher l) (g.T.Teacher.may_say c.args.teacher.now l) (P.record_of c.loop-turn.keep) (P.record_of c.take_turn.new.keep) (c.loop-turn.invariant.no_more l)
+    (carried Added (P.lang c.loop-turn.keep) l (P.plan c.loop-turn.keep) p c.loop-turn.invariant.lang c.loop-turn.invariant.plan c.take_turn.ensures.added))
 
 pub returns-in-Some-clause-keeps : goal.returns-in-Some-clause-keeps
 returns-in-Some-clause-keeps g c =
@@ -160,35 +170,35 @@ returns-in-Some-clause-keeps g c =
     let l : Language = P.lang c.args.keep.now in
     let p : Plan = P.plan c.args.keep.now in
     let turns : Turns = g.T.Teacher.turn c.args.teacher.now in
-    let a : Point = point_of (standing_on l (P.record_of c.args.keep.now)) (g.S.Source.left c.args.source.now) (g.K.Sink.written c.args.sink.now) in
-    let b : Language → Point = λ m. point_of (standing_on m (P.record_of c.loop-turn.keep)) (g.S.Source.left c.loop-turn.source) (g.K.Sink.written c.loop-turn.sink) in
-    let d : Language → Point = λ m. point_of (standing_on m (P.record_of c.take_turn.new.keep)) (g.S.Source.left c.take_turn.new.source) (g.K.Sink.written c.take_turn.new.sink) in
+    let a : Point = point_of (P.record_of c.args.keep.now) (g.S.Source.left c.args.source.now) (g.K.Sink.written c.args.sink.now) in
+    let b : Point = point_of (P.record_of c.loop-turn.keep) (g.S.Source.left c.loop-turn.source) (g.K.Sink.written c.loop-turn.sink) in
+    let d : Point = point_of (P.record_of c.take_turn.new.keep) (g.S.Source.left c.take_turn.new.source) (g.K.Sink.written c.take_turn.new.sink) in
     let old : Language = P.lang c.loop-turn.keep in
-    let Stepped : Language → Type 0 = λ m. StepsTo turns l (terms_with p c.args.budget) a (b m) in
     let Failed : Type 0 = c.in-Some.drove ≡ drove.DiskFault in
     let Told : Type 0 = Some c.in-Some.drove ≡ Some drove.DiskFault in
-    let Turned : Assignment → Bool → Type 0 = Loses (g.T.Teacher.turn c.loop-turn.teacher) old (terms_with (P.plan c.loop-turn.keep) c.args.budget) (b old) (d old) in
-    let Lost : Assignment → Bool → Type 0 = Loses turns l (terms_with p c.args.budget) a (d l) in
+    let Turned : Assignment → Bool → Type 0 = Loses (g.T.Teacher.turn c.loop-turn.teacher) old (terms_with (P.plan c.loop-turn.keep) c.args.budget) b d in
+    let Lost : Assignment → Bool → Type 0 = Loses turns l (terms_with p c.args.budget) a d in
     keeps_then D.content D.may_leave D.moment D.left_since g.met.D.Disk.counts_now g.met.D.Disk.only_now P.plan P.voc P.record_of P.question P.writes P.live P.sits D.faults Failed Turned Lost c.args.keep.now c.loop-turn.keep c.take_turn.new.keep c.args.disk.now c.loop-turn.disk c.take_turn.new.disk c.loop-turn.invariant.plan
     (λ question reply lost.
-    let Taught : Turns → Type 0 = λ t. Loses t old (terms_with (P.plan c.loop-turn.keep) c.args.budget) (b old) (d old) question reply in
-    let Spoken : Language → Plan → Type 0 = λ m q. Loses turns m (terms_with q c.args.budget) (b m) (d m) question reply in
-    steps_loses turns l (terms_with p c.args.budget) a (b l) (d l) question reply (subst Stepped c.loop-turn.invariant.lang c.loop-turn.invariant.steps)
+    let Taught : Turns → Type 0 = λ t. Loses t old (terms_with (P.plan c.loop-turn.keep) c.args.budget) b d question reply in
+    let Spoken : Language → Plan → Type 0 = λ m q. Loses turns m (terms_with q c.args.budget) b d question reply in
+    steps_loses turns l (terms_with p c.args.budget) a b d question reply c.loop-turn.invariant.steps
     (carried Spoken old l (P.plan c.loop-turn.keep) p c.loop-turn.invariant.lang c.loop-turn.invariant.plan (subst Taught c.loop-turn.invariant.turn lost)))
     c.loop-turn.invariant.keeps
     (keeps_as D.content D.may_leave D.moment D.left_since g.met.D.Disk.counts_now g.met.D.Disk.only_now P.plan P.voc P.record_of P.question P.writes P.live P.sits D.faults Told Failed Turned Turned c.loop-turn.keep c.take_turn.new.keep c.loop-turn.disk c.take_turn.new.disk
     (λ e. ap (λ (d : Drove). Some d) e) (λ (e : Told). some_same c.in-Some.drove e) (λ failed question reply lost. lost) c.in-Some.ensures.keeps)
 
 pub take_turn-requires-clause-keeper : goal.take_turn-requires-clause-keeper
-take_turn-requires-clause-keeper g c = record {
+take_turn-requires-clause-keeper g c lives within = record {
   sound = c.loop-turn.invariant.sound;
   live = c.loop-turn.invariant.keeps.is_live (λ e. e);
   sits = c.loop-turn.invariant.keeps.belongs;
 }
 
 pub take_turn-requires-clause-ready : goal.take_turn-requires-clause-ready
-take_turn-requires-clause-ready g c = record {
+take_turn-requires-clause-ready g c lives within = record {
   settled = c.loop-turn.invariant.settled;
+  equipped = c.loop-turn.invariant.places;
   made = c.loop-turn.invariant.screen;
   hold = c.loop-turn.invariant.remembers;
   affordable = c.requires.start.affordable;
@@ -196,7 +206,5 @@ take_turn-requires-clause-ready g c = record {
 
 pub unreachable-requires : goal.unreachable-requires
 unreachable-requires g c =
-    let t : List Answer = standing_on (g.P.Keep.lang c.loop-turn.keep) (g.P.Keep.record_of c.loop-turn.keep) in
-    let few = few_answers _ _ t (subst IsLanguage c.lang-lang.ensures.is c.lang-lang.ensures.lawful)
-    (reached c.session-session.result.now t c.session-session.ensures.stands) in
+    let few = g.met.P.Keep.few c.loop-turn.keep c.loop-turn.invariant.sound in
     omega (arith, few, c.loop-turn.invariant.more, c.loop-turn-test.false)

@@ -1,6 +1,10 @@
 use Rattle.std.proofs.Common.{◌≡◌, ◌≤◌, length}
+use Rattle.assign.specs.Assignment.{Assignment}
+use Rattle.language.specs.Language.{Language}
 use Rattle.language.specs.Answers.{standing_on}
+use Rattle.target_oracle.specs.declared.teacher.Told.{Told}
 use Rattle.query_gen.specs.Marks.{IsMadeFor}
+use Rattle.par_screen.specs.Eighths.{AreMadeFor}
 use Rattle.session_core.specs.Settled.{IsSettled}
 use Rattle.session_store.specs.Keeping.{Keeps}
 use Rattle.acq_cli.specs.Added.{IsAdded}
@@ -14,6 +18,7 @@ invariant-loop-turn g l =
     record {
       sound : g.P.Keep.sound l.keep;
       settled : IsSettled (g.P.Keep.lang l.keep) (g.P.Keep.plan l.keep) (standing_on (g.P.Keep.lang l.keep) (entries l.keep)) (g.P.Keep.question l.keep);
+      places : AreMadeFor (g.P.Keep.lang l.keep) l.places;
       screen : IsMadeFor (g.P.Keep.lang l.keep) l.screen;
       remembers : Remembers (g.P.Keep.lang l.keep) (terms_with (g.P.Keep.plan l.keep) l.fn.budget) (standing_on (g.P.Keep.lang l.keep) (entries l.keep)) l.screen;
       plan : g.P.Keep.plan l.keep ≡ g.P.Keep.plan l.initial.keep;
@@ -21,12 +26,13 @@ invariant-loop-turn g l =
       fits : g.T.Teacher.fits l.teacher (g.P.Keep.lang l.keep);
       turn : g.T.Teacher.turn l.teacher ≡ g.T.Teacher.turn l.initial.teacher;
       steps : StepsTo (g.T.Teacher.turn l.initial.teacher) (g.P.Keep.lang l.initial.keep) (terms_with (g.P.Keep.plan l.initial.keep) l.fn.budget)
-          (point_of (standing_on (g.P.Keep.lang l.initial.keep) (entries l.initial.keep)) (left l.initial.source) (written l.initial.sink))
-          (point_of (standing_on (g.P.Keep.lang l.keep) (entries l.keep)) (left l.source) (written l.sink));
+          (point_of (entries l.initial.keep) (left l.initial.source) (written l.initial.sink))
+          (point_of (entries l.keep) (left l.source) (written l.sink));
       later : g.S.Source.faults l.initial.source ≤ g.S.Source.faults l.source;
       later_sink : g.K.Sink.faults l.initial.sink ≤ g.K.Sink.faults l.sink;
-      added : IsAdded (g.P.Keep.lang l.initial.keep) (g.P.Keep.plan l.initial.keep) (entries l.initial.keep) (entries l.keep);
+      no_more : (m : Language) (q : Assignment) (told : Told) → g.T.Teacher.may_say l.teacher m q told → g.T.Teacher.may_say l.initial.teacher m q told;
+      added : IsAdded (g.P.Keep.lang l.initial.keep) (g.P.Keep.plan l.initial.keep) (g.T.Teacher.may_say l.initial.teacher (g.P.Keep.lang l.initial.keep)) (entries l.initial.keep) (entries l.keep);
       keeps : Keeps g.D.Disk.content g.D.Disk.may_leave g.D.Disk.moment g.D.Disk.left_since g.P.Keep.plan g.P.Keep.voc g.P.Keep.record_of g.P.Keep.question g.P.Keep.writes g.P.Keep.live g.P.Keep.sits g.D.Disk.faults ⊥ (λ q r. ⊥)
           l.initial.keep l.keep l.initial.disk l.disk;
-      more : l._turn ≤ length (standing_on (g.P.Keep.lang l.keep) (entries l.keep));
+      more : l._turn ≤ length (entries l.keep);
     }

@@ -1,314 +1,326 @@
-use Rattle.std.proofs.Common.{◌≡◌, ◌+◌, ℕ, Bool, List, length, true, false, ap, refl, arith, Option, Some}
+use Rattle.std.proofs.Common.{◌≡◌, ◌+◌, ℕ, Bool, List, true, false, ap, refl, arith, Option, Some, subst}
+use Rattle.target_oracle.specs.declared.teacher.Told.TheVariants.{Yes, No}
 use Rattle.assign.specs.Assignment.{Assignment}
-use Rattle.assign.specs.Events.{Answer}
+use Rattle.assign.specs.declared.events.Event.{Event}
 use Rattle.assign.specs.declared.events.Plan.{Plan}
 use Rattle.language.specs.Language.{Language}
 use Rattle.language.specs.Answers.{standing_on}
 use Rattle.target_oracle.specs.Turns.{Turns, Said, Stopped, Ended, Overlong, Unread}
-use Rattle.acq_cli.specs.Run.{Suspended, LineTooLong, Unreadable}
+use Rattle.acq_cli.specs.Run.{Suspended, LineTooLong, Unreadable, number_on}
 use Rattle.acq_cli.specs.Driven.{Loses}
 use Rattle.acq_cli.specs.Due.{IsDue}
 use Rattle.acq_cli.specs.Points.{point_of, terms_with}
 use Rattle.acq_cli.specs.declared.driving.Drove.TheVariants as drove
 use Rattle.session_store.specs.Keeping.{keeps_still, keeps_as}
-use Rattle.acq_cli.proofs.Standings.{AtTurn, at_turn, next_fits, room_left, run_laws}
+use Rattle.acq_cli.proofs.Running.{next_put, room_not_full}
+use Rattle.acq_cli.proofs.Standings.{AtTurn, at_turn, next_fits, run_laws, within}
 use Rattle.acq_cli.proofs.Turning.{told_as, front_as, ran_closed, cut_turn}
 use Rattle.acq_cli.proofs.Added.{added_none}
-use Rattle.acq_cli.proofs.Answered.{turned, ends, ends_so, loses, adds}
+use Rattle.acq_cli.proofs.Answered.{turned, ends, ends_closed, ends_failed, loses, adds}
 use Rattle.acq_cli.proofs.driving.hear_answer.Goals as goal
 
 pub overflow_add-count : goal.overflow_add-count
 overflow_add-count g c =
-    let l : Language = g.P.Keep.lang c.args.keep.now in
-    let plan : Plan = g.P.Keep.plan c.args.keep.now in
-    let t : List Answer = standing_on l (g.P.Keep.record_of c.args.keep.now) in
-    let at : AtTurn l plan t c.answers-count.result c.lang.result.now =
-    at_turn c.session-session.result.now l c.lang.result.now plan t c.answers-count.result
+    let P = g.P.Keep in
+    let l : Language = P.lang c.args.keep.now in
+    let plan : Plan = P.plan c.args.keep.now in
+    let events : List Event = P.record_of c.args.keep.now in
+    let at : AtTurn l plan (standing_on l events) c.answers-count.result c.lang.result.now =
+    at_turn c.session-session.result.now l c.lang.result.now plan (standing_on l events) c.answers-count.result
     c.session-session.ensures.stands c.session-session.ensures.lang c.session-session.ensures.plan c.answers-count.ensures c.lang.ensures.is c.lang.ensures.lawful in
-    let fits = next_fits l plan c.lang.result.now t c.answers-count.result at in omega arith
+    let fits = next_fits l plan c.lang.result.now (standing_on l events) c.answers-count.result at in omega arith
 
 pub returns-in-Yes-clause-again : goal.returns-in-Yes-clause-again
 returns-in-Yes-clause-again g c budget due =
-    let l : Language = g.P.Keep.lang c.args.keep.now in
-    let plan : Plan = g.P.Keep.plan c.args.keep.now in
-    let t : List Answer = standing_on l (g.P.Keep.record_of c.args.keep.now) in
-    let at : AtTurn l plan t c.answers-count.result c.lang.result.now =
-    at_turn c.session-session.result.now l c.lang.result.now plan t c.answers-count.result
+    let P = g.P.Keep in
+    let l : Language = P.lang c.args.keep.now in
+    let plan : Plan = P.plan c.args.keep.now in
+    let events : List Event = P.record_of c.args.keep.now in
+    let at : AtTurn l plan (standing_on l events) c.answers-count.result c.lang.result.now =
+    at_turn c.session-session.result.now l c.lang.result.now plan (standing_on l events) c.answers-count.result
     c.session-session.ensures.stands c.session-session.ensures.lang c.session-session.ensures.plan c.answers-count.ensures c.lang.ensures.is c.lang.ensures.lawful in
     let turns : Turns = g.T.Teacher.turn c.args.teacher.now in
     let left : Option (List ℕ) = g.S.Source.left c.args.source.now in
     let written : Option (List ℕ) = g.K.Sink.written c.args.sink.now in
     let left' : Option (List ℕ) = g.S.Source.left c.told.new.source in
     let written' : Option (List ℕ) = g.K.Sink.written c.told.new.sink in
-    let after : List Answer = standing_on l (g.P.Keep.record_of c.keep_answer.new.keep) in
-    turned turns l (terms_with plan budget) t after c.args.question.now true (g.P.Keep.question c.args.keep.now) left written left' written' c.keep_answer.result due c.requires.put.is c.keep_answer.ensures.kept
-    (told_as turns c.lang.result.now l (c.answers-count.result + 1) (length t + 1) c.args.question.now (point_of t left written) (point_of t left' written') (Said true) at.language (ap (λ n. n + 1) at.number) c.in-Yes.ensures.tells)
+    turned turns l (terms_with plan budget) events (P.record_of c.keep_answer.new.keep) c.args.question.now true (P.question c.args.keep.now) left written left' written' c.keep_answer.result due c.requires.put.room c.requires.put.is c.keep_answer.ensures.kept
+    (told_as turns c.lang.result.now l (c.answers-count.result + 1) (number_on l events) c.args.question.now (point_of events left written) (point_of events left' written') (Said true) at.language (ap (λ n. n + 1) at.number) c.in-Yes.ensures.tells)
 
 pub returns-in-Yes-clause-ends : goal.returns-in-Yes-clause-ends
 returns-in-Yes-clause-ends g c budget marks due made =
-    let l : Language = g.P.Keep.lang c.args.keep.now in
-    let plan : Plan = g.P.Keep.plan c.args.keep.now in
-    let t : List Answer = standing_on l (g.P.Keep.record_of c.args.keep.now) in
-    let at : AtTurn l plan t c.answers-count.result c.lang.result.now =
-    at_turn c.session-session.result.now l c.lang.result.now plan t c.answers-count.result
+    let P = g.P.Keep in
+    let l : Language = P.lang c.args.keep.now in
+    let plan : Plan = P.plan c.args.keep.now in
+    let events : List Event = P.record_of c.args.keep.now in
+    let at : AtTurn l plan (standing_on l events) c.answers-count.result c.lang.result.now =
+    at_turn c.session-session.result.now l c.lang.result.now plan (standing_on l events) c.answers-count.result
     c.session-session.ensures.stands c.session-session.ensures.lang c.session-session.ensures.plan c.answers-count.ensures c.lang.ensures.is c.lang.ensures.lawful in
     let turns : Turns = g.T.Teacher.turn c.args.teacher.now in
     let left : Option (List ℕ) = g.S.Source.left c.args.source.now in
     let written : Option (List ℕ) = g.K.Sink.written c.args.sink.now in
     let left' : Option (List ℕ) = g.S.Source.left c.told.new.source in
     let written' : Option (List ℕ) = g.K.Sink.written c.told.new.sink in
-    let after : List Answer = standing_on l (g.P.Keep.record_of c.keep_answer.new.keep) in
-    ends turns l (terms_with plan budget) t after c.args.question.now true (g.P.Keep.question c.args.keep.now) left written left' written' c.keep_answer.result marks made at.lawful at.reached due c.keep_answer.ensures.kept
-    (told_as turns c.lang.result.now l (c.answers-count.result + 1) (length t + 1) c.args.question.now (point_of t left written) (point_of t left' written') (Said true) at.language (ap (λ n. n + 1) at.number) c.in-Yes.ensures.tells)
-
-pub returns-in-No-clause-again : goal.returns-in-No-clause-again
-returns-in-No-clause-again g c budget due =
-    let l : Language = g.P.Keep.lang c.args.keep.now in
-    let plan : Plan = g.P.Keep.plan c.args.keep.now in
-    let t : List Answer = standing_on l (g.P.Keep.record_of c.args.keep.now) in
-    let at : AtTurn l plan t c.answers-count.result c.lang.result.now =
-    at_turn c.session-session.result.now l c.lang.result.now plan t c.answers-count.result
-    c.session-session.ensures.stands c.session-session.ensures.lang c.session-session.ensures.plan c.answers-count.ensures c.lang.ensures.is c.lang.ensures.lawful in
-    let turns : Turns = g.T.Teacher.turn c.args.teacher.now in
-    let left : Option (List ℕ) = g.S.Source.left c.args.source.now in
-    let written : Option (List ℕ) = g.K.Sink.written c.args.sink.now in
-    let left' : Option (List ℕ) = g.S.Source.left c.told.new.source in
-    let written' : Option (List ℕ) = g.K.Sink.written c.told.new.sink in
-    let after : List Answer = standing_on l (g.P.Keep.record_of c.keep_answer-in-No.new.keep) in
-    turned turns l (terms_with plan budget) t after c.args.question.now false (g.P.Keep.question c.args.keep.now) left written left' written' c.keep_answer-in-No.result due c.requires.put.is c.keep_answer-in-No.ensures.kept
-    (told_as turns c.lang.result.now l (c.answers-count.result + 1) (length t + 1) c.args.question.now (point_of t left written) (point_of t left' written') (Said false) at.language (ap (λ n. n + 1) at.number) c.in-No.ensures.tells)
-
-pub returns-in-No-clause-ends : goal.returns-in-No-clause-ends
-returns-in-No-clause-ends g c budget marks due made =
-    let l : Language = g.P.Keep.lang c.args.keep.now in
-    let plan : Plan = g.P.Keep.plan c.args.keep.now in
-    let t : List Answer = standing_on l (g.P.Keep.record_of c.args.keep.now) in
-    let at : AtTurn l plan t c.answers-count.result c.lang.result.now =
-    at_turn c.session-session.result.now l c.lang.result.now plan t c.answers-count.result
-    c.session-session.ensures.stands c.session-session.ensures.lang c.session-session.ensures.plan c.answers-count.ensures c.lang.ensures.is c.lang.ensures.lawful in
-    let turns : Turns = g.T.Teacher.turn c.args.teacher.now in
-    let left : Option (List ℕ) = g.S.Source.left c.args.source.now in
-    let written : Option (List ℕ) = g.K.Sink.written c.args.sink.now in
-    let left' : Option (List ℕ) = g.S.Source.left c.told.new.source in
-    let written' : Option (List ℕ) = g.K.Sink.written c.told.new.sink in
-    let after : List Answer = standing_on l (g.P.Keep.record_of c.keep_answer-in-No.new.keep) in
-    ends turns l (terms_with plan budget) t after c.args.question.now false (g.P.Keep.question c.args.keep.now) left written left' written' c.keep_answer-in-No.result marks made at.lawful at.reached due c.keep_answer-in-No.ensures.kept
-    (told_as turns c.lang.result.now l (c.answers-count.result + 1) (length t + 1) c.args.question.now (point_of t left written) (point_of t left' written') (Said false) at.language (ap (λ n. n + 1) at.number) c.in-No.ensures.tells)
-
-pub returns-in-Stop-clause-ends : goal.returns-in-Stop-clause-ends
-returns-in-Stop-clause-ends g c budget marks due made =
-    let l : Language = g.P.Keep.lang c.args.keep.now in
-    let plan : Plan = g.P.Keep.plan c.args.keep.now in
-    let t : List Answer = standing_on l (g.P.Keep.record_of c.args.keep.now) in
-    let at : AtTurn l plan t c.answers-count.result c.lang.result.now =
-    at_turn c.session-session.result.now l c.lang.result.now plan t c.answers-count.result
-    c.session-session.ensures.stands c.session-session.ensures.lang c.session-session.ensures.plan c.answers-count.ensures c.lang.ensures.is c.lang.ensures.lawful in
-    let turns : Turns = g.T.Teacher.turn c.args.teacher.now in
-    let left : Option (List ℕ) = g.S.Source.left c.args.source.now in
-    let written : Option (List ℕ) = g.K.Sink.written c.args.sink.now in
-    let left' : Option (List ℕ) = g.S.Source.left c.told.new.source in
-    let written' : Option (List ℕ) = g.K.Sink.written c.told.new.sink in
-    ends_so turns l (terms_with plan budget) (point_of t left written) (point_of t left' written') marks (drove.Suspended c.answers-count.result) (λ m e. cc) made
-    (at.number, ran_closed turns l (terms_with plan budget) c.args.question.now Stopped Suspended (point_of t left written) (point_of t left' written') due.puts refl (λ again rest. refl) (told_as turns c.lang.result.now l (c.answers-count.result + 1) (length t + 1) c.args.question.now (point_of t left written) (point_of t left' written') (Stopped) at.language (ap (λ n. n + 1) at.number) c.in-Stop.ensures.tells))
-
-pub returns-in-End-clause-ends : goal.returns-in-End-clause-ends
-returns-in-End-clause-ends g c budget marks due made =
-    let l : Language = g.P.Keep.lang c.args.keep.now in
-    let plan : Plan = g.P.Keep.plan c.args.keep.now in
-    let t : List Answer = standing_on l (g.P.Keep.record_of c.args.keep.now) in
-    let at : AtTurn l plan t c.answers-count.result c.lang.result.now =
-    at_turn c.session-session.result.now l c.lang.result.now plan t c.answers-count.result
-    c.session-session.ensures.stands c.session-session.ensures.lang c.session-session.ensures.plan c.answers-count.ensures c.lang.ensures.is c.lang.ensures.lawful in
-    let turns : Turns = g.T.Teacher.turn c.args.teacher.now in
-    let left : Option (List ℕ) = g.S.Source.left c.args.source.now in
-    let written : Option (List ℕ) = g.K.Sink.written c.args.sink.now in
-    let left' : Option (List ℕ) = g.S.Source.left c.told.new.source in
-    let written' : Option (List ℕ) = g.K.Sink.written c.told.new.sink in
-    ends_so turns l (terms_with plan budget) (point_of t left written) (point_of t left' written') marks (drove.Suspended c.answers-count.result) (λ m e. cc) made
-    (at.number, ran_closed turns l (terms_with plan budget) c.args.question.now Ended Suspended (point_of t left written) (point_of t left' written') due.puts refl (λ again rest. refl) (told_as turns c.lang.result.now l (c.answers-count.result + 1) (length t + 1) c.args.question.now (point_of t left written) (point_of t left' written') (Ended) at.language (ap (λ n. n + 1) at.number) c.in-End.ensures.tells))
-
-pub returns-in-TooLong-clause-ends : goal.returns-in-TooLong-clause-ends
-returns-in-TooLong-clause-ends g c budget marks due made =
-    let l : Language = g.P.Keep.lang c.args.keep.now in
-    let plan : Plan = g.P.Keep.plan c.args.keep.now in
-    let t : List Answer = standing_on l (g.P.Keep.record_of c.args.keep.now) in
-    let at : AtTurn l plan t c.answers-count.result c.lang.result.now =
-    at_turn c.session-session.result.now l c.lang.result.now plan t c.answers-count.result
-    c.session-session.ensures.stands c.session-session.ensures.lang c.session-session.ensures.plan c.answers-count.ensures c.lang.ensures.is c.lang.ensures.lawful in
-    let turns : Turns = g.T.Teacher.turn c.args.teacher.now in
-    let left : Option (List ℕ) = g.S.Source.left c.args.source.now in
-    let written : Option (List ℕ) = g.K.Sink.written c.args.sink.now in
-    let left' : Option (List ℕ) = g.S.Source.left c.told.new.source in
-    let written' : Option (List ℕ) = g.K.Sink.written c.told.new.sink in
-    ends_so turns l (terms_with plan budget) (point_of t left written) (point_of t left' written') marks drove.LineTooLong (λ m e. cc) made
-    (ran_closed turns l (terms_with plan budget) c.args.question.now Overlong LineTooLong (point_of t left written) (point_of t left' written') due.puts refl (λ again rest. refl) (told_as turns c.lang.result.now l (c.answers-count.result + 1) (length t + 1) c.args.question.now (point_of t left written) (point_of t left' written') (Overlong) at.language (ap (λ n. n + 1) at.number) c.in-TooLong.ensures.tells))
-
-pub returns-in-Unreadable-clause-ends : goal.returns-in-Unreadable-clause-ends
-returns-in-Unreadable-clause-ends g c budget marks due made =
-    let l : Language = g.P.Keep.lang c.args.keep.now in
-    let plan : Plan = g.P.Keep.plan c.args.keep.now in
-    let t : List Answer = standing_on l (g.P.Keep.record_of c.args.keep.now) in
-    let at : AtTurn l plan t c.answers-count.result c.lang.result.now =
-    at_turn c.session-session.result.now l c.lang.result.now plan t c.answers-count.result
-    c.session-session.ensures.stands c.session-session.ensures.lang c.session-session.ensures.plan c.answers-count.ensures c.lang.ensures.is c.lang.ensures.lawful in
-    let turns : Turns = g.T.Teacher.turn c.args.teacher.now in
-    let left : Option (List ℕ) = g.S.Source.left c.args.source.now in
-    let written : Option (List ℕ) = g.K.Sink.written c.args.sink.now in
-    let left' : Option (List ℕ) = g.S.Source.left c.told.new.source in
-    let written' : Option (List ℕ) = g.K.Sink.written c.told.new.sink in
-    ends_so turns l (terms_with plan budget) (point_of t left written) (point_of t left' written') marks drove.Unreadable (λ m e. cc) made
-    (ran_closed turns l (terms_with plan budget) c.args.question.now Unread Unreadable (point_of t left written) (point_of t left' written') due.puts refl (λ again rest. refl) (told_as turns c.lang.result.now l (c.answers-count.result + 1) (length t + 1) c.args.question.now (point_of t left written) (point_of t left' written') (Unread) at.language (ap (λ n. n + 1) at.number) c.in-Unreadable.ensures.tells))
-
-pub returns-in-ReadFault-clause-ends : goal.returns-in-ReadFault-clause-ends
-returns-in-ReadFault-clause-ends g c budget marks due made =
-    let l : Language = g.P.Keep.lang c.args.keep.now in
-    let plan : Plan = g.P.Keep.plan c.args.keep.now in
-    let t : List Answer = standing_on l (g.P.Keep.record_of c.args.keep.now) in
-    let at : AtTurn l plan t c.answers-count.result c.lang.result.now =
-    at_turn c.session-session.result.now l c.lang.result.now plan t c.answers-count.result
-    c.session-session.ensures.stands c.session-session.ensures.lang c.session-session.ensures.plan c.answers-count.ensures c.lang.ensures.is c.lang.ensures.lawful in
-    let turns : Turns = g.T.Teacher.turn c.args.teacher.now in
-    let left : Option (List ℕ) = g.S.Source.left c.args.source.now in
-    let written : Option (List ℕ) = g.K.Sink.written c.args.sink.now in
-    let left' : Option (List ℕ) = g.S.Source.left c.told.new.source in
-    let written' : Option (List ℕ) = g.K.Sink.written c.told.new.sink in
-    ends_so turns l (terms_with plan budget) (point_of t left written) (point_of t left' written') marks drove.ReadFault (λ m e. cc) made
-    (cut_turn run_laws turns l (terms_with plan budget) at.lawful c.args.question.now (point_of t left written) (point_of t left' written') at.reached due.puts refl (front_as turns c.lang.result.now l (c.answers-count.result + 1) (length t + 1) c.args.question.now (point_of t left written) (point_of t left' written') at.language (ap (λ n. n + 1) at.number) c.in-ReadFault.ensures.tells))
-
-pub returns-in-WriteFault-clause-ends : goal.returns-in-WriteFault-clause-ends
-returns-in-WriteFault-clause-ends g c budget marks due made =
-    let l : Language = g.P.Keep.lang c.args.keep.now in
-    let plan : Plan = g.P.Keep.plan c.args.keep.now in
-    let t : List Answer = standing_on l (g.P.Keep.record_of c.args.keep.now) in
-    let at : AtTurn l plan t c.answers-count.result c.lang.result.now =
-    at_turn c.session-session.result.now l c.lang.result.now plan t c.answers-count.result
-    c.session-session.ensures.stands c.session-session.ensures.lang c.session-session.ensures.plan c.answers-count.ensures c.lang.ensures.is c.lang.ensures.lawful in
-    let turns : Turns = g.T.Teacher.turn c.args.teacher.now in
-    let left : Option (List ℕ) = g.S.Source.left c.args.source.now in
-    let written : Option (List ℕ) = g.K.Sink.written c.args.sink.now in
-    let left' : Option (List ℕ) = g.S.Source.left c.told.new.source in
-    let written' : Option (List ℕ) = g.K.Sink.written c.told.new.sink in
-    ends_so turns l (terms_with plan budget) (point_of t left written) (point_of t left' written') marks drove.WriteFault (λ m e. cc) made
-    (cut_turn run_laws turns l (terms_with plan budget) at.lawful c.args.question.now (point_of t left written) (point_of t left' written') at.reached due.puts refl (front_as turns c.lang.result.now l (c.answers-count.result + 1) (length t + 1) c.args.question.now (point_of t left written) (point_of t left' written') at.language (ap (λ n. n + 1) at.number) c.in-WriteFault.ensures.tells))
-
-pub returns-in-Memory-clause-ends : goal.returns-in-Memory-clause-ends
-returns-in-Memory-clause-ends g c budget marks due made =
-    let l : Language = g.P.Keep.lang c.args.keep.now in
-    let plan : Plan = g.P.Keep.plan c.args.keep.now in
-    let t : List Answer = standing_on l (g.P.Keep.record_of c.args.keep.now) in
-    let at : AtTurn l plan t c.answers-count.result c.lang.result.now =
-    at_turn c.session-session.result.now l c.lang.result.now plan t c.answers-count.result
-    c.session-session.ensures.stands c.session-session.ensures.lang c.session-session.ensures.plan c.answers-count.ensures c.lang.ensures.is c.lang.ensures.lawful in
-    let turns : Turns = g.T.Teacher.turn c.args.teacher.now in
-    let left : Option (List ℕ) = g.S.Source.left c.args.source.now in
-    let written : Option (List ℕ) = g.K.Sink.written c.args.sink.now in
-    let left' : Option (List ℕ) = g.S.Source.left c.told.new.source in
-    let written' : Option (List ℕ) = g.K.Sink.written c.told.new.sink in
-    ends_so turns l (terms_with plan budget) (point_of t left written) (point_of t left' written') marks drove.Memory (λ m e. cc) made
-    (cut_turn run_laws turns l (terms_with plan budget) at.lawful c.args.question.now (point_of t left written) (point_of t left' written') at.reached due.puts refl (front_as turns c.lang.result.now l (c.answers-count.result + 1) (length t + 1) c.args.question.now (point_of t left written) (point_of t left' written') at.language (ap (λ n. n + 1) at.number) c.in-Memory.ensures.tells))
+    ends turns l (terms_with plan budget) events (P.record_of c.keep_answer.new.keep) c.args.question.now true (P.question c.args.keep.now) left written left' written' c.keep_answer.result marks made at.lawful
+    (within l plan c.lang.result.now events c.answers-count.result at (g.met.P.Keep.few c.args.keep.now c.requires.keeper.sound)) due c.requires.put.room c.keep_answer.ensures.kept
+    (told_as turns c.lang.result.now l (c.answers-count.result + 1) (number_on l events) c.args.question.now (point_of events left written) (point_of events left' written') (Said true) at.language (ap (λ n. n + 1) at.number) c.in-Yes.ensures.tells)
 
 pub returns-in-Yes-clause-added : goal.returns-in-Yes-clause-added
 returns-in-Yes-clause-added g c =
     let P = g.P.Keep in
     let l : Language = P.lang c.args.keep.now in
     let plan : Plan = P.plan c.args.keep.now in
-    let events = P.record_of c.args.keep.now in
-    let t : List Answer = standing_on l events in
-    let at : AtTurn l plan t c.answers-count.result c.lang.result.now =
-    at_turn c.session-session.result.now l c.lang.result.now plan t c.answers-count.result
+    let events : List Event = P.record_of c.args.keep.now in
+    let at : AtTurn l plan (standing_on l events) c.answers-count.result c.lang.result.now =
+    at_turn c.session-session.result.now l c.lang.result.now plan (standing_on l events) c.answers-count.result
     c.session-session.ensures.stands c.session-session.ensures.lang c.session-session.ensures.plan c.answers-count.ensures c.lang.ensures.is c.lang.ensures.lawful in
+    let May : Language → Type 0 = λ m. g.T.Teacher.may_say c.args.teacher.now m c.args.question.now Yes in
+    adds l (terms_with plan c.requires.put.budget) (g.T.Teacher.may_say c.args.teacher.now l) events (P.record_of c.keep_answer.new.keep) c.args.question.now true (P.question c.args.keep.now) c.keep_answer.result at.lawful c.requires.put.due c.requires.put.is c.keep_answer.ensures.kept (subst May at.language c.in-Yes.ensures.says)
+
+pub returns-in-Yes-clause-keeps : goal.returns-in-Yes-clause-keeps
+returns-in-Yes-clause-keeps g c =
+    let D = g.D.Disk in
+    let P = g.P.Keep in
+    let l : Language = P.lang c.args.keep.now in
+    let plan : Plan = P.plan c.args.keep.now in
+    let events : List Event = P.record_of c.args.keep.now in
+    let at : AtTurn l plan (standing_on l events) c.answers-count.result c.lang.result.now =
+    at_turn c.session-session.result.now l c.lang.result.now plan (standing_on l events) c.answers-count.result
+    c.session-session.ensures.stands c.session-session.ensures.lang c.session-session.ensures.plan c.answers-count.ensures c.lang.ensures.is c.lang.ensures.lawful in
+    let turns : Turns = g.T.Teacher.turn c.args.teacher.now in
     let left : Option (List ℕ) = g.S.Source.left c.args.source.now in
     let written : Option (List ℕ) = g.K.Sink.written c.args.sink.now in
-    adds (g.T.Teacher.turn c.args.teacher.now) l (terms_with plan c.requires.put.budget) t t c.args.question.now true (P.question c.args.keep.now) left written left written c.keep_answer.result events (P.record_of c.keep_answer.new.keep) refl at.lawful c.requires.put.due c.requires.put.is c.keep_answer.ensures.events
+    let left' : Option (List ℕ) = g.S.Source.left c.told.new.source in
+    let written' : Option (List ℕ) = g.K.Sink.written c.told.new.sink in
+    let after : List Event = P.record_of c.keep_answer.new.keep in
+    let q : Assignment = c.args.question.now in
+    let HasFailed : Type 0 = c.keep_answer.result ≡ Some drove.DiskFault in
+    let Was : Assignment → Bool → Type 0 = λ asked said. (P.question c.args.keep.now ≡ Some asked) × (said ≡ true) in
+    let Lost : Assignment → Bool → Type 0 = λ asked said. (budget : ℕ) → IsDue l (terms_with plan budget) (standing_on l events) q → Loses turns l (terms_with plan budget) (point_of events left written) (point_of after left' written') asked said in
+    keeps_as D.content D.may_leave D.moment D.left_since g.met.D.Disk.counts_now g.met.D.Disk.only_now P.plan P.voc P.record_of P.question P.writes P.live P.sits D.faults HasFailed HasFailed Was Lost c.args.keep.now c.keep_answer.new.keep c.args.disk.now c.keep_answer.new.disk
+    (λ e. e) (λ e. e)
+    (λ failed asked said lost budget due.
+    loses turns l (terms_with plan budget) events after q true (P.question c.args.keep.now) left written left' written' c.keep_answer.result drove.DiskFault due c.requires.put.room c.keep_answer.ensures.kept failed
+    (told_as turns c.lang.result.now l (c.answers-count.result + 1) (number_on l events) c.args.question.now (point_of events left written) (point_of events left' written') (Said true) at.language (ap (λ n. n + 1) at.number) c.in-Yes.ensures.tells)
+    c.requires.put.is asked said lost)
+    c.keep_answer.ensures.keeps
+
+pub returns-in-No-clause-again : goal.returns-in-No-clause-again
+returns-in-No-clause-again g c budget due =
+    let P = g.P.Keep in
+    let l : Language = P.lang c.args.keep.now in
+    let plan : Plan = P.plan c.args.keep.now in
+    let events : List Event = P.record_of c.args.keep.now in
+    let at : AtTurn l plan (standing_on l events) c.answers-count.result c.lang.result.now =
+    at_turn c.session-session.result.now l c.lang.result.now plan (standing_on l events) c.answers-count.result
+    c.session-session.ensures.stands c.session-session.ensures.lang c.session-session.ensures.plan c.answers-count.ensures c.lang.ensures.is c.lang.ensures.lawful in
+    let turns : Turns = g.T.Teacher.turn c.args.teacher.now in
+    let left : Option (List ℕ) = g.S.Source.left c.args.source.now in
+    let written : Option (List ℕ) = g.K.Sink.written c.args.sink.now in
+    let left' : Option (List ℕ) = g.S.Source.left c.told.new.source in
+    let written' : Option (List ℕ) = g.K.Sink.written c.told.new.sink in
+    turned turns l (terms_with plan budget) events (P.record_of c.keep_answer-in-No.new.keep) c.args.question.now false (P.question c.args.keep.now) left written left' written' c.keep_answer-in-No.result due c.requires.put.room c.requires.put.is c.keep_answer-in-No.ensures.kept
+    (told_as turns c.lang.result.now l (c.answers-count.result + 1) (number_on l events) c.args.question.now (point_of events left written) (point_of events left' written') (Said false) at.language (ap (λ n. n + 1) at.number) c.in-No.ensures.tells)
+
+pub returns-in-No-clause-ends : goal.returns-in-No-clause-ends
+returns-in-No-clause-ends g c budget marks due made =
+    let P = g.P.Keep in
+    let l : Language = P.lang c.args.keep.now in
+    let plan : Plan = P.plan c.args.keep.now in
+    let events : List Event = P.record_of c.args.keep.now in
+    let at : AtTurn l plan (standing_on l events) c.answers-count.result c.lang.result.now =
+    at_turn c.session-session.result.now l c.lang.result.now plan (standing_on l events) c.answers-count.result
+    c.session-session.ensures.stands c.session-session.ensures.lang c.session-session.ensures.plan c.answers-count.ensures c.lang.ensures.is c.lang.ensures.lawful in
+    let turns : Turns = g.T.Teacher.turn c.args.teacher.now in
+    let left : Option (List ℕ) = g.S.Source.left c.args.source.now in
+    let written : Option (List ℕ) = g.K.Sink.written c.args.sink.now in
+    let left' : Option (List ℕ) = g.S.Source.left c.told.new.source in
+    let written' : Option (List ℕ) = g.K.Sink.written c.told.new.sink in
+    ends turns l (terms_with plan budget) events (P.record_of c.keep_answer-in-No.new.keep) c.args.question.now false (P.question c.args.keep.now) left written left' written' c.keep_answer-in-No.result marks made at.lawful
+    (within l plan c.lang.result.now events c.answers-count.result at (g.met.P.Keep.few c.args.keep.now c.requires.keeper.sound)) due c.requires.put.room c.keep_answer-in-No.ensures.kept
+    (told_as turns c.lang.result.now l (c.answers-count.result + 1) (number_on l events) c.args.question.now (point_of events left written) (point_of events left' written') (Said false) at.language (ap (λ n. n + 1) at.number) c.in-No.ensures.tells)
 
 pub returns-in-No-clause-added : goal.returns-in-No-clause-added
 returns-in-No-clause-added g c =
     let P = g.P.Keep in
     let l : Language = P.lang c.args.keep.now in
     let plan : Plan = P.plan c.args.keep.now in
-    let events = P.record_of c.args.keep.now in
-    let t : List Answer = standing_on l events in
-    let at : AtTurn l plan t c.answers-count.result c.lang.result.now =
-    at_turn c.session-session.result.now l c.lang.result.now plan t c.answers-count.result
+    let events : List Event = P.record_of c.args.keep.now in
+    let at : AtTurn l plan (standing_on l events) c.answers-count.result c.lang.result.now =
+    at_turn c.session-session.result.now l c.lang.result.now plan (standing_on l events) c.answers-count.result
     c.session-session.ensures.stands c.session-session.ensures.lang c.session-session.ensures.plan c.answers-count.ensures c.lang.ensures.is c.lang.ensures.lawful in
-    let left : Option (List ℕ) = g.S.Source.left c.args.source.now in
-    let written : Option (List ℕ) = g.K.Sink.written c.args.sink.now in
-    adds (g.T.Teacher.turn c.args.teacher.now) l (terms_with plan c.requires.put.budget) t t c.args.question.now false (P.question c.args.keep.now) left written left written c.keep_answer-in-No.result events (P.record_of c.keep_answer-in-No.new.keep) refl at.lawful c.requires.put.due c.requires.put.is c.keep_answer-in-No.ensures.events
-
-pub returns-in-Stop-clause-added : goal.returns-in-Stop-clause-added
-returns-in-Stop-clause-added g c = added_none (g.P.Keep.lang c.args.keep.now) (g.P.Keep.plan c.args.keep.now) (g.P.Keep.record_of c.args.keep.now) (g.P.Keep.record_of c.args.keep.now) refl
-
-pub returns-in-End-clause-added : goal.returns-in-End-clause-added
-returns-in-End-clause-added g c = added_none (g.P.Keep.lang c.args.keep.now) (g.P.Keep.plan c.args.keep.now) (g.P.Keep.record_of c.args.keep.now) (g.P.Keep.record_of c.args.keep.now) refl
-
-pub returns-in-TooLong-clause-added : goal.returns-in-TooLong-clause-added
-returns-in-TooLong-clause-added g c = added_none (g.P.Keep.lang c.args.keep.now) (g.P.Keep.plan c.args.keep.now) (g.P.Keep.record_of c.args.keep.now) (g.P.Keep.record_of c.args.keep.now) refl
-
-pub returns-in-Unreadable-clause-added : goal.returns-in-Unreadable-clause-added
-returns-in-Unreadable-clause-added g c = added_none (g.P.Keep.lang c.args.keep.now) (g.P.Keep.plan c.args.keep.now) (g.P.Keep.record_of c.args.keep.now) (g.P.Keep.record_of c.args.keep.now) refl
-
-pub returns-in-ReadFault-clause-added : goal.returns-in-ReadFault-clause-added
-returns-in-ReadFault-clause-added g c = added_none (g.P.Keep.lang c.args.keep.now) (g.P.Keep.plan c.args.keep.now) (g.P.Keep.record_of c.args.keep.now) (g.P.Keep.record_of c.args.keep.now) refl
-
-pub returns-in-WriteFault-clause-added : goal.returns-in-WriteFault-clause-added
-returns-in-WriteFault-clause-added g c = added_none (g.P.Keep.lang c.args.keep.now) (g.P.Keep.plan c.args.keep.now) (g.P.Keep.record_of c.args.keep.now) (g.P.Keep.record_of c.args.keep.now) refl
-
-pub returns-in-Memory-clause-added : goal.returns-in-Memory-clause-added
-returns-in-Memory-clause-added g c = added_none (g.P.Keep.lang c.args.keep.now) (g.P.Keep.plan c.args.keep.now) (g.P.Keep.record_of c.args.keep.now) (g.P.Keep.record_of c.args.keep.now) refl
-
-pub returns-in-Yes-clause-keeps : goal.returns-in-Yes-clause-keeps
-returns-in-Yes-clause-keeps g c =
-    let D = g.D.Disk in let P = g.P.Keep in
-    let l : Language = P.lang c.args.keep.now in
-    let plan : Plan = P.plan c.args.keep.now in
-    let t : List Answer = standing_on l (P.record_of c.args.keep.now) in
-    let at : AtTurn l plan t c.answers-count.result c.lang.result.now =
-    at_turn c.session-session.result.now l c.lang.result.now plan t c.answers-count.result
-    c.session-session.ensures.stands c.session-session.ensures.lang c.session-session.ensures.plan c.answers-count.ensures c.lang.ensures.is c.lang.ensures.lawful in
-    let turns : Turns = g.T.Teacher.turn c.args.teacher.now in
-    let left : Option (List ℕ) = g.S.Source.left c.args.source.now in
-    let written : Option (List ℕ) = g.K.Sink.written c.args.sink.now in
-    let left' : Option (List ℕ) = g.S.Source.left c.told.new.source in
-    let written' : Option (List ℕ) = g.K.Sink.written c.told.new.sink in
-    let after : List Answer = standing_on l (P.record_of c.keep_answer.new.keep) in
-    let q : Assignment = c.args.question.now in
-    let HasFailed : Type 0 = c.keep_answer.result ≡ Some drove.DiskFault in
-    let Was : Assignment → Bool → Type 0 = λ asked said. (P.question c.args.keep.now ≡ Some asked) × (said ≡ true) in
-    let Lost : Assignment → Bool → Type 0 = λ asked said. (budget : ℕ) → IsDue l (terms_with plan budget) t q → Loses turns l (terms_with plan budget) (point_of t left written) (point_of after left' written') asked said in
-    keeps_as D.content D.may_leave D.moment D.left_since g.met.D.Disk.counts_now g.met.D.Disk.only_now P.plan P.voc P.record_of P.question P.writes P.live P.sits D.faults HasFailed HasFailed Was Lost c.args.keep.now c.keep_answer.new.keep c.args.disk.now c.keep_answer.new.disk
-    (λ e. e) (λ e. e)
-    (λ failed asked said lost budget due.
-    loses turns l (terms_with plan budget) t after q true (P.question c.args.keep.now) left written left' written' c.keep_answer.result drove.DiskFault due c.keep_answer.ensures.kept failed
-    (told_as turns c.lang.result.now l (c.answers-count.result + 1) (length t + 1) q (point_of t left written) (point_of t left' written') (Said true) at.language (ap (λ n. n + 1) at.number) c.in-Yes.ensures.tells)
-    c.requires.put.is asked said lost)
-    c.keep_answer.ensures.keeps
+    let May : Language → Type 0 = λ m. g.T.Teacher.may_say c.args.teacher.now m c.args.question.now No in
+    adds l (terms_with plan c.requires.put.budget) (g.T.Teacher.may_say c.args.teacher.now l) events (P.record_of c.keep_answer-in-No.new.keep) c.args.question.now false (P.question c.args.keep.now) c.keep_answer-in-No.result at.lawful c.requires.put.due c.requires.put.is c.keep_answer-in-No.ensures.kept (subst May at.language c.in-No.ensures.says)
 
 pub returns-in-No-clause-keeps : goal.returns-in-No-clause-keeps
 returns-in-No-clause-keeps g c =
-    let D = g.D.Disk in let P = g.P.Keep in
+    let D = g.D.Disk in
+    let P = g.P.Keep in
     let l : Language = P.lang c.args.keep.now in
     let plan : Plan = P.plan c.args.keep.now in
-    let t : List Answer = standing_on l (P.record_of c.args.keep.now) in
-    let at : AtTurn l plan t c.answers-count.result c.lang.result.now =
-    at_turn c.session-session.result.now l c.lang.result.now plan t c.answers-count.result
+    let events : List Event = P.record_of c.args.keep.now in
+    let at : AtTurn l plan (standing_on l events) c.answers-count.result c.lang.result.now =
+    at_turn c.session-session.result.now l c.lang.result.now plan (standing_on l events) c.answers-count.result
     c.session-session.ensures.stands c.session-session.ensures.lang c.session-session.ensures.plan c.answers-count.ensures c.lang.ensures.is c.lang.ensures.lawful in
     let turns : Turns = g.T.Teacher.turn c.args.teacher.now in
     let left : Option (List ℕ) = g.S.Source.left c.args.source.now in
     let written : Option (List ℕ) = g.K.Sink.written c.args.sink.now in
     let left' : Option (List ℕ) = g.S.Source.left c.told.new.source in
     let written' : Option (List ℕ) = g.K.Sink.written c.told.new.sink in
-    let after : List Answer = standing_on l (P.record_of c.keep_answer-in-No.new.keep) in
+    let after : List Event = P.record_of c.keep_answer-in-No.new.keep in
     let q : Assignment = c.args.question.now in
     let HasFailed : Type 0 = c.keep_answer-in-No.result ≡ Some drove.DiskFault in
     let Was : Assignment → Bool → Type 0 = λ asked said. (P.question c.args.keep.now ≡ Some asked) × (said ≡ false) in
-    let Lost : Assignment → Bool → Type 0 = λ asked said. (budget : ℕ) → IsDue l (terms_with plan budget) t q → Loses turns l (terms_with plan budget) (point_of t left written) (point_of after left' written') asked said in
+    let Lost : Assignment → Bool → Type 0 = λ asked said. (budget : ℕ) → IsDue l (terms_with plan budget) (standing_on l events) q → Loses turns l (terms_with plan budget) (point_of events left written) (point_of after left' written') asked said in
     keeps_as D.content D.may_leave D.moment D.left_since g.met.D.Disk.counts_now g.met.D.Disk.only_now P.plan P.voc P.record_of P.question P.writes P.live P.sits D.faults HasFailed HasFailed Was Lost c.args.keep.now c.keep_answer-in-No.new.keep c.args.disk.now c.keep_answer-in-No.new.disk
     (λ e. e) (λ e. e)
     (λ failed asked said lost budget due.
-    loses turns l (terms_with plan budget) t after q false (P.question c.args.keep.now) left written left' written' c.keep_answer-in-No.result drove.DiskFault due c.keep_answer-in-No.ensures.kept failed
-    (told_as turns c.lang.result.now l (c.answers-count.result + 1) (length t + 1) q (point_of t left written) (point_of t left' written') (Said false) at.language (ap (λ n. n + 1) at.number) c.in-No.ensures.tells)
+    loses turns l (terms_with plan budget) events after q false (P.question c.args.keep.now) left written left' written' c.keep_answer-in-No.result drove.DiskFault due c.requires.put.room c.keep_answer-in-No.ensures.kept failed
+    (told_as turns c.lang.result.now l (c.answers-count.result + 1) (number_on l events) c.args.question.now (point_of events left written) (point_of events left' written') (Said false) at.language (ap (λ n. n + 1) at.number) c.in-No.ensures.tells)
     c.requires.put.is asked said lost)
     c.keep_answer-in-No.ensures.keeps
+
+pub returns-in-Stop-clause-ends : goal.returns-in-Stop-clause-ends
+returns-in-Stop-clause-ends g c budget marks due made =
+    let P = g.P.Keep in
+    let l : Language = P.lang c.args.keep.now in
+    let plan : Plan = P.plan c.args.keep.now in
+    let events : List Event = P.record_of c.args.keep.now in
+    let at : AtTurn l plan (standing_on l events) c.answers-count.result c.lang.result.now =
+    at_turn c.session-session.result.now l c.lang.result.now plan (standing_on l events) c.answers-count.result
+    c.session-session.ensures.stands c.session-session.ensures.lang c.session-session.ensures.plan c.answers-count.ensures c.lang.ensures.is c.lang.ensures.lawful in
+    let turns : Turns = g.T.Teacher.turn c.args.teacher.now in
+    let left : Option (List ℕ) = g.S.Source.left c.args.source.now in
+    let written : Option (List ℕ) = g.K.Sink.written c.args.sink.now in
+    let left' : Option (List ℕ) = g.S.Source.left c.told.new.source in
+    let written' : Option (List ℕ) = g.K.Sink.written c.told.new.sink in
+    ends_closed turns l (terms_with plan budget) (point_of events left written) (point_of events left' written') marks made (drove.Suspended c.answers-count.result) (λ m e. cc) (λ e. cc) (λ e. cc) (λ e. cc)
+    (record { number = at.number; found = tt })
+    (ran_closed turns l (terms_with plan budget) c.args.question.now Stopped Suspended (point_of events left written) (point_of events left' written') (next_put l (terms_with plan budget) events c.args.question.now due.puts (room_not_full events c.requires.put.room)) refl (λ again rest. refl)
+    (told_as turns c.lang.result.now l (c.answers-count.result + 1) (number_on l events) c.args.question.now (point_of events left written) (point_of events left' written') Stopped at.language (ap (λ n. n + 1) at.number) c.in-Stop.ensures.tells))
+
+pub returns-in-End-clause-ends : goal.returns-in-End-clause-ends
+returns-in-End-clause-ends g c budget marks due made =
+    let P = g.P.Keep in
+    let l : Language = P.lang c.args.keep.now in
+    let plan : Plan = P.plan c.args.keep.now in
+    let events : List Event = P.record_of c.args.keep.now in
+    let at : AtTurn l plan (standing_on l events) c.answers-count.result c.lang.result.now =
+    at_turn c.session-session.result.now l c.lang.result.now plan (standing_on l events) c.answers-count.result
+    c.session-session.ensures.stands c.session-session.ensures.lang c.session-session.ensures.plan c.answers-count.ensures c.lang.ensures.is c.lang.ensures.lawful in
+    let turns : Turns = g.T.Teacher.turn c.args.teacher.now in
+    let left : Option (List ℕ) = g.S.Source.left c.args.source.now in
+    let written : Option (List ℕ) = g.K.Sink.written c.args.sink.now in
+    let left' : Option (List ℕ) = g.S.Source.left c.told.new.source in
+    let written' : Option (List ℕ) = g.K.Sink.written c.told.new.sink in
+    ends_closed turns l (terms_with plan budget) (point_of events left written) (point_of events left' written') marks made (drove.Suspended c.answers-count.result) (λ m e. cc) (λ e. cc) (λ e. cc) (λ e. cc)
+    (record { number = at.number; found = tt })
+    (ran_closed turns l (terms_with plan budget) c.args.question.now Ended Suspended (point_of events left written) (point_of events left' written') (next_put l (terms_with plan budget) events c.args.question.now due.puts (room_not_full events c.requires.put.room)) refl (λ again rest. refl)
+    (told_as turns c.lang.result.now l (c.answers-count.result + 1) (number_on l events) c.args.question.now (point_of events left written) (point_of events left' written') Ended at.language (ap (λ n. n + 1) at.number) c.in-End.ensures.tells))
+
+pub returns-in-TooLong-clause-ends : goal.returns-in-TooLong-clause-ends
+returns-in-TooLong-clause-ends g c budget marks due made =
+    let P = g.P.Keep in
+    let l : Language = P.lang c.args.keep.now in
+    let plan : Plan = P.plan c.args.keep.now in
+    let events : List Event = P.record_of c.args.keep.now in
+    let at : AtTurn l plan (standing_on l events) c.answers-count.result c.lang.result.now =
+    at_turn c.session-session.result.now l c.lang.result.now plan (standing_on l events) c.answers-count.result
+    c.session-session.ensures.stands c.session-session.ensures.lang c.session-session.ensures.plan c.answers-count.ensures c.lang.ensures.is c.lang.ensures.lawful in
+    let turns : Turns = g.T.Teacher.turn c.args.teacher.now in
+    let left : Option (List ℕ) = g.S.Source.left c.args.source.now in
+    let written : Option (List ℕ) = g.K.Sink.written c.args.sink.now in
+    let left' : Option (List ℕ) = g.S.Source.left c.told.new.source in
+    let written' : Option (List ℕ) = g.K.Sink.written c.told.new.sink in
+    ends_closed turns l (terms_with plan budget) (point_of events left written) (point_of events left' written') marks made drove.LineTooLong (λ m e. cc) (λ e. cc) (λ e. cc) (λ e. cc)
+    (record { number = tt; found = tt })
+    (ran_closed turns l (terms_with plan budget) c.args.question.now Overlong LineTooLong (point_of events left written) (point_of events left' written') (next_put l (terms_with plan budget) events c.args.question.now due.puts (room_not_full events c.requires.put.room)) refl (λ again rest. refl)
+    (told_as turns c.lang.result.now l (c.answers-count.result + 1) (number_on l events) c.args.question.now (point_of events left written) (point_of events left' written') Overlong at.language (ap (λ n. n + 1) at.number) c.in-TooLong.ensures.tells))
+
+pub returns-in-Unreadable-clause-ends : goal.returns-in-Unreadable-clause-ends
+returns-in-Unreadable-clause-ends g c budget marks due made =
+    let P = g.P.Keep in
+    let l : Language = P.lang c.args.keep.now in
+    let plan : Plan = P.plan c.args.keep.now in
+    let events : List Event = P.record_of c.args.keep.now in
+    let at : AtTurn l plan (standing_on l events) c.answers-count.result c.lang.result.now =
+    at_turn c.session-session.result.now l c.lang.result.now plan (standing_on l events) c.answers-count.result
+    c.session-session.ensures.stands c.session-session.ensures.lang c.session-session.ensures.plan c.answers-count.ensures c.lang.ensures.is c.lang.ensures.lawful in
+    let turns : Turns = g.T.Teacher.turn c.args.teacher.now in
+    let left : Option (List ℕ) = g.S.Source.left c.args.source.now in
+    let written : Option (List ℕ) = g.K.Sink.written c.args.sink.now in
+    let left' : Option (List ℕ) = g.S.Source.left c.told.new.source in
+    let written' : Option (List ℕ) = g.K.Sink.written c.told.new.sink in
+    ends_closed turns l (terms_with plan budget) (point_of events left written) (point_of events left' written') marks made drove.Unreadable (λ m e. cc) (λ e. cc) (λ e. cc) (λ e. cc)
+    (record { number = tt; found = tt })
+    (ran_closed turns l (terms_with plan budget) c.args.question.now Unread Unreadable (point_of events left written) (point_of events left' written') (next_put l (terms_with plan budget) events c.args.question.now due.puts (room_not_full events c.requires.put.room)) refl (λ again rest. refl)
+    (told_as turns c.lang.result.now l (c.answers-count.result + 1) (number_on l events) c.args.question.now (point_of events left written) (point_of events left' written') Unread at.language (ap (λ n. n + 1) at.number) c.in-Unreadable.ensures.tells))
+
+pub returns-in-ReadFault-clause-ends : goal.returns-in-ReadFault-clause-ends
+returns-in-ReadFault-clause-ends g c budget marks due made =
+    let P = g.P.Keep in
+    let l : Language = P.lang c.args.keep.now in
+    let plan : Plan = P.plan c.args.keep.now in
+    let events : List Event = P.record_of c.args.keep.now in
+    let at : AtTurn l plan (standing_on l events) c.answers-count.result c.lang.result.now =
+    at_turn c.session-session.result.now l c.lang.result.now plan (standing_on l events) c.answers-count.result
+    c.session-session.ensures.stands c.session-session.ensures.lang c.session-session.ensures.plan c.answers-count.ensures c.lang.ensures.is c.lang.ensures.lawful in
+    let turns : Turns = g.T.Teacher.turn c.args.teacher.now in
+    let left : Option (List ℕ) = g.S.Source.left c.args.source.now in
+    let written : Option (List ℕ) = g.K.Sink.written c.args.sink.now in
+    let left' : Option (List ℕ) = g.S.Source.left c.told.new.source in
+    let written' : Option (List ℕ) = g.K.Sink.written c.told.new.sink in
+    ends_failed turns l (terms_with plan budget) (point_of events left written) (point_of events left' written') marks made drove.ReadFault (λ m e. cc) (λ e. cc)
+    (record { number = tt; found = tt }) tt (λ e. absurd (let no : ⊥ = cc in no))
+    (cut_turn run_laws turns l (terms_with plan budget) at.lawful c.args.question.now (point_of events left written) (point_of events left' written')
+    (within l plan c.lang.result.now events c.answers-count.result at (g.met.P.Keep.few c.args.keep.now c.requires.keeper.sound))
+    (next_put l (terms_with plan budget) events c.args.question.now due.puts (room_not_full events c.requires.put.room)) refl
+    (front_as turns c.lang.result.now l (c.answers-count.result + 1) (number_on l events) c.args.question.now (point_of events left written) (point_of events left' written') at.language (ap (λ n. n + 1) at.number) c.in-ReadFault.ensures.tells))
+
+pub returns-in-WriteFault-clause-ends : goal.returns-in-WriteFault-clause-ends
+returns-in-WriteFault-clause-ends g c budget marks due made =
+    let P = g.P.Keep in
+    let l : Language = P.lang c.args.keep.now in
+    let plan : Plan = P.plan c.args.keep.now in
+    let events : List Event = P.record_of c.args.keep.now in
+    let at : AtTurn l plan (standing_on l events) c.answers-count.result c.lang.result.now =
+    at_turn c.session-session.result.now l c.lang.result.now plan (standing_on l events) c.answers-count.result
+    c.session-session.ensures.stands c.session-session.ensures.lang c.session-session.ensures.plan c.answers-count.ensures c.lang.ensures.is c.lang.ensures.lawful in
+    let turns : Turns = g.T.Teacher.turn c.args.teacher.now in
+    let left : Option (List ℕ) = g.S.Source.left c.args.source.now in
+    let written : Option (List ℕ) = g.K.Sink.written c.args.sink.now in
+    let left' : Option (List ℕ) = g.S.Source.left c.told.new.source in
+    let written' : Option (List ℕ) = g.K.Sink.written c.told.new.sink in
+    ends_failed turns l (terms_with plan budget) (point_of events left written) (point_of events left' written') marks made drove.WriteFault (λ m e. cc) (λ e. cc)
+    (record { number = tt; found = tt }) tt (λ e. absurd (let no : ⊥ = cc in no))
+    (cut_turn run_laws turns l (terms_with plan budget) at.lawful c.args.question.now (point_of events left written) (point_of events left' written')
+    (within l plan c.lang.result.now events c.answers-count.result at (g.met.P.Keep.few c.args.keep.now c.requires.keeper.sound))
+    (next_put l (terms_with plan budget) events c.args.question.now due.puts (room_not_full events c.requires.put.room)) refl
+    (front_as turns c.lang.result.now l (c.answers-count.result + 1) (number_on l events) c.args.question.now (point_of events left written) (point_of events left' written') at.language (ap (λ n. n + 1) at.number) c.in-WriteFault.ensures.tells))
+
+pub returns-in-Memory-clause-ends : goal.returns-in-Memory-clause-ends
+returns-in-Memory-clause-ends g c budget marks due made =
+    let P = g.P.Keep in
+    let l : Language = P.lang c.args.keep.now in
+    let plan : Plan = P.plan c.args.keep.now in
+    let events : List Event = P.record_of c.args.keep.now in
+    let at : AtTurn l plan (standing_on l events) c.answers-count.result c.lang.result.now =
+    at_turn c.session-session.result.now l c.lang.result.now plan (standing_on l events) c.answers-count.result
+    c.session-session.ensures.stands c.session-session.ensures.lang c.session-session.ensures.plan c.answers-count.ensures c.lang.ensures.is c.lang.ensures.lawful in
+    let turns : Turns = g.T.Teacher.turn c.args.teacher.now in
+    let left : Option (List ℕ) = g.S.Source.left c.args.source.now in
+    let written : Option (List ℕ) = g.K.Sink.written c.args.sink.now in
+    let left' : Option (List ℕ) = g.S.Source.left c.told.new.source in
+    let written' : Option (List ℕ) = g.K.Sink.written c.told.new.sink in
+    ends_failed turns l (terms_with plan budget) (point_of events left written) (point_of events left' written') marks made drove.Memory (λ m e. cc) (λ e. cc)
+    (record { number = tt; found = tt }) tt (λ e. absurd (let no : ⊥ = cc in no))
+    (cut_turn run_laws turns l (terms_with plan budget) at.lawful c.args.question.now (point_of events left written) (point_of events left' written')
+    (within l plan c.lang.result.now events c.answers-count.result at (g.met.P.Keep.few c.args.keep.now c.requires.keeper.sound))
+    (next_put l (terms_with plan budget) events c.args.question.now due.puts (room_not_full events c.requires.put.room)) refl
+    (front_as turns c.lang.result.now l (c.answers-count.result + 1) (number_on l events) c.args.question.now (point_of events left written) (point_of events left' written') at.language (ap (λ n. n + 1) at.number) c.in-Memory.ensures.tells))
+
+pub returns-in-Stop-clause-added : goal.returns-in-Stop-clause-added
+returns-in-Stop-clause-added g c = added_none (g.P.Keep.lang c.args.keep.now) (g.P.Keep.plan c.args.keep.now) (g.T.Teacher.may_say c.args.teacher.now (g.P.Keep.lang c.args.keep.now)) (g.P.Keep.record_of c.args.keep.now) (g.P.Keep.record_of c.args.keep.now) refl
 
 pub returns-in-Stop-clause-keeps : goal.returns-in-Stop-clause-keeps
 returns-in-Stop-clause-keeps g c =
@@ -316,11 +328,17 @@ returns-in-Stop-clause-keeps g c =
     keeps_still D.content D.may_leave D.moment D.left_since g.met.D.Disk.counts_now g.met.D.Disk.only_now P.plan P.voc P.record_of P.question P.writes P.live P.sits D.faults _ _ c.args.keep.now c.args.keep.now c.args.disk.now (λ (e : _). cc) refl refl refl refl refl c.requires.keeper.live c.requires.keeper.sits
     (λ w bytes told f left. g.met.P.Keep.lasts c.args.keep.now c.args.disk.now w c.requires.keeper.live c.requires.keeper.sits bytes told f left)
 
+pub returns-in-End-clause-added : goal.returns-in-End-clause-added
+returns-in-End-clause-added g c = added_none (g.P.Keep.lang c.args.keep.now) (g.P.Keep.plan c.args.keep.now) (g.T.Teacher.may_say c.args.teacher.now (g.P.Keep.lang c.args.keep.now)) (g.P.Keep.record_of c.args.keep.now) (g.P.Keep.record_of c.args.keep.now) refl
+
 pub returns-in-End-clause-keeps : goal.returns-in-End-clause-keeps
 returns-in-End-clause-keeps g c =
     let D = g.D.Disk in let P = g.P.Keep in
     keeps_still D.content D.may_leave D.moment D.left_since g.met.D.Disk.counts_now g.met.D.Disk.only_now P.plan P.voc P.record_of P.question P.writes P.live P.sits D.faults _ _ c.args.keep.now c.args.keep.now c.args.disk.now (λ (e : _). cc) refl refl refl refl refl c.requires.keeper.live c.requires.keeper.sits
     (λ w bytes told f left. g.met.P.Keep.lasts c.args.keep.now c.args.disk.now w c.requires.keeper.live c.requires.keeper.sits bytes told f left)
+
+pub returns-in-TooLong-clause-added : goal.returns-in-TooLong-clause-added
+returns-in-TooLong-clause-added g c = added_none (g.P.Keep.lang c.args.keep.now) (g.P.Keep.plan c.args.keep.now) (g.T.Teacher.may_say c.args.teacher.now (g.P.Keep.lang c.args.keep.now)) (g.P.Keep.record_of c.args.keep.now) (g.P.Keep.record_of c.args.keep.now) refl
 
 pub returns-in-TooLong-clause-keeps : goal.returns-in-TooLong-clause-keeps
 returns-in-TooLong-clause-keeps g c =
@@ -328,11 +346,17 @@ returns-in-TooLong-clause-keeps g c =
     keeps_still D.content D.may_leave D.moment D.left_since g.met.D.Disk.counts_now g.met.D.Disk.only_now P.plan P.voc P.record_of P.question P.writes P.live P.sits D.faults _ _ c.args.keep.now c.args.keep.now c.args.disk.now (λ (e : _). cc) refl refl refl refl refl c.requires.keeper.live c.requires.keeper.sits
     (λ w bytes told f left. g.met.P.Keep.lasts c.args.keep.now c.args.disk.now w c.requires.keeper.live c.requires.keeper.sits bytes told f left)
 
+pub returns-in-Unreadable-clause-added : goal.returns-in-Unreadable-clause-added
+returns-in-Unreadable-clause-added g c = added_none (g.P.Keep.lang c.args.keep.now) (g.P.Keep.plan c.args.keep.now) (g.T.Teacher.may_say c.args.teacher.now (g.P.Keep.lang c.args.keep.now)) (g.P.Keep.record_of c.args.keep.now) (g.P.Keep.record_of c.args.keep.now) refl
+
 pub returns-in-Unreadable-clause-keeps : goal.returns-in-Unreadable-clause-keeps
 returns-in-Unreadable-clause-keeps g c =
     let D = g.D.Disk in let P = g.P.Keep in
     keeps_still D.content D.may_leave D.moment D.left_since g.met.D.Disk.counts_now g.met.D.Disk.only_now P.plan P.voc P.record_of P.question P.writes P.live P.sits D.faults _ _ c.args.keep.now c.args.keep.now c.args.disk.now (λ (e : _). cc) refl refl refl refl refl c.requires.keeper.live c.requires.keeper.sits
     (λ w bytes told f left. g.met.P.Keep.lasts c.args.keep.now c.args.disk.now w c.requires.keeper.live c.requires.keeper.sits bytes told f left)
+
+pub returns-in-ReadFault-clause-added : goal.returns-in-ReadFault-clause-added
+returns-in-ReadFault-clause-added g c = added_none (g.P.Keep.lang c.args.keep.now) (g.P.Keep.plan c.args.keep.now) (g.T.Teacher.may_say c.args.teacher.now (g.P.Keep.lang c.args.keep.now)) (g.P.Keep.record_of c.args.keep.now) (g.P.Keep.record_of c.args.keep.now) refl
 
 pub returns-in-ReadFault-clause-keeps : goal.returns-in-ReadFault-clause-keeps
 returns-in-ReadFault-clause-keeps g c =
@@ -340,32 +364,20 @@ returns-in-ReadFault-clause-keeps g c =
     keeps_still D.content D.may_leave D.moment D.left_since g.met.D.Disk.counts_now g.met.D.Disk.only_now P.plan P.voc P.record_of P.question P.writes P.live P.sits D.faults _ _ c.args.keep.now c.args.keep.now c.args.disk.now (λ (e : _). cc) refl refl refl refl refl c.requires.keeper.live c.requires.keeper.sits
     (λ w bytes told f left. g.met.P.Keep.lasts c.args.keep.now c.args.disk.now w c.requires.keeper.live c.requires.keeper.sits bytes told f left)
 
+pub returns-in-WriteFault-clause-added : goal.returns-in-WriteFault-clause-added
+returns-in-WriteFault-clause-added g c = added_none (g.P.Keep.lang c.args.keep.now) (g.P.Keep.plan c.args.keep.now) (g.T.Teacher.may_say c.args.teacher.now (g.P.Keep.lang c.args.keep.now)) (g.P.Keep.record_of c.args.keep.now) (g.P.Keep.record_of c.args.keep.now) refl
+
 pub returns-in-WriteFault-clause-keeps : goal.returns-in-WriteFault-clause-keeps
 returns-in-WriteFault-clause-keeps g c =
     let D = g.D.Disk in let P = g.P.Keep in
     keeps_still D.content D.may_leave D.moment D.left_since g.met.D.Disk.counts_now g.met.D.Disk.only_now P.plan P.voc P.record_of P.question P.writes P.live P.sits D.faults _ _ c.args.keep.now c.args.keep.now c.args.disk.now (λ (e : _). cc) refl refl refl refl refl c.requires.keeper.live c.requires.keeper.sits
     (λ w bytes told f left. g.met.P.Keep.lasts c.args.keep.now c.args.disk.now w c.requires.keeper.live c.requires.keeper.sits bytes told f left)
 
+pub returns-in-Memory-clause-added : goal.returns-in-Memory-clause-added
+returns-in-Memory-clause-added g c = added_none (g.P.Keep.lang c.args.keep.now) (g.P.Keep.plan c.args.keep.now) (g.T.Teacher.may_say c.args.teacher.now (g.P.Keep.lang c.args.keep.now)) (g.P.Keep.record_of c.args.keep.now) (g.P.Keep.record_of c.args.keep.now) refl
+
 pub returns-in-Memory-clause-keeps : goal.returns-in-Memory-clause-keeps
 returns-in-Memory-clause-keeps g c =
     let D = g.D.Disk in let P = g.P.Keep in
     keeps_still D.content D.may_leave D.moment D.left_since g.met.D.Disk.counts_now g.met.D.Disk.only_now P.plan P.voc P.record_of P.question P.writes P.live P.sits D.faults _ _ c.args.keep.now c.args.keep.now c.args.disk.now (λ (e : _). cc) refl refl refl refl refl c.requires.keeper.live c.requires.keeper.sits
     (λ w bytes told f left. g.met.P.Keep.lasts c.args.keep.now c.args.disk.now w c.requires.keeper.live c.requires.keeper.sits bytes told f left)
-
-pub keep_answer-requires-clause-room : goal.keep_answer-requires-clause-room
-keep_answer-requires-clause-room g c =
-    let l : Language = g.P.Keep.lang c.args.keep.now in
-    let plan : Plan = g.P.Keep.plan c.args.keep.now in
-    let at : AtTurn l plan (standing_on l (g.P.Keep.record_of c.args.keep.now)) c.answers-count.result c.lang.result.now =
-    at_turn c.session-session.result.now l c.lang.result.now plan (standing_on l (g.P.Keep.record_of c.args.keep.now)) c.answers-count.result
-    c.session-session.ensures.stands c.session-session.ensures.lang c.session-session.ensures.plan c.answers-count.ensures c.lang.ensures.is c.lang.ensures.lawful in
-    room_left l plan c.lang.result.now (g.P.Keep.record_of c.args.keep.now) c.answers-count.result at
-
-pub keep_answer-requires-in-No-clause-room : goal.keep_answer-requires-in-No-clause-room
-keep_answer-requires-in-No-clause-room g c =
-    let l : Language = g.P.Keep.lang c.args.keep.now in
-    let plan : Plan = g.P.Keep.plan c.args.keep.now in
-    let at : AtTurn l plan (standing_on l (g.P.Keep.record_of c.args.keep.now)) c.answers-count.result c.lang.result.now =
-    at_turn c.session-session.result.now l c.lang.result.now plan (standing_on l (g.P.Keep.record_of c.args.keep.now)) c.answers-count.result
-    c.session-session.ensures.stands c.session-session.ensures.lang c.session-session.ensures.plan c.answers-count.ensures c.lang.ensures.is c.lang.ensures.lawful in
-    room_left l plan c.lang.result.now (g.P.Keep.record_of c.args.keep.now) c.answers-count.result at

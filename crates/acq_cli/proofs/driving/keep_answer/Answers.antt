@@ -1,6 +1,5 @@
-use Rattle.std.proofs.Common.{◌≡◌, ◌∙◌, ◌⊎◌, ℕ, Bool, ap, sym, subst, refl, length, List, Option, Some, None, inl, inr, ⊎_elim, Result, Err}
+use Rattle.std.proofs.Common.{◌≡◌, ◌∙◌, ◌⊎◌, Bool, true, is_some, ap, sym, subst, refl, Option, Some, None, inl, inr, ⊎_elim, Result, Err}
 use Rattle.assign.specs.Assignment.{Assignment}
-use Rattle.language.specs.Answers.{standing_on}
 use Rattle.session_store.specs.Keeping.{Keeps, grown_none, grown_one, keeps_still, persists_one, fails_one}
 use Rattle.session_store.specs.Kept.{answer_event}
 use Rattle.session_store.specs.declared.fault.SFault.{SFault}
@@ -9,22 +8,15 @@ use Rattle.acq_cli.specs.Run.{answer}
 use Rattle.acq_cli.specs.Due.{ended_by}
 use Rattle.acq_cli.specs.declared.driving.Drove.{Drove}
 use Rattle.acq_cli.specs.declared.driving.Drove.TheVariants as drove
-use Rattle.assign.proofs.EventLemmas.{cut_to-standing-push}
 use Rattle.acq_cli.proofs.driving.keep_answer.Goals as goal
 
-same_length : (p q : Assignment) (o : Option Assignment) → o ≡ Some p → o ≡ Some q → length p ≡ length q
-same_length p q o a b = let e : p ≡ q = cc in ap length e
-
 pub returns-in-Ok-clause-kept : goal.returns-in-Ok-clause-kept
-returns-in-Ok-clause-kept g c = λ q put.
-    ap (standing_on (g.P.Keep.lang c.args.keep.now)) (c.in-Ok.ensures.ok q put)
-    ∙ cut_to-standing-push (length (g.P.Keep.lang c.args.keep.now).names) (g.P.Keep.record_of c.args.keep.now) q c.args.yes (same_length q c.requires.put.0 (g.P.Keep.question c.args.keep.now) put c.requires.put.1 ∙ c.requires.put.2)
+returns-in-Ok-clause-kept g c = λ q put. c.in-Ok.ensures.ok q put
 
-pub returns-in-Ok-clause-events : goal.returns-in-Ok-clause-events
-returns-in-Ok-clause-events g c = λ q put. c.in-Ok.ensures.ok q put
-
-pub returns-in-Err-clause-events : goal.returns-in-Err-clause-events
-returns-in-Err-clause-events g c = c.in-Err.ensures.err
+-- the question that is put
+put_in : (o : Option Assignment) → is_some o ≡ true → (q : Assignment) × (o ≡ Some q)
+put_in None h = absurd (let no : ⊥ = cc in no)
+put_in (Some q) h = (q, refl)
 
 abbrev lost : SFault → Result (Unit {0}) SFault
 lost e = Err e
@@ -39,7 +31,8 @@ pub returns-in-Ok-clause-keeps : goal.returns-in-Ok-clause-keeps
 returns-in-Ok-clause-keeps g c =
     let D = g.D.Disk in
     let P = g.P.Keep in
-    let q = c.requires.put.0 in
+    let asked = put_in (g.P.Keep.question c.args.keep.now) c.requires.put in
+    let q = asked.0 in
     let old = c.args.keep.now in
     let new = c.answer.new.self in
     record {
@@ -50,25 +43,26 @@ returns-in-Ok-clause-keeps g c =
       is_live = λ no. c.in-Ok.ensures.still_live;
       told = c.answer.ensures.told;
       cause = λ failed. absurd (not_failed failed);
-      grown = grown_one (P.record_of old) (P.record_of new) (answer q c.args.yes) (c.in-Ok.ensures.ok q c.requires.put.1);
+      grown = grown_one (P.record_of old) (P.record_of new) (answer q c.args.yes) (c.in-Ok.ensures.ok q asked.1);
       unwritten = c.answer.ensures.unwritten;
       persists = λ w bytes told no.
           persists_one D.content D.may_leave D.moment D.left_since g.met.D.Disk.counts_now g.met.D.Disk.only_now (P.plan old) (P.voc old) (P.record_of old) (P.record_of new) (answer_event q c.args.yes) c.args.disk.now c.answer.new.disk
-          (c.in-Ok.ensures.ok q c.requires.put.1) (c.in-Ok.ensures.written w bytes told) (c.answer.ensures.any_moment w bytes told q c.requires.put.1);
+          (c.in-Ok.ensures.ok q asked.1) (c.in-Ok.ensures.written w bytes told) (c.answer.ensures.any_moment w bytes told q asked.1);
       fails = λ failed. absurd (not_failed failed);
     }
 
 pub returns-in-Err-clause-kept : goal.returns-in-Err-clause-kept
 returns-in-Err-clause-kept g c = (
   ⊎_elim (λ memory. inl (c.ended_by.ensures ∙ ap ended_by memory)) (λ failed. inr (c.ended_by.ensures ∙ ap ended_by failed)) c.in-Err.ensures.faults,
-  ap (standing_on (g.P.Keep.lang c.args.keep.now)) c.in-Err.ensures.err,
+  c.in-Err.ensures.err,
 )
 
 pub returns-in-Err-clause-keeps : goal.returns-in-Err-clause-keeps
 returns-in-Err-clause-keeps g c =
     let D = g.D.Disk in
     let P = g.P.Keep in
-    let q = c.requires.put.0 in
+    let asked = put_in (g.P.Keep.question c.args.keep.now) c.requires.put in
+    let q = asked.0 in
     let old = c.args.keep.now in
     let new = c.answer.new.self in
     let x = c.args.disk.now in
@@ -98,6 +92,6 @@ returns-in-Err-clause-keeps g c =
       persists = λ w bytes told no. absurd (no is);
       fails = λ so.
           fails_one D.content D.may_leave D.moment D.left_since g.met.D.Disk.counts_now g.met.D.Disk.only_now (P.plan old) (P.voc old) (P.record_of old) (P.record_of new) q c.args.yes (P.question new) Lost x y
-          c.in-Err.ensures.err (c.in-Err.ensures.err_question ∙ c.requires.put.1) (c.requires.put.1, refl) (λ bytes told. c.answer.ensures.any_moment why.0 bytes told q c.requires.put.1);
+          c.in-Err.ensures.err (c.in-Err.ensures.err_question ∙ asked.1) (asked.1, refl) (λ bytes told. c.answer.ensures.any_moment why.0 bytes told q asked.1);
     })
     c.in-Err.ensures.faults

@@ -8,7 +8,6 @@ use Rattle.language.specs.Answers.{standing_on}
 use Rattle.query_gen.specs.Marks.{IsMadeFor}
 use Rattle.session_core.specs.Standing.{Stands, knowledge_of}
 use Rattle.session_store.specs.Keeping.{keeps_still, keeps_as}
-use Rattle.target_oracle.specs.Lines.{line_turn}
 use Rattle.acq_cli.specs.Driven.{Loses}
 use Rattle.acq_cli.specs.Points.{point_of, terms_with}
 use Rattle.acq_cli.specs.declared.driving.Drove.TheVariants as drove
@@ -16,12 +15,12 @@ use Rattle.acq_cli.specs.declared.ending.Ending.{Ending}
 use Rattle.acq_cli.specs.declared.ending.Ending.TheVariants as ending
 use Rattle.acq_cli.proofs.Added.{added_none}
 use Rattle.acq_cli.proofs.Parts.{begun_part}
-use Rattle.acq_cli.proofs.Standings.{at_turn}
+use Rattle.acq_cli.proofs.Standings.{at_turn, within}
 use Rattle.acq_cli.proofs.Tries.{tried, broken, said, lost_then, read_of, disk_of, disk_told, no_fault}
 use Rattle.acq_cli.proofs.top.ask_on.Goals as goal
 
-pub returns-clause-tries : goal.returns-clause-tries
-returns-clause-tries g c =
+pub returns-clause-asked : goal.returns-clause-asked
+returns-clause-asked g c =
     let P = g.P.Keep in
     let old = c.args.keep.now in
     let new = c.drive-drove.new.keep in
@@ -31,24 +30,14 @@ returns-clause-tries g c =
     let again : k.plan ≡ P.plan old = c.session-session.ensures.plan ∙ c.drive-drove.ensures.same.plan in
     let Here : Language → Type 0 = λ m. Stands c.session-session.result.now (standing_on m later) in
     let stands : Here k.lang = subst Here (sym c.session-session.ensures.lang) c.session-session.ensures.stands in
-    tried (P.lang old) k.lang (P.plan old) k.plan c.args.budget (standing_on (P.lang old) (P.record_of old)) later (g.S.Source.left c.args.input.now) (g.K.Sink.written c.args.out.now)
-    (g.S.Source.left c.drive-drove.new.source) (g.K.Sink.written c.drive-drove.new.sink) (g.K.Sink.written c.say.new.out) c.drive-drove.new.screen c.drive-drove.result c.say.result same again c.drive-drove.ensures.walked
-    c.drive-drove.ensures.ends c.drive-drove.ensures.open.undecided (c.say.ensures.says c.args.budget (standing_on k.lang later) stands) (c.say.ensures.part c.args.budget (standing_on k.lang later) stands)
-
-pub returns-clause-part : goal.returns-clause-part
-returns-clause-part g c =
-    let P = g.P.Keep in
-    let old = c.args.keep.now in
-    let new = c.drive-drove.new.keep in
-    let k = knowledge_of c.session-session.result.now in
-    let later : List Event = P.record_of new in
-    let same : k.lang ≡ P.lang old = c.session-session.ensures.lang ∙ c.drive-drove.ensures.same.lang in
-    let again : k.plan ≡ P.plan old = c.session-session.ensures.plan ∙ c.drive-drove.ensures.same.plan in
-    let Here : Language → Type 0 = λ m. Stands c.session-session.result.now (standing_on m later) in
-    let stands : Here k.lang = subst Here (sym c.session-session.ensures.lang) c.session-session.ensures.stands in
-    broken (P.lang old) k.lang (P.plan old) k.plan c.args.budget (standing_on (P.lang old) (P.record_of old)) later (g.S.Source.left c.args.input.now) (g.K.Sink.written c.args.out.now)
-    (g.S.Source.left c.drive-drove.new.source) (g.K.Sink.written c.drive-drove.new.sink) (g.K.Sink.written c.say.new.out) c.drive-drove.new.screen c.drive-drove.result c.say.result same again c.drive-drove.ensures.walked
-    c.drive-drove.ensures.ends c.drive-drove.ensures.open.undecided (c.say.ensures.says c.args.budget (standing_on k.lang later) stands) (c.say.ensures.part c.args.budget (standing_on k.lang later) stands)
+    record {
+      tries = tried (g.T.Teacher.turn c.args.teacher.now) (P.lang old) k.lang (P.plan old) k.plan c.args.budget (P.record_of old) later (g.S.Source.left c.args.input.now) (g.K.Sink.written c.args.out.now)
+          (g.S.Source.left c.drive-drove.new.source) (g.K.Sink.written c.drive-drove.new.sink) (g.K.Sink.written c.say.new.out) c.drive-drove.new.screen c.drive-drove.result c.say.result same again c.drive-drove.ensures.walked
+          c.drive-drove.ensures.ends c.drive-drove.ensures.never_full c.drive-drove.ensures.open.undecided (c.say.ensures.says c.args.budget (standing_on k.lang later) stands) (c.say.ensures.part c.args.budget (standing_on k.lang later) stands);
+      part = broken (g.T.Teacher.turn c.args.teacher.now) (P.lang old) k.lang (P.plan old) k.plan c.args.budget (P.record_of old) later (g.S.Source.left c.args.input.now) (g.K.Sink.written c.args.out.now)
+          (g.S.Source.left c.drive-drove.new.source) (g.K.Sink.written c.drive-drove.new.sink) (g.K.Sink.written c.say.new.out) c.drive-drove.new.screen c.drive-drove.result c.say.result same again c.drive-drove.ensures.walked
+          c.drive-drove.ensures.ends c.drive-drove.ensures.never_full c.drive-drove.ensures.open.undecided (c.say.ensures.says c.args.budget (standing_on k.lang later) stands) (c.say.ensures.part c.args.budget (standing_on k.lang later) stands);
+    }
 
 pub returns-clause-read : goal.returns-clause-read
 returns-clause-read g c =
@@ -62,18 +51,18 @@ returns-clause-read g c =
     let Here : Language → Type 0 = λ m. Stands c.session-session.result.now (standing_on m later) in
     let stands : Here k.lang = subst Here (sym c.session-session.ensures.lang) c.session-session.ensures.stands in
     record {
-      later = c.drive-drove.ensures.read.later;
-      rose = λ is. c.drive-drove.ensures.read.rose (read_of (P.lang old) k.lang (P.plan old) k.plan c.args.budget (standing_on (P.lang old) (P.record_of old)) later (g.S.Source.left c.args.input.now) (g.K.Sink.written c.args.out.now)
+      later = c.drive-drove.ensures.faults.read.later;
+      rose = λ is. c.drive-drove.ensures.faults.read.rose (read_of (g.T.Teacher.turn c.args.teacher.now) (P.lang old) k.lang (P.plan old) k.plan c.args.budget (P.record_of old) later (g.S.Source.left c.args.input.now) (g.K.Sink.written c.args.out.now)
           (g.S.Source.left c.drive-drove.new.source) (g.K.Sink.written c.drive-drove.new.sink) (g.K.Sink.written c.say.new.out) c.drive-drove.new.screen c.drive-drove.result c.say.result same again c.drive-drove.ensures.walked
-          c.drive-drove.ensures.ends c.drive-drove.ensures.open.undecided (c.say.ensures.says c.args.budget (standing_on k.lang later) stands) (c.say.ensures.part c.args.budget (standing_on k.lang later) stands) is);
+          c.drive-drove.ensures.ends c.drive-drove.ensures.never_full c.drive-drove.ensures.open.undecided (c.say.ensures.says c.args.budget (standing_on k.lang later) stands) (c.say.ensures.part c.args.budget (standing_on k.lang later) stands) is);
     }
 
 pub returns-clause-no_fault : goal.returns-clause-no_fault
 returns-clause-no_fault g c =
     let P = g.P.Keep in
     let l = P.lang c.args.keep.now in
-    no_fault l (terms_with (P.plan c.args.keep.now) c.args.budget) (standing_on l (P.record_of c.args.keep.now)) (standing_on l (P.record_of c.drive-drove.new.keep)) (g.S.Source.left c.args.input.now) (g.K.Sink.written c.args.out.now)
-    (g.S.Source.left c.drive-drove.new.source) (g.K.Sink.written c.say.new.out) c.say.result (returns-clause-tries g c)
+    no_fault (g.T.Teacher.turn c.args.teacher.now) l (terms_with (P.plan c.args.keep.now) c.args.budget) (P.record_of c.args.keep.now) (P.record_of c.drive-drove.new.keep) (g.S.Source.left c.args.input.now) (g.K.Sink.written c.args.out.now)
+    (g.S.Source.left c.drive-drove.new.source) (g.K.Sink.written c.say.new.out) c.say.result (returns-clause-asked g c).tries
 
 pub returns-clause-keeps : goal.returns-clause-keeps
 returns-clause-keeps g c =
@@ -86,7 +75,7 @@ returns-clause-keeps g c =
     let terms = terms_with p c.args.budget in
     let k = knowledge_of c.session-session.result.now in
     let later : List Event = P.record_of new in
-    let start = standing_on l (P.record_of old) in
+    let start = P.record_of old in
     let left = g.S.Source.left c.args.input.now in
     let written = g.K.Sink.written c.args.out.now in
     let left' = g.S.Source.left c.drive-drove.new.source in
@@ -101,23 +90,23 @@ returns-clause-keeps g c =
     let Failed : Type 0 = c.drive-drove.result ≡ drove.DiskFault in
     let Ended : Type 0 = c.say.result ≡ Ok ending.DiskFault in
     let was : Ended → Failed =
-    disk_of l k.lang p k.plan c.args.budget start later left written left' middle written' c.drive-drove.new.screen c.drive-drove.result c.say.result same again c.drive-drove.ensures.walked c.drive-drove.ensures.ends c.drive-drove.ensures.open.undecided says parts in
-    let Lost : Assignment → Bool → Type 0 = Loses line_turn l terms (point_of start left written) (point_of (standing_on l later) left' middle) in
-    let Then : Assignment → Bool → Type 0 = Loses line_turn l terms (point_of start left written) (point_of (standing_on l later) left' written') in
+    disk_of (g.T.Teacher.turn c.args.teacher.now) l k.lang p k.plan c.args.budget start later left written left' middle written' c.drive-drove.new.screen c.drive-drove.result c.say.result same again c.drive-drove.ensures.walked c.drive-drove.ensures.ends c.drive-drove.ensures.never_full c.drive-drove.ensures.open.undecided says parts in
+    let Lost : Assignment → Bool → Type 0 = Loses (g.T.Teacher.turn c.args.teacher.now) l terms (point_of start left written) (point_of later left' middle) in
+    let Then : Assignment → Bool → Type 0 = Loses (g.T.Teacher.turn c.args.teacher.now) l terms (point_of start left written) (point_of later left' written') in
     keeps_as D.content D.may_leave D.moment D.left_since g.met.D.Disk.counts_now g.met.D.Disk.only_now P.plan P.voc P.record_of P.question P.writes P.live P.sits D.faults Failed Ended Lost Then old new c.args.disk.now c.drive-drove.new.disk
     was
-    (disk_told l k.lang p k.plan c.args.budget start later left written left' middle written' c.drive-drove.new.screen c.drive-drove.result c.say.result same again c.drive-drove.ensures.walked c.drive-drove.ensures.ends c.drive-drove.ensures.open.undecided says parts)
+    (disk_told (g.T.Teacher.turn c.args.teacher.now) l k.lang p k.plan c.args.budget start later left written left' middle written' c.drive-drove.new.screen c.drive-drove.result c.say.result same again c.drive-drove.ensures.walked c.drive-drove.ensures.ends c.drive-drove.ensures.never_full c.drive-drove.ensures.open.undecided says parts)
     (λ ended question reply lost.
-    lost_then l terms (point_of start left written) (standing_on l later) left' middle written' c.drive-drove.result c.say.result
-    (said l k.lang p k.plan c.args.budget start later left written left' middle written' c.drive-drove.new.screen c.drive-drove.result c.say.result same again c.drive-drove.ensures.walked c.drive-drove.ensures.ends c.drive-drove.ensures.open.undecided says parts)
+    lost_then (g.T.Teacher.turn c.args.teacher.now) l terms (point_of start left written) later left' middle written' c.drive-drove.result c.say.result
+    (said (g.T.Teacher.turn c.args.teacher.now) l k.lang p k.plan c.args.budget start later left written left' middle written' c.drive-drove.new.screen c.drive-drove.result c.say.result same again c.drive-drove.ensures.walked c.drive-drove.ensures.ends c.drive-drove.ensures.never_full c.drive-drove.ensures.open.undecided says parts)
     (was ended) ended question reply lost)
     c.drive-drove.ensures.keeps
 
 pub returns-in_default-clause-added : goal.returns-in_default-clause-added
-returns-in_default-clause-added g c = added_none (g.P.Keep.lang c.args.keep.now) (g.P.Keep.plan c.args.keep.now) (g.P.Keep.record_of c.args.keep.now) (g.P.Keep.record_of c.args.keep.now) refl
+returns-in_default-clause-added g c = added_none (g.P.Keep.lang c.args.keep.now) (g.P.Keep.plan c.args.keep.now) (g.T.Teacher.may_say c.args.teacher.now (g.P.Keep.lang c.args.keep.now)) (g.P.Keep.record_of c.args.keep.now) (g.P.Keep.record_of c.args.keep.now) refl
 
 pub returns-in_default-new-clause-added : goal.returns-in_default-new-clause-added
-returns-in_default-new-clause-added g c = added_none (g.P.Keep.lang c.args.keep.now) (g.P.Keep.plan c.args.keep.now) (g.P.Keep.record_of c.args.keep.now) (g.P.Keep.record_of c.args.keep.now) refl
+returns-in_default-new-clause-added g c = added_none (g.P.Keep.lang c.args.keep.now) (g.P.Keep.plan c.args.keep.now) (g.T.Teacher.may_say c.args.teacher.now (g.P.Keep.lang c.args.keep.now)) (g.P.Keep.record_of c.args.keep.now) (g.P.Keep.record_of c.args.keep.now) refl
 
 pub returns-clause-lawful : goal.returns-clause-lawful
 returns-clause-lawful g c = subst IsLanguage (c.lang-lang.ensures.is ∙ c.session-start.ensures.lang) c.lang-lang.ensures.lawful
@@ -137,15 +126,19 @@ say-requires g c =
 not_okay : (let r : Result Ending Put = Err puts.Memory in r) ≡ Ok ending.DiskFault → ⊥
 not_okay e = cc
 
-pub returns-in_default-clause-part : goal.returns-in_default-clause-part
-returns-in_default-clause-part g c =
+pub returns-in_default-clause-asked : goal.returns-in_default-clause-asked
+returns-in_default-clause-asked g c =
     let P = g.P.Keep in
     let l = P.lang c.args.keep.now in
     let plan = P.plan c.args.keep.now in
     let t = standing_on l (P.record_of c.args.keep.now) in
     let s = c.session-start.result.now in
     let at = at_turn s l c.lang-lang.result.now plan t (knowledge_of s).answers c.session-start.ensures.stands c.session-start.ensures.lang c.session-start.ensures.plan refl c.lang-lang.ensures.is c.lang-lang.ensures.lawful in
-    begun_part l (terms_with plan c.args.budget) t (g.S.Source.left c.args.input.now) (g.K.Sink.written c.args.out.now) at.lawful at.reached
+    record {
+      tries = tt;
+      part = begun_part (g.T.Teacher.turn c.args.teacher.now) l (terms_with plan c.args.budget) (P.record_of c.args.keep.now) (g.S.Source.left c.args.input.now) (g.K.Sink.written c.args.out.now) at.lawful
+          (within l plan c.lang-lang.result.now (P.record_of c.args.keep.now) (knowledge_of s).answers at (g.met.P.Keep.few c.args.keep.now c.requires.keeper.sound));
+    }
 
 pub returns-in_default-clause-keeps : goal.returns-in_default-clause-keeps
 returns-in_default-clause-keeps g c =
@@ -153,15 +146,19 @@ returns-in_default-clause-keeps g c =
     keeps_still D.content D.may_leave D.moment D.left_since g.met.D.Disk.counts_now g.met.D.Disk.only_now P.plan P.voc P.record_of P.question P.writes P.live P.sits D.faults _ _ c.args.keep.now c.args.keep.now c.args.disk.now not_okay refl refl refl refl refl c.requires.keeper.live c.requires.keeper.sits
     (λ w bytes told f left. g.met.P.Keep.lasts c.args.keep.now c.args.disk.now w c.requires.keeper.live c.requires.keeper.sits bytes told f left)
 
-pub returns-in_default-new-clause-part : goal.returns-in_default-new-clause-part
-returns-in_default-new-clause-part g c =
+pub returns-in_default-new-clause-asked : goal.returns-in_default-new-clause-asked
+returns-in_default-new-clause-asked g c =
     let P = g.P.Keep in
     let l = P.lang c.args.keep.now in
     let plan = P.plan c.args.keep.now in
     let t = standing_on l (P.record_of c.args.keep.now) in
     let s = c.session-start.result.now in
     let at = at_turn s l c.lang-lang.result.now plan t (knowledge_of s).answers c.session-start.ensures.stands c.session-start.ensures.lang c.session-start.ensures.plan refl c.lang-lang.ensures.is c.lang-lang.ensures.lawful in
-    begun_part l (terms_with plan c.args.budget) t (g.S.Source.left c.args.input.now) (g.K.Sink.written c.args.out.now) at.lawful at.reached
+    record {
+      tries = tt;
+      part = begun_part (g.T.Teacher.turn c.args.teacher.now) l (terms_with plan c.args.budget) (P.record_of c.args.keep.now) (g.S.Source.left c.args.input.now) (g.K.Sink.written c.args.out.now) at.lawful
+          (within l plan c.lang-lang.result.now (P.record_of c.args.keep.now) (knowledge_of s).answers at (g.met.P.Keep.few c.args.keep.now c.requires.keeper.sound));
+    }
 
 pub returns-in_default-new-clause-keeps : goal.returns-in_default-new-clause-keeps
 returns-in_default-new-clause-keeps g c =

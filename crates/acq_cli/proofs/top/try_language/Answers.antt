@@ -1,28 +1,28 @@
 use Rattle.session_store.specs.Loose.{lang_of, plan_of, events_of}
-use Rattle.language.specs.Answers.{standing_on}
 use Rattle.std.proofs.Common.{[]}
+use Rattle.target_oracle.specs.Lines.{line_turn}
 use Rattle.acq_cli.proofs.Parts.{begun, begun_part}
 use Rattle.acq_cli.proofs.Tries.{fresh_tries, fresh_part}
 use Rattle.acq_cli.proofs.top.try_language.Goals as goal
 
 pub returns-in_default-clause-part : goal.returns-in_default-clause-part
 returns-in_default-clause-part g c =
-    ([], begun_part c.args.lang c.args.terms [] (g.S.Source.left c.args.input.now) (g.K.Sink.written c.args.out.now) c.n-variables.ensures.lawful (begun c.args.lang c.args.terms.plan))
+    ([], begun_part line_turn c.args.lang c.args.terms [] (g.S.Source.left c.args.input.now) (g.K.Sink.written c.args.out.now) c.n-variables.ensures.lawful (begun c.args.lang c.args.terms.plan))
 
 pub returns-in_default-new-clause-part : goal.returns-in_default-new-clause-part
 returns-in_default-new-clause-part g c =
-    ([], begun_part c.args.lang c.args.terms [] (g.S.Source.left c.args.input.now) (g.K.Sink.written c.args.out.now) c.n-variables.ensures.lawful (begun c.args.lang c.args.terms.plan))
+    ([], begun_part line_turn c.args.lang c.args.terms [] (g.S.Source.left c.args.input.now) (g.K.Sink.written c.args.out.now) c.n-variables.ensures.lawful (begun c.args.lang c.args.terms.plan))
 
 pub returns-clause-tries : goal.returns-clause-tries
 returns-clause-tries g c =
     let keep = c.in-Ok-new.keep in
-    fresh_tries c.args.lang (lang_of keep) c.args.terms.plan (plan_of keep) c.args.terms.budget (events_of keep) (standing_on (lang_of keep) (events_of c.ask_on.new.keep))
+    fresh_tries c.args.lang (lang_of keep) c.args.terms.plan (plan_of keep) c.args.terms.budget (events_of keep) (events_of c.ask_on.new.keep)
     (g.S.Source.left c.args.input.now) (g.K.Sink.written c.args.out.now) (g.S.Source.left c.ask_on.new.input) (g.K.Sink.written c.ask_on.new.out) c.ask_on.result
-    c.in-Ok-new.ensures.lang c.in-Ok-new.ensures.plan c.in-Ok-new.ensures.events c.ask_on.ensures.tries
+    c.in-Ok-new.ensures.lang c.in-Ok-new.ensures.plan c.in-Ok-new.ensures.events c.ask_on.ensures.asked.tries
 
 pub returns-clause-part : goal.returns-clause-part
 returns-clause-part g c =
     let keep = c.in-Ok-new.keep in
-    fresh_part c.args.lang (lang_of keep) c.args.terms.plan (plan_of keep) c.args.terms.budget (events_of keep) (standing_on (lang_of keep) (events_of c.ask_on.new.keep))
+    fresh_part c.args.lang (lang_of keep) c.args.terms.plan (plan_of keep) c.args.terms.budget (events_of keep) (events_of c.ask_on.new.keep)
     (g.S.Source.left c.args.input.now) (g.K.Sink.written c.args.out.now) (g.K.Sink.written c.ask_on.new.out) c.ask_on.result
-    c.in-Ok-new.ensures.lang c.in-Ok-new.ensures.plan c.in-Ok-new.ensures.events c.ask_on.ensures.part
+    c.in-Ok-new.ensures.lang c.in-Ok-new.ensures.plan c.in-Ok-new.ensures.events c.ask_on.ensures.asked.part

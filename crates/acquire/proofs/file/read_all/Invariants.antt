@@ -1,8 +1,5 @@
-use Rattle.std.proofs.Common.{◌≤◌, ◌-◌, length}
+use Rattle.std.proofs.Common.{◌≤◌, length}
 use Rattle.acquire.proofs.file.read_all.Given as goal
 
-abbrev pub invariant-loop-done : goal.invariant-loop-done
-invariant-loop-done l = l.done ≤ length l.buf
-
-abbrev pub decreases-loop-done : goal.decreases-loop-done
-decreases-loop-done l = length l.buf - l.done
+abbrev pub invariant-loop-turn : goal.invariant-loop-turn
+invariant-loop-turn l = l.done ≤ length l.buf

@@ -1,0 +1,316 @@
+-- What `play` has done, of what its target said, and exactly when it refuses.
+use Rattle.std.proofs.Common.{◌≡◌, ◌≢◌, ◌≤◌, ◌⊎◌, ◌∙◌, ℕ, Bool, true, false, IsTrue, List, [], ◌∷◌, ◌++◌, length, map, ◌&&◌, ◌+◌, cond, drop, Option, Some, None, Result, Ok, Err, refl, sym, ap, subst, inl, inr, ⊎_elim, arith}
+use Rattle.std.specs.Prelude.{IfOk, IfSome, All, nat_le, nat_lt}
+use Rattle.std.specs.Bool.{beq}
+use Rattle.std.proofs.lemmas.List.Elements.{All-head, All-tail}
+use Rattle.std.proofs.lemmas.List.{length-map}
+use Rattle.std.proofs.lemmas.Bool.{leb-false, lt-ltb}
+use Rattle.acq_io.specs.Whole.{Gathered, Gives, all_of, gathered}
+use Rattle.acq_io.specs.declared.streams.Put.{Put}
+use Rattle.acq_io.specs.declared.streams.Put.TheVariants as put
+use Rattle.acq_io.specs.declared.whole.AllFault.{AllFault}
+use Rattle.acq_io.specs.declared.whole.AllFault.TheVariants as long
+use Rattle.acq_words.specs.declared.request.Command.{Command}
+use Rattle.acq_words.specs.declared.request.Command.TheVariants as command
+use Rattle.acq_words.specs.declared.request.UsageFault.{UsageFault}
+use Rattle.answer_journal.specs.Unique.{spells_once}
+use Rattle.assign.specs.Assignment.{Assignment}
+use Rattle.assign.specs.Events.{Answer, standing}
+use Rattle.assign.specs.declared.events.Event.{Event}
+use Rattle.assign.specs.declared.events.Plan.{Plan}
+use Rattle.language.specs.declared.candidates.Candidate.{Candidate}
+use Rattle.language.specs.Language.{Language, HasSameSolutions, accepts}
+use Rattle.language.specs.Answers.{IsNetwork, agrees, standing_on}
+use Rattle.network.specs.Target.{network_of, network_in, json_of}
+use Rattle.network.specs.Answers.{then_on}
+use Rattle.std.specs.Option.{ok_or}
+use Rattle.network.specs.declared.fault.NetFault.{NetFault}
+use Rattle.network.specs.declared.fault.NetFault.TheVariants as net
+use Rattle.session_store.specs.Left.{SaysSession}
+use Rattle.session_store.specs.declared.fault.SFault.{SFault}
+use Rattle.voc_read.specs.Vocabulary.{IsVocabulary}
+use Rattle.target_oracle.specs.NetTurns.{net_may_say, told_of_answer}
+use Rattle.target_oracle.specs.Turns.{Turns}
+use Rattle.acq_cli.specs.Added.{IsAdded}
+use Rattle.acq_cli.specs.Closings.{closing_of}
+use Rattle.acq_cli.specs.Commands.{EndsExactly}
+use Rattle.acq_cli.specs.Driven.{HasEnded, HasFound}
+use Rattle.acq_cli.specs.Endings.{Tries}
+use Rattle.acq_cli.specs.Exactly.{HoldsSession, IsBrokenOff, MustRefuse, OpensExactly, RefusesOpening}
+use Rattle.acq_cli.specs.Making.{News}
+use Rattle.acq_cli.specs.Playing.{IsAnsweredBy, IsNoNetwork, HoldsAnswers, HoldsNoTarget, IsOpened, MayLack, MustLackTarget, PlayEnds, PlaysExactly, PlaysOn, RefusesTarget, EndsWithout}
+use Rattle.acq_cli.specs.Program.{ended_as}
+use Rattle.acq_cli.specs.Running.{RunsOn}
+use Rattle.acq_cli.specs.Showing.{Shows}
+use Rattle.acq_cli.specs.Texts.{learned_in, learned_after}
+use Rattle.acq_cli.specs.Words.{command_asked}
+use Rattle.acq_cli.specs.declared.driving.Drove.{Drove}
+use Rattle.acq_cli.specs.declared.driving.Drove.TheVariants as drove
+use Rattle.acq_cli.specs.declared.ending.Ending.{Ending}
+use Rattle.acq_cli.specs.declared.ending.Ending.TheVariants as ending
+use Rattle.acq_cli.specs.declared.terms.Terms.{Terms}
+use Rattle.acq_cli.specs.Journals.{untold}
+use Rattle.acq_cli.specs.declared.playing.NoTarget.{NoTarget}
+use Rattle.acq_cli.specs.declared.playing.NoTarget.TheVariants as without
+use Rattle.acq_cli.proofs.Closings.{okay, same_ok, err_ok, loops_by, not_loops}
+use Rattle.acq_cli.proofs.Exactly.{ReadOnce, fine, gives_got, vocabulary_as, holds_none, closed_end, closed_exactly, new_ends, run_ends, show_ends}
+
+-- ---- what its target said
+
+-- no answers
+pub none_at_all : (t : List Answer) → length t ≡ 0 → t ≡ []
+none_at_all [] none = refl
+none_at_all (a ∷ t) none = absurd (let no : ⊥ = cc in no)
+
+-- what it may say of an answer is that it gives it
+says_so : (l : Language) (target : List Candidate) (q : Assignment) (yes : Bool) → net_may_say target l q (told_of_answer yes) → beq (accepts l target q) yes ≡ true
+says_so l target q true said = ap (λ b. beq b true) said
+says_so l target q false said = ap (λ b. beq b false) said
+
+abbrev Given : Language → List Candidate → Answer → Type 0
+Given l target a = net_may_say target l a.question (told_of_answer a.yes)
+
+both_true : (a b : Bool) → a ≡ true → b ≡ true → (a && b) ≡ true
+both_true a b x y = ap (λ c. c && b) x ∙ y
+
+agreeing_all : (l : Language) (target : List Candidate) (t : List Answer) → All (Given l target) t → agrees l target t ≡ true
+agreeing_all l target [] given = refl
+agreeing_all l target (a ∷ t) given =
+    both_true (beq (accepts l target a.question) a.yes) (agrees l target t) (says_so l target a.question a.yes (All-head (Given l target) a t given)) (agreeing_all l target t (All-tail (Given l target) a t given))
+
+-- answers that were added to none are its own
+agreeing_added : (l : Language) (plan : Plan) (target : List Candidate) (before after : List Event) → standing_on l before ≡ [] → IsAdded l plan (net_may_say target l) before after → agrees l target (standing_on l after) ≡ true
+agreeing_added l plan target before after none added =
+    ap (agrees l target) (added.stand ∙ ap (λ (t : List Answer). t ++ added.answers) none) ∙ agreeing_all l target added.answers added.given
+
+-- what was found is true of it
+found_by : (l : Language) (terms : Terms) (t : List Answer) (how was : Drove) → how ≡ was → HasEnded l terms t how → HasEnded l terms t was
+found_by l terms t how was is ended = subst (HasEnded l terms t) is ended
+
+never_collapses : (l : Language) (terms : Terms) (t : List Answer) (target : List Candidate) (m : ℕ) → IsNetwork l target → agrees l target t ≡ true → HasEnded l terms t (drove.Collapsed m) → ⊥
+never_collapses l terms t target m lawful agreeing ended = ended.found.none target lawful agreeing
+
+has_same : (l : Language) (terms : Terms) (t : List Answer) (target : List Candidate) (m : ℕ) → IsNetwork l target → agrees l target t ≡ true → HasEnded l terms t (drove.Converged m) → HasSameSolutions l target (learned_after l terms t)
+has_same l terms t target m lawful agreeing ended =
+    let P : List Candidate → Type 0 = HasSameSolutions l target in
+    subst P (sym (ap learned_in ended.found.idle)) (ended.found.converged.only target lawful agreeing)
+
+pub answered : (turns : Turns) (l : Language) (terms : Terms) (target : List Candidate) (before after : List Event) (left written left' written' : Option (List ℕ)) (got : Result Ending Put) → IsNetwork l target → standing_on l before ≡ [] →
+    IsAdded l terms.plan (net_may_say target l) before after → IfOk got (Tries turns l terms before after left written left' written') → IsAnsweredBy target l terms (standing_on l after) got
+answered turns l terms target before after left written left' written' got lawful none added tries = record {
+  agreeing = agreeing;
+  no_collapse = λ m is. collapsed got tries m is;
+  same = λ m is. converged got tries m is;
+}
+  where
+    agreeing : agrees l target (standing_on l after) ≡ true
+    agreeing = agreeing_added l terms.plan target before after none added
+
+    Tried : Result Ending Put → Type 0
+    Tried r = IfOk r (Tries turns l terms before after left written left' written')
+
+    collapsed : (r : Result Ending Put) → Tried r → (m : ℕ) → r ≡ Ok (ending.Collapsed m) → ⊥
+    collapsed (Err e) tried m is = err_ok e (ending.Collapsed m) is
+    collapsed (Ok end) tried m is =
+        never_collapses l terms (standing_on l after) target m lawful agreeing
+        (found_by l terms (standing_on l after) tried.how (drove.Collapsed m) (loops_by tried.how (drove.Collapsed m) (ending.Collapsed m) (tried.is ∙ is) refl) tried.says)
+
+    converged : (r : Result Ending Put) → Tried r → (m : ℕ) → r ≡ Ok (ending.Converged m) → HasSameSolutions l target (learned_after l terms (standing_on l after))
+    converged (Err e) tried m is = absurd (err_ok e (ending.Converged m) is)
+    converged (Ok end) tried m is =
+        has_same l terms (standing_on l after) target m lawful agreeing
+        (found_by l terms (standing_on l after) tried.how (drove.Converged m) (loops_by tried.how (drove.Converged m) (ending.Converged m) (tried.is ∙ is) refl) tried.says)
+
+-- ---- exactly when it refuses
+
+-- where a command broke off
+pub broken_exactly : (asked : Result Command UsageFault) (left content : Option (List ℕ)) (end : Ending) → IsBrokenOff end → EndsExactly asked left content end
+broken_exactly (Ok (command.New plan)) left content end broken = λ bytes from file told. inl broken
+broken_exactly (Ok (command.Run budget)) left content end broken = λ file told. inl broken
+broken_exactly (Ok (command.Play budget)) left content end broken = λ bytes from file told. inl broken
+broken_exactly (Ok command.Show) left content end broken = λ file told. inl broken
+broken_exactly (Ok (command.Try plan budget)) left content end broken = tt
+broken_exactly (Ok (command.Demo number budget)) left content end broken = tt
+broken_exactly (Err fault) left content end broken = tt
+
+-- ---- what the input is
+
+abbrev long_one : Result (List ℕ) AllFault
+long_one = Err long.TooLong
+
+fine_long : (voc : List ℕ) → fine voc ≡ long_one → ⊥
+fine_long voc e = cc
+
+same_fine : (a b : List ℕ) → fine a ≡ fine b → a ≡ b
+same_fine a b e = cc
+
+-- what was read to the end is the whole
+whole_of : (bytes got : List ℕ) → (all_of 4194304 bytes).got ≡ fine got → bytes ≡ got
+unfolding all_of
+whole_of bytes got is = go (nat_le (length bytes) 4194304) is
+  where
+    go : (b : Bool) → (cond b (gathered (fine bytes) []) (gathered long_one (drop (4194304 + 1) bytes))).got ≡ fine got → bytes ≡ got
+    go true e = same_fine bytes got e
+    go false e = absurd (fine_long got (sym e))
+
+-- too many bytes are no network
+long_is_none : (l : Language) (bytes : List ℕ) → (all_of 4194304 bytes).got ≡ long_one → network_of l bytes ≡ Err net.TooLong
+unfolding all_of network_of
+long_is_none l bytes is = go (nat_le (length bytes) 4194304) refl is
+  where
+    go : (b : Bool) → nat_le (length bytes) 4194304 ≡ b → (cond b (gathered (fine bytes) []) (gathered long_one (drop (4194304 + 1) bytes))).got ≡ long_one → network_of l bytes ≡ Err net.TooLong
+    go true which e = absurd (fine_long bytes e)
+    go false which e = ap (λ b. cond b (Err net.TooLong) (then_on (ok_or (json_of bytes) net.NotJson) (network_in l))) (lt-ltb 4194304 (length bytes) (leb-false (length bytes) 4194304 which))
+
+-- a refused target is none of the bytes of the whole input
+none_of : (l : Language) (left left' : Option (List ℕ)) (bytes : List ℕ) (fault : NetFault) → RefusesTarget l left left' fault → left ≡ Some bytes → network_of l bytes ≡ Err fault
+none_of l left left' bytes fault refuses from = go refuses.got (gives_got (all_of 4194304) left left' refuses.got bytes refuses.gives from) refuses.refused
+  where
+    go : (got : Result (List ℕ) AllFault) → (all_of 4194304 bytes).got ≡ got → IsNoNetwork l fault got → network_of l bytes ≡ Err fault
+    go (Ok read) is refused = ap (network_of l) (whole_of bytes read is) ∙ refused
+    go (Err e) is (much, same) =
+        let As : AllFault → Type 0 = λ x. (all_of 4194304 bytes).got ≡ Err x in
+        let Told : NetFault → Type 0 = λ x. network_of l bytes ≡ Err x in
+        subst Told (sym same) (long_is_none l bytes (subst As much is))
+
+-- ---- what the file holds
+
+-- so many answers stand, whichever language it is
+count_is : (l : Language) (events : List Event) → length (standing_on l events) ≡ length (standing events)
+count_is l events = length-map (standing events) _
+
+same_count : (file : List ℕ) (a b : HoldsSession file) → length (standing_on a.lang a.events) ≡ length (standing_on b.lang b.events)
+same_count file a b =
+    count_is a.lang a.events
+    ∙ ap (λ (es : List Event). length (standing es)) (spells_once file a.plan a.voc a.events b.plan b.voc b.events a.says.1 b.says.1).2
+    ∙ sym (count_is b.lang b.events)
+
+no_count : (t : List Answer) → t ≡ [] → length t ≡ 0
+no_count t none = ap length none
+
+not_some : (n : ℕ) → n ≡ 0 → 1 ≤ n → ⊥
+not_some n none some = omega (arith, none, some)
+
+-- a session without answers holds none
+fresh_holds : (file : List ℕ) (held : HoldsSession file) → standing_on held.lang held.events ≡ [] → (m : ℕ) → HoldsAnswers file m → 1 ≤ m → ⊥
+fresh_holds file held fresh m holds some = not_some m (holds.number ∙ same_count file holds.session held ∙ no_count _ fresh) some
+
+-- ---- by what was done
+
+stale_is : (end : Ending) (m n : ℕ) → end ≡ ending.NotFresh m → end ≡ ending.NotFresh n → m ≡ n
+stale_is end m n a b = let same : ending.NotFresh m ≡ ending.NotFresh n = sym a ∙ b in cc
+
+target_is : (end : Ending) (f g : NetFault) → end ≡ ending.TargetRefused f → end ≡ ending.TargetRefused g → f ≡ g
+target_is end f g a b = let same : ending.TargetRefused f ≡ ending.TargetRefused g = sym a ∙ b in cc
+
+journal_stale : (end : Ending) (f : SFault) (m : ℕ) → end ≡ ending.JournalRefused f → end ≡ ending.NotFresh m → ⊥
+journal_stale end f m a b = let bad : ending.JournalRefused f ≡ ending.NotFresh m = sym a ∙ b in cc
+
+journal_target : (end : Ending) (f : SFault) (g : NetFault) → end ≡ ending.JournalRefused f → end ≡ ending.TargetRefused g → ⊥
+journal_target end f g a b = let bad : ending.JournalRefused f ≡ ending.TargetRefused g = sym a ∙ b in cc
+
+stale_target : (end : Ending) (m : ℕ) (g : NetFault) → end ≡ ending.NotFresh m → end ≡ ending.TargetRefused g → ⊥
+stale_target end m g a b = let bad : ending.NotFresh m ≡ ending.TargetRefused g = sym a ∙ b in cc
+
+abbrev refusing : NetFault → Result (List Candidate) NetFault
+refusing f = Err f
+
+same_refusing : (f g : NetFault) → refusing f ≡ refusing g → f ≡ g
+same_refusing f g e = cc
+
+okay_refusing : (target : List Candidate) (f : NetFault) → (let r : Result (List Candidate) NetFault = Ok target in r) ≡ refusing f → ⊥
+okay_refusing target f e = cc
+
+-- the file isn't opened
+play_closed : ReadOnce → (bytes file : List ℕ) (end : Ending) (f : SFault) → RefusesOpening file f → end ≡ ending.JournalRefused f → PlaysExactly bytes file end
+play_closed once bytes file end f why is = record {
+  opens = closed_exactly once file end f why is;
+  stale = λ m e. absurd (journal_stale end f m is e);
+  if_stale = λ none m some holds. absurd (none f why);
+  refused = λ g e. absurd (journal_target end f g is e);
+  if_refused = λ none g must. absurd (none f why);
+}
+
+-- a session is there, so the journal isn't refused
+opened_exactly : ReadOnce → (file : List ℕ) (end : Ending) → HoldsSession file → ((f : SFault) → end ≡ ending.JournalRefused f → ⊥) → OpensExactly file end
+opened_exactly once file end held other = record { refused = λ f e. absurd (other f e); refuses = λ f must. absurd (holds_none once file f must held) }
+
+play_stale : ReadOnce → (bytes file : List ℕ) (end : Ending) (held : HoldsSession file) (n : ℕ) → n ≡ length (standing_on held.lang held.events) → 1 ≤ n → end ≡ ending.NotFresh n → PlaysExactly bytes file end
+play_stale once bytes file end held n number some is = record {
+  opens = opened_exactly once file end held (λ f e. journal_stale end f n e is);
+  stale = λ m e.
+      let same : n ≡ m = stale_is end n m is e in
+      (let Some' : ℕ → Type 0 = λ k. 1 ≤ k in subst Some' same some, record { session = held; number = sym same ∙ number });
+  if_stale = λ none m some holds. is ∙ ap (λ (k : ℕ). ending.NotFresh k) (number ∙ same_count file held holds.session ∙ sym holds.number);
+  refused = λ f e. absurd (stale_target end n f is e);
+  if_refused = λ none f must. absurd (not_some n (number ∙ same_count file held must.session ∙ no_count _ must.fresh) some);
+}
+
+-- what must be none of the whole input is that
+must_be : (bytes file : List ℕ) (held : HoldsSession file) (f : NetFault) → MustLackTarget file bytes f → network_of held.lang bytes ≡ refusing f
+must_be bytes file held f must =
+    must.refused held.lang (vocabulary_as file held.plan must.session.plan held.voc must.session.voc held.events must.session.events held.lang held.says must.session.says held.read)
+
+play_lacks : ReadOnce → (bytes file : List ℕ) (end : Ending) (held : HoldsSession file) (f : NetFault) → standing_on held.lang held.events ≡ [] → network_of held.lang bytes ≡ refusing f → end ≡ ending.TargetRefused f → PlaysExactly bytes file end
+play_lacks once bytes file end held f fresh none is = record {
+  opens = opened_exactly once file end held (λ g e. journal_target end g f e is);
+  stale = λ m e. absurd (stale_target end m f e is);
+  if_stale = λ opens m some holds. absurd (fresh_holds file held fresh m holds some);
+  refused = λ g e. let Told : NetFault → Type 0 = λ x. network_of held.lang bytes ≡ refusing x in record { session = held; fresh = fresh; refused = subst Told (target_is end f g is e) none };
+  if_refused = λ opens g must. is ∙ ap (λ (x : NetFault). ending.TargetRefused x) (same_refusing f g (sym none ∙ must_be bytes file held g must));
+}
+
+play_on : ReadOnce → (bytes file : List ℕ) (end : Ending) (held : HoldsSession file) (target : List Candidate) → standing_on held.lang held.events ≡ [] → network_of held.lang bytes ≡ Ok target →
+    ((f : SFault) → end ≡ ending.JournalRefused f → ⊥) → ((m : ℕ) → end ≡ ending.NotFresh m → ⊥) → ((f : NetFault) → end ≡ ending.TargetRefused f → ⊥) → PlaysExactly bytes file end
+play_on once bytes file end held target fresh reads no_journal no_stale no_target = record {
+  opens = opened_exactly once file end held no_journal;
+  stale = λ m e. absurd (no_stale m e);
+  if_stale = λ opens m some holds. absurd (fresh_holds file held fresh m holds some);
+  refused = λ g e. absurd (no_target g e);
+  if_refused = λ opens g must. absurd (okay_refusing target g (sym reads ∙ must_be bytes file held g must));
+}
+
+module _ {D : Type 0} (content : D → Option (List ℕ)) (may_leave : D → List ℕ → Type 0) (moment : D → ℕ) (left_since : D → ℕ → List ℕ → Type 0) where
+  abbrev held_by : (old new : D) (file : List ℕ) → IsOpened content may_leave moment left_since old new → content old ≡ Some file → HoldsSession file
+  held_by old new file opened told = record { plan = opened.plan; voc = opened.voc; events = opened.events; says = opened.says file told; lang = opened.lang; read = opened.read; places = opened.places }
+
+  lacks_so : ReadOnce → (left written left' written' : Option (List ℕ)) (bytes file : List ℕ) (end : Ending) (held : HoldsSession file) → standing_on held.lang held.events ≡ [] → left ≡ Some bytes →
+      (why : NoTarget) → MayLack held.lang left left' why → EndsWithout why written written' (okay end) → IsBrokenOff end ⊎ PlaysExactly bytes file end
+  lacks_so once left written left' written' bytes file end held fresh from (without.Refused f) lacks ends = inr (play_lacks once bytes file end held f fresh (none_of held.lang left left' bytes f lacks from) ends.0)
+  lacks_so once left written left' written' bytes file end held fresh from without.ReadFault lacks ends = inl (inl (same_ok end ending.ReadFault ends.0))
+  lacks_so once left written left' written' bytes file end held fresh from without.Memory lacks ends = absurd (err_ok put.Memory end (sym ends.0))
+
+  pub play_ends : ReadOnce → (budget : ℕ) (left written left' written' : Option (List ℕ)) (old new : D) (got : Result Ending Put) → PlaysOn content may_leave moment left_since budget left written left' written' old new got → PlayEnds left (content old) (ended_as got)
+  play_ends once budget left written left' written' old new (Err put.Failed) plays = λ bytes from file told. inl (inr (inl refl))
+  play_ends once budget left written left' written' old new (Err put.Memory) plays = λ bytes from file told. inl (inr (inr (inr refl)))
+  play_ends once budget left written left' written' old new (Ok end) (inl closed) = λ bytes from file told.
+      ⊎_elim (λ broken. inl broken) (λ is. inr (play_closed once bytes file end closed.fault (is.0, closed.why file told) is.1)) (closed_end written written' end closed.fault (untold closed.fault) refl closed.refuses)
+  play_ends once budget left written left' written' old new (Ok end) (inr (inl stale)) = λ bytes from file told.
+      inr (play_stale once bytes file end (held_by old new file stale.opened told) stale.number stale.is stale.some stale.tells.0)
+  play_ends once budget left written left' written' old new (Ok end) (inr (inr (inl lacks))) = λ bytes from file told.
+      lacks_so once left written left' written' bytes file end (held_by old new file lacks.opened told) lacks.fresh from lacks.why lacks.lacks lacks.ends
+  play_ends once budget left written left' written' old new (Ok end) (inr (inr (inr played))) = λ bytes from file told.
+      let on = played.on in
+      let held : HoldsSession file = record { plan = on.plan; voc = on.voc; events = on.events; says = on.says file told; lang = on.lang; read = on.read; places = on.places } in
+      let whole : bytes ≡ played.reads.bytes = whole_of bytes played.reads.bytes (gives_got (all_of 4194304) left played.rest (fine played.reads.bytes) bytes played.reads.gives from) in
+      inr (play_on once bytes file end held played.target played.fresh (ap (network_of on.lang) whole ∙ played.reads.is)
+      (λ f e. not_loops on.tries.how (ending.JournalRefused f) (on.tries.is ∙ ap okay e) refl)
+      (λ m e. not_loops on.tries.how (ending.NotFresh m) (on.tries.is ∙ ap okay e) refl)
+      (λ f e. not_loops on.tries.how (ending.TargetRefused f) (on.tries.is ∙ ap okay e) refl))
+
+  pub ends_exactly : ReadOnce → (words : List (List ℕ)) (left written left' written' : Option (List ℕ)) (old new : D) (got : Result Ending Put) →
+      ((plan : Plan) → command_asked words ≡ Ok (command.New plan) → News content may_leave moment left_since plan left written left' written' old new got) →
+      ((budget : ℕ) → command_asked words ≡ Ok (command.Run budget) → RunsOn content may_leave moment left_since budget left written left' written' old new got) →
+      ((budget : ℕ) → command_asked words ≡ Ok (command.Play budget) → PlaysOn content may_leave moment left_since budget left written left' written' old new got) →
+      (command_asked words ≡ Ok command.Show → Shows content may_leave moment left_since left written written' old new got) →
+      EndsExactly (command_asked words) left (content old) (ended_as got)
+  ends_exactly once words left written left' written' old new got news runs plays shows = of (command_asked words) refl
+    where
+      of : (asked : Result Command UsageFault) → command_asked words ≡ asked → EndsExactly asked left (content old) (ended_as got)
+      of (Ok (command.New plan)) is = new_ends content may_leave moment left_since plan left written left' written' old new got (news plan is)
+      of (Ok (command.Run budget)) is = run_ends content may_leave moment left_since once budget left written left' written' old new got (runs budget is)
+      of (Ok (command.Play budget)) is = play_ends once budget left written left' written' old new got (plays budget is)
+      of (Ok command.Show) is = show_ends content may_leave moment left_since once left written written' old new got (shows is)
+      of (Ok (command.Try plan budget)) is = tt
+      of (Ok (command.Demo number budget)) is = tt
+      of (Err fault) is = tt

@@ -1,0 +1,100 @@
+use Rattle.std.proofs.Common.{◌≡◌, ◌≤◌, ℕ, Bool, false, List, [], Option, Result, refl, sym, subst, arith, inl, inr, length}
+use Rattle.std.specs.Prelude.{IfOk, OnErr}
+use Rattle.acq_io.specs.declared.streams.Put.{Put}
+use Rattle.assign.specs.Assignment.{Assignment}
+use Rattle.assign.specs.Events.{Answer}
+use Rattle.assign.specs.declared.events.Event.{Event}
+use Rattle.assign.specs.declared.events.Plan.{Plan}
+use Rattle.language.specs.Language.{Language}
+use Rattle.language.specs.declared.candidates.Candidate.{Candidate}
+use Rattle.language.specs.Answers.{standing_on}
+use Rattle.session_store.specs.Keeping.{FailsWith}
+use Rattle.session_store.specs.Store.{lang_of, plan_of, voc_of, events_of, question_of}
+use Rattle.target_oracle.specs.NetTurns.{net_turn, net_may_say}
+use Rattle.target_oracle.specs.Turns.{Turns}
+use Rattle.acq_cli.specs.Breaks.{BreaksRun}
+use Rattle.acq_cli.specs.Driven.{Loses}
+use Rattle.acq_cli.specs.Endings.{Tries}
+use Rattle.acq_cli.specs.Playing.{IsAnsweredBy, MayLack, ReadsTarget}
+use Rattle.acq_cli.specs.Points.{point_of, terms_with}
+use Rattle.acq_cli.specs.declared.ending.Ending.TheVariants as ending
+use Rattle.acq_cli.proofs.Journals.{goes_on_with, IsDisk}
+use Rattle.acq_cli.proofs.Targets.{answered, none_at_all}
+use Rattle.acq_cli.proofs.playing.play_journal.Goals as goal
+
+pub returns-then-count-ge1-clause-plays : goal.returns-then-count-ge1-clause-plays
+returns-then-count-ge1-clause-plays g c =
+    let store = c.in-Ok.store in
+    inr (inl (record {
+      opened = record {
+        plan = plan_of store;
+        voc = voc_of store;
+        events = events_of store;
+        says = c.in-Ok.ensures.opened;
+        lang = lang_of store;
+        read = c.in-Ok.ensures.sound.read;
+        places = c.in-Ok.ensures.places;
+        same = c.open.ensures.same;
+        any_moment = c.open.ensures.any_moment;
+      };
+      number = c.answers_of-count.result;
+      is = c.answers_of-count.ensures.is;
+      some = omega (arith, c.if-count-ge1.true);
+      tells = c.refuse_answers.ensures.tells;
+      unread = refl;
+    }))
+
+pub returns-clause-plays : goal.returns-clause-plays
+returns-clause-plays g c =
+    let store = c.in-Ok.store in
+    let Lacks : Language → Type 0 = λ l. MayLack l (g.S.Source.left c.args.input.now) (g.S.Source.left c.read_target.new.input) c.in-Err-read_target.why in
+    inr (inr (inl (record {
+      opened = record {
+        plan = plan_of store;
+        voc = voc_of store;
+        events = events_of store;
+        says = c.in-Ok.ensures.opened;
+        lang = lang_of store;
+        read = c.in-Ok.ensures.sound.read;
+        places = c.in-Ok.ensures.places;
+        same = c.open.ensures.same;
+        any_moment = c.open.ensures.any_moment;
+      };
+      fresh = none_at_all (standing_on (lang_of store) (events_of store)) (let few = c.if-count-ge1.false in let is = c.answers_of-count.ensures.is in omega (arith, few, is));
+      why = c.in-Err-read_target.why;
+      lacks = subst Lacks c.lang_of.ensures.is c.in-Err-read_target.ensures.lacks;
+      ends = c.refuse_target.ensures.ends;
+    })))
+
+pub returns-in-Ok-read_target-clause-plays : goal.returns-in-Ok-read_target-clause-plays
+returns-in-Ok-read_target-clause-plays g c =
+    let D = g.D.Disk in
+    let store = c.in-Ok.store in
+    let after = c.ask_on.new.keep in
+    let l : Language = lang_of store in
+    let terms = terms_with (plan_of store) c.args.budget in
+    let target : List Candidate = c.new-teacher.result.network in
+    let left = g.S.Source.left c.args.input.now in
+    let rest = g.S.Source.left c.read_target.new.input in
+    let written = g.K.Sink.written c.args.out.now in
+    let left' = g.S.Source.left c.ask_on.new.input in
+    let written' = g.K.Sink.written c.ask_on.new.out in
+    let fresh : standing_on l (events_of store) ≡ [] = none_at_all (standing_on l (events_of store)) (let few = c.if-count-ge1.false in let is = c.answers_of-count.ensures.is in omega (arith, few, is)) in
+    let Read : Language → Type 0 = λ m. ReadsTarget m left rest c.in-Ok-read_target.target.list in
+    let Own : List Candidate → Type 0 = ReadsTarget l left rest in
+    let reads : Own target = subst Own (sym c.new-teacher.ensures.network) (subst Read c.lang_of.ensures.is c.in-Ok-read_target.ensures.target) in
+    let Tried : Bool → Type 0 = λ quiet. IfOk c.ask_on.result (Tries (net_turn target quiet) l terms (events_of store) (events_of after) rest written left' written') in
+    let Part : Bool → Type 0 = λ quiet. OnErr c.ask_on.result (BreaksRun (net_turn target quiet) l terms (events_of store) (events_of after) rest written written') in
+    let Lost : Bool → Type 0 = λ quiet.
+    IsDisk c.ask_on.result → FailsWith D.content D.may_leave D.moment D.left_since (plan_of store) (voc_of store) (events_of store) (events_of after) (question_of after)
+    (Loses (net_turn target quiet) l terms (point_of (events_of store) rest written) (point_of (events_of after) left' written')) c.open.new.disk c.ask_on.new.disk in
+    let tries = subst Tried c.new-teacher.ensures.quiet c.ask_on.ensures.asked.tries in
+    let Holds : Language → Plan → List Event → List Event → Type 0 = λ m plan before later.
+    (standing_on m before ≡ []) × ReadsTarget m left rest target × IsAnsweredBy target m (terms_with plan c.args.budget) (standing_on m later) c.ask_on.result in
+    let on = goes_on_with D.content D.may_leave D.moment D.left_since Holds (net_turn target false) (net_may_say target) c.args.budget rest written left' written'
+    c.args.disk.now c.open.new.disk c.ask_on.new.disk c.ask_on.result (plan_of store) (voc_of store) (events_of store) (events_of after) (question_of after) l
+    c.in-Ok.ensures.opened c.in-Ok.ensures.sound.read c.in-Ok.ensures.places c.open.ensures.same c.open.ensures.any_moment c.ask_on.ensures.lawful c.ask_on.ensures.added c.ask_on.ensures.keeps.told
+    (λ no bytes told. c.ask_on.ensures.keeps.persists refl bytes told no) (subst Lost c.new-teacher.ensures.quiet (λ is. c.ask_on.ensures.keeps.fails is))
+    tries (subst Part c.new-teacher.ensures.quiet c.ask_on.ensures.asked.part)
+    (fresh, reads, answered (net_turn target false) l terms target (events_of store) (events_of after) rest written left' written' c.ask_on.result reads.lawful fresh c.ask_on.ensures.added tries) in
+    inr (inr (inr (record { target = target; rest = rest; on = on.0; fresh = on.1.0; reads = on.1.1; answered = on.1.2 })))

@@ -1,0 +1,153 @@
+-- What `play` has done.
+use Rattle.std.specs.Prelude.{◌≡◌, ◌⊎◌, ◌≤◌, ℕ, false, IsTrue, List, [], length, Option, Result, Ok, Err}
+use Rattle.std.specs.Option.{ForSome}
+use Rattle.acq_io.specs.Whole.{Gives, all_of}
+use Rattle.acq_io.specs.declared.streams.Put.{Put}
+use Rattle.acq_io.specs.declared.whole.AllFault.{AllFault}
+use Rattle.assign.specs.Events.{Answer}
+use Rattle.assign.specs.declared.events.Event.{Event}
+use Rattle.assign.specs.declared.events.Plan.{Plan}
+use Rattle.disk_model.specs.Disk.{LeavesOnly}
+use Rattle.language.specs.declared.candidates.Candidate.{Candidate}
+use Rattle.language.specs.Language.{Language, HasSameSolutions}
+use Rattle.language.specs.Answers.{IsNetwork, agrees, standing_on}
+use Rattle.network.specs.Target.{network_of}
+use Rattle.network.specs.declared.fault.NetFault.{NetFault}
+use Rattle.session_store.specs.Left.{SaysSession}
+use Rattle.session_store.specs.Replay.{HavePlaces}
+use Rattle.session_store.specs.declared.fault.SFault.{SFault}
+use Rattle.target_oracle.specs.NetTurns.{net_turn, net_may_say}
+use Rattle.voc_read.specs.Vocabulary.{IsVocabulary}
+use Rattle.acq_cli.specs.Exactly.{HoldsSession, IsBrokenOff, OpensExactly, RefusesOpening}
+use Rattle.acq_cli.specs.Journals.{EndsWith, StaysClosed}
+use Rattle.acq_cli.specs.Points.{terms_with}
+use Rattle.acq_cli.specs.Running.{GoesOn}
+use Rattle.acq_cli.specs.Texts.{learned_after, not_fresh_text, target_refusal_text}
+use Rattle.acq_cli.specs.declared.ending.Ending.{Ending}
+use Rattle.acq_cli.specs.declared.playing.NoTarget.{NoTarget}
+use Rattle.acq_cli.specs.declared.terms.Terms.{Terms}
+use Rattle.acq_io.specs.declared.streams.Put.TheVariants as put
+use Rattle.acq_io.specs.declared.whole.AllFault.TheVariants as long
+use Rattle.network.specs.declared.fault.NetFault.TheVariants as net
+use Rattle.acq_cli.specs.declared.ending.Ending.TheVariants as ending
+use Rattle.acq_cli.specs.declared.playing.NoTarget.TheVariants as without
+
+-- ---- The target
+
+-- why the input, read to its end, is no network of this language
+abbrev pub IsNoNetwork : Language → NetFault → Result (List ℕ) AllFault → Type 0
+IsNoNetwork l fault (Ok bytes) = network_of l bytes ≡ Err fault
+IsNoNetwork l fault (Err e) = (e ≡ long.TooLong) × (fault ≡ net.TooLong)
+
+-- what was read of the input is no network of this language
+pub record RefusesTarget (l : Language) (left left' : Option (List ℕ)) (fault : NetFault) : Type 0 where
+  pub got : Result (List ℕ) AllFault
+  pub gives : Gives (all_of 4194304) left left' got
+  pub refused : IsNoNetwork l fault got
+
+-- the input, to its end, is this network
+pub record ReadsTarget (l : Language) (left left' : Option (List ℕ)) (target : List Candidate) : Type 0 where
+  pub bytes : List ℕ
+  pub gives : Gives (all_of 4194304) left left' (Ok bytes)
+  pub is : network_of l bytes ≡ Ok target
+  pub lawful : IsNetwork l target
+
+-- a refusal is what the input's bytes say
+abbrev pub MayLack : Language → (left left' : Option (List ℕ)) → NoTarget → Type 0
+MayLack l left left' (without.Refused fault) = RefusesTarget l left left' fault
+MayLack l left left' without.ReadFault = Unit {0}
+MayLack l left left' without.Memory = Unit {0}
+
+-- a refused target is told; where the input or memory failed, not a word was written
+abbrev pub EndsWithout : NoTarget → (written written' : Option (List ℕ)) → Result Ending Put → Type 0
+EndsWithout (without.Refused fault) written written' got = EndsWith (ending.TargetRefused fault) (target_refusal_text fault) written written' got
+EndsWithout without.ReadFault written written' got = (got ≡ Ok ending.ReadFault) × (written' ≡ written)
+EndsWithout without.Memory written written' got = (got ≡ Err put.Memory) × (written' ≡ written)
+
+-- ---- Its answers
+
+-- Whatever input and output tell, the target gave each answer. So it never collapses, and what was learned where the answers
+-- converge has exactly the target's solutions.
+pub record IsAnsweredBy (target : List Candidate) (l : Language) (terms : Terms) (t : List Answer) (got : Result Ending Put) : Type 0 where
+  pub agreeing : IsTrue (agrees l target t)
+  pub no_collapse : (m : ℕ) → got ≡ Ok (ending.Collapsed m) → ⊥
+  pub same : (m : ℕ) → got ≡ Ok (ending.Converged m) → HasSameSolutions l target (learned_after l terms t)
+
+-- ---- The command
+
+-- the meanings of a disk
+module _ {D : Type 0} (content : D → Option (List ℕ)) (may_leave : D → List ℕ → Type 0) (moment : D → ℕ) (left_since : D → ℕ → List ℕ → Type 0) where
+  -- A session was opened, which is that of the journal where the disk tells its bytes. The disk holds what it held.
+  pub record IsOpened (old new : D) : Type 0 where
+    pub plan : Plan
+    pub voc : List ℕ
+    pub events : List Event
+    pub says : ForSome (content old) (λ bytes. SaysSession bytes plan voc events)
+    pub lang : Language
+    pub read : IsVocabulary voc lang
+    pub places : HavePlaces lang plan events
+    pub same : content new ≡ content old
+    pub any_moment : LeavesOnly moment left_since old new (may_leave old)
+
+  -- some answers stand, which is told before anything is read
+  pub record IsNotFresh (left written left' written' : Option (List ℕ)) (old new : D) (got : Result Ending Put) : Type 0 where
+    pub opened : IsOpened old new
+    pub number : ℕ
+    pub is : number ≡ length (standing_on opened.lang opened.events)
+    pub some : 1 ≤ number
+    pub tells : EndsWith (ending.NotFresh number) (not_fresh_text number) written written' got
+    pub unread : left' ≡ left
+
+  -- no answer stands, and there is no target
+  pub record IsUntargeted (left written left' written' : Option (List ℕ)) (old new : D) (got : Result Ending Put) : Type 0 where
+    pub opened : IsOpened old new
+    pub fresh : standing_on opened.lang opened.events ≡ []
+    pub why : NoTarget
+    pub lacks : MayLack opened.lang left left' why
+    pub ends : EndsWithout why written written' got
+
+  -- no answer stood, and the run goes on by the answers of the target
+  pub record IsPlayed (budget : ℕ) (left written left' written' : Option (List ℕ)) (old new : D) (got : Result Ending Put) : Type 0 where
+    pub target : List Candidate
+    pub rest : Option (List ℕ)
+    pub on : GoesOn content may_leave moment left_since (net_turn target false) (net_may_say target) budget rest written left' written' old new got
+    pub fresh : standing_on on.lang on.events ≡ []
+    pub reads : ReadsTarget on.lang left rest target
+    pub answered : IsAnsweredBy target on.lang (terms_with on.plan budget) (standing_on on.lang on.later) got
+
+  abbrev pub PlaysOn : ℕ → (left written left' written' : Option (List ℕ)) → D → D → Result Ending Put → Type 0
+  PlaysOn budget left written left' written' old new got =
+      StaysClosed content may_leave moment left_since left written left' written' old new got
+      ⊎ (IsNotFresh left written left' written' old new got ⊎ (IsUntargeted left written left' written' old new got ⊎ IsPlayed budget left written left' written' old new got))
+
+-- ---- Exactly when it refuses
+
+-- the file holds a session with so many answers
+pub record HoldsAnswers (file : List ℕ) (m : ℕ) : Type 0 where
+  pub session : HoldsSession file
+  pub number : m ≡ length (standing_on session.lang session.events)
+
+-- the file holds a session without answers, of whose language these bytes are no network
+pub record HoldsNoTarget (file bytes : List ℕ) (fault : NetFault) : Type 0 where
+  pub session : HoldsSession file
+  pub fresh : standing_on session.lang session.events ≡ []
+  pub refused : network_of session.lang bytes ≡ Err fault
+
+-- they are none, whichever language it is that the vocabulary describes
+pub record MustLackTarget (file bytes : List ℕ) (fault : NetFault) : Type 0 where
+  pub session : HoldsSession file
+  pub fresh : standing_on session.lang session.events ≡ []
+  pub refused : (lang : Language) → IsVocabulary session.voc lang → network_of lang bytes ≡ Err fault
+
+-- A journal is refused exactly for what its bytes say. Where they don't refuse it, answers are told exactly where some stand,
+-- and else a target is refused exactly for what the input's bytes say.
+pub record PlaysExactly (bytes file : List ℕ) (end : Ending) : Type 0 where
+  pub opens : OpensExactly file end
+  pub stale : (m : ℕ) → end ≡ ending.NotFresh m → (1 ≤ m) × HoldsAnswers file m
+  pub if_stale : ((f : SFault) → RefusesOpening file f → ⊥) → (m : ℕ) → 1 ≤ m → HoldsAnswers file m → end ≡ ending.NotFresh m
+  pub refused : (f : NetFault) → end ≡ ending.TargetRefused f → HoldsNoTarget file bytes f
+  pub if_refused : ((f : SFault) → RefusesOpening file f → ⊥) → (f : NetFault) → MustLackTarget file bytes f → end ≡ ending.TargetRefused f
+
+-- where input and disk tell their bytes
+abbrev pub PlayEnds : (left content : Option (List ℕ)) → Ending → Type 0
+PlayEnds left content end = ForSome left (λ bytes. ForSome content (λ file. IsBrokenOff end ⊎ PlaysExactly bytes file end))
