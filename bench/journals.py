@@ -8,10 +8,10 @@ session is one of plan scopes, with 128 variables, all pairs of them and 64 rela
 nothing has to hold: the longest that was found. Its files are written here by the form in docs/formats.md. Beyond it there is
 no place for a further answer, and beyond 1,000,000 records there are too many.
 
-First comes what an answer takes, in a file and of `try`, and, where strace is there, the system calls for one; then for each file the seconds, those of
-a processor and, where GNU time is there, the most memory that `run` takes without any answer, and what it prints, and those of
-`show`. Nothing is asserted of the times; a file for which another line comes than the expected one is marked, and then the
-status is 1.
+First comes what an answer takes that is kept in a file, and one of `try`, each over a pipe, and of `try` where the input is a file;
+and, where strace is there, the system calls for one that is kept. Then come for each file the seconds, those of a processor and,
+where GNU time is there, the most memory that `run` takes without any answer, and what it prints, and those of `show`. Nothing is
+asserted of the times; a file for which another line comes than the expected one is marked, and then the status is 1.
 """
 
 import itertools
@@ -63,22 +63,26 @@ def write_journal(path, records):
 
 
 class Cost:
-    """What one start of the program took."""
+    """What one start of the program took. Its input are the given bytes over a pipe, or a file that is open."""
 
     def __init__(self, words, given, out):
+        is_file = hasattr(given, "fileno")
         timed = shutil.which("time")
         with tempfile.NamedTemporaryFile("r") as told:
             before, begun = resource.getrusage(resource.RUSAGE_CHILDREN), time.monotonic()
             run = subprocess.Popen(
-                ([timed, "-f", "%M", "-o", told.name] if timed else []) + words, stdin=subprocess.PIPE, stdout=out
+                ([timed, "-f", "%M", "-o", told.name] if timed else []) + words,
+                stdin=given if is_file else subprocess.PIPE,
+                stdout=out,
             )
-            text, _ = run.communicate(given)
+            text, _ = run.communicate(None if is_file else given)
             self.seconds = time.monotonic() - begun
             after = resource.getrusage(resource.RUSAGE_CHILDREN)
             memory = told.read().split()
         self.processor = after.ru_utime + after.ru_stime - before.ru_utime - before.ru_stime
         self.memory = f"{int(memory[-1]) / 1024:.1f} MB" if memory else "? MB"
         self.text = (text or b"").decode()
+        self.status = run.returncode
 
     def __str__(self):
         return f"{self.seconds:.2f} s, {self.processor:.2f} of a processor, {self.memory}"
@@ -108,7 +112,17 @@ def answer_costs(program, folder):
     def in_memory(given):
         return Cost(loose, first + given, subprocess.DEVNULL)
 
-    rows = [(f"in a file in {folder}", in_file, FILED), ("of `try`, which keeps none", in_memory, TRIED)]
+    def from_file(given):
+        with tempfile.TemporaryFile(dir=folder) as file:
+            file.write(first + given)
+            file.seek(0)
+            return Cost(loose, file, subprocess.DEVNULL)
+
+    rows = [
+        (f"that is kept in a file in {folder}", in_file, FILED),
+        ("of `try`, which keeps none", in_memory, TRIED),
+        ("of `try`, where the input is a file", from_file, TRIED),
+    ]
     for name, start, more in rows:
         costs = [(start(b"yes\n"), start(b"yes\n" * (1 + more))) for _ in range(5)]
         seconds, processor = (

@@ -16,6 +16,7 @@ these stands behind the table. Else it is a fault, and the status is 1.
 The examples' owners are those of examples/; all other tasks are made here, those that are drawn from fixed numbers.
 """
 
+import functools
 import itertools
 import json
 import os
@@ -64,13 +65,12 @@ class Task:
             test = eval(f"lambda t: {python_of(relation['formula'])}")
             tuples = itertools.product(self.values, repeat=relation["arity"])
             self.tables[relation["name"]] = frozenset(t for t in tuples if test(t))
-        self.network = dict(self.constraint_of(text) for text in constraints)
+        self.constraints = list(constraints)
+        self.network = dict(self.constraint_of(text) for text in self.constraints)
         # What a scope of the network may not have. Tuples with a variable that isn't shown aren't among these.
         self.unknown = dict.fromkeys(vocabulary["variables"])
-        self.rejected = [
-            (values_at(scope), frozenset(itertools.product(self.values, repeat=len(scope))) - table)
-            for scope, table in self.network.items()
-        ]
+        others = functools.cache(lambda table, size: frozenset(itertools.product(self.values, repeat=size)) - table)
+        self.rejected = [(values_at(scope), others(table, len(scope))) for scope, table in self.network.items()]
 
     def constraint_of(self, text):
         """The scope and the accepted tuples of a constraint as the program prints it."""
@@ -125,13 +125,13 @@ def has_solution(variables, values, constraints):
 
 class Learned(NamedTuple):
     """A session of `try`: the questions, as the variables and values that they show, the answers, and the lines behind them;
-    seconds of a processor in all, and the most that passed from one question to the next, if the system tells that."""
+    seconds of a processor in all, and how many had passed at each question, if the system tells that."""
 
     questions: list
     answers: list
     last: list
     seconds: float
-    longest: float | None
+    taken: list | None
 
     def text(self):
         lines = (
@@ -139,6 +139,12 @@ class Learned(NamedTuple):
             for number, shown in enumerate(self.questions, 1)
         )
         return "".join(f"{line}\n" for line in [*lines, *self.last])
+
+    def longest(self):
+        """The most seconds of a processor from one question to the next. None where the system doesn't tell."""
+        if self.taken is None:
+            return None
+        return max(later - earlier for earlier, later in itertools.pairwise([0.0, *self.taken, self.seconds]))
 
 
 def processor_so_far(process):
@@ -150,8 +156,8 @@ def processor_so_far(process):
         return None
 
 
-def learn(program, task, *words):
-    """A session of `try` with these words, whose owner answers by the task's network."""
+def learn(program, task, *words, most=None):
+    """A session of `try` with these words, whose owner answers by the task's network, and stops after so many answers."""
     run = subprocess.Popen(
         [program, ":memory:", "try", *words], stdin=subprocess.PIPE, stdout=subprocess.PIPE, text=True
     )
@@ -164,6 +170,10 @@ def learn(program, task, *words):
             last.append(line.rstrip("\n"))
             continue
         taken.append(processor_so_far(run.pid))
+        if len(answers) == most:
+            run.stdin.write("stop\n")
+            run.stdin.flush()
+            continue
         shown = {name: int(value) for name, value in (part.split("=") for part in parts)}
         questions.append(shown)
         answers.append("yes" if task.accepts(shown) else "no")
@@ -173,10 +183,7 @@ def learn(program, task, *words):
     _, _, usage = os.wait4(run.pid, 0)
     run.returncode = 0
     seconds = usage.ru_utime + usage.ru_stime
-    if None in taken:
-        return Learned(questions, answers, last, seconds, None)
-    longest = max(later - earlier for earlier, later in itertools.pairwise([0.0, *taken, seconds]))
-    return Learned(questions, answers, last, seconds, longest)
+    return Learned(questions, answers, last, seconds, None if None in taken else taken)
 
 
 def read_network(task, last):

@@ -5,16 +5,17 @@ usage: bench/search.py PROGRAM [OTHER] [--all] [--case WORD]
 
 PROGRAM is the built program, as crates/acquire/out/acquire. Each case is learned by `try` from an owner who answers by a
 network. Then the same answers are given once more in one piece, and the processor time of the program alone is taken, its
-start included: the least of three where that is below half a second. A table in Markdown comes: the questions, the ending, how
-many constraints were learned and how many are open; the time, that for a question, and the longest from one question to the
-next; and, where GNU time is there, the most memory. The longest cases come with --all alone; with --case those that have WORD
-in their names.
+start included: the least of three where that is below half a second. Then `play` lets the network answer, over a journal on a
+file system in memory, where there is one. A table in Markdown comes: the questions, the ending, how many constraints were
+learned and how many are open; the time, that for a question, and the longest from one question to the next; where GNU time is
+there, the most memory; and the time of `play`. The longest cases come with --all alone; with --case those that have WORD in
+their names.
 
 OTHER is a second program, such as an earlier build. It gets the same answers, and further columns have its time, how many times
 as long it takes, and whether it prints the same. Where it doesn't, it learns for itself, and how it ends is said there too.
 
 Nothing is asserted of the times. A printed constraint that isn't the owner's is a fault, and so is a text that differs where
-the answers come in one piece; then the status is 1.
+the answers come in one piece, or where the network answers; then the status is 1.
 
 All cases are made here and in bench/questions.py, those that are drawn from fixed numbers.
 """
@@ -27,6 +28,7 @@ import os
 import random
 import subprocess
 import sys
+import tempfile
 
 sys.dont_write_bytecode = True
 from journals import Cost
@@ -76,6 +78,20 @@ def mixed_network(count, values, constraints, number):
     return Task(f"{count} variables, {constraints} mixed", vocabulary(names, [1, values], ORDERS), network)
 
 
+def bounded_sums(count, scopes, number):
+    """Four variables at a time, of 16 values each: their sum is below the most that it could be. So a reply to a telling apart
+    comes from the last of 65,536 tuples."""
+    draw = random.Random(number)
+    names = [f"v{i:02}" for i in range(1, count + 1)]
+    drawn = set()
+    while len(drawn) < scopes:
+        drawn.add(tuple(sorted(draw.sample(names, 4))))
+    listed = sorted(drawn)
+    relations = [relation("below", ["<", ["+", "$0", "$1", "$2", "$3"], 60], 4)]
+    network = [" ".join(["below", *four]) for four in listed]
+    return Task(f"{count} variables of arity 4", vocabulary(names, [0, 15], relations, [list(four) for four in listed]), network)
+
+
 def milliseconds(seconds):
     return f"{seconds * 1000:,.0f}" if seconds >= 0.01 else f"{seconds * 1000:.1f}"
 
@@ -110,6 +126,7 @@ def cases():
     yield True, lambda: Case(exams(100, 20, 100))
     yield True, lambda: Case(exams(100, 20, 100), "--plan", "scopes")
     yield True, lambda: Case(mixed_network(128, 10, 300, 300), "--plan", "scopes")
+    yield True, lambda: Case(bounded_sums(60, 2380, 60), "--plan", "scopes")
 
 
 def replay(program, case, learned):
@@ -120,6 +137,22 @@ def replay(program, case, learned):
         more = (Cost([program, ":memory:", "try", *case.words], case.input_of(learned), subprocess.DEVNULL) for _ in range(2))
         seconds = min(seconds, *(one.processor for one in more))
     return cost.text, seconds, cost.memory
+
+
+def played(program, case, learned):
+    """The seconds of a processor that `play` takes. Fails where it prints something else than `try` does, with the answers."""
+    target = json.dumps([text.split(" ") for text in case.task.constraints], separators=(",", ":")).encode()
+    options = list(zip(case.words[::2], case.words[1::2]))
+    words_of = lambda name: [word for option in options if option[0] == name for word in option]
+    with tempfile.TemporaryDirectory(dir="/dev/shm" if os.path.isdir("/dev/shm") else None) as folder:
+        journal = os.path.join(folder, "journal")
+        made = Cost([program, journal, "new", *words_of("--plan")], case.vocabulary.encode(), subprocess.DEVNULL)
+        assert made.status == 0, "new is refused"
+        cost = Cost([program, journal, "play", *words_of("--budget")], target, subprocess.PIPE)
+    questions = learned.text().splitlines()[: len(learned.answers)]
+    lines = [*(f"{question} {answer}" for question, answer in zip(questions, learned.answers)), *learned.last]
+    assert cost.text == "".join(f"{line}\n" for line in lines), "play prints something else"
+    return cost.processor
 
 
 def compare_with(other, case, learned, seconds):
@@ -141,7 +174,8 @@ def row_of(program, other, case):
     opened = sum(line.startswith("open ") for line in learned.last)
     count = len(learned.questions)
     ending = learned.last[0].split(" ")[0]
-    waited = "?" if learned.longest is None else milliseconds(learned.longest)
+    longest = learned.longest()
+    waited = "?" if longest is None else milliseconds(longest)
     cells = [
         case.name,
         f"{len(case.task.vocabulary['variables'])}, {scopes_of(case.task):,}, {len(case.task.network):,}",
@@ -153,6 +187,7 @@ def row_of(program, other, case):
         f"{seconds / max(1, count) * 1e6:,.0f}",
         waited,
         memory,
+        milliseconds(played(program, case, learned)),
     ]
     return cells + (compare_with(other, case, learned, seconds) if other else [])
 
@@ -169,7 +204,7 @@ def main():
     given = words.parse_args()
     program, other = (path and os.path.realpath(path) for path in (given.program, given.other))
     heads = ["case", "variables, scopes, constraints", "questions", "ending", "learned", "open"]
-    heads += ["ms", "us a question", "longest wait, ms", "memory"]
+    heads += ["ms", "us a question", "longest wait, ms", "memory", "ms of play"]
     heads += ["ms of the other", "times as long", "the same text"] if other else []
     print(f"| {' | '.join(heads)} |\n|{'---|' * len(heads)}", flush=True)
     right = True

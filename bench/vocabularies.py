@@ -5,14 +5,18 @@ usage: bench/vocabularies.py PROGRAM
 
 PROGRAM is the built program, as crates/acquire/out/acquire. Each vocabulary is given on the first line of its input, and
 no answer after it: what is timed is the reading of the vocabulary, and the first question where it is taken. A row shows
-the seconds, the status, and the first line that the program wrote. Nothing is asserted of the times; a row whose first
-line isn't the expected one is marked, and then the status is 1.
+the seconds of a processor where the input is a file and where it is a pipe, from which each byte is asked for by itself; the most
+memory, where GNU time is there; the status, and the first line that the program wrote. Nothing is asserted of the times; a row
+whose first line isn't the expected one is marked, and then the status is 1.
 """
 
 import json
 import subprocess
 import sys
-import time
+import tempfile
+
+sys.dont_write_bytecode = True
+from journals import Cost
 
 MOST = 4_194_304
 
@@ -121,24 +125,25 @@ def inputs():
 
 
 def main():
-    program = sys.argv[1]
+    if len(sys.argv) != 2:
+        print(__doc__)
+        sys.exit(2)
+    words = [sys.argv[1], ":memory:", "try", "--plan", "scopes"]
     right = True
     for what, bytes_in, expected in inputs():
-        begun = time.monotonic()
-        run = subprocess.run(
-            [program, ":memory:", "try", "--plan", "scopes"],
-            input=bytes_in + b"\n",
-            capture_output=True,
-            check=False,
-        )
-        seconds = time.monotonic() - begun
-        line = run.stdout.split(b"\n", 1)[0].decode()
-        fits = line == expected or (expected == "q1" and line.startswith("q1 "))
+        with tempfile.TemporaryFile() as file:
+            file.write(bytes_in + b"\n")
+            file.seek(0)
+            filed = Cost(words, file, subprocess.PIPE)
+        piped = Cost(words, bytes_in + b"\n", subprocess.PIPE)
+        line = filed.text.split("\n", 1)[0]
+        fits = filed.text == piped.text and (line == expected or (expected == "q1" and line.startswith("q1 ")))
         right = right and fits
         mark = "" if fits else f"   expected: {expected}"
-        print(f"{seconds:8.2f} s  status {run.returncode}  {len(bytes_in):9,} bytes  {what}: {line[:60]}{mark}", flush=True)
-    return 0 if right else 1
+        times = f"{filed.processor:6.2f} s of a file, {piped.processor:6.2f} s of a pipe, {filed.memory:>9}"
+        print(f"{times}  status {filed.status}  {len(bytes_in):9,} bytes  {what}: {line[:60]}{mark}", flush=True)
+    sys.exit(0 if right else 1)
 
 
 if __name__ == "__main__":
-    sys.exit(main())
+    main()

@@ -3,12 +3,13 @@
 
 usage: checks/journals.py PROGRAM
 
-Rows of commands over one file, files that are no journal, files that can't be opened or written, a disk that is full, and a
-person at a terminal who presses Ctrl-C between two answers and goes on later. A limit on the length of files, by which a write
-fails as it does where no room is left, stands for the full disk. Where this runs as root, the rows on files that may not be read
-or written are run as nobody.
+Rows of commands over one file, files that are no journal, files that can't be opened or written, a disk that is full, what a
+command leaves of its input, and a person at a terminal who presses Ctrl-C between two answers and goes on later. A limit on the
+length of files, by which a write fails as it does where no room is left, stands for the full disk. Where this runs as root, the
+rows on files that may not be read or written are run as nobody.
 """
 
+import contextlib
 import os
 import pty
 import resource
@@ -197,6 +198,40 @@ def full_disk(room):
     room.report("then run at 196", ("q2 a=1 b=1\nsuspended 1\n", 6), room.look(journal, "run"))
 
 
+def what_is_left(room):
+    """The next program on the same input, a file or a pipe, finds what comes after the last line that was needed."""
+    journal, first = room.path("left"), room.vocabulary + b"\n"
+    rows = [
+        ("an ending", ":memory: try", first + b"yes\nno\nmaybe\n", b"maybe\n"),
+        ("a refused vocabulary", ":memory: try", b"{}\nyes\n", b"yes\n"),
+        ("words that aren't taken", ":memory: tray", first, first),
+        ("new", f"{journal} new", first + b"\n", b""),
+        ("an ending of run", f"{journal} run", b"yes\nno\nno\n", b"no\n"),
+        ("stop", f"{journal} run", b"yes\nstop\nno\n", b"no\n"),
+        ("a line that is too long", f"{journal} run", b"x" * 300 + b"\n", b"x" * 43 + b"\n"),
+        ("show", f"{journal} show", b"no\n", b"no\n"),
+        ("the end", f"{journal} run", b"", b""),
+    ]
+    for row, words, given, left in rows:
+        for kind, source in inputs_of(room, given):
+            with contextlib.suppress(FileNotFoundError):
+                os.remove(journal)
+            if row != "new":
+                room.look(journal, "new", None)
+            subprocess.run([room.program, *words.split()], stdin=source, stdout=subprocess.DEVNULL, timeout=20, check=False)
+            room.report(f"{row}, what is left of {kind}", left, os.read(source, 1000))
+            os.close(source)
+
+
+def inputs_of(room, given):
+    """A file and a pipe that give these bytes."""
+    yield "a file", os.open(room.put("input", given), os.O_RDONLY)
+    source, end = os.pipe()
+    os.write(end, given)
+    os.close(end)
+    yield "a pipe", source
+
+
 class Terminal:
     """A program whose input and output are a terminal, which shows what the program writes and no typed letter."""
 
@@ -279,7 +314,7 @@ def main():
         sys.exit(2)
     with tempfile.TemporaryDirectory() as folder:
         room = Room(folder, sys.argv[1])
-        for part in [over_one_file, no_journals, no_files, full_disk, at_a_terminal]:
+        for part in [over_one_file, no_journals, no_files, full_disk, what_is_left, at_a_terminal]:
             part(room)
     print(f"journals: {room.passed} passed, {room.failed} failed")
     sys.exit(1 if room.failed else 0)

@@ -63,10 +63,10 @@ def draw_truth(draw, arity, depth):
 class Language:
     """A vocabulary, with its relations as sets of tuples, and its candidates in order."""
 
-    def __init__(self, draw):
-        count = draw.randint(1, 4)
+    def __init__(self, draw, most_variables=4, most_values=3):
+        count = draw.randint(1, most_variables)
         least = draw.randint(-2, 1)
-        self.values = list(range(least, least + draw.randint(1, 3)))
+        self.values = list(range(least, least + draw.randint(1, most_values)))
         self.names = [f"v{i}" for i in range(count)]
         self.tables = {}
         relations = []
