@@ -1,21 +1,21 @@
 -- Alive prefixes: what they say of plain ones, their fronts, and the domains on the way down.
-use Rattle.std.proofs.Common.{◌≡◌, ℕ, zero, suc, ◌<◌, ◌≤◌, Bool, true, false, cond, ◌&&◌, not, List, [], ◌∷◌, ◌++◌, length, Option, Some, None, refl, sym, ◌∙◌, ap, subst, arith, inl, inr, ◌⊎◌}
+use Rattle.std.proofs.Common.{◌≡◌, ℕ, ◌<◌, ◌≤◌, Bool, true, false, cond, ◌&&◌, not, List, [], ◌∷◌, ◌++◌, length, Option, Some, None, refl, sym, ◌∙◌, ap, subst, arith, inl, inr, ◌⊎◌}
 use Rattle.std.specs.Prelude.{◌==◌, slice_index_or, All, is_some, unwrap_or}
 use Rattle.std.specs.Option.{ForSome}
 use Rattle.std.specs.List.{list_all}
 use Rattle.std.proofs.Math.ListN.{get_or-eq_default}
-use Rattle.std.proofs.lemmas.List.{length-map, get_or-map}
-use Rattle.std.proofs.lemmas.List.Elements.{All-head, All-tail, All-nil, All-cons}
+use Rattle.std.proofs.lemmas.List.{get_or-map}
+use Rattle.std.proofs.lemmas.List.Elements.{All-head, All-tail, All-nil, All-cons, All-map}
 use Rattle.std.proofs.lemmas.List.FromFn.{length-map-range_with_len}
-use Rattle.std.proofs.lemmas.List.Sums.{AllPass-from_list_all}
-use Rattle.std.proofs.lemmas.Bool.{and_parts, and_from, or_cases, both_ways, not-true, not_from_false, false_from_ne_true, cases_lt, eq-eqb, eqb-true}
-use Rattle.assign.specs.Sets.{has}
+use Rattle.std.proofs.lemmas.List.Sums.{AllPass-from_list_all, list_all-from_AllPass}
+use Rattle.std.proofs.lemmas.Bool.{and_parts, and_from, or_cases, both_ways, not-true, not_from_false, false_from_ne_true, cases_lt, eqb-true}
+use Rattle.assign.specs.Sets.{numbers, has}
 use Rattle.assign.specs.Assignment.{Assignment, value_of, value_beside, assigned, covers, tuple_on, is_complete}
 use Rattle.language.specs.declared.candidates.Candidate.{Candidate}
 use Rattle.language.specs.Language.{Language, IsLanguage, IsCandidate, variable_count, scope_of, accepts}
 use Rattle.language.proofs.Accepts.{accepted_at, accepted_from}
-use Rattle.language.proofs.Members.{any_number}
 use Rattle.language.proofs.Beside.{value_of_assigned}
+use Rattle.language.proofs.Lists.{all_below}
 use Rattle.propagators.specs.Allowed.{AreConstraints, satisfies_one, is_allowed}
 use Rattle.propagators.specs.Families.{Family, Arc, arc_of, arcs_of, is_not_empty, domain_of, left_by, sets_on, is_consistent, is_arc_consistent, has_family, IsSubfamily, IsLargest, largest}
 use Rattle.propagators.specs.Supports.{IsWithin}
@@ -24,50 +24,28 @@ use Rattle.propagators.proofs.Living.{full_above, largest_tells, largest_long}
 use Rattle.propagators.proofs.Replacing.{supported_through, through_supported, all_full}
 use Rattle.propagators.proofs.Rounds.{tells_more}
 use Rattle.fd_solver.specs.Outcomes.{is_alive_in}
-use Rattle.fd_solver.proofs.Preorder.{PassesFronts}
-use Rattle.fd_solver.proofs.Fronts.{HasMore, assigned_more}
-use Rattle.fd_solver.proofs.Orders.{covers_all}
+use Rattle.fd_solver.proofs.Left.{length-left, left_value, left_known, left_more, has_value}
+use Rattle.language.proofs.Preorder.{PassesFronts}
+use Rattle.language.proofs.Fronts.{assigned_more}
+use Rattle.language.proofs.Orders.{covers_all}
 
 -- ---- what an assignment leaves
-
-pub left_value : (d : ℕ) (e : Assignment) (v x : ℕ) → value_of e v ≡ Some x → slice_index_or (left_by d e) v [] ≡ x ∷ []
-left_value d [] v x h = cc
-left_value d (o ∷ e) zero x h = ap (domain_of d) h
-left_value d (o ∷ e) (suc v) x h = left_value d e v x h
 
 known_one : (o : Option ℕ) → is_some o ≡ true → o ≡ Some (unwrap_or o 0)
 known_one None h = cc
 known_one (Some x) h = refl
 
--- where e has fewer values than f, it leaves more
-left_more : (d : ℕ) (e f : Assignment) → length e ≡ length f → HasMore e f → ((v x : ℕ) → value_of f v ≡ Some x → x < d) → IsSubfamily (left_by d f) (left_by d e)
-left_more d [] [] long more fits v x h = h
-left_more d [] (u ∷ f) long more fits v x h = absurd (omega arith)
-left_more d (o ∷ e) [] long more fits v x h = absurd (omega arith)
-left_more d (o ∷ e) (u ∷ f) long more fits zero x h = go o u (more 0) (fits 0) h
-  where
-    go : (o u : Option ℕ) → ((y : ℕ) → o ≡ Some y → u ≡ Some y) → ((y : ℕ) → u ≡ Some y → y < d) → has (domain_of d u) x ≡ true → has (domain_of d o) x ≡ true
-    go None None more fits h = h
-    go None (Some y) more fits h = any_number (λ z. z == x) d x (one (or_cases (y == x) false h)) (eq-eqb x x refl)
-      where
-        one : ((y == x) ≡ true) ⊎ (false ≡ true) → x < d
-        one (inl same) = subst (λ (z : ℕ). z < d) (eqb-true y x same) (fits y refl)
-        one (inr never) = absurd (both_ways _ refl never)
-    go (Some y) None more fits h = absurd (let never : None ≡ Some y = more y refl in let is : ⊥ = cc in is)
-    go (Some y) (Some z) more fits h = (let same : Some z ≡ Some y = more y refl in subst (λ (o : Option ℕ). has (domain_of d o) x ≡ true) same h)
-left_more d (o ∷ e) (u ∷ f) long more fits (suc v) x h = left_more d e f (omega arith) (λ w y. more (suc w) y) (λ w y. fits (suc w) y) v x h
-
 -- ---- a tuple within what is left on a covered scope
 
-one_tuple : (d : ℕ) (e : Assignment) (f : Family) (scope tuple : List ℕ) → IsSubfamily f (left_by d e) → covers e scope ≡ true → IsWithin (sets_on f scope) tuple → tuple ≡ tuple_on e scope
-one_tuple d e f [] [] sub h within = refl
-one_tuple d e f [] (x ∷ tuple) sub h within = absurd within
-one_tuple d e f (v ∷ scope) [] sub h within = absurd within
-one_tuple d e f (v ∷ scope) (x ∷ tuple) sub h within =
+one_tuple : (l : Language) (e : Assignment) (f : Family) (scope tuple : List ℕ) → IsSubfamily f (left_by l e) → covers e scope ≡ true → IsWithin (sets_on f scope) tuple → tuple ≡ tuple_on e scope
+one_tuple l e f [] [] sub h within = refl
+one_tuple l e f [] (x ∷ tuple) sub h within = absurd within
+one_tuple l e f (v ∷ scope) [] sub h within = absurd within
+one_tuple l e f (v ∷ scope) (x ∷ tuple) sub h within =
     let parts = and_parts (is_some (value_of e v)) (covers e scope) h in
     let here = sub v x within.0 in
-    let same : unwrap_or (value_of e v) 0 ≡ x = only (unwrap_or (value_of e v) 0) (ap (λ xs. has xs x) (sym (left_value d e v (unwrap_or (value_of e v) 0) (known_one (value_of e v) parts.0))) ∙ here) in
-    let rest = one_tuple d e f scope tuple sub parts.1 within.1 in
+    let same : unwrap_or (value_of e v) 0 ≡ x = only (unwrap_or (value_of e v) 0) (ap (λ xs. has xs x) (sym (left_value l e v (unwrap_or (value_of e v) 0) (left_known l e v x here) (known_one (value_of e v) parts.0))) ∙ here) in
+    let rest = one_tuple l e f scope tuple sub parts.1 within.1 in
     λ i. sym same i ∷ rest i
   where
     only : (y : ℕ) → has (y ∷ []) x ≡ true → y ≡ x
@@ -82,13 +60,13 @@ member_of_some [] h = cc
 member_of_some (x ∷ xs) h = (x, has_head x xs)
 
 -- a consistent family without empty sets accepts the tuple of a covered scope
-accepts_covered : (d : ℕ) (e : Assignment) (f : Family) (a : Arc) → 1 ≤ length a.scope → All (λ v. v < length f) a.scope → IsSubfamily f (left_by d e) → list_all is_not_empty f ≡ true →
+accepts_covered : (l : Language) (e : Assignment) (f : Family) (a : Arc) → 1 ≤ length a.scope → All (λ v. v < length f) a.scope → IsSubfamily f (left_by l e) → list_all is_not_empty f ≡ true →
     is_consistent f a.scope a.accepted ≡ true → covers e a.scope ≡ true → a.accepted (tuple_on e a.scope) ≡ true
-accepts_covered d e f a some known sub full ok covered =
+accepts_covered l e f a some known sub full ok covered =
     let v : ℕ = slice_index_or a.scope 0 0 in
     let one = member_of_some (slice_index_or f v []) (all_full f full v (known 0 0 (omega arith))) in
     let t = supported_through (sets_on f a.scope) a.accepted 0 one.0 ((supporting a f ok).at 0 one.0 (omega arith) one.1) in
-    ap a.accepted (sym (one_tuple d e f a.scope t.tuple sub covered t.within)) ∙ t.is
+    ap a.accepted (sym (one_tuple l e f a.scope t.tuple sub covered t.within)) ∙ t.is
 
 -- ---- the conditions of constraints
 
@@ -125,28 +103,28 @@ module _ (l : Language) (lawful : IsLanguage l) (list : List Candidate) (against
       arcs = arcs_of l list against
 
       f : Family
-      f = largest (arcs_of l list against) (left_by l.value_count e)
+      f = largest (arcs_of l list against) (left_by l e)
 
-      full : list_all is_not_empty (largest (arcs_of l list against) (left_by l.value_count e)) ≡ true
+      full : list_all is_not_empty (largest (arcs_of l list against) (left_by l e)) ≡ true
       full = sym (largest_tells l list against e) ∙ h
 
-      is : IsLargest (arcs_of l list against) (left_by l.value_count e) (largest (arcs_of l list against) (left_by l.value_count e))
-      is = largest_is (arcs_of l list against) (left_by l.value_count e)
+      is : IsLargest (arcs_of l list against) (left_by l e) (largest (arcs_of l list against) (left_by l e))
+      is = largest_is (arcs_of l list against) (left_by l e)
 
-      size : length (largest (arcs_of l list against) (left_by l.value_count e)) ≡ variable_count l
-      size = largest_long (arcs_of l list against) (left_by l.value_count e) ∙ length-map e (domain_of l.value_count) ∙ long
+      size : length (largest (arcs_of l list against) (left_by l e)) ≡ variable_count l
+      size = largest_long (arcs_of l list against) (left_by l e) ∙ length-left l e
 
-      parts : (All (λ c. is_consistent (largest (arcs_of l list against) (left_by l.value_count e)) (scope_of l c) (arc_of l c true).accepted ≡ true) list)
-          × (ForSome against (λ c. is_consistent (largest (arcs_of l list against) (left_by l.value_count e)) (scope_of l c) (arc_of l c false).accepted ≡ true))
-      parts = arcs_parts l list against (largest (arcs_of l list against) (left_by l.value_count e)) is.consistent
+      parts : (All (λ c. is_consistent (largest (arcs_of l list against) (left_by l e)) (scope_of l c) (arc_of l c true).accepted ≡ true) list)
+          × (ForSome against (λ c. is_consistent (largest (arcs_of l list against) (left_by l e)) (scope_of l c) (arc_of l c false).accepted ≡ true))
+      parts = arcs_parts l list against (largest (arcs_of l list against) (left_by l e)) is.consistent
 
-      holds_at : (c : Candidate) (holding : Bool) → IsCandidate l c → is_consistent (largest (arcs_of l list against) (left_by l.value_count e)) (scope_of l c) (arc_of l c holding).accepted ≡ true → covers e (scope_of l c) ≡ true →
+      holds_at : (c : Candidate) (holding : Bool) → IsCandidate l c → is_consistent (largest (arcs_of l list against) (left_by l e)) (scope_of l c) (arc_of l c holding).accepted ≡ true → covers e (scope_of l c) ≡ true →
           (arc_of l c holding).accepted (tuple_on e (scope_of l c)) ≡ true
       holds_at c holding is_c ok covered =
-          accepts_covered l.value_count e (largest (arcs_of l list against) (left_by l.value_count e)) (arc_of l c holding) (lawful.scopes c.scope [] is_c.scope).not_empty
+          accepts_covered l e (largest (arcs_of l list against) (left_by l e)) (arc_of l c holding) (lawful.scopes c.scope [] is_c.scope).not_empty
           (λ k d low. (let at = (lawful.scopes c.scope [] is_c.scope).known k d low in let long = size in omega arith)) is.within full ok covered
 
-      failing : (o : Option Candidate) → ForSome o (IsCandidate l) → ForSome o (λ c. is_consistent (largest (arcs_of l list against) (left_by l.value_count e)) (scope_of l c) (arc_of l c false).accepted ≡ true) → satisfies_one l o e ≡ false
+      failing : (o : Option Candidate) → ForSome o (IsCandidate l) → ForSome o (λ c. is_consistent (largest (arcs_of l list against) (left_by l e)) (scope_of l c) (arc_of l c false).accepted ≡ true) → satisfies_one l o e ≡ false
       failing None known ok = refl
       failing (Some c) known ok = false_from_ne_true _ (λ bad.
           let both = and_parts (covers e (scope_of l c)) _ bad in
@@ -165,23 +143,23 @@ scope_small l lawful c = go (cases_lt c.scope (length l.scopes))
 value_there : (e : Assignment) (v : ℕ) → is_complete e ≡ true → v < length e → value_of e v ≡ Some (unwrap_or (value_of e v) 0)
 value_there e v complete low = known_one (value_of e v) (AllPass-from_list_all is_some e complete v None low)
 
-within_own : (d : ℕ) (e : Assignment) (scope : List ℕ) → is_complete e ≡ true → All (λ v. v < length e) scope → IsWithin (sets_on (left_by d e) scope) (tuple_on e scope)
-within_own d e [] complete small = tt
-within_own d e (v ∷ scope) complete small = (
-  ap (λ xs. has xs (unwrap_or (value_of e v) 0)) (left_value d e v (unwrap_or (value_of e v) 0) (value_there e v complete (All-head (λ v. v < length e) v scope small))) ∙ has_head (unwrap_or (value_of e v) 0) [],
-  within_own d e scope complete (All-tail (λ v. v < length e) v scope small),
+within_own : (l : Language) (e : Assignment) (scope : List ℕ) → length e ≡ variable_count l → is_complete e ≡ true → All (λ v. v < length e) scope → IsWithin (sets_on (left_by l e) scope) (tuple_on e scope)
+within_own l e [] long complete small = tt
+within_own l e (v ∷ scope) long complete small = (
+  ap (λ xs. has xs (unwrap_or (value_of e v) 0)) (left_value l e v (unwrap_or (value_of e v) 0) (let low = All-head (λ v. v < length e) v scope small in omega arith) (value_there e v complete (All-head (λ v. v < length e) v scope small))) ∙ has_head (unwrap_or (value_of e v) 0) [],
+  within_own l e scope long complete (All-tail (λ v. v < length e) v scope small),
 )
 
-consistent_own : (d : ℕ) (e : Assignment) (a : Arc) → is_complete e ≡ true → All (λ v. v < length e) a.scope → a.accepted (tuple_on e a.scope) ≡ true → is_consistent (left_by d e) a.scope a.accepted ≡ true
-consistent_own d e a complete small at = consistent a (left_by d e) (record {
+consistent_own : (l : Language) (e : Assignment) (a : Arc) → length e ≡ variable_count l → is_complete e ≡ true → All (λ v. v < length e) a.scope → a.accepted (tuple_on e a.scope) ≡ true → is_consistent (left_by l e) a.scope a.accepted ≡ true
+consistent_own l e a long complete small at = consistent a (left_by l e) (record {
   at = λ i x low h.
       let v : ℕ = slice_index_or a.scope i 0 in
       let below = small i 0 low in
       let value = value_there e v complete below in
-      through_supported (sets_on (left_by d e) a.scope) a.accepted i x (record {
+      through_supported (sets_on (left_by l e) a.scope) a.accepted i x (record {
         tuple = tuple_on e a.scope;
-        within = within_own d e a.scope complete small;
-        at = get_or-map (λ (v : ℕ). unwrap_or (value_of e v) 0) a.scope i 0 0 low ∙ only (unwrap_or (value_of e v) 0) x (ap (λ xs. has xs x) (sym (left_value d e v (unwrap_or (value_of e v) 0) value)) ∙ h);
+        within = within_own l e a.scope long complete small;
+        at = get_or-map (λ (v : ℕ). unwrap_or (value_of e v) 0) a.scope i 0 0 low ∙ only (unwrap_or (value_of e v) 0) x (ap (λ xs. has xs x) (sym (left_value l e v (unwrap_or (value_of e v) 0) (let size = long in omega arith) value)) ∙ h);
         is = at;
       });
 })
@@ -193,16 +171,15 @@ consistent_own d e a complete small at = consistent a (left_by d e) (record {
         go (inl same) = eqb-true y x same
         go (inr never) = absurd (both_ways _ refl never)
 
-own_full : (d : ℕ) (e : Assignment) → is_complete e ≡ true → list_all is_not_empty (left_by d e) ≡ true
-own_full d [] complete = refl
-own_full d (None ∷ e) complete = cc
-own_full d (Some x ∷ e) complete = own_full d e complete
+own_full : (l : Language) (e : Assignment) → length e ≡ variable_count l → is_complete e ≡ true → list_all is_not_empty (left_by l e) ≡ true
+own_full l e long complete = list_all-from_AllPass is_not_empty (left_by l e) (All-map (λ xs. is_not_empty xs ≡ true) (λ v. domain_of l v (value_of e v)) (numbers (variable_count l))
+    (all_below (λ v. is_not_empty (domain_of l v (value_of e v)) ≡ true) (variable_count l) (λ v low. ap (λ o. is_not_empty (domain_of l v o)) (value_there e v complete (omega arith)))))
 
 pub whole_has_family : (l : Language) → IsLanguage l → (list : List Candidate) (against : Option Candidate) (e : Assignment) → length e ≡ variable_count l → is_complete e ≡ true → is_allowed l list against e ≡ true → has_family l list against e ≡ true
 whole_has_family l lawful list against e long complete plain =
     largest_tells l list against e
-    ∙ full_above (left_by l.value_count e) (largest arcs (left_by l.value_count e)) (sym (largest_long arcs (left_by l.value_count e)))
-    ((largest_is arcs (left_by l.value_count e)).greatest (left_by l.value_count e) (λ v x h. h) own) (own_full l.value_count e complete)
+    ∙ full_above (left_by l e) (largest arcs (left_by l e)) (sym (largest_long arcs (left_by l e)))
+    ((largest_is arcs (left_by l e)).greatest (left_by l e) (λ v x h. h) own) (own_full l e long complete)
   where
     arcs : List Arc
     arcs = arcs_of l list against
@@ -223,14 +200,14 @@ whole_has_family l lawful list against e long complete plain =
     failing true false a b = refl
     failing false h a b = cc
 
-    last : (o : Option Candidate) → not (satisfies_one l o e) ≡ true → ForSome o (λ c. is_consistent (left_by l.value_count e) (scope_of l c) (arc_of l c false).accepted ≡ true)
+    last : (o : Option Candidate) → not (satisfies_one l o e) ≡ true → ForSome o (λ c. is_consistent (left_by l e) (scope_of l c) (arc_of l c false).accepted ≡ true)
     last None h = λ c is. (let never : ⊥ = cc in absurd never)
-    last (Some b) h = λ c is. (let same : b ≡ c = cc in subst (λ (c : Candidate). is_consistent (left_by l.value_count e) (scope_of l c) (arc_of l c false).accepted ≡ true) same
-        (consistent_own l.value_count e (arc_of l b false) complete (small b) (failing (covers e (scope_of l b)) _ (covers_all e (scope_of l b) complete (small b)) (not-true _ h))))
+    last (Some b) h = λ c is. (let same : b ≡ c = cc in subst (λ (c : Candidate). is_consistent (left_by l e) (scope_of l c) (arc_of l c false).accepted ≡ true) same
+        (consistent_own l e (arc_of l b false) long complete (small b) (failing (covers e (scope_of l b)) _ (covers_all e (scope_of l b) complete (small b)) (not-true _ h))))
 
-    own : is_arc_consistent (arcs_of l list against) (left_by l.value_count e) ≡ true
-    own = arcs_from l list against (left_by l.value_count e)
-        (λ k d low. consistent_own l.value_count e (arc_of l (slice_index_or list k d) true) complete (small (slice_index_or list k d))
+    own : is_arc_consistent (arcs_of l list against) (left_by l e) ≡ true
+    own = arcs_from l list against (left_by l e)
+        (λ k d low. consistent_own l e (arc_of l (slice_index_or list k d) true) long complete (small (slice_index_or list k d))
         (holding (covers e (scope_of l (slice_index_or list k d))) _ (covers_all e (scope_of l (slice_index_or list k d)) complete (small (slice_index_or list k d))) (accepted_at l list e parts.0 k d low)))
         (last against parts.1)
 
@@ -238,13 +215,13 @@ whole_has_family l lawful list against e long complete plain =
 
 pub family_of_fewer : (l : Language) (network more : List Candidate) (c : Candidate) (e : Assignment) → has_family l (network ++ more) (Some c) e ≡ true → has_family l network (Some c) e ≡ true
 family_of_fewer l network more c e h =
-    let old = largest_is (arcs_of l (network ++ more) (Some c)) (left_by l.value_count e) in
-    let parts = arcs_parts l (network ++ more) (Some c) (largest (arcs_of l (network ++ more) (Some c)) (left_by l.value_count e)) old.consistent in
+    let old = largest_is (arcs_of l (network ++ more) (Some c)) (left_by l e) in
+    let parts = arcs_parts l (network ++ more) (Some c) (largest (arcs_of l (network ++ more) (Some c)) (left_by l e)) old.consistent in
     largest_tells l network (Some c) e
-    ∙ full_above (largest (arcs_of l (network ++ more) (Some c)) (left_by l.value_count e)) (largest (arcs_of l network (Some c)) (left_by l.value_count e))
-    (largest_long (arcs_of l (network ++ more) (Some c)) (left_by l.value_count e) ∙ sym (largest_long (arcs_of l network (Some c)) (left_by l.value_count e)))
-    ((largest_is (arcs_of l network (Some c)) (left_by l.value_count e)).greatest (largest (arcs_of l (network ++ more) (Some c)) (left_by l.value_count e)) old.within
-    (arcs_from l network (Some c) (largest (arcs_of l (network ++ more) (Some c)) (left_by l.value_count e)) (front_all (λ b. is_consistent (largest (arcs_of l (network ++ more) (Some c)) (left_by l.value_count e)) (scope_of l b) (arc_of l b true).accepted ≡ true) network more parts.0) parts.1))
+    ∙ full_above (largest (arcs_of l (network ++ more) (Some c)) (left_by l e)) (largest (arcs_of l network (Some c)) (left_by l e))
+    (largest_long (arcs_of l (network ++ more) (Some c)) (left_by l e) ∙ sym (largest_long (arcs_of l network (Some c)) (left_by l e)))
+    ((largest_is (arcs_of l network (Some c)) (left_by l e)).greatest (largest (arcs_of l (network ++ more) (Some c)) (left_by l e)) old.within
+    (arcs_from l network (Some c) (largest (arcs_of l (network ++ more) (Some c)) (left_by l e)) (front_all (λ b. is_consistent (largest (arcs_of l (network ++ more) (Some c)) (left_by l e)) (scope_of l b) (arc_of l b true).accepted ≡ true) network more parts.0) parts.1))
     (sym (largest_tells l (network ++ more) (Some c) e) ∙ h)
   where
     front_all : (P : Candidate → Type 0) (xs ys : List Candidate) → All P (xs ++ ys) → All P xs
@@ -275,9 +252,8 @@ assigned_small d n vars p small v x h = go (cases_lt v n)
 pub alive_fronts : (l : Language) (list : List Candidate) (against : Option Candidate) (order : List ℕ) → PassesFronts l.value_count (is_alive_in l list against order)
 alive_fronts l list against order = λ p q small h.
     let n : ℕ = variable_count l in
-    let long : (r : List ℕ) → length (assigned (variable_count l) order r) ≡ variable_count l = λ r. length-map-range_with_len (value_beside order r) 0 (variable_count l) in
-    let left : (r : List ℕ) → length (left_by l.value_count (assigned (variable_count l) order r)) ≡ variable_count l = λ r. length-map (assigned (variable_count l) order r) (domain_of l.value_count) ∙ long r in
+    let left : (r : List ℕ) → length (left_by l (assigned (variable_count l) order r)) ≡ variable_count l = λ r. length-left l (assigned (variable_count l) order r) in
     largest_tells l list against (assigned (variable_count l) order p)
-    ∙ tells_more (arcs_of l list against) (left_by l.value_count (assigned (variable_count l) order (p ++ q))) (left_by l.value_count (assigned (variable_count l) order p)) (left (p ++ q) ∙ sym (left p))
-    (left_more l.value_count (assigned (variable_count l) order p) (assigned (variable_count l) order (p ++ q)) (long p ∙ sym (long (p ++ q))) (assigned_more (variable_count l) order p q) (assigned_small l.value_count (variable_count l) order (p ++ q) small))
+    ∙ tells_more (arcs_of l list against) (left_by l (assigned (variable_count l) order (p ++ q))) (left_by l (assigned (variable_count l) order p)) (left (p ++ q) ∙ sym (left p))
+    (left_more l (assigned (variable_count l) order p) (assigned (variable_count l) order (p ++ q)) (assigned_more (variable_count l) order p q) (λ v x h. has_value l v x (assigned_small l.value_count (variable_count l) order (p ++ q) small v x h)))
     (sym (largest_tells l list against (assigned (variable_count l) order (p ++ q))) ∙ h)

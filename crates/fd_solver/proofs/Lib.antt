@@ -1,9 +1,5 @@
-pub mod Lists
-pub mod Preorder
 pub mod Turning
-pub mod Fronts
-pub mod Filling
-pub mod Orders
+pub mod Left
 pub mod Alive
 pub mod Narrowing
 pub mod Walking

@@ -1,22 +1,20 @@
 -- The domains below a prefix, from those of the prefix.
-use Rattle.std.proofs.Common.{◌≡◌, ℕ, zero, suc, ◌+◌, ◌<◌, ◌≤◌, Bool, true, false, cond, ◌&&◌, ◌||◌, List, [], ◌∷◌, ◌++◌, length, take, replicate, Option, Some, None, refl, sym, ◌∙◌, ap, subst, arith, inl, inr, ◌⊎◌, length-append}
+use Rattle.std.proofs.Common.{◌≡◌, ℕ, zero, suc, ◌+◌, ◌<◌, ◌≤◌, Bool, true, false, cond, ◌&&◌, ◌||◌, List, [], ◌∷◌, ◌++◌, length, map, take, replicate, Option, Some, None, refl, sym, ◌∙◌, ap, subst, arith, inl, inr, ◌⊎◌, length-append}
 use Rattle.std.specs.Prelude.{◌==◌, ◌≢◌, slice_index_or, slice_set}
 use Rattle.std.specs.List.{list_all, filter}
-use Rattle.std.proofs.Math.ListN.{get_or-eq_default, length-set}
-use Rattle.std.proofs.lemmas.List.{length-map, get_or-map, get_or-set_same, get_or-set_other, take_all}
-use Rattle.std.proofs.lemmas.List.FromFn.{length-map-range_with_len}
+use Rattle.std.proofs.Math.ListN.{length-set}
+use Rattle.std.proofs.lemmas.List.{get_or-set_same, get_or-set_other, set-get_or, take_all}
 use Rattle.std.proofs.lemmas.List.Sums.{AllPass-from_list_all}
-use Rattle.std.proofs.lemmas.Bool.{and_from, or_left, or_cases, both_ways, eqb-true, cases_eq, cases_lt, eq-eqb, ne_eqb}
+use Rattle.std.proofs.lemmas.Bool.{and_from, or_left, or_right, or_cases, both_ways, eqb-true, cases_eq, cases_lt, eq-eqb, ne_eqb}
 use Rattle.assign.specs.Sets.{numbers, has, with_member}
 use Rattle.assign.specs.Assignment.{value_beside, assigned}
 use Rattle.language.specs.declared.candidates.Candidate.{Candidate}
-use Rattle.language.specs.Language.{Language, IsLanguage, variable_count}
-use Rattle.language.proofs.Members.{any_number}
-use Rattle.language.proofs.Beside.{value_of_assigned}
+use Rattle.language.specs.Language.{Language, IsLanguage, variable_count, values_of}
 use Rattle.propagators.specs.Allowed.{AreConstraints}
-use Rattle.propagators.specs.Families.{Family, arcs_of, is_not_empty, domain_of, left_by, is_consistent, is_arc_consistent, has_family, IsSubfamily, IsLargest, largest}
+use Rattle.propagators.specs.Families.{Family, Arc, arcs_of, is_not_empty, domain_of, left_by, is_consistent, is_arc_consistent, has_family, IsSubfamily, IsLargest, largest}
 use Rattle.propagators.specs.Supports.{AreSettled, IsFamilyOf}
-use Rattle.propagators.specs.Propagated.{IsPropagated, RunsEmpty}
+use Rattle.propagators.specs.Pairs.{IsOnly}
+use Rattle.propagators.specs.Propagated.{AreSome, IsPropagated, RunsEmpty}
 use Rattle.propagators.proofs.Ones.{has-filter}
 use Rattle.propagators.proofs.Pruned.{largest_is, largest_again, filter_has}
 use Rattle.propagators.proofs.Living.{largest_tells, largest_long}
@@ -26,7 +24,8 @@ use Rattle.propagators.proofs.Cutting.{not_with}
 use Rattle.propagators.proofs.Conditions.{arcs_small}
 use Rattle.fd_solver.specs.Outcomes.{IsOrder, is_alive_in}
 use Rattle.fd_solver.specs.Ready.{IsReady, AreReady, fixed}
-use Rattle.fd_solver.proofs.Filling.{beside_next, beside_push, next_known}
+use Rattle.fd_solver.proofs.Left.{length-left, left_beside, left_past, has_value, left_none}
+use Rattle.language.proofs.Filling.{beside_next, beside_push, next_known}
 
 -- ---- one value alone
 
@@ -71,6 +70,21 @@ fixed_empty f v x low none = go (list_all is_not_empty (fixed f v x)) refl
     go true h = absurd (both_ways _ (ap is_not_empty (fixed_same f v x low ∙ nothing (slice_index_or f v []) none)) (all_full (fixed f v x) h v (let long = length-set f v (filter (λ y. x == y) (slice_index_or f v [])) in omega arith)))
     go false h = refl
 
+-- where the variable has this value alone, nothing is taken away
+pub fixed_alone : (f : Family) (v x only : ℕ) → IsOnly (slice_index_or f v []) only → has (slice_index_or f v []) x ≡ true → fixed f v x ≡ f
+fixed_alone f v x only is there = ap (slice_set f v) (all_pass (slice_index_or f v []) (λ y h. is.alone y h ∙ sym (is.alone x there))) ∙ set-get_or f v []
+  where
+    all_pass : (xs : List ℕ) → ((y : ℕ) → has xs y ≡ true → y ≡ x) → filter (λ y. x == y) xs ≡ xs
+    all_pass [] alone = refl
+    all_pass (y ∷ xs) alone = rw (eq-eqb x y (sym (alone y (or_left _ _ (eq-eqb y y refl))))) (ap (λ zs. y ∷ zs) (all_pass xs (λ z h. alone z (or_right _ _ h))))
+
+pub alone_propagated : (l : Language) (arcs : List Arc) (f : Family) (v x only : ℕ) → AreSome l f → is_arc_consistent arcs f ≡ true → IsOnly (slice_index_or f v []) only → has (slice_index_or f v []) x ≡ true → IsPropagated l arcs (fixed f v x) f
+alone_propagated l arcs f v x only some consistent is there = subst (λ (g : Family). IsPropagated l arcs g f) (sym (fixed_alone f v x only is there)) (record {
+  largest = record { within = λ w y h. h; consistent = consistent; greatest = λ other within h. within };
+  full = some.full;
+  family = some.family;
+})
+
 -- what lacks the variable stays settled
 pub fixed_settled : (l : Language) (list : List Candidate) (against : Option Candidate) (f : Family) (v x : ℕ) → IsLanguage l → AreConstraints l list against → is_arc_consistent (arcs_of l list against) f ≡ true →
     AreSettled (arcs_of l list against) (with_member [] v) (fixed f v x)
@@ -81,15 +95,6 @@ fixed_settled l list against f v x lawful are ok = λ k a low none.
 
 -- ---- below a prefix
 
-left_at : (d n : ℕ) (order p : List ℕ) (w : ℕ) → w < n → slice_index_or (left_by d (assigned n order p)) w [] ≡ domain_of d (value_beside order p w)
-left_at d n order p w low =
-    get_or-map (domain_of d) (assigned n order p) w None [] (let long = length-map-range_with_len (value_beside order p) 0 n in omega arith)
-    ∙ ap (domain_of d) (value_of_assigned n order p w low)
-
-left_past : (d n : ℕ) (order p : List ℕ) (w : ℕ) → n ≤ w → slice_index_or (left_by d (assigned n order p)) w [] ≡ []
-left_past d n order p w high = get_or-eq_default (left_by d (assigned n order p)) [] {n = w}
-    (let size : length (left_by d (assigned n order p)) ≡ n = length-map (assigned n order p) (domain_of d) ∙ length-map-range_with_len (value_beside order p) 0 n in omega arith)
-
 module _ (l : Language) (list : List Candidate) (against : Option Candidate) (order : List ℕ) (is : IsOrder (variable_count l) order) (lawful : IsLanguage l) (are : AreConstraints l list against)
     (p : List ℕ) (x : ℕ) (f : Family) (short : length p < variable_count l) (value : x < l.value_count) (ready : IsReady l list against (assigned (variable_count l) order p) f) where
   abbrev n : ℕ
@@ -99,10 +104,10 @@ module _ (l : Language) (list : List Candidate) (against : Option Candidate) (or
   next = slice_index_or order (length p) 0
 
   abbrev old : Family
-  old = left_by l.value_count (assigned (variable_count l) order p)
+  old = left_by l (assigned (variable_count l) order p)
 
   abbrev new : Family
-  new = left_by l.value_count (assigned (variable_count l) order (p ++ x ∷ []))
+  new = left_by l (assigned (variable_count l) order (p ++ x ∷ []))
 
   known : slice_index_or order (length p) 0 < variable_count l
   known = next_known (variable_count l) order is p short
@@ -113,23 +118,23 @@ module _ (l : Language) (list : List Candidate) (against : Option Candidate) (or
   beside_at : (w : ℕ) → value_beside order (p ++ x ∷ []) w ≡ cond (slice_index_or order (length p) 0 == w) (Some x) (value_beside order p w)
   beside_at w = beside_push order p x w is.different (let size = is.size in omega arith)
 
-  new_there : slice_index_or (left_by l.value_count (assigned (variable_count l) order (p ++ x ∷ []))) (slice_index_or order (length p) 0) [] ≡ x ∷ []
-  new_there = left_at l.value_count (variable_count l) order (p ++ x ∷ []) (slice_index_or order (length p) 0) known
-      ∙ ap (domain_of l.value_count) (beside_at (slice_index_or order (length p) 0) ∙ ap (λ b. cond b (Some x) (value_beside order p (slice_index_or order (length p) 0))) (eq-eqb (slice_index_or order (length p) 0) _ refl))
+  new_there : slice_index_or (left_by l (assigned (variable_count l) order (p ++ x ∷ []))) (slice_index_or order (length p) 0) [] ≡ x ∷ []
+  new_there = left_beside l order (p ++ x ∷ []) (slice_index_or order (length p) 0) known
+      ∙ ap (domain_of l (slice_index_or order (length p) 0)) (beside_at (slice_index_or order (length p) 0) ∙ ap (λ b. cond b (Some x) (value_beside order p (slice_index_or order (length p) 0))) (eq-eqb (slice_index_or order (length p) 0) _ refl))
 
-  new_other : (w : ℕ) → slice_index_or order (length p) 0 ≢ w → slice_index_or (left_by l.value_count (assigned (variable_count l) order (p ++ x ∷ []))) w [] ≡ slice_index_or (left_by l.value_count (assigned (variable_count l) order p)) w []
+  new_other : (w : ℕ) → slice_index_or order (length p) 0 ≢ w → slice_index_or (left_by l (assigned (variable_count l) order (p ++ x ∷ []))) w [] ≡ slice_index_or (left_by l (assigned (variable_count l) order p)) w []
   new_other w other = go (cases_lt w (variable_count l))
     where
-      go : (w < variable_count l) ⊎ (variable_count l ≤ w) → slice_index_or (left_by l.value_count (assigned (variable_count l) order (p ++ x ∷ []))) w [] ≡ slice_index_or (left_by l.value_count (assigned (variable_count l) order p)) w []
-      go (inl low) = left_at l.value_count (variable_count l) order (p ++ x ∷ []) w low
-          ∙ ap (domain_of l.value_count) (beside_at w ∙ ap (λ b. cond b (Some x) (value_beside order p w)) (ne_eqb (slice_index_or order (length p) 0) w other))
-          ∙ sym (left_at l.value_count (variable_count l) order p w low)
-      go (inr high) = left_past l.value_count (variable_count l) order (p ++ x ∷ []) w high ∙ sym (left_past l.value_count (variable_count l) order p w high)
+      go : (w < variable_count l) ⊎ (variable_count l ≤ w) → slice_index_or (left_by l (assigned (variable_count l) order (p ++ x ∷ []))) w [] ≡ slice_index_or (left_by l (assigned (variable_count l) order p)) w []
+      go (inl low) = left_beside l order (p ++ x ∷ []) w low
+          ∙ ap (domain_of l w) (beside_at w ∙ ap (λ b. cond b (Some x) (value_beside order p w)) (ne_eqb (slice_index_or order (length p) 0) w other))
+          ∙ sym (left_beside l order p w low)
+      go (inr high) = left_past l (assigned (variable_count l) order (p ++ x ∷ [])) w high ∙ sym (left_past l (assigned (variable_count l) order p) w high)
 
-  old_there : slice_index_or (left_by l.value_count (assigned (variable_count l) order p)) (slice_index_or order (length p) 0) [] ≡ numbers l.value_count
-  old_there = left_at l.value_count (variable_count l) order p (slice_index_or order (length p) 0) known ∙ ap (domain_of l.value_count) (beside_next order p is.different (let size = is.size in omega arith))
+  old_there : slice_index_or (left_by l (assigned (variable_count l) order p)) (slice_index_or order (length p) 0) [] ≡ values_of l (slice_index_or order (length p) 0)
+  old_there = left_beside l order p (slice_index_or order (length p) 0) known ∙ ap (domain_of l (slice_index_or order (length p) 0)) (beside_next order p is.different (let size = is.size in omega arith))
 
-  new_within : IsSubfamily (left_by l.value_count (assigned (variable_count l) order (p ++ x ∷ []))) (left_by l.value_count (assigned (variable_count l) order p))
+  new_within : IsSubfamily (left_by l (assigned (variable_count l) order (p ++ x ∷ []))) (left_by l (assigned (variable_count l) order p))
   new_within w y h = go (cases_eq (slice_index_or order (length p) 0) w)
     where
       one : has (x ∷ []) y ≡ true → x ≡ y
@@ -139,14 +144,14 @@ module _ (l : Language) (list : List Candidate) (against : Option Candidate) (or
           pick (inl same) = eqb-true x y same
           pick (inr never) = absurd (both_ways _ refl never)
 
-      go : (slice_index_or order (length p) 0 ≡ w) ⊎ (slice_index_or order (length p) 0 ≢ w) → has (slice_index_or (left_by l.value_count (assigned (variable_count l) order p)) w []) y ≡ true
+      go : (slice_index_or order (length p) 0 ≡ w) ⊎ (slice_index_or order (length p) 0 ≢ w) → has (slice_index_or (left_by l (assigned (variable_count l) order p)) w []) y ≡ true
       go (inl same) =
-          let at : has (x ∷ []) y ≡ true = ap (λ ys. has ys y) (sym new_there) ∙ ap (λ u. has (slice_index_or (left_by l.value_count (assigned (variable_count l) order (p ++ x ∷ []))) u []) y) same ∙ h in
-          ap (λ u. has (slice_index_or (left_by l.value_count (assigned (variable_count l) order p)) u []) y) (sym same) ∙ ap (λ ys. has ys y) old_there
-          ∙ any_number (λ z. z == y) l.value_count y (subst (λ (z : ℕ). z < l.value_count) (one at) value) (eq-eqb y y refl)
+          let at : has (x ∷ []) y ≡ true = ap (λ ys. has ys y) (sym new_there) ∙ ap (λ u. has (slice_index_or (left_by l (assigned (variable_count l) order (p ++ x ∷ []))) u []) y) same ∙ h in
+          ap (λ u. has (slice_index_or (left_by l (assigned (variable_count l) order p)) u []) y) (sym same) ∙ ap (λ ys. has ys y) old_there
+          ∙ has_value l (slice_index_or order (length p) 0) y (subst (λ (z : ℕ). z < l.value_count) (one at) value)
       go (inr other) = ap (λ ys. has ys y) (sym (new_other w other)) ∙ h
 
-  both_are : (w y : ℕ) → has (slice_index_or (fixed f (slice_index_or order (length p) 0) x) w []) y ≡ (has (slice_index_or (left_by l.value_count (assigned (variable_count l) order (p ++ x ∷ []))) w []) y && has (slice_index_or f w []) y)
+  both_are : (w y : ℕ) → has (slice_index_or (fixed f (slice_index_or order (length p) 0) x) w []) y ≡ (has (slice_index_or (left_by l (assigned (variable_count l) order (p ++ x ∷ []))) w []) y && has (slice_index_or f w []) y)
   both_are w y = go (cases_eq (slice_index_or order (length p) 0) w)
     where
       turned : (a b : Bool) → (a && b) ≡ (b && a)
@@ -165,8 +170,8 @@ module _ (l : Language) (list : List Candidate) (against : Option Candidate) (or
       inside false false h = refl
 
       go : (slice_index_or order (length p) 0 ≡ w) ⊎ (slice_index_or order (length p) 0 ≢ w) →
-          has (slice_index_or (fixed f (slice_index_or order (length p) 0) x) w []) y ≡ (has (slice_index_or (left_by l.value_count (assigned (variable_count l) order (p ++ x ∷ []))) w []) y && has (slice_index_or f w []) y)
-      go (inl same) = subst (λ (u : ℕ). has (slice_index_or (fixed f (slice_index_or order (length p) 0) x) u []) y ≡ (has (slice_index_or (left_by l.value_count (assigned (variable_count l) order (p ++ x ∷ []))) u []) y && has (slice_index_or f u []) y)) same
+          has (slice_index_or (fixed f (slice_index_or order (length p) 0) x) w []) y ≡ (has (slice_index_or (left_by l (assigned (variable_count l) order (p ++ x ∷ []))) w []) y && has (slice_index_or f w []) y)
+      go (inl same) = subst (λ (u : ℕ). has (slice_index_or (fixed f (slice_index_or order (length p) 0) x) u []) y ≡ (has (slice_index_or (left_by l (assigned (variable_count l) order (p ++ x ∷ []))) u []) y && has (slice_index_or f u []) y)) same
           (ap (λ ys. has ys y) (fixed_same f (slice_index_or order (length p) 0) x known_in) ∙ has-filter (λ z. x == z) (slice_index_or f (slice_index_or order (length p) 0) []) y
           ∙ turned (has (slice_index_or f (slice_index_or order (length p) 0) []) y) (x == y)
           ∙ sym (ap (λ b. b && has (slice_index_or f (slice_index_or order (length p) 0) []) y) (ap (λ ys. has ys y) new_there ∙ or_none (x == y))))
@@ -174,17 +179,17 @@ module _ (l : Language) (list : List Candidate) (against : Option Candidate) (or
           ∙ inside _ (has (slice_index_or f w []) y) (λ h. ap (λ ys. has ys y) (new_other w other) ∙ ready.largest.within w y h)
 
   -- the largest of the fixed family is that of the longer prefix
-  pub below_largest : (g : Family) → IsLargest (arcs_of l list against) (fixed f (slice_index_or order (length p) 0) x) g → IsLargest (arcs_of l list against) (left_by l.value_count (assigned (variable_count l) order (p ++ x ∷ []))) g
-  below_largest g is_g = largest_again (arcs_of l list against) (left_by l.value_count (assigned (variable_count l) order p)) f (left_by l.value_count (assigned (variable_count l) order (p ++ x ∷ [])))
+  pub below_largest : (g : Family) → IsLargest (arcs_of l list against) (fixed f (slice_index_or order (length p) 0) x) g → IsLargest (arcs_of l list against) (left_by l (assigned (variable_count l) order (p ++ x ∷ []))) g
+  below_largest g is_g = largest_again (arcs_of l list against) (left_by l (assigned (variable_count l) order p)) f (left_by l (assigned (variable_count l) order (p ++ x ∷ [])))
       (fixed f (slice_index_or order (length p) 0) x) g ready.largest new_within both_are is_g
 
-  long_new : length (left_by l.value_count (assigned (variable_count l) order (p ++ x ∷ []))) ≡ variable_count l
-  long_new = length-map (assigned (variable_count l) order (p ++ x ∷ [])) (domain_of l.value_count) ∙ length-map-range_with_len (value_beside order (p ++ x ∷ [])) 0 (variable_count l)
+  long_new : length (left_by l (assigned (variable_count l) order (p ++ x ∷ []))) ≡ variable_count l
+  long_new = length-left l (assigned (variable_count l) order (p ++ x ∷ []))
 
   alive_by : (g : Family) → length g ≡ variable_count l → IsLargest (arcs_of l list against) (fixed f (slice_index_or order (length p) 0) x) g → is_alive_in l list against order (p ++ x ∷ []) ≡ list_all is_not_empty g
   alive_by g size is_g =
       largest_tells l list against (assigned (variable_count l) order (p ++ x ∷ []))
-      ∙ tells_with (arcs_of l list against) (left_by l.value_count (assigned (variable_count l) order (p ++ x ∷ []))) g (size ∙ sym long_new) (below_largest g is_g)
+      ∙ tells_with (arcs_of l list against) (left_by l (assigned (variable_count l) order (p ++ x ∷ []))) g (size ∙ sym long_new) (below_largest g is_g)
 
   pub below_alive : (g : Family) → IsFamilyOf l g → IsLargest (arcs_of l list against) (fixed f (slice_index_or order (length p) 0) x) g → list_all is_not_empty g ≡ true → is_alive_in l list against order (p ++ x ∷ []) ≡ true
   below_alive g family is_g full = alive_by g family.size is_g ∙ full
@@ -250,8 +255,8 @@ module _ (l : Language) (list : List Candidate) (against : Option Candidate) (or
   pub ready_alive : (p : List ℕ) (f : Family) → IsReady l list against (assigned (variable_count l) order p) f → is_alive_in l list against order p ≡ true
   ready_alive p f ready =
       largest_tells l list against (assigned (variable_count l) order p)
-      ∙ tells_with (arcs_of l list against) (left_by l.value_count (assigned (variable_count l) order p)) f
-      (ready.family.size ∙ sym (length-map (assigned (variable_count l) order p) (domain_of l.value_count) ∙ length-map-range_with_len (value_beside order p) 0 (variable_count l))) ready.largest
+      ∙ tells_with (arcs_of l list against) (left_by l (assigned (variable_count l) order p)) f
+      (ready.family.size ∙ sym (length-left l (assigned (variable_count l) order p))) ready.largest
       ∙ ready.full
 
   -- a family written at the next depth
@@ -267,19 +272,15 @@ module _ (l : Language) (list : List Candidate) (against : Option Candidate) (or
 
 -- ---- no value
 
-left_none : (d n : ℕ) → left_by d (replicate n None) ≡ replicate n (numbers d)
-left_none d zero = refl
-left_none d (suc m) = ap (λ (f : Family). numbers d ∷ f) (left_none d m)
-
-pub begun_ready : (l : Language) (list : List Candidate) (against : Option Candidate) (full f : Family) (depths : List Family) → full ≡ replicate (variable_count l) (numbers l.value_count) → 0 < length depths →
+pub begun_ready : (l : Language) (list : List Candidate) (against : Option Candidate) (full f : Family) (depths : List Family) → full ≡ map (values_of l) (numbers (variable_count l)) → 0 < length depths →
     IsPropagated l (arcs_of l list against) full f → IsReady l list against (replicate (variable_count l) None) (slice_index_or (slice_set depths 0 f) 0 [])
 begun_ready l list against full f depths is some from = subst (IsReady l list against (replicate (variable_count l) None)) (sym (get_or-set_same depths 0 f [] some)) (record {
-  largest = subst (λ (g : Family). IsLargest (arcs_of l list against) g f) (is ∙ sym (left_none l.value_count (variable_count l))) from.largest;
+  largest = subst (λ (g : Family). IsLargest (arcs_of l list against) g f) (is ∙ sym (left_none l)) from.largest;
   full = from.full;
   family = from.family;
 })
 
-pub begun_dead : (l : Language) (list : List Candidate) (against : Option Candidate) (full : Family) → full ≡ replicate (variable_count l) (numbers l.value_count) →
+pub begun_dead : (l : Language) (list : List Candidate) (against : Option Candidate) (full : Family) → full ≡ map (values_of l) (numbers (variable_count l)) →
     list_all is_not_empty (largest (arcs_of l list against) full) ≡ false → has_family l list against (replicate (variable_count l) None) ≡ false
 begun_dead l list against full is none = largest_tells l list against (replicate (variable_count l) None)
-    ∙ ap (λ (g : Family). list_all is_not_empty (largest (arcs_of l list against) g)) (left_none l.value_count (variable_count l) ∙ sym is) ∙ none
+    ∙ ap (λ (g : Family). list_all is_not_empty (largest (arcs_of l list against) g)) (left_none l ∙ sym is) ∙ none

@@ -1,32 +1,30 @@
 -- What outcomes say of a network and a candidate.
-use Rattle.std.proofs.Common.{◌≡◌, ℕ, zero, suc, ◌<◌, ◌≤◌, Bool, true, false, cond, ◌&&◌, ◌||◌, not, List, [], ◌∷◌, ◌++◌, length, map, take, Option, Some, None, refl, sym, ◌∙◌, ap, subst, arith}
-use Rattle.std.specs.Prelude.{◌==◌, All, is_some, find, nat_le}
+use Rattle.std.proofs.Common.{◌≡◌, ℕ, ◌<◌, ◌≤◌, Bool, true, false, ◌&&◌, not, List, ◌++◌, length, take, Option, Some, None, refl, sym, ◌∙◌, ap, subst, arith}
+use Rattle.std.specs.Prelude.{◌==◌, All, find, nat_le}
 use Rattle.std.specs.List.{list_any, filter}
 use Rattle.std.proofs.lemmas.List.{take_all}
-use Rattle.std.proofs.lemmas.List.Elements.{All-head, All-tail, All-map, All-filter, All-take, filter_passes}
+use Rattle.std.proofs.lemmas.List.Elements.{All-filter, All-take, filter_passes}
 use Rattle.std.proofs.lemmas.List.FromFn.{length-map-range_with_len}
-use Rattle.std.proofs.lemmas.List.Sums.{list_all-from_AllPass}
-use Rattle.std.proofs.lemmas.Bool.{and_parts, and_from, or_left, or_right, both_ways, eq-eqb, eqb-true, leb-true, leb-false, le-leb, false_from_ne_true}
-use Rattle.assign.specs.Sets.{numbers}
-use Rattle.assign.specs.Assignment.{Assignment, assigned, value_beside, covers, tuple_on, is_complete}
-use Rattle.rel_table.specs.Relation.{holds}
+use Rattle.std.proofs.lemmas.Bool.{and_parts, and_from, both_ways, eq-eqb, eqb-true, leb-true, leb-false, le-leb, false_from_ne_true}
+use Rattle.assign.specs.Assignment.{Assignment, assigned, value_beside, tuple_on, is_complete}
 use Rattle.language.specs.declared.candidates.Candidate.{Candidate}
-use Rattle.language.specs.Language.{Language, IsLanguage, IsCandidate, IsImplied, IsQuestion, variable_count, scope_of, relation_of, violates, accepts}
+use Rattle.language.specs.Language.{Language, IsLanguage, IsCandidate, IsImplied, IsQuestion, variable_count, scope_of, violates, accepts}
 use Rattle.language.specs.Answers.{IsNetwork}
 use Rattle.language.specs.Search.{order_of, prefixes, assignment_of, satisfies, is_plain}
-use Rattle.language.proofs.Members.{any-filter, any-map, any-flat_map, any_number, find_none, find_some}
+use Rattle.language.proofs.Members.{any-filter, find_none, find_some}
 use Rattle.language.proofs.Beside.{tuple_fits}
-use Rattle.language.proofs.Lists.{find_all, all_below, any_weaker}
+use Rattle.language.proofs.Lists.{find_all, any_weaker, find_nothing, fewer_pass}
+use Rattle.language.proofs.Preorder.{prefixes_small}
+use Rattle.language.proofs.Filling.{assigned_fits}
+use Rattle.language.proofs.Orders.{order_small, whole_prefix, covers_all}
+use Rattle.language.proofs.Plain.{any_prefix, length-tuple_on, scope_small, long_order, lets_plain, complete_there, violated_there}
+use Rattle.language.proofs.Plain as plain
 use Rattle.fd_solver.specs.declared.outcome.Outcome.TheVariants.{Found, Absent, Spent}
 use Rattle.fd_solver.specs.Outcomes.{outcome_from, outcome_by, is_alive, alive_walk, outcome_of_candidate}
 use Rattle.fd_solver.specs.Laws.{AbsentIsImplied, SpentIsLong, PlainIsLess, IsQuestionAgainst, FoundIsLawful, AbsentStays, AliveIsPlain, AliveIsAllowed, WholeIsAlive}
-use Rattle.fd_solver.proofs.Lists.{find_nothing, fewer_pass, front_of}
-use Rattle.fd_solver.proofs.Preorder.{prefixes_small}
 use Rattle.propagators.specs.Allowed.{AreConstraints}
 use Rattle.propagators.specs.Families.{has_family}
 use Rattle.fd_solver.proofs.Alive.{family_is_plain, whole_has_family, family_of_fewer}
-use Rattle.fd_solver.proofs.Filling.{assigned_fits}
-use Rattle.fd_solver.proofs.Orders.{order_small, order_has, length-order, whole_prefix, covers_all, rises_there}
 
 -- ---- outcomes by their members
 
@@ -71,38 +69,8 @@ absent_fewer n assign budget p q prefixes fewer absent =
     (let less = fewer_pass q p prefixes fewer in let short = parts.1 in omega arith)
 
 -- a longer network lets fewer prefixes pass
-longer_is_stricter : (l : Language) (network more : List Candidate) (c : Candidate) (p : List ℕ) → is_plain l (network ++ more) c p ≡ true → is_plain l network c p ≡ true
-longer_is_stricter l network more c p h =
-    let both = and_parts (accepts l (network ++ more) (assignment_of l c p)) _ h in
-    and_from _ _ (front_of (λ b. not (violates l b (assignment_of l c p))) network more both.0) both.1
-
 longer_is_stricter_alive : (l : Language) (network more : List Candidate) (c : Candidate) (p : List ℕ) → is_alive l (network ++ more) c p ≡ true → is_alive l network c p ≡ true
 longer_is_stricter_alive l network more c p h = family_of_fewer l network more c (assignment_of l c p) h
-
--- ---- the prefixes have each list of values
-
-any_prefix : (p : List ℕ → Bool) (d k : ℕ) (values : List ℕ) → length values ≤ k → All (λ x. x < d) values → p values ≡ true → list_any p (prefixes d k) ≡ true
-any_prefix p d zero [] short small at = or_left (p []) false at
-any_prefix p d zero (x ∷ values) short small at = absurd (omega arith)
-any_prefix p d (suc k) [] short small at = or_left (p []) _ at
-any_prefix p d (suc k) (x ∷ values) short small at = or_right (p []) _
-    (any-flat_map p (λ (y : ℕ). map (λ rest. y ∷ rest) (prefixes d k)) (numbers d)
-    ∙ any_number (λ y. list_any p (map (λ rest. y ∷ rest) (prefixes d k))) d x (All-head (λ y. y < d) x values small)
-    (any-map p (λ rest. x ∷ rest) (prefixes d k) ∙ any_prefix (λ rest. p (x ∷ rest)) d k values (omega arith) (All-tail (λ y. y < d) x values small) at))
-
-length-tuple_on : (e : Assignment) (scope : List ℕ) → length (tuple_on e scope) ≡ length scope
-length-tuple_on e [] = refl
-length-tuple_on e (v ∷ scope) = ap suc (length-tuple_on e scope)
-
--- what a list of variables gives, where there is a value for each
-beside_some : (vars values : List ℕ) (v : ℕ) → length values ≡ length vars → is_some (value_beside vars values v) ≡ list_any (λ x. x == v) vars
-beside_some [] values v e = refl
-beside_some (w ∷ vars) [] v e = absurd (omega arith)
-beside_some (w ∷ vars) (x ∷ values) v e = go (w == v) (beside_some vars values v (omega arith))
-  where
-    go : (b : Bool) → is_some (value_beside vars values v) ≡ list_any (λ x. x == v) vars → is_some (cond b (Some x) (value_beside vars values v)) ≡ (b || list_any (λ x. x == v) vars)
-    go true rest = refl
-    go false rest = rest
 
 -- ---- alive prefixes of candidates of the language
 
@@ -120,24 +88,11 @@ alive_is_plain l network c prefix lawful legal is h = alive_is_allowed l network
 
 module _ (l : Language) (lawful : IsLanguage l) (network : List Candidate) (c : Candidate) (is : IsCandidate l c) where
   small : All (λ v. v < variable_count l) (scope_of l c)
-  small = (lawful.scopes c.scope [] is.scope).known
-
-  long_order : length (order_of l c) ≡ variable_count l
-  long_order = length-order l c small (rises_there l lawful c is)
-
-  lets_plain : (e : Assignment) → IsQuestion l e → is_complete e ≡ true → accepts l network e ≡ true → violates l c e ≡ true → is_plain l network c (tuple_on e (order_of l c)) ≡ true
-  lets_plain e question complete accepted bad =
-      subst (λ (x : Assignment). (accepts l network x && not (satisfies l c x)) ≡ true) (sym (whole_prefix l c small e question.size complete))
-      (and_from _ _ accepted (unsatisfied (covers e (scope_of l c)) (holds l.value_count (relation_of l c) (tuple_on e (scope_of l c))) bad))
-    where
-      unsatisfied : (g b : Bool) → (g && not b) ≡ true → not (g && b) ≡ true
-      unsatisfied true true h = h
-      unsatisfied true false h = refl
-      unsatisfied false b h = refl
+  small = scope_small l lawful c is
 
   lets_alive : (e : Assignment) → IsQuestion l e → is_complete e ≡ true → accepts l network e ≡ true → violates l c e ≡ true → is_alive l network c (tuple_on e (order_of l c)) ≡ true
   lets_alive e question complete accepted bad =
-      let plain = lets_plain e question complete accepted bad in
+      let plain = lets_plain l lawful c is network e question complete accepted bad in
       let same = whole_prefix l c small e question.size complete in
       subst (λ (x : Assignment). has_family l network (Some c) x ≡ true) (sym same)
       (whole_has_family l lawful network (Some c) e question.size complete (subst (λ (x : Assignment). (accepts l network x && not (satisfies l c x)) ≡ true) same plain))
@@ -145,27 +100,13 @@ module _ (l : Language) (lawful : IsLanguage l) (network : List Candidate) (c : 
   implied_where_absent : (budget : ℕ) → outcome_of_candidate l network c budget ≡ Absent → IsImplied l network c
   implied_where_absent budget absent = λ e question complete accepted. false_from_ne_true _ (λ bad.
       let values : List ℕ = tuple_on e (order_of l c) in
-      let long : length values ≡ variable_count l = length-tuple_on e (order_of l c) ∙ long_order in
+      let long : length values ≡ variable_count l = length-tuple_on e (order_of l c) ∙ long_order l lawful c is in
       both_ways _ (absent_parts (variable_count l) (assignment_of l c) (alive_walk l network c) budget absent).0
       (any-filter (λ p. length p == variable_count l) (is_alive l network c) (prefixes l.value_count (variable_count l))
       ∙ any_prefix (λ p. is_alive l network c p && (length p == variable_count l)) l.value_count (variable_count l) values (omega arith)
       (tuple_fits l.value_count e (order_of l c) question.values_fit
       (covers_all e (order_of l c) complete (λ k d low. (let at = order_small l c small k d low in let size = question.size in omega arith))))
       (and_from _ _ (lets_alive e question complete accepted bad) (eq-eqb _ _ long))))
-
-  complete_there : (p : List ℕ) → length p ≡ variable_count l → is_complete (assignment_of l c p) ≡ true
-  complete_there p long = list_all-from_AllPass is_some (assignment_of l c p) (All-map (λ o. is_some o ≡ true) (value_beside (order_of l c) p) (numbers (variable_count l))
-      (all_below (λ v. is_some (value_beside (order_of l c) p v) ≡ true) (variable_count l) (λ v low.
-      beside_some (order_of l c) p v (long ∙ sym long_order) ∙ order_has l c small v low)))
-
-  violated_there : (e : Assignment) → length e ≡ variable_count l → is_complete e ≡ true → not (satisfies l c e) ≡ true → violates l c e ≡ true
-  violated_there e long complete h = go (covers e (scope_of l c)) (holds l.value_count (relation_of l c) (tuple_on e (scope_of l c))) h
-      (covers_all e (scope_of l c) complete (λ k d low. (let at = small k d low in omega arith)))
-    where
-      go : (g b : Bool) → not (g && b) ≡ true → g ≡ true → (g && not b) ≡ true
-      go true true h k = h
-      go true false h k = refl
-      go false b h k = cc
 
   question_where_found : IsNetwork l network → (budget : ℕ) (e : Assignment) → outcome_of_candidate l network c budget ≡ Found e → IsQuestionAgainst l network c e
   question_where_found legal budget e h =
@@ -178,12 +119,12 @@ module _ (l : Language) (lawful : IsLanguage l) (network : List Candidate) (c : 
       (All-take (All (λ x. x < l.value_count)) budget (alive_walk l network c) (All-filter (is_alive l network c) (All (λ x. x < l.value_count)) (prefixes l.value_count (variable_count l)) (prefixes_small l.value_count (variable_count l)))) was.1 in
       let plain : is_plain l network c was.0 ≡ true = alive_is_plain l network c was.0 lawful legal is passes in
       let parts = and_parts (accepts l network (assignment_of l c was.0)) (not (satisfies l c (assignment_of l c was.0))) plain in
-      let complete = complete_there was.0 long in
+      let complete = complete_there l lawful c is was.0 long in
       subst (IsQuestionAgainst l network c) was.2 (record {
         question = assigned_fits l.value_count (variable_count l) (order_of l c) was.0 fits;
         complete = complete;
         accepted = parts.0;
-        violates = violated_there (assignment_of l c was.0) (length-map-range_with_len (value_beside (order_of l c) was.0) 0 (variable_count l)) complete parts.1;
+        violates = violated_there l lawful c is (assignment_of l c was.0) (length-map-range_with_len (value_beside (order_of l c) was.0) 0 (variable_count l)) complete parts.1;
       })
 
 -- ---- the laws
@@ -198,7 +139,7 @@ spent_is_long l network c budget lawful legal is spent =
     omega arith
 
 pub plain_is_less : PlainIsLess
-plain_is_less l network more c = fewer_pass (is_plain l (network ++ more) c) (is_plain l network c) (prefixes l.value_count (variable_count l)) (longer_is_stricter l network more c)
+plain_is_less l network more c = plain.plain_is_less l network more c
 
 pub found_is_lawful : FoundIsLawful
 found_is_lawful l network c budget e lawful legal is found = question_where_found l lawful network c is legal budget e found
@@ -212,5 +153,5 @@ whole_is_alive l network c prefix lawful legal is long = go (is_plain l network 
   where
     go : (b : Bool) → is_plain l network c prefix ≡ b → is_alive l network c prefix ≡ is_plain l network c prefix
     go true plain = whole_has_family l lawful network (Some c) (assignment_of l c prefix)
-        (length-map-range_with_len (value_beside (order_of l c) prefix) 0 (variable_count l)) (complete_there l lawful network c is prefix long) plain ∙ sym plain
+        (length-map-range_with_len (value_beside (order_of l c) prefix) 0 (variable_count l)) (complete_there l lawful c is prefix long) plain ∙ sym plain
     go false plain = false_from_ne_true _ (λ h. both_ways _ plain (alive_is_plain l network c prefix lawful legal is h)) ∙ sym plain

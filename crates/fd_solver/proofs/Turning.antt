@@ -9,7 +9,7 @@ use Rattle.language.specs.Search.{prefixes}
 use Rattle.fd_solver.specs.declared.outcome.Outcome.{Outcome}
 use Rattle.fd_solver.specs.declared.outcome.Outcome.TheVariants.{Found, Absent, Spent}
 use Rattle.fd_solver.specs.Outcomes.{outcome_from, outcome_by}
-use Rattle.fd_solver.proofs.Preorder.{PassesFronts, pending, none_passes, skip_shorter, prefixes_small, pending_step, pending_skip, pending_pop, pending_end, pending_begin}
+use Rattle.language.proofs.Preorder.{PassesFronts, pending, none_passes, skip_shorter, prefixes_small, pending_step, pending_skip, pending_pop, pending_end, pending_begin}
 
 pub outcome_whole : (n : ℕ) (assign : List ℕ → Assignment) (p : List ℕ) (members : List (List ℕ)) (budget : ℕ) → length p ≡ n → outcome_by n assign (p ∷ members) (suc budget) ≡ Found (assign p)
 outcome_whole n assign p members budget long = rw (eq-eqb (length p) n long) refl

@@ -9,7 +9,7 @@ use Rattle.fd_solver.specs.declared.outcome.Outcome.TheVariants.{Found, Absent, 
 use Rattle.fd_solver.proofs.Alive.{alive_fronts}
 use Rattle.fd_solver.proofs.Turning.{left_at, turn_spent, turn_found, turn_down, turn_next, turn_up, turn_end, turn_first}
 use Rattle.fd_solver.specs.Outcomes.{IsOrder, is_alive_in, search_outcome}
-use Rattle.fd_solver.proofs.Filling.{assigned_blank, assigned_push, assigned_pop, size_of}
+use Rattle.language.proofs.Filling.{assigned_blank, assigned_push, assigned_pop, size_of}
 
 all_before : (P : ℕ → Type 0) (xs : List ℕ) (y : ℕ) → All P (xs ++ y ∷ []) → All P xs
 all_before P [] y h = All-nil P

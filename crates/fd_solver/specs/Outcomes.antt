@@ -1,18 +1,13 @@
 -- The outcome of a search under a budget.
-use Rattle.std.specs.Prelude.{ℕ, ◌<◌, ◌≡◌, ◌≢◌, ◌==◌, Bool, true, false, List, length, take, find, nat_le, Option, Some, None, All, AllPairs}
+use Rattle.std.specs.Prelude.{ℕ, ◌==◌, Bool, true, false, List, length, take, find, nat_le, Option, Some, None}
 use Rattle.assign.specs.Assignment.{Assignment, assigned}
 use Rattle.language.specs.declared.candidates.Candidate.{Candidate}
 use Rattle.language.specs.Language.{Language, variable_count}
 use Rattle.language.specs.Search.{assignment_of, walk_by}
+pub use Rattle.language.specs.Search.{IsOrder}
 use Rattle.propagators.specs.Families.{has_family}
 use Rattle.fd_solver.specs.declared.outcome.Outcome.{Outcome}
 use Rattle.fd_solver.specs.declared.outcome.Outcome.TheVariants.{Found, Absent, Spent}
-
--- each of n variables once
-pub record IsOrder (n : ℕ) (order : List ℕ) : Type 0 where
-  pub size : length order ≡ n
-  pub known : All (λ v. v < n) order
-  pub different : AllPairs (λ v w. v ≢ w) order
 
 -- what the first complete prefix says, or that there is none and whether all were looked at
 abbrev pub outcome_from : (List ℕ → Assignment) → Option (List ℕ) → Bool → Outcome

@@ -11,7 +11,7 @@ use Rattle.propagators.specs.Plans.{IsPlanOf}
 
 -- the largest arc-consistent family of what an assignment leaves, with no empty set
 abbrev pub IsReady : Language → List Candidate → Option Candidate → Assignment → Family → Type 0
-IsReady l list against e f = IsPropagated l (arcs_of l list against) (left_by l.value_count e) f
+IsReady l list against e f = IsPropagated l (arcs_of l list against) (left_by l e) f
 
 -- for each front of a prefix there is one, by its length
 abbrev pub AreReady : Language → List Candidate → Option Candidate → List ℕ → List ℕ → List Family → Type 0

@@ -52,6 +52,10 @@ fn narrow(cons: &Constraints, plan: &Plan, doms: &mut Domains, v: u8, x: u8) -> 
     ensures alive { result ≡ true → IsPropagated cons.now.lang.now (arcs_of cons.now.lang.now cons.now.list.now cons.now.against) (fixed doms.old v x) doms.new }
     ensures dead { result ≡ false → RunsEmpty (arcs_of cons.now.lang.now cons.now.list.now cons.now.against) (fixed doms.old v x) }
 {
+    if let Some(_only) = doms.only(v) {
+        // It has this value already, and no other.
+        return true;
+    }
     doms.fix(v, x);
     match propagate_after(cons, plan, doms, VarSet::empty().with(v)) {
         Alive::Yes => true,

@@ -21,5 +21,10 @@ pub mod Listed
 pub mod Lists
 pub mod Beside
 pub mod Accepts
+pub mod Preorder
+pub mod Fronts
+pub mod Filling
+pub mod Orders
+pub mod Plain
 pub mod ByNames
 pub mod OneLanguage

@@ -1,16 +1,15 @@
 -- Some relations have one closing, and what is built of the same parts is the same.
-use Rattle.std.proofs.Common.{◌≡◌, ℕ, zero, suc, ◌+◌, ◌-◌, ◌<◌, ◌≤◌, List, [], ◌∷◌, length, map, get_or, Option, refl, sym, ◌∙◌, ap, subst, arith}
-use Rattle.std.specs.Prelude.{All, AllPairs, Contains, ◌==◌}
+use Rattle.std.proofs.Common.{◌≡◌, ℕ, zero, suc, ◌+◌, ◌-◌, ◌<◌, ◌≤◌, List, [], ◌∷◌, map, get_or, refl, sym, ◌∙◌, ap, subst, arith}
+use Rattle.std.specs.Prelude.{AllPairs, Contains, ◌==◌}
 use Rattle.std.specs.List.{filter}
 use Rattle.std.proofs.lemmas.Bool.{both_ways}
 use Rattle.std.proofs.lemmas.List.{same_lists, get_or_default}
-use Rattle.rel_table.specs.Relation.{Relation, is_above, IsIntersection, IsClosing}
+use Rattle.rel_table.specs.Relation.{Relation, IsIntersection, IsClosing}
 use Rattle.rel_table.specs.InOrder.{Above}
 use Rattle.rel_table.proofs.Falling.{above_above}
 use Rattle.rel_table.proofs.Pairwise.{pairs_head, pairs_tail}
 use Rattle.rel_table.proofs.Tables.{not_above_itself}
-use Rattle.language.specs.Language.{Language, Given}
-use Rattle.language.specs.Building.{Frame}
+use Rattle.language.specs.Language.{Given}
 use Rattle.language.specs.Laws.{BuiltIsOne}
 
 -- ---- lists in falling order

@@ -1,13 +1,17 @@
 -- The first pair of scopes that is related.
-use Rattle.std.proofs.Common.{◌≡◌, ℕ, zero, suc, ◌+◌, ◌<◌, ◌≤◌, Bool, true, false, cond, ◌&&◌, ◌||◌, true≢false, Option, Some, None, List, [], ◌∷◌, ◌++◌, length, take, drop, is_some, refl, sym, ◌∙◌, ap, arith}
+use Rattle.std.proofs.Common.{◌≡◌, ℕ, zero, suc, ◌+◌, ◌<◌, ◌≤◌, Bool, true, false, cond, ◌&&◌, ◌||◌, true≢false, Option, Some, None, List, [], ◌∷◌, ◌++◌, length, take, drop, is_some, refl, sym, ◌∙◌, ap, subst, arith}
 use Rattle.std.specs.Prelude.{nat_eq, not, position, slice_index_or, ◌==◌}
 use Rattle.std.specs.List.{list_any, position_or_len, position_from}
+use Rattle.std.proofs.lemmas.List.Folds.{list_any_at}
+use Rattle.std.proofs.lemmas.List.Sums.{list_all-from_AllPass}
+use Rattle.std.proofs.lemmas.Bool.{and_parts, both_ways, eq-eqb, eqb-true, false_from_ne_true, or_left}
 use Rattle.std.proofs.lemmas.Iterator.Adapters.{position_from-zero}
 use Rattle.std.specs.Cmp.Lexicographic.{pointwise}
 use Rattle.std.proofs.lemmas.List.{take_more, drop_more}
 use Rattle.std.proofs.lemmas.List.Quantifiers.{position-Some}
-use Rattle.assign.specs.Sets.{is_same}
-use Rattle.language.specs.Building.{pair_after, first_pair}
+use Rattle.assign.specs.Sets.{has, is_same, is_within}
+use Rattle.language.specs.Building.{are_nested, pair_after, first_pair}
+use Rattle.language.proofs.Lists.{any_weaker}
 
 pub same_is : (xs ys : List ℕ) → pointwise nat_eq xs ys ≡ is_same xs ys
 same_is [] [] = refl
@@ -89,3 +93,38 @@ found_below p xs i j d low found = let at = position-Some p (take j xs) i d foun
 
 pub same_first : (xs : List (List ℕ)) (ys : List ℕ) → position (λ xs. pointwise nat_eq xs ys) xs ≡ position (λ xs. is_same xs ys) xs
 same_first xs ys = λ i. position (λ zs. same_is zs ys i) xs
+
+-- ---- where none is nested, none is repeated
+
+cond_none : (b : Bool) (at : ℕ × ℕ) (rest : Option (ℕ × ℕ)) → cond b (Some at) rest ≡ None → (b ≡ false) × (rest ≡ None)
+cond_none true at rest h = absurd (no_some at h)
+cond_none false at rest h = (refl, h)
+
+none_from : (b : Bool) (at : ℕ × ℕ) (rest : Option (ℕ × ℕ)) → b ≡ false → rest ≡ None → cond b (Some at) rest ≡ None
+none_from true at rest e h = absurd (both_ways _ e refl)
+none_from false at rest e h = h
+
+-- where fewer are related, none stays none
+none_of_fewer : (p q : List ℕ → List ℕ → Bool) → ((xs ys : List ℕ) → p xs ys ≡ true → q xs ys ≡ true) → (before scopes : List (List ℕ)) → pair_after q before scopes ≡ None → pair_after p before scopes ≡ None
+none_of_fewer p q more before [] h = at_end p before
+none_of_fewer p q more before (scope ∷ scopes) h =
+    let parts = cond_none (list_any (λ earlier. q earlier scope) before) _ _ (sym (one_step q before scope scopes) ∙ h) in
+    one_step p before scope scopes
+    ∙ none_from (list_any (λ earlier. p earlier scope) before) _ _
+    (false_from_ne_true _ (λ some. both_ways _ parts.0 (any_weaker (λ earlier. p earlier scope) (λ earlier. q earlier scope) before (λ earlier. more earlier scope) some)))
+    (none_of_fewer p q more (before ++ scope ∷ []) scopes parts.1)
+
+same_list : (xs ys : List ℕ) → is_same xs ys ≡ true → xs ≡ ys
+same_list [] [] h = refl
+same_list [] (y ∷ ys) h = cc
+same_list (x ∷ xs) [] h = cc
+same_list (x ∷ xs) (y ∷ ys) h = let parts = and_parts (x == y) (is_same xs ys) h in λ i. eqb-true x y parts.0 i ∷ same_list xs ys parts.1 i
+
+within_itself : (xs : List ℕ) → is_within xs xs ≡ true
+within_itself xs = list_all-from_AllPass (has xs) xs (λ k d low. list_any_at (λ x. x == slice_index_or xs k d) xs k d low (eq-eqb _ _ refl))
+
+same_nested : (xs ys : List ℕ) → is_same xs ys ≡ true → are_nested xs ys ≡ true
+same_nested xs ys h = or_left (is_within xs ys) (is_within ys xs) (subst (λ (zs : List ℕ). is_within xs zs ≡ true) (same_list xs ys h) (within_itself xs))
+
+pub none_repeated : (xs : List (List ℕ)) → first_pair are_nested xs ≡ None → first_pair is_same xs ≡ None
+none_repeated xs h = none_of_fewer is_same are_nested same_nested [] xs h

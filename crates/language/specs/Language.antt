@@ -28,6 +28,10 @@ pub record Language : Type 0 where
 abbrev pub variable_count : Language → ℕ
 variable_count l = length l.names
 
+-- the values of the variable of this number
+abbrev pub values_of : Language → ℕ → List ℕ
+values_of l v = numbers l.value_count
+
 -- the vocabulary's relations of an arity
 abbrev pub given_of : Language → ℕ → List Given
 given_of l arity = filter (λ (g : Given). g.arity == arity) l.given

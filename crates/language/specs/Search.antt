@@ -1,11 +1,17 @@
 -- The search for a complete question that the network accepts and that violates a candidate.
-use Rattle.std.specs.Prelude.{ℕ, zero, suc, Bool, not, ◌&&◌, List, [], ◌∷◌, ◌++◌, length, map, filter}
+use Rattle.std.specs.Prelude.{ℕ, zero, suc, ◌<◌, ◌≡◌, ◌≢◌, Bool, not, ◌&&◌, List, [], ◌∷◌, ◌++◌, length, map, filter, All, AllPairs}
 use Rattle.std.specs.List.{flat_map}
 use Rattle.language.specs.declared.candidates.Candidate.{Candidate}
 use Rattle.assign.specs.Sets.{numbers, has}
 use Rattle.assign.specs.Assignment.{Assignment, assigned, covers, tuple_on}
 use Rattle.rel_table.specs.Relation.{holds}
 use Rattle.language.specs.Language.{Language, variable_count, scope_of, relation_of, accepts}
+
+-- each of n variables once
+pub record IsOrder (n : ℕ) (order : List ℕ) : Type 0 where
+  pub size : length order ≡ n
+  pub known : All (λ v. v < n) order
+  pub different : AllPairs (λ v w. v ≢ w) order
 
 -- the candidate's variables, and then the others in vocabulary order
 abbrev pub order_of : Language → Candidate → List ℕ

@@ -79,11 +79,12 @@ pub(crate) fn refusal_of(rels: &[RelPart], sets: &[VarSet]) -> Option<LangFault>
     requires { length sets.now ≤ 8192 }
     ensures { result ≡ scope_list_refusal (map given_by rels.now) sets.now }
 {
-    if let Some((i, j)) = first_repeated(sets) {
-        return Some(LangFault::ScopeRepeated(i as u32, j as u32));
-    }
+    // A set that stands twice lies within itself. So where none is nested, none is repeated, and the sets were gone over once.
     if let Some((i, j)) = first_nested(sets) {
-        return Some(LangFault::Nested(i as u32, j as u32));
+        return match first_repeated(sets) {
+            Some((i, j)) => Some(LangFault::ScopeRepeated(i as u32, j as u32)),
+            None => Some(LangFault::Nested(i as u32, j as u32)),
+        };
     }
     let unused = first_unused(rels, sets)?;
     Some(LangFault::NoRelationOfArity(unused as u32))

@@ -9,7 +9,7 @@ use Rattle.std.proofs.lemmas.List.Elements.{All-nil, All-cons, All-append}
 use Rattle.propagators.specs.Values.{ones_of}
 use Rattle.propagators.specs.InsideDomains.{AreMasks}
 use Rattle.assign.specs.Sets.{numbers, has}
-use Rattle.language.specs.Language.{Language, variable_count}
+use Rattle.language.specs.Language.{Language, variable_count, values_of}
 use Rattle.propagators.specs.Families.{Family}
 use Rattle.propagators.specs.Supports.{IsFamilyOf}
 
@@ -71,8 +71,19 @@ value_bound d (suc m) zero x h = subst (λ (k : ℕ). x < k) (let e : 0 + d ≡ 
         go (inr there) rest = (let low = rest there in omega arith)
 value_bound d (suc m) (suc v) x h = value_bound d m v x h
 
-pub full_family : (l : Language) → IsFamilyOf l (replicate (variable_count l) (numbers l.value_count))
-full_family l = record { size = length-replicate {A = List ℕ} (variable_count l) (numbers l.value_count); values = λ v x h. value_bound l.value_count (variable_count l) v x h }
+-- one list for each of n variables
+pub one_for_each : (xs : List ℕ) (n : ℕ) → replicate n xs ≡ map (λ v. xs) (numbers n)
+one_for_each xs n = from 0 n
+  where
+    from : (a n : ℕ) → replicate n xs ≡ map (λ v. xs) (range_with_len a n)
+    from a zero = refl
+    from a (suc n) = ap (λ f. xs ∷ f) (from (a + 1) n)
+
+pub full_family : (l : Language) → IsFamilyOf l (map (values_of l) (numbers (variable_count l)))
+full_family l = subst (IsFamilyOf l) (one_for_each (numbers l.value_count) (variable_count l)) (record {
+  size = length-replicate {A = List ℕ} (variable_count l) (numbers l.value_count);
+  values = λ v x h. value_bound l.value_count (variable_count l) v x h;
+})
 
 -- a set with fewer values
 pub family_set : (l : Language) (f : Family) (v : ℕ) (xs : List ℕ) → v < length f → ((x : ℕ) → has xs x ≡ true → has (slice_index_or f v []) x ≡ true) → IsFamilyOf l f → IsFamilyOf l (slice_set f v xs)

@@ -1,24 +1,22 @@
 -- A prefix is alive where no set of the largest consistent subfamily of its values is empty.
-use Rattle.std.proofs.Common.{◌≡◌, ℕ, zero, suc, ◌+◌, Bool, true, false, cond, ◌&&◌, ◌||◌, List, [], ◌∷◌, length, map, Option, refl, sym, ◌∙◌, ap, subst, arith, inl, inr, ◌⊎◌}
+use Rattle.std.proofs.Common.{◌≡◌, ℕ, zero, suc, ◌+◌, Bool, true, false, cond, ◌&&◌, ◌||◌, List, [], ◌∷◌, length, map, refl, sym, ◌∙◌, ap, subst, arith, inl, inr, ◌⊎◌}
 use Rattle.std.specs.Prelude.{◌==◌, All, slice_index_or}
 use Rattle.std.specs.List.{filter, list_any, list_all, flat_map}
 use Rattle.std.proofs.lemmas.List.Folds.{list_any-append, Any-from_list_any}
 use Rattle.std.proofs.lemmas.List.Elements.{All-head, All-tail, All-nil, All-cons, All-append, All-map, All-weaker, All-filter, filter_passes}
 use Rattle.std.proofs.lemmas.Bool.{and_parts, and_from, or_left, or_right, or_cases}
 use Rattle.assign.specs.Sets.{has}
-use Rattle.assign.specs.Assignment.{Assignment}
-use Rattle.propagators.specs.Families.{Family, Arc, subsets, is_not_empty, domain_of, families_within, arcs_of, is_arc_consistent, IsSubfamily, is_supported, prune_from, prune, size_of, pruned, largest}
+use Rattle.propagators.specs.Families.{Family, Arc, subsets, is_not_empty, left_by, families_within, arcs_of, is_arc_consistent, IsSubfamily, is_supported, prune_from, prune, size_of, pruned, largest}
 use Rattle.propagators.specs.Laws.{LargestTells}
-use Rattle.std.proofs.lemmas.List.{length-map}
 use Rattle.language.proofs.Members.{any-filter, any-map, any-flat_map}
 use Rattle.propagators.proofs.Pruned.{largest_is, has_head}
 
--- ---- the families of an assignment lie within its values, and no set is empty
+-- ---- the families within another one lie within its sets, and no set is empty
 
-record IsChoice (d : ℕ) (e : Assignment) (f : Family) : Type 0 where
-  within : IsSubfamily f (map (domain_of d) e)
+record IsChoice (from f : Family) : Type 0 where
+  within : IsSubfamily f from
   full : list_all is_not_empty f ≡ true
-  long : length f ≡ length e
+  long : length f ≡ length from
 
 all_flat : {X Y : Type 0} (P : X → Type 0) (Q : Y → Type 0) (f : X → List Y) (xs : List X) → All P xs → ((x : X) → P x → All Q (f x)) → All Q (flat_map f xs)
 all_flat P Q f [] all h = All-nil Q
@@ -37,36 +35,36 @@ subsets_in (y ∷ ys) = All-append (IsIn (y ∷ ys)) (map (λ s. y ∷ s) (subse
     with_one s h x (inl same) = or_left _ _ same
     with_one s h x (inr there) = or_right _ _ (h x there)
 
--- the nonempty sets of values that a variable may have
-abbrev pub domains_within : ℕ → Option ℕ → List (List ℕ)
-domains_within d o = filter is_not_empty (subsets (domain_of d o))
+-- the nonempty sets within one
+abbrev pub sets_within : List ℕ → List (List ℕ)
+sets_within ys = filter is_not_empty (subsets ys)
 
-pub families_as : (p : Family → Bool) (d : ℕ) (o : Option ℕ) (e : Assignment) → list_any p (families_within d (o ∷ e)) ≡ list_any (λ xs. list_any (λ rest. p (xs ∷ rest)) (families_within d e)) (domains_within d o)
-families_as p d o e = any-flat_map p (λ (xs : List ℕ). map (λ rest. xs ∷ rest) (families_within d e)) (domains_within d o) ∙ go (domains_within d o)
+pub families_as : (p : Family → Bool) (ys : List ℕ) (from : Family) → list_any p (families_within (ys ∷ from)) ≡ list_any (λ xs. list_any (λ rest. p (xs ∷ rest)) (families_within from)) (sets_within ys)
+families_as p ys from = any-flat_map p (λ (xs : List ℕ). map (λ rest. xs ∷ rest) (families_within from)) (sets_within ys) ∙ go (sets_within ys)
   where
-    go : (doms : List (List ℕ)) → list_any (λ xs. list_any p (map (λ rest. xs ∷ rest) (families_within d e))) doms ≡ list_any (λ xs. list_any (λ rest. p (xs ∷ rest)) (families_within d e)) doms
+    go : (doms : List (List ℕ)) → list_any (λ xs. list_any p (map (λ rest. xs ∷ rest) (families_within from))) doms ≡ list_any (λ xs. list_any (λ rest. p (xs ∷ rest)) (families_within from)) doms
     go [] = refl
-    go (xs ∷ doms) = λ i. any-map p (λ (rest : Family). xs ∷ rest) (families_within d e) i || go doms i
+    go (xs ∷ doms) = λ i. any-map p (λ (rest : Family). xs ∷ rest) (families_within from) i || go doms i
 
 record IsPart (ys s : List ℕ) : Type 0 where
   inside : IsIn ys s
   full : is_not_empty s ≡ true
 
-domains_parts : (d : ℕ) (o : Option ℕ) → All (IsPart (domain_of d o)) (domains_within d o)
-domains_parts d o = λ k x low. record {
-  inside = All-filter is_not_empty (IsIn (domain_of d o)) (subsets (domain_of d o)) (subsets_in (domain_of d o)) k x low;
-  full = filter_passes is_not_empty (subsets (domain_of d o)) k x low;
+sets_parts : (ys : List ℕ) → All (IsPart ys) (sets_within ys)
+sets_parts ys = λ k x low. record {
+  inside = All-filter is_not_empty (IsIn ys) (subsets ys) (subsets_in ys) k x low;
+  full = filter_passes is_not_empty (subsets ys) k x low;
 }
 
-choices : (d : ℕ) (e : Assignment) → All (IsChoice d e) (families_within d e)
-choices d [] = All-cons (IsChoice d []) [] [] (record { within = λ v x h. h; full = refl; long = refl }) (All-nil (IsChoice d []))
-choices d (o ∷ e) = all_flat (IsPart (domain_of d o)) (IsChoice d (o ∷ e)) (λ (xs : List ℕ). map (λ rest. xs ∷ rest) (families_within d e)) (domains_within d o) (domains_parts d o) (λ xs part.
-    All-map (IsChoice d (o ∷ e)) (λ rest. xs ∷ rest) (families_within d e) (All-weaker (IsChoice d e) (λ rest. IsChoice d (o ∷ e) (xs ∷ rest)) (λ rest is. with_set xs part rest is) (families_within d e) (choices d e)))
+choices : (from : Family) → All (IsChoice from) (families_within from)
+choices [] = All-cons (IsChoice []) [] [] (record { within = λ v x h. h; full = refl; long = refl }) (All-nil (IsChoice []))
+choices (ys ∷ from) = all_flat (IsPart ys) (IsChoice (ys ∷ from)) (λ (xs : List ℕ). map (λ rest. xs ∷ rest) (families_within from)) (sets_within ys) (sets_parts ys) (λ xs part.
+    All-map (IsChoice (ys ∷ from)) (λ rest. xs ∷ rest) (families_within from) (All-weaker (IsChoice from) (λ rest. IsChoice (ys ∷ from) (xs ∷ rest)) (λ rest is. with_set xs part rest is) (families_within from) (choices from)))
   where
-    with_set : (xs : List ℕ) → IsPart (domain_of d o) xs → (rest : Family) → IsChoice d e rest → IsChoice d (o ∷ e) (xs ∷ rest)
+    with_set : (xs : List ℕ) → IsPart ys xs → (rest : Family) → IsChoice from rest → IsChoice (ys ∷ from) (xs ∷ rest)
     with_set xs part rest is = record { within = inside; full = and_from _ _ part.full is.full; long = ap suc is.long }
       where
-        inside : (v x : ℕ) → has (slice_index_or (xs ∷ rest) v []) x ≡ true → has (slice_index_or (domain_of d o ∷ map (domain_of d) e) v []) x ≡ true
+        inside : (v x : ℕ) → has (slice_index_or (xs ∷ rest) v []) x ≡ true → has (slice_index_or (ys ∷ from) v []) x ≡ true
         inside zero x h = part.inside x h
         inside (suc v) x h = is.within v x h
 
@@ -135,16 +133,16 @@ cuts_long [] (xs ∷ f) h = absurd h
 cuts_long (ys ∷ from) [] h = absurd h
 cuts_long (ys ∷ from) (xs ∷ f) h = ap suc (cuts_long from f h.1)
 
-a_family : (p : Family → Bool) (d : ℕ) (e : Assignment) (f : Family) → AreCuts (map (domain_of d) e) f → list_all is_not_empty f ≡ true → p f ≡ true → list_any p (families_within d e) ≡ true
-a_family p d [] [] cuts full at = or_left _ _ at
-a_family p d [] (xs ∷ f) cuts full at = absurd cuts
-a_family p d (o ∷ e) [] cuts full at = absurd cuts
-a_family p d (o ∷ e) (xs ∷ f) cuts full at =
+a_family : (p : Family → Bool) (from f : Family) → AreCuts from f → list_all is_not_empty f ≡ true → p f ≡ true → list_any p (families_within from) ≡ true
+a_family p [] [] cuts full at = or_left _ _ at
+a_family p [] (xs ∷ f) cuts full at = absurd cuts
+a_family p (ys ∷ from) [] cuts full at = absurd cuts
+a_family p (ys ∷ from) (xs ∷ f) cuts full at =
     let parts = and_parts (is_not_empty xs) (list_all is_not_empty f) full in
-    let rest : list_any (λ rest. p (xs ∷ rest)) (families_within d e) ≡ true = a_family (λ rest. p (xs ∷ rest)) d e f cuts.1 parts.1 at in
-    families_as p d o e
-    ∙ any-filter (λ ys. list_any (λ rest. p (ys ∷ rest)) (families_within d e)) is_not_empty (subsets (domain_of d o))
-    ∙ cuts.0 (λ ys. is_not_empty ys && list_any (λ rest. p (ys ∷ rest)) (families_within d e)) (and_from _ _ parts.0 rest)
+    let rest : list_any (λ rest. p (xs ∷ rest)) (families_within from) ≡ true = a_family (λ rest. p (xs ∷ rest)) from f cuts.1 parts.1 at in
+    families_as p ys from
+    ∙ any-filter (λ zs. list_any (λ rest. p (zs ∷ rest)) (families_within from)) is_not_empty (subsets ys)
+    ∙ cuts.0 (λ zs. is_not_empty zs && list_any (λ rest. p (zs ∷ rest)) (families_within from)) (and_from _ _ parts.0 rest)
 
 -- ---- together
 
@@ -153,21 +151,21 @@ true_both true b h k = sym (h refl)
 true_both false true h k = k refl
 true_both false false h k = refl
 
-pub living : (arcs : List Arc) (d : ℕ) (e : Assignment) → list_any (is_arc_consistent arcs) (families_within d e) ≡ list_all is_not_empty (largest arcs (map (domain_of d) e))
-living arcs d e = true_both _ _ (λ some.
-    let found = Any-from_list_any (is_arc_consistent arcs) (families_within d e) some in
-    let is = choices d e found.0 found.1 found.2 in
-    let f : Family = slice_index_or (families_within d e) found.0 found.1 in
-    full_above f (largest arcs (map (domain_of d) e))
-    (is.long ∙ sym (length-map e (domain_of d)) ∙ cuts_long (map (domain_of d) e) (largest arcs (map (domain_of d) e)) cuts)
-    ((largest_is arcs (map (domain_of d) e)).greatest f is.within (ap (is_arc_consistent arcs) found.3 ∙ found.4)) is.full)
-    (λ full. a_family (is_arc_consistent arcs) d e (largest arcs (map (domain_of d) e)) cuts full (largest_is arcs (map (domain_of d) e)).consistent)
+pub living : (arcs : List Arc) (from : Family) → list_any (is_arc_consistent arcs) (families_within from) ≡ list_all is_not_empty (largest arcs from)
+living arcs from = true_both _ _ (λ some.
+    let found = Any-from_list_any (is_arc_consistent arcs) (families_within from) some in
+    let is = choices from found.0 found.1 found.2 in
+    let f : Family = slice_index_or (families_within from) found.0 found.1 in
+    full_above f (largest arcs from)
+    (is.long ∙ cuts_long from (largest arcs from) cuts)
+    ((largest_is arcs from).greatest f is.within (ap (is_arc_consistent arcs) found.3 ∙ found.4)) is.full)
+    (λ full. a_family (is_arc_consistent arcs) from (largest arcs from) cuts full (largest_is arcs from).consistent)
   where
-    cuts : AreCuts (map (domain_of d) e) (largest arcs (map (domain_of d) e))
-    cuts = cuts_pruned (size_of (map (domain_of d) e)) arcs (map (domain_of d) e) (map (domain_of d) e) (cuts_whole (map (domain_of d) e))
+    cuts : AreCuts from (largest arcs from)
+    cuts = cuts_pruned (size_of from) arcs from from (cuts_whole from)
 
 pub largest_long : (arcs : List Arc) (f : Family) → length (largest arcs f) ≡ length f
 largest_long arcs f = sym (cuts_long f (largest arcs f) (cuts_pruned (size_of f) arcs f f (cuts_whole f)))
 
 pub largest_tells : LargestTells
-largest_tells l list against e = living (arcs_of l list against) l.value_count e
+largest_tells l list against e = living (arcs_of l list against) (left_by l e)

@@ -3,10 +3,10 @@ use Rattle.std.specs.Prelude.{ℕ, zero, suc, ◌+◌, ◌≡◌, ◌==◌, Bool
 use Rattle.std.specs.List.{filter, flat_map, list_any, list_all}
 use Rattle.std.specs.Option.{option_map_or}
 use Rattle.assign.specs.Sets.{numbers, has}
-use Rattle.assign.specs.Assignment.{Assignment}
+use Rattle.assign.specs.Assignment.{Assignment, value_of}
 use Rattle.rel_table.specs.Relation.{holds}
 use Rattle.language.specs.declared.candidates.Candidate.{Candidate}
-use Rattle.language.specs.Language.{Language, scope_of, relation_of}
+use Rattle.language.specs.Language.{Language, variable_count, values_of, scope_of, relation_of}
 
 abbrev pub Family : Type 0
 Family = List (List ℕ)
@@ -24,18 +24,18 @@ abbrev pub is_not_empty : List ℕ → Bool
 is_not_empty [] = false
 is_not_empty (x ∷ xs) = true
 
--- the values that an assignment leaves to a variable: its own one, where it has one, and else all d
-abbrev pub domain_of : ℕ → Option ℕ → List ℕ
-domain_of d None = numbers d
-domain_of d (Some x) = x ∷ []
+-- what is left to a variable: the one value that it has, or, where it has none, all its values
+abbrev pub domain_of : Language → ℕ → Option ℕ → List ℕ
+domain_of l v None = values_of l v
+domain_of l v (Some x) = x ∷ []
 
--- all that an assignment leaves
-abbrev pub left_by : ℕ → Assignment → Family
-left_by d e = map (domain_of d) e
+-- what an assignment leaves to each variable
+abbrev pub left_by : Language → Assignment → Family
+left_by l e = map (λ v. domain_of l v (value_of e v)) (numbers (variable_count l))
 
--- the families of nonempty sets within what an assignment leaves
-abbrev pub families_within : ℕ → Assignment → List Family
-families_within d e = selections (map (λ o. filter is_not_empty (subsets (domain_of d o))) e)
+-- the families of nonempty sets within another one
+abbrev pub families_within : Family → List Family
+families_within family = selections (map (λ xs. filter is_not_empty (subsets xs)) family)
 
 -- ---- Conditions
 
@@ -77,7 +77,7 @@ is_arc_consistent arcs family = list_all (λ a. is_consistent family a.scope a.a
 
 -- some family of nonempty sets within what an assignment leaves is arc consistent
 abbrev pub has_family : Language → List Candidate → Option Candidate → Assignment → Bool
-has_family l list against e = list_any (is_arc_consistent (arcs_of l list against)) (families_within l.value_count e)
+has_family l list against e = list_any (is_arc_consistent (arcs_of l list against)) (families_within (left_by l e))
 
 -- ---- The largest arc-consistent family within another
 

@@ -19,7 +19,7 @@ LargestIsOne = (arcs : List Arc) (from f g : Family) → IsLargest arcs from f �
 abbrev pub LargestTells : Type 0
 LargestTells =
     (l : Language) (list : List Candidate) (against : Option Candidate) (e : Assignment) →
-    has_family l list against e ≡ list_all is_not_empty (largest (arcs_of l list against) (left_by l.value_count e))
+    has_family l list against e ≡ list_all is_not_empty (largest (arcs_of l list against) (left_by l e))
 
 -- Where fewer values are left, the largest is the one within these and the old largest.
 abbrev pub LargestAgain : Type 0

@@ -1,8 +1,8 @@
-ghost use Rattle.std.specs.Prelude.{◌≡◌, ◌<◌, ◌≤◌, ◌==◌, ℕ, [], true, false, not, length, map, take, replicate, slice_index_or, slice_set, All, IfSome, None};
+ghost use Rattle.std.specs.Prelude.{◌≡◌, ◌<◌, ◌≤◌, ◌==◌, ℕ, [], true, false, not, length, map, take, slice_index_or, slice_set, All, IfSome, None};
 ghost use Rattle.std.specs.List.{filter, list_all, list_any};
 ghost use Rattle.std.specs.Int.{bit_at};
 ghost use Rattle.assign.specs.Sets.{numbers, has, IsSet};
-ghost use Rattle.language.specs.Language.{Language, variable_count};
+ghost use Rattle.language.specs.Language.{Language, variable_count, values_of};
 ghost use Rattle.propagators.specs.Values.{ones_of};
 ghost use Rattle.propagators.specs.Families.{is_not_empty, is_wanted, sets_on, size_of};
 ghost use Rattle.propagators.specs.Supports.{IsFamilyOf};
@@ -55,7 +55,7 @@ fn some_is_zero(masks: &[u64]) -> bool
 impl Domains {
     /// All values for each variable.
     pub fn full(lang: &Language) -> Domains
-        ensures is { result ≡ replicate (variable_count lang.now) (numbers lang.now.value_count) }
+        ensures is { result ≡ map (values_of lang.now) (numbers (variable_count lang.now)) }
         ensures family { IsFamilyOf lang.now result }
     {
         let n = lang.n();
@@ -94,7 +94,7 @@ impl Domains {
 
     /// The variable's value, where it has one alone.
     #[inline]
-    pub(crate) fn only(&self, v: u8) -> Option<u8>
+    pub fn only(&self, v: u8) -> Option<u8>
         requires { v < length self.now }
         ensures only { IfSome result (λ x. IsOnly (slice_index_or self.now v []) x) }
         ensures two { result ≡ None → is_not_empty (slice_index_or self.now v []) ≡ true → HasTwo (slice_index_or self.now v []) }

@@ -1,10 +1,8 @@
 -- Candidates by their numbers.
-use Rattle.std.proofs.Common.{◌≡◌, ℕ, ◌+◌, ◌<◌, ◌≤◌, Bool, true, false, not, cond, List, [], ◌∷◌, ◌++◌, length, map, take, get_or, refl, sym, ◌∙◌, ap, arith, append_assoc}
-use Rattle.std.specs.List.{filter}
-use Rattle.std.proofs.lemmas.List.{length-map, map_more, take_all, append-nil, get_or_read}
-use Rattle.std.proofs.lemmas.List.Elements.{filter_more}
+use Rattle.std.proofs.Common.{◌≡◌, ℕ, ◌+◌, ◌<◌, ◌≤◌, List, [], ◌∷◌, ◌++◌, length, map, take, get_or, sym, ◌∙◌, ap, arith}
+use Rattle.std.proofs.lemmas.List.{length-map, map_more, take_all, get_or_read}
 use Rattle.std.proofs.lemmas.List.FromFn.{length-range_with_len, get_or-range_with_len, get_or-map-range_with_len}
-use Rattle.assign.specs.Sets.{numbers, has}
+use Rattle.assign.specs.Sets.{numbers}
 use Rattle.language.specs.declared.candidates.Candidate.{Candidate}
 use Rattle.language.specs.Language.{Language, IsCandidate, candidates, number_of}
 use Rattle.language.proofs.Counting.{numbered}
@@ -47,27 +45,6 @@ one_more f n i y xs ys low is pushed so_far =
 
 pub all_numbers : (f : ℕ → ℕ) (n i : ℕ) (xs : List ℕ) → n ≤ i → xs ≡ map f (take i (numbers n)) → xs ≡ map f (numbers n)
 all_numbers f n i xs past so_far = so_far ∙ ap (map f) (take_all i (numbers n) (let long = length-range_with_len 0 n in omega arith))
-
--- ---- The variables of an order
-
--- one that the scope has is passed over, and another one is put
-pub next_variable : (scope : List ℕ) (n v : ℕ) (passes : Bool) (xs ys : List ℕ) → v < n → passes ≡ not (has scope v) → ys ≡ cond passes (xs ++ v ∷ []) xs →
-    xs ≡ scope ++ filter (λ w. not (has scope w)) (take v (numbers n)) → ys ≡ scope ++ filter (λ w. not (has scope w)) (take (v + 1) (numbers n))
-next_variable scope n v passes xs ys low is put so_far =
-    put
-    ∙ tail passes xs
-    ∙ ap (λ zs. zs ++ cond passes (v ∷ []) []) so_far
-    ∙ append_assoc scope (filter outside (take v (numbers n))) (cond passes (v ∷ []) [])
-    ∙ ap (λ b. scope ++ (filter outside (take v (numbers n)) ++ cond b (v ∷ []) [])) is
-    ∙ ap (λ w. scope ++ (filter outside (take v (numbers n)) ++ cond (outside w) (w ∷ []) [])) (sym (get_or-range_with_len 0 n v 0 low ∙ (let e : 0 + v ≡ v = omega arith in e)))
-    ∙ ap (λ zs. scope ++ zs) (sym (filter_more outside (numbers n) v 0 (let long = length-range_with_len 0 n in omega arith)))
-  where
-    outside : ℕ → Bool
-    outside w = not (has scope w)
-
-    tail : (b : Bool) (zs : List ℕ) → cond b (zs ++ v ∷ []) zs ≡ zs ++ cond b (v ∷ []) []
-    tail true zs = refl
-    tail false zs = sym (append-nil zs)
 
 -- ---- Reading a mark
 

@@ -8,7 +8,6 @@
 #![tactic(auto)]
 
 pub mod laws;
-mod order;
 mod place;
 mod query;
 mod screen;

@@ -9,11 +9,10 @@ ghost use Rattle.query_gen.specs.Questions.{is_among, is_spent, found_in, next_q
 ghost use Rattle.query_gen.specs.Marks.{IsMadeFor, MarksHold, is_open};
 ghost use Rattle.query_gen.specs.Inside.{mark_for, kept_on, outcome_among, IsBegun, IsMarked, GoesOn, IsBlanked};
 
-use crate::order::order_of;
 use crate::screen::{Mark, Screen};
 use assign::Partial;
 use bias_store::{Kept, split_first};
-use fd_solver::{Outcome, Work, search};
+use fd_solver::{Outcome, Work, order_of, search};
 use language::{Candidate, Language, ScopeId};
 use network::Network;
 use propagators::Constraints;

@@ -5,7 +5,7 @@ use Rattle.assign.specs.Assignment.{assigned}
 use Rattle.propagators.specs.Families.{has_family}
 use Rattle.fd_solver.specs.Outcomes.{is_alive_in}
 use Rattle.fd_solver.specs.Ready.{IsReady}
-use Rattle.fd_solver.proofs.Filling.{assigned_blank}
+use Rattle.language.proofs.Filling.{assigned_blank}
 use Rattle.fd_solver.proofs.Alive.{alive_fronts}
 use Rattle.fd_solver.proofs.Narrowing.{ready_first}
 use Rattle.fd_solver.proofs.Turning.{turn_dead}

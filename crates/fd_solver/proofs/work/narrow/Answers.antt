@@ -4,7 +4,7 @@ use Rattle.assign.specs.Sets.{with_member}
 use Rattle.propagators.specs.Families.{Family, arcs_of, is_not_empty}
 use Rattle.propagators.specs.Supports.{AreSettled}
 use Rattle.fd_solver.specs.Ready.{fixed}
-use Rattle.fd_solver.proofs.Narrowing.{fixed_full, fixed_settled}
+use Rattle.fd_solver.proofs.Narrowing.{alone_propagated, fixed_full, fixed_settled}
 use Rattle.fd_solver.proofs.work.narrow.Goals as goal
 
 pub propagate_after-requires-clause-doms : goal.propagate_after-requires-clause-doms
@@ -16,3 +16,8 @@ propagate_after-requires-clause-doms c = record {
       (subst (λ (xs : List ℕ). AreSettled (arcs_of c.args.cons.now.lang.now c.args.cons.now.list.now c.args.cons.now.against) xs (fixed c.args.doms.now c.args.v c.args.x)) (sym (c.with.ensures ∙ ap (λ xs. with_member xs c.args.v) c.empty.ensures))
       (fixed_settled c.args.cons.now.lang.now c.args.cons.now.list.now c.args.cons.now.against c.args.doms.now c.args.v c.args.x c.requires.lawful c.requires.constraints c.requires.consistent));
 }
+
+pub returns-in-Some-clause-alive : goal.returns-in-Some-clause-alive
+returns-in-Some-clause-alive c = λ e.
+    alone_propagated c.args.cons.now.lang.now (arcs_of c.args.cons.now.lang.now c.args.cons.now.list.now c.args.cons.now.against) c.args.doms.now c.args.v c.args.x c.in-Some._only
+    c.requires.doms c.requires.consistent c.in-Some.ensures.only c.requires.there

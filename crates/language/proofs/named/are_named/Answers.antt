@@ -1,9 +1,7 @@
-use Rattle.std.proofs.Common.{◌≡◌, ℕ, ◌+◌, ◌&&◌, length, drop, get_or, [], List, Bor, arith, sym, ◌∙◌}
-use Rattle.std.specs.Str.{bytes_eq}
-use Rattle.std.specs.Cmp.Lexicographic.{pointwise}
+use Rattle.std.proofs.Common.{◌≡◌, ℕ, length, List, Bor, arith, sym, ◌∙◌}
 use Rattle.std.proofs.lemmas.List.{length-map}
 use Rattle.language.specs.ByName.{texts_of}
-use Rattle.language.proofs.ByNames.{named_by, pair_at, differs, agrees, pointwise-ends, pointwise-lengths}
+use Rattle.language.proofs.ByNames.{named_by, pair_at, differs, agrees, pointwise-ends}
 use Rattle.language.proofs.named.are_named.Goals as goal
 
 pub returns-then-ne : goal.returns-then-ne

@@ -1,4 +1,4 @@
-use Rattle.std.proofs.Common.{◌≡◌, ℕ, [], get_or, sym, ◌∙◌, ap, arith}
+use Rattle.std.proofs.Common.{[], get_or, ◌∙◌, ap, arith}
 use Rattle.language.specs.Language.{relations_on}
 use Rattle.language.specs.Texts.{is_part}
 use Rattle.language.proofs.ByNames.{no_mask, mask_more}

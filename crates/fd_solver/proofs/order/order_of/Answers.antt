@@ -6,11 +6,10 @@ use Rattle.assign.specs.Sets.{numbers, has}
 use Rattle.language.specs.Language.{variable_count}
 use Rattle.language.specs.Search.{order_of}
 use Rattle.fd_solver.specs.Outcomes.{IsOrder}
-use Rattle.fd_solver.proofs.Orders.{orders_are_known}
+use Rattle.language.proofs.Orders.{orders_are_known, next_variable}
 use Rattle.arrayvec.specs.ArrayVec.{ArrayVec, array_vec_len}
-use Rattle.query_gen.proofs.Numbers.{next_variable}
-use Rattle.query_gen.proofs.order.order_of.Goals as goal
-use Rattle.query_gen.proofs.order.order_of.Goals.{then-not-contains, else-not-contains}
+use Rattle.fd_solver.proofs.order.order_of.Goals as goal
+use Rattle.fd_solver.proofs.order.order_of.Goals.{then-not-contains, else-not-contains}
 
 abbrev Order : Type 0
 Order = ArrayVec ℕ

@@ -3,7 +3,7 @@ use Rattle.std.specs.Prelude.{not}
 use Rattle.std.specs.List.{filter}
 use Rattle.assign.specs.Sets.{numbers, has}
 use Rattle.arrayvec.specs.ArrayVec.{array_vec_len}
-use Rattle.query_gen.proofs.order.order_of.Given as goal
+use Rattle.fd_solver.proofs.order.order_of.Given as goal
 
 abbrev pub invariant-loop-v : goal.invariant-loop-v
 invariant-loop-v l = record { put : l.order.items ≡ take l.v-index l.scope; few : array_vec_len l.order ≡ l.v-index }

@@ -1,9 +1,10 @@
 -- The order of a candidate has each variable once, and a prefix of all its values gives a whole assignment.
-use Rattle.std.proofs.Common.{◌≡◌, ℕ, zero, suc, ◌+◌, ◌<◌, ◌≤◌, Bool, true, false, cond, ◌||◌, ◌&&◌, not, List, [], ◌∷◌, ◌++◌, length, map, Option, Some, None, refl, sym, ◌∙◌, ap, subst, arith, inl, inr, ◌⊎◌, length-append}
+use Rattle.std.proofs.Common.{◌≡◌, ℕ, zero, suc, ◌+◌, ◌<◌, ◌≤◌, Bool, true, false, cond, ◌||◌, ◌&&◌, not, List, [], ◌∷◌, ◌++◌, length, map, take, Option, Some, None, refl, sym, ◌∙◌, ap, subst, arith, inl, inr, ◌⊎◌, length-append, append_assoc}
 use Rattle.std.specs.Prelude.{◌==◌, ◌≢◌, All, AllPairs, slice_index_or, is_some, unwrap_or}
 use Rattle.std.specs.List.{list_any, filter, range_with_len}
-use Rattle.std.proofs.lemmas.List.Elements.{All-head, All-tail, All-nil, All-append, All-filter, All-push, filter_passes}
-use Rattle.std.proofs.lemmas.List.FromFn.{fill_by_all}
+use Rattle.std.proofs.lemmas.List.{append-nil}
+use Rattle.std.proofs.lemmas.List.Elements.{All-head, All-tail, All-nil, All-append, All-filter, All-push, filter_passes, filter_more}
+use Rattle.std.proofs.lemmas.List.FromFn.{fill_by_all, length-range_with_len, get_or-range_with_len}
 use Rattle.std.proofs.lemmas.List.Kept.{AllPairs-cons, AllPairs-filter, AllPairs-from_increasing}
 use Rattle.std.proofs.lemmas.List.Sums.{list_all-from_AllPass, AllPass-from_list_all}
 use Rattle.std.proofs.lemmas.List.Folds.{list_any-append, list_any_at}
@@ -19,12 +20,10 @@ use Rattle.assign.specs.SetLemmas.{filter_agree_from}
 use Rattle.assign.proofs.Masks.{rises_lower, lacks}
 use Rattle.language.specs.declared.candidates.Candidate.{Candidate}
 use Rattle.language.specs.Language.{Language, IsLanguage, IsCandidate, variable_count, scope_of}
-use Rattle.language.specs.Search.{order_of, assignment_of}
+use Rattle.language.specs.Search.{IsOrder, order_of, assignment_of}
 use Rattle.language.proofs.Members.{any-filter, any_number}
 use Rattle.language.proofs.Beside.{scope_rises}
 use Rattle.language.proofs.Lists.{all_numbers, all_below}
-use Rattle.fd_solver.specs.Outcomes.{IsOrder}
-use Rattle.fd_solver.specs.Laws.{OrdersAreKnown}
 
 -- ---- scopes as rising lists
 
@@ -133,7 +132,7 @@ pairs_range : (a n : ℕ) → AllPairs Differ (range_with_len a n)
 pairs_range a zero = λ i j d low k. absurd (omega arith)
 pairs_range a (suc n) = AllPairs-cons Differ a (range_with_len (a + 1) n) (all_numbers (Differ a) (a + 1) n (λ v low high e. omega arith)) (pairs_range (a + 1) n)
 
-pub orders_are_known : OrdersAreKnown
+pub orders_are_known : (l : Language) (c : Candidate) → IsLanguage l → IsCandidate l c → IsOrder (variable_count l) (order_of l c)
 orders_are_known l c is candidate = record {
   size = length-order l c (is.scopes c.scope [] candidate.scope).known (rises_there l is c candidate);
   known = order_small l c (is.scopes c.scope [] candidate.scope).known;
@@ -176,3 +175,24 @@ order_has_each n order is v low = true_from_ne_false _ (λ missing.
     let few : length (order ++ v ∷ []) ≤ n = length-le_from_distinct_below (order ++ v ∷ []) n more
     (λ q h. below_where n (order ++ v ∷ []) q (All-push (λ w. w < n) order v is.known low) h) in
     omega (arith, few, is.size, length-append order (v ∷ [])))
+
+-- ---- how an order is written
+
+-- one that the scope has is passed over, and another one is put
+pub next_variable : (scope : List ℕ) (n v : ℕ) (passes : Bool) (xs ys : List ℕ) → v < n → passes ≡ not (has scope v) → ys ≡ cond passes (xs ++ v ∷ []) xs →
+    xs ≡ scope ++ filter (λ w. not (has scope w)) (take v (numbers n)) → ys ≡ scope ++ filter (λ w. not (has scope w)) (take (v + 1) (numbers n))
+next_variable scope n v passes xs ys low is put so_far =
+    put
+    ∙ tail passes xs
+    ∙ ap (λ zs. zs ++ cond passes (v ∷ []) []) so_far
+    ∙ append_assoc scope (filter outside (take v (numbers n))) (cond passes (v ∷ []) [])
+    ∙ ap (λ b. scope ++ (filter outside (take v (numbers n)) ++ cond b (v ∷ []) [])) is
+    ∙ ap (λ w. scope ++ (filter outside (take v (numbers n)) ++ cond (outside w) (w ∷ []) [])) (sym (get_or-range_with_len 0 n v 0 low ∙ (let e : 0 + v ≡ v = omega arith in e)))
+    ∙ ap (λ zs. scope ++ zs) (sym (filter_more outside (numbers n) v 0 (let long = length-range_with_len 0 n in omega arith)))
+  where
+    outside : ℕ → Bool
+    outside w = not (has scope w)
+
+    tail : (b : Bool) (zs : List ℕ) → cond b (zs ++ v ∷ []) zs ≡ zs ++ cond b (v ∷ []) []
+    tail true zs = refl
+    tail false zs = sym (append-nil zs)

@@ -10,7 +10,7 @@ use Rattle.std.proofs.lemmas.Bool.{cases_eq, eq-eqb, ne_eqb}
 use Rattle.assign.specs.Assignment.{value_beside, assigned, IsAssignment}
 use Rattle.language.proofs.Beside.{value_of_assigned, beside_none, beside_fits}
 use Rattle.language.proofs.Lists.{all_below}
-use Rattle.fd_solver.specs.Outcomes.{IsOrder}
+use Rattle.language.specs.Search.{IsOrder}
 
 -- ---- the value beside a variable, with one value more
 

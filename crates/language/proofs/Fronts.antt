@@ -1,0 +1,76 @@
+-- What an assignment with more values tells of a candidate.
+use Rattle.std.proofs.Common.{◌≡◌, ℕ, ◌<◌, ◌≤◌, Bool, true, false, cond, not, List, [], ◌∷◌, ◌++◌, Option, Some, None, refl, sym, ◌∙◌, ap, arith, inl, inr, ◌⊎◌}
+use Rattle.std.specs.Prelude.{◌==◌, is_some, unwrap_or}
+use Rattle.std.proofs.Math.ListN.{get_or-eq_default}
+use Rattle.std.proofs.lemmas.List.FromFn.{length-map-range_with_len}
+use Rattle.std.proofs.lemmas.Bool.{and_parts, and_from, both_ways, not-true, not_from_false, false_from_ne_true, cases_lt}
+use Rattle.assign.specs.Assignment.{Assignment, value_of, value_beside, assigned, covers, tuple_on}
+use Rattle.rel_table.specs.Relation.{holds}
+use Rattle.language.specs.declared.candidates.Candidate.{Candidate}
+use Rattle.language.specs.Language.{Language, variable_count, scope_of, relation_of, violates, accepts}
+use Rattle.language.specs.Search.{order_of, satisfies, is_plain}
+use Rattle.language.proofs.Accepts.{accepted_at, accepted_from}
+use Rattle.language.proofs.Beside.{value_of_assigned}
+use Rattle.language.proofs.Preorder.{PassesFronts}
+
+-- f has each value of e
+abbrev pub HasMore : Assignment → Assignment → Type 0
+HasMore e f = (v x : ℕ) → value_of e v ≡ Some x → value_of f v ≡ Some x
+
+beside_more : (vars p q : List ℕ) (v x : ℕ) → value_beside vars p v ≡ Some x → value_beside vars (p ++ q) v ≡ Some x
+beside_more [] p q v x h = h
+beside_more (w ∷ vars) [] q v x h = cc
+beside_more (w ∷ vars) (y ∷ p) q v x h = go (w == v) h (beside_more vars p q v x)
+  where
+    go : (b : Bool) → cond b (Some y) (value_beside vars p v) ≡ Some x → (value_beside vars p v ≡ Some x → value_beside vars (p ++ q) v ≡ Some x) → cond b (Some y) (value_beside vars (p ++ q) v) ≡ Some x
+    go true h rest = h
+    go false h rest = rest h
+
+value_above : (n : ℕ) (vars values : List ℕ) (v : ℕ) → n ≤ v → value_of (assigned n vars values) v ≡ None
+value_above n vars values v high = get_or-eq_default (assigned n vars values) None {n = v} (omega (arith, length-map-range_with_len (value_beside vars values) 0 n))
+
+pub assigned_more : (n : ℕ) (vars p q : List ℕ) → HasMore (assigned n vars p) (assigned n vars (p ++ q))
+assigned_more n vars p q v x h = go (cases_lt v n)
+  where
+    go : (v < n) ⊎ (n ≤ v) → value_of (assigned n vars (p ++ q)) v ≡ Some x
+    go (inl low) = value_of_assigned n vars (p ++ q) v low ∙ beside_more vars p q v x (sym (value_of_assigned n vars p v low) ∙ h)
+    go (inr high) = absurd (none_some (sym (value_above n vars p v high) ∙ h))
+      where
+        none_some : None ≡ Some x → ⊥
+        none_some e = cc
+
+known_one : (o : Option ℕ) → is_some o ≡ true → o ≡ Some (unwrap_or o 0)
+known_one None h = cc
+known_one (Some x) h = refl
+
+value_same : (e f : Assignment) (v : ℕ) → HasMore e f → is_some (value_of e v) ≡ true → value_of f v ≡ value_of e v
+value_same e f v more h = more v _ (known_one (value_of e v) h) ∙ sym (known_one (value_of e v) h)
+
+pub covers_more : (e f : Assignment) (scope : List ℕ) → HasMore e f → covers e scope ≡ true → (covers f scope ≡ true) × (tuple_on f scope ≡ tuple_on e scope)
+covers_more e f [] more h = (refl, refl)
+covers_more e f (v ∷ scope) more h =
+    let parts = and_parts (is_some (value_of e v)) (covers e scope) h in
+    let rest = covers_more e f scope more parts.1 in
+    let same = value_same e f v more parts.0 in
+    (and_from _ _ (ap is_some same ∙ parts.0) rest.0, λ i. unwrap_or (same i) 0 ∷ rest.1 i)
+
+pub violates_more : (l : Language) (c : Candidate) (e f : Assignment) → HasMore e f → violates l c e ≡ true → violates l c f ≡ true
+violates_more l c e f more h =
+    let parts = and_parts (covers e (scope_of l c)) _ h in
+    let both = covers_more e f (scope_of l c) more parts.0 in
+    and_from _ _ both.0 (ap (λ tuple. not (holds l.value_count (relation_of l c) tuple)) both.1 ∙ parts.1)
+
+pub satisfies_more : (l : Language) (c : Candidate) (e f : Assignment) → HasMore e f → satisfies l c e ≡ true → satisfies l c f ≡ true
+satisfies_more l c e f more h =
+    let parts = and_parts (covers e (scope_of l c)) _ h in
+    let both = covers_more e f (scope_of l c) more parts.0 in
+    and_from _ _ both.0 (ap (holds l.value_count (relation_of l c)) both.1 ∙ parts.1)
+
+-- each front of a plain prefix is plain
+pub plain_fronts : (l : Language) (network : List Candidate) (c : Candidate) → PassesFronts l.value_count (is_plain l network c)
+plain_fronts l network c = λ p q small h.
+    let more = assigned_more (variable_count l) (order_of l c) p q in
+    let parts = and_parts (accepts l network (assigned (variable_count l) (order_of l c) (p ++ q))) _ h in
+    and_from _ _
+    (accepted_from l network (assigned (variable_count l) (order_of l c) p) (λ k d low bad. both_ways _ (accepted_at l network _ parts.0 k d low) (violates_more l _ _ _ more bad)))
+    (not_from_false _ (false_from_ne_true _ (λ bad. both_ways _ (not-true _ parts.1) (satisfies_more l c _ _ more bad))))
