@@ -94,6 +94,7 @@ impl Source for MemSource {
         ensures count { IfOk result (λ n. n ≤ length buf.new) }
         ensures bytes { IfOk result (λ n. self.old.bytes ≡ take n buf.new ++ self.new.bytes) }
         ensures err { OnErr result (self.new.bytes ≡ self.old.bytes) }
+        ensures unread { OnErr result (buf.new ≡ buf.old) }
 
         ensures calls { self.new.calls ≡ raised self.old.calls }
         ensures fails { self.new.fails ≡ self.old.fails }

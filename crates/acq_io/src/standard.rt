@@ -1,4 +1,5 @@
-ghost use Rattle.std.specs.Prelude.{◌≡◌, ◌≤◌, length, IfOk};
+ghost use Rattle.std.specs.Prelude.{◌≡◌, ◌≢◌, ◌<◌, ◌≤◌, length, Err, IfOk, OnOk, OnErr};
+ghost use Rattle.acq_io.specs.Streams.{raised};
 
 use crate::streams::{Failed, Put, Sink, Source};
 use std::io::{ErrorKind, Read, Write};
@@ -35,7 +36,14 @@ impl<R: Read> Source for StdSource<R> {
 
     ghost faults = { λ s. s };
 
-    fn read(&mut self, buf: &mut [u8]) -> Result<usize, Failed> {
+    /// The count rises at each failure, and at nothing else.
+    fn read(&mut self, buf: &mut [u8]) -> Result<usize, Failed>
+        requires { 0 < length buf.old }
+        ensures count { IfOk result (λ n. n ≤ length buf.new) }
+        ensures raised { OnErr result (self.new ≡ raised self.old) }
+        ensures kept { OnOk result (self.new ≡ self.old) }
+        ensures later { self.old ≤ self.new }
+    {
         match read_uninterrupted(&mut self.inner, buf) {
             Ok(count) => Ok(count),
             Err(Failed) => {
@@ -90,7 +98,13 @@ impl<W: Write> Sink for StdSink<W> {
 
     ghost faults = { λ s. s };
 
-    fn write(&mut self, piece: &[u8]) -> Result<(), Put> {
+    /// The count rises at each failure, and at nothing else. It takes no memory of its own.
+    fn write(&mut self, piece: &[u8]) -> Result<(), Put>
+        ensures no_memory { result ≢ Err Put.Memory }
+        ensures raised { OnErr result (self.new ≡ raised self.old) }
+        ensures kept { OnOk result (self.new ≡ self.old) }
+        ensures later { self.old ≤ self.new }
+    {
         if self.inner.write_all(piece).is_err() {
             self.faults = self.faults.saturating_add(1);
             return Err(Put::Failed);

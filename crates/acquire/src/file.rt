@@ -24,7 +24,9 @@ pub struct FileDisk<'a, R: Files<File = File>> {
 }
 
 impl<'a, R: Files<File = File>> FileDisk<'a, R> {
-    pub fn new(rt: &'a R, name: &'a str) -> Self {
+    pub fn new(rt: &'a R, name: &'a str) -> Self
+        ensures no_faults { ⟦<FileDisk<'a, R> as Disk>⟧.faults result ≡ 0 }
+    {
         FileDisk {
             rt,
             name,

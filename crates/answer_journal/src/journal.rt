@@ -97,6 +97,8 @@ impl Journal {
         ensures full_keeps { IsErrOf result JFault.Full → (self.new ≡ self.old) × (disk.new ≡ disk.old) }
         ensures failed { IsErrOf result JFault.DiskFault → Rose (D.faults disk.old) (D.faults disk.new) × IsFalse self.new.live }
         ensures later { D.faults disk.old ≤ D.faults disk.new }
+        // where the disk failed, it stands where it stood
+        ensures stays { IsErrOf result JFault.DiskFault → (self.new.at ≡ self.old.at) × (self.new.records ≡ self.old.records) }
 
         // It makes four calls to the disk, and no more where it fails.
         ensures calls { OnOk result (AreCalls 4 (D.calls disk.old) (D.calls disk.new)) }

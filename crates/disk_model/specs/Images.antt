@@ -5,7 +5,7 @@ use Rattle.std.proofs.lemmas.Bool.{and_parts, and_from}
 use Rattle.disk_model.specs.declared.tape.Mark.{Mark}
 use Rattle.disk_model.specs.declared.tape.Mark.TheVariants.{Write, Sync}
 use Rattle.disk_model.specs.Disk.{Torn, Elapses}
-use Rattle.disk_model.specs.Record.{Step, Wrote, Synced, put, content_after, IsImage, are_within, steps_of, bytes_in, Leaves, LeftSince}
+use Rattle.disk_model.specs.Record.{Step, Wrote, Synced, put, content_after, CutShort, IsCut, IsImage, are_within, steps_of, bytes_in, Leaves, LeftSince}
 
 pub steps_of-write : (marks : List Mark) (written : List ℕ) (at n : ℕ) (bytes : List ℕ) → bytes_in marks ≡ length written → n ≡ length bytes → steps_of (marks ++ Write at n ∷ []) (written ++ bytes) ≡ steps_of marks written ++ Wrote at bytes ∷ []
 steps_of-write [] [] at n bytes all size = ap (λ (b : List ℕ). Wrote at b ∷ []) (take_all n bytes (omega arith))
@@ -90,6 +90,17 @@ pub image-sync : (P : List ℕ → Type 0) (now : List ℕ) (steps : List Step) 
 image-sync P now [] c left = left
 image-sync P now (Wrote a b ∷ steps) c left = image-sync (λ d. (e : List ℕ) × P e × Torn a (length b) e d) (put now a b) steps c left
 image-sync P now (Synced ∷ steps) c left = image-sync (λ d. d ≡ now) now steps c left
+
+-- the same of writes that are cut short
+pub cut-write : (P : List ℕ → Type 0) (now : List ℕ) (steps : List Step) (at : ℕ) (bytes c : List ℕ) → IsCut P now (steps ++ Wrote at bytes ∷ []) c → (d : List ℕ) × IsCut P now steps d × CutShort at bytes d c
+cut-write P now [] at bytes c left = left
+cut-write P now (Wrote a b ∷ steps) at bytes c left = cut-write (λ d. (e : List ℕ) × P e × CutShort a b e d) (put now a b) steps at bytes c left
+cut-write P now (Synced ∷ steps) at bytes c left = cut-write (λ d. d ≡ now) now steps at bytes c left
+
+pub cut-sync : (P : List ℕ → Type 0) (now : List ℕ) (steps : List Step) (c : List ℕ) → IsCut P now (steps ++ Synced ∷ []) c → c ≡ content_after now steps
+cut-sync P now [] c left = left
+cut-sync P now (Wrote a b ∷ steps) c left = cut-sync (λ d. (e : List ℕ) × P e × CutShort a b e d) (put now a b) steps c left
+cut-sync P now (Synced ∷ steps) c left = cut-sync (λ d. d ≡ now) now steps c left
 
 -- the same the other way round
 pub image-torn : (P : List ℕ → Type 0) (now : List ℕ) (steps : List Step) (at : ℕ) (bytes d c : List ℕ) → IsImage P now steps d → Torn at (length bytes) d c → IsImage P now (steps ++ Wrote at bytes ∷ []) c

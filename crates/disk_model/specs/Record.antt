@@ -47,6 +47,22 @@ bytes_in (Sync ∷ marks) = bytes_in marks
 abbrev pub Leaves : List ℕ → List Step → List ℕ → Type 0
 Leaves start steps = IsImage (λ c. c ≡ start) start steps
 
+-- a write that was made up to some of its bytes, from the front on
+pub record CutShort (at : ℕ) (bytes old new : List ℕ) : Type 0 where
+  pub begins : at ≤ length old
+  pub count : ℕ
+  pub is : new ≡ put old at (take count bytes)
+
+-- what is left where each write since the last sync was cut short, or none was, and what has P was there before
+abbrev pub IsCut : (List ℕ → Type 0) → List ℕ → List Step → List ℕ → Type 0
+IsCut P now [] c = P c
+IsCut P now (Wrote at bytes ∷ steps) c = IsCut (λ d. (e : List ℕ) × P e × CutShort at bytes e d) (put now at bytes) steps c
+IsCut P now (Synced ∷ steps) c = IsCut (λ d. d ≡ now) now steps c
+
+-- what is left after the steps, where a crash cut writes short
+abbrev pub LeavesCut : List ℕ → List Step → List ℕ → Type 0
+LeavesCut start steps = IsCut (λ c. c ≡ start) start steps
+
 -- what a crash might have left after the step with this number, or a later one
 abbrev pub LeftSince : List ℕ → List Step → ℕ → List ℕ → Type 0
 LeftSince start steps t c = (k : ℕ) × (t ≤ k) × (k ≤ length steps) × Leaves start (take k steps) c

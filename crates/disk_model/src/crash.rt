@@ -1,9 +1,9 @@
 //! For tests: contents that a crash may leave of a file in memory, listed from its record.
 
-ghost use Rattle.std.specs.Prelude.{◌≡◌, ◌≤◌, ◌<◌, ◌+◌, ◌-◌, ◌^◌, [], ◌∷◌, ◌++◌, List, ℕ, IfOk, OnOk, All, length, take, drop, replicate};
+ghost use Rattle.std.specs.Prelude.{◌≡◌, ◌≤◌, ◌<◌, ◌+◌, ◌-◌, ◌^◌, [], ◌∷◌, ◌++◌, List, ℕ, IfOk, OnOk, All, Contains, length, take, drop, replicate};
 ghost use Rattle.disk_model.specs.Disk.{Torn};
 ghost use Rattle.disk_model.specs.Record.{Step, put};
-ghost use Rattle.disk_model.specs.Crash.{AreImages, AreTorn, IsTornOf, IsReplay, size_of, step_of};
+ghost use Rattle.disk_model.specs.Crash.{AreImages, AreTorn, HaveCuts, HaveCutsOf, HaveAllCuts, IsTornOf, IsReplay, contents, size_of, step_of};
 
 use crate::tape::{Mark, Tape};
 use std::alloc::{AllocError, Global};
@@ -28,7 +28,8 @@ impl Tape {
         garbage: u8,
     ) -> Result<Vec<Vec<u8>>, AllocError>
         requires { moment ≤ length self.now.marks.items }
-        ensures { IfOk result (λ images. AreImages self.now.start.items (take moment (tape_steps self.now)) images.items) }
+        ensures each { IfOk result (λ images. AreImages self.now.start.items (take moment (tape_steps self.now)) images.items) }
+        ensures cuts { IfOk result (λ images. HaveCuts self.now.start.items (take moment (tape_steps self.now)) images.items) }
     {
         let mut replay = Replay {
             now: Vec::from_slice(alloc, &self.start)?,
@@ -83,7 +84,8 @@ impl Replay {
 }
 
 fn one_image(alloc: Global, bytes: &[u8]) -> Result<Vec<Vec<u8>>, AllocError>
-    ensures { IfOk result (λ images. All (λ image. image.items ≡ bytes.now) images.items) }
+    ensures only { IfOk result (λ images. All (λ image. image.items ≡ bytes.now) images.items) }
+    ensures listed { IfOk result (λ images. Contains (contents images.items) bytes.now) }
 {
     let mut images = Vec::new(alloc);
     images.push(Vec::from_slice(alloc, bytes)?)?;
@@ -99,7 +101,8 @@ fn torn_images(
     garbage: u8,
 ) -> Result<Vec<Vec<u8>>, AllocError>
     requires { at < 2 ^ 32 }
-    ensures { IfOk result (λ torn. All (IsTornOf at (length bytes.now) images.now) torn.items) }
+    ensures each { IfOk result (λ torn. All (IsTornOf at (length bytes.now) images.now) torn.items) }
+    ensures cuts { IfOk result (λ torn. HaveAllCuts at bytes.now images.now torn.items) }
 {
     let mut torn = Vec::new(alloc);
     for image in images {
@@ -119,7 +122,8 @@ fn torn_image(
     garbage: u8,
 ) -> Result<Vec<Vec<u8>>, AllocError>
     requires { at < 2 ^ 32 }
-    ensures { IfOk result (λ torn. AreTorn at (length bytes.now) image.now torn.items) }
+    ensures each { IfOk result (λ torn. AreTorn at (length bytes.now) image.now torn.items) }
+    ensures cuts { IfOk result (λ torn. HaveCutsOf at bytes.now image.now torn.items) }
 {
     if at > image.len() {
         return one_image(alloc, image);
@@ -156,7 +160,8 @@ fn part_copy(
     requires small { at < 2 ^ 32 }
     requires within { at ≤ length image.now }
     requires part { length part.now ≤ size }
-    ensures { IfOk result (λ copy. Torn at size image.now copy.items) }
+    ensures torn { IfOk result (λ copy. Torn at size image.now copy.items) }
+    ensures is { IfOk result (λ copy. copy.items ≡ put image.now at part.now) }
 {
     put_copy(alloc, image, at, part)
 }

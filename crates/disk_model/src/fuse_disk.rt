@@ -18,11 +18,14 @@ pub struct FuseDisk {
 }
 
 impl FuseDisk {
-    ghost use Rattle.disk_model.specs.FuseDisk.{inner_of, passes_of, IsBurnt};
+    ghost use Rattle.disk_model.specs.FuseDisk.{inner_of, passes_of, calls_of, faults_of, IsBurnt};
+    ghost use Rattle.disk_model.specs.MemDisk.{calls_of as mem_calls, faults_of as mem_faults};
 
     pub fn new(inner: MemDisk, passes: u32) -> FuseDisk
         ensures inner { inner_of result ≡ inner }
         ensures passes { passes_of result ≡ passes }
+        // its counts are those of the disk within
+        ensures unblown { (calls_of result ≡ mem_calls inner) × (faults_of result ≡ mem_faults inner) }
     {
         FuseDisk {
             inner,

@@ -4,7 +4,7 @@ ghost use Rattle.std.specs.Prelude.{◌≡◌, ◌≤◌, ◌<◌, ◌+◌, ◌-
 ghost use Rattle.std.specs.Option.{ForSome, ForNone};
 ghost use Rattle.disk_model.specs.Disk.{Torn, IsWritten, Follows, Only, AddsNothing, Elapses, AreCalls, HasCause};
 ghost use Rattle.disk_model.specs.Record.{Wrote, Synced};
-ghost use Rattle.disk_model.specs.Crash.{AreImages};
+ghost use Rattle.disk_model.specs.Crash.{AreImages, HaveCuts};
 
 use crate::tape::Tape;
 use crate::{Disk, Failed, Memory};
@@ -81,7 +81,9 @@ impl MemDisk {
         garbage: u8,
     ) -> Result<Vec<Vec<u8>>, Memory>
         requires { moment ≤ moment_of self.now }
-        ensures { IfOk result (λ images. AreImages (start_of self.now) (take moment (steps_in self.now)) images.items) }
+        ensures each { IfOk result (λ images. AreImages (start_of self.now) (take moment (steps_in self.now)) images.items) }
+        // each write since the last sync may have been cut short anywhere
+        ensures cuts { IfOk result (λ images. HaveCuts (start_of self.now) (take moment (steps_in self.now)) images.items) }
     {
         Ok(self.tape.images_at(alloc, moment, garbage)?)
     }

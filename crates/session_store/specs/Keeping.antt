@@ -44,6 +44,8 @@ module _ {D : Type 0} (content : D → Option (List ℕ)) (may_leave : D → Lis
       pub belongs : sits new disk_new
       pub later : faults disk_old ≤ faults disk_new
       pub is_live : (has_failed → ⊥) → IsTrue (live new)
+      -- then it takes no more events
+      pub not_live : has_failed → IsFalse (live new)
       -- a disk that tells goes on telling
       pub told : ForSome (content disk_old) (λ _. IsSome (content disk_new))
       pub cause : has_failed → IsTrue (writes old) × Rose (faults disk_old) (faults disk_new)
@@ -186,6 +188,7 @@ module _ {D : Type 0} (content : D → Option (List ℕ)) (may_leave : D → Lis
       belongs = belongs;
       later = omega arith;
       is_live = λ no. same_live ∙ is_live;
+      not_live = λ failed. absurd (well failed);
       told = λ bytes is. ap is_some is;
       cause = λ failed. absurd (well failed);
       grown = grown_none (record_of old) (record_of new) same_record;
@@ -208,6 +211,7 @@ module _ {D : Type 0} (content : D → Option (List ℕ)) (may_leave : D → Lis
       belongs = second.belongs;
       later = omega (arith, first.later, second.later);
       is_live = second.is_live;
+      not_live = second.not_live;
       told = λ bytes is. let mid = bytes_told (content y) (first.told bytes is) in second.told mid.0 mid.1;
       cause = λ failed. (sym first.same_writes ∙ (second.cause failed).0, rose_later (faults x) (faults y) (faults z) first.later (second.cause failed).1);
       grown = grown_then (record_of one) (record_of two) (record_of three) first.grown second.grown;
@@ -235,6 +239,7 @@ module _ {D : Type 0} (content : D → Option (List ℕ)) (may_leave : D → Lis
       belongs = keeps.belongs;
       later = keeps.later;
       is_live = λ no. keeps.is_live (λ b. no (fro b));
+      not_live = λ failed. keeps.not_live (to failed);
       told = keeps.told;
       cause = λ failed. keeps.cause (to failed);
       grown = keeps.grown;

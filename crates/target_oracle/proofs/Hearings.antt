@@ -215,3 +215,13 @@ cut_line before line text more old now adds told same =
 
 pub no_line : (text before : List ℕ) (old now : Option (List ℕ)) → now ≡ old → old ≡ Some before → Front text before now
 no_line text before old now same told = front_none text before now (same ∙ told)
+
+-- ---- no bytes
+
+at_end : (spoken []).says ≡ Some Ended
+unfolding line_of
+at_end = refl
+
+-- where none are left nothing is said of lines
+pub silent : (patience : ℕ) → (hear patience []).text ≡ []
+silent patience = ap (λ (t : Turned). t.text) (hear_reply patience [] Ended at_end)

@@ -129,8 +129,6 @@ impl<S: Source, K: Sink> Teacher<S, K> for LineTeacher {
 
     ghost turn = { λ _. line_turn };
 
-    ghost asks = { λ l k q. question_text l k q ++ 10 ∷ [] };
-
     ghost may_say = { λ _ _ _ _. Unit {0} };
 
     fn told(

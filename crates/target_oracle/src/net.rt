@@ -4,6 +4,7 @@ ghost use Rattle.language.specs.Language.{IsQuestion, accepts};
 ghost use Rattle.language.specs.Answers.{IsNetwork};
 ghost use Rattle.language.specs.Texts.{question_text};
 ghost use Rattle.target_oracle.specs.Hearing.{CutsOff};
+ghost use Rattle.target_oracle.specs.Tells.{Tells};
 ghost use Rattle.target_oracle.specs.NetTurns.{answered_text, net_turn, net_may_say, told_of_answer};
 
 use crate::teacher::{Teacher, Told};
@@ -96,20 +97,28 @@ impl<S: Source, K: Sink> Teacher<S, K> for NetTeacher {
 
     ghost turn = { λ owner. net_turn owner.network owner.quiet };
 
-    // nothing is read
-    ghost asks = { λ _ _ _. [] };
-
     ghost may_say = { λ owner. net_may_say owner.network };
 
     fn told(
         &mut self,
         alloc: Global,
-        _source: &mut S,
+        source: &mut S,
         sink: &mut K,
         lang: &Language,
         k: u32,
         q: &Partial,
-    ) -> Told {
+    ) -> Told
+        requires question { IsQuestion lang.now q.now }
+        requires fits { IsNetwork lang.now self.old.network }
+        // nothing is read, whatever comes of it
+        ensures unread { source.new ≡ source.old }
+        ensures same { self.new ≡ self.old }
+        ensures tells { (bytes before : List ℕ) → S.left source.old ≡ Some bytes → K.written sink.old ≡ Some before
+            → Tells (net_turn self.old.network self.old.quiet lang.now k q.now bytes) before (S.left source.new) (K.written sink.new) result }
+        ensures says { net_may_say self.old.network lang.now q.now result }
+        ensures later_sink { K.faults sink.old ≤ K.faults sink.new }
+        ensures write { result ≡ Told.WriteFault → Rose (K.faults sink.old) (K.faults sink.new) }
+    {
         let yes = self.network.accepts(lang, q);
         if self.quiet {
             return said(yes);

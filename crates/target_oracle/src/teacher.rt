@@ -1,4 +1,4 @@
-ghost use Rattle.std.specs.Prelude.{◌≡◌, ℕ, ◌≤◌, List, Option, Some};
+ghost use Rattle.std.specs.Prelude.{◌≡◌, ℕ, ◌≤◌, List, [], Option, Some};
 ghost use Rattle.acq_io.specs.Streams.{Rose};
 ghost use Rattle.assign.specs.Assignment.{Assignment};
 ghost use Rattle.language.specs.Language.{Language, IsQuestion};
@@ -39,9 +39,6 @@ pub trait Teacher<S: Source, K: Sink> {
     /// What a turn writes and hears.
     ghost turn: { Self → Turns };
 
-    /// What is written for a question before anything is read.
-    ghost asks: { Language → ℕ → Assignment → List ℕ };
-
     /// What the teacher may say to a question, whether or not source and sink tell their bytes.
     ghost may_say: { Self → Language → Assignment → Told → Type 0 };
 
@@ -59,7 +56,8 @@ pub trait Teacher<S: Source, K: Sink> {
         requires fits { fits self.old lang.now }
         ensures tells { (bytes before : List ℕ) → S.left source.old ≡ Some bytes → K.written sink.old ≡ Some before
             → Tells (turn self.old lang.now k q.now bytes) before (S.left source.new) (K.written sink.new) result }
-        ensures asks { AsksFirst (S.left source.old) (K.written sink.old) (S.left source.new) (K.written sink.new) (asks lang.now k q.now) }
+        // what a turn writes where no bytes are left stands written before any are taken
+        ensures asks { AsksFirst (S.left source.old) (K.written sink.old) (S.left source.new) (K.written sink.new) (turn self.old lang.now k q.now []).text }
         ensures same { turn self.new ≡ turn self.old }
         ensures fits { (l : Language) → fits self.old l → fits self.new l }
         ensures says { may_say self.old lang.now q.now result }

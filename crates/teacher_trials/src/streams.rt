@@ -27,9 +27,9 @@ fn lines(rt: HostRuntime) -> Result<(), Fail> {
     for (count, end, got, len, left) in rows {
         let mut source = source_of(rt.alloc(), count, end)?;
         let mut line = Line::empty();
-        assert_eq!(rt; read_line(&mut source, &mut line), got);
-        assert_eq!(rt; line.bytes().len(), len);
-        assert_eq!(rt; source.left().len(), left);
+        let found = read_line(&mut source, &mut line);
+        let sizes = (line.bytes().len(), source.left().len());
+        assert_eq!(rt; (found, sizes), (got, (len, left)));
     }
     Ok(())
 }
@@ -42,17 +42,21 @@ fn failing(alloc: Global, call: u32) -> Result<MemSource, AllocError> {
 /// The first three calls read the line, and the next one the byte that follows it.
 #[test]
 fn each_read_fails_in_turn(rt: HostRuntime) -> Result<(), Fail> {
-    for call in 0..3 {
+    for (call, got, left) in [
+        (0, LineGot::Fault, 7),
+        (1, LineGot::Fault, 6),
+        (2, LineGot::Fault, 5),
+        (3, LineGot::Line, 4),
+    ] {
         let mut source = failing(rt.alloc(), call)?;
         let mut line = Line::empty();
-        assert_eq!(rt; read_line(&mut source, &mut line), LineGot::Fault);
-        assert_eq!(rt; source.left().len(), 7 - call as usize);
+        let found = read_line(&mut source, &mut line);
+        assert_eq!(rt; (found, source.left().len()), (got, left));
+        let next = (read_byte(&mut source), read_byte(&mut source));
+        if got == LineGot::Line {
+            assert_eq!(rt; next, (Err(Failed), Ok(Some(b'y'))));
+        }
     }
-    let mut source = failing(rt.alloc(), 3)?;
-    let mut line = Line::empty();
-    assert_eq!(rt; read_line(&mut source, &mut line), LineGot::Line);
-    assert_eq!(rt; read_byte(&mut source), Err(Failed));
-    assert_eq!(rt; read_byte(&mut source), Ok(Some(b'y')));
     Ok(())
 }
 
@@ -64,25 +68,27 @@ fn length(got: Result<Vec<u8>, AllFault>) -> Result<usize, AllFault> {
 /// Of a source that has seven bytes, three of them in its first line.
 #[test]
 fn whole_readings(rt: HostRuntime) -> Result<(), Fail> {
-    for (most, all, line) in [
-        (7, Ok(7), Ok(2)),
-        (6, Err(AllFault::TooLong), Ok(2)),
-        (1, Err(AllFault::TooLong), Err(AllFault::TooLong)),
+    for (call, most, all, line) in [
+        (9, 7, Ok(7), Ok(2)),
+        (9, 6, Err(AllFault::TooLong), Ok(2)),
+        (9, 1, Err(AllFault::TooLong), Err(AllFault::TooLong)),
+        (0, 7, Err(AllFault::Fault), Err(AllFault::Fault)),
     ] {
-        let mut source = failing(rt.alloc(), 9)?;
-        assert_eq!(rt; length(read_all(rt.alloc(), &mut source, most)), all);
-        let mut source = failing(rt.alloc(), 9)?;
-        assert_eq!(rt;
-            length(read_first_line(rt.alloc(), &mut source, most)),
-            line
+        let mut one = failing(rt.alloc(), call)?;
+        let mut other = failing(rt.alloc(), call)?;
+        let found = (
+            length(read_all(rt.alloc(), &mut one, most)),
+            length(read_first_line(rt.alloc(), &mut other, most)),
         );
+        assert_eq!(rt; found, (all, line));
     }
+    // what a failed reading left is read by the next
     let mut source = failing(rt.alloc(), 0)?;
-    assert_eq!(rt;
+    let found = (
         length(read_all(rt.alloc(), &mut source, 7)),
-        Err(AllFault::Fault)
+        length(read_all(rt.alloc(), &mut source, 7)),
     );
-    assert_eq!(rt; length(read_all(rt.alloc(), &mut source, 7)), Ok(7));
+    assert_eq!(rt; found, (Err(AllFault::Fault), Ok(7)));
     Ok(())
 }
 
@@ -92,19 +98,18 @@ fn sinks_in_memory(rt: HostRuntime) -> Result<(), Fail> {
     let mut plain = PlainSink::new(rt.alloc());
     let mut failing = MemSink::new(rt.alloc(), vec![in rt.alloc(); 1]?);
     for want in [Ok(()), Err(Put::Failed), Ok(())] {
-        assert_eq!(rt; plain.write(b"q1"), Ok(()));
-        assert_eq!(rt; failing.write(b"q1"), want);
+        let found = (plain.write(b"q1"), failing.write(b"q1"));
+        assert_eq!(rt; found, (Ok(()), want));
     }
-    assert_eq!(rt; plain.bytes().len(), 6);
-    assert_eq!(rt; failing.bytes().len(), 4);
+    assert_eq!(rt; (plain.bytes().len(), failing.bytes().len()), (6, 4));
     Ok(())
 }
 
 #[test]
 fn a_reader_of_std(rt: HostRuntime) {
     let mut source = StdSource::new(b"y".as_slice());
-    assert_eq!(rt; read_byte(&mut source), Ok(Some(b'y')));
-    assert_eq!(rt; read_byte(&mut source), Ok(None));
+    let found = (read_byte(&mut source), read_byte(&mut source));
+    assert_eq!(rt; found, (Ok(Some(b'y')), Ok(None)));
 }
 
 /// A reader that is interrupted, and then fails; a writer whose second flush fails, and that takes a byte at a time.
@@ -153,15 +158,15 @@ fn make_faulty(alloc: Global) -> Faulty {
 #[test]
 fn a_faulty_reader(rt: HostRuntime) {
     let mut source = StdSource::new(make_faulty(rt.alloc()));
-    assert_eq!(rt; read_byte(&mut source), Err(Failed));
-    assert_eq!(rt; read_byte(&mut source), Ok(None));
+    let found = (read_byte(&mut source), read_byte(&mut source));
+    assert_eq!(rt; found, (Err(Failed), Ok(None)));
 }
 
 #[test]
 fn a_faulty_writer(rt: HostRuntime) {
     let mut writer = make_faulty(rt.alloc());
     let mut sink = StdSink::new(&mut writer);
-    assert_eq!(rt; sink.write(b"q1\n"), Ok(()));
-    assert_eq!(rt; sink.write(b"q2\n"), Err(Put::Failed));
+    let found = (sink.write(b"q1\n"), sink.write(b"q2\n"));
+    assert_eq!(rt; found, (Ok(()), Err(Put::Failed)));
     assert_eq!(rt; writer.bytes.as_slice(), b"q1\nq2\n".as_slice());
 }

@@ -5,7 +5,7 @@ ghost use Rattle.language.specs.Language.{Given, AreNames};
 ghost use Rattle.language.specs.Inside.{given_by};
 ghost use Rattle.language.specs.Building.{IsOver};
 
-use acq_io::{MemSink, MemSource, Sink, Source};
+use acq_io::{MemSink, MemSource};
 use assign::Partial;
 use language::{Candidate, Frame, Language, RelPart, ScopePart};
 use network::read_network;
@@ -49,14 +49,19 @@ fn pairs(alloc: Global) -> Result<Language, Fail> {
     Ok(Language::build(alloc, frame, relations(alloc)?, ScopePart::All)?)
 }
 
-/// Puts the third question, where both variables are 1.
-fn turn<S: Source, K: Sink, T: Teacher<S, K>>(
+/// What becomes of a turn: what is told, what is written, and what is left.
+type Turn<'a> = (Told, &'a str, &'a str);
+
+/// Puts the third question, where both variables are 1, over these bytes, where one call of the source and one of the sink
+/// fail. Says whether this became of it.
+fn is_turn<T: Teacher<MemSource, MemSink>>(
     alloc: Global,
     lang: &Language,
     teacher: &mut T,
-    source: &mut S,
-    sink: &mut K,
-) -> Result<Told, Fail>
+    input: Vec<u8>,
+    fails: (u32, u32),
+    wanted: Turn<'_>,
+) -> Result<bool, Fail>
     requires { T.fits teacher.old lang.now }
 {
     if lang.n() != 2 || lang.d() != 2 {
@@ -65,7 +70,14 @@ fn turn<S: Source, K: Sink, T: Teacher<S, K>>(
     let mut question = Partial::blank(2);
     question.set(0, 0);
     question.set(1, 0);
-    Ok(teacher.told(alloc, source, sink, lang, 3, &question))
+    let mut source = MemSource::new(input, vec![in alloc; fails.0]?);
+    let mut sink = MemSink::new(alloc, vec![in alloc; fails.1]?);
+    let told = teacher.told(alloc, &mut source, &mut sink, lang, 3, &question);
+    Ok(
+        told == wanted.0
+            && sink.bytes() == wanted.1.as_bytes()
+            && source.left() == wanted.2.as_bytes(),
+    )
 }
 
 /// A text that is repeated so many times, between two others.
@@ -122,23 +134,19 @@ fn what_lines_say(rt: HostRuntime) -> Result<(), Fail> {
     let alloc = rt.alloc();
     let lang = pairs(alloc)?;
     for (head, piece, count, end, told, complaints, left) in &TURNS {
-        let input = repeated(alloc, head, piece, *count, end)?;
-        let wanted = repeated(alloc, QUESTION, COMPLAINT, *complaints, "")?;
-        let mut source = MemSource::new(input.into_bytes(), Vec::new(alloc));
-        let mut sink = MemSink::new(alloc, Vec::new(alloc));
-        assert_eq!(rt;
-            turn(
-                alloc,
-                &lang,
-                &mut LineTeacher::new(),
-                &mut source,
-                &mut sink
-            )?,
-            *told,
-            "{head} {piece} {count} {end}"
-        );
-        assert_eq!(rt; sink.bytes(), wanted.as_bytes());
-        assert_eq!(rt; source.left(), left.as_bytes());
+        let input = repeated(alloc, head, piece, *count, end)?.into_bytes();
+        let text = repeated(alloc, QUESTION, COMPLAINT, *complaints, "")?;
+        let wanted = (*told, text.as_str(), *left);
+        let mut teacher = LineTeacher::new();
+        let holds = is_turn(
+            alloc,
+            &lang,
+            &mut teacher,
+            input,
+            (u32::MAX, u32::MAX),
+            wanted,
+        )?;
+        assert!(rt; holds, "{head} {piece} {count} {end}");
     }
     Ok(())
 }
@@ -162,22 +170,12 @@ static FAULTS: [(u32, u32, Told, &str, &str); 10] = [
 fn each_call_fails_in_turn(rt: HostRuntime) -> Result<(), Fail> {
     let alloc = rt.alloc();
     let lang = pairs(alloc)?;
-    for (read, write, told, wanted, left) in &FAULTS {
-        let mut source = MemSource::new(b"x\nyes\n".to_vec(alloc)?, vec![in alloc; *read]?);
-        let mut sink = MemSink::new(alloc, vec![in alloc; *write]?);
-        assert_eq!(rt;
-            turn(
-                alloc,
-                &lang,
-                &mut LineTeacher::new(),
-                &mut source,
-                &mut sink
-            )?,
-            *told,
-            "{read} {write}"
-        );
-        assert_eq!(rt; sink.bytes(), wanted.as_bytes());
-        assert_eq!(rt; source.left(), left.as_bytes());
+    for (read, write, told, text, left) in &FAULTS {
+        let input = b"x\nyes\n".to_vec(alloc)?;
+        let wanted = (*told, *text, *left);
+        let mut teacher = LineTeacher::new();
+        let holds = is_turn(alloc, &lang, &mut teacher, input, (*read, *write), wanted)?;
+        assert!(rt; holds, "{read} {write}");
     }
     Ok(())
 }
@@ -201,16 +199,17 @@ fn what_networks_say(rt: HostRuntime) -> Result<(), Fail> {
         let Ok(network) = read_network(alloc, &lang, text.as_bytes()) else {
             return Err(Fail::from("no network"));
         };
+        let input = b"no\n".to_vec(alloc)?;
         let mut teacher = NetTeacher::new(network, *quiet);
-        let mut source = MemSource::new(b"no\n".to_vec(alloc)?, vec![in alloc; 0]?);
-        let mut sink = MemSink::new(alloc, vec![in alloc; *fails]?);
-        assert_eq!(rt;
-            turn(alloc, &lang, &mut teacher, &mut source, &mut sink)?,
-            *told,
-            "{text}"
-        );
-        assert_eq!(rt; sink.bytes(), wanted.as_bytes(), "{text}");
-        assert_eq!(rt; source.left(), b"no\n".as_slice());
+        let holds = is_turn(
+            alloc,
+            &lang,
+            &mut teacher,
+            input,
+            (0, *fails),
+            (*told, *wanted, "no\n"),
+        )?;
+        assert!(rt; holds, "{text} {quiet} {fails}");
     }
     Ok(())
 }
@@ -260,30 +259,19 @@ fn plain_target(alloc: Global, number: u32) -> Result<Vec<Candidate>, AllocError
     Ok(target)
 }
 
+/// The first numbers, and the last one.
 #[test]
 fn numbers_make_what_a_plain_loop_makes(rt: HostRuntime) -> Result<(), Fail> {
     let alloc = rt.alloc();
-    for number in 0..60u32 {
+    for place in 0..61u32 {
+        let number = if place == 60 { u32::MAX } else { place };
         let Ok((lang, net)) = generate(alloc, number) else {
             return Err(Fail::from("no memory"));
         };
-        assert_eq!(rt; lang.n(), 10);
-        assert_eq!(rt; lang.d(), 3);
-        assert_eq!(rt; lang.scopes(), 45);
-        assert_eq!(rt; lang.candidates(), 315);
+        let counts = (lang.n(), lang.d(), lang.scopes(), lang.candidates());
         let plain = plain_target(alloc, number)?;
+        assert_eq!(rt; counts, (10, 3, 45, 315));
         assert_eq!(rt; net.list(), plain.as_slice(), "{number}");
     }
-    Ok(())
-}
-
-#[test]
-fn the_last_number_makes_one_too(rt: HostRuntime) -> Result<(), Fail> {
-    let alloc = rt.alloc();
-    let Ok((_lang, net)) = generate(alloc, u32::MAX) else {
-        return Err(Fail::from("no memory"));
-    };
-    let plain = plain_target(alloc, u32::MAX)?;
-    assert_eq!(rt; net.list(), plain.as_slice());
     Ok(())
 }

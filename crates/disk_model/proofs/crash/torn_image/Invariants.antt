@@ -1,6 +1,11 @@
-use Rattle.std.proofs.Common.{length}
-use Rattle.disk_model.specs.Crash.{AreTorn}
+use Rattle.std.proofs.Common.{◌<◌, ℕ, take, length}
+use Rattle.std.specs.Prelude.{Contains}
+use Rattle.disk_model.specs.Record.{put}
+use Rattle.disk_model.specs.Crash.{AreTorn, contents}
 use Rattle.disk_model.proofs.crash.torn_image.Given as goal
 
 abbrev pub invariant-loop-cut : goal.invariant-loop-cut
-invariant-loop-cut l = AreTorn l.at (length l.bytes) l.image l.torn.items
+invariant-loop-cut l = record {
+  each : AreTorn l.at (length l.bytes) l.image l.torn.items;
+  cuts : (k : ℕ) → k < l.cut → Contains (contents l.torn.items) (put l.image l.at (take k l.bytes));
+}

@@ -1,7 +1,11 @@
-use Rattle.std.proofs.Common.{length}
-use Rattle.std.specs.Prelude.{All}
-use Rattle.disk_model.specs.Crash.{IsTornOf}
+use Rattle.std.proofs.Common.{◌<◌, ℕ, length}
+use Rattle.std.specs.Prelude.{All, slice_index_or, Vec}
+use Rattle.std.specs.declared.alloc.Global.{Global}
+use Rattle.disk_model.specs.Crash.{HaveCutsOf, IsTornOf}
 use Rattle.disk_model.proofs.crash.torn_images.Given as goal
 
 abbrev pub invariant-loop-image : goal.invariant-loop-image
-invariant-loop-image l = All (IsTornOf l.at (length l.bytes) l.images) l.torn.items
+invariant-loop-image l = record {
+  each : All (IsTornOf l.at (length l.bytes) l.images) l.torn.items;
+  cuts : (k : ℕ) (d : Vec ℕ Global) → k < l.image-index → HaveCutsOf l.at l.bytes (slice_index_or l.images k d).items l.torn.items;
+}

@@ -1,8 +1,11 @@
-use Rattle.std.proofs.Common.{◌≡◌, ℕ, List, [], ◌∷◌, ◌++◌, ◌∙◌, ap, Result, Err}
+use Rattle.std.proofs.Common.{◌≡◌, ℕ, List, [], ◌∷◌, ◌++◌, ◌∙◌, ap, sym, subst, inr, Result, Err}
+use Rattle.std.proofs.lemmas.List.{append-nil}
+use Rattle.acq_io.specs.Streams.{Adds}
+use Rattle.acq_io.proofs.TakenLemmas.{adds_then}
 use Rattle.acq_io.specs.declared.streams.Put.{Put}
 use Rattle.language.specs.Texts.{question_text}
-use Rattle.target_oracle.specs.Lines.{hear}
-use Rattle.target_oracle.proofs.Hearings.{tells_after, put_line, cut_line, no_line}
+use Rattle.target_oracle.specs.Lines.{hear, line_turn}
+use Rattle.target_oracle.proofs.Hearings.{tells_after, put_line, cut_line, no_line, silent}
 use Rattle.target_oracle.proofs.lines.LineTeacherTeacher.told.Goals as goal
 
 pub returns-in-Ok-write-clause-tells : goal.returns-in-Ok-write-clause-tells
@@ -16,3 +19,17 @@ pub returns-in-Err-Failed-clause-tells : goal.returns-in-Err-Failed-clause-tells
 returns-in-Err-Failed-clause-tells g c = λ bytes before left written.
     let text : List ℕ = question_text c.args.lang.now c.args.k c.args.q.now ++ 10 ∷ [] in
     cut_line before c.as_bytes.result.now text (hear 999 bytes).text _ _ (c.in-Err-Failed.ensures.failed (ap (λ (p : Put). let r : Result (Unit {0}) Put = Err p in r) c.in-Err-Failed.field-0-is)) written (c.as_bytes.ensures.value ∙ c.in-Ok.ensures)
+
+pub returns-in-Ok-write-clause-asks : goal.returns-in-Ok-write-clause-asks
+returns-in-Ok-write-clause-asks g c =
+    let text : List ℕ = question_text c.args.lang.now c.args.k c.args.q.now ++ 10 ∷ [] in
+    let alone : text ≡ (line_turn c.args.lang.now c.args.k c.args.q.now []).text = sym (append-nil text) ∙ ap (λ (x : List ℕ). text ++ x) (sym (silent 999)) in
+    let is : c.as_bytes.result.now ≡ (line_turn c.args.lang.now c.args.k c.args.q.now []).text = c.as_bytes.ensures.value ∙ c.in-Ok.ensures ∙ alone in
+    let old = g.K.Sink.written c.args.sink.now in
+    let new = g.K.Sink.written c.hear_lines.new.sink in
+    let more = c.hear_lines.ensures.adds.0 in
+    let Put : List ℕ → Type 0 = λ x. Adds old new (x ++ more) in
+    record {
+      takes = c.hear_lines.ensures.takes;
+      first = inr (more, subst Put is (adds_then old (g.K.Sink.written c.write.new.self) new c.as_bytes.result.now more c.in-Ok-write.ensures.ok c.hear_lines.ensures.adds.1));
+    }
