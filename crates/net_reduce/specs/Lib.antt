@@ -1,0 +1,4 @@
+pub mod Reduction
+pub mod Searched
+pub mod Texts
+pub mod Laws

@@ -1,0 +1,62 @@
+//! Sifting by an enumeration of all assignments.
+
+use std::alloc::{AllocError, Global};
+
+/// A relation on two variables: the tuple of values x and y, counted from 0, is in it where its bit d x + y is one.
+#[derive(Clone, Copy)]
+pub(crate) struct Item {
+    pub(crate) relation: &'static str,
+    pub(crate) accepted: u64,
+    pub(crate) first: u8,
+    pub(crate) second: u8,
+}
+
+/// The value of a variable in the assignment of this number, which is written in base d.
+fn value(d: u64, assignment: u64, v: u8) -> u64 {
+    let base = d.max(1);
+    let mut left = assignment;
+    for _ in 0..v {
+        left /= base;
+    }
+    left % base
+}
+
+fn is_violated(d: u64, item: &Item, assignment: u64) -> bool {
+    let x = value(d, assignment, item.first);
+    let y = value(d, assignment, item.second);
+    let place = x.wrapping_mul(d).wrapping_add(y) % 64;
+    (item.accepted >> place) & 1 == 0
+}
+
+/// Whether each of so many assignments that violates none of both lists doesn't violate the item.
+fn is_implied(d: u64, assignments: u64, before: &[Item], behind: &[Item], item: &Item) -> bool {
+    for assignment in 0..assignments {
+        if is_violated(d, item, assignment)
+            && !before.iter().any(|other| is_violated(d, other, assignment))
+            && !behind.iter().any(|other| is_violated(d, other, assignment))
+        {
+            return false;
+        }
+    }
+    true
+}
+
+/// The places of the items that remain when those are dropped that the others imply, in order, over so many assignments of d
+/// values.
+pub(crate) fn remaining(
+    alloc: Global,
+    d: u64,
+    assignments: u64,
+    items: &[Item],
+) -> Result<Vec<usize>, AllocError> {
+    let mut kept = Vec::new(alloc);
+    let mut places = Vec::new(alloc);
+    for place in 0..items.len() {
+        let item = items[place];
+        if !is_implied(d, assignments, &kept, &items[place + 1..], &item) {
+            kept.push(item)?;
+            places.push(place)?;
+        }
+    }
+    Ok(places)
+}
