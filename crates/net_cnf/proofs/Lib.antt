@@ -1,0 +1,6 @@
+pub mod Numbers
+pub mod Tests
+pub mod Encoding
+pub mod Adding
+pub mod Pieces
+pub mod Written

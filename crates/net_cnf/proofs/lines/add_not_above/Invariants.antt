@@ -1,0 +1,9 @@
+use Rattle.std.proofs.Common.{◌+◌, ◌-◌}
+use Rattle.std.specs.Prelude.{string_bytes}
+use Rattle.std.specs.List.{flat_map, range_with_len}
+use Rattle.net_cnf.specs.Answers.{Grown}
+use Rattle.net_cnf.proofs.Pieces.{pair_piece}
+use Rattle.net_cnf.proofs.lines.add_not_above.Given as goal
+
+abbrev pub invariant-loop-y : goal.invariant-loop-y
+invariant-loop-y l = Grown (string_bytes l.fn.text) (flat_map (pair_piece l.fn.lang l.fn.v l.fn.x) (range_with_len (l.fn.x + 1) (l.y - (l.fn.x + 1)))) (string_bytes l.text)

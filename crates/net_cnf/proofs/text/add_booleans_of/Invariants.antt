@@ -1,0 +1,9 @@
+use Rattle.std.specs.Prelude.{string_bytes}
+use Rattle.std.specs.List.{flat_map, range_with_len}
+use Rattle.net_cnf.specs.Answers.{Grown}
+use Rattle.net_cnf.specs.Booleans.{boolean}
+use Rattle.net_cnf.specs.Texts.{boolean_text}
+use Rattle.net_cnf.proofs.text.add_booleans_of.Given as goal
+
+abbrev pub invariant-loop-x : goal.invariant-loop-x
+invariant-loop-x l = Grown (string_bytes l.fn.text) (flat_map (λ x. boolean_text l.fn.lang (boolean l.fn.v x)) (range_with_len 0 l.x)) (string_bytes l.text)

@@ -1,0 +1,8 @@
+use Rattle.std.specs.Prelude.{string_bytes}
+use Rattle.std.specs.List.{flat_map, range_with_len}
+use Rattle.net_cnf.specs.Answers.{Grown}
+use Rattle.net_cnf.specs.Paired.{place_piece}
+use Rattle.net_cnf.proofs.text.add_none_rejected.Given as goal
+
+abbrev pub invariant-loop-place : goal.invariant-loop-place
+invariant-loop-place l = Grown (string_bytes l.fn.text) (flat_map (place_piece l.fn.lang l.fn.c) (range_with_len 0 l.place)) (string_bytes l.text)

@@ -1,0 +1,34 @@
+use Rattle.std.proofs.Common.{◌≡◌, ℕ, ◌<◌, List, [], map, ◌∙◌, ap, arith}
+use Rattle.std.specs.Prelude.{string_bytes}
+use Rattle.std.specs.List.{flat_map, range_with_len}
+use Rattle.std.proofs.lemmas.List.{append-nil}
+use Rattle.std.proofs.lemmas.Result.{err_from_is_err_and}
+use Rattle.net_cnf.proofs.Adding.{grown_next, too_long_at, grown_as}
+use Rattle.net_cnf.specs.Texts.{clause_text}
+use Rattle.net_cnf.specs.Clauses.{some_value}
+use Rattle.assign.specs.Sets.{numbers}
+use Rattle.language.specs.Language.{variable_count}
+use Rattle.net_cnf.proofs.Pieces.{some_pieces}
+use Rattle.net_cnf.proofs.text.add_some_values.Goals as goal
+
+pub returns-in_err-add_some_value : goal.returns-in_err-add_some_value
+returns-in_err-add_some_value c =
+    let p = err_from_is_err_and c.from_residual.result c.from_residual.ensures.1 in
+    let f : ℕ → List ℕ = λ v. clause_text (some_value c.args.lang.now v) in
+    let low : c.loop-v.v < variable_count c.args.lang.now = omega arith in
+    rw (p.1, p.2)
+    (too_long_at c.in_err-add_some_value.field-0.0 f c.loop-v.v (variable_count c.args.lang.now) (string_bytes c.args.text.now) [] (flat_map clause_text (map (some_value c.args.lang.now) (numbers (variable_count c.args.lang.now)))) (string_bytes c.loop-v.text)
+    low c.loop-v.invariant (append-nil (flat_map f (range_with_len 0 (variable_count c.args.lang.now))) ∙ some_pieces c.args.lang.now) c.in_err-add_some_value.ensures)
+
+pub loop-v-preserved : goal.loop-v-preserved
+loop-v-preserved c =
+    let f : ℕ → List ℕ = λ v. clause_text (some_value c.args.lang.now v) in
+    grown_next f c.loop-v.v (string_bytes c.args.text.now) (string_bytes c.loop-v.text) (string_bytes c.add_some_value.new.text)
+    c.loop-v.invariant c.in_ok-add_some_value.ensures
+
+pub returns : goal.returns
+returns c =
+    let f : ℕ → List ℕ = λ v. clause_text (some_value c.args.lang.now v) in
+    let all : c.loop-v.v ≡ variable_count c.args.lang.now = omega arith in
+    grown_as (string_bytes c.args.text.now) (flat_map f (range_with_len 0 c.loop-v.v)) (flat_map clause_text (map (some_value c.args.lang.now) (numbers (variable_count c.args.lang.now)))) (string_bytes c.loop-v.text)
+    (ap (λ n. flat_map f (range_with_len 0 n)) all ∙ some_pieces c.args.lang.now) c.loop-v.invariant

@@ -1,0 +1,24 @@
+-- What calls answer, beside what is stated.
+use Rattle.std.specs.Prelude.{◌≡◌, ◌≢◌, ◌<◌, ◌≤◌, ℕ, ◌+◌, List, ◌++◌, length, Result, Ok, Err}
+use Rattle.net_cnf.specs.Texts.{MOST_BYTES}
+use Rattle.net_cnf.specs.declared.fault.CnfFault.{CnfFault}
+use Rattle.net_cnf.specs.declared.fault.CnfFault.TheVariants.{TooLarge, Memory}
+
+-- the answer, seen as it is stated, is the stated one, want of memory aside
+abbrev pub Writes : {A B : Type 0} → (A → B) → Result B CnfFault → Result A CnfFault → Type 0
+Writes seen stated (Ok x) = stated ≡ Ok (seen x)
+Writes seen stated (Err fault) = fault ≢ Memory → stated ≡ Err fault
+
+-- a text with a piece more, and not too long
+abbrev pub Grown : List ℕ → List ℕ → List ℕ → Type 0
+Grown old piece new = (new ≡ old ++ piece) × (length new ≤ MOST_BYTES)
+
+-- the text would be too long with the piece
+abbrev pub IsTooLong : List ℕ → List ℕ → CnfFault → Type 0
+IsTooLong old piece TooLarge = MOST_BYTES < length old + length piece
+IsTooLong old piece Memory = Unit {0}
+
+-- a call adds a piece to a text, or finds that the text would be too long with it
+abbrev pub Adds : {A : Type 0} → List ℕ → List ℕ → List ℕ → Result A CnfFault → Type 0
+Adds old piece new (Ok x) = Grown old piece new
+Adds old piece new (Err fault) = IsTooLong old piece fault

@@ -1,0 +1,17 @@
+//! A network as clauses for a SAT solver (DIMACS, direct encoding). No call reads a solver's model yet.
+//!
+//! There is a Boolean for each variable and each of its values. The clauses say that a variable has one value and no two,
+//! and that no learned candidate is violated. The floor above may rely on `laws`: the models of the clauses are the
+//! network's solutions, one for one.
+#![tactic(auto)]
+
+mod fault;
+pub mod laws;
+mod lines;
+mod literal;
+mod model_fault;
+mod text;
+
+pub use fault::CnfFault;
+pub use model_fault::{ModelFault, model_fault_text};
+pub use text::{cnf_text, solution_text, too_large_text};

@@ -1,0 +1,200 @@
+//! The whole text of a network's clauses.
+
+ghost use Rattle.std.specs.Prelude.{◌≡◌, ◌^◌, ◌<◌, ◌≤◌, ◌++◌, ◌∷◌, [], length, map, string_bytes, IfOk, codes};
+ghost use Rattle.std.specs.List.{flat_map};
+ghost use Rattle.assign.specs.Sets.{numbers};
+ghost use Rattle.language.specs.Language.{variable_count, scope_of, IsLanguage, IsCandidate};
+ghost use Rattle.language.specs.Answers.{IsNetwork};
+ghost use Rattle.net_cnf.specs.Answers.{Adds, Writes};
+ghost use Rattle.net_cnf.specs.Booleans.{booleans, booleans_of};
+ghost use Rattle.net_cnf.specs.Clauses.{some_value, no_two_values, rejected, none_rejected, clauses};
+ghost use Rattle.net_cnf.specs.ModelTexts.{solution_line};
+ghost use Rattle.net_cnf.specs.Paired.{place_piece};
+ghost use Rattle.net_cnf.specs.Texts.{MOST_BYTES, boolean_text, clause_text, cnf_text, cnf_of};
+
+use crate::fault::CnfFault;
+use crate::lines::{
+    add_boolean, add_head, add_no_two_values, add_not_all, add_some_value, shown_values,
+};
+use assign::Partial;
+use language::{Candidate, Language, Memory};
+use network::Network;
+use rel_table::tuple_of;
+use std::alloc::Global;
+
+// ---- How many clauses there are
+
+/// How many tuples a candidate rejects.
+fn rejected_by(lang: &Language, c: Candidate) -> u32
+    requires { IsCandidate lang.now c }
+    ensures is { result ≡ length (rejected lang.now c) }
+    ensures few { result ≤ 65536 }
+{
+    let mut count = 0;
+    for place in 0..lang.table_on(c.scope, c.rel).size() {
+        if !lang.holds(c.scope, c.rel, place) {
+            count += 1;
+        }
+    }
+    count
+}
+
+/// How many tuples the learned candidates reject, each counted by itself.
+fn rejected_count(lang: &Language, net: &Network) -> u64
+    requires { IsNetwork lang.now net.now.list }
+    ensures is { result ≡ length (flat_map (none_rejected lang.now) net.now.list) }
+    ensures few { result < 2 ^ 48 }
+{
+    let mut count = 0;
+    for i in 0..net.len() {
+        count += u64::from(rejected_by(lang, net.item(i)));
+    }
+    count
+}
+
+fn clause_count(lang: &Language, net: &Network) -> u64
+    requires { IsNetwork lang.now net.now.list }
+    ensures { result ≡ length (clauses lang.now net.now.list) }
+{
+    let n = u64::from(lang.n());
+    let d = u64::from(lang.d());
+    let rejected = rejected_count(lang, net);
+    n + n * (d * (d - 1) / 2) + rejected
+}
+
+// ---- Their lines
+
+/// What each Boolean of a variable stands for.
+fn add_booleans_of(text: &mut String, alloc: Global, lang: &Language, v: u8) -> Result<(), CnfFault>
+    requires room { length (string_bytes text.old) ≤ MOST_BYTES }
+    requires variable { v < variable_count lang.now }
+    ensures { Adds (string_bytes text.old) (flat_map (boolean_text lang.now) (booleans_of lang.now v)) (string_bytes text.new) result }
+{
+    for x in 0..lang.d() {
+        add_boolean(text, alloc, lang, v, x)?;
+    }
+    Ok(())
+}
+
+/// What each Boolean stands for.
+fn add_booleans(text: &mut String, alloc: Global, lang: &Language) -> Result<(), CnfFault>
+    requires { length (string_bytes text.old) ≤ MOST_BYTES }
+    ensures { Adds (string_bytes text.old) (flat_map (boolean_text lang.now) (booleans lang.now)) (string_bytes text.new) result }
+{
+    for v in 0..lang.n() {
+        add_booleans_of(text, alloc, lang, v)?;
+    }
+    Ok(())
+}
+
+/// That each variable has a value.
+fn add_some_values(text: &mut String, lang: &Language) -> Result<(), CnfFault>
+    requires { length (string_bytes text.old) ≤ MOST_BYTES }
+    ensures { Adds (string_bytes text.old) (flat_map clause_text (map (some_value lang.now) (numbers (variable_count lang.now)))) (string_bytes text.new) result }
+{
+    for v in 0..lang.n() {
+        add_some_value(text, lang, v)?;
+    }
+    Ok(())
+}
+
+/// That no variable has two values.
+fn add_all_no_two_values(text: &mut String, lang: &Language) -> Result<(), CnfFault>
+    requires { length (string_bytes text.old) ≤ MOST_BYTES }
+    ensures { Adds (string_bytes text.old) (flat_map clause_text (flat_map (no_two_values lang.now) (numbers (variable_count lang.now)))) (string_bytes text.new) result }
+{
+    for v in 0..lang.n() {
+        add_no_two_values(text, lang, v)?;
+    }
+    Ok(())
+}
+
+/// That the tuple at a place isn't taken, where a candidate rejects it.
+fn add_place(text: &mut String, lang: &Language, c: Candidate, place: u32) -> Result<(), CnfFault>
+    requires room { length (string_bytes text.old) ≤ MOST_BYTES }
+    requires candidate { IsCandidate lang.now c }
+    requires place { place < lang.now.value_count ^ length (scope_of lang.now c) }
+    ensures { Adds (string_bytes text.old) (place_piece lang.now c place) (string_bytes text.new) result }
+{
+    if lang.holds(c.scope, c.rel, place) {
+        return Ok(());
+    }
+    let scope = lang.scope(c.scope);
+    let tuple = tuple_of(lang.d(), scope.len() as u8, place);
+    add_not_all(text, lang, scope, &tuple[..scope.len()])
+}
+
+/// That no tuple is taken that a candidate rejects.
+fn add_none_rejected(text: &mut String, lang: &Language, c: Candidate) -> Result<(), CnfFault>
+    requires room { length (string_bytes text.old) ≤ MOST_BYTES }
+    requires candidate { IsCandidate lang.now c }
+    ensures { Adds (string_bytes text.old) (flat_map clause_text (none_rejected lang.now c)) (string_bytes text.new) result }
+{
+    for place in 0..lang.table_on(c.scope, c.rel).size() {
+        add_place(text, lang, c, place)?;
+    }
+    Ok(())
+}
+
+/// That no learned candidate is violated.
+fn add_items(text: &mut String, lang: &Language, net: &Network) -> Result<(), CnfFault>
+    requires room { length (string_bytes text.old) ≤ MOST_BYTES }
+    requires network { IsNetwork lang.now net.now.list }
+    ensures { Adds (string_bytes text.old) (flat_map clause_text (flat_map (none_rejected lang.now) net.now.list)) (string_bytes text.new) result }
+{
+    for i in 0..net.len() {
+        add_none_rejected(text, lang, net.item(i))?;
+    }
+    Ok(())
+}
+
+/// The clauses.
+fn add_clauses(text: &mut String, lang: &Language, net: &Network) -> Result<(), CnfFault>
+    requires room { length (string_bytes text.old) ≤ MOST_BYTES }
+    requires network { IsNetwork lang.now net.now.list }
+    ensures { Adds (string_bytes text.old) (flat_map clause_text (clauses lang.now net.now.list)) (string_bytes text.new) result }
+{
+    add_some_values(text, lang)?;
+    add_all_no_two_values(text, lang)?;
+    add_items(text, lang, net)
+}
+
+/// The Booleans, the head and the clauses.
+fn add_all(text: &mut String, alloc: Global, lang: &Language, net: &Network) -> Result<(), CnfFault>
+    requires room { length (string_bytes text.old) ≤ MOST_BYTES }
+    requires network { IsNetwork lang.now net.now.list }
+    ensures { Adds (string_bytes text.old) (cnf_text lang.now net.now.list) (string_bytes text.new) result }
+{
+    add_booleans(text, alloc, lang)?;
+    let variables = u32::from(lang.n()) * u32::from(lang.d());
+    add_head(text, variables, clause_count(lang, net))?;
+    add_clauses(text, lang, net)
+}
+
+/// The network's clauses in DIMACS: a line for each Boolean, which says what it stands for, the head, and a line for each
+/// clause. `TooLarge` where that is more than 67,108,864 bytes. A text that is too long isn't written to its end.
+pub fn cnf_text(alloc: Global, lang: &Language, net: &Network) -> Result<String, CnfFault>
+    requires { IsNetwork lang.now net.now.list }
+    ensures { Writes string_bytes (cnf_of lang.now net.now.list) result }
+{
+    let mut text = String::new(alloc);
+    add_all(&mut text, alloc, lang, net)?;
+    Ok(text)
+}
+
+/// What is told where the text is too long.
+pub fn too_large_text(alloc: Global) -> Result<String, Memory>
+    ensures { IfOk result (λ text. string_bytes text ≡ codes "refused cnf too large" ++ 10 ∷ []) }
+{
+    let text = String::from_str(alloc, "refused cnf too large\n")?;
+    Ok(text)
+}
+
+/// What is told of a solution: `solution a=1 b=2`.
+pub fn solution_text(alloc: Global, lang: &Language, e: &Partial) -> Result<String, Memory>
+    ensures { IfOk result (λ text. string_bytes text ≡ solution_line lang.now e.now) }
+{
+    let values = shown_values(alloc, lang, e)?;
+    let text = format!(in alloc; "solution{values}\n")?;
+    Ok(text)
+}
