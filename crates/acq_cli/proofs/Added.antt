@@ -1,11 +1,11 @@
 -- Events that were added, and their places.
-use Rattle.std.proofs.Common.{◌≡◌, ◌⊎◌, ℕ, ◌+◌, ◌-◌, ◌<◌, ◌≤◌, Bool, true, false, cond, ◌&&◌, ◌||◌, nat_le, List, [], ◌∷◌, ◌++◌, length, get_or, map, replicate, Option, Some, None, refl, sym, ◌∙◌, ap, subst, inl, inr, arith, append_assoc}
-use Rattle.std.specs.Prelude.{is_some}
+use Rattle.std.proofs.Common.{◌≡◌, ◌⊎◌, ℕ, ◌+◌, ◌-◌, ◌<◌, ◌≤◌, Bool, true, false, cond, ◌&&◌, ◌||◌, nat_le, List, [], ◌∷◌, ◌++◌, length, get_or, map, replicate, Option, Some, None, Result, Ok, Err, refl, sym, ◌∙◌, ap, subst, inl, inr, arith, append_assoc}
+use Rattle.std.specs.Prelude.{IfSome, is_some}
 use Rattle.std.specs.List.{list_any}
 use Rattle.std.proofs.lemmas.Bool.{cases_lt}
 use Rattle.std.proofs.lemmas.Bool.Decides.{nat_tests}
 use Rattle.std.proofs.lemmas.List.{append-nil, map-append, get_or-replicate, get_or-append_right, get_or_past, length-replicate}
-use Rattle.assign.specs.Sets.{MOST, numbers}
+use Rattle.assign.specs.Sets.{numbers}
 use Rattle.assign.specs.Assignment.{Assignment, value_of, widened}
 use Rattle.assign.specs.Events.{Answer}
 use Rattle.assign.specs.declared.events.Event.{Event}
@@ -14,11 +14,17 @@ use Rattle.assign.specs.declared.events.Plan.{Plan}
 use Rattle.assign.proofs.EventLemmas.{take-widened, cut_to-standing-push}
 use Rattle.language.specs.Language.{Language, IsLanguage, variable_count}
 use Rattle.language.specs.Answers.{standing_on}
-use Rattle.session_laws.specs.Session.{State, Idle, Reading, At, then_on, step, read_on, state_after}
+use Rattle.session_laws.specs.Session.{State, Idle, At, then_on, step, read_on, state_after}
 use Rattle.session_store.specs.Kept.{answer_event, event_for}
 use Rattle.session_store.specs.Keeping.{both_as}
-use Rattle.session_store.specs.Replay.{is_past, first_options, seen, step_of, replay_on, replay, HavePlaces}
-use Rattle.acq_cli.specs.Added.{IsAdded}
+use Rattle.session_store.specs.Replay.{is_past, first_options, step_of, replay_on, HavePlaces}
+use Rattle.acq_cli.specs.Added.{IsAdded, IsTaught, MayEnd}
+use Rattle.acq_cli.specs.Closings.{ending_of}
+use Rattle.acq_cli.specs.Due.{EventKept}
+use Rattle.acq_cli.specs.declared.driving.Drove.{Drove}
+use Rattle.acq_cli.specs.declared.ending.Ending.{Ending}
+use Rattle.acq_cli.specs.declared.ending.Ending.TheVariants as ending
+use Rattle.acq_io.specs.declared.streams.Put.{Put}
 use Rattle.acq_cli.specs.Run.{Puts, next_at, next_in, next_after, answer}
 use Rattle.acq_cli.specs.declared.terms.Terms.{Terms}
 use Rattle.acq_cli.proofs.Running.{RunLaws, step_at}
@@ -172,3 +178,37 @@ added_as l m p r may es fs later lang planned same added =
     let Spoken : Language → Plan → Type 0 = λ x y. IsAdded x y (may x) fs later in
     let Kept : List Event → Type 0 = λ z. IsAdded l p (may l) z later in
     subst Kept same (both_as Spoken m l r p lang planned added)
+
+-- ---- how it ended
+
+-- an answer that wasn't kept is no word of the teacher
+pub taught_kept : (may : Assignment → Told → Type 0) (said : Bool) (put : Option Assignment) (old new : List Event) (got : Option Drove) → EventKept said put old new got → IfSome got (λ (how : Drove). MayEnd may (ending_of how))
+taught_kept may said put old new None kept = tt
+taught_kept may said put old new (Some end) (inl is, same) = let P : Drove → Type 0 = λ how. MayEnd may (ending_of how) in subst P (sym is) tt
+taught_kept may said put old new (Some end) (inr is, same) = let P : Drove → Type 0 = λ how. MayEnd may (ending_of how) in subst P (sym is) tt
+
+-- nothing was added, and it ended so
+pub taught_none : (l : Language) (plan : Plan) (may : Assignment → Told → Type 0) (before after : List Event) {ended : Type 0} → after ≡ before → ended → IsTaught l plan may before after ended
+taught_none l plan may before after same said = record { added = added_none l plan may before after same; said = said }
+
+pub ends_more : (may more : Assignment → Told → Type 0) → ((q : Assignment) (told : Told) → may q told → more q told) → (got : Result Ending Put) → MayEnd may got → MayEnd more got
+ends_more may more weaker (Ok (ending.Suspended m)) (q, inl said) = (q, inl (weaker q _ said))
+ends_more may more weaker (Ok (ending.Suspended m)) (q, inr said) = (q, inr (weaker q _ said))
+ends_more may more weaker (Ok ending.LineTooLong) (q, said) = (q, weaker q _ said)
+ends_more may more weaker (Ok ending.Unreadable) (q, said) = (q, weaker q _ said)
+ends_more may more weaker (Ok ending.ReadFault) (q, said) = (q, weaker q _ said)
+ends_more may more weaker (Ok (ending.Converged m)) said = tt
+ends_more may more weaker (Ok ending.Done) said = tt
+ends_more may more weaker (Ok (ending.Usage fault)) said = tt
+ends_more may more weaker (Ok (ending.VocRefused fault)) said = tt
+ends_more may more weaker (Ok (ending.JournalRefused fault)) said = tt
+ends_more may more weaker (Ok (ending.Collapsed m)) said = tt
+ends_more may more weaker (Ok (ending.Undecided m)) said = tt
+ends_more may more weaker (Ok ending.WriteFault) said = tt
+ends_more may more weaker (Ok ending.DiskFault) said = tt
+ends_more may more weaker (Ok ending.Memory) said = tt
+ends_more may more weaker (Ok ending.JournalFull) said = tt
+ends_more may more weaker (Ok (ending.NotFresh m)) said = tt
+ends_more may more weaker (Ok (ending.TargetRefused fault)) said = tt
+ends_more may more weaker (Ok (ending.ReduceSpent i)) said = tt
+ends_more may more weaker (Err e) said = tt

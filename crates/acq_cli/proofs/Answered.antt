@@ -25,7 +25,7 @@ use Rattle.acq_cli.specs.declared.driving.Drove.TheVariants as drove
 use Rattle.acq_cli.proofs.Added.{added_none, added_one}
 use Rattle.acq_cli.proofs.Running.{IsWithin, next_put, room_not_full}
 use Rattle.acq_cli.proofs.Standings.{run_laws}
-use Rattle.acq_cli.proofs.Turning.{ToldSo, front_of_turn, step_said, cut_turn, lost_turn}
+use Rattle.acq_cli.proofs.Turning.{AskedSo, ToldSo, front_of_turn, step_said, cut_turn, lost_turn}
 
 -- an ending that isn't undecided, whatever the screen tells
 module _ (turns : Turns) (l : Language) (terms : Terms) (a b : Point) (marks : Remembered) (made : IsMadeFor l marks) where
@@ -51,6 +51,9 @@ module _ (turns : Turns) (l : Language) (terms : Terms) (events after : List Eve
   abbrev Told : Type 0
   Told = ToldSo turns l (number_on l events) q (point_of events left written) (point_of events left' written') (Said said)
 
+  abbrev Asked : Type 0
+  Asked = AskedSo turns l (number_on l events) q (point_of events left written) (point_of events left' written')
+
   comes : IsDue l terms (standing_on l events) q → length events + 1 < 1000000 → next_on l terms events ≡ Some (Puts q)
   comes due room = next_put l terms events q due.puts (room_not_full events room)
 
@@ -64,14 +67,14 @@ module _ (turns : Turns) (l : Language) (terms : Terms) (events after : List Eve
   turned (Some end) due room is kept told none = absurd (let no : ⊥ = cc in no)
 
   -- or there was no memory, or the disk failed
-  pub ends : (end : Option Drove) (marks : Remembered) → IsMadeFor l marks → IsLanguage l → IsWithin l terms.plan events → IsDue l terms (standing_on l events) q → length events + 1 < 1000000 → EventKept said put events after end → Told →
+  pub ends : (end : Option Drove) (marks : Remembered) → IsMadeFor l marks → IsLanguage l → IsWithin l terms.plan events → IsDue l terms (standing_on l events) q → length events + 1 < 1000000 → EventKept said put events after end → Told → Asked →
       IfSome end (EndsAs turns l terms (point_of events left written) (point_of after left' written') marks)
-  ends None marks made lawful within due room kept told = tt
-  ends (Some end) marks made lawful within due room kept told =
+  ends None marks made lawful within due room kept told asked = tt
+  ends (Some end) marks made lawful within due room kept told asked =
       let a : Point = point_of events left written in
       let b : Point = point_of after left' written' in
       let cut : CutOff turns l terms a b =
-      cut_turn run_laws turns l terms lawful q a b within (comes due room) kept.1 (front_of_turn turns l (number_on l events) q a b (Said said) told) in
+      cut_turn run_laws turns l terms lawful q a b within (comes due room) kept.1 (front_of_turn turns l (number_on l events) q a b (Said said) told) asked in
       let P : Drove → Type 0 = EndsAs turns l terms a b marks in
       ⊎_elim (λ memory. subst P (sym memory) (ends_failed turns l terms a b marks made drove.Memory (λ m e. cc) (λ e. cc) (record { number = tt; found = tt }) tt (λ e. absurd (let no : ⊥ = cc in no)) cut))
       (λ failed. subst P (sym failed) (ends_failed turns l terms a b marks made drove.DiskFault (λ m e. cc) (λ e. cc) (record { number = tt; found = tt }) tt

@@ -2,7 +2,7 @@
 use Rattle.std.proofs.Common.{◌≡◌, ◌∙◌, ℕ, List, Option, Result, Ok, Err, refl, sym, ap, subst, inl, ⊎_elim}
 use Rattle.acq_io.specs.declared.streams.Put.{Put}
 use Rattle.acq_io.specs.declared.streams.Put.TheVariants as put
-use Rattle.acq_words.specs.Request.{Contents, IsAnswer, answer_to, contents_of}
+use Rattle.acq_words.specs.Request.{IsAnswer, answer_to, contents_of}
 use Rattle.acq_words.specs.declared.request.Command.{Command}
 use Rattle.acq_words.specs.declared.request.Command.TheVariants as command
 use Rattle.acq_words.specs.declared.request.Request.{Request}
@@ -21,17 +21,19 @@ use Rattle.acq_cli.specs.Playing.{EndsWithout, PlaysOn}
 use Rattle.acq_cli.specs.declared.playing.NoTarget.{NoTarget}
 use Rattle.acq_cli.specs.declared.playing.NoTarget.TheVariants as without
 use Rattle.acq_cli.specs.Showing.{Shows}
+use Rattle.acq_cli.specs.Demoing.{Demos}
+use Rattle.acq_cli.specs.Reducing.{Reduces}
 use Rattle.acq_cli.specs.Points.{terms_with}
 use Rattle.acq_cli.specs.Trying.{Acquires}
 use Rattle.acq_cli.specs.Texts.{usage_text}
-use Rattle.acq_cli.specs.Words.{IsAsked, built, command_asked, command_in}
+use Rattle.acq_cli.specs.Words.{IsAsked, command_asked, command_in}
 use Rattle.acq_cli.proofs.Closings.{not_loops}
 use Rattle.acq_cli.specs.declared.ending.Ending.{Ending}
 use Rattle.acq_cli.specs.declared.ending.Ending.TheVariants as ending
 
 -- ---- What is asked for
 
-pub is_asked : (words : List (List ℕ)) (request : Request) → answer_to words ≡ Ok (contents_of request) → command_asked words ≡ built request.command
+pub is_asked : (words : List (List ℕ)) (request : Request) → answer_to words ≡ Ok (contents_of request) → command_asked words ≡ Ok request.command
 unfolding command_asked
 is_asked words request is = ap command_in is
 
@@ -39,26 +41,6 @@ pub is_refused : (words : List (List ℕ)) (fault : WordsFault) → IsAnswer (an
 unfolding command_asked
 is_refused words (Usage fault) is = ap command_in is
 is_refused words Memory is = tt
-
-abbrev asking : Command → Result Command UsageFault
-asking c = Ok c
-
--- a command that isn't built is never asked for
-not_built : (c d : Command) → built c ≡ asking d → (number budget : ℕ) → d ≡ command.Demo number budget → ⊥
-not_built (command.New plan) d is = λ number budget e. cc
-not_built (command.Run own) d is = λ number budget e. cc
-not_built (command.Try plan own) d is = λ number budget e. cc
-not_built command.Show d is = λ number budget e. cc
-not_built (command.Play own) d is = λ number budget e. cc
-not_built (command.Demo own other) d is = absurd (let no : ⊥ = cc in no)
-
-no_demo : (words : List (List ℕ)) (number budget : ℕ) → command_asked words ≡ asking (command.Demo number budget) → ⊥
-unfolding command_asked
-no_demo words number budget is = of (answer_to words) is
-  where
-    of : (answer : Result Contents UsageFault) → command_in answer ≡ asking (command.Demo number budget) → ⊥
-    of (Ok contents) e = not_built contents.command (command.Demo number budget) e number budget refl
-    of (Err fault) e = cc
 
 -- ---- Want of memory, before anything is done
 
@@ -85,6 +67,9 @@ module _ {D : Type 0} (content : D → Option (List ℕ)) (may_leave : D → Lis
 
     pub no_show : Shows content may_leave moment left_since left written written disk disk wanting
     no_show = inl stays
+
+    pub no_reduce : (budget : ℕ) → Reduces content may_leave moment left_since budget left written written disk disk wanting
+    no_reduce budget = inl stays
 
 -- ---- A usage line is told for refused words alone
 
@@ -140,15 +125,27 @@ module _ {D : Type 0} (content : D → Option (List ℕ)) (may_leave : D → Lis
   show_usage usage shows =
       ⊎_elim (λ closed. refuses_usage closed.fault usage written written' closed.refuses) (λ shown. let is : ending.Usage usage ≡ ending.Done = shown.tells.0 in cc) shows
 
+  demo_usage : (number budget : ℕ) (usage : UsageFault) → Demos number budget written written' (using_so usage) → ⊥
+  demo_usage number budget usage demos = ⊎_elim (λ none. let is : using_so usage ≡ wanting = none.0 in cc) (λ demo. demo.ends) demos
+
+  reduce_usage : (budget : ℕ) (usage : UsageFault) → Reduces content may_leave moment left_since budget left written written' old new (using_so usage) → ⊥
+  reduce_usage budget usage reduces =
+      ⊎_elim (λ closed. refuses_usage closed.fault usage written written' closed.refuses)
+      (λ reduced. ⊎_elim (λ part. let is : ending.Usage usage ≡ ending.Done = part.tells.0 in cc)
+      (λ rest. ⊎_elim (λ spent. let is : ending.Usage usage ≡ ending.ReduceSpent spent.number = spent.tells.0 in cc) (λ none. let is : using_so usage ≡ wanting = none.0 in cc) rest) reduced.reduces)
+      reduces
+
   pub usage_is : (words : List (List ℕ)) (end : Ending) →
       ((plan : Plan) (budget : ℕ) → command_asked words ≡ Ok (command.Try plan budget) → Acquires (terms_with plan budget) left written left' written' end) →
       ((plan : Plan) → command_asked words ≡ Ok (command.New plan) → News content may_leave moment left_since plan left written left' written' old new (Ok end)) →
       ((budget : ℕ) → command_asked words ≡ Ok (command.Run budget) → RunsOn content may_leave moment left_since budget left written left' written' old new (Ok end)) →
       ((budget : ℕ) → command_asked words ≡ Ok (command.Play budget) → PlaysOn content may_leave moment left_since budget left written left' written' old new (Ok end)) →
       (command_asked words ≡ Ok command.Show → Shows content may_leave moment left_since left written written' old new (Ok end)) →
+      ((number budget : ℕ) → command_asked words ≡ Ok (command.Demo number budget) → Demos number budget written written' (Ok end)) →
+      ((budget : ℕ) → command_asked words ≡ Ok (command.Reduce budget) → Reduces content may_leave moment left_since budget left written written' old new (Ok end)) →
       ((fault : UsageFault) → command_asked words ≡ Err fault → EndsWith (ending.Usage fault) usage_text written written' (Ok end)) →
       (usage : UsageFault) → end ≡ ending.Usage usage → command_asked words ≡ Err usage
-  usage_is words end tries news runs plays shows refuses usage is = of (command_asked words) refl
+  usage_is words end tries news runs plays shows demos reduces refuses usage is = of (command_asked words) refl
     where
       same : (a b : UsageFault) → ending.Usage a ≡ ending.Usage b → a ≡ b
       same a b e = cc
@@ -160,4 +157,5 @@ module _ {D : Type 0} (content : D → Option (List ℕ)) (may_leave : D → Lis
       of (Ok (command.Try plan budget)) e = let P : Ending → Type 0 = λ x. Acquires (terms_with plan budget) left written left' written' x in absurd (subst P is (tries plan budget e))
       of (Ok command.Show) e = let P : Ending → Type 0 = λ x. Shows content may_leave moment left_since left written written' old new (Ok x) in absurd (show_usage usage (subst P is (shows e)))
       of (Ok (command.Play budget)) e = let P : Ending → Type 0 = λ x. PlaysOn content may_leave moment left_since budget left written left' written' old new (Ok x) in absurd (play_usage budget usage (subst P is (plays budget e)))
-      of (Ok (command.Demo number budget)) e = absurd (no_demo words number budget e)
+      of (Ok (command.Demo number budget)) e = let P : Ending → Type 0 = λ x. Demos number budget written written' (Ok x) in absurd (demo_usage number budget usage (subst P is (demos number budget e)))
+      of (Ok (command.Reduce budget)) e = let P : Ending → Type 0 = λ x. Reduces content may_leave moment left_since budget left written written' old new (Ok x) in absurd (reduce_usage budget usage (subst P is (reduces budget e)))

@@ -22,8 +22,9 @@ use Rattle.session_store.specs.declared.fault.SFault.{SFault}
 use Rattle.session_store.specs.declared.fault.SFault.TheVariants as store
 use Rattle.voc_read.specs.Vocabulary.{IsVocabulary, refusal_of_vocabulary}
 use Rattle.voc_read.specs.declared.fault.VocFault.{VocFault}
+use Rattle.voc_read.proofs.OneReading.{one_language}
 use Rattle.voc_read.proofs.Refused.{not_refused}
-use Rattle.acq_cli.specs.Exactly.{IsBrokenOff, HasVocabulary, IsInTheWay, RefusesNew, MakesExactly, NewEnds, RefusesOpening, MustRefuse, OpensExactly, HoldsSession, RunEnds, ShowEnds}
+use Rattle.acq_cli.specs.Exactly.{IsBrokenOff, HasVocabulary, IsInTheWay, RefusesNew, MakesExactly, NewEnds, RefusesOpening, OpensExactly, HoldsSession, RunEnds, ShowEnds}
 use Rattle.acq_cli.specs.Journals.{EndsUntold, untold}
 use Rattle.acq_cli.specs.Making.{RefusesMaking, News}
 use Rattle.acq_cli.specs.Running.{RunsOn}
@@ -36,7 +37,7 @@ use Rattle.acq_cli.specs.declared.ending.Ending.TheVariants as ending
 
 -- ---- endings
 
-done_refused : (end : Ending) (f : SFault) → end ≡ ending.Done → end ≡ ending.JournalRefused f → ⊥
+pub done_refused : (end : Ending) (f : SFault) → end ≡ ending.Done → end ≡ ending.JournalRefused f → ⊥
 done_refused end f a b = let bad : ending.Done ≡ ending.JournalRefused f = sym a ∙ b in cc
 
 voc_done : (end : Ending) (f : VocFault) → end ≡ ending.VocRefused f → end ≡ ending.Done → ⊥
@@ -45,7 +46,7 @@ voc_done end f a b = let bad : ending.VocRefused f ≡ ending.Done = sym a ∙ b
 voc_journal : (end : Ending) (f : VocFault) (n : SFault) → end ≡ ending.VocRefused f → end ≡ ending.JournalRefused n → ⊥
 voc_journal end f n a b = let bad : ending.VocRefused f ≡ ending.JournalRefused n = sym a ∙ b in cc
 
-same_reason : (end : Ending) (f n : SFault) → end ≡ ending.JournalRefused f → end ≡ ending.JournalRefused n → f ≡ n
+pub same_reason : (end : Ending) (f n : SFault) → end ≡ ending.JournalRefused f → end ≡ ending.JournalRefused n → f ≡ n
 same_reason end f n a b = let same : ending.JournalRefused f ≡ ending.JournalRefused n = sym a ∙ b in cc
 
 refused_as : (f n : SFault) → f ≡ n → ending.JournalRefused f ≡ ending.JournalRefused n
@@ -248,42 +249,52 @@ pub vocabulary_as : (file : List ℕ) (p q : Plan) (v w : List ℕ) (es fs : Lis
 vocabulary_as file p q v w es fs lang one two read =
     let P : List ℕ → Type 0 = λ x. IsVocabulary x lang in subst P (spells_once file p v es q w fs one.1 two.1).1 read
 
--- a file that must be refused holds no session
-pub holds_none : ReadOnce → (file : List ℕ) (f : SFault) → MustRefuse file f → HoldsSession file → ⊥
-holds_none once file (store.Journal f) must h = says_none once file f h.plan h.voc h.events must.0 must.1 h.says
-holds_none once file (store.Voc f) must h = taken_as file h.plan must.plan h.voc must.voc h.events must.events f h.says must.reads (not_refused h.voc h.lang h.read) must.refused
-holds_none once file (store.Stray i) must h =
-    at_stray h.places.0 i
-    (sym h.places.1 ∙ replayed_as file h.plan must.plan h.voc must.voc h.events must.events h.lang h.says must.says
-    ∙ must.stray h.lang (vocabulary_as file h.plan must.plan h.voc must.voc h.events must.events h.lang h.says must.says h.read))
-holds_none once file store.Memory must h = must
-
 never_told : untold store.Memory ≡ None → ⊥
 never_told e = cc
 
--- a file that must be refused is refused for that
-only_reason : ReadOnce → (file : List ℕ) (f n : SFault) → MustRefuse file f → RefusesOpening file n → n ≡ f
-only_reason once file (store.Journal f) (store.Journal n) must why = ap (λ (x : JFault). store.Journal x) (sym (same_journal once file f n must.0 must.1 why.0 why.1))
-only_reason once file (store.Journal f) (store.Voc n) must why = absurd (says_none once file f why.1.plan why.1.voc why.1.events must.0 must.1 why.1.reads)
-only_reason once file (store.Journal f) (store.Stray j) must why = absurd (says_none once file f why.1.plan why.1.voc why.1.events must.0 must.1 why.1.reads)
-only_reason once file (store.Voc f) (store.Journal n) must why = absurd (says_none once file n must.plan must.voc must.events why.0 why.1 must.reads)
-only_reason once file (store.Voc f) (store.Voc n) must why =
-    let same = spells_once file must.plan must.voc must.events why.1.plan why.1.voc why.1.events must.reads.1 why.1.reads.1 in
-    let one : Some f ≡ Some n = sym must.refused ∙ ap refusal_of_vocabulary same.1 ∙ why.1.refused in
+-- one language is read, and so the events lead to one thing
+pub lang_is : (file : List ℕ) (p q : Plan) (v w : List ℕ) (es fs : List Event) (l m : Language) → SaysSession file p v es → SaysSession file q w fs → IsVocabulary v l → IsVocabulary w m → l ≡ m
+lang_is file p q v w es fs l m one two read again = one_language w l m (vocabulary_as file p q v w es fs l one two read) again
+
+replay_is : (file : List ℕ) (p q : Plan) (v w : List ℕ) (es fs : List Event) (l m : Language) → SaysSession file p v es → SaysSession file q w fs → IsVocabulary v l → IsVocabulary w m → replay l p es ≡ replay m q fs
+replay_is file p q v w es fs l m one two read again =
+    replayed_as file p q v w es fs l one two ∙ ap (λ (x : Language). replay x q fs) (lang_is file p q v w es fs l m one two read again)
+
+-- a file that is refused holds no session
+pub holds_none : ReadOnce → (file : List ℕ) (f : SFault) → RefusesOpening file f → HoldsSession file → ⊥
+holds_none once file (store.Journal f) why h = says_none once file f h.plan h.voc h.events why.0 why.1 h.says
+holds_none once file (store.Voc f) why h = let w = why.1 in taken_as file h.plan w.plan h.voc w.voc h.events w.events f h.says w.reads (not_refused h.voc h.lang h.read) w.refused
+holds_none once file (store.Stray i) why h =
+    let w = why.1 in
+    at_stray h.places.0 i (sym h.places.1 ∙ replay_is file h.plan w.plan h.voc w.voc h.events w.events h.lang w.lang h.says w.reads h.read w.vocabulary ∙ w.stray)
+holds_none once file store.Memory why h = never_told why.0
+
+-- it is refused for one reason
+only_reason : ReadOnce → (file : List ℕ) (f n : SFault) → RefusesOpening file f → RefusesOpening file n → n ≡ f
+only_reason once file (store.Journal f) (store.Journal n) one two = ap (λ (x : JFault). store.Journal x) (sym (same_journal once file f n one.0 one.1 two.0 two.1))
+only_reason once file (store.Journal f) (store.Voc n) one two = absurd (says_none once file f two.1.plan two.1.voc two.1.events one.0 one.1 two.1.reads)
+only_reason once file (store.Journal f) (store.Stray j) one two = absurd (says_none once file f two.1.plan two.1.voc two.1.events one.0 one.1 two.1.reads)
+only_reason once file (store.Voc f) (store.Journal n) one two = absurd (says_none once file n one.1.plan one.1.voc one.1.events two.0 two.1 one.1.reads)
+only_reason once file (store.Voc f) (store.Voc n) one two =
+    let a = one.1 in let b = two.1 in
+    let same = spells_once file a.plan a.voc a.events b.plan b.voc b.events a.reads.1 b.reads.1 in
+    let told : Some f ≡ Some n = sym a.refused ∙ ap refusal_of_vocabulary same.1 ∙ b.refused in
     let is : n ≡ f = cc in
     ap (λ (x : VocFault). store.Voc x) is
-only_reason once file (store.Voc f) (store.Stray j) must why =
-    absurd (taken_as file why.1.plan must.plan why.1.voc must.voc why.1.events must.events f why.1.reads must.reads (not_refused why.1.voc why.1.lang why.1.vocabulary) must.refused)
-only_reason once file (store.Stray i) (store.Journal n) must why = absurd (says_none once file n must.plan must.voc must.events why.0 why.1 must.says)
-only_reason once file (store.Stray i) (store.Voc n) must why = absurd (taken_as file must.plan why.1.plan must.voc why.1.voc must.events why.1.events n must.says why.1.reads must.taken why.1.refused)
-only_reason once file (store.Stray i) (store.Stray j) must why =
-    let h = why.1 in
-    let read = vocabulary_as file h.plan must.plan h.voc must.voc h.events must.events h.lang h.reads must.says h.vocabulary in
-    ap (λ (x : ℕ). store.Stray x) (same_stray j i (sym h.stray ∙ replayed_as file h.plan must.plan h.voc must.voc h.events must.events h.lang h.reads must.says ∙ must.stray h.lang read))
-only_reason once file (store.Journal f) store.Memory must why = absurd (never_told why.0)
-only_reason once file (store.Voc f) store.Memory must why = absurd (never_told why.0)
-only_reason once file (store.Stray i) store.Memory must why = absurd (never_told why.0)
-only_reason once file store.Memory n must why = absurd must
+only_reason once file (store.Voc f) (store.Stray j) one two =
+    let a = one.1 in let b = two.1 in
+    absurd (taken_as file b.plan a.plan b.voc a.voc b.events a.events f b.reads a.reads (not_refused b.voc b.lang b.vocabulary) a.refused)
+only_reason once file (store.Stray i) (store.Journal n) one two = absurd (says_none once file n one.1.plan one.1.voc one.1.events two.0 two.1 one.1.reads)
+only_reason once file (store.Stray i) (store.Voc n) one two =
+    let a = one.1 in let b = two.1 in
+    absurd (taken_as file a.plan b.plan a.voc b.voc a.events b.events n a.reads b.reads (not_refused a.voc a.lang a.vocabulary) b.refused)
+only_reason once file (store.Stray i) (store.Stray j) one two =
+    let a = one.1 in let b = two.1 in
+    ap (λ (x : ℕ). store.Stray x) (same_stray j i (sym b.stray ∙ replay_is file b.plan a.plan b.voc a.voc b.events a.events b.lang a.lang b.reads a.reads b.vocabulary a.vocabulary ∙ a.stray))
+only_reason once file (store.Journal f) store.Memory one two = absurd (never_told two.0)
+only_reason once file (store.Voc f) store.Memory one two = absurd (never_told two.0)
+only_reason once file (store.Stray i) store.Memory one two = absurd (never_told two.0)
+only_reason once file store.Memory n one two = absurd (never_told one.0)
 
 -- a command that didn't open a file broke off, or refuses it
 pub closed_end : (written written' : Option (List ℕ)) (end : Ending) (f : SFault) (o : Option (Result Ending Put)) → untold f ≡ o → EndsUntold o f written written' (okay end) → IsBrokenOff end ⊎ ((untold f ≡ None) × (end ≡ ending.JournalRefused f))
@@ -293,8 +304,7 @@ closed_end written written' end f (Some got) is told =
 
 pub closed_exactly : ReadOnce → (file : List ℕ) (end : Ending) (f : SFault) → RefusesOpening file f → end ≡ ending.JournalRefused f → OpensExactly file end
 closed_exactly once file end f why is = record {
-  refused = λ n e. subst (RefusesOpening file) (same_reason end f n is e) why;
-  refuses = λ n must. is ∙ refused_as f n (only_reason once file n f must why);
+  refused = λ n. (λ e. subst (RefusesOpening file) (same_reason end f n is e) why, λ so. is ∙ refused_as f n (only_reason once file n f so why));
 }
 
 module _ {D : Type 0} (content : D → Option (List ℕ)) (may_leave : D → List ℕ → Type 0) (moment : D → ℕ) (left_since : D → ℕ → List ℕ → Type 0) where
@@ -305,10 +315,7 @@ module _ {D : Type 0} (content : D → Option (List ℕ)) (may_leave : D → Lis
       ⊎_elim (λ broken. inl broken) (λ is. inr (closed_exactly once file end closed.fault (is.0, closed.why file told) is.1)) (closed_end written written' end closed.fault (untold closed.fault) refl closed.refuses)
   run_ends once budget left written left' written' old new (Ok end) (inr on) = λ file told.
       let held : HoldsSession file = record { plan = on.plan; voc = on.voc; events = on.events; says = on.says file told; lang = on.lang; read = on.read; places = on.places } in
-      inr (record {
-        refused = λ f e. absurd (not_loops on.tries.how (ending.JournalRefused f) (on.tries.is ∙ ap okay e) refl);
-        refuses = λ f must. absurd (holds_none once file f must held);
-      })
+      inr (record { refused = λ f. (λ e. absurd (not_loops on.tries.how (ending.JournalRefused f) (on.tries.is ∙ ap okay e) refl), λ why. absurd (holds_none once file f why held)) })
 
   pub show_ends : ReadOnce → (left written written' : Option (List ℕ)) (old new : D) (got : Result Ending Put) → Shows content may_leave moment left_since left written written' old new got → ShowEnds (content old) (ended_as got)
   show_ends once left written written' old new (Err put.Failed) shows = λ file told. inl (inr (inl refl))
@@ -317,14 +324,14 @@ module _ {D : Type 0} (content : D → Option (List ℕ)) (may_leave : D → Lis
       ⊎_elim (λ broken. inl broken)
       (λ is. inr (record {
         opens = closed_exactly once file end closed.fault (is.0, closed.why file told) is.1;
-        done = λ e. absurd (done_refused end closed.fault e is.1);
+        done = (λ e. absurd (done_refused end closed.fault e is.1), λ held. absurd (holds_none once file closed.fault (is.0, closed.why file told) held));
         else_done = λ none. absurd (none closed.fault (is.0, closed.why file told));
       }))
       (closed_end written written' end closed.fault (untold closed.fault) refl closed.refuses)
   show_ends once left written written' old new (Ok end) (inr shown) = λ file told.
       let held : HoldsSession file = record { plan = shown.plan; voc = shown.voc; events = shown.events; says = shown.says file told; lang = shown.lang; read = shown.read; places = shown.places } in
       inr (record {
-        opens = record { refused = λ f e. absurd (done_refused end f shown.tells.0 e); refuses = λ f must. absurd (holds_none once file f must held) };
-        done = λ e. held;
+        opens = record { refused = λ f. (λ e. absurd (done_refused end f shown.tells.0 e), λ why. absurd (holds_none once file f why held)) };
+        done = (λ e. held, λ holds. shown.tells.0);
         else_done = λ none. shown.tells.0;
       })

@@ -58,6 +58,7 @@ other_ending ending.DiskFault = inl refl
 other_ending ending.JournalFull = inr (λ e. cc)
 other_ending (ending.NotFresh m) = inr (λ e. cc)
 other_ending (ending.TargetRefused fault) = inr (λ e. cc)
+other_ending (ending.ReduceSpent i) = inr (λ e. cc)
 other_ending ending.Memory = inr (λ e. cc)
 
 -- whether the disk failed
@@ -73,7 +74,7 @@ module _ {D : Type 0} (content : D → Option (List ℕ)) (may_leave : D → Lis
       (IsDisk got → FailsWith content may_leave moment left_since plan voc events later open_then
       (Loses turns lang (terms_with plan budget) (point_of events left written) (point_of later left' written')) old new) →
       IfOk got (Tries turns lang (terms_with plan budget) events later left written left' written') →
-      OnErr got (BreaksRun turns lang (terms_with plan budget) events later left written written') →
+      OnErr got (BreaksRun turns lang (terms_with plan budget) events later left written left' written') →
       P lang plan events later →
       (on : GoesOn content may_leave moment left_since turns may budget left written left' written' first new got) × P on.lang on.plan on.events on.later
   goes_on_with P turns may budget left written left' written' first old new got plan voc events later open_then lang says read places still opening lawful added on persists fails tries part has =
@@ -139,7 +140,7 @@ module _ {D : Type 0} (content : D → Option (List ℕ)) (may_leave : D → Lis
       (IsDisk got → FailsWith content may_leave moment left_since plan voc events later open_then
       (Loses turns lang (terms_with plan budget) (point_of events left written) (point_of later left' written')) old new) →
       IfOk got (Tries turns lang (terms_with plan budget) events later left written left' written') →
-      OnErr got (BreaksRun turns lang (terms_with plan budget) events later left written written') →
+      OnErr got (BreaksRun turns lang (terms_with plan budget) events later left written left' written') →
       GoesOn content may_leave moment left_since turns may budget left written left' written' first new got
   goes_on turns may budget left written left' written' first old new got plan voc events later open_then lang says read places still opening lawful added on persists fails tries part =
       (goes_on_with (λ l p es fs. Unit {0}) turns may budget left written left' written' first old new got plan voc events later open_then lang says read places still opening lawful added on persists fails tries part tt).0

@@ -1,4 +1,6 @@
 pub mod Questions
+pub mod Taking
+pub mod Causes
 pub mod Running
 pub mod Turning
 pub mod Standings
@@ -17,4 +19,11 @@ pub mod Journals
 pub mod Asked
 pub mod Exactly
 pub mod Targets
+pub mod Demoing
 pub mod Showing
+pub mod Few
+pub mod Answering
+pub mod Completing
+pub mod Enough
+pub mod OneRun
+pub mod Reduced

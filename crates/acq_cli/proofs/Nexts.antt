@@ -40,6 +40,7 @@ use Rattle.acq_cli.specs.Due.{IsDue, NextIs, PutIs}
 use Rattle.acq_cli.specs.declared.driving.Upcoming.{Upcoming}
 use Rattle.acq_cli.specs.declared.driving.Upcoming.TheVariants as nexts
 use Rattle.acq_cli.proofs.Questions.{IsLawfulExample, asked_is_example, all_are_implied, undecided_is_spent, kept_network, same_state}
+use Rattle.acq_cli.proofs.Few.{are_few}
 use Rattle.acq_cli.proofs.OpenCandidates.{some_open, each_open}
 use Rattle.acq_cli.proofs.Standings.{stands_at}
 
@@ -79,6 +80,7 @@ module _ (k : Knowledge) (t : List Answer) (budget : ℕ) (end : Option WalkEnd)
     ends = ends;
     covered = covered.1;
     converged = covered_converged k.lang k.network.list t lawful covered.0 covered.1;
+    few = are_few k.lang k.plan t k.network.list end lawful at;
   }
 
   pub scoped_done : IsLanguage k.lang → k.plan ≡ Scopes → None ≡ scope_question k.lang k.kept.members k.network.list → IsDone k.lang terms t

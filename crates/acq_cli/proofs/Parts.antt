@@ -1,10 +1,10 @@
 -- What was written where it could not be written whole.
-use Rattle.std.proofs.Common.{◌≡◌, ℕ, List, [], ◌++◌, ap, sym, subst, refl, ◌∙◌, Option, Some, None, Result, Ok, Err, inl, inr, arith, append_assoc}
+use Rattle.std.proofs.Common.{◌≡◌, ◌⊎◌, ℕ, List, [], ◌++◌, ap, sym, subst, refl, ◌∙◌, Option, Some, None, Result, Ok, Err, inl, inr, arith, append_assoc}
 use Rattle.std.proofs.lemmas.List.{append-nil}
 use Rattle.std.specs.Prelude.{IfOk, OnErr}
 use Rattle.std.specs.Option.{option_map}
-use Rattle.acq_io.specs.Streams.{AddsFront}
-use Rattle.acq_io.specs.Whole.{Gathered, gathered, Gives, first_line_of}
+use Rattle.acq_io.specs.Streams.{AddsFront, TakesSome}
+use Rattle.acq_io.specs.Whole.{Gathered, gathered, Gives, TakesOfLine, first_line_of}
 use Rattle.acq_io.specs.declared.streams.Put.{Put}
 use Rattle.acq_io.specs.declared.streams.Put.TheVariants.{Failed, Memory}
 use Rattle.acq_io.specs.declared.whole.AllFault.{AllFault}
@@ -18,10 +18,11 @@ use Rattle.target_oracle.specs.Turns.{Turns}
 use Rattle.target_oracle.specs.Tells.{Front}
 use Rattle.voc_read.specs.Vocabulary.{IsVocabulary}
 use Rattle.voc_read.specs.declared.fault.VocFault.{VocFault}
-use Rattle.acq_cli.specs.Run.{Closing, next_on}
-use Rattle.acq_cli.specs.Trying.{Breaks, IsRefusal, IsTextOfRefusal, IsTextOfRun, IsWholeText}
-use Rattle.acq_cli.specs.Breaks.{BreaksRun}
-use Rattle.acq_cli.specs.Driven.{RanTo, CutOff, StopsAt, next_lines}
+use Rattle.acq_cli.specs.Run.{Ran, Runs, next_on}
+use Rattle.acq_cli.specs.Program.{ended_as}
+use Rattle.acq_cli.specs.Trying.{Breaks, BreaksOff, IsRefusal, IsTextOfRefusal, IsTextOfRun, IsWholeText}
+use Rattle.acq_cli.specs.Breaks.{BreaksRun, ClosesInPart}
+use Rattle.acq_cli.specs.Driven.{CutOff, next_lines}
 use Rattle.acq_cli.specs.Points.{point_of}
 use Rattle.acq_cli.specs.Trying.{Acquires, ReadsVocabulary}
 use Rattle.acq_cli.specs.Endings.{Tries}
@@ -30,6 +31,7 @@ use Rattle.acq_cli.specs.declared.terms.Terms.{Terms}
 use Rattle.acq_cli.proofs.Closings.{okay, not_loops, loops_by, read_by}
 use Rattle.acq_cli.proofs.Running.{IsWithin, run_exists}
 use Rattle.acq_cli.proofs.Standings.{run_laws}
+use Rattle.acq_cli.proofs.Taking.{takes_same}
 use Rattle.acq_cli.proofs.Turning.{some_text}
 use Rattle.acq_cli.specs.Closings.{closing_of, ending_of}
 use Rattle.acq_cli.specs.declared.driving.Drove.{Drove}
@@ -73,63 +75,69 @@ unfolding read_on
 begun l plan = record { reached = (Idle [] None, refl); few = omega arith }
 
 -- nothing of it was written
-pub begun_part : (turns : Turns) (l : Language) (terms : Terms) (start : List Event) (left written : Option (List ℕ)) → IsLanguage l → IsWithin l terms.plan start → BreaksRun turns l terms start start left written written
-begun_part turns l terms start left written lawful within bytes before from to =
+pub begun_part : (turns : Turns) (l : Language) (terms : Terms) (start : List Event) (left written : Option (List ℕ)) → IsLanguage l → IsWithin l terms.plan start → BreaksRun turns l terms start start left written left written
+begun_part turns l terms start left written lawful within = inl (λ bytes before from to.
     let has = run_exists run_laws turns l terms lawful start bytes within in
     record {
       run = has.run;
       runs = has.runs;
+      text = record { front = []; back = has.run.text; parts = refl; put = to ∙ some_text _ _ (sym (append-nil before)) };
       later = has.later;
-      extends = has.extends;
-      text = record { front = []; back = whole_text l terms has.run; parts = refl; put = to ∙ some_text _ _ (sym (append-nil before)) };
-      held = inr (record {
+      events = has.extends;
+      stops = record {
         rest = bytes;
         done = [];
         begins = λ run runs. runs;
         text = record { front = []; back = next_lines turns l start bytes (next_on l terms start); parts = refl; put = to ∙ some_text _ _ (sym (append-nil before) ∙ sym (append-nil (before ++ []))) };
-      });
-    }
+        asked = record { takes = (let Left : Option (List ℕ) → Type 0 = λ o. TakesSome o left in subst Left from (takes_same left)); first = inl from };
+      };
+    })
 
-module _ (turns : Turns) (l : Language) (terms : Terms) (start : List Event) (left written left' middle written' : Option (List ℕ)) (events : List Event) where
-  -- the lines of its turns are written, and a front of the last ones
-  pub closed_part : (closing : Closing) → RanTo turns l terms closing (point_of start left written) (point_of events left' middle) → AddsFront middle written' (closing_text l terms (standing_on l events) closing) → BreaksRun turns l terms start events left written written'
-  closed_part closing ran (front, back, parts, adds) bytes before from to =
-      let run = ran bytes before from to in
-      let Text : Type 0 = List ℕ in
-      let last : closing_text l terms (standing_on l run.run.events) run.run.closing ≡ front ++ back =
-      (λ i. closing_text l terms (standing_on l (run.events i)) (run.closing i)) ∙ parts in
-      record {
-        run = run.run;
-        runs = run.runs;
-        later = [];
-        extends = run.events ∙ sym (append-nil events);
-        text = record {
-          front = run.run.text ++ front;
-          back = back;
-          parts = ap (λ x. run.run.text ++ x) last ∙ sym (append_assoc run.run.text front back);
-          put = adds ∙ ap (option_map (λ w. w ++ front)) run.written ∙ some_text _ _ (append_assoc before run.run.text front);
-        };
-        held = inl refl;
-      }
+-- a front of the whole text of a run of these bytes
+record IsPartOfRun (turns : Turns) (l : Language) (terms : Terms) (start : List Event) (bytes before : List ℕ) (written : Option (List ℕ)) : Type 0 where
+  pub run : Ran
+  pub runs : Runs turns l terms start bytes run
+  pub text : Front (whole_text l terms run) before written
 
-  -- the lines of its turns aren't all written
-  pub cut_part : CutOff turns l terms (point_of start left written) (point_of events left' middle) → written' ≡ middle → BreaksRun turns l terms start events left written written'
-  cut_part cut same bytes before from to =
+module _ (turns : Turns) (l : Language) (terms : Terms) (start events : List Event) (left written left' written' : Option (List ℕ)) where
+  -- not all the lines of its turns
+  cut_part : CutOff turns l terms (point_of start left written) (point_of events left' written') → (bytes before : List ℕ) → left ≡ Some bytes → written ≡ Some before → IsPartOfRun turns l terms start bytes before written'
+  cut_part cut bytes before from to =
       let run = cut bytes before from to in
       let last : List ℕ = closing_text l terms (standing_on l run.run.events) run.run.closing in
       record {
         run = run.run;
         runs = run.runs;
-        later = run.later;
-        extends = run.events;
         text = record {
           front = run.text.front;
           back = run.text.back ++ last;
           parts = ap (λ x. x ++ last) run.text.parts ∙ append_assoc run.text.front run.text.back last;
-          put = same ∙ run.text.put;
+          put = run.text.put;
         };
-        held = let Stops : Option (List ℕ) → Type 0 = λ w. StopsAt turns l terms start events bytes before w in inr (subst Stops (sym same) run.stops);
       }
+
+  -- these, and a front of the last ones
+  closed_part : ClosesInPart turns l terms start events left written left' written' → (bytes before : List ℕ) → left ≡ Some bytes → written ≡ Some before → IsPartOfRun turns l terms start bytes before written'
+  closed_part closes bytes before from to =
+      let run = closes.ran bytes before from to in
+      let front : List ℕ = closes.adds.0 in
+      let back : List ℕ = closes.adds.1 in
+      let last : closing_text l terms (standing_on l run.run.events) run.run.closing ≡ front ++ back =
+      (λ i. closing_text l terms (standing_on l (run.events i)) (run.closing i)) ∙ closes.adds.2 in
+      record {
+        run = run.run;
+        runs = run.runs;
+        text = record {
+          front = run.run.text ++ front;
+          back = back;
+          parts = ap (λ x. run.run.text ++ x) last ∙ sym (append_assoc run.run.text front back);
+          put = closes.adds.3 ∙ ap (option_map (λ w. w ++ front)) run.written ∙ some_text _ _ (append_assoc before run.run.text front);
+        };
+      }
+
+  part_of_run : BreaksRun turns l terms start events left written left' written' → (bytes before : List ℕ) → left ≡ Some bytes → written ≡ Some before → IsPartOfRun turns l terms start bytes before written'
+  part_of_run (inl cut) = cut_part cut
+  part_of_run (inr closes) = closed_part closes
 
 -- ---- the text of the program
 
@@ -165,10 +173,10 @@ module _ (terms : Terms) (left rest written written' : Option (List ℕ)) (got :
       let is : Q (first_line_of 4194304 bytes) = subst Q (sym given.gives) (record { fault = fault; refused = refused; is = refl }) in
       inr (record { whole = refusal_text fault; is = inl is; text = front_of (refusal_text fault) before written written' adds to })
 
-  pub breaks_run : (line : List ℕ) (lang : Language) (events : List Event) → got ≡ Ok line → IsVocabulary line lang → BreaksRun line_turn lang terms [] events rest written written' → Breaks terms left written written'
-  breaks_run line lang events is vocabulary broken bytes before from to =
+  pub breaks_run : (line : List ℕ) (lang : Language) (events : List Event) (left' : Option (List ℕ)) → got ≡ Ok line → IsVocabulary line lang → BreaksRun line_turn lang terms [] events rest written left' written' → Breaks terms left written written'
+  breaks_run line lang events left' is vocabulary broken bytes before from to =
       let given = given_of (first_line_of 4194304) left rest got bytes gives from in
-      let part = broken given.rest before given.left to in
+      let part = part_of_run line_turn lang terms [] events rest written left' written' broken given.rest before given.left to in
       let whole : List ℕ = whole_text lang terms part.run in
       let Q : Gathered → Type 0 = λ first. IsTextOfRun terms first whole in
       let run : Q (first_line_of 4194304 bytes) =
@@ -197,13 +205,17 @@ acquires_by terms left rest written left' written' line lang events end gives vo
     go (ending.VocRefused fault) never tried = absurd (not_loops tried.how (ending.VocRefused fault) tried.is refl)
     go ending.Done never tried = absurd (not_loops tried.how ending.Done tried.is refl)
     go (ending.JournalRefused fault) never tried = absurd (not_loops tried.how (ending.JournalRefused fault) tried.is refl)
-    go ending.ReadFault never tried = breaks_run terms left rest written written' (Ok line) gives line lang events refl vocabulary (tried.broken (broken ending.ReadFault tried.how tried.is refl))
+    go ending.ReadFault never tried = record {
+      text = breaks_run terms left rest written written' (Ok line) gives line lang events left' refl vocabulary (inl (tried.broken (broken ending.ReadFault tried.how tried.is refl)));
+      step = inr (reads ending.ReadFault tried);
+    }
     go ending.WriteFault never tried = absurd (not_loops tried.how ending.WriteFault tried.is refl)
     go ending.DiskFault never tried = absurd (never refl)
     go ending.JournalFull never tried = absurd (tried.never_full (loops_by tried.how drove.JournalFull ending.JournalFull tried.is refl))
     go ending.Memory never tried = absurd (not_loops tried.how ending.Memory tried.is refl)
     go (ending.NotFresh m) never tried = absurd (not_loops tried.how (ending.NotFresh m) tried.is refl)
     go (ending.TargetRefused fault) never tried = absurd (not_loops tried.how (ending.TargetRefused fault) tried.is refl)
+    go (ending.ReduceSpent i) never tried = absurd (not_loops tried.how (ending.ReduceSpent i) tried.is refl)
 
 pub acquires_in : (terms : Terms) (left rest written left' written' : Option (List ℕ)) (line : List ℕ) (lang : Language) (got : Result Ending Put) →
     Gives (first_line_of 4194304) left rest (Ok line) → IsVocabulary line lang → IfOk got (λ (e : Ending). e ≡ ending.DiskFault → ⊥) →
@@ -212,12 +224,31 @@ acquires_in terms left rest written left' written' line lang (Ok end) gives voca
     acquires_by terms left rest written left' written' line lang events end gives vocabulary never tries
 acquires_in terms left rest written left' written' line lang (Err e) gives vocabulary never tries = tt
 
-pub breaks_in : (terms : Terms) (left rest written written' : Option (List ℕ)) (line : List ℕ) (lang : Language) (got : Result Ending Put) →
-    Gives (first_line_of 4194304) left rest (Ok line) → IsVocabulary line lang → OnErr got ((events : List Event) × BreaksRun line_turn lang terms [] events rest written written') → OnErr got (Breaks terms left written written')
-breaks_in terms left rest written written' line lang (Ok end) gives vocabulary broken = tt
-breaks_in terms left rest written written' line lang (Err e) gives vocabulary (events, broken) = breaks_run terms left rest written written' (Ok line) gives line lang events refl vocabulary broken
+pub breaks_in : (terms : Terms) (left rest written left' written' : Option (List ℕ)) (line : List ℕ) (lang : Language) (got : Result Ending Put) →
+    Gives (first_line_of 4194304) left rest (Ok line) → IsVocabulary line lang → OnErr got ((events : List Event) × BreaksRun line_turn lang terms [] events rest written left' written') → OnErr got (BreaksOff terms left written left' written')
+breaks_in terms left rest written left' written' line lang (Ok end) gives vocabulary broken = tt
+breaks_in terms left rest written left' written' line lang (Err e) gives vocabulary (events, broken) = record {
+  text = breaks_run terms left rest written written' (Ok line) gives line lang events left' refl vocabulary broken;
+  step = inr (inr (record { line = line; rest = rest; gives = gives; lang = lang; vocabulary = vocabulary; events = events; breaks = broken }));
+}
 
 pub breaks_refused : (terms : Terms) (left rest written written' : Option (List ℕ)) (first : Result (List ℕ) AllFault) (fault : VocFault) (got : Result Ending Put) →
-    Gives (first_line_of 4194304) left rest first → IsRefusal fault first → OnErr got (AddsFront written written' (refusal_text fault)) → OnErr got (Breaks terms left written written')
+    Gives (first_line_of 4194304) left rest first → IsRefusal fault first → OnErr got (AddsFront written written' (refusal_text fault)) → OnErr got (BreaksOff terms left written rest written')
 breaks_refused terms left rest written written' first fault (Ok end) gives refused adds = tt
-breaks_refused terms left rest written written' first fault (Err e) gives refused adds = breaks_refusal terms left rest written written' first gives fault refused adds
+breaks_refused terms left rest written written' first fault (Err e) gives refused adds = record {
+  text = breaks_refusal terms left rest written written' first gives fault refused adds;
+  step = inr (inl (record { fault = fault; refused = record { got = first; gives = gives; refused = refused }; adds = adds }));
+}
+
+-- nothing was written
+pub unbegun : (terms : Terms) (left left' written : Option (List ℕ)) → TakesOfLine 4194304 left left' ⊎ ((got : Result (List ℕ) AllFault) × Gives (first_line_of 4194304) left left' got) → BreaksOff terms left written left' written
+unbegun terms left left' written taken = record { text = λ bytes before from to. inl to; step = inl (record { silent = refl; taken = taken }) }
+
+pub unread : (terms : Terms) (left left' written : Option (List ℕ)) → TakesOfLine 4194304 left left' → Acquires terms left written left' written ending.ReadFault
+unread terms left left' written taken = record { text = λ bytes before from to. inl to; step = inl (record { silent = refl; taken = inl taken }) }
+
+-- the ending of the program, by what was answered
+pub acquires_as : (terms : Terms) (left written left' written' : Option (List ℕ)) (got : Result Ending Put) → IfOk got (Acquires terms left written left' written') → OnErr got (BreaksOff terms left written left' written') → Acquires terms left written left' written' (ended_as got)
+acquires_as terms left written left' written' (Ok end) done broken = done
+acquires_as terms left written left' written' (Err Failed) done broken = broken
+acquires_as terms left written left' written' (Err Memory) done broken = broken

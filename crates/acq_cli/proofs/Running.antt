@@ -128,7 +128,7 @@ idle_sized laws l lawful Scopes budget t network end q at h = (laws.values.scope
 idle_sized laws l lawful Quacq budget t network end q at h = (laws.lawful l Quacq budget t network end q lawful at (searched_is _ q h)).fits.size
 idle_sized laws l lawful Multi budget t network end q at h = (laws.lawful l Multi budget t network end q lawful at (searched_is _ q h)).fits.size
 
-sized_at : RunLaws → (l : Language) → IsLanguage l → (terms : Terms) (t : List Answer) (state : State) (q : Assignment) → state_after l terms.plan t ≡ At state → next_at l terms t state ≡ Puts q → length q ≡ variable_count l
+pub sized_at : RunLaws → (l : Language) → IsLanguage l → (terms : Terms) (t : List Answer) (state : State) (q : Assignment) → state_after l terms.plan t ≡ At state → next_at l terms t state ≡ Puts q → length q ≡ variable_count l
 sized_at laws l lawful terms t (Idle network end) q at h = idle_sized laws l lawful terms.plan terms.budget t network end q at h
 sized_at laws l lawful terms t (Halving e set replies network walk) q at h = (laws.values.opened l terms.plan t (Halving e set replies network walk) q lawful at (puts_is Collapsed _ q h)).fits.size
 sized_at laws l lawful terms t (Choosing s choices network walk) q at h = (laws.values.opened l terms.plan t (Choosing s choices network walk) q lawful at (puts_is Collapsed _ q h)).fits.size

@@ -1,11 +1,11 @@
 -- What `play` has done, of what its target said, and exactly when it refuses.
-use Rattle.std.proofs.Common.{◌≡◌, ◌≢◌, ◌≤◌, ◌⊎◌, ◌∙◌, ℕ, Bool, true, false, IsTrue, List, [], ◌∷◌, ◌++◌, length, map, ◌&&◌, ◌+◌, cond, drop, Option, Some, None, Result, Ok, Err, refl, sym, ap, subst, inl, inr, ⊎_elim, arith}
-use Rattle.std.specs.Prelude.{IfOk, IfSome, All, nat_le, nat_lt}
+use Rattle.std.proofs.Common.{◌≡◌, ◌≤◌, ◌⊎◌, ◌∙◌, ℕ, Bool, true, false, List, [], ◌∷◌, ◌++◌, length, ◌&&◌, ◌+◌, cond, drop, Option, Some, Result, Ok, Err, refl, sym, ap, subst, inl, inr, ⊎_elim, arith}
+use Rattle.std.specs.Prelude.{IfOk, All, nat_le}
 use Rattle.std.specs.Bool.{beq}
 use Rattle.std.proofs.lemmas.List.Elements.{All-head, All-tail}
 use Rattle.std.proofs.lemmas.List.{length-map}
 use Rattle.std.proofs.lemmas.Bool.{leb-false, lt-ltb}
-use Rattle.acq_io.specs.Whole.{Gathered, Gives, all_of, gathered}
+use Rattle.acq_io.specs.Whole.{all_of, gathered}
 use Rattle.acq_io.specs.declared.streams.Put.{Put}
 use Rattle.acq_io.specs.declared.streams.Put.TheVariants as put
 use Rattle.acq_io.specs.declared.whole.AllFault.{AllFault}
@@ -26,22 +26,21 @@ use Rattle.network.specs.Answers.{then_on}
 use Rattle.std.specs.Option.{ok_or}
 use Rattle.network.specs.declared.fault.NetFault.{NetFault}
 use Rattle.network.specs.declared.fault.NetFault.TheVariants as net
-use Rattle.session_store.specs.Left.{SaysSession}
 use Rattle.session_store.specs.declared.fault.SFault.{SFault}
-use Rattle.voc_read.specs.Vocabulary.{IsVocabulary}
 use Rattle.target_oracle.specs.NetTurns.{net_may_say, told_of_answer}
 use Rattle.target_oracle.specs.Turns.{Turns}
-use Rattle.acq_cli.specs.Added.{IsAdded}
-use Rattle.acq_cli.specs.Closings.{closing_of}
+use Rattle.acq_cli.specs.Added.{IsAdded, MayEnd}
 use Rattle.acq_cli.specs.Commands.{EndsExactly}
-use Rattle.acq_cli.specs.Driven.{HasEnded, HasFound}
+use Rattle.acq_cli.specs.Driven.{HasEnded}
 use Rattle.acq_cli.specs.Endings.{Tries}
-use Rattle.acq_cli.specs.Exactly.{HoldsSession, IsBrokenOff, MustRefuse, OpensExactly, RefusesOpening}
+use Rattle.acq_cli.specs.Exactly.{HoldsSession, IsBrokenOff, OpensExactly, RefusesOpening}
 use Rattle.acq_cli.specs.Making.{News}
-use Rattle.acq_cli.specs.Playing.{IsAnsweredBy, IsNoNetwork, HoldsAnswers, HoldsNoTarget, IsOpened, MayLack, MustLackTarget, PlayEnds, PlaysExactly, PlaysOn, RefusesTarget, EndsWithout}
+use Rattle.acq_cli.specs.Playing.{IsAnsweredBy, IsNoNetwork, IsUnstopped, HoldsAnswers, HoldsNoTarget, IsOpened, MayLack, PlayEnds, PlaysExactly, PlaysOn, RefusesTarget, EndsWithout}
 use Rattle.acq_cli.specs.Program.{ended_as}
 use Rattle.acq_cli.specs.Running.{RunsOn}
 use Rattle.acq_cli.specs.Showing.{Shows}
+use Rattle.acq_cli.specs.Reducing.{Reduces}
+use Rattle.acq_cli.proofs.Reduced.{reduce_ends}
 use Rattle.acq_cli.specs.Texts.{learned_in, learned_after}
 use Rattle.acq_cli.specs.Words.{command_asked}
 use Rattle.acq_cli.specs.declared.driving.Drove.{Drove}
@@ -53,7 +52,7 @@ use Rattle.acq_cli.specs.Journals.{untold}
 use Rattle.acq_cli.specs.declared.playing.NoTarget.{NoTarget}
 use Rattle.acq_cli.specs.declared.playing.NoTarget.TheVariants as without
 use Rattle.acq_cli.proofs.Closings.{okay, same_ok, err_ok, loops_by, not_loops}
-use Rattle.acq_cli.proofs.Exactly.{ReadOnce, fine, gives_got, vocabulary_as, holds_none, closed_end, closed_exactly, new_ends, run_ends, show_ends}
+use Rattle.acq_cli.proofs.Exactly.{ReadOnce, fine, gives_got, holds_none, lang_is, closed_end, closed_exactly, new_ends, run_ends, show_ends}
 
 -- ---- what its target said
 
@@ -79,27 +78,50 @@ agreeing_all l target (a ∷ t) given =
     both_true (beq (accepts l target a.question) a.yes) (agrees l target t) (says_so l target a.question a.yes (All-head (Given l target) a t given)) (agreeing_all l target t (All-tail (Given l target) a t given))
 
 -- answers that were added to none are its own
-agreeing_added : (l : Language) (plan : Plan) (target : List Candidate) (before after : List Event) → standing_on l before ≡ [] → IsAdded l plan (net_may_say target l) before after → agrees l target (standing_on l after) ≡ true
+pub agreeing_added : (l : Language) (plan : Plan) (target : List Candidate) (before after : List Event) → standing_on l before ≡ [] → IsAdded l plan (net_may_say target l) before after → agrees l target (standing_on l after) ≡ true
 agreeing_added l plan target before after none added =
     ap (agrees l target) (added.stand ∙ ap (λ (t : List Answer). t ++ added.answers) none) ∙ agreeing_all l target added.answers added.given
 
 -- what was found is true of it
-found_by : (l : Language) (terms : Terms) (t : List Answer) (how was : Drove) → how ≡ was → HasEnded l terms t how → HasEnded l terms t was
+pub found_by : (l : Language) (terms : Terms) (t : List Answer) (how was : Drove) → how ≡ was → HasEnded l terms t how → HasEnded l terms t was
 found_by l terms t how was is ended = subst (HasEnded l terms t) is ended
 
 never_collapses : (l : Language) (terms : Terms) (t : List Answer) (target : List Candidate) (m : ℕ) → IsNetwork l target → agrees l target t ≡ true → HasEnded l terms t (drove.Collapsed m) → ⊥
 never_collapses l terms t target m lawful agreeing ended = ended.found.none target lawful agreeing
 
-has_same : (l : Language) (terms : Terms) (t : List Answer) (target : List Candidate) (m : ℕ) → IsNetwork l target → agrees l target t ≡ true → HasEnded l terms t (drove.Converged m) → HasSameSolutions l target (learned_after l terms t)
+pub has_same : (l : Language) (terms : Terms) (t : List Answer) (target : List Candidate) (m : ℕ) → IsNetwork l target → agrees l target t ≡ true → HasEnded l terms t (drove.Converged m) → HasSameSolutions l target (learned_after l terms t)
 has_same l terms t target m lawful agreeing ended =
     let P : List Candidate → Type 0 = HasSameSolutions l target in
     subst P (sym (ap learned_in ended.found.idle)) (ended.found.converged.only target lawful agreeing)
 
+-- what it may say stops nothing
+pub unstopped : (l : Language) (target : List Candidate) (got : Result Ending Put) → MayEnd (net_may_say target l) got → IfOk got IsUnstopped
+unstopped l target (Ok (ending.Suspended m)) (q, said) = ⊎_elim (λ no. no) (λ no. no) said
+unstopped l target (Ok ending.LineTooLong) (q, said) = said
+unstopped l target (Ok ending.Unreadable) (q, said) = said
+unstopped l target (Ok ending.ReadFault) (q, said) = said
+unstopped l target (Ok (ending.Converged m)) said = tt
+unstopped l target (Ok ending.Done) said = tt
+unstopped l target (Ok (ending.Usage fault)) said = tt
+unstopped l target (Ok (ending.VocRefused fault)) said = tt
+unstopped l target (Ok (ending.JournalRefused fault)) said = tt
+unstopped l target (Ok (ending.Collapsed m)) said = tt
+unstopped l target (Ok (ending.Undecided m)) said = tt
+unstopped l target (Ok ending.WriteFault) said = tt
+unstopped l target (Ok ending.DiskFault) said = tt
+unstopped l target (Ok ending.Memory) said = tt
+unstopped l target (Ok ending.JournalFull) said = tt
+unstopped l target (Ok (ending.NotFresh m)) said = tt
+unstopped l target (Ok (ending.TargetRefused fault)) said = tt
+unstopped l target (Ok (ending.ReduceSpent i)) said = tt
+unstopped l target (Err e) said = tt
+
 pub answered : (turns : Turns) (l : Language) (terms : Terms) (target : List Candidate) (before after : List Event) (left written left' written' : Option (List ℕ)) (got : Result Ending Put) → IsNetwork l target → standing_on l before ≡ [] →
-    IsAdded l terms.plan (net_may_say target l) before after → IfOk got (Tries turns l terms before after left written left' written') → IsAnsweredBy target l terms (standing_on l after) got
-answered turns l terms target before after left written left' written' got lawful none added tries = record {
+    IsAdded l terms.plan (net_may_say target l) before after → MayEnd (net_may_say target l) got → IfOk got (Tries turns l terms before after left written left' written') → IsAnsweredBy target l terms (standing_on l after) got
+answered turns l terms target before after left written left' written' got lawful none added said tries = record {
   agreeing = agreeing;
   no_collapse = λ m is. collapsed got tries m is;
+  unstopped = unstopped l target got said;
   same = λ m is. converged got tries m is;
 }
   where
@@ -129,6 +151,7 @@ broken_exactly (Ok (command.New plan)) left content end broken = λ bytes from f
 broken_exactly (Ok (command.Run budget)) left content end broken = λ file told. inl broken
 broken_exactly (Ok (command.Play budget)) left content end broken = λ bytes from file told. inl broken
 broken_exactly (Ok command.Show) left content end broken = λ file told. inl broken
+broken_exactly (Ok (command.Reduce budget)) left content end broken = λ file told. inl broken
 broken_exactly (Ok (command.Try plan budget)) left content end broken = tt
 broken_exactly (Ok (command.Demo number budget)) left content end broken = tt
 broken_exactly (Err fault) left content end broken = tt
@@ -163,7 +186,7 @@ long_is_none l bytes is = go (nat_le (length bytes) 4194304) refl is
     go false which e = ap (λ b. cond b (Err net.TooLong) (then_on (ok_or (json_of bytes) net.NotJson) (network_in l))) (lt-ltb 4194304 (length bytes) (leb-false (length bytes) 4194304 which))
 
 -- a refused target is none of the bytes of the whole input
-none_of : (l : Language) (left left' : Option (List ℕ)) (bytes : List ℕ) (fault : NetFault) → RefusesTarget l left left' fault → left ≡ Some bytes → network_of l bytes ≡ Err fault
+pub none_of : (l : Language) (left left' : Option (List ℕ)) (bytes : List ℕ) (fault : NetFault) → RefusesTarget l left left' fault → left ≡ Some bytes → network_of l bytes ≡ Err fault
 none_of l left left' bytes fault refuses from = go refuses.got (gives_got (all_of 4194304) left left' refuses.got bytes refuses.gives from) refuses.refused
   where
     go : (got : Result (List ℕ) AllFault) → (all_of 4194304 bytes).got ≡ got → IsNoNetwork l fault got → network_of l bytes ≡ Err fault
@@ -225,49 +248,49 @@ okay_refusing target f e = cc
 play_closed : ReadOnce → (bytes file : List ℕ) (end : Ending) (f : SFault) → RefusesOpening file f → end ≡ ending.JournalRefused f → PlaysExactly bytes file end
 play_closed once bytes file end f why is = record {
   opens = closed_exactly once file end f why is;
-  stale = λ m e. absurd (journal_stale end f m is e);
-  if_stale = λ none m some holds. absurd (none f why);
-  refused = λ g e. absurd (journal_target end f g is e);
-  if_refused = λ none g must. absurd (none f why);
+  stale = λ m. (λ e. absurd (journal_stale end f m is e), λ holds. absurd (holds_none once file f why holds.1.session));
+  refused = λ g. (λ e. absurd (journal_target end f g is e), λ holds. absurd (holds_none once file f why holds.session));
 }
 
 -- a session is there, so the journal isn't refused
 opened_exactly : ReadOnce → (file : List ℕ) (end : Ending) → HoldsSession file → ((f : SFault) → end ≡ ending.JournalRefused f → ⊥) → OpensExactly file end
-opened_exactly once file end held other = record { refused = λ f e. absurd (other f e); refuses = λ f must. absurd (holds_none once file f must held) }
+opened_exactly once file end held other = record { refused = λ f. (λ e. absurd (other f e), λ why. absurd (holds_none once file f why held)) }
 
 play_stale : ReadOnce → (bytes file : List ℕ) (end : Ending) (held : HoldsSession file) (n : ℕ) → n ≡ length (standing_on held.lang held.events) → 1 ≤ n → end ≡ ending.NotFresh n → PlaysExactly bytes file end
 play_stale once bytes file end held n number some is = record {
   opens = opened_exactly once file end held (λ f e. journal_stale end f n e is);
-  stale = λ m e.
-      let same : n ≡ m = stale_is end n m is e in
-      (let Some' : ℕ → Type 0 = λ k. 1 ≤ k in subst Some' same some, record { session = held; number = sym same ∙ number });
-  if_stale = λ none m some holds. is ∙ ap (λ (k : ℕ). ending.NotFresh k) (number ∙ same_count file held holds.session ∙ sym holds.number);
-  refused = λ f e. absurd (stale_target end n f is e);
-  if_refused = λ none f must. absurd (not_some n (number ∙ same_count file held must.session ∙ no_count _ must.fresh) some);
+  stale = λ m. (
+    λ e.
+        let same : n ≡ m = stale_is end n m is e in
+        let Some' : ℕ → Type 0 = λ k. 1 ≤ k in
+        (subst Some' same some, record { session = held; number = sym same ∙ number }),
+    λ holds. is ∙ ap (λ (k : ℕ). ending.NotFresh k) (number ∙ same_count file held holds.1.session ∙ sym holds.1.number),
+  );
+  refused = λ f. (λ e. absurd (stale_target end n f is e), λ holds. absurd (not_some n (number ∙ same_count file held holds.session ∙ no_count _ holds.fresh) some));
 }
 
--- what must be none of the whole input is that
-must_be : (bytes file : List ℕ) (held : HoldsSession file) (f : NetFault) → MustLackTarget file bytes f → network_of held.lang bytes ≡ refusing f
-must_be bytes file held f must =
-    must.refused held.lang (vocabulary_as file held.plan must.session.plan held.voc must.session.voc held.events must.session.events held.lang held.says must.session.says held.read)
+-- what is none of one language of the file is none of the other, which is the same
+must_be : (bytes file : List ℕ) (held : HoldsSession file) (f : NetFault) → HoldsNoTarget file bytes f → network_of held.lang bytes ≡ refusing f
+must_be bytes file held f holds =
+    let s = holds.session in
+    ap (λ (l : Language). network_of l bytes) (lang_is file held.plan s.plan held.voc s.voc held.events s.events held.lang s.lang held.says s.says held.read s.read) ∙ holds.refused
 
 play_lacks : ReadOnce → (bytes file : List ℕ) (end : Ending) (held : HoldsSession file) (f : NetFault) → standing_on held.lang held.events ≡ [] → network_of held.lang bytes ≡ refusing f → end ≡ ending.TargetRefused f → PlaysExactly bytes file end
 play_lacks once bytes file end held f fresh none is = record {
   opens = opened_exactly once file end held (λ g e. journal_target end g f e is);
-  stale = λ m e. absurd (stale_target end m f e is);
-  if_stale = λ opens m some holds. absurd (fresh_holds file held fresh m holds some);
-  refused = λ g e. let Told : NetFault → Type 0 = λ x. network_of held.lang bytes ≡ refusing x in record { session = held; fresh = fresh; refused = subst Told (target_is end f g is e) none };
-  if_refused = λ opens g must. is ∙ ap (λ (x : NetFault). ending.TargetRefused x) (same_refusing f g (sym none ∙ must_be bytes file held g must));
+  stale = λ m. (λ e. absurd (stale_target end m f e is), λ holds. absurd (fresh_holds file held fresh m holds.1 holds.0));
+  refused = λ g. (
+    λ e. let Told : NetFault → Type 0 = λ x. network_of held.lang bytes ≡ refusing x in record { session = held; fresh = fresh; refused = subst Told (target_is end f g is e) none },
+    λ holds. is ∙ ap (λ (x : NetFault). ending.TargetRefused x) (same_refusing f g (sym none ∙ must_be bytes file held g holds)),
+  );
 }
 
 play_on : ReadOnce → (bytes file : List ℕ) (end : Ending) (held : HoldsSession file) (target : List Candidate) → standing_on held.lang held.events ≡ [] → network_of held.lang bytes ≡ Ok target →
     ((f : SFault) → end ≡ ending.JournalRefused f → ⊥) → ((m : ℕ) → end ≡ ending.NotFresh m → ⊥) → ((f : NetFault) → end ≡ ending.TargetRefused f → ⊥) → PlaysExactly bytes file end
 play_on once bytes file end held target fresh reads no_journal no_stale no_target = record {
   opens = opened_exactly once file end held no_journal;
-  stale = λ m e. absurd (no_stale m e);
-  if_stale = λ opens m some holds. absurd (fresh_holds file held fresh m holds some);
-  refused = λ g e. absurd (no_target g e);
-  if_refused = λ opens g must. absurd (okay_refusing target g (sym reads ∙ must_be bytes file held g must));
+  stale = λ m. (λ e. absurd (no_stale m e), λ holds. absurd (fresh_holds file held fresh m holds.1 holds.0));
+  refused = λ g. (λ e. absurd (no_target g e), λ holds. absurd (okay_refusing target g (sym reads ∙ must_be bytes file held g holds)));
 }
 
 module _ {D : Type 0} (content : D → Option (List ℕ)) (may_leave : D → List ℕ → Type 0) (moment : D → ℕ) (left_since : D → ℕ → List ℕ → Type 0) where
@@ -303,14 +326,16 @@ module _ {D : Type 0} (content : D → Option (List ℕ)) (may_leave : D → Lis
       ((budget : ℕ) → command_asked words ≡ Ok (command.Run budget) → RunsOn content may_leave moment left_since budget left written left' written' old new got) →
       ((budget : ℕ) → command_asked words ≡ Ok (command.Play budget) → PlaysOn content may_leave moment left_since budget left written left' written' old new got) →
       (command_asked words ≡ Ok command.Show → Shows content may_leave moment left_since left written written' old new got) →
+      ((budget : ℕ) → command_asked words ≡ Ok (command.Reduce budget) → Reduces content may_leave moment left_since budget left written written' old new got) →
       EndsExactly (command_asked words) left (content old) (ended_as got)
-  ends_exactly once words left written left' written' old new got news runs plays shows = of (command_asked words) refl
+  ends_exactly once words left written left' written' old new got news runs plays shows reduces = of (command_asked words) refl
     where
       of : (asked : Result Command UsageFault) → command_asked words ≡ asked → EndsExactly asked left (content old) (ended_as got)
       of (Ok (command.New plan)) is = new_ends content may_leave moment left_since plan left written left' written' old new got (news plan is)
       of (Ok (command.Run budget)) is = run_ends content may_leave moment left_since once budget left written left' written' old new got (runs budget is)
       of (Ok (command.Play budget)) is = play_ends once budget left written left' written' old new got (plays budget is)
       of (Ok command.Show) is = show_ends content may_leave moment left_since once left written written' old new got (shows is)
+      of (Ok (command.Reduce budget)) is = reduce_ends content may_leave moment left_since once budget left written written' old new got (reduces budget is)
       of (Ok (command.Try plan budget)) is = tt
       of (Ok (command.Demo number budget)) is = tt
       of (Err fault) is = tt

@@ -1,17 +1,18 @@
 -- What was done about a language, of its loop and what was said.
-use Rattle.std.proofs.Common.{◌≡◌, ◌≢◌, ◌∙◌, ℕ, Bool, true, false, List, [], sym, subst, refl, ap, Option, Some, None, Result, Ok, Err}
+use Rattle.std.proofs.Common.{◌≡◌, ◌≢◌, ◌∙◌, ℕ, Bool, true, false, List, [], sym, subst, refl, ap, Option, Some, None, Result, Ok, Err, inl, inr}
 use Rattle.std.specs.Prelude.{IfOk, OnErr, IfSome}
 use Rattle.acq_io.specs.declared.streams.Put.{Put}
-use Rattle.assign.specs.Events.{Answer}
 use Rattle.assign.specs.declared.events.Event.{Event}
 use Rattle.assign.specs.declared.events.Plan.{Plan}
 use Rattle.language.specs.Language.{Language}
 use Rattle.language.specs.Answers.{standing_on}
 use Rattle.target_oracle.specs.Lines.{line_turn}
 use Rattle.target_oracle.specs.Turns.{Turns}
+use Rattle.target_oracle.specs.declared.teacher.Told.{Told}
 use Rattle.query_gen.specs.Marks.{Remembered}
 use Rattle.acq_cli.specs.declared.terms.Terms.{Terms}
 use Rattle.assign.specs.Assignment.{Assignment}
+use Rattle.acq_cli.specs.Added.{MayEnd}
 use Rattle.acq_cli.specs.Closings.{closing_of, ending_of}
 use Rattle.acq_cli.specs.Driven.{Point, CutOff, Drives, HasEnded, LeavesNothing, Loses, RanTo, TellsOpen, UnkeptTo}
 use Rattle.acq_cli.specs.Points.{point_of, terms_with}
@@ -24,7 +25,6 @@ use Rattle.acq_cli.specs.Breaks.{BreaksRun}
 use Rattle.acq_cli.specs.Endings.{AddsLast, AddsLastFront, Closes, Says, SaysPart, Tries}
 use Rattle.acq_cli.specs.Run.{Closing}
 use Rattle.acq_cli.proofs.Closings.{okay, same_ok, err_ok, not_loops, read_by, disk_by, disk_said}
-use Rattle.acq_cli.proofs.Parts.{closed_part, cut_part}
 
 not_err : false ≡ true → ⊥
 not_err e = cc
@@ -50,7 +50,9 @@ module _ (turns : Turns) (l : Language) (terms : Terms) (start later : List Even
     is = says.0;
     says = drives.says;
     closed = closes_by (closing_of how) walked drives.closed says.1;
-    broken = λ none. cut_part turns l terms start left written left' middle written' later (drives.broken none) (says_nothing (closing_of how) none says.1);
+    broken = λ none.
+        let Cut : Option (List ℕ) → Type 0 = λ w. CutOff turns l terms (point_of start left written) (point_of later left' w) in
+        subst Cut (sym (says_nothing (closing_of how) none says.1)) (drives.broken none);
     unkept = λ lost.
         let Unkept : Option (List ℕ) → Type 0 = λ w. UnkeptTo turns l terms (point_of start left written) (point_of later left' w) in
         subst Unkept (sym (says_nothing (closing_of how) (ap closing_of lost) says.1)) (drives.unkept lost);
@@ -58,11 +60,13 @@ module _ (turns : Turns) (l : Language) (terms : Terms) (start later : List Even
   }
 
   part_by : (end : Result Ending Put) (o : Option Closing) → IfSome o Ran → (o ≡ None → CutOff turns l terms (point_of start left written) (point_of later left' middle)) →
-      AddsLastFront l terms (standing_on l later) middle written' end o → BreaksRun turns l terms start later left written written'
-  part_by end None ran cut part = cut_part turns l terms start left written left' middle written' later (cut refl) part.0
-  part_by end (Some closing) ran cut part = closed_part turns l terms start left written left' middle written' later closing ran part
+      AddsLastFront l terms (standing_on l later) middle written' end o → BreaksRun turns l terms start later left written left' written'
+  part_by end None ran cut part =
+      let Cut : Option (List ℕ) → Type 0 = λ w. CutOff turns l terms (point_of start left written) (point_of later left' w) in
+      inl (subst Cut (sym part.0) (cut refl))
+  part_by end (Some closing) ran cut part = inr (record { closing = closing; middle = middle; ran = ran; adds = part })
 
-  part_by_drove : (how : Drove) → Drives turns l terms (point_of start left written) (point_of later left' middle) how → SaysPart l terms (standing_on l later) middle written' how → BreaksRun turns l terms start later left written written'
+  part_by_drove : (how : Drove) → Drives turns l terms (point_of start left written) (point_of later left' middle) how → SaysPart l terms (standing_on l later) middle written' how → BreaksRun turns l terms start later left written left' written'
   part_by_drove how drives part = part_by (ending_of how) (closing_of how) drives.closed drives.broken part
 
 -- What the loop has done about a language and a plan, and what was said of it. The keeper's language and plan are the same
@@ -96,12 +100,20 @@ module _ (turns : Turns) (l now : Language) (p still : Plan) (budget : ℕ) (sta
       go (Err e) s = s
       go (Ok end) s = by_drove turns l (terms_with p budget) start later left written left' middle written' how end walked room drives s
 
-  pub broken : OnErr got (BreaksRun turns l (terms_with p budget) start later left written written')
+  pub broken : OnErr got (BreaksRun turns l (terms_with p budget) start later left written left' written')
   broken = go got said_part
     where
-      go : (r : Result Ending Put) → OnErr r (SaysPart l (terms_with p budget) (standing_on l later) middle written' how) → OnErr r (BreaksRun turns l (terms_with p budget) start later left written written')
+      go : (r : Result Ending Put) → OnErr r (SaysPart l (terms_with p budget) (standing_on l later) middle written' how) → OnErr r (BreaksRun turns l (terms_with p budget) start later left written left' written')
       go (Err e) part = part_by_drove turns l (terms_with p budget) start later left written left' middle written' how drives part
       go (Ok end) part = part
+
+  -- what may be said at the loop's end may be said at the program's
+  pub may_end : (may : Assignment → Told → Type 0) → MayEnd may (ending_of how) → MayEnd may got
+  may_end may ends = go got said
+    where
+      go : (r : Result Ending Put) → IfOk r (Says l (terms_with p budget) (standing_on l later) middle written' how) → MayEnd may r
+      go (Err e) s = tt
+      go (Ok end) s = let P : Result Ending Put → Type 0 = MayEnd may in subst P s.0 ends
 
   -- a read fault that is told is the loop's
   pub read_of : got ≡ Ok ending.ReadFault → how ≡ drove.ReadFault
@@ -153,13 +165,13 @@ fresh_tries l m p q budget none later left written left' written' got same plann
     go (Err e) h = h
     go (Ok end) h = (later, h)
 
-pub fresh_part : (l m : Language) (p q : Plan) (budget : ℕ) (none later : List Event) (left written written' : Option (List ℕ)) (got : Result Ending Put) → m ≡ l → q ≡ p → none ≡ [] →
-    OnErr got (BreaksRun line_turn m (terms_with q budget) none later left written written') → OnErr got ((events : List Event) × BreaksRun line_turn l (terms_with p budget) [] events left written written')
-fresh_part l m p q budget none later left written written' got same planned is part =
-    let None' : List Event → Type 0 = λ es. OnErr got (BreaksRun line_turn m (terms_with q budget) es later left written written') in
-    let Carried : Language → Plan → Type 0 = λ x r. OnErr got (BreaksRun line_turn x (terms_with r budget) [] later left written written') in
+pub fresh_part : (l m : Language) (p q : Plan) (budget : ℕ) (none later : List Event) (left written left' written' : Option (List ℕ)) (got : Result Ending Put) → m ≡ l → q ≡ p → none ≡ [] →
+    OnErr got (BreaksRun line_turn m (terms_with q budget) none later left written left' written') → OnErr got ((events : List Event) × BreaksRun line_turn l (terms_with p budget) [] events left written left' written')
+fresh_part l m p q budget none later left written left' written' got same planned is part =
+    let None' : List Event → Type 0 = λ es. OnErr got (BreaksRun line_turn m (terms_with q budget) es later left written left' written') in
+    let Carried : Language → Plan → Type 0 = λ x r. OnErr got (BreaksRun line_turn x (terms_with r budget) [] later left written left' written') in
     go got (carried Carried m l q p same planned (subst None' is part))
   where
-    go : (r : Result Ending Put) → OnErr r (BreaksRun line_turn l (terms_with p budget) [] later left written written') → OnErr r ((events : List Event) × BreaksRun line_turn l (terms_with p budget) [] events left written written')
+    go : (r : Result Ending Put) → OnErr r (BreaksRun line_turn l (terms_with p budget) [] later left written left' written') → OnErr r ((events : List Event) × BreaksRun line_turn l (terms_with p budget) [] events left written left' written')
     go (Err e) h = (later, h)
     go (Ok end) h = h

@@ -8,7 +8,7 @@ use Rattle.language.specs.Language.{Language, IsLanguage, IsQuestion}
 use Rattle.language.specs.Answers.{standing_on}
 use Rattle.session_store.specs.Kept.{answer_event}
 use Rattle.target_oracle.specs.Turns.{Turns, Reply, Said}
-use Rattle.target_oracle.specs.Tells.{Turn, Front}
+use Rattle.target_oracle.specs.Tells.{AsksFirst, Turn, Front}
 use Rattle.acq_cli.specs.Closings.{closing_of}
 use Rattle.acq_cli.specs.Run.{Closing, Runs, Next, Puts, Ends, next_after, next_on, number_on, after_text, ended}
 use Rattle.acq_cli.specs.declared.terms.Terms.{Terms}
@@ -80,6 +80,9 @@ steps_cut turns l terms a b c first second bytes before left written =
           parts = s.stops.text.parts;
           put = s.stops.text.put ∙ some_text _ _ (ap (λ x. x ++ s.stops.text.front) (append_assoc before f.done s.stops.done));
         };
+        asked =
+            let Asked : List ℕ → Type 0 = λ w. AsksFirst (Some s.stops.rest) (Some w) c.left c.written (next_lines turns l c.events [] (next_on l terms c.events)) in
+            subst Asked (append_assoc before f.done s.stops.done) s.stops.asked;
       };
     }
 
@@ -122,6 +125,16 @@ ToldSo turns l k q a b reply = (bytes before : List ℕ) → a.left ≡ Some byt
 -- where both tell, a front of the turn's text was written
 abbrev pub FrontSo : Turns → Language → ℕ → Assignment → Point → Point → Type 0
 FrontSo turns l k q a b = (bytes before : List ℕ) → a.left ≡ Some bytes → a.written ≡ Some before → Front (turns l k q bytes).text before b.written
+
+-- the question's line stood before any of the input was taken
+abbrev pub AskedSo : Turns → Language → ℕ → Assignment → Point → Point → Type 0
+AskedSo turns l k q a b = AsksFirst a.left a.written b.left b.written (turns l k q []).text
+
+asked_from : (turns : Turns) (l : Language) (k : ℕ) (q : Assignment) (a b : Point) (bytes before : List ℕ) → AskedSo turns l k q a b → a.left ≡ Some bytes → a.written ≡ Some before → AsksFirst (Some bytes) (Some (before ++ [])) b.left b.written (turns l k q []).text
+asked_from turns l k q a b bytes before asked left written =
+    let From : Option (List ℕ) → Type 0 = λ o. AsksFirst o a.written b.left b.written (turns l k q []).text in
+    let Put : Option (List ℕ) → Type 0 = λ w. AsksFirst (Some bytes) w b.left b.written (turns l k q []).text in
+    subst Put (written ∙ some_text _ _ (sym (append-nil before))) (subst From left asked)
 
 -- the turn's text, whole
 pub front_of_turn : (turns : Turns) (l : Language) (k : ℕ) (q : Assignment) (a b : Point) (reply : Reply) → ToldSo turns l k q a b reply → FrontSo turns l k q a b
@@ -168,8 +181,8 @@ ran_closed turns l terms q reply closing a b due same closes told bytes before l
 
 -- a turn that was cut off
 pub cut_turn : RunLaws → (turns : Turns) (l : Language) (terms : Terms) → IsLanguage l → (q : Assignment) (a b : Point) → IsWithin l terms.plan a.events → next_on l terms a.events ≡ Some (Puts q) →
-    b.events ≡ a.events → FrontSo turns l (number_on l a.events) q a b → CutOff turns l terms a b
-cut_turn laws turns l terms lawful q a b within due same told bytes before left written =
+    b.events ≡ a.events → FrontSo turns l (number_on l a.events) q a b → AskedSo turns l (number_on l a.events) q a b → CutOff turns l terms a b
+cut_turn laws turns l terms lawful q a b within due same told asked bytes before left written =
     let f = told bytes before left written in
     let turn = turn_exists laws turns l terms lawful a.events bytes q within due in
     record {
@@ -184,13 +197,15 @@ cut_turn laws turns l terms lawful q a b within due same told bytes before left 
       later = turn.has.later;
       events = turn.has.extends ∙ ap (λ x. x ++ turn.has.later) (sym same);
       stops =
-          let Stops : List Event → Type 0 = λ x. StopsAt turns l terms a.events x bytes before b.written in
+          let Stops : List Event → Type 0 = λ x. StopsAt turns l terms a.events x bytes before b.left b.written in
           let Lines : Option Next → Type 0 = λ n. Front (next_lines turns l a.events bytes n) (before ++ []) b.written in
+          let Asked : Option Next → Type 0 = λ n. AsksFirst (Some bytes) (Some (before ++ [])) b.left b.written (next_lines turns l a.events [] n) in
           subst Stops (sym same) (record {
             rest = bytes;
             done = [];
             begins = λ run runs. runs;
             text = subst Lines (sym due) (record { front = f.front; back = f.back; parts = f.parts; put = f.put ∙ some_text _ _ (ap (λ x. x ++ f.front) (sym (append-nil before))) });
+            asked = subst Asked (sym due) (asked_from turns l (number_on l a.events) q a b bytes before asked left written);
           });
     }
 
@@ -223,3 +238,7 @@ told_as turns l m k n q a b reply e f h =
 pub front_as : (turns : Turns) (l m : Language) (k n : ℕ) (q : Assignment) (a b : Point) → l ≡ m → k ≡ n → FrontSo turns l k q a b → FrontSo turns m n q a b
 front_as turns l m k n q a b e f h =
     let P : Language → Type 0 = λ x. FrontSo turns x n q a b in let Q : ℕ → Type 0 = λ x. FrontSo turns l x q a b in subst P e (subst Q f h)
+
+pub asked_as : (turns : Turns) (l m : Language) (k n : ℕ) (q : Assignment) (a b : Point) → l ≡ m → k ≡ n → AskedSo turns l k q a b → AskedSo turns m n q a b
+asked_as turns l m k n q a b e f h =
+    let P : Language → Type 0 = λ x. AskedSo turns x n q a b in let Q : ℕ → Type 0 = λ x. AskedSo turns l x q a b in subst P e (subst Q f h)

@@ -1,24 +1,24 @@
--- What was written of a run that breaks off.
-use Rattle.std.specs.Prelude.{◌≡◌, ◌⊎◌, ℕ, List, [], ◌++◌, Option, Some}
+-- How a run breaks off.
+use Rattle.std.specs.Prelude.{◌⊎◌, ℕ, List, Option}
+use Rattle.acq_io.specs.Streams.{AddsFront}
 use Rattle.assign.specs.declared.events.Event.{Event}
 use Rattle.language.specs.Language.{Language}
+use Rattle.language.specs.Answers.{standing_on}
 use Rattle.target_oracle.specs.Turns.{Turns}
-use Rattle.target_oracle.specs.Tells.{Front}
-use Rattle.acq_cli.specs.Driven.{StopsAt}
-use Rattle.acq_cli.specs.Run.{Ran, Runs}
-use Rattle.acq_cli.specs.Texts.{whole_text}
+use Rattle.acq_cli.specs.Driven.{CutOff, RanTo}
+use Rattle.acq_cli.specs.Points.{point_of}
+use Rattle.acq_cli.specs.Run.{Closing}
+use Rattle.acq_cli.specs.Texts.{closing_text}
 use Rattle.acq_cli.specs.declared.terms.Terms.{Terms}
 
--- A front of the whole text of a run of these bytes was written, which goes on after the first events. It has those that are
--- there at last, and maybe more: then nothing was written behind the lines of the question that comes after those.
-pub record IsPartOfRun (turns : Turns) (l : Language) (terms : Terms) (start events : List Event) (bytes before : List ℕ) (written : Option (List ℕ)) : Type 0 where
-  pub run : Ran
-  pub runs : Runs turns l terms start bytes run
-  pub later : List Event
-  pub extends : run.events ≡ events ++ later
-  pub text : Front (whole_text l terms run) before written
-  pub held : (later ≡ []) ⊎ StopsAt turns l terms start events bytes before written
+-- the run was closed, and of its last lines a front was written
+pub record ClosesInPart (turns : Turns) (l : Language) (terms : Terms) (start events : List Event) (left written left' written' : Option (List ℕ)) : Type 0 where
+  pub closing : Closing
+  pub middle : Option (List ℕ)
+  pub ran : RanTo turns l terms closing (point_of start left written) (point_of events left' middle)
+  pub adds : AddsFront middle written' (closing_text l terms (standing_on l events) closing)
 
--- where input and output tell their bytes
-abbrev pub BreaksRun : Turns → Language → Terms → (start events : List Event) → (left written written' : Option (List ℕ)) → Type 0
-BreaksRun turns l terms start events left written written' = (bytes before : List ℕ) → left ≡ Some bytes → written ≡ Some before → IsPartOfRun turns l terms start events bytes before written'
+-- before it was closed, and then none of its last lines was written, or in these
+abbrev pub BreaksRun : Turns → Language → Terms → (start events : List Event) → (left written left' written' : Option (List ℕ)) → Type 0
+BreaksRun turns l terms start events left written left' written' =
+    CutOff turns l terms (point_of start left written) (point_of events left' written') ⊎ ClosesInPart turns l terms start events left written left' written'

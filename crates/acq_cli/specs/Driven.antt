@@ -18,8 +18,9 @@ use Rattle.session_laws.specs.Session.{State, Idle, Over, At, state_after, walk_
 use Rattle.session_laws.specs.Walk.{WalkEnd, Ended}
 use Rattle.session_laws.specs.Laws.{IsWalked, network_in}
 use Rattle.target_oracle.specs.Turns.{Turns, Said}
-use Rattle.target_oracle.specs.Tells.{Front}
+use Rattle.target_oracle.specs.Tells.{AsksFirst, Front}
 use Rattle.acq_cli.specs.Closings.{closing_of, number_of}
+use Rattle.acq_cli.specs.Few.{AreFew}
 use Rattle.acq_cli.specs.Run.{Closing, Converged, Collapsed, Undecided, Next, Puts, Ends, next_after, next_on, number_on, Ran, Runs, after_text}
 use Rattle.acq_cli.specs.Texts.{open_candidates}
 use Rattle.acq_cli.specs.declared.terms.Terms.{Terms}
@@ -63,12 +64,14 @@ next_lines turns l events bytes (Some (Ends closing)) = []
 next_lines turns l events bytes (Some (Puts q)) = (turns l (number_on l events) q bytes).text
 
 -- What was written goes no further than the lines of the question that comes after these events. So no event is missing behind
--- whose lines something was written.
-pub record StopsAt (turns : Turns) (l : Language) (terms : Terms) (start events : List Event) (bytes before : List ℕ) (written : Option (List ℕ)) : Type 0 where
+-- whose lines something was written. Of the bytes that were there when the question came, the input has an end. Before any of
+-- them was taken, what the question's turn writes to no bytes stood there: its line.
+pub record StopsAt (turns : Turns) (l : Language) (terms : Terms) (start events : List Event) (bytes before : List ℕ) (left written : Option (List ℕ)) : Type 0 where
   pub rest : List ℕ
   pub done : List ℕ
   pub begins : (run : Ran) → Runs turns l terms events rest run → Runs turns l terms start bytes (after_text done run)
   pub text : Front (next_lines turns l events rest (next_on l terms events)) (before ++ done) written
+  pub asked : AsksFirst (Some rest) (Some (before ++ done)) left written (next_lines turns l events [] (next_on l terms events))
 
 -- What was written is a front of the run's text, and the events are a front of its events, with each behind whose lines
 -- something was written.
@@ -78,7 +81,7 @@ pub record IsCut (turns : Turns) (l : Language) (terms : Terms) (bytes before : 
   pub text : Front run.text before new.written
   pub later : List Event
   pub events : run.events ≡ new.events ++ later
-  pub stops : StopsAt turns l terms old.events new.events bytes before new.written
+  pub stops : StopsAt turns l terms old.events new.events bytes before new.left new.written
 
 abbrev pub CutOff : Turns → Language → Terms → Point → Point → Type 0
 CutOff turns l terms old new = (bytes before : List ℕ) → old.left ≡ Some bytes → old.written ≡ Some before → IsCut turns l terms bytes before old new
@@ -103,7 +106,7 @@ pub record Loses (turns : Turns) (l : Language) (terms : Terms) (old new : Point
 abbrev pub UnkeptTo : Turns → Language → Terms → Point → Point → Type 0
 UnkeptTo turns l terms old new = (question : Assignment) × (reply : Bool) × Loses turns l terms old new question reply
 
--- nothing is left to ask, and the answers converge on what was learned
+-- nothing is left to ask, and the few answers converge on what was learned
 pub record IsDone (l : Language) (terms : Terms) (t : List Answer) : Type 0 where
   pub network : List Candidate
   pub end : Option WalkEnd
@@ -111,6 +114,7 @@ pub record IsDone (l : Language) (terms : Terms) (t : List Answer) : Type 0 wher
   pub ends : next_after l terms t ≡ Some (Ends Converged)
   pub covered : IsCovered l network t
   pub converged : IsConverged l network t
+  pub few : AreFew l network t
 
 -- no network agrees with the answers, which never comes scope by scope
 pub record IsCollapsed (l : Language) (terms : Terms) (t : List Answer) : Type 0 where

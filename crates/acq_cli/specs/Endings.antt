@@ -10,7 +10,7 @@ use Rattle.target_oracle.specs.Turns.{Turns}
 use Rattle.acq_cli.specs.Run.{Closing}
 use Rattle.acq_cli.specs.Breaks.{BreaksRun}
 use Rattle.acq_cli.specs.Closings.{closing_of, ending_of}
-use Rattle.acq_cli.specs.Driven.{HasEnded, LeavesNothing, RanTo, UnkeptTo}
+use Rattle.acq_cli.specs.Driven.{CutOff, HasEnded, LeavesNothing, RanTo, UnkeptTo}
 use Rattle.acq_cli.specs.Points.{point_of}
 use Rattle.acq_cli.specs.Texts.{closing_text}
 use Rattle.acq_cli.specs.declared.terms.Terms.{Terms}
@@ -51,7 +51,8 @@ pub record Tries (turns : Turns) (l : Language) (terms : Terms) (start events : 
   pub is : ending_of how ≡ Ok end
   pub says : HasEnded l terms (standing_on l events) how
   pub closed : IfSome (closing_of how) (Closes turns l terms start events left written left' written')
-  pub broken : closing_of how ≡ None → BreaksRun turns l terms start events left written written'
+  -- where something failed before the run was closed, none of its last lines was written
+  pub broken : closing_of how ≡ None → CutOff turns l terms (point_of start left written) (point_of events left' written')
   -- where the disk failed, what was written ends with the lines of the question whose answer wasn't kept
   pub unkept : how ≡ drove.DiskFault → UnkeptTo turns l terms (point_of start left written) (point_of events left' written')
   -- no session takes as many answers as a journal
@@ -60,4 +61,4 @@ pub record Tries (turns : Turns) (l : Language) (terms : Terms) (start events : 
 -- what was done about it, said whole, or in part where something failed
 pub record HasAsked (turns : Turns) (l : Language) (terms : Terms) (start events : List Event) (left written left' written' : Option (List ℕ)) (got : Result Ending Put) : Type 0 where
   pub tries : IfOk got (Tries turns l terms start events left written left' written')
-  pub part : OnErr got (BreaksRun turns l terms start events left written written')
+  pub part : OnErr got (BreaksRun turns l terms start events left written left' written')

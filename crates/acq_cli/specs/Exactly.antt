@@ -9,10 +9,9 @@ use Rattle.answer_journal.specs.Making.{CreateRefused}
 use Rattle.assign.specs.declared.events.Event.{Event}
 use Rattle.assign.specs.declared.events.Plan.{Plan}
 use Rattle.language.specs.Language.{Language}
-use Rattle.session_laws.specs.Session.{Stray}
 use Rattle.session_store.specs.Left.{SaysSession}
-use Rattle.session_store.specs.Opening.{HasBadVocabulary, JournalNotOpened, NotOpened}
-use Rattle.session_store.specs.Replay.{HavePlaces, replay}
+use Rattle.session_store.specs.Opening.{NotOpened}
+use Rattle.session_store.specs.Replay.{HavePlaces}
 use Rattle.session_store.specs.declared.fault.SFault.{SFault}
 use Rattle.session_store.specs.declared.fault.SFault.TheVariants as store
 use Rattle.voc_read.specs.Vocabulary.{IsVocabulary, refusal_of_vocabulary}
@@ -65,26 +64,9 @@ NewEnds left content end = ForSome left (λ bytes. ForSome content (λ file. IsB
 abbrev pub RefusesOpening : List ℕ → SFault → Type 0
 RefusesOpening file f = (untold f ≡ None) × NotOpened file f
 
--- an event has no place, whichever language it is that the vocabulary describes
-pub record IsStray (file : List ℕ) (i : ℕ) : Type 0 where
-  pub plan : Plan
-  pub voc : List ℕ
-  pub events : List Event
-  pub says : SaysSession file plan voc events
-  pub taken : refusal_of_vocabulary voc ≡ None
-  pub stray : (lang : Language) → IsVocabulary voc lang → replay lang plan events ≡ Stray i
-
--- there is no other answer than this reason
-abbrev pub MustRefuse : List ℕ → SFault → Type 0
-MustRefuse file (store.Journal f) = (untold (store.Journal f) ≡ None) × JournalNotOpened file f
-MustRefuse file (store.Voc f) = HasBadVocabulary file f
-MustRefuse file (store.Stray i) = IsStray file i
-MustRefuse file store.Memory = ⊥
-
 -- a journal is refused exactly for what its bytes say
 pub record OpensExactly (file : List ℕ) (end : Ending) : Type 0 where
-  pub refused : (f : SFault) → end ≡ ending.JournalRefused f → RefusesOpening file f
-  pub refuses : (f : SFault) → MustRefuse file f → end ≡ ending.JournalRefused f
+  pub refused : (f : SFault) → (end ≡ ending.JournalRefused f) ↔ RefusesOpening file f
 
 -- the file holds a session, and each of its events has a place
 pub record HoldsSession (file : List ℕ) : Type 0 where
@@ -96,10 +78,10 @@ pub record HoldsSession (file : List ℕ) : Type 0 where
   pub read : IsVocabulary voc lang
   pub places : HavePlaces lang plan events
 
--- `show` is done only over a session, and wherever nothing refuses the file
+-- `show` is done exactly over a session, which is wherever nothing refuses the file
 pub record ShowsExactly (file : List ℕ) (end : Ending) : Type 0 where
   pub opens : OpensExactly file end
-  pub done : end ≡ ending.Done → HoldsSession file
+  pub done : (end ≡ ending.Done) ↔ HoldsSession file
   pub else_done : ((f : SFault) → RefusesOpening file f → ⊥) → end ≡ ending.Done
 
 -- where the disk tells its bytes

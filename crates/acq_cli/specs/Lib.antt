@@ -1,4 +1,5 @@
 pub mod Run
+pub mod Few
 pub mod Closings
 pub mod Driven
 pub mod Added
@@ -12,10 +13,16 @@ pub mod Program
 pub mod Words
 pub mod Shows
 pub mod Journals
+pub mod Usage
 pub mod Trying
 pub mod Making
 pub mod Running
 pub mod Showing
 pub mod Exactly
 pub mod Playing
+pub mod Demoing
+pub mod Reducing
 pub mod Commands
+pub mod Completing
+pub mod Laws
+pub mod OneText

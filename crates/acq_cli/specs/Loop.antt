@@ -1,6 +1,6 @@
 -- What a turn and the loop begin with, how they go on and end, and what stays the same.
 use Rattle.std.specs.Prelude.{◌≡◌, ◌≢◌, ◌≤◌, ◌<◌, ◌+◌, ℕ, IsTrue, Bool, List, length, Option, Some}
-use Rattle.acq_io.specs.Streams.{Rose}
+use Rattle.acq_io.specs.Streams.{Rose, TakesSome}
 use Rattle.acq_words.specs.Request.{IsBudget}
 use Rattle.assign.specs.Assignment.{Assignment}
 use Rattle.assign.specs.Events.{Answer}
@@ -26,9 +26,15 @@ pub record CountsFaults (before now : ℕ) (told : Type 0) : Type 0 where
   pub later : before ≤ now
   pub rose : told → Rose before now
 
--- so do the counts of input and output, for their faults
-pub record CountsBoth (input input_now output output_now : ℕ) (read_told write_told : Type 0) : Type 0 where
-  pub read : CountsFaults input input_now read_told
+-- The input has an end of what it had, and so do its faults count.
+pub record HasRead (left left' : Option (List ℕ)) (before now : ℕ) (told : Type 0) : Type 0 where
+  pub takes : TakesSome left left'
+  pub later : before ≤ now
+  pub rose : told → Rose before now
+
+-- what is left of the input, and the faults of both
+pub record HasReadAndWritten (left left' : Option (List ℕ)) (input input_now output output_now : ℕ) (read_told write_told : Type 0) : Type 0 where
+  pub read : HasRead left left' input input_now read_told
   pub write : CountsFaults output output_now write_told
 
 -- ---- what is begun with

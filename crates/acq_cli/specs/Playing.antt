@@ -1,5 +1,5 @@
 -- What `play` has done.
-use Rattle.std.specs.Prelude.{◌≡◌, ◌⊎◌, ◌≤◌, ℕ, false, IsTrue, List, [], length, Option, Result, Ok, Err}
+use Rattle.std.specs.Prelude.{◌≡◌, ◌⊎◌, ◌↔◌, ◌≤◌, ℕ, false, IsTrue, List, [], length, Option, Result, Ok, Err, IfOk}
 use Rattle.std.specs.Option.{ForSome}
 use Rattle.acq_io.specs.Whole.{Gives, all_of}
 use Rattle.acq_io.specs.declared.streams.Put.{Put}
@@ -15,10 +15,9 @@ use Rattle.network.specs.Target.{network_of}
 use Rattle.network.specs.declared.fault.NetFault.{NetFault}
 use Rattle.session_store.specs.Left.{SaysSession}
 use Rattle.session_store.specs.Replay.{HavePlaces}
-use Rattle.session_store.specs.declared.fault.SFault.{SFault}
 use Rattle.target_oracle.specs.NetTurns.{net_turn, net_may_say}
 use Rattle.voc_read.specs.Vocabulary.{IsVocabulary}
-use Rattle.acq_cli.specs.Exactly.{HoldsSession, IsBrokenOff, OpensExactly, RefusesOpening}
+use Rattle.acq_cli.specs.Exactly.{HoldsSession, IsBrokenOff, OpensExactly}
 use Rattle.acq_cli.specs.Journals.{EndsWith, StaysClosed}
 use Rattle.acq_cli.specs.Points.{terms_with}
 use Rattle.acq_cli.specs.Running.{GoesOn}
@@ -66,11 +65,20 @@ EndsWithout without.Memory written written' got = (got ≡ Err put.Memory) × (w
 
 -- ---- Its answers
 
--- Whatever input and output tell, the target gave each answer. So it never collapses, and what was learned where the answers
--- converge has exactly the target's solutions.
+-- a network neither stops nor reads, so it doesn't end so
+abbrev pub IsUnstopped : Ending → Type 0
+IsUnstopped (ending.Suspended m) = ⊥
+IsUnstopped ending.LineTooLong = ⊥
+IsUnstopped ending.Unreadable = ⊥
+IsUnstopped ending.ReadFault = ⊥
+IsUnstopped end = Unit {0}
+
+-- Whatever input and output tell, the target gave each answer. So it never collapses, nothing stops it, and what was learned
+-- where the answers converge has exactly the target's solutions.
 pub record IsAnsweredBy (target : List Candidate) (l : Language) (terms : Terms) (t : List Answer) (got : Result Ending Put) : Type 0 where
   pub agreeing : IsTrue (agrees l target t)
   pub no_collapse : (m : ℕ) → got ≡ Ok (ending.Collapsed m) → ⊥
+  pub unstopped : IfOk got IsUnstopped
   pub same : (m : ℕ) → got ≡ Ok (ending.Converged m) → HasSameSolutions l target (learned_after l terms t)
 
 -- ---- The command
@@ -133,20 +141,12 @@ pub record HoldsNoTarget (file bytes : List ℕ) (fault : NetFault) : Type 0 whe
   pub fresh : standing_on session.lang session.events ≡ []
   pub refused : network_of session.lang bytes ≡ Err fault
 
--- they are none, whichever language it is that the vocabulary describes
-pub record MustLackTarget (file bytes : List ℕ) (fault : NetFault) : Type 0 where
-  pub session : HoldsSession file
-  pub fresh : standing_on session.lang session.events ≡ []
-  pub refused : (lang : Language) → IsVocabulary session.voc lang → network_of lang bytes ≡ Err fault
-
--- A journal is refused exactly for what its bytes say. Where they don't refuse it, answers are told exactly where some stand,
--- and else a target is refused exactly for what the input's bytes say.
+-- A journal is refused exactly for what its bytes say, answers are told exactly where some stand, and a target is refused
+-- exactly where none stand, for what the input's bytes say.
 pub record PlaysExactly (bytes file : List ℕ) (end : Ending) : Type 0 where
   pub opens : OpensExactly file end
-  pub stale : (m : ℕ) → end ≡ ending.NotFresh m → (1 ≤ m) × HoldsAnswers file m
-  pub if_stale : ((f : SFault) → RefusesOpening file f → ⊥) → (m : ℕ) → 1 ≤ m → HoldsAnswers file m → end ≡ ending.NotFresh m
-  pub refused : (f : NetFault) → end ≡ ending.TargetRefused f → HoldsNoTarget file bytes f
-  pub if_refused : ((f : SFault) → RefusesOpening file f → ⊥) → (f : NetFault) → MustLackTarget file bytes f → end ≡ ending.TargetRefused f
+  pub stale : (m : ℕ) → (end ≡ ending.NotFresh m) ↔ ((1 ≤ m) × HoldsAnswers file m)
+  pub refused : (f : NetFault) → (end ≡ ending.TargetRefused f) ↔ HoldsNoTarget file bytes f
 
 -- where input and disk tell their bytes
 abbrev pub PlayEnds : (left content : Option (List ℕ)) → Ending → Type 0

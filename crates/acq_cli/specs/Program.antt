@@ -38,3 +38,4 @@ status_of ending.Memory = 11
 status_of ending.JournalFull = 12
 status_of (ending.NotFresh m) = 13
 status_of (ending.TargetRefused fault) = 14
+status_of (ending.ReduceSpent i) = 20

@@ -43,7 +43,7 @@ module _ {D : Type 0} (content : D → Option (List ℕ)) (may_leave : D → Lis
     pub later : List Event
     pub added : IsAdded lang plan (may lang) events later
     pub tries : IfOk got (Tries turns lang (terms_with plan budget) events later left written left' written')
-    pub part : OnErr got (BreaksRun turns lang (terms_with plan budget) events later left written written')
+    pub part : OnErr got (BreaksRun turns lang (terms_with plan budget) events later left written left' written')
     -- the answer whose adding failed: that to the question that came next
     pub last : List Event
     pub none_lost : (got ≡ Ok ending.DiskFault → ⊥) → last ≡ []

@@ -1,7 +1,7 @@
 -- What `try` has done, by how it ended.
 use Rattle.std.specs.Prelude.{◌≡◌, ℕ, List, [], Option, Some, Result, Ok, ◌⊎◌, Err}
-use Rattle.acq_io.specs.Streams.{Adds}
-use Rattle.acq_io.specs.Whole.{Gives, first_line_of, Gathered}
+use Rattle.acq_io.specs.Streams.{Adds, AddsFront}
+use Rattle.acq_io.specs.Whole.{Gives, first_line_of, Gathered, TakesOfLine}
 use Rattle.acq_io.specs.declared.whole.AllFault.{AllFault}
 use Rattle.assign.specs.declared.events.Event.{Event}
 use Rattle.language.specs.Language.{Language}
@@ -14,6 +14,7 @@ use Rattle.acq_cli.specs.declared.terms.Terms.{Terms}
 use Rattle.acq_cli.specs.declared.ending.Ending.{Ending}
 use Rattle.acq_io.specs.declared.whole.AllFault.TheVariants.{TooLong}
 use Rattle.target_oracle.specs.Tells.{Front}
+use Rattle.acq_cli.specs.Breaks.{BreaksRun}
 use Rattle.acq_cli.specs.Endings.{Tries}
 use Rattle.acq_cli.specs.declared.ending.Ending.TheVariants as ending
 use Rattle.voc_read.specs.declared.fault.VocFault.TheVariants as voc
@@ -70,6 +71,41 @@ pub record IsRefused (fault : VocFault) (left left' : Option (List ℕ)) : Type 
   pub gives : Gives (first_line_of 4194304) left left' got
   pub refused : IsRefusal fault got
 
+-- nothing was written, and no more was taken than the first line
+pub record IsUnbegun (left written left' written' : Option (List ℕ)) : Type 0 where
+  pub silent : written' ≡ written
+  pub taken : TakesOfLine 4194304 left left' ⊎ ((got : Result (List ℕ) AllFault) × Gives (first_line_of 4194304) left left' got)
+
+-- a front of a refusal was written
+pub record IsRefusedInPart (left written left' written' : Option (List ℕ)) : Type 0 where
+  pub fault : VocFault
+  pub refused : IsRefused fault left left'
+  pub adds : AddsFront written written' (refusal_text fault)
+
+-- the first line of the input is a vocabulary, and a run of the lines after it broke off
+pub record IsRunInPart (terms : Terms) (left written left' written' : Option (List ℕ)) : Type 0 where
+  pub line : List ℕ
+  pub rest : Option (List ℕ)
+  pub gives : Gives (first_line_of 4194304) left rest (Ok line)
+  pub lang : Language
+  pub vocabulary : IsVocabulary line lang
+  pub events : List Event
+  pub breaks : BreaksRun line_turn lang terms [] events rest written left' written'
+
+-- where `try` has broken off for want of the output or of memory
+abbrev pub BreaksAt : Terms → (left written left' written' : Option (List ℕ)) → Type 0
+BreaksAt terms left written left' written' = IsUnbegun left written left' written' ⊎ (IsRefusedInPart left written left' written' ⊎ IsRunInPart terms left written left' written')
+
+-- That, and where input and output tell their bytes, a front of the whole text.
+pub record BreaksOff (terms : Terms) (left written left' written' : Option (List ℕ)) : Type 0 where
+  pub text : Breaks terms left written written'
+  pub step : BreaksAt terms left written left' written'
+
+-- The input failed in the first line, or in a run that wasn't closed.
+pub record BreaksReading (terms : Terms) (left written left' written' : Option (List ℕ)) : Type 0 where
+  pub text : Breaks terms left written written'
+  pub step : IsUnbegun left written left' written' ⊎ ReadsVocabulary terms left written left' written' ending.ReadFault
+
 -- what `try` has done
 abbrev pub Acquires : Terms → (left written left' written' : Option (List ℕ)) → Ending → Type 0
 Acquires terms left written left' written' (ending.Usage fault) = ⊥
@@ -79,9 +115,10 @@ Acquires terms left written left' written' ending.DiskFault = ⊥
 Acquires terms left written left' written' ending.JournalFull = ⊥
 Acquires terms left written left' written' (ending.NotFresh m) = ⊥
 Acquires terms left written left' written' (ending.TargetRefused fault) = ⊥
+Acquires terms left written left' written' (ending.ReduceSpent i) = ⊥
 Acquires terms left written left' written' (ending.VocRefused fault) = IsRefused fault left left' × Adds written written' (refusal_text fault)
-Acquires terms left written left' written' ending.ReadFault = Breaks terms left written written'
-Acquires terms left written left' written' ending.WriteFault = Breaks terms left written written'
-Acquires terms left written left' written' ending.Memory = Breaks terms left written written'
+Acquires terms left written left' written' ending.ReadFault = BreaksReading terms left written left' written'
+Acquires terms left written left' written' ending.WriteFault = BreaksOff terms left written left' written'
+Acquires terms left written left' written' ending.Memory = BreaksOff terms left written left' written'
 -- else a run was closed
 Acquires terms left written left' written' end = ReadsVocabulary terms left written left' written' end

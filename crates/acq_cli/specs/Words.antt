@@ -1,20 +1,15 @@
 -- What the words ask of the program.
-use Rattle.std.specs.Prelude.{◌≡◌, ℕ, Bool, true, false, List, Result, Ok, Err}
+use Rattle.std.specs.Prelude.{◌≡◌, ℕ, Bool, true, false, List, Option, Result, Ok, Err}
+use Rattle.acq_io.specs.Streams.{TakesSome}
 use Rattle.acq_words.specs.Request.{Contents, answer_to}
 use Rattle.acq_words.specs.declared.request.Command.{Command}
 use Rattle.acq_words.specs.declared.request.Command.TheVariants as command
 use Rattle.acq_words.specs.declared.request.UsageFault.{UsageFault}
-use Rattle.acq_words.specs.declared.request.UsageFault.TheVariants.{Words}
 use Rattle.acq_words.specs.declared.request.WordsFault.{WordsFault}
 use Rattle.acq_words.specs.declared.request.WordsFault.TheVariants.{Usage, Memory}
 
--- a command that isn't built yet is none
-abbrev pub built : Command → Result Command UsageFault
-built (command.Demo number budget) = Err Words
-built c = Ok c
-
 abbrev pub command_in : Result Contents UsageFault → Result Command UsageFault
-command_in (Ok contents) = built contents.command
+command_in (Ok contents) = Ok contents.command
 command_in (Err fault) = Err fault
 
 -- the command that the words ask for, or why they are refused
@@ -27,16 +22,25 @@ is_over_journal (Ok (command.New plan)) = true
 is_over_journal (Ok (command.Run budget)) = true
 is_over_journal (Ok (command.Play budget)) = true
 is_over_journal (Ok command.Show) = true
+is_over_journal (Ok (command.Reduce budget)) = true
 is_over_journal _ = false
 
 -- whether it reads the input
 abbrev pub is_reading : Result Command UsageFault → Bool
 is_reading (Ok command.Show) = false
+is_reading (Ok (command.Demo number budget)) = false
+is_reading (Ok (command.Reduce budget)) = false
 is_reading (Ok c) = true
 is_reading (Err fault) = false
 
 -- this is what a call answers about the words, or memory ran out
 abbrev pub IsAsked : Result Command UsageFault → Result Command WordsFault → Type 0
-IsAsked asked (Ok c) = asked ≡ built c
+IsAsked asked (Ok c) = asked ≡ Ok c
 IsAsked asked (Err (Usage fault)) = asked ≡ Err fault
 IsAsked asked (Err Memory) = Unit {0}
+
+-- The input has an end of what it had. What the words don't ask for is spared: the input isn't read, and the disk isn't touched.
+pub record Spares {D : Type 0} (asked : Result Command UsageFault) (left left' : Option (List ℕ)) (old new : D) : Type 0 where
+  pub takes : TakesSome left left'
+  pub unread : is_reading asked ≡ false → left' ≡ left
+  pub untouched : is_over_journal asked ≡ false → new ≡ old

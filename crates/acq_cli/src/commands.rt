@@ -2,7 +2,7 @@
 
 ghost use Rattle.std.specs.Prelude.{◌≡◌, ◌≢◌, ◌≤◌, ℕ, List, Option, IfOk, OnOk, OnErr, Ok, Err};
 ghost use Rattle.std.specs.String.{string_bytes};
-ghost use Rattle.acq_io.specs.Streams.{Adds, AddsFront, Rose};
+ghost use Rattle.acq_io.specs.Streams.{Adds, AddsFront, Rose, TakesSome};
 ghost use Rattle.acq_words.specs.Request.{IsBudget};
 ghost use Rattle.disk_model.specs.Disk.{LeavesOnly, Rose as DiskRose};
 ghost use Rattle.language.specs.Answers.{standing_on};
@@ -104,6 +104,7 @@ pub(crate) fn refuse_journal<K: Sink>(
 }
 
 /// Opens a journal, and asks on from where its session stands.
+#[tactic(auto, using(crate::proofs::Taking::takes_same))]
 pub fn run_journal<R: Threads + Sync, S: Source, K: Sink, D: Disk, G: Gate>(
     rt: &R,
     alloc: Global,
@@ -115,6 +116,7 @@ pub fn run_journal<R: Threads + Sync, S: Source, K: Sink, D: Disk, G: Gate>(
 ) -> Result<Ending, Put>
     requires { IsBudget budget }
     ensures runs { RunsOn D.content D.may_leave D.moment D.left_since budget (S.left input.old) (K.written out.old) (S.left input.new) (K.written out.new) disk.old disk.new result }
+    ensures takes { TakesSome (S.left input.old) (S.left input.new) }
     ensures read { result ≡ Ok Ending.ReadFault → Rose (S.faults input.old) (S.faults input.new) }
     ensures no_fault { IfOk result (λ ending. ending ≢ Ending.WriteFault) }
     ensures failed { result ≡ Err Put.Failed → Rose (K.faults out.old) (K.faults out.new) }
@@ -214,6 +216,7 @@ pub fn new_journal<S: Source, K: Sink, D: Disk>(
     disk: &mut D,
 ) -> Result<Ending, Put>
     ensures news { News D.content D.may_leave D.moment D.left_since plan (S.left input.old) (K.written out.old) (S.left input.new) (K.written out.new) disk.old disk.new result }
+    ensures takes { TakesSome (S.left input.old) (S.left input.new) }
     ensures read { result ≡ Ok Ending.ReadFault → Rose (S.faults input.old) (S.faults input.new) }
     ensures no_fault { IfOk result (λ ending. ending ≢ Ending.WriteFault) }
     ensures failed { result ≡ Err Put.Failed → Rose (K.faults out.old) (K.faults out.new) }

@@ -9,12 +9,12 @@ ghost use Rattle.par_screen.specs.Eighths.{AreMadeFor};
 ghost use Rattle.session_core.specs.Standing.{Stands, knowledge_of, open_in};
 ghost use Rattle.session_core.specs.Settled.{IsSettled};
 ghost use Rattle.session_store.specs.Keeping.{Keeps};
-ghost use Rattle.acq_cli.specs.Closings.{closing_of};
-ghost use Rattle.acq_cli.specs.Driven.{Drives, IsOwned, LeavesNothing, Loses, Remembers, TellsOpen};
-ghost use Rattle.acq_cli.specs.Added.{IsAdded};
+ghost use Rattle.acq_cli.specs.Closings.{closing_of, ending_of};
+ghost use Rattle.acq_cli.specs.Driven.{IsOwned, LeavesNothing, Loses, Remembers, TellsOpen};
+ghost use Rattle.acq_cli.specs.Added.{IsTaught, MayEnd};
 ghost use Rattle.acq_cli.specs.Due.{IsDue, NextIs, PutIs, EventKept, ended_by};
 ghost use Rattle.acq_cli.specs.Points.{point_of, terms_with};
-ghost use Rattle.acq_cli.specs.Loop.{CountsBoth, CountsFaults, EndsAs, HasTurned, IsAtStart, IsKeeping, IsPutNext, IsReady, IsSameSession, OnlyPuts, TeachesOn, TellsCandidates};
+ghost use Rattle.acq_cli.specs.Loop.{CountsFaults, EndsAs, HasRead, HasReadAndWritten, HasTurned, IsAtStart, IsKeeping, IsPutNext, IsReady, IsSameSession, OnlyPuts, TeachesOn};
 ghost use Rattle.acq_words.specs.Request.{IsBudget};
 
 use acq_io::{Sink, Source};
@@ -252,14 +252,15 @@ fn hear_answer<S: Source, K: Sink, D: Disk, T: Teacher<S, K>, P: Keep<D>>(
         (point_of (P.record_of keep.new) (S.left source.new) (K.written sink.new)) marks) }
     ensures teacher { TeachesOn T.turn T.fits T.may_say teacher.old teacher.new }
     ensures same { IsSameSession P.lang P.plan P.sound keep.old keep.new }
-    ensures added { IsAdded (P.lang keep.old) (P.plan keep.old) (T.may_say teacher.old (P.lang keep.old)) (P.record_of keep.old) (P.record_of keep.new) }
+    ensures taught { IsTaught (P.lang keep.old) (P.plan keep.old) (T.may_say teacher.old (P.lang keep.old)) (P.record_of keep.old) (P.record_of keep.new)
+        (IfSome result (λ how. MayEnd (T.may_say teacher.old (P.lang keep.old)) (ending_of how))) }
     ensures keeps { Keeps D.content D.may_leave D.moment D.left_since P.plan P.voc P.record_of P.question P.writes P.live P.sits D.faults (result ≡ Some Drove.DiskFault)
         (λ asked said. (budget : _) → IsDue (P.lang keep.old) (terms_with (P.plan keep.old) budget) (standing_on (P.lang keep.old) (P.record_of keep.old)) question.now
         → Loses (T.turn teacher.old) (P.lang keep.old) (terms_with (P.plan keep.old) budget)
         (point_of (P.record_of keep.old) (S.left source.old) (K.written sink.old))
         (point_of (P.record_of keep.new) (S.left source.new) (K.written sink.new)) asked said)
         keep.old keep.new disk.old disk.new }
-    ensures read { CountsFaults (S.faults source.old) (S.faults source.new) (result ≡ Some Drove.ReadFault) }
+    ensures read { HasRead (S.left source.old) (S.left source.new) (S.faults source.old) (S.faults source.new) (result ≡ Some Drove.ReadFault) }
     ensures write { CountsFaults (K.faults sink.old) (K.faults sink.new) (result ≡ Some Drove.WriteFault) }
 {
     let session = keep.session();
@@ -278,6 +279,7 @@ fn hear_answer<S: Source, K: Sink, D: Disk, T: Teacher<S, K>, P: Keep<D>>(
 }
 
 /// One turn: a question and its answer. None where the loop goes on.
+#[tactic(auto, using(crate::proofs::Taking::takes_same))]
 fn take_turn<R: Threads + Sync, S: Source, K: Sink, D: Disk, T: Teacher<S, K>, P: Keep<D>, G: Gate>(
     rt: &R,
     alloc: Global,
@@ -303,14 +305,15 @@ fn take_turn<R: Threads + Sync, S: Source, K: Sink, D: Disk, T: Teacher<S, K>, P
         (point_of (P.record_of keep.new) (S.left source.new) (K.written sink.new)) screen.new) }
     ensures teacher { TeachesOn T.turn T.fits T.may_say teacher.old teacher.new }
     ensures same { IsSameSession P.lang P.plan P.sound keep.old keep.new }
-    ensures added { IsAdded (P.lang keep.old) (P.plan keep.old) (T.may_say teacher.old (P.lang keep.old)) (P.record_of keep.old) (P.record_of keep.new) }
+    ensures taught { IsTaught (P.lang keep.old) (P.plan keep.old) (T.may_say teacher.old (P.lang keep.old)) (P.record_of keep.old) (P.record_of keep.new)
+        (IfSome result (λ how. MayEnd (T.may_say teacher.old (P.lang keep.old)) (ending_of how))) }
     ensures keeps { Keeps D.content D.may_leave D.moment D.left_since P.plan P.voc P.record_of P.question P.writes P.live P.sits D.faults (result ≡ Some Drove.DiskFault)
         (Loses (T.turn teacher.old) (P.lang keep.old) (terms_with (P.plan keep.old) budget)
         (point_of (P.record_of keep.old) (S.left source.old) (K.written sink.old))
         (point_of (P.record_of keep.new) (S.left source.new) (K.written sink.new)))
         keep.old keep.new disk.old disk.new }
-    ensures read { CountsFaults (S.faults source.old) (S.faults source.new) (result ≡ Some Drove.ReadFault) }
-    ensures write { CountsFaults (K.faults sink.old) (K.faults sink.new) (result ≡ Some Drove.WriteFault) }
+    ensures faults { HasReadAndWritten (S.left source.old) (S.left source.new) (S.faults source.old) (S.faults source.new) (K.faults sink.old) (K.faults sink.new) (result ≡ Some Drove.ReadFault) (result ≡ Some Drove.WriteFault) }
+    ensures places { AreMadeFor (P.lang keep.old) places.new }
 {
     match put_next::<R, D, P, G>(rt, keep, places, screen, budget, gate) {
         Upcoming::Open(question) | Upcoming::New(question) => {
@@ -349,16 +352,16 @@ pub fn drive<R: Threads + Sync, S: Source, K: Sink, D: Disk, T: Teacher<S, K>, P
     requires fits { T.fits teacher.old (P.lang keep.old) }
     // where the answers lead to where nothing is open, no question is put
     requires start { IsAtStart (P.lang keep.old) (terms_with (P.plan keep.old) budget) (standing_on (P.lang keep.old) (P.record_of keep.old)) (P.question keep.old) places.old screen.old }
-    ensures ends { Drives (T.turn teacher.old) (P.lang keep.old) (terms_with (P.plan keep.old) budget)
+    // no session takes as many answers as a journal, and where it is undecided, the screen tells the open candidates
+    ensures ends { EndsAs (T.turn teacher.old) (P.lang keep.old) (terms_with (P.plan keep.old) budget)
         (point_of (P.record_of keep.old) (S.left source.old) (K.written sink.old))
-        (point_of (P.record_of keep.new) (S.left source.new) (K.written sink.new)) result }
+        (point_of (P.record_of keep.new) (S.left source.new) (K.written sink.new)) screen.new result }
     ensures owner { (owner : List Candidate) → IsNetwork (P.lang keep.old) owner → IsTrue (agrees (P.lang keep.old) owner (standing_on (P.lang keep.old) (P.record_of keep.new)))
         → IfSome (closing_of result) (IsOwned (P.lang keep.old) (terms_with (P.plan keep.old) budget) owner (standing_on (P.lang keep.old) (P.record_of keep.new))) }
     ensures walked { LeavesNothing (P.lang keep.old) (P.plan keep.old) (standing_on (P.lang keep.old) (P.record_of keep.new)) }
-    // where it is undecided, the screen tells the open candidates
-    ensures open { TellsCandidates (P.lang keep.old) (terms_with (P.plan keep.old) budget) (standing_on (P.lang keep.old) (P.record_of keep.new)) screen.new result }
     ensures same { IsSameSession P.lang P.plan P.sound keep.old keep.new }
-    ensures added { IsAdded (P.lang keep.old) (P.plan keep.old) (T.may_say teacher.old (P.lang keep.old)) (P.record_of keep.old) (P.record_of keep.new) }
+    ensures taught { IsTaught (P.lang keep.old) (P.plan keep.old) (T.may_say teacher.old (P.lang keep.old)) (P.record_of keep.old) (P.record_of keep.new)
+        (MayEnd (T.may_say teacher.old (P.lang keep.old)) (ending_of result)) }
     // Where nothing is written, the disk isn't touched. Else a crash at any moment leaves the events from before the call and a
     // front of those of this run, and after it all of them, but for the last one where the disk failed. That one is the answer
     // to the question that came next.
@@ -367,9 +370,11 @@ pub fn drive<R: Threads + Sync, S: Source, K: Sink, D: Disk, T: Teacher<S, K>, P
         (point_of (P.record_of keep.old) (S.left source.old) (K.written sink.old))
         (point_of (P.record_of keep.new) (S.left source.new) (K.written sink.new)))
         keep.old keep.new disk.old disk.new }
-    ensures faults { CountsBoth (S.faults source.old) (S.faults source.new) (K.faults sink.old) (K.faults sink.new) (result ≡ Drove.ReadFault) (result ≡ Drove.WriteFault) }
-    // no session takes as many answers as a journal
-    ensures never_full { result ≢ Drove.JournalFull }
+    // whatever the ending, the input has an end of what it had
+    ensures faults { HasReadAndWritten (S.left source.old) (S.left source.new) (S.faults source.old) (S.faults source.new) (K.faults sink.old) (K.faults sink.new) (result ≡ Drove.ReadFault) (result ≡ Drove.WriteFault) }
+    // however it ends, places and teacher serve another call
+    ensures places { AreMadeFor (P.lang keep.old) places.new }
+    ensures teacher { TeachesOn T.turn T.fits T.may_say teacher.old teacher.new }
 {
     let _variables = keep.session().lang().n();
     for _turn in 0..MOST_RECORDS {

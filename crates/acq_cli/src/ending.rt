@@ -38,6 +38,8 @@ pub enum Ending {
     NotFresh(u32),
     /// The network that is to answer is refused.
     TargetRefused(NetFault),
+    /// The search of this item, from 0, was the first that spent its budget.
+    ReduceSpent(u32),
 }
 
 impl Ending {
@@ -61,6 +63,7 @@ impl Ending {
             Ending::JournalFull => 12,
             Ending::NotFresh(_) => 13,
             Ending::TargetRefused(_) => 14,
+            Ending::ReduceSpent(_) => 20,
         }
     }
 }

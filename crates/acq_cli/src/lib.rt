@@ -2,10 +2,13 @@
 #![tactic(auto)]
 
 mod commands;
+mod demo;
 mod driving;
 mod ending;
+pub mod laws;
 mod opens;
 mod playing;
+mod reducing;
 mod shows;
 mod terms;
 mod top;

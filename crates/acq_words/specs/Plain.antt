@@ -38,6 +38,7 @@ command_text name.Try = codes "try"
 command_text name.Play = codes "play"
 command_text name.Show = codes "show"
 command_text name.Demo = codes "demo"
+command_text name.Reduce = codes "reduce"
 
 abbrev pub plan_text : Plan → Text
 plan_text Scopes = codes "scopes"

@@ -31,7 +31,8 @@ command_named word =
     else (if bytes_eq word (codes "play") then Some name.Play
     else (if bytes_eq word (codes "show") then Some name.Show
     else (if bytes_eq word (codes "demo") then Some name.Demo
-    else None)))))
+    else (if bytes_eq word (codes "reduce") then Some name.Reduce
+    else None))))))
 
 -- the plan of this name
 abbrev pub plan_named : Text → Option Plan
@@ -53,6 +54,7 @@ takes_budget name.Run = true
 takes_budget name.Try = true
 takes_budget name.Play = true
 takes_budget name.Demo = true
+takes_budget name.Reduce = true
 takes_budget _ = false
 
 abbrev pub takes_number : CommandName → Bool
@@ -88,6 +90,7 @@ command_by name.Try plan budget number = command.Try (with_plan plan) (with_budg
 command_by name.Play plan budget number = command.Play (with_budget budget)
 command_by name.Show plan budget number = command.Show
 command_by name.Demo plan budget number = command.Demo (unwrap_or number 0) (with_budget budget)
+command_by name.Reduce plan budget number = command.Reduce (with_budget budget)
 
 abbrev pub command_of : Asked → Command
 command_of a = command_by a.name a.plan a.budget a.number
@@ -161,6 +164,7 @@ IsWithin (command.Try plan budget) = IsBudget budget
 IsWithin (command.Play budget) = IsBudget budget
 IsWithin command.Show = Unit {0}
 IsWithin (command.Demo number budget) = IsBudget budget
+IsWithin (command.Reduce budget) = IsBudget budget
 
 -- what is given lies within its limits
 pub record IsLawful (a : Asked) : Type 0 where

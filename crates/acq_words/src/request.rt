@@ -28,6 +28,7 @@ pub enum Command {
     Play(u32),
     Show,
     Demo(u32, u32),
+    Reduce(u32),
 }
 
 /// Why there is no request.
@@ -59,6 +60,7 @@ pub enum CommandName {
     Play,
     Show,
     Demo,
+    Reduce,
 }
 
 /// What the words ask for beside the journal, each option where it is given.
@@ -85,6 +87,7 @@ pub(crate) fn command_named(word: &str) -> Option<CommandName>
         "play" => Some(CommandName::Play),
         "show" => Some(CommandName::Show),
         "demo" => Some(CommandName::Demo),
+        "reduce" => Some(CommandName::Reduce),
         _ => None,
     }
 }
@@ -112,7 +115,11 @@ impl CommandName {
         ensures { result ≡ takes_budget self }
     {
         match self {
-            CommandName::Run | CommandName::Try | CommandName::Play | CommandName::Demo => true,
+            CommandName::Run
+            | CommandName::Try
+            | CommandName::Play
+            | CommandName::Demo
+            | CommandName::Reduce => true,
             CommandName::New | CommandName::Show => false,
         }
     }
@@ -159,6 +166,7 @@ impl Asked {
             CommandName::Play => Command::Play(budget),
             CommandName::Show => Command::Show,
             CommandName::Demo => Command::Demo(self.number.unwrap_or(0), budget),
+            CommandName::Reduce => Command::Reduce(budget),
         }
     }
 }

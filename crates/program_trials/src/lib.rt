@@ -3,11 +3,15 @@
 #![tactic(auto)]
 
 #[cfg(test)]
+mod demos;
+#[cfg(test)]
 mod faults;
 #[cfg(test)]
 mod journals;
 #[cfg(test)]
 mod plays;
+#[cfg(test)]
+mod reduces;
 #[cfg(test)]
 mod refused;
 #[cfg(test)]

@@ -76,8 +76,7 @@ static REFUSED: [(&str, UsageFault); 9] = [
     (":memory: demo", UsageFault::Unfit),
     ("j run --plan quacq", UsageFault::Unfit),
     ("j run --plan multi", UsageFault::Unfit),
-    // This command isn't built yet.
-    (":memory: demo --number 0", UsageFault::Words),
+    (":memory: demo --number 4294967296", UsageFault::Words),
 ];
 
 #[test]
@@ -225,7 +224,8 @@ fn question(alloc: Global, k: usize, last: u8) -> Result<String, AllocError> {
     Ok(text)
 }
 
-/// One constraint between the first and the last of 128 variables, found by halving.
+/// One constraint between the first and the last of 128 variables, found by halving: 13 questions of the 16 that there may be, one for
+/// the one candidate, and for the one constraint one and twice the seven halvings that leave one of 128 variables.
 #[test]
 fn many_variables(rt: HostRuntime) -> Result<(), Fail> {
     let alloc = rt.alloc();

@@ -16,7 +16,7 @@ static ORDERS: [[(&str, &str); 3]; 6] = [
 ];
 
 /// A command, the option that is left out, and what is asked for then. No command takes all three.
-static COMMANDS: [(&str, &str, Result<Command, UsageFault>); 8] = [
+static COMMANDS: [(&str, &str, Result<Command, UsageFault>); 9] = [
     ("try", "number", Ok(Command::Try(Plan::Multi, 5))),
     ("demo", "plan", Ok(Command::Demo(7, 5))),
     ("try", "", Err(UsageFault::Unfit)),
@@ -25,6 +25,7 @@ static COMMANDS: [(&str, &str, Result<Command, UsageFault>); 8] = [
     ("run", "", Err(UsageFault::Unfit)),
     ("play", "", Err(UsageFault::Unfit)),
     ("show", "", Err(UsageFault::Unfit)),
+    ("reduce", "", Err(UsageFault::Unfit)),
 ];
 
 /// The words of a command with the options of an order but one. Bit `i` of `joined` says that option `i` is one word.

@@ -7,7 +7,7 @@ use std::test::Fail;
 
 /// Words with one space between each two, the journal that is asked for, and the command or why there is none. Which lists
 /// of the last group are taken is `clap`'s own affair.
-static ROWS: [(&str, &str, Result<Command, UsageFault>); 63] = [
+static ROWS: [(&str, &str, Result<Command, UsageFault>); 70] = [
     (
         ":memory: try",
         ":memory:",
@@ -99,6 +99,25 @@ static ROWS: [(&str, &str, Result<Command, UsageFault>); 63] = [
     (":memory: play", ":memory:", Ok(Command::Play(100_000))),
     ("memory play --budget 2", "memory", Ok(Command::Play(2))),
     ("a=b show", "a=b", Ok(Command::Show)),
+    (
+        "my.journal reduce",
+        "my.journal",
+        Ok(Command::Reduce(100_000)),
+    ),
+    (
+        ":memory: reduce --budget=1",
+        ":memory:",
+        Ok(Command::Reduce(1)),
+    ),
+    (
+        "j reduce --budget 1000000000",
+        "j",
+        Ok(Command::Reduce(1_000_000_000)),
+    ),
+    ("j reduce --plan quacq", "", Err(UsageFault::Unfit)),
+    ("j reduce --number 1", "", Err(UsageFault::Unfit)),
+    ("j reduce --budget 0", "", Err(UsageFault::Words)),
+    ("j Reduce", "", Err(UsageFault::Words)),
     (
         ":memory: demo --number 0",
         ":memory:",

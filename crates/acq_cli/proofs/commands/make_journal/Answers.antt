@@ -1,4 +1,4 @@
-use Rattle.std.proofs.Common.{◌≡◌, ◌∙◌, refl, sym, ap, subst, ℕ, List, Result, Err, inl, inr}
+use Rattle.std.proofs.Common.{refl, sym, ap, subst, ℕ, List, Result, Err, inl, inr}
 use Rattle.std.proofs.lemmas.Result.{err_from_is_err_and}
 use Rattle.language.specs.Language.{Language}
 use Rattle.voc_read.specs.Vocabulary.{IsVocabulary}

@@ -1,4 +1,4 @@
-use Rattle.std.proofs.Common.{◌≡◌, ◌∙◌, refl, sym, ap, subst, ℕ, List, Option, Result, Err, Vec, Global, inl, inr}
+use Rattle.std.proofs.Common.{◌∙◌, refl, ap, subst, ℕ, List, Option, Result, Err, Vec, Global, inl, inr}
 use Rattle.acq_io.specs.declared.whole.AllFault.{AllFault}
 use Rattle.voc_read.specs.declared.fault.VocFault.TheVariants as voc
 use Rattle.acq_cli.specs.declared.ending.Ending.TheVariants as ending

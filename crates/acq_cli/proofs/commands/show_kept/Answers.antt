@@ -1,8 +1,7 @@
-use Rattle.std.proofs.Common.{◌≡◌, refl, subst, List, ℕ, Option}
+use Rattle.std.proofs.Common.{refl, subst, List, ℕ, Option}
 use Rattle.std.proofs.lemmas.Result.{err_from_is_err_and}
 use Rattle.acq_io.specs.Streams.{Adds, AddsFront}
 use Rattle.language.specs.Answers.{standing_on}
-use Rattle.session_core.specs.Standing.{knowledge_of}
 use Rattle.acq_cli.specs.declared.ending.Ending.TheVariants as ending
 use Rattle.acq_cli.specs.Showing.{shown_text}
 use Rattle.acq_cli.proofs.Journals.{said_badly}

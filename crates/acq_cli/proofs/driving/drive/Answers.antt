@@ -1,4 +1,5 @@
 use Rattle.std.proofs.Common.{◌∷◌, [], length-append, Bool, Option, Some, None, ◌≡◌, ◌∙◌, ◌+◌, List, length, ap, sym, subst, arith, refl}
+use Rattle.std.specs.Prelude.{IfSome}
 use Rattle.assign.specs.Assignment.{Assignment}
 use Rattle.assign.specs.declared.events.Event.{Event}
 use Rattle.assign.specs.declared.events.Plan.{Plan}
@@ -9,7 +10,7 @@ use Rattle.par_screen.specs.Eighths.{AreMadeFor}
 use Rattle.session_laws.specs.Laws.{network_in}
 use Rattle.session_core.specs.Settled.{IsSettled}
 use Rattle.target_oracle.specs.Turns.{Turns}
-use Rattle.acq_cli.specs.Closings.{closing_of}
+use Rattle.acq_cli.specs.Closings.{closing_of, ending_of}
 use Rattle.acq_cli.specs.Driven.{Point, Drives, Loses, Remembers, StepsTo}
 use Rattle.acq_cli.specs.Due.{IsOneMore}
 use Rattle.acq_cli.specs.Loop.{TellsCandidates}
@@ -19,8 +20,9 @@ use Rattle.session_store.specs.Keeping.{keeps_still, keeps_then, keeps_as, rose_
 use Rattle.acq_cli.specs.Points.{point_of, terms_with}
 use Rattle.query_gen.proofs.Marking.{no_marks_hold}
 use Rattle.acq_cli.proofs.Standings.{carried}
-use Rattle.acq_cli.specs.Added.{IsAdded}
-use Rattle.acq_cli.proofs.Added.{added_none, added_then, added_more}
+use Rattle.acq_cli.proofs.Taking.{takes_same, takes_then}
+use Rattle.acq_cli.specs.Added.{IsAdded, MayEnd}
+use Rattle.acq_cli.proofs.Added.{added_none, added_then, added_more, ends_more}
 use Rattle.acq_cli.proofs.Owners.{owned}
 use Rattle.acq_cli.proofs.Walked.{leaves_nothing}
 use Rattle.acq_cli.proofs.Turning.{steps_on, steps_end, steps_loses, steps_none}
@@ -48,8 +50,10 @@ loop-turn-init g c =
       plan = refl;
       lang = refl;
       fits = c.requires.fits;
+      fits_on = λ m fits. fits;
       turn = refl;
       steps = steps_none (g.T.Teacher.turn c.args.teacher.now) l (terms_with (g.P.Keep.plan c.args.keep.now) c.args.budget) a;
+      takes = takes_same (g.S.Source.left c.args.source.now);
       later = omega arith;
       later_sink = omega arith;
       no_more = λ m q told may. may;
@@ -72,28 +76,34 @@ returns-in-Some-clause-ends g c =
     let old : Language = g.P.Keep.lang c.loop-turn.keep in
     let Turned : Turns → Type 0 = λ t. Drives t old (terms_with (g.P.Keep.plan c.loop-turn.keep) c.args.budget) b d c.in-Some.drove in
     let Spoken : Language → Plan → Type 0 = λ m q. Drives turns m (terms_with q c.args.budget) b d c.in-Some.drove in
-    steps_end turns l (terms_with p c.args.budget) a b d c.in-Some.drove c.loop-turn.invariant.steps
-    (carried Spoken old l (g.P.Keep.plan c.loop-turn.keep) p c.loop-turn.invariant.lang c.loop-turn.invariant.plan (subst Turned c.loop-turn.invariant.turn c.in-Some.ensures.ends.ends))
+    let Tells : Language → Plan → Type 0 = λ n q. TellsCandidates n (terms_with q c.args.budget) (standing_on n (g.P.Keep.record_of c.take_turn.new.keep)) c.take_turn.new.screen c.in-Some.drove in
+    record {
+      ends = steps_end turns l (terms_with p c.args.budget) a b d c.in-Some.drove c.loop-turn.invariant.steps
+          (carried Spoken old l (g.P.Keep.plan c.loop-turn.keep) p c.loop-turn.invariant.lang c.loop-turn.invariant.plan (subst Turned c.loop-turn.invariant.turn c.in-Some.ensures.ends.ends));
+      tells = carried Tells old l (g.P.Keep.plan c.loop-turn.keep) p c.loop-turn.invariant.lang c.loop-turn.invariant.plan c.in-Some.ensures.ends.tells;
+      never_full = c.in-Some.ensures.ends.never_full;
+    }
 
 pub returns-in-Some-clause-owner : goal.returns-in-Some-clause-owner
 returns-in-Some-clause-owner g c owner lawful agreeing =
     let l : Language = g.P.Keep.lang c.args.keep.now in
-    owned l (terms_with (g.P.Keep.plan c.args.keep.now) c.args.budget) (standing_on l (g.P.Keep.record_of c.take_turn.new.keep)) (closing_of c.in-Some.drove) owner (returns-in-Some-clause-ends g c).says.found lawful agreeing
+    owned l (terms_with (g.P.Keep.plan c.args.keep.now) c.args.budget) (standing_on l (g.P.Keep.record_of c.take_turn.new.keep)) (closing_of c.in-Some.drove) owner (returns-in-Some-clause-ends g c).ends.says.found lawful agreeing
 
-pub returns-in-Some-clause-never_full : goal.returns-in-Some-clause-never_full
-returns-in-Some-clause-never_full g c = c.in-Some.ensures.ends.never_full
+pub returns-in-Some-clause-places : goal.returns-in-Some-clause-places
+returns-in-Some-clause-places g c = let Equipped : Language → Type 0 = λ m. AreMadeFor m c.take_turn.new.places in subst Equipped c.loop-turn.invariant.lang c.take_turn.ensures.places
+
+pub returns-in-Some-clause-teacher : goal.returns-in-Some-clause-teacher
+returns-in-Some-clause-teacher g c = record {
+  turn = c.take_turn.ensures.teacher.turn ∙ c.loop-turn.invariant.turn;
+  fits = λ m fits. c.take_turn.ensures.teacher.fits m (c.loop-turn.invariant.fits_on m fits);
+  no_more = λ m q told may. c.loop-turn.invariant.no_more m q told (c.take_turn.ensures.teacher.no_more m q told may);
+}
 
 pub returns-in-Some-clause-faults : goal.returns-in-Some-clause-faults
 returns-in-Some-clause-faults g c = record {
-  read = record { later = omega (arith, c.take_turn.ensures.read.later, c.loop-turn.invariant.later); rose = λ is. rose_later _ _ _ c.loop-turn.invariant.later (c.take_turn.ensures.read.rose (c.in-Some.is ∙ ap (λ (d : Drove). Some d) is)) };
-  write = record { later = omega (arith, c.take_turn.ensures.write.later, c.loop-turn.invariant.later_sink); rose = λ is. rose_later _ _ _ c.loop-turn.invariant.later_sink (c.take_turn.ensures.write.rose (c.in-Some.is ∙ ap (λ (d : Drove). Some d) is)) };
+  read = record { takes = takes_then _ _ _ c.loop-turn.invariant.takes c.take_turn.ensures.faults.read.takes; later = omega (arith, c.take_turn.ensures.faults.read.later, c.loop-turn.invariant.later); rose = λ is. rose_later _ _ _ c.loop-turn.invariant.later (c.take_turn.ensures.faults.read.rose (c.in-Some.is ∙ ap (λ (d : Drove). Some d) is)) };
+  write = record { later = omega (arith, c.take_turn.ensures.faults.write.later, c.loop-turn.invariant.later_sink); rose = λ is. rose_later _ _ _ c.loop-turn.invariant.later_sink (c.take_turn.ensures.faults.write.rose (c.in-Some.is ∙ ap (λ (d : Drove). Some d) is)) };
 }
-
-pub returns-in-Some-clause-open : goal.returns-in-Some-clause-open
-returns-in-Some-clause-open g c =
-    let Tells : Language → Plan → Type 0 = λ n q. TellsCandidates n (terms_with q c.args.budget) (standing_on n (g.P.Keep.record_of c.take_turn.new.keep)) c.take_turn.new.screen c.in-Some.drove in
-    carried Tells (g.P.Keep.lang c.loop-turn.keep) (g.P.Keep.lang c.args.keep.now) (g.P.Keep.plan c.loop-turn.keep) (g.P.Keep.plan c.args.keep.now)
-    c.loop-turn.invariant.lang c.loop-turn.invariant.plan c.in-Some.ensures.ends.tells
 
 pub returns-in-Some-clause-same : goal.returns-in-Some-clause-same
 returns-in-Some-clause-same g c = record {
@@ -136,16 +146,18 @@ loop-turn-preserved g c =
       plan = c.take_turn.ensures.same.plan ∙ c.loop-turn.invariant.plan;
       lang = c.take_turn.ensures.same.lang ∙ c.loop-turn.invariant.lang;
       fits = subst Fits (sym c.take_turn.ensures.same.lang) (c.take_turn.ensures.teacher.fits old c.loop-turn.invariant.fits);
+      fits_on = λ m fits. c.take_turn.ensures.teacher.fits m (c.loop-turn.invariant.fits_on m fits);
       turn = c.take_turn.ensures.teacher.turn ∙ c.loop-turn.invariant.turn;
       steps = steps_on turns l (terms_with p c.args.budget) a b d c.loop-turn.invariant.steps
           (carried Spoken old l before p c.loop-turn.invariant.lang c.loop-turn.invariant.plan (subst Turned c.loop-turn.invariant.turn (c.take_turn.ensures.again c.in_default.is).steps));
-      later = omega (arith, c.take_turn.ensures.read.later, c.loop-turn.invariant.later);
-      later_sink = omega (arith, c.take_turn.ensures.write.later, c.loop-turn.invariant.later_sink);
+      takes = takes_then _ _ _ c.loop-turn.invariant.takes c.take_turn.ensures.faults.read.takes;
+      later = omega (arith, c.take_turn.ensures.faults.read.later, c.loop-turn.invariant.later);
+      later_sink = omega (arith, c.take_turn.ensures.faults.write.later, c.loop-turn.invariant.later_sink);
       no_more = λ m q told may. c.loop-turn.invariant.no_more m q told (c.take_turn.ensures.teacher.no_more m q told may);
       added = added_then l p (g.T.Teacher.may_say c.args.teacher.now l) (g.P.Keep.record_of c.args.keep.now) (g.P.Keep.record_of c.loop-turn.keep) (g.P.Keep.record_of c.take_turn.new.keep) c.loop-turn.invariant.added
           (let Added : Language → Plan → Type 0 = λ m q. IsAdded m q (g.T.Teacher.may_say c.loop-turn.teacher m) (g.P.Keep.record_of c.loop-turn.keep) (g.P.Keep.record_of c.take_turn.new.keep) in
           added_more l p (g.T.Teacher.may_say c.loop-turn.teacher l) (g.T.Teacher.may_say c.args.teacher.now l) (g.P.Keep.record_of c.loop-turn.keep) (g.P.Keep.record_of c.take_turn.new.keep) (c.loop-turn.invariant.no_more l)
-          (carried Added old l before p c.loop-turn.invariant.lang c.loop-turn.invariant.plan c.take_turn.ensures.added));
+          (carried Added old l before p c.loop-turn.invariant.lang c.loop-turn.invariant.plan c.take_turn.ensures.taught.added));
       keeps =
           let D = g.D.Disk in let P = g.P.Keep in
           let Failed : Type 0 = c.take_turn.result ≡ Some drove.DiskFault in
@@ -154,15 +166,20 @@ loop-turn-preserved g c =
       more = omega (arith, one, c.loop-turn.invariant.more);
     }
 
-pub returns-in-Some-clause-added : goal.returns-in-Some-clause-added
-returns-in-Some-clause-added g c =
+pub returns-in-Some-clause-taught : goal.returns-in-Some-clause-taught
+returns-in-Some-clause-taught g c =
     let P = g.P.Keep in
     let l : Language = P.lang c.args.keep.now in
     let p : Plan = P.plan c.args.keep.now in
     let Added : Language → Plan → Type 0 = λ m q. IsAdded m q (g.T.Teacher.may_say c.loop-turn.teacher m) (P.record_of c.loop-turn.keep) (P.record_of c.take_turn.new.keep) in
-    added_then l p (g.T.Teacher.may_say c.args.teacher.now l) (P.record_of c.args.keep.now) (P.record_of c.loop-turn.keep) (P.record_of c.take_turn.new.keep) c.loop-turn.invariant.added
-    (added_more l p (g.T.Teacher.may_say c.loop-turn.teacher l) (g.T.Teacher.may_say c.args.teacher.now l) (P.record_of c.loop-turn.keep) (P.record_of c.take_turn.new.keep) (c.loop-turn.invariant.no_more l)
-    (carried Added (P.lang c.loop-turn.keep) l (P.plan c.loop-turn.keep) p c.loop-turn.invariant.lang c.loop-turn.invariant.plan c.take_turn.ensures.added))
+    let Ends : Option Drove → Type 0 = λ got. IfSome got (λ (how : Drove). MayEnd (g.T.Teacher.may_say c.loop-turn.teacher (P.lang c.loop-turn.keep)) (ending_of how)) in
+    let There : Language → Type 0 = λ m. MayEnd (g.T.Teacher.may_say c.loop-turn.teacher m) (ending_of c.in-Some.drove) in
+    record {
+      added = added_then l p (g.T.Teacher.may_say c.args.teacher.now l) (P.record_of c.args.keep.now) (P.record_of c.loop-turn.keep) (P.record_of c.take_turn.new.keep) c.loop-turn.invariant.added
+          (added_more l p (g.T.Teacher.may_say c.loop-turn.teacher l) (g.T.Teacher.may_say c.args.teacher.now l) (P.record_of c.loop-turn.keep) (P.record_of c.take_turn.new.keep) (c.loop-turn.invariant.no_more l)
+          (carried Added (P.lang c.loop-turn.keep) l (P.plan c.loop-turn.keep) p c.loop-turn.invariant.lang c.loop-turn.invariant.plan c.take_turn.ensures.taught.added));
+      said = ends_more (g.T.Teacher.may_say c.loop-turn.teacher l) (g.T.Teacher.may_say c.args.teacher.now l) (c.loop-turn.invariant.no_more l) (ending_of c.in-Some.drove) (subst There c.loop-turn.invariant.lang (subst Ends c.in-Some.is c.take_turn.ensures.taught.said));
+    }
 
 pub returns-in-Some-clause-keeps : goal.returns-in-Some-clause-keeps
 returns-in-Some-clause-keeps g c =

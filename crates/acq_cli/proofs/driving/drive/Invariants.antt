@@ -1,4 +1,5 @@
 use Rattle.std.proofs.Common.{◌≡◌, ◌≤◌, length}
+use Rattle.acq_io.specs.Streams.{TakesSome}
 use Rattle.assign.specs.Assignment.{Assignment}
 use Rattle.language.specs.Language.{Language}
 use Rattle.language.specs.Answers.{standing_on}
@@ -24,10 +25,12 @@ invariant-loop-turn g l =
       plan : g.P.Keep.plan l.keep ≡ g.P.Keep.plan l.initial.keep;
       lang : g.P.Keep.lang l.keep ≡ g.P.Keep.lang l.initial.keep;
       fits : g.T.Teacher.fits l.teacher (g.P.Keep.lang l.keep);
+      fits_on : (m : Language) → g.T.Teacher.fits l.initial.teacher m → g.T.Teacher.fits l.teacher m;
       turn : g.T.Teacher.turn l.teacher ≡ g.T.Teacher.turn l.initial.teacher;
       steps : StepsTo (g.T.Teacher.turn l.initial.teacher) (g.P.Keep.lang l.initial.keep) (terms_with (g.P.Keep.plan l.initial.keep) l.fn.budget)
           (point_of (entries l.initial.keep) (left l.initial.source) (written l.initial.sink))
           (point_of (entries l.keep) (left l.source) (written l.sink));
+      takes : TakesSome (left l.initial.source) (left l.source);
       later : g.S.Source.faults l.initial.source ≤ g.S.Source.faults l.source;
       later_sink : g.K.Sink.faults l.initial.sink ≤ g.K.Sink.faults l.sink;
       no_more : (m : Language) (q : Assignment) (told : Told) → g.T.Teacher.may_say l.teacher m q told → g.T.Teacher.may_say l.initial.teacher m q told;

@@ -1,5 +1,6 @@
-use Rattle.std.proofs.Common.{◌≡◌, ◌+◌, ℕ, Bool, List, true, false, ap, refl, arith, Option, Some, subst}
+use Rattle.std.proofs.Common.{◌≡◌, ◌∙◌, ◌+◌, ℕ, Bool, List, true, false, ap, refl, arith, Option, Some, subst, inl, inr}
 use Rattle.target_oracle.specs.declared.teacher.Told.TheVariants.{Yes, No}
+use Rattle.target_oracle.specs.declared.teacher.Told.TheVariants as told
 use Rattle.assign.specs.Assignment.{Assignment}
 use Rattle.assign.specs.declared.events.Event.{Event}
 use Rattle.assign.specs.declared.events.Plan.{Plan}
@@ -14,8 +15,8 @@ use Rattle.acq_cli.specs.declared.driving.Drove.TheVariants as drove
 use Rattle.session_store.specs.Keeping.{keeps_still, keeps_as}
 use Rattle.acq_cli.proofs.Running.{next_put, room_not_full}
 use Rattle.acq_cli.proofs.Standings.{AtTurn, at_turn, next_fits, run_laws, within}
-use Rattle.acq_cli.proofs.Turning.{told_as, front_as, ran_closed, cut_turn}
-use Rattle.acq_cli.proofs.Added.{added_none}
+use Rattle.acq_cli.proofs.Turning.{asked_as, told_as, front_as, ran_closed, cut_turn}
+use Rattle.acq_cli.proofs.Added.{taught_kept, taught_none}
 use Rattle.acq_cli.proofs.Answered.{turned, ends, ends_closed, ends_failed, loses, adds}
 use Rattle.acq_cli.proofs.driving.hear_answer.Goals as goal
 
@@ -64,9 +65,10 @@ returns-in-Yes-clause-ends g c budget marks due made =
     ends turns l (terms_with plan budget) events (P.record_of c.keep_answer.new.keep) c.args.question.now true (P.question c.args.keep.now) left written left' written' c.keep_answer.result marks made at.lawful
     (within l plan c.lang.result.now events c.answers-count.result at (g.met.P.Keep.few c.args.keep.now c.requires.keeper.sound)) due c.requires.put.room c.keep_answer.ensures.kept
     (told_as turns c.lang.result.now l (c.answers-count.result + 1) (number_on l events) c.args.question.now (point_of events left written) (point_of events left' written') (Said true) at.language (ap (λ n. n + 1) at.number) c.in-Yes.ensures.tells)
+    (asked_as turns c.lang.result.now l (c.answers-count.result + 1) (number_on l events) c.args.question.now (point_of events left written) (point_of events left' written') at.language (ap (λ n. n + 1) at.number) c.told.ensures.asks)
 
-pub returns-in-Yes-clause-added : goal.returns-in-Yes-clause-added
-returns-in-Yes-clause-added g c =
+pub returns-in-Yes-clause-taught : goal.returns-in-Yes-clause-taught
+returns-in-Yes-clause-taught g c =
     let P = g.P.Keep in
     let l : Language = P.lang c.args.keep.now in
     let plan : Plan = P.plan c.args.keep.now in
@@ -75,7 +77,10 @@ returns-in-Yes-clause-added g c =
     at_turn c.session-session.result.now l c.lang.result.now plan (standing_on l events) c.answers-count.result
     c.session-session.ensures.stands c.session-session.ensures.lang c.session-session.ensures.plan c.answers-count.ensures c.lang.ensures.is c.lang.ensures.lawful in
     let May : Language → Type 0 = λ m. g.T.Teacher.may_say c.args.teacher.now m c.args.question.now Yes in
-    adds l (terms_with plan c.requires.put.budget) (g.T.Teacher.may_say c.args.teacher.now l) events (P.record_of c.keep_answer.new.keep) c.args.question.now true (P.question c.args.keep.now) c.keep_answer.result at.lawful c.requires.put.due c.requires.put.is c.keep_answer.ensures.kept (subst May at.language c.in-Yes.ensures.says)
+    record {
+      added = adds l (terms_with plan c.requires.put.budget) (g.T.Teacher.may_say c.args.teacher.now l) events (P.record_of c.keep_answer.new.keep) c.args.question.now true (P.question c.args.keep.now) c.keep_answer.result at.lawful c.requires.put.due c.requires.put.is c.keep_answer.ensures.kept (subst May at.language c.in-Yes.ensures.says);
+      said = taught_kept (g.T.Teacher.may_say c.args.teacher.now l) true (P.question c.args.keep.now) events (P.record_of c.keep_answer.new.keep) c.keep_answer.result c.keep_answer.ensures.kept;
+    }
 
 pub returns-in-Yes-clause-keeps : goal.returns-in-Yes-clause-keeps
 returns-in-Yes-clause-keeps g c =
@@ -139,9 +144,10 @@ returns-in-No-clause-ends g c budget marks due made =
     ends turns l (terms_with plan budget) events (P.record_of c.keep_answer-in-No.new.keep) c.args.question.now false (P.question c.args.keep.now) left written left' written' c.keep_answer-in-No.result marks made at.lawful
     (within l plan c.lang.result.now events c.answers-count.result at (g.met.P.Keep.few c.args.keep.now c.requires.keeper.sound)) due c.requires.put.room c.keep_answer-in-No.ensures.kept
     (told_as turns c.lang.result.now l (c.answers-count.result + 1) (number_on l events) c.args.question.now (point_of events left written) (point_of events left' written') (Said false) at.language (ap (λ n. n + 1) at.number) c.in-No.ensures.tells)
+    (asked_as turns c.lang.result.now l (c.answers-count.result + 1) (number_on l events) c.args.question.now (point_of events left written) (point_of events left' written') at.language (ap (λ n. n + 1) at.number) c.told.ensures.asks)
 
-pub returns-in-No-clause-added : goal.returns-in-No-clause-added
-returns-in-No-clause-added g c =
+pub returns-in-No-clause-taught : goal.returns-in-No-clause-taught
+returns-in-No-clause-taught g c =
     let P = g.P.Keep in
     let l : Language = P.lang c.args.keep.now in
     let plan : Plan = P.plan c.args.keep.now in
@@ -150,7 +156,10 @@ returns-in-No-clause-added g c =
     at_turn c.session-session.result.now l c.lang.result.now plan (standing_on l events) c.answers-count.result
     c.session-session.ensures.stands c.session-session.ensures.lang c.session-session.ensures.plan c.answers-count.ensures c.lang.ensures.is c.lang.ensures.lawful in
     let May : Language → Type 0 = λ m. g.T.Teacher.may_say c.args.teacher.now m c.args.question.now No in
-    adds l (terms_with plan c.requires.put.budget) (g.T.Teacher.may_say c.args.teacher.now l) events (P.record_of c.keep_answer-in-No.new.keep) c.args.question.now false (P.question c.args.keep.now) c.keep_answer-in-No.result at.lawful c.requires.put.due c.requires.put.is c.keep_answer-in-No.ensures.kept (subst May at.language c.in-No.ensures.says)
+    record {
+      added = adds l (terms_with plan c.requires.put.budget) (g.T.Teacher.may_say c.args.teacher.now l) events (P.record_of c.keep_answer-in-No.new.keep) c.args.question.now false (P.question c.args.keep.now) c.keep_answer-in-No.result at.lawful c.requires.put.due c.requires.put.is c.keep_answer-in-No.ensures.kept (subst May at.language c.in-No.ensures.says);
+      said = taught_kept (g.T.Teacher.may_say c.args.teacher.now l) false (P.question c.args.keep.now) events (P.record_of c.keep_answer-in-No.new.keep) c.keep_answer-in-No.result c.keep_answer-in-No.ensures.kept;
+    }
 
 pub returns-in-No-clause-keeps : goal.returns-in-No-clause-keeps
 returns-in-No-clause-keeps g c =
@@ -275,7 +284,8 @@ returns-in-ReadFault-clause-ends g c budget marks due made =
     (cut_turn run_laws turns l (terms_with plan budget) at.lawful c.args.question.now (point_of events left written) (point_of events left' written')
     (within l plan c.lang.result.now events c.answers-count.result at (g.met.P.Keep.few c.args.keep.now c.requires.keeper.sound))
     (next_put l (terms_with plan budget) events c.args.question.now due.puts (room_not_full events c.requires.put.room)) refl
-    (front_as turns c.lang.result.now l (c.answers-count.result + 1) (number_on l events) c.args.question.now (point_of events left written) (point_of events left' written') at.language (ap (λ n. n + 1) at.number) c.in-ReadFault.ensures.tells))
+    (front_as turns c.lang.result.now l (c.answers-count.result + 1) (number_on l events) c.args.question.now (point_of events left written) (point_of events left' written') at.language (ap (λ n. n + 1) at.number) c.in-ReadFault.ensures.tells)
+    (asked_as turns c.lang.result.now l (c.answers-count.result + 1) (number_on l events) c.args.question.now (point_of events left written) (point_of events left' written') at.language (ap (λ n. n + 1) at.number) c.told.ensures.asks))
 
 pub returns-in-WriteFault-clause-ends : goal.returns-in-WriteFault-clause-ends
 returns-in-WriteFault-clause-ends g c budget marks due made =
@@ -296,7 +306,8 @@ returns-in-WriteFault-clause-ends g c budget marks due made =
     (cut_turn run_laws turns l (terms_with plan budget) at.lawful c.args.question.now (point_of events left written) (point_of events left' written')
     (within l plan c.lang.result.now events c.answers-count.result at (g.met.P.Keep.few c.args.keep.now c.requires.keeper.sound))
     (next_put l (terms_with plan budget) events c.args.question.now due.puts (room_not_full events c.requires.put.room)) refl
-    (front_as turns c.lang.result.now l (c.answers-count.result + 1) (number_on l events) c.args.question.now (point_of events left written) (point_of events left' written') at.language (ap (λ n. n + 1) at.number) c.in-WriteFault.ensures.tells))
+    (front_as turns c.lang.result.now l (c.answers-count.result + 1) (number_on l events) c.args.question.now (point_of events left written) (point_of events left' written') at.language (ap (λ n. n + 1) at.number) c.in-WriteFault.ensures.tells)
+    (asked_as turns c.lang.result.now l (c.answers-count.result + 1) (number_on l events) c.args.question.now (point_of events left written) (point_of events left' written') at.language (ap (λ n. n + 1) at.number) c.told.ensures.asks))
 
 pub returns-in-Memory-clause-ends : goal.returns-in-Memory-clause-ends
 returns-in-Memory-clause-ends g c budget marks due made =
@@ -317,10 +328,13 @@ returns-in-Memory-clause-ends g c budget marks due made =
     (cut_turn run_laws turns l (terms_with plan budget) at.lawful c.args.question.now (point_of events left written) (point_of events left' written')
     (within l plan c.lang.result.now events c.answers-count.result at (g.met.P.Keep.few c.args.keep.now c.requires.keeper.sound))
     (next_put l (terms_with plan budget) events c.args.question.now due.puts (room_not_full events c.requires.put.room)) refl
-    (front_as turns c.lang.result.now l (c.answers-count.result + 1) (number_on l events) c.args.question.now (point_of events left written) (point_of events left' written') at.language (ap (λ n. n + 1) at.number) c.in-Memory.ensures.tells))
+    (front_as turns c.lang.result.now l (c.answers-count.result + 1) (number_on l events) c.args.question.now (point_of events left written) (point_of events left' written') at.language (ap (λ n. n + 1) at.number) c.in-Memory.ensures.tells)
+    (asked_as turns c.lang.result.now l (c.answers-count.result + 1) (number_on l events) c.args.question.now (point_of events left written) (point_of events left' written') at.language (ap (λ n. n + 1) at.number) c.told.ensures.asks))
 
-pub returns-in-Stop-clause-added : goal.returns-in-Stop-clause-added
-returns-in-Stop-clause-added g c = added_none (g.P.Keep.lang c.args.keep.now) (g.P.Keep.plan c.args.keep.now) (g.T.Teacher.may_say c.args.teacher.now (g.P.Keep.lang c.args.keep.now)) (g.P.Keep.record_of c.args.keep.now) (g.P.Keep.record_of c.args.keep.now) refl
+pub returns-in-Stop-clause-taught : goal.returns-in-Stop-clause-taught
+returns-in-Stop-clause-taught g c =
+    let May : Language → Type 0 = λ m. g.T.Teacher.may_say c.args.teacher.now m c.args.question.now told.Stop in
+    taught_none (g.P.Keep.lang c.args.keep.now) (g.P.Keep.plan c.args.keep.now) (g.T.Teacher.may_say c.args.teacher.now (g.P.Keep.lang c.args.keep.now)) (g.P.Keep.record_of c.args.keep.now) (g.P.Keep.record_of c.args.keep.now) refl (c.args.question.now, inl (subst May (c.lang.ensures.is ∙ c.session-session.ensures.lang) c.in-Stop.ensures.says))
 
 pub returns-in-Stop-clause-keeps : goal.returns-in-Stop-clause-keeps
 returns-in-Stop-clause-keeps g c =
@@ -328,8 +342,10 @@ returns-in-Stop-clause-keeps g c =
     keeps_still D.content D.may_leave D.moment D.left_since g.met.D.Disk.counts_now g.met.D.Disk.only_now P.plan P.voc P.record_of P.question P.writes P.live P.sits D.faults _ _ c.args.keep.now c.args.keep.now c.args.disk.now (λ (e : _). cc) refl refl refl refl refl c.requires.keeper.live c.requires.keeper.sits
     (λ w bytes told f left. g.met.P.Keep.lasts c.args.keep.now c.args.disk.now w c.requires.keeper.live c.requires.keeper.sits bytes told f left)
 
-pub returns-in-End-clause-added : goal.returns-in-End-clause-added
-returns-in-End-clause-added g c = added_none (g.P.Keep.lang c.args.keep.now) (g.P.Keep.plan c.args.keep.now) (g.T.Teacher.may_say c.args.teacher.now (g.P.Keep.lang c.args.keep.now)) (g.P.Keep.record_of c.args.keep.now) (g.P.Keep.record_of c.args.keep.now) refl
+pub returns-in-End-clause-taught : goal.returns-in-End-clause-taught
+returns-in-End-clause-taught g c =
+    let May : Language → Type 0 = λ m. g.T.Teacher.may_say c.args.teacher.now m c.args.question.now told.End in
+    taught_none (g.P.Keep.lang c.args.keep.now) (g.P.Keep.plan c.args.keep.now) (g.T.Teacher.may_say c.args.teacher.now (g.P.Keep.lang c.args.keep.now)) (g.P.Keep.record_of c.args.keep.now) (g.P.Keep.record_of c.args.keep.now) refl (c.args.question.now, inr (subst May (c.lang.ensures.is ∙ c.session-session.ensures.lang) c.in-End.ensures.says))
 
 pub returns-in-End-clause-keeps : goal.returns-in-End-clause-keeps
 returns-in-End-clause-keeps g c =
@@ -337,8 +353,10 @@ returns-in-End-clause-keeps g c =
     keeps_still D.content D.may_leave D.moment D.left_since g.met.D.Disk.counts_now g.met.D.Disk.only_now P.plan P.voc P.record_of P.question P.writes P.live P.sits D.faults _ _ c.args.keep.now c.args.keep.now c.args.disk.now (λ (e : _). cc) refl refl refl refl refl c.requires.keeper.live c.requires.keeper.sits
     (λ w bytes told f left. g.met.P.Keep.lasts c.args.keep.now c.args.disk.now w c.requires.keeper.live c.requires.keeper.sits bytes told f left)
 
-pub returns-in-TooLong-clause-added : goal.returns-in-TooLong-clause-added
-returns-in-TooLong-clause-added g c = added_none (g.P.Keep.lang c.args.keep.now) (g.P.Keep.plan c.args.keep.now) (g.T.Teacher.may_say c.args.teacher.now (g.P.Keep.lang c.args.keep.now)) (g.P.Keep.record_of c.args.keep.now) (g.P.Keep.record_of c.args.keep.now) refl
+pub returns-in-TooLong-clause-taught : goal.returns-in-TooLong-clause-taught
+returns-in-TooLong-clause-taught g c =
+    let May : Language → Type 0 = λ m. g.T.Teacher.may_say c.args.teacher.now m c.args.question.now told.TooLong in
+    taught_none (g.P.Keep.lang c.args.keep.now) (g.P.Keep.plan c.args.keep.now) (g.T.Teacher.may_say c.args.teacher.now (g.P.Keep.lang c.args.keep.now)) (g.P.Keep.record_of c.args.keep.now) (g.P.Keep.record_of c.args.keep.now) refl (c.args.question.now, subst May (c.lang.ensures.is ∙ c.session-session.ensures.lang) c.in-TooLong.ensures.says)
 
 pub returns-in-TooLong-clause-keeps : goal.returns-in-TooLong-clause-keeps
 returns-in-TooLong-clause-keeps g c =
@@ -346,8 +364,10 @@ returns-in-TooLong-clause-keeps g c =
     keeps_still D.content D.may_leave D.moment D.left_since g.met.D.Disk.counts_now g.met.D.Disk.only_now P.plan P.voc P.record_of P.question P.writes P.live P.sits D.faults _ _ c.args.keep.now c.args.keep.now c.args.disk.now (λ (e : _). cc) refl refl refl refl refl c.requires.keeper.live c.requires.keeper.sits
     (λ w bytes told f left. g.met.P.Keep.lasts c.args.keep.now c.args.disk.now w c.requires.keeper.live c.requires.keeper.sits bytes told f left)
 
-pub returns-in-Unreadable-clause-added : goal.returns-in-Unreadable-clause-added
-returns-in-Unreadable-clause-added g c = added_none (g.P.Keep.lang c.args.keep.now) (g.P.Keep.plan c.args.keep.now) (g.T.Teacher.may_say c.args.teacher.now (g.P.Keep.lang c.args.keep.now)) (g.P.Keep.record_of c.args.keep.now) (g.P.Keep.record_of c.args.keep.now) refl
+pub returns-in-Unreadable-clause-taught : goal.returns-in-Unreadable-clause-taught
+returns-in-Unreadable-clause-taught g c =
+    let May : Language → Type 0 = λ m. g.T.Teacher.may_say c.args.teacher.now m c.args.question.now told.Unreadable in
+    taught_none (g.P.Keep.lang c.args.keep.now) (g.P.Keep.plan c.args.keep.now) (g.T.Teacher.may_say c.args.teacher.now (g.P.Keep.lang c.args.keep.now)) (g.P.Keep.record_of c.args.keep.now) (g.P.Keep.record_of c.args.keep.now) refl (c.args.question.now, subst May (c.lang.ensures.is ∙ c.session-session.ensures.lang) c.in-Unreadable.ensures.says)
 
 pub returns-in-Unreadable-clause-keeps : goal.returns-in-Unreadable-clause-keeps
 returns-in-Unreadable-clause-keeps g c =
@@ -355,8 +375,10 @@ returns-in-Unreadable-clause-keeps g c =
     keeps_still D.content D.may_leave D.moment D.left_since g.met.D.Disk.counts_now g.met.D.Disk.only_now P.plan P.voc P.record_of P.question P.writes P.live P.sits D.faults _ _ c.args.keep.now c.args.keep.now c.args.disk.now (λ (e : _). cc) refl refl refl refl refl c.requires.keeper.live c.requires.keeper.sits
     (λ w bytes told f left. g.met.P.Keep.lasts c.args.keep.now c.args.disk.now w c.requires.keeper.live c.requires.keeper.sits bytes told f left)
 
-pub returns-in-ReadFault-clause-added : goal.returns-in-ReadFault-clause-added
-returns-in-ReadFault-clause-added g c = added_none (g.P.Keep.lang c.args.keep.now) (g.P.Keep.plan c.args.keep.now) (g.T.Teacher.may_say c.args.teacher.now (g.P.Keep.lang c.args.keep.now)) (g.P.Keep.record_of c.args.keep.now) (g.P.Keep.record_of c.args.keep.now) refl
+pub returns-in-ReadFault-clause-taught : goal.returns-in-ReadFault-clause-taught
+returns-in-ReadFault-clause-taught g c =
+    let May : Language → Type 0 = λ m. g.T.Teacher.may_say c.args.teacher.now m c.args.question.now told.ReadFault in
+    taught_none (g.P.Keep.lang c.args.keep.now) (g.P.Keep.plan c.args.keep.now) (g.T.Teacher.may_say c.args.teacher.now (g.P.Keep.lang c.args.keep.now)) (g.P.Keep.record_of c.args.keep.now) (g.P.Keep.record_of c.args.keep.now) refl (c.args.question.now, subst May (c.lang.ensures.is ∙ c.session-session.ensures.lang) c.in-ReadFault.ensures.says)
 
 pub returns-in-ReadFault-clause-keeps : goal.returns-in-ReadFault-clause-keeps
 returns-in-ReadFault-clause-keeps g c =
@@ -364,8 +386,8 @@ returns-in-ReadFault-clause-keeps g c =
     keeps_still D.content D.may_leave D.moment D.left_since g.met.D.Disk.counts_now g.met.D.Disk.only_now P.plan P.voc P.record_of P.question P.writes P.live P.sits D.faults _ _ c.args.keep.now c.args.keep.now c.args.disk.now (λ (e : _). cc) refl refl refl refl refl c.requires.keeper.live c.requires.keeper.sits
     (λ w bytes told f left. g.met.P.Keep.lasts c.args.keep.now c.args.disk.now w c.requires.keeper.live c.requires.keeper.sits bytes told f left)
 
-pub returns-in-WriteFault-clause-added : goal.returns-in-WriteFault-clause-added
-returns-in-WriteFault-clause-added g c = added_none (g.P.Keep.lang c.args.keep.now) (g.P.Keep.plan c.args.keep.now) (g.T.Teacher.may_say c.args.teacher.now (g.P.Keep.lang c.args.keep.now)) (g.P.Keep.record_of c.args.keep.now) (g.P.Keep.record_of c.args.keep.now) refl
+pub returns-in-WriteFault-clause-taught : goal.returns-in-WriteFault-clause-taught
+returns-in-WriteFault-clause-taught g c = taught_none (g.P.Keep.lang c.args.keep.now) (g.P.Keep.plan c.args.keep.now) (g.T.Teacher.may_say c.args.teacher.now (g.P.Keep.lang c.args.keep.now)) (g.P.Keep.record_of c.args.keep.now) (g.P.Keep.record_of c.args.keep.now) refl tt
 
 pub returns-in-WriteFault-clause-keeps : goal.returns-in-WriteFault-clause-keeps
 returns-in-WriteFault-clause-keeps g c =
@@ -373,8 +395,8 @@ returns-in-WriteFault-clause-keeps g c =
     keeps_still D.content D.may_leave D.moment D.left_since g.met.D.Disk.counts_now g.met.D.Disk.only_now P.plan P.voc P.record_of P.question P.writes P.live P.sits D.faults _ _ c.args.keep.now c.args.keep.now c.args.disk.now (λ (e : _). cc) refl refl refl refl refl c.requires.keeper.live c.requires.keeper.sits
     (λ w bytes told f left. g.met.P.Keep.lasts c.args.keep.now c.args.disk.now w c.requires.keeper.live c.requires.keeper.sits bytes told f left)
 
-pub returns-in-Memory-clause-added : goal.returns-in-Memory-clause-added
-returns-in-Memory-clause-added g c = added_none (g.P.Keep.lang c.args.keep.now) (g.P.Keep.plan c.args.keep.now) (g.T.Teacher.may_say c.args.teacher.now (g.P.Keep.lang c.args.keep.now)) (g.P.Keep.record_of c.args.keep.now) (g.P.Keep.record_of c.args.keep.now) refl
+pub returns-in-Memory-clause-taught : goal.returns-in-Memory-clause-taught
+returns-in-Memory-clause-taught g c = taught_none (g.P.Keep.lang c.args.keep.now) (g.P.Keep.plan c.args.keep.now) (g.T.Teacher.may_say c.args.teacher.now (g.P.Keep.lang c.args.keep.now)) (g.P.Keep.record_of c.args.keep.now) (g.P.Keep.record_of c.args.keep.now) refl tt
 
 pub returns-in-Memory-clause-keeps : goal.returns-in-Memory-clause-keeps
 returns-in-Memory-clause-keeps g c =

@@ -1,9 +1,8 @@
-use Rattle.std.proofs.Common.{◌≡◌, ◌∙◌, ◌⊎◌, Bool, true, is_some, ap, sym, subst, refl, Option, Some, None, inl, inr, ⊎_elim, Result, Err}
+use Rattle.std.proofs.Common.{◌≡◌, ◌∙◌, Bool, true, is_some, ap, sym, subst, refl, Option, Some, None, inl, inr, ⊎_elim, Result, Err}
 use Rattle.assign.specs.Assignment.{Assignment}
 use Rattle.session_store.specs.Keeping.{Keeps, grown_none, grown_one, keeps_still, persists_one, fails_one}
 use Rattle.session_store.specs.Kept.{answer_event}
 use Rattle.session_store.specs.declared.fault.SFault.{SFault}
-use Rattle.session_store.specs.declared.fault.SFault.TheVariants as store
 use Rattle.acq_cli.specs.Run.{answer}
 use Rattle.acq_cli.specs.Due.{ended_by}
 use Rattle.acq_cli.specs.declared.driving.Drove.{Drove}
@@ -41,6 +40,7 @@ returns-in-Ok-clause-keeps g c =
       belongs = c.answer.ensures.sits;
       later = c.answer.ensures.later;
       is_live = λ no. c.in-Ok.ensures.still_live;
+      not_live = λ failed. absurd (not_failed failed);
       told = c.answer.ensures.told;
       cause = λ failed. absurd (not_failed failed);
       grown = grown_one (P.record_of old) (P.record_of new) (answer q c.args.yes) (c.in-Ok.ensures.ok q asked.1);
@@ -85,6 +85,7 @@ returns-in-Err-clause-keeps g c =
       belongs = c.answer.ensures.sits;
       later = c.answer.ensures.later;
       is_live = λ no. absurd (no is);
+      not_live = λ so. why.1;
       told = c.answer.ensures.told;
       cause = λ so. (why.0, why.2);
       grown = grown_none (P.record_of old) (P.record_of new) c.in-Err.ensures.err;

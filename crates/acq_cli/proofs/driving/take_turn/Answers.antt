@@ -1,4 +1,4 @@
-use Rattle.std.proofs.Common.{◌≡◌, ◌∙◌, ◌≢◌, ℕ, Bool, List, length, ap, sym, subst, refl, Option, None, Some, ◌+◌, ◌<◌, arith}
+use Rattle.std.proofs.Common.{◌≡◌, ◌∙◌, ℕ, Bool, List, length, ap, sym, subst, refl, Option, None, ◌+◌, ◌<◌, arith}
 use Rattle.assign.specs.Assignment.{Assignment}
 use Rattle.assign.specs.declared.events.Event.{Event}
 use Rattle.assign.specs.declared.events.Plan.{Plan}
@@ -10,6 +10,9 @@ use Rattle.acq_cli.specs.declared.terms.Terms.{Terms}
 use Rattle.acq_cli.specs.Run.{Converged, Collapsed, Undecided, JournalFull}
 use Rattle.query_gen.specs.Marks.{Remembered, IsMadeFor}
 use Rattle.session_core.specs.Settled.{IsSettled}
+use Rattle.acq_cli.specs.Added.{MayEnd}
+use Rattle.acq_cli.specs.Closings.{ending_of}
+use Rattle.acq_cli.specs.declared.driving.Drove.{Drove}
 use Rattle.acq_cli.specs.Driven.{IsDone, IsCollapsed, IsLeftOpen, Loses, RanTo, TellsOpen}
 use Rattle.acq_cli.specs.Loop.{EndsAs, HasTurned}
 use Rattle.acq_cli.specs.declared.driving.Drove.TheVariants as drove
@@ -20,7 +23,7 @@ use Rattle.session_store.specs.Keeping.{keeps_still, keeps_then}
 use Rattle.acq_cli.proofs.Running.{next_ends, next_full}
 use Rattle.acq_cli.proofs.Standings.{at_turn, carried, due_reached, marks_after, room_left, room_unless}
 use Rattle.acq_cli.proofs.Nexts.{put_due, put_is}
-use Rattle.acq_cli.proofs.Added.{added_none, added_as}
+use Rattle.acq_cli.proofs.Added.{added_as, taught_none}
 use Rattle.acq_cli.proofs.Answered.{loses_as, ends_closed}
 use Rattle.acq_cli.proofs.Turning.{ran_end}
 use Rattle.acq_cli.proofs.driving.take_turn.Goals as goal
@@ -122,9 +125,9 @@ returns-then-is_full-clause-ends g c =
     (record { number = tt; found = tt })
     (subst Ran (sym same) (ran_end turns l terms JournalFull (point_of events left written) (next_full l terms events c.in-Open.question due.puts (ap (λ (es : List Event). length es + 1) (sym same) ∙ full))))
 
-pub returns-then-is_full-clause-added : goal.returns-then-is_full-clause-added
-returns-then-is_full-clause-added g c =
-    added_none (g.P.Keep.lang c.args.keep.now) (g.P.Keep.plan c.args.keep.now) (g.T.Teacher.may_say c.args.teacher.now (g.P.Keep.lang c.args.keep.now)) (g.P.Keep.record_of c.args.keep.now) (g.P.Keep.record_of c.put_next.new.keep) c.put_next.ensures.keeper.events
+pub returns-then-is_full-clause-taught : goal.returns-then-is_full-clause-taught
+returns-then-is_full-clause-taught g c =
+    taught_none (g.P.Keep.lang c.args.keep.now) (g.P.Keep.plan c.args.keep.now) (g.T.Teacher.may_say c.args.teacher.now (g.P.Keep.lang c.args.keep.now)) (g.P.Keep.record_of c.args.keep.now) (g.P.Keep.record_of c.put_next.new.keep) c.put_next.ensures.keeper.events tt
 
 pub returns-else-is_full-clause-ready : goal.returns-else-is_full-clause-ready
 returns-else-is_full-clause-ready g c none =
@@ -184,24 +187,28 @@ returns-else-is_full-clause-again g c =
     same_there Turned (P.lang two) l (P.plan two) (P.plan one) (P.record_of two) (P.record_of one) c.put_next.ensures.keeper.lang c.put_next.ensures.keeper.plan c.put_next.ensures.keeper.events c.hear_answer.ensures.again
     c.args.budget due
 
-pub returns-in-Converged-clause-added : goal.returns-in-Converged-clause-added
-returns-in-Converged-clause-added g c =
-    added_none (g.P.Keep.lang c.args.keep.now) (g.P.Keep.plan c.args.keep.now) (g.T.Teacher.may_say c.args.teacher.now (g.P.Keep.lang c.args.keep.now)) (g.P.Keep.record_of c.args.keep.now) (g.P.Keep.record_of c.put_next.new.keep) c.put_next.ensures.keeper.events
+pub returns-in-Converged-clause-taught : goal.returns-in-Converged-clause-taught
+returns-in-Converged-clause-taught g c =
+    taught_none (g.P.Keep.lang c.args.keep.now) (g.P.Keep.plan c.args.keep.now) (g.T.Teacher.may_say c.args.teacher.now (g.P.Keep.lang c.args.keep.now)) (g.P.Keep.record_of c.args.keep.now) (g.P.Keep.record_of c.put_next.new.keep) c.put_next.ensures.keeper.events tt
 
-pub returns-in-Collapsed-clause-added : goal.returns-in-Collapsed-clause-added
-returns-in-Collapsed-clause-added g c =
-    added_none (g.P.Keep.lang c.args.keep.now) (g.P.Keep.plan c.args.keep.now) (g.T.Teacher.may_say c.args.teacher.now (g.P.Keep.lang c.args.keep.now)) (g.P.Keep.record_of c.args.keep.now) (g.P.Keep.record_of c.put_next.new.keep) c.put_next.ensures.keeper.events
+pub returns-in-Collapsed-clause-taught : goal.returns-in-Collapsed-clause-taught
+returns-in-Collapsed-clause-taught g c =
+    taught_none (g.P.Keep.lang c.args.keep.now) (g.P.Keep.plan c.args.keep.now) (g.T.Teacher.may_say c.args.teacher.now (g.P.Keep.lang c.args.keep.now)) (g.P.Keep.record_of c.args.keep.now) (g.P.Keep.record_of c.put_next.new.keep) c.put_next.ensures.keeper.events tt
 
-pub returns-in-Undecided-clause-added : goal.returns-in-Undecided-clause-added
-returns-in-Undecided-clause-added g c =
-    added_none (g.P.Keep.lang c.args.keep.now) (g.P.Keep.plan c.args.keep.now) (g.T.Teacher.may_say c.args.teacher.now (g.P.Keep.lang c.args.keep.now)) (g.P.Keep.record_of c.args.keep.now) (g.P.Keep.record_of c.put_next.new.keep) c.put_next.ensures.keeper.events
+pub returns-in-Undecided-clause-taught : goal.returns-in-Undecided-clause-taught
+returns-in-Undecided-clause-taught g c =
+    taught_none (g.P.Keep.lang c.args.keep.now) (g.P.Keep.plan c.args.keep.now) (g.T.Teacher.may_say c.args.teacher.now (g.P.Keep.lang c.args.keep.now)) (g.P.Keep.record_of c.args.keep.now) (g.P.Keep.record_of c.put_next.new.keep) c.put_next.ensures.keeper.events tt
 
-pub returns-else-is_full-clause-added : goal.returns-else-is_full-clause-added
-returns-else-is_full-clause-added g c =
+pub returns-else-is_full-clause-taught : goal.returns-else-is_full-clause-taught
+returns-else-is_full-clause-taught g c =
     let P = g.P.Keep in
     let one = c.args.keep.now in
     let two = c.put_next.new.keep in
-    added_as (P.lang one) (P.lang two) (P.plan one) (P.plan two) (g.T.Teacher.may_say c.args.teacher.now) (P.record_of one) (P.record_of two) (P.record_of c.hear_answer.new.keep) c.put_next.ensures.keeper.lang c.put_next.ensures.keeper.plan c.put_next.ensures.keeper.events c.hear_answer.ensures.added
+    let Ends : Language → Type 0 = λ m. IfSome c.hear_answer.result (λ (how : Drove). MayEnd (g.T.Teacher.may_say c.args.teacher.now m) (ending_of how)) in
+    record {
+      added = added_as (P.lang one) (P.lang two) (P.plan one) (P.plan two) (g.T.Teacher.may_say c.args.teacher.now) (P.record_of one) (P.record_of two) (P.record_of c.hear_answer.new.keep) c.put_next.ensures.keeper.lang c.put_next.ensures.keeper.plan c.put_next.ensures.keeper.events c.hear_answer.ensures.taught.added;
+      said = subst Ends c.put_next.ensures.keeper.lang c.hear_answer.ensures.taught.said;
+    }
 
 pub returns-then-is_full-clause-keeps : goal.returns-then-is_full-clause-keeps
 returns-then-is_full-clause-keeps g c =

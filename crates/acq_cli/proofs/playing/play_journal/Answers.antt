@@ -1,8 +1,5 @@
-use Rattle.std.proofs.Common.{◌≡◌, ◌≤◌, ℕ, Bool, false, List, [], Option, Result, refl, sym, subst, arith, inl, inr, length}
+use Rattle.std.proofs.Common.{◌≡◌, Bool, false, List, [], refl, sym, subst, arith, inl, inr}
 use Rattle.std.specs.Prelude.{IfOk, OnErr}
-use Rattle.acq_io.specs.declared.streams.Put.{Put}
-use Rattle.assign.specs.Assignment.{Assignment}
-use Rattle.assign.specs.Events.{Answer}
 use Rattle.assign.specs.declared.events.Event.{Event}
 use Rattle.assign.specs.declared.events.Plan.{Plan}
 use Rattle.language.specs.Language.{Language}
@@ -11,15 +8,14 @@ use Rattle.language.specs.Answers.{standing_on}
 use Rattle.session_store.specs.Keeping.{FailsWith}
 use Rattle.session_store.specs.Store.{lang_of, plan_of, voc_of, events_of, question_of}
 use Rattle.target_oracle.specs.NetTurns.{net_turn, net_may_say}
-use Rattle.target_oracle.specs.Turns.{Turns}
 use Rattle.acq_cli.specs.Breaks.{BreaksRun}
 use Rattle.acq_cli.specs.Driven.{Loses}
 use Rattle.acq_cli.specs.Endings.{Tries}
 use Rattle.acq_cli.specs.Playing.{IsAnsweredBy, MayLack, ReadsTarget}
 use Rattle.acq_cli.specs.Points.{point_of, terms_with}
-use Rattle.acq_cli.specs.declared.ending.Ending.TheVariants as ending
 use Rattle.acq_cli.proofs.Journals.{goes_on_with, IsDisk}
 use Rattle.acq_cli.proofs.Targets.{answered, none_at_all}
+use Rattle.acq_cli.proofs.Taking.{takes_then}
 use Rattle.acq_cli.proofs.playing.play_journal.Goals as goal
 
 pub returns-then-count-ge1-clause-plays : goal.returns-then-count-ge1-clause-plays
@@ -84,7 +80,7 @@ returns-in-Ok-read_target-clause-plays g c =
     let Own : List Candidate → Type 0 = ReadsTarget l left rest in
     let reads : Own target = subst Own (sym c.new-teacher.ensures.network) (subst Read c.lang_of.ensures.is c.in-Ok-read_target.ensures.target) in
     let Tried : Bool → Type 0 = λ quiet. IfOk c.ask_on.result (Tries (net_turn target quiet) l terms (events_of store) (events_of after) rest written left' written') in
-    let Part : Bool → Type 0 = λ quiet. OnErr c.ask_on.result (BreaksRun (net_turn target quiet) l terms (events_of store) (events_of after) rest written written') in
+    let Part : Bool → Type 0 = λ quiet. OnErr c.ask_on.result (BreaksRun (net_turn target quiet) l terms (events_of store) (events_of after) rest written left' written') in
     let Lost : Bool → Type 0 = λ quiet.
     IsDisk c.ask_on.result → FailsWith D.content D.may_leave D.moment D.left_since (plan_of store) (voc_of store) (events_of store) (events_of after) (question_of after)
     (Loses (net_turn target quiet) l terms (point_of (events_of store) rest written) (point_of (events_of after) left' written')) c.open.new.disk c.ask_on.new.disk in
@@ -93,8 +89,11 @@ returns-in-Ok-read_target-clause-plays g c =
     (standing_on m before ≡ []) × ReadsTarget m left rest target × IsAnsweredBy target m (terms_with plan c.args.budget) (standing_on m later) c.ask_on.result in
     let on = goes_on_with D.content D.may_leave D.moment D.left_since Holds (net_turn target false) (net_may_say target) c.args.budget rest written left' written'
     c.args.disk.now c.open.new.disk c.ask_on.new.disk c.ask_on.result (plan_of store) (voc_of store) (events_of store) (events_of after) (question_of after) l
-    c.in-Ok.ensures.opened c.in-Ok.ensures.sound.read c.in-Ok.ensures.places c.open.ensures.same c.open.ensures.any_moment c.ask_on.ensures.lawful c.ask_on.ensures.added c.ask_on.ensures.keeps.told
+    c.in-Ok.ensures.opened c.in-Ok.ensures.sound.read c.in-Ok.ensures.places c.open.ensures.same c.open.ensures.any_moment c.ask_on.ensures.lawful c.ask_on.ensures.taught.added c.ask_on.ensures.keeps.told
     (λ no bytes told. c.ask_on.ensures.keeps.persists refl bytes told no) (subst Lost c.new-teacher.ensures.quiet (λ is. c.ask_on.ensures.keeps.fails is))
     tries (subst Part c.new-teacher.ensures.quiet c.ask_on.ensures.asked.part)
-    (fresh, reads, answered (net_turn target false) l terms target (events_of store) (events_of after) rest written left' written' c.ask_on.result reads.lawful fresh c.ask_on.ensures.added tries) in
+    (fresh, reads, answered (net_turn target false) l terms target (events_of store) (events_of after) rest written left' written' c.ask_on.result reads.lawful fresh c.ask_on.ensures.taught.added c.ask_on.ensures.taught.said tries) in
     inr (inr (inr (record { target = target; rest = rest; on = on.0; fresh = on.1.0; reads = on.1.1; answered = on.1.2 })))
+
+pub returns-in-Ok-read_target-clause-takes : goal.returns-in-Ok-read_target-clause-takes
+returns-in-Ok-read_target-clause-takes g c = takes_then _ _ _ c.read_target.ensures.takes c.ask_on.ensures.read.takes

@@ -1,4 +1,4 @@
-use Rattle.std.proofs.Common.{◌≡◌, ◌∙◌, ◌+◌, ◌++◌, sym, ap, List, ℕ, take, arith}
+use Rattle.std.proofs.Common.{◌∙◌, ◌+◌, ◌++◌, sym, ap, List, ℕ, take, arith}
 use Rattle.std.proofs.lemmas.List.{take_all}
 use Rattle.assign.specs.declared.events.Event.{Event}
 use Rattle.language.specs.Language.{variable_count}

@@ -13,10 +13,10 @@ use Rattle.acq_cli.specs.Points.{point_of, terms_with}
 use Rattle.acq_cli.specs.declared.driving.Drove.TheVariants as drove
 use Rattle.acq_cli.specs.declared.ending.Ending.{Ending}
 use Rattle.acq_cli.specs.declared.ending.Ending.TheVariants as ending
-use Rattle.acq_cli.proofs.Added.{added_none}
+use Rattle.acq_cli.proofs.Added.{taught_none}
 use Rattle.acq_cli.proofs.Parts.{begun_part}
 use Rattle.acq_cli.proofs.Standings.{at_turn, within}
-use Rattle.acq_cli.proofs.Tries.{tried, broken, said, lost_then, read_of, disk_of, disk_told, no_fault}
+use Rattle.acq_cli.proofs.Tries.{tried, broken, said, may_end, lost_then, read_of, disk_of, disk_told, no_fault}
 use Rattle.acq_cli.proofs.top.ask_on.Goals as goal
 
 pub returns-clause-asked : goal.returns-clause-asked
@@ -33,10 +33,10 @@ returns-clause-asked g c =
     record {
       tries = tried (g.T.Teacher.turn c.args.teacher.now) (P.lang old) k.lang (P.plan old) k.plan c.args.budget (P.record_of old) later (g.S.Source.left c.args.input.now) (g.K.Sink.written c.args.out.now)
           (g.S.Source.left c.drive-drove.new.source) (g.K.Sink.written c.drive-drove.new.sink) (g.K.Sink.written c.say.new.out) c.drive-drove.new.screen c.drive-drove.result c.say.result same again c.drive-drove.ensures.walked
-          c.drive-drove.ensures.ends c.drive-drove.ensures.never_full c.drive-drove.ensures.open.undecided (c.say.ensures.says c.args.budget (standing_on k.lang later) stands) (c.say.ensures.part c.args.budget (standing_on k.lang later) stands);
+          c.drive-drove.ensures.ends.ends c.drive-drove.ensures.ends.never_full c.drive-drove.ensures.ends.tells.undecided (c.say.ensures.says c.args.budget (standing_on k.lang later) stands) (c.say.ensures.part c.args.budget (standing_on k.lang later) stands);
       part = broken (g.T.Teacher.turn c.args.teacher.now) (P.lang old) k.lang (P.plan old) k.plan c.args.budget (P.record_of old) later (g.S.Source.left c.args.input.now) (g.K.Sink.written c.args.out.now)
           (g.S.Source.left c.drive-drove.new.source) (g.K.Sink.written c.drive-drove.new.sink) (g.K.Sink.written c.say.new.out) c.drive-drove.new.screen c.drive-drove.result c.say.result same again c.drive-drove.ensures.walked
-          c.drive-drove.ensures.ends c.drive-drove.ensures.never_full c.drive-drove.ensures.open.undecided (c.say.ensures.says c.args.budget (standing_on k.lang later) stands) (c.say.ensures.part c.args.budget (standing_on k.lang later) stands);
+          c.drive-drove.ensures.ends.ends c.drive-drove.ensures.ends.never_full c.drive-drove.ensures.ends.tells.undecided (c.say.ensures.says c.args.budget (standing_on k.lang later) stands) (c.say.ensures.part c.args.budget (standing_on k.lang later) stands);
     }
 
 pub returns-clause-read : goal.returns-clause-read
@@ -51,10 +51,30 @@ returns-clause-read g c =
     let Here : Language → Type 0 = λ m. Stands c.session-session.result.now (standing_on m later) in
     let stands : Here k.lang = subst Here (sym c.session-session.ensures.lang) c.session-session.ensures.stands in
     record {
+      takes = c.drive-drove.ensures.faults.read.takes;
       later = c.drive-drove.ensures.faults.read.later;
       rose = λ is. c.drive-drove.ensures.faults.read.rose (read_of (g.T.Teacher.turn c.args.teacher.now) (P.lang old) k.lang (P.plan old) k.plan c.args.budget (P.record_of old) later (g.S.Source.left c.args.input.now) (g.K.Sink.written c.args.out.now)
           (g.S.Source.left c.drive-drove.new.source) (g.K.Sink.written c.drive-drove.new.sink) (g.K.Sink.written c.say.new.out) c.drive-drove.new.screen c.drive-drove.result c.say.result same again c.drive-drove.ensures.walked
-          c.drive-drove.ensures.ends c.drive-drove.ensures.never_full c.drive-drove.ensures.open.undecided (c.say.ensures.says c.args.budget (standing_on k.lang later) stands) (c.say.ensures.part c.args.budget (standing_on k.lang later) stands) is);
+          c.drive-drove.ensures.ends.ends c.drive-drove.ensures.ends.never_full c.drive-drove.ensures.ends.tells.undecided (c.say.ensures.says c.args.budget (standing_on k.lang later) stands) (c.say.ensures.part c.args.budget (standing_on k.lang later) stands) is);
+    }
+
+pub returns-clause-taught : goal.returns-clause-taught
+returns-clause-taught g c =
+    let P = g.P.Keep in
+    let old = c.args.keep.now in
+    let new = c.drive-drove.new.keep in
+    let k = knowledge_of c.session-session.result.now in
+    let later : List Event = P.record_of new in
+    let same : k.lang ≡ P.lang old = c.session-session.ensures.lang ∙ c.drive-drove.ensures.same.lang in
+    let again : k.plan ≡ P.plan old = c.session-session.ensures.plan ∙ c.drive-drove.ensures.same.plan in
+    let Here : Language → Type 0 = λ m. Stands c.session-session.result.now (standing_on m later) in
+    let stands : Here k.lang = subst Here (sym c.session-session.ensures.lang) c.session-session.ensures.stands in
+    record {
+      added = c.drive-drove.ensures.taught.added;
+      said = may_end (g.T.Teacher.turn c.args.teacher.now) (P.lang old) k.lang (P.plan old) k.plan c.args.budget (P.record_of old) later (g.S.Source.left c.args.input.now) (g.K.Sink.written c.args.out.now)
+          (g.S.Source.left c.drive-drove.new.source) (g.K.Sink.written c.drive-drove.new.sink) (g.K.Sink.written c.say.new.out) c.drive-drove.new.screen c.drive-drove.result c.say.result same again c.drive-drove.ensures.walked
+          c.drive-drove.ensures.ends.ends c.drive-drove.ensures.ends.never_full c.drive-drove.ensures.ends.tells.undecided (c.say.ensures.says c.args.budget (standing_on k.lang later) stands) (c.say.ensures.part c.args.budget (standing_on k.lang later) stands)
+          (g.T.Teacher.may_say c.args.teacher.now (P.lang old)) c.drive-drove.ensures.taught.said;
     }
 
 pub returns-clause-no_fault : goal.returns-clause-no_fault
@@ -90,23 +110,23 @@ returns-clause-keeps g c =
     let Failed : Type 0 = c.drive-drove.result ≡ drove.DiskFault in
     let Ended : Type 0 = c.say.result ≡ Ok ending.DiskFault in
     let was : Ended → Failed =
-    disk_of (g.T.Teacher.turn c.args.teacher.now) l k.lang p k.plan c.args.budget start later left written left' middle written' c.drive-drove.new.screen c.drive-drove.result c.say.result same again c.drive-drove.ensures.walked c.drive-drove.ensures.ends c.drive-drove.ensures.never_full c.drive-drove.ensures.open.undecided says parts in
+    disk_of (g.T.Teacher.turn c.args.teacher.now) l k.lang p k.plan c.args.budget start later left written left' middle written' c.drive-drove.new.screen c.drive-drove.result c.say.result same again c.drive-drove.ensures.walked c.drive-drove.ensures.ends.ends c.drive-drove.ensures.ends.never_full c.drive-drove.ensures.ends.tells.undecided says parts in
     let Lost : Assignment → Bool → Type 0 = Loses (g.T.Teacher.turn c.args.teacher.now) l terms (point_of start left written) (point_of later left' middle) in
     let Then : Assignment → Bool → Type 0 = Loses (g.T.Teacher.turn c.args.teacher.now) l terms (point_of start left written) (point_of later left' written') in
     keeps_as D.content D.may_leave D.moment D.left_since g.met.D.Disk.counts_now g.met.D.Disk.only_now P.plan P.voc P.record_of P.question P.writes P.live P.sits D.faults Failed Ended Lost Then old new c.args.disk.now c.drive-drove.new.disk
     was
-    (disk_told (g.T.Teacher.turn c.args.teacher.now) l k.lang p k.plan c.args.budget start later left written left' middle written' c.drive-drove.new.screen c.drive-drove.result c.say.result same again c.drive-drove.ensures.walked c.drive-drove.ensures.ends c.drive-drove.ensures.never_full c.drive-drove.ensures.open.undecided says parts)
+    (disk_told (g.T.Teacher.turn c.args.teacher.now) l k.lang p k.plan c.args.budget start later left written left' middle written' c.drive-drove.new.screen c.drive-drove.result c.say.result same again c.drive-drove.ensures.walked c.drive-drove.ensures.ends.ends c.drive-drove.ensures.ends.never_full c.drive-drove.ensures.ends.tells.undecided says parts)
     (λ ended question reply lost.
     lost_then (g.T.Teacher.turn c.args.teacher.now) l terms (point_of start left written) later left' middle written' c.drive-drove.result c.say.result
-    (said (g.T.Teacher.turn c.args.teacher.now) l k.lang p k.plan c.args.budget start later left written left' middle written' c.drive-drove.new.screen c.drive-drove.result c.say.result same again c.drive-drove.ensures.walked c.drive-drove.ensures.ends c.drive-drove.ensures.never_full c.drive-drove.ensures.open.undecided says parts)
+    (said (g.T.Teacher.turn c.args.teacher.now) l k.lang p k.plan c.args.budget start later left written left' middle written' c.drive-drove.new.screen c.drive-drove.result c.say.result same again c.drive-drove.ensures.walked c.drive-drove.ensures.ends.ends c.drive-drove.ensures.ends.never_full c.drive-drove.ensures.ends.tells.undecided says parts)
     (was ended) ended question reply lost)
     c.drive-drove.ensures.keeps
 
-pub returns-in_default-clause-added : goal.returns-in_default-clause-added
-returns-in_default-clause-added g c = added_none (g.P.Keep.lang c.args.keep.now) (g.P.Keep.plan c.args.keep.now) (g.T.Teacher.may_say c.args.teacher.now (g.P.Keep.lang c.args.keep.now)) (g.P.Keep.record_of c.args.keep.now) (g.P.Keep.record_of c.args.keep.now) refl
+pub returns-in_default-clause-taught : goal.returns-in_default-clause-taught
+returns-in_default-clause-taught g c = taught_none (g.P.Keep.lang c.args.keep.now) (g.P.Keep.plan c.args.keep.now) (g.T.Teacher.may_say c.args.teacher.now (g.P.Keep.lang c.args.keep.now)) (g.P.Keep.record_of c.args.keep.now) (g.P.Keep.record_of c.args.keep.now) refl tt
 
-pub returns-in_default-new-clause-added : goal.returns-in_default-new-clause-added
-returns-in_default-new-clause-added g c = added_none (g.P.Keep.lang c.args.keep.now) (g.P.Keep.plan c.args.keep.now) (g.T.Teacher.may_say c.args.teacher.now (g.P.Keep.lang c.args.keep.now)) (g.P.Keep.record_of c.args.keep.now) (g.P.Keep.record_of c.args.keep.now) refl
+pub returns-in_default-new-clause-taught : goal.returns-in_default-new-clause-taught
+returns-in_default-new-clause-taught g c = taught_none (g.P.Keep.lang c.args.keep.now) (g.P.Keep.plan c.args.keep.now) (g.T.Teacher.may_say c.args.teacher.now (g.P.Keep.lang c.args.keep.now)) (g.P.Keep.record_of c.args.keep.now) (g.P.Keep.record_of c.args.keep.now) refl tt
 
 pub returns-clause-lawful : goal.returns-clause-lawful
 returns-clause-lawful g c = subst IsLanguage (c.lang-lang.ensures.is ∙ c.session-start.ensures.lang) c.lang-lang.ensures.lawful
@@ -121,7 +141,7 @@ pub say-requires : goal.say-requires
 say-requires g c =
     let P = g.P.Keep in
     let Made : Language → Type 0 = λ m. IsMadeFor m c.drive-drove.new.screen in
-    record { made = subst Made (sym (c.session-session.ensures.lang ∙ c.drive-drove.ensures.same.lang)) c.drive-drove.ensures.open.made }
+    record { made = subst Made (sym (c.session-session.ensures.lang ∙ c.drive-drove.ensures.same.lang)) c.drive-drove.ensures.ends.tells.made }
 
 not_okay : (let r : Result Ending Put = Err puts.Memory in r) ≡ Ok ending.DiskFault → ⊥
 not_okay e = cc

@@ -1,8 +1,9 @@
-use Rattle.std.proofs.Common.{rules, List, ℕ, Some, Result, refl, ap, sym, subst, ◌≡◌, ◌∙◌, Ok, Err, Vec, Global}
+use Rattle.std.proofs.Common.{rules, List, ℕ, Some, Result, refl, ap, sym, subst, ◌≡◌, ◌∙◌, Ok, Err, Vec, Global, inl, inr}
 use Rattle.acq_io.specs.declared.whole.AllFault.{AllFault}
-use Rattle.acq_io.specs.declared.whole.AllFault.TheVariants.{TooLong}
+use Rattle.acq_io.specs.declared.whole.AllFault.TheVariants.{TooLong, Fault, Memory}
 use Rattle.voc_read.specs.Vocabulary.{IsVocabulary, refusal_of_vocabulary}
-use Rattle.acq_cli.proofs.Parts.{acquires_in, breaks_in, breaks_refused}
+use Rattle.acq_cli.proofs.Parts.{acquires_in, breaks_in, breaks_refused, unbegun, unread}
+use Rattle.acq_cli.proofs.Taking.{takes_then}
 use Rattle.acq_cli.proofs.top.try_input.Goals as goal
 
 abbrev fault_of : AllFault → Result (Vec ℕ Global) AllFault
@@ -25,8 +26,11 @@ pub returns-in-Ok-read_vocabulary-clause-part : goal.returns-in-Ok-read_vocabula
 returns-in-Ok-read_vocabulary-clause-part g c =
     let P : List ℕ → Type 0 = λ line. IsVocabulary line c.in-Ok-read_vocabulary.lang in
     breaks_in c.args.terms (g.S.Source.left c.args.input.now) (g.S.Source.left c.read_first_line.new.source) (g.K.Sink.written c.args.out.now)
-    (g.K.Sink.written c.try_language.new.out) c.in-Ok.line.items c.in-Ok-read_vocabulary.lang c.try_language.result
+    (g.S.Source.left c.try_language.new.input) (g.K.Sink.written c.try_language.new.out) c.in-Ok.line.items c.in-Ok-read_vocabulary.lang c.try_language.result
     c.in-Ok.ensures.line (subst P c.deref.ensures.value c.in-Ok-read_vocabulary.ensures.ok) c.try_language.ensures.part
+
+pub returns-in-Ok-read_vocabulary-clause-takes : goal.returns-in-Ok-read_vocabulary-clause-takes
+returns-in-Ok-read_vocabulary-clause-takes g c = takes_then _ _ _ c.read_first_line.ensures.takes c.try_language.ensures.takes
 
 pub returns : goal.returns
 returns g c =
@@ -36,6 +40,7 @@ returns g c =
       part = breaks_refused c.args.terms (g.S.Source.left c.args.input.now) (g.S.Source.left c.read_first_line.new.source) (g.K.Sink.written c.args.out.now)
           (g.K.Sink.written c.refuse-in-Err.new.out) (Ok c.in-Ok.line.items) c.in-Err.fault c.refuse-in-Err.result
           c.in-Ok.ensures.line (ap refusal_of_vocabulary (sym c.deref.ensures.value) ∙ refused) c.refuse-in-Err.ensures.part;
+      takes = c.read_first_line.ensures.takes;
       read = search rules;
       no_fault = search rules;
       failed = search rules;

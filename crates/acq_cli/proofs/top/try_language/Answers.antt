@@ -24,5 +24,8 @@ pub returns-clause-part : goal.returns-clause-part
 returns-clause-part g c =
     let keep = c.in-Ok-new.keep in
     fresh_part c.args.lang (lang_of keep) c.args.terms.plan (plan_of keep) c.args.terms.budget (events_of keep) (events_of c.ask_on.new.keep)
-    (g.S.Source.left c.args.input.now) (g.K.Sink.written c.args.out.now) (g.K.Sink.written c.ask_on.new.out) c.ask_on.result
+    (g.S.Source.left c.args.input.now) (g.K.Sink.written c.args.out.now) (g.S.Source.left c.ask_on.new.input) (g.K.Sink.written c.ask_on.new.out) c.ask_on.result
     c.in-Ok-new.ensures.lang c.in-Ok-new.ensures.plan c.in-Ok-new.ensures.events c.ask_on.ensures.asked.part
+
+pub returns-clause-takes : goal.returns-clause-takes
+returns-clause-takes g c = c.ask_on.ensures.read.takes

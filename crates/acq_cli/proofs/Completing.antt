@@ -1,0 +1,335 @@
+-- When a command comes to its own end.
+use Rattle.std.proofs.Common.{◌≡◌, ◌∙◌, ◌⊎◌, ℕ, ◌+◌, ◌≤◌, Bool, true, false, cond, drop, List, [], ◌∷◌, ◌++◌, length, Option, Some, None, Result, Ok, Err, refl, sym, ap, subst, inl, inr, ⊎_elim, arith}
+use Rattle.std.specs.Prelude.{IfSome, IsSome, nat_le}
+use Rattle.std.specs.Option.{option_map}
+use Rattle.std.proofs.lemmas.List.{append-nil}
+use Rattle.acq_io.specs.Whole.{Gathered, gathered, Gives, first_line_of, all_of}
+use Rattle.acq_io.specs.declared.streams.Put.TheVariants as put
+use Rattle.acq_io.specs.declared.whole.AllFault.{AllFault}
+use Rattle.acq_io.specs.declared.whole.AllFault.TheVariants.{TooLong}
+use Rattle.acq_words.specs.declared.request.Command.{Command}
+use Rattle.acq_words.specs.declared.request.Command.TheVariants as command
+use Rattle.acq_words.specs.declared.request.UsageFault.{UsageFault}
+use Rattle.answer_journal.specs.Journal.{HasNoSession}
+use Rattle.assign.specs.Events.{Answer}
+use Rattle.assign.specs.declared.events.Event.{Event}
+use Rattle.assign.specs.declared.events.Plan.{Plan}
+use Rattle.assign.specs.declared.events.Plan.TheVariants.{Quacq}
+use Rattle.fd_solver.specs.Outcomes.{outcome_of_candidate}
+use Rattle.language.specs.declared.candidates.Candidate.{Candidate}
+use Rattle.language.specs.Language.{Language, IsLanguage}
+use Rattle.language.specs.Answers.{standing_on}
+use Rattle.network.specs.Target.{network_of}
+use Rattle.network.specs.declared.fault.NetFault.{NetFault}
+use Rattle.session_laws.specs.Bound.{most_answers}
+use Rattle.session_laws.specs.Session.{Idle, At}
+use Rattle.session_store.specs.Left.{bytes_told}
+use Rattle.session_store.specs.Replay.{HavePlaces, replay_on}
+use Rattle.session_store.specs.declared.fault.SFault.{SFault}
+use Rattle.session_store.proofs.Fronts.{replay_is_state}
+use Rattle.target_oracle.specs.Generator.{IsGenerated}
+use Rattle.target_oracle.specs.Lines.{line_turn}
+use Rattle.target_oracle.specs.NetTurns.{net_turn}
+use Rattle.target_oracle.specs.Turns.{Turns}
+use Rattle.voc_read.specs.Vocabulary.{IsVocabulary, refusal_of_vocabulary}
+use Rattle.voc_read.specs.declared.fault.VocFault.{VocFault}
+use Rattle.acq_cli.specs.Closings.{closing_of, ending_of}
+use Rattle.acq_cli.specs.Commands.{EndsExactly}
+use Rattle.acq_cli.specs.Completing.{HasAnswers, IsAffordable, IsEnough, TryHasEnough, RunHasEnough, HasTarget, PlayHasEnough, NoneRose, IsDoneWith, Converges, ConvergesOrCollapses, Completes}
+use Rattle.acq_cli.specs.Demoing.{Demos, Tells}
+use Rattle.acq_cli.specs.Driven.{HasEnded, IsLeftOpen}
+use Rattle.acq_cli.specs.Endings.{Closes, Tries}
+use Rattle.acq_cli.specs.Exactly.{IsBrokenOff, HasVocabulary, RefusesOpening, NewEnds, ShowEnds}
+use Rattle.acq_cli.specs.Journals.{untold}
+use Rattle.acq_cli.specs.Playing.{EndsWithout, MayLack, PlaysOn, ReadsTarget}
+use Rattle.acq_cli.specs.Points.{terms_with}
+use Rattle.acq_cli.specs.Run.{Closing, Undecided, Suspended, LineTooLong, Unreadable}
+use Rattle.acq_cli.specs.Reducing.{HoldsDecided, ReduceEnds}
+use Rattle.acq_cli.specs.Running.{RunsOn}
+use Rattle.acq_cli.specs.Trying.{Acquires, IsRefusal, ReadsVocabulary}
+use Rattle.acq_cli.specs.Words.{command_asked}
+use Rattle.acq_cli.specs.declared.driving.Drove.{Drove}
+use Rattle.acq_cli.specs.declared.driving.Drove.TheVariants as drove
+use Rattle.acq_cli.specs.declared.ending.Ending.{Ending}
+use Rattle.acq_cli.specs.declared.ending.Ending.TheVariants as ending
+use Rattle.acq_cli.specs.declared.playing.NoTarget.{NoTarget}
+use Rattle.acq_cli.specs.declared.playing.NoTarget.TheVariants as without
+use Rattle.acq_cli.specs.declared.terms.Terms.{Terms}
+use Rattle.acq_cli.proofs.Answering.{AnswersEach, EndsItself, HasLines, AsMany, ends_itself, lines_answer, network_answers}
+use Rattle.acq_cli.proofs.Closings.{okay, same_ok, err_ok}
+use Rattle.acq_cli.proofs.Enough.{generated_is_settled}
+use Rattle.acq_cli.proofs.Exactly.{fine, gives_got, closed_end}
+use Rattle.acq_cli.proofs.Running.{IsReached}
+use Rattle.acq_cli.proofs.Targets.{none_of}
+
+-- ---- a run that ends by itself
+
+-- the answers converge, or no network agrees with them
+abbrev OwnEnd : Ending → Type 0
+OwnEnd end = ((m : ℕ) × (end ≡ ending.Converged m)) ⊎ ((m : ℕ) × (end ≡ ending.Collapsed m))
+
+module _ (turns : Turns) (Left : ℕ → List ℕ → Type 0) (each : AnswersEach turns Left) (l : Language) (lawful : IsLanguage l) (terms : Terms) (n : ℕ) (start later : List Event) (left written left' written' : Option (List ℕ)) (end : Ending)
+    (bytes before : List ℕ) (from : left ≡ Some bytes) (to : written ≡ Some before)
+    (reached : IsReached l terms.plan (standing_on l start)) (enough : most_answers l ≤ length (standing_on l start) + n) (has : Left n bytes) (affordable : IsAffordable turns l terms start bytes) where
+  abbrev ClosesSo : Closing → Type 0
+  ClosesSo closing = Closes turns l terms start later left written left' written' closing
+
+  closed_itself : (closing : Closing) → ClosesSo closing → EndsItself closing
+  closed_itself closing closes =
+      let ran = closes.ran bytes before from to in
+      subst EndsItself ran.closing (ends_itself turns Left each l lawful terms ran.runs.count n start bytes ran.run (reached, enough, has) ran.runs.is)
+
+  -- a budget that is enough leaves nothing open
+  not_open : ClosesSo Undecided → IsLeftOpen l terms (standing_on l later) → ⊥
+  not_open closes undone =
+      let ran = closes.ran bytes before from to in
+      let some = undone.undecided.some in
+      ⊎_elim (λ scopes. undone.plan scopes)
+      (λ affords.
+      let fits = affords ran.run (standing_on l later) [] ran.runs (ap (standing_on l) ran.events ∙ sym (append-nil (standing_on l later))) undone.network undone.end undone.idle some.0 some.1 some.2 in
+      let long = undone.undecided.each some.0 some.1 some.2 (ap (λ (c : Candidate). outcome_of_candidate l undone.network c terms.budget) some.3 ∙ some.4) in
+      omega (arith, fits, long))
+      affordable
+
+  by_how : (how : Drove) → ending_of how ≡ okay end → HasEnded l terms (standing_on l later) how → IfSome (closing_of how) ClosesSo → (how ≡ drove.JournalFull → ⊥) → (end ≡ ending.ReadFault → ⊥) → (end ≡ ending.DiskFault → ⊥) → OwnEnd end
+  by_how (drove.Converged m) is says closed room read kept = inl (m, sym (same_ok (ending.Converged m) end is))
+  by_how (drove.Collapsed m) is says closed room read kept = inr (m, sym (same_ok (ending.Collapsed m) end is))
+  by_how (drove.Undecided m) is says closed room read kept = absurd (not_open closed says.found)
+  by_how (drove.Suspended m) is says closed room read kept = absurd (closed_itself Suspended closed)
+  by_how drove.LineTooLong is says closed room read kept = absurd (closed_itself LineTooLong closed)
+  by_how drove.Unreadable is says closed room read kept = absurd (closed_itself Unreadable closed)
+  by_how drove.ReadFault is says closed room read kept = absurd (read (sym (same_ok ending.ReadFault end is)))
+  by_how drove.WriteFault is says closed room read kept = absurd (err_ok put.Failed end is)
+  by_how drove.DiskFault is says closed room read kept = absurd (kept (sym (same_ok ending.DiskFault end is)))
+  by_how drove.JournalFull is says closed room read kept = absurd (room refl)
+  by_how drove.Memory is says closed room read kept = absurd (err_ok put.Memory end is)
+
+  pub own_end : Tries turns l terms start later left written left' written' end → (end ≡ ending.ReadFault → ⊥) → (end ≡ ending.DiskFault → ⊥) → OwnEnd end
+  own_end tries read kept = by_how tries.how tries.is tries.says tries.closed tries.never_full read kept
+
+-- it is no fault
+pub record NoFault (end : Ending) : Type 0 where
+  pub read : end ≡ ending.ReadFault → ⊥
+  pub write : end ≡ ending.WriteFault → ⊥
+  pub kept : end ≡ ending.DiskFault → ⊥
+
+-- with the answers and the budget that are enough
+lines_end : (l : Language) (terms : Terms) (start later : List Event) (left written left' written' : Option (List ℕ)) (end : Ending) (bytes : List ℕ) → IsLanguage l → IsReached l terms.plan (standing_on l start) → left ≡ Some bytes → IsSome written →
+    IsEnough l terms start bytes → NoFault end → Tries line_turn l terms start later left written left' written' end → ConvergesOrCollapses end
+lines_end l terms start later left written left' written' end bytes lawful reached from tells enough calm tries =
+    let before = bytes_told written tells in
+    let a = enough.answers in
+    let has : HasLines (length a.lines) bytes = record { lines = a.lines; rest = a.rest; is = a.is; each = a.each; many = omega arith } in
+    ⊎_elim (λ converged. inl converged) (λ collapsed. inr (inl collapsed))
+    (own_end line_turn HasLines lines_answer l lawful terms (length a.lines) start later left written left' written' end bytes before.0 from before.1 reached a.enough has enough.affordable tries calm.read calm.kept)
+
+broken_memory : (end : Ending) → IsBrokenOff end → NoFault end → end ≡ ending.Memory
+broken_memory end broken calm = ⊎_elim (λ e. absurd (calm.read e)) (λ o. ⊎_elim (λ e. absurd (calm.write e)) (λ more. ⊎_elim (λ e. absurd (calm.kept e)) (λ e. e) more) o) broken
+
+places_reached : (l : Language) (plan : Plan) (events : List Event) → HavePlaces l plan events → IsReached l plan (standing_on l events)
+places_reached l plan events places = (places.0, replay_is_state l plan events places.0 places.1)
+
+none_placed : (l : Language) (plan : Plan) → HavePlaces l plan []
+unfolding replay_on
+none_placed l plan = (Idle [] None, refl)
+
+-- what is left after a reading
+gives_rest : (f : List ℕ → Gathered) (left now : Option (List ℕ)) (got : Result (List ℕ) AllFault) (bytes : List ℕ) → Gives f left now got → left ≡ Some bytes → now ≡ Some (f bytes).rest
+gives_rest f left now got bytes gives told = go now (sym (ap (option_map f) told) ∙ gives)
+  where
+    same : (a b : Gathered) → (let x : Option Gathered = Some a in x) ≡ Some b → a ≡ b
+    same a b e = cc
+
+    none : (a : Gathered) → (let x : Option Gathered = Some a in x) ≡ None → ⊥
+    none a e = cc
+
+    go : (o : Option (List ℕ)) → Some (f bytes) ≡ option_map (gathered got) o → o ≡ Some (f bytes).rest
+    go None e = absurd (none (f bytes) e)
+    go (Some rest) e = ap (λ (x : Gathered). let o : Option (List ℕ) = Some x.rest in o) (sym (same (f bytes) (gathered got rest) e))
+
+-- ---- `try`
+
+one_line : (a b : List ℕ) → fine a ≡ fine b → a ≡ b
+one_line a b e = cc
+
+fine_err : (a : List ℕ) (e : AllFault) → fine a ≡ Err e → ⊥
+fine_err a e h = cc
+
+not_both : (line : List ℕ) (f : VocFault) → refusal_of_vocabulary line ≡ None → refusal_of_vocabulary line ≡ Some f → ⊥
+not_both line f a b = let bad : None ≡ Some f = sym a ∙ b in cc
+
+not_refused : (line : List ℕ) (got : Result (List ℕ) AllFault) (f : VocFault) → fine line ≡ got → refusal_of_vocabulary line ≡ None → IsRefusal f got → ⊥
+not_refused line (Ok other) f is taken refused = not_both line f taken (ap refusal_of_vocabulary (one_line line other is) ∙ refused)
+not_refused line (Err e) f is taken refused = fine_err line e is
+
+module _ (terms : Terms) (left written left' written' : Option (List ℕ)) (bytes : List ℕ) (from : left ≡ Some bytes) (tells : IsSome written) (has : TryHasEnough terms bytes) where
+  abbrev first : Gathered
+  first = first_line_of 4194304 bytes
+
+  reads_end : (end : Ending) → NoFault end → ReadsVocabulary terms left written left' written' end → ConvergesOrCollapses end
+  reads_end end calm reads =
+      let rest : reads.rest ≡ Some first.rest = gives_rest (first_line_of 4194304) left reads.rest (fine reads.line) bytes reads.gives from in
+      let line : reads.line ≡ has.line = one_line reads.line has.line (sym (gives_got (first_line_of 4194304) left reads.rest (fine reads.line) bytes reads.gives from) ∙ has.first) in
+      let Reads : List ℕ → Type 0 = λ x. IsVocabulary x reads.lang in
+      lines_end reads.lang terms [] reads.events reads.rest written left' written' end first.rest reads.vocabulary.built.lawful (places_reached reads.lang terms.plan [] (none_placed reads.lang terms.plan)) rest tells
+      (has.enough reads.lang (subst Reads line reads.vocabulary)) calm reads.tries
+
+  try_completes : (end : Ending) → NoFault end → Acquires terms left written left' written' end → ConvergesOrCollapses end
+  try_completes (ending.Usage fault) calm done = absurd done
+  try_completes ending.Done calm done = absurd done
+  try_completes (ending.JournalRefused fault) calm done = absurd done
+  try_completes ending.DiskFault calm done = absurd done
+  try_completes ending.JournalFull calm done = absurd done
+  try_completes (ending.NotFresh m) calm done = absurd done
+  try_completes (ending.TargetRefused fault) calm done = absurd done
+  try_completes (ending.ReduceSpent i) calm done = absurd done
+  try_completes (ending.VocRefused fault) calm done =
+      let refused = done.0 in
+      absurd (not_refused has.line refused.got fault (sym has.first ∙ gives_got (first_line_of 4194304) left left' refused.got bytes refused.gives from) has.taken refused.refused)
+  try_completes ending.ReadFault calm done = absurd (calm.read refl)
+  try_completes ending.WriteFault calm done = absurd (calm.write refl)
+  try_completes ending.Memory calm done = inr (inr refl)
+  try_completes (ending.Converged m) calm done = inl (m, refl)
+  try_completes (ending.Collapsed m) calm done = inr (inl (m, refl))
+  try_completes (ending.Undecided m) calm done = reads_end (ending.Undecided m) calm done
+  try_completes (ending.Suspended m) calm done = reads_end (ending.Suspended m) calm done
+  try_completes ending.LineTooLong calm done = reads_end ending.LineTooLong calm done
+  try_completes ending.Unreadable calm done = reads_end ending.Unreadable calm done
+
+-- ---- the commands over a journal
+
+-- what was read to the end is the whole, and nothing is left of it
+record IsWhole (bytes got : List ℕ) : Type 0 where
+  is : bytes ≡ got
+  none : (all_of 4194304 bytes).rest ≡ []
+
+abbrev long_one : Result (List ℕ) AllFault
+long_one = Err TooLong
+
+whole_read : (bytes got : List ℕ) → (all_of 4194304 bytes).got ≡ fine got → IsWhole bytes got
+unfolding all_of
+whole_read bytes got is = go (nat_le (length bytes) 4194304) refl is
+  where
+    go : (b : Bool) → nat_le (length bytes) 4194304 ≡ b → (cond b (gathered (fine bytes) []) (gathered long_one (drop (4194304 + 1) bytes))).got ≡ fine got → IsWhole bytes got
+    go true which e = record { is = one_line bytes got e; none = ap (λ b. (cond b (gathered (fine bytes) []) (gathered long_one (drop (4194304 + 1) bytes))).rest) which }
+    go false which e = absurd (fine_err got TooLong (sym e))
+
+none_stale : (t : List Answer) (n : ℕ) → t ≡ [] → n ≡ length t → 1 ≤ n → ⊥
+none_stale t n none number some = let few : length t ≡ 0 = ap length none in omega (arith, few, number, some)
+
+abbrev taking : List Candidate → Result (List Candidate) NetFault
+taking target = Ok target
+
+same_target : (a b : List Candidate) → taking a ≡ taking b → a ≡ b
+same_target a b e = cc
+
+not_target : (target : List Candidate) (f : NetFault) → taking target ≡ Err f → ⊥
+not_target target f e = cc
+
+-- a session with a target lacks none
+lacks_none : (l : Language) (terms : Terms) (events : List Event) (left left' written written' : Option (List ℕ)) (bytes : List ℕ) (end : Ending) → HasTarget l terms events bytes → left ≡ Some bytes → NoFault end →
+    (why : NoTarget) → MayLack l left left' why → EndsWithout why written written' (okay end) → ⊥
+lacks_none l terms events left left' written written' bytes end has from calm (without.Refused f) lacks ends = not_target has.target f (sym has.is ∙ none_of l left left' bytes f lacks from)
+lacks_none l terms events left left' written written' bytes end has from calm without.ReadFault lacks ends = calm.read (same_ok end ending.ReadFault ends.0)
+lacks_none l terms events left left' written written' bytes end has from calm without.Memory lacks ends = err_ok put.Memory end (sym ends.0)
+
+-- with a target and a budget that is enough
+target_end : (l : Language) (terms : Terms) (start later : List Event) (left rest written left' written' : Option (List ℕ)) (end : Ending) (bytes : List ℕ) (target : List Candidate) → IsLanguage l → IsReached l terms.plan (standing_on l start) → left ≡ Some bytes → IsSome written →
+    HasTarget l terms start bytes → ReadsTarget l left rest target → ((m : ℕ) → end ≡ ending.Collapsed m → ⊥) → NoFault end → Tries (net_turn target false) l terms start later rest written left' written' end → Converges end
+target_end l terms start later left rest written left' written' end bytes target lawful reached from tells has reads agreed calm tries =
+    let before = bytes_told written tells in
+    let whole = whole_read bytes reads.bytes (gives_got (all_of 4194304) left rest (fine reads.bytes) bytes reads.gives from) in
+    let nothing : rest ≡ Some [] = gives_rest (all_of 4194304) left rest (fine reads.bytes) bytes reads.gives from ∙ ap (λ (x : List ℕ). let o : Option (List ℕ) = Some x in o) whole.none in
+    let same : has.target ≡ target = same_target has.target target (sym has.is ∙ ap (network_of l) whole.is ∙ reads.is) in
+    let Afforded : List Candidate → Type 0 = λ x. IsAffordable (net_turn x false) l terms start [] in
+    ⊎_elim (λ converged. inl converged) (λ collapsed. absurd (agreed collapsed.0 collapsed.1))
+    (own_end (net_turn target false) AsMany (network_answers target false) l lawful terms (most_answers l) start later rest written left' written' end [] before.0 nothing before.1 reached (omega arith) tt (subst Afforded same has.affordable) tries calm.read calm.kept)
+
+-- ---- a number's language
+
+-- with a budget that is enough for it
+told_end : (number : ℕ) (l : Language) (terms : Terms) (events : List Event) (written written' : Option (List ℕ)) (end : Ending) → IsGenerated l → 88573 ≤ terms.budget → Tells number l terms events written written' end → Converges end
+told_end number l terms events written written' (ending.Converged m) made enough tells = inl (m, refl)
+told_end number l terms events written written' (ending.Undecided m) made enough tells = absurd (generated_is_settled l terms (standing_on l events) made enough tells.0.found)
+told_end number l terms events written written' (ending.Usage fault) made enough tells = absurd tells
+told_end number l terms events written written' ending.Done made enough tells = absurd tells
+told_end number l terms events written written' (ending.VocRefused fault) made enough tells = absurd tells
+told_end number l terms events written written' (ending.JournalRefused fault) made enough tells = absurd tells
+told_end number l terms events written written' (ending.Collapsed m) made enough tells = absurd tells
+told_end number l terms events written written' (ending.Suspended m) made enough tells = absurd tells
+told_end number l terms events written written' ending.LineTooLong made enough tells = absurd tells
+told_end number l terms events written written' ending.Unreadable made enough tells = absurd tells
+told_end number l terms events written written' ending.ReadFault made enough tells = absurd tells
+told_end number l terms events written written' ending.WriteFault made enough tells = absurd tells
+told_end number l terms events written written' ending.DiskFault made enough tells = absurd tells
+told_end number l terms events written written' ending.Memory made enough tells = absurd tells
+told_end number l terms events written written' ending.JournalFull made enough tells = absurd tells
+told_end number l terms events written written' (ending.NotFresh m) made enough tells = absurd tells
+told_end number l terms events written written' (ending.TargetRefused fault) made enough tells = absurd tells
+told_end number l terms events written written' (ending.ReduceSpent i) made enough tells = absurd tells
+
+module _ {D : Type 0} (content : D → Option (List ℕ)) (may_leave : D → List ℕ → Type 0) (moment : D → ℕ) (left_since : D → ℕ → List ℕ → Type 0) (left written left' written' : Option (List ℕ)) (old new : D) (end : Ending) (calm : NoFault end) where
+  run_completes : (budget : ℕ) → RunsOn content may_leave moment left_since budget left written left' written' old new (okay end) → (bytes file : List ℕ) → left ≡ Some bytes → content old ≡ Some file → IsSome written → RunHasEnough budget bytes file → ConvergesOrCollapses end
+  run_completes budget (inl closed) bytes file from told tells has =
+      ⊎_elim (λ broken. inr (inr (broken_memory end broken calm))) (λ is. absurd (has.opens closed.fault (is.0, closed.why file told))) (closed_end written written' end closed.fault (untold closed.fault) refl closed.refuses)
+  run_completes budget (inr on) bytes file from told tells has =
+      lines_end on.lang (terms_with on.plan budget) on.events on.later left written left' written' end bytes on.read.built.lawful (places_reached on.lang on.plan on.events on.places) from tells
+      (has.enough on.plan on.voc on.events on.lang (on.says file told) on.read) calm on.tries
+
+  play_completes : (budget : ℕ) → PlaysOn content may_leave moment left_since budget left written left' written' old new (okay end) → (bytes file : List ℕ) → left ≡ Some bytes → content old ≡ Some file → IsSome written → PlayHasEnough budget bytes file → Converges end
+  play_completes budget (inl closed) bytes file from told tells has =
+      ⊎_elim (λ broken. inr (broken_memory end broken calm)) (λ is. absurd (has.opens closed.fault (is.0, closed.why file told))) (closed_end written written' end closed.fault (untold closed.fault) refl closed.refuses)
+  play_completes budget (inr (inl stale)) bytes file from told tells has =
+      let o = stale.opened in
+      let given = has.enough o.plan o.voc o.events o.lang (o.says file told) o.read in
+      absurd (none_stale (standing_on o.lang o.events) stale.number given.fresh stale.is stale.some)
+  play_completes budget (inr (inr (inl lacks))) bytes file from told tells has =
+      let o = lacks.opened in
+      let given = has.enough o.plan o.voc o.events o.lang (o.says file told) o.read in
+      absurd (lacks_none o.lang (terms_with o.plan budget) o.events left left' written written' bytes end given from calm lacks.why lacks.lacks lacks.ends)
+  play_completes budget (inr (inr (inr played))) bytes file from told tells has =
+      let on = played.on in
+      target_end on.lang (terms_with on.plan budget) on.events on.later left played.rest written left' written' end bytes played.target on.read.built.lawful (places_reached on.lang on.plan on.events on.places) from tells
+      (has.enough on.plan on.voc on.events on.lang (on.says file told) on.read) played.reads (λ m is. played.answered.no_collapse m (ap okay is)) calm on.tries
+
+  new_completes : (content' : Option (List ℕ)) → NewEnds left content' end → (bytes file : List ℕ) → left ≡ Some bytes → content' ≡ Some file → HasVocabulary bytes → HasNoSession file → IsDoneWith end
+  new_completes content' ends bytes file from told voc free = ⊎_elim (λ broken. inr (broken_memory end broken calm)) (λ exactly. inl (exactly.done.1 (voc, free))) (ends bytes from file told)
+
+  show_completes : (content' : Option (List ℕ)) → ShowEnds content' end → (file : List ℕ) → content' ≡ Some file → ((f : SFault) → RefusesOpening file f → ⊥) → IsDoneWith end
+  show_completes content' ends file told none = ⊎_elim (λ broken. inr (broken_memory end broken calm)) (λ exactly. inl (exactly.else_done none)) (ends file told)
+
+  demo_completes : (number budget : ℕ) → Demos number budget written written' (okay end) → 88573 ≤ budget → Converges end
+  demo_completes number budget (inl none) enough = absurd (err_ok put.Memory end (sym none.0))
+  demo_completes number budget (inr demo) enough = told_end number demo.lang (terms_with Quacq budget) demo.events written written' end demo.generated enough demo.ends
+
+  reduce_completes : (budget : ℕ) (content' : Option (List ℕ)) → ReduceEnds budget content' end → (file : List ℕ) → content' ≡ Some file → HoldsDecided file budget → IsDoneWith end
+  reduce_completes budget content' ends file told held = ⊎_elim (λ broken. inr (broken_memory end broken calm)) (λ exactly. inl (exactly.done.1 held)) (ends file told)
+
+  pub completes : (words : List (List ℕ)) →
+      ((plan : Plan) (budget : ℕ) → command_asked words ≡ Ok (command.Try plan budget) → Acquires (terms_with plan budget) left written left' written' end) →
+      ((budget : ℕ) → command_asked words ≡ Ok (command.Run budget) → RunsOn content may_leave moment left_since budget left written left' written' old new (okay end)) →
+      ((budget : ℕ) → command_asked words ≡ Ok (command.Play budget) → PlaysOn content may_leave moment left_since budget left written left' written' old new (okay end)) →
+      ((number budget : ℕ) → command_asked words ≡ Ok (command.Demo number budget) → Demos number budget written written' (okay end)) →
+      EndsExactly (command_asked words) left (content old) end → Completes (command_asked words) left written (content old) end
+  completes words tries runs plays demos exactly = of (command_asked words) refl exactly
+    where
+      of : (asked : Result Command UsageFault) → command_asked words ≡ asked → EndsExactly asked left (content old) end → Completes asked left written (content old) end
+      of (Ok (command.New plan)) is ends = λ bytes from file told. new_completes (content old) ends bytes file from told
+      of (Ok (command.Run budget)) is ends = λ bytes from file told. run_completes budget (runs budget is) bytes file from told
+      of (Ok (command.Play budget)) is ends = λ bytes from file told. play_completes budget (plays budget is) bytes file from told
+      of (Ok command.Show) is ends = λ file told. show_completes (content old) ends file told
+      of (Ok (command.Try plan budget)) is ends = λ bytes from tells has. try_completes (terms_with plan budget) left written left' written' bytes from tells has end calm (tries plan budget is)
+      of (Ok (command.Demo number budget)) is ends = λ enough. demo_completes number budget (demos number budget is) enough
+      of (Ok (command.Reduce budget)) is ends = λ file told. reduce_completes budget (content old) ends file told
+      of (Err fault) is ends = tt
+
+-- want of memory is always an answer
+pub memory_completes : (asked : Result Command UsageFault) (left written content : Option (List ℕ)) → Completes asked left written content ending.Memory
+memory_completes (Ok (command.New plan)) left written content = λ bytes from file told voc free. inr refl
+memory_completes (Ok (command.Run budget)) left written content = λ bytes from file told tells has. inr (inr refl)
+memory_completes (Ok (command.Play budget)) left written content = λ bytes from file told tells has. inr refl
+memory_completes (Ok command.Show) left written content = λ file told none. inr refl
+memory_completes (Ok (command.Try plan budget)) left written content = λ bytes from tells has. inr (inr refl)
+memory_completes (Ok (command.Demo number budget)) left written content = λ enough. inr refl
+memory_completes (Ok (command.Reduce budget)) left written content = λ file told held. inr refl
+memory_completes (Err fault) left written content = tt

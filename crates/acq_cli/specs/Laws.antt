@@ -1,0 +1,24 @@
+-- Laws of what is enough, over the definitions alone.
+use Rattle.std.specs.Prelude.{ℕ, ◌≤◌, List, [], All}
+use Rattle.assign.specs.declared.events.Event.{Event}
+use Rattle.assign.specs.declared.events.Plan.{Plan}
+use Rattle.language.specs.declared.candidates.Candidate.{Candidate}
+use Rattle.language.specs.Language.{Language, candidates}
+use Rattle.language.specs.Search.{plain_size}
+use Rattle.target_oracle.specs.Generator.{IsGenerated}
+use Rattle.target_oracle.specs.Turns.{Turns}
+use Rattle.acq_cli.specs.Completing.{IsAffordable}
+use Rattle.acq_cli.specs.Points.{terms_with}
+use Rattle.acq_cli.specs.declared.terms.Terms.{Terms}
+
+-- A budget that is enough for each candidate where nothing is learned is enough for every session.
+abbrev pub BudgetIsEnough : Type 0
+BudgetIsEnough =
+    (turns : Turns) (l : Language) (terms : Terms) (events : List Event) (bytes : List ℕ) →
+    All (λ c. plain_size l [] c ≤ terms.budget) (candidates l) → IsAffordable turns l terms events bytes
+
+-- In the generated language no search has more than 88,573 steps, so a budget of as many is enough for every session.
+pub record GeneratedIsShort : Type 0 where
+  pub short : (l : Language) (network : List Candidate) (c : Candidate) → IsGenerated l → plain_size l network c ≤ 88573
+  pub enough : (turns : Turns) (l : Language) (plan : Plan) (budget : ℕ) (events : List Event) (bytes : List ℕ) → IsGenerated l → 88573 ≤ budget →
+      IsAffordable turns l (terms_with plan budget) events bytes

@@ -1,0 +1,18 @@
+-- Laws of runs and their texts, over the definitions alone.
+use Rattle.std.specs.Prelude.{◌≡◌, ℕ, List}
+use Rattle.assign.specs.declared.events.Event.{Event}
+use Rattle.language.specs.Language.{Language}
+use Rattle.target_oracle.specs.Turns.{Turns}
+use Rattle.acq_cli.specs.Run.{Ran, Runs}
+use Rattle.acq_cli.specs.Trying.{IsWholeText}
+use Rattle.acq_cli.specs.declared.terms.Terms.{Terms}
+
+-- from the same events and bytes there is one run
+abbrev pub RunIsOne : Type 0
+RunIsOne =
+    (turns : Turns) (l : Language) (terms : Terms) (events : List Event) (bytes : List ℕ) (run other : Ran) →
+    Runs turns l terms events bytes run → Runs turns l terms events bytes other → run ≡ other
+
+-- of the same bytes `try` has one whole text
+abbrev pub TextIsOne : Type 0
+TextIsOne = (terms : Terms) (bytes text other : List ℕ) → IsWholeText terms bytes text → IsWholeText terms bytes other → text ≡ other

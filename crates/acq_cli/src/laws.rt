@@ -1,0 +1,29 @@
+//! Laws of the definitions, as contracts of functions that do nothing.
+
+ghost use Rattle.acq_cli.specs.Laws.{BudgetIsEnough, GeneratedIsShort};
+ghost use Rattle.acq_cli.specs.OneText.{RunIsOne, TextIsOne};
+
+// ---- What is enough for a session
+
+/// A budget that is enough for each candidate where nothing is learned is enough for every session.
+pub fn budget_is_enough()
+    ensures { BudgetIsEnough }
+{}
+
+/// The default budget of 100,000 is enough for every session about the generated language, since no search there has more
+/// than 88,573 steps.
+pub fn generated_is_short()
+    ensures { GeneratedIsShort }
+{}
+
+// ---- What a run of given bytes is
+
+/// From the same events and bytes there is one run.
+pub fn run_is_one()
+    ensures { RunIsOne }
+{}
+
+/// Of the same bytes `try` has one whole text.
+pub fn text_is_one()
+    ensures { TextIsOne }
+{}
