@@ -79,7 +79,7 @@ ROWS = [
             0,
         )
     ],
-    [("demo --number 0", b"", None, 0)],
+    [("demo --number 0", b"", "demo 0 variables 10 scopes 45 candidates 315\nconverged 119\nlearned 16\n", 0)],
     [("try --budget 1", EQUAL_OR_NOT, "undecided 0\nopen eq a b\nopen ne a b\nopen eq&ne a b\n", 5)],
     [("try", EQUAL_OR_NOT[:30] + b"\n", "refused vocabulary not json\n", 2)],
     [
