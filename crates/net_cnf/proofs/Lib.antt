@@ -3,4 +3,3 @@ pub mod Tests
 pub mod Encoding
 pub mod Adding
 pub mod Pieces
-pub mod Written

@@ -5,4 +5,3 @@ pub mod Texts
 pub mod Answers
 pub mod Paired
 pub mod ModelTexts
-pub mod Model
