@@ -16,4 +16,6 @@ pub enum Plan {
 pub enum Event {
     /// An answer. Its question has 128 options: those of the language's variables first, then empty ones.
     Answer { question: Partial, yes: bool },
+    /// The last answer that stands is taken back.
+    Back,
 }
