@@ -28,3 +28,4 @@ pub mod Orders
 pub mod Plain
 pub mod ByNames
 pub mod OneLanguage
+pub mod InOrder

@@ -1,5 +1,5 @@
 -- Which languages can be built, and of what.
-use Rattle.std.specs.Prelude.{ℕ, ℤ, pos, All, not, ◌||◌, ◌++◌, ◌<◌, ◌^◌, position, option_map, find, negsuc, ◌+◌, ◌≡◌, Bool, true, false, ◌&&◌, List, [], ◌∷◌, length, map, filter, Option, Some, None, if◌then◌else◌, ◌==◌, nat_lt, nat_le, int_le, ◌≤◌, ◌≤ℤ◌, ◌+ℤ◌, ◌-ℤ◌, unsigned_abs}
+use Rattle.std.specs.Prelude.{ℕ, ℤ, pos, All, not, ◌||◌, ◌++◌, ◌<◌, ◌^◌, ◌*◌, ◌%◌, position, option_map, find, negsuc, ◌+◌, ◌≡◌, Bool, true, false, ◌&&◌, List, [], ◌∷◌, length, map, filter, Option, Some, None, if◌then◌else◌, ◌==◌, nat_lt, nat_le, int_le, ◌≤◌, ◌≤ℤ◌, ◌+ℤ◌, ◌-ℤ◌, unsigned_abs}
 use Rattle.std.specs.List.{list_any, flat_map, position_or_len}
 use Rattle.assign.specs.Sets.{is_within, is_same}
 use Rattle.std.specs.Option.{option_or}
@@ -126,6 +126,11 @@ pair_after related before (scope ∷ scopes) =
     if list_any (λ earlier. related earlier scope) before
     then Some (position_or_len (λ earlier. related earlier scope) before, length before)
     else pair_after related (before ++ scope ∷ []) scopes
+
+-- numbers as the digits of one that goes on from k, of which the last 32 bits are taken
+unfoldable pub digits : ℕ → List ℕ → ℕ
+digits k [] = k
+digits k (v ∷ vs) = digits (((k * 128) % 2 ^ 32 + v) % 2 ^ 32) vs
 
 -- the pair of scopes so related with the least second number, and then the least first one
 abbrev pub first_pair : (List ℕ → List ℕ → Bool) → List (List ℕ) → Option (ℕ × ℕ)

@@ -1,9 +1,9 @@
-ghost use Rattle.std.specs.Prelude.{◌≡◌, ◌≢◌, ℕ, ◌≤◌, ◌<◌, ◌^◌, Some, None, length, map, position, not, nat_eq, All, IfOk, IfErr, IfSome, OnOk, List};
+ghost use Rattle.std.specs.Prelude.{◌≡◌, ◌≢◌, true, ℕ, ◌≤◌, ◌<◌, ◌^◌, Some, None, length, map, position, not, nat_eq, All, IfOk, IfErr, IfSome, OnOk, List};
 ghost use Rattle.std.specs.Cmp.Lexicographic.{pointwise};
 ghost use Rattle.assign.specs.Sets.{IsSet, is_same};
 ghost use Rattle.language.specs.Inside.{given_by};
 ghost use Rattle.language.specs.Scopes.{variables_in};
-ghost use Rattle.language.specs.Building.{are_nested, first_pair, has_arity, scope_list_refusal};
+ghost use Rattle.language.specs.Building.{are_nested, digits, first_pair, has_arity, scope_list_refusal};
 
 use crate::choosing::has_arity;
 use crate::parts::{LangFault, RelPart};
@@ -39,6 +39,43 @@ fn nested_before(sets: &[VarSet], set: VarSet) -> Option<usize>
         .position(|earlier| earlier.within(set) || set.within(*earlier))
 }
 
+/// The members as the digits of one number, of which the last 32 bits are taken.
+fn number_in(set: VarSet) -> u32
+    ensures { result ≡ digits 0 set }
+{
+    let mut number = 0u32;
+    let mut rest = set;
+    while rest.len() != 0 {
+        let Some(v) = rest.least() else {
+            unreachable!()
+        };
+        number = number.wrapping_mul(128).wrapping_add(u32::from(v));
+        rest = rest.without(v);
+    }
+    number
+}
+
+/// Whether the sets are seen at once to be apart: they have as many members each, and their numbers rise. So it is with all
+/// scopes of one length, which are too many to be compared in pairs.
+fn are_in_order(sets: &[VarSet]) -> bool
+    ensures { result ≡ true → first_pair are_nested sets.now ≡ None }
+{
+    let size = match sets.first() {
+        Some(first) => first.len(),
+        None => 0,
+    };
+    let mut next = 0u64;
+    for j in 0..sets.len() {
+        let set = sets[j];
+        let number = u64::from(number_in(set));
+        if set.len() != size || number < next {
+            return false;
+        }
+        next = number + 1;
+    }
+    true
+}
+
 /// The first set that is the same as one before it: the number of that one, and its own.
 fn first_repeated(sets: &[VarSet]) -> Option<(usize, usize)>
     ensures is { result ≡ first_pair is_same sets.now }
@@ -59,6 +96,9 @@ fn first_nested(sets: &[VarSet]) -> Option<(usize, usize)>
     ensures low { IfSome result (λ pair. pair.0 < length sets.now) }
     ensures high { IfSome result (λ pair. pair.1 < length sets.now) }
 {
+    if are_in_order(sets) {
+        return None;
+    }
     for j in 0..sets.len() {
         if let Some(i) = nested_before(&sets[..j], sets[j]) {
             return Some((i, j));
