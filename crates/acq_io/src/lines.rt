@@ -1,5 +1,5 @@
 ghost use Rattle.std.specs.Prelude.{◌≡◌, ◌<◌, ◌≤◌, ◌↔◌, [], ◌∷◌, ◌++◌, length, IsTrue};
-ghost use Rattle.acq_io.specs.Streams.{Rose, TakesSome};
+ghost use Rattle.acq_io.specs.Streams.{HasCalled, TakesSome};
 ghost use Rattle.acq_io.specs.Lines.{LacksNewline, ReadsLine};
 
 use crate::streams::{Failed, Source, read_byte};
@@ -84,8 +84,7 @@ pub fn read_line<S: Source>(source: &mut S, line: &mut Line) -> LineGot
     ensures short { length line.new ≤ 256 }
     // whatever it answers, what is left is an end of what was left
     ensures takes { TakesSome (S.left source.old) (S.left source.new) }
-    ensures later { S.faults source.old ≤ S.faults source.new }
-    ensures cause { result ≡ LineGot.Fault → Rose (S.faults source.old) (S.faults source.new) }
+    ensures called { HasCalled (S.faults source.old) (S.faults source.new) (S.late source.old) (S.late source.new) (result ≡ LineGot.Fault) }
 {
     line.clear();
     loop {

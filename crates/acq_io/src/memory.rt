@@ -1,5 +1,5 @@
 ghost use Rattle.std.specs.Prelude.{◌≡◌, ◌≢◌, ℕ, ◌<◌, ◌≤◌, ◌↔◌, List, [], ◌++◌, length, take, min, Contains, IsErr, IsTrue, IfOk, OnOk, OnErr, MatchResult, MatchBool, Some};
-ghost use Rattle.acq_io.specs.Streams.{raised};
+ghost use Rattle.acq_io.specs.Streams.{raised, IsLate};
 ghost use Rattle.acq_io.specs.Memory.{Scripted, scripted};
 
 use crate::plain::{PlainSink, PlainSource};
@@ -14,16 +14,18 @@ struct Script {
     fails: Vec<u32>,
     calls: u64,
     faults: u64,
+    late: u64,
 }
 
 impl Script {
     fn new(fails: Vec<u32>) -> Script
-        ensures { result ≡ record { fails = fails; calls = 0; faults = 0 } }
+        ensures { result ≡ record { fails = fails; calls = 0; faults = 0; late = 0 } }
     {
         Script {
             fails,
             calls: 0,
             faults: 0,
+            late: 0,
         }
     }
 
@@ -34,7 +36,11 @@ impl Script {
         ensures fails { self.new.fails.items ≡ self.old.fails.items }
         ensures faults { MatchBool result (self.new.faults ≡ raised self.old.faults) (self.new.faults ≡ self.old.faults) }
         ensures later { self.old.faults ≤ self.new.faults }
+        ensures late { IsLate self.old.faults self.old.late self.new.late }
     {
+        if self.faults > 0 {
+            self.late = self.late.saturating_add(1);
+        }
         let call = self.calls;
         self.calls = call.saturating_add(1);
         let fails = self.fails.iter().any(|&number| number as u64 == call);
@@ -57,7 +63,7 @@ impl Model for MemSource {
 
     ghost Value = { Scripted };
 
-    ghost view = { λ s. record { bytes = s.plain; calls = s.script.calls; fails = s.script.fails.items; faults = s.script.faults } };
+    ghost view = { λ s. record { bytes = s.plain; calls = s.script.calls; fails = s.script.fails.items; faults = s.script.faults; late = s.script.late } };
 }
 
 impl MemSource {
@@ -86,6 +92,8 @@ impl Source for MemSource {
 
     ghost faults = { λ s. s.faults };
 
+    ghost late = { λ s. s.late };
+
     /// Gives as many bytes as there are and fit, unless the call's number is one of those that fail.
     fn read(&mut self, buf: &mut [u8]) -> Result<usize, Failed>
         requires { 0 < length buf.old }
@@ -101,6 +109,7 @@ impl Source for MemSource {
         ensures raised { OnErr result (self.new.faults ≡ raised self.old.faults) }
         ensures kept { OnOk result (self.new.faults ≡ self.old.faults) }
         ensures later { self.old.faults ≤ self.new.faults }
+        ensures late { IsLate self.old.faults self.old.late self.new.late }
     {
         if self.script.fails_now() {
             Err(Failed)
@@ -123,7 +132,7 @@ impl Model for MemSink {
 
     ghost Value = { Scripted };
 
-    ghost view = { λ s. record { bytes = s.plain; calls = s.script.calls; fails = s.script.fails.items; faults = s.script.faults } };
+    ghost view = { λ s. record { bytes = s.plain; calls = s.script.calls; fails = s.script.fails.items; faults = s.script.faults; late = s.script.late } };
 }
 
 impl MemSink {

@@ -52,6 +52,8 @@ impl Source for PlainSource {
 
     ghost faults = { λ _. 0 };
 
+    ghost late = { λ _. 0 };
+
     /// Gives as many bytes as there are and fit.
     fn read(&mut self, buf: &mut [u8]) -> Result<usize, Failed>
         requires { 0 < length buf.old }

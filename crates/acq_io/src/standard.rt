@@ -1,5 +1,5 @@
 ghost use Rattle.std.specs.Prelude.{◌≡◌, ◌≢◌, ◌<◌, ◌≤◌, length, Err, IfOk, OnOk, OnErr};
-ghost use Rattle.acq_io.specs.Streams.{raised};
+ghost use Rattle.acq_io.specs.Streams.{raised, IsLate};
 
 use crate::streams::{Failed, Put, Sink, Source};
 use std::io::{ErrorKind, Read, Write};
@@ -11,21 +11,26 @@ use std::marker::Model;
 pub struct StdSource<R> {
     inner: R,
     faults: u64,
+    late: u64,
 }
 
 impl<R> Model for StdSource<R> {
-    ghost use Rattle.std.specs.Prelude.{ℕ};
+    ghost use Rattle.acq_io.specs.Standard.{Counted};
 
-    ghost Value = { ℕ };
+    ghost Value = { Counted };
 
-    ghost view = { λ s. s.faults };
+    ghost view = { λ s. record { faults = s.faults; late = s.late } };
 }
 
 impl<R: Read> StdSource<R> {
     pub fn new(inner: R) -> StdSource<R>
         ensures no_faults { ⟦<StdSource<R> as Source>⟧.faults result ≡ 0 }
     {
-        StdSource { inner, faults: 0 }
+        StdSource {
+            inner,
+            faults: 0,
+            late: 0,
+        }
     }
 }
 
@@ -34,16 +39,22 @@ impl<R: Read> Source for StdSource<R> {
 
     ghost left = { λ _. None };
 
-    ghost faults = { λ s. s };
+    ghost faults = { λ s. s.faults };
 
-    /// The count rises at each failure, and at nothing else.
+    ghost late = { λ s. s.late };
+
+    /// The count of faults rises at each failure, and at nothing else.
     fn read(&mut self, buf: &mut [u8]) -> Result<usize, Failed>
         requires { 0 < length buf.old }
         ensures count { IfOk result (λ n. n ≤ length buf.new) }
-        ensures raised { OnErr result (self.new ≡ raised self.old) }
-        ensures kept { OnOk result (self.new ≡ self.old) }
-        ensures later { self.old ≤ self.new }
+        ensures raised { OnErr result (self.new.faults ≡ raised self.old.faults) }
+        ensures kept { OnOk result (self.new.faults ≡ self.old.faults) }
+        ensures later { self.old.faults ≤ self.new.faults }
+        ensures late { IsLate self.old.faults self.old.late self.new.late }
     {
+        if self.faults > 0 {
+            self.late = self.late.saturating_add(1);
+        }
         match read_uninterrupted(&mut self.inner, buf) {
             Ok(count) => Ok(count),
             Err(Failed) => {

@@ -1,6 +1,6 @@
-ghost use Rattle.std.specs.Prelude.{◌≡◌, ℕ, ◌<◌, ◌≤◌, List, length, take, IfOk, OnOk, OnErr, Option};
+ghost use Rattle.std.specs.Prelude.{◌≡◌, ℕ, ◌<◌, ◌≤◌, List, length, take, IfOk, IsErr, OnOk, OnErr, Option};
 ghost use Rattle.std.specs.Option.{option_to_list};
-ghost use Rattle.acq_io.specs.Streams.{Rose, Takes, WasEmpty, Adds, AddsFront};
+ghost use Rattle.acq_io.specs.Streams.{raised, Rose, Takes, HasCalled, IsLate, WasEmpty, Adds, AddsFront};
 
 use std::alloc::AllocError;
 use thiserror::Error;
@@ -40,6 +40,9 @@ pub trait Source {
     /// How often the source has failed.
     ghost faults: { Self → ℕ };
 
+    /// How often it was called after it had failed.
+    ghost late: { Self → ℕ };
+
     /// Puts bytes at the front of the buffer, and answers how many; 0 means the end. A call that fails takes nothing.
     fn read(&mut self, buf: &mut [u8]) -> Result<usize, Failed>
         requires { 0 < length buf.old }
@@ -47,8 +50,10 @@ pub trait Source {
         ensures bytes { IfOk result (λ n. Takes (left self.old) (left self.new) (take n buf.new)) }
         ensures end { result ≡ Ok 0 → WasEmpty (left self.old) }
         ensures err { OnErr result (left self.new ≡ left self.old) }
+        ensures raised { OnErr result (faults self.new ≡ raised (faults self.old)) }
+        ensures kept { OnOk result (faults self.new ≡ faults self.old) }
         ensures later { faults self.old ≤ faults self.new }
-        ensures cause { OnErr result (Rose (faults self.old) (faults self.new)) };
+        ensures late { IsLate (faults self.old) (late self.old) (late self.new) };
 }
 
 /// Where bytes go.
@@ -73,8 +78,7 @@ pub fn read_byte<S: Source>(source: &mut S) -> Result<Option<u8>, Failed>
     ensures bytes { IfOk result (λ byte. Takes (S.left source.old) (S.left source.new) (option_to_list byte)) }
     ensures end { result ≡ Ok None → WasEmpty (S.left source.old) }
     ensures err { OnErr result (S.left source.new ≡ S.left source.old) }
-    ensures later { S.faults source.old ≤ S.faults source.new }
-    ensures cause { OnErr result (Rose (S.faults source.old) (S.faults source.new)) }
+    ensures called { HasCalled (S.faults source.old) (S.faults source.new) (S.late source.old) (S.late source.new) (IsErr result) }
 {
     let mut place = [0u8; 1];
     let count = source.read(&mut place)?;

@@ -1,5 +1,5 @@
 ghost use Rattle.std.specs.Prelude.{◌≡◌, ◌≢◌, ◌≤◌, length, IfOk, IfErr, Ok, Err};
-ghost use Rattle.acq_io.specs.Streams.{Rose, TakesSome};
+ghost use Rattle.acq_io.specs.Streams.{HasCalled, TakesSome};
 ghost use Rattle.acq_io.specs.Lines.{LacksNewline};
 ghost use Rattle.acq_io.specs.Whole.{all_of, first_line_of, Gives, TakesAtMost, TakesOfLine};
 
@@ -31,8 +31,7 @@ pub fn read_all<S: Source>(alloc: Global, source: &mut S, most: u32) -> Result<V
         → Gives (all_of most) (S.left source.old) (S.left source.new) (Err AllFault.TooLong) }
     ensures stopped { IfErr result (λ e. e ≢ AllFault.TooLong → TakesAtMost most (S.left source.old) (S.left source.new)) }
     ensures takes { TakesSome (S.left source.old) (S.left source.new) }
-    ensures later { S.faults source.old ≤ S.faults source.new }
-    ensures cause { result ≡ Err AllFault.Fault → Rose (S.faults source.old) (S.faults source.new) }
+    ensures called { HasCalled (S.faults source.old) (S.faults source.new) (S.late source.old) (S.late source.new) (result ≡ Err AllFault.Fault) }
 {
     let most = most as usize;
     let mut all = Vec::new(alloc);
@@ -70,8 +69,7 @@ pub fn read_first_line<S: Source>(
         → Gives (first_line_of most) (S.left source.old) (S.left source.new) (Err AllFault.TooLong) }
     ensures stopped { IfErr result (λ e. e ≢ AllFault.TooLong → TakesOfLine most (S.left source.old) (S.left source.new)) }
     ensures takes { TakesSome (S.left source.old) (S.left source.new) }
-    ensures later { S.faults source.old ≤ S.faults source.new }
-    ensures cause { result ≡ Err AllFault.Fault → Rose (S.faults source.old) (S.faults source.new) }
+    ensures called { HasCalled (S.faults source.old) (S.faults source.new) (S.late source.old) (S.late source.new) (result ≡ Err AllFault.Fault) }
 {
     let mut line = Vec::new(alloc);
     loop {

@@ -1,11 +1,11 @@
 -- Draws, hidden values, and what follows of them.
-use Rattle.std.proofs.Common.{◌≡◌, ◌≢◌, ℕ, zero, suc, ◌+◌, ◌*◌, ◌/◌, ◌%◌, ◌^◌, ◌<◌, ◌≤◌, ◌++◌, ◌==◌, ◌&&◌, ◌||◌, Bool, true, false, not, cond, List, [], ◌∷◌, length, map, get_or, Option, Some, None, refl, sym, ◌∙◌, ap, subst, arith, inl, inr, ◌⊎◌}
-use Rattle.std.specs.Prelude.{All, AllPairs, slice_index_or, slice_set, pos, String, string_bytes}
+use Rattle.std.proofs.Common.{◌≡◌, ◌≢◌, ℕ, zero, suc, ◌+◌, ◌/◌, ◌%◌, ◌^◌, ◌<◌, ◌≤◌, ◌++◌, ◌==◌, ◌&&◌, ◌||◌, Bool, true, false, not, cond, List, [], ◌∷◌, length, map, get_or, Option, Some, None, refl, sym, ◌∙◌, ap, subst, arith, inl, inr, ◌⊎◌}
+use Rattle.std.specs.Prelude.{All, AllPairs, slice_set, pos, String, string_bytes}
 use Rattle.std.specs.declared.alloc.Global.{Global}
 use Rattle.std.proofs.lemmas.List.{map-append}
 use Rattle.std.proofs.lemmas.Option.{same_Some}
 use Rattle.language.specs.declared.parts.LangFault.{LangFault}
-use Rattle.std.specs.List.{list_all, list_any, filter, range_with_len}
+use Rattle.std.specs.List.{list_all, filter}
 use Rattle.std.specs.Option.{ForSome}
 use Rattle.std.specs.Fmt.{decimal, digits}
 use Rattle.std.proofs.lemmas.Fmt.{decimal_injective}
@@ -14,13 +14,13 @@ use Rattle.std.proofs.lemmas.Bool.{and_from, ne_eqb, cases_eq}
 use Rattle.std.proofs.lemmas.List.{ext_get_or, get_or-set_same, get_or-set_other}
 use Rattle.std.proofs.lemmas.List.Elements.{All-head, All-tail, All-weaker}
 use Rattle.language.specs.Answers.{has_scope}
-use Rattle.rel_table.specs.Relation.{Relation, holds, place}
+use Rattle.rel_table.specs.Relation.{holds, place}
 use Rattle.std.proofs.lemmas.List.FromFn.{length-map-range_with_len, get_or-map-range_with_len, map-range_with_len_more, filter_of_map_range_with_len_more}
 use Rattle.assign.specs.Sets.{numbers}
 use Rattle.assign.specs.Assignment.{Assignment, covers, tuple_on}
 use Rattle.language.specs.declared.candidates.Candidate.{Candidate}
 use Rattle.language.specs.Language.{Language, Given, AreNames, IsQuestion, accepts, violates, scope_of, relations_of}
-use Rattle.language.specs.Building.{Frame, IsBuilt, build_refusal, pair_after}
+use Rattle.language.specs.Building.{Frame, build_refusal, pair_after}
 use Rattle.language.specs.Search.{satisfies}
 use Rattle.target_oracle.specs.Generator.{after, state_at, draw, names, name_of, given, frame, hidden, drawn_on, target_of, IsGenerated}
 

@@ -1,17 +1,17 @@
 -- What was heard of lines, and what was written meanwhile.
-use Rattle.std.proofs.Common.{◌≡◌, ℕ, zero, suc, ◌+◌, List, [], ◌∷◌, ◌++◌, true, false, ap, sym, subst, ◌∙◌, refl, arith, append_assoc, Option, Some, None}
+use Rattle.std.proofs.Common.{◌≡◌, ℕ, zero, suc, ◌+◌, List, [], ◌++◌, true, false, ap, sym, subst, ◌∙◌, refl, arith, append_assoc, Option, Some, None}
 use Rattle.std.specs.Prelude.{IfSome}
 use Rattle.std.specs.Option.{option_map}
 use Rattle.std.proofs.lemmas.List.{append-nil}
 use Rattle.acq_io.specs.Streams.{Adds, AddsFront}
 use Rattle.acq_io.specs.Lines.{Lined, lined, line_of}
 use Rattle.acq_io.specs.declared.lines.LineGot.{LineGot}
-use Rattle.target_oracle.specs.Turns.{Turned, turned_after, Reply, Said, Stopped, Ended, Overlong, Unread}
+use Rattle.target_oracle.specs.Turns.{Turned, turned_after, Reply, Said, TakenBack, Stopped, Ended, Overlong, Unread}
 use Rattle.target_oracle.specs.Lines.{Spoken, spoken, spoken_in, line_reply, no_answer_text, replied, hear_line, hear}
-use Rattle.target_oracle.specs.Hearing.{told_of, Speaks, Hears, HearsLine, CutsOff, IsPassed, Passes, TellsOf, HasPassed, PassedBy}
+use Rattle.target_oracle.specs.Hearing.{told_of, Speaks, Hears, HearsLine, CutsOff, Passes, TellsOf, PassedBy}
 use Rattle.target_oracle.specs.Tells.{Turn, Front, Tells}
 use Rattle.target_oracle.specs.declared.teacher.Told.{Told}
-use Rattle.target_oracle.specs.declared.teacher.Told.TheVariants.{Yes, No, Stop, End, TooLong, Unreadable, ReadFault, WriteFault, Memory}
+use Rattle.target_oracle.specs.declared.teacher.Told.TheVariants.{Yes, No, Back, Stop, End, TooLong, Unreadable, ReadFault, WriteFault, Memory}
 
 some_text : (x y : List ℕ) → x ≡ y → (let a : Option (List ℕ) = Some x in a) ≡ Some y
 some_text x y e = ap (λ (t : List ℕ). let a : Option (List ℕ) = Some t in a) e
@@ -19,38 +19,39 @@ some_text x y e = ap (λ (t : List ℕ). let a : Option (List ℕ) = Some t in a
 -- ---- one line
 
 -- what was read of a line is what it says
-pub spoken_as : (got : LineGot) (line : List ℕ) (before now : Option (List ℕ)) → option_map line_of before ≡ option_map (lined got line) now → Speaks before now (line_reply got line)
-spoken_as got line None None h = refl
-spoken_as got line None (Some rest) h = cc
-spoken_as got line (Some bytes) None h = cc
-spoken_as got line (Some bytes) (Some rest) h =
-    let e : line_of bytes ≡ lined got line rest = cc in ap (λ (x : Lined). let s : Option Spoken = Some (spoken_in x) in s) e
+pub spoken_as : (k : ℕ) (got : LineGot) (line : List ℕ) (before now : Option (List ℕ)) → option_map line_of before ≡ option_map (lined got line) now → Speaks k before now (line_reply k got line)
+spoken_as k got line None None h = refl
+spoken_as k got line None (Some rest) h = cc
+spoken_as k got line (Some bytes) None h = cc
+spoken_as k got line (Some bytes) (Some rest) h =
+    let e : line_of bytes ≡ lined got line rest = cc in ap (λ (x : Lined). let s : Option Spoken = Some (spoken_in k x) in s) e
 
 -- and it is told
-told_one : (before now : Option (List ℕ)) (reply : Reply) → Speaks before now (Some reply) → Hears before now (told_of reply)
-told_one before now (Said true) h = h
-told_one before now (Said false) h = h
-told_one before now Stopped h = h
-told_one before now Ended h = h
-told_one before now Overlong h = h
-told_one before now Unread h = h
+told_one : (k : ℕ) (before now : Option (List ℕ)) (reply : Reply) → Speaks k before now (Some reply) → Hears k before now (told_of reply)
+told_one k before now (Said true) h = h
+told_one k before now (Said false) h = h
+told_one k before now TakenBack h = h
+told_one k before now Stopped h = h
+told_one k before now Ended h = h
+told_one k before now Overlong h = h
+told_one k before now Unread h = h
 
-pub told_line : (before now : Option (List ℕ)) (says : Option Reply) → Speaks before now says → HearsLine before now (option_map told_of says)
-told_line before now None h = h
-told_line before now (Some reply) h = told_one before now reply h
+pub told_line : (k : ℕ) (before now : Option (List ℕ)) (says : Option Reply) → Speaks k before now says → HearsLine k before now (option_map told_of says)
+told_line k before now None h = h
+told_line k before now (Some reply) h = told_one k before now reply h
 
-spoken_so : (bytes : List ℕ) (now : Option (List ℕ)) (says : Option Reply) → Speaks (Some bytes) now says → ((spoken bytes).says ≡ says) × (now ≡ Some (spoken bytes).rest)
-spoken_so bytes None says h = cc
-spoken_so bytes (Some rest) says h =
-    let e : spoken bytes ≡ (let s : Spoken = record { says = says; rest = rest } in s) = cc in
+spoken_so : (k : ℕ) (bytes : List ℕ) (now : Option (List ℕ)) (says : Option Reply) → Speaks k (Some bytes) now says → ((spoken k bytes).says ≡ says) × (now ≡ Some (spoken k bytes).rest)
+spoken_so k bytes None says h = cc
+spoken_so k bytes (Some rest) says h =
+    let e : spoken k bytes ≡ (let s : Spoken = record { says = says; rest = rest } in s) = cc in
     (ap (λ (s : Spoken). s.says) e, ap (λ (s : Spoken). let o : Option (List ℕ) = Some s.rest in o) (sym e))
 
 -- ---- a line that replies
 
-hear_reply : (patience : ℕ) (bytes : List ℕ) (reply : Reply) → (spoken bytes).says ≡ Some reply → hear patience bytes ≡ replied reply (spoken bytes).rest
+hear_reply : (k : ℕ) (patience : ℕ) (bytes : List ℕ) (reply : Reply) → (spoken k bytes).says ≡ Some reply → hear k patience bytes ≡ replied reply (spoken k bytes).rest
 unfolding hear
-hear_reply zero bytes reply h = ap (hear_line (replied Unread) (spoken bytes).rest) h
-hear_reply (suc patience) bytes reply h = ap (hear_line (λ rest. turned_after no_answer_text (hear patience rest)) (spoken bytes).rest) h
+hear_reply k zero bytes reply h = ap (hear_line (replied Unread) (spoken k bytes).rest) h
+hear_reply k (suc patience) bytes reply h = ap (hear_line (λ rest. turned_after no_answer_text (hear k patience rest)) (spoken k bytes).rest) h
 
 turn_as : (turned : Turned) (reply : Reply) (rest before : List ℕ) (now written : Option (List ℕ)) → turned ≡ replied reply rest → now ≡ Some rest → written ≡ Some before → Turn turned before now written reply
 turn_as turned reply rest before now written e left put = record {
@@ -59,54 +60,55 @@ turn_as turned reply rest before now written e left put = record {
   text = put ∙ some_text _ _ (sym (append-nil before) ∙ ap (λ x. before ++ x) (sym (ap (λ (t : Turned). t.text) e)));
 }
 
-turn_replied : (patience : ℕ) (bytes before : List ℕ) (now written : Option (List ℕ)) (reply : Reply) → Speaks (Some bytes) now (Some reply) → written ≡ Some before → Turn (hear patience bytes) before now written reply
-turn_replied patience bytes before now written reply h put =
-    let so = spoken_so bytes now (Some reply) h in turn_as (hear patience bytes) reply _ before now written (hear_reply patience bytes reply so.0) so.1 put
+turn_replied : (k : ℕ) (patience : ℕ) (bytes before : List ℕ) (now written : Option (List ℕ)) (reply : Reply) → Speaks k (Some bytes) now (Some reply) → written ≡ Some before → Turn (hear k patience bytes) before now written reply
+turn_replied k patience bytes before now written reply h put =
+    let so = spoken_so k bytes now (Some reply) h in turn_as (hear k patience bytes) reply _ before now written (hear_reply k patience bytes reply so.0) so.1 put
 
 -- nothing of a text was written
 front_none : (text before : List ℕ) (written : Option (List ℕ)) → written ≡ Some before → Front text before written
 front_none text before written put = record { front = []; back = text; parts = refl; put = put ∙ some_text _ _ (sym (append-nil before)) }
 
-heard_tells : (patience : ℕ) (bytes before : List ℕ) (now written : Option (List ℕ)) (told : Told) → Hears (Some bytes) now told → written ≡ Some before → Tells (hear patience bytes) before now written told
-heard_tells patience bytes before now written Yes h put = turn_replied patience bytes before now written (Said true) h put
-heard_tells patience bytes before now written No h put = turn_replied patience bytes before now written (Said false) h put
-heard_tells patience bytes before now written Stop h put = turn_replied patience bytes before now written Stopped h put
-heard_tells patience bytes before now written End h put = turn_replied patience bytes before now written Ended h put
-heard_tells patience bytes before now written TooLong h put = turn_replied patience bytes before now written Overlong h put
-heard_tells patience bytes before now written Unreadable h put = turn_replied patience bytes before now written Unread h put
-heard_tells patience bytes before now written ReadFault h put = front_none (hear patience bytes).text before written put
-heard_tells patience bytes before now written WriteFault h put = absurd h
-heard_tells patience bytes before now written Memory h put = absurd h
+heard_tells : (k : ℕ) (patience : ℕ) (bytes before : List ℕ) (now written : Option (List ℕ)) (told : Told) → Hears k (Some bytes) now told → written ≡ Some before → Tells (hear k patience bytes) before now written told
+heard_tells k patience bytes before now written Yes h put = turn_replied k patience bytes before now written (Said true) h put
+heard_tells k patience bytes before now written No h put = turn_replied k patience bytes before now written (Said false) h put
+heard_tells k patience bytes before now written Back h put = turn_replied k patience bytes before now written TakenBack h put
+heard_tells k patience bytes before now written Stop h put = turn_replied k patience bytes before now written Stopped h put
+heard_tells k patience bytes before now written End h put = turn_replied k patience bytes before now written Ended h put
+heard_tells k patience bytes before now written TooLong h put = turn_replied k patience bytes before now written Overlong h put
+heard_tells k patience bytes before now written Unreadable h put = turn_replied k patience bytes before now written Unread h put
+heard_tells k patience bytes before now written ReadFault h put = front_none (hear k patience bytes).text before written put
+heard_tells k patience bytes before now written WriteFault h put = absurd h
+heard_tells k patience bytes before now written Memory h put = absurd h
 
-pub line_tells : (patience : ℕ) (left now written : Option (List ℕ)) (told : Told) → Hears left now told → TellsOf patience left written now written told
-line_tells patience left now written told h bytes before is put =
-    let P : Option (List ℕ) → Type 0 = λ o. Hears o now told in heard_tells patience bytes before now written told (subst P is h) put
+pub line_tells : (k : ℕ) (patience : ℕ) (left now written : Option (List ℕ)) (told : Told) → Hears k left now told → TellsOf k patience left written now written told
+line_tells k patience left now written told h bytes before is put =
+    let P : Option (List ℕ) → Type 0 = λ o. Hears k o now told in heard_tells k patience bytes before now written told (subst P is h) put
 
 -- ---- a line that is no answer
 
 -- where it is the last one
-hear_none : (bytes : List ℕ) → (spoken bytes).says ≡ None → hear zero bytes ≡ replied Unread (spoken bytes).rest
+hear_none : (k : ℕ) (bytes : List ℕ) → (spoken k bytes).says ≡ None → hear k zero bytes ≡ replied Unread (spoken k bytes).rest
 unfolding hear
-hear_none bytes h = ap (hear_line (replied Unread) (spoken bytes).rest) h
+hear_none k bytes h = ap (hear_line (replied Unread) (spoken k bytes).rest) h
 
-pub last_tells : (left now written : Option (List ℕ)) → Speaks left now None → TellsOf zero left written now written Unreadable
-last_tells left now written h bytes before is put =
-    let P : Option (List ℕ) → Type 0 = λ o. Speaks o now None in
-    let so = spoken_so bytes now None (subst P is h) in turn_as (hear zero bytes) Unread _ before now written (hear_none bytes so.0) so.1 put
+pub last_tells : (k : ℕ) (left now written : Option (List ℕ)) → Speaks k left now None → TellsOf k zero left written now written Unreadable
+last_tells k left now written h bytes before is put =
+    let P : Option (List ℕ) → Type 0 = λ o. Speaks k o now None in
+    let so = spoken_so k bytes now None (subst P is h) in turn_as (hear k zero bytes) Unread _ before now written (hear_none k bytes so.0) so.1 put
 
 -- where it is passed over
-pub passed_line : (left now written written' : Option (List ℕ)) → Speaks left now None → Adds written written' no_answer_text → Passes left written now written'
-passed_line left now written written' h adds bytes before is put =
-    let P : Option (List ℕ) → Type 0 = λ o. Speaks o now None in
-    let so = spoken_so bytes now None (subst P is h) in record {
+pub passed_line : (k : ℕ) (left now written written' : Option (List ℕ)) → Speaks k left now None → Adds written written' no_answer_text → Passes k left written now written'
+passed_line k left now written written' h adds bytes before is put =
+    let P : Option (List ℕ) → Type 0 = λ o. Speaks k o now None in
+    let so = spoken_so k bytes now None (subst P is h) in record {
       says = so.0;
       left = so.1;
       written = adds ∙ ap (option_map (λ text. text ++ no_answer_text)) put;
     }
 
-hear_more : (patience : ℕ) (bytes : List ℕ) → (spoken bytes).says ≡ None → hear (suc patience) bytes ≡ turned_after no_answer_text (hear patience (spoken bytes).rest)
+hear_more : (k : ℕ) (patience : ℕ) (bytes : List ℕ) → (spoken k bytes).says ≡ None → hear k (suc patience) bytes ≡ turned_after no_answer_text (hear k patience (spoken k bytes).rest)
 unfolding hear
-hear_more patience bytes h = ap (hear_line (λ rest. turned_after no_answer_text (hear patience rest)) (spoken bytes).rest) h
+hear_more k patience bytes h = ap (hear_line (λ rest. turned_after no_answer_text (hear k patience rest)) (spoken k bytes).rest) h
 
 -- a front of a text that begins a longer one
 front_of : (text more before : List ℕ) (written written' : Option (List ℕ)) → AddsFront written written' text → written ≡ Some before → Front (text ++ more) before written'
@@ -120,28 +122,29 @@ front_of text more before written written' adds put = record {
 front_as : (turned : Turned) (text more before : List ℕ) (written : Option (List ℕ)) → turned.text ≡ text ++ more → Front (text ++ more) before written → Front turned.text before written
 front_as turned text more before written e f = let P : List ℕ → Type 0 = λ x. Front x before written in subst P (sym e) f
 
-cut_tells : (patience : ℕ) (bytes before : List ℕ) (now written written' : Option (List ℕ)) (told : Told) → Speaks (Some bytes) now None → CutsOff no_answer_text written written' told → written ≡ Some before → Tells (hear (suc patience) bytes) before now written' told
-cut_tells patience bytes before now written written' Yes h cut put = absurd cut
-cut_tells patience bytes before now written written' No h cut put = absurd cut
-cut_tells patience bytes before now written written' Stop h cut put = absurd cut
-cut_tells patience bytes before now written written' End h cut put = absurd cut
-cut_tells patience bytes before now written written' TooLong h cut put = absurd cut
-cut_tells patience bytes before now written written' Unreadable h cut put = absurd cut
-cut_tells patience bytes before now written written' ReadFault h cut put = absurd cut
-cut_tells patience bytes before now written written' WriteFault h cut put =
-    let so = spoken_so bytes now None h in
-    let more : List ℕ = (hear patience (spoken bytes).rest).text in
-    front_as (hear (suc patience) bytes) no_answer_text more before written' (ap (λ (t : Turned). t.text) (hear_more patience bytes so.0)) (front_of no_answer_text more before written written' cut put)
-cut_tells patience bytes before now written written' Memory h cut put = front_none (hear (suc patience) bytes).text before written' (cut ∙ put)
+cut_tells : (k : ℕ) (patience : ℕ) (bytes before : List ℕ) (now written written' : Option (List ℕ)) (told : Told) → Speaks k (Some bytes) now None → CutsOff no_answer_text written written' told → written ≡ Some before → Tells (hear k (suc patience) bytes) before now written' told
+cut_tells k patience bytes before now written written' Yes h cut put = absurd cut
+cut_tells k patience bytes before now written written' No h cut put = absurd cut
+cut_tells k patience bytes before now written written' Back h cut put = absurd cut
+cut_tells k patience bytes before now written written' Stop h cut put = absurd cut
+cut_tells k patience bytes before now written written' End h cut put = absurd cut
+cut_tells k patience bytes before now written written' TooLong h cut put = absurd cut
+cut_tells k patience bytes before now written written' Unreadable h cut put = absurd cut
+cut_tells k patience bytes before now written written' ReadFault h cut put = absurd cut
+cut_tells k patience bytes before now written written' WriteFault h cut put =
+    let so = spoken_so k bytes now None h in
+    let more : List ℕ = (hear k patience (spoken k bytes).rest).text in
+    front_as (hear k (suc patience) bytes) no_answer_text more before written' (ap (λ (t : Turned). t.text) (hear_more k patience bytes so.0)) (front_of no_answer_text more before written written' cut put)
+cut_tells k patience bytes before now written written' Memory h cut put = front_none (hear k (suc patience) bytes).text before written' (cut ∙ put)
 
-passing_tells : (patience : ℕ) (left now written written' : Option (List ℕ)) (told : Told) → Speaks left now None → CutsOff no_answer_text written written' told → TellsOf (suc patience) left written now written' told
-passing_tells patience left now written written' told h cut bytes before is put =
-    let P : Option (List ℕ) → Type 0 = λ o. Speaks o now None in cut_tells patience bytes before now written written' told (subst P is h) cut put
+passing_tells : (k : ℕ) (patience : ℕ) (left now written written' : Option (List ℕ)) (told : Told) → Speaks k left now None → CutsOff no_answer_text written written' told → TellsOf k (suc patience) left written now written' told
+passing_tells k patience left now written written' told h cut bytes before is put =
+    let P : Option (List ℕ) → Type 0 = λ o. Speaks k o now None in cut_tells k patience bytes before now written written' told (subst P is h) cut put
 
-pub maybe_tells : (left now written written' : Option (List ℕ)) (end : Option Told) → Speaks left now None → IfSome end (CutsOff no_answer_text written written') →
-    IfSome end (λ told. (patience : ℕ) → TellsOf (suc patience) left written now written' told)
-maybe_tells left now written written' None h cut = tt
-maybe_tells left now written written' (Some told) h cut = λ patience. passing_tells patience left now written written' told h cut
+pub maybe_tells : (k : ℕ) (left now written written' : Option (List ℕ)) (end : Option Told) → Speaks k left now None → IfSome end (CutsOff no_answer_text written written') →
+    IfSome end (λ told. (patience : ℕ) → TellsOf k (suc patience) left written now written' told)
+maybe_tells k left now written written' None h cut = tt
+maybe_tells k left now written written' (Some told) h cut = λ patience. passing_tells k patience left now written written' told h cut
 
 -- ---- many lines
 
@@ -160,6 +163,7 @@ front_after text more before written f = record {
 pub tells_after : (text before : List ℕ) (turned : Turned) (left written : Option (List ℕ)) (told : Told) → Tells turned (before ++ text) left written told → Tells (turned_after text turned) before left written told
 tells_after text before turned left written Yes t = turn_after text before turned left written (Said true) t
 tells_after text before turned left written No t = turn_after text before turned left written (Said false) t
+tells_after text before turned left written Back t = turn_after text before turned left written TakenBack t
 tells_after text before turned left written Stop t = turn_after text before turned left written Stopped t
 tells_after text before turned left written End t = turn_after text before turned left written Ended t
 tells_after text before turned left written TooLong t = turn_after text before turned left written Overlong t
@@ -169,37 +173,37 @@ tells_after text before turned left written WriteFault t = front_after text turn
 tells_after text before turned left written Memory t = front_after text turned.text before written t
 
 -- none was passed over yet
-pub passed_none : (most : ℕ) (left written : Option (List ℕ)) → PassedBy most 0 left written left written
-passed_none most left written bytes before is put = record {
+pub passed_none : (k : ℕ) (most : ℕ) (left written : Option (List ℕ)) → PassedBy k most 0 left written left written
+passed_none k most left written bytes before is put = record {
   rest = bytes;
   done = [];
   left = is;
   written = put ∙ some_text _ _ (sym (append-nil before));
-  begins = λ patience same. ap (λ n. hear n bytes) (let e : most ≡ patience = omega (arith, same) in e);
+  begins = λ patience same. ap (λ n. hear k n bytes) (let e : most ≡ patience = omega (arith, same) in e);
 }
 
 -- one more
-pub passed_more : (most count : ℕ) (left written left' written' left'' written'' : Option (List ℕ)) → PassedBy most count left written left' written' → Passes left' written' left'' written'' → PassedBy most (count + 1) left written left'' written''
-passed_more most count left written left' written' left'' written'' passed one bytes before is put =
+pub passed_more : (k : ℕ) (most count : ℕ) (left written left' written' left'' written'' : Option (List ℕ)) → PassedBy k most count left written left' written' → Passes k left' written' left'' written'' → PassedBy k most (count + 1) left written left'' written''
+passed_more k most count left written left' written' left'' written'' passed one bytes before is put =
     let p = passed bytes before is put in let o = one p.rest (before ++ p.done) p.left p.written in
     record {
-      rest = (spoken p.rest).rest;
+      rest = (spoken k p.rest).rest;
       done = p.done ++ no_answer_text;
       left = o.left;
       written = o.written ∙ some_text _ _ (append_assoc before p.done no_answer_text);
       begins = λ patience same.
           p.begins (suc patience) (omega (arith, same))
-          ∙ ap (turned_after p.done) (hear_more patience p.rest o.says)
-          ∙ ap (λ (x : List ℕ). let t : Turned = record { text = x; heard = (hear patience (spoken p.rest).rest).heard } in t) (sym (append_assoc p.done no_answer_text (hear patience (spoken p.rest).rest).text));
+          ∙ ap (turned_after p.done) (hear_more k patience p.rest o.says)
+          ∙ ap (λ (x : List ℕ). let t : Turned = record { text = x; heard = (hear k patience (spoken k p.rest).rest).heard } in t) (sym (append_assoc p.done no_answer_text (hear k patience (spoken k p.rest).rest).text));
     }
 
 -- what is told after them
-pub passed_tells : (most count patience : ℕ) (left written left' written' left'' written'' : Option (List ℕ)) (told : Told) → patience + count ≡ most → PassedBy most count left written left' written' →
-    TellsOf patience left' written' left'' written'' told → TellsOf most left written left'' written'' told
-passed_tells most count patience left written left' written' left'' written'' told same passed tells bytes before is put =
+pub passed_tells : (k : ℕ) (most count patience : ℕ) (left written left' written' left'' written'' : Option (List ℕ)) (told : Told) → patience + count ≡ most → PassedBy k most count left written left' written' →
+    TellsOf k patience left' written' left'' written'' told → TellsOf k most left written left'' written'' told
+passed_tells k most count patience left written left' written' left'' written'' told same passed tells bytes before is put =
     let p = passed bytes before is put in
     let P : Turned → Type 0 = λ t. Tells t before left'' written'' told in
-    subst P (sym (p.begins patience same)) (tells_after p.done before (hear patience p.rest) left'' written'' told (tells p.rest (before ++ p.done) p.left p.written))
+    subst P (sym (p.begins patience same)) (tells_after p.done before (hear k patience p.rest) left'' written'' told (tells p.rest (before ++ p.done) p.left p.written))
 
 -- ---- the whole turn
 
@@ -218,10 +222,10 @@ no_line text before old now same told = front_none text before now (same ∙ tol
 
 -- ---- no bytes
 
-at_end : (spoken []).says ≡ Some Ended
+at_end : (k : ℕ) → (spoken k []).says ≡ Some Ended
 unfolding line_of
-at_end = refl
+at_end k = refl
 
 -- where none are left nothing is said of lines
-pub silent : (patience : ℕ) → (hear patience []).text ≡ []
-silent patience = ap (λ (t : Turned). t.text) (hear_reply patience [] Ended at_end)
+pub silent : (k : ℕ) (patience : ℕ) → (hear k patience []).text ≡ []
+silent k patience = ap (λ (t : Turned). t.text) (hear_reply k patience [] Ended (at_end k))

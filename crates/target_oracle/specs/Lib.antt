@@ -2,6 +2,7 @@ pub mod Turns
 pub mod Words
 pub mod Lines
 pub mod Tells
+pub mod Teaching
 pub mod Hearing
 pub mod NetTurns
 pub mod Inside

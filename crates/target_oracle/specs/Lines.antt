@@ -4,27 +4,27 @@ use Rattle.acq_io.specs.Lines.{Lined, line_of}
 use Rattle.acq_io.specs.declared.lines.LineGot.{LineGot}
 use Rattle.acq_io.specs.declared.lines.LineGot.TheVariants.{Line, End, TooLong, Fault}
 use Rattle.language.specs.Texts.{question_text}
-use Rattle.target_oracle.specs.Turns.{Reply, Ended, Overlong, Unread, Heard, Turned, turned_after, Turns}
+use Rattle.target_oracle.specs.Turns.{Reply, Ended, Overlong, Unread, Turned, turned_after, Turns}
 use Rattle.target_oracle.specs.Words.{trimmed, reply_of}
 
--- what reading a line says: a reply, or none where the line is no answer (bytes alone never give a fault)
-abbrev pub line_reply : LineGot → List ℕ → Option Reply
-line_reply Line line = reply_of (trimmed line)
-line_reply End line = Some Ended
-line_reply TooLong line = Some Overlong
-line_reply Fault line = None
+-- what reading a line says to question number k: a reply, or none where the line is no answer (bytes alone never give a fault)
+abbrev pub line_reply : ℕ → LineGot → List ℕ → Option Reply
+line_reply k Line line = reply_of k (trimmed line)
+line_reply k End line = Some Ended
+line_reply k TooLong line = Some Overlong
+line_reply k Fault line = None
 
 -- what a line says, and the bytes after it
 pub record Spoken : Type 0 where
   pub says : Option Reply
   pub rest : List ℕ
 
-abbrev pub spoken_in : Lined → Spoken
-spoken_in lined = record { says = line_reply lined.got lined.line; rest = lined.rest }
+abbrev pub spoken_in : ℕ → Lined → Spoken
+spoken_in k lined = record { says = line_reply k lined.got lined.line; rest = lined.rest }
 
--- the first line of these bytes
-abbrev pub spoken : List ℕ → Spoken
-spoken bytes = spoken_in (line_of bytes)
+-- the first line of these bytes, to question number k
+abbrev pub spoken : ℕ → List ℕ → Spoken
+spoken k bytes = spoken_in k (line_of bytes)
 
 -- what is written after a line that is no answer
 abbrev pub no_answer_text : List ℕ
@@ -39,11 +39,11 @@ abbrev pub hear_line : (List ℕ → Turned) → List ℕ → Option Reply → T
 hear_line on rest None = on rest
 hear_line on rest (Some reply) = replied reply rest
 
--- Lines are heard up to a reply. So many that are no answers are passed over; one more ends the turn.
-unfoldable pub hear : ℕ → List ℕ → Turned
-hear zero bytes = hear_line (replied Unread) (spoken bytes).rest (spoken bytes).says
-hear (suc patience) bytes = hear_line (λ rest. turned_after no_answer_text (hear patience rest)) (spoken bytes).rest (spoken bytes).says
+-- Lines are heard up to a reply to question number k. So many that are no answers are passed over; one more ends the turn.
+unfoldable pub hear : (k patience : ℕ) → List ℕ → Turned
+hear k zero bytes = hear_line (replied Unread) (spoken k bytes).rest (spoken k bytes).says
+hear k (suc patience) bytes = hear_line (λ rest. turned_after no_answer_text (hear k patience rest)) (spoken k bytes).rest (spoken k bytes).says
 
 -- the question line, then answer lines
 abbrev pub line_turn : Turns
-line_turn l k q bytes = turned_after (question_text l k q ++ 10 ∷ []) (hear 999 bytes)
+line_turn l k q bytes = turned_after (question_text l k q ++ 10 ∷ []) (hear k 999 bytes)

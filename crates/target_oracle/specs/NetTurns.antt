@@ -6,7 +6,7 @@ use Rattle.language.specs.Language.{Language, accepts}
 use Rattle.language.specs.Texts.{question_text}
 use Rattle.target_oracle.specs.Turns.{Turns, Said}
 use Rattle.target_oracle.specs.declared.teacher.Told.{Told}
-use Rattle.target_oracle.specs.declared.teacher.Told.TheVariants.{Yes, No, Stop, End, TooLong, Unreadable, ReadFault, WriteFault, Memory}
+use Rattle.target_oracle.specs.declared.teacher.Told.TheVariants.{Yes, No, Back, Stop, End, TooLong, Unreadable, ReadFault, WriteFault, Memory}
 
 -- a network, and whether it answers without a word
 pub record Owner : Type 0 where
@@ -32,6 +32,7 @@ net_turn network quiet l k q bytes = record {
 abbrev pub net_may_say : List Candidate → Language → Assignment → Told → Type 0
 net_may_say network l q Yes = accepts l network q ≡ true
 net_may_say network l q No = accepts l network q ≡ false
+net_may_say network l q Back = ⊥
 net_may_say network l q Stop = ⊥
 net_may_say network l q End = ⊥
 net_may_say network l q TooLong = ⊥

@@ -1,5 +1,5 @@
 ghost use Rattle.std.specs.Prelude.{◌≡◌, ◌≢◌, ℕ, zero, suc, ◌+◌, ◌<◌, ◌≤◌, ◌++◌, ◌∷◌, [], List, IfOk, IfSome, Option, Some, None, length, string_bytes};
-ghost use Rattle.acq_io.specs.Streams.{Adds, AddsOn, Rose, TakesSome};
+ghost use Rattle.acq_io.specs.Streams.{Adds, AddsOn, HasCalled, Rose, TakesSome};
 ghost use Rattle.language.specs.Language.{IsQuestion};
 ghost use Rattle.language.specs.Texts.{question_text};
 ghost use Rattle.target_oracle.specs.Lines.{line_turn, no_answer_text};
@@ -14,9 +14,9 @@ use std::alloc::{AllocError, Global};
 
 /// A person, who reads the questions as lines and answers by lines.
 ///
-/// An answer is `yes` or `y`, `no` or `n`, or `stop`, with or without spaces, tabs and carriage returns at both ends. After
-/// any other line the person is told that it is no answer, and the next line is read; the 1,000th such line in a row ends
-/// the turn.
+/// An answer is `yes` or `y`, `no` or `n`, `stop`, or, where an answer stands, `back`, with or without spaces, tabs and carriage
+/// returns at both ends. After any other line the person is told that it is no answer, and the next line is read; the 1,000th
+/// such line in a row ends the turn.
 #[derive(Drop)]
 pub struct LineTeacher;
 
@@ -31,17 +31,17 @@ const PATIENCE: u32 = 999;
 
 const NO_ANSWER: &[u8] = b"not an answer\n";
 
-/// What a line says. None where it is no answer.
-fn hear_line<S: Source>(source: &mut S) -> Option<Told>
-    ensures hears { HearsLine (S.left source.old) (S.left source.new) result }
+/// What a line says to question number `k`. None where it is no answer.
+fn hear_line<S: Source>(source: &mut S, k: u32) -> Option<Told>
+    ensures hears { HearsLine k (S.left source.old) (S.left source.new) result }
+    ensures back { result ≡ Some Told.Back → 1 < k }
     ensures takes { TakesSome (S.left source.old) (S.left source.new) }
-    ensures later { S.faults source.old ≤ S.faults source.new }
-    ensures read { result ≡ Some Told.ReadFault → Rose (S.faults source.old) (S.faults source.new) }
+    ensures called { HasCalled (S.faults source.old) (S.faults source.new) (S.late source.old) (S.late source.new) (result ≡ Some Told.ReadFault) }
     ensures write { result ≢ Some Told.WriteFault }
 {
     let mut line = Line::empty();
     match read_line(source, &mut line) {
-        LineGot::Line => told_in(line.bytes()),
+        LineGot::Line => told_in(line.bytes(), k),
         LineGot::End => Some(Told::End),
         LineGot::TooLong => Some(Told::TooLong),
         LineGot::Fault => Some(Told::ReadFault),
@@ -64,52 +64,52 @@ fn pass_line<K: Sink>(sink: &mut K) -> Option<Told>
 }
 
 /// What a line says, of which more may follow. None where it is no answer, and that was written.
-fn hear_or_pass<S: Source, K: Sink>(source: &mut S, sink: &mut K) -> Option<Told>
-    ensures passes { result ≡ None → Passes (S.left source.old) (K.written sink.old) (S.left source.new) (K.written sink.new) }
-    ensures tells { IfSome result (λ told. (patience : ℕ) → TellsOf (suc patience) (S.left source.old) (K.written sink.old) (S.left source.new) (K.written sink.new) told) }
+fn hear_or_pass<S: Source, K: Sink>(source: &mut S, sink: &mut K, k: u32) -> Option<Told>
+    ensures passes { result ≡ None → Passes k (S.left source.old) (K.written sink.old) (S.left source.new) (K.written sink.new) }
+    ensures tells { IfSome result (λ told. (patience : ℕ) → TellsOf k (suc patience) (S.left source.old) (K.written sink.old) (S.left source.new) (K.written sink.new) told) }
+    ensures back { result ≡ Some Told.Back → 1 < k }
     ensures takes { TakesSome (S.left source.old) (S.left source.new) }
     ensures adds { AddsOn (K.written sink.old) (K.written sink.new) [] }
-    ensures later { S.faults source.old ≤ S.faults source.new }
     ensures later_sink { K.faults sink.old ≤ K.faults sink.new }
-    ensures read { result ≡ Some Told.ReadFault → Rose (S.faults source.old) (S.faults source.new) }
+    ensures called { HasCalled (S.faults source.old) (S.faults source.new) (S.late source.old) (S.late source.new) (result ≡ Some Told.ReadFault) }
     ensures write { result ≡ Some Told.WriteFault → Rose (K.faults sink.old) (K.faults sink.new) }
 {
-    match hear_line(source) {
+    match hear_line(source, k) {
         Some(told) => Some(told),
         None => pass_line(sink),
     }
 }
 
 /// What a line says where no more may follow.
-fn hear_last<S: Source>(source: &mut S) -> Told
-    ensures tells { (written : Option (List ℕ)) → TellsOf zero (S.left source.old) written (S.left source.new) written result }
+fn hear_last<S: Source>(source: &mut S, k: u32) -> Told
+    ensures tells { (written : Option (List ℕ)) → TellsOf k zero (S.left source.old) written (S.left source.new) written result }
+    ensures back { result ≡ Told.Back → 1 < k }
     ensures takes { TakesSome (S.left source.old) (S.left source.new) }
-    ensures later { S.faults source.old ≤ S.faults source.new }
-    ensures read { result ≡ Told.ReadFault → Rose (S.faults source.old) (S.faults source.new) }
+    ensures called { HasCalled (S.faults source.old) (S.faults source.new) (S.late source.old) (S.late source.new) (result ≡ Told.ReadFault) }
     ensures write { result ≢ Told.WriteFault }
 {
-    match hear_line(source) {
+    match hear_line(source, k) {
         Some(told) => told,
         None => Told::Unreadable,
     }
 }
 
-/// What the lines say, up to an answer.
-fn hear_lines<S: Source, K: Sink>(source: &mut S, sink: &mut K) -> Told
-    ensures tells { TellsOf 999 (S.left source.old) (K.written sink.old) (S.left source.new) (K.written sink.new) result }
+/// What the lines say to question number `k`, up to an answer.
+fn hear_lines<S: Source, K: Sink>(source: &mut S, sink: &mut K, k: u32) -> Told
+    ensures tells { TellsOf k 999 (S.left source.old) (K.written sink.old) (S.left source.new) (K.written sink.new) result }
+    ensures back { result ≡ Told.Back → 1 < k }
     ensures takes { TakesSome (S.left source.old) (S.left source.new) }
     ensures adds { AddsOn (K.written sink.old) (K.written sink.new) [] }
-    ensures later { S.faults source.old ≤ S.faults source.new }
     ensures later_sink { K.faults sink.old ≤ K.faults sink.new }
-    ensures read { result ≡ Told.ReadFault → Rose (S.faults source.old) (S.faults source.new) }
+    ensures called { HasCalled (S.faults source.old) (S.faults source.new) (S.late source.old) (S.late source.new) (result ≡ Told.ReadFault) }
     ensures write { result ≡ Told.WriteFault → Rose (K.faults sink.old) (K.faults sink.new) }
 {
     for _passed in 0..PATIENCE {
-        if let Some(told) = hear_or_pass(source, sink) {
+        if let Some(told) = hear_or_pass(source, sink, k) {
             return told;
         }
     }
-    hear_last(source)
+    hear_last(source, k)
 }
 
 /// The line of a question.
@@ -144,7 +144,7 @@ impl<S: Source, K: Sink> Teacher<S, K> for LineTeacher {
             return Told::Memory;
         };
         match sink.write(line.as_bytes()) {
-            Ok(()) => hear_lines(source, sink),
+            Ok(()) => hear_lines(source, sink, k),
             Err(Put::Failed) => Told::WriteFault,
             Err(Put::Memory) => Told::Memory,
         }

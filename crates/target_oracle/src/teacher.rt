@@ -1,9 +1,10 @@
-ghost use Rattle.std.specs.Prelude.{◌≡◌, ℕ, ◌≤◌, List, [], Option, Some};
-ghost use Rattle.acq_io.specs.Streams.{Rose};
+ghost use Rattle.std.specs.Prelude.{◌≡◌, ℕ, ◌<◌, ◌≤◌, List, [], Option, Some};
+ghost use Rattle.acq_io.specs.Streams.{HasCalled, Rose};
 ghost use Rattle.assign.specs.Assignment.{Assignment};
 ghost use Rattle.language.specs.Language.{Language, IsQuestion};
 ghost use Rattle.target_oracle.specs.Turns.{Turns};
 ghost use Rattle.target_oracle.specs.Tells.{AsksFirst, Tells};
+ghost use Rattle.target_oracle.specs.Teaching.{TeachesOn};
 ghost use Rattle.target_oracle.specs.declared.teacher.Told.{Told};
 
 use acq_io::{Sink, Source};
@@ -16,6 +17,8 @@ use std::alloc::Global;
 pub enum Told {
     Yes,
     No,
+    /// The last answer that stands is taken back.
+    Back,
     /// The one who answers wants to stop.
     Stop,
     /// The source ended before a whole line.
@@ -58,12 +61,11 @@ pub trait Teacher<S: Source, K: Sink> {
             → Tells (turn self.old lang.now k q.now bytes) before (S.left source.new) (K.written sink.new) result }
         // what a turn writes where no bytes are left stands written before any are taken
         ensures asks { AsksFirst (S.left source.old) (K.written sink.old) (S.left source.new) (K.written sink.new) (turn self.old lang.now k q.now []).text }
-        ensures same { turn self.new ≡ turn self.old }
-        ensures fits { (l : Language) → fits self.old l → fits self.new l }
+        ensures on { TeachesOn turn fits may_say self.old self.new }
         ensures says { may_say self.old lang.now q.now result }
-        ensures no_more { (l : Language) (e : Assignment) (told : Told) → may_say self.new l e told → may_say self.old l e told }
-        ensures later { S.faults source.old ≤ S.faults source.new }
+        // an answer is taken back only where one stands, whether or not source and sink tell
+        ensures back { result ≡ Told.Back → 1 < k }
         ensures later_sink { K.faults sink.old ≤ K.faults sink.new }
-        ensures read { result ≡ Told.ReadFault → Rose (S.faults source.old) (S.faults source.new) }
+        ensures called { HasCalled (S.faults source.old) (S.faults source.new) (S.late source.old) (S.late source.new) (result ≡ Told.ReadFault) }
         ensures write { result ≡ Told.WriteFault → Rose (K.faults sink.old) (K.faults sink.new) };
 }

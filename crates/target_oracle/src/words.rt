@@ -1,4 +1,4 @@
-ghost use Rattle.std.specs.Prelude.{◌≡◌, ◌+◌, ◌≤◌, ◌||◌, ◌==◌, length};
+ghost use Rattle.std.specs.Prelude.{◌≡◌, ◌+◌, ◌<◌, ◌≤◌, ◌||◌, ◌==◌, length, Some};
 ghost use Rattle.std.specs.List.{prefix_len, suffix_len};
 ghost use Rattle.std.specs.Option.{option_map};
 ghost use Rattle.std.specs.Str.{bytes_eq};
@@ -47,10 +47,11 @@ fn is_either(word: &[u8], long: &[u8], short: &[u8]) -> bool
     word == long || word == short
 }
 
-/// What a word says. None where it is no answer.
+/// What a word says to question number `k`. None where it is no answer.
 #[tactic(auto, unfolding(crate::specs::Words::reply_of))]
-fn told_by(word: &[u8]) -> Option<Told>
-    ensures { result ≡ option_map told_of (reply_of word.now) }
+fn told_by(word: &[u8], k: u32) -> Option<Told>
+    ensures is { result ≡ option_map told_of (reply_of k word.now) }
+    ensures back { result ≡ Some Told.Back → 1 < k }
 {
     if is_either(word, b"yes", b"y") {
         Some(Told::Yes)
@@ -58,14 +59,17 @@ fn told_by(word: &[u8]) -> Option<Told>
         Some(Told::No)
     } else if word == b"stop".as_slice() {
         Some(Told::Stop)
+    } else if word == b"back".as_slice() && k > 1 {
+        Some(Told::Back)
     } else {
         None
     }
 }
 
-/// What a line says, with or without blanks at its ends. None where it is no answer.
-pub(crate) fn told_in(line: &[u8]) -> Option<Told>
-    ensures { result ≡ option_map told_of (reply_of (trimmed line.now)) }
+/// What a line says to question number `k`, with or without blanks at its ends. None where it is no answer.
+pub(crate) fn told_in(line: &[u8], k: u32) -> Option<Told>
+    ensures is { result ≡ option_map told_of (reply_of k (trimmed line.now)) }
+    ensures back { result ≡ Some Told.Back → 1 < k }
 {
-    told_by(trim(line))
+    told_by(trim(line), k)
 }

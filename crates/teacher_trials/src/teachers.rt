@@ -52,11 +52,12 @@ fn pairs(alloc: Global) -> Result<Language, Fail> {
 /// What becomes of a turn: what is told, what is written, and what is left.
 type Turn<'a> = (Told, &'a str, &'a str);
 
-/// Puts the third question, where both variables are 1, over these bytes, where one call of the source and one of the sink
+/// Puts question number `k`, where both variables are 1, over these bytes, where one call of the source and one of the sink
 /// fail. Says whether this became of it.
 fn is_turn<T: Teacher<MemSource, MemSink>>(
     alloc: Global,
     lang: &Language,
+    k: u32,
     teacher: &mut T,
     input: Vec<u8>,
     fails: (u32, u32),
@@ -72,7 +73,7 @@ fn is_turn<T: Teacher<MemSource, MemSink>>(
     question.set(1, 0);
     let mut source = MemSource::new(input, vec![in alloc; fails.0]?);
     let mut sink = MemSink::new(alloc, vec![in alloc; fails.1]?);
-    let told = teacher.told(alloc, &mut source, &mut sink, lang, 3, &question);
+    let told = teacher.told(alloc, &mut source, &mut sink, lang, k, &question);
     Ok(
         told == wanted.0
             && sink.bytes() == wanted.1.as_bytes()
@@ -110,15 +111,7 @@ static TURNS: [(&str, &str, usize, &str, Told, usize, &str); 14] = [
     ("n\r\n", "", 0, "", Told::No, 0, ""),
     (" \t\r no \t\r \n", "", 0, "", Told::No, 0, ""),
     ("stop\nyes\n", "", 0, "", Told::Stop, 0, "yes\n"),
-    (
-        "\n\r\nYes\ny es\nyess\nback\n",
-        "",
-        0,
-        "y\n",
-        Told::Yes,
-        6,
-        "",
-    ),
+    ("\n\r\nYes\ny es\nyess\n", "", 0, "y\n", Told::Yes, 5, ""),
     ("", "", 0, "", Told::End, 0, ""),
     ("maybe\nyes", "", 0, "", Told::End, 1, ""),
     ("", "maybe\n", 999, "no\nyes\n", Told::No, 999, "yes\n"),
@@ -141,12 +134,50 @@ fn what_lines_say(rt: HostRuntime) -> Result<(), Fail> {
         let holds = is_turn(
             alloc,
             &lang,
+            3,
             &mut teacher,
             input,
             (u32::MAX, u32::MAX),
             wanted,
         )?;
         assert!(rt; holds, "{head} {piece} {count} {end}");
+    }
+    Ok(())
+}
+
+/// The question's number, and lines; what is told, what is written, and what is left.
+static BACKS: [(u32, &str, Told, &str, &str); 5] = [
+    (1, "back\ny\n", Told::Yes, "q1 a=1 b=1\nnot an answer\n", ""),
+    (2, "back\ny\n", Told::Back, "q2 a=1 b=1\n", "y\n"),
+    (2, " back\r\nno\n", Told::Back, "q2 a=1 b=1\n", "no\n"),
+    (
+        2,
+        "backs\nno\n",
+        Told::No,
+        "q2 a=1 b=1\nnot an answer\n",
+        "",
+    ),
+    (2, "back", Told::End, "q2 a=1 b=1\n", ""),
+];
+
+#[test]
+fn an_answer_is_taken_back_where_one_stands(rt: HostRuntime) -> Result<(), Fail> {
+    let alloc = rt.alloc();
+    let lang = pairs(alloc)?;
+    for (k, lines, told, text, left) in &BACKS {
+        let input = lines.as_bytes().to_vec(alloc)?;
+        let wanted = (*told, *text, *left);
+        let mut teacher = LineTeacher::new();
+        let holds = is_turn(
+            alloc,
+            &lang,
+            *k,
+            &mut teacher,
+            input,
+            (u32::MAX, u32::MAX),
+            wanted,
+        )?;
+        assert!(rt; holds, "{k} {lines}");
     }
     Ok(())
 }
@@ -174,7 +205,15 @@ fn each_call_fails_in_turn(rt: HostRuntime) -> Result<(), Fail> {
         let input = b"x\nyes\n".to_vec(alloc)?;
         let wanted = (*told, *text, *left);
         let mut teacher = LineTeacher::new();
-        let holds = is_turn(alloc, &lang, &mut teacher, input, (*read, *write), wanted)?;
+        let holds = is_turn(
+            alloc,
+            &lang,
+            3,
+            &mut teacher,
+            input,
+            (*read, *write),
+            wanted,
+        )?;
         assert!(rt; holds, "{read} {write}");
     }
     Ok(())
@@ -204,6 +243,7 @@ fn what_networks_say(rt: HostRuntime) -> Result<(), Fail> {
         let holds = is_turn(
             alloc,
             &lang,
+            3,
             &mut teacher,
             input,
             (0, *fails),

@@ -1,5 +1,5 @@
 use Rattle.std.proofs.Common.{◌≤◌, ◌-◌, length}
-use Rattle.acq_io.specs.Streams.{Takes}
+use Rattle.acq_io.specs.Streams.{Takes, HasCalled}
 use Rattle.acq_io.specs.Lines.{LacksNewline}
 use Rattle.acq_io.proofs.lines.read_line.Given as goal
 
@@ -8,7 +8,7 @@ invariant-loop-byte g l = record {
   taken : Takes (g.S.Source.left l.initial.source) (g.S.Source.left l.source) l.line;
   one_line : LacksNewline l.line;
   short : length l.line ≤ 256;
-  later : g.S.Source.faults l.initial.source ≤ g.S.Source.faults l.source;
+  called : HasCalled (g.S.Source.faults l.initial.source) (g.S.Source.faults l.source) (g.S.Source.late l.initial.source) (g.S.Source.late l.source) ⊥;
 }
 
 abbrev pub decreases-loop-byte : goal.decreases-loop-byte

@@ -1,5 +1,5 @@
 use Rattle.std.proofs.Common.{◌≡◌, ◌≤◌, ◌+◌, ◌-◌, length}
-use Rattle.acq_io.specs.Streams.{Takes}
+use Rattle.acq_io.specs.Streams.{Takes, HasCalled}
 use Rattle.acq_io.proofs.whole.read_all.Given as goal
 
 abbrev pub invariant-loop-all : goal.invariant-loop-all
@@ -7,7 +7,7 @@ invariant-loop-all g l = record {
   taken : Takes (g.S.Source.left l.initial.source) (g.S.Source.left l.source) l.all.items;
   few : length l.all.items ≤ l.most;
   room : length l.place ≡ 4096;
-  later : g.S.Source.faults l.initial.source ≤ g.S.Source.faults l.source;
+  called : HasCalled (g.S.Source.faults l.initial.source) (g.S.Source.faults l.source) (g.S.Source.late l.initial.source) (g.S.Source.late l.source) ⊥;
 }
 
 abbrev pub decreases-loop-all : goal.decreases-loop-all

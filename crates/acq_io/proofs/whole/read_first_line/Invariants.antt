@@ -1,5 +1,5 @@
 use Rattle.std.proofs.Common.{◌≤◌, ◌-◌, length}
-use Rattle.acq_io.specs.Streams.{Takes}
+use Rattle.acq_io.specs.Streams.{Takes, HasCalled}
 use Rattle.acq_io.specs.Lines.{LacksNewline}
 use Rattle.acq_io.proofs.whole.read_first_line.Given as goal
 
@@ -8,7 +8,7 @@ invariant-loop-line g l = record {
   taken : Takes (g.S.Source.left l.initial.source) (g.S.Source.left l.source) l.line.items;
   one_line : LacksNewline l.line.items;
   few : length l.line.items ≤ l.most;
-  later : g.S.Source.faults l.initial.source ≤ g.S.Source.faults l.source;
+  called : HasCalled (g.S.Source.faults l.initial.source) (g.S.Source.faults l.source) (g.S.Source.late l.initial.source) (g.S.Source.late l.source) ⊥;
 }
 
 abbrev pub decreases-loop-line : goal.decreases-loop-line

@@ -1,4 +1,4 @@
-use Rattle.std.proofs.Common.{◌≡◌, None, List, sym, subst, ◌∙◌, true≢false}
+use Rattle.std.proofs.Common.{None, List, sym, subst, ◌∙◌, true≢false}
 use Rattle.language.specs.Language.{AreNames, Given}
 use Rattle.language.specs.Building.{Frame, IsBuilt}
 use Rattle.target_oracle.specs.Generator.{given}

@@ -1,0 +1,44 @@
+-- How an input stands after more calls.
+use Rattle.std.proofs.Common.{◌≡◌, ℕ, ◌≤◌, ◌<◌, ◌∙◌, refl, arith}
+use Rattle.acq_io.specs.Streams.{Rose, HasCalled, HasStopped}
+
+-- before any call
+pub called_none : (f l : ℕ) → HasCalled f f l l ⊥
+called_none f l = record { later = omega arith; rose = λ is. absurd is; well = λ none _. none; stopped = λ _. refl }
+
+-- calls of which none failed, and then more
+pub called_on : (f g h l m n : ℕ) (told : Type 0) → HasCalled f g l m ⊥ → HasCalled g h m n told → HasCalled f h l n told
+called_on f g h l m n told first then = record {
+  later = omega (arith, first.later, then.later);
+  rose = λ is. omega (arith, first.later, then.rose is);
+  well = λ none fine. then.well (first.well none (λ is. is)) fine;
+  stopped = λ none. then.stopped (first.well none (λ is. is)) ∙ first.stopped none;
+}
+
+-- by another word for the fault
+pub called_as : (f g l m : ℕ) (told said : Type 0) → (told → said) → (said → told) → HasCalled f g l m told → HasCalled f g l m said
+called_as f g l m told said to fro called = record {
+  later = called.later;
+  rose = λ is. called.rose (fro is);
+  well = λ none fine. called.well none (λ is. fine (to is));
+  stopped = called.stopped;
+}
+
+-- where no call comes and no fault is told
+pub called_not : (f l : ℕ) (told : Type 0) → (told → ⊥) → HasCalled f f l l told
+called_not f l told never = record { later = omega arith; rose = λ is. absurd (never is); well = λ none _. none; stopped = λ _. refl }
+
+pub stopped_not : (f l : ℕ) (told : Type 0) → (told → ⊥) → HasStopped f f l l told
+stopped_not f l told never = record { later = omega arith; rose = λ is. absurd (never is); stopped = λ _. refl }
+
+-- calls after which no more come
+pub stopped_by : (f g l m : ℕ) (told said : Type 0) → (said → told) → HasCalled f g l m told → HasStopped f g l m said
+stopped_by f g l m told said fro called = record { later = called.later; rose = λ is. called.rose (fro is); stopped = called.stopped }
+
+-- the same, after calls of which none failed
+pub stopped_on : (f g h l m n : ℕ) (told : Type 0) → HasCalled f g l m ⊥ → HasStopped g h m n told → HasStopped f h l n told
+stopped_on f g h l m n told first then = record {
+  later = omega (arith, first.later, then.later);
+  rose = λ is. omega (arith, first.later, then.rose is);
+  stopped = λ none. then.stopped (first.well none (λ is. is)) ∙ first.stopped none;
+}
