@@ -1,82 +1,84 @@
 -- One record more behind those of a journal.
-use Rattle.std.proofs.Common.{◌≡◌, ℕ, ◌+◌, ◌<◌, List, [], ◌∷◌, ◌++◌, length, take, flat_map, inl, inr, sym, ◌∙◌, ap, subst, arith, append_assoc, append-nil, length-append, take_at}
-use Rattle.std.proofs.lemmas.List.{length_push}
-use Rattle.std.proofs.lemmas.List.Elements.{All-push}
-use Rattle.std.proofs.lemmas.List.Concat.{flat_map-append}
+use Rattle.std.proofs.Common.{◌≡◌, ℕ, ◌+◌, ◌<◌, Bool, false, List, [], ◌∷◌, ◌++◌, length, take, flat_map, inl, inr, sym, ◌∙◌, ap, subst, arith, append_assoc, length-append, take_at}
 use Rattle.assign.specs.declared.events.Plan.{Plan}
 use Rattle.assign.specs.declared.events.Event.{Event}
-use Rattle.answer_journal.specs.Storable.{IsStorableEvent}
-use Rattle.answer_journal.specs.Format.{MOST_RECORDS, MAGIC, session_tail, event_tail, event_record, written}
-use Rattle.answer_journal.specs.Journal.{IsClosedAfter, Spells}
+use Rattle.answer_journal.specs.declared.record.Record.{Record}
+use Rattle.answer_journal.specs.Format.{MOST_RECORDS, MAGIC, session_tail, record_tail, record_bytes, written}
+use Rattle.answer_journal.specs.Records.{events_among, with_record, is_raised_by, MayFollow}
+use Rattle.answer_journal.specs.Journal.{IsClosedAfter, HoldsRecords, Spells}
 use Rattle.answer_journal.specs.Steps.{HasRecord, IsWithOrWithout}
-use Rattle.answer_journal.specs.End.{End, Sits, HasNew, IsOldOrNew}
-use Rattle.answer_journal.specs.Unique.{spells_once}
+use Rattle.answer_journal.specs.End.{End, Sits, MayBeAdded, counted_with, HasAdded, IsOldOrAdded}
+use Rattle.answer_journal.specs.Unique.{records_once}
+use Rattle.answer_journal.proofs.RecordLists.{bytes-push, events_among-push, is_raised_after-push, AreInOrder-push, with_record-count, with_record-few}
 
-pub written-push : (plan : Plan) (voc : List ℕ) (events : List Event) (event : Event) → written plan voc (events ++ event ∷ []) ≡ written plan voc events ++ event_record event
-written-push plan voc events event =
-    ap (λ (l : List ℕ). MAGIC ++ 1 ∷ session_tail plan voc ++ l) (flat_map-append event_record events (event ∷ []) ∙ ap (λ (l : List ℕ). flat_map event_record events ++ l) (append-nil (event_record event)))
-    ∙ sym (append_assoc (MAGIC ++ 1 ∷ session_tail plan voc) (flat_map event_record events) (event_record event))
+pub written-push : (plan : Plan) (voc : List ℕ) (records : List Record) (r : Record) → written plan voc (records ++ r ∷ []) ≡ written plan voc records ++ record_bytes r
+written-push plan voc records r =
+    ap (λ (l : List ℕ). MAGIC ++ 1 ∷ session_tail plan voc ++ l) (bytes-push records r) ∙ sym (append_assoc (MAGIC ++ 1 ∷ session_tail plan voc) (flat_map record_bytes records) (record_bytes r))
 
 -- the place of a session's gate
-pub gate_at : (plan : Plan) (voc : List ℕ) (events : List Event) (at : ℕ) (bytes : List ℕ) → IsClosedAfter (written plan voc events) bytes → at ≡ length (written plan voc events) → take at bytes ≡ written plan voc events
-gate_at plan voc events at bytes c is = ap (λ (l : List ℕ). take at l) c.is ∙ take_at (written plan voc events) (c.gate ∷ c.behind) at (sym is)
-
--- with the record in place the bytes spell the event too
-pub has_more : (plan : Plan) (voc : List ℕ) (events : List Event) (event : Event) (old new : List ℕ) → IsStorableEvent event → length events + 1 < MOST_RECORDS → Spells old plan voc events
-    → HasRecord (written plan voc events) (event_tail event ++ 0 ∷ []) new → Spells new plan voc (events ++ event ∷ [])
-has_more plan voc events event old new fits few spelled r = record {
-  session = spelled.session;
-  storable = All-push IsStorableEvent events event spelled.storable fits;
-  few = omega (arith, length_push events event, few);
-  rest = record {
-    gate = 0;
-    behind = r.behind;
-    closed = λ e. omega arith;
-    is =
-        r.is
-        ∙ ap (λ (l : List ℕ). l ++ r.behind) (sym (append_assoc (written plan voc events) (event_record event) (0 ∷ [])))
-        ∙ append_assoc (written plan voc events ++ event_record event) (0 ∷ []) r.behind
-        ∙ ap (λ (l : List ℕ). l ++ 0 ∷ r.behind) (sym (written-push plan voc events event));
-  };
-}
+pub gate_at : (plan : Plan) (voc : List ℕ) (records : List Record) (at : ℕ) (bytes : List ℕ) → IsClosedAfter (written plan voc records) bytes → at ≡ length (written plan voc records) → take at bytes ≡ written plan voc records
+gate_at plan voc records at bytes c is = ap (λ (l : List ℕ). take at l) c.is ∙ take_at (written plan voc records) (c.gate ∷ c.behind) at (sym is)
 
 module _ (place : End) (old : List ℕ) (sits : Sits place old) where
-  pub front_is : take place.at old ≡ written sits.plan sits.voc sits.events
-  front_is = gate_at sits.plan sits.voc sits.events place.at old sits.spelled.rest sits.gate
+  pub front_is : take place.at old ≡ written sits.plan sits.voc sits.records
+  front_is = gate_at sits.plan sits.voc sits.records place.at old sits.holds.rest sits.gate
 
   pub closed_here : IsClosedAfter (take place.at old) old
-  closed_here = subst (λ (l : List ℕ). IsClosedAfter l old) (sym front_is) sits.spelled.rest
+  closed_here = subst (λ (l : List ℕ). IsClosedAfter l old) (sym front_is) sits.holds.rest
 
-  module _ (event : Event) (fits : IsStorableEvent event) (room : place.records < MOST_RECORDS) where
-    few : length sits.events + 1 < MOST_RECORDS
-    few = omega (arith, room, sits.count)
+  -- the plan and the vocabulary are those of each session that is spelled
+  along : (new : List ℕ) (records : List Record) (plan : Plan) (voc : List ℕ) (events : List Event) → Spells old plan voc events → HoldsRecords new sits.plan sits.voc records → HoldsRecords new plan voc records
+  along new records plan voc events spelled holds =
+      let once = records_once old sits.plan sits.voc sits.records plan voc spelled.records sits.holds spelled.holds in
+      subst (λ (p : Plan). HoldsRecords new p voc records) once.0 (subst (λ (v : List ℕ). HoldsRecords new sits.plan v records) once.1 holds)
 
-    here_more : (new : List ℕ) → HasRecord (take place.at old) (event_tail event ++ 0 ∷ []) new → Spells new sits.plan sits.voc (sits.events ++ event ∷ [])
-    here_more new r = has_more sits.plan sits.voc sits.events event old new fits few sits.spelled (subst (λ (l : List ℕ). HasRecord l (event_tail event ++ 0 ∷ []) new) front_is r)
+  -- and so are the events
+  events_are : (plan : Plan) (voc : List ℕ) (events : List Event) → Spells old plan voc events → events_among sits.records ≡ events
+  events_are plan voc events spelled = ap events_among (records_once old sits.plan sits.voc sits.records plan voc spelled.records sits.holds spelled.holds).2 ∙ spelled.are
 
-    along : (new : List ℕ) (plan : Plan) (voc : List ℕ) (events : List Event) → Spells old plan voc events → Spells new sits.plan sits.voc (sits.events ++ event ∷ []) → Spells new plan voc (events ++ event ∷ [])
-    along new plan voc events spelled more =
-        let once = spells_once old sits.plan sits.voc sits.events plan voc events sits.spelled spelled in
-        subst (λ (p : Plan). Spells new p voc (events ++ event ∷ [])) once.0
-        (subst (λ (v : List ℕ). Spells new sits.plan v (events ++ event ∷ [])) once.1
-        (subst (λ (es : List Event). Spells new sits.plan sits.voc (es ++ event ∷ [])) once.2 more))
+  module _ (r : Record) (fits : MayBeAdded place r) where
+    -- with the record in place the bytes hold it too
+    holds_more : (new : List ℕ) → HasRecord (take place.at old) (record_tail r ++ 0 ∷ []) new → HoldsRecords new sits.plan sits.voc (sits.records ++ r ∷ [])
+    holds_more new h =
+        let there = subst (λ (l : List ℕ). HasRecord l (record_tail r ++ 0 ∷ []) new) front_is h in
+        let front : List ℕ = written sits.plan sits.voc sits.records in
+        record {
+          session = sits.holds.session;
+          in_order = AreInOrder-push false sits.records r sits.holds.in_order (subst (λ (b : Bool). MayFollow b r) sits.raised fits.follows);
+          few = subst (λ (l : List Event). length l < MOST_RECORDS) (sym (events_among-push sits.records r)) (with_record-few place.records (events_among sits.records) r fits.room sits.count sits.holds.few);
+          rest = record {
+            gate = 0;
+            behind = there.behind;
+            closed = λ e. omega arith;
+            is =
+                there.is
+                ∙ ap (λ (l : List ℕ). l ++ there.behind) (sym (append_assoc front (record_bytes r) (0 ∷ [])))
+                ∙ append_assoc (front ++ record_bytes r) (0 ∷ []) there.behind
+                ∙ ap (λ (l : List ℕ). l ++ 0 ∷ there.behind) (sym (written-push sits.plan sits.voc sits.records r));
+          };
+        }
 
-    pub new_one : (new : List ℕ) → HasRecord (take place.at old) (event_tail event ++ 0 ∷ []) new → HasNew old event new
-    new_one new r plan voc events spelled = along new plan voc events spelled (here_more new r)
+    pub has_added : (new : List ℕ) → HasRecord (take place.at old) (record_tail r ++ 0 ∷ []) new → HasAdded old r new
+    has_added new h plan voc events spelled = record {
+      records = sits.records ++ r ∷ [];
+      holds = along new (sits.records ++ r ∷ []) plan voc events spelled (holds_more new h);
+      are = events_among-push sits.records r ∙ ap (λ (l : List Event). with_record l r) (events_are plan voc events spelled);
+    }
 
-    pub old_or_new : (new : List ℕ) → IsWithOrWithout (take place.at old) (event_tail event ++ 0 ∷ []) new → IsOldOrNew old event new
-    old_or_new new (inr r) plan voc events spelled = inr (new_one new r plan voc events spelled)
-    old_or_new new (inl c) plan voc events spelled =
-        let once = spells_once old sits.plan sits.voc sits.events plan voc events sits.spelled spelled in
-        let front : take place.at old ≡ written plan voc events = front_is ∙ (λ i. written (once.0 i) (once.1 i) (once.2 i)) in
-        inl (record { session = spelled.session; storable = spelled.storable; few = spelled.few; rest = subst (λ (l : List ℕ). IsClosedAfter l new) front c })
+    pub old_or_added : (new : List ℕ) → IsWithOrWithout (take place.at old) (record_tail r ++ 0 ∷ []) new → IsOldOrAdded old r new
+    old_or_added new (inr h) plan voc events spelled = inr (has_added new h plan voc events spelled)
+    old_or_added new (inl c) plan voc events spelled =
+        let closed = subst (λ (l : List ℕ). IsClosedAfter l new) front_is c in
+        let holds : HoldsRecords new sits.plan sits.voc sits.records = record { session = sits.holds.session; in_order = sits.holds.in_order; few = sits.holds.few; rest = closed } in
+        inl (record { records = sits.records; holds = along new sits.records plan voc events spelled holds; are = events_are plan voc events spelled })
 
-    pub sits_on : (next : End) (new : List ℕ) → HasRecord (take place.at old) (event_tail event ++ 0 ∷ []) new → next.at ≡ place.at + length (event_tail event ++ 0 ∷ []) → next.records ≡ place.records + 1 → Sits next new
-    sits_on next new r at_is records_is = record {
+    pub sits_on : (next : End) (new : List ℕ) → HasRecord (take place.at old) (record_tail r ++ 0 ∷ []) new → next.at ≡ place.at + length (record_tail r ++ 0 ∷ []) → next.records ≡ counted_with place.records r → next.raised ≡ is_raised_by place.raised r → Sits next new
+    sits_on next new h at_is records_is raised_is = record {
       plan = sits.plan;
       voc = sits.voc;
-      events = sits.events ++ event ∷ [];
-      spelled = here_more new r;
-      gate = omega (arith, at_is, sits.gate, ap length (written-push sits.plan sits.voc sits.events event), length-append (written sits.plan sits.voc sits.events) (event_record event), length-append (event_tail event) (0 ∷ []));
-      count = omega (arith, records_is, sits.count, length_push sits.events event);
+      records = sits.records ++ r ∷ [];
+      holds = holds_more new h;
+      gate = omega (arith, at_is, sits.gate, ap length (written-push sits.plan sits.voc sits.records r), length-append (written sits.plan sits.voc sits.records) (record_bytes r), length-append (record_tail r) (0 ∷ []));
+      count = records_is ∙ with_record-count place.records (events_among sits.records) r sits.count ∙ sym (ap (λ (l : List Event). length l + 1) (events_among-push sits.records r));
+      raised = raised_is ∙ ap (λ (b : Bool). is_raised_by b r) sits.raised ∙ sym (is_raised_after-push false sits.records r);
     }

@@ -1,12 +1,12 @@
 -- What making a journal leaves.
-use Rattle.std.proofs.Common.{◌≡◌, ◌⊎◌, ℕ, ◌+◌, ◌≤◌, List, [], ◌∷◌, ◌++◌, length, take, drop, inl, inr, sym, ◌∙◌, ap, subst, arith, append_assoc, length-append}
+use Rattle.std.proofs.Common.{◌≡◌, ◌⊎◌, ℕ, ◌+◌, ◌≤◌, List, [], ◌∷◌, ◌++◌, length, take, drop, inl, inr, false, refl, sym, ◌∙◌, ap, subst, arith, append_assoc, length-append}
 use Rattle.assign.specs.declared.events.Plan.{Plan}
 use Rattle.disk_model.specs.Disk.{Holds, Torn}
 use Rattle.answer_journal.specs.declared.head.Head.{Head}
 use Rattle.answer_journal.specs.declared.head.Head.TheVariants.{Short, Closed}
 use Rattle.answer_journal.specs.Storable.{IsStorableSession}
 use Rattle.answer_journal.specs.Format.{MAGIC, session_tail}
-use Rattle.answer_journal.specs.Journal.{IsClosedAfter, HasNoSession}
+use Rattle.answer_journal.specs.Journal.{IsClosedAfter, HoldsRecords, HasNoSession}
 use Rattle.answer_journal.specs.Steps.{HasRecord, IsWithOrWithout}
 use Rattle.answer_journal.specs.End.{End, Sits}
 use Rattle.answer_journal.specs.Heads.{IsHead}
@@ -46,12 +46,12 @@ magic_first mid c = ap (λ (l : List ℕ). take 8 l) c.is
 pub closed_at : (mid : List ℕ) → IsClosedAfter MAGIC mid → IsClosedAfter (take 8 mid) mid
 closed_at mid c = subst (λ (l : List ℕ). IsClosedAfter l mid) (sym (magic_first mid c)) c
 
-pub starts : (mid new : List ℕ) (plan : Plan) (voc rest : List ℕ) → IsStorableSession plan voc → IsClosedAfter MAGIC mid → rest ≡ session_tail plan voc ++ 0 ∷ [] → HasRecord (take 8 mid) rest new → StartsWith plan voc new
-starts mid new plan voc rest session c is r =
+holds : (mid new : List ℕ) (plan : Plan) (voc rest : List ℕ) → IsStorableSession plan voc → IsClosedAfter MAGIC mid → rest ≡ session_tail plan voc ++ 0 ∷ [] → HasRecord (take 8 mid) rest new → HoldsRecords new plan voc []
+holds mid new plan voc rest session c is r =
     let there : HasRecord MAGIC (session_tail plan voc ++ 0 ∷ []) new = subst (λ (l : List ℕ). HasRecord MAGIC l new) is (subst (λ (l : List ℕ). HasRecord l rest new) (magic_first mid c) r) in
     record {
       session = session;
-      storable = λ k d lt. absurd (omega arith);
+      in_order = tt;
       few = omega arith;
       rest = record {
         gate = 0;
@@ -61,16 +61,21 @@ starts mid new plan voc rest session c is r =
       };
     }
 
+pub starts : (mid new : List ℕ) (plan : Plan) (voc rest : List ℕ) → IsStorableSession plan voc → IsClosedAfter MAGIC mid → rest ≡ session_tail plan voc ++ 0 ∷ [] → HasRecord (take 8 mid) rest new → StartsWith plan voc new
+starts mid new plan voc rest session c is r = record { records = []; holds = holds mid new plan voc rest session c is r; are = refl }
+
 pub creating : (before : List ℕ → Type 0) (mid c : List ℕ) (plan : Plan) (voc rest : List ℕ) → IsStorableSession plan voc → IsClosedAfter MAGIC mid → rest ≡ session_tail plan voc ++ 0 ∷ [] → IsWithOrWithout (take 8 mid) rest c → IsCreating before plan voc c
 creating before mid c plan voc rest session closed is (inl shut) = inr (inl (inr (subst (λ (l : List ℕ). IsClosedAfter l c) (magic_first mid closed) shut)))
 creating before mid c plan voc rest session closed is (inr r) = inr (inr (starts mid c plan voc rest session closed is r))
 
-pub sits : (new : List ℕ) (plan : Plan) (voc : List ℕ) (place : End) → StartsWith plan voc new → place.at ≡ 8 + length (session_tail plan voc ++ 0 ∷ []) → place.records ≡ 1 → Sits place new
-sits new plan voc place starts_so at_is one = record {
+pub sits : (mid new : List ℕ) (plan : Plan) (voc rest : List ℕ) (place : End) → IsStorableSession plan voc → IsClosedAfter MAGIC mid → rest ≡ session_tail plan voc ++ 0 ∷ [] → HasRecord (take 8 mid) rest new
+    → place.at ≡ 8 + length (session_tail plan voc ++ 0 ∷ []) → place.records ≡ 1 → place.raised ≡ false → Sits place new
+sits mid new plan voc rest place session c is r at_is one raised_is = record {
   plan = plan;
   voc = voc;
-  events = [];
-  spelled = starts_so;
+  records = [];
+  holds = holds mid new plan voc rest session c is r;
   gate = omega (arith, at_is, length-append (session_tail plan voc) (0 ∷ []), length-append (MAGIC ++ 1 ∷ session_tail plan voc) [], length-append MAGIC (1 ∷ session_tail plan voc));
   count = omega (arith, one);
+  raised = raised_is;
 }

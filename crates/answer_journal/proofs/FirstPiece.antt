@@ -5,7 +5,7 @@ use Rattle.std.proofs.lemmas.List.{length-take}
 use Rattle.assign.specs.declared.events.Plan.{Plan}
 use Rattle.answer_journal.specs.Storable.{IsStorableSession}
 use Rattle.answer_journal.specs.Format.{session_tail}
-use Rattle.answer_journal.proofs.EventLoop.{IsWide, wide_enough, seen}
+use Rattle.answer_journal.proofs.RecordLoop.{IsWide, wide_enough, seen}
 use Rattle.answer_journal.proofs.PieceLemmas.{piece_is, piece_more, last_is}
 use Rattle.answer_journal.proofs.Sizes.{session_size}
 

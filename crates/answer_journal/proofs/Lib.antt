@@ -1,8 +1,9 @@
 mod Gate
+mod RecordLists
 mod Append
 mod ReadPairs
 mod Payloads
-mod EventLoop
+mod RecordLoop
 mod WholeFile
 mod Sizes
 mod Emptied

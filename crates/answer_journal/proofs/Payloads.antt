@@ -1,13 +1,13 @@
 -- What a payload spells, and what it doesn't.
-use Rattle.std.proofs.Common.{◌≡◌, ℕ, ◌+◌, ◌-◌, ◌^◌, ◌<◌, ◌≤◌, Bool, List, [], ◌∷◌, ◌++◌, length, get_or, take, drop, Option, Some, None, sym, ◌∙◌, ap, subst, arith, take_all, length-drop}
+use Rattle.std.proofs.Common.{◌≡◌, ℕ, ◌-◌, ◌^◌, ◌<◌, ◌≤◌, Bool, List, [], ◌∷◌, ◌++◌, length, get_or, take, drop, Option, Some, None, sym, ◌∙◌, ap, subst, arith, take_all, length-drop}
 use Rattle.assign.specs.declared.events.Plan.{Plan}
-use Rattle.assign.specs.declared.events.Event.{Event}
-use Rattle.assign.specs.declared.events.Event.TheVariants.{Answer}
+use Rattle.answer_journal.specs.declared.record.Record.{Record}
 use Rattle.answer_journal.specs.Format.{valued_count}
-use Rattle.answer_journal.specs.Storable.{IsStorableSession, IsStorable, IsStorableEvent}
-use Rattle.answer_journal.specs.Format.{tail_bytes, plan_byte, session_tail, pairs_from, said_byte, answer_payload, event_tail}
+use Rattle.answer_journal.specs.Storable.{IsStorableSession, IsStorable}
+use Rattle.answer_journal.specs.Format.{tail_bytes, plan_byte, session_tail, pairs_from, said_byte, answer_payload, kind_byte, record_payload, record_tail}
+use Rattle.answer_journal.specs.Records.{MayFollow}
 use Rattle.answer_journal.specs.Pairs.{options_at, options_again, options_sound}
-use Rattle.answer_journal.specs.Unique.{tail_once, pairs_size, given_few}
+use Rattle.answer_journal.specs.Unique.{tail_once, payload_small}
 
 abbrev pub pairs_in : List ℕ → List ℕ
 pairs_in p = take (length p - 2) (drop 2 p)
@@ -44,24 +44,22 @@ answer_found p q said n long is some read counts same =
       two_first p long ∙ (λ i. is i ∷ (sym same ∙ counts) i ∷ r.are i),
     )
 
--- ---- events
+-- ---- records
 
-payload_short : (q : List (Option ℕ)) (said : Bool) → IsStorable q → length (answer_payload q said) < 2 ^ 32
-payload_short q said fits = let few : 2 + length (pairs_from 0 q) ≤ 258 = omega (arith, pairs_size 0 q, given_few q, fits.size) in omega arith
+pub no_parts : (raised : Bool) (bytes : List ℕ) → ((kind : ℕ) (p : List ℕ) (gate : ℕ) (behind : List ℕ) → length p < 2 ^ 32 → bytes ≡ tail_bytes kind p ++ gate ∷ behind → ⊥) → (r : Record) (gate : ℕ) (behind : List ℕ) → MayFollow raised r → bytes ≡ record_tail r ++ gate ∷ behind → ⊥
+unfolding record_tail
+no_parts raised bytes none r gate behind may is = none (kind_byte r) (record_payload r) gate behind (payload_small raised r may) is
 
-pub event_no_payload : (bytes : List ℕ) → ((p : List ℕ) (gate : ℕ) (behind : List ℕ) → length p < 2 ^ 32 → bytes ≡ tail_bytes 0x41 p ++ gate ∷ behind → ⊥) → (e : Event) (gate : ℕ) (behind : List ℕ) → IsStorableEvent e → bytes ≡ event_tail e ++ gate ∷ behind → ⊥
-unfolding event_tail
-event_no_payload bytes none (Answer q said) gate behind fits is = none (answer_payload q said) gate behind (payload_short q said fits) is
+pub no_record : (raised : Bool) (bytes : List ℕ) (kind : ℕ) (p rest : List ℕ) → length p < 2 ^ 32 → bytes ≡ tail_bytes kind p ++ rest → ((r : Record) → MayFollow raised r → kind ≡ kind_byte r → p ≡ record_payload r → ⊥)
+    → (r : Record) (gate : ℕ) (behind : List ℕ) → MayFollow raised r → bytes ≡ record_tail r ++ gate ∷ behind → ⊥
+unfolding record_tail
+no_record raised bytes kind p rest short found none r gate behind may is =
+    let once = tail_once kind p rest (kind_byte r) (record_payload r) (gate ∷ behind) short (payload_small raised r may) (sym found ∙ is) in
+    none r may once.0 once.1
 
-pub event_no_answer : (bytes p r : List ℕ) → length p < 2 ^ 32 → bytes ≡ tail_bytes 0x41 p ++ r → ((q : List (Option ℕ)) (said : Bool) → IsStorable q → p ≡ answer_payload q said → ⊥) → (e : Event) (gate : ℕ) (behind : List ℕ) → IsStorableEvent e → bytes ≡ event_tail e ++ gate ∷ behind → ⊥
-unfolding event_tail
-event_no_answer bytes p r short found none (Answer q said) gate behind fits is =
-    let once = tail_once 0x41 p r 0x41 (answer_payload q said) (gate ∷ behind) short (payload_short q said fits) (sym found ∙ is) in
-    none q said fits once.1
-
-pub event_found : (bytes p r : List ℕ) (q : List (Option ℕ)) (said : Bool) → bytes ≡ tail_bytes 0x41 p ++ r → p ≡ answer_payload q said → bytes ≡ event_tail (Answer q said) ++ r
-unfolding event_tail
-event_found bytes p r q said found is = found ∙ ap (λ (l : List ℕ). tail_bytes 0x41 l ++ r) is
+pub record_found : (bytes : List ℕ) (kind : ℕ) (p rest : List ℕ) (r : Record) → bytes ≡ tail_bytes kind p ++ rest → kind ≡ kind_byte r → p ≡ record_payload r → bytes ≡ record_tail r ++ rest
+unfolding record_tail
+record_found bytes kind p rest r found kind_is payload_is = found ∙ (λ i. tail_bytes (kind_is i) (payload_is i) ++ rest)
 
 -- ---- sessions
 
@@ -71,6 +69,14 @@ session_short plan voc short = omega arith
 pub session_no_payload : (bytes : List ℕ) → ((p : List ℕ) (gate : ℕ) (behind : List ℕ) → length p < 2 ^ 32 → bytes ≡ tail_bytes 0x53 p ++ gate ∷ behind → ⊥) → (plan : Plan) (voc : List ℕ) (gate : ℕ) (behind : List ℕ) → IsStorableSession plan voc → bytes ≡ session_tail plan voc ++ gate ∷ behind → ⊥
 unfolding session_tail
 session_no_payload bytes none plan voc gate behind short is = none (plan_byte plan ∷ voc) gate behind (session_short plan voc short) is
+
+pub session_kind : (bytes : List ℕ) (kind : ℕ) (p r : List ℕ) → kind ≡ 0x53 → bytes ≡ tail_bytes kind p ++ r → bytes ≡ tail_bytes 0x53 p ++ r
+session_kind bytes kind p r is found = found ∙ ap (λ (k : ℕ). tail_bytes k p ++ r) is
+
+pub session_other : (bytes : List ℕ) (kind : ℕ) (p r : List ℕ) → length p < 2 ^ 32 → (kind ≡ 0x53 → ⊥) → bytes ≡ tail_bytes kind p ++ r → (plan : Plan) (voc : List ℕ) (gate : ℕ) (behind : List ℕ) → IsStorableSession plan voc → bytes ≡ session_tail plan voc ++ gate ∷ behind → ⊥
+unfolding session_tail
+session_other bytes kind p r short other found plan voc gate behind small is =
+    other (tail_once kind p r 0x53 (plan_byte plan ∷ voc) (gate ∷ behind) short (session_short plan voc small) (sym found ∙ is)).0
 
 pub session_payload : (bytes p r : List ℕ) → length p < 2 ^ 32 → bytes ≡ tail_bytes 0x53 p ++ r → (plan : Plan) (voc : List ℕ) (gate : ℕ) (behind : List ℕ) → IsStorableSession plan voc → bytes ≡ session_tail plan voc ++ gate ∷ behind → p ≡ plan_byte plan ∷ voc
 unfolding session_tail

@@ -1,31 +1,44 @@
 -- Bytes that a refusal, or a session, may be read from.
-use Rattle.std.proofs.Common.{◌≡◌, ℕ, ◌+◌, ◌-◌, ◌<◌, ◌≤◌, List, [], ◌∷◌, ◌++◌, length, get_or, take, All, flat_map, inl, refl, ap, arith, length-append}
+use Rattle.std.proofs.Common.{◌≡◌, ℕ, ◌+◌, ◌-◌, ◌<◌, ◌≤◌, Bool, false, List, [], ◌∷◌, ◌++◌, length, get_or, take, flat_map, inl, refl, sym, ◌∙◌, ap, subst, arith, length-append}
 use Rattle.std.proofs.lemmas.List.{length-take}
 use Rattle.assign.specs.declared.events.Plan.{Plan}
 use Rattle.assign.specs.declared.events.Event.{Event}
-use Rattle.answer_journal.specs.Storable.{IsStorableSession, IsStorableEvent}
-use Rattle.answer_journal.specs.Format.{MOST_RECORDS, MAGIC, session_tail, event_record, written}
-use Rattle.answer_journal.specs.Journal.{Bare, ReadsAs, Session}
+use Rattle.answer_journal.specs.declared.record.Record.{Record}
+use Rattle.answer_journal.specs.Storable.{IsStorableSession}
+use Rattle.answer_journal.specs.Format.{MOST_RECORDS, MAGIC, session_tail, record_bytes, written}
+use Rattle.answer_journal.specs.Records.{events_among, with_record, is_raised_after, MayFollow}
+use Rattle.answer_journal.specs.Journal.{IsClosedAfter, Bare, ReadsAs, Session}
 use Rattle.answer_journal.specs.Unique.{Stuck}
-use Rattle.answer_journal.specs.Found.{BreaksOff, Overflows, EventsRefused, Refused}
+use Rattle.answer_journal.specs.Found.{IsRead, WereRead, BreaksOff, Overflows, EventsRefused, Refused}
 use Rattle.answer_journal.specs.Making.{CreateRefused}
 use Rattle.answer_journal.specs.declared.fault.JFault.{JFault}
 use Rattle.answer_journal.specs.declared.fault.JFault.TheVariants as faults
+use Rattle.answer_journal.proofs.RecordLists.{events_among-push, AreInOrder-push, with_record-many}
 use Rattle.answer_journal.proofs.Sizes.{session_size}
 use Rattle.answer_journal.proofs.WholeFile.{refused}
 
 -- ---- events
 
 -- an open gate at the end
-bare_stuck : Stuck (1 ∷ [])
-bare_stuck e gate behind fits is = omega (arith, ap length is, length-append (event_record e) (gate ∷ behind))
+bare_stuck : (raised : Bool) → Stuck raised (1 ∷ [])
+bare_stuck raised r gate behind may is = omega (arith, ap length is, length-append (record_bytes r) (gate ∷ behind))
 
-pub breaks_off_somewhere : (events : List Event) (start at : ℕ) → All IsStorableEvent events → length events < MOST_RECORDS → at ≡ start + length (flat_map event_record events) → (bytes : List ℕ) × BreaksOff start at bytes
-breaks_off_somewhere events start at storable few place =
-    (flat_map event_record events ++ 1 ∷ [], record { events = events; behind = []; storable = storable; few = few; place = place; is = refl; stuck = bare_stuck })
+pub breaks_off_somewhere : (records : List Record) (start at : ℕ) (events : List Event) (raised : Bool) → IsRead records start at events raised → (bytes : List ℕ) × BreaksOff start at bytes
+breaks_off_somewhere records start at events raised read = (
+  flat_map record_bytes records ++ 1 ∷ [],
+  record { records = records; behind = []; in_order = read.in_order; few = subst (λ (l : List Event). length l < MOST_RECORDS) (sym read.are) read.few; place = read.place; is = refl; stuck = bare_stuck (is_raised_after false records) },
+)
 
-pub overflows_somewhere : (events : List Event) → All IsStorableEvent events → length events ≡ MOST_RECORDS → (bytes : List ℕ) × Overflows bytes
-overflows_somewhere events storable many = (flat_map event_record events ++ 1 ∷ [], record { events = events; storable = storable; many = many; rest = record { gate = 1; behind = []; is = refl } })
+pub overflows_somewhere : (records : List Record) (start at : ℕ) (events : List Event) (raised : Bool) (r : Record) → IsRead records start at events raised → MayFollow raised r → MOST_RECORDS ≤ length (with_record events r) → (bytes : List ℕ) × Overflows bytes
+overflows_somewhere records start at events raised r read may many = (
+  flat_map record_bytes (records ++ r ∷ []) ++ 1 ∷ [],
+  record {
+    records = records ++ r ∷ [];
+    in_order = AreInOrder-push false records r read.in_order (subst (λ (b : Bool). MayFollow b r) (sym read.raises) may);
+    many = ap length (events_among-push records r ∙ ap (λ (l : List Event). with_record l r) read.are) ∙ with_record-many events r read.few many;
+    rest = record { gate = 1; behind = []; is = refl };
+  },
+)
 
 -- ---- files
 
@@ -71,16 +84,18 @@ refused_somewhere plan voc start e session begins (rest, r) =
     let long : 9 < length (MAGIC ++ 1 ∷ (session_tail plan voc ++ rest)) = omega (arith, length-append MAGIC (1 ∷ (session_tail plan voc ++ rest)), length-append (session_tail plan voc) rest, session_size plan voc) in
     (MAGIC ++ 1 ∷ (session_tail plan voc ++ rest), refused (MAGIC ++ 1 ∷ (session_tail plan voc ++ rest)) long refl refl plan voc rest session refl start e begins r)
 
-pub session_somewhere : (plan : Plan) (voc : List ℕ) (events : List Event) → IsStorableSession plan voc → All IsStorableEvent events → length events < MOST_RECORDS → (bytes : List ℕ) × ReadsAs bytes (Session plan voc events)
-session_somewhere plan voc events session storable few =
-    let long : 9 < length (written plan voc events ++ 0 ∷ []) = omega (
+pub session_somewhere : (plan : Plan) (voc : List ℕ) (start at : ℕ) (events : List Event) (raised : Bool) → IsStorableSession plan voc → WereRead start at events raised → (bytes : List ℕ) × ReadsAs bytes (Session plan voc events)
+session_somewhere plan voc start at events raised session (records, read) =
+    let long : 9 < length (written plan voc records ++ 0 ∷ []) = omega (
       arith,
-      length-append (written plan voc events) (0 ∷ []),
-      length-append (MAGIC ++ 1 ∷ session_tail plan voc) (flat_map event_record events),
+      length-append (written plan voc records) (0 ∷ []),
+      length-append (MAGIC ++ 1 ∷ session_tail plan voc) (flat_map record_bytes records),
       length-append MAGIC (1 ∷ session_tail plan voc),
       session_size plan voc,
     ) in
-    (written plan voc events ++ 0 ∷ [], (long, record { session = session; storable = storable; few = few; rest = record { gate = 0; behind = []; closed = λ is. omega (arith, is); is = refl } }))
+    let few : length (events_among records) < MOST_RECORDS = subst (λ (l : List Event). length l < MOST_RECORDS) (sym read.are) read.few in
+    let closed : IsClosedAfter (written plan voc records) (written plan voc records ++ 0 ∷ []) = record { gate = 0; behind = []; closed = λ is. omega (arith, is); is = refl } in
+    (written plan voc records ++ 0 ∷ [], (long, record { records = records; holds = record { session = session; in_order = read.in_order; few = few; rest = closed }; are = read.are }))
 
 -- ---- making
 

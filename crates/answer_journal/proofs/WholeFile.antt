@@ -1,11 +1,13 @@
 -- What a whole file says.
-use Rattle.std.proofs.Common.{◌≡◌, ℕ, ◌+◌, ◌<◌, List, [], ◌∷◌, ◌++◌, length, get_or, take, drop, flat_map, inr, refl, sym, ◌∙◌, ap, arith, append_assoc, length-append, take-append-drop, drop_at}
+use Rattle.std.proofs.Common.{◌≡◌, ℕ, ◌+◌, ◌<◌, Bool, List, [], ◌∷◌, ◌++◌, length, get_or, take, drop, flat_map, inr, refl, sym, ◌∙◌, ap, subst, arith, append_assoc, length-append, take-append-drop, drop_at}
 use Rattle.std.proofs.lemmas.List.{append_cancel_left, drop_more}
 use Rattle.assign.specs.declared.events.Plan.{Plan}
 use Rattle.assign.specs.declared.events.Event.{Event}
+use Rattle.answer_journal.specs.declared.record.Record.{Record}
 use Rattle.answer_journal.specs.Storable.{IsStorableSession}
-use Rattle.answer_journal.specs.Format.{MAGIC, session_tail, event_record, written}
-use Rattle.answer_journal.specs.Journal.{Spells, Bare, Records, IsDamagedAt, HasTooManyRecords, HasNoSession}
+use Rattle.answer_journal.specs.Format.{MOST_RECORDS, MAGIC, session_tail, record_bytes, written}
+use Rattle.answer_journal.specs.End.{End, Sits}
+use Rattle.answer_journal.specs.Journal.{HoldsRecords, Spells, Bare, Records, IsDamagedAt, HasTooManyRecords, HasNoSession}
 use Rattle.answer_journal.specs.Unique.{written_split}
 use Rattle.answer_journal.specs.Found.{HasEvents, BreaksOff, Overflows, EventsRefused, Refused}
 use Rattle.answer_journal.specs.declared.fault.JFault.{JFault}
@@ -19,9 +21,9 @@ headed bytes long magic = sym (take-append-drop 8 bytes) ∙ (λ i. magic i ++ d
 pub shut : (bytes : List ℕ) → 9 < length bytes → take 8 bytes ≡ MAGIC → (get_or bytes 8 0 ≡ 1 → ⊥) → HasNoSession bytes
 shut bytes long magic closed = inr (record { gate = get_or bytes 8 0; behind = drop 9 bytes; closed = closed; is = headed bytes long magic })
 
--- the place behind a session's record and these events
-pub place_is : (plan : Plan) (voc : List ℕ) (events : List Event) (start at : ℕ) → start ≡ 9 + length (session_tail plan voc) → at ≡ start + length (flat_map event_record events) → at ≡ length (written plan voc events)
-place_is plan voc events start at begins is = omega (arith, begins, is, length-append (MAGIC ++ 1 ∷ session_tail plan voc) (flat_map event_record events), length-append MAGIC (1 ∷ session_tail plan voc))
+-- the place behind a session's record and these records
+pub place_is : (plan : Plan) (voc : List ℕ) (records : List Record) (start at : ℕ) → start ≡ 9 + length (session_tail plan voc) → at ≡ start + length (flat_map record_bytes records) → at ≡ length (written plan voc records)
+place_is plan voc records start at begins is = omega (arith, begins, is, length-append (MAGIC ++ 1 ∷ session_tail plan voc) (flat_map record_bytes records), length-append MAGIC (1 ∷ session_tail plan voc))
 
 module _ (bytes : List ℕ) (long : 9 < length bytes) (magic : take 8 bytes ≡ MAGIC) (is_open : get_or bytes 8 0 ≡ 1) where
   open_is : bytes ≡ MAGIC ++ 1 ∷ drop 9 bytes
@@ -47,26 +49,46 @@ module _ (bytes : List ℕ) (long : 9 < length bytes) (magic : take 8 bytes ≡ 
         ap (λ (l : List ℕ). drop start l) (session_is ∙ sym (append_assoc (MAGIC ++ 1 ∷ []) (session_tail plan voc) rest))
         ∙ drop_at (MAGIC ++ 1 ∷ session_tail plan voc) rest start (omega (arith, begins, length-append MAGIC (1 ∷ session_tail plan voc)))
 
-    -- behind the session's record stand these events
-    records_are : (events : List Event) (more : List ℕ) → rest ≡ flat_map event_record events ++ more → bytes ≡ written plan voc events ++ more
-    records_are events more is = session_is ∙ ap (λ (l : List ℕ). MAGIC ++ 1 ∷ (session_tail plan voc ++ l)) is ∙ sym (written_split plan voc events more)
+    -- behind the session's record stand these
+    records_are : (records : List Record) (more : List ℕ) → rest ≡ flat_map record_bytes records ++ more → bytes ≡ written plan voc records ++ more
+    records_are records more is = session_is ∙ ap (λ (l : List ℕ). MAGIC ++ 1 ∷ (session_tail plan voc ++ l)) is ∙ sym (written_split plan voc records more)
 
-    pub spells : (events : List Event) → HasEvents rest events → Spells bytes plan voc events
-    spells events h = record { session = session; storable = h.storable; few = h.few; rest = record { gate = h.rest.gate; behind = h.rest.behind; closed = h.rest.closed; is = records_are events (h.rest.gate ∷ h.rest.behind) h.rest.is } }
+    pub holds : (start at : ℕ) (events : List Event) (raised : Bool) (h : HasEvents start at events raised rest) → HoldsRecords bytes plan voc h.records
+    holds start at events raised h = record {
+      session = session;
+      in_order = h.read.in_order;
+      few = subst (λ (l : List Event). length l < MOST_RECORDS) (sym h.read.are) h.read.few;
+      rest = record { gate = h.rest.gate; behind = h.rest.behind; closed = h.rest.closed; is = records_are h.records (h.rest.gate ∷ h.rest.behind) h.rest.is };
+    }
+
+    pub spells : (start at : ℕ) (events : List Event) (raised : Bool) → HasEvents start at events raised rest → Spells bytes plan voc events
+    spells start at events raised h = record { records = h.records; holds = holds start at events raised h; are = h.read.are }
+
+    pub sits : (start at : ℕ) (events : List Event) (raised : Bool) (place : End) → start ≡ 9 + length (session_tail plan voc) → HasEvents start at events raised rest
+        → place.at ≡ at → place.records ≡ length events + 1 → place.raised ≡ raised → Sits place bytes
+    sits start at events raised place begins h at_is records_is raised_is = record {
+      plan = plan;
+      voc = voc;
+      records = h.records;
+      holds = holds start at events raised h;
+      gate = at_is ∙ place_is plan voc h.records start at begins h.read.place;
+      count = records_is ∙ sym (ap (λ (l : List Event). length l + 1) h.read.are);
+      raised = raised_is ∙ sym h.read.raises;
+    }
 
     pub damaged : (start at : ℕ) → start ≡ 9 + length (session_tail plan voc) → BreaksOff start at rest → IsDamagedAt at bytes
     damaged start at begins b = record {
-      front = Records plan voc b.events;
+      front = Records plan voc b.records;
       behind = b.behind;
-      whole = (session, b.storable, b.few);
-      place = place_is plan voc b.events start at begins b.place;
-      is = records_are b.events (1 ∷ b.behind) b.is;
-      no_record = λ n. b.stuck n.0 n.2.gate n.2.behind n.1 (append_cancel_left (written plan voc b.events) (1 ∷ b.behind) (event_record n.0 ++ n.2.gate ∷ n.2.behind)
-          (sym (records_are b.events (1 ∷ b.behind) b.is) ∙ n.2.is ∙ ap (λ (l : List ℕ). l ++ n.2.gate ∷ n.2.behind) (written-push plan voc b.events n.0) ∙ append_assoc (written plan voc b.events) (event_record n.0) (n.2.gate ∷ n.2.behind)));
+      whole = (session, b.in_order, b.few);
+      place = place_is plan voc b.records start at begins b.place;
+      is = records_are b.records (1 ∷ b.behind) b.is;
+      no_record = λ n. b.stuck n.0 n.2.gate n.2.behind n.1 (append_cancel_left (written plan voc b.records) (1 ∷ b.behind) (record_bytes n.0 ++ n.2.gate ∷ n.2.behind)
+          (sym (records_are b.records (1 ∷ b.behind) b.is) ∙ n.2.is ∙ ap (λ (l : List ℕ). l ++ n.2.gate ∷ n.2.behind) (written-push plan voc b.records n.0) ∙ append_assoc (written plan voc b.records) (record_bytes n.0) (n.2.gate ∷ n.2.behind)));
     }
 
     pub too_many : Overflows rest → HasTooManyRecords bytes
-    too_many o = record { plan = plan; voc = voc; events = o.events; session = session; storable = o.storable; many = o.many; rest = record { gate = o.rest.gate; behind = o.rest.behind; is = records_are o.events (o.rest.gate ∷ o.rest.behind) o.rest.is } }
+    too_many o = record { plan = plan; voc = voc; records = o.records; session = session; in_order = o.in_order; many = o.many; rest = record { gate = o.rest.gate; behind = o.rest.behind; is = records_are o.records (o.rest.gate ∷ o.rest.behind) o.rest.is } }
 
     pub refused : (start : ℕ) (e : JFault) → start ≡ 9 + length (session_tail plan voc) → EventsRefused start rest e → Refused bytes e
     refused start (faults.Damaged at) begins b = (long, damaged start at begins b)

@@ -3,9 +3,10 @@ use Rattle.std.specs.Prelude.{ℕ, List, [], ◌∷◌, ◌++◌, Some, None, le
 use Rattle.std.specs.Int.{w32, to_be_bytes}
 use Rattle.assign.specs.declared.events.Plan.{Plan}
 use Rattle.assign.specs.declared.events.Plan.TheVariants.{Scopes, Quacq, Multi}
-use Rattle.assign.specs.declared.events.Event.{Event}
-use Rattle.assign.specs.declared.events.Event.TheVariants.{Answer}
+use Rattle.assign.specs.declared.events.Event.TheVariants.{Answer, Back}
 use Rattle.assign.specs.Assignment.{Assignment}
+use Rattle.answer_journal.specs.declared.record.Record.{Record}
+use Rattle.answer_journal.specs.declared.record.Record.TheVariants.{Added, Raising}
 
 abbrev pub MOST_RECORDS : ℕ
 MOST_RECORDS = 1000000
@@ -48,13 +49,24 @@ said_byte said = if said then 1 else 0
 abbrev pub answer_payload : Assignment → Bool → List ℕ
 answer_payload q said = said_byte said ∷ valued_count q ∷ pairs_from 0 q
 
--- an event, behind its gate
-unfoldable pub event_tail : Event → List ℕ
-event_tail (Answer q said) = tail_bytes 0x41 (answer_payload q said)
+-- which record it is: an answer, a take-back, or the one that raises a journal
+abbrev pub kind_byte : Record → ℕ
+kind_byte (Added (Answer q said)) = 0x41
+kind_byte (Added Back) = 0x42
+kind_byte Raising = 0x55
 
-abbrev pub event_record : Event → List ℕ
-event_record event = 1 ∷ event_tail event
+abbrev pub record_payload : Record → List ℕ
+record_payload (Added (Answer q said)) = answer_payload q said
+record_payload (Added Back) = []
+record_payload Raising = 2 ∷ []
+
+-- a record, behind its gate
+unfoldable pub record_tail : Record → List ℕ
+record_tail r = tail_bytes (kind_byte r) (record_payload r)
+
+abbrev pub record_bytes : Record → List ℕ
+record_bytes r = 1 ∷ record_tail r
 
 -- the magic and all records
-abbrev pub written : Plan → List ℕ → List Event → List ℕ
-written plan voc events = MAGIC ++ 1 ∷ session_tail plan voc ++ flat_map event_record events
+abbrev pub written : Plan → List ℕ → List Record → List ℕ
+written plan voc records = MAGIC ++ 1 ∷ session_tail plan voc ++ flat_map record_bytes records

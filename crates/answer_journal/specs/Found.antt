@@ -1,44 +1,62 @@
 -- What is found in the bytes behind a session's record, and in a whole file.
-use Rattle.std.specs.Prelude.{ℕ, ◌+◌, ◌<◌, ◌≡◌, List, ◌∷◌, ◌++◌, length, flat_map, All}
+use Rattle.std.specs.Prelude.{ℕ, ◌+◌, ◌<◌, ◌≡◌, Bool, false, List, ◌∷◌, ◌++◌, length, flat_map}
 use Rattle.assign.specs.declared.events.Event.{Event}
 use Rattle.answer_journal.specs.declared.fault.JFault.{JFault}
 use Rattle.answer_journal.specs.declared.fault.JFault.TheVariants as faults
 use Rattle.answer_journal.specs.declared.pieces.Reached.{Reached}
 use Rattle.answer_journal.specs.declared.pieces.Reached.TheVariants.{Closed, Further}
-use Rattle.answer_journal.specs.Format.{MOST_RECORDS, event_record}
-use Rattle.answer_journal.specs.Storable.{IsStorableEvent}
+use Rattle.answer_journal.specs.declared.record.Record.{Record}
+use Rattle.answer_journal.specs.Format.{MOST_RECORDS, record_bytes}
+use Rattle.answer_journal.specs.Records.{events_among, is_raised_after, AreInOrder}
 use Rattle.answer_journal.specs.Journal.{IsClosedAfter, HasGateBehind, ReadsAs, NoSession, NotAJournal, TooManyRecords, Damaged}
 use Rattle.answer_journal.specs.Unique.{Stuck}
 
--- These events stand here, and then a closed gate.
-pub record HasEvents (bytes : List ℕ) (events : List Event) : Type 0 where
-  pub storable : All IsStorableEvent events
+-- The records that were read from a start up to a place, with these events.
+pub record IsRead (records : List Record) (start at : ℕ) (events : List Event) (raised : Bool) : Type 0 where
+  pub in_order : AreInOrder false records
   pub few : length events < MOST_RECORDS
-  pub rest : IsClosedAfter (flat_map event_record events) bytes
+  pub are : events_among records ≡ events
+  pub raises : is_raised_after false records ≡ raised
+  pub place : at ≡ start + length (flat_map record_bytes records)
 
--- These events stand here, and then the rest, which begins with a gate.
-pub record BeginsWith (bytes : List ℕ) (events : List Event) (rest : List ℕ) : Type 0 where
-  pub storable : All IsStorableEvent events
-  pub few : length events < MOST_RECORDS
+-- These events were read from a start up to a place.
+abbrev pub WereRead : ℕ → ℕ → List Event → Bool → Type 0
+WereRead start at events raised = (records : List Record) × IsRead records start at events raised
+
+-- These records stand here, and then the rest, which begins with a gate.
+pub record BeginsWith (bytes : List ℕ) (records : List Record) (rest : List ℕ) : Type 0 where
   pub some : 0 < length rest
-  pub is : bytes ≡ flat_map event_record events ++ rest
+  pub is : bytes ≡ flat_map record_bytes records ++ rest
 
--- Behind some events an open gate stands at this place with no whole record behind it.
+-- These events stand here up to a closed gate at this place.
+pub record HasEvents (start at : ℕ) (events : List Event) (raised : Bool) (bytes : List ℕ) : Type 0 where
+  pub records : List Record
+  pub read : IsRead records start at events raised
+  pub rest : IsClosedAfter (flat_map record_bytes records) bytes
+
+-- These events stand here up to a gate at this place.
+pub record GoesOn (start at : ℕ) (events : List Event) (raised : Bool) (bytes : List ℕ) : Type 0 where
+  pub records : List Record
+  pub rest : List ℕ
+  pub read : IsRead records start at events raised
+  pub begins : BeginsWith bytes records rest
+
+-- Behind some records an open gate stands at this place with no whole record behind it.
 pub record BreaksOff (start at : ℕ) (bytes : List ℕ) : Type 0 where
-  pub events : List Event
+  pub records : List Record
   pub behind : List ℕ
-  pub storable : All IsStorableEvent events
-  pub few : length events < MOST_RECORDS
-  pub place : at ≡ start + length (flat_map event_record events)
-  pub is : bytes ≡ flat_map event_record events ++ 1 ∷ behind
-  pub stuck : Stuck (1 ∷ behind)
+  pub in_order : AreInOrder false records
+  pub few : length (events_among records) < MOST_RECORDS
+  pub place : at ≡ start + length (flat_map record_bytes records)
+  pub is : bytes ≡ flat_map record_bytes records ++ 1 ∷ behind
+  pub stuck : Stuck (is_raised_after false records) (1 ∷ behind)
 
 -- More events stand here than a journal may have.
 pub record Overflows (bytes : List ℕ) : Type 0 where
-  pub events : List Event
-  pub storable : All IsStorableEvent events
-  pub many : length events ≡ MOST_RECORDS
-  pub rest : HasGateBehind (flat_map event_record events) bytes
+  pub records : List Record
+  pub in_order : AreInOrder false records
+  pub many : length (events_among records) ≡ MOST_RECORDS
+  pub rest : HasGateBehind (flat_map record_bytes records) bytes
 
 -- why the events of these bytes, which begin at the place start, aren't read
 abbrev pub EventsRefused : ℕ → List ℕ → JFault → Type 0
@@ -57,14 +75,14 @@ gate_reached (Closed place) = place
 gate_reached (Further place) = place
 
 -- the gate there is closed, or the bytes go on behind the events
-abbrev pub IsReached : List ℕ → List Event → Reached → Type 0
-IsReached bytes events (Closed place) = HasEvents bytes events
-IsReached bytes events (Further place) = (rest : List ℕ) × BeginsWith bytes events rest
+abbrev pub IsReached : ℕ → List Event → Bool → List ℕ → Reached → Type 0
+IsReached start events raised bytes (Closed place) = HasEvents start place events raised bytes
+IsReached start events raised bytes (Further place) = GoesOn start place events raised bytes
 
--- one event more was read, if the piece was left before its end
-abbrev pub IsProgress : ℕ → ℕ → Reached → Type 0
-IsProgress before now (Closed place) = Unit {0}
-IsProgress before now (Further place) = before < now
+-- some bytes were read, if the piece was left before its end
+abbrev pub IsProgress : ℕ → Reached → Type 0
+IsProgress at (Closed place) = Unit {0}
+IsProgress at (Further place) = at < place
 
 -- why a file isn't opened
 abbrev pub Refused : List ℕ → JFault → Type 0

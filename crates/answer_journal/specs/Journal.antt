@@ -1,8 +1,10 @@
 -- What the bytes of a journal say.
-use Rattle.std.specs.Prelude.{ℕ, ◌<◌, ◌≤◌, ◌≡◌, ◌≢◌, ◌⊎◌, List, [], ◌∷◌, ◌++◌, length, take, All}
+use Rattle.std.specs.Prelude.{ℕ, ◌<◌, ◌≤◌, ◌≡◌, ◌≢◌, ◌⊎◌, false, List, [], ◌∷◌, ◌++◌, length, take}
 use Rattle.assign.specs.declared.events.Plan.{Plan}
 use Rattle.assign.specs.declared.events.Event.{Event}
-use Rattle.answer_journal.specs.Storable.{IsStorableSession, IsStorableEvent}
+use Rattle.answer_journal.specs.declared.record.Record.{Record}
+use Rattle.answer_journal.specs.Storable.{IsStorableSession}
+use Rattle.answer_journal.specs.Records.{events_among, is_raised_after, MayFollow, AreInOrder}
 use Rattle.answer_journal.specs.Format.{MOST_RECORDS, MAGIC, written}
 
 -- After these bytes comes a closed gate, and then anything.
@@ -12,12 +14,19 @@ pub record IsClosedAfter (front bytes : List ℕ) : Type 0 where
   pub closed : gate ≢ 1
   pub is : bytes ≡ front ++ gate ∷ behind
 
+-- The bytes are those of a session and these records: with the session's, and without the one that raises the journal,
+-- at most 1,000,000.
+pub record HoldsRecords (bytes : List ℕ) (plan : Plan) (voc : List ℕ) (records : List Record) : Type 0 where
+  pub session : IsStorableSession plan voc
+  pub in_order : AreInOrder false records
+  pub few : length (events_among records) < MOST_RECORDS
+  pub rest : IsClosedAfter (written plan voc records) bytes
+
 -- The bytes spell a session with these events.
 pub record Spells (bytes : List ℕ) (plan : Plan) (voc : List ℕ) (events : List Event) : Type 0 where
-  pub session : IsStorableSession plan voc
-  pub storable : All IsStorableEvent events
-  pub few : length events < MOST_RECORDS
-  pub rest : IsClosedAfter (written plan voc events) bytes
+  pub records : List Record
+  pub holds : HoldsRecords bytes plan voc records
+  pub are : events_among records ≡ events
 
 -- ---- Refusals
 
@@ -30,21 +39,21 @@ pub record HasGateBehind (front bytes : List ℕ) : Type 0 where
 -- whole records stand from the magic on
 pub data Front : Type 0 where
   Bare : Front
-  Records : Plan → List ℕ → List Event → Front
+  Records : Plan → List ℕ → List Record → Front
 
 abbrev pub front_bytes : Front → List ℕ
 front_bytes Bare = MAGIC
-front_bytes (Records plan voc events) = written plan voc events
+front_bytes (Records plan voc records) = written plan voc records
 
--- at most 1,000,000 of them
+-- in order, and at most 1,000,000 of them without the one that raises the journal
 abbrev pub IsFront : Front → Type 0
 IsFront Bare = Unit {0}
-IsFront (Records plan voc events) = (IsStorableSession plan voc) × All IsStorableEvent events × (length events < MOST_RECORDS)
+IsFront (Records plan voc records) = (IsStorableSession plan voc) × AreInOrder false records × (length (events_among records) < MOST_RECORDS)
 
 -- one whole record more, and a gate behind it
 abbrev pub HasNextRecord : Front → List ℕ → Type 0
 HasNextRecord Bare bytes = (plan : Plan) × (voc : List ℕ) × (IsStorableSession plan voc) × HasGateBehind (written plan voc []) bytes
-HasNextRecord (Records plan voc events) bytes = (event : Event) × IsStorableEvent event × HasGateBehind (written plan voc (events ++ event ∷ [])) bytes
+HasNextRecord (Records plan voc records) bytes = (r : Record) × MayFollow (is_raised_after false records) r × HasGateBehind (written plan voc (records ++ r ∷ [])) bytes
 
 -- the open gate at this byte isn't followed by a whole record and a gate
 pub record IsDamagedAt (at : ℕ) (bytes : List ℕ) : Type 0 where
@@ -55,15 +64,15 @@ pub record IsDamagedAt (at : ℕ) (bytes : List ℕ) : Type 0 where
   pub is : bytes ≡ front_bytes front ++ 1 ∷ behind
   pub no_record : HasNextRecord front bytes → ⊥
 
--- more than the greatest number of whole records, each with a gate behind it
+-- more whole records than the greatest number, without the one that raises the journal, each with a gate behind it
 pub record HasTooManyRecords (bytes : List ℕ) : Type 0 where
   pub plan : Plan
   pub voc : List ℕ
-  pub events : List Event
+  pub records : List Record
   pub session : IsStorableSession plan voc
-  pub storable : All IsStorableEvent events
-  pub many : length events ≡ MOST_RECORDS
-  pub rest : HasGateBehind (written plan voc events) bytes
+  pub in_order : AreInOrder false records
+  pub many : length (events_among records) ≡ MOST_RECORDS
+  pub rest : HasGateBehind (written plan voc records) bytes
 
 -- what a journal says, or why it says nothing
 pub data Reading : Type 0 where

@@ -1,5 +1,6 @@
 pub mod Format
 pub mod Storable
+pub mod Records
 pub mod Journal
 pub mod Steps
 pub mod Unique

@@ -5,7 +5,7 @@ use Rattle.assign.specs.Sets.{MOST}
 use Rattle.assign.specs.Assignment.{Assignment}
 use Rattle.assign.specs.declared.events.Plan.{Plan}
 use Rattle.assign.specs.declared.events.Event.{Event}
-use Rattle.assign.specs.declared.events.Event.TheVariants.{Answer}
+use Rattle.assign.specs.declared.events.Event.TheVariants.{Answer, Back}
 use Rattle.answer_journal.specs.Format.{MOST_VOCABULARY, valued_count}
 
 -- A plan, and the bytes of a vocabulary.
@@ -21,3 +21,4 @@ pub record IsStorable (question : Assignment) : Type 0 where
 -- an event that a record can hold
 abbrev pub IsStorableEvent : Event → Type 0
 IsStorableEvent (Answer question said) = IsStorable question
+IsStorableEvent Back = Unit {0}

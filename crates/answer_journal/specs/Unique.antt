@@ -1,15 +1,18 @@
 -- No bytes are read in two ways.
-use Rattle.std.proofs.Common.{◌≡◌, ◌≢◌, ℕ, suc, ◌+◌, ◌*◌, ◌^◌, ◌<◌, ◌≤◌, List, [], ◌∷◌, ◌++◌, length, get_or, take, drop, Option, Some, None, Bool, true, false, All, flat_map, refl, sym, ◌∙◌, ap, arith, append_assoc, take_at, drop_at}
+use Rattle.std.proofs.Common.{◌≡◌, ◌≢◌, ℕ, suc, ◌+◌, ◌*◌, ◌^◌, ◌<◌, ◌≤◌, List, [], ◌∷◌, ◌++◌, length, get_or, take, drop, Option, Some, None, Bool, true, false, flat_map, refl, sym, ◌∙◌, ap, subst, arith, append_assoc, take_at, drop_at}
 use Rattle.std.specs.Int.{w32, to_be_bytes, from_be_bytes}
 use Rattle.std.proofs.lemmas.Nat.{from_be_bytes-to_be_bytes_4}
 use Rattle.assign.specs.declared.events.Plan.{Plan}
 use Rattle.assign.specs.declared.events.Plan.TheVariants.{Scopes, Quacq, Multi}
 use Rattle.assign.specs.declared.events.Event.{Event}
-use Rattle.assign.specs.declared.events.Event.TheVariants.{Answer}
+use Rattle.assign.specs.declared.events.Event.TheVariants.{Answer, Back}
+use Rattle.answer_journal.specs.declared.record.Record.{Record}
+use Rattle.answer_journal.specs.declared.record.Record.TheVariants.{Added, Raising}
 use Rattle.answer_journal.specs.Format.{valued_count}
-use Rattle.answer_journal.specs.Storable.{IsStorableSession, IsStorable, IsStorableEvent}
-use Rattle.answer_journal.specs.Format.{MAGIC, tail_bytes, plan_byte, session_tail, pairs_from, said_byte, answer_payload, event_tail, event_record, written}
-use Rattle.answer_journal.specs.Journal.{Spells}
+use Rattle.answer_journal.specs.Storable.{IsStorableSession}
+use Rattle.answer_journal.specs.Format.{MAGIC, tail_bytes, plan_byte, session_tail, pairs_from, said_byte, kind_byte, record_payload, record_tail, record_bytes, written}
+use Rattle.answer_journal.specs.Records.{events_among, is_raised_by, is_raised_after, MayFollow, AreInOrder}
+use Rattle.answer_journal.specs.Journal.{HoldsRecords, Spells}
 
 -- ---- one record
 
@@ -52,7 +55,7 @@ pairs_once v (Some x ∷ q) (Some y ∷ r) size e =
     let rest : pairs_from (suc v) q ≡ pairs_from (suc v) r = cc in
     λ i. Some (value i) ∷ pairs_once (suc v) q r (omega arith) rest i
 
--- ---- events and sessions
+-- ---- records and sessions
 
 said_once : (s t : Bool) → said_byte s ≡ said_byte t → s ≡ t
 said_once true true e = refl
@@ -60,17 +63,32 @@ said_once true false e = absurd (omega arith)
 said_once false true e = absurd (omega arith)
 said_once false false e = refl
 
-payload_small : (q : List (Option ℕ)) (s : Bool) → IsStorable q → length (answer_payload q s) < 2 ^ 32
-payload_small q s fits = let few : 2 + length (pairs_from 0 q) ≤ 258 = omega (arith, pairs_size 0 q, given_few q, fits.size) in omega arith
+pub payload_small : (raised : Bool) (r : Record) → MayFollow raised r → length (record_payload r) < 2 ^ 32
+payload_small raised (Added (Answer q said)) may =
+    let few : 2 + length (pairs_from 0 q) ≤ 258 = omega (arith, pairs_size 0 q, given_few q, may.0.size) in omega arith
+payload_small raised (Added Back) may = omega arith
+payload_small raised Raising may = omega arith
 
-pub event_once : (e : Event) (x : List ℕ) (f : Event) (y : List ℕ) → IsStorableEvent e → IsStorableEvent f → event_tail e ++ x ≡ event_tail f ++ y → (e ≡ f) × (x ≡ y)
-unfolding event_tail
-event_once (Answer q s) x (Answer r t) y fits good same =
-    let once = tail_once 0x41 (answer_payload q s) x 0x41 (answer_payload r t) y (payload_small q s fits) (payload_small r t good) same in
-    let payload = once.1 in
-    let said : s ≡ t = said_once s t (ap (λ (b : List ℕ). get_or b 0 0) payload) in
-    let question : q ≡ r = pairs_once 0 q r (fits.size ∙ sym good.size) (ap (λ (b : List ℕ). drop 2 b) payload) in
-    ((λ i. Answer (question i) (said i)), once.2)
+-- of two records that may stand here, each with its kind and its payload
+payload_once : (raised : Bool) (r s : Record) → MayFollow raised r → MayFollow raised s → kind_byte r ≡ kind_byte s → record_payload r ≡ record_payload s → r ≡ s
+payload_once raised (Added (Answer q said)) (Added (Answer p told)) may might kind payload =
+    let same : said ≡ told = said_once said told (ap (λ (b : List ℕ). get_or b 0 0) payload) in
+    let question : q ≡ p = pairs_once 0 q p (may.0.size ∙ sym might.0.size) (ap (λ (b : List ℕ). drop 2 b) payload) in
+    λ i. Added (Answer (question i) (same i))
+payload_once raised (Added (Answer q said)) (Added Back) may might kind payload = absurd (omega (arith, kind))
+payload_once raised (Added (Answer q said)) Raising may might kind payload = absurd (omega (arith, kind))
+payload_once raised (Added Back) (Added (Answer p told)) may might kind payload = absurd (omega (arith, kind))
+payload_once raised (Added Back) (Added Back) may might kind payload = refl
+payload_once raised (Added Back) Raising may might kind payload = absurd (omega (arith, kind))
+payload_once raised Raising (Added (Answer p told)) may might kind payload = absurd (omega (arith, kind))
+payload_once raised Raising (Added Back) may might kind payload = absurd (omega (arith, kind))
+payload_once raised Raising Raising may might kind payload = refl
+
+pub record_once : (raised : Bool) (r : Record) (x : List ℕ) (s : Record) (y : List ℕ) → MayFollow raised r → MayFollow raised s → record_tail r ++ x ≡ record_tail s ++ y → (r ≡ s) × (x ≡ y)
+unfolding record_tail
+record_once raised r x s y may might same =
+    let once = tail_once (kind_byte r) (record_payload r) x (kind_byte s) (record_payload s) y (payload_small raised r may) (payload_small raised s might) same in
+    (payload_once raised r s may might once.0 once.1, once.2)
 
 plan_once : (p q : Plan) → plan_byte p ≡ plan_byte q → p ≡ q
 plan_once Scopes Scopes e = refl
@@ -91,47 +109,68 @@ session_once p v x q w y short small same =
 
 -- ---- many records
 
--- no whole record stands here with a gate behind it
-abbrev pub Stuck : List ℕ → Type 0
-Stuck rest = (e : Event) (gate : ℕ) (behind : List ℕ) → IsStorableEvent e → rest ≡ event_record e ++ gate ∷ behind → ⊥
+-- no whole record that may stand here stands here with a gate behind it
+abbrev pub Stuck : Bool → List ℕ → Type 0
+Stuck raised rest = (r : Record) (gate : ℕ) (behind : List ℕ) → MayFollow raised r → rest ≡ record_bytes r ++ gate ∷ behind → ⊥
 
-pub closed_stuck : (gate : ℕ) (behind : List ℕ) → gate ≢ 1 → Stuck (gate ∷ behind)
-closed_stuck gate behind shut e g b fits is = shut (ap (λ (l : List ℕ). get_or l 0 0) is)
+pub closed_stuck : (raised : Bool) (gate : ℕ) (behind : List ℕ) → gate ≢ 1 → Stuck raised (gate ∷ behind)
+closed_stuck raised gate behind shut r g b may is = shut (ap (λ (l : List ℕ). get_or l 0 0) is)
 
-pub records_more : (es : List Event) (gate : ℕ) (behind : List ℕ) → (g : ℕ) × (b : List ℕ) × (flat_map event_record es ++ gate ∷ behind ≡ g ∷ b)
+pub records_more : (rs : List Record) (gate : ℕ) (behind : List ℕ) → (g : ℕ) × (b : List ℕ) × (flat_map record_bytes rs ++ gate ∷ behind ≡ g ∷ b)
 records_more [] gate behind = (gate, behind, refl)
-records_more (e ∷ es) gate behind = (1, event_tail e ++ flat_map event_record es ++ gate ∷ behind, refl)
+records_more (r ∷ rs) gate behind = (1, record_tail r ++ flat_map record_bytes rs ++ gate ∷ behind, refl)
 
-pub records_apart : (es fs : List Event) (g : ℕ) (b : List ℕ) (h : ℕ) (d : List ℕ) → All IsStorableEvent es → All IsStorableEvent fs → Stuck (g ∷ b) → Stuck (h ∷ d) → flat_map event_record es ++ g ∷ b ≡ flat_map event_record fs ++ h ∷ d → (es ≡ fs) × (g ∷ b ≡ h ∷ d)
-records_apart [] [] g b h d fits good stuck held e = (refl, e)
-records_apart [] (f ∷ fs) g b h d fits good stuck held e =
-    let more = records_more fs h d in
-    absurd (stuck f more.0 more.1 (good 0 f (omega arith)) (e ∙ append_assoc (event_record f) (flat_map event_record fs) (h ∷ d) ∙ ap (λ (l : List ℕ). event_record f ++ l) more.2))
-records_apart (f ∷ es) [] g b h d fits good stuck held e =
-    let more = records_more es g b in
-    absurd (held f more.0 more.1 (fits 0 f (omega arith)) (sym e ∙ append_assoc (event_record f) (flat_map event_record es) (g ∷ b) ∙ ap (λ (l : List ℕ). event_record f ++ l) more.2))
-records_apart (f ∷ es) (k ∷ fs) g b h d fits good stuck held e =
-    let split : event_tail f ++ (flat_map event_record es ++ g ∷ b) ≡ event_tail k ++ (flat_map event_record fs ++ h ∷ d) =
-    ap (λ (l : List ℕ). drop 1 l) (sym (append_assoc (event_record f) (flat_map event_record es) (g ∷ b)) ∙ e ∙ append_assoc (event_record k) (flat_map event_record fs) (h ∷ d)) in
-    let once = event_once f (flat_map event_record es ++ g ∷ b) k (flat_map event_record fs ++ h ∷ d) (fits 0 f (omega arith)) (good 0 k (omega arith)) split in
-    let rest = records_apart es fs g b h d (λ i x lt. fits (suc i) x (omega arith)) (λ i x lt. good (suc i) x (omega arith)) stuck held once.1 in
-    ((λ i. once.0 i ∷ rest.0 i), rest.1)
+-- the first of each, where the bytes of both are the same
+pub first_once : (raised : Bool) (r : Record) (rs : List Record) (g : ℕ) (b : List ℕ) (s : Record) (ss : List Record) (h : ℕ) (d : List ℕ) → MayFollow raised r → MayFollow raised s
+    → flat_map record_bytes (r ∷ rs) ++ g ∷ b ≡ flat_map record_bytes (s ∷ ss) ++ h ∷ d → (r ≡ s) × (flat_map record_bytes rs ++ g ∷ b ≡ flat_map record_bytes ss ++ h ∷ d)
+first_once raised r rs g b s ss h d may might e =
+    record_once raised r (flat_map record_bytes rs ++ g ∷ b) s (flat_map record_bytes ss ++ h ∷ d) may might
+    (ap (λ (l : List ℕ). drop 1 l) (sym (append_assoc (record_bytes r) (flat_map record_bytes rs) (g ∷ b)) ∙ e ∙ append_assoc (record_bytes s) (flat_map record_bytes ss) (h ∷ d)))
+
+-- where the bytes end no record follows that may
+pub none_follows : (raised : Bool) (g : ℕ) (b : List ℕ) (s : Record) (ss : List Record) (h : ℕ) (d : List ℕ) → MayFollow raised s → Stuck raised (g ∷ b) → g ∷ b ≡ flat_map record_bytes (s ∷ ss) ++ h ∷ d → ⊥
+none_follows raised g b s ss h d may stuck e =
+    let more = records_more ss h d in
+    stuck s more.0 more.1 may (e ∙ append_assoc (record_bytes s) (flat_map record_bytes ss) (h ∷ d) ∙ ap (λ (l : List ℕ). record_bytes s ++ l) more.2)
+
+pub records_apart : (raised : Bool) (rs ss : List Record) (g : ℕ) (b : List ℕ) (h : ℕ) (d : List ℕ) → AreInOrder raised rs → AreInOrder raised ss → Stuck (is_raised_after raised rs) (g ∷ b) → Stuck (is_raised_after raised ss) (h ∷ d)
+    → flat_map record_bytes rs ++ g ∷ b ≡ flat_map record_bytes ss ++ h ∷ d → (rs ≡ ss) × (g ∷ b ≡ h ∷ d)
+records_apart raised [] [] g b h d fits good stuck held e = (refl, e)
+records_apart raised [] (s ∷ ss) g b h d fits good stuck held e = absurd (none_follows raised g b s ss h d good.0 stuck e)
+records_apart raised (r ∷ rs) [] g b h d fits good stuck held e = absurd (none_follows raised h d r rs g b fits.0 held (sym e))
+records_apart raised (r ∷ rs) (s ∷ ss) g b h d fits good stuck held e =
+    let first = first_once raised r rs g b s ss h d fits.0 good.0 e in
+    let rest = records_apart (is_raised_by raised r) rs ss g b h d fits.1
+    (subst (λ (t : Record). AreInOrder (is_raised_by raised t) ss) (sym first.0) good.1) stuck
+    (subst (λ (t : Record). Stuck (is_raised_after (is_raised_by raised t) ss) (h ∷ d)) (sym first.0) held) first.1 in
+    ((λ i. first.0 i ∷ rest.0 i), rest.1)
 
 -- a whole session, and then what is no record
-pub written_split : (plan : Plan) (voc : List ℕ) (es : List Event) (rest : List ℕ) → written plan voc es ++ rest ≡ MAGIC ++ 1 ∷ (session_tail plan voc ++ (flat_map event_record es ++ rest))
-written_split plan voc es rest = append_assoc (MAGIC ++ 1 ∷ session_tail plan voc) (flat_map event_record es) rest ∙ append_assoc MAGIC (1 ∷ session_tail plan voc) (flat_map event_record es ++ rest)
+pub written_split : (plan : Plan) (voc : List ℕ) (rs : List Record) (rest : List ℕ) → written plan voc rs ++ rest ≡ MAGIC ++ 1 ∷ (session_tail plan voc ++ (flat_map record_bytes rs ++ rest))
+written_split plan voc rs rest = append_assoc (MAGIC ++ 1 ∷ session_tail plan voc) (flat_map record_bytes rs) rest ∙ append_assoc MAGIC (1 ∷ session_tail plan voc) (flat_map record_bytes rs ++ rest)
 
-pub written_apart : (p : Plan) (v : List ℕ) (es : List Event) (q : Plan) (w : List ℕ) (fs : List Event) (g : ℕ) (b : List ℕ) (h : ℕ) (d : List ℕ) → IsStorableSession p v → IsStorableSession q w → All IsStorableEvent es → All IsStorableEvent fs → Stuck (g ∷ b) → Stuck (h ∷ d) → written p v es ++ g ∷ b ≡ written q w fs ++ h ∷ d → (p ≡ q) × (v ≡ w) × (es ≡ fs) × (g ∷ b ≡ h ∷ d)
-written_apart p v es q w fs g b h d short small fits good stuck held e =
-    let tails : session_tail p v ++ (flat_map event_record es ++ g ∷ b) ≡ session_tail q w ++ (flat_map event_record fs ++ h ∷ d) =
-    ap (λ (l : List ℕ). drop 9 l) (sym (written_split p v es (g ∷ b)) ∙ e ∙ written_split q w fs (h ∷ d)) in
-    let s = session_once p v (flat_map event_record es ++ g ∷ b) q w (flat_map event_record fs ++ h ∷ d) short small tails in
-    let r = records_apart es fs g b h d fits good stuck held s.2 in
+-- two sessions that the same bytes begin with
+pub sessions_once : (p : Plan) (v : List ℕ) (rs : List Record) (x : List ℕ) (q : Plan) (w : List ℕ) (ss : List Record) (y : List ℕ) → IsStorableSession p v → IsStorableSession q w → written p v rs ++ x ≡ written q w ss ++ y
+    → (p ≡ q) × (v ≡ w) × (flat_map record_bytes rs ++ x ≡ flat_map record_bytes ss ++ y)
+sessions_once p v rs x q w ss y short small e =
+    session_once p v (flat_map record_bytes rs ++ x) q w (flat_map record_bytes ss ++ y) short small (ap (λ (l : List ℕ). drop 9 l) (sym (written_split p v rs x) ∙ e ∙ written_split q w ss y))
+
+pub written_apart : (p : Plan) (v : List ℕ) (rs : List Record) (q : Plan) (w : List ℕ) (ss : List Record) (g : ℕ) (b : List ℕ) (h : ℕ) (d : List ℕ) → IsStorableSession p v → IsStorableSession q w → AreInOrder false rs → AreInOrder false ss
+    → Stuck (is_raised_after false rs) (g ∷ b) → Stuck (is_raised_after false ss) (h ∷ d) → written p v rs ++ g ∷ b ≡ written q w ss ++ h ∷ d → (p ≡ q) × (v ≡ w) × (rs ≡ ss) × (g ∷ b ≡ h ∷ d)
+written_apart p v rs q w ss g b h d short small fits good stuck held e =
+    let s = sessions_once p v rs (g ∷ b) q w ss (h ∷ d) short small e in
+    let r = records_apart false rs ss g b h d fits good stuck held s.2 in
     (s.0, s.1, r.0, r.1)
+
+-- no bytes are those of two sessions and their records
+pub records_once : (bytes : List ℕ) (p : Plan) (v : List ℕ) (rs : List Record) (q : Plan) (w : List ℕ) (ss : List Record) → HoldsRecords bytes p v rs → HoldsRecords bytes q w ss → (p ≡ q) × (v ≡ w) × (rs ≡ ss)
+records_once bytes p v rs q w ss one two =
+    let a = written_apart p v rs q w ss one.rest.gate one.rest.behind two.rest.gate two.rest.behind one.session two.session one.in_order two.in_order
+    (closed_stuck (is_raised_after false rs) one.rest.gate one.rest.behind one.rest.closed) (closed_stuck (is_raised_after false ss) two.rest.gate two.rest.behind two.rest.closed) (sym one.rest.is ∙ two.rest.is) in
+    (a.0, a.1, a.2)
 
 -- no bytes spell two sessions
 pub spells_once : (bytes : List ℕ) (p : Plan) (v : List ℕ) (es : List Event) (q : Plan) (w : List ℕ) (fs : List Event) → Spells bytes p v es → Spells bytes q w fs → (p ≡ q) × (v ≡ w) × (es ≡ fs)
 spells_once bytes p v es q w fs one two =
-    let a = written_apart p v es q w fs one.rest.gate one.rest.behind two.rest.gate two.rest.behind one.session two.session one.storable two.storable
-    (closed_stuck one.rest.gate one.rest.behind one.rest.closed) (closed_stuck two.rest.gate two.rest.behind two.rest.closed) (sym one.rest.is ∙ two.rest.is) in
-    (a.0, a.1, a.2)
+    let same = records_once bytes p v one.records q w two.records one.holds two.holds in
+    (same.0, same.1, sym one.are ∙ ap events_among same.2 ∙ two.are)

@@ -1,6 +1,6 @@
 //! Making a journal.
 
-ghost use Rattle.std.specs.Prelude.{◌≡◌, ◌≢◌, ◌<◌, ◌≤◌, ◌+◌, ◌^◌, ◌⊎◌, List, [], ◌∷◌, ◌++◌, ℕ, Some, None, IsTrue, IfOk, IfErr, IsErr, IsErrOf, IsSome, OnOk, length};
+ghost use Rattle.std.specs.Prelude.{◌≡◌, ◌≢◌, ◌<◌, ◌≤◌, ◌+◌, ◌^◌, ◌⊎◌, List, [], ◌∷◌, ◌++◌, ℕ, Some, None, IsTrue, IsFalse, IfOk, IfErr, IsErr, IsErrOf, IsSome, OnOk, length};
 ghost use Rattle.std.specs.Option.{ForSome, ForNone};
 ghost use Rattle.disk_model.specs.Disk.{Only, LeavesOnly, Rose, HasCause};
 ghost use Rattle.answer_journal.specs.Format.{MAGIC, plan_byte, session_tail};
@@ -34,6 +34,7 @@ pub fn create<D: Disk>(
     ensures durable { ForSome (D.content disk.new) (λ bytes. OnOk result (Only bytes (D.may_leave disk.new))) }
     ensures live { IfOk result (λ j. IsTrue j.live) }
     ensures records { IfOk result (λ j. j.records ≡ 1) }
+    ensures not_raised { IfOk result (λ j. IsFalse j.raised) }
 
     // A disk that tells goes on telling, and one that doesn't never begins to.
     ensures silent { ForNone (D.content disk.old) (D.content disk.new ≡ None) }
@@ -64,7 +65,7 @@ pub fn create<D: Disk>(
     let rest = session_bytes(alloc, plan, voc)?;
     empty(disk, head)?;
     add_record(disk, 8, &rest)?;
-    Ok(Journal::at(8 + rest.len() as u64, 1))
+    Ok(Journal::at(8 + rest.len() as u64, 1, false))
 }
 
 /// Makes a file with no session one that has the magic and a closed gate.

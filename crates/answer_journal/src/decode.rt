@@ -1,33 +1,32 @@
 //! Records, read from the bytes behind their gate.
 
-ghost use Rattle.std.specs.Prelude.{◌≡◌, ◌≢◌, ◌<◌, ◌≤◌, ◌^◌, ℕ, Bool, List, Option, ◌∷◌, ◌++◌, IfSome, IfNone, length};
+ghost use Rattle.std.specs.Prelude.{◌≡◌, ◌≢◌, ◌<◌, ◌≤◌, ◌^◌, ℕ, Bool, List, Option, [], ◌∷◌, ◌++◌, IfSome, IfNone, IsTrue, IsFalse, length};
 ghost use Rattle.assign.specs.declared.events.Plan.{Plan};
-ghost use Rattle.assign.specs.declared.events.Event.{Event};
-ghost use Rattle.answer_journal.specs.Storable.{IsStorableSession, IsStorable, IsStorableEvent};
-ghost use Rattle.answer_journal.specs.Format.{tail_bytes, plan_byte, said_byte, answer_payload, session_tail, event_tail};
+ghost use Rattle.answer_journal.specs.Storable.{IsStorableSession, IsStorable};
+ghost use Rattle.answer_journal.specs.Format.{tail_bytes, plan_byte, said_byte, answer_payload, session_tail, kind_byte, record_payload, record_tail};
+ghost use Rattle.answer_journal.specs.Records.{MayFollow};
 ghost use Rattle.answer_journal.specs.Pairs.{options_at};
 
 use crate::encode::valued_count;
+use crate::record::Record;
 use assign::{Event, Partial, Plan};
 
 const MOST_VOCABULARY: usize = 4_194_304;
 
-/// The payload of a record of this kind, and what stands from the next gate on.
-fn payload_of(bytes: &[u8], kind: u8) -> Option<(&[u8], &[u8])>
-    ensures found { IfSome result (λ p. (length p.0.now < 2 ^ 32) × (bytes.now ≡ tail_bytes kind p.0.now ++ p.1.now) × (0 < length p.1.now)) }
-    ensures none { IfNone result ((payload : List ℕ) (gate : ℕ) (behind : List ℕ) → length payload < 2 ^ 32 → bytes.now ≡ tail_bytes kind payload ++ gate ∷ behind → ⊥) }
+/// The kind and the payload of a record, and what stands from the next gate on.
+fn parts_of(bytes: &[u8]) -> Option<(u8, &[u8], &[u8])>
+    ensures found { IfSome result (λ p. (length p.1.now < 2 ^ 32) × (bytes.now ≡ tail_bytes p.0 p.1.now ++ p.2.now) × (0 < length p.2.now)) }
+    ensures none { IfNone result ((kind : ℕ) (payload : List ℕ) (gate : ℕ) (behind : List ℕ) → length payload < 2 ^ 32 → bytes.now ≡ tail_bytes kind payload ++ gate ∷ behind → ⊥) }
 {
-    let [found, a, b, c, d, rest @ ..] = bytes else {
+    let [kind, a, b, c, d, rest @ ..] = bytes else {
         return None;
     };
-    if *found != kind {
-        return None;
-    }
     let size = u32::from_be_bytes([*a, *b, *c, *d]) as usize;
     if size >= rest.len() {
         return None;
     }
-    Some(rest.split_at(size))
+    let (payload, rest) = rest.split_at(size);
+    Some((*kind, payload, rest))
 }
 
 /// The question that these pairs spell.
@@ -84,14 +83,58 @@ fn said_of(byte: u8) -> Option<bool>
     }
 }
 
-/// The event that begins here behind its gate, and what stands from the next gate on.
-pub(crate) fn event_of(bytes: &[u8]) -> Option<(Event, &[u8])>
-    ensures found { IfSome result (λ p. IsStorableEvent p.0 × (bytes.now ≡ event_tail p.0 ++ p.1.now) × (0 < length p.1.now)) }
-    ensures none { IfNone result ((e : Event) (gate : ℕ) (behind : List ℕ) → IsStorableEvent e → bytes.now ≡ event_tail e ++ gate ∷ behind → ⊥) }
+/// A take-back, where the journal is raised and the payload is empty.
+fn back_of(payload: &[u8], raised: bool) -> Option<Record>
+    ensures found { IfSome result (λ r. (r ≡ Record.Added Event.Back) × IsTrue raised × (payload.now ≡ [])) }
+    ensures none { IfNone result (IsTrue raised → payload.now ≡ [] → ⊥) }
 {
-    let (payload, rest) = payload_of(bytes, b'A')?;
-    let (question, yes) = answer_of(payload)?;
-    Some((Event::Answer { question, yes }, rest))
+    if raised && payload.is_empty() {
+        Some(Record::Added(Event::Back))
+    } else {
+        None
+    }
+}
+
+/// What raises a journal, where it isn't raised and the payload is one byte 2.
+fn raising_of(payload: &[u8], raised: bool) -> Option<Record>
+    ensures found { IfSome result (λ r. (r ≡ Record.Raising) × IsFalse raised × (payload.now ≡ 2 ∷ [])) }
+    ensures none { IfNone result (IsFalse raised → payload.now ≡ 2 ∷ [] → ⊥) }
+{
+    let [byte] = payload else {
+        return None;
+    };
+    if raised || *byte != 2 {
+        None
+    } else {
+        Some(Record::Raising)
+    }
+}
+
+/// The record that a kind and a payload spell, where the journal is raised or where it isn't.
+fn record_in(kind: u8, payload: &[u8], raised: bool) -> Option<Record>
+    ensures found { IfSome result (λ r. MayFollow raised r × (kind ≡ kind_byte r) × (payload.now ≡ record_payload r)) }
+    ensures none { IfNone result ((r : Record) → MayFollow raised r → kind ≡ kind_byte r → payload.now ≡ record_payload r → ⊥) }
+{
+    match kind {
+        b'A' => {
+            let (question, yes) = answer_of(payload)?;
+            Some(Record::Added(Event::Answer { question, yes }))
+        }
+        b'B' => back_of(payload, raised),
+        b'U' => raising_of(payload, raised),
+        _ => None,
+    }
+}
+
+/// The record that begins here behind its gate, where the journal is raised or where it isn't, and what stands from the next
+/// gate on.
+pub(crate) fn record_of(bytes: &[u8], raised: bool) -> Option<(Record, &[u8])>
+    ensures found { IfSome result (λ p. MayFollow raised p.0 × (bytes.now ≡ record_tail p.0 ++ p.1.now) × (0 < length p.1.now)) }
+    ensures none { IfNone result ((r : Record) (gate : ℕ) (behind : List ℕ) → MayFollow raised r → bytes.now ≡ record_tail r ++ gate ∷ behind → ⊥) }
+{
+    let (kind, payload, rest) = parts_of(bytes)?;
+    let record = record_in(kind, payload, raised)?;
+    Some((record, rest))
 }
 
 /// The plan and the vocabulary that begin here behind their gate, and what stands from the next gate on.
@@ -99,7 +142,10 @@ pub(crate) fn session_of(bytes: &[u8]) -> Option<(Plan, &[u8], &[u8])>
     ensures found { IfSome result (λ p. (IsStorableSession p.0 p.1.now) × (bytes.now ≡ session_tail p.0 p.1.now ++ p.2.now) × (0 < length p.2.now)) }
     ensures none { IfNone result ((plan : Plan) (voc : List ℕ) (gate : ℕ) (behind : List ℕ) → IsStorableSession plan voc → bytes.now ≡ session_tail plan voc ++ gate ∷ behind → ⊥) }
 {
-    let (payload, rest) = payload_of(bytes, b'S')?;
+    let (kind, payload, rest) = parts_of(bytes)?;
+    if kind != b'S' {
+        return None;
+    }
     let [plan, voc @ ..] = payload else {
         return None;
     };

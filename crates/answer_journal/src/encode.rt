@@ -1,25 +1,40 @@
-//! The bytes of an event, in a buffer of a fixed size.
+//! The bytes of a record, in a buffer of a fixed size.
 
-ghost use Rattle.std.specs.Prelude.{◌≡◌, ◌≤◌, ◌+◌, ◌*◌, [], ◌∷◌, ◌++◌, length};
+ghost use Rattle.std.specs.Prelude.{◌≡◌, ◌≤◌, ◌+◌, ◌*◌, [], ◌∷◌, ◌++◌, Bool, length};
 ghost use Rattle.arrayvec.specs.ArrayVec.{array_vec_len};
-ghost use Rattle.answer_journal.specs.Storable.{IsStorable, IsStorableEvent};
-ghost use Rattle.answer_journal.specs.Format.{valued_count, pairs_from, tail_bytes, answer_payload, event_tail};
+ghost use Rattle.answer_journal.specs.Storable.{IsStorable};
+ghost use Rattle.answer_journal.specs.Format.{valued_count, pairs_from, tail_bytes, answer_payload, record_tail};
+ghost use Rattle.answer_journal.specs.Records.{MayFollow};
 
+use crate::record::Record;
 use arrayvec::ArrayVec;
 use assign::{Event, Partial};
 
-/// The longest record of an event behind its gate, and a gate for the next.
+/// The longest record behind that of the session, without its gate and with a gate for the next.
 pub(crate) const LONGEST: usize = 264;
 
-/// The record of an event behind its gate, and a closed gate for the next.
-#[tactic(auto, unfolding(crate::specs::Format::event_tail))]
-pub(crate) fn encode(event: &Event) -> ArrayVec<u8, LONGEST>
-    requires { IsStorableEvent event.now }
-    ensures { result.items ≡ event_tail event.now ++ 0 ∷ [] }
+/// A record behind its gate, and a closed gate for the next.
+#[tactic(auto, unfolding(crate::specs::Format::record_tail))]
+pub(crate) fn encode(next: &Record) -> ArrayVec<u8, LONGEST>
+    requires { (raised : Bool) × MayFollow raised next.now }
+    ensures { result.items ≡ record_tail next.now ++ 0 ∷ [] }
 {
-    match event {
-        Event::Answer { question, yes } => encode_answer(question, *yes),
+    match next {
+        Record::Added(Event::Answer { question, yes }) => encode_answer(question, *yes),
+        Record::Added(Event::Back) => these(&[b'B', 0, 0, 0, 0, 0]),
+        Record::Raising => these(&[b'U', 0, 0, 0, 1, 2, 0]),
     }
+}
+
+fn these(bytes: &[u8]) -> ArrayVec<u8, LONGEST>
+    requires { length bytes.now ≤ 264 }
+    ensures { result.items ≡ bytes.now }
+{
+    let mut out = ArrayVec::new();
+    for byte in bytes {
+        out.push(*byte);
+    }
+    out
 }
 
 fn encode_answer(question: &Partial, yes: bool) -> ArrayVec<u8, LONGEST>

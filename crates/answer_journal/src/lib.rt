@@ -19,6 +19,7 @@ mod journal;
 mod laws;
 mod opening;
 mod pieces;
+mod record;
 mod steps;
 
 pub use creating::create;

@@ -70,10 +70,10 @@ pub fn open<D: Disk>(alloc: Global, disk: &mut D) -> Result<Opened, JFault>
     };
     let start = 9 + (count - rest.len()) as u64;
     let voc = voc.to_vec(alloc)?;
-    let (events, at) = events_of(alloc, disk, start, &mut buffer)?;
+    let (events, raised, at) = events_of(alloc, disk, start, &mut buffer)?;
     let records = events.len() as u32 + 1;
     Ok(Opened {
-        journal: Journal::at(at, records),
+        journal: Journal::at(at, records, raised),
         plan,
         voc,
         events,

@@ -3,13 +3,13 @@
 ghost use Rattle.std.specs.Prelude.{◌≡◌, ◌<◌, ◌≤◌, ◌+◌, ◌^◌, ◌++◌, ◌⊎◌, [], List, ℕ, Some, None, IsTrue, IsFalse, IsErrOf, length, drop, flat_map, All, IfOk, IfErr, OnOk, MatchResult};
 ghost use Rattle.std.specs.Option.{ForSome};
 ghost use Rattle.disk_model.specs.Disk.{Rose};
-ghost use Rattle.answer_journal.specs.Format.{event_record};
-ghost use Rattle.answer_journal.specs.Storable.{IsStorableEvent};
 ghost use Rattle.answer_journal.specs.Steps.{IsOnlyRead};
-ghost use Rattle.answer_journal.specs.Found.{HasEvents, BeginsWith, EventsRefused, gate_reached, IsReached, IsProgress};
+ghost use Rattle.answer_journal.specs.Records.{with_record, is_raised_by};
+ghost use Rattle.answer_journal.specs.Found.{IsRead, WereRead, HasEvents, BeginsWith, EventsRefused, gate_reached, IsReached, IsProgress};
 
-use crate::decode::event_of;
+use crate::decode::record_of;
 use crate::encode::LONGEST;
+use crate::record::Record;
 use crate::{JFault, MOST_RECORDS};
 use assign::Event;
 use disk_model::Disk;
@@ -24,56 +24,53 @@ pub(crate) enum Reached {
     Further(u64),
 }
 
-/// The events that stand from the gate at `start` on, and the place of the closed gate behind them. The buffer takes a
-/// piece at a time.
+/// The events that stand from the gate at `start` on, whether the journal is raised among them, and the place of the closed
+/// gate behind them. The buffer takes a piece at a time.
 pub(crate) fn events_of<D: Disk>(
     alloc: Global,
     disk: &mut D,
     start: u64,
     buffer: &mut [u8],
-) -> Result<(Vec<Event>, u64), JFault>
+) -> Result<(Vec<Event>, bool, u64), JFault>
     requires wide { 264 < length buffer.old }
     requires near { start < 2 ^ 62 }
     requires within { ForSome (D.content disk.old) (λ bytes. start < length bytes) }
-    ensures found { ForSome (D.content disk.old) (λ bytes. IfOk result (λ found. HasEvents (drop start bytes) found.0.items)) }
+    ensures found { ForSome (D.content disk.old) (λ bytes. IfOk result (λ found. HasEvents start found.2 found.0.items found.1 (drop start bytes))) }
     ensures refused { ForSome (D.content disk.old) (λ bytes. IfErr result (λ e. (e ≡ JFault.DiskFault) ⊎ EventsRefused start (drop start bytes) e)) }
     ensures some_bytes { IfErr result (λ e. (e ≡ JFault.DiskFault) ⊎ ((bytes : List ℕ) × EventsRefused start bytes e)) }
-    ensures place { IfOk result (λ found. found.1 ≡ start + length (flat_map event_record found.0.items)) }
-    ensures storable { IfOk result (λ found. All IsStorableEvent found.0.items) }
-    ensures few { IfOk result (λ found. length found.0.items < 1000000) }
+    ensures read { IfOk result (λ found. WereRead start found.2 found.0.items found.1) }
     ensures failed { IsErrOf result JFault.DiskFault → Rose (D.faults disk.old) (D.faults disk.new) }
     ensures later { D.faults disk.old ≤ D.faults disk.new }
     ensures only_read { IsOnlyRead D.content D.may_leave D.moment D.left_since disk.old disk.new }
 {
     let mut events = Vec::new(alloc);
+    let mut raised = false;
     let mut at = start;
     'pieces: loop {
         let count = disk.read(at, buffer)?;
         let is_last = count < buffer.len();
-        match events_in(&buffer[..count], is_last, at, &mut events)? {
-            Reached::Closed(place) => return Ok((events, place)),
+        match events_in(&buffer[..count], is_last, at, &mut events, &mut raised)? {
+            Reached::Closed(place) => return Ok((events, raised, place)),
             Reached::Further(place) => at = place,
         }
     }
 }
 
 /// Adds the events of a piece that begins with the gate at `at`, up to a closed gate or to one whose record may not be
-/// whole in the piece. The last piece goes to the end of the file.
+/// whole in the piece, and notes whether the journal is raised among them. The last piece goes to the end of the file.
 fn events_in(
     piece: &[u8],
     is_last: bool,
     at: u64,
     events: &mut Vec<Event>,
+    raised: &mut bool,
 ) -> Result<Reached, JFault>
     requires near { at < 2 ^ 63 }
-    requires storable { All IsStorableEvent events.old.items }
     requires few { length events.old.items < 1000000 }
-    ensures read { (bytes more : List ℕ) (start : ℕ) → BeginsWith bytes events.old.items (piece.now ++ more) → (IsTrue is_last → more ≡ []) → at ≡ start + length (flat_map event_record events.old.items) → MatchResult result (IsReached bytes events.new.items) (EventsRefused start bytes) }
-    ensures some_bytes { (start : ℕ) → at ≡ start + length (flat_map event_record events.old.items) → IfErr result (λ e. (bytes : List ℕ) × EventsRefused start bytes e) }
-    ensures place { IfOk result (λ reached. gate_reached reached + length (flat_map event_record events.old.items) ≡ at + length (flat_map event_record events.new.items)) }
-    ensures storable { OnOk result (All IsStorableEvent events.new.items) }
+    ensures read { (bytes more : List ℕ) (start : ℕ) (records : List Record) → IsRead records start at events.old.items raised.old → BeginsWith bytes records (piece.now ++ more) → (IsTrue is_last → more ≡ []) → MatchResult result (IsReached start events.new.items raised.new bytes) (EventsRefused start bytes) }
+    ensures some_bytes { (start : ℕ) (records : List Record) → IsRead records start at events.old.items raised.old → MatchResult result (λ reached. WereRead start (gate_reached reached) events.new.items raised.new) (λ e. (bytes : List ℕ) × EventsRefused start bytes e) }
     ensures few { OnOk result (length events.new.items < 1000000) }
-    ensures progress { (IsFalse is_last → 264 < length piece.now) → IfOk result (IsProgress (length events.old.items) (length events.new.items)) }
+    ensures progress { (IsFalse is_last → 264 < length piece.now) → IfOk result (IsProgress at) }
     ensures undisturbed { IfErr result (λ e. e ≡ JFault.DiskFault → ⊥) }
 {
     let mut rest = piece;
@@ -85,14 +82,35 @@ fn events_in(
         if *gate != 1 {
             return Ok(Reached::Closed(place));
         }
-        let Some((event, after)) = event_of(behind) else {
+        let Some((next, after)) = record_of(behind, *raised) else {
             return Err(JFault::Damaged(place));
         };
-        events.push(event)?;
+        note(next, events, raised)?;
         rest = after;
-        if events.len() >= MOST_RECORDS as usize {
-            return Err(JFault::TooManyRecords);
-        }
     }
     Ok(Reached::Further(at + (piece.len() - rest.len()) as u64))
+}
+
+/// Notes what a record says.
+fn note(next: Record, events: &mut Vec<Event>, raised: &mut bool) -> Result<(), JFault>
+    requires few { length events.old.items < 1000000 }
+    ensures events { OnOk result (events.new.items ≡ with_record events.old.items next) }
+    ensures raised { OnOk result (raised.new ≡ is_raised_by raised.old next) }
+    ensures few { OnOk result (length events.new.items < 1000000) }
+    ensures refused { IfErr result (λ e. (e ≡ JFault.Memory) ⊎ ((e ≡ JFault.TooManyRecords) × (1000000 ≤ length (with_record events.old.items next)))) }
+{
+    match next {
+        Record::Added(event) => {
+            events.push(event)?;
+            if events.len() < MOST_RECORDS as usize {
+                Ok(())
+            } else {
+                Err(JFault::TooManyRecords)
+            }
+        }
+        Record::Raising => {
+            *raised = true;
+            Ok(())
+        }
+    }
 }

@@ -15,11 +15,16 @@ pub(crate) const VOCABULARY: &[u8] =
 const FRONT: &[u8] = b"QUACQJ1\n\x01S\x00\x00\x00\xa9\x02";
 
 /// The record of the answer yes to `a=1 b=2`, from its gate on.
-const ANSWER: &[u8] = &[1, 0x41, 0, 0, 0, 6, 1, 2, 0, 0, 1, 1];
+pub(crate) const ANSWER: &[u8] = &[1, 0x41, 0, 0, 0, 6, 1, 2, 0, 0, 1, 1];
+
+/// The record that raises a journal, and that of a take-back.
+pub(crate) const RAISING: &[u8] = &[1, 0x55, 0, 0, 0, 1, 2];
+
+pub(crate) const BACK: &[u8] = &[1, 0x42, 0, 0, 0, 0];
 
 const ROOM: Room = Room {
     bytes: 1000,
-    calls: 20,
+    calls: 40,
 };
 
 /// A disk of these bytes, whose calls of these numbers fail.
@@ -49,6 +54,16 @@ pub(crate) fn worked_file(alloc: Global, answers: u32) -> Result<Vec<u8>, AllocE
     for _ in 0..answers {
         bytes.extend_from_slice(ANSWER)?;
     }
+    bytes.push(0)?;
+    Ok(bytes)
+}
+
+/// The worked journal with one answer, raised, with the answer taken back.
+pub(crate) fn raised_file(alloc: Global) -> Result<Vec<u8>, AllocError> {
+    let mut bytes = worked_file(alloc, 1)?;
+    bytes.pop();
+    bytes.extend_from_slice(RAISING)?;
+    bytes.extend_from_slice(BACK)?;
     bytes.push(0)?;
     Ok(bytes)
 }

@@ -1,8 +1,8 @@
 //! Journals: the worked file, cut and changed in each byte; calls that fail in turn, and crashes.
 
-ghost use Rattle.answer_journal.specs.Storable.{IsStorableEvent};
+ghost use Rattle.answer_journal.specs.Storable.{IsStorable};
 
-use crate::files::{VOCABULARY, disk_with, worked_file};
+use crate::files::{ANSWER, BACK, RAISING, VOCABULARY, disk_with, raised_file, worked_file};
 use answer_journal::{JFault, Journal, Opened, create, open};
 use assign::{Event, Partial, Plan};
 use disk_model::{Disk, FuseDisk};
@@ -15,24 +15,32 @@ use std::test::Fail;
 #[derive(Clone, Copy, Debug, PartialEq, Eq)]
 enum Reads {
     Refused(JFault),
-    /// So many events are there.
+    /// So many events are there, and the journal isn't raised.
     Events(usize),
+    /// So many events are there, and it is.
+    Raised(usize),
 }
 
 fn reads_of(read: &Result<Opened, JFault>) -> Reads {
     match read {
-        Ok(opened) => Reads::Events(opened.events.len()),
+        Ok(opened) => {
+            if opened.journal.is_raised() {
+                Reads::Raised(opened.events.len())
+            } else {
+                Reads::Events(opened.events.len())
+            }
+        }
         Err(fault) => Reads::Refused(*fault),
     }
 }
 
-fn answer(yes: bool) -> Event
-    ensures { IsStorableEvent result }
+fn question() -> Partial
+    ensures { IsStorable result }
 {
     let mut question = Partial::blank(128);
     question.set(0, 0);
     question.set(1, 1);
-    Event::Answer { question, yes }
+    question
 }
 
 #[test]
@@ -42,7 +50,10 @@ fn the_worked_bytes(rt: HostRuntime) -> Result<(), Fail> {
     let mut journal = create(alloc, &mut disk, Plan::Quacq, VOCABULARY)?;
     assert_eq!(rt; disk.content(), worked_file(alloc, 0)?.as_slice());
     assert_eq!(rt; disk.content().len(), 184);
-    let event = answer(true);
+    let event = Event::Answer {
+        question: question(),
+        yes: true,
+    };
     journal.append(&mut disk, &event)?;
     assert_eq!(rt; disk.content(), worked_file(alloc, 1)?.as_slice());
     assert_eq!(rt; disk.content().len(), 196);
@@ -51,15 +62,41 @@ fn the_worked_bytes(rt: HostRuntime) -> Result<(), Fail> {
     assert_eq!(rt; opened.plan, Plan::Quacq);
     assert_eq!(rt; opened.voc.as_slice(), VOCABULARY);
     assert_eq!(rt; opened.events.as_slice(), [event].as_slice());
+    assert!(rt; !opened.journal.is_raised());
     Ok(())
 }
 
-/// The worked file cut to each length from the first to the last number.
-static CUTS: [(usize, usize, Reads); 4] = [
+#[test]
+fn the_worked_bytes_raised(rt: HostRuntime) -> Result<(), Fail> {
+    let alloc = rt.alloc();
+    let mut disk = disk_with(&rt, alloc, &[])?;
+    let mut journal = create(alloc, &mut disk, Plan::Quacq, VOCABULARY)?;
+    let event = Event::Answer {
+        question: question(),
+        yes: true,
+    };
+    journal.append(&mut disk, &event)?;
+    journal.raise(&mut disk)?;
+    assert_eq!(rt; journal.records(), 2);
+    journal.append(&mut disk, &Event::Back)?;
+    assert_eq!(rt; journal.records(), 3);
+    assert_eq!(rt; disk.content(), raised_file(alloc)?.as_slice());
+    assert_eq!(rt; disk.content().len(), 209);
+    let opened = open(alloc, &mut disk)?;
+    assert_eq!(rt; opened.journal.records(), 3);
+    assert_eq!(rt; opened.events.as_slice(), [event, Event::Back].as_slice());
+    assert!(rt; opened.journal.is_raised());
+    Ok(())
+}
+
+/// The worked file, raised, with its answer taken back, cut to each length from the first to the last number.
+static CUTS: [(usize, usize, Reads); 6] = [
     (0, 9, Reads::Refused(JFault::NoSession)),
     (10, 183, Reads::Refused(JFault::Damaged(8))),
     (184, 195, Reads::Refused(JFault::Damaged(183))),
-    (196, 196, Reads::Events(1)),
+    (196, 202, Reads::Refused(JFault::Damaged(195))),
+    (203, 208, Reads::Refused(JFault::Damaged(202))),
+    (209, 209, Reads::Raised(2)),
 ];
 
 #[test]
@@ -67,7 +104,7 @@ fn each_cut_of_the_worked_file(rt: HostRuntime) -> Result<(), Fail> {
     let alloc = rt.alloc();
     for (first, last, wanted) in &CUTS {
         for size in *first..=*last {
-            let mut bytes = worked_file(alloc, 1)?;
+            let mut bytes = raised_file(alloc)?;
             bytes.truncate(size);
             let mut disk = disk_with(&rt, alloc, &bytes)?;
             assert_eq!(rt; reads_of(&open(alloc, &mut disk)), *wanted, "cut to {size}");
@@ -129,7 +166,9 @@ fn check_session(rt: &impl Abort, bytes: &[u8], opened: &Opened) {
     assert_eq!(rt; opened.plan == Plan::Multi, bytes[14] == 3);
     assert_eq!(rt; Some(opened.voc.as_slice()), bytes.get(15..voc_end));
     for event in &opened.events {
-        let Event::Answer { question, yes } = event;
+        let Event::Answer { question, yes } = event else {
+            continue;
+        };
         assert_eq!(rt; question.len(), 128);
         assert_eq!(rt; question.vars().len(), 2);
         assert_eq!(rt; question.get(bytes[191]), Some(bytes[192]));
@@ -180,25 +219,112 @@ fn each_change_in_the_record_of_an_answer(rt: HostRuntime) -> Result<(), Fail> {
     check_changes(&rt, rt.alloc(), 183..196, &ANSWER_CHANGES)
 }
 
-/// Makes a journal with a short vocabulary, and adds two answers.
+/// A session with a short vocabulary, the record from its gate on. It ends in front of byte 18.
+const SESSION: &[u8] = b"QUACQJ1\n\x01S\x00\x00\x00\x04\x02voc";
+
+const MAGIC: &[u8] = b"QUACQJ1\n";
+
+const CLOSED: &[u8] = &[0];
+
+/// The parts of a file, and how it opens: what raises a journal stands once, with its payload, behind the session, and
+/// take-backs stand behind it, without a payload.
+static RAISINGS: [(&[&[u8]], Reads); 13] = [
+    (&[SESSION, RAISING, CLOSED], Reads::Raised(0)),
+    (&[SESSION, RAISING, BACK, CLOSED], Reads::Raised(1)),
+    (
+        &[SESSION, ANSWER, RAISING, BACK, ANSWER, BACK, CLOSED],
+        Reads::Raised(4),
+    ),
+    (
+        &[SESSION, BACK, CLOSED],
+        Reads::Refused(JFault::Damaged(18)),
+    ),
+    (
+        &[SESSION, ANSWER, BACK, RAISING, CLOSED],
+        Reads::Refused(JFault::Damaged(30)),
+    ),
+    (
+        &[SESSION, RAISING, RAISING, CLOSED],
+        Reads::Refused(JFault::Damaged(25)),
+    ),
+    (
+        &[SESSION, RAISING, BACK, RAISING, CLOSED],
+        Reads::Refused(JFault::Damaged(31)),
+    ),
+    (
+        &[SESSION, b"\x01U\x00\x00\x00\x01\x01", CLOSED],
+        Reads::Refused(JFault::Damaged(18)),
+    ),
+    (
+        &[SESSION, b"\x01U\x00\x00\x00\x00", CLOSED],
+        Reads::Refused(JFault::Damaged(18)),
+    ),
+    (
+        &[SESSION, b"\x01U\x00\x00\x00\x02\x02\x02", CLOSED],
+        Reads::Refused(JFault::Damaged(18)),
+    ),
+    (
+        &[SESSION, RAISING, b"\x01B\x00\x00\x00\x01\x00", CLOSED],
+        Reads::Refused(JFault::Damaged(25)),
+    ),
+    (
+        &[MAGIC, RAISING, CLOSED],
+        Reads::Refused(JFault::Damaged(8)),
+    ),
+    (&[MAGIC, BACK, CLOSED], Reads::Refused(JFault::Damaged(8))),
+];
+
+#[test]
+fn a_journal_is_raised_once_and_then_takes_back(rt: HostRuntime) -> Result<(), Fail> {
+    let alloc = rt.alloc();
+    for (parts, wanted) in &RAISINGS {
+        let mut bytes = Vec::new(alloc);
+        for part in *parts {
+            bytes.extend_from_slice(part)?;
+        }
+        let mut disk = disk_with(&rt, alloc, &bytes)?;
+        assert_eq!(rt; reads_of(&open(alloc, &mut disk)), *wanted, "{bytes:?}");
+    }
+    Ok(())
+}
+
+/// Makes a journal with a short vocabulary, adds two answers, raises it, and takes an answer back.
 fn make<D: Disk>(alloc: Global, disk: &mut D) -> Result<Journal, JFault> {
     let mut journal = create(alloc, disk, Plan::Scopes, b"voc")?;
-    journal.append(disk, &answer(true))?;
-    journal.append(disk, &answer(false))?;
+    let question = question();
+    journal.append(
+        disk,
+        &Event::Answer {
+            question,
+            yes: true,
+        },
+    )?;
+    journal.append(
+        disk,
+        &Event::Answer {
+            question,
+            yes: false,
+        },
+    )?;
+    journal.raise(disk)?;
+    journal.append(disk, &Event::Back)?;
     Ok(journal)
 }
 
 /// So many calls to the disk pass, from the first to the last number, and then each fails: whether that much is
-/// acknowledged, and how the file opens. Making takes eight calls on an empty file, and an answer takes four.
-static PASSES: [(u32, u32, bool, Reads); 8] = [
+/// acknowledged, and how the file opens. Making takes eight calls on an empty file, and each event and the raising take four.
+static PASSES: [(u32, u32, bool, Reads); 11] = [
     (0, 6, false, Reads::Refused(JFault::NoSession)),
     (7, 7, false, Reads::Events(0)),
     (8, 10, false, Reads::Events(0)),
     (11, 11, false, Reads::Events(1)),
     (12, 14, false, Reads::Events(1)),
     (15, 15, false, Reads::Events(2)),
-    (16, 16, true, Reads::Events(2)),
-    (17, 18, true, Reads::Events(2)),
+    (16, 18, false, Reads::Events(2)),
+    (19, 19, false, Reads::Raised(2)),
+    (20, 22, false, Reads::Raised(2)),
+    (23, 23, false, Reads::Raised(3)),
+    (24, 26, true, Reads::Raised(3)),
 ];
 
 #[test]
@@ -221,15 +347,19 @@ fn each_failing_call(rt: HostRuntime) -> Result<(), Fail> {
 }
 
 /// From the first to the last of these moments a crash leaves one of these, and each of them is left by some. Making is
-/// acknowledged at moment 7, the answers are at 11 and 15.
-static LEFT: [(usize, usize, &[Reads]); 7] = [
+/// acknowledged at moment 7, the answers are at 11 and 15, the raising is at 19, and the take-back at 23.
+static LEFT: [(usize, usize, &[Reads]); 11] = [
     (0, 5, &[Reads::Refused(JFault::NoSession)]),
     (6, 6, &[Reads::Refused(JFault::NoSession), Reads::Events(0)]),
     (7, 9, &[Reads::Events(0)]),
     (10, 10, &[Reads::Events(0), Reads::Events(1)]),
     (11, 13, &[Reads::Events(1)]),
     (14, 14, &[Reads::Events(1), Reads::Events(2)]),
-    (15, 15, &[Reads::Events(2)]),
+    (15, 17, &[Reads::Events(2)]),
+    (18, 18, &[Reads::Events(2), Reads::Raised(2)]),
+    (19, 21, &[Reads::Raised(2)]),
+    (22, 22, &[Reads::Raised(2), Reads::Raised(3)]),
+    (23, 23, &[Reads::Raised(3)]),
 ];
 
 #[test]
@@ -237,7 +367,7 @@ fn each_crash(rt: HostRuntime) -> Result<(), Fail> {
     let alloc = rt.alloc();
     let mut disk = disk_with(&rt, alloc, &[])?;
     make(alloc, &mut disk)?;
-    assert_eq!(rt; disk.moments(), 15);
+    assert_eq!(rt; disk.moments(), 23);
     for (first, last, wanted) in &LEFT {
         for moment in *first..=*last {
             let mut found = Vec::new(alloc);
@@ -324,7 +454,12 @@ fn the_longest_answer(rt: HostRuntime) -> Result<(), Fail> {
     let Some(event) = opened.events.pop() else {
         return Ok(());
     };
-    opened.journal.append(&mut disk, &event)?;
+    let Event::Answer { question, yes } = event else {
+        return Ok(());
+    };
+    opened
+        .journal
+        .append(&mut disk, &Event::Answer { question, yes })?;
     bytes.pop();
     bytes.extend_from_slice(&record)?;
     bytes.push(0)?;

@@ -1,4 +1,4 @@
-use Rattle.std.proofs.Common.{◌≡◌, ◌+◌, ◌∷◌, ◌++◌, ◌∙◌, [], ℕ, Some, length, take, ap, sym, subst, List, inl, inr, arith, length-append}
+use Rattle.std.proofs.Common.{◌≡◌, ◌+◌, ◌∷◌, ◌++◌, ◌∙◌, [], ℕ, Some, length, take, ap, subst, List, inl, inr, arith, length-append}
 use Rattle.disk_model.specs.Disk.{Only, LeavesOnly}
 use Rattle.disk_model.specs.Moments.{joined}
 use Rattle.answer_journal.specs.Format.{session_tail}
@@ -39,9 +39,12 @@ pub returns-clause-sits : goal.returns-clause-sits
 returns-clause-sits g c x told_new =
     let was_mid = told_before _ _ c.add_record.ensures.silent x told_new in
     let was = told_before _ _ c.empty.ensures.silent was_mid.0 was_mid.1 in
-    let s = returns-clause-created g c was.0 (sym c.head_of.ensures.only_read.same ∙ was.1) in
+    let s = c.in_ok-empty.ensures.emptied was.0 was.1 in
+    let t = c.in_ok-add_record.ensures.added s.now s.tells in
+    let rest_is : c.deref.result.now ≡ session_tail c.args.plan c.args.voc.now ++ 0 ∷ [] = c.deref.ensures.value ∙ c.in_ok-rest.ensures in
     let long : c.len.result ≡ length (session_tail c.args.plan c.args.voc.now ++ 0 ∷ []) = omega (arith, ap length c.in_ok-rest.ensures) in
-    subst (Sits c.at.result) (told_same _ s.now x s.tells told_new) (sits s.now c.args.plan c.args.voc.now c.at.result s.holds (c.at.ensures.place ∙ ap (λ (n : ℕ). 8 + n) long) c.at.ensures.records)
+    subst (Sits c.at.result) (told_same _ t.now x t.tells told_new)
+    (sits s.now t.now c.args.plan c.args.voc.now c.deref.result.now c.at.result (record { short = c.requires.short }) s.holds rest_is t.holds (c.at.ensures.place ∙ ap (λ (n : ℕ). 8 + n) long) c.at.ensures.records c.at.ensures.raised)
 
 pub returns-clause-durable : goal.returns-clause-durable
 returns-clause-durable g c x told_new =

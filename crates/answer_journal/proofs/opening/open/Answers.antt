@@ -1,12 +1,14 @@
-use Rattle.std.proofs.Common.{◌≡◌, ◌<◌, ◌≤◌, ◌⊎◌, ◌+◌, ◌-◌, ◌++◌, ◌∙◌, ℕ, List, length, drop, inl, inr, ⊎_elim, ap, sym, subst, arith, take_at}
+use Rattle.std.proofs.Common.{◌≡◌, ◌<◌, ◌≤◌, ◌⊎◌, ◌+◌, ◌-◌, ◌++◌, ◌∙◌, ℕ, List, false, All, length, drop, inl, inr, ⊎_elim, ap, sym, subst, arith, take_at}
 use Rattle.std.proofs.lemmas.Result.{err_from_is_err_and}
+use Rattle.answer_journal.specs.Storable.{IsStorableEvent}
 use Rattle.answer_journal.specs.Format.{session_tail}
 use Rattle.answer_journal.specs.Heads.{IsHead}
 use Rattle.answer_journal.specs.Journal.{Spells, ReadsAs, Session}
 use Rattle.answer_journal.specs.Found.{EventsRefused, HasEvents}
-use Rattle.answer_journal.proofs.Sizes.{events_size}
+use Rattle.answer_journal.proofs.Sizes.{read_size}
+use Rattle.answer_journal.proofs.RecordLists.{all_storable}
 use Rattle.answer_journal.proofs.OnlyRead.{read_more, then_read}
-use Rattle.answer_journal.proofs.WholeFile.{damaged_first, rest_is, spells, refused, place_is}
+use Rattle.answer_journal.proofs.WholeFile.{damaged_first, rest_is, spells, sits, refused}
 use Rattle.answer_journal.proofs.FirstPiece.{rest_within, none_first, start_is, spelled_first}
 use Rattle.answer_journal.proofs.SomeBytes.{foreign_somewhere, damaged_somewhere, begins_at, refused_somewhere, session_somewhere}
 use Rattle.answer_journal.proofs.opening.open.Goals as goal
@@ -54,13 +56,12 @@ pub at-requires-clause-near : goal.at-requires-clause-near
 at-requires-clause-near g c =
     omega (
       arith,
-      c.in_ok-events.ensures.place,
       c.in_ok-count.ensures.fits,
       c.deref_mut.ensures.len,
       c.in_ok-buffer.ensures.len,
       c.piece_size.ensures.few,
       c.len.ensures,
-      events_size c.in_ok-events.events.items c.in_ok-events.ensures.storable,
+      read_size c.in_ok-events.ensures.read.0 _ c.in_ok-events.at c.in_ok-events.events.items c.in_ok-events.raised c.in_ok-events.ensures.read.1,
     )
 
 pub returns-clause-opened : goal.returns-clause-opened
@@ -79,7 +80,8 @@ returns-clause-opened g c x told =
     let voc_is = c.in_ok-voc.ensures.items_if_clones_equal (λ a b same. same) in (
       o.0,
       subst (λ (l : List ℕ). Spells x c.in-Some.plan l events) (sym voc_is)
-          (spells x o.0 o.1 o.2 c.in-Some.plan c.in-Some.voc.now rest found.0 spelled events (subst (λ (l : List ℕ). HasEvents l events) (rest_is x o.0 o.1 o.2 c.in-Some.plan c.in-Some.voc.now rest found.0 spelled start begins) h)),
+          (spells x o.0 o.1 o.2 c.in-Some.plan c.in-Some.voc.now rest found.0 spelled start c.in_ok-events.at events c.in_ok-events.raised
+          (subst (HasEvents start c.in_ok-events.at events c.in_ok-events.raised) (rest_is x o.0 o.1 o.2 c.in-Some.plan c.in-Some.voc.now rest found.0 spelled start begins) h)),
     )
 
 pub returns-clause-sits : goal.returns-clause-sits
@@ -95,14 +97,18 @@ returns-clause-sits g c x told =
     let spelled : drop 9 x ≡ tail ++ rest = spelled_first x c.deref_mut.result.now c.deref.result.now c.in_ok-count.count t.0 (whole ∙ t.1) tail c.in-Some.rest.now found.1 in
     let events = c.in_ok-events.events.items in
     let h = c.in_ok-events.ensures.found x (c.read.ensures.same ∙ c.head_of.ensures.only_read.same ∙ told) in
-    record {
-      plan = c.in-Some.plan;
-      voc = c.in-Some.voc.now;
-      events = events;
-      spelled = spells x o.0 o.1 o.2 c.in-Some.plan c.in-Some.voc.now rest found.0 spelled events (subst (λ (l : List ℕ). HasEvents l events) (rest_is x o.0 o.1 o.2 c.in-Some.plan c.in-Some.voc.now rest found.0 spelled start begins) h);
-      gate = c.at.ensures.place ∙ place_is c.in-Some.plan c.in-Some.voc.now events start c.in_ok-events.at begins c.in_ok-events.ensures.place;
-      count = omega (arith, c.at.ensures.records, c.len.ensures);
-    }
+    sits x o.0 o.1 o.2 c.in-Some.plan c.in-Some.voc.now rest found.0 spelled start c.in_ok-events.at events c.in_ok-events.raised c.at.result begins
+    (subst (HasEvents start c.in_ok-events.at events c.in_ok-events.raised) (rest_is x o.0 o.1 o.2 c.in-Some.plan c.in-Some.voc.now rest found.0 spelled start begins) h)
+    c.at.ensures.place (omega (arith, c.at.ensures.records, c.len.ensures)) c.at.ensures.raised
+
+pub returns-clause-storable : goal.returns-clause-storable
+returns-clause-storable g c = let read = c.in_ok-events.ensures.read in subst (All IsStorableEvent) read.1.are (all_storable false read.0 read.1.in_order)
+
+pub returns-clause-any_moment : goal.returns-clause-any_moment
+returns-clause-any_moment g c =
+    let D = g.D.Disk in
+    let first = read_more D.content D.may_leave D.moment D.left_since c.args.disk.now c.head_of.new.disk c.read.new.self c.head_of.ensures.only_read c.read.ensures.same c.read.ensures.crash c.read.ensures.time in
+    (then_read D.content D.may_leave D.moment D.left_since c.args.disk.now c.read.new.self c.events_of.new.disk first c.events_of.ensures.only_read).any_moment
 
 pub returns-in-Foreign-clause-some_refusal : goal.returns-in-Foreign-clause-some_refusal
 returns-in-Foreign-clause-some_refusal g c = inr foreign_somewhere
@@ -127,4 +133,4 @@ returns-clause-some_session g c =
     let events = c.in_ok-events.events.items in
     let voc_is = c.in_ok-voc.ensures.items_if_clones_equal (λ a b same. same) in
     let Spelled : List ℕ → Type 0 = λ l. (bytes : List ℕ) × ReadsAs bytes (Session c.in-Some.plan l events) in
-    subst Spelled (sym voc_is) (session_somewhere c.in-Some.plan c.in-Some.voc.now events c.in-Some.ensures.found.0 c.in_ok-events.ensures.storable c.in_ok-events.ensures.few)
+    subst Spelled (sym voc_is) (session_somewhere c.in-Some.plan c.in-Some.voc.now _ c.in_ok-events.at events c.in_ok-events.raised c.in-Some.ensures.found.0 c.in_ok-events.ensures.read)

@@ -1,18 +1,15 @@
-use Rattle.std.proofs.Common.{◌≡◌, ◌≤◌, ◌<◌, ◌+◌, ◌++◌, ◌⊎◌, ℕ, List, length, All, flat_map}
-use Rattle.answer_journal.specs.Format.{MOST_RECORDS, event_record}
-use Rattle.answer_journal.specs.Storable.{IsStorableEvent}
-use Rattle.answer_journal.specs.Found.{BeginsWith}
+use Rattle.std.proofs.Common.{◌≤◌, ◌<◌, ◌+◌, ◌-◌, ℕ, List, length}
+use Rattle.answer_journal.specs.declared.record.Record.{Record}
+use Rattle.answer_journal.specs.Format.{MOST_RECORDS}
+use Rattle.answer_journal.specs.Found.{IsRead}
+use Rattle.answer_journal.proofs.RecordLoop.{Went}
 use Rattle.answer_journal.proofs.pieces.events_in.Given as goal
 
 abbrev pub invariant-records : goal.invariant-records
 invariant-records l = record {
-  read : (bytes more : List ℕ) → BeginsWith bytes l.initial.events.items (l.piece ++ more) → BeginsWith bytes l.events.items (l.rest ++ more);
-  storable : All IsStorableEvent l.events.items;
+  read : (start : ℕ) (records : List Record) → IsRead records start l.at l.initial.events.items l.initial.raised → Went start records l.piece l.rest (l.at + (length l.piece - length l.rest)) l.events.items l.raised;
   few : length l.events.items < MOST_RECORDS;
-  sizes : length (flat_map event_record l.events.items) + length l.rest ≡ length (flat_map event_record l.initial.events.items) + length l.piece;
   shorter : length l.rest ≤ length l.piece;
-  no_fewer : length l.initial.events.items ≤ length l.events.items;
-  progress : (l.rest ≡ l.piece) ⊎ (length l.initial.events.items < length l.events.items);
 }
 
 abbrev pub decreases-records : goal.decreases-records

@@ -1,7 +1,7 @@
 use Rattle.std.proofs.Common.{ℕ, ◌<◌, ◌≡◌, Option, Some, None, replicate, set, refl, arith}
 use Rattle.std.specs.Option.{ForSome}
 use Rattle.std.proofs.lemmas.List.Elements.{All-set, All-replicate}
-use Rattle.journal_trials.proofs.journals.answer.Goals as goal
+use Rattle.journal_trials.proofs.journals.question.Goals as goal
 
 abbrev Fits : Option ℕ → Type 0
 Fits o = ForSome o (λ x. x < 64)
