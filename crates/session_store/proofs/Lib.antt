@@ -1,6 +1,8 @@
 pub mod Asked
 pub mod Storables
 pub mod Replaying
+pub mod Recording
 pub mod Fronts
+pub mod Placing
 pub mod Vocabularies
 pub mod Stores

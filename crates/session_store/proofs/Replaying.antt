@@ -1,9 +1,9 @@
--- How a session is led through events.
-use Rattle.std.proofs.Common.{◌≡◌, ℕ, suc, ◌+◌, ◌<◌, ◌≤◌, Bool, true, false, cond, List, [], ◌∷◌, ◌++◌, length, get_or, take, drop, Option, Some, None, refl, sym, ◌∙◌, ap, subst, arith, length-take-le}
-use Rattle.std.proofs.lemmas.List.{drop_all}
+-- How a session is led through answers.
+use Rattle.std.proofs.Common.{◌≡◌, ℕ, suc, ◌+◌, ◌-◌, ◌<◌, ◌≤◌, Bool, true, false, cond, List, [], ◌∷◌, ◌++◌, length, get_or, take, drop, Option, Some, None, refl, sym, ◌∙◌, ap, subst, arith, length-append, length-take-le}
+use Rattle.std.proofs.lemmas.List.{drop_all, take_all, map-append, length-map}
 use Rattle.std.proofs.Math.Seq.{take-suc, drop-cons}
 use Rattle.assign.specs.Assignment.{Assignment}
-use Rattle.assign.specs.Events.{Answer}
+use Rattle.assign.specs.Events.{Answer, without_last, standing_from, standing}
 use Rattle.assign.specs.declared.events.Event.{Event}
 use Rattle.assign.specs.declared.events.Event.TheVariants as events
 use Rattle.assign.specs.declared.events.Plan.{Plan}
@@ -20,55 +20,70 @@ use Rattle.language.specs.Answers.{kept}
 use Rattle.session_core.specs.declared.session.Session.{Session}
 use Rattle.session_core.specs.Standing.{Stands, IsAskedIn, knowledge_of, open_in}
 use Rattle.session_core.specs.Settled.{IsSettled}
-use Rattle.session_store.specs.Replay.{is_past, first_options, seen, event_of, answer_to, step_of, replay_on, replay, IsMoved, IsAt, MovesTo, StaysAt, MovesBy, HasNoPlace, IsReplayed}
+use Rattle.session_store.specs.Replay.{Recorded, is_past, seen, all_seen, answer_to, step_of, replay_on, IsMoved, IsAt, MovesTo, StaysAt, MovesBy, HasNoPlace, IsReplayed}
 
--- ---- the answers of events
+-- ---- the answers that stand
 
-pub standing_count : (l : Language) (events : List Event) → length (standing_on l events) ≡ length events
-standing_count l [] = refl
-standing_count l (events.Answer q reply ∷ more) = ap suc (standing_count l more)
+-- no more answers stand than there are events
+pub standing_few : (before : List Answer) (events : List Event) → length (standing_from before events) ≤ length before + length events
+standing_few before [] = omega arith
+standing_few before (events.Answer q y ∷ more) =
+    let a : Answer = record { question = q; yes = y } in
+    omega (arith, standing_few (before ++ a ∷ []) more, length-append before (a ∷ []))
+standing_few before (events.Back ∷ more) = omega (arith, standing_few (without_last before) more, shorter before)
+  where
+    shorter : (t : List Answer) → length (without_last t) ≤ length t
+    shorter t = let cut = length-take-le (length t - 1) t (omega arith) in omega (arith, cut)
 
-pub standing_more : (l : Language) (past : List Event) (e : Event) → standing_on l (past ++ e ∷ []) ≡ standing_on l past ++ seen (variable_count l) e ∷ []
-standing_more l [] (events.Answer q reply) = refl
-standing_more l (events.Answer r said ∷ past) e = ap (λ (t : List Answer). first_options (variable_count l) r said ∷ t) (standing_more l past e)
+pub standing_count : (l : Language) (events : List Event) → length (standing_on l events) ≤ length events
+standing_count l events =
+    omega (arith, standing_few [] events, length-map (standing events) (λ (a : Answer). let b : Answer = record { question = take (variable_count l) a.question; yes = a.yes } in b))
 
-pub standing_next : (l : Language) (all : List Event) (i : ℕ) (d : Event) → i < length all → standing_on l (take (i + 1) all) ≡ standing_on l (take i all) ++ seen (variable_count l) (get_or all i d) ∷ []
-standing_next l all i d low =
+-- where a session has answers, some stand
+pub some_stand : (l : Language) (events : List Event) (count : ℕ) → count ≡ length (standing_on l events) → 1 ≤ count → standing events ≡ [] → ⊥
+some_stand l events count is some none =
+    let size : length (standing_on l events) ≡ length (standing events) = length-map (standing events) (λ (a : Answer). let b : Answer = record { question = take (variable_count l) a.question; yes = a.yes } in b) in
+    let empty = ap length none in
+    let no : ⊥ = omega (arith, is, some, size, empty) in
+    no
+
+-- one answer more, as a session sees it
+pub seen_next : (n : ℕ) (all : List Recorded) (i : ℕ) (d : Recorded) → i < length all → all_seen n (take (i + 1) all) ≡ all_seen n (take i all) ++ seen n (get_or all i d).answer ∷ []
+seen_next n all i d low =
     let next : take (suc i) all ≡ take i all ++ get_or all i d ∷ [] = take-suc all i d low in
     let one : i + 1 ≡ suc i = omega arith in
-    ap (λ n. standing_on l (take n all)) one ∙ ap (standing_on l) next ∙ standing_more l (take i all) (get_or all i d)
+    ap (λ k. all_seen n (take k all)) one ∙ ap (all_seen n) next ∙ map-append (λ (a : Recorded). seen n a.answer) (take i all) (get_or all i d ∷ [])
 
--- ---- the fold over events
+-- ---- the fold over answers
 
 pub replay_end : (l : Language) (plan : Plan) (before : List Answer) (state : State) → replay_on l plan before state [] ≡ At state
 unfolding replay_on
 replay_end l plan before state = refl
 
-pub replay_step : (l : Language) (plan : Plan) (before : List Answer) (state next : State) (e : Event) (more : List Event) → step_of l plan before e state ≡ Some next →
-    replay_on l plan before state (e ∷ more) ≡ replay_on l plan (before ++ seen (variable_count l) e ∷ []) next more
+pub replay_step : (l : Language) (plan : Plan) (before : List Answer) (state next : State) (a : Recorded) (more : List Recorded) → step_of l plan before a.answer state ≡ Some next →
+    replay_on l plan before state (a ∷ more) ≡ replay_on l plan (before ++ seen (variable_count l) a.answer ∷ []) next more
 unfolding replay_on
-replay_step l plan before state next e more steps =
-    ap (λ (o : Option State). then_on (length before + 1) o (λ s. replay_on l plan (before ++ seen (variable_count l) e ∷ []) s more)) steps
+replay_step l plan before state next a more steps =
+    ap (λ (o : Option State). then_on a.number o (λ s. replay_on l plan (before ++ seen (variable_count l) a.answer ∷ []) s more)) steps
 
-pub replay_stray : (l : Language) (plan : Plan) (before : List Answer) (state : State) (e : Event) (more : List Event) → step_of l plan before e state ≡ None →
-    replay_on l plan before state (e ∷ more) ≡ Stray (length before + 1)
+pub replay_stray : (l : Language) (plan : Plan) (before : List Answer) (state : State) (a : Recorded) (more : List Recorded) → step_of l plan before a.answer state ≡ None →
+    replay_on l plan before state (a ∷ more) ≡ Stray a.number
 unfolding replay_on
-replay_stray l plan before state e more none =
-    ap (λ (o : Option State). then_on (length before + 1) o (λ s. replay_on l plan (before ++ seen (variable_count l) e ∷ []) s more)) none
+replay_stray l plan before state a more none =
+    ap (λ (o : Option State). then_on a.number o (λ s. replay_on l plan (before ++ seen (variable_count l) a.answer ∷ []) s more)) none
 
-pub drop_next : (all : List Event) (i : ℕ) (d : Event) → i < length all → drop i all ≡ get_or all i d ∷ drop (i + 1) all
+pub drop_next : {X : Type 0} (all : List X) (i : ℕ) (d : X) → i < length all → drop i all ≡ get_or all i d ∷ drop (i + 1) all
 drop_next all i d low = let one : suc i ≡ i + 1 = omega arith in drop-cons all i d low ∙ ap (λ n. get_or all i d ∷ drop n all) one
 
 -- ---- a step of a session
 
--- what an event without a value past the variables is
-pub step_within : (l : Language) (plan : Plan) (before : List Answer) (q : Assignment) (reply : Bool) (state : State) → is_past (variable_count l) q ≡ false →
-    step_of l plan before (events.Answer q reply) state ≡ step l plan before (first_options (variable_count l) q reply) state
-step_within l plan before q reply state within = ap (λ b. cond b None (step l plan before (first_options (variable_count l) q reply) state)) within
+-- what an answer without a value past the variables does
+pub step_within : (l : Language) (plan : Plan) (before : List Answer) (a : Answer) (state : State) → is_past (variable_count l) a.question ≡ false →
+    step_of l plan before a state ≡ step l plan before (seen (variable_count l) a) state
+step_within l plan before a state within = ap (λ b. cond b None (step l plan before (seen (variable_count l) a) state)) within
 
-pub step_past : (l : Language) (plan : Plan) (before : List Answer) (q : Assignment) (reply : Bool) (state : State) → is_past (variable_count l) q ≡ true →
-    step_of l plan before (events.Answer q reply) state ≡ None
-step_past l plan before q reply state past = ap (λ b. cond b None (step l plan before (first_options (variable_count l) q reply) state)) past
+pub step_past : (l : Language) (plan : Plan) (before : List Answer) (a : Answer) (state : State) → is_past (variable_count l) a.question ≡ true → step_of l plan before a state ≡ None
+step_past l plan before a state past = ap (λ b. cond b None (step l plan before (seen (variable_count l) a) state)) past
 
 pub some_map : {A : Type 0} (P Q : A → Type 0) (o : Option A) → ((x : A) → P x → Q x) → IfSome o P → IfSome o Q
 some_map P Q None f h = tt
@@ -78,7 +93,7 @@ pub none_map : {A : Type 0} (P Q : Type 0) (o : Option A) → (P → Q) → IfNo
 none_map P Q None f h = f h
 none_map P Q (Some x) f h = tt
 
-pub moves_by : (session : Session) (q : Assignment) (reply : Bool) (n : ℕ) (next : Session) → n ≡ variable_count (knowledge_of session).lang → is_past n q ≡ false → MovesTo session (take n q) reply next → MovesBy session (event_of q reply) next
+pub moves_by : (session : Session) (q : Assignment) (reply : Bool) (n : ℕ) (next : Session) → n ≡ variable_count (knowledge_of session).lang → is_past n q ≡ false → MovesTo session (take n q) reply next → MovesBy session (answer_to q reply) next
 moves_by session q reply n next is within moves =
     let l = (knowledge_of session).lang in
     let plan = (knowledge_of session).plan in
@@ -90,21 +105,21 @@ moves_by session q reply n next is within moves =
       plan = cut.plan;
       moves = λ t state at.
           let As : Option State → Type 0 = λ o. IsMoved l plan t (answer_to (take (variable_count l) q) reply) o next in
-          subst As (sym (step_within l plan t q reply state inside)) (cut.moves t state at);
+          subst As (sym (step_within l plan t (answer_to q reply) state inside)) (cut.moves t state at);
     }
 
-pub stays_by : (session : Session) (q : Assignment) (reply : Bool) (n : ℕ) → n ≡ variable_count (knowledge_of session).lang → is_past n q ≡ false → StaysAt session (take n q) reply → HasNoPlace session (event_of q reply)
+pub stays_by : (session : Session) (q : Assignment) (reply : Bool) (n : ℕ) → n ≡ variable_count (knowledge_of session).lang → is_past n q ≡ false → StaysAt session (take n q) reply → HasNoPlace session (answer_to q reply)
 stays_by session q reply n is within stays =
     let l = (knowledge_of session).lang in
     let plan = (knowledge_of session).plan in
     let Cut : ℕ → Type 0 = λ m. StaysAt session (take m q) reply in
     let cut = subst Cut is stays in
     let inside : is_past (variable_count l) q ≡ false = ap (λ m. is_past m q) (sym is) ∙ within in
-    record { none = λ t state at. step_within l plan t q reply state inside ∙ cut.none t state at }
+    record { none = λ t state at. step_within l plan t (answer_to q reply) state inside ∙ cut.none t state at }
 
-pub past_stays : (session : Session) (q : Assignment) (reply : Bool) (n : ℕ) → n ≡ variable_count (knowledge_of session).lang → is_past n q ≡ true → HasNoPlace session (event_of q reply)
+pub past_stays : (session : Session) (q : Assignment) (reply : Bool) (n : ℕ) → n ≡ variable_count (knowledge_of session).lang → is_past n q ≡ true → HasNoPlace session (answer_to q reply)
 past_stays session q reply n is past = record {
-  none = λ t state at. step_past (knowledge_of session).lang (knowledge_of session).plan t q reply state (ap (λ m. is_past m q) (sym is) ∙ past);
+  none = λ t state at. step_past (knowledge_of session).lang (knowledge_of session).plan t (answer_to q reply) state (ap (λ m. is_past m q) (sym is) ∙ past);
 }
 
 -- ---- a new question
@@ -170,14 +185,14 @@ moved_to l plan t a state next at steps same_lang same_plan stands settled =
       settled = both_same Settled (knowledge_of next).lang l (knowledge_of next).plan plan same_lang same_plan settled;
     }
 
--- ---- many events
+-- ---- many answers
 
 pub nothing_read : (l : Language) (plan : Plan) → state_after l plan [] ≡ At (Idle [] None)
 unfolding read_on
 nothing_read l plan = refl
 
-pub replay_none : (session : Session) (events : List Event) → Stands session [] → open_in session ≡ None → IsReplayed (knowledge_of session).lang (knowledge_of session).plan events 0 session
-replay_none session events stands idle = record {
+pub replay_none : (session : Session) (all : List Recorded) → Stands session [] → open_in session ≡ None → IsReplayed (knowledge_of session).lang (knowledge_of session).plan all 0 session
+replay_none session all stands idle = record {
   lang = refl;
   plan_is = refl;
   state = Idle [] None;
@@ -188,9 +203,9 @@ replay_none session events stands idle = record {
 }
 
 -- where a replay stands, as the session knows it
-at_here : (l : Language) (plan : Plan) (events : List Event) (i : ℕ) (s : Session) (inv : IsReplayed l plan events i s) → IsAt s (standing_on l (take i events)) inv.state
-at_here l plan events i s inv =
-    let t : List Answer = standing_on l (take i events) in
+at_here : (l : Language) (plan : Plan) (all : List Recorded) (i : ℕ) (s : Session) (inv : IsReplayed l plan all i s) → IsAt s (all_seen (variable_count l) (take i all)) inv.state
+at_here l plan all i s inv =
+    let t : List Answer = all_seen (variable_count l) (take i all) in
     let Settled : Language → Plan → Type 0 = λ m p. IsSettled m p t (open_in s) in
     let Reaches : Language → Plan → Type 0 = λ m p. state_after m p t ≡ At inv.state in
     record {
@@ -199,34 +214,38 @@ at_here l plan events i s inv =
       at = both_same Reaches l (knowledge_of s).lang plan (knowledge_of s).plan (sym inv.lang) (sym inv.plan_is) inv.at;
     }
 
-pub replay_more : (l : Language) (plan : Plan) (events : List Event) (i : ℕ) (d : Event) (s next : Session) → i < length events → IsReplayed l plan events i s → MovesBy s (get_or events i d) next → IsReplayed l plan events (i + 1) next
-replay_more l plan events i d s next low inv by =
-    let e : Event = get_or events i d in
-    let t : List Answer = standing_on l (take i events) in
-    let Moved : Language → Plan → Type 0 = λ m p. IsMoved m p t (seen (variable_count m) e) (step_of m p t e inv.state) next in
-    let moved = both_same Moved (knowledge_of s).lang l (knowledge_of s).plan plan inv.lang inv.plan_is (by.moves t inv.state (at_here l plan events i s inv)) in
-    let longer : standing_on l (take (i + 1) events) ≡ t ++ seen (variable_count l) e ∷ [] = standing_next l events i d low in
+pub replay_more : (l : Language) (plan : Plan) (all : List Recorded) (i : ℕ) (d : Recorded) (s next : Session) → i < length all → IsReplayed l plan all i s → MovesBy s (get_or all i d).answer next → IsReplayed l plan all (i + 1) next
+replay_more l plan all i d s next low inv by =
+    let a : Recorded = get_or all i d in
+    let t : List Answer = all_seen (variable_count l) (take i all) in
+    let Moved : Language → Plan → Type 0 = λ m p. IsMoved m p t (seen (variable_count m) a.answer) (step_of m p t a.answer inv.state) next in
+    let moved = both_same Moved (knowledge_of s).lang l (knowledge_of s).plan plan inv.lang inv.plan_is (by.moves t inv.state (at_here l plan all i s inv)) in
+    let longer : all_seen (variable_count l) (take (i + 1) all) ≡ t ++ seen (variable_count l) a.answer ∷ [] = seen_next (variable_count l) all i d low in
     let Settled : List Answer → Type 0 = λ x. IsSettled l plan x (open_in next) in
     record {
       lang = by.lang ∙ inv.lang;
       plan_is = by.plan ∙ inv.plan_is;
       state = moved.state;
       at = ap (state_after l plan) longer ∙ moved.at;
-      on = inv.on ∙ ap (λ xs. replay_on l plan t inv.state xs) (drop_next events i d low) ∙ replay_step l plan t inv.state moved.state e (drop (i + 1) events) moved.steps
-          ∙ ap (λ b. replay_on l plan b moved.state (drop (i + 1) events)) (sym longer);
+      on = inv.on ∙ ap (λ xs. replay_on l plan t inv.state xs) (drop_next all i d low) ∙ replay_step l plan t inv.state moved.state a (drop (i + 1) all) moved.steps
+          ∙ ap (λ b. replay_on l plan b moved.state (drop (i + 1) all)) (sym longer);
       stands = subst (Stands next) (sym longer) moved.stands;
       settled = subst Settled (sym longer) moved.settled;
     }
 
-pub replay_strays : (l : Language) (plan : Plan) (events : List Event) (i : ℕ) (d : Event) (s : Session) → i < length events → IsReplayed l plan events i s → HasNoPlace s (get_or events i d) → replay l plan events ≡ Stray (i + 1)
-replay_strays l plan events i d s low inv none =
-    let e : Event = get_or events i d in
-    let t : List Answer = standing_on l (take i events) in
-    let Stays : Language → Plan → Type 0 = λ m p. step_of m p t e inv.state ≡ None in
-    let stays = both_same Stays (knowledge_of s).lang l (knowledge_of s).plan plan inv.lang inv.plan_is (none.none t inv.state (at_here l plan events i s inv)) in
-    let count : length t ≡ i = standing_count l (take i events) ∙ length-take-le i events (omega arith) in
-    inv.on ∙ ap (λ xs. replay_on l plan t inv.state xs) (drop_next events i d low) ∙ replay_stray l plan t inv.state e (drop (i + 1) events) stays ∙ ap (λ n. Stray (n + 1)) count
+pub replay_strays : (l : Language) (plan : Plan) (all : List Recorded) (i : ℕ) (d : Recorded) (s : Session) → i < length all → IsReplayed l plan all i s → HasNoPlace s (get_or all i d).answer →
+    replay_on l plan [] (Idle [] None) all ≡ Stray (get_or all i d).number
+replay_strays l plan all i d s low inv none =
+    let a : Recorded = get_or all i d in
+    let t : List Answer = all_seen (variable_count l) (take i all) in
+    let Stays : Language → Plan → Type 0 = λ m p. step_of m p t a.answer inv.state ≡ None in
+    let stays = both_same Stays (knowledge_of s).lang l (knowledge_of s).plan plan inv.lang inv.plan_is (none.none t inv.state (at_here l plan all i s inv)) in
+    inv.on ∙ ap (λ xs. replay_on l plan t inv.state xs) (drop_next all i d low) ∙ replay_stray l plan t inv.state a (drop (i + 1) all) stays
 
-pub replay_ends : (l : Language) (plan : Plan) (events : List Event) (i : ℕ) (s : Session) → length events ≤ i → (inv : IsReplayed l plan events i s) → replay l plan events ≡ At inv.state
-replay_ends l plan events i s all inv =
-    inv.on ∙ ap (λ xs. replay_on l plan (standing_on l (take i events)) inv.state xs) (drop_all i events all) ∙ replay_end l plan (standing_on l (take i events)) inv.state
+pub replay_ends : (l : Language) (plan : Plan) (all : List Recorded) (i : ℕ) (s : Session) → length all ≤ i → (inv : IsReplayed l plan all i s) → replay_on l plan [] (Idle [] None) all ≡ At inv.state
+replay_ends l plan all i s past inv =
+    inv.on ∙ ap (λ xs. replay_on l plan (all_seen (variable_count l) (take i all)) inv.state xs) (drop_all i all past) ∙ replay_end l plan (all_seen (variable_count l) (take i all)) inv.state
+
+-- all of them are the answers before the end
+pub seen_whole : (n : ℕ) (all : List Recorded) (i : ℕ) → length all ≤ i → all_seen n (take i all) ≡ all_seen n all
+seen_whole n all i past = ap (all_seen n) (take_all i all past)

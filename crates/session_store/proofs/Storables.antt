@@ -1,5 +1,5 @@
 -- A question that is asked is one that a record can hold.
-use Rattle.std.proofs.Common.{◌≡◌, ℕ, zero, suc, ◌+◌, ◌-◌, ◌<◌, ◌≤◌, List, length, replicate, Option, Some, None, ◌∙◌, ap, arith, length-append}
+use Rattle.std.proofs.Common.{◌≡◌, Bool, IsSome, refl, sym, subst, ℕ, zero, suc, ◌+◌, ◌-◌, ◌<◌, ◌≤◌, List, length, replicate, Option, Some, None, ◌∙◌, ap, arith, length-append}
 use Rattle.std.specs.Prelude.{All}
 use Rattle.std.specs.Option.{ForSome}
 use Rattle.std.proofs.lemmas.List.{length-replicate}
@@ -13,6 +13,8 @@ use Rattle.assign.specs.declared.events.Event.{Event}
 use Rattle.assign.specs.declared.events.Event.TheVariants as events
 use Rattle.session_store.specs.Held.{IsWide}
 use Rattle.answer_journal.specs.Storable.{IsStorable, IsStorableEvent}
+use Rattle.answer_journal.specs.Records.{HasPlace}
+use Rattle.session_store.specs.Kept.{answer_event}
 use Rattle.session_store.proofs.Asked.{asked_has, widened_has, value_counts}
 
 -- the values that a record can hold
@@ -38,3 +40,9 @@ storable l lawful plan t q fits asked = record {
 
 pub storable_wide : (e : Event) → IsStorableEvent e → IsWide e
 storable_wide (events.Answer q reply) fits = fits.size
+storable_wide events.Back fits = tt
+
+-- an answer has its place in every journal
+pub answer_has_room : (raised : Bool) (put : Option Assignment) (said : Bool) (e : Event) → IsSome put → ForSome put (λ q. e ≡ answer_event q said) → HasPlace raised e
+answer_has_room raised None said e some is = absurd (let no : ⊥ = cc in no)
+answer_has_room raised (Some q) said e some is = subst (HasPlace raised) (sym (is q refl)) tt

@@ -4,8 +4,8 @@ use Rattle.std.specs.Option.{ForNone}
 use Rattle.assign.specs.declared.events.Event.{Event}
 use Rattle.assign.specs.declared.events.Plan.{Plan}
 use Rattle.disk_model.specs.Disk.{Only, LeavesOnly}
-use Rattle.disk_model.specs.Moments.{started, weaker}
-use Rattle.answer_journal.specs.End.{End, Sits, HasNew, IsOldOrNew}
+use Rattle.disk_model.specs.Moments.{started, joined, weaker}
+use Rattle.answer_journal.specs.End.{End, Sits, HasNew, IsOldOrNew, IsSame}
 use Rattle.answer_journal.specs.Steps.{IsOnDisk}
 use Rattle.answer_journal.specs.Making.{StartsWith, CreateRefused}
 use Rattle.answer_journal.specs.Found.{Refused}
@@ -17,10 +17,10 @@ use Rattle.session_laws.specs.Session.{Stray}
 use Rattle.voc_read.specs.Vocabulary.{IsVocabulary, refusal_of_vocabulary}
 use Rattle.voc_read.specs.declared.fault.VocFault.{VocFault}
 use Rattle.session_store.specs.Faults.{of_journal}
-use Rattle.std.specs.Prelude.{All}
-use Rattle.session_store.specs.Held.{StandsIn, events_held, IsHeld, IsWide}
+use Rattle.std.specs.Prelude.{All, OnOk}
+use Rattle.session_store.specs.Held.{lang_in, plan_in, StandsIn, events_held, IsHeld, IsWide}
 use Rattle.session_store.specs.Opening.{NoLanguage, NotMade, NotOpened}
-use Rattle.session_store.specs.Replay.{replay, NamesStray}
+use Rattle.session_store.specs.Replay.{replay, HavePlaces, NamesStray}
 use Rattle.session_store.specs.declared.fault.SFault.{SFault}
 use Rattle.session_store.specs.declared.fault.SFault.TheVariants as store
 use Rattle.session_store.specs.declared.held.Held.{Held}
@@ -28,6 +28,11 @@ use Rattle.session_store.proofs.Replaying.{both_same}
 use Rattle.session_store.specs.Left.{SaysSession, OpensWith, OpensWithOrWithout, LeavesNow}
 use Rattle.session_store.specs.Store.{IsThere, SitsOn, plan_of, voc_of, events_of, opens_there}
 use Rattle.session_store.specs.declared.store.Store.{Store}
+
+-- where a call went well, what follows of that
+pub on_ok : {A E P Q : Type 0} (r : Result A E) → (P → Q) → OnOk r P → OnOk r Q
+on_ok (Ok x) then h = then h
+on_ok (Err e) then h = tt
 
 -- it is there by the same plan and the same events
 pub there_as : (place : End) (p q : Plan) (voc : List ℕ) (e f : List Event) (may_leave : List ℕ → Type 0) (bytes : List ℕ) → p ≡ q → e ≡ f → IsThere place p voc e may_leave bytes → IsThere place q voc f may_leave bytes
@@ -59,6 +64,33 @@ module _ {D : Type 0} (content : D → Option (List ℕ)) (may_leave : D → Lis
   left_by_append place plan voc events e old new bytes there any =
       weaker moment left_since old new (IsOldOrNew bytes e) (OpensWithOrWithout plan voc events e) any (λ c either. either plan voc events there.opens)
 
+  -- nothing was done to a disk that tells
+  pub same_now : (disk : D) (bytes : List ℕ) → content disk ≡ Some bytes → Only bytes (may_leave disk) → IsOnDisk (content disk) (may_leave disk) (IsSame bytes)
+  same_now disk bytes told durable = record { now = bytes; tells = told; durable = durable; holds = λ plan voc events spelled. spelled }
+
+  pub same_left : (disk : D) (bytes : List ℕ) → Only bytes (may_leave disk) → LeavesOnly moment left_since disk disk (IsSame bytes)
+  same_left disk bytes durable =
+      started moment left_since disk (IsSame bytes) (λ c left. subst (IsSame bytes) (sym (durable c (only_now disk c left))) (λ plan voc events spelled. spelled))
+
+  -- first a journal was raised, and then an event was added
+  pub added_after : (bytes here : List ℕ) (e : Event) (new : D) → IsSame bytes here → IsOnDisk (content new) (may_leave new) (HasNew here e) → IsOnDisk (content new) (may_leave new) (HasNew bytes e)
+  added_after bytes here e new same added = record {
+    now = added.now;
+    tells = added.tells;
+    durable = added.durable;
+    holds = λ plan voc events spelled. added.holds plan voc events (same plan voc events spelled);
+  }
+
+  -- where the raising failed, and where the adding behind it did
+  pub left_by_raising : (bytes : List ℕ) (e : Event) (old new : D) → LeavesOnly moment left_since old new (IsSame bytes) → LeavesOnly moment left_since old new (IsOldOrNew bytes e)
+  left_by_raising bytes e old new any = weaker moment left_since old new (IsSame bytes) (IsOldOrNew bytes e) any (λ c same plan voc events spelled. inl (same plan voc events spelled))
+
+  pub left_after : (bytes here : List ℕ) (e : Event) (old mid new : D) → IsSame bytes here → LeavesOnly moment left_since old mid (IsSame bytes) → LeavesOnly moment left_since mid new (IsOldOrNew here e) →
+      LeavesOnly moment left_since old new (IsOldOrNew bytes e)
+  left_after bytes here e old mid new same first second =
+      joined moment left_since old mid new (IsSame bytes) (IsOldOrNew here e) (IsOldOrNew bytes e) first second
+      (λ c kept plan voc events spelled. inl (kept plan voc events spelled)) (λ c either plan voc events spelled. either plan voc events (same plan voc events spelled))
+
   pub now_by_append : (place : End) (plan : Plan) (voc : List ℕ) (events : List Event) (e : Event) (old new : D) (bytes : List ℕ) → IsThere place plan voc events (may_leave old) bytes →
       IsOnDisk (content new) (may_leave new) (HasNew bytes e) → LeavesNow content may_leave (OpensWith plan voc (events ++ e ∷ [])) new
   now_by_append place plan voc events e old new bytes there settled =
@@ -78,7 +110,13 @@ pub held_as : (old new : Held) → old.session ≡ new.session → events_held o
 held_as old new session events held =
     let One : Option Session → Type 0 = λ s. StandsIn s (events_held old) in
     let Two : List Event → Type 0 = λ e. StandsIn new.session e in
-    record { stands = subst Two events (subst One session held.stands); few = subst (λ (e : List Event). length e < 1000000) events held.few; wide = subst (All IsWide) events held.wide }
+    let Placed : Option Session → List Event → Type 0 = λ s e. HavePlaces (lang_in s) (plan_in s) e in
+    record {
+      stands = subst Two events (subst One session held.stands);
+      few = subst (λ (e : List Event). length e < 1000000) events held.few;
+      wide = subst (All IsWide) events held.wide;
+      places = both_same Placed old.session new.session (events_held old) (events_held new) session events held.places;
+    }
 
 -- a new store, whose journal was just made
 pub there_made : (place : End) (plan asked : Plan) (voc given : List ℕ) (events : List Event) (content : Option (List ℕ)) (may_leave : List ℕ → Type 0) (bytes : List ℕ) → content ≡ Some bytes → asked ≡ plan → given ≡ voc → events ≡ [] →
@@ -150,9 +188,11 @@ no_language bytes plan voc events (store.Voc f) says refused = record { plan = p
 no_language bytes plan voc events (store.Stray i) says none = absurd none
 no_language bytes plan voc events store.Memory says refused = tt
 
--- which event has no place
+-- which record has no place
 pub has_stray : (bytes : List ℕ) (plan asked : Plan) (voc : List ℕ) (events : List Event) (l m : Language) (fault : SFault) → SaysSession bytes plan voc events → IsVocabulary voc l → m ≡ l → asked ≡ plan → NamesStray m asked events fault → NotOpened bytes fault
-has_stray bytes plan asked voc events l m fault says vocabulary same planned (i, is, stray) =
-    let P : SFault → Type 0 = λ f. NotOpened bytes f in
+has_stray bytes plan asked voc events l m (store.Stray i) says vocabulary same planned stray =
     let Strays : Language → Plan → Type 0 = λ x p. replay x p events ≡ Stray i in
-    subst P (sym is) (record { plan = plan; voc = voc; events = events; reads = says; lang = l; vocabulary = vocabulary; stray = both_same Strays m l asked plan same planned stray })
+    record { plan = plan; voc = voc; events = events; reads = says; lang = l; vocabulary = vocabulary; stray = both_same Strays m l asked plan same planned stray }
+has_stray bytes plan asked voc events l m store.Memory says vocabulary same planned stray = tt
+has_stray bytes plan asked voc events l m (store.Journal f) says vocabulary same planned stray = absurd stray
+has_stray bytes plan asked voc events l m (store.Voc f) says vocabulary same planned stray = absurd stray

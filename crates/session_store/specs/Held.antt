@@ -9,6 +9,7 @@ use Rattle.language.specs.Language.{Language}
 use Rattle.language.specs.Answers.{standing_on}
 use Rattle.session_core.specs.Standing.{Stands, knowledge_of, open_in}
 use Rattle.session_core.specs.declared.session.Session.{Session}
+use Rattle.session_store.specs.Replay.{HavePlaces}
 use Rattle.session_store.specs.declared.held.Held.{Held}
 
 -- the language, the plan and the question of a session that is there
@@ -44,9 +45,11 @@ events_held held = held.events.items
 -- its question has 128 options
 abbrev pub IsWide : Event → Type 0
 IsWide (events.Answer q reply) = length q ≡ 128
+IsWide events.Back = Unit {0}
 
--- The session stands where the events lead, and these are no more than a journal takes.
+-- The session stands where the events lead. These have their places, and are no more than a journal takes.
 pub record IsHeld (held : Held) : Type 0 where
   pub stands : StandsIn held.session held.events.items
   pub few : length held.events.items < 1000000
   pub wide : All IsWide held.events.items
+  pub places : HavePlaces (lang_held held) (plan_held held) held.events.items

@@ -1,21 +1,53 @@
 -- What the calls of a keeper, one after another, have done to it and to its disk.
-use Rattle.std.proofs.Common.{◌≡◌, ◌≤◌, ℕ, Bool, IsTrue, List, [], ◌∷◌, ◌++◌, map, Option, Some, is_some, IsSome, refl, sym, ◌∙◌, ap, subst, inl, inr, arith, append_assoc}
-use Rattle.std.specs.Prelude.{IsFalse}
-use Rattle.std.specs.Option.{ForSome}
-use Rattle.std.proofs.lemmas.List.{append-nil, map-append}
+use Rattle.std.proofs.Common.{◌≡◌, ◌≤◌, ℕ, Bool, IsTrue, List, [], ◌∷◌, ◌++◌, Option, Some, None, is_some, IsSome, refl, sym, ◌∙◌, ap, subst, inl, inr, arith, append_assoc}
+use Rattle.std.specs.Prelude.{IsFalse, All}
+use Rattle.std.specs.Option.{ForSome, ForNone}
+use Rattle.std.proofs.lemmas.List.{append-nil}
+use Rattle.std.proofs.lemmas.List.Elements.{All-nil, All-cons, All-append}
 use Rattle.assign.specs.Assignment.{Assignment}
-use Rattle.assign.specs.Events.{Answer}
 use Rattle.assign.specs.declared.events.Event.{Event}
 use Rattle.assign.specs.declared.events.Plan.{Plan}
+use Rattle.language.specs.Language.{Language}
+use Rattle.language.specs.Answers.{standing_on}
 use Rattle.disk_model.specs.Disk.{LeavesOnly, Rose}
 use Rattle.disk_model.specs.Moments.{started, joined, weaker}
-use Rattle.session_store.specs.Kept.{answer_event, event_for}
+use Rattle.session_core.specs.Settled.{IsSettled}
+use Rattle.session_store.specs.Kept.{IsAddable, IsTried}
 use Rattle.session_store.specs.Left.{OpensWith, OpensWithOrWithout, OpensWithin, LeavesNow, bytes_told}
 
--- The events of these answers were added.
+-- ---- one call that adds an event
+
+-- The event is the last, and another one may be added. Where the answers lead to where nothing is open, no question is put.
+pub record HasKept (l : Language) (plan : Plan) (before after : List Event) (event : Event) (put : Option Assignment) (live : Bool) : Type 0 where
+  pub added : after ≡ before ++ event ∷ []
+  pub settled : IsSettled l plan (standing_on l after) put
+  pub is_live : IsTrue live
+
+-- The events are those from before, and so is the question.
+pub record IsUnmoved (before after : List Event) (was put : Option Assignment) : Type 0 where
+  pub events : after ≡ before
+  pub question : put ≡ was
+
+-- What no call changes.
+pub record HasSameTerms {K : Type 0} (lang : K → Language) (plan : K → Plan) (voc : K → List ℕ) (writes : K → Bool) (old new : K) : Type 0 where
+  pub same_lang : lang new ≡ lang old
+  pub same_plan : plan new ≡ plan old
+  pub same_voc : voc new ≡ voc old
+  pub same_writes : writes new ≡ writes old
+
+-- A disk that tells goes on telling, and one that doesn't never begins to. Its faults are no fewer.
+pub record GoesOn {D : Type 0} (content : D → Option (List ℕ)) (faults : D → ℕ) (old new : D) : Type 0 where
+  pub later : faults old ≤ faults new
+  pub silent : ForNone (content old) (content new ≡ None)
+  pub told : ForSome (content old) (λ _. IsSome (content new))
+
+-- ---- calls one after another
+
+-- Events were added, each that of an answer or a take-back.
 pub record IsGrown (before after : List Event) : Type 0 where
-  pub answers : List Answer
-  pub is : after ≡ before ++ map event_for answers
+  pub more : List Event
+  pub is : after ≡ before ++ more
+  pub each : All IsAddable more
 
 -- the meanings of a disk
 module _ {D : Type 0} (content : D → Option (List ℕ)) (may_leave : D → List ℕ → Type 0) (moment : D → ℕ) (left_since : D → ℕ → List ℕ → Type 0) where
@@ -25,20 +57,19 @@ module _ {D : Type 0} (content : D → Option (List ℕ)) (may_leave : D → Lis
     pub now : LeavesNow content may_leave (OpensWith plan voc after) new
     pub any_moment : LeavesOnly moment left_since old new (OpensWithin plan voc before after)
 
-  -- The disk failed while the answer to the question that is put was added, of which this is known. Where the disk told what
-  -- it held, a crash leaves that answer as the last event, or leaves it out.
-  pub record FailsWith (plan : Plan) (voc : List ℕ) (before after : List Event) (put : Option Assignment) (is_lost : Assignment → Bool → Type 0) (old new : D) : Type 0 where
-    pub question : Assignment
-    pub reply : Bool
-    pub is_put : put ≡ Some question
-    pub lost : is_lost question reply
-    pub now : ForSome (content old) (λ _. (c : List ℕ) → may_leave new c → OpensWithOrWithout plan voc after (answer_event question reply) c)
-    pub any_moment : ForSome (content old) (λ _. LeavesOnly moment left_since old new (OpensWithin plan voc before (after ++ answer_event question reply ∷ [])))
+  -- The disk failed while an event was added, of which this is known: that of an answer to the question that is put, or a
+  -- take-back. Where the disk told what it held, a crash leaves it as the last event, or leaves it out.
+  pub record FailsWith (plan : Plan) (voc : List ℕ) (before after : List Event) (put : Option Assignment) (is_lost : Event → Type 0) (old new : D) : Type 0 where
+    pub event : Event
+    pub tried : IsTried put event
+    pub lost : is_lost event
+    pub now : ForSome (content old) (λ _. (c : List ℕ) → may_leave new c → OpensWithOrWithout plan voc after event c)
+    pub any_moment : ForSome (content old) (λ _. LeavesOnly moment left_since old new (OpensWithin plan voc before (after ++ event ∷ [])))
 
   -- the meanings of a keeper, and the count of the disk's faults
   module _ {K : Type 0} (plan : K → Plan) (voc : K → List ℕ) (record_of : K → List Event) (question : K → Option Assignment) (writes live : K → Bool) (sits : K → D → Type 0) (faults : D → ℕ) where
-    -- What calls of a keeper have done, of which the last may have met a fault of the disk. This is then known of its answer.
-    pub record Keeps (has_failed : Type 0) (is_lost : Assignment → Bool → Type 0) (old new : K) (disk_old disk_new : D) : Type 0 where
+    -- What calls of a keeper have done, of which the last may have met a fault of the disk. This is then known of its event.
+    pub record Keeps (has_failed : Type 0) (is_lost : Event → Type 0) (old new : K) (disk_old disk_new : D) : Type 0 where
       pub same_voc : voc new ≡ voc old
       pub same_writes : writes new ≡ writes old
       pub belongs : sits new disk_new
@@ -59,16 +90,16 @@ module _ {D : Type 0} (content : D → Option (List ℕ)) (may_leave : D → Lis
 -- ---- events
 
 pub grown_none : (before after : List Event) → after ≡ before → IsGrown before after
-grown_none before after same = record { answers = []; is = same ∙ sym (append-nil before) }
+grown_none before after same = record { more = []; is = same ∙ sym (append-nil before); each = All-nil IsAddable }
 
-pub grown_one : (before after : List Event) (a : Answer) → after ≡ before ++ event_for a ∷ [] → IsGrown before after
-grown_one before after a is = record { answers = a ∷ []; is = is }
+pub grown_one : (before after : List Event) (e : Event) → IsAddable e → after ≡ before ++ e ∷ [] → IsGrown before after
+grown_one before after e addable is = record { more = e ∷ []; is = is; each = All-cons IsAddable e [] addable (All-nil IsAddable) }
 
 pub grown_then : (one two three : List Event) → IsGrown one two → IsGrown two three → IsGrown one three
 grown_then one two three first second = record {
-  answers = first.answers ++ second.answers;
-  is = second.is ∙ ap (λ (l : List Event). l ++ map event_for second.answers) first.is ∙ append_assoc one (map event_for first.answers) (map event_for second.answers)
-      ∙ ap (λ (l : List Event). one ++ l) (sym (map-append event_for first.answers second.answers));
+  more = first.more ++ second.more;
+  is = second.is ∙ ap (λ (l : List Event). l ++ second.more) first.is ∙ append_assoc one first.more second.more;
+  each = All-append IsAddable first.more second.more first.each second.each;
 }
 
 -- ---- contents
@@ -126,29 +157,28 @@ module _ {D : Type 0} (content : D → Option (List ℕ)) (may_leave : D → Lis
   persists_then plan voc one two three old mid new grown longer first second = record {
     now = second.now;
     any_moment = joined moment left_since old mid new (OpensWithin plan voc one two) (OpensWithin plan voc two three) (OpensWithin plan voc one three) first.any_moment second.any_moment
-        (λ c w. within_more plan voc one two three (map event_for longer.answers) c longer.is w) (λ c w. within_from plan voc one two three (map event_for grown.answers) c grown.is w);
+        (λ c w. within_more plan voc one two three longer.more c longer.is w) (λ c w. within_from plan voc one two three grown.more c grown.is w);
   }
 
-  pub fails_then : (plan : Plan) (voc : List ℕ) (one two three : List Event) (put : Option Assignment) (is_lost is_then : Assignment → Bool → Type 0) (old mid new : D) → IsGrown one two → IsGrown two three →
-      ((question : Assignment) (reply : Bool) → is_lost question reply → is_then question reply) →
+  pub fails_then : (plan : Plan) (voc : List ℕ) (one two three : List Event) (put : Option Assignment) (is_lost is_then : Event → Type 0) (old mid new : D) → IsGrown one two → IsGrown two three →
+      ((e : Event) → is_lost e → is_then e) →
       ForSome (content old) (λ _. Persists content may_leave moment left_since plan voc one two old mid) → FailsWith content may_leave moment left_since plan voc two three put is_lost mid new →
       FailsWith content may_leave moment left_since plan voc one three put is_then old new
   fails_then plan voc one two three put is_lost is_then old mid new grown longer known first second =
-      let last : List Event = answer_event second.question second.reply ∷ [] in
-      let added : three ++ last ≡ two ++ (map event_for longer.answers ++ last) = ap (λ (l : List Event). l ++ last) longer.is ∙ append_assoc two (map event_for longer.answers) last in
+      let last : List Event = second.event ∷ [] in
+      let added : three ++ last ≡ two ++ (longer.more ++ last) = ap (λ (l : List Event). l ++ last) longer.is ∙ append_assoc two longer.more last in
       record {
-        question = second.question;
-        reply = second.reply;
-        is_put = second.is_put;
-        lost = known second.question second.reply second.lost;
+        event = second.event;
+        tried = second.tried;
+        lost = known second.event second.lost;
         now = λ bytes told. let f = first bytes told in second.now f.now.bytes f.now.tells;
         any_moment = λ bytes told.
             let f = first bytes told in
             joined moment left_since old mid new (OpensWithin plan voc one two) (OpensWithin plan voc two (three ++ last)) (OpensWithin plan voc one (three ++ last)) f.any_moment (second.any_moment f.now.bytes f.now.tells)
-            (λ c w. within_more plan voc one two (three ++ last) (map event_for longer.answers ++ last) c added w) (λ c w. within_from plan voc one two (three ++ last) (map event_for grown.answers) c grown.is w);
+            (λ c w. within_more plan voc one two (three ++ last) (longer.more ++ last) c added w) (λ c w. within_from plan voc one two (three ++ last) grown.more c grown.is w);
       }
 
-  -- an answer that was added
+  -- an event that was added
   pub persists_one : (plan : Plan) (voc : List ℕ) (events after : List Event) (e : Event) (old new : D) → after ≡ events ++ e ∷ [] →
       LeavesNow content may_leave (OpensWith plan voc after) new → LeavesOnly moment left_since old new (OpensWithOrWithout plan voc events e) →
       Persists content may_leave moment left_since plan voc events after old new
@@ -158,18 +188,16 @@ module _ {D : Type 0} (content : D → Option (List ℕ)) (may_leave : D → Lis
         (λ c w. subst (λ (l : List Event). OpensWithin plan voc events l c) (sym added) (within_one plan voc events e c w));
   }
 
-  -- an answer whose adding failed
-  pub fails_one : (plan : Plan) (voc : List ℕ) (events after : List Event) (question : Assignment) (reply : Bool) (put : Option Assignment) (is_lost : Assignment → Bool → Type 0) (old new : D) → after ≡ events → put ≡ Some question → is_lost question reply →
-      ForSome (content old) (λ _. LeavesOnly moment left_since old new (OpensWithOrWithout plan voc events (answer_event question reply))) →
+  -- an event whose adding failed
+  pub fails_one : (plan : Plan) (voc : List ℕ) (events after : List Event) (e : Event) (put : Option Assignment) (is_lost : Event → Type 0) (old new : D) → after ≡ events → IsTried put e → is_lost e →
+      ForSome (content old) (λ _. LeavesOnly moment left_since old new (OpensWithOrWithout plan voc events e)) →
       FailsWith content may_leave moment left_since plan voc events after put is_lost old new
-  fails_one plan voc events after question reply put is_lost old new same is lost any =
-      let e : Event = answer_event question reply in
+  fails_one plan voc events after e put is_lost old new same tried lost any =
       let as_after : List Event → Type 0 = λ l. (c : List ℕ) → may_leave new c → OpensWithOrWithout plan voc l e c in
       let within_after : List Event → Type 0 = λ l. LeavesOnly moment left_since old new (OpensWithin plan voc events (l ++ e ∷ [])) in
       record {
-        question = question;
-        reply = reply;
-        is_put = is;
+        event = e;
+        tried = tried;
         lost = lost;
         now = λ bytes told. let run = any bytes told in subst as_after (sym same) (λ c left. run.each c (counts_now new (moment old) c run.later left));
         any_moment = λ bytes told.
@@ -179,7 +207,7 @@ module _ {D : Type 0} (content : D → Option (List ℕ)) (may_leave : D → Lis
 
   module _ {K : Type 0} (plan : K → Plan) (voc : K → List ℕ) (record_of : K → List Event) (question : K → Option Assignment) (writes live : K → Bool) (sits : K → D → Type 0) (faults : D → ℕ) where
     -- A keeper that was asked to put a question, or wasn't called, and a disk that wasn't touched.
-    pub keeps_still : (has_failed : Type 0) (is_lost : Assignment → Bool → Type 0) (old new : K) (disk : D) → (has_failed → ⊥) → plan new ≡ plan old → voc new ≡ voc old → record_of new ≡ record_of old → writes new ≡ writes old → live new ≡ live old →
+    pub keeps_still : (has_failed : Type 0) (is_lost : Event → Type 0) (old new : K) (disk : D) → (has_failed → ⊥) → plan new ≡ plan old → voc new ≡ voc old → record_of new ≡ record_of old → writes new ≡ writes old → live new ≡ live old →
         IsTrue (live old) → sits new disk → (IsTrue (writes old) → ForSome (content disk) (λ _. (c : List ℕ) → may_leave disk c → OpensWith (plan old) (voc old) (record_of old) c)) →
         Keeps content may_leave moment left_since plan voc record_of question writes live sits faults has_failed is_lost old new disk disk
     keeps_still has_failed is_lost old new disk well same_plan same_voc same_record same_writes same_live is_live belongs lasts = record {
@@ -200,9 +228,9 @@ module _ {D : Type 0} (content : D → Option (List ℕ)) (may_leave : D → Lis
     }
 
     -- calls one after another
-    pub keeps_then : (has_failed : Type 0) (is_lost is_then : Assignment → Bool → Type 0) (one two three : K) (x y z : D) → plan two ≡ plan one →
-        ((question : Assignment) (reply : Bool) → is_lost question reply → is_then question reply) →
-        Keeps content may_leave moment left_since plan voc record_of question writes live sits faults ⊥ (λ q r. ⊥) one two x y →
+    pub keeps_then : (has_failed : Type 0) (is_lost is_then : Event → Type 0) (one two three : K) (x y z : D) → plan two ≡ plan one →
+        ((e : Event) → is_lost e → is_then e) →
+        Keeps content may_leave moment left_since plan voc record_of question writes live sits faults ⊥ (λ e. ⊥) one two x y →
         Keeps content may_leave moment left_since plan voc record_of question writes live sits faults has_failed is_lost two three y z →
         Keeps content may_leave moment left_since plan voc record_of question writes live sits faults has_failed is_then one three x z
     keeps_then has_failed is_lost is_then one two three x y z same_plan known first second = record {
@@ -229,8 +257,8 @@ module _ {D : Type 0} (content : D → Option (List ℕ)) (may_leave : D → Lis
     }
 
     -- by another word for the failure
-    pub keeps_as : (bad worse : Type 0) (is_lost is_then : Assignment → Bool → Type 0) (old new : K) (x y : D) → (worse → bad) → (bad → worse) →
-        (worse → (question : Assignment) (reply : Bool) → is_lost question reply → is_then question reply) →
+    pub keeps_as : (bad worse : Type 0) (is_lost is_then : Event → Type 0) (old new : K) (x y : D) → (worse → bad) → (bad → worse) →
+        (worse → (e : Event) → is_lost e → is_then e) →
         Keeps content may_leave moment left_since plan voc record_of question writes live sits faults bad is_lost old new x y →
         Keeps content may_leave moment left_since plan voc record_of question writes live sits faults worse is_then old new x y
     keeps_as bad worse is_lost is_then old new x y to fro known keeps = record {
@@ -247,5 +275,5 @@ module _ {D : Type 0} (content : D → Option (List ℕ)) (may_leave : D → Lis
       persists = λ w bytes told no. keeps.persists w bytes told (λ b. no (fro b));
       fails = λ failed.
           let f = keeps.fails (to failed) in
-          record { question = f.question; reply = f.reply; is_put = f.is_put; lost = known failed f.question f.reply f.lost; now = f.now; any_moment = f.any_moment };
+          record { event = f.event; tried = f.tried; lost = known failed f.event f.lost; now = f.now; any_moment = f.any_moment };
     }

@@ -1,5 +1,5 @@
 -- A session beside its events.
-use Rattle.std.specs.Prelude.{◌≡◌, IsTrue, Bool, List, Option}
+use Rattle.std.specs.Prelude.{◌≡◌, ◌⊎◌, IsTrue, Bool, List, Option, Some}
 use Rattle.assign.specs.Assignment.{Assignment, widened}
 use Rattle.assign.specs.Events.{Answer}
 use Rattle.assign.specs.declared.events.Event.{Event}
@@ -17,6 +17,14 @@ answer_event q reply = events.Answer (widened q) reply
 
 abbrev pub event_for : Answer → Event
 event_for a = answer_event a.question a.yes
+
+-- an event that is added: that of an answer, or a take-back
+abbrev pub IsAddable : Event → Type 0
+IsAddable e = ((a : Answer) × (e ≡ event_for a)) ⊎ (e ≡ events.Back)
+
+-- that of an answer to the question that is put, or a take-back
+abbrev pub IsTried : Option Assignment → Event → Type 0
+IsTried put e = ((q : Assignment) × (reply : Bool) × (put ≡ Some q) × (e ≡ answer_event q reply)) ⊎ (e ≡ events.Back)
 
 -- after these answers nothing is open, and the question may be put
 pub record IsLawfulAfter (l : Language) (plan : Plan) (t : List Answer) (q : Assignment) : Type 0 where

@@ -1,14 +1,17 @@
 //! A session beside the events that led to it.
 
-ghost use Rattle.std.specs.Prelude.{◌≡◌, ◌↔◌, ◌<◌, ◌+◌, ◌++◌, ◌∷◌, [], None, Some, IsSome, IsTrue, OnOk, All, length, vec_len, vec_capacity};
+ghost use Rattle.std.specs.Prelude.{◌≡◌, ◌≢◌, ◌↔◌, ◌<◌, ◌+◌, ◌++◌, ◌∷◌, [], None, Some, IsSome, IsTrue, IfOk, OnOk, All, length, vec_len, vec_capacity};
 ghost use Rattle.std.specs.Option.{ForSome};
+ghost use Rattle.assign.specs.Events.{standing};
 ghost use Rattle.language.specs.Answers.{standing_on};
 ghost use Rattle.answer_journal.specs.Storable.{IsStorableEvent};
 ghost use Rattle.session_core.specs.Settled.{IsSettled};
 ghost use Rattle.session_core.specs.Standing.{Stands, knowledge_of, open_in};
 ghost use Rattle.session_store.specs.Kept.{IsLawfulAfter, answer_event};
+ghost use Rattle.session_store.specs.Replay.{HavePlaces, standing_numbers};
 ghost use Rattle.session_store.specs.Held.{lang_held, plan_held, question_held, events_held, IsHeld};
 
+use crate::replay::{replay_records, standing_records};
 use answer_journal::MOST_RECORDS;
 use assign::{Event, Partial};
 use language::Memory;
@@ -27,6 +30,7 @@ impl Held {
         requires stands { Stands session (standing_on (knowledge_of session).lang events.items) }
         requires few { length events.items < 1000000 }
         requires storable { All IsStorableEvent events.items }
+        requires places { HavePlaces (knowledge_of session).lang (knowledge_of session).plan events.items }
         ensures sound { IsHeld result }
         ensures session { result.session ≡ Some session }
         ensures events { events_held result ≡ events.items }
@@ -122,6 +126,48 @@ impl Held {
                 self.session = Some(asking.answer(yes));
             }
             Some(Session::Idle(_)) | Some(Session::Over(_)) | None => unreachable!(),
+        }
+    }
+
+    /// Takes all memory for a take-back: the place of its event, and the records of the answers that it leaves.
+    pub(crate) fn ready_back(&mut self) -> Result<Vec<u32>, Memory>
+        requires sound { IsHeld self.old }
+        ensures session { self.new.session ≡ self.old.session }
+        ensures events { events_held self.new ≡ events_held self.old }
+        ensures room { OnOk result (vec_len self.new.events < vec_capacity self.new.events) }
+        ensures records { IfOk result (λ records. records.items ≡ standing_numbers (events_held self.old ++ Event.Back ∷ [])) }
+    {
+        self.make_room()?;
+        match standing_records(*self.events.allocator(), &self.events) {
+            Ok(mut records) => {
+                records.pop();
+                Ok(records)
+            }
+            Err(_) => Err(Memory),
+        }
+    }
+
+    /// Adds a take-back, in a place that was taken, and leads the session from its beginning through the answers that it
+    /// leaves.
+    pub(crate) fn add_back(&mut self, records: &[u32])
+        requires sound { IsHeld self.old }
+        requires stands { standing (events_held self.old) ≢ [] }
+        requires records { records.now ≡ standing_numbers (events_held self.old ++ Event.Back ∷ []) }
+        requires few { length (events_held self.old) + 1 < 1000000 }
+        requires room { vec_len self.old.events < vec_capacity self.old.events }
+        ensures events { events_held self.new ≡ events_held self.old ++ Event.Back ∷ [] }
+        ensures settled { IsSettled (lang_held self.new) (plan_held self.new) (standing_on (lang_held self.new) (events_held self.new)) (question_held self.new) }
+        ensures lang { lang_held self.new ≡ lang_held self.old }
+        ensures plan { plan_held self.new ≡ plan_held self.old }
+        ensures sound { IsHeld self.new }
+    {
+        self.events.push(Event::Back).unwrap();
+        match self.session.take() {
+            Some(session) => match replay_records(session.restart(), &self.events, records) {
+                Ok(next) => self.session = Some(next),
+                Err(_) => unreachable!(),
+            },
+            None => unreachable!(),
         }
     }
 }

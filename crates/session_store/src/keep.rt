@@ -1,15 +1,17 @@
-ghost use Rattle.std.specs.Prelude.{◌≡◌, ◌≤◌, ◌<◌, All, ◌+◌, ◌⊎◌, ◌↔◌, ◌++◌, ◌∷◌, [], ℕ, Bool, List, Option, Some, None, OnOk, OnErr, IfErr, IsErrOf, IsSome, IsTrue, IsFalse, length};
-ghost use Rattle.std.specs.Option.{ForSome, ForNone};
+ghost use Rattle.std.specs.Prelude.{◌≡◌, ◌≢◌, ◌<◌, All, ◌+◌, ◌⊎◌, ◌↔◌, [], ℕ, Bool, List, Option, Some, None, OnOk, OnErr, IfErr, IsErrOf, IsSome, IsTrue, IsFalse, length};
+ghost use Rattle.std.specs.Option.{ForSome};
 ghost use Rattle.assign.specs.Assignment.{Assignment};
+ghost use Rattle.assign.specs.Events.{standing};
 ghost use Rattle.assign.specs.declared.events.Event.{Event};
 ghost use Rattle.assign.specs.declared.events.Plan.{Plan};
 ghost use Rattle.language.specs.Language.{Language};
 ghost use Rattle.language.specs.Answers.{standing_on};
 ghost use Rattle.disk_model.specs.Disk.{LeavesOnly, Rose};
 ghost use Rattle.session_core.specs.Standing.{Stands, knowledge_of, open_in};
-ghost use Rattle.session_core.specs.Settled.{IsSettled};
 ghost use Rattle.session_store.specs.Held.{IsWide};
+ghost use Rattle.session_store.specs.Keeping.{HasKept, IsUnmoved, HasSameTerms, GoesOn};
 ghost use Rattle.session_store.specs.Kept.{IsLawfulAfter, answer_event};
+ghost use Rattle.session_store.specs.Replay.{HavePlaces};
 ghost use Rattle.session_store.specs.Left.{OpensWith, OpensWithOrWithout, LeavesNow};
 
 use crate::SFault;
@@ -76,10 +78,7 @@ pub trait Keep<D: Disk> {
         requires lawful { IsLawfulAfter (lang self.old) (plan self.old) (standing_on (lang self.old) (record_of self.old)) q }
         ensures put { question self.new ≡ Some q }
         ensures events { record_of self.new ≡ record_of self.old }
-        ensures lang { lang self.new ≡ lang self.old }
-        ensures plan { plan self.new ≡ plan self.old }
-        ensures voc { voc self.new ≡ voc self.old }
-        ensures writes { writes self.new ≡ writes self.old }
+        ensures same { HasSameTerms lang plan voc writes self.old self.new }
         ensures live { live self.new ≡ live self.old }
         ensures sound { sound self.new }
         ensures sits { (disk : D) → sits self.old disk → sits self.new disk };
@@ -92,16 +91,9 @@ pub trait Keep<D: Disk> {
         requires live { IsTrue (live self.old) }
         requires room { length (record_of self.old) + 1 < 1000000 }
         requires sits { sits self.old disk.old }
-        ensures ok { ForSome (question self.old) (λ q. OnOk result (record_of self.new ≡ record_of self.old ++ answer_event q «yes» ∷ [])) }
-        // where the answers lead to where nothing is open, no question is put
-        ensures settled { OnOk result (IsSettled (lang self.new) (plan self.new) (standing_on (lang self.new) (record_of self.new)) (question self.new)) }
-        ensures still_live { OnOk result (IsTrue (live self.new)) }
-        ensures err { OnErr result (record_of self.new ≡ record_of self.old) }
-        ensures err_question { OnErr result (question self.new ≡ question self.old) }
-        ensures lang { lang self.new ≡ lang self.old }
-        ensures plan { plan self.new ≡ plan self.old }
-        ensures voc { voc self.new ≡ voc self.old }
-        ensures writes { writes self.new ≡ writes self.old }
+        ensures ok { ForSome (question self.old) (λ q. OnOk result (HasKept (lang self.new) (plan self.new) (record_of self.old) (record_of self.new) (answer_event q «yes») (question self.new) (live self.new))) }
+        ensures err { OnErr result (IsUnmoved (record_of self.old) (record_of self.new) (question self.old) (question self.new)) }
+        ensures same { HasSameTerms lang plan voc writes self.old self.new }
         ensures sound { sound self.new }
         ensures sits { sits self.new disk.new }
 
@@ -109,20 +101,46 @@ pub trait Keep<D: Disk> {
         ensures faults { IfErr result (λ e. (e ≡ SFault.Memory) ⊎ (e ≡ SFault.Journal JFault.DiskFault)) }
         ensures memory { IsErrOf result SFault.Memory → (live self.new ≡ live self.old) × (disk.new ≡ disk.old) }
         ensures failed { IsErrOf result (SFault.Journal JFault.DiskFault) → IsTrue (writes self.old) × IsFalse (live self.new) × Rose (D.faults disk.old) (D.faults disk.new) }
-        ensures later { D.faults disk.old ≤ D.faults disk.new }
+        ensures disk { GoesOn D.content D.faults disk.old disk.new }
 
         // Where nothing is written, the disk isn't touched. Else a crash at any moment leaves the events from before the call,
         // with the new one or without, and after `Ok` with it.
         ensures unwritten { IsFalse (writes self.old) → disk.new ≡ disk.old }
         ensures written { IsTrue (writes self.old) → ForSome (D.content disk.old) (λ _. OnOk result (LeavesNow D.content D.may_leave (OpensWith (plan self.old) (voc self.old) (record_of self.new)) disk.new)) }
-        ensures any_moment { IsTrue (writes self.old) → ForSome (D.content disk.old) (λ _. ForSome (question self.old) (λ q. LeavesOnly D.moment D.left_since disk.old disk.new (OpensWithOrWithout (plan self.old) (voc self.old) (record_of self.old) (answer_event q «yes»)))) }
+        ensures any_moment { IsTrue (writes self.old) → ForSome (D.content disk.old) (λ _. ForSome (question self.old) (λ q. LeavesOnly D.moment D.left_since disk.old disk.new (OpensWithOrWithout (plan self.old) (voc self.old) (record_of self.old) (answer_event q «yes»)))) };
 
-        // A disk that tells goes on telling, and one that doesn't never begins to.
-        ensures silent { ForNone (D.content disk.old) (D.content disk.new ≡ None) }
-        ensures told { ForSome (D.content disk.old) (λ _. IsSome (D.content disk.new)) };
+    /// Keeps that the last answer that stands is taken back, and then leads the session from its beginning through those that
+    /// are left. A question that was put is dropped: what is open then is what these answers lead to. All memory is taken
+    /// first. `Memory` and a fault of the disk leave what they leave after `answer`.
+    fn take_back(&mut self, disk: &mut D) -> Result<(), SFault>
+        requires sound { sound self.old }
+        requires stands { standing (record_of self.old) ≢ [] }
+        requires live { IsTrue (live self.old) }
+        requires room { length (record_of self.old) + 1 < 1000000 }
+        requires sits { sits self.old disk.old }
+        ensures ok { OnOk result (HasKept (lang self.new) (plan self.new) (record_of self.old) (record_of self.new) Event.Back (question self.new) (live self.new)) }
+        ensures err { OnErr result (IsUnmoved (record_of self.old) (record_of self.new) (question self.old) (question self.new)) }
+        ensures same { HasSameTerms lang plan voc writes self.old self.new }
+        ensures sound { sound self.new }
+        ensures sits { sits self.new disk.new }
+
+        // It doesn't give up by itself, but for want of memory.
+        ensures faults { IfErr result (λ e. (e ≡ SFault.Memory) ⊎ (e ≡ SFault.Journal JFault.DiskFault)) }
+        ensures memory { IsErrOf result SFault.Memory → (live self.new ≡ live self.old) × (disk.new ≡ disk.old) }
+        ensures failed { IsErrOf result (SFault.Journal JFault.DiskFault) → IsTrue (writes self.old) × IsFalse (live self.new) × Rose (D.faults disk.old) (D.faults disk.new) }
+        ensures disk { GoesOn D.content D.faults disk.old disk.new }
+
+        // Where nothing is written, the disk isn't touched. Else a crash at any moment leaves the events from before the call,
+        // with the take-back or without, and after `Ok` with it.
+        ensures unwritten { IsFalse (writes self.old) → disk.new ≡ disk.old }
+        ensures written { IsTrue (writes self.old) → ForSome (D.content disk.old) (λ _. OnOk result (LeavesNow D.content D.may_leave (OpensWith (plan self.old) (voc self.old) (record_of self.new)) disk.new)) }
+        ensures any_moment { IsTrue (writes self.old) → ForSome (D.content disk.old) (λ _. LeavesOnly D.moment D.left_since disk.old disk.new (OpensWithOrWithout (plan self.old) (voc self.old) (record_of self.old) Event.Back)) };
 
     /// There are never more records than a journal takes.
     ghost few: { (keep : Self) → sound keep → length (record_of keep) < 1000000 };
+
+    /// Each take-back finds an answer, and the answers that stand have their places.
+    ghost places: { (keep : Self) → sound keep → HavePlaces (lang keep) (plan keep) (record_of keep) };
 
     /// What is written is there, whatever a crash leaves.
     ghost lasts: { (keep : Self) (disk : D) → IsTrue (writes keep) → IsTrue (live keep) → sits keep disk →

@@ -1,18 +1,24 @@
 //! What holds of the replay of every list of events. These functions do nothing.
 
-ghost use Rattle.session_store.specs.Laws.{ReplayIsState, FrontsHavePlaces, StrayIsFirst};
+ghost use Rattle.session_store.specs.Laws.{RecordsAreAnswers, ReplayIsState, FrontsHavePlaces, StrayIsFirst};
+
+/// What is replayed are the answers that stand, each with the number of the record that holds it.
+pub fn records_are_answers()
+    ensures { RecordsAreAnswers }
+{}
 
 /// Where events have their places, they lead to the state to which the answers that stand lead.
 pub fn replay_is_state()
     ensures { ReplayIsState }
 {}
 
-/// Where events have their places, so have the first of them.
+/// Where events have their places, so have others after which the first of their answers stand: those with a take-back more.
 pub fn fronts_have_places()
     ensures { FrontsHavePlaces }
 {}
 
-/// The event that a replay names is the first that has no place.
+/// The record that a replay names is the first take-back at which no answer stands. Without one it is that of the first answer
+/// that stands and has no place.
 pub fn stray_is_first()
     ensures { StrayIsFirst }
 {}

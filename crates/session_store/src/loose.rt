@@ -54,6 +54,8 @@ impl<D: Disk> Keep<D> for Loose {
 
     ghost few = { λ keep sound. sound.few };
 
+    ghost places = { λ keep sound. sound.places };
+
     ghost lasts = { λ keep disk writes live sits. absurd (false_is_not_true writes) };
 
     fn session(&self) -> &Session {
@@ -80,6 +82,12 @@ impl<D: Disk> Keep<D> for Loose {
         let event = self.held.event(yes);
         self.held.make_room()?;
         self.held.add(event, yes);
+        Ok(())
+    }
+
+    fn take_back(&mut self, _disk: &mut D) -> Result<(), SFault> {
+        let records = self.held.ready_back()?;
+        self.held.add_back(&records);
         Ok(())
     }
 }

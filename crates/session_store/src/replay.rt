@@ -5,11 +5,13 @@ ghost use Rattle.language.specs.Answers.{standing_on};
 ghost use Rattle.answer_journal.specs.Storable.{IsStorableEvent};
 ghost use Rattle.session_core.specs.Standing.{Stands, knowledge_of, open_in};
 ghost use Rattle.session_core.specs.Settled.{IsSettled};
-ghost use Rattle.session_store.specs.Replay.{event_of, is_past, MovesTo, StaysAt, MovesBy, HasNoPlace, HavePlaces, NamesStray};
+ghost use Rattle.session_store.specs.Held.{IsWide};
+ghost use Rattle.session_store.specs.Replay.{answer_to, IsAnswer, answer_in, is_past, MovesTo, StaysAt, MovesBy, HasNoPlace, standing_numbers, empty_back, NamesEmptyBack, AnswersHavePlaces, IsStrayIn, HavePlaces, NamesStray};
 
 use crate::SFault;
 use assign::{Event, MOST_VARIABLES, Partial};
 use session_core::{Asking, Idle, Session};
+use std::alloc::Global;
 
 /// Whether a variable past the first n has a value.
 fn is_past(question: &Partial, n: u8) -> bool
@@ -55,11 +57,11 @@ fn session_answered(session: Session, question: &Partial, yes: bool) -> Option<S
     }
 }
 
-/// The session after the event of an answer, if that has a place.
+/// The session after an answer, if that has a place.
 fn with_answer(session: Session, question: &Partial, yes: bool) -> Option<Session>
     requires { length question.now ≡ 128 }
-    ensures some { IfSome result (MovesBy session (event_of question.now «yes»)) }
-    ensures none { IfNone result (HasNoPlace session (event_of question.now «yes»)) }
+    ensures some { IfSome result (MovesBy session (answer_to question.now «yes»)) }
+    ensures none { IfNone result (HasNoPlace session (answer_to question.now «yes»)) }
 {
     let n = session.lang().n();
     if is_past(question, n) {
@@ -68,19 +70,72 @@ fn with_answer(session: Session, question: &Partial, yes: bool) -> Option<Sessio
     session_answered(session, &question.cut_to(n), yes)
 }
 
-/// The session after one event more, if that has a place.
+/// The session after the answer of an event, if that has a place.
 fn with_event(session: Session, event: &Event) -> Option<Session>
-    requires { IsStorableEvent event.now }
-    ensures some { IfSome result (MovesBy session event.now) }
-    ensures none { IfNone result (HasNoPlace session event.now) }
+    requires wide { IsWide event.now }
+    requires answer { IsAnswer event.now }
+    ensures some { IfSome result (MovesBy session (answer_in event.now)) }
+    ensures none { IfNone result (HasNoPlace session (answer_in event.now)) }
 {
     match event {
         Event::Answer { question, yes } => with_answer(session, question, *yes),
+        Event::Back => unreachable!(),
     }
 }
 
-/// The session after these events, or the number of the first that has no place, from 1.
-pub(crate) fn replay(session: Session, events: &[Event]) -> Result<Session, SFault>
+/// The numbers of the records of the answers that stand after these events, in order. The first event is record 1.
+///
+/// `Stray` names the first take-back at which no answer stands.
+pub fn standing_records(alloc: Global, events: &[Event]) -> Result<Vec<u32>, SFault>
+    requires few { length events.now ≤ 1000000 }
+    ensures records { IfOk result (λ records. records.items ≡ standing_numbers events.now) }
+    ensures found { OnOk result (empty_back events.now ≡ None) }
+    ensures fault { IfErr result (NamesEmptyBack events.now) }
+{
+    let mut records = Vec::new(alloc);
+    for (i, event) in events.iter().enumerate() {
+        match event {
+            Event::Answer { .. } => records.push(i as u32 + 1)?,
+            Event::Back => {
+                if records.pop().is_none() {
+                    return Err(SFault::Stray(i as u32 + 1));
+                }
+            }
+        }
+    }
+    Ok(records)
+}
+
+/// The session after the answers that stand, whose records these are, or the first record whose answer has no place.
+pub(crate) fn replay_records(
+    session: Session,
+    events: &[Event],
+    records: &[u32],
+) -> Result<Session, u32>
+    requires wide { All IsWide events.now }
+    requires few { length events.now ≤ 1000000 }
+    requires records { records.now ≡ standing_numbers events.now }
+    requires starts { Stands session [] }
+    requires idle { open_in session ≡ None }
+    ensures lang { IfOk result (λ next. (knowledge_of next).lang ≡ (knowledge_of session).lang) }
+    ensures plan { IfOk result (λ next. (knowledge_of next).plan ≡ (knowledge_of session).plan) }
+    ensures stands { IfOk result (λ next. Stands next (standing_on (knowledge_of session).lang events.now)) }
+    ensures settled { IfOk result (λ next. IsSettled (knowledge_of session).lang (knowledge_of session).plan (standing_on (knowledge_of session).lang events.now) (open_in next)) }
+    ensures places { OnOk result (AnswersHavePlaces (knowledge_of session).lang (knowledge_of session).plan events.now) }
+    ensures stray { IfErr result (IsStrayIn (knowledge_of session).lang (knowledge_of session).plan events.now) }
+{
+    let mut session = session;
+    for record in records {
+        match with_event(session, &events[*record as usize - 1]) {
+            Some(next) => session = next,
+            None => return Err(*record),
+        }
+    }
+    Ok(session)
+}
+
+/// The session after these events, or the number of the first record that has no place.
+pub(crate) fn replay(alloc: Global, session: Session, events: &[Event]) -> Result<Session, SFault>
     requires storable { All IsStorableEvent events.now }
     requires few { length events.now ≤ 1000000 }
     requires starts { Stands session [] }
@@ -92,12 +147,9 @@ pub(crate) fn replay(session: Session, events: &[Event]) -> Result<Session, SFau
     ensures places { OnOk result (HavePlaces (knowledge_of session).lang (knowledge_of session).plan events.now) }
     ensures stray { IfErr result (NamesStray (knowledge_of session).lang (knowledge_of session).plan events.now) }
 {
-    let mut session = session;
-    for (i, event) in events.iter().enumerate() {
-        match with_event(session, event) {
-            Some(next) => session = next,
-            None => return Err(SFault::Stray(i as u32 + 1)),
-        }
+    let records = standing_records(alloc, events)?;
+    match replay_records(session, events, &records) {
+        Ok(next) => Ok(next),
+        Err(record) => Err(SFault::Stray(record)),
     }
-    Ok(session)
 }

@@ -1,12 +1,14 @@
-ghost use Rattle.std.specs.Prelude.{◌≡◌, ◌≤◌, ◌⊎◌, [], List, ℕ, IfOk, IfErr, IsErrOf, IsSome, OnOk, IsTrue, Some, None, true, length};
+ghost use Rattle.std.specs.Prelude.{◌≡◌, ◌≤◌, ◌<◌, ◌+◌, ◌⊎◌, [], List, ℕ, IfOk, IfErr, IsErrOf, IsSome, OnOk, IsTrue, IsFalse, Some, None, true, length};
 ghost use Rattle.std.specs.Option.{ForSome, ForNone};
 ghost use Rattle.language.specs.Answers.{standing_on};
-ghost use Rattle.disk_model.specs.Disk.{LeavesOnly, Rose};
+ghost use Rattle.disk_model.specs.Disk.{LeavesOnly, Only, Rose};
+ghost use Rattle.answer_journal.specs.End.{Sits, HasNew, IsOldOrNew, IsSame};
 ghost use Rattle.answer_journal.specs.Journal.{HasNoSession};
 ghost use Rattle.answer_journal.specs.Making.{IsCreating};
-ghost use Rattle.answer_journal.specs.Steps.{IsOnlyRead};
+ghost use Rattle.answer_journal.specs.Steps.{IsOnlyRead, IsOnDisk};
 ghost use Rattle.voc_read.specs.Vocabulary.{IsVocabulary, refusal_of_vocabulary};
 ghost use Rattle.session_core.specs.Settled.{IsSettled};
+ghost use Rattle.session_store.specs.Keeping.{GoesOn};
 ghost use Rattle.session_store.specs.Left.{SaysSession};
 ghost use Rattle.session_store.specs.Replay.{HavePlaces};
 ghost use Rattle.session_store.specs.Opening.{NoLanguage, NotMade, NotOpened};
@@ -130,7 +132,7 @@ impl Store {
         } = answer_journal::open(alloc, disk)?;
         let lang = language_of(alloc, &voc)?;
         let start = begin(alloc, lang, plan)?;
-        let session = replay(start, &events)?;
+        let session = replay(alloc, start, &events)?;
         Ok(Store {
             held: Held::new(session, events),
             journal,
@@ -145,6 +147,48 @@ impl Store {
     {
         &self.voc
     }
+}
+
+/// Raises a journal where it isn't raised, so that a take-back may be added.
+fn raised<D: Disk>(journal: &mut Journal, disk: &mut D) -> Result<(), JFault>
+    requires live { IsTrue journal.old.live }
+    requires sits { ForSome (D.content disk.old) (Sits journal.old) }
+    requires durable { ForSome (D.content disk.old) (λ bytes. Only bytes (D.may_leave disk.old)) }
+    ensures same { ForSome (D.content disk.old) (λ old. OnOk result (IsOnDisk (D.content disk.new) (D.may_leave disk.new) (IsSame old))) }
+    ensures sits { ForSome (D.content disk.new) (λ bytes. OnOk result (Sits journal.new bytes)) }
+    ensures durable { ForSome (D.content disk.new) (λ bytes. OnOk result (Only bytes (D.may_leave disk.new))) }
+    ensures counted { journal.new.records ≡ journal.old.records }
+    ensures raised { OnOk result (IsTrue journal.new.raised) }
+    ensures live { OnOk result (IsTrue journal.new.live) }
+    ensures disk { GoesOn D.content D.faults disk.old disk.new }
+    ensures any_moment { ForSome (D.content disk.old) (λ old. LeavesOnly D.moment D.left_since disk.old disk.new (IsSame old)) }
+    // the disk alone makes it give up
+    ensures failed { IfErr result (λ _. Rose (D.faults disk.old) (D.faults disk.new) × IsFalse journal.new.live) }
+{
+    if journal.is_raised() {
+        return Ok(());
+    }
+    journal.raise(disk)
+}
+
+/// Adds a take-back, after the journal was raised where it wasn't.
+fn append_back<D: Disk>(journal: &mut Journal, disk: &mut D) -> Result<(), JFault>
+    requires live { IsTrue journal.old.live }
+    requires room { journal.old.records < 1000000 }
+    requires sits { ForSome (D.content disk.old) (Sits journal.old) }
+    requires durable { ForSome (D.content disk.old) (λ bytes. Only bytes (D.may_leave disk.old)) }
+    ensures added { ForSome (D.content disk.old) (λ old. OnOk result (IsOnDisk (D.content disk.new) (D.may_leave disk.new) (HasNew old Event.Back))) }
+    ensures sits { ForSome (D.content disk.new) (λ bytes. OnOk result (Sits journal.new bytes)) }
+    ensures durable { ForSome (D.content disk.new) (λ bytes. OnOk result (Only bytes (D.may_leave disk.new))) }
+    ensures counted { OnOk result (journal.new.records ≡ journal.old.records + 1) }
+    ensures live { OnOk result (IsTrue journal.new.live) }
+    ensures disk { GoesOn D.content D.faults disk.old disk.new }
+    ensures any_moment { ForSome (D.content disk.old) (λ old. LeavesOnly D.moment D.left_since disk.old disk.new (IsOldOrNew old Event.Back)) }
+    // the disk alone makes it give up
+    ensures failed { IfErr result (λ _. Rose (D.faults disk.old) (D.faults disk.new) × IsFalse journal.new.live) }
+{
+    raised(journal, disk)?;
+    journal.append(disk, &Event::Back)
 }
 
 impl<D: Disk> Keep<D> for Store {
@@ -169,6 +213,8 @@ impl<D: Disk> Keep<D> for Store {
     ghost sits = { λ store disk. SitsOn store (D.content disk) (D.may_leave disk) };
 
     ghost few = { λ keep sound. sound.held.few };
+
+    ghost places = { λ keep sound. sound.held.places };
 
     ghost lasts = { λ keep disk writes live sits bytes told c left. opens_there keep.journal (plan_of keep) (voc_of keep) (events_of keep) (D.may_leave disk) bytes c (sits live bytes told) left };
 
@@ -198,6 +244,17 @@ impl<D: Disk> Keep<D> for Store {
         match self.journal.append(disk, &event) {
             Ok(()) => {
                 self.held.add(event, yes);
+                Ok(())
+            }
+            Err(_) => Err(SFault::Journal(JFault::DiskFault)),
+        }
+    }
+
+    fn take_back(&mut self, disk: &mut D) -> Result<(), SFault> {
+        let records = self.held.ready_back()?;
+        match append_back(&mut self.journal, disk) {
+            Ok(()) => {
+                self.held.add_back(&records);
                 Ok(())
             }
             Err(_) => Err(SFault::Journal(JFault::DiskFault)),

@@ -5,7 +5,9 @@ ghost use Rattle.disk_model.specs.MemDisk.{content_of, images_of};
 ghost use Rattle.session_store.specs.Store.{IsSound, SitsOn};
 
 use crate::files::{THREE, TWO, Told, disk_with, file_of, question_of};
-use crate::steps::{Stand, answer, events_of, is_live, plan_of, put, stand_of};
+use crate::steps::{
+    Stand, answer, events_of, is_live, plan_of, put, stand_of, standing_count, take_back,
+};
 use answer_journal::JFault;
 use assign::{Event, Plan};
 use disk_model::{FuseDisk, MemDisk};
@@ -226,6 +228,35 @@ fn each_failing_call_of_an_answer(rt: HostRuntime) -> Result<(), Fail> {
         for passes in 0..6u32 {
             check_failing(&rt, rt.alloc(), count, *told, passes)?;
         }
+    }
+    Ok(())
+}
+
+/// Opens a store with two answers, and takes the last one back with so many calls to the disk that pass.
+fn taken_back(rt: &impl Abort, alloc: Global, passes: u32) -> Result<(bool, MemDisk), Fail> {
+    let mut disk = disk_after(rt, alloc, 2)?;
+    let mut store = Store::open(alloc, &mut disk)?;
+    let mut fuse = FuseDisk::new(disk, passes);
+    let got = take_back(rt, &mut store, &mut fuse);
+    let more = if got.is_ok() { (3, 1) } else { (2, 2) };
+    assert_eq!(rt; is_live::<FuseDisk, Store>(&store), got.is_ok());
+    assert_eq!(rt; standing_count::<FuseDisk, Store>(&store), more.1);
+    assert_eq!(rt; events_of::<FuseDisk, Store>(&store).len(), more.0);
+    Ok((got.is_ok(), fuse.into_inner()))
+}
+
+/// The first take-back raises the journal with four calls, and takes four more. It has written its gate with the seventh.
+#[test]
+fn each_failing_call_of_a_take_back(rt: HostRuntime) -> Result<(), Fail> {
+    let alloc = rt.alloc();
+    for passes in 0..10u32 {
+        let (took, mut disk) = taken_back(&rt, alloc, passes)?;
+        assert_eq!(rt; took, passes >= 8);
+        let store = Store::open(alloc, &mut disk)?;
+        let events = events_of::<MemDisk, Store>(&store).len();
+        let standing = standing_count::<MemDisk, Store>(&store);
+        let wanted = if passes >= 7 { (3, 1) } else { (2, 2) };
+        assert_eq!(rt; (events, standing), wanted, "{passes}");
     }
     Ok(())
 }

@@ -37,6 +37,26 @@ fn push_record(bytes: &mut Vec<u8>, kind: u8, payload: &[u8]) -> Result<(), Allo
 /// An answer by hand: variables and places of values, and whether it is yes.
 pub(crate) type Told<'a> = (&'a [(u8, u8)], bool);
 
+/// A journal of this plan byte and vocabulary, before its closed gate.
+fn begun(alloc: Global, plan: u8, voc: &str) -> Result<Vec<u8>, AllocError> {
+    let mut bytes = b"QUACQJ1\n".to_vec(alloc)?;
+    let mut payload = vec![in alloc; plan]?;
+    payload.extend_from_slice(voc.as_bytes())?;
+    push_record(&mut bytes, b'S', &payload)?;
+    Ok(bytes)
+}
+
+fn push_answer(alloc: Global, bytes: &mut Vec<u8>, told: Told<'_>) -> Result<(), AllocError> {
+    let (pairs, yes) = told;
+    let count = u8::try_from(pairs.len()).unwrap_or(0);
+    let mut payload = vec![in alloc; u8::from(yes), count]?;
+    for (variable, value) in pairs {
+        payload.push(*variable)?;
+        payload.push(*value)?;
+    }
+    push_record(bytes, b'A', &payload)
+}
+
 /// A journal of this plan byte, vocabulary and answers, and a closed gate.
 pub(crate) fn file_of(
     alloc: Global,
@@ -44,18 +64,28 @@ pub(crate) fn file_of(
     voc: &str,
     told: &[Told<'_>],
 ) -> Result<Vec<u8>, AllocError> {
-    let mut bytes = b"QUACQJ1\n".to_vec(alloc)?;
-    let mut payload = vec![in alloc; plan]?;
-    payload.extend_from_slice(voc.as_bytes())?;
-    push_record(&mut bytes, b'S', &payload)?;
-    for (pairs, yes) in told {
-        let count = u8::try_from(pairs.len()).unwrap_or(0);
-        let mut payload = vec![in alloc; u8::from(*yes), count]?;
-        for (variable, value) in *pairs {
-            payload.push(*variable)?;
-            payload.push(*value)?;
+    let mut bytes = begun(alloc, plan, voc)?;
+    for answer in told {
+        push_answer(alloc, &mut bytes, *answer)?;
+    }
+    bytes.push(0)?;
+    Ok(bytes)
+}
+
+/// A journal of this plan byte and vocabulary that is raised and has these answers, where None takes the last one back.
+pub(crate) fn raised_file_of(
+    alloc: Global,
+    plan: u8,
+    voc: &str,
+    told: &[Option<Told<'_>>],
+) -> Result<Vec<u8>, AllocError> {
+    let mut bytes = begun(alloc, plan, voc)?;
+    push_record(&mut bytes, b'U', &[2])?;
+    for entry in told {
+        match entry {
+            Some(answer) => push_answer(alloc, &mut bytes, *answer)?,
+            None => push_record(&mut bytes, b'B', &[])?,
         }
-        push_record(&mut bytes, b'A', &payload)?;
     }
     bytes.push(0)?;
     Ok(bytes)

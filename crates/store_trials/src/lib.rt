@@ -1,5 +1,4 @@
-//! Sessions over a journal: files that are written out by hand, calls that fail, crashes, and stops beside a session that
-//! never stops.
+//! Sessions over a journal: files that are written out by hand, calls that fail, and crashes.
 #![tactic(auto)]
 
 #[cfg(test)]
@@ -8,7 +7,5 @@ mod created;
 mod files;
 #[cfg(test)]
 mod opened;
-#[cfg(test)]
-mod resumed;
 #[cfg(test)]
 mod steps;

@@ -1,6 +1,6 @@
 //! Files as they open: those whose answers have places, strays, vocabularies that are refused, and what is no journal.
 
-use crate::files::{THREE, TWO, Told, disk_with, file_of, wide};
+use crate::files::{THREE, TWO, Told, disk_with, file_of, raised_file_of, wide};
 use crate::steps::{Stand, events_of, plan_of, stand_of};
 use answer_journal::JFault;
 use assign::Plan;
@@ -321,6 +321,70 @@ static STRAYS: [Row; 20] = [
     ),
 ];
 
+/// A plan byte, answers about `TWO` with take-backs among them, and how their file opens.
+type BackRow = (u8, &'static [Option<Told<'static>>], Opened);
+
+const EXAMPLE: Told<'static> = (&[(0, 0), (1, 1)], false);
+
+const TUPLE: Told<'static> = (&[(0, 0), (1, 0)], true);
+
+const PART: Told<'static> = (&[(0, 0)], true);
+
+/// Take-backs.
+static BACKS: [BackRow; 10] = [
+    // With two answers and a take-back it opens as with the first alone. With both nothing would be open.
+    (
+        2,
+        &[Some(EXAMPLE), Some(TUPLE), None],
+        Opened::Session(Plan::Quacq, 3, At::Asking),
+    ),
+    (
+        2,
+        &[Some(EXAMPLE), None],
+        Opened::Session(Plan::Quacq, 2, At::Idle),
+    ),
+    (
+        3,
+        &[Some(EXAMPLE), None, Some(EXAMPLE), Some(TUPLE)],
+        Opened::Session(Plan::Multi, 4, At::Idle),
+    ),
+    // An answer that was taken back may have had no place.
+    (
+        2,
+        &[Some(PART), None, Some(EXAMPLE)],
+        Opened::Session(Plan::Quacq, 3, At::Asking),
+    ),
+    // Nothing stands that could be taken back.
+    (2, &[None], Opened::Refused(SFault::Stray(1))),
+    (
+        2,
+        &[Some(EXAMPLE), None, None],
+        Opened::Refused(SFault::Stray(3)),
+    ),
+    // That is told before an answer that stands and has no place.
+    (
+        2,
+        &[Some(EXAMPLE), None, None, Some(PART)],
+        Opened::Refused(SFault::Stray(3)),
+    ),
+    // What stands behind a take-back is named by its record.
+    (
+        2,
+        &[Some(EXAMPLE), None, Some(PART)],
+        Opened::Refused(SFault::Stray(3)),
+    ),
+    (
+        2,
+        &[Some(EXAMPLE), Some(TUPLE), None, Some(EXAMPLE)],
+        Opened::Refused(SFault::Stray(4)),
+    ),
+    (
+        2,
+        &[Some(EXAMPLE), Some(TUPLE), None, None, Some(PART)],
+        Opened::Refused(SFault::Stray(5)),
+    ),
+];
+
 /// Vocabularies that are refused, before their answers are looked at, of which the first is a stray.
 static VOCABULARIES: [(&str, VocFault); 10] = [
     ("", VocFault::NotJson),
@@ -380,6 +444,10 @@ fn each_file_opens_so(rt: HostRuntime) -> Result<(), Fail> {
             let bytes = file_of(alloc, *plan, voc, told)?;
             assert_eq!(rt; opens(&rt, alloc, &bytes)?, *wanted, "{plan} {told:?}");
         }
+    }
+    for (plan, told, wanted) in &BACKS {
+        let bytes = raised_file_of(alloc, *plan, TWO, told)?;
+        assert_eq!(rt; opens(&rt, alloc, &bytes)?, *wanted, "{plan} {told:?}");
     }
     for (voc, fault) in &VOCABULARIES {
         let bytes = file_of(alloc, 2, voc, &[(&[(127, 63)], true)])?;

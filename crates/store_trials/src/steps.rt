@@ -1,7 +1,7 @@
 //! Steps of any keeper of a session.
 
-ghost use Rattle.std.specs.Prelude.{◌≡◌, List, None, IsTrue, IsSome};
-ghost use Rattle.assign.specs.Events.{Answer};
+ghost use Rattle.std.specs.Prelude.{◌≡◌, ◌≢◌, [], List, None, IsTrue, IsSome, length};
+ghost use Rattle.assign.specs.Events.{Answer, standing};
 ghost use Rattle.language.specs.Answers.{standing_on};
 ghost use Rattle.session_core.specs.Standing.{Stands, knowledge_of, open_in};
 ghost use Rattle.session_store.specs.Kept.{IsLawfulAfter};
@@ -98,4 +98,36 @@ pub(crate) fn answer<R: Abort, D: Disk, P: Keep<D>>(
     assert!(rt; keep.events().len() < 1000);
     assert!(rt; keep.is_live());
     keep.answer(disk, yes)
+}
+
+/// How many answers stand.
+pub(crate) fn standing_count<D: Disk, P: Keep<D>>(keep: &P) -> u32
+    requires { P.sound keep.now }
+    ensures { result ≡ length (standing_on (P.lang keep.now) (P.record_of keep.now)) }
+{
+    keep.session().answers()
+}
+
+fn has_answers<D: Disk, P: Keep<D>>(keep: &P) -> bool
+    requires { P.sound keep.now }
+    ensures { IsTrue result → standing (P.record_of keep.now) ≢ [] }
+{
+    standing_count::<D, P>(keep) > 0
+}
+
+/// Takes back the last answer that stands.
+pub(crate) fn take_back<R: Abort, D: Disk, P: Keep<D>>(
+    rt: &R,
+    keep: &mut P,
+    disk: &mut D,
+) -> Result<(), SFault>
+    requires sound { P.sound keep.old }
+    requires sits { P.sits keep.old disk.old }
+    ensures sound { P.sound keep.new }
+    ensures sits { P.sits keep.new disk.new }
+{
+    assert!(rt; has_answers::<D, P>(keep));
+    assert!(rt; keep.events().len() < 1000);
+    assert!(rt; keep.is_live());
+    keep.take_back(disk)
 }

@@ -2,7 +2,7 @@ use Rattle.std.proofs.Common.{◌∙◌, sym, ap, subst}
 use Rattle.assign.specs.Assignment.{Assignment}
 use Rattle.language.specs.Language.{variable_count}
 use Rattle.session_core.specs.declared.session.Session.{Session}
-use Rattle.session_store.specs.Replay.{event_of, MovesTo, StaysAt, MovesBy, HasNoPlace}
+use Rattle.session_store.specs.Replay.{answer_to, MovesTo, StaysAt, MovesBy, HasNoPlace}
 use Rattle.session_store.proofs.Replaying.{some_map, none_map, moves_by, stays_by}
 use Rattle.session_store.proofs.replay.with_answer.Goals as goal
 
@@ -11,7 +11,7 @@ returns-clause-some c =
     let s = c.args.session in
     let q = c.args.question.now in
     let Cut : Assignment → Session → Type 0 = λ e next. MovesTo s e c.args.yes next in
-    some_map (Cut c.cut_to.result) (MovesBy s (event_of q c.args.yes)) c.session_answered.result
+    some_map (Cut c.cut_to.result) (MovesBy s (answer_to q c.args.yes)) c.session_answered.result
     (λ next moves. moves_by s q c.args.yes c.n-n.result next (c.n-n.ensures.is ∙ ap variable_count c.lang.ensures.is) (sym c.is_past.ensures ∙ c.if-is_past.false) (let As : Assignment → Type 0 = λ e. Cut e next in subst As c.cut_to.ensures moves)) c.session_answered.ensures.some
 
 pub returns-clause-none : goal.returns-clause-none
@@ -19,5 +19,5 @@ returns-clause-none c =
     let s = c.args.session in
     let q = c.args.question.now in
     let Cut : Assignment → Type 0 = λ e. StaysAt s e c.args.yes in
-    none_map (Cut c.cut_to.result) (HasNoPlace s (event_of q c.args.yes)) c.session_answered.result
+    none_map (Cut c.cut_to.result) (HasNoPlace s (answer_to q c.args.yes)) c.session_answered.result
     (λ stays. stays_by s q c.args.yes c.n-n.result (c.n-n.ensures.is ∙ ap variable_count c.lang.ensures.is) (sym c.is_past.ensures ∙ c.if-is_past.false) (subst Cut c.cut_to.ensures stays)) c.session_answered.ensures.none

@@ -1,6 +1,9 @@
-use Rattle.std.proofs.Common.{rules, ◌≡◌, ◌∙◌, ap, sym, inr}
+use Rattle.std.proofs.Common.{rules, ◌≡◌, ◌∙◌, ap, sym, subst, inr}
 use Rattle.std.proofs.lemmas.Result.{err_from_is_err_and}
 use Rattle.answer_journal.proofs.OnlyRead.{unread}
+use Rattle.session_core.specs.Standing.{knowledge_of}
+use Rattle.session_store.specs.Replay.{HavePlaces}
+use Rattle.session_store.proofs.Placing.{none_placed}
 use Rattle.session_store.specs.Held.{plan_in, plan_held, events_held}
 use Rattle.session_store.proofs.Stores.{not_made, no_voc, one_fault, unless_failed, of_each_error, there_made, told_before}
 use Rattle.session_store.proofs.store.Store.create.Goals as goal
@@ -50,3 +53,8 @@ returns-in_err-journal-clause-some_refusal g c =
     let p = err_from_is_err_and c.from_residual-in_err-journal.result c.from_residual-in_err-journal.ensures.1 in
     let some = c.in_err-journal.ensures.some_refusal in
     rw (p.1, p.2) (some.0, not_made c.args.voc.now some.0 c.in_err-journal.field-0.0 c.in_ok-lang.ensures.taken some.1)
+
+pub new-held-requires-clause-places : goal.new-held-requires-clause-places
+new-held-requires-clause-places g c =
+    let k = knowledge_of c.in_ok-begin.field-0 in
+    subst (HavePlaces k.lang k.plan) (sym c.new.ensures.items) (none_placed k.lang k.plan)

@@ -5,10 +5,12 @@ use Rattle.assign.specs.declared.events.Event.{Event}
 use Rattle.language.specs.Language.{Language}
 use Rattle.voc_read.specs.Vocabulary.{IsVocabulary}
 use Rattle.session_store.specs.Held.{lang_in, plan_in}
-use Rattle.session_store.specs.Left.{OpensWith, LeavesNow}
-use Rattle.session_store.specs.Store.{plan_of, voc_of, events_of}
+use Rattle.disk_model.specs.Disk.{LeavesOnly}
+use Rattle.session_store.specs.Left.{OpensWith, OpensWithOrWithout, LeavesNow}
+use Rattle.session_store.specs.Store.{plan_of, voc_of, events_of, question_of}
 use Rattle.session_store.specs.Kept.{answer_event}
-use Rattle.session_store.proofs.Stores.{sits_as, held_as, nothing_left, now_by_append, told_before, some_once, there_as}
+use Rattle.session_store.proofs.Stores.{sits_as, held_as, nothing_left, left_by_append, now_by_append, told_before, some_once, there_as}
+use Rattle.session_store.proofs.Storables.{answer_has_room}
 use Rattle.session_store.proofs.store.StoreKeep.answer.Goals as goal
 
 abbrev lost : JFault → Result (Unit {0}) JFault
@@ -60,3 +62,22 @@ returns-in-Err-clause-sound g c =
           (λ full. let all = c.in-Err.ensures.full.0 (ap lost full) in let count = c.requires.sound.count c.requires.live in let room = c.requires.room in let no : ⊥ = omega arith in no)
           (λ failed. both_ways _ (c.in-Err.ensures.failed (ap lost failed)).1 live) c.in-Err.ensures.faults);
     }
+
+pub append-requires-clause-has_place : goal.append-requires-clause-has_place
+append-requires-clause-has_place g c = answer_has_room c.args.self.now.journal.raised (question_of c.args.self.now) c.args.yes c.event-event.result c.requires.put c.event-event.ensures.is
+
+pub returns-in-Ok-clause-any_moment : goal.returns-in-Ok-clause-any_moment
+returns-in-Ok-clause-any_moment g c w bytes told q put =
+    let s = c.args.self.now in
+    let Leaves : Event → Type 0 = λ e. LeavesOnly g.D.Disk.moment g.D.Disk.left_since c.args.disk.now c.append.new.disk (OpensWithOrWithout (plan_of s) (voc_of s) (events_of s) e) in
+    subst Leaves (c.event-event.ensures.is q put)
+    (left_by_append g.D.Disk.content g.D.Disk.may_leave g.D.Disk.moment g.D.Disk.left_since g.met.D.Disk.only_now s.journal (plan_of s) (voc_of s) (events_of s) c.event-event.result c.args.disk.now c.append.new.disk bytes
+    (c.requires.sits c.requires.live bytes told) (c.append.ensures.any_moment bytes told))
+
+pub returns-in-Err-clause-any_moment : goal.returns-in-Err-clause-any_moment
+returns-in-Err-clause-any_moment g c w bytes told q put =
+    let s = c.args.self.now in
+    let Leaves : Event → Type 0 = λ e. LeavesOnly g.D.Disk.moment g.D.Disk.left_since c.args.disk.now c.append.new.disk (OpensWithOrWithout (plan_of s) (voc_of s) (events_of s) e) in
+    subst Leaves (c.event-event.ensures.is q put)
+    (left_by_append g.D.Disk.content g.D.Disk.may_leave g.D.Disk.moment g.D.Disk.left_since g.met.D.Disk.only_now s.journal (plan_of s) (voc_of s) (events_of s) c.event-event.result c.args.disk.now c.append.new.disk bytes
+    (c.requires.sits c.requires.live bytes told) (c.append.ensures.any_moment bytes told))
