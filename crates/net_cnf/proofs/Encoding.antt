@@ -17,7 +17,6 @@ use Rattle.language.specs.Language.{Language, variable_count, scope_of, relation
 use Rattle.language.specs.Answers.{IsNetwork}
 use Rattle.language.proofs.Members.{any-map, any_number, find_none, find_some}
 use Rattle.net_cnf.specs.Booleans.{Boolean, boolean, values_of, booleans_of, booleans, number_of, gives, bits}
-use Rattle.net_cnf.specs.declared.literal.Literal.{Literal}
 use Rattle.net_cnf.specs.Clauses.{Clause, is_met, satisfies, literal, some_value, not_both, no_two_values, tuples_on, values_in, rejected, none_rejected, clauses}
 use Rattle.net_cnf.specs.Laws.{IsOnly, ClausesEncode}
 use Rattle.net_cnf.proofs.Numbers.{truth_of, same_truths}
@@ -25,12 +24,12 @@ use Rattle.net_cnf.proofs.Tests.{all-flat_map, all_failing, all_range, at_range,
 
 -- ---- An assignment
 
-record Valued (l : Language) (e : Assignment) (v : ℕ) : Type 0 where
-  value : ℕ
-  fits : value < l.value_count
-  is : value_of e v ≡ Some value
+pub record Valued (l : Language) (e : Assignment) (v : ℕ) : Type 0 where
+  pub value : ℕ
+  pub fits : value < l.value_count
+  pub is : value_of e v ≡ Some value
 
-valued : (l : Language) (e : Assignment) (v : ℕ) → IsQuestion l e → is_complete e ≡ true → v < variable_count l → Valued l e v
+pub valued : (l : Language) (e : Assignment) (v : ℕ) → IsQuestion l e → is_complete e ≡ true → v < variable_count l → Valued l e v
 valued l e v question complete low = go (value_of e v) refl
   where
     inside : v < length e
@@ -40,7 +39,7 @@ valued l e v question complete low = go (value_of e v) refl
     go None none = absurd (both_ways (is_some (value_of e v)) (ap is_some none) (AllPass-from_list_all is_some e complete v None inside))
     go (Some x) some = record { value = x; fits = question.values_fit v None inside x some; is = some }
 
-given_is : (e : Assignment) (v x y : ℕ) → value_of e v ≡ Some y → gives e (boolean v x) ≡ eqb y x
+pub given_is : (e : Assignment) (v x y : ℕ) → value_of e v ≡ Some y → gives e (boolean v x) ≡ eqb y x
 given_is e v x y is = ap (λ (o : Option ℕ). is_same_value o (Some x)) is
 
 -- ---- Literals

@@ -3,3 +3,10 @@ pub mod Tests
 pub mod Encoding
 pub mod Adding
 pub mod Pieces
+pub mod Numerals
+pub mod Literals
+pub mod Cutting
+pub mod Marking
+pub mod Valuing
+pub mod Taking
+pub mod Modelled

@@ -14,7 +14,7 @@ use Rattle.language.specs.declared.candidates.Candidate.{Candidate}
 use Rattle.language.specs.Language.{Language, variable_count, scope_of, relation_of}
 use Rattle.language.specs.Texts.{value_text, values_text}
 use Rattle.net_cnf.specs.Booleans.{Boolean, boolean, booleans, booleans_of, values_of}
-use Rattle.net_cnf.specs.Clauses.{Clause, literal, some_value, each_two, not_both, no_two_values, tuples_on, values_in, rejected, none_rejected, clauses}
+use Rattle.net_cnf.specs.Clauses.{literal, some_value, each_two, not_both, no_two_values, tuples_on, values_in, rejected, none_rejected, clauses}
 use Rattle.net_cnf.specs.Paired.{paired, tuple_there, accepts_there, place_piece, item_piece}
 use Rattle.net_cnf.specs.Texts.{literal_text, clause_text, boolean_text}
 use Rattle.net_cnf.proofs.Numbers.{length-blocks}

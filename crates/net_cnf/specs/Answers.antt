@@ -3,6 +3,8 @@ use Rattle.std.specs.Prelude.{◌≡◌, ◌≢◌, ◌<◌, ◌≤◌, ℕ, ◌
 use Rattle.net_cnf.specs.Texts.{MOST_BYTES}
 use Rattle.net_cnf.specs.declared.fault.CnfFault.{CnfFault}
 use Rattle.net_cnf.specs.declared.fault.CnfFault.TheVariants.{TooLarge, Memory}
+use Rattle.net_cnf.specs.declared.model_fault.ModelFault.{ModelFault}
+use Rattle.net_cnf.specs.declared.model_fault.ModelFault.TheVariants as model
 
 -- the answer, seen as it is stated, is the stated one, want of memory aside
 abbrev pub Writes : {A B : Type 0} → (A → B) → Result B CnfFault → Result A CnfFault → Type 0
@@ -22,3 +24,8 @@ IsTooLong old piece Memory = Unit {0}
 abbrev pub Adds : {A : Type 0} → List ℕ → List ℕ → List ℕ → Result A CnfFault → Type 0
 Adds old piece new (Ok x) = Grown old piece new
 Adds old piece new (Err fault) = IsTooLong old piece fault
+
+-- the answer is the stated one, want of memory aside
+abbrev pub Reads : {A : Type 0} → Result A ModelFault → Result A ModelFault → Type 0
+Reads stated (Ok x) = stated ≡ Ok x
+Reads stated (Err fault) = fault ≢ model.Memory → stated ≡ Err fault

@@ -5,3 +5,7 @@ pub mod Texts
 pub mod Answers
 pub mod Paired
 pub mod ModelTexts
+pub mod Tokens
+pub mod Left
+pub mod Models
+pub mod Marked

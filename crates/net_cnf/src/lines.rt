@@ -9,6 +9,7 @@ ghost use Rattle.language.specs.Texts.{values_text};
 ghost use Rattle.net_cnf.specs.Answers.{Adds, Grown};
 ghost use Rattle.net_cnf.specs.Booleans.{boolean, booleans_of, number_of};
 ghost use Rattle.net_cnf.specs.Clauses.{literal, some_value, not_both, no_two_values};
+ghost use Rattle.net_cnf.specs.Models.{boolean_count};
 ghost use Rattle.net_cnf.specs.Paired.{paired};
 ghost use Rattle.net_cnf.specs.Texts.{MOST_BYTES, literal_text, clause_text, boolean_text, head_text};
 
@@ -19,6 +20,14 @@ use std::alloc::Global;
 
 /// The most bytes that the text may have.
 const MOST_TEXT: usize = 67_108_864;
+
+/// How many Booleans there are.
+pub(crate) fn boolean_count(lang: &Language) -> u32
+    ensures count { result ≡ boolean_count lang.now }
+    ensures few { result ≤ 8192 }
+{
+    u32::from(lang.n()) * u32::from(lang.d())
+}
 
 /// The number of the Boolean that a variable has a value.
 pub(crate) fn number_of(lang: &Language, v: u8, x: u8) -> u32

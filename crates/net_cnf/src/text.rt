@@ -14,7 +14,8 @@ ghost use Rattle.net_cnf.specs.Texts.{MOST_BYTES, boolean_text, clause_text, cnf
 
 use crate::fault::CnfFault;
 use crate::lines::{
-    add_boolean, add_head, add_no_two_values, add_not_all, add_some_value, shown_values,
+    add_boolean, add_head, add_no_two_values, add_not_all, add_some_value, boolean_count,
+    shown_values,
 };
 use assign::Partial;
 use language::{Candidate, Language, Memory};
@@ -166,8 +167,7 @@ fn add_all(text: &mut String, alloc: Global, lang: &Language, net: &Network) -> 
     ensures { Adds (string_bytes text.old) (cnf_text lang.now net.now.list) (string_bytes text.new) result }
 {
     add_booleans(text, alloc, lang)?;
-    let variables = u32::from(lang.n()) * u32::from(lang.d());
-    add_head(text, variables, clause_count(lang, net))?;
+    add_head(text, boolean_count(lang), clause_count(lang, net))?;
     add_clauses(text, lang, net)
 }
 

@@ -1,4 +1,4 @@
-use Rattle.std.proofs.Common.{◌≡◌, ℕ, ◌+◌, ◌*◌, ◌≤◌, List, ◌++◌, length, sym, ◌∙◌, arith, append_assoc, subst}
+use Rattle.std.proofs.Common.{◌≡◌, ℕ, ◌+◌, ◌≤◌, List, ◌++◌, length, arith, append_assoc, subst}
 use Rattle.std.specs.Prelude.{string_bytes}
 use Rattle.std.specs.List.{flat_map}
 use Rattle.std.proofs.lemmas.List.{length-append}
@@ -8,7 +8,6 @@ use Rattle.net_cnf.specs.Booleans.{booleans}
 use Rattle.net_cnf.specs.Clauses.{clauses}
 use Rattle.net_cnf.specs.Texts.{boolean_text, head_text, clause_text, cnf_text}
 use Rattle.net_cnf.proofs.Adding.{grown_more, adds_last, too_long}
-use Rattle.net_cnf.proofs.Numbers.{length-booleans}
 use Rattle.net_cnf.proofs.text.add_all.Goals as goal
 
 pub returns-in_err-add_head : goal.returns-in_err-add_head
@@ -19,7 +18,7 @@ returns-in_err-add_head c =
     let front = flat_map (boolean_text l) (booleans l) in
     let head = head_text (length (booleans l)) (length (clauses l network)) in
     let lines = flat_map clause_text (clauses l network) in
-    let variables : c.from.result * c.from-2.result ≡ length (booleans l) = (λ i. (c.from.ensures ∙ c.n.ensures.is) i * (c.from-2.ensures ∙ c.d.ensures.is) i) ∙ sym (length-booleans l) in
+    let variables : c.boolean_count.result ≡ length (booleans l) = c.boolean_count.ensures.count in
     let within : length front + length head ≤ length (cnf_text l network) = omega (arith, length-append front (head ++ lines), length-append head lines) in
     rw (p.1, p.2)
     (too_long c.in_err-add_head.field-0.0 (string_bytes c.args.text.now) front head (cnf_text l network) (string_bytes c.add_booleans.new.text) c.in_ok-add_booleans.ensures within
@@ -32,7 +31,7 @@ returns c =
     let front = flat_map (boolean_text l) (booleans l) in
     let head = head_text (length (booleans l)) (length (clauses l network)) in
     let lines = flat_map clause_text (clauses l network) in
-    let variables : c.from.result * c.from-2.result ≡ length (booleans l) = (λ i. (c.from.ensures ∙ c.n.ensures.is) i * (c.from-2.ensures ∙ c.d.ensures.is) i) ∙ sym (length-booleans l) in
+    let variables : c.boolean_count.result ≡ length (booleans l) = c.boolean_count.ensures.count in
     let both : Grown (string_bytes c.args.text.now) (front ++ head) (string_bytes c.add_head.new.text) =
     grown_more (string_bytes c.args.text.now) front head (string_bytes c.add_booleans.new.text) (string_bytes c.add_head.new.text) c.in_ok-add_booleans.ensures
     (subst (λ (piece : List ℕ). Grown (string_bytes c.add_booleans.new.text) piece (string_bytes c.add_head.new.text)) (λ i. head_text (variables i) (c.clause_count.ensures i)) c.in_ok-add_head.ensures) in

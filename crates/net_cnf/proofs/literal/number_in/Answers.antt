@@ -1,0 +1,17 @@
+use Rattle.std.proofs.Common.{◌*◌, ◌+◌, drop, get_or, sym, ◌∙◌, ap, arith}
+use Rattle.std.specs.Char.{digit_value}
+use Rattle.std.specs.Str.Parse.{digits_value_after}
+use Rattle.std.proofs.lemmas.List.{at_drop_more}
+use Rattle.net_cnf.proofs.Numerals.{value_grows, number_past}
+use Rattle.net_cnf.proofs.literal.number_in.Goals as goal
+
+pub returns-then-number-most : goal.returns-then-number-most
+returns-then-number-most c =
+    let digits = c.args.digits.now in
+    let i = c.loop-byte.byte-index in
+    let n = c.loop-byte.number in
+    let value = sym c.loop-byte.invariant.value ∙ at_drop_more (digits_value_after 10 n) digits i 0 c.loop-byte-test.true in
+    let digit = c.in_ok-number.ensures.value.1 ∙ ap digit_value c.from.ensures in
+    let grows = value_grows (n * 10 + digit_value (get_or digits i 0)) (drop (i + 1) digits) in
+    let past = c.if-number-most.true in
+    sym (number_past c.args.most digits (omega (arith, value, digit, grows, past)))

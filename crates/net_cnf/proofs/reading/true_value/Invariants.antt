@@ -1,0 +1,10 @@
+use Rattle.std.proofs.Common.{◌≡◌, ◌-◌, false, get_or}
+use Rattle.std.specs.Prelude.{filter}
+use Rattle.std.specs.List.{range_with_len}
+use Rattle.std.specs.Option.{option_to_list}
+use Rattle.net_cnf.specs.Booleans.{boolean, number_of}
+use Rattle.net_cnf.specs.Marked.{truths}
+use Rattle.net_cnf.proofs.reading.true_value.Given as goal
+
+abbrev pub invariant-loop-x : goal.invariant-loop-x
+invariant-loop-x l = filter (λ x. get_or (truths l.signs) (number_of l.lang (boolean l.v x) - 1) false) (range_with_len 0 l.x) ≡ option_to_list l.value
