@@ -1,11 +1,10 @@
 -- Runs in which each reply is an answer. They end by themselves: nothing is left to ask, or no network agrees, or the budget was too small.
-use Rattle.std.proofs.Common.{◌≡◌, ◌∙◌, ℕ, zero, suc, ◌+◌, ◌≤◌, Bool, true, false, List, [], ◌∷◌, ◌++◌, length, Option, Some, None, ap, subst, sym, refl, arith, append_assoc, length-append}
+use Rattle.std.proofs.Common.{◌≡◌, ◌∙◌, ℕ, zero, suc, ◌+◌, ◌<◌, ◌≤◌, Bool, true, List, [], ◌∷◌, ◌++◌, length, Option, Some, None, ap, subst, sym, refl, arith, append_assoc, length-append}
 use Rattle.std.specs.Prelude.{All}
 use Rattle.std.specs.List.{flat_map}
 use Rattle.std.specs.Option.{option_map}
 use Rattle.std.proofs.lemmas.List.Elements.{All-head, All-tail}
-use Rattle.acq_io.specs.Lines.{Lined, lined, line_of, newline}
-use Rattle.acq_io.specs.declared.lines.LineGot.TheVariants.{Line}
+use Rattle.acq_io.specs.Lines.{newline}
 use Rattle.acq_io.proofs.LineLemmas.{line_of-line}
 use Rattle.assign.specs.Assignment.{Assignment}
 use Rattle.assign.specs.Events.{Answer}
@@ -16,21 +15,21 @@ use Rattle.assign.proofs.EventLemmas.{cut_to-standing-push}
 use Rattle.language.specs.declared.candidates.Candidate.{Candidate}
 use Rattle.language.specs.Language.{Language, IsLanguage, accepts, variable_count}
 use Rattle.language.specs.Answers.{kept, standing_on}
-use Rattle.language.specs.Texts.{question_text}
 use Rattle.query_gen.specs.declared.query.Query.{Query}
 use Rattle.query_gen.specs.declared.query.Query.TheVariants.{Ask, AllImplied, Undecided}
 use Rattle.query_gen.specs.Questions.{next_query}
 use Rattle.session_laws.specs.Bound.{most_answers}
-use Rattle.session_laws.specs.Session.{State, Idle, Halving, Choosing, Walking, Over, At, open_question, scope_question, state_after}
+use Rattle.session_laws.specs.Session.{State, Idle, Halving, Choosing, Walking, Over, open_question, scope_question}
 use Rattle.session_laws.proofs.Counted.{answers_are_at_most}
 use Rattle.session_store.specs.Kept.{answer_event}
 use Rattle.target_oracle.specs.Lines.{Spoken, spoken, spoken_in, no_answer_text, replied, hear_line, hear, line_turn}
 use Rattle.target_oracle.specs.NetTurns.{net_turn}
 use Rattle.target_oracle.specs.Turns.{Turns, Turned, turned_after, Said, Unread}
-use Rattle.acq_cli.specs.Completing.{IsAnswerLine, HasAnswers}
-use Rattle.acq_cli.specs.Run.{Closing, Converged, Collapsed, Undecided, Suspended, LineTooLong, Unreadable, JournalFull, Next, Puts, Ends, puts_or, searched, idle_next, next_at, next_in, is_full, unless_full, next_on, number_on, Ran, after_text, answer, ended, heard_on, turned_on, put_on, ran}
+use Rattle.acq_cli.specs.Completing.{IsAnswerLine, HasRoom}
+use Rattle.acq_cli.specs.Run.{Closing, Converged, Collapsed, Undecided, Suspended, LineTooLong, Unreadable, JournalFull, Next, Puts, Ends, puts_or, searched, idle_next, next_at, next_in, next_after, next_on, number_on, Ran, after_text, answer, ended, heard_on, turned_on, put_on, ran}
 use Rattle.acq_cli.specs.declared.terms.Terms.{Terms}
-use Rattle.acq_cli.proofs.Running.{IsReached, placed, puts_next, sized_at}
+use Rattle.acq_cli.proofs.Reached.{IsReached}
+use Rattle.acq_cli.proofs.Running.{next_ends, next_put, placed, puts_next, room_not_full, sized_at}
 use Rattle.acq_cli.proofs.Standings.{run_laws}
 
 -- ---- how a run ends where nothing is put
@@ -40,7 +39,7 @@ abbrev pub EndsItself : Closing → Type 0
 EndsItself Converged = Unit {0}
 EndsItself Collapsed = Unit {0}
 EndsItself Undecided = Unit {0}
-EndsItself JournalFull = Unit {0}
+EndsItself JournalFull = ⊥
 EndsItself Suspended = ⊥
 EndsItself LineTooLong = ⊥
 EndsItself Unreadable = ⊥
@@ -70,20 +69,34 @@ next_fine l terms t (Choosing s choices network walk) = puts_fine Collapsed (ope
 next_fine l terms t (Walking set walk network) = puts_fine Collapsed (open_question l (Walking set walk network)) tt
 next_fine l terms t (Over network) = tt
 
-unless_fine : (full : Bool) (next : Next) → NextIsFine next → NextIsFine (unless_full full next)
-unless_fine full (Ends closing) fine = fine
-unless_fine true (Puts q) fine = tt
-unless_fine false (Puts q) fine = tt
+-- a question that is due has a number below the most
+one_more_fits : (l : Language) → IsLanguage l → (plan : Plan) (t : List Answer) (a : Answer) → IsReached l plan (t ++ a ∷ []) → length t + 1 ≤ most_answers l
+one_more_fits l lawful plan t a (state, at) = let most = answers_are_at_most l plan (t ++ a ∷ []) state lawful at in omega (arith, length-append t (a ∷ []))
 
--- a run that ends where the answers have a place ends by itself
-ends_fine : (l : Language) (terms : Terms) (events : List Event) (closing : Closing) → IsReached l terms.plan (standing_on l events) → next_on l terms events ≡ Some (Ends closing) → EndsItself closing
-ends_fine l terms events closing (state, at) due =
+-- so there is a record for what is said to it
+due_has_room : (l : Language) → IsLanguage l → (terms : Terms) (events : List Event) (q : Assignment) → IsReached l terms.plan (standing_on l events) → HasRoom l events → next_after l terms (standing_on l events) ≡ Some (Puts q) → length events + 1 < 1000000
+due_has_room l lawful terms events q reached room due =
     let t : List Answer = standing_on l events in
-    let next : Next = unless_full (is_full events) (next_at l terms t state) in
-    let is : next_on l terms events ≡ Some next = ap (λ r. option_map (unless_full (is_full events)) (next_in l terms t r)) at in
-    let same : Some next ≡ Some (Ends closing) = sym is ∙ due in
-    let here : next ≡ Ends closing = cc in
-    subst NextIsFine here (unless_fine (is_full events) (next_at l terms t state) (next_fine l terms t state))
+    let more = one_more_fits l lawful terms.plan t (answer q true) (placed run_laws l lawful terms t q true reached due) in
+    omega (arith, more, room)
+
+-- a run that ends where the answers have a place and there is room ends by itself
+ends_fine : (l : Language) → IsLanguage l → (terms : Terms) (events : List Event) (closing : Closing) → IsReached l terms.plan (standing_on l events) → HasRoom l events → next_on l terms events ≡ Some (Ends closing) → EndsItself closing
+ends_fine l lawful terms events closing (state, at) room due = go (next_at l terms (standing_on l events) state) refl
+  where
+    next_is : (n : Next) → next_at l terms (standing_on l events) state ≡ n → next_after l terms (standing_on l events) ≡ Some n
+    next_is n is = ap (next_in l terms (standing_on l events)) at ∙ ap (λ (x : Next). Some x) is
+
+    go : (n : Next) → next_at l terms (standing_on l events) state ≡ n → EndsItself closing
+    go (Ends other) is =
+        let both : Some (Ends other) ≡ Some (Ends closing) = sym (next_ends l terms events other (next_is (Ends other) is)) ∙ due in
+        let same : other ≡ closing = cc in
+        subst EndsItself same (subst NextIsFine is (next_fine l terms (standing_on l events) state))
+    go (Puts q) is =
+        let puts = next_is (Puts q) is in
+        let left = due_has_room l lawful terms events q (state, at) room puts in
+        let both : Some (Puts q) ≡ Some (Ends closing) = sym (next_put l terms events q puts (room_not_full events left)) ∙ due in
+        absurd (let no : ⊥ = cc in no)
 
 -- ---- turns that hear an answer
 
@@ -107,14 +120,10 @@ goes : (text : List ℕ) (o : Option Ran) (run : Ran) → option_map (after_text
 goes text None run h = absurd (let no : ⊥ = cc in no)
 goes text (Some first) run h = record { first = first; is = refl; same = let e : after_text text first ≡ run = cc in ap (λ (r : Ran). r.closing) e }
 
--- a question that is due has a number below the most
-one_more_fits : (l : Language) → IsLanguage l → (plan : Plan) (t : List Answer) (a : Answer) → IsReached l plan (t ++ a ∷ []) → length t + 1 ≤ most_answers l
-one_more_fits l lawful plan t a (state, at) = let most = answers_are_at_most l plan (t ++ a ∷ []) state lawful at in omega (arith, length-append t (a ∷ []))
-
 module _ (turns : Turns) (Left : ℕ → List ℕ → Type 0) (each : AnswersEach turns Left) (l : Language) (lawful : IsLanguage l) (terms : Terms) where
-  -- there are enough answers left
+  -- there are enough answers left, and records for them
   abbrev HasLeft : ℕ → List Event → List ℕ → Type 0
-  HasLeft n events bytes = IsReached l terms.plan (standing_on l events) × (most_answers l ≤ length (standing_on l events) + n) × Left n bytes
+  HasLeft n events bytes = IsReached l terms.plan (standing_on l events) × (most_answers l ≤ length (standing_on l events) + n) × Left n bytes × HasRoom l events
 
   abbrev Fine : ℕ → Type 0
   Fine count = (n : ℕ) (events : List Event) (bytes : List ℕ) (run : Ran) → HasLeft n events bytes → ran turns l terms count events bytes ≡ Some run → EndsItself run.closing
@@ -122,12 +131,12 @@ module _ (turns : Turns) (Left : ℕ → List ℕ → Type 0) (each : AnswersEac
   -- a turn, and what follows
   put_fine : (count n : ℕ) (events : List Event) (bytes : List ℕ) (q : Assignment) (run : Ran) → Fine count → HasLeft n events bytes → next_on l terms events ≡ Some (Puts q) →
       turned_on (ran turns l terms count) events q (turns l (number_on l events) q bytes) ≡ Some run → EndsItself run.closing
-  put_fine count zero events bytes q run again (reached, enough, left) due is =
+  put_fine count zero events bytes q run again (reached, enough, left, room) due is =
       let t : List Answer = standing_on l events in
       let puts = puts_next l terms events q due in
       let more = one_more_fits l lawful terms.plan t (answer q true) (placed run_laws l lawful terms t q true reached puts.due) in
       absurd (omega (arith, more, enough))
-  put_fine count (suc n) events bytes q run again (reached, enough, left) due is =
+  put_fine count (suc n) events bytes q run again (reached, enough, left, room) due is =
       let t : List Answer = standing_on l events in
       let puts = puts_next l terms events q due in
       let turned : Turned = turns l (number_on l events) q bytes in
@@ -144,7 +153,7 @@ module _ (turns : Turns) (Left : ℕ → List ℕ → Type 0) (each : AnswersEac
       let long : length (standing_on l (events ++ answer_event q said ∷ [])) ≡ length t + 1 = ap length grown ∙ length-append t (answer q said ∷ []) in
       subst EndsItself on.same
       (again n (events ++ answer_event q said ∷ []) turned.heard.rest on.first
-      (subst Reached (sym grown) (placed run_laws l lawful terms t q said reached puts.due), omega (arith, enough, long), heard.left) next)
+      (subst Reached (sym grown) (placed run_laws l lawful terms t q said reached puts.due), omega (arith, enough, long), heard.left, omega (arith, room, long, length-append events (answer_event q said ∷ []))) next)
 
   -- what comes next is put, or ends the run
   next_by : (count n : ℕ) (events : List Event) (bytes : List ℕ) (run : Ran) (o : Option Next) → Fine count → HasLeft n events bytes → next_on l terms events ≡ o →
@@ -152,7 +161,7 @@ module _ (turns : Turns) (Left : ℕ → List ℕ → Type 0) (each : AnswersEac
   next_by count n events bytes run None again has due is = absurd (let no : ⊥ = cc in no)
   next_by count n events bytes run (Some (Ends closing)) again has due is =
       let same : ended closing events bytes ≡ run = cc in
-      subst EndsItself (ap (λ (r : Ran). r.closing) same) (ends_fine l terms events closing has.0 due)
+      subst EndsItself (ap (λ (r : Ran). r.closing) same) (ends_fine l lawful terms events closing has.0 has.3 due)
   next_by count n events bytes run (Some (Puts q)) again has due is = put_fine count n events bytes q run again has due is
 
   -- a run with enough answers ends by itself
@@ -172,14 +181,14 @@ pub record HasLines (n : ℕ) (bytes : List ℕ) : Type 0 where
   pub many : n ≤ length lines
 
 -- what a line that is an answer says
-speaks : (line rest : List ℕ) (a : IsAnswerLine line) → spoken (line ++ newline ∷ rest) ≡ (let s : Spoken = record { says = Some (Said a.said); rest = rest } in s)
-speaks line rest a =
-    ap spoken_in (line_of-line line rest a.one a.short) ∙ ap (λ r. let s : Spoken = record { says = r; rest = rest } in s) a.says
+speaks : (k : ℕ) (line rest : List ℕ) (a : IsAnswerLine line) → spoken k (line ++ newline ∷ rest) ≡ (let s : Spoken = record { says = Some (Said a.said); rest = rest } in s)
+speaks k line rest a =
+    ap (spoken_in k) (line_of-line line rest a.one a.short) ∙ ap (λ r. let s : Spoken = record { says = r; rest = rest } in s) (a.says k)
 
-hears_said : (bytes : List ℕ) (said : Bool) (patience : ℕ) → (spoken bytes).says ≡ Some (Said said) → hear patience bytes ≡ replied (Said said) (spoken bytes).rest
+hears_said : (k : ℕ) (bytes : List ℕ) (said : Bool) (patience : ℕ) → (spoken k bytes).says ≡ Some (Said said) → hear k patience bytes ≡ replied (Said said) (spoken k bytes).rest
 unfolding hear
-hears_said bytes said zero h = ap (hear_line (replied Unread) (spoken bytes).rest) h
-hears_said bytes said (suc patience) h = ap (hear_line (λ rest. turned_after no_answer_text (hear patience rest)) (spoken bytes).rest) h
+hears_said k bytes said zero h = ap (hear_line (replied Unread) (spoken k bytes).rest) h
+hears_said k bytes said (suc patience) h = ap (hear_line (λ rest. turned_after no_answer_text (hear k patience rest)) (spoken k bytes).rest) h
 
 pub lines_answer : AnswersEach line_turn HasLines
 lines_answer l k q n bytes has = go has.lines has.is has.each has.many
@@ -190,8 +199,8 @@ lines_answer l k q n bytes has = go has.lines has.is has.each has.many
         let a : IsAnswerLine line = All-head IsAnswerLine line lines each in
         let later : List ℕ = flat_map (λ x. x ++ newline ∷ []) lines ++ has.rest in
         let first : bytes ≡ line ++ newline ∷ later = is ∙ append_assoc (line ++ newline ∷ []) (flat_map (λ x. x ++ newline ∷ []) lines) has.rest ∙ append_assoc line (newline ∷ []) later in
-        let told : spoken bytes ≡ (let s : Spoken = record { says = Some (Said a.said); rest = later } in s) = ap spoken first ∙ speaks line later a in
-        let heard : hear 999 bytes ≡ replied (Said a.said) (spoken bytes).rest = hears_said bytes a.said 999 (ap (λ (s : Spoken). s.says) told) in
+        let told : spoken k bytes ≡ (let s : Spoken = record { says = Some (Said a.said); rest = later } in s) = ap (spoken k) first ∙ speaks k line later a in
+        let heard : hear k 999 bytes ≡ replied (Said a.said) (spoken k bytes).rest = hears_said k bytes a.said 999 (ap (λ (s : Spoken). s.says) told) in
         let HasRest : List ℕ → Type 0 = HasLines n in
         record {
           said = a.said;

@@ -1,5 +1,5 @@
 -- What was done about the words.
-use Rattle.std.proofs.Common.{◌≡◌, ◌∙◌, ℕ, List, Option, Result, Ok, Err, refl, sym, ap, subst, inl, ⊎_elim}
+use Rattle.std.proofs.Common.{◌≡◌, ◌∙◌, ℕ, List, [], Option, Result, Ok, Err, refl, sym, ap, subst, inl, inr, ⊎_elim, arith}
 use Rattle.acq_io.specs.declared.streams.Put.{Put}
 use Rattle.acq_io.specs.declared.streams.Put.TheVariants as put
 use Rattle.acq_words.specs.Request.{IsAnswer, answer_to, contents_of}
@@ -22,12 +22,19 @@ use Rattle.acq_cli.specs.declared.playing.NoTarget.{NoTarget}
 use Rattle.acq_cli.specs.declared.playing.NoTarget.TheVariants as without
 use Rattle.acq_cli.specs.Showing.{Shows}
 use Rattle.acq_cli.specs.Demoing.{Demos}
+use Rattle.acq_cli.specs.Printing.{Prints}
 use Rattle.acq_cli.specs.Reducing.{Reduces}
+use Rattle.acq_cli.specs.Solving.{Solves}
+use Rattle.acq_cli.proofs.Printed.{prints_no_usage}
+use Rattle.acq_cli.proofs.Solved.{solves_no_usage}
+use Rattle.acq_cli.specs.TakingBack.{TakesBack}
+use Rattle.acq_cli.specs.Doing.{Does}
 use Rattle.acq_cli.specs.Points.{terms_with}
 use Rattle.acq_cli.specs.Trying.{Acquires}
-use Rattle.acq_cli.specs.Texts.{usage_text}
 use Rattle.acq_cli.specs.Words.{IsAsked, command_asked, command_in}
 use Rattle.acq_cli.proofs.Closings.{not_loops}
+use Rattle.acq_cli.proofs.Parts.{unbegun}
+use Rattle.acq_io.proofs.TakenLemmas.{takes_none}
 use Rattle.acq_cli.specs.declared.ending.Ending.{Ending}
 use Rattle.acq_cli.specs.declared.ending.Ending.TheVariants as ending
 
@@ -59,17 +66,18 @@ module _ {D : Type 0} (content : D → Option (List ℕ)) (may_leave : D → Lis
       any_moment = started moment left_since disk (may_leave disk) (only_now disk);
     }
 
-    pub no_run : (budget : ℕ) → RunsOn content may_leave moment left_since budget left written left written disk disk wanting
-    no_run budget = inl stays
-
-    pub no_play : (budget : ℕ) → PlaysOn content may_leave moment left_since budget left written left written disk disk wanting
-    no_play budget = inl stays
-
-    pub no_show : Shows content may_leave moment left_since left written written disk disk wanting
-    no_show = inl stays
-
-    pub no_reduce : (budget : ℕ) → Reduces content may_leave moment left_since budget left written written disk disk wanting
-    no_reduce budget = inl stays
+    pub does_nothing : (asked : Result Command UsageFault) → Does content may_leave moment left_since asked left written left written disk disk wanting
+    does_nothing (Ok (command.New plan)) = inl (record { why = inr (inr refl, refl); same = refl })
+    does_nothing (Ok (command.Run budget)) = inl stays
+    does_nothing (Ok (command.Try plan budget)) = unbegun (terms_with plan budget) left left written (inl ([], omega arith, λ k d low. absurd (omega (arith, low)), takes_none left))
+    does_nothing (Ok (command.Play budget)) = inl stays
+    does_nothing (Ok command.Show) = inl stays
+    does_nothing (Ok command.Back) = inl stays
+    does_nothing (Ok (command.Demo number budget)) = inl (refl, refl)
+    does_nothing (Ok (command.Reduce budget)) = inl stays
+    does_nothing (Ok command.Cnf) = inl stays
+    does_nothing (Ok command.Model) = inl stays
+    does_nothing (Err fault) = refl
 
 -- ---- A usage line is told for refused words alone
 
@@ -135,27 +143,33 @@ module _ {D : Type 0} (content : D → Option (List ℕ)) (may_leave : D → Lis
       (λ rest. ⊎_elim (λ spent. let is : ending.Usage usage ≡ ending.ReduceSpent spent.number = spent.tells.0 in cc) (λ none. let is : using_so usage ≡ wanting = none.0 in cc) rest) reduced.reduces)
       reduces
 
-  pub usage_is : (words : List (List ℕ)) (end : Ending) →
-      ((plan : Plan) (budget : ℕ) → command_asked words ≡ Ok (command.Try plan budget) → Acquires (terms_with plan budget) left written left' written' end) →
-      ((plan : Plan) → command_asked words ≡ Ok (command.New plan) → News content may_leave moment left_since plan left written left' written' old new (Ok end)) →
-      ((budget : ℕ) → command_asked words ≡ Ok (command.Run budget) → RunsOn content may_leave moment left_since budget left written left' written' old new (Ok end)) →
-      ((budget : ℕ) → command_asked words ≡ Ok (command.Play budget) → PlaysOn content may_leave moment left_since budget left written left' written' old new (Ok end)) →
-      (command_asked words ≡ Ok command.Show → Shows content may_leave moment left_since left written written' old new (Ok end)) →
-      ((number budget : ℕ) → command_asked words ≡ Ok (command.Demo number budget) → Demos number budget written written' (Ok end)) →
-      ((budget : ℕ) → command_asked words ≡ Ok (command.Reduce budget) → Reduces content may_leave moment left_since budget left written written' old new (Ok end)) →
-      ((fault : UsageFault) → command_asked words ≡ Err fault → EndsWith (ending.Usage fault) usage_text written written' (Ok end)) →
-      (usage : UsageFault) → end ≡ ending.Usage usage → command_asked words ≡ Err usage
-  usage_is words end tries news runs plays shows demos reduces refuses usage is = of (command_asked words) refl
-    where
-      same : (a b : UsageFault) → ending.Usage a ≡ ending.Usage b → a ≡ b
-      same a b e = cc
+  print_usage : (usage : UsageFault) → Prints content may_leave moment left_since left written written' old new (using_so usage) → ⊥
+  print_usage usage prints = ⊎_elim (λ closed. refuses_usage closed.fault usage written written' closed.refuses) (λ printed. prints_no_usage printed.lang _ written written' usage printed.prints) prints
 
-      of : (asked : Result Command UsageFault) → command_asked words ≡ asked → command_asked words ≡ Err usage
-      of (Err fault) e = e ∙ ap (λ (f : UsageFault). let r : Result Command UsageFault = Err f in r) (same fault usage (sym (refuses fault e).0 ∙ is))
-      of (Ok (command.New plan)) e = let P : Ending → Type 0 = λ x. News content may_leave moment left_since plan left written left' written' old new (Ok x) in absurd (new_usage plan usage (subst P is (news plan e)))
-      of (Ok (command.Run budget)) e = let P : Ending → Type 0 = λ x. RunsOn content may_leave moment left_since budget left written left' written' old new (Ok x) in absurd (run_usage budget usage (subst P is (runs budget e)))
-      of (Ok (command.Try plan budget)) e = let P : Ending → Type 0 = λ x. Acquires (terms_with plan budget) left written left' written' x in absurd (subst P is (tries plan budget e))
-      of (Ok command.Show) e = let P : Ending → Type 0 = λ x. Shows content may_leave moment left_since left written written' old new (Ok x) in absurd (show_usage usage (subst P is (shows e)))
-      of (Ok (command.Play budget)) e = let P : Ending → Type 0 = λ x. PlaysOn content may_leave moment left_since budget left written left' written' old new (Ok x) in absurd (play_usage budget usage (subst P is (plays budget e)))
-      of (Ok (command.Demo number budget)) e = let P : Ending → Type 0 = λ x. Demos number budget written written' (Ok x) in absurd (demo_usage number budget usage (subst P is (demos number budget e)))
-      of (Ok (command.Reduce budget)) e = let P : Ending → Type 0 = λ x. Reduces content may_leave moment left_since budget left written written' old new (Ok x) in absurd (reduce_usage budget usage (subst P is (reduces budget e)))
+  solve_usage : (usage : UsageFault) → Solves content may_leave moment left_since left written left' written' old new (using_so usage) → ⊥
+  solve_usage usage solves = ⊎_elim (λ closed. refuses_usage closed.fault usage written written' closed.refuses) (λ solved. solves_no_usage solved.lang _ left written left' written' usage solved.solves) solves
+
+  back_usage : (usage : UsageFault) → TakesBack content may_leave moment left_since left written written' old new (using_so usage) → ⊥
+  back_usage usage backs =
+      ⊎_elim (λ closed. refuses_usage closed.fault usage written written' closed.refuses)
+      (λ rest. ⊎_elim (λ nothing. let is : ending.Usage usage ≡ ending.NothingBack = nothing.tells.0 in cc)
+      (λ more. ⊎_elim (λ full. let is : ending.Usage usage ≡ ending.JournalFull = full.tells.0 in cc)
+      (λ taken. ⊎_elim (λ done. let is : ending.Usage usage ≡ ending.Done = done.1.0 in cc)
+      (λ other. ⊎_elim (λ none. let is : using_so usage ≡ wanting = none in cc) (λ failed. let is : using_so usage ≡ Ok ending.DiskFault = failed in cc) other.2) taken.ends) more) rest)
+      backs
+
+  pub usage_is : (asked : Result Command UsageFault) (end : Ending) → Does content may_leave moment left_since asked left written left' written' old new (Ok end) → (usage : UsageFault) → end ≡ ending.Usage usage → asked ≡ Err usage
+  usage_is (Err fault) end does usage is = ap (λ (f : UsageFault). let r : Result Command UsageFault = Err f in r) (same (sym does.0 ∙ is))
+    where
+      same : ending.Usage fault ≡ ending.Usage usage → fault ≡ usage
+      same e = cc
+  usage_is (Ok (command.New plan)) end does usage is = let P : Ending → Type 0 = λ x. News content may_leave moment left_since plan left written left' written' old new (Ok x) in absurd (new_usage plan usage (subst P is does))
+  usage_is (Ok (command.Run budget)) end does usage is = let P : Ending → Type 0 = λ x. RunsOn content may_leave moment left_since budget left written left' written' old new (Ok x) in absurd (run_usage budget usage (subst P is does))
+  usage_is (Ok (command.Try plan budget)) end does usage is = let P : Ending → Type 0 = λ x. Acquires (terms_with plan budget) left written left' written' x in absurd (subst P is does)
+  usage_is (Ok command.Show) end does usage is = let P : Ending → Type 0 = λ x. Shows content may_leave moment left_since left written written' old new (Ok x) in absurd (show_usage usage (subst P is does))
+  usage_is (Ok command.Back) end does usage is = let P : Ending → Type 0 = λ x. TakesBack content may_leave moment left_since left written written' old new (Ok x) in absurd (back_usage usage (subst P is does))
+  usage_is (Ok (command.Play budget)) end does usage is = let P : Ending → Type 0 = λ x. PlaysOn content may_leave moment left_since budget left written left' written' old new (Ok x) in absurd (play_usage budget usage (subst P is does))
+  usage_is (Ok (command.Demo number budget)) end does usage is = let P : Ending → Type 0 = λ x. Demos number budget written written' (Ok x) in absurd (demo_usage number budget usage (subst P is does))
+  usage_is (Ok (command.Reduce budget)) end does usage is = let P : Ending → Type 0 = λ x. Reduces content may_leave moment left_since budget left written written' old new (Ok x) in absurd (reduce_usage budget usage (subst P is does))
+  usage_is (Ok command.Cnf) end does usage is = let P : Ending → Type 0 = λ x. Prints content may_leave moment left_since left written written' old new (Ok x) in absurd (print_usage usage (subst P is does))
+  usage_is (Ok command.Model) end does usage is = let P : Ending → Type 0 = λ x. Solves content may_leave moment left_since left written left' written' old new (Ok x) in absurd (solve_usage usage (subst P is does))

@@ -2,7 +2,8 @@
 use Rattle.std.proofs.Common.{◌≡◌, ℕ, Result, Ok, Err, ap}
 use Rattle.std.specs.Prelude.{◌≢◌, IfOk}
 use Rattle.acq_io.specs.declared.streams.Put.{Put}
-use Rattle.acq_io.specs.Streams.{Rose}
+use Rattle.acq_io.specs.Streams.{HasStopped}
+use Rattle.acq_io.proofs.CallLemmas.{stopped_not}
 use Rattle.disk_model.specs.Disk.{Rose as DiskRose}
 use Rattle.acq_cli.specs.Program.{TellsCauses}
 use Rattle.acq_cli.specs.declared.ending.Ending.{Ending}
@@ -10,11 +11,32 @@ use Rattle.acq_cli.specs.declared.ending.Ending.TheVariants as ending
 use Rattle.acq_cli.proofs.Closings.{okay}
 
 -- where its result says each by itself
-pub ok_causes : (input input' output output' disk disk' : ℕ) (got : Result Ending Put) → (got ≡ okay ending.ReadFault → Rose input input') → IfOk got (λ end. end ≢ ending.WriteFault) → (got ≡ okay ending.DiskFault → DiskRose disk disk') →
-    IfOk got (TellsCauses input input' output output' disk disk')
-ok_causes input input' output output' disk disk' (Ok end) read never lost = record {
-  read = λ is. read (ap okay is);
+pub ok_causes : (input input' late late' output output' disk disk' : ℕ) (got : Result Ending Put) → HasStopped input input' late late' (got ≡ okay ending.ReadFault) → IfOk got (λ end. end ≢ ending.WriteFault) → (got ≡ okay ending.DiskFault → DiskRose disk disk') →
+    IfOk got (TellsCauses input input' late late' output output' disk disk')
+ok_causes input input' late late' output output' disk disk' (Ok end) read never lost = record {
+  read = λ is. read.rose (ap okay is);
+  stopped = read.stopped;
   write = λ is. absurd (never is);
   lost = λ is. lost (ap okay is);
 }
-ok_causes input input' output output' disk disk' (Err e) read never lost = tt
+ok_causes input input' late late' output output' disk disk' (Err e) read never lost = tt
+
+-- an ending that never comes isn't the one
+pub never_told : (got : Result Ending Put) (other : Ending) → IfOk got (λ end. end ≢ other) → got ≡ okay other → ⊥
+never_told (Ok end) other never is = never (once end is)
+  where
+    once : (e : Ending) → okay e ≡ okay other → e ≡ other
+    once e same = cc
+never_told (Err e) other never is = broken is
+  where
+    broken : (let r : Result Ending Put = Err e in r) ≡ okay other → ⊥
+    broken same = cc
+
+-- where the input isn't called, no fault of it is told
+pub stopped_idle : (input late : ℕ) (got : Result Ending Put) → IfOk got (λ end. end ≢ ending.ReadFault) → HasStopped input input late late (got ≡ okay ending.ReadFault)
+stopped_idle input late got never = stopped_not input late (got ≡ okay ending.ReadFault) (never_told got ending.ReadFault never)
+
+-- where no fault of the disk is told
+pub no_disk_fault : (got : Result Ending Put) → (got ≡ okay ending.DiskFault → ⊥) → IfOk got (λ end. end ≢ ending.DiskFault)
+no_disk_fault (Ok end) never = λ is. never (ap okay is)
+no_disk_fault (Err e) never = tt

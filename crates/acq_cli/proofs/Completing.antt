@@ -1,5 +1,5 @@
 -- When a command comes to its own end.
-use Rattle.std.proofs.Common.{◌≡◌, ◌∙◌, ◌⊎◌, ℕ, ◌+◌, ◌≤◌, Bool, true, false, cond, drop, List, [], ◌∷◌, ◌++◌, length, Option, Some, None, Result, Ok, Err, refl, sym, ap, subst, inl, inr, ⊎_elim, arith}
+use Rattle.std.proofs.Common.{◌≡◌, ◌∙◌, ◌⊎◌, ℕ, ◌+◌, ◌≤◌, Bool, true, false, cond, drop, List, [], length, Option, Some, None, Result, Ok, Err, refl, sym, ap, subst, inl, inr, ⊎_elim, arith}
 use Rattle.std.specs.Prelude.{IfSome, IsSome, nat_le}
 use Rattle.std.specs.Option.{option_map}
 use Rattle.std.proofs.lemmas.List.{append-nil}
@@ -22,7 +22,8 @@ use Rattle.language.specs.Answers.{standing_on}
 use Rattle.network.specs.Target.{network_of}
 use Rattle.network.specs.declared.fault.NetFault.{NetFault}
 use Rattle.session_laws.specs.Bound.{most_answers}
-use Rattle.session_laws.specs.Session.{Idle, At}
+use Rattle.session_laws.specs.Session.{Idle}
+use Rattle.session_laws.proofs.Limits.{answers_fit}
 use Rattle.session_store.specs.Left.{bytes_told}
 use Rattle.session_store.specs.Replay.{HavePlaces, replay_on}
 use Rattle.session_store.specs.declared.fault.SFault.{SFault}
@@ -35,7 +36,7 @@ use Rattle.voc_read.specs.Vocabulary.{IsVocabulary, refusal_of_vocabulary}
 use Rattle.voc_read.specs.declared.fault.VocFault.{VocFault}
 use Rattle.acq_cli.specs.Closings.{closing_of, ending_of}
 use Rattle.acq_cli.specs.Commands.{EndsExactly}
-use Rattle.acq_cli.specs.Completing.{HasAnswers, IsAffordable, IsEnough, TryHasEnough, RunHasEnough, HasTarget, PlayHasEnough, NoneRose, IsDoneWith, Converges, ConvergesOrCollapses, Completes}
+use Rattle.acq_cli.specs.Completing.{HasRoom, IsAffordable, IsEnough, TryHasEnough, RunHasEnough, HasTarget, PlayHasEnough, IsDoneWith, Converges, ConvergesOrCollapses, Completes}
 use Rattle.acq_cli.specs.Demoing.{Demos, Tells}
 use Rattle.acq_cli.specs.Driven.{HasEnded, IsLeftOpen}
 use Rattle.acq_cli.specs.Endings.{Closes, Tries}
@@ -43,11 +44,14 @@ use Rattle.acq_cli.specs.Exactly.{IsBrokenOff, HasVocabulary, RefusesOpening, Ne
 use Rattle.acq_cli.specs.Journals.{untold}
 use Rattle.acq_cli.specs.Playing.{EndsWithout, MayLack, PlaysOn, ReadsTarget}
 use Rattle.acq_cli.specs.Points.{terms_with}
-use Rattle.acq_cli.specs.Run.{Closing, Undecided, Suspended, LineTooLong, Unreadable}
+use Rattle.acq_cli.specs.Run.{Closing, Undecided, Suspended, LineTooLong, Unreadable, JournalFull}
+use Rattle.acq_cli.specs.Printing.{HoldsPrintable, PrintEnds}
 use Rattle.acq_cli.specs.Reducing.{HoldsDecided, ReduceEnds}
+use Rattle.acq_cli.specs.Solving.{HoldsModel, SolveEnds}
 use Rattle.acq_cli.specs.Running.{RunsOn}
+use Rattle.acq_cli.specs.TakingBack.{BackEnds, HoldsLast}
+use Rattle.acq_cli.specs.Doing.{Does}
 use Rattle.acq_cli.specs.Trying.{Acquires, IsRefusal, ReadsVocabulary}
-use Rattle.acq_cli.specs.Words.{command_asked}
 use Rattle.acq_cli.specs.declared.driving.Drove.{Drove}
 use Rattle.acq_cli.specs.declared.driving.Drove.TheVariants as drove
 use Rattle.acq_cli.specs.declared.ending.Ending.{Ending}
@@ -59,7 +63,7 @@ use Rattle.acq_cli.proofs.Answering.{AnswersEach, EndsItself, HasLines, AsMany, 
 use Rattle.acq_cli.proofs.Closings.{okay, same_ok, err_ok}
 use Rattle.acq_cli.proofs.Enough.{generated_is_settled}
 use Rattle.acq_cli.proofs.Exactly.{fine, gives_got, closed_end}
-use Rattle.acq_cli.proofs.Running.{IsReached}
+use Rattle.acq_cli.proofs.Reached.{IsReached}
 use Rattle.acq_cli.proofs.Targets.{none_of}
 
 -- ---- a run that ends by itself
@@ -70,14 +74,14 @@ OwnEnd end = ((m : ℕ) × (end ≡ ending.Converged m)) ⊎ ((m : ℕ) × (end 
 
 module _ (turns : Turns) (Left : ℕ → List ℕ → Type 0) (each : AnswersEach turns Left) (l : Language) (lawful : IsLanguage l) (terms : Terms) (n : ℕ) (start later : List Event) (left written left' written' : Option (List ℕ)) (end : Ending)
     (bytes before : List ℕ) (from : left ≡ Some bytes) (to : written ≡ Some before)
-    (reached : IsReached l terms.plan (standing_on l start)) (enough : most_answers l ≤ length (standing_on l start) + n) (has : Left n bytes) (affordable : IsAffordable turns l terms start bytes) where
+    (reached : IsReached l terms.plan (standing_on l start)) (enough : most_answers l ≤ length (standing_on l start) + n) (has : Left n bytes) (room : HasRoom l start) (affordable : IsAffordable turns l terms start bytes) where
   abbrev ClosesSo : Closing → Type 0
   ClosesSo closing = Closes turns l terms start later left written left' written' closing
 
   closed_itself : (closing : Closing) → ClosesSo closing → EndsItself closing
   closed_itself closing closes =
       let ran = closes.ran bytes before from to in
-      subst EndsItself ran.closing (ends_itself turns Left each l lawful terms ran.runs.count n start bytes ran.run (reached, enough, has) ran.runs.is)
+      subst EndsItself ran.closing (ends_itself turns Left each l lawful terms ran.runs.count n start bytes ran.run (reached, enough, has, room) ran.runs.is)
 
   -- a budget that is enough leaves nothing open
   not_open : ClosesSo Undecided → IsLeftOpen l terms (standing_on l later) → ⊥
@@ -91,21 +95,21 @@ module _ (turns : Turns) (Left : ℕ → List ℕ → Type 0) (each : AnswersEac
       omega (arith, fits, long))
       affordable
 
-  by_how : (how : Drove) → ending_of how ≡ okay end → HasEnded l terms (standing_on l later) how → IfSome (closing_of how) ClosesSo → (how ≡ drove.JournalFull → ⊥) → (end ≡ ending.ReadFault → ⊥) → (end ≡ ending.DiskFault → ⊥) → OwnEnd end
-  by_how (drove.Converged m) is says closed room read kept = inl (m, sym (same_ok (ending.Converged m) end is))
-  by_how (drove.Collapsed m) is says closed room read kept = inr (m, sym (same_ok (ending.Collapsed m) end is))
-  by_how (drove.Undecided m) is says closed room read kept = absurd (not_open closed says.found)
-  by_how (drove.Suspended m) is says closed room read kept = absurd (closed_itself Suspended closed)
-  by_how drove.LineTooLong is says closed room read kept = absurd (closed_itself LineTooLong closed)
-  by_how drove.Unreadable is says closed room read kept = absurd (closed_itself Unreadable closed)
-  by_how drove.ReadFault is says closed room read kept = absurd (read (sym (same_ok ending.ReadFault end is)))
-  by_how drove.WriteFault is says closed room read kept = absurd (err_ok put.Failed end is)
-  by_how drove.DiskFault is says closed room read kept = absurd (kept (sym (same_ok ending.DiskFault end is)))
-  by_how drove.JournalFull is says closed room read kept = absurd (room refl)
-  by_how drove.Memory is says closed room read kept = absurd (err_ok put.Memory end is)
+  by_how : (how : Drove) → ending_of how ≡ okay end → HasEnded l terms (standing_on l later) how → IfSome (closing_of how) ClosesSo → (end ≡ ending.ReadFault → ⊥) → (end ≡ ending.DiskFault → ⊥) → OwnEnd end
+  by_how (drove.Converged m) is says closed read kept = inl (m, sym (same_ok (ending.Converged m) end is))
+  by_how (drove.Collapsed m) is says closed read kept = inr (m, sym (same_ok (ending.Collapsed m) end is))
+  by_how (drove.Undecided m) is says closed read kept = absurd (not_open closed says.found)
+  by_how (drove.Suspended m) is says closed read kept = absurd (closed_itself Suspended closed)
+  by_how drove.LineTooLong is says closed read kept = absurd (closed_itself LineTooLong closed)
+  by_how drove.Unreadable is says closed read kept = absurd (closed_itself Unreadable closed)
+  by_how drove.ReadFault is says closed read kept = absurd (read (sym (same_ok ending.ReadFault end is)))
+  by_how drove.WriteFault is says closed read kept = absurd (err_ok put.Failed end is)
+  by_how drove.DiskFault is says closed read kept = absurd (kept (sym (same_ok ending.DiskFault end is)))
+  by_how drove.JournalFull is says closed read kept = absurd (closed_itself JournalFull closed)
+  by_how drove.Memory is says closed read kept = absurd (err_ok put.Memory end is)
 
   pub own_end : Tries turns l terms start later left written left' written' end → (end ≡ ending.ReadFault → ⊥) → (end ≡ ending.DiskFault → ⊥) → OwnEnd end
-  own_end tries read kept = by_how tries.how tries.is tries.says tries.closed tries.never_full read kept
+  own_end tries read kept = by_how tries.how tries.is tries.says tries.closed read kept
 
 -- it is no fault
 pub record NoFault (end : Ending) : Type 0 where
@@ -115,16 +119,20 @@ pub record NoFault (end : Ending) : Type 0 where
 
 -- with the answers and the budget that are enough
 lines_end : (l : Language) (terms : Terms) (start later : List Event) (left written left' written' : Option (List ℕ)) (end : Ending) (bytes : List ℕ) → IsLanguage l → IsReached l terms.plan (standing_on l start) → left ≡ Some bytes → IsSome written →
-    IsEnough l terms start bytes → NoFault end → Tries line_turn l terms start later left written left' written' end → ConvergesOrCollapses end
-lines_end l terms start later left written left' written' end bytes lawful reached from tells enough calm tries =
+    HasRoom l start → IsEnough l terms start bytes → NoFault end → Tries line_turn l terms start later left written left' written' end → ConvergesOrCollapses end
+lines_end l terms start later left written left' written' end bytes lawful reached from tells room enough calm tries =
     let before = bytes_told written tells in
     let a = enough.answers in
     let has : HasLines (length a.lines) bytes = record { lines = a.lines; rest = a.rest; is = a.is; each = a.each; many = omega arith } in
     ⊎_elim (λ converged. inl converged) (λ collapsed. inr (inl collapsed))
-    (own_end line_turn HasLines lines_answer l lawful terms (length a.lines) start later left written left' written' end bytes before.0 from before.1 reached a.enough has enough.affordable tries calm.read calm.kept)
+    (own_end line_turn HasLines lines_answer l lawful terms (length a.lines) start later left written left' written' end bytes before.0 from before.1 reached a.enough has room enough.affordable tries calm.read calm.kept)
 
 broken_memory : (end : Ending) → IsBrokenOff end → NoFault end → end ≡ ending.Memory
 broken_memory end broken calm = ⊎_elim (λ e. absurd (calm.read e)) (λ o. ⊎_elim (λ e. absurd (calm.write e)) (λ more. ⊎_elim (λ e. absurd (calm.kept e)) (λ e. e) more) o) broken
+
+-- without events there is room
+no_events_room : (l : Language) → IsLanguage l → HasRoom l []
+no_events_room l lawful = let fit = answers_fit l lawful in omega (arith, fit)
 
 places_reached : (l : Language) (plan : Plan) (events : List Event) → HavePlaces l plan events → IsReached l plan (standing_on l events)
 places_reached l plan events places = (places.0, replay_is_state l plan events places.0 places.1)
@@ -171,7 +179,7 @@ module _ (terms : Terms) (left written left' written' : Option (List ℕ)) (byte
       let rest : reads.rest ≡ Some first.rest = gives_rest (first_line_of 4194304) left reads.rest (fine reads.line) bytes reads.gives from in
       let line : reads.line ≡ has.line = one_line reads.line has.line (sym (gives_got (first_line_of 4194304) left reads.rest (fine reads.line) bytes reads.gives from) ∙ has.first) in
       let Reads : List ℕ → Type 0 = λ x. IsVocabulary x reads.lang in
-      lines_end reads.lang terms [] reads.events reads.rest written left' written' end first.rest reads.vocabulary.built.lawful (places_reached reads.lang terms.plan [] (none_placed reads.lang terms.plan)) rest tells
+      lines_end reads.lang terms [] reads.events reads.rest written left' written' end first.rest reads.vocabulary.built.lawful (places_reached reads.lang terms.plan [] (none_placed reads.lang terms.plan)) rest tells (no_events_room reads.lang reads.vocabulary.built.lawful)
       (has.enough reads.lang (subst Reads line reads.vocabulary)) calm reads.tries
 
   try_completes : (end : Ending) → NoFault end → Acquires terms left written left' written' end → ConvergesOrCollapses end
@@ -179,10 +187,12 @@ module _ (terms : Terms) (left written left' written' : Option (List ℕ)) (byte
   try_completes ending.Done calm done = absurd done
   try_completes (ending.JournalRefused fault) calm done = absurd done
   try_completes ending.DiskFault calm done = absurd done
-  try_completes ending.JournalFull calm done = absurd done
   try_completes (ending.NotFresh m) calm done = absurd done
   try_completes (ending.TargetRefused fault) calm done = absurd done
+  try_completes ending.NothingBack calm done = absurd done
   try_completes (ending.ReduceSpent i) calm done = absurd done
+  try_completes ending.CnfTooLarge calm done = absurd done
+  try_completes (ending.ModelRefused fault) calm done = absurd done
   try_completes (ending.VocRefused fault) calm done =
       let refused = done.0 in
       absurd (not_refused has.line refused.got fault (sym has.first ∙ gives_got (first_line_of 4194304) left left' refused.got bytes refused.gives from) has.taken refused.refused)
@@ -195,6 +205,7 @@ module _ (terms : Terms) (left written left' written' : Option (List ℕ)) (byte
   try_completes (ending.Suspended m) calm done = reads_end (ending.Suspended m) calm done
   try_completes ending.LineTooLong calm done = reads_end ending.LineTooLong calm done
   try_completes ending.Unreadable calm done = reads_end ending.Unreadable calm done
+  try_completes ending.JournalFull calm done = reads_end ending.JournalFull calm done
 
 -- ---- the commands over a journal
 
@@ -243,7 +254,7 @@ target_end l terms start later left rest written left' written' end bytes target
     let same : has.target ≡ target = same_target has.target target (sym has.is ∙ ap (network_of l) whole.is ∙ reads.is) in
     let Afforded : List Candidate → Type 0 = λ x. IsAffordable (net_turn x false) l terms start [] in
     ⊎_elim (λ converged. inl converged) (λ collapsed. absurd (agreed collapsed.0 collapsed.1))
-    (own_end (net_turn target false) AsMany (network_answers target false) l lawful terms (most_answers l) start later rest written left' written' end [] before.0 nothing before.1 reached (omega arith) tt (subst Afforded same has.affordable) tries calm.read calm.kept)
+    (own_end (net_turn target false) AsMany (network_answers target false) l lawful terms (most_answers l) start later rest written left' written' end [] before.0 nothing before.1 reached (omega arith) tt has.room (subst Afforded same has.affordable) tries calm.read calm.kept)
 
 -- ---- a number's language
 
@@ -266,7 +277,10 @@ told_end number l terms events written written' ending.Memory made enough tells 
 told_end number l terms events written written' ending.JournalFull made enough tells = absurd tells
 told_end number l terms events written written' (ending.NotFresh m) made enough tells = absurd tells
 told_end number l terms events written written' (ending.TargetRefused fault) made enough tells = absurd tells
+told_end number l terms events written written' ending.NothingBack made enough tells = absurd tells
 told_end number l terms events written written' (ending.ReduceSpent i) made enough tells = absurd tells
+told_end number l terms events written written' ending.CnfTooLarge made enough tells = absurd tells
+told_end number l terms events written written' (ending.ModelRefused fault) made enough tells = absurd tells
 
 module _ {D : Type 0} (content : D → Option (List ℕ)) (may_leave : D → List ℕ → Type 0) (moment : D → ℕ) (left_since : D → ℕ → List ℕ → Type 0) (left written left' written' : Option (List ℕ)) (old new : D) (end : Ending) (calm : NoFault end) where
   run_completes : (budget : ℕ) → RunsOn content may_leave moment left_since budget left written left' written' old new (okay end) → (bytes file : List ℕ) → left ≡ Some bytes → content old ≡ Some file → IsSome written → RunHasEnough budget bytes file → ConvergesOrCollapses end
@@ -274,7 +288,7 @@ module _ {D : Type 0} (content : D → Option (List ℕ)) (may_leave : D → Lis
       ⊎_elim (λ broken. inr (inr (broken_memory end broken calm))) (λ is. absurd (has.opens closed.fault (is.0, closed.why file told))) (closed_end written written' end closed.fault (untold closed.fault) refl closed.refuses)
   run_completes budget (inr on) bytes file from told tells has =
       lines_end on.lang (terms_with on.plan budget) on.events on.later left written left' written' end bytes on.read.built.lawful (places_reached on.lang on.plan on.events on.places) from tells
-      (has.enough on.plan on.voc on.events on.lang (on.says file told) on.read) calm on.tries
+      (has.room on.plan on.voc on.events on.lang (on.says file told) on.read) (has.enough on.plan on.voc on.events on.lang (on.says file told) on.read) calm on.tries
 
   play_completes : (budget : ℕ) → PlaysOn content may_leave moment left_since budget left written left' written' old new (okay end) → (bytes file : List ℕ) → left ≡ Some bytes → content old ≡ Some file → IsSome written → PlayHasEnough budget bytes file → Converges end
   play_completes budget (inl closed) bytes file from told tells has =
@@ -305,23 +319,27 @@ module _ {D : Type 0} (content : D → Option (List ℕ)) (may_leave : D → Lis
   reduce_completes : (budget : ℕ) (content' : Option (List ℕ)) → ReduceEnds budget content' end → (file : List ℕ) → content' ≡ Some file → HoldsDecided file budget → IsDoneWith end
   reduce_completes budget content' ends file told held = ⊎_elim (λ broken. inr (broken_memory end broken calm)) (λ exactly. inl (exactly.done.1 held)) (ends file told)
 
-  pub completes : (words : List (List ℕ)) →
-      ((plan : Plan) (budget : ℕ) → command_asked words ≡ Ok (command.Try plan budget) → Acquires (terms_with plan budget) left written left' written' end) →
-      ((budget : ℕ) → command_asked words ≡ Ok (command.Run budget) → RunsOn content may_leave moment left_since budget left written left' written' old new (okay end)) →
-      ((budget : ℕ) → command_asked words ≡ Ok (command.Play budget) → PlaysOn content may_leave moment left_since budget left written left' written' old new (okay end)) →
-      ((number budget : ℕ) → command_asked words ≡ Ok (command.Demo number budget) → Demos number budget written written' (okay end)) →
-      EndsExactly (command_asked words) left (content old) end → Completes (command_asked words) left written (content old) end
-  completes words tries runs plays demos exactly = of (command_asked words) refl exactly
-    where
-      of : (asked : Result Command UsageFault) → command_asked words ≡ asked → EndsExactly asked left (content old) end → Completes asked left written (content old) end
-      of (Ok (command.New plan)) is ends = λ bytes from file told. new_completes (content old) ends bytes file from told
-      of (Ok (command.Run budget)) is ends = λ bytes from file told. run_completes budget (runs budget is) bytes file from told
-      of (Ok (command.Play budget)) is ends = λ bytes from file told. play_completes budget (plays budget is) bytes file from told
-      of (Ok command.Show) is ends = λ file told. show_completes (content old) ends file told
-      of (Ok (command.Try plan budget)) is ends = λ bytes from tells has. try_completes (terms_with plan budget) left written left' written' bytes from tells has end calm (tries plan budget is)
-      of (Ok (command.Demo number budget)) is ends = λ enough. demo_completes number budget (demos number budget is) enough
-      of (Ok (command.Reduce budget)) is ends = λ file told. reduce_completes budget (content old) ends file told
-      of (Err fault) is ends = tt
+  print_completes : (content' : Option (List ℕ)) → PrintEnds content' end → (file : List ℕ) → content' ≡ Some file → HoldsPrintable file → IsDoneWith end
+  print_completes content' ends file told held = ⊎_elim (λ broken. inr (broken_memory end broken calm)) (λ exactly. inl (exactly.done.1 held)) (ends file told)
+
+  solve_completes : (content' : Option (List ℕ)) → SolveEnds left content' end → (bytes file : List ℕ) → left ≡ Some bytes → content' ≡ Some file → HoldsModel bytes file → IsDoneWith end
+  solve_completes content' ends bytes file from told held = ⊎_elim (λ broken. inr (broken_memory end broken calm)) (λ exactly. inl (exactly.done.1 held)) (ends bytes from file told)
+
+  back_completes : (content' : Option (List ℕ)) → BackEnds content' end → (file : List ℕ) → content' ≡ Some file → HoldsLast file → IsDoneWith end
+  back_completes content' ends file told held = ⊎_elim (λ broken. inr (broken_memory end broken calm)) (λ exactly. inl (exactly.done.1 held)) (ends file told)
+
+  pub completes : (asked : Result Command UsageFault) → Does content may_leave moment left_since asked left written left' written' old new (okay end) → EndsExactly asked left (content old) end → Completes asked left written (content old) end
+  completes (Ok (command.New plan)) does ends = λ bytes from file told. new_completes (content old) ends bytes file from told
+  completes (Ok (command.Run budget)) does ends = λ bytes from file told. run_completes budget does bytes file from told
+  completes (Ok (command.Play budget)) does ends = λ bytes from file told. play_completes budget does bytes file from told
+  completes (Ok command.Show) does ends = λ file told. show_completes (content old) ends file told
+  completes (Ok command.Back) does ends = λ file told. back_completes (content old) ends file told
+  completes (Ok (command.Try plan budget)) does ends = λ bytes from tells has. try_completes (terms_with plan budget) left written left' written' bytes from tells has end calm does
+  completes (Ok (command.Demo number budget)) does ends = λ enough. demo_completes number budget does enough
+  completes (Ok (command.Reduce budget)) does ends = λ file told. reduce_completes budget (content old) ends file told
+  completes (Ok command.Cnf) does ends = λ file told. print_completes (content old) ends file told
+  completes (Ok command.Model) does ends = λ bytes from file told. solve_completes (content old) ends bytes file from told
+  completes (Err fault) does ends = tt
 
 -- want of memory is always an answer
 pub memory_completes : (asked : Result Command UsageFault) (left written content : Option (List ℕ)) → Completes asked left written content ending.Memory
@@ -329,7 +347,10 @@ memory_completes (Ok (command.New plan)) left written content = λ bytes from fi
 memory_completes (Ok (command.Run budget)) left written content = λ bytes from file told tells has. inr (inr refl)
 memory_completes (Ok (command.Play budget)) left written content = λ bytes from file told tells has. inr refl
 memory_completes (Ok command.Show) left written content = λ file told none. inr refl
+memory_completes (Ok command.Back) left written content = λ file told held. inr refl
 memory_completes (Ok (command.Try plan budget)) left written content = λ bytes from tells has. inr (inr refl)
 memory_completes (Ok (command.Demo number budget)) left written content = λ enough. inr refl
 memory_completes (Ok (command.Reduce budget)) left written content = λ file told held. inr refl
+memory_completes (Ok command.Cnf) left written content = λ file told held. inr refl
+memory_completes (Ok command.Model) left written content = λ bytes from file told held. inr refl
 memory_completes (Err fault) left written content = tt

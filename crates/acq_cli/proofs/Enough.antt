@@ -7,13 +7,11 @@ use Rattle.std.proofs.lemmas.List.Elements.{All-filter}
 use Rattle.std.proofs.lemmas.List.FromFn.{length-range_with_len}
 use Rattle.std.proofs.lemmas.List.Sums.{length-filter, count_by-le-length}
 use Rattle.assign.specs.Sets.{numbers}
-use Rattle.assign.specs.declared.events.Plan.{Plan}
 use Rattle.language.specs.declared.candidates.Candidate.{Candidate}
-use Rattle.language.specs.Language.{Language, IsCandidate, candidates, variable_count}
-use Rattle.language.specs.Answers.{has_scope, is_struck, kept}
+use Rattle.language.specs.Language.{Language, candidates, variable_count}
+use Rattle.language.specs.Answers.{kept}
 use Rattle.language.specs.Search.{prefixes, is_plain, plain_size}
 use Rattle.fd_solver.proofs.Outcomes.{plain_is_less}
-use Rattle.session_laws.proofs.Choices.{all_candidates}
 use Rattle.target_oracle.specs.Generator.{IsGenerated, name_of}
 use Rattle.assign.specs.Events.{Answer}
 use Rattle.query_gen.specs.Questions.{is_among}

@@ -1,6 +1,6 @@
 -- How few answers lead to convergence.
-use Rattle.std.proofs.Common.{◌≡◌, ◌∙◌, ℕ, ◌+◌, ◌*◌, ◌≤◌, true, List, length, Option, refl, ap, arith}
-use Rattle.std.specs.Prelude.{◌==◌, ◌&&◌, IsTrue, All, slice_index_or, filter}
+use Rattle.std.proofs.Common.{◌≡◌, ◌∙◌, ℕ, ◌+◌, ◌*◌, ◌≤◌, true, List, length, Option, refl, arith}
+use Rattle.std.specs.Prelude.{◌==◌, ◌&&◌, IsTrue, All, slice_index_or}
 use Rattle.std.specs.List.{list_any}
 use Rattle.std.proofs.lemmas.Bool.{and_from, eq-eqb}
 use Rattle.std.proofs.lemmas.List.Folds.{list_any_at}
@@ -17,7 +17,7 @@ use Rattle.session_laws.specs.Bound.{greatest_arity}
 use Rattle.session_laws.specs.Session.{Idle, At, state_after}
 use Rattle.session_laws.specs.Walk.{WalkEnd}
 use Rattle.session_laws.proofs.Counted.{answers_are_few, learned_are_few}
-use Rattle.acq_cli.specs.Few.{AreFew, loose_bound, scopes_of_network}
+use Rattle.acq_cli.specs.Few.{AreFew, scopes_of_network}
 
 -- a greater cost a candidate makes a greater sum
 looser : (m c k arity lg : ℕ) → m ≤ c + k * (arity * lg + 1) → m ≤ c + k * (2 * arity * lg + 1)

@@ -1,5 +1,5 @@
 -- What a run over a journal has done, of its opening and its loop.
-use Rattle.std.proofs.Common.{◌≡◌, ◌≤◌, ◌⊎◌, ℕ, Bool, true, false, IsTrue, List, [], ◌∷◌, ◌++◌, Option, Some, None, Result, Ok, Err, refl, sym, ◌∙◌, ap, subst, inl, inr, ⊎_elim}
+use Rattle.std.proofs.Common.{◌≡◌, ◌⊎◌, ℕ, List, [], ◌∷◌, ◌++◌, Option, Some, Result, Ok, Err, refl, sym, ◌∙◌, ap, subst, inl, inr, ⊎_elim}
 use Rattle.std.specs.Prelude.{◌≢◌, IfOk, OnErr, IsSome}
 use Rattle.std.specs.Option.{ForSome}
 use Rattle.std.proofs.lemmas.List.{append-nil}
@@ -13,7 +13,6 @@ use Rattle.assign.specs.declared.events.Plan.{Plan}
 use Rattle.disk_model.specs.Disk.{LeavesOnly}
 use Rattle.disk_model.specs.Moments.{joined}
 use Rattle.language.specs.Language.{Language, IsLanguage}
-use Rattle.session_store.specs.Kept.{answer_event}
 use Rattle.session_store.specs.Left.{OpensWith, OpensWithin, SaysSession, LeavesNow, bytes_told}
 use Rattle.session_store.specs.Keeping.{Persists, FailsWith}
 use Rattle.session_store.specs.Replay.{HavePlaces}
@@ -58,7 +57,10 @@ other_ending ending.DiskFault = inl refl
 other_ending ending.JournalFull = inr (λ e. cc)
 other_ending (ending.NotFresh m) = inr (λ e. cc)
 other_ending (ending.TargetRefused fault) = inr (λ e. cc)
+other_ending ending.NothingBack = inr (λ e. cc)
 other_ending (ending.ReduceSpent i) = inr (λ e. cc)
+other_ending ending.CnfTooLarge = inr (λ e. cc)
+other_ending (ending.ModelRefused fault) = inr (λ e. cc)
 other_ending ending.Memory = inr (λ e. cc)
 
 -- whether the disk failed
@@ -81,7 +83,7 @@ module _ {D : Type 0} (content : D → Option (List ℕ)) (may_leave : D → Lis
       ⊎_elim
       (λ is.
       let f = fails is in
-      let last : List Event = answer_event f.question f.reply ∷ [] in (
+      let last : List Event = f.event ∷ [] in (
         record {
           plan = plan;
           voc = voc;
@@ -96,8 +98,8 @@ module _ {D : Type 0} (content : D → Option (List ℕ)) (may_leave : D → Lis
           part = part;
           last = last;
           none_lost = λ no. absurd (no is);
-          one_lost = λ so. (f.question, f.reply, refl, f.lost);
-          all_places = placed_event run_laws lang lawful (terms_with plan budget) later f.question f.reply f.lost.fits.size f.lost.puts (added.places places);
+          one_lost = λ so. (f.event, refl, f.lost);
+          all_places = placed_event run_laws lang lawful (terms_with plan budget) later f.lost.question f.event (record { puts = f.lost.puts; fits = f.lost.fits }) f.lost.follows (added.places places);
           any_moment = λ bytes told.
               joined moment left_since first old new (may_leave first) (OpensWithin plan voc events (later ++ last)) (λ c. may_leave first c ⊎ OpensWithin plan voc events (later ++ last) c) opening (f.any_moment bytes (still ∙ told))
               (λ c was. inl was) (λ c opens. inr opens);

@@ -1,6 +1,7 @@
 pub mod Questions
 pub mod Taking
 pub mod Causes
+pub mod Reached
 pub mod Running
 pub mod Turning
 pub mod Standings
@@ -25,5 +26,9 @@ pub mod Few
 pub mod Answering
 pub mod Completing
 pub mod Enough
+pub mod Room
 pub mod OneRun
 pub mod Reduced
+pub mod Printed
+pub mod Solved
+pub mod TakenBack

@@ -1,15 +1,15 @@
 -- One run, and one text.
-use Rattle.std.proofs.Common.{◌≡◌, ◌∙◌, ℕ, zero, suc, Bool, List, [], ◌∷◌, ◌++◌, ap, sym, subst, refl, Option, Some, None, Result, Ok, Err, inl, inr}
+use Rattle.std.proofs.Common.{◌≡◌, ◌∙◌, ℕ, zero, suc, List, [], ◌∷◌, ◌++◌, ap, sym, subst, refl, Option, Some, None, Result, Ok, Err, inl, inr}
 use Rattle.std.specs.Option.{option_map}
 use Rattle.acq_io.specs.Whole.{Gathered, first_line_of}
 use Rattle.acq_io.specs.declared.whole.AllFault.{AllFault}
 use Rattle.assign.specs.Assignment.{Assignment}
 use Rattle.assign.specs.declared.events.Event.{Event}
+use Rattle.assign.specs.declared.events.Event.TheVariants as event
 use Rattle.language.specs.Language.{Language}
-use Rattle.language.specs.Answers.{standing_on}
 use Rattle.session_store.specs.Kept.{answer_event}
 use Rattle.target_oracle.specs.Lines.{line_turn}
-use Rattle.target_oracle.specs.Turns.{Turns, Turned, Reply, Said, Stopped, Ended, Overlong, Unread}
+use Rattle.target_oracle.specs.Turns.{Turns, Turned, Reply, Said, TakenBack, Stopped, Ended, Overlong, Unread}
 use Rattle.voc_read.specs.Vocabulary.{IsVocabulary, refusal_of_vocabulary}
 use Rattle.voc_read.specs.declared.fault.VocFault.{VocFault}
 use Rattle.voc_read.proofs.OneReading.{one_language}
@@ -17,7 +17,7 @@ use Rattle.voc_read.proofs.Refused.{not_refused}
 use Rattle.acq_cli.specs.OneText.{RunIsOne, TextIsOne}
 use Rattle.acq_cli.specs.Run.{Closing, Next, Puts, Ends, next_on, number_on, Ran, Runs, after_text, ended, heard_on, turned_on, put_on, ran}
 use Rattle.acq_cli.specs.Texts.{refusal_text, whole_text}
-use Rattle.acq_cli.specs.Trying.{IsRefusal, IsTextOfRefusal, IsTextOfRun, IsWholeText}
+use Rattle.acq_cli.specs.Trying.{IsRefusal, IsTextOfRun}
 use Rattle.acq_cli.specs.declared.terms.Terms.{Terms}
 
 -- ---- one run
@@ -40,6 +40,7 @@ module _ (a b : List Event → List ℕ → Option Ran) (agree : (events : List 
 
   heard : (text : List ℕ) (events : List Event) (q : Assignment) (rest : List ℕ) (reply : Reply) → option_map (after_text text) (heard_on a events q rest reply) ≡ Some run → option_map (after_text text) (heard_on b events q rest reply) ≡ Some other → run ≡ other
   heard text events q rest (Said reply) h k = mapped text (events ++ answer_event q reply ∷ []) rest (a (events ++ answer_event q reply ∷ []) rest) (b (events ++ answer_event q reply ∷ []) rest) refl refl h k
+  heard text events q rest TakenBack h k = mapped text (events ++ event.Back ∷ []) rest (a (events ++ event.Back ∷ []) rest) (b (events ++ event.Back ∷ []) rest) refl refl h k
   heard text events q rest Stopped h k = closed text _ events rest h k
   heard text events q rest Ended h k = closed text _ events rest h k
   heard text events q rest Overlong h k = closed text _ events rest h k

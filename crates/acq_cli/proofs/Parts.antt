@@ -20,7 +20,7 @@ use Rattle.voc_read.specs.Vocabulary.{IsVocabulary}
 use Rattle.voc_read.specs.declared.fault.VocFault.{VocFault}
 use Rattle.acq_cli.specs.Run.{Ran, Runs, next_on}
 use Rattle.acq_cli.specs.Program.{ended_as}
-use Rattle.acq_cli.specs.Trying.{Breaks, BreaksOff, IsRefusal, IsTextOfRefusal, IsTextOfRun, IsWholeText}
+use Rattle.acq_cli.specs.Trying.{Breaks, BreaksOff, IsRefusal, IsTextOfRefusal, IsTextOfRun}
 use Rattle.acq_cli.specs.Breaks.{BreaksRun, ClosesInPart}
 use Rattle.acq_cli.specs.Driven.{CutOff, next_lines}
 use Rattle.acq_cli.specs.Points.{point_of}
@@ -28,14 +28,13 @@ use Rattle.acq_cli.specs.Trying.{Acquires, ReadsVocabulary}
 use Rattle.acq_cli.specs.Endings.{Tries}
 use Rattle.acq_cli.specs.Texts.{closing_text, refusal_text, whole_text}
 use Rattle.acq_cli.specs.declared.terms.Terms.{Terms}
-use Rattle.acq_cli.proofs.Closings.{okay, not_loops, loops_by, read_by}
+use Rattle.acq_cli.proofs.Closings.{okay, not_loops, read_by}
 use Rattle.acq_cli.proofs.Running.{IsWithin, run_exists}
 use Rattle.acq_cli.proofs.Standings.{run_laws}
 use Rattle.acq_cli.proofs.Taking.{takes_same}
 use Rattle.acq_cli.proofs.Turning.{some_text}
 use Rattle.acq_cli.specs.Closings.{closing_of, ending_of}
 use Rattle.acq_cli.specs.declared.driving.Drove.{Drove}
-use Rattle.acq_cli.specs.declared.driving.Drove.TheVariants as drove
 use Rattle.acq_cli.specs.declared.ending.Ending.{Ending}
 use Rattle.acq_cli.specs.declared.ending.Ending.TheVariants as ending
 
@@ -211,11 +210,14 @@ acquires_by terms left rest written left' written' line lang events end gives vo
     }
     go ending.WriteFault never tried = absurd (not_loops tried.how ending.WriteFault tried.is refl)
     go ending.DiskFault never tried = absurd (never refl)
-    go ending.JournalFull never tried = absurd (tried.never_full (loops_by tried.how drove.JournalFull ending.JournalFull tried.is refl))
+    go ending.JournalFull never tried = reads ending.JournalFull tried
     go ending.Memory never tried = absurd (not_loops tried.how ending.Memory tried.is refl)
     go (ending.NotFresh m) never tried = absurd (not_loops tried.how (ending.NotFresh m) tried.is refl)
     go (ending.TargetRefused fault) never tried = absurd (not_loops tried.how (ending.TargetRefused fault) tried.is refl)
+    go ending.NothingBack never tried = absurd (not_loops tried.how ending.NothingBack tried.is refl)
     go (ending.ReduceSpent i) never tried = absurd (not_loops tried.how (ending.ReduceSpent i) tried.is refl)
+    go ending.CnfTooLarge never tried = absurd (not_loops tried.how ending.CnfTooLarge tried.is refl)
+    go (ending.ModelRefused fault) never tried = absurd (not_loops tried.how (ending.ModelRefused fault) tried.is refl)
 
 pub acquires_in : (terms : Terms) (left rest written left' written' : Option (List ℕ)) (line : List ℕ) (lang : Language) (got : Result Ending Put) →
     Gives (first_line_of 4194304) left rest (Ok line) → IsVocabulary line lang → IfOk got (λ (e : Ending). e ≡ ending.DiskFault → ⊥) →

@@ -1,5 +1,5 @@
 -- What `reduce` tells of a file, exactly.
-use Rattle.std.proofs.Common.{◌≡◌, ◌⊎◌, ◌∙◌, ℕ, ◌<◌, List, [], length, Option, Some, Result, Ok, Err, refl, sym, ap, subst, inl, inr, ⊎_elim, arith}
+use Rattle.std.proofs.Common.{◌≡◌, ◌⊎◌, ◌∙◌, ℕ, ◌<◌, List, [], length, Option, Some, Result, Ok, Err, refl, sym, ap, subst, inl, inr, ⊎_elim}
 use Rattle.std.specs.Prelude.{◌≢◌, IfOk}
 use Rattle.std.proofs.lemmas.Bool.{cases_order}
 use Rattle.acq_io.specs.declared.streams.Put.{Put}
@@ -19,13 +19,13 @@ use Rattle.net_reduce.specs.declared.fault.ReduceFault.TheVariants as unreduced
 use Rattle.net_reduce.proofs.Sifting.{reduced_is_target}
 use Rattle.session_core.specs.Standing.{Stands, knowledge_of}
 use Rattle.session_core.specs.declared.session.Session.{Session}
-use Rattle.session_laws.specs.Session.{At, state_after}
+use Rattle.session_laws.specs.Session.{state_after}
 use Rattle.session_store.specs.declared.fault.SFault.{SFault}
 use Rattle.voc_read.proofs.OneReading.{one_language}
 use Rattle.acq_cli.specs.Exactly.{HoldsSession, IsBrokenOff, RefusesOpening}
 use Rattle.acq_cli.specs.Journals.{EndsWith, untold}
 use Rattle.acq_cli.specs.Program.{ended_as}
-use Rattle.acq_cli.specs.Reducing.{EndsUnreduced, HoldsDecided, HoldsSpent, IsReduced, ReduceEnds, Reduces, ReducesExactly, ReducesTo, SaysReduced, SaysSpent, network_after}
+use Rattle.acq_cli.specs.Reducing.{EndsUnreduced, ReduceEnds, Reduces, ReducesExactly, ReducesTo, network_after}
 use Rattle.acq_cli.specs.Texts.{learned_in}
 use Rattle.acq_cli.proofs.Closings.{okay, err_ok}
 use Rattle.acq_cli.proofs.Exactly.{ReadOnce, closed_end, closed_exactly, done_refused, holds_none, vocabulary_as}
@@ -108,7 +108,7 @@ one_is_spent l network budget i j a b = go (cases_order i j)
     go (inr (inr more)) = absurd (a.first j more b.spent)
 
 -- two readings of a file lead to one network
-one_network : (file : List ℕ) (P : Language → List Candidate → Type 0) (a b : HoldsSession file) → P a.lang (network_after a.lang a.plan a.events) → P b.lang (network_after b.lang b.plan b.events)
+pub one_network : (file : List ℕ) (P : Language → List Candidate → Type 0) (a b : HoldsSession file) → P a.lang (network_after a.lang a.plan a.events) → P b.lang (network_after b.lang b.plan b.events)
 one_network file P a b holds =
     let spelled = spells_once file a.plan a.voc a.events b.plan b.voc b.events a.says.1 b.says.1 in
     let same : a.lang ≡ b.lang = one_language b.voc a.lang b.lang (vocabulary_as file a.plan b.plan a.voc b.voc a.events b.events a.lang a.says b.says a.read) b.read in

@@ -1,12 +1,12 @@
 -- Runs, one turn at a time.
-use Rattle.std.proofs.Common.{◌≡◌, ◌≢◌, ℕ, zero, suc, ◌+◌, ◌<◌, ◌≤◌, List, [], ◌∷◌, ◌++◌, Bool, true, false, length, ap, subst, sym, ◌∙◌, refl, Option, Some, None, arith, append_assoc, length-append, ⊎_elim}
-use Rattle.std.specs.Prelude.{◌==◌, nat_eq}
+use Rattle.std.proofs.Common.{◌≡◌, ℕ, zero, suc, ◌+◌, ◌<◌, ◌≤◌, List, [], ◌∷◌, ◌++◌, Bool, true, false, length, ap, subst, sym, ◌∙◌, refl, Option, Some, None, arith, append_assoc, length-append, ⊎_elim}
 use Rattle.std.proofs.lemmas.Bool.{cases_lt, eq-eqb, eqb-true}
 use Rattle.std.proofs.lemmas.List.{append-nil}
 use Rattle.std.specs.Option.{option_map}
 use Rattle.assign.specs.Assignment.{Assignment}
 use Rattle.assign.specs.Events.{Answer}
 use Rattle.assign.specs.declared.events.Event.{Event}
+use Rattle.assign.specs.declared.events.Event.TheVariants as event
 use Rattle.assign.specs.declared.events.Plan.{Plan}
 use Rattle.assign.specs.declared.events.Plan.TheVariants.{Scopes, Quacq, Multi}
 use Rattle.assign.proofs.EventLemmas.{cut_to-standing-push}
@@ -20,29 +20,40 @@ use Rattle.session_laws.specs.Walk.{WalkEnd}
 use Rattle.session_store.specs.Kept.{answer_event}
 use Rattle.acq_cli.specs.declared.terms.Terms.{Terms}
 use Rattle.acq_cli.proofs.Questions.{IsLawfulExample}
-use Rattle.session_laws.specs.Session.{State, Idle, Halving, Choosing, Walking, Over, At, step, state_after}
+use Rattle.acq_cli.proofs.Reached.{IsReached, back_reached}
+use Rattle.session_laws.specs.Session.{State, Idle, Halving, Choosing, Walking, Over, At, is_just, step, state_after}
+use Rattle.session_laws.proofs.Folds.{assignment_same}
+use Rattle.session_core.specs.Standing.{IsAskedIn}
 use Rattle.session_laws.specs.Laws.{OneAnswerMore, QuestionsHavePlaces, QuestionsHaveValues}
-use Rattle.target_oracle.specs.Turns.{Turns, Turned, Reply, Said, Stopped, Ended, Overlong, Unread}
-use Rattle.acq_cli.specs.Run.{Closing, Suspended, LineTooLong, Unreadable, Collapsed, Converged, JournalFull, Next, Puts, Ends, puts_or, searched, idle_next, next_at, next_in, next_after, is_full, unless_full, next_on, number_on, Ran, after_text, answer, ended, heard_on, turned_on, put_on, ran, Runs}
+use Rattle.target_oracle.specs.Turns.{Turns, Turned, Reply, Said, TakenBack, Stopped, Ended, Overlong, Unread}
+use Rattle.acq_cli.specs.Run.{Closing, Suspended, LineTooLong, Unreadable, Collapsed, Converged, JournalFull, Next, Puts, Ends, puts_or, searched, idle_next, next_at, next_in, next_after, is_full, unless_full, next_on, number_on, Ran, after_text, answer, ended, event_heard, heard_on, turned_on, put_on, ran, Runs}
 
 -- ---- a turn and what follows
 
 pub text_after : (x y : List ℕ) (run : Ran) → after_text x (after_text y run) ≡ after_text (x ++ y) run
 text_after x y run = ap (λ (t : List ℕ). let r : Ran = record run { text = t } in r) (sym (append_assoc x y run.text))
 
--- a turn that heard an answer
-pub runs_said : (turns : Turns) (l : Language) (terms : Terms) (events : List Event) (bytes : List ℕ) (q : Assignment) (reply : Bool) (run : Ran) →
-    next_on l terms events ≡ Some (Puts q) → (turns l (number_on l events) q bytes).heard.reply ≡ Said reply →
-    Runs turns l terms (events ++ answer_event q reply ∷ []) (turns l (number_on l events) q bytes).heard.rest run →
+-- a reply that gives an event is followed by what comes after it
+pub heard_event : (again : List Event → List ℕ → Option Ran) (events : List Event) (q : Assignment) (rest : List ℕ) (reply : Reply) (e : Event) → event_heard q reply ≡ Some e → heard_on again events q rest reply ≡ again (events ++ e ∷ []) rest
+heard_event again events q rest (Said said) e h = let same : answer_event q said ≡ e = cc in ap (λ (x : Event). again (events ++ x ∷ []) rest) same
+heard_event again events q rest TakenBack e h = let same : event.Back ≡ e = cc in ap (λ (x : Event). again (events ++ x ∷ []) rest) same
+heard_event again events q rest Stopped e h = absurd (let no : ⊥ = cc in no)
+heard_event again events q rest Ended e h = absurd (let no : ⊥ = cc in no)
+heard_event again events q rest Overlong e h = absurd (let no : ⊥ = cc in no)
+heard_event again events q rest Unread e h = absurd (let no : ⊥ = cc in no)
+
+-- a turn that heard one
+pub runs_heard : (turns : Turns) (l : Language) (terms : Terms) (events : List Event) (bytes : List ℕ) (q : Assignment) (e : Event) (run : Ran) →
+    next_on l terms events ≡ Some (Puts q) → event_heard q (turns l (number_on l events) q bytes).heard.reply ≡ Some e →
+    Runs turns l terms (events ++ e ∷ []) (turns l (number_on l events) q bytes).heard.rest run →
     Runs turns l terms events bytes (after_text (turns l (number_on l events) q bytes).text run)
 unfolding ran
-runs_said turns l terms events bytes q reply run due heard runs =
+runs_heard turns l terms events bytes q e run due heard runs =
     let turned : Turned = turns l (number_on l events) q bytes in
     record {
       count = suc runs.count;
       is = ap (put_on (λ p. turned_on (ran turns l terms runs.count) events p (turns l (number_on l events) p bytes)) events bytes) due
-          ∙ ap (λ r. option_map (after_text turned.text) (heard_on (ran turns l terms runs.count) events q turned.heard.rest r)) heard
-          ∙ ap (option_map (after_text turned.text)) runs.is;
+          ∙ ap (option_map (after_text turned.text)) (heard_event (ran turns l terms runs.count) events q turned.heard.rest turned.heard.reply e heard ∙ runs.is);
     }
 
 -- a reply that ends the run so
@@ -73,9 +84,6 @@ runs_end turns l terms events bytes closing due = record {
 }
 
 -- ---- each run comes to an end
-
-abbrev pub IsReached : Language → Plan → List Answer → Type 0
-IsReached l plan t = (state : State) × (state_after l plan t ≡ At state)
 
 -- the laws that a run's end rests on
 pub record RunLaws : Type 0 where
@@ -120,6 +128,20 @@ placed laws l lawful terms t q reply (state, at) h =
     place_at laws l lawful terms t state q reply at (let e : Some (next_at l terms t state) ≡ Some (Puts q) = sym (ap (next_in l terms t) at) ∙ h in let same : next_at l terms t state ≡ Puts q = cc in same)
 
 -- ---- a question that comes next
+
+-- it is asked there
+idle_asked : RunLaws → (l : Language) → IsLanguage l → (plan : Plan) (budget : ℕ) (t : List Answer) (network : List Candidate) (end : Option WalkEnd) (q : Assignment) →
+    state_after l plan t ≡ At (Idle network end) → idle_next l plan budget (kept l t network) network ≡ Puts q → IsAskedIn l plan t q (Idle network end)
+idle_asked laws l lawful Scopes budget t network end q at h = ap (λ o. is_just o q) (puts_is Converged _ q h) ∙ assignment_same q
+idle_asked laws l lawful Quacq budget t network end q at h = (laws.lawful l Quacq budget t network end q lawful at (searched_is _ q h)).quacq
+idle_asked laws l lawful Multi budget t network end q at h = (laws.lawful l Multi budget t network end q lawful at (searched_is _ q h)).multi
+
+pub asked_at : RunLaws → (l : Language) → IsLanguage l → (terms : Terms) (t : List Answer) (state : State) (q : Assignment) → state_after l terms.plan t ≡ At state → next_at l terms t state ≡ Puts q → IsAskedIn l terms.plan t q state
+asked_at laws l lawful terms t (Idle network end) q at h = idle_asked laws l lawful terms.plan terms.budget t network end q at h
+asked_at laws l lawful terms t (Halving e set replies network walk) q at h = puts_is Collapsed _ q h
+asked_at laws l lawful terms t (Choosing s choices network walk) q at h = puts_is Collapsed _ q h
+asked_at laws l lawful terms t (Walking set walk network) q at h = puts_is Collapsed _ q h
+asked_at laws l lawful terms t (Over network) q at h = absurd (let no : ⊥ = cc in no)
 
 -- it has as many options as the language has variables
 idle_sized : RunLaws → (l : Language) → IsLanguage l → (plan : Plan) (budget : ℕ) (t : List Answer) (network : List Candidate) (end : Option WalkEnd) (q : Assignment) →
@@ -178,10 +200,10 @@ not_full_room events few room = go (length events) few (λ e. absurd (let bad : 
     go : (n : ℕ) → n < 1000000 → (n + 1 ≡ 1000000 → ⊥) → n + 1 < 1000000
     go n low other = ⊎_elim (λ less. less) (λ more. absurd (other (omega (arith, low, more)))) (cases_lt (n + 1) 1000000)
 
--- an event more leads to where its answer does
-pub within_on : RunLaws → (l : Language) → IsLanguage l → (terms : Terms) (events : List Event) (q : Assignment) (reply : Bool) →
+-- an answer more leads to where it does
+within_said : RunLaws → (l : Language) → IsLanguage l → (terms : Terms) (events : List Event) (q : Assignment) (reply : Bool) →
     IsWithin l terms.plan events → next_on l terms events ≡ Some (Puts q) → IsWithin l terms.plan (events ++ answer_event q reply ∷ [])
-within_on laws l lawful terms events q reply within next =
+within_said laws l lawful terms events q reply within next =
     let puts = puts_next l terms events q next in
     let Reached : List Answer → Type 0 = IsReached l terms.plan in
     let state = within.reached.0 in
@@ -193,6 +215,28 @@ within_on laws l lawful terms events q reply within next =
       reached = subst Reached (sym (cut_to-standing-push (variable_count l) events q reply size)) (placed laws l lawful terms (standing_on l events) q reply within.reached puts.due);
       few = omega (arith, room, length-append events (answer_event q reply ∷ []));
     }
+
+-- a take-back leads to where the answers before the last do
+within_back : (l : Language) (terms : Terms) (events : List Event) (q : Assignment) → IsWithin l terms.plan events → next_on l terms events ≡ Some (Puts q) → IsWithin l terms.plan (events ++ event.Back ∷ [])
+within_back l terms events q within next =
+    let puts = puts_next l terms events q next in
+    let room : length events + 1 < 1000000 = not_full_room events within.few puts.room in
+    let back : List Event = event.Back ∷ [] in
+    record { reached = back_reached l terms.plan events within.reached; few = omega (arith, room, length-append events back) }
+
+-- an event more
+pub within_on : RunLaws → (l : Language) → IsLanguage l → (terms : Terms) (events : List Event) (q : Assignment) (reply : Reply) (e : Event) → event_heard q reply ≡ Some e →
+    IsWithin l terms.plan events → next_on l terms events ≡ Some (Puts q) → IsWithin l terms.plan (events ++ e ∷ [])
+within_on laws l lawful terms events q (Said said) e h within next =
+    let Within : Event → Type 0 = λ x. IsWithin l terms.plan (events ++ x ∷ []) in
+    let same : answer_event q said ≡ e = cc in subst Within same (within_said laws l lawful terms events q said within next)
+within_on laws l lawful terms events q TakenBack e h within next =
+    let Within : Event → Type 0 = λ x. IsWithin l terms.plan (events ++ x ∷ []) in
+    let same : event.Back ≡ e = cc in subst Within same (within_back l terms events q within next)
+within_on laws l lawful terms events q Stopped e h within next = absurd (let no : ⊥ = cc in no)
+within_on laws l lawful terms events q Ended e h within next = absurd (let no : ⊥ = cc in no)
+within_on laws l lawful terms events q Overlong e h within next = absurd (let no : ⊥ = cc in no)
+within_on laws l lawful terms events q Unread e h within next = absurd (let no : ⊥ = cc in no)
 
 -- ---- a run from some events
 
@@ -217,17 +261,22 @@ turn_closed turns l terms events bytes q reply closing due heard closes = record
   begins = refl;
 }
 
--- a turn, by what was heard
-turn_heard : (turns : Turns) (l : Language) (terms : Terms) (events : List Event) (bytes : List ℕ) (q : Assignment) → next_on l terms events ≡ Some (Puts q) →
-    (reply : Reply) → (turns l (number_on l events) q bytes).heard.reply ≡ reply →
-    ((said : Bool) (rest : List ℕ) → HasRun turns l terms (events ++ answer_event q said ∷ []) rest) → HasTurn turns l terms events bytes q
-turn_heard turns l terms events bytes q due (Said said) heard next =
-    let later = next said (turns l (number_on l events) q bytes).heard.rest in
+turn_event : (turns : Turns) (l : Language) (terms : Terms) (events : List Event) (bytes : List ℕ) (q : Assignment) (e : Event) → next_on l terms events ≡ Some (Puts q) →
+    event_heard q (turns l (number_on l events) q bytes).heard.reply ≡ Some e → ((rest : List ℕ) → HasRun turns l terms (events ++ e ∷ []) rest) → HasTurn turns l terms events bytes q
+turn_event turns l terms events bytes q e due heard next =
+    let later = next (turns l (number_on l events) q bytes).heard.rest in
     record {
-      has = record { run = _; runs = runs_said turns l terms events bytes q said later.run due heard later.runs; later = answer_event q said ∷ later.later; extends = later.extends ∙ append_assoc events (answer_event q said ∷ []) later.later };
+      has = record { run = _; runs = runs_heard turns l terms events bytes q e later.run due heard later.runs; later = e ∷ later.later; extends = later.extends ∙ append_assoc events (e ∷ []) later.later };
       more = later.run.text;
       begins = refl;
     }
+
+-- a turn, by what was heard
+turn_heard : (turns : Turns) (l : Language) (terms : Terms) (events : List Event) (bytes : List ℕ) (q : Assignment) → next_on l terms events ≡ Some (Puts q) →
+    (reply : Reply) → (turns l (number_on l events) q bytes).heard.reply ≡ reply →
+    ((e : Event) (rest : List ℕ) → event_heard q reply ≡ Some e → HasRun turns l terms (events ++ e ∷ []) rest) → HasTurn turns l terms events bytes q
+turn_heard turns l terms events bytes q due (Said said) heard next = turn_event turns l terms events bytes q (answer_event q said) due (ap (event_heard q) heard) (λ rest. next (answer_event q said) rest refl)
+turn_heard turns l terms events bytes q due TakenBack heard next = turn_event turns l terms events bytes q event.Back due (ap (event_heard q) heard) (λ rest. next event.Back rest refl)
 turn_heard turns l terms events bytes q due Stopped heard next = turn_closed turns l terms events bytes q Stopped Suspended due heard (λ again rest. refl)
 turn_heard turns l terms events bytes q due Ended heard next = turn_closed turns l terms events bytes q Ended Suspended due heard (λ again rest. refl)
 turn_heard turns l terms events bytes q due Overlong heard next = turn_closed turns l terms events bytes q Overlong LineTooLong due heard (λ again rest. refl)
@@ -247,8 +296,8 @@ run_from laws turns l terms lawful (suc left) events bytes within above =
     let is : next_on l terms events ≡ Some next = ap (λ r. option_map (unless_full (is_full events)) (next_in l terms t r)) within.reached.1 in
     run_next turns l terms events bytes next is
     (λ q due. turn_heard turns l terms events bytes q due (turns l (number_on l events) q bytes).heard.reply refl
-    (λ said rest. run_from laws turns l terms lawful left (events ++ answer_event q said ∷ []) rest (within_on laws l lawful terms events q said within due)
-    (omega (arith, above, length-append events (answer_event q said ∷ [])))))
+    (λ e rest heard. run_from laws turns l terms lawful left (events ++ e ∷ []) rest (within_on laws l lawful terms events q (turns l (number_on l events) q bytes).heard.reply e heard within due)
+    (omega (arith, above, length-append events (e ∷ [])))))
 
 -- there is a run, whatever the bytes
 pub run_exists : RunLaws → (turns : Turns) (l : Language) (terms : Terms) → IsLanguage l → (events : List Event) (bytes : List ℕ) → IsWithin l terms.plan events → HasRun turns l terms events bytes
@@ -258,4 +307,4 @@ run_exists laws turns l terms lawful events bytes within = run_from laws turns l
 pub turn_exists : RunLaws → (turns : Turns) (l : Language) (terms : Terms) → IsLanguage l → (events : List Event) (bytes : List ℕ) (q : Assignment) → IsWithin l terms.plan events → next_on l terms events ≡ Some (Puts q) → HasTurn turns l terms events bytes q
 turn_exists laws turns l terms lawful events bytes q within due =
     turn_heard turns l terms events bytes q due (turns l (number_on l events) q bytes).heard.reply refl
-    (λ said rest. run_exists laws turns l terms lawful (events ++ answer_event q said ∷ []) rest (within_on laws l lawful terms events q said within due))
+    (λ e rest heard. run_exists laws turns l terms lawful (events ++ e ∷ []) rest (within_on laws l lawful terms events q (turns l (number_on l events) q bytes).heard.reply e heard within due))

@@ -1,5 +1,5 @@
 -- What is said of a session at its end.
-use Rattle.std.proofs.Common.{◌≡◌, ℕ, List, length, refl, ap, sym, subst, ◌∙◌, Option}
+use Rattle.std.proofs.Common.{◌≡◌, ℕ, List, refl, ap, sym, subst, ◌∙◌, Option}
 use Rattle.std.specs.Prelude.{filter}
 use Rattle.acq_io.specs.Streams.{Adds, AddsFront}
 use Rattle.assign.specs.Events.{Answer}
@@ -17,7 +17,7 @@ use Rattle.acq_cli.specs.declared.driving.Drove.{Drove}
 use Rattle.acq_cli.specs.declared.driving.Drove.TheVariants as drove
 use Rattle.acq_cli.specs.declared.ending.Ending.TheVariants as ending
 use Rattle.acq_cli.specs.Endings.{Says, SaysPart}
-use Rattle.acq_cli.specs.Texts.{collapsed_text, converged_text, suspended_text, undecided_text, open_candidates, learned_in, learned_after}
+use Rattle.acq_cli.specs.Texts.{collapsed_text, converged_text, undecided_text, open_candidates, learned_in, learned_after}
 use Rattle.acq_cli.proofs.Nexts.{learned_is}
 use Rattle.acq_cli.proofs.OpenCandidates.{opens_are}
 

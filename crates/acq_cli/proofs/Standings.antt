@@ -1,6 +1,7 @@
 -- Sessions that stand where answers lead, and what follows of them.
 use Rattle.std.proofs.Common.{Some, None, ⊎_elim, Bool, true, false, IsTrue, ◌≡◌, ℕ, ◌+◌, ◌≤◌, ◌<◌, ◌^◌, List, ◌∷◌, [], ◌++◌, refl, length, ap, sym, ◌∙◌, subst, arith}
 use Rattle.std.proofs.lemmas.Bool.{cases_lt}
+use Rattle.assign.specs.Assignment.{Assignment}
 use Rattle.assign.specs.Events.{Answer}
 use Rattle.assign.specs.declared.events.Plan.{Plan}
 use Rattle.language.specs.declared.candidates.Candidate.{Candidate}
@@ -22,14 +23,14 @@ use Rattle.session_core.specs.declared.put.Put.TheVariants as puts
 use Rattle.session_core.specs.Standing.{Stands, PutAfter, knowledge_of}
 use Rattle.acq_cli.specs.declared.terms.Terms.{Terms}
 use Rattle.assign.specs.declared.events.Event.{Event}
+use Rattle.assign.proofs.EventLemmas.{cut_to-standing-push}
 use Rattle.language.specs.Answers.{standing_on}
-use Rattle.session_store.proofs.Replaying.{standing_count, standing_more}
-use Rattle.session_store.specs.Replay.{seen}
-use Rattle.acq_cli.specs.Run.{Next, next_in, next_after}
-use Rattle.acq_cli.specs.Due.{IsOneMore}
+use Rattle.session_store.specs.Kept.{answer_event}
+use Rattle.acq_cli.specs.Run.{Next, next_in, next_after, answer}
 use Rattle.acq_cli.specs.Driven.{Remembers}
 use Rattle.acq_cli.proofs.Questions.{asked_is_example, marks_stay, same_state}
-use Rattle.acq_cli.proofs.Running.{IsReached, IsWithin, RunLaws}
+use Rattle.acq_cli.proofs.Reached.{IsReached}
+use Rattle.acq_cli.proofs.Running.{IsWithin, RunLaws}
 
 pub run_laws : RunLaws
 run_laws = record { places = questions_have_places; more = one_answer_more; values = questions_have_values; lawful = asked_is_example }
@@ -81,10 +82,6 @@ at_turn session l m plan t count stands lang planned counted is lawful = record 
 pub next_fits : (l : Language) (plan : Plan) (m : Language) (t : List Answer) (count : ℕ) → AtTurn l plan t count m → count + 1 < 2 ^ 32
 next_fits l plan m t count at = let few = few_answers l plan t at.lawful at.reached in let is = at.number in omega arith
 
--- there is room for one more event
-pub room_left : (l : Language) (plan : Plan) (m : Language) (events : List Event) (count : ℕ) → AtTurn l plan (standing_on l events) count m → length events + 1 < 1000000
-room_left l plan m events count at = let few = few_answers l plan (standing_on l events) at.lawful at.reached in let is = standing_count l events in omega arith
-
 -- ---- what a screen remembers
 
 -- true marks of a session's network are true of the network that the answers lead to, and the other way round
@@ -125,15 +122,13 @@ due_reached l terms t n due = go (state_after l terms.plan t) refl
     go (Stray number) at = absurd (none_some (sym (ap (next_in l terms t) at) ∙ due))
     go (At state) at = (state, at)
 
--- marks stay true over a turn
-pub marks_after : (l : Language) (terms : Terms) (events same later : List Event) (screen : Remembered) → same ≡ events → IsReached l terms.plan (standing_on l events) →
-    IsOneMore same later → Remembers l terms (standing_on l events) screen → Remembers l terms (standing_on l later) screen
-marks_after l terms events same later screen record_is reached one remembers =
-    let next : Answer = seen (variable_count l) one.more in
-    let grown : standing_on l later ≡ standing_on l events ++ next ∷ [] =
-    ap (standing_on l) (one.is ∙ ap (λ (es : List Event). es ++ one.more ∷ []) record_is) ∙ standing_more l events one.more in
+-- marks stay true over an answer
+pub marks_after : (l : Language) (terms : Terms) (events later : List Event) (q : Assignment) (said : Bool) (screen : Remembered) → IsReached l terms.plan (standing_on l events) → length q ≡ variable_count l →
+    later ≡ events ++ answer_event q said ∷ [] → Remembers l terms (standing_on l events) screen → Remembers l terms (standing_on l later) screen
+marks_after l terms events later q said screen reached size is remembers =
+    let grown : standing_on l later ≡ standing_on l events ++ answer q said ∷ [] = ap (standing_on l) is ∙ cut_to-standing-push (variable_count l) events q said size in
     let P : List Answer → Type 0 = λ ts. Remembers l terms ts screen in
-    subst P (sym grown) (marks_on l terms (standing_on l events) next screen reached remembers)
+    subst P (sym grown) (marks_on l terms (standing_on l events) (answer q said) screen reached remembers)
 
 -- the events of a sound keeper, whose answers a session stands for
 pub within : (l : Language) (plan : Plan) (m : Language) (events : List Event) (count : ℕ) → AtTurn l plan (standing_on l events) count m → length events < 1000000 → IsWithin l plan events

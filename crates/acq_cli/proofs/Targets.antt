@@ -1,9 +1,9 @@
 -- What `play` has done, of what its target said, and exactly when it refuses.
-use Rattle.std.proofs.Common.{◌≡◌, ◌≤◌, ◌⊎◌, ◌∙◌, ℕ, Bool, true, false, List, [], ◌∷◌, ◌++◌, length, ◌&&◌, ◌+◌, cond, drop, Option, Some, Result, Ok, Err, refl, sym, ap, subst, inl, inr, ⊎_elim, arith}
+use Rattle.std.proofs.Common.{◌≡◌, ◌≤◌, ◌⊎◌, ◌∙◌, ℕ, suc, Bool, true, false, List, [], ◌∷◌, ◌++◌, length, ◌&&◌, ◌+◌, cond, drop, Option, Some, Result, Ok, Err, refl, sym, ap, subst, inl, inr, ⊎_elim, arith, append_assoc}
 use Rattle.std.specs.Prelude.{IfOk, All, nat_le}
 use Rattle.std.specs.Bool.{beq}
-use Rattle.std.proofs.lemmas.List.Elements.{All-head, All-tail}
-use Rattle.std.proofs.lemmas.List.{length-map}
+use Rattle.std.proofs.lemmas.List.Elements.{All-nil, All-cons, All-head, All-tail}
+use Rattle.std.proofs.lemmas.List.{append-nil, length-map}
 use Rattle.std.proofs.lemmas.Bool.{leb-false, lt-ltb}
 use Rattle.acq_io.specs.Whole.{all_of, gathered}
 use Rattle.acq_io.specs.declared.streams.Put.{Put}
@@ -18,8 +18,9 @@ use Rattle.assign.specs.Assignment.{Assignment}
 use Rattle.assign.specs.Events.{Answer, standing}
 use Rattle.assign.specs.declared.events.Event.{Event}
 use Rattle.assign.specs.declared.events.Plan.{Plan}
+use Rattle.assign.proofs.EventLemmas.{cut_to-standing-push}
 use Rattle.language.specs.declared.candidates.Candidate.{Candidate}
-use Rattle.language.specs.Language.{Language, HasSameSolutions, accepts}
+use Rattle.language.specs.Language.{Language, IsLanguage, HasSameSolutions, accepts, variable_count}
 use Rattle.language.specs.Answers.{IsNetwork, agrees, standing_on}
 use Rattle.network.specs.Target.{network_of, network_in, json_of}
 use Rattle.network.specs.Answers.{then_on}
@@ -29,20 +30,20 @@ use Rattle.network.specs.declared.fault.NetFault.TheVariants as net
 use Rattle.session_store.specs.declared.fault.SFault.{SFault}
 use Rattle.target_oracle.specs.NetTurns.{net_may_say, told_of_answer}
 use Rattle.target_oracle.specs.Turns.{Turns}
-use Rattle.acq_cli.specs.Added.{IsAdded, MayEnd}
+use Rattle.acq_cli.specs.Added.{MayAdd, IsAdded, MayEnd}
 use Rattle.acq_cli.specs.Commands.{EndsExactly}
-use Rattle.acq_cli.specs.Driven.{HasEnded}
+use Rattle.acq_cli.specs.Driven.{HasEnded, TellsFull}
 use Rattle.acq_cli.specs.Endings.{Tries}
 use Rattle.acq_cli.specs.Exactly.{HoldsSession, IsBrokenOff, OpensExactly, RefusesOpening}
-use Rattle.acq_cli.specs.Making.{News}
+use Rattle.acq_cli.specs.Doing.{Does}
 use Rattle.acq_cli.specs.Playing.{IsAnsweredBy, IsNoNetwork, IsUnstopped, HoldsAnswers, HoldsNoTarget, IsOpened, MayLack, PlayEnds, PlaysExactly, PlaysOn, RefusesTarget, EndsWithout}
 use Rattle.acq_cli.specs.Program.{ended_as}
-use Rattle.acq_cli.specs.Running.{RunsOn}
-use Rattle.acq_cli.specs.Showing.{Shows}
-use Rattle.acq_cli.specs.Reducing.{Reduces}
+use Rattle.acq_cli.specs.Run.{answer}
+use Rattle.acq_cli.proofs.Printed.{print_ends}
 use Rattle.acq_cli.proofs.Reduced.{reduce_ends}
+use Rattle.acq_cli.proofs.Solved.{solve_ends}
+use Rattle.acq_cli.proofs.TakenBack.{back_ends}
 use Rattle.acq_cli.specs.Texts.{learned_in, learned_after}
-use Rattle.acq_cli.specs.Words.{command_asked}
 use Rattle.acq_cli.specs.declared.driving.Drove.{Drove}
 use Rattle.acq_cli.specs.declared.driving.Drove.TheVariants as drove
 use Rattle.acq_cli.specs.declared.ending.Ending.{Ending}
@@ -52,6 +53,7 @@ use Rattle.acq_cli.specs.Journals.{untold}
 use Rattle.acq_cli.specs.declared.playing.NoTarget.{NoTarget}
 use Rattle.acq_cli.specs.declared.playing.NoTarget.TheVariants as without
 use Rattle.acq_cli.proofs.Closings.{okay, same_ok, err_ok, loops_by, not_loops}
+use Rattle.acq_cli.proofs.Standings.{few_answers, due_reached}
 use Rattle.acq_cli.proofs.Exactly.{ReadOnce, fine, gives_got, holds_none, lang_is, closed_end, closed_exactly, new_ends, run_ends, show_ends}
 
 -- ---- what its target said
@@ -77,10 +79,56 @@ agreeing_all l target [] given = refl
 agreeing_all l target (a ∷ t) given =
     both_true (beq (accepts l target a.question) a.yes) (agrees l target t) (says_so l target a.question a.yes (All-head (Given l target) a t given)) (agreeing_all l target t (All-tail (Given l target) a t given))
 
+-- the events that such a network adds are those of its own answers, which stand behind those from before
+record IsOwnGrowth (l : Language) (target : List Candidate) (past more : List Event) : Type 0 where
+  answers : List Answer
+  given : All (Given l target) answers
+  stand : standing_on l (past ++ more) ≡ standing_on l past ++ answers
+  count : length answers ≡ length more
+
+abbrev OwnEvent : Language → List Candidate → Event → Type 0
+OwnEvent l target e = MayAdd l (net_may_say target l) e
+
+own_growth : (l : Language) (target : List Candidate) (more past : List Event) → All (OwnEvent l target) more → IsOwnGrowth l target past more
+own_growth l target [] past each = record {
+  answers = [];
+  given = All-nil (Given l target);
+  stand = ap (standing_on l) (append-nil past) ∙ sym (append-nil (standing_on l past));
+  count = refl;
+}
+own_growth l target (e ∷ more) past each = go (All-head (OwnEvent l target) e more each) (own_growth l target more (past ++ e ∷ []) (All-tail (OwnEvent l target) e more each))
+  where
+    go : OwnEvent l target e → IsOwnGrowth l target (past ++ e ∷ []) more → IsOwnGrowth l target past (e ∷ more)
+    go (inl own) rest =
+        let q : Assignment = own.answer.question in
+        let a : Answer = answer q own.answer.yes in
+        let one : standing_on l (past ++ e ∷ []) ≡ standing_on l past ++ a ∷ [] =
+        ap (λ (x : Event). standing_on l (past ++ x ∷ [])) own.is ∙ cut_to-standing-push (variable_count l) past q own.answer.yes own.fits.size in
+        record {
+          answers = a ∷ rest.answers;
+          given = All-cons (Given l target) a rest.answers own.may_be rest.given;
+          stand = ap (standing_on l) (sym (append_assoc past (e ∷ []) more)) ∙ rest.stand ∙ ap (λ (t : List Answer). t ++ rest.answers) one ∙ append_assoc (standing_on l past) (a ∷ []) rest.answers;
+          count = ap (λ n. suc n) rest.count;
+        }
+    go (inr back) rest = absurd back.may_be
+
 -- answers that were added to none are its own
 pub agreeing_added : (l : Language) (plan : Plan) (target : List Candidate) (before after : List Event) → standing_on l before ≡ [] → IsAdded l plan (net_may_say target l) before after → agrees l target (standing_on l after) ≡ true
 agreeing_added l plan target before after none added =
-    ap (agrees l target) (added.stand ∙ ap (λ (t : List Answer). t ++ added.answers) none) ∙ agreeing_all l target added.answers added.given
+    let own = own_growth l target added.more before added.each in
+    ap (agrees l target) (ap (standing_on l) added.is ∙ own.stand ∙ ap (λ (t : List Answer). t ++ own.answers) none) ∙ agreeing_all l target own.answers own.given
+
+-- where it added all events, they are fewer than a journal takes
+pub not_filled : (l : Language) (terms : Terms) (target : List Candidate) (before after : List Event) (how : Drove) → IsLanguage l → before ≡ [] → IsAdded l terms.plan (net_may_say target l) before after → TellsFull l terms after how → how ≡ drove.JournalFull → ⊥
+not_filled l terms target before after how lawful none added tells is =
+    let full = tells.0 is in
+    let own = own_growth l target added.more before added.each in
+    let few = few_answers l terms.plan (standing_on l after) lawful (due_reached l terms (standing_on l after) _ full.puts) in
+    let start : standing_on l before ≡ [] = ap (standing_on l) none in
+    let stand : length (standing_on l after) ≡ length own.answers =
+    ap (λ (t : List Answer). length t) (ap (standing_on l) added.is ∙ own.stand ∙ ap (λ (t : List Answer). t ++ own.answers) start) in
+    let all : length after ≡ length added.more = ap (λ (es : List Event). length es) (added.is ∙ ap (λ (es : List Event). es ++ added.more) none) in
+    omega (arith, few, stand, own.count, all, full.full)
 
 -- what was found is true of it
 pub found_by : (l : Language) (terms : Terms) (t : List Answer) (how was : Drove) → how ≡ was → HasEnded l terms t how → HasEnded l terms t was
@@ -113,7 +161,10 @@ unstopped l target (Ok ending.Memory) said = tt
 unstopped l target (Ok ending.JournalFull) said = tt
 unstopped l target (Ok (ending.NotFresh m)) said = tt
 unstopped l target (Ok (ending.TargetRefused fault)) said = tt
+unstopped l target (Ok ending.NothingBack) said = tt
 unstopped l target (Ok (ending.ReduceSpent i)) said = tt
+unstopped l target (Ok ending.CnfTooLarge) said = tt
+unstopped l target (Ok (ending.ModelRefused fault)) said = tt
 unstopped l target (Err e) said = tt
 
 pub answered : (turns : Turns) (l : Language) (terms : Terms) (target : List Candidate) (before after : List Event) (left written left' written' : Option (List ℕ)) (got : Result Ending Put) → IsNetwork l target → standing_on l before ≡ [] →
@@ -151,7 +202,10 @@ broken_exactly (Ok (command.New plan)) left content end broken = λ bytes from f
 broken_exactly (Ok (command.Run budget)) left content end broken = λ file told. inl broken
 broken_exactly (Ok (command.Play budget)) left content end broken = λ bytes from file told. inl broken
 broken_exactly (Ok command.Show) left content end broken = λ file told. inl broken
+broken_exactly (Ok command.Back) left content end broken = λ file told. inl broken
 broken_exactly (Ok (command.Reduce budget)) left content end broken = λ file told. inl broken
+broken_exactly (Ok command.Cnf) left content end broken = λ file told. inl broken
+broken_exactly (Ok command.Model) left content end broken = λ bytes from file told. inl broken
 broken_exactly (Ok (command.Try plan budget)) left content end broken = tt
 broken_exactly (Ok (command.Demo number budget)) left content end broken = tt
 broken_exactly (Err fault) left content end broken = tt
@@ -321,21 +375,16 @@ module _ {D : Type 0} (content : D → Option (List ℕ)) (may_leave : D → Lis
       (λ m e. not_loops on.tries.how (ending.NotFresh m) (on.tries.is ∙ ap okay e) refl)
       (λ f e. not_loops on.tries.how (ending.TargetRefused f) (on.tries.is ∙ ap okay e) refl))
 
-  pub ends_exactly : ReadOnce → (words : List (List ℕ)) (left written left' written' : Option (List ℕ)) (old new : D) (got : Result Ending Put) →
-      ((plan : Plan) → command_asked words ≡ Ok (command.New plan) → News content may_leave moment left_since plan left written left' written' old new got) →
-      ((budget : ℕ) → command_asked words ≡ Ok (command.Run budget) → RunsOn content may_leave moment left_since budget left written left' written' old new got) →
-      ((budget : ℕ) → command_asked words ≡ Ok (command.Play budget) → PlaysOn content may_leave moment left_since budget left written left' written' old new got) →
-      (command_asked words ≡ Ok command.Show → Shows content may_leave moment left_since left written written' old new got) →
-      ((budget : ℕ) → command_asked words ≡ Ok (command.Reduce budget) → Reduces content may_leave moment left_since budget left written written' old new got) →
-      EndsExactly (command_asked words) left (content old) (ended_as got)
-  ends_exactly once words left written left' written' old new got news runs plays shows reduces = of (command_asked words) refl
-    where
-      of : (asked : Result Command UsageFault) → command_asked words ≡ asked → EndsExactly asked left (content old) (ended_as got)
-      of (Ok (command.New plan)) is = new_ends content may_leave moment left_since plan left written left' written' old new got (news plan is)
-      of (Ok (command.Run budget)) is = run_ends content may_leave moment left_since once budget left written left' written' old new got (runs budget is)
-      of (Ok (command.Play budget)) is = play_ends once budget left written left' written' old new got (plays budget is)
-      of (Ok command.Show) is = show_ends content may_leave moment left_since once left written written' old new got (shows is)
-      of (Ok (command.Reduce budget)) is = reduce_ends content may_leave moment left_since once budget left written written' old new got (reduces budget is)
-      of (Ok (command.Try plan budget)) is = tt
-      of (Ok (command.Demo number budget)) is = tt
-      of (Err fault) is = tt
+  pub ends_exactly : ReadOnce → (asked : Result Command UsageFault) (left written left' written' : Option (List ℕ)) (old new : D) (got : Result Ending Put) → Does content may_leave moment left_since asked left written left' written' old new got →
+      EndsExactly asked left (content old) (ended_as got)
+  ends_exactly once (Ok (command.New plan)) left written left' written' old new got does = new_ends content may_leave moment left_since plan left written left' written' old new got does
+  ends_exactly once (Ok (command.Run budget)) left written left' written' old new got does = run_ends content may_leave moment left_since once budget left written left' written' old new got does
+  ends_exactly once (Ok (command.Play budget)) left written left' written' old new got does = play_ends once budget left written left' written' old new got does
+  ends_exactly once (Ok command.Show) left written left' written' old new got does = show_ends content may_leave moment left_since once left written written' old new got does
+  ends_exactly once (Ok command.Back) left written left' written' old new got does = back_ends content may_leave moment left_since once left written written' old new got does
+  ends_exactly once (Ok (command.Reduce budget)) left written left' written' old new got does = reduce_ends content may_leave moment left_since once budget left written written' old new got does
+  ends_exactly once (Ok command.Cnf) left written left' written' old new got does = print_ends content may_leave moment left_since once left written written' old new got does
+  ends_exactly once (Ok command.Model) left written left' written' old new got does = solve_ends content may_leave moment left_since once left written left' written' old new got does
+  ends_exactly once (Ok (command.Try plan budget)) left written left' written' old new got does = tt
+  ends_exactly once (Ok (command.Demo number budget)) left written left' written' old new got does = tt
+  ends_exactly once (Err fault) left written left' written' old new got does = tt

@@ -1,5 +1,5 @@
 -- What was done about a language, of its loop and what was said.
-use Rattle.std.proofs.Common.{◌≡◌, ◌≢◌, ◌∙◌, ℕ, Bool, true, false, List, [], sym, subst, refl, ap, Option, Some, None, Result, Ok, Err, inl, inr}
+use Rattle.std.proofs.Common.{◌≡◌, ◌∙◌, ℕ, true, false, List, [], sym, subst, refl, ap, Option, Some, None, Result, Ok, Err, inl, inr}
 use Rattle.std.specs.Prelude.{IfOk, OnErr, IfSome}
 use Rattle.acq_io.specs.declared.streams.Put.{Put}
 use Rattle.assign.specs.declared.events.Event.{Event}
@@ -14,7 +14,7 @@ use Rattle.acq_cli.specs.declared.terms.Terms.{Terms}
 use Rattle.assign.specs.Assignment.{Assignment}
 use Rattle.acq_cli.specs.Added.{MayEnd}
 use Rattle.acq_cli.specs.Closings.{closing_of, ending_of}
-use Rattle.acq_cli.specs.Driven.{Point, CutOff, Drives, HasEnded, LeavesNothing, Loses, RanTo, TellsOpen, UnkeptTo}
+use Rattle.acq_cli.specs.Driven.{Point, CutOff, Drives, HasEnded, LeavesNothing, Loses, RanTo, TellsFull, TellsOpen, UnkeptTo}
 use Rattle.acq_cli.specs.Points.{point_of, terms_with}
 use Rattle.acq_cli.proofs.Standings.{carried}
 use Rattle.acq_cli.specs.declared.driving.Drove.{Drove}
@@ -43,7 +43,7 @@ module _ (turns : Turns) (l : Language) (terms : Terms) (start later : List Even
   says_nothing None none said = said
   says_nothing (Some closing) none said = absurd (let no : ⊥ = cc in no)
 
-  by_drove : (how : Drove) (end : Ending) → LeavesNothing l terms.plan (standing_on l later) → how ≢ drove.JournalFull →
+  by_drove : (how : Drove) (end : Ending) → LeavesNothing l terms.plan (standing_on l later) → TellsFull l terms later how →
       Drives turns l terms (point_of start left written) (point_of later left' middle) how → Says l terms (standing_on l later) middle written' how end → Tries turns l terms start later left written left' written' end
   by_drove how end walked room drives says = record {
     how = how;
@@ -56,7 +56,7 @@ module _ (turns : Turns) (l : Language) (terms : Terms) (start later : List Even
     unkept = λ lost.
         let Unkept : Option (List ℕ) → Type 0 = λ w. UnkeptTo turns l terms (point_of start left written) (point_of later left' w) in
         subst Unkept (sym (says_nothing (closing_of how) (ap closing_of lost) says.1)) (drives.unkept lost);
-    never_full = room;
+    full = room;
   }
 
   part_by : (end : Result Ending Put) (o : Option Closing) → IfSome o Ran → (o ≡ None → CutOff turns l terms (point_of start left written) (point_of later left' middle)) →
@@ -73,7 +73,7 @@ module _ (turns : Turns) (l : Language) (terms : Terms) (start later : List Even
 -- after it.
 module _ (turns : Turns) (l now : Language) (p still : Plan) (budget : ℕ) (start later : List Event) (left written left' middle written' : Option (List ℕ)) (screen : Remembered) (how : Drove) (got : Result Ending Put)
     (same : now ≡ l) (again : still ≡ p) (walked : LeavesNothing l p (standing_on l later))
-    (drives : Drives turns l (terms_with p budget) (point_of start left written) (point_of later left' middle) how) (room : how ≢ drove.JournalFull)
+    (drives : Drives turns l (terms_with p budget) (point_of start left written) (point_of later left' middle) how) (room : TellsFull l (terms_with p budget) later how)
     (opens : (m : ℕ) → how ≡ drove.Undecided m → TellsOpen l (terms_with p budget) (standing_on l later) screen)
     (says : HasEnded now (terms_with still budget) (standing_on now later) how → ((m : ℕ) → how ≡ drove.Undecided m → TellsOpen now (terms_with still budget) (standing_on now later) screen) →
     IfOk got (Says now (terms_with still budget) (standing_on now later) middle written' how))
@@ -138,13 +138,13 @@ module _ (turns : Turns) (l now : Language) (p still : Plan) (budget : ℕ) (sta
       found (Err e) s part = let P : Drove → Type 0 = λ d. SaysPart l (terms_with p budget) (standing_on l later) middle written' d in absurd (not_err (subst P is part).1)
       found (Ok end) s part = ap okay (disk_said how end s.0 is)
 
--- the answer that was lost, where nothing is said after it
+-- the event that was lost, where nothing is said after it
 pub lost_then : (turns : Turns) (l : Language) (terms : Terms) (a : Point) (later : List Event) (left' middle written' : Option (List ℕ)) (how : Drove) (got : Result Ending Put) → IfOk got (Says l terms (standing_on l later) middle written' how) → how ≡ drove.DiskFault → got ≡ Ok ending.DiskFault →
-    (question : Assignment) (reply : Bool) → Loses turns l terms a (point_of later left' middle) question reply → Loses turns l terms a (point_of later left' written') question reply
-lost_then turns l terms a later left' middle written' how (Err e) told is ended question reply loses = absurd (err_ok e ending.DiskFault ended)
-lost_then turns l terms a later left' middle written' how (Ok end) told is ended question reply loses =
+    (lost : Event) → Loses turns l terms a (point_of later left' middle) lost → Loses turns l terms a (point_of later left' written') lost
+lost_then turns l terms a later left' middle written' how (Err e) told is ended lost loses = absurd (err_ok e ending.DiskFault ended)
+lost_then turns l terms a later left' middle written' how (Ok end) told is ended lost loses =
     let P : Drove → Type 0 = λ d. Says l terms (standing_on l later) middle written' d end in
-    let Lost : Option (List ℕ) → Type 0 = λ w. Loses turns l terms a (point_of later left' w) question reply in
+    let Lost : Option (List ℕ) → Type 0 = λ w. Loses turns l terms a (point_of later left' w) lost in
     subst Lost (sym (subst P is told).1) loses
 
 -- it is never said that nothing could be said

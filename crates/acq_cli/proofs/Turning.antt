@@ -1,20 +1,19 @@
 -- What the loop has done after a turn, and after many.
-use Rattle.std.proofs.Common.{◌≡◌, ℕ, List, [], ◌∷◌, ◌++◌, Bool, ap, sym, ◌∙◌, refl, Option, Some, None, subst, append_assoc}
+use Rattle.std.proofs.Common.{◌≡◌, ℕ, List, [], ◌∷◌, ◌++◌, ap, sym, ◌∙◌, refl, Option, Some, None, subst, append_assoc}
 use Rattle.std.specs.Prelude.{IfSome}
 use Rattle.std.proofs.lemmas.List.{append-nil}
 use Rattle.assign.specs.Assignment.{Assignment}
 use Rattle.assign.specs.declared.events.Event.{Event}
 use Rattle.language.specs.Language.{Language, IsLanguage, IsQuestion}
 use Rattle.language.specs.Answers.{standing_on}
-use Rattle.session_store.specs.Kept.{answer_event}
-use Rattle.target_oracle.specs.Turns.{Turns, Reply, Said}
+use Rattle.target_oracle.specs.Turns.{Turns, Reply}
 use Rattle.target_oracle.specs.Tells.{AsksFirst, Turn, Front}
 use Rattle.acq_cli.specs.Closings.{closing_of}
-use Rattle.acq_cli.specs.Run.{Closing, Runs, Next, Puts, Ends, next_after, next_on, number_on, after_text, ended}
+use Rattle.acq_cli.specs.Run.{Closing, Runs, Next, Puts, Ends, next_after, next_on, number_on, after_text, ended, event_heard}
 use Rattle.acq_cli.specs.declared.terms.Terms.{Terms}
-use Rattle.acq_cli.specs.Driven.{Point, StepsTo, RanTo, CutOff, StopsAt, next_lines, Loses, Drives}
+use Rattle.acq_cli.specs.Driven.{Point, StepsTo, RanTo, CutOff, StopsAt, next_lines, MayFollow, Loses, Drives}
 use Rattle.acq_cli.specs.declared.driving.Drove.{Drove}
-use Rattle.acq_cli.proofs.Running.{text_after, runs_said, EndsSo, runs_closed, runs_end, IsWithin, PutsNext, puts_next, RunLaws, turn_exists}
+use Rattle.acq_cli.proofs.Running.{text_after, runs_heard, EndsSo, runs_closed, runs_end, IsWithin, puts_next, RunLaws, turn_exists}
 
 pub some_text : (x y : List ℕ) → x ≡ y → (let a : Option (List ℕ) = Some x in a) ≡ Some y
 some_text x y e = ap (λ (t : List ℕ). let a : Option (List ℕ) = Some t in a) e
@@ -86,14 +85,16 @@ steps_cut turns l terms a b c first second bytes before left written =
       };
     }
 
-pub steps_loses : (turns : Turns) (l : Language) (terms : Terms) (a b c : Point) (question : Assignment) (reply : Bool) → StepsTo turns l terms a b → Loses turns l terms b c question reply → Loses turns l terms a c question reply
-steps_loses turns l terms a b c question reply first second = record {
+pub steps_loses : (turns : Turns) (l : Language) (terms : Terms) (a b c : Point) (lost : Event) → StepsTo turns l terms a b → Loses turns l terms b c lost → Loses turns l terms a c lost
+steps_loses turns l terms a b c lost first second = record {
+  question = second.question;
   puts = second.puts;
   fits = second.fits;
+  follows = second.follows;
   told = λ bytes before left written.
       let f = first bytes before left written in
       let s = second.told f.rest (before ++ f.done) f.left f.written in
-      let text = (turns l (number_on l c.events) question s.rest).text in
+      let text = (turns l (number_on l c.events) second.question s.rest).text in
       record {
         rest = s.rest;
         done = f.done ++ s.done;
@@ -113,7 +114,7 @@ steps_end turns l terms a b c end steps e = record {
   says = e.says;
   closed = closed_after turns l terms a b c (closing_of end) steps e.closed;
   broken = λ none. steps_cut turns l terms a b c steps (e.broken none);
-  unkept = λ failed. let u = e.unkept failed in (u.0, u.1, steps_loses turns l terms a b c u.0 u.1 steps u.2);
+  unkept = λ failed. let u = e.unkept failed in (u.0, steps_loses turns l terms a b c u.0 steps u.1);
 }
 
 -- ---- one turn
@@ -153,9 +154,9 @@ ran_end turns l terms closing a due bytes before left written = record {
   written = written ∙ some_text _ _ (sym (append-nil before));
 }
 
-pub step_said : (turns : Turns) (l : Language) (terms : Terms) (q : Assignment) (said : Bool) (a b : Point) → next_on l terms a.events ≡ Some (Puts q) →
-    b.events ≡ a.events ++ answer_event q said ∷ [] → ToldSo turns l (number_on l a.events) q a b (Said said) → StepsTo turns l terms a b
-step_said turns l terms q said a b due added told bytes before left written =
+pub step_heard : (turns : Turns) (l : Language) (terms : Terms) (q : Assignment) (reply : Reply) (e : Event) (a b : Point) → event_heard q reply ≡ Some e → next_on l terms a.events ≡ Some (Puts q) →
+    b.events ≡ a.events ++ e ∷ [] → ToldSo turns l (number_on l a.events) q a b reply → StepsTo turns l terms a b
+step_heard turns l terms q reply e a b gives due added told bytes before left written =
     let t = told bytes before left written in
     let turned = turns l (number_on l a.events) q bytes in
     record {
@@ -163,7 +164,7 @@ step_said turns l terms q said a b due added told bytes before left written =
       done = turned.text;
       left = t.rest;
       written = t.text;
-      begins = λ run runs. runs_said turns l terms a.events bytes q said run due t.heard (let P : List Event → Type 0 = λ xs. Runs turns l terms xs turned.heard.rest run in subst P added runs);
+      begins = λ run runs. runs_heard turns l terms a.events bytes q e run due (ap (event_heard q) t.heard ∙ gives) (let P : List Event → Type 0 = λ xs. Runs turns l terms xs turned.heard.rest run in subst P added runs);
     }
 
 pub ran_closed : (turns : Turns) (l : Language) (terms : Terms) (q : Assignment) (reply : Reply) (closing : Closing) (a b : Point) → next_on l terms a.events ≡ Some (Puts q) → b.events ≡ a.events →
@@ -209,22 +210,25 @@ cut_turn laws turns l terms lawful q a b within due same told asked bytes before
           });
     }
 
--- a turn whose answer wasn't kept
-pub lost_turn : (turns : Turns) (l : Language) (terms : Terms) (q : Assignment) (said : Bool) (a b : Point) → next_on l terms a.events ≡ Some (Puts q) → IsQuestion l q → b.events ≡ a.events →
-    ToldSo turns l (number_on l a.events) q a b (Said said) → Loses turns l terms a b q said
-lost_turn turns l terms q said a b due fits same told =
+-- a turn whose event wasn't kept
+pub lost_turn : (turns : Turns) (l : Language) (terms : Terms) (q : Assignment) (reply : Reply) (e : Event) (a b : Point) → event_heard q reply ≡ Some e → MayFollow a.events q e → next_on l terms a.events ≡ Some (Puts q) → IsQuestion l q → b.events ≡ a.events →
+    ToldSo turns l (number_on l a.events) q a b reply → Loses turns l terms a b e
+lost_turn turns l terms q reply e a b gives follows due fits same told =
     let Due : List Event → Type 0 = λ x. next_after l terms (standing_on l x) ≡ Some (Puts q) in
+    let Follows : List Event → Type 0 = λ x. MayFollow x q e in
     record {
+      question = q;
       puts = subst Due (sym same) (puts_next l terms a.events q due).due;
       fits = fits;
+      follows = subst Follows (sym same) follows;
       told = λ bytes before left written.
-          let Number : List Event → Type 0 = λ x. Turn (turns l (number_on l x) q bytes) before b.left b.written (Said said) in
+          let Number : List Event → Type 0 = λ x. Turn (turns l (number_on l x) q bytes) before b.left b.written reply in
           let here : Number b.events = subst Number (sym same) (told bytes before left written) in
           record {
             rest = bytes;
             done = [];
             begins = λ run runs. let P : List Event → Type 0 = λ xs. Runs turns l terms xs bytes run in subst P same runs;
-            heard = here.heard;
+            heard = ap (event_heard q) here.heard ∙ gives;
             left = here.rest;
             written = here.text;
           };

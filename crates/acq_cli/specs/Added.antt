@@ -1,12 +1,12 @@
 -- What a teacher has said: the events that were added, and how it ended.
-use Rattle.std.specs.Prelude.{◌≡◌, ◌⊎◌, List, ◌++◌, All, map, Result, Ok}
+use Rattle.std.specs.Prelude.{◌≡◌, ◌⊎◌, List, ◌++◌, All, Result, Ok}
 use Rattle.acq_io.specs.declared.streams.Put.{Put}
 use Rattle.assign.specs.Assignment.{Assignment}
 use Rattle.assign.specs.Events.{Answer}
 use Rattle.assign.specs.declared.events.Event.{Event}
+use Rattle.assign.specs.declared.events.Event.TheVariants as event
 use Rattle.assign.specs.declared.events.Plan.{Plan}
-use Rattle.language.specs.Language.{Language}
-use Rattle.language.specs.Answers.{standing_on}
+use Rattle.language.specs.Language.{Language, IsQuestion}
 use Rattle.session_store.specs.Kept.{event_for}
 use Rattle.session_store.specs.Replay.{HavePlaces}
 use Rattle.target_oracle.specs.NetTurns.{told_of_answer}
@@ -15,13 +15,28 @@ use Rattle.acq_cli.specs.declared.ending.Ending.{Ending}
 use Rattle.target_oracle.specs.declared.teacher.Told.TheVariants as told
 use Rattle.acq_cli.specs.declared.ending.Ending.TheVariants as ending
 
--- The events of these answers were added, each question with empty options behind its own. Each answer may be given to its
--- question. The answers stand behind those from before, and where the events from before have their places, each has one.
+-- the event of an answer that may be given to its question, which has empty options behind its own
+pub record IsGiven (l : Language) (may : Assignment → Told → Type 0) (e : Event) : Type 0 where
+  pub answer : Answer
+  pub is : e ≡ event_for answer
+  pub fits : IsQuestion l answer.question
+  pub may_be : may answer.question (told_of_answer answer.yes)
+
+-- a take-back that may be said to a question
+pub record IsTakeBack (may : Assignment → Told → Type 0) (e : Event) : Type 0 where
+  pub question : Assignment
+  pub is : e ≡ event.Back
+  pub may_be : may question told.Back
+
+-- an event that may be added
+abbrev pub MayAdd : Language → (Assignment → Told → Type 0) → Event → Type 0
+MayAdd l may e = IsGiven l may e ⊎ IsTakeBack may e
+
+-- Events were added, each of which may be. Where those from before have their places, each has one.
 pub record IsAdded (l : Language) (plan : Plan) (may : Assignment → Told → Type 0) (before after : List Event) : Type 0 where
-  pub answers : List Answer
-  pub is : after ≡ before ++ map event_for answers
-  pub given : All (λ a. may a.question (told_of_answer a.yes)) answers
-  pub stand : standing_on l after ≡ standing_on l before ++ answers
+  pub more : List Event
+  pub is : after ≡ before ++ more
+  pub each : All (MayAdd l may) more
   pub places : HavePlaces l plan before → HavePlaces l plan after
 
 -- Where it ended by what was said to a question, that may be said.

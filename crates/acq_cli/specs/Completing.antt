@@ -1,10 +1,10 @@
 -- When a command comes to its own end, and to no other.
-use Rattle.std.specs.Prelude.{◌≡◌, ◌⊎◌, ◌≤◌, ◌+◌, ℕ, Bool, false, List, [], ◌∷◌, ◌++◌, length, All, Option, Some, None, IsSome, Result, Ok}
+use Rattle.std.specs.Prelude.{◌≡◌, ◌⊎◌, ◌<◌, ◌≤◌, ◌+◌, ℕ, Bool, false, List, [], ◌∷◌, ◌++◌, length, All, Option, Some, None, IsSome, Result, Ok}
 use Rattle.std.specs.List.{flat_map}
 use Rattle.std.specs.Option.{ForSome}
 use Rattle.acq_io.specs.Lines.{LacksNewline, newline}
 use Rattle.acq_io.specs.Streams.{Rose}
-use Rattle.acq_io.specs.Whole.{first_line_of, all_of}
+use Rattle.acq_io.specs.Whole.{first_line_of}
 use Rattle.acq_words.specs.declared.request.Command.{Command}
 use Rattle.acq_words.specs.declared.request.Command.TheVariants as command
 use Rattle.acq_words.specs.declared.request.UsageFault.{UsageFault}
@@ -29,10 +29,13 @@ use Rattle.target_oracle.specs.NetTurns.{net_turn}
 use Rattle.target_oracle.specs.Turns.{Turns, Said}
 use Rattle.target_oracle.specs.Words.{trimmed, reply_of}
 use Rattle.voc_read.specs.Vocabulary.{IsVocabulary, refusal_of_vocabulary}
+use Rattle.acq_cli.specs.Printing.{HoldsPrintable}
 use Rattle.acq_cli.specs.Reducing.{HoldsDecided}
+use Rattle.acq_cli.specs.Solving.{HoldsModel}
 use Rattle.acq_cli.specs.Exactly.{HasVocabulary, RefusesOpening}
 use Rattle.acq_cli.specs.Points.{terms_with}
 use Rattle.acq_cli.specs.Run.{Ran, Runs}
+use Rattle.acq_cli.specs.TakingBack.{HoldsLast}
 use Rattle.acq_cli.specs.declared.ending.Ending.{Ending}
 use Rattle.acq_cli.specs.declared.ending.Ending.TheVariants as ending
 use Rattle.acq_cli.specs.declared.terms.Terms.{Terms}
@@ -44,7 +47,7 @@ pub record IsAnswerLine (line : List ℕ) : Type 0 where
   pub one : LacksNewline line
   pub short : length line ≤ 256
   pub said : Bool
-  pub says : reply_of (trimmed line) ≡ Some (Said said)
+  pub says : (k : ℕ) → reply_of k (trimmed line) ≡ Some (Said said)
 
 -- The bytes begin with lines that are answers. With those that stand they are as many as a session takes at most.
 pub record HasAnswers (l : Language) (t : List Answer) (bytes : List ℕ) : Type 0 where
@@ -53,6 +56,12 @@ pub record HasAnswers (l : Language) (t : List Answer) (bytes : List ℕ) : Type
   pub is : bytes ≡ flat_map (λ line. line ++ newline ∷ []) lines ++ rest
   pub each : All IsAnswerLine lines
   pub enough : most_answers l ≤ length t + length lines
+
+-- ---- Enough records
+
+-- For each answer that a session may still take there is a record. So it is where nothing was taken back.
+abbrev pub HasRoom : Language → List Event → Type 0
+HasRoom l events = length events + most_answers l < length (standing_on l events) + 1000000
 
 -- ---- Enough budget
 
@@ -81,15 +90,17 @@ pub record TryHasEnough (terms : Terms) (bytes : List ℕ) : Type 0 where
   pub taken : refusal_of_vocabulary line ≡ None
   pub enough : (l : Language) → IsVocabulary line l → IsEnough l terms [] (first_line_of 4194304 bytes).rest
 
--- `run`: nothing refuses the journal, and the input is enough for its session
+-- `run`: nothing refuses the journal, it has room, and the input is enough for its session
 pub record RunHasEnough (budget : ℕ) (bytes file : List ℕ) : Type 0 where
   pub opens : (f : SFault) → RefusesOpening file f → ⊥
   pub enough : (plan : Plan) (voc : List ℕ) (events : List Event) (l : Language) → SaysSession file plan voc events → IsVocabulary voc l →
       IsEnough l (terms_with plan budget) events bytes
+  pub room : (plan : Plan) (voc : List ℕ) (events : List Event) (l : Language) → SaysSession file plan voc events → IsVocabulary voc l → HasRoom l events
 
--- no answer stands, the input is a network of the language, and the budget is enough for a session that it answers
+-- no answer stands, there is room, the input is a network of the language, and the budget is enough for a session that it answers
 pub record HasTarget (l : Language) (terms : Terms) (events : List Event) (bytes : List ℕ) : Type 0 where
   pub fresh : standing_on l events ≡ []
+  pub room : HasRoom l events
   pub target : List Candidate
   pub is : network_of l bytes ≡ Ok target
   pub affordable : IsAffordable (net_turn target false) l terms events []
@@ -131,6 +142,9 @@ Completes (Ok (command.Play budget)) left written content end =
 Completes (Ok (command.New plan)) left written content end =
     ForSome left (λ bytes. ForSome content (λ file. HasVocabulary bytes → HasNoSession file → IsDoneWith end))
 Completes (Ok command.Show) left written content end = ForSome content (λ file. ((f : SFault) → RefusesOpening file f → ⊥) → IsDoneWith end)
+Completes (Ok command.Back) left written content end = ForSome content (λ file. HoldsLast file → IsDoneWith end)
 Completes (Ok (command.Demo number budget)) left written content end = 88573 ≤ budget → Converges end
 Completes (Ok (command.Reduce budget)) left written content end = ForSome content (λ file. HoldsDecided file budget → IsDoneWith end)
+Completes (Ok command.Cnf) left written content end = ForSome content (λ file. HoldsPrintable file → IsDoneWith end)
+Completes (Ok command.Model) left written content end = ForSome left (λ bytes. ForSome content (λ file. HoldsModel bytes file → IsDoneWith end))
 Completes asked left written content end = Unit {0}

@@ -1,8 +1,9 @@
 -- What the loop has done, by how it ended.
-use Rattle.std.specs.Prelude.{◌≡◌, ◌≢◌, ◌<◌, ℕ, Bool, IsTrue, List, [], ◌++◌, length, All, ◌&&◌, Option, Some, None, IfSome}
+use Rattle.std.specs.Prelude.{◌≡◌, ◌≢◌, ◌⊎◌, ◌↔◌, ◌<◌, ◌+◌, ℕ, Bool, IsTrue, List, [], ◌++◌, length, All, ◌&&◌, Option, Some, None, IfSome}
 use Rattle.assign.specs.Assignment.{Assignment}
-use Rattle.assign.specs.Events.{Answer}
+use Rattle.assign.specs.Events.{Answer, standing}
 use Rattle.assign.specs.declared.events.Event.{Event}
+use Rattle.assign.specs.declared.events.Event.TheVariants as event
 use Rattle.assign.specs.declared.events.Plan.{Plan}
 use Rattle.assign.specs.declared.events.Plan.TheVariants.{Scopes, Quacq, Multi}
 use Rattle.language.specs.declared.candidates.Candidate.{Candidate}
@@ -17,11 +18,12 @@ use Rattle.query_gen.specs.Laws.{IsUndecided}
 use Rattle.session_laws.specs.Session.{State, Idle, Over, At, state_after, walk_end}
 use Rattle.session_laws.specs.Walk.{WalkEnd, Ended}
 use Rattle.session_laws.specs.Laws.{IsWalked, network_in}
-use Rattle.target_oracle.specs.Turns.{Turns, Said}
+use Rattle.session_store.specs.Kept.{answer_event}
+use Rattle.target_oracle.specs.Turns.{Turns}
 use Rattle.target_oracle.specs.Tells.{AsksFirst, Front}
 use Rattle.acq_cli.specs.Closings.{closing_of, number_of}
 use Rattle.acq_cli.specs.Few.{AreFew}
-use Rattle.acq_cli.specs.Run.{Closing, Converged, Collapsed, Undecided, Next, Puts, Ends, next_after, next_on, number_on, Ran, Runs, after_text}
+use Rattle.acq_cli.specs.Run.{Closing, Converged, Collapsed, Undecided, Next, Puts, Ends, next_after, next_on, number_on, Ran, Runs, after_text, event_heard}
 use Rattle.acq_cli.specs.Texts.{open_candidates}
 use Rattle.acq_cli.specs.declared.terms.Terms.{Terms}
 use Rattle.acq_cli.specs.declared.driving.Drove.{Drove}
@@ -86,25 +88,41 @@ pub record IsCut (turns : Turns) (l : Language) (terms : Terms) (bytes before : 
 abbrev pub CutOff : Turns → Language → Terms → Point → Point → Type 0
 CutOff turns l terms old new = (bytes before : List ℕ) → old.left ≡ Some bytes → old.written ≡ Some before → IsCut turns l terms bytes before old new
 
--- This question was put: its lines were written, and this reply was heard, whose event isn't there.
-pub record IsUnkept (turns : Turns) (l : Language) (terms : Terms) (question : Assignment) (reply : Bool) (bytes before : List ℕ) (old new : Point) : Type 0 where
+-- This question was put: its lines were written, and a reply was heard, whose event, which is this one, isn't there.
+pub record IsUnkept (turns : Turns) (l : Language) (terms : Terms) (question : Assignment) (lost : Event) (bytes before : List ℕ) (old new : Point) : Type 0 where
   pub rest : List ℕ
   pub done : List ℕ
   pub begins : (run : Ran) → Runs turns l terms new.events rest run → Runs turns l terms old.events bytes (after_text done run)
-  pub heard : (turns l (number_on l new.events) question rest).heard.reply ≡ Said reply
+  pub heard : event_heard question (turns l (number_on l new.events) question rest).heard.reply ≡ Some lost
   pub left : new.left ≡ Some (turns l (number_on l new.events) question rest).heard.rest
   pub written : new.written ≡ Some (before ++ (done ++ (turns l (number_on l new.events) question rest).text))
 
--- This reply to the question that comes next was lost.
-pub record Loses (turns : Turns) (l : Language) (terms : Terms) (old new : Point) (question : Assignment) (reply : Bool) : Type 0 where
+-- after these events a question may be answered so; an answer is taken back where one stands
+abbrev pub MayFollow : List Event → Assignment → Event → Type 0
+MayFollow events question e = ((reply : Bool) × (e ≡ answer_event question reply)) ⊎ ((e ≡ event.Back) × (standing events ≢ []))
+
+-- The event of a reply to the question that comes next was lost.
+pub record Loses (turns : Turns) (l : Language) (terms : Terms) (old new : Point) (lost : Event) : Type 0 where
+  pub question : Assignment
   pub puts : next_after l terms (standing_on l new.events) ≡ Some (Puts question)
   pub fits : IsQuestion l question
+  pub follows : MayFollow new.events question lost
   -- where source and sink tell
-  pub told : (bytes before : List ℕ) → old.left ≡ Some bytes → old.written ≡ Some before → IsUnkept turns l terms question reply bytes before old new
+  pub told : (bytes before : List ℕ) → old.left ≡ Some bytes → old.written ≡ Some before → IsUnkept turns l terms question lost bytes before old new
 
--- an answer was lost
+-- an event was lost
 abbrev pub UnkeptTo : Turns → Language → Terms → Point → Point → Type 0
-UnkeptTo turns l terms old new = (question : Assignment) × (reply : Bool) × Loses turns l terms old new question reply
+UnkeptTo turns l terms old new = (lost : Event) × Loses turns l terms old new lost
+
+-- a question is due after these events, and they are as many as a journal takes
+pub record IsFull (l : Language) (terms : Terms) (events : List Event) : Type 0 where
+  pub question : Assignment
+  pub puts : next_after l terms (standing_on l events) ≡ Some (Puts question)
+  pub full : length events + 1 ≡ 1000000
+
+-- the loop ends for want of a record exactly there
+abbrev pub TellsFull : Language → Terms → List Event → Drove → Type 0
+TellsFull l terms events how = (how ≡ drove.JournalFull) ↔ IsFull l terms events
 
 -- nothing is left to ask, and the few answers converge on what was learned
 pub record IsDone (l : Language) (terms : Terms) (t : List Answer) : Type 0 where
@@ -158,7 +176,7 @@ pub record Drives (turns : Turns) (l : Language) (terms : Terms) (old new : Poin
   pub closed : IfSome (closing_of how) (λ closing. RanTo turns l terms closing old new)
   -- where something failed, a front of a run was written
   pub broken : closing_of how ≡ None → CutOff turns l terms old new
-  -- where the disk failed, what was written ends with the lines of the question whose answer wasn't kept
+  -- where the disk failed, what was written ends with the lines of the question whose reply wasn't kept
   pub unkept : how ≡ drove.DiskFault → UnkeptTo turns l terms old new
 
 -- what comes of it where this network gave each answer: no collapse, and what was learned has exactly its solutions

@@ -1,10 +1,10 @@
 -- What comes next in a session, and what the loop does with it.
-use Rattle.std.specs.Prelude.{◌≡◌, ◌⊎◌, Bool, List, [], ◌∷◌, ◌++◌, Option, Some, None}
+use Rattle.std.specs.Prelude.{◌≡◌, ◌⊎◌, List, [], ◌∷◌, ◌++◌, Option, Some, None}
 use Rattle.assign.specs.Assignment.{Assignment}
 use Rattle.assign.specs.Events.{Answer}
 use Rattle.assign.specs.declared.events.Event.{Event}
 use Rattle.language.specs.Language.{Language, IsQuestion}
-use Rattle.session_store.specs.Kept.{IsLawfulAfter, answer_event}
+use Rattle.session_store.specs.Kept.{IsLawfulAfter}
 use Rattle.session_store.specs.declared.fault.SFault.{SFault}
 use Rattle.session_store.specs.declared.fault.SFault.TheVariants as store
 use Rattle.acq_cli.specs.Run.{Puts, Ends, Collapsed, next_after}
@@ -49,14 +49,14 @@ pub record IsOneMore (old new : List Event) : Type 0 where
   pub more : Event
   pub is : new ≡ old ++ more ∷ []
 
--- how the loop ends where an answer couldn't be kept
+-- how the loop ends where an event couldn't be kept
 abbrev pub ended_by : SFault → Drove
 ended_by store.Memory = drove.Memory
 ended_by (store.Journal fault) = drove.DiskFault
 ended_by (store.Voc fault) = drove.DiskFault
 ended_by (store.Stray number) = drove.DiskFault
 
--- the event of the answer to the question that is put was added, or there was no memory for it, or the disk failed
-abbrev pub EventKept : Bool → Option Assignment → List Event → List Event → Option Drove → Type 0
-EventKept said put old new None = (q : Assignment) → put ≡ Some q → new ≡ old ++ answer_event q said ∷ []
-EventKept said put old new (Some end) = ((end ≡ drove.Memory) ⊎ (end ≡ drove.DiskFault)) × (new ≡ old)
+-- the event was added, or there was no memory for it, or the disk failed
+abbrev pub EventKept : Event → List Event → List Event → Option Drove → Type 0
+EventKept e old new None = new ≡ old ++ e ∷ []
+EventKept e old new (Some end) = ((end ≡ drove.Memory) ⊎ (end ≡ drove.DiskFault)) × (new ≡ old)

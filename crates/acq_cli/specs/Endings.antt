@@ -1,5 +1,5 @@
 -- What was said of a session at its end, and what was done about a language.
-use Rattle.std.specs.Prelude.{◌≡◌, ◌≢◌, ℕ, List, Option, Some, None, Result, Ok, IsErr, IfSome, IfOk, OnErr}
+use Rattle.std.specs.Prelude.{◌≡◌, ℕ, List, Option, Some, None, Result, Ok, IsErr, IfSome, IfOk, OnErr}
 use Rattle.acq_io.specs.Streams.{Adds, AddsFront}
 use Rattle.acq_io.specs.declared.streams.Put.{Put}
 use Rattle.assign.specs.Events.{Answer}
@@ -10,7 +10,7 @@ use Rattle.target_oracle.specs.Turns.{Turns}
 use Rattle.acq_cli.specs.Run.{Closing}
 use Rattle.acq_cli.specs.Breaks.{BreaksRun}
 use Rattle.acq_cli.specs.Closings.{closing_of, ending_of}
-use Rattle.acq_cli.specs.Driven.{CutOff, HasEnded, LeavesNothing, RanTo, UnkeptTo}
+use Rattle.acq_cli.specs.Driven.{CutOff, HasEnded, LeavesNothing, RanTo, TellsFull, UnkeptTo}
 use Rattle.acq_cli.specs.Points.{point_of}
 use Rattle.acq_cli.specs.Texts.{closing_text}
 use Rattle.acq_cli.specs.declared.terms.Terms.{Terms}
@@ -53,10 +53,10 @@ pub record Tries (turns : Turns) (l : Language) (terms : Terms) (start events : 
   pub closed : IfSome (closing_of how) (Closes turns l terms start events left written left' written')
   -- where something failed before the run was closed, none of its last lines was written
   pub broken : closing_of how ≡ None → CutOff turns l terms (point_of start left written) (point_of events left' written')
-  -- where the disk failed, what was written ends with the lines of the question whose answer wasn't kept
+  -- where the disk failed, what was written ends with the lines of the question whose reply wasn't kept
   pub unkept : how ≡ drove.DiskFault → UnkeptTo turns l terms (point_of start left written) (point_of events left' written')
-  -- no session takes as many answers as a journal
-  pub never_full : how ≢ drove.JournalFull
+  -- the journal is full exactly where a question is due and no record is left
+  pub full : TellsFull l terms events how
 
 -- what was done about it, said whole, or in part where something failed
 pub record HasAsked (turns : Turns) (l : Language) (terms : Terms) (start events : List Event) (left written left' written' : Option (List ℕ)) (got : Result Ending Put) : Type 0 where

@@ -1,13 +1,15 @@
 -- Laws of what is enough, over the definitions alone.
-use Rattle.std.specs.Prelude.{ℕ, ◌≤◌, List, [], All}
+use Rattle.std.specs.Prelude.{ℕ, ◌⊎◌, ◌+◌, ◌≤◌, List, [], length, All}
 use Rattle.assign.specs.declared.events.Event.{Event}
 use Rattle.assign.specs.declared.events.Plan.{Plan}
 use Rattle.language.specs.declared.candidates.Candidate.{Candidate}
-use Rattle.language.specs.Language.{Language, candidates}
+use Rattle.language.specs.Language.{Language, IsLanguage, candidates}
 use Rattle.language.specs.Search.{plain_size}
 use Rattle.target_oracle.specs.Generator.{IsGenerated}
 use Rattle.target_oracle.specs.Turns.{Turns}
-use Rattle.acq_cli.specs.Completing.{IsAffordable}
+use Rattle.session_laws.specs.Bound.{most_answers}
+use Rattle.session_store.specs.Replay.{IsAnswer}
+use Rattle.acq_cli.specs.Completing.{HasRoom, IsAffordable}
 use Rattle.acq_cli.specs.Points.{terms_with}
 use Rattle.acq_cli.specs.declared.terms.Terms.{Terms}
 
@@ -16,6 +18,11 @@ abbrev pub BudgetIsEnough : Type 0
 BudgetIsEnough =
     (turns : Turns) (l : Language) (terms : Terms) (events : List Event) (bytes : List ℕ) →
     All (λ c. plain_size l [] c ≤ terms.budget) (candidates l) → IsAffordable turns l terms events bytes
+
+-- A journal without take-backs has a record for each answer that its session may still take. So has one with as many records left as
+-- any session takes answers.
+abbrev pub RoomIsLeft : Type 0
+RoomIsLeft = (l : Language) (events : List Event) → IsLanguage l → All IsAnswer events ⊎ (1 + length events + most_answers l ≤ 1000000) → HasRoom l events
 
 -- In the generated language no search has more than 88,573 steps, so a budget of as many is enough for every session.
 pub record GeneratedIsShort : Type 0 where

@@ -22,6 +22,10 @@ pub mod Exactly
 pub mod Playing
 pub mod Demoing
 pub mod Reducing
+pub mod Printing
+pub mod Solving
+pub mod TakingBack
+pub mod Doing
 pub mod Commands
 pub mod Completing
 pub mod Laws

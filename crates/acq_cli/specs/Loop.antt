@@ -1,6 +1,6 @@
 -- What a turn and the loop begin with, how they go on and end, and what stays the same.
-use Rattle.std.specs.Prelude.{◌≡◌, ◌≢◌, ◌≤◌, ◌<◌, ◌+◌, ℕ, IsTrue, Bool, List, length, Option, Some}
-use Rattle.acq_io.specs.Streams.{Rose, TakesSome}
+use Rattle.std.specs.Prelude.{◌≡◌, ◌≤◌, ◌<◌, ◌+◌, ℕ, IsTrue, Bool, List, length, Option, Some}
+use Rattle.acq_io.specs.Streams.{HasCalled, Rose, TakesSome}
 use Rattle.acq_words.specs.Request.{IsBudget}
 use Rattle.assign.specs.Assignment.{Assignment}
 use Rattle.assign.specs.Events.{Answer}
@@ -13,8 +13,7 @@ use Rattle.query_gen.specs.Marks.{Remembered, IsMadeFor, HasNoMarks}
 use Rattle.par_screen.specs.Eighths.{AreMadeFor}
 use Rattle.session_core.specs.Settled.{IsSettled}
 use Rattle.target_oracle.specs.Turns.{Turns}
-use Rattle.target_oracle.specs.declared.teacher.Told.{Told}
-use Rattle.acq_cli.specs.Driven.{Point, StepsTo, Drives, Remembers, TellsOpen}
+use Rattle.acq_cli.specs.Driven.{Point, StepsTo, Drives, Remembers, TellsFull, TellsOpen}
 use Rattle.acq_cli.specs.Due.{IsDue, IsOneMore}
 use Rattle.acq_cli.specs.Points.{terms_with}
 use Rattle.acq_cli.specs.declared.terms.Terms.{Terms}
@@ -26,15 +25,14 @@ pub record CountsFaults (before now : ℕ) (told : Type 0) : Type 0 where
   pub later : before ≤ now
   pub rose : told → Rose before now
 
--- The input has an end of what it had, and so do its faults count.
-pub record HasRead (left left' : Option (List ℕ)) (before now : ℕ) (told : Type 0) : Type 0 where
+-- The input has an end of what it had, and where it failed it wasn't called again.
+pub record HasRead (left left' : Option (List ℕ)) (before now late late' : ℕ) (told : Type 0) : Type 0 where
   pub takes : TakesSome left left'
-  pub later : before ≤ now
-  pub rose : told → Rose before now
+  pub called : HasCalled before now late late' told
 
 -- what is left of the input, and the faults of both
-pub record HasReadAndWritten (left left' : Option (List ℕ)) (input input_now output output_now : ℕ) (read_told write_told : Type 0) : Type 0 where
-  pub read : HasRead left left' input input_now read_told
+pub record HasReadAndWritten (left left' : Option (List ℕ)) (input input_now late late_now output output_now : ℕ) (read_told write_told : Type 0) : Type 0 where
+  pub read : HasRead left left' input input_now late late_now read_told
   pub write : CountsFaults output output_now write_told
 
 -- ---- what is begun with
@@ -56,7 +54,7 @@ pub record IsAtStart (l : Language) (terms : Terms) (t : List Answer) (put : Opt
   pub unmarked : HasNoMarks marks
   pub affordable : IsBudget terms.budget
 
--- this question is put, it comes next after these events, and there is a record for its answer
+-- this question is put, it comes next after these events, and there is a record for what is said to it
 pub record IsPutNext (l : Language) (plan : Plan) (events : List Event) (put : Option Assignment) (q : Assignment) : Type 0 where
   pub is : put ≡ Some q
   pub budget : ℕ
@@ -64,6 +62,13 @@ pub record IsPutNext (l : Language) (plan : Plan) (events : List Event) (put : O
   pub room : length events + 1 < 1000000
 
 -- ---- how it goes on and ends
+
+-- The screen of a loop that goes on, after these answers and with this question put: none is put where nothing is open, the screen is
+-- made for the language, and its marks stay true.
+pub record IsStillReady (l : Language) (terms : Terms) (t : List Answer) (put : Option Assignment) (marks : Remembered) : Type 0 where
+  pub settled : IsSettled l terms.plan t put
+  pub made : IsMadeFor l marks
+  pub hold : Remembers l terms t marks
 
 -- A turn has gone on: its text and what it left begin each run from here, and there is one event more.
 pub record HasTurned (turns : Turns) (l : Language) (terms : Terms) (old new : Point) : Type 0 where
@@ -75,11 +80,12 @@ pub record TellsCandidates (l : Language) (terms : Terms) (t : List Answer) (mar
   pub made : IsMadeFor l marks
   pub undecided : (m : ℕ) → how ≡ drove.Undecided m → TellsOpen l terms t marks
 
--- The loop has ended so: what it says is true, and so is what the screen tells. No session takes as many answers as a journal.
+-- The loop has ended so: what it says is true, and so is what the screen tells. The journal is full exactly where a question is
+-- due and no record is left.
 pub record EndsAs (turns : Turns) (l : Language) (terms : Terms) (old new : Point) (marks : Remembered) (how : Drove) : Type 0 where
   pub ends : Drives turns l terms old new how
   pub tells : TellsCandidates l terms (standing_on l new.events) marks how
-  pub never_full : how ≢ drove.JournalFull
+  pub full : TellsFull l terms new.events how
 
 -- ---- what stays the same
 
@@ -109,12 +115,3 @@ module _ {K : Type 0} (lang_of : K → Language) (plan_of : K → Plan) (is_soun
     pub lang : lang_of new ≡ lang_of old
     pub plan : plan_of new ≡ plan_of old
     pub sound : is_sound new
-
--- the meanings of a teacher
-module _ {T : Type 0} (turns_of : T → Turns) (fits_of : T → Language → Type 0) (may_of : T → Language → Assignment → Told → Type 0) where
-  -- it teaches as before
-  pub record TeachesOn (old new : T) : Type 0 where
-    pub turn : turns_of new ≡ turns_of old
-    pub fits : (l : Language) → fits_of old l → fits_of new l
-    -- what it may say now it might have said before
-    pub no_more : (l : Language) (q : Assignment) (told : Told) → may_of new l q told → may_of old l q told

@@ -13,9 +13,10 @@ ended_as (Ok end) = end
 ended_as (Err put.Failed) = ending.WriteFault
 ended_as (Err put.Memory) = ending.Memory
 
--- A fault of the input, the output or the disk is told only where its count has risen.
-pub record TellsCauses (input input' output output' disk disk' : ℕ) (end : Ending) : Type 0 where
+-- A fault of the input, the output or the disk is told only where its count has risen. Where the input fails, it isn't called again.
+pub record TellsCauses (input input' late late' output output' disk disk' : ℕ) (end : Ending) : Type 0 where
   pub read : end ≡ ending.ReadFault → Rose input input'
+  pub stopped : input ≡ 0 → late' ≡ late
   pub write : end ≡ ending.WriteFault → Rose output output'
   pub lost : end ≡ ending.DiskFault → DiskRose disk disk'
 
@@ -38,4 +39,7 @@ status_of ending.Memory = 11
 status_of ending.JournalFull = 12
 status_of (ending.NotFresh m) = 13
 status_of (ending.TargetRefused fault) = 14
+status_of ending.NothingBack = 15
 status_of (ending.ReduceSpent i) = 20
+status_of ending.CnfTooLarge = 21
+status_of (ending.ModelRefused fault) = 22

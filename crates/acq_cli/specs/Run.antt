@@ -4,6 +4,7 @@ use Rattle.std.specs.Option.{option_map}
 use Rattle.assign.specs.Assignment.{Assignment}
 use Rattle.assign.specs.Events.{Answer}
 use Rattle.assign.specs.declared.events.Event.{Event}
+use Rattle.assign.specs.declared.events.Event.TheVariants as event
 use Rattle.assign.specs.declared.events.Plan.{Plan}
 use Rattle.assign.specs.declared.events.Plan.TheVariants.{Scopes, Quacq, Multi}
 use Rattle.language.specs.declared.candidates.Candidate.{Candidate}
@@ -15,7 +16,7 @@ use Rattle.query_gen.specs.Questions.{next_query}
 use Rattle.session_laws.specs.Session.{State, Idle, Halving, Choosing, Walking, Over, Reading, At, Stray, open_question, scope_question, state_after}
 use Rattle.session_store.specs.Kept.{answer_event}
 use Rattle.acq_cli.specs.declared.terms.Terms.{Terms}
-use Rattle.target_oracle.specs.Turns.{Turns, Turned, Reply, Said, Stopped, Ended, Overlong, Unread}
+use Rattle.target_oracle.specs.Turns.{Turns, Turned, Reply, Said, TakenBack, Stopped, Ended, Overlong, Unread}
 
 -- how a run ends
 pub data Closing : Type 0 where
@@ -25,7 +26,7 @@ pub data Closing : Type 0 where
   Suspended : Closing
   LineTooLong : Closing
   Unreadable : Closing
-  -- a question is due, and no record is left for its answer
+  -- a question is due, and no record is left for what is said to it
   JournalFull : Closing
 
 -- what comes next in a run
@@ -69,7 +70,7 @@ next_after l terms t = next_in l terms t (state_after l terms.plan t)
 abbrev pub is_full : List Event → Bool
 is_full events = (length events + 1) == 1000000
 
--- a question is put where there is a record for its answer
+-- a question is put where there is a record for what is said to it
 abbrev pub unless_full : Bool → Next → Next
 unless_full full (Ends closing) = Ends closing
 unless_full true (Puts q) = Ends JournalFull
@@ -95,9 +96,19 @@ answer q reply = record { question = q; yes = reply }
 abbrev pub ended : Closing → List Event → List ℕ → Ran
 ended closing events rest = record { text = []; closing = closing; events = events; rest = rest }
 
+-- the event that a reply to a question gives, if it goes on: that of an answer, or a take-back
+abbrev pub event_heard : Assignment → Reply → Option Event
+event_heard q (Said reply) = Some (answer_event q reply)
+event_heard q TakenBack = Some event.Back
+event_heard q Stopped = None
+event_heard q Ended = None
+event_heard q Overlong = None
+event_heard q Unread = None
+
 -- how it goes on after what was heard
 abbrev pub heard_on : (List Event → List ℕ → Option Ran) → List Event → Assignment → List ℕ → Reply → Option Ran
 heard_on again events q rest (Said reply) = again (events ++ answer_event q reply ∷ []) rest
+heard_on again events q rest TakenBack = again (events ++ event.Back ∷ []) rest
 heard_on again events q rest Stopped = Some (ended Suspended events rest)
 heard_on again events q rest Ended = Some (ended Suspended events rest)
 heard_on again events q rest Overlong = Some (ended LineTooLong events rest)

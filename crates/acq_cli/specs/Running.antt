@@ -1,5 +1,5 @@
 -- What a run over a journal has done, and `run`.
-use Rattle.std.specs.Prelude.{◌≡◌, ◌⊎◌, ℕ, List, [], ◌∷◌, ◌++◌, Bool, Option, Result, Ok, IfOk, OnErr}
+use Rattle.std.specs.Prelude.{◌≡◌, ◌⊎◌, ℕ, List, [], ◌∷◌, ◌++◌, Option, Result, Ok, IfOk, OnErr}
 use Rattle.std.specs.Option.{ForSome}
 use Rattle.acq_io.specs.declared.streams.Put.{Put}
 use Rattle.assign.specs.Assignment.{Assignment}
@@ -7,7 +7,6 @@ use Rattle.assign.specs.declared.events.Event.{Event}
 use Rattle.assign.specs.declared.events.Plan.{Plan}
 use Rattle.disk_model.specs.Disk.{LeavesOnly}
 use Rattle.language.specs.Language.{Language}
-use Rattle.session_store.specs.Kept.{answer_event}
 use Rattle.session_store.specs.Left.{OpensWith, OpensWithin, SaysSession, LeavesNow}
 use Rattle.session_store.specs.Replay.{HavePlaces}
 use Rattle.voc_read.specs.Vocabulary.{IsVocabulary}
@@ -31,7 +30,7 @@ any_answer l q told = Unit {0}
 module _ {D : Type 0} (content : D → Option (List ℕ)) (may_leave : D → List ℕ → Type 0) (moment : D → ℕ) (left_since : D → ℕ → List ℕ → Type 0) where
   -- The run of these turns goes on from some events, which are those of the journal where the disk tells its bytes, and adds some. Where it
   -- tells them, a crash at any moment leaves what it might have left before, or those events and a front of the added ones. A
-  -- crash at the end leaves all of them, and where the disk failed the answer too whose adding failed, or not.
+  -- crash at the end leaves all of them, and where the disk failed the event too whose adding failed, or not.
   pub record GoesOn (turns : Turns) (may : Language → Assignment → Told → Type 0) (budget : ℕ) (left written left' written' : Option (List ℕ)) (old new : D) (got : Result Ending Put) : Type 0 where
     pub plan : Plan
     pub voc : List ℕ
@@ -44,11 +43,11 @@ module _ {D : Type 0} (content : D → Option (List ℕ)) (may_leave : D → Lis
     pub added : IsAdded lang plan (may lang) events later
     pub tries : IfOk got (Tries turns lang (terms_with plan budget) events later left written left' written')
     pub part : OnErr got (BreaksRun turns lang (terms_with plan budget) events later left written left' written')
-    -- the answer whose adding failed: that to the question that came next
+    -- the event whose adding failed: that of the reply to the question that came next
     pub last : List Event
     pub none_lost : (got ≡ Ok ending.DiskFault → ⊥) → last ≡ []
-    pub one_lost : got ≡ Ok ending.DiskFault → (question : Assignment) × (reply : Bool) × (last ≡ answer_event question reply ∷ [])
-        × Loses turns lang (terms_with plan budget) (point_of events left written) (point_of later left' written') question reply
+    pub one_lost : got ≡ Ok ending.DiskFault → (lost : Event) × (last ≡ lost ∷ [])
+        × Loses turns lang (terms_with plan budget) (point_of events left written) (point_of later left' written') lost
     -- each event has its place, and so has the lost one
     pub all_places : HavePlaces lang plan (later ++ last)
     pub any_moment : ForSome (content old) (λ _. LeavesOnly moment left_since old new (λ c. may_leave old c ⊎ OpensWithin plan voc events (later ++ last) c))

@@ -11,16 +11,15 @@ use Rattle.session_store.specs.Left.{SaysSession}
 use Rattle.session_store.specs.Replay.{HavePlaces}
 use Rattle.voc_read.specs.Vocabulary.{IsVocabulary}
 use Rattle.acq_cli.specs.Texts.{learned_in}
-use Rattle.acq_cli.specs.Shows.{show_text}
-use Rattle.assign.specs.Events.{Answer}
+use Rattle.acq_cli.specs.Shows.{show_text, take_backs}
 use Rattle.session_laws.specs.Session.{state_after}
 use Rattle.acq_cli.specs.declared.ending.Ending.{Ending}
 use Rattle.acq_cli.specs.Journals.{EndsWith, StaysClosed}
 use Rattle.acq_cli.specs.declared.ending.Ending.TheVariants as ending
 
--- the plan, the answers, the network that they lead to, and where they lead
-abbrev pub shown_text : Language → Plan → List Answer → List ℕ
-shown_text l plan t = show_text l plan t (learned_in (state_after l plan t))
+-- the plan, the answers that stand, how many were taken back, the network to which the answers lead, and where they lead
+abbrev pub shown_text : Language → Plan → List Event → List ℕ
+shown_text l plan events = show_text l plan (standing_on l events) (take_backs events) (learned_in (state_after l plan (standing_on l events)))
 
 -- the meanings of a disk
 module _ {D : Type 0} (content : D → Option (List ℕ)) (may_leave : D → List ℕ → Type 0) (moment : D → ℕ) (left_since : D → ℕ → List ℕ → Type 0) where
@@ -33,7 +32,7 @@ module _ {D : Type 0} (content : D → Option (List ℕ)) (may_leave : D → Lis
     pub lang : Language
     pub read : IsVocabulary voc lang
     pub places : HavePlaces lang plan events
-    pub tells : EndsWith ending.Done (shown_text lang plan (standing_on lang events)) written written' got
+    pub tells : EndsWith ending.Done (shown_text lang plan events) written written' got
     pub same : content new ≡ content old
     pub any_moment : LeavesOnly moment left_since old new (may_leave old)
 

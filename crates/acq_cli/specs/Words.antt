@@ -22,14 +22,19 @@ is_over_journal (Ok (command.New plan)) = true
 is_over_journal (Ok (command.Run budget)) = true
 is_over_journal (Ok (command.Play budget)) = true
 is_over_journal (Ok command.Show) = true
+is_over_journal (Ok command.Back) = true
 is_over_journal (Ok (command.Reduce budget)) = true
+is_over_journal (Ok command.Cnf) = true
+is_over_journal (Ok command.Model) = true
 is_over_journal _ = false
 
 -- whether it reads the input
 abbrev pub is_reading : Result Command UsageFault → Bool
 is_reading (Ok command.Show) = false
+is_reading (Ok command.Back) = false
 is_reading (Ok (command.Demo number budget)) = false
 is_reading (Ok (command.Reduce budget)) = false
+is_reading (Ok command.Cnf) = false
 is_reading (Ok c) = true
 is_reading (Err fault) = false
 

@@ -2,7 +2,7 @@
 
 ghost use Rattle.std.specs.Prelude.{◌≡◌, ◌≢◌, ◌≤◌, ℕ, List, Option, IfOk, OnOk, OnErr, Ok, Err};
 ghost use Rattle.std.specs.String.{string_bytes};
-ghost use Rattle.acq_io.specs.Streams.{Adds, AddsFront, Rose, TakesSome};
+ghost use Rattle.acq_io.specs.Streams.{Adds, AddsFront, HasStopped, Rose, TakesSome};
 ghost use Rattle.acq_words.specs.Request.{IsBudget};
 ghost use Rattle.disk_model.specs.Disk.{LeavesOnly, Rose as DiskRose};
 ghost use Rattle.language.specs.Answers.{standing_on};
@@ -104,7 +104,7 @@ pub(crate) fn refuse_journal<K: Sink>(
 }
 
 /// Opens a journal, and asks on from where its session stands.
-#[tactic(auto, using(crate::proofs::Taking::takes_same))]
+#[tactic(auto, using(crate::proofs::Taking::takes_same, crate::proofs::Causes::stopped_idle))]
 pub fn run_journal<R: Threads + Sync, S: Source, K: Sink, D: Disk, G: Gate>(
     rt: &R,
     alloc: Global,
@@ -117,7 +117,7 @@ pub fn run_journal<R: Threads + Sync, S: Source, K: Sink, D: Disk, G: Gate>(
     requires { IsBudget budget }
     ensures runs { RunsOn D.content D.may_leave D.moment D.left_since budget (S.left input.old) (K.written out.old) (S.left input.new) (K.written out.new) disk.old disk.new result }
     ensures takes { TakesSome (S.left input.old) (S.left input.new) }
-    ensures read { result ≡ Ok Ending.ReadFault → Rose (S.faults input.old) (S.faults input.new) }
+    ensures read { HasStopped (S.faults input.old) (S.faults input.new) (S.late input.old) (S.late input.new) (result ≡ Ok Ending.ReadFault) }
     ensures no_fault { IfOk result (λ ending. ending ≢ Ending.WriteFault) }
     ensures failed { result ≡ Err Put.Failed → Rose (K.faults out.old) (K.faults out.new) }
     ensures lost { result ≡ Ok Ending.DiskFault → DiskRose (D.faults disk.old) (D.faults disk.new) }
@@ -217,7 +217,7 @@ pub fn new_journal<S: Source, K: Sink, D: Disk>(
 ) -> Result<Ending, Put>
     ensures news { News D.content D.may_leave D.moment D.left_since plan (S.left input.old) (K.written out.old) (S.left input.new) (K.written out.new) disk.old disk.new result }
     ensures takes { TakesSome (S.left input.old) (S.left input.new) }
-    ensures read { result ≡ Ok Ending.ReadFault → Rose (S.faults input.old) (S.faults input.new) }
+    ensures read { HasStopped (S.faults input.old) (S.faults input.new) (S.late input.old) (S.late input.new) (result ≡ Ok Ending.ReadFault) }
     ensures no_fault { IfOk result (λ ending. ending ≢ Ending.WriteFault) }
     ensures failed { result ≡ Err Put.Failed → Rose (K.faults out.old) (K.faults out.new) }
     ensures lost { result ≡ Ok Ending.DiskFault → DiskRose (D.faults disk.old) (D.faults disk.new) }
@@ -238,7 +238,7 @@ fn show_kept<K: Sink, D: Disk, P: Keep<D>>(
 ) -> Result<Ending, Put>
     requires sound { P.sound keep.now }
     requires settled { IsSettled (P.lang keep.now) (P.plan keep.now) (standing_on (P.lang keep.now) (P.record_of keep.now)) (P.question keep.now) }
-    ensures tells { EndsWith Ending.Done (shown_text (P.lang keep.now) (P.plan keep.now) (standing_on (P.lang keep.now) (P.record_of keep.now))) (K.written out.old) (K.written out.new) result }
+    ensures tells { EndsWith Ending.Done (shown_text (P.lang keep.now) (P.plan keep.now) (P.record_of keep.now)) (K.written out.old) (K.written out.new) result }
     ensures failed { result ≡ Err Put.Failed → Rose (K.faults out.old) (K.faults out.new) }
 {
     let session = keep.session();

@@ -66,6 +66,8 @@ fn drive_quietly<R: Threads + Sync, G: Gate>(
     ensures same { IsSameSession lang_in plan_of IsSound keep.old keep.new }
 {
     let lang = lang_of::<MemDisk, Loose>(keep);
+    // for the law that no session about a language takes as many answers as there are records
+    let _variables = lang.n();
     let Ok(mut places) = places_for(alloc, lang) else {
         return Drove::Memory;
     };

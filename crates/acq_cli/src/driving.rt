@@ -1,20 +1,24 @@
-ghost use Rattle.std.specs.Prelude.{◌≡◌, ◌≢◌, ◌+◌, ◌<◌, List, length, Some, None, IfSome, IsSome, IsTrue};
+ghost use Rattle.std.specs.Prelude.{◌≡◌, ◌≢◌, ◌+◌, ◌<◌, List, [], length, Some, None, IfSome, IsSome, IsTrue};
 ghost use Rattle.acq_io.specs.Streams.{Rose};
-ghost use Rattle.assign.specs.Events.{Answer};
+ghost use Rattle.assign.specs.Events.{Answer, standing};
+ghost use Rattle.assign.specs.declared.events.Event.{Event};
 ghost use Rattle.assign.specs.declared.events.Plan.TheVariants.{Scopes};
 ghost use Rattle.language.specs.declared.candidates.Candidate.{Candidate};
+ghost use Rattle.language.specs.Language.{Language};
 ghost use Rattle.language.specs.Answers.{IsNetwork, agrees, standing_on};
 ghost use Rattle.query_gen.specs.Marks.{IsMadeFor, HasNoMarks, MarksHold};
 ghost use Rattle.par_screen.specs.Eighths.{AreMadeFor};
 ghost use Rattle.session_core.specs.Standing.{Stands, knowledge_of, open_in};
 ghost use Rattle.session_core.specs.Settled.{IsSettled};
 ghost use Rattle.session_store.specs.Keeping.{Keeps};
+ghost use Rattle.session_store.specs.Kept.{answer_event};
+ghost use Rattle.target_oracle.specs.Teaching.{TeachesOn};
 ghost use Rattle.acq_cli.specs.Closings.{closing_of, ending_of};
 ghost use Rattle.acq_cli.specs.Driven.{IsOwned, LeavesNothing, Loses, Remembers, TellsOpen};
 ghost use Rattle.acq_cli.specs.Added.{IsTaught, MayEnd};
 ghost use Rattle.acq_cli.specs.Due.{IsDue, NextIs, PutIs, EventKept, ended_by};
 ghost use Rattle.acq_cli.specs.Points.{point_of, terms_with};
-ghost use Rattle.acq_cli.specs.Loop.{CountsFaults, EndsAs, HasRead, HasReadAndWritten, HasTurned, IsAtStart, IsKeeping, IsPutNext, IsReady, IsSameSession, OnlyPuts, TeachesOn};
+ghost use Rattle.acq_cli.specs.Loop.{EndsAs, HasReadAndWritten, HasTurned, IsAtStart, IsKeeping, IsPutNext, IsReady, IsSameSession, IsStillReady, OnlyPuts};
 ghost use Rattle.acq_words.specs.Request.{IsBudget};
 
 use acq_io::{Sink, Source};
@@ -47,9 +51,9 @@ pub enum Drove {
     Unreadable,
     ReadFault,
     WriteFault,
-    /// The disk failed while an answer was kept.
+    /// The disk failed while an answer or a take-back was kept.
     DiskFault,
-    /// A question is due, and the journal takes no more records. No session takes so many.
+    /// A question is due, and the journal takes no more records.
     JournalFull,
     Memory,
 }
@@ -200,17 +204,14 @@ fn put_next<R: Threads + Sync, D: Disk, P: Keep<D>, G: Gate>(
 
 /// Keeps an answer to the question that is put. None where the loop goes on.
 fn keep_answer<D: Disk, P: Keep<D>>(keep: &mut P, disk: &mut D, yes: bool) -> Option<Drove>
-    requires sound { P.sound keep.old }
-    requires live { IsTrue (P.live keep.old) }
+    requires keeper { IsKeeping P.sound P.live P.sits keep.old disk.old }
     requires room { length (P.record_of keep.old) + 1 < 1000000 }
-    requires sits { P.sits keep.old disk.old }
     requires put { IsSome (P.question keep.old) }
-    ensures kept { EventKept «yes» (P.question keep.old) (P.record_of keep.old) (P.record_of keep.new) result }
+    ensures kept { (q : _) → P.question keep.old ≡ Some q → EventKept (answer_event q «yes») (P.record_of keep.old) (P.record_of keep.new) result }
     ensures settled { result ≡ None → IsSettled (P.lang keep.old) (P.plan keep.old) (standing_on (P.lang keep.old) (P.record_of keep.new)) (P.question keep.new) }
-    ensures lang { P.lang keep.new ≡ P.lang keep.old }
-    ensures plan { P.plan keep.new ≡ P.plan keep.old }
-    ensures sound { P.sound keep.new }
-    ensures keeps { Keeps D.content D.may_leave D.moment D.left_since P.plan P.voc P.record_of P.question P.writes P.live P.sits D.faults (result ≡ Some Drove.DiskFault) (λ asked said. (P.question keep.old ≡ Some asked) × (said ≡ «yes»)) keep.old keep.new disk.old disk.new }
+    ensures same { IsSameSession P.lang P.plan P.sound keep.old keep.new }
+    ensures keeps { Keeps D.content D.may_leave D.moment D.left_since P.plan P.voc P.record_of P.question P.writes P.live P.sits D.faults (result ≡ Some Drove.DiskFault)
+        (λ lost. (q : _) → P.question keep.old ≡ Some q → lost ≡ answer_event q «yes») keep.old keep.new disk.old disk.new }
 {
     match keep.answer(disk, yes) {
         Ok(()) => None,
@@ -218,7 +219,43 @@ fn keep_answer<D: Disk, P: Keep<D>>(keep: &mut P, disk: &mut D, yes: bool) -> Op
     }
 }
 
-/// How the loop ends where an answer couldn't be kept.
+/// Keeps that the last answer is taken back. None where that is done.
+pub(crate) fn keep_back<D: Disk, P: Keep<D>>(keep: &mut P, disk: &mut D) -> Option<Drove>
+    requires keeper { IsKeeping P.sound P.live P.sits keep.old disk.old }
+    requires room { length (P.record_of keep.old) + 1 < 1000000 }
+    requires stands { standing (P.record_of keep.old) ≢ [] }
+    ensures kept { EventKept Event.Back (P.record_of keep.old) (P.record_of keep.new) result }
+    ensures settled { result ≡ None → IsSettled (P.lang keep.old) (P.plan keep.old) (standing_on (P.lang keep.old) (P.record_of keep.new)) (P.question keep.new) }
+    ensures same { IsSameSession P.lang P.plan P.sound keep.old keep.new }
+    ensures keeps { Keeps D.content D.may_leave D.moment D.left_since P.plan P.voc P.record_of P.question P.writes P.live P.sits D.faults (result ≡ Some Drove.DiskFault)
+        (λ lost. lost ≡ Event.Back) keep.old keep.new disk.old disk.new }
+{
+    match keep.take_back(disk) {
+        Ok(()) => None,
+        Err(fault) => Some(ended_by(fault)),
+    }
+}
+
+/// Takes the last answer back, and forgets what searches said, since less may be learned than before. None where the loop goes
+/// on.
+fn take_back<D: Disk, P: Keep<D>>(keep: &mut P, disk: &mut D, screen: &mut Screen) -> Option<Drove>
+    requires keeper { IsKeeping P.sound P.live P.sits keep.old disk.old }
+    requires room { length (P.record_of keep.old) + 1 < 1000000 }
+    requires stands { standing (P.record_of keep.old) ≢ [] }
+    ensures kept { EventKept Event.Back (P.record_of keep.old) (P.record_of keep.new) result }
+    ensures settled { result ≡ None → IsSettled (P.lang keep.old) (P.plan keep.old) (standing_on (P.lang keep.old) (P.record_of keep.new)) (P.question keep.new) }
+    ensures unmarked { HasNoMarks screen.new }
+    ensures made { (l : Language) → IsMadeFor l screen.old → IsMadeFor l screen.new }
+    ensures same { IsSameSession P.lang P.plan P.sound keep.old keep.new }
+    ensures keeps { Keeps D.content D.may_leave D.moment D.left_since P.plan P.voc P.record_of P.question P.writes P.live P.sits D.faults (result ≡ Some Drove.DiskFault)
+        (λ lost. lost ≡ Event.Back) keep.old keep.new disk.old disk.new }
+{
+    let end = keep_back::<D, P>(keep, disk);
+    screen.clear();
+    end
+}
+
+/// How the loop ends where an event couldn't be kept.
 fn ended_by(fault: SFault) -> Drove
     ensures { result ≡ ended_by fault }
 {
@@ -236,38 +273,41 @@ fn hear_answer<S: Source, K: Sink, D: Disk, T: Teacher<S, K>, P: Keep<D>>(
     disk: &mut D,
     teacher: &mut T,
     keep: &mut P,
+    screen: &mut Screen,
     question: &Partial,
 ) -> Option<Drove>
     requires keeper { IsKeeping P.sound P.live P.sits keep.old disk.old }
     requires fits { T.fits teacher.old (P.lang keep.old) }
+    requires made { IsMadeFor (P.lang keep.old) screen.old }
     requires put { IsPutNext (P.lang keep.old) (P.plan keep.old) (P.record_of keep.old) (P.question keep.old) question.now }
     ensures again { (budget : _) → IsDue (P.lang keep.old) (terms_with (P.plan keep.old) budget) (standing_on (P.lang keep.old) (P.record_of keep.old)) question.now
         → result ≡ None → HasTurned (T.turn teacher.old) (P.lang keep.old) (terms_with (P.plan keep.old) budget)
         (point_of (P.record_of keep.old) (S.left source.old) (K.written sink.old))
         (point_of (P.record_of keep.new) (S.left source.new) (K.written sink.new)) }
-    ensures settled { result ≡ None → IsSettled (P.lang keep.old) (P.plan keep.old) (standing_on (P.lang keep.old) (P.record_of keep.new)) (P.question keep.new) }
-    ensures ends { (budget : _) (marks : _) → IsDue (P.lang keep.old) (terms_with (P.plan keep.old) budget) (standing_on (P.lang keep.old) (P.record_of keep.old)) question.now → IsMadeFor (P.lang keep.old) marks
+    ensures ready { (budget : _) → Remembers (P.lang keep.old) (terms_with (P.plan keep.old) budget) (standing_on (P.lang keep.old) (P.record_of keep.old)) screen.old
+        → result ≡ None → IsStillReady (P.lang keep.old) (terms_with (P.plan keep.old) budget) (standing_on (P.lang keep.old) (P.record_of keep.new)) (P.question keep.new) screen.new }
+    ensures ends { (budget : _) → IsDue (P.lang keep.old) (terms_with (P.plan keep.old) budget) (standing_on (P.lang keep.old) (P.record_of keep.old)) question.now
         → IfSome result (EndsAs (T.turn teacher.old) (P.lang keep.old) (terms_with (P.plan keep.old) budget)
         (point_of (P.record_of keep.old) (S.left source.old) (K.written sink.old))
-        (point_of (P.record_of keep.new) (S.left source.new) (K.written sink.new)) marks) }
+        (point_of (P.record_of keep.new) (S.left source.new) (K.written sink.new)) screen.new) }
     ensures teacher { TeachesOn T.turn T.fits T.may_say teacher.old teacher.new }
     ensures same { IsSameSession P.lang P.plan P.sound keep.old keep.new }
     ensures taught { IsTaught (P.lang keep.old) (P.plan keep.old) (T.may_say teacher.old (P.lang keep.old)) (P.record_of keep.old) (P.record_of keep.new)
         (IfSome result (λ how. MayEnd (T.may_say teacher.old (P.lang keep.old)) (ending_of how))) }
     ensures keeps { Keeps D.content D.may_leave D.moment D.left_since P.plan P.voc P.record_of P.question P.writes P.live P.sits D.faults (result ≡ Some Drove.DiskFault)
-        (λ asked said. (budget : _) → IsDue (P.lang keep.old) (terms_with (P.plan keep.old) budget) (standing_on (P.lang keep.old) (P.record_of keep.old)) question.now
+        (λ lost. (budget : _) → IsDue (P.lang keep.old) (terms_with (P.plan keep.old) budget) (standing_on (P.lang keep.old) (P.record_of keep.old)) question.now
         → Loses (T.turn teacher.old) (P.lang keep.old) (terms_with (P.plan keep.old) budget)
         (point_of (P.record_of keep.old) (S.left source.old) (K.written sink.old))
-        (point_of (P.record_of keep.new) (S.left source.new) (K.written sink.new)) asked said)
+        (point_of (P.record_of keep.new) (S.left source.new) (K.written sink.new)) lost)
         keep.old keep.new disk.old disk.new }
-    ensures read { HasRead (S.left source.old) (S.left source.new) (S.faults source.old) (S.faults source.new) (result ≡ Some Drove.ReadFault) }
-    ensures write { CountsFaults (K.faults sink.old) (K.faults sink.new) (result ≡ Some Drove.WriteFault) }
+    ensures faults { HasReadAndWritten (S.left source.old) (S.left source.new) (S.faults source.old) (S.faults source.new) (S.late source.old) (S.late source.new) (K.faults sink.old) (K.faults sink.new) (result ≡ Some Drove.ReadFault) (result ≡ Some Drove.WriteFault) }
 {
     let session = keep.session();
     let count = session.answers();
     match teacher.told(alloc, source, sink, session.lang(), count + 1, question) {
         Told::Yes => keep_answer::<D, P>(keep, disk, true),
         Told::No => keep_answer::<D, P>(keep, disk, false),
+        Told::Back => take_back::<D, P>(keep, disk, screen),
         Told::Stop => Some(Drove::Suspended(count)),
         Told::End => Some(Drove::Suspended(count)),
         Told::TooLong => Some(Drove::LineTooLong),
@@ -312,17 +352,15 @@ fn take_turn<R: Threads + Sync, S: Source, K: Sink, D: Disk, T: Teacher<S, K>, P
         (point_of (P.record_of keep.old) (S.left source.old) (K.written sink.old))
         (point_of (P.record_of keep.new) (S.left source.new) (K.written sink.new)))
         keep.old keep.new disk.old disk.new }
-    ensures faults { HasReadAndWritten (S.left source.old) (S.left source.new) (S.faults source.old) (S.faults source.new) (K.faults sink.old) (K.faults sink.new) (result ≡ Some Drove.ReadFault) (result ≡ Some Drove.WriteFault) }
+    ensures faults { HasReadAndWritten (S.left source.old) (S.left source.new) (S.faults source.old) (S.faults source.new) (S.late source.old) (S.late source.new) (K.faults sink.old) (K.faults sink.new) (result ≡ Some Drove.ReadFault) (result ≡ Some Drove.WriteFault) }
     ensures places { AreMadeFor (P.lang keep.old) places.new }
 {
     match put_next::<R, D, P, G>(rt, keep, places, screen, budget, gate) {
         Upcoming::Open(question) | Upcoming::New(question) => {
             if keep.is_full() {
-                // for the law that no session takes so many answers
-                let _lang = keep.session().lang();
                 return Some(Drove::JournalFull);
             }
-            hear_answer(alloc, source, sink, disk, teacher, keep, &question)
+            hear_answer(alloc, source, sink, disk, teacher, keep, screen, &question)
         }
         Upcoming::Converged => Some(Drove::Converged(keep.session().answers())),
         Upcoming::Collapsed => Some(Drove::Collapsed(keep.session().answers())),
@@ -352,7 +390,7 @@ pub fn drive<R: Threads + Sync, S: Source, K: Sink, D: Disk, T: Teacher<S, K>, P
     requires fits { T.fits teacher.old (P.lang keep.old) }
     // where the answers lead to where nothing is open, no question is put
     requires start { IsAtStart (P.lang keep.old) (terms_with (P.plan keep.old) budget) (standing_on (P.lang keep.old) (P.record_of keep.old)) (P.question keep.old) places.old screen.old }
-    // no session takes as many answers as a journal, and where it is undecided, the screen tells the open candidates
+    // the journal is full exactly where a question is due and no record is left; where it is undecided, the screen tells the open candidates
     ensures ends { EndsAs (T.turn teacher.old) (P.lang keep.old) (terms_with (P.plan keep.old) budget)
         (point_of (P.record_of keep.old) (S.left source.old) (K.written sink.old))
         (point_of (P.record_of keep.new) (S.left source.new) (K.written sink.new)) screen.new result }
@@ -363,7 +401,7 @@ pub fn drive<R: Threads + Sync, S: Source, K: Sink, D: Disk, T: Teacher<S, K>, P
     ensures taught { IsTaught (P.lang keep.old) (P.plan keep.old) (T.may_say teacher.old (P.lang keep.old)) (P.record_of keep.old) (P.record_of keep.new)
         (MayEnd (T.may_say teacher.old (P.lang keep.old)) (ending_of result)) }
     // Where nothing is written, the disk isn't touched. Else a crash at any moment leaves the events from before the call and a
-    // front of those of this run, and after it all of them, but for the last one where the disk failed. That one is the answer
+    // front of those of this run, and after it all of them, but for the last one where the disk failed. That one is of the reply
     // to the question that came next.
     ensures keeps { Keeps D.content D.may_leave D.moment D.left_since P.plan P.voc P.record_of P.question P.writes P.live P.sits D.faults (result ≡ Drove.DiskFault)
         (Loses (T.turn teacher.old) (P.lang keep.old) (terms_with (P.plan keep.old) budget)
@@ -371,7 +409,7 @@ pub fn drive<R: Threads + Sync, S: Source, K: Sink, D: Disk, T: Teacher<S, K>, P
         (point_of (P.record_of keep.new) (S.left source.new) (K.written sink.new)))
         keep.old keep.new disk.old disk.new }
     // whatever the ending, the input has an end of what it had
-    ensures faults { HasReadAndWritten (S.left source.old) (S.left source.new) (S.faults source.old) (S.faults source.new) (K.faults sink.old) (K.faults sink.new) (result ≡ Drove.ReadFault) (result ≡ Drove.WriteFault) }
+    ensures faults { HasReadAndWritten (S.left source.old) (S.left source.new) (S.faults source.old) (S.faults source.new) (S.late source.old) (S.late source.new) (K.faults sink.old) (K.faults sink.new) (result ≡ Drove.ReadFault) (result ≡ Drove.WriteFault) }
     // however it ends, places and teacher serve another call
     ensures places { AreMadeFor (P.lang keep.old) places.new }
     ensures teacher { TeachesOn T.turn T.fits T.may_say teacher.old teacher.new }

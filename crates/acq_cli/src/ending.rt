@@ -2,6 +2,7 @@ ghost use Rattle.std.specs.Prelude.{◌≡◌};
 ghost use Rattle.acq_cli.specs.Program.{status_of};
 
 use acq_words::UsageFault;
+use net_cnf::ModelFault;
 use network::NetFault;
 use session_store::SFault;
 use voc_read::VocFault;
@@ -32,14 +33,20 @@ pub enum Ending {
     /// The disk failed.
     DiskFault,
     Memory,
-    /// A question is due, and the journal takes no more records.
+    /// A question is due, or an answer is to be taken back, and the journal takes no more records.
     JournalFull,
     /// So many answers stand already.
     NotFresh(u32),
     /// The network that is to answer is refused.
     TargetRefused(NetFault),
+    /// No answer stands that could be taken back.
+    NothingBack,
     /// The search of this item, from 0, was the first that spent its budget.
     ReduceSpent(u32),
+    /// The text of the network's clauses is too large.
+    CnfTooLarge,
+    /// The input is no model of the network.
+    ModelRefused(ModelFault),
 }
 
 impl Ending {
@@ -63,7 +70,10 @@ impl Ending {
             Ending::JournalFull => 12,
             Ending::NotFresh(_) => 13,
             Ending::TargetRefused(_) => 14,
+            Ending::NothingBack => 15,
             Ending::ReduceSpent(_) => 20,
+            Ending::CnfTooLarge => 21,
+            Ending::ModelRefused(_) => 22,
         }
     }
 }

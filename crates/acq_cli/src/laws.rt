@@ -1,6 +1,6 @@
 //! Laws of the definitions, as contracts of functions that do nothing.
 
-ghost use Rattle.acq_cli.specs.Laws.{BudgetIsEnough, GeneratedIsShort};
+ghost use Rattle.acq_cli.specs.Laws.{BudgetIsEnough, GeneratedIsShort, RoomIsLeft};
 ghost use Rattle.acq_cli.specs.OneText.{RunIsOne, TextIsOne};
 
 // ---- What is enough for a session
@@ -14,6 +14,12 @@ pub fn budget_is_enough()
 /// than 88,573 steps.
 pub fn generated_is_short()
     ensures { GeneratedIsShort }
+{}
+
+/// A journal without take-backs has a record for each answer that its session may still take, and so has one with as many
+/// records left as any session takes answers.
+pub fn room_is_left()
+    ensures { RoomIsLeft }
 {}
 
 // ---- What a run of given bytes is

@@ -1,6 +1,7 @@
 //! The program as one call: the words, the vocabulary and the answers in, the questions and the network out.
 #![tactic(auto)]
 
+mod back;
 mod commands;
 mod demo;
 mod driving;
@@ -8,8 +9,10 @@ mod ending;
 pub mod laws;
 mod opens;
 mod playing;
+mod printing;
 mod reducing;
 mod shows;
+mod solving;
 mod terms;
 mod top;
 

@@ -10,15 +10,16 @@ ghost use Rattle.session_core.specs.Settled.{IsSettled};
 ghost use Rattle.session_core.specs.Standing.{Stands, knowledge_of, open_in};
 ghost use Rattle.session_laws.specs.Session.{state_after};
 ghost use Rattle.session_store.specs.Held.{IsWide};
-ghost use Rattle.session_store.specs.Replay.{seen, answer_to};
-ghost use Rattle.acq_cli.specs.Shows.{plan_text, said_text, answer_line, answer_lines, reading_text, show_text};
+ghost use Rattle.session_store.specs.Replay.{IsAnswer, seen, answer_in, answer_to, standing_numbers};
+ghost use Rattle.acq_cli.specs.Shows.{plan_text, said_text, answer_line, answer_lines, back_line, is_back, take_backs, reading_text, show_text};
 
 use acq_io::{Put, Sink};
 use assign::{Event, Partial, Plan};
 use language::{Language, Memory};
 use network::network_text;
 use session_core::Session;
-use std::alloc::Global;
+use session_store::standing_records;
+use std::alloc::{AllocError, Global};
 
 fn plan_word(plan: Plan) -> &'static str
     ensures { result.now ≡ plan_text plan }
@@ -60,7 +61,7 @@ fn push_answer(
     yes: bool,
 ) -> Result<(), Memory>
     requires { length question.now ≡ 128 }
-    ensures { OnOk result (string_bytes text.new ≡ string_bytes text.old ++ answer_line lang.now k (seen (variable_count lang.now) (Event.Answer question.now «yes»))) }
+    ensures { OnOk result (string_bytes text.new ≡ string_bytes text.old ++ answer_line lang.now k (seen (variable_count lang.now) (answer_to question.now «yes»))) }
 {
     let cut = question.cut_to(lang.n());
     let line = lang.question_text(alloc, k, &cut)?;
@@ -71,7 +72,7 @@ fn push_answer(
     }
 }
 
-/// Adds the line of an event.
+/// Adds the line of an event, which is an answer.
 fn push_event(
     alloc: Global,
     text: &mut String,
@@ -79,25 +80,57 @@ fn push_event(
     k: u32,
     event: &Event,
 ) -> Result<(), Memory>
-    requires { IsWide event.now }
-    ensures { OnOk result (string_bytes text.new ≡ string_bytes text.old ++ answer_line lang.now k (seen (variable_count lang.now) event.now)) }
+    requires wide { IsWide event.now }
+    requires answer { IsAnswer event.now }
+    ensures { OnOk result (string_bytes text.new ≡ string_bytes text.old ++ answer_line lang.now k (seen (variable_count lang.now) (answer_in event.now))) }
 {
     match event {
         Event::Answer { question, yes } => push_answer(alloc, text, lang, k, question, *yes),
+        Event::Back => unreachable!(),
     }
 }
 
-/// The lines of the answers, in order.
-fn event_lines(alloc: Global, lang: &Language, events: &[Event]) -> Result<String, Memory>
+/// The lines of the answers that stand, whose records these are, in order.
+fn event_lines(
+    alloc: Global,
+    lang: &Language,
+    events: &[Event],
+    records: &[u32],
+) -> Result<String, Memory>
     requires wide { All IsWide events.now }
     requires few { length events.now < 1000000 }
+    requires records { records.now ≡ standing_numbers events.now }
     ensures { IfOk result (λ text. string_bytes text ≡ answer_lines lang.now 1 (standing_on lang.now events.now)) }
 {
     let mut text = String::new(alloc);
-    for (i, event) in events.iter().enumerate() {
+    for (i, record) in records.iter().enumerate() {
+        let event = &events[*record as usize - 1];
         push_event(alloc, &mut text, lang, i as u32 + 1, event)?;
     }
     Ok(text)
+}
+
+fn is_back(event: &Event) -> bool
+    ensures { result ≡ is_back event.now }
+{
+    matches!(event, Event::Back)
+}
+
+/// How many take-backs there are.
+fn take_backs(events: &[Event]) -> usize
+    ensures { result ≡ take_backs events.now }
+{
+    events.iter().filter(|event| is_back(*event)).count()
+}
+
+/// The line of so many take-backs, where there are some.
+fn back_line(alloc: Global, backs: usize) -> Result<String, AllocError>
+    ensures { IfOk result (λ text. string_bytes text ≡ back_line backs) }
+{
+    if backs == 0 {
+        return Ok(String::new(alloc));
+    }
+    format!(in alloc; "taken back {backs}\n")
 }
 
 /// Writes what is shown of a session and the events that led to it.
@@ -110,15 +143,23 @@ pub(crate) fn show<K: Sink>(
     requires stands { Stands session.now (standing_on (knowledge_of session.now).lang events.now) }
     requires settled { IsSettled (knowledge_of session.now).lang (knowledge_of session.now).plan (standing_on (knowledge_of session.now).lang events.now) (open_in session.now) }
     requires wide { All IsWide events.now }
-    ensures ok { let k = knowledge_of session.now in OnOk result (Adds (K.written out.old) (K.written out.new) (show_text k.lang k.plan (standing_on k.lang events.now) k.network.list)) }
-    ensures part { let k = knowledge_of session.now in OnErr result (AddsFront (K.written out.old) (K.written out.new) (show_text k.lang k.plan (standing_on k.lang events.now) k.network.list)) }
+    requires few { length events.now < 1000000 }
+    ensures ok { let k = knowledge_of session.now in OnOk result (Adds (K.written out.old) (K.written out.new) (show_text k.lang k.plan (standing_on k.lang events.now) (take_backs events.now) k.network.list)) }
+    ensures part { let k = knowledge_of session.now in OnErr result (AddsFront (K.written out.old) (K.written out.new) (show_text k.lang k.plan (standing_on k.lang events.now) (take_backs events.now) k.network.list)) }
     ensures memory { result ≡ Err Put.Memory → K.written out.new ≡ K.written out.old }
     ensures failed { result ≡ Err Put.Failed → Rose (K.faults out.old) (K.faults out.new) }
     ensures later_sink { K.faults out.old ≤ K.faults out.new }
 {
     let lang = session.lang();
     let plan = plan_word(session.plan());
-    let Ok(lines) = event_lines(alloc, lang, events) else {
+    // each take-back has found an answer, so nothing but memory was wanting
+    let Ok(records) = standing_records(alloc, events) else {
+        return Err(Put::Memory);
+    };
+    let Ok(lines) = event_lines(alloc, lang, events, &records) else {
+        return Err(Put::Memory);
+    };
+    let Ok(backs) = back_line(alloc, take_backs(events)) else {
         return Err(Put::Memory);
     };
     let answers = session.answers();
@@ -128,7 +169,7 @@ pub(crate) fn show<K: Sink>(
         return Err(Put::Memory);
     };
     let state = state_word(session);
-    let Ok(said) = format!(in alloc; "plan {plan}\n{lines}answers {answers}\n") else {
+    let Ok(said) = format!(in alloc; "plan {plan}\n{lines}answers {answers}\n{backs}") else {
         return Err(Put::Memory);
     };
     let Ok(known) = format!(in alloc; "learned {count}\n{network}state {state}\n") else {

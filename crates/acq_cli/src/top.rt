@@ -2,7 +2,7 @@ ghost use Rattle.std.specs.Prelude.{◌≡◌, ◌≤◌, ◌≢◌, ℕ, List, 
 ghost use Rattle.assign.specs.declared.events.Event.{Event};
 ghost use Rattle.assign.specs.declared.events.Plan.{Plan};
 ghost use Rattle.std.specs.String.{string_bytes};
-ghost use Rattle.acq_io.specs.Streams.{Adds, AddsFront, Rose, TakesSome};
+ghost use Rattle.acq_io.specs.Streams.{Adds, AddsFront, HasStopped, Rose, TakesSome};
 ghost use Rattle.assign.specs.Events.{Answer};
 ghost use Rattle.language.specs.Language.{IsLanguage, candidates};
 ghost use Rattle.language.specs.Answers.{IsNetwork, standing_on};
@@ -14,7 +14,7 @@ ghost use Rattle.target_oracle.specs.Lines.{line_turn};
 ghost use Rattle.acq_cli.specs.Driven.{HasEnded, Loses, TellsOpen};
 ghost use Rattle.acq_cli.specs.Added.{IsTaught, MayEnd};
 ghost use Rattle.acq_cli.specs.Points.{point_of, terms_with};
-ghost use Rattle.acq_cli.specs.Loop.{CountsFaults, HasRead, IsKeeping, IsSameSession};
+ghost use Rattle.acq_cli.specs.Loop.{CountsFaults, IsKeeping, IsSameSession};
 ghost use Rattle.acq_cli.specs.Breaks.{BreaksRun};
 ghost use Rattle.acq_cli.specs.Trying.{Acquires, BreaksOff};
 ghost use Rattle.acq_cli.specs.Endings.{HasAsked, Says, SaysPart, Tries};
@@ -22,25 +22,23 @@ ghost use Rattle.acq_cli.specs.Program.{TellsCauses, ended_as};
 ghost use Rattle.disk_model.specs.Disk.{Rose as DiskRose};
 ghost use Rattle.acq_words.specs.Request.{IsBudget, IsWithin};
 ghost use Rattle.acq_cli.specs.Journals.{EndsWith};
-ghost use Rattle.acq_cli.specs.Running.{RunsOn};
-ghost use Rattle.acq_cli.specs.Playing.{PlaysOn};
-ghost use Rattle.acq_cli.specs.Making.{News};
-ghost use Rattle.acq_cli.specs.Showing.{Shows};
-ghost use Rattle.acq_cli.specs.Demoing.{Demos};
-ghost use Rattle.acq_cli.specs.Reducing.{Reduces};
 ghost use Rattle.acq_cli.specs.Commands.{EndsExactly};
+ghost use Rattle.acq_cli.specs.Doing.{Does};
 ghost use Rattle.acq_cli.specs.Usage.{TellsUsage};
 ghost use Rattle.acq_cli.specs.Completing.{Completes, NoneRose};
 ghost use Rattle.acq_cli.specs.Words.{IsAsked, Spares, command_asked};
 ghost use Rattle.acq_cli.specs.Texts.{collapsed_text, converged_text, refusal_text, suspended_text, undecided_text, usage_text};
 
+use crate::back::back_journal;
 use crate::commands::{new_journal, run_journal, show_journal};
 use crate::demo::demo_number;
 use crate::driving::{Drove, drive};
 use crate::ending::Ending;
 use crate::opens::open_lines;
 use crate::playing::play_journal;
+use crate::printing::print_journal;
 use crate::reducing::reduce_journal;
+use crate::solving::solve_journal;
 use crate::terms::Terms;
 use acq_io::{AllFault, Put, Sink, Source, read_first_line};
 use acq_words::{Command, UsageFault, WordsFault, read_words};
@@ -188,7 +186,7 @@ pub(crate) fn say<K: Sink>(
 
 /// Asks on from where a session stands until the answers converge, nothing more can be asked, or the teacher stops, and says
 /// how that ended.
-#[tactic(auto, using(crate::proofs::Taking::takes_same))]
+#[tactic(auto, using(crate::proofs::Taking::takes_same, crate::proofs::Causes::stopped_idle))]
 pub(crate) fn ask_on<
     R: Threads + Sync,
     S: Source,
@@ -214,7 +212,8 @@ pub(crate) fn ask_on<
     requires budget { IsBudget budget }
     ensures asked { HasAsked (T.turn teacher.old) (P.lang keep.old) (terms_with (P.plan keep.old) budget) (P.record_of keep.old) (P.record_of keep.new)
         (S.left input.old) (K.written out.old) (S.left input.new) (K.written out.new) result }
-    ensures read { HasRead (S.left input.old) (S.left input.new) (S.faults input.old) (S.faults input.new) (result ≡ Ok Ending.ReadFault) }
+    ensures takes { TakesSome (S.left input.old) (S.left input.new) }
+    ensures read { HasStopped (S.faults input.old) (S.faults input.new) (S.late input.old) (S.late input.new) (result ≡ Ok Ending.ReadFault) }
     ensures no_fault { IfOk result (λ ending. ending ≢ Ending.WriteFault) }
     ensures failed { CountsFaults (K.faults out.old) (K.faults out.new) (result ≡ Err Put.Failed) }
     ensures taught { IsTaught (P.lang keep.old) (P.plan keep.old) (T.may_say teacher.old (P.lang keep.old)) (P.record_of keep.old) (P.record_of keep.new)
@@ -253,7 +252,7 @@ pub(crate) fn ask_on<
 }
 
 /// Asks about a language, with the answers in memory. No disk is touched.
-#[tactic(auto, using(crate::proofs::Taking::takes_same))]
+#[tactic(auto, using(crate::proofs::Taking::takes_same, crate::proofs::Causes::stopped_idle))]
 fn try_language<R: Threads + Sync, S: Source, K: Sink, G: Gate>(
     rt: &R,
     alloc: Global,
@@ -267,11 +266,10 @@ fn try_language<R: Threads + Sync, S: Source, K: Sink, G: Gate>(
     ensures tries { IfOk result (λ ending. (events : List Event) × Tries line_turn lang terms [] events (S.left input.old) (K.written out.old) (S.left input.new) (K.written out.new) ending) }
     ensures part { OnErr result ((events : List Event) × BreaksRun line_turn lang terms [] events (S.left input.old) (K.written out.old) (S.left input.new) (K.written out.new)) }
     ensures takes { TakesSome (S.left input.old) (S.left input.new) }
-    ensures read { result ≡ Ok Ending.ReadFault → Rose (S.faults input.old) (S.faults input.new) }
+    ensures read { HasStopped (S.faults input.old) (S.faults input.new) (S.late input.old) (S.late input.new) (result ≡ Ok Ending.ReadFault) }
     ensures no_fault { IfOk result (λ ending. ending ≢ Ending.WriteFault) }
     ensures no_disk { IfOk result (λ ending. ending ≢ Ending.DiskFault) }
     ensures failed { result ≡ Err Put.Failed → Rose (K.faults out.old) (K.faults out.new) }
-    ensures later { S.faults input.old ≤ S.faults input.new }
     ensures later_sink { K.faults out.old ≤ K.faults out.new }
 {
     let _variables = lang.n();
@@ -327,7 +325,7 @@ fn try_input<R: Threads + Sync, S: Source, K: Sink, G: Gate>(
     ensures acquires { IfOk result (Acquires terms (S.left input.old) (K.written out.old) (S.left input.new) (K.written out.new)) }
     ensures part { OnErr result (BreaksOff terms (S.left input.old) (K.written out.old) (S.left input.new) (K.written out.new)) }
     ensures takes { TakesSome (S.left input.old) (S.left input.new) }
-    ensures read { result ≡ Ok Ending.ReadFault → Rose (S.faults input.old) (S.faults input.new) }
+    ensures read { HasStopped (S.faults input.old) (S.faults input.new) (S.late input.old) (S.late input.new) (result ≡ Ok Ending.ReadFault) }
     ensures no_fault { IfOk result (λ ending. ending ≢ Ending.WriteFault) }
     ensures failed { result ≡ Err Put.Failed → Rose (K.faults out.old) (K.faults out.new) }
 {
@@ -366,7 +364,7 @@ fn command_asked(alloc: Global, words: &[String]) -> Result<Command, WordsFault>
 
 /// What the program does, and how it ends where the output takes all: a command over the journal on the disk, or one that
 /// touches no disk.
-#[tactic(auto, using(crate::proofs::Taking::takes_same, crate::proofs::Causes::ok_causes))]
+#[tactic(auto, using(crate::proofs::Taking::takes_same, crate::proofs::Causes::ok_causes, crate::proofs::Causes::stopped_idle))]
 fn perform<R: Threads + Sync, S: Source, K: Sink, D: Disk, G: Gate>(
     rt: &R,
     alloc: Global,
@@ -376,24 +374,10 @@ fn perform<R: Threads + Sync, S: Source, K: Sink, D: Disk, G: Gate>(
     disk: &mut D,
     gate: &G,
 ) -> Result<Ending, Put>
-    ensures acquires { (plan : Plan) (budget : ℕ) → command_asked (map string_bytes words.now) ≡ Ok (Command.Try plan budget) →
-        Acquires (terms_with plan budget) (S.left input.old) (K.written out.old) (S.left input.new) (K.written out.new) (ended_as result) }
+    ensures does { Does D.content D.may_leave D.moment D.left_since (command_asked (map string_bytes words.now)) (S.left input.old) (K.written out.old) (S.left input.new) (K.written out.new) disk.old disk.new result }
     ensures spares { Spares (command_asked (map string_bytes words.now)) (S.left input.old) (S.left input.new) disk.old disk.new }
-    ensures news { (plan : Plan) → command_asked (map string_bytes words.now) ≡ Ok (Command.New plan) →
-        News D.content D.may_leave D.moment D.left_since plan (S.left input.old) (K.written out.old) (S.left input.new) (K.written out.new) disk.old disk.new result }
-    ensures runs { (budget : ℕ) → command_asked (map string_bytes words.now) ≡ Ok (Command.Run budget) →
-        RunsOn D.content D.may_leave D.moment D.left_since budget (S.left input.old) (K.written out.old) (S.left input.new) (K.written out.new) disk.old disk.new result }
-    ensures plays { (budget : ℕ) → command_asked (map string_bytes words.now) ≡ Ok (Command.Play budget) →
-        PlaysOn D.content D.may_leave D.moment D.left_since budget (S.left input.old) (K.written out.old) (S.left input.new) (K.written out.new) disk.old disk.new result }
-    ensures shows { command_asked (map string_bytes words.now) ≡ Ok Command.Show →
-        Shows D.content D.may_leave D.moment D.left_since (S.left input.old) (K.written out.old) (K.written out.new) disk.old disk.new result }
-    ensures demos { (number budget : ℕ) → command_asked (map string_bytes words.now) ≡ Ok (Command.Demo number budget) →
-        Demos number budget (K.written out.old) (K.written out.new) result }
-    ensures reduces { (budget : ℕ) → command_asked (map string_bytes words.now) ≡ Ok (Command.Reduce budget) →
-        Reduces D.content D.may_leave D.moment D.left_since budget (S.left input.old) (K.written out.old) (K.written out.new) disk.old disk.new result }
-    ensures refuses { (fault : UsageFault) → command_asked (map string_bytes words.now) ≡ Err fault →
-        EndsWith (Ending.Usage fault) usage_text (K.written out.old) (K.written out.new) result }
-    ensures causes { IfOk result (TellsCauses (S.faults input.old) (S.faults input.new) (K.faults out.old) (K.faults out.new) (D.faults disk.old) (D.faults disk.new)) }
+    ensures read { HasStopped (S.faults input.old) (S.faults input.new) (S.late input.old) (S.late input.new) (result ≡ Ok Ending.ReadFault) }
+    ensures causes { IfOk result (TellsCauses (S.faults input.old) (S.faults input.new) (S.late input.old) (S.late input.new) (K.faults out.old) (K.faults out.new) (D.faults disk.old) (D.faults disk.new)) }
     ensures no_fault { IfOk result (λ ending. ending ≢ Ending.WriteFault) }
     ensures failed { result ≡ Err Put.Failed → Rose (K.faults out.old) (K.faults out.new) }
 {
@@ -414,9 +398,12 @@ fn perform<R: Threads + Sync, S: Source, K: Sink, D: Disk, G: Gate>(
             gate,
         ),
         Command::Show => show_journal(alloc, out, disk),
+        Command::Back => back_journal(alloc, out, disk),
         Command::Play(budget) => play_journal(rt, alloc, budget, input, out, disk, gate),
         Command::Demo(number, budget) => demo_number(rt, alloc, number, budget, out, gate),
         Command::Reduce(budget) => reduce_journal(alloc, budget, out, disk),
+        Command::Cnf => print_journal(alloc, out, disk),
+        Command::Model => solve_journal(alloc, input, out, disk),
     }
 }
 
@@ -431,23 +418,11 @@ pub fn acquire<R: Threads + Sync, S: Source, K: Sink, D: Disk, G: Gate>(
     disk: &mut D,
     gate: &G,
 ) -> Ending
-    ensures acquires { (plan : Plan) (budget : ℕ) → command_asked (map string_bytes words.now) ≡ Ok (Command.Try plan budget) →
-        Acquires (terms_with plan budget) (S.left input.old) (K.written out.old) (S.left input.new) (K.written out.new) result }
+    ensures does { (got : _) × (result ≡ ended_as got)
+        × Does D.content D.may_leave D.moment D.left_since (command_asked (map string_bytes words.now)) (S.left input.old) (K.written out.old) (S.left input.new) (K.written out.new) disk.old disk.new got }
     ensures spares { Spares (command_asked (map string_bytes words.now)) (S.left input.old) (S.left input.new) disk.old disk.new }
-    ensures news { (plan : Plan) → command_asked (map string_bytes words.now) ≡ Ok (Command.New plan) → (got : _) × (result ≡ ended_as got)
-        × News D.content D.may_leave D.moment D.left_since plan (S.left input.old) (K.written out.old) (S.left input.new) (K.written out.new) disk.old disk.new got }
-    ensures runs { (budget : ℕ) → command_asked (map string_bytes words.now) ≡ Ok (Command.Run budget) → (got : _) × (result ≡ ended_as got)
-        × RunsOn D.content D.may_leave D.moment D.left_since budget (S.left input.old) (K.written out.old) (S.left input.new) (K.written out.new) disk.old disk.new got }
-    ensures plays { (budget : ℕ) → command_asked (map string_bytes words.now) ≡ Ok (Command.Play budget) → (got : _) × (result ≡ ended_as got)
-        × PlaysOn D.content D.may_leave D.moment D.left_since budget (S.left input.old) (K.written out.old) (S.left input.new) (K.written out.new) disk.old disk.new got }
-    ensures shows { command_asked (map string_bytes words.now) ≡ Ok Command.Show → (got : _) × (result ≡ ended_as got)
-        × Shows D.content D.may_leave D.moment D.left_since (S.left input.old) (K.written out.old) (K.written out.new) disk.old disk.new got }
-    ensures demos { (number budget : ℕ) → command_asked (map string_bytes words.now) ≡ Ok (Command.Demo number budget) → (got : _) × (result ≡ ended_as got)
-        × Demos number budget (K.written out.old) (K.written out.new) got }
-    ensures reduces { (budget : ℕ) → command_asked (map string_bytes words.now) ≡ Ok (Command.Reduce budget) → (got : _) × (result ≡ ended_as got)
-        × Reduces D.content D.may_leave D.moment D.left_since budget (S.left input.old) (K.written out.old) (K.written out.new) disk.old disk.new got }
     ensures refuses { TellsUsage (command_asked (map string_bytes words.now)) (K.written out.old) (K.written out.new) result }
-    ensures causes { TellsCauses (S.faults input.old) (S.faults input.new) (K.faults out.old) (K.faults out.new) (D.faults disk.old) (D.faults disk.new) result }
+    ensures causes { TellsCauses (S.faults input.old) (S.faults input.new) (S.late input.old) (S.late input.new) (K.faults out.old) (K.faults out.new) (D.faults disk.old) (D.faults disk.new) result }
     ensures exactly { EndsExactly (command_asked (map string_bytes words.now)) (S.left input.old) (D.content disk.old) result }
     // what is given enough comes to its own end
     ensures completes { NoneRose (S.faults input.old) (S.faults input.new) (K.faults out.old) (K.faults out.new) (D.faults disk.old) (D.faults disk.new)

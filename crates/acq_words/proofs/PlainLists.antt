@@ -152,8 +152,11 @@ command_bare name.Run = refl
 command_bare name.Try = refl
 command_bare name.Play = refl
 command_bare name.Show = refl
+command_bare name.Back = refl
 command_bare name.Demo = refl
 command_bare name.Reduce = refl
+command_bare name.Cnf = refl
+command_bare name.Model = refl
 
 command_reads : (n : CommandName) → command_named (command_text n) ≡ Some n
 command_reads name.New = refl
@@ -161,8 +164,11 @@ command_reads name.Run = refl
 command_reads name.Try = refl
 command_reads name.Play = refl
 command_reads name.Show = refl
+command_reads name.Back = refl
 command_reads name.Demo = refl
 command_reads name.Reduce = refl
+command_reads name.Cnf = refl
+command_reads name.Model = refl
 
 plan_reads : (p : Plan) → plan_named (plan_text p) ≡ Some p
 plan_reads Scopes = refl

@@ -37,8 +37,11 @@ command_text name.Run = codes "run"
 command_text name.Try = codes "try"
 command_text name.Play = codes "play"
 command_text name.Show = codes "show"
+command_text name.Back = codes "back"
 command_text name.Demo = codes "demo"
 command_text name.Reduce = codes "reduce"
+command_text name.Cnf = codes "cnf"
+command_text name.Model = codes "model"
 
 abbrev pub plan_text : Plan → Text
 plan_text Scopes = codes "scopes"

@@ -30,9 +30,12 @@ command_named word =
     else (if bytes_eq word (codes "try") then Some name.Try
     else (if bytes_eq word (codes "play") then Some name.Play
     else (if bytes_eq word (codes "show") then Some name.Show
+    else (if bytes_eq word (codes "back") then Some name.Back
     else (if bytes_eq word (codes "demo") then Some name.Demo
     else (if bytes_eq word (codes "reduce") then Some name.Reduce
-    else None))))))
+    else (if bytes_eq word (codes "cnf") then Some name.Cnf
+    else (if bytes_eq word (codes "model") then Some name.Model
+    else None)))))))))
 
 -- the plan of this name
 abbrev pub plan_named : Text → Option Plan
@@ -89,8 +92,11 @@ command_by name.Run plan budget number = command.Run (with_budget budget)
 command_by name.Try plan budget number = command.Try (with_plan plan) (with_budget budget)
 command_by name.Play plan budget number = command.Play (with_budget budget)
 command_by name.Show plan budget number = command.Show
+command_by name.Back plan budget number = command.Back
 command_by name.Demo plan budget number = command.Demo (unwrap_or number 0) (with_budget budget)
 command_by name.Reduce plan budget number = command.Reduce (with_budget budget)
+command_by name.Cnf plan budget number = command.Cnf
+command_by name.Model plan budget number = command.Model
 
 abbrev pub command_of : Asked → Command
 command_of a = command_by a.name a.plan a.budget a.number
@@ -163,8 +169,11 @@ IsWithin (command.Run budget) = IsBudget budget
 IsWithin (command.Try plan budget) = IsBudget budget
 IsWithin (command.Play budget) = IsBudget budget
 IsWithin command.Show = Unit {0}
+IsWithin command.Back = Unit {0}
 IsWithin (command.Demo number budget) = IsBudget budget
 IsWithin (command.Reduce budget) = IsBudget budget
+IsWithin command.Cnf = Unit {0}
+IsWithin command.Model = Unit {0}
 
 -- what is given lies within its limits
 pub record IsLawful (a : Asked) : Type 0 where

@@ -27,8 +27,11 @@ pub enum Command {
     Try(Plan, u32),
     Play(u32),
     Show,
+    Back,
     Demo(u32, u32),
     Reduce(u32),
+    Cnf,
+    Model,
 }
 
 /// Why there is no request.
@@ -59,8 +62,11 @@ pub enum CommandName {
     Try,
     Play,
     Show,
+    Back,
     Demo,
     Reduce,
+    Cnf,
+    Model,
 }
 
 /// What the words ask for beside the journal, each option where it is given.
@@ -86,8 +92,11 @@ pub(crate) fn command_named(word: &str) -> Option<CommandName>
         "try" => Some(CommandName::Try),
         "play" => Some(CommandName::Play),
         "show" => Some(CommandName::Show),
+        "back" => Some(CommandName::Back),
         "demo" => Some(CommandName::Demo),
         "reduce" => Some(CommandName::Reduce),
+        "cnf" => Some(CommandName::Cnf),
+        "model" => Some(CommandName::Model),
         _ => None,
     }
 }
@@ -120,7 +129,11 @@ impl CommandName {
             | CommandName::Play
             | CommandName::Demo
             | CommandName::Reduce => true,
-            CommandName::New | CommandName::Show => false,
+            CommandName::New
+            | CommandName::Show
+            | CommandName::Back
+            | CommandName::Cnf
+            | CommandName::Model => false,
         }
     }
 
@@ -165,8 +178,11 @@ impl Asked {
             CommandName::Try => Command::Try(plan, budget),
             CommandName::Play => Command::Play(budget),
             CommandName::Show => Command::Show,
+            CommandName::Back => Command::Back,
             CommandName::Demo => Command::Demo(self.number.unwrap_or(0), budget),
             CommandName::Reduce => Command::Reduce(budget),
+            CommandName::Cnf => Command::Cnf,
+            CommandName::Model => Command::Model,
         }
     }
 }

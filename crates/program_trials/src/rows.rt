@@ -20,6 +20,9 @@ const ROWS: &str = "|two|yes no|q1 a=1 b=2/q2 a=1 b=1/converged 2/ne a b/|0
 |two|stop|q1 a=1 b=2/suspended 0/|6
 |two||q1 a=1 b=2/suspended 0/|6
 |two|back N yes no|q1 a=1 b=2/not an answer/not an answer/q2 a=1 b=1/converged 2/ne a b/|0
+|two|back yes no|q1 a=1 b=2/not an answer/q2 a=1 b=1/converged 2/ne a b/|0
+|two|no back yes no|q1 a=1 b=2/q2 a=1 b=1/q1 a=1 b=2/q2 a=1 b=1/converged 2/ne a b/|0
+|two|no back back yes back yes yes|q1 a=1 b=2/q2 a=1 b=1/q1 a=1 b=2/not an answer/q2 a=1 b=1/q1 a=1 b=2/q2 a=1 b=1/converged 2/|0
 --plan=scopes|order|no yes no|q1 a=1 b=1/q2 a=1 b=2/q3 a=2 b=1/converged 3/le&ne a b/|0
 --plan=scopes|order|no no no|q1 a=1 b=1/q2 a=1 b=2/q3 a=2 b=1/converged 3/le&ge&ne a b/|0
 --plan scopes|two|no yes|q1 a=1 b=1/q2 a=1 b=2/converged 2/ne a b/|0

@@ -16,7 +16,7 @@ static ORDERS: [[(&str, &str); 3]; 6] = [
 ];
 
 /// A command, the option that is left out, and what is asked for then. No command takes all three.
-static COMMANDS: [(&str, &str, Result<Command, UsageFault>); 9] = [
+static COMMANDS: [(&str, &str, Result<Command, UsageFault>); 10] = [
     ("try", "number", Ok(Command::Try(Plan::Multi, 5))),
     ("demo", "plan", Ok(Command::Demo(7, 5))),
     ("try", "", Err(UsageFault::Unfit)),
@@ -25,6 +25,7 @@ static COMMANDS: [(&str, &str, Result<Command, UsageFault>); 9] = [
     ("run", "", Err(UsageFault::Unfit)),
     ("play", "", Err(UsageFault::Unfit)),
     ("show", "", Err(UsageFault::Unfit)),
+    ("back", "", Err(UsageFault::Unfit)),
     ("reduce", "", Err(UsageFault::Unfit)),
 ];
 

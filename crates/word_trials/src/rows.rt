@@ -7,7 +7,7 @@ use std::test::Fail;
 
 /// Words with one space between each two, the journal that is asked for, and the command or why there is none. Which lists
 /// of the last group are taken is `clap`'s own affair.
-static ROWS: [(&str, &str, Result<Command, UsageFault>); 70] = [
+static ROWS: [(&str, &str, Result<Command, UsageFault>); 74] = [
     (
         ":memory: try",
         ":memory:",
@@ -99,6 +99,10 @@ static ROWS: [(&str, &str, Result<Command, UsageFault>); 70] = [
     (":memory: play", ":memory:", Ok(Command::Play(100_000))),
     ("memory play --budget 2", "memory", Ok(Command::Play(2))),
     ("a=b show", "a=b", Ok(Command::Show)),
+    ("j back", "j", Ok(Command::Back)),
+    ("j back --budget 1", "", Err(UsageFault::Unfit)),
+    ("j back --plan quacq", "", Err(UsageFault::Unfit)),
+    ("j back --number=0", "", Err(UsageFault::Unfit)),
     (
         "my.journal reduce",
         "my.journal",
@@ -118,6 +122,18 @@ static ROWS: [(&str, &str, Result<Command, UsageFault>); 70] = [
     ("j reduce --number 1", "", Err(UsageFault::Unfit)),
     ("j reduce --budget 0", "", Err(UsageFault::Words)),
     ("j Reduce", "", Err(UsageFault::Words)),
+    ("j cnf", "j", Ok(Command::Cnf)),
+    (":memory: cnf", ":memory:", Ok(Command::Cnf)),
+    ("j cnf --budget 1", "", Err(UsageFault::Unfit)),
+    ("j cnf --plan quacq", "", Err(UsageFault::Unfit)),
+    ("j cnf --number=0", "", Err(UsageFault::Unfit)),
+    ("j CNF", "", Err(UsageFault::Words)),
+    ("j model", "j", Ok(Command::Model)),
+    (":memory: model", ":memory:", Ok(Command::Model)),
+    ("j model --budget=1", "", Err(UsageFault::Unfit)),
+    ("j model --plan=scopes", "", Err(UsageFault::Unfit)),
+    ("j model --number 1", "", Err(UsageFault::Unfit)),
+    ("j models", "", Err(UsageFault::Words)),
     (
         ":memory: demo --number 0",
         ":memory:",

@@ -1,7 +1,6 @@
 use Rattle.std.proofs.Common.{refl, inl, inr}
 use Rattle.session_store.specs.Store.{lang_of, plan_of, voc_of, events_of}
 use Rattle.acq_cli.specs.declared.ending.Ending.TheVariants as ending
-use Rattle.language.specs.Answers.{standing_on}
 use Rattle.acq_cli.specs.Showing.{shown_text}
 use Rattle.acq_cli.proofs.Parts.{done_writes, done_reads}
 use Rattle.acq_cli.proofs.Journals.{ends_only}
@@ -38,10 +37,10 @@ pub returns-in-Ok-clause-no_fault : goal.returns-in-Ok-clause-no_fault
 returns-in-Ok-clause-no_fault g c =
     let store = c.in-Ok.store in
     let l = lang_of store in
-    ends_only ending.Done ending.WriteFault (shown_text l (plan_of store) (standing_on l (events_of store))) (g.K.Sink.written c.args.out.now) (g.K.Sink.written c.show_kept.new.out) c.show_kept.result done_writes c.show_kept.ensures.tells
+    ends_only ending.Done ending.WriteFault (shown_text l (plan_of store) (events_of store)) (g.K.Sink.written c.args.out.now) (g.K.Sink.written c.show_kept.new.out) c.show_kept.result done_writes c.show_kept.ensures.tells
 
 pub returns-in-Ok-clause-no_read : goal.returns-in-Ok-clause-no_read
 returns-in-Ok-clause-no_read g c =
     let store = c.in-Ok.store in
     let l = lang_of store in
-    ends_only ending.Done ending.ReadFault (shown_text l (plan_of store) (standing_on l (events_of store))) (g.K.Sink.written c.args.out.now) (g.K.Sink.written c.show_kept.new.out) c.show_kept.result done_reads c.show_kept.ensures.tells
+    ends_only ending.Done ending.ReadFault (shown_text l (plan_of store) (events_of store)) (g.K.Sink.written c.args.out.now) (g.K.Sink.written c.show_kept.new.out) c.show_kept.result done_reads c.show_kept.ensures.tells

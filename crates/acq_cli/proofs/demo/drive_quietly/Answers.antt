@@ -1,6 +1,6 @@
 use Rattle.std.proofs.Common.{◌∙◌, List, Some, ap, subst, arith}
 use Rattle.language.specs.declared.candidates.Candidate.{Candidate}
-use Rattle.language.specs.Language.{Language}
+use Rattle.language.specs.Language.{Language, IsLanguage}
 use Rattle.language.specs.Answers.{standing_on}
 use Rattle.session_store.specs.Left.{false_is_not_true}
 use Rattle.session_store.specs.Loose.{lang_of, plan_of, events_of}
@@ -9,7 +9,7 @@ use Rattle.acq_cli.specs.Added.{IsAdded, MayEnd}
 use Rattle.acq_cli.specs.Closings.{ending_of}
 use Rattle.acq_cli.specs.Points.{terms_with}
 use Rattle.acq_cli.proofs.Demoing.{driven_by, driven_from, not_collapsed}
-use Rattle.acq_cli.proofs.Targets.{agreeing_added}
+use Rattle.acq_cli.proofs.Targets.{agreeing_added, not_filled}
 use Rattle.acq_cli.proofs.Turning.{some_text}
 use Rattle.acq_cli.proofs.demo.drive_quietly.Goals as goal
 
@@ -29,6 +29,7 @@ returns-clause-driven g c =
     let after = events_of c.drive.new.keep in
     let how = c.drive.result in
     let Own : List Candidate → Type 0 = λ net. MayEnd (net_may_say net l) (ending_of how) in
+    let Grown : List Candidate → Type 0 = λ net. IsAdded l (plan_of c.args.keep.now) (net_may_say net l) (events_of c.args.keep.now) after in
     driven_by target l terms after (Some c.drive.new.source) (Some c.drive.new.sink) how
     (driven_from c.new-teacher.result.network target c.new-teacher.result.quiet l terms (events_of c.args.keep.now) after (Some c.new-source.result) (Some c.new-sink.result) (Some c.drive.new.source) (Some c.drive.new.sink) how
     c.new-teacher.ensures.network c.new-teacher.ensures.quiet c.requires.fresh (c.new-source.ensures.tells ∙ some_text _ _ c.new-5.ensures.items) c.new-sink.ensures.tells c.drive.ensures.ends.ends)
@@ -36,4 +37,4 @@ returns-clause-driven g c =
     (not_collapsed l terms target (standing_on l after) how (c.drive.ensures.owner target c.requires.target (returns-clause-agreeing g c)))
     (λ is. let rose = c.drive.ensures.faults.write.rose is in omega (arith, rose))
     (λ is. false_is_not_true (c.drive.ensures.keeps.cause is).0)
-    c.drive.ensures.ends.never_full
+    (not_filled l terms target (events_of c.args.keep.now) after how (subst IsLanguage c.lang_of-lang.ensures.is c.n-variables.ensures.lawful) c.requires.fresh (subst Grown c.new-teacher.ensures.network c.drive.ensures.taught.added) c.drive.ensures.ends.full)

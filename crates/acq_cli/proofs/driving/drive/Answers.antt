@@ -1,6 +1,5 @@
-use Rattle.std.proofs.Common.{◌∷◌, [], length-append, Bool, Option, Some, None, ◌≡◌, ◌∙◌, ◌+◌, List, length, ap, sym, subst, arith, refl}
+use Rattle.std.proofs.Common.{◌∷◌, [], length-append, Option, Some, None, ◌≡◌, ◌∙◌, ◌+◌, List, length, ap, sym, subst, arith, refl}
 use Rattle.std.specs.Prelude.{IfSome}
-use Rattle.assign.specs.Assignment.{Assignment}
 use Rattle.assign.specs.declared.events.Event.{Event}
 use Rattle.assign.specs.declared.events.Plan.{Plan}
 use Rattle.language.specs.Language.{Language, IsLanguage}
@@ -11,7 +10,7 @@ use Rattle.session_laws.specs.Laws.{network_in}
 use Rattle.session_core.specs.Settled.{IsSettled}
 use Rattle.target_oracle.specs.Turns.{Turns}
 use Rattle.acq_cli.specs.Closings.{closing_of, ending_of}
-use Rattle.acq_cli.specs.Driven.{Point, Drives, Loses, Remembers, StepsTo}
+use Rattle.acq_cli.specs.Driven.{Point, Drives, Loses, Remembers, StepsTo, TellsFull}
 use Rattle.acq_cli.specs.Due.{IsOneMore}
 use Rattle.acq_cli.specs.Loop.{TellsCandidates}
 use Rattle.acq_cli.specs.declared.driving.Drove.{Drove}
@@ -20,6 +19,7 @@ use Rattle.session_store.specs.Keeping.{keeps_still, keeps_then, keeps_as, rose_
 use Rattle.acq_cli.specs.Points.{point_of, terms_with}
 use Rattle.query_gen.proofs.Marking.{no_marks_hold}
 use Rattle.acq_cli.proofs.Standings.{carried}
+use Rattle.acq_io.proofs.CallLemmas.{called_none, called_on, called_as}
 use Rattle.acq_cli.proofs.Taking.{takes_same, takes_then}
 use Rattle.acq_cli.specs.Added.{IsAdded, MayEnd}
 use Rattle.acq_cli.proofs.Added.{added_none, added_then, added_more, ends_more}
@@ -33,6 +33,12 @@ more_by_one old new one = ap length one.is ∙ length-append old (one.more ∷ [
 
 not_failed : None ≡ Some drove.DiskFault → ⊥
 not_failed e = cc
+
+not_read : None ≡ Some drove.ReadFault → ⊥
+not_read e = cc
+
+some_read : (d : Drove) → Some d ≡ Some drove.ReadFault → d ≡ drove.ReadFault
+some_read d e = cc
 
 some_same : (d : Drove) → Some d ≡ Some drove.DiskFault → d ≡ drove.DiskFault
 some_same d e = cc
@@ -54,13 +60,13 @@ loop-turn-init g c =
       turn = refl;
       steps = steps_none (g.T.Teacher.turn c.args.teacher.now) l (terms_with (g.P.Keep.plan c.args.keep.now) c.args.budget) a;
       takes = takes_same (g.S.Source.left c.args.source.now);
-      later = omega arith;
+      called = called_none _ _;
       later_sink = omega arith;
       no_more = λ m q told may. may;
       added = added_none l (g.P.Keep.plan c.args.keep.now) (g.T.Teacher.may_say c.args.teacher.now l) (g.P.Keep.record_of c.args.keep.now) (g.P.Keep.record_of c.args.keep.now) refl;
       keeps =
           let D = g.D.Disk in let P = g.P.Keep in
-          keeps_still D.content D.may_leave D.moment D.left_since g.met.D.Disk.counts_now g.met.D.Disk.only_now P.plan P.voc P.record_of P.question P.writes P.live P.sits D.faults ⊥ (λ q r. ⊥) c.args.keep.now c.args.keep.now c.args.disk.now (λ e. e) refl refl refl refl refl c.requires.keeper.live c.requires.keeper.sits
+          keeps_still D.content D.may_leave D.moment D.left_since g.met.D.Disk.counts_now g.met.D.Disk.only_now P.plan P.voc P.record_of P.question P.writes P.live P.sits D.faults ⊥ (λ e. ⊥) c.args.keep.now c.args.keep.now c.args.disk.now (λ e. e) refl refl refl refl refl c.requires.keeper.live c.requires.keeper.sits
           (λ w bytes told f left. g.met.P.Keep.lasts c.args.keep.now c.args.disk.now w c.requires.keeper.live c.requires.keeper.sits bytes told f left);
       more = omega arith;
     }
@@ -76,12 +82,13 @@ returns-in-Some-clause-ends g c =
     let old : Language = g.P.Keep.lang c.loop-turn.keep in
     let Turned : Turns → Type 0 = λ t. Drives t old (terms_with (g.P.Keep.plan c.loop-turn.keep) c.args.budget) b d c.in-Some.drove in
     let Spoken : Language → Plan → Type 0 = λ m q. Drives turns m (terms_with q c.args.budget) b d c.in-Some.drove in
+    let Full : Language → Plan → Type 0 = λ n q. TellsFull n (terms_with q c.args.budget) (g.P.Keep.record_of c.take_turn.new.keep) c.in-Some.drove in
     let Tells : Language → Plan → Type 0 = λ n q. TellsCandidates n (terms_with q c.args.budget) (standing_on n (g.P.Keep.record_of c.take_turn.new.keep)) c.take_turn.new.screen c.in-Some.drove in
     record {
       ends = steps_end turns l (terms_with p c.args.budget) a b d c.in-Some.drove c.loop-turn.invariant.steps
           (carried Spoken old l (g.P.Keep.plan c.loop-turn.keep) p c.loop-turn.invariant.lang c.loop-turn.invariant.plan (subst Turned c.loop-turn.invariant.turn c.in-Some.ensures.ends.ends));
       tells = carried Tells old l (g.P.Keep.plan c.loop-turn.keep) p c.loop-turn.invariant.lang c.loop-turn.invariant.plan c.in-Some.ensures.ends.tells;
-      never_full = c.in-Some.ensures.ends.never_full;
+      full = carried Full old l (g.P.Keep.plan c.loop-turn.keep) p c.loop-turn.invariant.lang c.loop-turn.invariant.plan c.in-Some.ensures.ends.full;
     }
 
 pub returns-in-Some-clause-owner : goal.returns-in-Some-clause-owner
@@ -101,7 +108,7 @@ returns-in-Some-clause-teacher g c = record {
 
 pub returns-in-Some-clause-faults : goal.returns-in-Some-clause-faults
 returns-in-Some-clause-faults g c = record {
-  read = record { takes = takes_then _ _ _ c.loop-turn.invariant.takes c.take_turn.ensures.faults.read.takes; later = omega (arith, c.take_turn.ensures.faults.read.later, c.loop-turn.invariant.later); rose = λ is. rose_later _ _ _ c.loop-turn.invariant.later (c.take_turn.ensures.faults.read.rose (c.in-Some.is ∙ ap (λ (d : Drove). Some d) is)) };
+  read = record { takes = takes_then _ _ _ c.loop-turn.invariant.takes c.take_turn.ensures.faults.read.takes; called = called_on _ _ _ _ _ _ _ c.loop-turn.invariant.called (called_as _ _ _ _ _ _ (λ is. some_read c.in-Some.drove (sym c.in-Some.is ∙ is)) (λ is. c.in-Some.is ∙ ap (λ (d : Drove). Some d) is) c.take_turn.ensures.faults.read.called) };
   write = record { later = omega (arith, c.take_turn.ensures.faults.write.later, c.loop-turn.invariant.later_sink); rose = λ is. rose_later _ _ _ c.loop-turn.invariant.later_sink (c.take_turn.ensures.faults.write.rose (c.in-Some.is ∙ ap (λ (d : Drove). Some d) is)) };
 }
 
@@ -151,7 +158,7 @@ loop-turn-preserved g c =
       steps = steps_on turns l (terms_with p c.args.budget) a b d c.loop-turn.invariant.steps
           (carried Spoken old l before p c.loop-turn.invariant.lang c.loop-turn.invariant.plan (subst Turned c.loop-turn.invariant.turn (c.take_turn.ensures.again c.in_default.is).steps));
       takes = takes_then _ _ _ c.loop-turn.invariant.takes c.take_turn.ensures.faults.read.takes;
-      later = omega (arith, c.take_turn.ensures.faults.read.later, c.loop-turn.invariant.later);
+      called = called_on _ _ _ _ _ _ _ c.loop-turn.invariant.called (called_as _ _ _ _ _ _ (λ is. not_read (sym c.in_default.is ∙ is)) (λ never. absurd never) c.take_turn.ensures.faults.read.called);
       later_sink = omega (arith, c.take_turn.ensures.faults.write.later, c.loop-turn.invariant.later_sink);
       no_more = λ m q told may. c.loop-turn.invariant.no_more m q told (c.take_turn.ensures.teacher.no_more m q told may);
       added = added_then l p (g.T.Teacher.may_say c.args.teacher.now l) (g.P.Keep.record_of c.args.keep.now) (g.P.Keep.record_of c.loop-turn.keep) (g.P.Keep.record_of c.take_turn.new.keep) c.loop-turn.invariant.added
@@ -161,8 +168,8 @@ loop-turn-preserved g c =
       keeps =
           let D = g.D.Disk in let P = g.P.Keep in
           let Failed : Type 0 = c.take_turn.result ≡ Some drove.DiskFault in
-          keeps_then D.content D.may_leave D.moment D.left_since g.met.D.Disk.counts_now g.met.D.Disk.only_now P.plan P.voc P.record_of P.question P.writes P.live P.sits D.faults ⊥ (λ q r. ⊥) (λ q r. ⊥) c.args.keep.now c.loop-turn.keep c.take_turn.new.keep c.args.disk.now c.loop-turn.disk c.take_turn.new.disk c.loop-turn.invariant.plan (λ question reply lost. lost) c.loop-turn.invariant.keeps
-          (keeps_as D.content D.may_leave D.moment D.left_since g.met.D.Disk.counts_now g.met.D.Disk.only_now P.plan P.voc P.record_of P.question P.writes P.live P.sits D.faults Failed ⊥ _ (λ q r. ⊥) c.loop-turn.keep c.take_turn.new.keep c.loop-turn.disk c.take_turn.new.disk (λ e. absurd e) (λ e. not_failed (sym c.in_default.is ∙ e)) (λ bad question reply lost. bad) c.take_turn.ensures.keeps);
+          keeps_then D.content D.may_leave D.moment D.left_since g.met.D.Disk.counts_now g.met.D.Disk.only_now P.plan P.voc P.record_of P.question P.writes P.live P.sits D.faults ⊥ (λ e. ⊥) (λ e. ⊥) c.args.keep.now c.loop-turn.keep c.take_turn.new.keep c.args.disk.now c.loop-turn.disk c.take_turn.new.disk c.loop-turn.invariant.plan (λ e lost. lost) c.loop-turn.invariant.keeps
+          (keeps_as D.content D.may_leave D.moment D.left_since g.met.D.Disk.counts_now g.met.D.Disk.only_now P.plan P.voc P.record_of P.question P.writes P.live P.sits D.faults Failed ⊥ _ (λ e. ⊥) c.loop-turn.keep c.take_turn.new.keep c.loop-turn.disk c.take_turn.new.disk (λ e. absurd e) (λ e. not_failed (sym c.in_default.is ∙ e)) (λ bad e lost. bad) c.take_turn.ensures.keeps);
       more = omega (arith, one, c.loop-turn.invariant.more);
     }
 
@@ -193,17 +200,17 @@ returns-in-Some-clause-keeps g c =
     let old : Language = P.lang c.loop-turn.keep in
     let Failed : Type 0 = c.in-Some.drove ≡ drove.DiskFault in
     let Told : Type 0 = Some c.in-Some.drove ≡ Some drove.DiskFault in
-    let Turned : Assignment → Bool → Type 0 = Loses (g.T.Teacher.turn c.loop-turn.teacher) old (terms_with (P.plan c.loop-turn.keep) c.args.budget) b d in
-    let Lost : Assignment → Bool → Type 0 = Loses turns l (terms_with p c.args.budget) a d in
+    let Turned : Event → Type 0 = Loses (g.T.Teacher.turn c.loop-turn.teacher) old (terms_with (P.plan c.loop-turn.keep) c.args.budget) b d in
+    let Lost : Event → Type 0 = Loses turns l (terms_with p c.args.budget) a d in
     keeps_then D.content D.may_leave D.moment D.left_since g.met.D.Disk.counts_now g.met.D.Disk.only_now P.plan P.voc P.record_of P.question P.writes P.live P.sits D.faults Failed Turned Lost c.args.keep.now c.loop-turn.keep c.take_turn.new.keep c.args.disk.now c.loop-turn.disk c.take_turn.new.disk c.loop-turn.invariant.plan
-    (λ question reply lost.
-    let Taught : Turns → Type 0 = λ t. Loses t old (terms_with (P.plan c.loop-turn.keep) c.args.budget) b d question reply in
-    let Spoken : Language → Plan → Type 0 = λ m q. Loses turns m (terms_with q c.args.budget) b d question reply in
-    steps_loses turns l (terms_with p c.args.budget) a b d question reply c.loop-turn.invariant.steps
+    (λ e lost.
+    let Taught : Turns → Type 0 = λ t. Loses t old (terms_with (P.plan c.loop-turn.keep) c.args.budget) b d e in
+    let Spoken : Language → Plan → Type 0 = λ m q. Loses turns m (terms_with q c.args.budget) b d e in
+    steps_loses turns l (terms_with p c.args.budget) a b d e c.loop-turn.invariant.steps
     (carried Spoken old l (P.plan c.loop-turn.keep) p c.loop-turn.invariant.lang c.loop-turn.invariant.plan (subst Taught c.loop-turn.invariant.turn lost)))
     c.loop-turn.invariant.keeps
     (keeps_as D.content D.may_leave D.moment D.left_since g.met.D.Disk.counts_now g.met.D.Disk.only_now P.plan P.voc P.record_of P.question P.writes P.live P.sits D.faults Told Failed Turned Turned c.loop-turn.keep c.take_turn.new.keep c.loop-turn.disk c.take_turn.new.disk
-    (λ e. ap (λ (d : Drove). Some d) e) (λ (e : Told). some_same c.in-Some.drove e) (λ failed question reply lost. lost) c.in-Some.ensures.keeps)
+    (λ e. ap (λ (d : Drove). Some d) e) (λ (e : Told). some_same c.in-Some.drove e) (λ failed e lost. lost) c.in-Some.ensures.keeps)
 
 pub take_turn-requires-clause-keeper : goal.take_turn-requires-clause-keeper
 take_turn-requires-clause-keeper g c lives within = record {

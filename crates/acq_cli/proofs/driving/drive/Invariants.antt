@@ -1,5 +1,5 @@
 use Rattle.std.proofs.Common.{◌≡◌, ◌≤◌, length}
-use Rattle.acq_io.specs.Streams.{TakesSome}
+use Rattle.acq_io.specs.Streams.{HasCalled, TakesSome}
 use Rattle.assign.specs.Assignment.{Assignment}
 use Rattle.language.specs.Language.{Language}
 use Rattle.language.specs.Answers.{standing_on}
@@ -31,11 +31,11 @@ invariant-loop-turn g l =
           (point_of (entries l.initial.keep) (left l.initial.source) (written l.initial.sink))
           (point_of (entries l.keep) (left l.source) (written l.sink));
       takes : TakesSome (left l.initial.source) (left l.source);
-      later : g.S.Source.faults l.initial.source ≤ g.S.Source.faults l.source;
+      called : HasCalled (g.S.Source.faults l.initial.source) (g.S.Source.faults l.source) (g.S.Source.late l.initial.source) (g.S.Source.late l.source) ⊥;
       later_sink : g.K.Sink.faults l.initial.sink ≤ g.K.Sink.faults l.sink;
       no_more : (m : Language) (q : Assignment) (told : Told) → g.T.Teacher.may_say l.teacher m q told → g.T.Teacher.may_say l.initial.teacher m q told;
       added : IsAdded (g.P.Keep.lang l.initial.keep) (g.P.Keep.plan l.initial.keep) (g.T.Teacher.may_say l.initial.teacher (g.P.Keep.lang l.initial.keep)) (entries l.initial.keep) (entries l.keep);
-      keeps : Keeps g.D.Disk.content g.D.Disk.may_leave g.D.Disk.moment g.D.Disk.left_since g.P.Keep.plan g.P.Keep.voc g.P.Keep.record_of g.P.Keep.question g.P.Keep.writes g.P.Keep.live g.P.Keep.sits g.D.Disk.faults ⊥ (λ q r. ⊥)
+      keeps : Keeps g.D.Disk.content g.D.Disk.may_leave g.D.Disk.moment g.D.Disk.left_since g.P.Keep.plan g.P.Keep.voc g.P.Keep.record_of g.P.Keep.question g.P.Keep.writes g.P.Keep.live g.P.Keep.sits g.D.Disk.faults ⊥ (λ e. ⊥)
           l.initial.keep l.keep l.initial.disk l.disk;
       more : l._turn ≤ length (entries l.keep);
     }

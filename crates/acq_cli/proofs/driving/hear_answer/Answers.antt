@@ -1,23 +1,27 @@
-use Rattle.std.proofs.Common.{◌≡◌, ◌∙◌, ◌+◌, ℕ, Bool, List, true, false, ap, refl, arith, Option, Some, subst, inl, inr}
-use Rattle.target_oracle.specs.declared.teacher.Told.TheVariants.{Yes, No}
+use Rattle.std.proofs.Common.{◌≡◌, ◌∙◌, ◌+◌, ℕ, List, [], ◌∷◌, ◌++◌, true, false, ap, refl, arith, Option, Some, None, subst, inl, inr}
 use Rattle.target_oracle.specs.declared.teacher.Told.TheVariants as told
 use Rattle.assign.specs.Assignment.{Assignment}
 use Rattle.assign.specs.declared.events.Event.{Event}
+use Rattle.assign.specs.declared.events.Event.TheVariants as event
 use Rattle.assign.specs.declared.events.Plan.{Plan}
 use Rattle.language.specs.Language.{Language}
 use Rattle.language.specs.Answers.{standing_on}
-use Rattle.target_oracle.specs.Turns.{Turns, Said, Stopped, Ended, Overlong, Unread}
-use Rattle.acq_cli.specs.Run.{Suspended, LineTooLong, Unreadable, number_on}
+use Rattle.query_gen.proofs.Marking.{no_marks_hold}
+use Rattle.session_laws.specs.Laws.{network_in}
+use Rattle.target_oracle.specs.Turns.{Turns, Said, TakenBack, Stopped, Ended, Overlong, Unread}
+use Rattle.acq_cli.specs.Run.{Suspended, LineTooLong, Unreadable, answer, number_on}
 use Rattle.acq_cli.specs.Driven.{Loses}
 use Rattle.acq_cli.specs.Due.{IsDue}
 use Rattle.acq_cli.specs.Points.{point_of, terms_with}
 use Rattle.acq_cli.specs.declared.driving.Drove.TheVariants as drove
 use Rattle.session_store.specs.Keeping.{keeps_still, keeps_as}
+use Rattle.session_store.specs.Kept.{answer_event}
+use Rattle.acq_cli.proofs.Reached.{some_stand}
 use Rattle.acq_cli.proofs.Running.{next_put, room_not_full}
-use Rattle.acq_cli.proofs.Standings.{AtTurn, at_turn, next_fits, run_laws, within}
+use Rattle.acq_cli.proofs.Standings.{AtTurn, at_turn, marks_after, next_fits, run_laws, within}
 use Rattle.acq_cli.proofs.Turning.{asked_as, told_as, front_as, ran_closed, cut_turn}
-use Rattle.acq_cli.proofs.Added.{taught_kept, taught_none}
-use Rattle.acq_cli.proofs.Answered.{turned, ends, ends_closed, ends_failed, loses, adds}
+use Rattle.acq_cli.proofs.Added.{adds, taught_kept, taught_none}
+use Rattle.acq_cli.proofs.Answered.{turned, ends, ends_closed, ends_failed, kept_on, loses, not_full_with}
 use Rattle.acq_cli.proofs.driving.hear_answer.Goals as goal
 
 pub overflow_add-count : goal.overflow_add-count
@@ -45,11 +49,28 @@ returns-in-Yes-clause-again g c budget due =
     let written : Option (List ℕ) = g.K.Sink.written c.args.sink.now in
     let left' : Option (List ℕ) = g.S.Source.left c.told.new.source in
     let written' : Option (List ℕ) = g.K.Sink.written c.told.new.sink in
-    turned turns l (terms_with plan budget) events (P.record_of c.keep_answer.new.keep) c.args.question.now true (P.question c.args.keep.now) left written left' written' c.keep_answer.result due c.requires.put.room c.requires.put.is c.keep_answer.ensures.kept
+    turned turns l (terms_with plan budget) events (P.record_of c.keep_answer.new.keep) c.args.question.now (Said true) (answer_event c.args.question.now true) refl left written left' written' c.keep_answer.result due c.requires.put.room (c.keep_answer.ensures.kept c.args.question.now c.requires.put.is)
     (told_as turns c.lang.result.now l (c.answers-count.result + 1) (number_on l events) c.args.question.now (point_of events left written) (point_of events left' written') (Said true) at.language (ap (λ n. n + 1) at.number) c.in-Yes.ensures.tells)
 
+pub returns-in-Yes-clause-ready : goal.returns-in-Yes-clause-ready
+returns-in-Yes-clause-ready g c budget remembers none =
+    let P = g.P.Keep in
+    let l : Language = P.lang c.args.keep.now in
+    let plan : Plan = P.plan c.args.keep.now in
+    let events : List Event = P.record_of c.args.keep.now in
+    let at : AtTurn l plan (standing_on l events) c.answers-count.result c.lang.result.now =
+    at_turn c.session-session.result.now l c.lang.result.now plan (standing_on l events) c.answers-count.result
+    c.session-session.ensures.stands c.session-session.ensures.lang c.session-session.ensures.plan c.answers-count.ensures c.lang.ensures.is c.lang.ensures.lawful in
+    let still : c.keep_answer.result ≡ None = none in
+    let kept : P.record_of c.keep_answer.new.keep ≡ events ++ answer_event c.args.question.now true ∷ [] = kept_on (answer_event c.args.question.now true) events (P.record_of c.keep_answer.new.keep) c.keep_answer.result (c.keep_answer.ensures.kept c.args.question.now c.requires.put.is) still in
+    record {
+      settled = c.keep_answer.ensures.settled still;
+      made = c.requires.made;
+      hold = marks_after l (terms_with plan budget) events (P.record_of c.keep_answer.new.keep) c.args.question.now true c.args.screen.now at.reached c.requires.put.due.fits.size kept remembers;
+    }
+
 pub returns-in-Yes-clause-ends : goal.returns-in-Yes-clause-ends
-returns-in-Yes-clause-ends g c budget marks due made =
+returns-in-Yes-clause-ends g c budget due =
     let P = g.P.Keep in
     let l : Language = P.lang c.args.keep.now in
     let plan : Plan = P.plan c.args.keep.now in
@@ -62,8 +83,8 @@ returns-in-Yes-clause-ends g c budget marks due made =
     let written : Option (List ℕ) = g.K.Sink.written c.args.sink.now in
     let left' : Option (List ℕ) = g.S.Source.left c.told.new.source in
     let written' : Option (List ℕ) = g.K.Sink.written c.told.new.sink in
-    ends turns l (terms_with plan budget) events (P.record_of c.keep_answer.new.keep) c.args.question.now true (P.question c.args.keep.now) left written left' written' c.keep_answer.result marks made at.lawful
-    (within l plan c.lang.result.now events c.answers-count.result at (g.met.P.Keep.few c.args.keep.now c.requires.keeper.sound)) due c.requires.put.room c.keep_answer.ensures.kept
+    ends turns l (terms_with plan budget) events (P.record_of c.keep_answer.new.keep) c.args.question.now (Said true) (answer_event c.args.question.now true) refl left written left' written' c.keep_answer.result c.args.screen.now c.requires.made at.lawful
+    (within l plan c.lang.result.now events c.answers-count.result at (g.met.P.Keep.few c.args.keep.now c.requires.keeper.sound)) due c.requires.put.room (inl (true, refl)) (c.keep_answer.ensures.kept c.args.question.now c.requires.put.is)
     (told_as turns c.lang.result.now l (c.answers-count.result + 1) (number_on l events) c.args.question.now (point_of events left written) (point_of events left' written') (Said true) at.language (ap (λ n. n + 1) at.number) c.in-Yes.ensures.tells)
     (asked_as turns c.lang.result.now l (c.answers-count.result + 1) (number_on l events) c.args.question.now (point_of events left written) (point_of events left' written') at.language (ap (λ n. n + 1) at.number) c.told.ensures.asks)
 
@@ -76,10 +97,12 @@ returns-in-Yes-clause-taught g c =
     let at : AtTurn l plan (standing_on l events) c.answers-count.result c.lang.result.now =
     at_turn c.session-session.result.now l c.lang.result.now plan (standing_on l events) c.answers-count.result
     c.session-session.ensures.stands c.session-session.ensures.lang c.session-session.ensures.plan c.answers-count.ensures c.lang.ensures.is c.lang.ensures.lawful in
-    let May : Language → Type 0 = λ m. g.T.Teacher.may_say c.args.teacher.now m c.args.question.now Yes in
+    let May : Language → Type 0 = λ m. g.T.Teacher.may_say c.args.teacher.now m c.args.question.now told.Yes in
+    let may = g.T.Teacher.may_say c.args.teacher.now l in
+    let said : May l = subst May at.language c.in-Yes.ensures.says in
     record {
-      added = adds l (terms_with plan c.requires.put.budget) (g.T.Teacher.may_say c.args.teacher.now l) events (P.record_of c.keep_answer.new.keep) c.args.question.now true (P.question c.args.keep.now) c.keep_answer.result at.lawful c.requires.put.due c.requires.put.is c.keep_answer.ensures.kept (subst May at.language c.in-Yes.ensures.says);
-      said = taught_kept (g.T.Teacher.may_say c.args.teacher.now l) true (P.question c.args.keep.now) events (P.record_of c.keep_answer.new.keep) c.keep_answer.result c.keep_answer.ensures.kept;
+      added = adds run_laws l at.lawful (terms_with plan c.requires.put.budget) may events (P.record_of c.keep_answer.new.keep) c.args.question.now (answer_event c.args.question.now true) c.keep_answer.result c.requires.put.due (inl (true, refl)) (c.keep_answer.ensures.kept c.args.question.now c.requires.put.is) (inl (record { answer = answer c.args.question.now true; is = refl; fits = c.requires.put.due.fits; may_be = said }));
+      said = taught_kept may (answer_event c.args.question.now true) events (P.record_of c.keep_answer.new.keep) c.keep_answer.result (c.keep_answer.ensures.kept c.args.question.now c.requires.put.is);
     }
 
 pub returns-in-Yes-clause-keeps : goal.returns-in-Yes-clause-keeps
@@ -100,14 +123,14 @@ returns-in-Yes-clause-keeps g c =
     let after : List Event = P.record_of c.keep_answer.new.keep in
     let q : Assignment = c.args.question.now in
     let HasFailed : Type 0 = c.keep_answer.result ≡ Some drove.DiskFault in
-    let Was : Assignment → Bool → Type 0 = λ asked said. (P.question c.args.keep.now ≡ Some asked) × (said ≡ true) in
-    let Lost : Assignment → Bool → Type 0 = λ asked said. (budget : ℕ) → IsDue l (terms_with plan budget) (standing_on l events) q → Loses turns l (terms_with plan budget) (point_of events left written) (point_of after left' written') asked said in
+    let Was : Event → Type 0 = λ lost. (asked : Assignment) → P.question c.args.keep.now ≡ Some asked → lost ≡ answer_event asked true in
+    let Lost : Event → Type 0 = λ lost. (budget : ℕ) → IsDue l (terms_with plan budget) (standing_on l events) q → Loses turns l (terms_with plan budget) (point_of events left written) (point_of after left' written') lost in
     keeps_as D.content D.may_leave D.moment D.left_since g.met.D.Disk.counts_now g.met.D.Disk.only_now P.plan P.voc P.record_of P.question P.writes P.live P.sits D.faults HasFailed HasFailed Was Lost c.args.keep.now c.keep_answer.new.keep c.args.disk.now c.keep_answer.new.disk
     (λ e. e) (λ e. e)
-    (λ failed asked said lost budget due.
-    loses turns l (terms_with plan budget) events after q true (P.question c.args.keep.now) left written left' written' c.keep_answer.result drove.DiskFault due c.requires.put.room c.keep_answer.ensures.kept failed
+    (λ failed lost was budget due.
+    loses turns l (terms_with plan budget) events after q (Said true) (answer_event c.args.question.now true) refl left written left' written' c.keep_answer.result drove.DiskFault due c.requires.put.room (inl (true, refl)) (c.keep_answer.ensures.kept c.args.question.now c.requires.put.is) failed
     (told_as turns c.lang.result.now l (c.answers-count.result + 1) (number_on l events) c.args.question.now (point_of events left written) (point_of events left' written') (Said true) at.language (ap (λ n. n + 1) at.number) c.in-Yes.ensures.tells)
-    c.requires.put.is asked said lost)
+    lost (was q c.requires.put.is))
     c.keep_answer.ensures.keeps
 
 pub returns-in-No-clause-again : goal.returns-in-No-clause-again
@@ -124,11 +147,28 @@ returns-in-No-clause-again g c budget due =
     let written : Option (List ℕ) = g.K.Sink.written c.args.sink.now in
     let left' : Option (List ℕ) = g.S.Source.left c.told.new.source in
     let written' : Option (List ℕ) = g.K.Sink.written c.told.new.sink in
-    turned turns l (terms_with plan budget) events (P.record_of c.keep_answer-in-No.new.keep) c.args.question.now false (P.question c.args.keep.now) left written left' written' c.keep_answer-in-No.result due c.requires.put.room c.requires.put.is c.keep_answer-in-No.ensures.kept
+    turned turns l (terms_with plan budget) events (P.record_of c.keep_answer-in-No.new.keep) c.args.question.now (Said false) (answer_event c.args.question.now false) refl left written left' written' c.keep_answer-in-No.result due c.requires.put.room (c.keep_answer-in-No.ensures.kept c.args.question.now c.requires.put.is)
     (told_as turns c.lang.result.now l (c.answers-count.result + 1) (number_on l events) c.args.question.now (point_of events left written) (point_of events left' written') (Said false) at.language (ap (λ n. n + 1) at.number) c.in-No.ensures.tells)
 
+pub returns-in-No-clause-ready : goal.returns-in-No-clause-ready
+returns-in-No-clause-ready g c budget remembers none =
+    let P = g.P.Keep in
+    let l : Language = P.lang c.args.keep.now in
+    let plan : Plan = P.plan c.args.keep.now in
+    let events : List Event = P.record_of c.args.keep.now in
+    let at : AtTurn l plan (standing_on l events) c.answers-count.result c.lang.result.now =
+    at_turn c.session-session.result.now l c.lang.result.now plan (standing_on l events) c.answers-count.result
+    c.session-session.ensures.stands c.session-session.ensures.lang c.session-session.ensures.plan c.answers-count.ensures c.lang.ensures.is c.lang.ensures.lawful in
+    let still : c.keep_answer-in-No.result ≡ None = none in
+    let kept : P.record_of c.keep_answer-in-No.new.keep ≡ events ++ answer_event c.args.question.now false ∷ [] = kept_on (answer_event c.args.question.now false) events (P.record_of c.keep_answer-in-No.new.keep) c.keep_answer-in-No.result (c.keep_answer-in-No.ensures.kept c.args.question.now c.requires.put.is) still in
+    record {
+      settled = c.keep_answer-in-No.ensures.settled still;
+      made = c.requires.made;
+      hold = marks_after l (terms_with plan budget) events (P.record_of c.keep_answer-in-No.new.keep) c.args.question.now false c.args.screen.now at.reached c.requires.put.due.fits.size kept remembers;
+    }
+
 pub returns-in-No-clause-ends : goal.returns-in-No-clause-ends
-returns-in-No-clause-ends g c budget marks due made =
+returns-in-No-clause-ends g c budget due =
     let P = g.P.Keep in
     let l : Language = P.lang c.args.keep.now in
     let plan : Plan = P.plan c.args.keep.now in
@@ -141,8 +181,8 @@ returns-in-No-clause-ends g c budget marks due made =
     let written : Option (List ℕ) = g.K.Sink.written c.args.sink.now in
     let left' : Option (List ℕ) = g.S.Source.left c.told.new.source in
     let written' : Option (List ℕ) = g.K.Sink.written c.told.new.sink in
-    ends turns l (terms_with plan budget) events (P.record_of c.keep_answer-in-No.new.keep) c.args.question.now false (P.question c.args.keep.now) left written left' written' c.keep_answer-in-No.result marks made at.lawful
-    (within l plan c.lang.result.now events c.answers-count.result at (g.met.P.Keep.few c.args.keep.now c.requires.keeper.sound)) due c.requires.put.room c.keep_answer-in-No.ensures.kept
+    ends turns l (terms_with plan budget) events (P.record_of c.keep_answer-in-No.new.keep) c.args.question.now (Said false) (answer_event c.args.question.now false) refl left written left' written' c.keep_answer-in-No.result c.args.screen.now c.requires.made at.lawful
+    (within l plan c.lang.result.now events c.answers-count.result at (g.met.P.Keep.few c.args.keep.now c.requires.keeper.sound)) due c.requires.put.room (inl (false, refl)) (c.keep_answer-in-No.ensures.kept c.args.question.now c.requires.put.is)
     (told_as turns c.lang.result.now l (c.answers-count.result + 1) (number_on l events) c.args.question.now (point_of events left written) (point_of events left' written') (Said false) at.language (ap (λ n. n + 1) at.number) c.in-No.ensures.tells)
     (asked_as turns c.lang.result.now l (c.answers-count.result + 1) (number_on l events) c.args.question.now (point_of events left written) (point_of events left' written') at.language (ap (λ n. n + 1) at.number) c.told.ensures.asks)
 
@@ -155,10 +195,12 @@ returns-in-No-clause-taught g c =
     let at : AtTurn l plan (standing_on l events) c.answers-count.result c.lang.result.now =
     at_turn c.session-session.result.now l c.lang.result.now plan (standing_on l events) c.answers-count.result
     c.session-session.ensures.stands c.session-session.ensures.lang c.session-session.ensures.plan c.answers-count.ensures c.lang.ensures.is c.lang.ensures.lawful in
-    let May : Language → Type 0 = λ m. g.T.Teacher.may_say c.args.teacher.now m c.args.question.now No in
+    let May : Language → Type 0 = λ m. g.T.Teacher.may_say c.args.teacher.now m c.args.question.now told.No in
+    let may = g.T.Teacher.may_say c.args.teacher.now l in
+    let said : May l = subst May at.language c.in-No.ensures.says in
     record {
-      added = adds l (terms_with plan c.requires.put.budget) (g.T.Teacher.may_say c.args.teacher.now l) events (P.record_of c.keep_answer-in-No.new.keep) c.args.question.now false (P.question c.args.keep.now) c.keep_answer-in-No.result at.lawful c.requires.put.due c.requires.put.is c.keep_answer-in-No.ensures.kept (subst May at.language c.in-No.ensures.says);
-      said = taught_kept (g.T.Teacher.may_say c.args.teacher.now l) false (P.question c.args.keep.now) events (P.record_of c.keep_answer-in-No.new.keep) c.keep_answer-in-No.result c.keep_answer-in-No.ensures.kept;
+      added = adds run_laws l at.lawful (terms_with plan c.requires.put.budget) may events (P.record_of c.keep_answer-in-No.new.keep) c.args.question.now (answer_event c.args.question.now false) c.keep_answer-in-No.result c.requires.put.due (inl (false, refl)) (c.keep_answer-in-No.ensures.kept c.args.question.now c.requires.put.is) (inl (record { answer = answer c.args.question.now false; is = refl; fits = c.requires.put.due.fits; may_be = said }));
+      said = taught_kept may (answer_event c.args.question.now false) events (P.record_of c.keep_answer-in-No.new.keep) c.keep_answer-in-No.result (c.keep_answer-in-No.ensures.kept c.args.question.now c.requires.put.is);
     }
 
 pub returns-in-No-clause-keeps : goal.returns-in-No-clause-keeps
@@ -179,18 +221,18 @@ returns-in-No-clause-keeps g c =
     let after : List Event = P.record_of c.keep_answer-in-No.new.keep in
     let q : Assignment = c.args.question.now in
     let HasFailed : Type 0 = c.keep_answer-in-No.result ≡ Some drove.DiskFault in
-    let Was : Assignment → Bool → Type 0 = λ asked said. (P.question c.args.keep.now ≡ Some asked) × (said ≡ false) in
-    let Lost : Assignment → Bool → Type 0 = λ asked said. (budget : ℕ) → IsDue l (terms_with plan budget) (standing_on l events) q → Loses turns l (terms_with plan budget) (point_of events left written) (point_of after left' written') asked said in
+    let Was : Event → Type 0 = λ lost. (asked : Assignment) → P.question c.args.keep.now ≡ Some asked → lost ≡ answer_event asked false in
+    let Lost : Event → Type 0 = λ lost. (budget : ℕ) → IsDue l (terms_with plan budget) (standing_on l events) q → Loses turns l (terms_with plan budget) (point_of events left written) (point_of after left' written') lost in
     keeps_as D.content D.may_leave D.moment D.left_since g.met.D.Disk.counts_now g.met.D.Disk.only_now P.plan P.voc P.record_of P.question P.writes P.live P.sits D.faults HasFailed HasFailed Was Lost c.args.keep.now c.keep_answer-in-No.new.keep c.args.disk.now c.keep_answer-in-No.new.disk
     (λ e. e) (λ e. e)
-    (λ failed asked said lost budget due.
-    loses turns l (terms_with plan budget) events after q false (P.question c.args.keep.now) left written left' written' c.keep_answer-in-No.result drove.DiskFault due c.requires.put.room c.keep_answer-in-No.ensures.kept failed
+    (λ failed lost was budget due.
+    loses turns l (terms_with plan budget) events after q (Said false) (answer_event c.args.question.now false) refl left written left' written' c.keep_answer-in-No.result drove.DiskFault due c.requires.put.room (inl (false, refl)) (c.keep_answer-in-No.ensures.kept c.args.question.now c.requires.put.is) failed
     (told_as turns c.lang.result.now l (c.answers-count.result + 1) (number_on l events) c.args.question.now (point_of events left written) (point_of events left' written') (Said false) at.language (ap (λ n. n + 1) at.number) c.in-No.ensures.tells)
-    c.requires.put.is asked said lost)
+    lost (was q c.requires.put.is))
     c.keep_answer-in-No.ensures.keeps
 
-pub returns-in-Stop-clause-ends : goal.returns-in-Stop-clause-ends
-returns-in-Stop-clause-ends g c budget marks due made =
+pub returns-in-Back-clause-again : goal.returns-in-Back-clause-again
+returns-in-Back-clause-again g c budget due =
     let P = g.P.Keep in
     let l : Language = P.lang c.args.keep.now in
     let plan : Plan = P.plan c.args.keep.now in
@@ -203,13 +245,121 @@ returns-in-Stop-clause-ends g c budget marks due made =
     let written : Option (List ℕ) = g.K.Sink.written c.args.sink.now in
     let left' : Option (List ℕ) = g.S.Source.left c.told.new.source in
     let written' : Option (List ℕ) = g.K.Sink.written c.told.new.sink in
-    ends_closed turns l (terms_with plan budget) (point_of events left written) (point_of events left' written') marks made (drove.Suspended c.answers-count.result) (λ m e. cc) (λ e. cc) (λ e. cc) (λ e. cc)
+    turned turns l (terms_with plan budget) events (P.record_of c.take_back.new.keep) c.args.question.now TakenBack event.Back refl left written left' written' c.take_back.result due c.requires.put.room c.take_back.ensures.kept
+    (told_as turns c.lang.result.now l (c.answers-count.result + 1) (number_on l events) c.args.question.now (point_of events left written) (point_of events left' written') TakenBack at.language (ap (λ n. n + 1) at.number) c.in-Back.ensures.tells)
+
+pub returns-in-Back-clause-ready : goal.returns-in-Back-clause-ready
+returns-in-Back-clause-ready g c budget remembers none =
+    let P = g.P.Keep in
+    let l : Language = P.lang c.args.keep.now in
+    let plan : Plan = P.plan c.args.keep.now in
+    let events : List Event = P.record_of c.args.keep.now in
+    let at : AtTurn l plan (standing_on l events) c.answers-count.result c.lang.result.now =
+    at_turn c.session-session.result.now l c.lang.result.now plan (standing_on l events) c.answers-count.result
+    c.session-session.ensures.stands c.session-session.ensures.lang c.session-session.ensures.plan c.answers-count.ensures c.lang.ensures.is c.lang.ensures.lawful in
+    let still : c.take_back.result ≡ None = none in
+    record {
+      settled = c.take_back.ensures.settled still;
+      made = c.take_back.ensures.made l c.requires.made;
+      hold = λ state at. no_marks_hold l (network_in state) budget c.take_back.new.screen c.take_back.ensures.unmarked;
+    }
+
+pub returns-in-Back-clause-ends : goal.returns-in-Back-clause-ends
+returns-in-Back-clause-ends g c budget due =
+    let P = g.P.Keep in
+    let l : Language = P.lang c.args.keep.now in
+    let plan : Plan = P.plan c.args.keep.now in
+    let events : List Event = P.record_of c.args.keep.now in
+    let at : AtTurn l plan (standing_on l events) c.answers-count.result c.lang.result.now =
+    at_turn c.session-session.result.now l c.lang.result.now plan (standing_on l events) c.answers-count.result
+    c.session-session.ensures.stands c.session-session.ensures.lang c.session-session.ensures.plan c.answers-count.ensures c.lang.ensures.is c.lang.ensures.lawful in
+    let turns : Turns = g.T.Teacher.turn c.args.teacher.now in
+    let left : Option (List ℕ) = g.S.Source.left c.args.source.now in
+    let written : Option (List ℕ) = g.K.Sink.written c.args.sink.now in
+    let left' : Option (List ℕ) = g.S.Source.left c.told.new.source in
+    let written' : Option (List ℕ) = g.K.Sink.written c.told.new.sink in
+    ends turns l (terms_with plan budget) events (P.record_of c.take_back.new.keep) c.args.question.now TakenBack event.Back refl left written left' written' c.take_back.result c.take_back.new.screen (c.take_back.ensures.made l c.requires.made) at.lawful
+    (within l plan c.lang.result.now events c.answers-count.result at (g.met.P.Keep.few c.args.keep.now c.requires.keeper.sound)) due c.requires.put.room (inr (refl, (some_stand l events (c.answers-count.result + 1) (ap (λ n. n + 1) at.number) (c.in-Back.ensures.back refl)))) c.take_back.ensures.kept
+    (told_as turns c.lang.result.now l (c.answers-count.result + 1) (number_on l events) c.args.question.now (point_of events left written) (point_of events left' written') TakenBack at.language (ap (λ n. n + 1) at.number) c.in-Back.ensures.tells)
+    (asked_as turns c.lang.result.now l (c.answers-count.result + 1) (number_on l events) c.args.question.now (point_of events left written) (point_of events left' written') at.language (ap (λ n. n + 1) at.number) c.told.ensures.asks)
+
+pub returns-in-Back-clause-taught : goal.returns-in-Back-clause-taught
+returns-in-Back-clause-taught g c =
+    let P = g.P.Keep in
+    let l : Language = P.lang c.args.keep.now in
+    let plan : Plan = P.plan c.args.keep.now in
+    let events : List Event = P.record_of c.args.keep.now in
+    let at : AtTurn l plan (standing_on l events) c.answers-count.result c.lang.result.now =
+    at_turn c.session-session.result.now l c.lang.result.now plan (standing_on l events) c.answers-count.result
+    c.session-session.ensures.stands c.session-session.ensures.lang c.session-session.ensures.plan c.answers-count.ensures c.lang.ensures.is c.lang.ensures.lawful in
+    let May : Language → Type 0 = λ m. g.T.Teacher.may_say c.args.teacher.now m c.args.question.now told.Back in
+    let may = g.T.Teacher.may_say c.args.teacher.now l in
+    let said : May l = subst May at.language c.in-Back.ensures.says in
+    record {
+      added = adds run_laws l at.lawful (terms_with plan c.requires.put.budget) may events (P.record_of c.take_back.new.keep) c.args.question.now event.Back c.take_back.result c.requires.put.due (inr (refl, (some_stand l events (c.answers-count.result + 1) (ap (λ n. n + 1) at.number) (c.in-Back.ensures.back refl)))) c.take_back.ensures.kept (inr (record { question = c.args.question.now; is = refl; may_be = said }));
+      said = taught_kept may event.Back events (P.record_of c.take_back.new.keep) c.take_back.result c.take_back.ensures.kept;
+    }
+
+pub returns-in-Back-clause-keeps : goal.returns-in-Back-clause-keeps
+returns-in-Back-clause-keeps g c =
+    let D = g.D.Disk in
+    let P = g.P.Keep in
+    let l : Language = P.lang c.args.keep.now in
+    let plan : Plan = P.plan c.args.keep.now in
+    let events : List Event = P.record_of c.args.keep.now in
+    let at : AtTurn l plan (standing_on l events) c.answers-count.result c.lang.result.now =
+    at_turn c.session-session.result.now l c.lang.result.now plan (standing_on l events) c.answers-count.result
+    c.session-session.ensures.stands c.session-session.ensures.lang c.session-session.ensures.plan c.answers-count.ensures c.lang.ensures.is c.lang.ensures.lawful in
+    let turns : Turns = g.T.Teacher.turn c.args.teacher.now in
+    let left : Option (List ℕ) = g.S.Source.left c.args.source.now in
+    let written : Option (List ℕ) = g.K.Sink.written c.args.sink.now in
+    let left' : Option (List ℕ) = g.S.Source.left c.told.new.source in
+    let written' : Option (List ℕ) = g.K.Sink.written c.told.new.sink in
+    let after : List Event = P.record_of c.take_back.new.keep in
+    let q : Assignment = c.args.question.now in
+    let HasFailed : Type 0 = c.take_back.result ≡ Some drove.DiskFault in
+    let Was : Event → Type 0 = λ lost. lost ≡ event.Back in
+    let Lost : Event → Type 0 = λ lost. (budget : ℕ) → IsDue l (terms_with plan budget) (standing_on l events) q → Loses turns l (terms_with plan budget) (point_of events left written) (point_of after left' written') lost in
+    keeps_as D.content D.may_leave D.moment D.left_since g.met.D.Disk.counts_now g.met.D.Disk.only_now P.plan P.voc P.record_of P.question P.writes P.live P.sits D.faults HasFailed HasFailed Was Lost c.args.keep.now c.take_back.new.keep c.args.disk.now c.take_back.new.disk
+    (λ e. e) (λ e. e)
+    (λ failed lost was budget due.
+    loses turns l (terms_with plan budget) events after q TakenBack event.Back refl left written left' written' c.take_back.result drove.DiskFault due c.requires.put.room (inr (refl, (some_stand l events (c.answers-count.result + 1) (ap (λ n. n + 1) at.number) (c.in-Back.ensures.back refl)))) c.take_back.ensures.kept failed
+    (told_as turns c.lang.result.now l (c.answers-count.result + 1) (number_on l events) c.args.question.now (point_of events left written) (point_of events left' written') TakenBack at.language (ap (λ n. n + 1) at.number) c.in-Back.ensures.tells)
+    lost was)
+    c.take_back.ensures.keeps
+
+pub take_back-requires-clause-stands : goal.take_back-requires-clause-stands
+take_back-requires-clause-stands g c =
+    let P = g.P.Keep in
+    let l : Language = P.lang c.args.keep.now in
+    let plan : Plan = P.plan c.args.keep.now in
+    let events : List Event = P.record_of c.args.keep.now in
+    let at : AtTurn l plan (standing_on l events) c.answers-count.result c.lang.result.now =
+    at_turn c.session-session.result.now l c.lang.result.now plan (standing_on l events) c.answers-count.result
+    c.session-session.ensures.stands c.session-session.ensures.lang c.session-session.ensures.plan c.answers-count.ensures c.lang.ensures.is c.lang.ensures.lawful in
+    some_stand l events (c.answers-count.result + 1) (ap (λ n. n + 1) at.number) (c.in-Back.ensures.back refl)
+
+pub returns-in-Stop-clause-ends : goal.returns-in-Stop-clause-ends
+returns-in-Stop-clause-ends g c budget due =
+    let P = g.P.Keep in
+    let l : Language = P.lang c.args.keep.now in
+    let plan : Plan = P.plan c.args.keep.now in
+    let events : List Event = P.record_of c.args.keep.now in
+    let at : AtTurn l plan (standing_on l events) c.answers-count.result c.lang.result.now =
+    at_turn c.session-session.result.now l c.lang.result.now plan (standing_on l events) c.answers-count.result
+    c.session-session.ensures.stands c.session-session.ensures.lang c.session-session.ensures.plan c.answers-count.ensures c.lang.ensures.is c.lang.ensures.lawful in
+    let turns : Turns = g.T.Teacher.turn c.args.teacher.now in
+    let left : Option (List ℕ) = g.S.Source.left c.args.source.now in
+    let written : Option (List ℕ) = g.K.Sink.written c.args.sink.now in
+    let left' : Option (List ℕ) = g.S.Source.left c.told.new.source in
+    let written' : Option (List ℕ) = g.K.Sink.written c.told.new.sink in
+    ends_closed turns l (terms_with plan budget) (point_of events left written) (point_of events left' written') c.args.screen.now c.requires.made (drove.Suspended c.answers-count.result) (λ m e. cc) (not_full_with l (terms_with plan budget) events (drove.Suspended c.answers-count.result) (λ e. cc) c.requires.put.room) (λ e. cc) (λ e. cc)
     (record { number = at.number; found = tt })
     (ran_closed turns l (terms_with plan budget) c.args.question.now Stopped Suspended (point_of events left written) (point_of events left' written') (next_put l (terms_with plan budget) events c.args.question.now due.puts (room_not_full events c.requires.put.room)) refl (λ again rest. refl)
     (told_as turns c.lang.result.now l (c.answers-count.result + 1) (number_on l events) c.args.question.now (point_of events left written) (point_of events left' written') Stopped at.language (ap (λ n. n + 1) at.number) c.in-Stop.ensures.tells))
 
 pub returns-in-End-clause-ends : goal.returns-in-End-clause-ends
-returns-in-End-clause-ends g c budget marks due made =
+returns-in-End-clause-ends g c budget due =
     let P = g.P.Keep in
     let l : Language = P.lang c.args.keep.now in
     let plan : Plan = P.plan c.args.keep.now in
@@ -222,13 +372,13 @@ returns-in-End-clause-ends g c budget marks due made =
     let written : Option (List ℕ) = g.K.Sink.written c.args.sink.now in
     let left' : Option (List ℕ) = g.S.Source.left c.told.new.source in
     let written' : Option (List ℕ) = g.K.Sink.written c.told.new.sink in
-    ends_closed turns l (terms_with plan budget) (point_of events left written) (point_of events left' written') marks made (drove.Suspended c.answers-count.result) (λ m e. cc) (λ e. cc) (λ e. cc) (λ e. cc)
+    ends_closed turns l (terms_with plan budget) (point_of events left written) (point_of events left' written') c.args.screen.now c.requires.made (drove.Suspended c.answers-count.result) (λ m e. cc) (not_full_with l (terms_with plan budget) events (drove.Suspended c.answers-count.result) (λ e. cc) c.requires.put.room) (λ e. cc) (λ e. cc)
     (record { number = at.number; found = tt })
     (ran_closed turns l (terms_with plan budget) c.args.question.now Ended Suspended (point_of events left written) (point_of events left' written') (next_put l (terms_with plan budget) events c.args.question.now due.puts (room_not_full events c.requires.put.room)) refl (λ again rest. refl)
     (told_as turns c.lang.result.now l (c.answers-count.result + 1) (number_on l events) c.args.question.now (point_of events left written) (point_of events left' written') Ended at.language (ap (λ n. n + 1) at.number) c.in-End.ensures.tells))
 
 pub returns-in-TooLong-clause-ends : goal.returns-in-TooLong-clause-ends
-returns-in-TooLong-clause-ends g c budget marks due made =
+returns-in-TooLong-clause-ends g c budget due =
     let P = g.P.Keep in
     let l : Language = P.lang c.args.keep.now in
     let plan : Plan = P.plan c.args.keep.now in
@@ -241,13 +391,13 @@ returns-in-TooLong-clause-ends g c budget marks due made =
     let written : Option (List ℕ) = g.K.Sink.written c.args.sink.now in
     let left' : Option (List ℕ) = g.S.Source.left c.told.new.source in
     let written' : Option (List ℕ) = g.K.Sink.written c.told.new.sink in
-    ends_closed turns l (terms_with plan budget) (point_of events left written) (point_of events left' written') marks made drove.LineTooLong (λ m e. cc) (λ e. cc) (λ e. cc) (λ e. cc)
+    ends_closed turns l (terms_with plan budget) (point_of events left written) (point_of events left' written') c.args.screen.now c.requires.made drove.LineTooLong (λ m e. cc) (not_full_with l (terms_with plan budget) events drove.LineTooLong (λ e. cc) c.requires.put.room) (λ e. cc) (λ e. cc)
     (record { number = tt; found = tt })
     (ran_closed turns l (terms_with plan budget) c.args.question.now Overlong LineTooLong (point_of events left written) (point_of events left' written') (next_put l (terms_with plan budget) events c.args.question.now due.puts (room_not_full events c.requires.put.room)) refl (λ again rest. refl)
     (told_as turns c.lang.result.now l (c.answers-count.result + 1) (number_on l events) c.args.question.now (point_of events left written) (point_of events left' written') Overlong at.language (ap (λ n. n + 1) at.number) c.in-TooLong.ensures.tells))
 
 pub returns-in-Unreadable-clause-ends : goal.returns-in-Unreadable-clause-ends
-returns-in-Unreadable-clause-ends g c budget marks due made =
+returns-in-Unreadable-clause-ends g c budget due =
     let P = g.P.Keep in
     let l : Language = P.lang c.args.keep.now in
     let plan : Plan = P.plan c.args.keep.now in
@@ -260,13 +410,13 @@ returns-in-Unreadable-clause-ends g c budget marks due made =
     let written : Option (List ℕ) = g.K.Sink.written c.args.sink.now in
     let left' : Option (List ℕ) = g.S.Source.left c.told.new.source in
     let written' : Option (List ℕ) = g.K.Sink.written c.told.new.sink in
-    ends_closed turns l (terms_with plan budget) (point_of events left written) (point_of events left' written') marks made drove.Unreadable (λ m e. cc) (λ e. cc) (λ e. cc) (λ e. cc)
+    ends_closed turns l (terms_with plan budget) (point_of events left written) (point_of events left' written') c.args.screen.now c.requires.made drove.Unreadable (λ m e. cc) (not_full_with l (terms_with plan budget) events drove.Unreadable (λ e. cc) c.requires.put.room) (λ e. cc) (λ e. cc)
     (record { number = tt; found = tt })
     (ran_closed turns l (terms_with plan budget) c.args.question.now Unread Unreadable (point_of events left written) (point_of events left' written') (next_put l (terms_with plan budget) events c.args.question.now due.puts (room_not_full events c.requires.put.room)) refl (λ again rest. refl)
     (told_as turns c.lang.result.now l (c.answers-count.result + 1) (number_on l events) c.args.question.now (point_of events left written) (point_of events left' written') Unread at.language (ap (λ n. n + 1) at.number) c.in-Unreadable.ensures.tells))
 
 pub returns-in-ReadFault-clause-ends : goal.returns-in-ReadFault-clause-ends
-returns-in-ReadFault-clause-ends g c budget marks due made =
+returns-in-ReadFault-clause-ends g c budget due =
     let P = g.P.Keep in
     let l : Language = P.lang c.args.keep.now in
     let plan : Plan = P.plan c.args.keep.now in
@@ -279,7 +429,7 @@ returns-in-ReadFault-clause-ends g c budget marks due made =
     let written : Option (List ℕ) = g.K.Sink.written c.args.sink.now in
     let left' : Option (List ℕ) = g.S.Source.left c.told.new.source in
     let written' : Option (List ℕ) = g.K.Sink.written c.told.new.sink in
-    ends_failed turns l (terms_with plan budget) (point_of events left written) (point_of events left' written') marks made drove.ReadFault (λ m e. cc) (λ e. cc)
+    ends_failed turns l (terms_with plan budget) (point_of events left written) (point_of events left' written') c.args.screen.now c.requires.made drove.ReadFault (λ m e. cc) (not_full_with l (terms_with plan budget) events drove.ReadFault (λ e. cc) c.requires.put.room)
     (record { number = tt; found = tt }) tt (λ e. absurd (let no : ⊥ = cc in no))
     (cut_turn run_laws turns l (terms_with plan budget) at.lawful c.args.question.now (point_of events left written) (point_of events left' written')
     (within l plan c.lang.result.now events c.answers-count.result at (g.met.P.Keep.few c.args.keep.now c.requires.keeper.sound))
@@ -288,7 +438,7 @@ returns-in-ReadFault-clause-ends g c budget marks due made =
     (asked_as turns c.lang.result.now l (c.answers-count.result + 1) (number_on l events) c.args.question.now (point_of events left written) (point_of events left' written') at.language (ap (λ n. n + 1) at.number) c.told.ensures.asks))
 
 pub returns-in-WriteFault-clause-ends : goal.returns-in-WriteFault-clause-ends
-returns-in-WriteFault-clause-ends g c budget marks due made =
+returns-in-WriteFault-clause-ends g c budget due =
     let P = g.P.Keep in
     let l : Language = P.lang c.args.keep.now in
     let plan : Plan = P.plan c.args.keep.now in
@@ -301,7 +451,7 @@ returns-in-WriteFault-clause-ends g c budget marks due made =
     let written : Option (List ℕ) = g.K.Sink.written c.args.sink.now in
     let left' : Option (List ℕ) = g.S.Source.left c.told.new.source in
     let written' : Option (List ℕ) = g.K.Sink.written c.told.new.sink in
-    ends_failed turns l (terms_with plan budget) (point_of events left written) (point_of events left' written') marks made drove.WriteFault (λ m e. cc) (λ e. cc)
+    ends_failed turns l (terms_with plan budget) (point_of events left written) (point_of events left' written') c.args.screen.now c.requires.made drove.WriteFault (λ m e. cc) (not_full_with l (terms_with plan budget) events drove.WriteFault (λ e. cc) c.requires.put.room)
     (record { number = tt; found = tt }) tt (λ e. absurd (let no : ⊥ = cc in no))
     (cut_turn run_laws turns l (terms_with plan budget) at.lawful c.args.question.now (point_of events left written) (point_of events left' written')
     (within l plan c.lang.result.now events c.answers-count.result at (g.met.P.Keep.few c.args.keep.now c.requires.keeper.sound))
@@ -310,7 +460,7 @@ returns-in-WriteFault-clause-ends g c budget marks due made =
     (asked_as turns c.lang.result.now l (c.answers-count.result + 1) (number_on l events) c.args.question.now (point_of events left written) (point_of events left' written') at.language (ap (λ n. n + 1) at.number) c.told.ensures.asks))
 
 pub returns-in-Memory-clause-ends : goal.returns-in-Memory-clause-ends
-returns-in-Memory-clause-ends g c budget marks due made =
+returns-in-Memory-clause-ends g c budget due =
     let P = g.P.Keep in
     let l : Language = P.lang c.args.keep.now in
     let plan : Plan = P.plan c.args.keep.now in
@@ -323,7 +473,7 @@ returns-in-Memory-clause-ends g c budget marks due made =
     let written : Option (List ℕ) = g.K.Sink.written c.args.sink.now in
     let left' : Option (List ℕ) = g.S.Source.left c.told.new.source in
     let written' : Option (List ℕ) = g.K.Sink.written c.told.new.sink in
-    ends_failed turns l (terms_with plan budget) (point_of events left written) (point_of events left' written') marks made drove.Memory (λ m e. cc) (λ e. cc)
+    ends_failed turns l (terms_with plan budget) (point_of events left written) (point_of events left' written') c.args.screen.now c.requires.made drove.Memory (λ m e. cc) (not_full_with l (terms_with plan budget) events drove.Memory (λ e. cc) c.requires.put.room)
     (record { number = tt; found = tt }) tt (λ e. absurd (let no : ⊥ = cc in no))
     (cut_turn run_laws turns l (terms_with plan budget) at.lawful c.args.question.now (point_of events left written) (point_of events left' written')
     (within l plan c.lang.result.now events c.answers-count.result at (g.met.P.Keep.few c.args.keep.now c.requires.keeper.sound))

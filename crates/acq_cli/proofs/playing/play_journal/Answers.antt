@@ -96,4 +96,4 @@ returns-in-Ok-read_target-clause-plays g c =
     inr (inr (inr (record { target = target; rest = rest; on = on.0; fresh = on.1.0; reads = on.1.1; answered = on.1.2 })))
 
 pub returns-in-Ok-read_target-clause-takes : goal.returns-in-Ok-read_target-clause-takes
-returns-in-Ok-read_target-clause-takes g c = takes_then _ _ _ c.read_target.ensures.takes c.ask_on.ensures.read.takes
+returns-in-Ok-read_target-clause-takes g c = takes_then _ _ _ c.read_target.ensures.takes c.ask_on.ensures.takes

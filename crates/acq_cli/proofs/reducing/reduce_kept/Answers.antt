@@ -1,10 +1,9 @@
-use Rattle.std.proofs.Common.{◌≡◌, ◌∙◌, refl, sym, subst, ap, inl, inr, ℕ, List, Option}
+use Rattle.std.proofs.Common.{◌∙◌, sym, subst, ap, List}
 use Rattle.language.specs.declared.candidates.Candidate.{Candidate}
 use Rattle.language.specs.Language.{Language}
 use Rattle.language.specs.Answers.{IsNetwork, standing_on}
 use Rattle.network.specs.Learned.{Learned}
-use Rattle.session_core.specs.Standing.{knowledge_of}
-use Rattle.acq_cli.specs.Reducing.{ReducesTo, network_after}
+use Rattle.acq_cli.specs.Reducing.{network_after}
 use Rattle.acq_cli.proofs.Reduced.{learned_as, reduced_so, unreduced_so}
 use Rattle.acq_cli.proofs.reducing.reduce_kept.Goals as goal
 

@@ -1,7 +1,6 @@
-use Rattle.std.proofs.Common.{◌≡◌, ◌∙◌, Bool, List, Result, Ok, Err, sym, subst, refl}
+use Rattle.std.proofs.Common.{◌≡◌, ◌∙◌, List, Result, Ok, Err, sym, subst, refl}
 use Rattle.acq_io.specs.declared.streams.Put.{Put}
 use Rattle.acq_io.specs.declared.streams.Put.TheVariants as puts
-use Rattle.assign.specs.Assignment.{Assignment}
 use Rattle.assign.specs.declared.events.Event.{Event}
 use Rattle.language.specs.Language.{Language, IsLanguage}
 use Rattle.language.specs.Answers.{standing_on}
@@ -13,7 +12,9 @@ use Rattle.acq_cli.specs.Points.{point_of, terms_with}
 use Rattle.acq_cli.specs.declared.driving.Drove.TheVariants as drove
 use Rattle.acq_cli.specs.declared.ending.Ending.{Ending}
 use Rattle.acq_cli.specs.declared.ending.Ending.TheVariants as ending
+use Rattle.acq_io.proofs.CallLemmas.{stopped_by}
 use Rattle.acq_cli.proofs.Added.{taught_none}
+use Rattle.acq_cli.proofs.Closings.{okay}
 use Rattle.acq_cli.proofs.Parts.{begun_part}
 use Rattle.acq_cli.proofs.Standings.{at_turn, within}
 use Rattle.acq_cli.proofs.Tries.{tried, broken, said, may_end, lost_then, read_of, disk_of, disk_told, no_fault}
@@ -33,10 +34,10 @@ returns-clause-asked g c =
     record {
       tries = tried (g.T.Teacher.turn c.args.teacher.now) (P.lang old) k.lang (P.plan old) k.plan c.args.budget (P.record_of old) later (g.S.Source.left c.args.input.now) (g.K.Sink.written c.args.out.now)
           (g.S.Source.left c.drive-drove.new.source) (g.K.Sink.written c.drive-drove.new.sink) (g.K.Sink.written c.say.new.out) c.drive-drove.new.screen c.drive-drove.result c.say.result same again c.drive-drove.ensures.walked
-          c.drive-drove.ensures.ends.ends c.drive-drove.ensures.ends.never_full c.drive-drove.ensures.ends.tells.undecided (c.say.ensures.says c.args.budget (standing_on k.lang later) stands) (c.say.ensures.part c.args.budget (standing_on k.lang later) stands);
+          c.drive-drove.ensures.ends.ends c.drive-drove.ensures.ends.full c.drive-drove.ensures.ends.tells.undecided (c.say.ensures.says c.args.budget (standing_on k.lang later) stands) (c.say.ensures.part c.args.budget (standing_on k.lang later) stands);
       part = broken (g.T.Teacher.turn c.args.teacher.now) (P.lang old) k.lang (P.plan old) k.plan c.args.budget (P.record_of old) later (g.S.Source.left c.args.input.now) (g.K.Sink.written c.args.out.now)
           (g.S.Source.left c.drive-drove.new.source) (g.K.Sink.written c.drive-drove.new.sink) (g.K.Sink.written c.say.new.out) c.drive-drove.new.screen c.drive-drove.result c.say.result same again c.drive-drove.ensures.walked
-          c.drive-drove.ensures.ends.ends c.drive-drove.ensures.ends.never_full c.drive-drove.ensures.ends.tells.undecided (c.say.ensures.says c.args.budget (standing_on k.lang later) stands) (c.say.ensures.part c.args.budget (standing_on k.lang later) stands);
+          c.drive-drove.ensures.ends.ends c.drive-drove.ensures.ends.full c.drive-drove.ensures.ends.tells.undecided (c.say.ensures.says c.args.budget (standing_on k.lang later) stands) (c.say.ensures.part c.args.budget (standing_on k.lang later) stands);
     }
 
 pub returns-clause-read : goal.returns-clause-read
@@ -50,13 +51,14 @@ returns-clause-read g c =
     let again : k.plan ≡ P.plan old = c.session-session.ensures.plan ∙ c.drive-drove.ensures.same.plan in
     let Here : Language → Type 0 = λ m. Stands c.session-session.result.now (standing_on m later) in
     let stands : Here k.lang = subst Here (sym c.session-session.ensures.lang) c.session-session.ensures.stands in
-    record {
-      takes = c.drive-drove.ensures.faults.read.takes;
-      later = c.drive-drove.ensures.faults.read.later;
-      rose = λ is. c.drive-drove.ensures.faults.read.rose (read_of (g.T.Teacher.turn c.args.teacher.now) (P.lang old) k.lang (P.plan old) k.plan c.args.budget (P.record_of old) later (g.S.Source.left c.args.input.now) (g.K.Sink.written c.args.out.now)
-          (g.S.Source.left c.drive-drove.new.source) (g.K.Sink.written c.drive-drove.new.sink) (g.K.Sink.written c.say.new.out) c.drive-drove.new.screen c.drive-drove.result c.say.result same again c.drive-drove.ensures.walked
-          c.drive-drove.ensures.ends.ends c.drive-drove.ensures.ends.never_full c.drive-drove.ensures.ends.tells.undecided (c.say.ensures.says c.args.budget (standing_on k.lang later) stands) (c.say.ensures.part c.args.budget (standing_on k.lang later) stands) is);
-    }
+    stopped_by _ _ _ _ (c.drive-drove.result ≡ drove.ReadFault) (c.say.result ≡ okay ending.ReadFault)
+    (λ is. read_of (g.T.Teacher.turn c.args.teacher.now) (P.lang old) k.lang (P.plan old) k.plan c.args.budget (P.record_of old) later (g.S.Source.left c.args.input.now) (g.K.Sink.written c.args.out.now)
+    (g.S.Source.left c.drive-drove.new.source) (g.K.Sink.written c.drive-drove.new.sink) (g.K.Sink.written c.say.new.out) c.drive-drove.new.screen c.drive-drove.result c.say.result same again c.drive-drove.ensures.walked
+    c.drive-drove.ensures.ends.ends c.drive-drove.ensures.ends.full c.drive-drove.ensures.ends.tells.undecided (c.say.ensures.says c.args.budget (standing_on k.lang later) stands) (c.say.ensures.part c.args.budget (standing_on k.lang later) stands) is)
+    c.drive-drove.ensures.faults.read.called
+
+pub returns-clause-takes : goal.returns-clause-takes
+returns-clause-takes g c = c.drive-drove.ensures.faults.read.takes
 
 pub returns-clause-taught : goal.returns-clause-taught
 returns-clause-taught g c =
@@ -73,7 +75,7 @@ returns-clause-taught g c =
       added = c.drive-drove.ensures.taught.added;
       said = may_end (g.T.Teacher.turn c.args.teacher.now) (P.lang old) k.lang (P.plan old) k.plan c.args.budget (P.record_of old) later (g.S.Source.left c.args.input.now) (g.K.Sink.written c.args.out.now)
           (g.S.Source.left c.drive-drove.new.source) (g.K.Sink.written c.drive-drove.new.sink) (g.K.Sink.written c.say.new.out) c.drive-drove.new.screen c.drive-drove.result c.say.result same again c.drive-drove.ensures.walked
-          c.drive-drove.ensures.ends.ends c.drive-drove.ensures.ends.never_full c.drive-drove.ensures.ends.tells.undecided (c.say.ensures.says c.args.budget (standing_on k.lang later) stands) (c.say.ensures.part c.args.budget (standing_on k.lang later) stands)
+          c.drive-drove.ensures.ends.ends c.drive-drove.ensures.ends.full c.drive-drove.ensures.ends.tells.undecided (c.say.ensures.says c.args.budget (standing_on k.lang later) stands) (c.say.ensures.part c.args.budget (standing_on k.lang later) stands)
           (g.T.Teacher.may_say c.args.teacher.now (P.lang old)) c.drive-drove.ensures.taught.said;
     }
 
@@ -110,16 +112,16 @@ returns-clause-keeps g c =
     let Failed : Type 0 = c.drive-drove.result ≡ drove.DiskFault in
     let Ended : Type 0 = c.say.result ≡ Ok ending.DiskFault in
     let was : Ended → Failed =
-    disk_of (g.T.Teacher.turn c.args.teacher.now) l k.lang p k.plan c.args.budget start later left written left' middle written' c.drive-drove.new.screen c.drive-drove.result c.say.result same again c.drive-drove.ensures.walked c.drive-drove.ensures.ends.ends c.drive-drove.ensures.ends.never_full c.drive-drove.ensures.ends.tells.undecided says parts in
-    let Lost : Assignment → Bool → Type 0 = Loses (g.T.Teacher.turn c.args.teacher.now) l terms (point_of start left written) (point_of later left' middle) in
-    let Then : Assignment → Bool → Type 0 = Loses (g.T.Teacher.turn c.args.teacher.now) l terms (point_of start left written) (point_of later left' written') in
+    disk_of (g.T.Teacher.turn c.args.teacher.now) l k.lang p k.plan c.args.budget start later left written left' middle written' c.drive-drove.new.screen c.drive-drove.result c.say.result same again c.drive-drove.ensures.walked c.drive-drove.ensures.ends.ends c.drive-drove.ensures.ends.full c.drive-drove.ensures.ends.tells.undecided says parts in
+    let Lost : Event → Type 0 = Loses (g.T.Teacher.turn c.args.teacher.now) l terms (point_of start left written) (point_of later left' middle) in
+    let Then : Event → Type 0 = Loses (g.T.Teacher.turn c.args.teacher.now) l terms (point_of start left written) (point_of later left' written') in
     keeps_as D.content D.may_leave D.moment D.left_since g.met.D.Disk.counts_now g.met.D.Disk.only_now P.plan P.voc P.record_of P.question P.writes P.live P.sits D.faults Failed Ended Lost Then old new c.args.disk.now c.drive-drove.new.disk
     was
-    (disk_told (g.T.Teacher.turn c.args.teacher.now) l k.lang p k.plan c.args.budget start later left written left' middle written' c.drive-drove.new.screen c.drive-drove.result c.say.result same again c.drive-drove.ensures.walked c.drive-drove.ensures.ends.ends c.drive-drove.ensures.ends.never_full c.drive-drove.ensures.ends.tells.undecided says parts)
-    (λ ended question reply lost.
+    (disk_told (g.T.Teacher.turn c.args.teacher.now) l k.lang p k.plan c.args.budget start later left written left' middle written' c.drive-drove.new.screen c.drive-drove.result c.say.result same again c.drive-drove.ensures.walked c.drive-drove.ensures.ends.ends c.drive-drove.ensures.ends.full c.drive-drove.ensures.ends.tells.undecided says parts)
+    (λ ended e lost.
     lost_then (g.T.Teacher.turn c.args.teacher.now) l terms (point_of start left written) later left' middle written' c.drive-drove.result c.say.result
-    (said (g.T.Teacher.turn c.args.teacher.now) l k.lang p k.plan c.args.budget start later left written left' middle written' c.drive-drove.new.screen c.drive-drove.result c.say.result same again c.drive-drove.ensures.walked c.drive-drove.ensures.ends.ends c.drive-drove.ensures.ends.never_full c.drive-drove.ensures.ends.tells.undecided says parts)
-    (was ended) ended question reply lost)
+    (said (g.T.Teacher.turn c.args.teacher.now) l k.lang p k.plan c.args.budget start later left written left' middle written' c.drive-drove.new.screen c.drive-drove.result c.say.result same again c.drive-drove.ensures.walked c.drive-drove.ensures.ends.ends c.drive-drove.ensures.ends.full c.drive-drove.ensures.ends.tells.undecided says parts)
+    (was ended) ended e lost)
     c.drive-drove.ensures.keeps
 
 pub returns-in_default-clause-taught : goal.returns-in_default-clause-taught

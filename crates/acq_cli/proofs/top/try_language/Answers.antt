@@ -1,6 +1,8 @@
 use Rattle.session_store.specs.Loose.{lang_of, plan_of, events_of}
 use Rattle.std.proofs.Common.{[]}
 use Rattle.target_oracle.specs.Lines.{line_turn}
+use Rattle.session_store.specs.Left.{false_is_not_true}
+use Rattle.acq_cli.proofs.Causes.{no_disk_fault}
 use Rattle.acq_cli.proofs.Parts.{begun, begun_part}
 use Rattle.acq_cli.proofs.Tries.{fresh_tries, fresh_part}
 use Rattle.acq_cli.proofs.top.try_language.Goals as goal
@@ -28,4 +30,7 @@ returns-clause-part g c =
     c.in-Ok-new.ensures.lang c.in-Ok-new.ensures.plan c.in-Ok-new.ensures.events c.ask_on.ensures.asked.part
 
 pub returns-clause-takes : goal.returns-clause-takes
-returns-clause-takes g c = c.ask_on.ensures.read.takes
+returns-clause-takes g c = c.ask_on.ensures.takes
+
+pub returns-clause-no_disk : goal.returns-clause-no_disk
+returns-clause-no_disk g c = no_disk_fault c.ask_on.result (λ is. false_is_not_true (c.ask_on.ensures.keeps.cause is).0)

@@ -1,0 +1,66 @@
+-- Answers that have places.
+use Rattle.std.proofs.Common.{◌≡◌, ℕ, zero, suc, ◌+◌, ◌-◌, ◌<◌, ◌≤◌, List, [], ◌∷◌, ◌++◌, length, take, refl, sym, ◌∙◌, ap, subst, arith, Option, Some, None}
+use Rattle.std.proofs.lemmas.List.{length-map, take-map}
+use Rattle.assign.specs.Events.{Answer, standing, without_last, cut_to}
+use Rattle.assign.specs.declared.events.Event.{Event}
+use Rattle.assign.specs.declared.events.Event.TheVariants as event
+use Rattle.assign.specs.declared.events.Plan.{Plan}
+use Rattle.assign.proofs.EventLemmas.{standing-back}
+use Rattle.language.specs.Language.{Language, variable_count}
+use Rattle.language.specs.Answers.{standing_on}
+use Rattle.session_laws.specs.Session.{State, Idle, At, then_on, step, read_on, state_after}
+
+abbrev pub IsReached : Language → Plan → List Answer → Type 0
+IsReached l plan t = (state : State) × (state_after l plan t ≡ At state)
+
+-- ---- the first of them
+
+front_read : (l : Language) (plan : Plan) (n : ℕ) (t before : List Answer) (start final : State) → read_on l plan before start t ≡ At final → (mid : State) × (read_on l plan before start (take n t) ≡ At mid)
+unfolding read_on
+front_read l plan zero t before start final h = (start, refl)
+front_read l plan (suc n) [] before start final h = (start, refl)
+front_read l plan (suc n) (a ∷ t) before start final h =
+    go (step l plan before a start) refl h (λ middle rest. front_read l plan n t (before ++ a ∷ []) middle final rest)
+  where
+    go : (o : Option State) → step l plan before a start ≡ o → then_on (length before + 1) o (λ middle. read_on l plan (before ++ a ∷ []) middle t) ≡ At final →
+        ((middle : State) → read_on l plan (before ++ a ∷ []) middle t ≡ At final → (mid : State) × (read_on l plan (before ++ a ∷ []) middle (take n t) ≡ At mid)) →
+        (mid : State) × (then_on (length before + 1) (step l plan before a start) (λ middle. read_on l plan (before ++ a ∷ []) middle (take n t)) ≡ At mid)
+    go None e h rest = absurd (let no : ⊥ = cc in no)
+    go (Some middle) e h rest =
+        let on = rest middle h in
+        (on.0, ap (λ o. then_on (length before + 1) o (λ middle. read_on l plan (before ++ a ∷ []) middle (take n t))) e ∙ on.1)
+
+pub front_reached : (l : Language) (plan : Plan) (n : ℕ) (t : List Answer) → IsReached l plan t → IsReached l plan (take n t)
+front_reached l plan n t (state, at) = front_read l plan n t [] (Idle [] None) state at
+
+-- ---- how many
+
+-- as many as there are, whichever language they are of
+pub standing_size : (l : Language) (events : List Event) → length (standing_on l events) ≡ length (standing events)
+standing_size l events = length-map (standing events) (λ (a : Answer). let b : Answer = record { question = take (variable_count l) a.question; yes = a.yes } in b)
+
+none_long : (t : List Answer) → t ≡ [] → length t ≡ 0
+none_long t none = ap length none
+
+-- where one stands, some do
+pub some_stand : (l : Language) (events : List Event) (k : ℕ) → k ≡ length (standing_on l events) + 1 → 1 < k → (standing events ≡ [] → ⊥)
+some_stand l events k is low none = omega (arith, is, low, standing_size l events, none_long (standing events) none)
+
+-- where there is one, the list isn't empty
+pub some_there : (l : Language) (events : List Event) (m : ℕ) → m ≡ length (standing_on l events) → 1 ≤ m → (standing events ≡ [] → ⊥)
+some_there l events m is some none = omega (arith, is, some, standing_size l events, none_long (standing events) none)
+
+-- ---- a take-back
+
+-- what stands after it, as a session sees it
+pub standing_on-back : (l : Language) (events : List Event) → standing_on l (events ++ event.Back ∷ []) ≡ without_last (standing_on l events)
+standing_on-back l events =
+    ap (cut_to (variable_count l)) (standing-back events)
+    ∙ sym (take-map (λ (a : Answer). let b : Answer = record { question = take (variable_count l) a.question; yes = a.yes } in b) (length (standing events) - 1) (standing events))
+    ∙ ap (λ n. take (n - 1) (standing_on l events)) (sym (standing_size l events))
+
+pub back_reached : (l : Language) (plan : Plan) (events : List Event) → IsReached l plan (standing_on l events) → IsReached l plan (standing_on l (events ++ event.Back ∷ []))
+back_reached l plan events reached =
+    let t : List Answer = standing_on l events in
+    let Reached : List Answer → Type 0 = IsReached l plan in
+    subst Reached (sym (standing_on-back l events)) (front_reached l plan (length t - 1) t reached)
