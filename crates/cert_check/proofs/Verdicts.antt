@@ -1,0 +1,218 @@
+-- No flaw is found exactly where the certificate is good.
+use Rattle.std.proofs.Common.{◌≡◌, ℕ, ◌+◌, ◌<◌, Bool, true, false, not, ◌&&◌, List, [], ◌∷◌, length, take, Option, Some, None, refl, sym, ◌∙◌, ap, subst, arith, inl, inr, ◌⊎◌}
+use Rattle.std.specs.Prelude.{All, Any, AllPairs, IsTrue, position, option_map, slice_index_or, ◌==◌, ◌↔◌}
+use Rattle.std.specs.Option.{option_or}
+use Rattle.std.specs.Bool.{beq}
+use Rattle.std.specs.List.{flat_map}
+use Rattle.std.proofs.lemmas.List.{get_or-take, length-take}
+use Rattle.std.proofs.lemmas.List.Elements.{All-head, All-tail, All-nil, All-append, All-map}
+use Rattle.std.proofs.lemmas.List.Folds.{Any-from_list_any, list_any-from_Any, list_any_at}
+use Rattle.std.proofs.lemmas.List.Sums.{list_all-from_AllPass, AllPass-from_list_all}
+use Rattle.std.proofs.lemmas.List.FromFn.{length-range_with_len, get_or-range_with_len}
+use Rattle.std.proofs.lemmas.Bool.{both_ways, not-true, not-false, and_parts, and_from, and_left, and_right, not_from_true, not_from_false, false_from_ne_true, eqb-true, eq-eqb, ne_eqb}
+use Rattle.assign.specs.Sets.{numbers, is_same}
+use Rattle.assign.specs.Assignment.{variables_of}
+use Rattle.assign.specs.Events.{Answer}
+use Rattle.language.specs.declared.candidates.Candidate.{Candidate}
+use Rattle.language.specs.Language.{Language, IsCandidate, candidates, candidates_on, relations_on, number_of, scope_of, violates, accepts}
+use Rattle.language.specs.Answers.{is_struck, has_scope, IsNoOn}
+use Rattle.language.proofs.Counting.{numbered}
+use Rattle.language.proofs.Lists.{all_below}
+use Rattle.cert_check.specs.declared.verdict.Flaw.{Flaw}
+use Rattle.cert_check.specs.declared.verdict.Flaw.TheVariants as flaw
+use Rattle.cert_check.specs.declared.verdict.Verdict.{Verdict}
+use Rattle.cert_check.specs.declared.verdict.Verdict.TheVariants.{Yes}
+use Rattle.cert_check.specs.Certificate.{Refutation}
+use Rattle.cert_check.specs.Good.{has_refutation, IsGood}
+use Rattle.cert_check.specs.Checking.{is_other, repeats_scope, is_no_on, has_own_no, has_other, is_spared, is_rival, is_uncovered, is_unearned, flaw_before_list, first_flaw, verdict_of}
+use Rattle.cert_check.proofs.Finding.{none_found, all_fail, no_number, within}
+
+-- ---- none of several
+
+left_none : {X : Type 0} (a b : Option X) → option_or a b ≡ None → (a ≡ None) × (b ≡ None)
+left_none None b h = (refl, h)
+left_none (Some x) b h = absurd (let no : ⊥ = cc in no)
+
+unmapped : {X Y : Type 0} (f : X → Y) (o : Option X) → option_map f o ≡ None → o ≡ None
+unmapped f None h = refl
+unmapped f (Some x) h = absurd (let no : ⊥ = cc in no)
+
+-- ---- tests and what they mean
+
+same_answer : (a b : Bool) → beq a b ≡ true → a ≡ b
+same_answer true true h = refl
+same_answer true false h = cc
+same_answer false true h = cc
+same_answer false false h = refl
+
+same_list : (xs ys : List ℕ) → is_same xs ys ≡ true → xs ≡ ys
+same_list [] [] h = refl
+same_list [] (y ∷ ys) h = absurd (let no : ⊥ = cc in no)
+same_list (x ∷ xs) [] h = absurd (let no : ⊥ = cc in no)
+same_list (x ∷ xs) (y ∷ ys) h = let both = and_parts (x == y) (is_same xs ys) h in (λ i. eqb-true x y both.0 i ∷ same_list xs ys both.1 i)
+
+same_itself : (xs : List ℕ) → is_same xs xs ≡ true
+same_itself [] = refl
+same_itself (x ∷ xs) = and_from (x == x) (is_same xs xs) (eq-eqb x x refl) (same_itself xs)
+
+no_on : (l : Language) (c : Candidate) (a : Answer) → is_no_on l c a ≡ true → IsNoOn l c a
+no_on l c a h = let both = and_parts (not a.yes) (is_same (variables_of a.question) (scope_of l c)) h in
+    record { no = not-true a.yes both.0; exact = same_list (variables_of a.question) (scope_of l c) both.1 }
+
+is_on : (l : Language) (c : Candidate) (a : Answer) → IsNoOn l c a → is_no_on l c a ≡ true
+is_on l c a h = and_from (not a.yes) (is_same (variables_of a.question) (scope_of l c)) (not_from_false a.yes h.no)
+    (subst (λ (vs : List ℕ). is_same (variables_of a.question) vs ≡ true) h.exact (same_itself (variables_of a.question)))
+
+-- a no about a scope is one about the scope of each candidate there
+no_beside : (l : Language) (c d : Candidate) (a : Answer) → d.scope ≡ c.scope → IsNoOn l d a → IsNoOn l c a
+no_beside l c d a same h = record { no = h.no; exact = h.exact ∙ ap (λ s. slice_index_or l.scopes s []) same }
+
+any_as : {X : Type 0} (P Q : X → Type 0) (xs : List X) → ((x : X) → P x → Q x) → Any P xs → Any Q xs
+any_as P Q xs h some = (some.0, some.1, some.2, some.3, h some.1 some.4)
+
+-- ---- the candidates
+
+all_flat : {X Y : Type 0} (P : Y → Type 0) (Q : X → Type 0) (f : X → List Y) (xs : List X) → ((x : X) → Q x → All P (f x)) → All Q xs → All P (flat_map f xs)
+all_flat P Q f [] h all = All-nil P
+all_flat P Q f (x ∷ xs) h all = All-append P (f x) (flat_map f xs) (h x (All-head Q x xs all)) (all_flat P Q f xs h (All-tail Q x xs all))
+
+all_candidates : (l : Language) → All (IsCandidate l) (candidates l)
+all_candidates l = all_flat (IsCandidate l) (λ s. s < length l.scopes) (candidates_on l) (numbers (length l.scopes))
+    (λ s low. All-map (IsCandidate l) (λ r. record { scope = s; rel = r }) (numbers (length (relations_on l s))) (all_below (λ r. IsCandidate l (record { scope = s; rel = r })) (length (relations_on l s)) (λ r fits. record { scope = low; rel = fits })))
+    (all_below (λ s. s < length l.scopes) (length l.scopes) (λ s low. low))
+
+-- what fails at each of them fails at each candidate
+fails_there : (l : Language) (p : Candidate → Bool) → All (λ c. p c ≡ false) (candidates l) → (c : Candidate) → IsCandidate l c → p c ≡ false
+fails_there l p all c is = subst (λ (d : Candidate). p d ≡ false) ((numbered l).there c c is) (all (number_of l c) c ((numbered l).below c is))
+
+fails_each : (l : Language) (p : Candidate → Bool) → ((c : Candidate) → IsCandidate l c → p c ≡ false) → All (λ c. p c ≡ false) (candidates l)
+fails_each l p h = λ k d low. h (slice_index_or (candidates l) k d) (all_candidates l k d low)
+
+-- one or the other, where not both fail
+either : (a b : Bool) → (not a && not b) ≡ false → (a ≡ true) ⊎ (b ≡ true)
+either true b h = inl refl
+either false true h = inr refl
+either false false h = absurd (let no : ⊥ = cc in no)
+
+neither : (a b : Bool) → (a ≡ true) ⊎ (b ≡ true) → (not a && not b) ≡ false
+neither a b (inl h) = and_left (not a) (not b) (not_from_true a h)
+neither a b (inr h) = and_right (not a) (not b) (not_from_true b h)
+
+module _ (l : Language) (network : List Candidate) (t : List Answer) (refutations : List Refutation) where
+  -- ---- from no flaw
+
+  first_part : first_flaw l network t refutations ≡ None → flaw_before_list l network t refutations ≡ None
+  first_part h = (left_none (flaw_before_list l network t refutations) _ h).0
+
+  one_each : All (λ k. repeats_scope network k ≡ false) (numbers (length network)) → AllPairs (λ c d. (c.scope ≡ d.scope) → ⊥) network
+  one_each all i j d before low same =
+      let at : repeats_scope network j ≡ false =
+      subst (λ k. repeats_scope network k ≡ false) (get_or-range_with_len 0 (length network) j 0 low ∙ (let e : 0 + j ≡ j = omega arith in e)) (all j 0 (let size = length-range_with_len 0 (length network) in omega (arith, size, low))) in
+      both_ways _ at (list_any_at (λ c. c.scope == (slice_index_or network j (record { scope = 0; rel = 0 })).scope) (take j network) i d
+      (let size = length-take j network in omega (arith, size, before, low))
+      (eq-eqb _ _ (ap (λ (c : Candidate). c.scope) (get_or-take j network i d before) ∙ same ∙ ap (λ (c : Candidate). c.scope) (within network j d (record { scope = 0; rel = 0 }) low))))
+
+  told_each : All (λ c. is_rival l network t c ≡ false) (candidates l) →
+      All (λ c. (d : Candidate) → IsCandidate l d → d.scope ≡ c.scope → (d.rel ≡ c.rel → ⊥) → IsTrue (is_struck l t d) ⊎ Any (λ a. IsNoOn l c a × (violates l d a.question ≡ false)) t) network
+  told_each all k e low d is same other =
+      let c : Candidate = slice_index_or network k e in
+      go c same (either (is_struck l t d) (is_spared l t d) (second (has_other network d) _
+      (list_any_at (λ b. (b.scope == d.scope) && not (b.rel == d.rel)) network k e low (and_from _ _ (eq-eqb _ _ (sym same)) (not_from_false _ (ne_eqb _ _ (λ is. other (sym is))))))
+      (fails_there l (is_rival l network t) all d is)))
+    where
+      second : (a b : Bool) → a ≡ true → (a && b) ≡ false → b ≡ false
+      second true b h k = k
+      second false b h k = absurd (let no : ⊥ = cc in no)
+
+      go : (c : Candidate) → d.scope ≡ c.scope → (is_struck l t d ≡ true) ⊎ (is_spared l t d ≡ true) → IsTrue (is_struck l t d) ⊎ Any (λ a. IsNoOn l c a × (violates l d a.question ≡ false)) t
+      go c same (inl struck) = inl struck
+      go c same (inr spared) = inr (any_as (λ a. (is_no_on l d a && not (violates l d a.question)) ≡ true) (λ a. IsNoOn l c a × (violates l d a.question ≡ false)) t
+          (λ a h. (let both = and_parts (is_no_on l d a) (not (violates l d a.question)) h in (no_beside l c d a same (no_on l d a both.0), not-true _ both.1)))
+          (Any-from_list_any (λ a. is_no_on l d a && not (violates l d a.question)) t spared))
+
+  covered_each : All (λ c. is_uncovered l network t refutations c ≡ false) (candidates l) → (c : Candidate) → IsCandidate l c → has_scope network c.scope ≡ false → IsTrue (is_struck l t c) ⊎ IsTrue (has_refutation refutations (number_of l c))
+  covered_each all c is free = either (is_struck l t c) (has_refutation refutations (number_of l c))
+      (second (has_scope network c.scope) _ free (fails_there l (is_uncovered l network t refutations) all c is))
+    where
+      second : (a b : Bool) → a ≡ false → (not a && b) ≡ false → b ≡ false
+      second true b h k = absurd (let no : ⊥ = cc in no)
+      second false b h k = k
+
+  pub good_without_flaw : first_flaw l network t refutations ≡ None → IsGood l network t refutations
+  good_without_flaw h =
+      let whole = left_none (flaw_before_list l network t refutations) (option_map flaw.Refutation (position (is_unearned l network) refutations)) h in
+      let a = left_none (option_map flaw.Answer (position (is_other l network) t)) _ whole.0 in
+      let b = left_none (option_map flaw.ScopeTwice (position (repeats_scope network) (numbers (length network)))) _ a.1 in
+      let c = left_none (option_map flaw.NoOwnNo (position (λ c. not (has_own_no l t c)) network)) _ b.1 in
+      let d = left_none (option_map flaw.Rival (position (is_rival l network t) (candidates l))) _ c.1 in
+      record {
+        agreeing = list_all-from_AllPass (λ a. beq (accepts l network a.question) a.yes) t (λ k e low. not-false _ (all_fail (is_other l network) t (unmapped flaw.Answer _ a.0) k e low));
+        one_a_scope = one_each (all_fail (repeats_scope network) (numbers (length network)) (unmapped flaw.ScopeTwice _ b.0));
+        begun = λ k e low. any_as (λ a. is_no_on l (slice_index_or network k e) a ≡ true) (IsNoOn l (slice_index_or network k e)) t (no_on l (slice_index_or network k e))
+            (Any-from_list_any (is_no_on l (slice_index_or network k e)) t (not-false _ (all_fail (λ c. not (has_own_no l t c)) network (unmapped flaw.NoOwnNo _ c.0) k e low)));
+        told = told_each (all_fail (is_rival l network t) (candidates l) (unmapped flaw.Rival _ d.0));
+        earned = λ k e low. not-false _ (all_fail (is_unearned l network) refutations (unmapped flaw.Refutation _ whole.1) k e low);
+        rest = covered_each (all_fail (is_uncovered l network t refutations) (candidates l) (unmapped flaw.Uncovered _ d.1));
+      }
+
+  -- ---- to no flaw
+
+  -- a scope of an earlier item stands there
+  earlier : (j : ℕ) → repeats_scope network j ≡ true → AllPairs (λ c d. (c.scope ≡ d.scope) → ⊥) network → j < length network → ⊥
+  earlier j at apart low =
+      let some = Any-from_list_any (λ c. c.scope == (slice_index_or network j (record { scope = 0; rel = 0 })).scope) (take j network) at in
+      let size = length-take j network in
+      let before : some.0 < j = (let h = some.2 in omega (arith, size, h)) in
+      apart some.0 j (record { scope = 0; rel = 0 }) before low
+      (ap (λ (c : Candidate). c.scope) (within network some.0 (record { scope = 0; rel = 0 }) some.1 (omega (arith, before, low)) ∙ sym (get_or-take j network some.0 some.1 before) ∙ some.3)
+      ∙ eqb-true _ _ some.4)
+
+  no_rival : IsGood l network t refutations → (d : Candidate) → IsCandidate l d → is_rival l network t d ≡ false
+  no_rival good d is = false_from_ne_true _ (λ rival.
+      let both = and_parts (has_other network d) _ rival in
+      let some = Any-from_list_any (λ b. (b.scope == d.scope) && not (b.rel == d.rel)) network both.0 in
+      let here = and_parts (some.1.scope == d.scope) (not (some.1.rel == d.rel)) some.4 in
+      let same : some.1.scope ≡ d.scope = eqb-true _ _ here.0 in
+      both_ways _ (neither (is_struck l t d) (is_spared l t d)
+      (go some.1 (sym same) (told_there some.0 some.1 some.2 some.3 (sym same) (λ e. both_ways _ (not-true _ here.1) (eq-eqb _ _ (sym e)))))) both.1)
+    where
+      told_there : (k : ℕ) (c : Candidate) → k < length network → slice_index_or network k c ≡ c → d.scope ≡ c.scope → (d.rel ≡ c.rel → ⊥) → IsTrue (is_struck l t d) ⊎ Any (λ a. IsNoOn l c a × (violates l d a.question ≡ false)) t
+      told_there k c low at same other = subst (λ (b : Candidate). d.scope ≡ b.scope → (d.rel ≡ b.rel → ⊥) → IsTrue (is_struck l t d) ⊎ Any (λ a. IsNoOn l b a × (violates l d a.question ≡ false)) t) at
+          (λ scope rel. good.told k c low d is scope rel) same other
+
+      go : (c : Candidate) → d.scope ≡ c.scope → IsTrue (is_struck l t d) ⊎ Any (λ a. IsNoOn l c a × (violates l d a.question ≡ false)) t → (is_struck l t d ≡ true) ⊎ (is_spared l t d ≡ true)
+      go c same (inl struck) = inl struck
+      go c same (inr some) = inr (list_any-from_Any (λ a. is_no_on l d a && not (violates l d a.question)) t
+          (any_as (λ a. IsNoOn l c a × (violates l d a.question ≡ false)) (λ a. (is_no_on l d a && not (violates l d a.question)) ≡ true) t
+          (λ a h. and_from (is_no_on l d a) (not (violates l d a.question)) (is_on l d a (no_beside l d c a (sym same) h.0)) (not_from_false _ h.1)) some))
+
+  none_uncovered : IsGood l network t refutations → (c : Candidate) → IsCandidate l c → is_uncovered l network t refutations c ≡ false
+  none_uncovered good c is = go (has_scope network c.scope) refl
+    where
+      go : (b : Bool) → has_scope network c.scope ≡ b → (not (has_scope network c.scope) && (not (is_struck l t c) && not (has_refutation refutations (number_of l c)))) ≡ false
+      go true e = and_left (not (has_scope network c.scope)) _ (not_from_true _ e)
+      go false e = and_right (not (has_scope network c.scope)) _ (neither (is_struck l t c) (has_refutation refutations (number_of l c)) (good.rest c is e))
+
+  pub no_flaw_in_good : IsGood l network t refutations → first_flaw l network t refutations ≡ None
+  no_flaw_in_good good =
+      let a : position (is_other l network) t ≡ None = none_found (is_other l network) t (λ k e low. not_from_true _ (AllPass-from_list_all (λ a. beq (accepts l network a.question) a.yes) t good.agreeing k e low)) in
+      let b : position (repeats_scope network) (numbers (length network)) ≡ None = no_number (repeats_scope network) (length network) (λ k low. false_from_ne_true _ (λ at. earlier k at good.one_a_scope low)) in
+      let c : position (λ c. not (has_own_no l t c)) network ≡ None = none_found (λ c. not (has_own_no l t c)) network (λ k e low. not_from_true _ (list_any-from_Any (is_no_on l (slice_index_or network k e)) t
+      (any_as (IsNoOn l (slice_index_or network k e)) (λ a. is_no_on l (slice_index_or network k e) a ≡ true) t (is_on l (slice_index_or network k e)) (good.begun k e low)))) in
+      let d : position (is_rival l network t) (candidates l) ≡ None = none_found (is_rival l network t) (candidates l) (fails_each l (is_rival l network t) (no_rival good)) in
+      let u : position (is_uncovered l network t refutations) (candidates l) ≡ None = none_found (is_uncovered l network t refutations) (candidates l) (fails_each l (is_uncovered l network t refutations) (none_uncovered good)) in
+      let r : position (is_unearned l network) refutations ≡ None = none_found (is_unearned l network) refutations (λ k e low. not_from_true _ (good.earned k e low)) in
+      λ i. option_or (option_or (option_map flaw.Answer (a i)) (option_or (option_map flaw.ScopeTwice (b i)) (option_or (option_map flaw.NoOwnNo (c i)) (option_or (option_map flaw.Rival (d i)) (option_map flaw.Uncovered (u i)))))) (option_map flaw.Refutation (r i))
+
+  -- ---- the verdict
+
+  yes_means : (o : Option Flaw) → verdict_of o ≡ Yes → o ≡ None
+  yes_means None h = refl
+  yes_means (Some f) h = absurd (let no : ⊥ = cc in no)
+
+  pub yes_is_good : (verdict_of (first_flaw l network t refutations) ≡ Yes) ↔ IsGood l network t refutations
+  yes_is_good = (λ h. good_without_flaw (yes_means (first_flaw l network t refutations) h), λ good. ap verdict_of (no_flaw_in_good good))
+
+  -- a verdict that is the stated one
+  pub good_at : (found : Verdict) → found ≡ verdict_of (first_flaw l network t refutations) → (found ≡ Yes) ↔ IsGood l network t refutations
+  good_at found is = (λ h. yes_is_good.0 (sym is ∙ h), λ good. is ∙ yes_is_good.1 good)

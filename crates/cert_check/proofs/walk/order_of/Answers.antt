@@ -1,0 +1,51 @@
+use Rattle.std.proofs.Common.{◌≡◌, ℕ, ◌+◌, List, ◌∷◌, [], ◌++◌, length, take, not, cond, Bool, true, false, subst, sym, ◌∙◌, ap, arith}
+use Rattle.std.proofs.lemmas.List.{take_all}
+use Rattle.std.proofs.lemmas.List.FromFn.{length-range_with_len}
+use Rattle.std.specs.List.{filter}
+use Rattle.assign.specs.Sets.{numbers, has}
+use Rattle.language.specs.Language.{variable_count}
+use Rattle.language.specs.Search.{order_of}
+use Rattle.language.specs.Search.{IsOrder}
+use Rattle.language.proofs.Orders.{orders_are_known, next_variable}
+use Rattle.arrayvec.specs.ArrayVec.{ArrayVec, array_vec_len}
+use Rattle.cert_check.proofs.walk.order_of.Goals as goal
+use Rattle.cert_check.proofs.walk.order_of.Goals.{then-not-contains, else-not-contains}
+
+abbrev Order : Type 0
+Order = ArrayVec ℕ
+
+pub loop-v-2-preserved : goal.loop-v-2-preserved
+loop-v-2-preserved c =
+    let scope : List ℕ = c.scope-scope.result.now in
+    let next : (passes : Bool) → passes ≡ not c.contains.result → (ys : List ℕ) → ys ≡ cond passes (c.loop-v-2.order.items ++ c.loop-v-2.v-counter ∷ []) c.loop-v-2.order.items →
+    ys ≡ scope ++ filter (λ w. not (has scope w)) (take (c.loop-v-2.v-counter + 1) (numbers c.n-v-end.result)) =
+    (λ passes is ys put. next_variable scope c.n-v-end.result c.loop-v-2.v-counter passes c.loop-v-2.order.items ys c.loop-v-2-test.true (is ∙ ap not c.contains.ensures.value) put c.loop-v-2.invariant.put) in
+    let few = c.loop-v-2.invariant.few in
+    elim c.if-not-contains.branch [
+      | then-not-contains w ↦
+          let put : c.if-not-contains.order.items ≡ c.loop-v-2.order.items ++ c.loop-v-2.v-counter ∷ [] = ap (λ (o : Order). o.items) w.order-is ∙ w.push-then-not-contains.ensures.items in
+          let long : array_vec_len c.if-not-contains.order ≡ array_vec_len c.loop-v-2.order + 1 = ap (λ (o : Order). array_vec_len o) w.order-is ∙ w.push-then-not-contains.ensures.len in
+          record {
+            put = next true (sym (ap not w.if-not-contains.true)) c.if-not-contains.order.items put;
+            few = omega arith;
+          }
+      | else-not-contains w ↦
+          let long : array_vec_len c.if-not-contains.order ≡ array_vec_len c.loop-v-2.order = ap (λ (o : Order). array_vec_len o) w.order-is in
+          record {
+            put = next false (sym (ap not w.if-not-contains.false)) c.if-not-contains.order.items (ap (λ (o : Order). o.items) w.order-is);
+            few = omega arith;
+          }
+    ]
+
+order_is : (c : goal.After-loop-v-2) → c.loop-v-2.order.items ≡ order_of c.args.lang.now c.args.c
+order_is c =
+    c.loop-v-2.invariant.put
+    ∙ ap (λ vs. c.scope-scope.result.now ++ filter (λ w. not (has c.scope-scope.result.now w)) vs) (take_all c.loop-v-2.v-counter (numbers c.n-v-end.result) (let long = length-range_with_len 0 c.n-v-end.result in omega arith))
+    ∙ ap (λ n. c.scope-scope.result.now ++ filter (λ w. not (has c.scope-scope.result.now w)) (numbers n)) c.n-v-end.ensures.is
+    ∙ ap (λ (scope : List ℕ). scope ++ filter (λ w. not (has scope w)) (numbers (length c.args.lang.now.names))) c.scope-scope.ensures.is
+
+pub returns-clause-is : goal.returns-clause-is
+returns-clause-is c = order_is c
+
+pub returns-clause-order : goal.returns-clause-order
+returns-clause-order c = subst (IsOrder (variable_count c.args.lang.now)) (sym (order_is c)) (orders_are_known c.args.lang.now c.args.c c.n-v-end.ensures.lawful c.requires)

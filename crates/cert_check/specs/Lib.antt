@@ -1,0 +1,9 @@
+pub mod Certificate
+pub mod Refuting
+pub mod Good
+pub mod Checking
+pub mod Sound
+pub mod Inside
+pub mod Walking
+pub mod Laws
+pub mod Texts

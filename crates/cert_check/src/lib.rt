@@ -1,0 +1,26 @@
+//! A certificate of convergence that a stranger can check, with code that shares no search and no session with the learner.
+//!
+//! A certificate has a language, answers, a network, and for each candidate that isn't excluded by an answer the tokens of a
+//! tree that refutes it. A certificate that is good (`IsGood`) shows that the answers converge on the network (`laws`).
+//! `check` says whether it is, or the first flaw that it has. No call reads the text of a certificate or writes one yet, so
+//! nothing makes a `Cert`.
+#![tactic(auto)]
+
+mod cert;
+mod checking;
+mod entry;
+mod fault;
+pub mod laws;
+mod telling;
+mod text;
+mod token;
+mod verdict;
+mod walk;
+
+pub use cert::{Cert, Listed};
+pub use checking::check;
+pub use entry::Entry;
+pub use fault::{CertFault, MakeFault};
+pub use text::{cert_fault_text, confirmed_text, flaw_text, make_fault_text};
+pub use token::Token;
+pub use verdict::{Flaw, Verdict};

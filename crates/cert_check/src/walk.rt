@@ -1,0 +1,154 @@
+//! Going through the tokens of a tree. Only the first prefix at which a node is still to stand is kept: the others follow from it.
+
+ghost use Rattle.std.specs.Prelude.{◌≡◌, ◌<◌, ◌++◌, length};
+ghost use Rattle.language.specs.Language.{IsCandidate, IsLanguage, IsQuestion, variable_count};
+ghost use Rattle.language.specs.Answers.{IsNetwork};
+ghost use Rattle.language.specs.Search.{IsOrder, order_of, satisfies};
+ghost use Rattle.cert_check.specs.declared.token.Token.TheVariants.{Branch};
+ghost use Rattle.cert_check.specs.Refuting.{children, is_lawful, refutes, violates_item};
+ghost use Rattle.cert_check.specs.Walking.{IsAt, ahead, later};
+
+use crate::token::Token;
+use arrayvec::ArrayVec;
+use assign::Partial;
+use language::{Candidate, Language};
+
+/// A scope of 4 variables and 128 others, more than any order has.
+const ROOM: usize = 132;
+
+/// Values for the first variables of an order.
+type Values = ArrayVec<u8, 128>;
+
+/// The order in which prefixes give values: the variables of the candidate's scope, and then the others in vocabulary order.
+fn order_of(lang: &Language, c: Candidate) -> ArrayVec<u8, ROOM>
+    requires { IsCandidate lang.now c }
+    ensures is { result.items ≡ order_of lang.now c }
+    ensures order { IsOrder (variable_count lang.now) result.items }
+    ensures lawful { IsLanguage lang.now }
+{
+    let scope = lang.scope(c.scope);
+    let mut order = ArrayVec::new();
+    for v in scope {
+        order.push(*v);
+    }
+    for v in 0..lang.n() {
+        if !scope.contains(&v) {
+            order.push(v);
+        }
+    }
+    order
+}
+
+/// Whether the assignment gives the candidate's scope values that satisfy it.
+fn satisfies(lang: &Language, c: Candidate, e: &Partial) -> bool
+    requires candidate { IsCandidate lang.now c }
+    requires question { IsQuestion lang.now e.now }
+    ensures { result ≡ satisfies lang.now c e.now }
+{
+    match lang.place_on(c.scope, e) {
+        None => false,
+        Some(place) => lang.holds(c.scope, c.rel, place),
+    }
+}
+
+/// Whether there is an item of this number, and it is violated.
+fn violates_item(lang: &Language, net: &[Candidate], e: &Partial, i: u32) -> bool
+    requires network { IsNetwork lang.now net.now }
+    requires question { IsQuestion lang.now e.now }
+    ensures { result ≡ violates_item lang.now net.now e.now i }
+{
+    match net.get(i as usize) {
+        None => false,
+        Some(c) => lang.candidate_violated(*c, e),
+    }
+}
+
+/// Whether the node may stand at a prefix.
+fn is_lawful(
+    lang: &Language,
+    net: &[Candidate],
+    c: Candidate,
+    values: &[u8],
+    e: &Partial,
+    token: Token,
+) -> bool
+    requires lawful { IsLanguage lang.now }
+    requires candidate { IsCandidate lang.now c }
+    requires network { IsNetwork lang.now net.now }
+    requires at { IsAt lang.now c values.now e.now }
+    ensures { result ≡ is_lawful lang.now net.now c values.now token }
+{
+    match token {
+        Token::Branch => values.len() < lang.n() as usize,
+        Token::Holds => satisfies(lang, c, e),
+        Token::Item(i) => violates_item(lang, net, e, i),
+    }
+}
+
+/// Goes on behind a prefix and those that begin with it. Says whether a node is still to stand anywhere.
+fn go_on(lang: &Language, c: Candidate, order: &[u8], values: &mut Values, e: &mut Partial) -> bool
+    requires lawful { IsLanguage lang.now }
+    requires candidate { IsCandidate lang.now c }
+    requires order { order.now ≡ order_of lang.now c }
+    requires at { IsAt lang.now c values.old.items e.old }
+    ensures at { IsAt lang.now c values.new.items e.new }
+    ensures next { later lang.now.value_count values.old.items ≡ ahead result lang.now.value_count values.new.items }
+{
+    let d = lang.d();
+    while let Some(x) = values.pop() {
+        let v = order[values.len()];
+        e.clear(v);
+        if x + 1 < d {
+            e.set(v, x + 1);
+            values.push(x + 1);
+            return true;
+        }
+    }
+    false
+}
+
+/// Goes on from a node to the next one: below a branch, and behind a leaf. Says whether one is still to stand anywhere.
+fn step(
+    lang: &Language,
+    c: Candidate,
+    order: &[u8],
+    values: &mut Values,
+    e: &mut Partial,
+    token: Token,
+) -> bool
+    requires lawful { IsLanguage lang.now }
+    requires candidate { IsCandidate lang.now c }
+    requires order { order.now ≡ order_of lang.now c }
+    requires at { IsAt lang.now c values.old.items e.old }
+    requires branch { token ≡ Branch → length values.old.items < variable_count lang.now }
+    ensures at { IsAt lang.now c values.new.items e.new }
+    ensures next { children lang.now c values.old.items token ++ later lang.now.value_count values.old.items ≡ ahead result lang.now.value_count values.new.items }
+{
+    match token {
+        Token::Branch => {
+            e.set(order[values.len()], 0);
+            values.push(0);
+            true
+        }
+        Token::Holds | Token::Item(_) => go_on(lang, c, order, values, e),
+    }
+}
+
+/// Whether the tokens are the lawful nodes, in preorder, of a tree that refutes the candidate.
+pub(crate) fn refutes(lang: &Language, net: &[Candidate], c: Candidate, tokens: &[Token]) -> bool
+    requires candidate { IsCandidate lang.now c }
+    requires network { IsNetwork lang.now net.now }
+    ensures { result ≡ refutes lang.now net.now c tokens.now }
+{
+    let order = order_of(lang, c);
+    let mut values = Values::new();
+    let mut e = Partial::blank(lang.n());
+    let mut is_open = true;
+    for token in tokens {
+        if !is_open || !is_lawful(lang, net, c, &values, &e, *token) {
+            return false;
+        }
+        is_open = step(lang, c, &order, &mut values, &mut e, *token);
+    }
+    !is_open
+}
