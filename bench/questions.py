@@ -23,7 +23,7 @@ import os
 import random
 import subprocess
 import sys
-from operator import itemgetter
+from operator import and_, itemgetter
 from typing import NamedTuple
 
 TOP = os.path.join(os.path.dirname(os.path.abspath(__file__)), "..")
@@ -75,7 +75,8 @@ class Task:
     def constraint_of(self, text):
         """The scope and the accepted tuples of a constraint as the program prints it."""
         names, *scope = text.split(" ")
-        return tuple(scope), frozenset.intersection(*(self.tables[name] for name in names.split("&")))
+        # One relation alone stands for its own tuples, and isn't copied for each scope.
+        return tuple(scope), functools.reduce(and_, (self.tables[name] for name in names.split("&")))
 
     def accepts(self, shown):
         whole = {**self.unknown, **shown}
