@@ -7,7 +7,7 @@ use std::test::Fail;
 
 /// Words with one space between each two, the journal that is asked for, and the command or why there is none. Which lists
 /// of the last group are taken is `clap`'s own affair.
-static ROWS: [(&str, &str, Result<Command, UsageFault>); 74] = [
+static ROWS: [(&str, &str, Result<Command, UsageFault>); 86] = [
     (
         ":memory: try",
         ":memory:",
