@@ -142,8 +142,11 @@ impl Kept {
         while s < scopes {
             let relations = self.relations[usize::from(s)];
             let violated = violated_on(&self.tables, lang, s, q, relations);
-            self.relations[usize::from(s)] = relations & !violated;
-            self.count -= relation_count(violated);
+            // Most scopes lose nothing.
+            if violated != 0 {
+                self.relations[usize::from(s)] = relations & !violated;
+                self.count -= relation_count(violated);
+            }
             (s, end) = self.tables.asked_from(lang, s + 1, end, q);
         }
         count_before - self.count

@@ -20,9 +20,9 @@ use Rattle.query_gen.specs.declared.screen.Mark.TheVariants.{Blank, Implied}
 use Rattle.query_gen.specs.declared.screen.Mark.TheVariants as marks
 use Rattle.query_gen.specs.Questions.{is_among, is_spent, found_in, query_from, query_of}
 use Rattle.query_gen.specs.Marks.{Remembered, IsMadeFor, MarksHold, mark_of, is_mark_spent, is_open}
-use Rattle.query_gen.specs.Inside.{begun, with_mark, without_spent, IsBegun}
+use Rattle.query_gen.specs.Inside.{begun, without_spent, IsBegun}
 use Rattle.query_gen.specs.Laws.{PartsAreJoined, WholeIsNext}
-use Rattle.query_gen.specs.Parts.{query_in, query_then, is_ask, is_looked_at, byte_for, IsSearched, IsSearchedTo, mark_taken, HasTaken}
+use Rattle.query_gen.specs.Parts.{query_in, query_then, is_ask, is_looked_at, byte_for, IsSearched, IsSearchedTo, mark_taken, AreTaken, HasTaken}
 use Rattle.query_gen.proofs.Numbers.{same_number, number_below}
 use Rattle.query_gen.proofs.Marking.{has_begun}
 
@@ -253,35 +253,40 @@ module _ (l : Language) (network : List Candidate) (budget : ℕ) (s : Remembere
 
 -- ---- A part's marks are taken over
 
-pub taken_none : (bytes : List ℕ) (first : ℕ) (s : Remembered) → HasTaken bytes first first s s
-taken_none bytes first s = record { numbers = refl; size = refl; learned = refl; budgeted = refl; inside = λ n from below. absurd (omega arith); outside = λ n out. refl }
+pub taken_none : (bytes : List ℕ) (first : ℕ) (marks : List Mark) → AreTaken bytes first (first + 0) marks marks
+taken_none bytes first marks = record { size = refl; inside = λ n from below. absurd (omega arith); outside = λ n out. refl }
 
-pub taken_more : (bytes : List ℕ) (first number : ℕ) (old now : Remembered) (m : Mark) → first ≤ number → number < length now.marks →
-    m ≡ mark_taken (get_or now.marks number Blank) (get_or bytes (number - first) 0) →
-    HasTaken bytes first number old now → HasTaken bytes first (number + 1) old (with_mark now number m)
-taken_more bytes first number old now m from low is before = record {
-  numbers = before.numbers;
-  size = length-set now.marks number m ∙ before.size;
-  learned = before.learned;
-  budgeted = before.budgeted;
-  inside = λ n after below. inside n after below (cases_eq n number);
-  outside = λ n out. get_or-set_other now.marks number n m Blank (other n out) ∙ before.outside n (still n out);
+-- one mark more has taken its byte over
+pub taken_more : (bytes : List ℕ) (first i : ℕ) (old now : List Mark) (m : Mark) → first + i < length now →
+    m ≡ mark_taken (get_or now (first + i) Blank) (get_or bytes i 0) → AreTaken bytes first (first + i) old now → AreTaken bytes first (first + (i + 1)) old (set now (first + i) m)
+taken_more bytes first i old now m low is before = record {
+  size = length-set now (first + i) m ∙ before.size;
+  inside = λ n after below. inside n after below (cases_eq n (first + i));
+  outside = λ n out. get_or-set_other now (first + i) n m Blank (other n out) ∙ before.outside n (still n out);
 }
   where
-    other : (n : ℕ) → (n < first) ⊎ (number + 1 ≤ n) → n ≢ number
+    other : (n : ℕ) → (n < first) ⊎ (first + (i + 1) ≤ n) → n ≢ first + i
     other n (inl below) e = omega arith
     other n (inr past) e = omega arith
 
-    still : (n : ℕ) → (n < first) ⊎ (number + 1 ≤ n) → (n < first) ⊎ (number ≤ n)
+    still : (n : ℕ) → (n < first) ⊎ (first + (i + 1) ≤ n) → (n < first) ⊎ (first + i ≤ n)
     still n (inl below) = inl below
     still n (inr past) = inr (omega arith)
 
-    inside : (n : ℕ) → first ≤ n → n < number + 1 → (n ≡ number) ⊎ (n ≢ number) → get_or (set now.marks number m) n Blank ≡ mark_taken (get_or old.marks n Blank) (get_or bytes (n - first) 0)
+    behind : first + i - first ≡ i
+    behind = omega arith
+
+    inside : (n : ℕ) → first ≤ n → n < first + (i + 1) → (n ≡ first + i) ⊎ (n ≢ first + i) → get_or (set now (first + i) m) n Blank ≡ mark_taken (get_or old n Blank) (get_or bytes (n - first) 0)
     inside n after below (inl at) =
-        ap (λ k. get_or (set now.marks number m) k Blank) at ∙ get_or-set_same now.marks number m Blank low ∙ is
-        ∙ ap (λ k. mark_taken k (get_or bytes (number - first) 0)) (before.outside number (inr (omega arith)))
-        ∙ ap (λ k. mark_taken (get_or old.marks k Blank) (get_or bytes (k - first) 0)) (sym at)
-    inside n after below (inr other) = get_or-set_other now.marks number n m Blank other ∙ before.inside n after (omega arith)
+        ap (λ k. get_or (set now (first + i) m) k Blank) at ∙ get_or-set_same now (first + i) m Blank low ∙ is
+        ∙ ap (λ k. mark_taken k (get_or bytes i 0)) (before.outside (first + i) (inr (omega arith)))
+        ∙ ap (λ k. mark_taken (get_or old (first + i) Blank) (get_or bytes k 0)) (sym behind)
+        ∙ ap (λ k. mark_taken (get_or old k Blank) (get_or bytes (k - first) 0)) (sym at)
+    inside n after below (inr other) = get_or-set_other now (first + i) n m Blank other ∙ before.inside n after (omega arith)
+
+-- a screen whose marks have taken the bytes over
+pub has_taken : (bytes : List ℕ) (first end : ℕ) (old new : Remembered) → new.first ≡ old.first → new.learned ≡ old.learned → new.budget ≡ old.budget → AreTaken bytes first end old.marks new.marks → HasTaken bytes first end old new
+has_taken bytes first end old new numbers learned budgeted taken = record { numbers = numbers; size = taken.size; learned = learned; budgeted = budgeted; inside = taken.inside; outside = taken.outside }
 
 -- ---- What was taken over is true
 

@@ -1,16 +1,16 @@
 -- A part's search, one scope after another.
-use Rattle.std.proofs.Common.{◌≡◌, ℕ, zero, suc, ◌+◌, ◌-◌, ◌<◌, ◌≤◌, Bool, true, false, List, [], length, get_or, replicate, refl, sym, ◌∙◌, ap, subst, arith, inl, inr, ◌⊎◌}
+use Rattle.std.proofs.Common.{◌≡◌, ℕ, zero, suc, ◌+◌, ◌-◌, ◌<◌, ◌≤◌, false, List, [], length, get_or, replicate, ◌∙◌, ap, subst, arith, inl, inr, ◌⊎◌}
 use Rattle.std.proofs.lemmas.Bool.{cases_lt}
 use Rattle.std.proofs.lemmas.List.{get_or-replicate, length-replicate}
 use Rattle.std.proofs.Math.ListN.{get_or-eq_default}
 use Rattle.assign.specs.Sets.{has}
 use Rattle.language.specs.declared.candidates.Candidate.{Candidate}
-use Rattle.language.specs.Language.{Language, IsCandidate, candidates, relations_on, number_of}
+use Rattle.language.specs.Language.{Language, IsCandidate, relations_on, number_of}
 use Rattle.language.proofs.Counting.{count, count_more, count_rises}
 use Rattle.bias_store.specs.KeptSet.{kept_relations}
 use Rattle.query_gen.specs.declared.query.Query.{Query}
 use Rattle.query_gen.specs.Questions.{is_among}
-use Rattle.query_gen.specs.Parts.{is_ask, reach, start_of, IsScopeOf, IsSearched, IsSearchedTo, IsSearchedBefore}
+use Rattle.query_gen.specs.Parts.{reach, start_of, IsScopeOf, IsSearchedTo, IsSearchedBefore}
 use Rattle.query_gen.proofs.OnScope.{among_has}
 use Rattle.query_gen.proofs.Parts.{next_other}
 

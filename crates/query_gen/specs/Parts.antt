@@ -82,6 +82,12 @@ abbrev pub mark_taken : Mark → ℕ → Mark
 mark_taken m byte = if byte == 1 then Implied else if byte == 2 then marks.Spent else without_spent m
 
 -- The marks from first to below end have taken the bytes over, and the others are as they were.
+pub record AreTaken (bytes : List ℕ) (first end : ℕ) (old new : List Mark) : Type 0 where
+  pub size : length new ≡ length old
+  pub inside : (n : ℕ) → first ≤ n → n < end → slice_index_or new n Blank ≡ mark_taken (slice_index_or old n Blank) (slice_index_or bytes (n - first) 0)
+  pub outside : (n : ℕ) → (n < first) ⊎ (end ≤ n) → slice_index_or new n Blank ≡ slice_index_or old n Blank
+
+-- the same of a screen
 pub record HasTaken (bytes : List ℕ) (first end : ℕ) (old new : Remembered) : Type 0 where
   pub numbers : new.first ≡ old.first
   pub size : length new.marks ≡ length old.marks

@@ -1,11 +1,11 @@
 //! What is remembered of searches.
 
-ghost use Rattle.std.specs.Prelude.{◌≡◌, ◌<◌, ◌≤◌, ◌-◌, IfOk, List, length, map, slice_index_or, vec_len};
+ghost use Rattle.std.specs.Prelude.{◌≡◌, ◌<◌, ◌≤◌, ◌+◌, ◌-◌, IfOk, List, length, map, slice_index_or, vec_len};
 ghost use Rattle.assign.specs.Sets.{numbers};
 ghost use Rattle.language.specs.Language.{Language, IsCandidate, number_of};
 ghost use Rattle.query_gen.specs.Marks.{IsMadeFor, HasNoMarks, MarksHold, is_mark_spent, is_open};
 ghost use Rattle.query_gen.specs.Inside.{begun, with_mark, without_spent};
-ghost use Rattle.query_gen.specs.Parts.{mark_taken, IsSearched, HasTaken};
+ghost use Rattle.query_gen.specs.Parts.{mark_taken, AreTaken, IsSearched, HasTaken};
 
 use crate::place::{IMPLIED, Place, SPENT};
 use language::{Candidate, Language, Memory, ScopeId};
@@ -96,6 +96,17 @@ fn forget_spent(marks: &mut [Mark])
     }
 }
 
+/// So many marks from `first` on take over the first bytes that a search set.
+fn take_bytes(marks: &mut [Mark], first: usize, bytes: &[u8], count: usize)
+    requires within { first + count ≤ length marks.old }
+    requires room { count ≤ length bytes.now }
+    ensures { AreTaken bytes.now first (first + count) marks.old marks.new }
+{
+    for i in 0..count {
+        marks[first + i] = marks[first + i].taking(bytes[i]);
+    }
+}
+
 impl Screen {
     /// No marks, a byte for each candidate. `Memory` where there is none for them.
     pub fn new(alloc: Global, lang: &Language) -> Result<Screen, Memory>
@@ -182,10 +193,8 @@ impl Screen {
         ensures holds { (l : Language) (kept : List Candidate) → IsMadeFor l self.old → MarksHold l net.now.list budget self.old → IsSearched l net.now.list kept budget first end place.now.marks.items place.now.answer → MarksHold l net.now.list budget self.new }
     {
         self.begin(net.len(), budget);
-        for number in first..end {
-            let byte = place.marks[(number - first) as usize];
-            self.set_mark(number, self.mark(number).taking(byte));
-        }
+        let count = (end - first) as usize;
+        take_bytes(&mut self.marks, first as usize, &place.marks, count);
     }
 
     /// Marks the candidate of this number.

@@ -1,15 +1,18 @@
-use Rattle.std.proofs.Common.{◌≡◌, ℕ, ◌+◌, ◌-◌, ◌≤◌, not, length, refl, ◌∙◌, ap, subst, sym, arith}
+use Rattle.std.proofs.Common.{◌≡◌, ℕ, Bool, ◌+◌, ◌-◌, ◌≤◌, not, length, refl, ◌∙◌, ap, subst, sym, arith}
 use Rattle.std.specs.Prelude.{slice_set, bit_and, All}
 use Rattle.std.specs.List.{filter}
 use Rattle.std.specs.Int.{bit_not, w64}
 use Rattle.language.specs.Language.{violates, IsCandidate}
+use Rattle.language.specs.declared.candidates.Candidate.{Candidate}
 use Rattle.bias_store.specs.Accepting.{IsAcceptingOf}
 use Rattle.bias_store.specs.KeptSet.{KeptSet}
+use Rattle.bias_store.specs.declared.kept.Kept.TheInside.{Inside}
 use Rattle.bias_store.specs.Inside.{members_from}
 use Rattle.bias_store.proofs.Members.{read_at}
 use Rattle.bias_store.proofs.Runs.{open_violates}
-use Rattle.bias_store.proofs.Struck.{IsStruck, begins, enough, struck_more, struck_skip, struck_all, known_relations, made_still}
+use Rattle.bias_store.proofs.Struck.{IsStruck, begins, enough, struck_more, struck_none, struck_skip, struck_all, known_relations, made_still}
 use Rattle.bias_store.proofs.kept.Kept.strike.Goals as goal
+use Rattle.bias_store.proofs.kept.Kept.strike.Goals.{then-violated-ne0, else-violated-ne0}
 
 pub violated_on-violated-requires-clause-tables : goal.violated_on-violated-requires-clause-tables
 violated_on-violated-requires-clause-tables c =
@@ -46,24 +49,40 @@ loop-s-init c =
       tables = refl;
     }
 
-pub loop-s-preserved : goal.loop-s-preserved
-loop-s-preserved c =
+more : (c : goal.After-asked_from) → IsStruck (λ b. violates c.args.lang.now b c.args.q.now) c.self.inside.relations.items c.if-violated-ne0.self-inside.relations.items (c.loop-s.s + 1) c.self.inside.count c.if-violated-ne0.self-inside.count
+more c =
+    let fails : Candidate → Bool = λ b. violates c.args.lang.now b c.args.q.now in
     let old = c.self.inside.relations.items in
     let now = c.loop-s.self-inside.relations.items in
     let scopes = ap (λ (k : KeptSet). k.scopes) c.self.view_is in
     let made = c.requires.made.scopes in
     let long = c.loop-s.invariant.struck.long in
-    record {
-      struck = struck_skip (λ b. violates c.args.lang.now b c.args.q.now) old _ (c.loop-s.s + 1) c.asked_from.result.0 c.self.inside.count (c.loop-s.self-inside.count - c.relation_count.result)
+    let here = read_at now c.loop-s.s c.from.result c.index-relations.result.now (omega arith) c.from.ensures c.index-relations.ensures in
+    elim c.if-violated-ne0.branch [
+      | then-violated-ne0 w ↦ subst (λ (a : Inside). IsStruck fails old a.relations.items (c.loop-s.s + 1) c.self.inside.count a.count) (sym w.self-inside-is)
           (subst
-          (λ (i : ℕ). IsStruck (λ b. violates c.args.lang.now b c.args.q.now) old (slice_set now i (bit_and c.index-relations.result.now (bit_not w64 c.violated_on-violated.result))) (c.loop-s.s + 1) c.self.inside.count
-          (c.loop-s.self-inside.count - c.relation_count.result)) (sym c.from-in-loop-s.ensures)
-          (struck_more (λ b. violates c.args.lang.now b c.args.q.now) old now c.loop-s.s c.self.inside.count c.loop-s.self-inside.count c.index-relations.result.now c.violated_on-violated.result c.relation_count.result c.loop-s.invariant.struck (omega arith)
-          (read_at now c.loop-s.s c.from.result c.index-relations.result.now (omega arith) c.from.ensures c.index-relations.ensures) c.violated_on-violated.type_inv c.violated_on-violated.ensures c.relation_count.ensures))
-          c.asked_from.ensures.ahead (λ k from until. open_violates c.args.lang.now k c.args.q.now (c.asked_from.ensures.passed k from until));
-      within = c.asked_from.ensures.within;
-      tables = c.loop-s.invariant.tables;
-    }
+          (λ (i : ℕ). IsStruck fails old (slice_set now i (bit_and c.index-relations.result.now (bit_not w64 c.violated_on-violated.result))) (c.loop-s.s + 1) c.self.inside.count (c.loop-s.self-inside.count - w.relation_count.result))
+          (sym w.from-then-violated-ne0.ensures)
+          (struck_more fails old now c.loop-s.s c.self.inside.count c.loop-s.self-inside.count c.index-relations.result.now c.violated_on-violated.result w.relation_count.result c.loop-s.invariant.struck (omega arith)
+          here c.violated_on-violated.type_inv c.violated_on-violated.ensures w.relation_count.ensures))
+      | else-violated-ne0 w ↦ subst (λ (a : Inside). IsStruck fails old a.relations.items (c.loop-s.s + 1) c.self.inside.count a.count) (sym w.self-inside-is)
+          (struck_none fails old now c.loop-s.s c.self.inside.count c.loop-s.self-inside.count c.index-relations.result.now c.violated_on-violated.result c.loop-s.invariant.struck here c.violated_on-violated.ensures w.if-violated-ne0.false)
+    ]
+
+same_tables : (c : goal.After-asked_from) → c.if-violated-ne0.self-inside.tables ≡ c.self.inside.tables
+same_tables c =
+    elim c.if-violated-ne0.branch [
+      | then-violated-ne0 w ↦ ap (λ (a : Inside). a.tables) w.self-inside-is ∙ c.loop-s.invariant.tables
+      | else-violated-ne0 w ↦ ap (λ (a : Inside). a.tables) w.self-inside-is ∙ c.loop-s.invariant.tables
+    ]
+
+pub loop-s-preserved : goal.loop-s-preserved
+loop-s-preserved c = record {
+  struck = struck_skip (λ b. violates c.args.lang.now b c.args.q.now) c.self.inside.relations.items c.if-violated-ne0.self-inside.relations.items (c.loop-s.s + 1) c.asked_from.result.0 c.self.inside.count c.if-violated-ne0.self-inside.count (more c)
+      c.asked_from.ensures.ahead (λ k from until. open_violates c.args.lang.now k c.args.q.now (c.asked_from.ensures.passed k from until));
+  within = c.asked_from.ensures.within;
+  tables = same_tables c;
+}
 
 struck : (c : goal.After-loop-s) → members_from 0 c.loop-s.self-inside.relations.items ≡ filter (λ b. not (violates c.args.lang.now b c.args.q.now)) c.args.self.now.members
 struck c =

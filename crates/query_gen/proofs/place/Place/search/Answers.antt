@@ -1,5 +1,5 @@
-use Rattle.std.proofs.Common.{◌≡◌, ℕ, ◌+◌, ◌<◌, ◌≤◌, List, get_or, replicate, refl, sym, ◌∙◌, ap, arith}
-use Rattle.query_gen.specs.Parts.{is_ask, reach, start_of}
+use Rattle.std.proofs.Common.{◌+◌, refl, ap, arith}
+use Rattle.query_gen.specs.Parts.{reach, start_of}
 use Rattle.query_gen.proofs.Parts.{searched_none}
 use Rattle.query_gen.proofs.Scopes.{from_start, start_next, start_rises, scope_inside, moved, blank}
 use Rattle.query_gen.proofs.place.Place.search.Goals as goal

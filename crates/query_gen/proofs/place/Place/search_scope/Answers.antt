@@ -1,8 +1,8 @@
-use Rattle.std.proofs.Common.{◌≡◌, ◌+◌, ◌<◌, [], sym, ◌∙◌, ap, arith}
+use Rattle.std.proofs.Common.{◌≡◌, ◌+◌, [], sym, ◌∙◌, ap, arith}
 use Rattle.bias_store.specs.Masks.{ones_of}
 use Rattle.bias_store.specs.KeptSet.{kept_relations}
 use Rattle.bias_store.proofs.Ones.{ones_of-zero}
-use Rattle.query_gen.specs.Parts.{is_ask, reach, start_of}
+use Rattle.query_gen.specs.Parts.{reach, start_of}
 use Rattle.query_gen.proofs.Parts.{searched_found}
 use Rattle.query_gen.proofs.Scopes.{start_next, scope_passed, moved}
 use Rattle.query_gen.proofs.place.Place.search_scope.Goals as goal
