@@ -4,3 +4,15 @@ pub mod Goodness
 pub mod Finding
 pub mod Walking
 pub mod Verdicts
+pub mod Sheets
+pub mod Trees
+pub mod Growing
+pub mod Vocabularies
+pub mod Scopes
+pub mod Listing
+pub mod Made
+pub mod Cutting
+pub mod Numerals
+pub mod InTurn
+pub mod Faults
+pub mod OneText

@@ -8,6 +8,7 @@ use Rattle.cert_check.specs.declared.token.Token.{Token}
 use Rattle.cert_check.specs.Certificate.{Refutation}
 use Rattle.cert_check.specs.Refuting.{refutes}
 use Rattle.cert_check.specs.Good.{IsGood}
+use Rattle.cert_check.specs.Making.{certificate_of}
 
 -- a candidate that tokens refute is implied
 abbrev pub RefutedIsImplied : Type 0
@@ -26,3 +27,9 @@ abbrev pub GoodIsConverged : Type 0
 GoodIsConverged =
     (l : Language) (network : List Candidate) (t : List Answer) (refutations : List Refutation) →
     IsLanguage l → IsNetwork l network → IsGood l network t refutations → IsConverged l network t
+
+-- and what is listed for a covered network makes a good certificate
+abbrev pub MadeIsGood : Type 0
+MadeIsGood =
+    (l : Language) (network : List Candidate) (t : List Answer) →
+    IsLanguage l → IsCovered l network t → IsGood l network t (certificate_of l network t).refutations

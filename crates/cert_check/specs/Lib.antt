@@ -5,5 +5,12 @@ pub mod Checking
 pub mod Sound
 pub mod Inside
 pub mod Walking
-pub mod Laws
 pub mod Texts
+pub mod Written
+pub mod Reading
+pub mod Trees
+pub mod Making
+pub mod Laws
+pub mod Sheets
+pub mod Read
+pub mod ReadingLaws

@@ -23,6 +23,12 @@ impl Model for Listed {
 }
 
 impl Listed {
+    pub(crate) fn new(candidate: u32, tokens: Vec<Token>) -> Listed
+        ensures { result ≡ record { candidate = candidate; tokens = tokens.items } }
+    {
+        Listed { candidate, tokens }
+    }
+
     /// The candidate's number.
     pub fn candidate(&self) -> u32
         ensures { result ≡ self.now.candidate }
@@ -60,6 +66,23 @@ impl Model for Cert {
 }
 
 impl Cert {
+    pub(crate) fn new(
+        language: Language,
+        answers: Vec<Entry>,
+        network: Vec<Candidate>,
+        items: Vec<Listed>,
+    ) -> Cert
+        requires { IsSound (record { language = language; answers = answers.items; network = network.items; refutations = items.items }) }
+        ensures { result ≡ record { language = language; answers = answers.items; network = network.items; refutations = items.items } }
+    {
+        Cert {
+            language,
+            answers,
+            network,
+            items,
+        }
+    }
+
     pub fn lang(&self) -> &Language
         ensures is { result.now ≡ self.now.language }
         ensures sound { IsSound self.now }

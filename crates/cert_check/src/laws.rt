@@ -1,6 +1,7 @@
 //! Laws of the definitions, as contracts of functions that do nothing.
 
-ghost use Rattle.cert_check.specs.Laws.{GoodIsConverged, GoodIsCovered, RefutedIsImplied};
+ghost use Rattle.cert_check.specs.Laws.{GoodIsConverged, GoodIsCovered, MadeIsGood, RefutedIsImplied};
+ghost use Rattle.cert_check.specs.ReadingLaws.{NoTwoCertificates, NoTwoFaults, ReadIsNotRefused};
 
 /// A candidate that tokens refute is implied by the network.
 pub fn refuted_is_implied()
@@ -15,4 +16,24 @@ pub fn good_is_covered()
 /// A network whose certificate is good is the one that the answers converge on.
 pub fn good_is_converged()
     ensures { GoodIsConverged }
+{}
+
+/// The certificate that is made of a covered network is good.
+pub fn made_is_good()
+    ensures { MadeIsGood }
+{}
+
+/// No bytes are read and refused.
+pub fn read_is_not_refused()
+    ensures { ReadIsNotRefused }
+{}
+
+/// No bytes are read as two certificates.
+pub fn no_two_certificates()
+    ensures { NoTwoCertificates }
+{}
+
+/// No bytes are refused for two faults.
+pub fn no_two_faults()
+    ensures { NoTwoFaults }
 {}

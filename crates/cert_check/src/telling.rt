@@ -39,7 +39,7 @@ fn is_other(lang: &Language, net: &[Candidate], entry: &Entry) -> bool
 }
 
 /// Whether there is an item on the scope.
-fn has_scope(net: &[Candidate], s: ScopeId) -> bool
+pub(crate) fn has_scope(net: &[Candidate], s: ScopeId) -> bool
     ensures { result ≡ has_scope net.now s }
 {
     net.iter().any(|c| c.scope == s)
@@ -67,7 +67,7 @@ fn has_own_no(lang: &Language, answers: &[Entry], c: Candidate) -> bool
 }
 
 /// Whether a yes violates the candidate.
-fn is_struck(lang: &Language, answers: &[Entry], c: Candidate) -> bool
+pub(crate) fn is_struck(lang: &Language, answers: &[Entry], c: Candidate) -> bool
     requires candidate { IsCandidate lang.now c }
     requires questions { All (λ a. IsQuestion lang.now a.question) answers.now }
     ensures { result ≡ is_struck lang.now answers.now c }

@@ -17,10 +17,10 @@ use language::{Candidate, Language};
 const ROOM: usize = 132;
 
 /// Values for the first variables of an order.
-type Values = ArrayVec<u8, 128>;
+pub(crate) type Values = ArrayVec<u8, 128>;
 
 /// The order in which prefixes give values: the variables of the candidate's scope, and then the others in vocabulary order.
-fn order_of(lang: &Language, c: Candidate) -> ArrayVec<u8, ROOM>
+pub(crate) fn order_of(lang: &Language, c: Candidate) -> ArrayVec<u8, ROOM>
     requires { IsCandidate lang.now c }
     ensures is { result.items ≡ order_of lang.now c }
     ensures order { IsOrder (variable_count lang.now) result.items }
@@ -40,7 +40,7 @@ fn order_of(lang: &Language, c: Candidate) -> ArrayVec<u8, ROOM>
 }
 
 /// Whether the assignment gives the candidate's scope values that satisfy it.
-fn satisfies(lang: &Language, c: Candidate, e: &Partial) -> bool
+pub(crate) fn satisfies(lang: &Language, c: Candidate, e: &Partial) -> bool
     requires candidate { IsCandidate lang.now c }
     requires question { IsQuestion lang.now e.now }
     ensures { result ≡ satisfies lang.now c e.now }
@@ -108,7 +108,7 @@ fn go_on(lang: &Language, c: Candidate, order: &[u8], values: &mut Values, e: &m
 }
 
 /// Goes on from a node to the next one: below a branch, and behind a leaf. Says whether one is still to stand anywhere.
-fn step(
+pub(crate) fn step(
     lang: &Language,
     c: Candidate,
     order: &[u8],

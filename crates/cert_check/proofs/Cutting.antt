@@ -1,0 +1,45 @@
+-- Lines and words, cut off at the front.
+use Rattle.std.proofs.Common.{◌≡◌, ℕ, ◌+◌, ◌<◌, ◌≤◌, Bool, cond, List, [], ◌∷◌, length, take, drop, Option, Some, None, refl, sym, ◌∙◌, ap, arith, ltb, ◌⊎◌, inl, inr}
+use Rattle.std.specs.Prelude.{position}
+use Rattle.std.specs.Option.{option_map}
+use Rattle.std.specs.List.{position_or_len}
+use Rattle.std.proofs.lemmas.Bool.{cases_lt, lt-ltb, ltb-true}
+use Rattle.std.proofs.lemmas.Option.{none-some, cond_some, same_Some}
+use Rattle.std.proofs.lemmas.List.Sums.{fails_before_first}
+use Rattle.std.proofs.lemmas.List.Splits.{slice_split_none, slice_split_first}
+use Rattle.cert_check.specs.Reading.{cut_at, is_space, words_in}
+
+pub at_first : {X : Type 0} (p : X → Bool) (xs : List X) (n : ℕ) → position p xs ≡ Some n → (position_or_len p xs ≡ n) × (n < length xs)
+at_first p xs n h =
+    let c = cond_some (ltb (position_or_len p xs) (length xs)) (position_or_len p xs) n h in
+    let low = ltb-true (position_or_len p xs) (length xs) c.0 in
+    (c.1, (let same = c.1 in omega (arith, low, same)))
+
+pub nowhere : {X : Type 0} (p : X → Bool) (xs : List X) → position p xs ≡ None → length xs ≤ position_or_len p xs
+nowhere p xs h = go (cases_lt (position_or_len p xs) (length xs))
+  where
+    go : (position_or_len p xs < length xs) ⊎ (length xs ≤ position_or_len p xs) → length xs ≤ position_or_len p xs
+    go (inl low) = absurd (none-some (position_or_len p xs) (sym h ∙ ap (λ b. cond b (Some (position_or_len p xs)) None) (lt-ltb _ _ low)))
+    go (inr high) = high
+
+-- a line without a space is a word
+pub word_alone : (line : List ℕ) → cut_at 32 line ≡ None → words_in line ≡ line ∷ []
+word_alone line h = go (position is_space line) refl h
+  where
+    go : (o : Option ℕ) → position is_space line ≡ o → option_map {U = List ℕ × List ℕ} (λ i. (take i line, drop (i + 1) line)) o ≡ None → words_in line ≡ line ∷ []
+    go None is none = slice_split_none is_space line (λ k d low. fails_before_first is_space line k d (let high = nowhere is_space line is in omega (arith, high)))
+    go (Some i) is none = absurd (none-some _ (sym none))
+
+-- and else the first word ends at the first space
+pub word_cut : (line word behind : List ℕ) → cut_at 32 line ≡ Some (word, behind) → words_in line ≡ word ∷ words_in behind
+word_cut line word behind h = go (position is_space line) refl h
+  where
+    go : (o : Option ℕ) → position is_space line ≡ o → option_map {U = List ℕ × List ℕ} (λ i. (take i line, drop (i + 1) line)) o ≡ Some (word, behind) → words_in line ≡ word ∷ words_in behind
+    go None is some = absurd (none-some _ some)
+    go (Some i) is some =
+        let at = at_first is_space line i is in
+        let place = at.0 in
+        let low = at.1 in
+        slice_split_first is_space line 0 (omega (arith, place, low))
+        ∙ (λ k. take (place k) line ∷ words_in (drop (place k + 1) line))
+        ∙ ap (λ (parts : List ℕ × List ℕ). parts.0 ∷ words_in parts.1) (same_Some (take i line, drop (i + 1) line) (word, behind) some)

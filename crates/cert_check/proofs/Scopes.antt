@@ -1,0 +1,45 @@
+-- A network has no more candidates than there are scopes.
+use Rattle.std.proofs.Common.{◌≡◌, ℕ, suc, ◌<◌, ◌≤◌, ◌^◌, Bool, true, false, cond, ◌||◌, ◌&&◌, not, List, [], ◌∷◌, length, refl, sym, ◌∙◌, arith}
+use Rattle.std.specs.Prelude.{◌==◌, All, AllPairs, slice_index_or}
+use Rattle.std.specs.List.{filter}
+use Rattle.std.proofs.lemmas.List.FromFn.{length-range_with_len}
+use Rattle.std.proofs.lemmas.List.Filters.{length-filter_both}
+use Rattle.std.proofs.lemmas.Bool.{and_from, both_ways, not_from_false, eqb-true, eq-eqb, false_from_ne_true}
+use Rattle.assign.specs.Sets.{numbers, has}
+use Rattle.language.specs.declared.candidates.Candidate.{Candidate}
+use Rattle.language.specs.Language.{Language, IsLanguage}
+use Rattle.language.specs.Answers.{IsNetwork}
+use Rattle.language.proofs.Lists.{any_weaker}
+use Rattle.language.proofs.Members.{any-filter, any_number}
+
+no_more : (p : ℕ → Bool) (xs : List ℕ) → length (filter p xs) ≤ length xs
+no_more p xs = omega (arith, length-filter_both p (λ x. not (p x)) (λ x. refl) xs)
+
+shrinks : (ys : List ℕ) (x : ℕ) → has ys x ≡ true → suc (length (filter (λ y. not (y == x)) ys)) ≤ length ys
+shrinks [] x h = absurd (both_ways _ refl h)
+shrinks (y ∷ ys) x h = go (y == x) h (shrinks ys x) (no_more (λ z. not (z == x)) ys)
+  where
+    go : (b : Bool) → (b || has ys x) ≡ true → (has ys x ≡ true → suc (length (filter (λ y. not (y == x)) ys)) ≤ length ys) → length (filter (λ y. not (y == x)) ys) ≤ length ys →
+        suc (length (cond (not b) (y ∷ filter (λ y. not (y == x)) ys) (filter (λ y. not (y == x)) ys))) ≤ suc (length ys)
+    go true h rest most = omega arith
+    go false h rest most = (let more = rest h in omega arith)
+
+-- as many scopes as candidates
+as_many : (network : List Candidate) (ys : List ℕ) → AllPairs (λ c d. (c.scope ≡ d.scope) → ⊥) network → All (λ c. has ys c.scope ≡ true) network → length network ≤ length ys
+as_many [] ys apart all = omega arith
+as_many (c ∷ cs) ys apart all =
+    let rest = as_many cs (filter (λ y. not (y == c.scope)) ys) (λ i j d low high. apart (suc i) (suc j) d (omega arith) (omega arith)) (λ k d low. still (slice_index_or cs k d)
+    (all (suc k) d (omega arith)) (apart 0 (suc k) d (omega arith) (omega arith))) in
+    let fewer = shrinks ys c.scope (all 0 c (omega arith)) in
+    omega arith
+  where
+    still : (d : Candidate) → has ys d.scope ≡ true → (c.scope ≡ d.scope → ⊥) → has (filter (λ y. not (y == c.scope)) ys) d.scope ≡ true
+    still d h other = any-filter (λ y. y == d.scope) (λ y. not (y == c.scope)) ys ∙ any_weaker (λ y. y == d.scope) (λ y. not (y == c.scope) && (y == d.scope)) ys (λ y is.
+        and_from _ _ (not_from_false _ (false_from_ne_true _ (λ same. other (sym (eqb-true y c.scope same) ∙ eqb-true y d.scope is)))) is) h
+
+pub few_items : (l : Language) (network : List Candidate) → IsLanguage l → IsNetwork l network → AllPairs (λ c d. (c.scope ≡ d.scope) → ⊥) network → length network < 2 ^ 32
+few_items l network lawful legal apart =
+    let most = as_many network (numbers (length l.scopes)) apart (λ k d low. any_number (λ x. x == (slice_index_or network k d).scope) (length l.scopes) (slice_index_or network k d).scope (legal k d low).scope (eq-eqb _ _ refl)) in
+    let long = length-range_with_len 0 (length l.scopes) in
+    let few = lawful.few_scopes in
+    omega (arith, most, long, few)

@@ -1,0 +1,24 @@
+-- The bytes of a vocabulary are text.
+use Rattle.std.proofs.Common.{◌≡◌, ℕ, Bool, true, false, cond, List, length, Option, None, Result, Ok, Err, sym, ◌∙◌, ap, refl}
+use Rattle.std.specs.Prelude.{nat_lt}
+use Rattle.std.specs.Option.{ok_or}
+use Rattle.std.specs.Str.{is_utf8, IsUtf8}
+use Rattle.std.proofs.lemmas.Str.{IsUtf8-from_is_utf8}
+use Rattle.language.specs.Language.{Language}
+use Rattle.voc_read.specs.Answers.{then_on}
+use Rattle.voc_read.specs.Vocabulary.{MOST_VOCABULARY, Parts, json_of, parts_in, parts_of, IsVocabulary}
+use Rattle.voc_read.specs.declared.fault.VocFault.{VocFault}
+use Rattle.voc_read.specs.declared.fault.VocFault.TheVariants.{TooLong, NotJson}
+
+-- nothing is read where there is no value
+none_read : {D : Type 0} (long : Bool) (o : Option D) (f : D → Result Parts VocFault) (parts : Parts) → o ≡ None → cond long (Err TooLong) (then_on (ok_or o NotJson) f) ≡ Ok parts → ⊥
+none_read true o f parts none h = cc
+none_read false o f parts none h = let no : Err NotJson ≡ Ok parts = sym (ap (λ p. then_on (ok_or p NotJson) f) none) ∙ h in cc
+
+pub vocabulary_is_text : (bytes : List ℕ) (l : Language) → IsVocabulary bytes l → IsUtf8 bytes
+unfolding parts_of
+vocabulary_is_text bytes l is = IsUtf8-from_is_utf8 bytes (go (is_utf8 bytes) refl)
+  where
+    go : (b : Bool) → is_utf8 bytes ≡ b → is_utf8 bytes ≡ true
+    go true e = e
+    go false e = absurd (let none : json_of bytes ≡ None = rw e refl in none_read (nat_lt MOST_VOCABULARY (length bytes)) (json_of bytes) parts_in is.parts none is.read)

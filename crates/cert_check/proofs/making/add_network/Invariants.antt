@@ -1,0 +1,8 @@
+use Rattle.std.proofs.Common.{take}
+use Rattle.std.specs.List.{flat_map}
+use Rattle.cert_check.specs.Sheets.{Adds}
+use Rattle.cert_check.specs.Written.{item_line}
+use Rattle.cert_check.proofs.making.add_network.Given as goal
+
+abbrev pub invariant-loop-c : goal.invariant-loop-c
+invariant-loop-c l = Adds l.initial.sheet (flat_map item_line (take l.c-index l.net)) l.sheet

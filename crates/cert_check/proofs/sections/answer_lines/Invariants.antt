@@ -1,0 +1,15 @@
+use Rattle.std.proofs.Common.{◌≡◌, ◌-◌, vec_len}
+use Rattle.std.specs.Prelude.{All}
+use Rattle.language.specs.Language.{IsQuestion}
+use Rattle.cert_check.specs.Reading.{answer_lines}
+use Rattle.cert_check.specs.Read.{AreFew, unread}
+use Rattle.cert_check.proofs.InTurn.{with_front}
+use Rattle.cert_check.proofs.sections.answer_lines.Given as goal
+
+abbrev pub invariant-loop : goal.invariant-loop
+invariant-loop l = record {
+  told : with_front l.entries.items (answer_lines l.lang (l.count - l.counter) (unread l.rest)) ≡ answer_lines l.lang l.count (unread l.lines);
+  few : AreFew l.rest;
+  questions : All (λ a. IsQuestion l.lang a.question) l.entries.items;
+  long : vec_len l.entries ≡ l.counter;
+}

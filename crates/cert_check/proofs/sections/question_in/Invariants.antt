@@ -1,0 +1,12 @@
+use Rattle.std.proofs.Common.{◌≡◌}
+use Rattle.language.specs.Language.{IsQuestion}
+use Rattle.cert_check.specs.Reading.{with_pairs, question_in}
+use Rattle.cert_check.specs.Read.{words_left}
+use Rattle.cert_check.proofs.sections.question_in.Given as goal
+
+abbrev pub invariant-loop-word : goal.invariant-loop-word
+invariant-loop-word l =
+    (goal.iterator-loop-word).can_next l.word-iterator
+    × (goal.iterator-loop-word).is_finite l.word-iterator
+    × (with_pairs l.lang.value_count l.least l.question (words_left l.word-iterator) ≡ question_in l.lang l.pairs)
+    × IsQuestion l.lang l.question

@@ -1,0 +1,9 @@
+use Rattle.std.proofs.Common.{sym}
+use Rattle.cert_check.proofs.Cutting.{word_alone, word_cut}
+use Rattle.cert_check.proofs.words.cut_word.Goals as goal
+
+pub returns-in-None : goal.returns-in-None
+returns-in-None c = word_alone c.args.line.now (sym c.in-None.ensures.is)
+
+pub returns-in-Some : goal.returns-in-Some
+returns-in-Some c = word_cut c.args.line.now c.in-Some.word.now c.in-Some.behind.now (sym c.in-Some.ensures.is)

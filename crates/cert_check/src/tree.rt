@@ -1,0 +1,106 @@
+//! Writing the tree by which the network implies a candidate.
+
+ghost use Rattle.std.specs.Prelude.{◌≡◌, ◌<◌, ◌≤◌, ◌^◌, false, [], ◌∷◌, length, position, IfOk, OnOk};
+ghost use Rattle.std.specs.List.{flat_map};
+ghost use Rattle.language.specs.Language.{IsCandidate, IsImplied, IsQuestion, violates};
+ghost use Rattle.language.specs.Answers.{IsNetwork};
+ghost use Rattle.language.specs.Search.{satisfies};
+ghost use Rattle.cert_check.specs.Making.{is_long};
+ghost use Rattle.cert_check.specs.Sheets.{Adds};
+ghost use Rattle.cert_check.specs.Trees.{branches, node_of, tree_of};
+ghost use Rattle.cert_check.specs.Written.{token_text};
+
+use crate::sheet::Sheet;
+use crate::token::Token;
+use crate::walk::{Values, order_of, satisfies, step};
+use assign::Partial;
+use language::{Candidate, Language};
+use std::alloc::AllocError;
+
+/// The first item that the assignment violates.
+fn first_violated(lang: &Language, net: &[Candidate], e: &Partial) -> Option<u32>
+    requires network { IsNetwork lang.now net.now }
+    requires few { length net.now < 2 ^ 32 }
+    requires question { IsQuestion lang.now e.now }
+    ensures { result ≡ position (λ d. violates lang.now d e.now) net.now }
+{
+    for i in 0..net.len() {
+        if lang.candidate_violated(net[i], e) {
+            return Some(i as u32);
+        }
+    }
+    None
+}
+
+/// The node of the candidate's tree at the prefix that gives this assignment.
+fn node(lang: &Language, net: &[Candidate], c: Candidate, e: &Partial) -> Token
+    requires candidate { IsCandidate lang.now c }
+    requires network { IsNetwork lang.now net.now }
+    requires few { length net.now < 2 ^ 32 }
+    requires question { IsQuestion lang.now e.now }
+    ensures { result ≡ node_of (position (λ d. violates lang.now d e.now) net.now) (satisfies lang.now c e.now) }
+{
+    match first_violated(lang, net, e) {
+        Some(i) => Token::Item(i),
+        None if satisfies(lang, c, e) => Token::Holds,
+        None => Token::Branch,
+    }
+}
+
+/// Adds a token, with a space before it.
+fn add_token(sheet: &mut Sheet, token: Token) -> Result<(), AllocError>
+    ensures { OnOk result (Adds sheet.old (token_text token) sheet.new) }
+{
+    match token {
+        Token::Branch => sheet.add(" b"),
+        Token::Holds => sheet.add(" c"),
+        Token::Item(i) => {
+            sheet.add(" ")?;
+            sheet.add_number(u64::from(i))
+        }
+    }
+}
+
+/// How many branches a node is: one or none.
+fn branches_of(token: Token) -> u32
+    ensures is { result ≡ branches (token ∷ []) }
+    ensures few { result ≤ 1 }
+{
+    match token {
+        Token::Branch => 1,
+        Token::Holds | Token::Item(_) => 0,
+    }
+}
+
+/// Adds the tokens of the candidate's tree. Says whether the tree has more branches than the budget; then it isn't added whole.
+pub(crate) fn add_tree(
+    sheet: &mut Sheet,
+    lang: &Language,
+    net: &[Candidate],
+    c: Candidate,
+    budget: u32,
+) -> Result<bool, AllocError>
+    requires candidate { IsCandidate lang.now c }
+    requires network { IsNetwork lang.now net.now }
+    requires few { length net.now < 2 ^ 32 }
+    requires implied { IsImplied lang.now net.now c }
+    requires small_budget { budget ≤ 1000000000 }
+    ensures long { IfOk result (λ long. long ≡ is_long lang.now net.now budget c) }
+    ensures added { IfOk result (λ long. long ≡ false → Adds sheet.old (flat_map token_text (tree_of lang.now net.now c)) sheet.new) }
+{
+    let order = order_of(lang, c);
+    let mut values = Values::new();
+    let mut e = Partial::blank(lang.n());
+    let mut count = 0;
+    let mut is_open = true;
+    while is_open {
+        let token = node(lang, net, c, &e);
+        count += branches_of(token);
+        if count > budget {
+            return Ok(true);
+        }
+        add_token(sheet, token)?;
+        is_open = step(lang, c, &order, &mut values, &mut e, token);
+    }
+    Ok(false)
+}
