@@ -22,9 +22,13 @@ use Rattle.acq_cli.specs.declared.playing.NoTarget.{NoTarget}
 use Rattle.acq_cli.specs.declared.playing.NoTarget.TheVariants as without
 use Rattle.acq_cli.specs.Showing.{Shows}
 use Rattle.acq_cli.specs.Demoing.{Demos}
+use Rattle.acq_cli.specs.Certifying.{Certifies}
+use Rattle.acq_cli.specs.Confirming.{Confirms}
 use Rattle.acq_cli.specs.Printing.{Prints}
 use Rattle.acq_cli.specs.Reducing.{Reduces}
 use Rattle.acq_cli.specs.Solving.{Solves}
+use Rattle.acq_cli.proofs.Certified.{certifies_no_usage}
+use Rattle.acq_cli.proofs.Confirmed.{confirms_no_usage}
 use Rattle.acq_cli.proofs.Printed.{prints_no_usage}
 use Rattle.acq_cli.proofs.Solved.{solves_no_usage}
 use Rattle.acq_cli.specs.TakingBack.{TakesBack}
@@ -77,6 +81,8 @@ module _ {D : Type 0} (content : D → Option (List ℕ)) (may_leave : D → Lis
     does_nothing (Ok (command.Reduce budget)) = inl stays
     does_nothing (Ok command.Cnf) = inl stays
     does_nothing (Ok command.Model) = inl stays
+    does_nothing (Ok (command.Certify budget)) = inl stays
+    does_nothing (Ok command.Check) = inr (inr (inr refl, refl))
     does_nothing (Err fault) = refl
 
 -- ---- A usage line is told for refused words alone
@@ -149,6 +155,11 @@ module _ {D : Type 0} (content : D → Option (List ℕ)) (may_leave : D → Lis
   solve_usage : (usage : UsageFault) → Solves content may_leave moment left_since left written left' written' old new (using_so usage) → ⊥
   solve_usage usage solves = ⊎_elim (λ closed. refuses_usage closed.fault usage written written' closed.refuses) (λ solved. solves_no_usage solved.lang _ left written left' written' usage solved.solves) solves
 
+  certify_usage : (budget : ℕ) (usage : UsageFault) → Certifies content may_leave moment left_since budget left written written' old new (using_so usage) → ⊥
+  certify_usage budget usage certifies =
+      ⊎_elim (λ closed. refuses_usage closed.fault usage written written' closed.refuses)
+      (λ told. certifies_no_usage told.lang told.plan told.voc told.events budget written written' usage told.certifies) certifies
+
   back_usage : (usage : UsageFault) → TakesBack content may_leave moment left_since left written written' old new (using_so usage) → ⊥
   back_usage usage backs =
       ⊎_elim (λ closed. refuses_usage closed.fault usage written written' closed.refuses)
@@ -173,3 +184,5 @@ module _ {D : Type 0} (content : D → Option (List ℕ)) (may_leave : D → Lis
   usage_is (Ok (command.Reduce budget)) end does usage is = let P : Ending → Type 0 = λ x. Reduces content may_leave moment left_since budget left written written' old new (Ok x) in absurd (reduce_usage budget usage (subst P is does))
   usage_is (Ok command.Cnf) end does usage is = let P : Ending → Type 0 = λ x. Prints content may_leave moment left_since left written written' old new (Ok x) in absurd (print_usage usage (subst P is does))
   usage_is (Ok command.Model) end does usage is = let P : Ending → Type 0 = λ x. Solves content may_leave moment left_since left written left' written' old new (Ok x) in absurd (solve_usage usage (subst P is does))
+  usage_is (Ok (command.Certify budget)) end does usage is = let P : Ending → Type 0 = λ x. Certifies content may_leave moment left_since budget left written written' old new (Ok x) in absurd (certify_usage budget usage (subst P is does))
+  usage_is (Ok command.Check) end does usage is = let P : Ending → Type 0 = λ x. Confirms left written left' written' (Ok x) in absurd (confirms_no_usage left written left' written' usage (subst P is does))

@@ -47,6 +47,8 @@ use Rattle.acq_cli.specs.Points.{terms_with}
 use Rattle.acq_cli.specs.Run.{Closing, Undecided, Suspended, LineTooLong, Unreadable, JournalFull}
 use Rattle.acq_cli.specs.Printing.{HoldsPrintable, PrintEnds}
 use Rattle.acq_cli.specs.Reducing.{HoldsDecided, ReduceEnds}
+use Rattle.acq_cli.specs.Certifying.{CertifyEnds, HoldsCertified}
+use Rattle.acq_cli.specs.Confirming.{ConfirmEnds, IsConfirmed}
 use Rattle.acq_cli.specs.Solving.{HoldsModel, SolveEnds}
 use Rattle.acq_cli.specs.Running.{RunsOn}
 use Rattle.acq_cli.specs.TakingBack.{BackEnds, HoldsLast}
@@ -193,6 +195,10 @@ module _ (terms : Terms) (left written left' written' : Option (List ℕ)) (byte
   try_completes (ending.ReduceSpent i) calm done = absurd done
   try_completes ending.CnfTooLarge calm done = absurd done
   try_completes (ending.ModelRefused fault) calm done = absurd done
+  try_completes (ending.NotConverged m) calm done = absurd done
+  try_completes (ending.CertRefused fault) calm done = absurd done
+  try_completes (ending.Flawed flaw) calm done = absurd done
+  try_completes (ending.CertUnread fault) calm done = absurd done
   try_completes (ending.VocRefused fault) calm done =
       let refused = done.0 in
       absurd (not_refused has.line refused.got fault (sym has.first ∙ gives_got (first_line_of 4194304) left left' refused.got bytes refused.gives from) has.taken refused.refused)
@@ -281,6 +287,10 @@ told_end number l terms events written written' ending.NothingBack made enough t
 told_end number l terms events written written' (ending.ReduceSpent i) made enough tells = absurd tells
 told_end number l terms events written written' ending.CnfTooLarge made enough tells = absurd tells
 told_end number l terms events written written' (ending.ModelRefused fault) made enough tells = absurd tells
+told_end number l terms events written written' (ending.NotConverged m) made enough tells = absurd tells
+told_end number l terms events written written' (ending.CertRefused fault) made enough tells = absurd tells
+told_end number l terms events written written' (ending.Flawed flaw) made enough tells = absurd tells
+told_end number l terms events written written' (ending.CertUnread fault) made enough tells = absurd tells
 
 module _ {D : Type 0} (content : D → Option (List ℕ)) (may_leave : D → List ℕ → Type 0) (moment : D → ℕ) (left_since : D → ℕ → List ℕ → Type 0) (left written left' written' : Option (List ℕ)) (old new : D) (end : Ending) (calm : NoFault end) where
   run_completes : (budget : ℕ) → RunsOn content may_leave moment left_since budget left written left' written' old new (okay end) → (bytes file : List ℕ) → left ≡ Some bytes → content old ≡ Some file → IsSome written → RunHasEnough budget bytes file → ConvergesOrCollapses end
@@ -325,6 +335,12 @@ module _ {D : Type 0} (content : D → Option (List ℕ)) (may_leave : D → Lis
   solve_completes : (content' : Option (List ℕ)) → SolveEnds left content' end → (bytes file : List ℕ) → left ≡ Some bytes → content' ≡ Some file → HoldsModel bytes file → IsDoneWith end
   solve_completes content' ends bytes file from told held = ⊎_elim (λ broken. inr (broken_memory end broken calm)) (λ exactly. inl (exactly.done.1 held)) (ends bytes from file told)
 
+  certify_completes : (budget : ℕ) (content' : Option (List ℕ)) → CertifyEnds budget content' end → (file : List ℕ) → content' ≡ Some file → HoldsCertified file budget → IsDoneWith end
+  certify_completes budget content' ends file told held = ⊎_elim (λ broken. inr (broken_memory end broken calm)) (λ exactly. inl (exactly.done.1 held)) (ends file told)
+
+  check_completes : ConfirmEnds left end → (bytes : List ℕ) → left ≡ Some bytes → IsConfirmed bytes → IsDoneWith end
+  check_completes ends bytes from held = ⊎_elim (λ broken. inr (broken_memory end broken calm)) (λ exactly. inl (exactly.done.1 held)) (ends bytes from)
+
   back_completes : (content' : Option (List ℕ)) → BackEnds content' end → (file : List ℕ) → content' ≡ Some file → HoldsLast file → IsDoneWith end
   back_completes content' ends file told held = ⊎_elim (λ broken. inr (broken_memory end broken calm)) (λ exactly. inl (exactly.done.1 held)) (ends file told)
 
@@ -339,6 +355,8 @@ module _ {D : Type 0} (content : D → Option (List ℕ)) (may_leave : D → Lis
   completes (Ok (command.Reduce budget)) does ends = λ file told. reduce_completes budget (content old) ends file told
   completes (Ok command.Cnf) does ends = λ file told. print_completes (content old) ends file told
   completes (Ok command.Model) does ends = λ bytes from file told. solve_completes (content old) ends bytes file from told
+  completes (Ok (command.Certify budget)) does ends = λ file told. certify_completes budget (content old) ends file told
+  completes (Ok command.Check) does ends = λ bytes from. check_completes ends bytes from
   completes (Err fault) does ends = tt
 
 -- want of memory is always an answer
@@ -353,4 +371,6 @@ memory_completes (Ok (command.Demo number budget)) left written content = λ eno
 memory_completes (Ok (command.Reduce budget)) left written content = λ file told held. inr refl
 memory_completes (Ok command.Cnf) left written content = λ file told held. inr refl
 memory_completes (Ok command.Model) left written content = λ bytes from file told held. inr refl
+memory_completes (Ok (command.Certify budget)) left written content = λ file told held. inr refl
+memory_completes (Ok command.Check) left written content = λ bytes from held. inr refl
 memory_completes (Err fault) left written content = tt

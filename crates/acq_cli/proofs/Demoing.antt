@@ -209,6 +209,10 @@ module _ (number : ℕ) (l : Language) (terms : Terms) (events : List Event) (wr
   goes_on (ending.ReduceSpent i) told = tt
   goes_on ending.CnfTooLarge told = tt
   goes_on (ending.ModelRefused fault) told = tt
+  goes_on (ending.NotConverged m) told = tt
+  goes_on (ending.CertRefused fault) told = tt
+  goes_on (ending.Flawed flaw) told = tt
+  goes_on (ending.CertUnread fault) told = tt
 
   pub demo_answered : (got : Result Ending Put) → IsNetwork l (target_of number l) → IsTrue (agrees l (target_of number l) (standing_on l events)) → IfOk got Told → IsAnsweredBy (target_of number l) l terms (standing_on l events) got
   demo_answered (Err e) lawful agreeing told = record {

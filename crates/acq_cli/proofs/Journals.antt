@@ -61,6 +61,10 @@ other_ending ending.NothingBack = inr (λ e. cc)
 other_ending (ending.ReduceSpent i) = inr (λ e. cc)
 other_ending ending.CnfTooLarge = inr (λ e. cc)
 other_ending (ending.ModelRefused fault) = inr (λ e. cc)
+other_ending (ending.NotConverged m) = inr (λ e. cc)
+other_ending (ending.CertRefused fault) = inr (λ e. cc)
+other_ending (ending.Flawed flaw) = inr (λ e. cc)
+other_ending (ending.CertUnread fault) = inr (λ e. cc)
 other_ending ending.Memory = inr (λ e. cc)
 
 -- whether the disk failed

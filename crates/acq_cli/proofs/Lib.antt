@@ -31,4 +31,7 @@ pub mod OneRun
 pub mod Reduced
 pub mod Printed
 pub mod Solved
+pub mod StandingQuestions
+pub mod Certified
+pub mod Confirmed
 pub mod TakenBack

@@ -218,6 +218,10 @@ acquires_by terms left rest written left' written' line lang events end gives vo
     go (ending.ReduceSpent i) never tried = absurd (not_loops tried.how (ending.ReduceSpent i) tried.is refl)
     go ending.CnfTooLarge never tried = absurd (not_loops tried.how ending.CnfTooLarge tried.is refl)
     go (ending.ModelRefused fault) never tried = absurd (not_loops tried.how (ending.ModelRefused fault) tried.is refl)
+    go (ending.NotConverged m) never tried = absurd (not_loops tried.how (ending.NotConverged m) tried.is refl)
+    go (ending.CertRefused fault) never tried = absurd (not_loops tried.how (ending.CertRefused fault) tried.is refl)
+    go (ending.Flawed flaw) never tried = absurd (not_loops tried.how (ending.Flawed flaw) tried.is refl)
+    go (ending.CertUnread fault) never tried = absurd (not_loops tried.how (ending.CertUnread fault) tried.is refl)
 
 pub acquires_in : (terms : Terms) (left rest written left' written' : Option (List ℕ)) (line : List ℕ) (lang : Language) (got : Result Ending Put) →
     Gives (first_line_of 4194304) left rest (Ok line) → IsVocabulary line lang → IfOk got (λ (e : Ending). e ≡ ending.DiskFault → ⊥) →

@@ -1,5 +1,5 @@
 -- What `cnf` tells of a file, exactly.
-use Rattle.std.proofs.Common.{◌≡◌, ◌⊎◌, ◌∙◌, ℕ, ◌<◌, ◌≤◌, Bool, true, false, cond, List, length, Option, Some, Result, Ok, Err, refl, sym, ap, subst, inl, inr, ⊎_elim, arith}
+use Rattle.std.proofs.Common.{◌≡◌, ◌⊎◌, ◌∙◌, ℕ, ◌<◌, ◌≤◌, Bool, true, false, cond, List, length, Option, Some, Result, Ok, Err, refl, sym, subst, inl, inr, ⊎_elim, arith}
 use Rattle.std.specs.Prelude.{◌≢◌, IfOk, nat_lt}
 use Rattle.std.proofs.lemmas.Bool.{ltb-true, ltb-false}
 use Rattle.acq_io.specs.declared.streams.Put.{Put}
@@ -15,7 +15,7 @@ use Rattle.net_cnf.specs.declared.fault.CnfFault.TheVariants as cnf
 use Rattle.session_store.specs.declared.fault.SFault.{SFault}
 use Rattle.acq_cli.specs.Exactly.{HoldsSession, IsBrokenOff, RefusesOpening}
 use Rattle.acq_cli.specs.Journals.{EndsWith, untold}
-use Rattle.acq_cli.specs.Printing.{HoldsPrintable, HoldsTooLarge, IsPrinted, PrintEnds, Prints, PrintsExactly, PrintsTo, SaysClauses, TellsClauses, too_large_text}
+use Rattle.acq_cli.specs.Printing.{PrintEnds, Prints, PrintsExactly, PrintsTo, TellsClauses, too_large_text}
 use Rattle.acq_cli.specs.Program.{ended_as}
 use Rattle.acq_cli.specs.Reducing.{network_after}
 use Rattle.acq_cli.proofs.Closings.{okay, err_ok}

@@ -1,5 +1,5 @@
 -- What `model` tells of the input and a file, exactly.
-use Rattle.std.proofs.Common.{◌≡◌, ◌⊎◌, ◌∙◌, ◌+◌, ℕ, ◌<◌, Bool, true, false, cond, List, [], length, drop, Option, Some, Result, Ok, Err, refl, sym, ap, subst, inl, inr, ⊎_elim}
+use Rattle.std.proofs.Common.{◌≡◌, ◌⊎◌, ◌∙◌, ◌+◌, ℕ, Bool, true, false, cond, List, [], length, drop, Option, Some, Result, Ok, Err, refl, sym, ap, subst, inl, inr, ⊎_elim}
 use Rattle.std.specs.Prelude.{◌≢◌, IfOk, nat_le}
 use Rattle.std.proofs.lemmas.Bool.{leb-false}
 use Rattle.acq_io.specs.Whole.{Gives, all_of, gathered}
@@ -11,17 +11,17 @@ use Rattle.acq_words.specs.declared.request.UsageFault.{UsageFault}
 use Rattle.assign.specs.Assignment.{Assignment}
 use Rattle.language.specs.declared.candidates.Candidate.{Candidate}
 use Rattle.language.specs.Language.{Language}
-use Rattle.net_cnf.specs.Models.{IsModel, model_of}
+use Rattle.net_cnf.specs.Models.{model_of}
 use Rattle.net_cnf.specs.ModelTexts.{model_fault_line, solution_line}
 use Rattle.net_cnf.specs.declared.model_fault.ModelFault.{ModelFault}
 use Rattle.net_cnf.specs.declared.model_fault.ModelFault.TheVariants as model
 use Rattle.net_cnf.proofs.Modelled.{long_model, reads_models}
 use Rattle.session_store.specs.declared.fault.SFault.{SFault}
 use Rattle.acq_cli.specs.Exactly.{HoldsSession, IsBrokenOff, RefusesOpening}
-use Rattle.acq_cli.specs.Journals.{EndsWith, untold}
+use Rattle.acq_cli.specs.Journals.{untold}
 use Rattle.acq_cli.specs.Program.{ended_as}
 use Rattle.acq_cli.specs.Reducing.{network_after}
-use Rattle.acq_cli.specs.Solving.{HoldsModel, IsModelRead, IsNoModel, IsSolved, RefusesModel, SolveEnds, Solves, SolvesExactly, SolvesTo, TellsSolution}
+use Rattle.acq_cli.specs.Solving.{SolveEnds, Solves, SolvesExactly, SolvesTo, TellsSolution}
 use Rattle.acq_cli.proofs.Closings.{okay, err_ok, same_ok}
 use Rattle.acq_cli.proofs.Exactly.{ReadOnce, closed_end, closed_exactly, done_refused, fine, gives_got, holds_none}
 use Rattle.acq_cli.proofs.Journals.{ends_only}

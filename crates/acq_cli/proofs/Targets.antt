@@ -39,6 +39,8 @@ use Rattle.acq_cli.specs.Doing.{Does}
 use Rattle.acq_cli.specs.Playing.{IsAnsweredBy, IsNoNetwork, IsUnstopped, HoldsAnswers, HoldsNoTarget, IsOpened, MayLack, PlayEnds, PlaysExactly, PlaysOn, RefusesTarget, EndsWithout}
 use Rattle.acq_cli.specs.Program.{ended_as}
 use Rattle.acq_cli.specs.Run.{answer}
+use Rattle.acq_cli.proofs.Certified.{certify_ends}
+use Rattle.acq_cli.proofs.Confirmed.{confirm_ends}
 use Rattle.acq_cli.proofs.Printed.{print_ends}
 use Rattle.acq_cli.proofs.Reduced.{reduce_ends}
 use Rattle.acq_cli.proofs.Solved.{solve_ends}
@@ -165,6 +167,10 @@ unstopped l target (Ok ending.NothingBack) said = tt
 unstopped l target (Ok (ending.ReduceSpent i)) said = tt
 unstopped l target (Ok ending.CnfTooLarge) said = tt
 unstopped l target (Ok (ending.ModelRefused fault)) said = tt
+unstopped l target (Ok (ending.NotConverged m)) said = tt
+unstopped l target (Ok (ending.CertRefused fault)) said = tt
+unstopped l target (Ok (ending.Flawed flaw)) said = tt
+unstopped l target (Ok (ending.CertUnread fault)) said = tt
 unstopped l target (Err e) said = tt
 
 pub answered : (turns : Turns) (l : Language) (terms : Terms) (target : List Candidate) (before after : List Event) (left written left' written' : Option (List ℕ)) (got : Result Ending Put) → IsNetwork l target → standing_on l before ≡ [] →
@@ -206,6 +212,8 @@ broken_exactly (Ok command.Back) left content end broken = λ file told. inl bro
 broken_exactly (Ok (command.Reduce budget)) left content end broken = λ file told. inl broken
 broken_exactly (Ok command.Cnf) left content end broken = λ file told. inl broken
 broken_exactly (Ok command.Model) left content end broken = λ bytes from file told. inl broken
+broken_exactly (Ok (command.Certify budget)) left content end broken = λ file told. inl broken
+broken_exactly (Ok command.Check) left content end broken = λ bytes from. inl broken
 broken_exactly (Ok (command.Try plan budget)) left content end broken = tt
 broken_exactly (Ok (command.Demo number budget)) left content end broken = tt
 broken_exactly (Err fault) left content end broken = tt
@@ -385,6 +393,8 @@ module _ {D : Type 0} (content : D → Option (List ℕ)) (may_leave : D → Lis
   ends_exactly once (Ok (command.Reduce budget)) left written left' written' old new got does = reduce_ends content may_leave moment left_since once budget left written written' old new got does
   ends_exactly once (Ok command.Cnf) left written left' written' old new got does = print_ends content may_leave moment left_since once left written written' old new got does
   ends_exactly once (Ok command.Model) left written left' written' old new got does = solve_ends content may_leave moment left_since once left written left' written' old new got does
+  ends_exactly once (Ok (command.Certify budget)) left written left' written' old new got does = certify_ends content may_leave moment left_since once budget left written written' old new got does
+  ends_exactly once (Ok command.Check) left written left' written' old new got does = confirm_ends left written left' written' got does
   ends_exactly once (Ok (command.Try plan budget)) left written left' written' old new got does = tt
   ends_exactly once (Ok (command.Demo number budget)) left written left' written' old new got does = tt
   ends_exactly once (Err fault) left written left' written' old new got does = tt

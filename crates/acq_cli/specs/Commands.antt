@@ -3,6 +3,8 @@ use Rattle.std.specs.Prelude.{ℕ, List, Option, Result, Ok}
 use Rattle.acq_words.specs.declared.request.Command.{Command}
 use Rattle.acq_words.specs.declared.request.Command.TheVariants as command
 use Rattle.acq_words.specs.declared.request.UsageFault.{UsageFault}
+use Rattle.acq_cli.specs.Certifying.{CertifyEnds}
+use Rattle.acq_cli.specs.Confirming.{ConfirmEnds}
 use Rattle.acq_cli.specs.Exactly.{NewEnds, RunEnds, ShowEnds}
 use Rattle.acq_cli.specs.Playing.{PlayEnds}
 use Rattle.acq_cli.specs.Printing.{PrintEnds}
@@ -11,8 +13,9 @@ use Rattle.acq_cli.specs.Solving.{SolveEnds}
 use Rattle.acq_cli.specs.TakingBack.{BackEnds}
 use Rattle.acq_cli.specs.declared.ending.Ending.{Ending}
 
--- `new`, `show`, `back`, `reduce`, `cnf` and `model` are done, a journal is refused, so is a target or a model, there is nothing to take back, a search is spent, and clauses are too
--- large, exactly where the bytes of the input and of the file say so, where they are told.
+-- `new`, `show`, `back`, `reduce`, `cnf`, `model`, `certify` and `check` are done, a journal is refused, so is a target or a model,
+-- there is nothing to take back, a search is spent, clauses are too large, answers haven't converged, no certificate is made, and one
+-- is flawed or unread, exactly where the bytes of the input and of the file say so, where they are told.
 abbrev pub EndsExactly : Result Command UsageFault → (left content : Option (List ℕ)) → Ending → Type 0
 EndsExactly (Ok (command.New plan)) left content end = NewEnds left content end
 EndsExactly (Ok (command.Run budget)) left content end = RunEnds content end
@@ -22,4 +25,6 @@ EndsExactly (Ok command.Back) left content end = BackEnds content end
 EndsExactly (Ok (command.Reduce budget)) left content end = ReduceEnds budget content end
 EndsExactly (Ok command.Cnf) left content end = PrintEnds content end
 EndsExactly (Ok command.Model) left content end = SolveEnds left content end
+EndsExactly (Ok (command.Certify budget)) left content end = CertifyEnds budget content end
+EndsExactly (Ok command.Check) left content end = ConfirmEnds left end
 EndsExactly asked left content end = Unit {0}

@@ -29,6 +29,8 @@ use Rattle.target_oracle.specs.NetTurns.{net_turn}
 use Rattle.target_oracle.specs.Turns.{Turns, Said}
 use Rattle.target_oracle.specs.Words.{trimmed, reply_of}
 use Rattle.voc_read.specs.Vocabulary.{IsVocabulary, refusal_of_vocabulary}
+use Rattle.acq_cli.specs.Certifying.{HoldsCertified}
+use Rattle.acq_cli.specs.Confirming.{IsConfirmed}
 use Rattle.acq_cli.specs.Printing.{HoldsPrintable}
 use Rattle.acq_cli.specs.Reducing.{HoldsDecided}
 use Rattle.acq_cli.specs.Solving.{HoldsModel}
@@ -147,4 +149,6 @@ Completes (Ok (command.Demo number budget)) left written content end = 88573 ≤
 Completes (Ok (command.Reduce budget)) left written content end = ForSome content (λ file. HoldsDecided file budget → IsDoneWith end)
 Completes (Ok command.Cnf) left written content end = ForSome content (λ file. HoldsPrintable file → IsDoneWith end)
 Completes (Ok command.Model) left written content end = ForSome left (λ bytes. ForSome content (λ file. HoldsModel bytes file → IsDoneWith end))
+Completes (Ok (command.Certify budget)) left written content end = ForSome content (λ file. HoldsCertified file budget → IsDoneWith end)
+Completes (Ok command.Check) left written content end = ForSome left (λ bytes. IsConfirmed bytes → IsDoneWith end)
 Completes asked left written content end = Unit {0}

@@ -4,6 +4,8 @@ use Rattle.acq_io.specs.declared.streams.Put.{Put}
 use Rattle.acq_words.specs.declared.request.Command.{Command}
 use Rattle.acq_words.specs.declared.request.Command.TheVariants as command
 use Rattle.acq_words.specs.declared.request.UsageFault.{UsageFault}
+use Rattle.acq_cli.specs.Certifying.{Certifies}
+use Rattle.acq_cli.specs.Confirming.{Confirms}
 use Rattle.acq_cli.specs.Demoing.{Demos}
 use Rattle.acq_cli.specs.Journals.{EndsWith}
 use Rattle.acq_cli.specs.Making.{News}
@@ -35,4 +37,6 @@ module _ {D : Type 0} (content : D → Option (List ℕ)) (may_leave : D → Lis
   Does (Ok (command.Reduce budget)) left written left' written' old new got = Reduces content may_leave moment left_since budget left written written' old new got
   Does (Ok command.Cnf) left written left' written' old new got = Prints content may_leave moment left_since left written written' old new got
   Does (Ok command.Model) left written left' written' old new got = Solves content may_leave moment left_since left written left' written' old new got
+  Does (Ok (command.Certify budget)) left written left' written' old new got = Certifies content may_leave moment left_since budget left written written' old new got
+  Does (Ok command.Check) left written left' written' old new got = Confirms left written left' written' got
   Does (Err fault) left written left' written' old new got = EndsWith (ending.Usage fault) usage_text written written' got

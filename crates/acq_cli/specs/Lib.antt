@@ -24,6 +24,8 @@ pub mod Demoing
 pub mod Reducing
 pub mod Printing
 pub mod Solving
+pub mod Certifying
+pub mod Confirming
 pub mod TakingBack
 pub mod Doing
 pub mod Commands

@@ -43,3 +43,7 @@ status_of ending.NothingBack = 15
 status_of (ending.ReduceSpent i) = 20
 status_of ending.CnfTooLarge = 21
 status_of (ending.ModelRefused fault) = 22
+status_of (ending.NotConverged m) = 16
+status_of (ending.CertRefused fault) = 17
+status_of (ending.Flawed flaw) = 18
+status_of (ending.CertUnread fault) = 19

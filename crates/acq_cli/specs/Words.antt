@@ -26,6 +26,7 @@ is_over_journal (Ok command.Back) = true
 is_over_journal (Ok (command.Reduce budget)) = true
 is_over_journal (Ok command.Cnf) = true
 is_over_journal (Ok command.Model) = true
+is_over_journal (Ok (command.Certify budget)) = true
 is_over_journal _ = false
 
 -- whether it reads the input
@@ -35,6 +36,7 @@ is_reading (Ok command.Back) = false
 is_reading (Ok (command.Demo number budget)) = false
 is_reading (Ok (command.Reduce budget)) = false
 is_reading (Ok command.Cnf) = false
+is_reading (Ok (command.Certify budget)) = false
 is_reading (Ok c) = true
 is_reading (Err fault) = false
 

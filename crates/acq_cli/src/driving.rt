@@ -60,7 +60,7 @@ pub enum Drove {
 
 /// What comes next in a session.
 #[derive(Clone, Copy, Debug, PartialEq, Eq)]
-enum Upcoming {
+pub(crate) enum Upcoming {
     /// A question that is put already.
     Open(Partial),
     /// A question that may be put.
@@ -150,7 +150,7 @@ fn idle_next<R: Threads + Sync, G: Gate>(
 }
 
 /// What comes next in a session.
-fn next_of<R: Threads + Sync, G: Gate>(
+pub(crate) fn next_of<R: Threads + Sync, G: Gate>(
     rt: &R,
     session: &Session,
     places: &mut [Place; 8],

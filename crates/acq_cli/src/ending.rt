@@ -2,6 +2,7 @@ ghost use Rattle.std.specs.Prelude.{◌≡◌};
 ghost use Rattle.acq_cli.specs.Program.{status_of};
 
 use acq_words::UsageFault;
+use cert_check::{CertFault, Flaw, MakeFault};
 use net_cnf::ModelFault;
 use network::NetFault;
 use session_store::SFault;
@@ -47,6 +48,14 @@ pub enum Ending {
     CnfTooLarge,
     /// The input is no model of the network.
     ModelRefused(ModelFault),
+    /// Something is left to ask, or no network agrees with the answers, so there is nothing to certify.
+    NotConverged(u32),
+    /// No certificate is made.
+    CertRefused(MakeFault),
+    /// The certificate has this flaw.
+    Flawed(Flaw),
+    /// The input is no certificate.
+    CertUnread(CertFault),
 }
 
 impl Ending {
@@ -74,6 +83,10 @@ impl Ending {
             Ending::ReduceSpent(_) => 20,
             Ending::CnfTooLarge => 21,
             Ending::ModelRefused(_) => 22,
+            Ending::NotConverged(_) => 16,
+            Ending::CertRefused(_) => 17,
+            Ending::Flawed(_) => 18,
+            Ending::CertUnread(_) => 19,
         }
     }
 }

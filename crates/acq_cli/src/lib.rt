@@ -2,7 +2,9 @@
 #![tactic(auto)]
 
 mod back;
+mod certifying;
 mod commands;
+mod confirming;
 mod demo;
 mod driving;
 mod ending;

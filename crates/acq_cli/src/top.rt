@@ -30,7 +30,9 @@ ghost use Rattle.acq_cli.specs.Words.{IsAsked, Spares, command_asked};
 ghost use Rattle.acq_cli.specs.Texts.{collapsed_text, converged_text, refusal_text, suspended_text, undecided_text, usage_text};
 
 use crate::back::back_journal;
+use crate::certifying::certify_journal;
 use crate::commands::{new_journal, run_journal, show_journal};
+use crate::confirming::check_input;
 use crate::demo::demo_number;
 use crate::driving::{Drove, drive};
 use crate::ending::Ending;
@@ -404,6 +406,8 @@ fn perform<R: Threads + Sync, S: Source, K: Sink, D: Disk, G: Gate>(
         Command::Reduce(budget) => reduce_journal(alloc, budget, out, disk),
         Command::Cnf => print_journal(alloc, out, disk),
         Command::Model => solve_journal(alloc, input, out, disk),
+        Command::Certify(budget) => certify_journal(rt, alloc, budget, out, disk, gate),
+        Command::Check => check_input(rt, alloc, input, out),
     }
 }
 

@@ -157,6 +157,8 @@ command_bare name.Demo = refl
 command_bare name.Reduce = refl
 command_bare name.Cnf = refl
 command_bare name.Model = refl
+command_bare name.Certify = refl
+command_bare name.Check = refl
 
 command_reads : (n : CommandName) → command_named (command_text n) ≡ Some n
 command_reads name.New = refl
@@ -169,6 +171,8 @@ command_reads name.Demo = refl
 command_reads name.Reduce = refl
 command_reads name.Cnf = refl
 command_reads name.Model = refl
+command_reads name.Certify = refl
+command_reads name.Check = refl
 
 plan_reads : (p : Plan) → plan_named (plan_text p) ≡ Some p
 plan_reads Scopes = refl

@@ -42,6 +42,8 @@ command_text name.Demo = codes "demo"
 command_text name.Reduce = codes "reduce"
 command_text name.Cnf = codes "cnf"
 command_text name.Model = codes "model"
+command_text name.Certify = codes "certify"
+command_text name.Check = codes "check"
 
 abbrev pub plan_text : Plan → Text
 plan_text Scopes = codes "scopes"

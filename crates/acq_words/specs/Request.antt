@@ -35,7 +35,9 @@ command_named word =
     else (if bytes_eq word (codes "reduce") then Some name.Reduce
     else (if bytes_eq word (codes "cnf") then Some name.Cnf
     else (if bytes_eq word (codes "model") then Some name.Model
-    else None)))))))))
+    else (if bytes_eq word (codes "certify") then Some name.Certify
+    else (if bytes_eq word (codes "check") then Some name.Check
+    else None)))))))))))
 
 -- the plan of this name
 abbrev pub plan_named : Text → Option Plan
@@ -58,6 +60,7 @@ takes_budget name.Try = true
 takes_budget name.Play = true
 takes_budget name.Demo = true
 takes_budget name.Reduce = true
+takes_budget name.Certify = true
 takes_budget _ = false
 
 abbrev pub takes_number : CommandName → Bool
@@ -67,6 +70,7 @@ takes_number _ = false
 abbrev pub needs_memory : CommandName → Bool
 needs_memory name.Try = true
 needs_memory name.Demo = true
+needs_memory name.Check = true
 needs_memory _ = false
 
 -- the command and the options don't fit: an option is given that the command doesn't take, a number isn't given that it
@@ -97,6 +101,8 @@ command_by name.Demo plan budget number = command.Demo (unwrap_or number 0) (wit
 command_by name.Reduce plan budget number = command.Reduce (with_budget budget)
 command_by name.Cnf plan budget number = command.Cnf
 command_by name.Model plan budget number = command.Model
+command_by name.Certify plan budget number = command.Certify (with_budget budget)
+command_by name.Check plan budget number = command.Check
 
 abbrev pub command_of : Asked → Command
 command_of a = command_by a.name a.plan a.budget a.number
@@ -174,6 +180,8 @@ IsWithin (command.Demo number budget) = IsBudget budget
 IsWithin (command.Reduce budget) = IsBudget budget
 IsWithin command.Cnf = Unit {0}
 IsWithin command.Model = Unit {0}
+IsWithin (command.Certify budget) = IsBudget budget
+IsWithin command.Check = Unit {0}
 
 -- what is given lies within its limits
 pub record IsLawful (a : Asked) : Type 0 where

@@ -32,6 +32,8 @@ pub enum Command {
     Reduce(u32),
     Cnf,
     Model,
+    Certify(u32),
+    Check,
 }
 
 /// Why there is no request.
@@ -67,6 +69,8 @@ pub enum CommandName {
     Reduce,
     Cnf,
     Model,
+    Certify,
+    Check,
 }
 
 /// What the words ask for beside the journal, each option where it is given.
@@ -97,6 +101,8 @@ pub(crate) fn command_named(word: &str) -> Option<CommandName>
         "reduce" => Some(CommandName::Reduce),
         "cnf" => Some(CommandName::Cnf),
         "model" => Some(CommandName::Model),
+        "certify" => Some(CommandName::Certify),
+        "check" => Some(CommandName::Check),
         _ => None,
     }
 }
@@ -128,12 +134,14 @@ impl CommandName {
             | CommandName::Try
             | CommandName::Play
             | CommandName::Demo
-            | CommandName::Reduce => true,
+            | CommandName::Reduce
+            | CommandName::Certify => true,
             CommandName::New
             | CommandName::Show
             | CommandName::Back
             | CommandName::Cnf
-            | CommandName::Model => false,
+            | CommandName::Model
+            | CommandName::Check => false,
         }
     }
 
@@ -147,7 +155,10 @@ impl CommandName {
     fn needs_memory(self) -> bool
         ensures { result ≡ needs_memory self }
     {
-        matches!(self, CommandName::Try | CommandName::Demo)
+        matches!(
+            self,
+            CommandName::Try | CommandName::Demo | CommandName::Check
+        )
     }
 }
 
@@ -183,6 +194,8 @@ impl Asked {
             CommandName::Reduce => Command::Reduce(budget),
             CommandName::Cnf => Command::Cnf,
             CommandName::Model => Command::Model,
+            CommandName::Certify => Command::Certify(budget),
+            CommandName::Check => Command::Check,
         }
     }
 }

@@ -7,7 +7,7 @@ use std::test::Fail;
 
 /// Words with one space between each two, the journal that is asked for, and the command or why there is none. Which lists
 /// of the last group are taken is `clap`'s own affair.
-static ROWS: [(&str, &str, Result<Command, UsageFault>); 86] = [
+static ROWS: [(&str, &str, Result<Command, UsageFault>); 97] = [
     (
         ":memory: try",
         ":memory:",
@@ -134,6 +134,21 @@ static ROWS: [(&str, &str, Result<Command, UsageFault>); 86] = [
     ("j model --plan=scopes", "", Err(UsageFault::Unfit)),
     ("j model --number 1", "", Err(UsageFault::Unfit)),
     ("j models", "", Err(UsageFault::Words)),
+    ("j certify", "j", Ok(Command::Certify(100_000))),
+    (
+        ":memory: certify --budget=7",
+        ":memory:",
+        Ok(Command::Certify(7)),
+    ),
+    ("j certify --plan quacq", "", Err(UsageFault::Unfit)),
+    ("j certify --number 1", "", Err(UsageFault::Unfit)),
+    ("j certify --budget 0", "", Err(UsageFault::Words)),
+    (":memory: check", ":memory:", Ok(Command::Check)),
+    ("j check", "", Err(UsageFault::Unfit)),
+    (":memory: check --budget 1", "", Err(UsageFault::Unfit)),
+    (":memory: check --plan=multi", "", Err(UsageFault::Unfit)),
+    (":memory: check --number=0", "", Err(UsageFault::Unfit)),
+    (":memory: checks", "", Err(UsageFault::Words)),
     (
         ":memory: demo --number 0",
         ":memory:",

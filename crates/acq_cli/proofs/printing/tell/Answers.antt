@@ -1,4 +1,4 @@
-use Rattle.std.proofs.Common.{◌≡◌, ◌∙◌, refl, subst, ℕ, List}
+use Rattle.std.proofs.Common.{refl, subst, ℕ, List}
 use Rattle.std.proofs.lemmas.Result.{err_from_is_err_and}
 use Rattle.acq_io.specs.Streams.{Adds}
 use Rattle.acq_cli.proofs.Journals.{ends_badly}

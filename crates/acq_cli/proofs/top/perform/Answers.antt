@@ -86,3 +86,17 @@ returns-in-Model-clause-does g c =
     let Done : Result Command UsageFault → Type 0 = λ asked.
     Does D.content D.may_leave D.moment D.left_since asked (g.S.Source.left c.args.input.now) (g.K.Sink.written c.args.out.now) (g.S.Source.left c.solve_journal.new.input) (g.K.Sink.written c.solve_journal.new.out) c.args.disk.now c.solve_journal.new.disk c.solve_journal.result in
     subst Done (sym (c.in-Ok.ensures.is ∙ ap asked_for c.in-Model.is)) c.solve_journal.ensures.solves
+
+pub returns-in-Certify-clause-does : goal.returns-in-Certify-clause-does
+returns-in-Certify-clause-does g c =
+    let D = g.D.Disk in
+    let Done : Result Command UsageFault → Type 0 = λ asked.
+    Does D.content D.may_leave D.moment D.left_since asked (g.S.Source.left c.args.input.now) (g.K.Sink.written c.args.out.now) (g.S.Source.left c.args.input.now) (g.K.Sink.written c.certify_journal.new.out) c.args.disk.now c.certify_journal.new.disk c.certify_journal.result in
+    subst Done (sym (c.in-Ok.ensures.is ∙ ap asked_for c.in-Certify.is)) (c.certify_journal.ensures.certifies (g.S.Source.left c.args.input.now))
+
+pub returns-in-Check-clause-does : goal.returns-in-Check-clause-does
+returns-in-Check-clause-does g c =
+    let D = g.D.Disk in
+    let Done : Result Command UsageFault → Type 0 = λ asked.
+    Does D.content D.may_leave D.moment D.left_since asked (g.S.Source.left c.args.input.now) (g.K.Sink.written c.args.out.now) (g.S.Source.left c.check_input.new.input) (g.K.Sink.written c.check_input.new.out) c.args.disk.now c.args.disk.now c.check_input.result in
+    subst Done (sym (c.in-Ok.ensures.is ∙ ap asked_for c.in-Check.is)) c.check_input.ensures.confirms
