@@ -5,6 +5,8 @@
 #[cfg(test)]
 mod backs;
 #[cfg(test)]
+mod certificates;
+#[cfg(test)]
 mod demos;
 #[cfg(test)]
 mod faults;
@@ -20,3 +22,5 @@ mod refused;
 mod rows;
 #[cfg(test)]
 mod runs;
+#[cfg(test)]
+mod solves;
