@@ -9,7 +9,8 @@ program, refuses them. Where cc isn't there, that is said in a line and nothing 
 
 Each time the status is 11, or the command's own; then nothing is missing. What was printed is a front of the command's text, of
 whole lines. The file is, to the byte, what the same command leaves with fewer answers: with each one after which a further line
-was printed, and at most one more. A `new` leaves the file as it was, or makes the session; `show` leaves it as it was.
+was printed, and at most one more. A `new` leaves the file as it was, or makes the session, and a `back` as it was, or with one answer
+less; the commands that only read leave it as it was.
 
 A command that the program doesn't have yet, which prints the usage line, is named in a line and passed over.
 """
@@ -54,6 +55,11 @@ ORDERS = vocabulary("ab", {"le": "<=", "ge": ">=", "ne": "!="})
 DIFFER = vocabulary("abc", {"ne": "!="})
 CREATED = "created variables 2 scopes 1 candidates 3\n"
 BOTH = "q1 a=1 b=2\nq2 a=1 b=1\n"
+CLAUSES = "c a=1 1\nc a=2 2\nc b=1 3\nc b=2 4\np cnf 4 6\n1 2 0\n3 4 0\n-1 -2 0\n-3 -4 0\n-1 -3 0\n-2 -4 0\n"
+CERTIFICATE = (
+    f"QUACQCERT1\nvocabulary {len(EQUAL_OR_NOT)}\n{EQUAL_OR_NOT.decode()}\n"
+    "answers 2\nyes 0:0 1:1\nno 0:0 1:0\nnetwork 1\n0 1\nimplied 0\nend\n"
+)
 
 # Commands one after the other over one file: the words, the input, the text, the status. No text is any text.
 ROWS = [
@@ -65,7 +71,16 @@ ROWS = [
         ("new", EQUAL_OR_NOT, "refused journal session there\n", 3),
         ("run", b"no\n", "q2 a=1 b=1\nconverged 2\nne a b\n", 0),
         ("show", b"", "plan quacq\nq1 a=1 b=2 yes\nq2 a=1 b=1 no\nanswers 2\nlearned 1\nne a b\nstate idle\n", 0),
+        ("cnf", b"", CLAUSES, 0),
+        ("model", b"v 1 -2 -3 4 0\n", "solution a=1 b=2\n", 0),
+        ("certify", b"", CERTIFICATE, 0),
+        ("back", b"", "took back answer 2\n", 0),
+        ("back", b"", "took back answer 1\n", 0),
+        ("back", b"", "refused nothing to take back\n", 15),
     ],
+    [("check", CERTIFICATE.encode(), "confirmed 2\nne a b\n", 0)],
+    [("check", CERTIFICATE.replace("no 0:0 1:0", "no 0:0").encode(), "refused certificate answer 1\n", 18)],
+    [("check", CERTIFICATE.replace("\n0 1\n", "\n0 3\n").encode(), "refused certificate form bad line 7\n", 19)],
     [("try", ORDERS + b"no\nno\nyes\n", "q1 a=2 b=1\nq2 a=1 b=1\nq3 a=1 b=2\nconverged 3\nle&ne a b\n", 0)],
     [
         ("new", EQUAL_OR_NOT, CREATED, 0),
@@ -117,7 +132,7 @@ class Command:
         self.journal = journal
         self.before = before
         self.kind, *options = words.split()
-        place = ":memory:" if self.kind in ("try", "demo") else self.journal
+        place = ":memory:" if self.kind in ("try", "demo", "check") else self.journal
         self.name = words
         self.words = [program, place, self.kind, *options]
         self.given = given
@@ -138,7 +153,7 @@ class Command:
         self.text, self.status, self.made, _ = self.start(library, self.words, self.given)
         assert self.made > 0, "no request is counted, so the library isn't loaded"
         last = content_of(self.journal)
-        self.left = [self.before] if self.kind == "new" else []
+        self.left = [self.before] if self.kind in ("new", "back") else []
         for count in range(len(answers := self.answers())):
             self.start(library, [*self.words[:2], "run"], "".join(answers[:count]).encode())
             self.left.append(content_of(self.journal))
@@ -154,7 +169,7 @@ class Command:
     def acknowledged(self, text):
         """The number of the content that it has left for certain, once it has printed this."""
         lines = text.count("\n")
-        return min(lines if self.kind == "new" else max(0, lines - 1), len(self.left) - 1)
+        return min(lines if self.kind in ("new", "back") else max(0, lines - 1), len(self.left) - 1)
 
     def refuse(self, library, first, many):
         """Runs it with some requests refused, and says how many were."""

@@ -1,0 +1,100 @@
+#!/usr/bin/env python3
+"""What a certificate of a learned network costs: to make, to keep, and to check.
+
+usage: bench/certs.py PROGRAM [--budget N] [--case WORD]
+
+PROGRAM is the built program, as crates/acquire/out/acquire. The cases of bench/search.py are learned by `play` over a journal, each in
+its plan; then `certify` writes the certificate and `check` checks it, on one processor and on all of them, since its list is checked in
+eight parts. The budget of `certify` is 1,000,000 where no other is named, as a tree may have more branches than the search that
+found nothing has steps. A table in Markdown comes: how many constraints were learned, how many candidates the certificate lists, its
+bytes, the seconds of a processor for `certify` and for `check`, and the seconds that `check` takes on one processor and on all.
+Where `certify` refuses, its line is shown in place of the number of candidates.
+
+Seen to: `check` confirms each certificate, and prints the network that was learned. Where that isn't so the status is 1. Nothing is
+asserted of the times.
+"""
+
+import argparse
+import json
+import os
+import subprocess
+import sys
+import tempfile
+import time
+
+sys.dont_write_bytecode = True
+from journals import Cost
+from search import cases, milliseconds
+
+REFUSED = (16, 17)
+BUDGET = "1000000"
+
+
+def elapsed(words, given):
+    """The seconds that a run takes."""
+    begun = time.monotonic()
+    subprocess.run(words, input=given, stdout=subprocess.DEVNULL, check=False)
+    return time.monotonic() - begun
+
+
+def row_of(program, case, budget):
+    options = list(zip(case.words[::2], case.words[1::2]))
+    words_of = lambda name: [word for option in options if option[0] == name for word in option]
+    target = json.dumps([text.split(" ") for text in case.task.constraints], separators=(",", ":")).encode()
+    with tempfile.TemporaryDirectory(dir="/dev/shm" if os.path.isdir("/dev/shm") else None) as folder:
+        journal = os.path.join(folder, "journal")
+        made = Cost([program, journal, "new", *words_of("--plan")], case.vocabulary.encode(), subprocess.DEVNULL)
+        assert made.status == 0, "new is refused"
+        played = Cost([program, journal, "play", *words_of("--budget")], target, subprocess.PIPE)
+        learned = [line for line in played.text.splitlines() if line[:1] != "q" and not line.startswith("open ")]
+        cost = Cost([program, journal, "certify", "--budget", budget], b"", subprocess.PIPE)
+    head = [case.name, learned[0].split(" ")[0], f"{len(learned) - 1:,}"]
+    if cost.status in REFUSED:
+        return [*head, cost.text.splitlines()[0], "", milliseconds(cost.processor), "", "", ""]
+    assert cost.status == 0, f"certify ends with status {cost.status}"
+    listed = next(line for line in cost.text.splitlines()[::-1] if line.startswith("implied ")).split(" ")[1]
+    words = [program, ":memory:", "check"]
+    text = cost.text.encode()
+    checked = Cost(words, text, subprocess.PIPE)
+    assert checked.status == 0, f"check ends with status {checked.status}"
+    assert checked.text.splitlines()[1:] == learned[1:], "check prints another network"
+    alone = elapsed(["taskset", "-c", "0", *words], text)
+    together = elapsed(words, text)
+    return [
+        *head,
+        f"{int(listed):,}",
+        f"{len(text):,}",
+        milliseconds(cost.processor),
+        milliseconds(checked.processor),
+        milliseconds(alone),
+        milliseconds(together),
+    ]
+
+
+def main():
+    words = argparse.ArgumentParser(usage="bench/certs.py PROGRAM [--budget N] [--case WORD]")
+    words.add_argument("program")
+    words.add_argument("--budget", default=BUDGET)
+    words.add_argument("--case", default="")
+    if len(sys.argv) < 2:
+        print(__doc__)
+        sys.exit(2)
+    given = words.parse_args()
+    program = os.path.realpath(given.program)
+    heads = ["case", "ending", "learned", "listed", "bytes", "ms of certify", "ms of check", "waited on one", "waited on all"]
+    print(f"| {' | '.join(heads)} |\n|{'---|' * len(heads)}", flush=True)
+    right = True
+    for _, make in cases():
+        case = make()
+        if given.case not in case.name:
+            continue
+        try:
+            print(f"| {' | '.join(row_of(program, case, given.budget))} |", flush=True)
+        except AssertionError as fault:
+            print(f"{case.name}: {fault}", flush=True)
+            right = False
+    sys.exit(0 if right else 1)
+
+
+if __name__ == "__main__":
+    main()
