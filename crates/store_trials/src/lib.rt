@@ -1,4 +1,4 @@
-//! Sessions over a journal: files that are written out by hand, calls that fail, and crashes.
+//! Sessions over a journal: files that are written out by hand, calls that fail, crashes, and random answers and take-backs.
 #![tactic(auto)]
 
 #[cfg(test)]
@@ -7,5 +7,7 @@ mod created;
 mod files;
 #[cfg(test)]
 mod opened;
+#[cfg(test)]
+mod resumed;
 #[cfg(test)]
 mod steps;

@@ -108,7 +108,7 @@ pub(crate) fn standing_count<D: Disk, P: Keep<D>>(keep: &P) -> u32
     keep.session().answers()
 }
 
-fn has_answers<D: Disk, P: Keep<D>>(keep: &P) -> bool
+pub(crate) fn has_answers<D: Disk, P: Keep<D>>(keep: &P) -> bool
     requires { P.sound keep.now }
     ensures { IsTrue result → standing (P.record_of keep.now) ≢ [] }
 {
