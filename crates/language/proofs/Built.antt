@@ -1,26 +1,30 @@
 -- A language that is built keeps what each language keeps.
-use Rattle.std.proofs.Common.{◌≡◌, ℕ, zero, ◌-◌, ◌^◌, ◌≤◌, ◌||◌, ◌⊎◌, inl, inr, Option, Some, Bool, true, false, cond, List, [], ◌∷◌, length, map, get_or, refl, sym, ◌∙◌, ap, subst, arith}
+use Rattle.std.proofs.Common.{◌≡◌, ℕ, zero, ◌+◌, ◌-◌, ◌^◌, ◌<◌, ◌≤◌, ◌||◌, ◌⊎◌, inl, inr, Option, Some, Bool, true, false, cond, List, [], ◌∷◌, length, map, get_or, take, refl, sym, ◌∙◌, ap, subst, arith}
 use Rattle.std.specs.Prelude.{All, string_bytes, ◌==◌}
-use Rattle.std.specs.List.{list_any, filter}
+use Rattle.std.specs.List.{list_any, list_all, filter}
 use Rattle.std.specs.Option.{option_or}
 use Rattle.std.proofs.lemmas.Bool.{cases_Bool, eqb-true}
-use Rattle.std.proofs.lemmas.List.{length-map}
+use Rattle.std.proofs.lemmas.List.{length-map, get_or-map}
+use Rattle.std.proofs.lemmas.List.FromFn.{length-range_with_len, get_or-map-range_with_len}
 use Rattle.std.proofs.lemmas.List.Folds.{Any-from_list_any}
-use Rattle.std.proofs.lemmas.List.Elements.{All-head, All-map, All-weaker}
+use Rattle.std.proofs.lemmas.List.Elements.{All-head, All-map}
 use Rattle.rel_table.specs.Relation.{Relation, IsClosing}
-use Rattle.rel_table.specs.Table.{TruthTable, IsTable}
+use Rattle.rel_table.specs.Table.{IsTable}
 use Rattle.rel_table.specs.Closing.{IsOfKind}
 use Rattle.rel_table.proofs.Growing.{one_given}
 use Rattle.language.specs.declared.parts.RelPart.{RelPart}
 use Rattle.language.specs.declared.parts.LangFault.{LangFault}
 use Rattle.language.specs.declared.scopes.Scope.{Scope}
 use Rattle.language.specs.declared.lang.Language.TheInside.{Inside}
-use Rattle.language.specs.Language.{Language, Given, relations_of, IsLanguage, AreNames}
-use Rattle.language.specs.Building.{Frame, IsFrame, IsOver, IsBuilt, has_arity, relations_of_arity, scopes_of, scopes_refusal, closing_refusal, build_refusal}
-use Rattle.language.specs.Built.{AreScopes, IsClosedOf}
+use Rattle.language.specs.Language.{Language, Given, of_arity, given_on, given_within, relations_on, scope_at, IsLanguage, AreNames}
+use Rattle.language.specs.Ranges.{is_whole_range, widened}
+use Rattle.language.specs.declared.ranges.ValueRange.{ValueRange}
+use Rattle.language.specs.Building.{Frame, IsFrame, IsOver, IsBuilt, has_arity, relations_given, scopes_of, scopes_refusal, closing_refusal, build_refusal}
+use Rattle.language.specs.Built.{AreScopes, IsClosedOf, AreAll, given_at}
 use Rattle.language.specs.Scopes.{variables_in}
-use Rattle.language.specs.Inside.{seen, given_by, truths, first_numbers, IsSound}
-use Rattle.language.proofs.Fields.{truths_at}
+use Rattle.language.specs.Inside.{seen, given_by, ranges_in, scope_in, relations_at, IsSound}
+use Rattle.assign.specs.Sets.{numbers}
+use Rattle.language.proofs.Sizes.{closed_sized}
 use Rattle.language.proofs.Members.{any-map}
 
 -- how many values the first relation is over
@@ -46,12 +50,11 @@ some_closed : (file closed : List Relation) → 1 ≤ length file → IsClosing 
 some_closed [] closed some closing = absurd (omega arith)
 some_closed (r ∷ file) closed some closing = let has = closing.every r (one_given (r ∷ file) r (zero, omega arith, refl)) in let low = has.1 in omega arith
 
--- there is an intersection
-some_relation : (given : List Given) (arity : ℕ) (closed : List Relation) → has_arity given arity ≡ true → IsClosing (relations_of_arity given arity) closed → 1 ≤ length closed
-some_relation given arity closed has closing =
-    let kept : List Given = filter (λ (g : Given). g.arity == arity) given in
-    let some = some_kept (λ (g : Given). g.arity == arity) given has in
-    some_closed (relations_of_arity given arity) closed (omega (arith, some, length-map kept (λ (g : Given). g.relation))) closing
+-- the vocabulary's relations on a scope, one by one
+given_relations : (ranges : List ValueRange) (d : ℕ) (scope : List ℕ) (given : List Given) →
+    map (widened ranges d scope) (relations_given given) ≡ map (λ (g : Given). g.relation) (map (given_within ranges d scope) given)
+given_relations ranges d scope [] = refl
+given_relations ranges d scope (g ∷ given) = λ i. widened ranges d scope g.relation ∷ given_relations ranges d scope given i
 
 -- some table has a place for each tuple of this length
 few_places : (d : ℕ) (parts : List RelPart) → All (IsOver d) parts → All (λ (part : RelPart). IsTable part.table) parts → (arity : ℕ) → has_arity (map given_by parts) arity ≡ true → d ^ arity ≤ 65536
@@ -63,6 +66,10 @@ few_places d parts over tables arity has =
     let same : part.table.value_count ^ part.table.arity ≡ d ^ arity = λ i. values i ^ eqb-true part.table.arity arity found.4 i in
     omega (arith, same, table.each, table.fits)
 
+pub scopes_fit : (d : ℕ) (parts : List RelPart) (scopes : List Scope) → All (IsOver d) parts → All (λ (part : RelPart). IsTable part.table) parts →
+    All (λ scope. has_arity (map given_by parts) (length scope) ≡ true) (map variables_in scopes) → All (λ scope. d ^ length scope ≤ 65536) (map variables_in scopes)
+scopes_fit d parts scopes over tables used k scope low = few_places d parts over tables (length (get_or (map variables_in scopes) k scope)) (used k scope low)
+
 -- ---- The language
 
 -- what a language is made of
@@ -70,6 +77,7 @@ pub record IsMadeOf (frame : Frame) (parts : List RelPart) (a : Inside) : Type 0
   pub names : map string_bytes a.names.items ≡ frame.names
   pub least_value : a.least_value ≡ frame.least_value
   pub value_count : a.value_count ≡ frame.value_count
+  pub ranges : take (length a.names.items) a.ranges ≡ frame.ranges
   pub given : a.given.items ≡ parts
   pub over : All (IsOver frame.value_count) parts
   pub tables : All (λ (part : RelPart). IsTable part.table) parts
@@ -78,7 +86,8 @@ pub record IsMadeOf (frame : Frame) (parts : List RelPart) (a : Inside) : Type 0
   pub sized : All (λ (scope : Scope). length (variables_in scope) ≡ scope.size) a.scopes.items
   pub relations : (arity : ℕ) → 1 ≤ arity → arity ≤ 4 → IsClosedOf frame.value_count arity (map given_by parts) (get_or a.relations (arity - 1) [])
   pub four : length a.relations ≡ 4
-  pub numbers : a.numbers.items ≡ first_numbers a.relations a.scopes.items
+  pub all : AreAll (ranges_in a) a.value_count (map given_by parts) a.relations a.scopes.items a.on.items a.numbers.items
+  pub is_whole : a.is_whole ≡ list_all (is_whole_range a.value_count) (ranges_in a)
 
 -- the language over a frame
 abbrev over_frame : Frame → List RelPart → Inside → Language
@@ -86,9 +95,10 @@ over_frame frame parts a = record {
   names = frame.names;
   least_value = frame.least_value;
   value_count = frame.value_count;
+  ranges = frame.ranges;
   given = map given_by parts;
   scopes = map variables_in a.scopes.items;
-  relations = map truths a.relations;
+  relations = map (relations_at frame.ranges frame.value_count a.relations a.scopes.items a.on.items a.numbers.items) (numbers (length a.scopes.items));
 }
 
 seen-made : (frame : Frame) (parts : List RelPart) (a : Inside) → IsMadeOf frame parts a → seen a ≡ over_frame frame parts a
@@ -96,55 +106,89 @@ seen-made frame parts a made = λ i. record {
   names = made.names i;
   least_value = made.least_value i;
   value_count = made.value_count i;
+  ranges = made.ranges i;
   given = map given_by (made.given i);
   scopes = map variables_in a.scopes.items;
-  relations = map truths a.relations;
+  relations = map (relations_at (made.ranges i) (made.value_count i) a.relations a.scopes.items a.on.items a.numbers.items) (numbers (length a.scopes.items));
 }
 
-lawful_over : (frame : Frame) (parts : List RelPart) (a : Inside) → IsFrame frame → IsMadeOf frame parts a → IsLanguage (over_frame frame parts a)
-lawful_over frame parts a is_frame made = record {
-  some_variable = is_frame.some_variable;
-  few_variables = is_frame.few_variables;
-  names = is_frame.names;
-  some_value = is_frame.some_value;
-  few_values = is_frame.few_values;
-  low = is_frame.low;
-  high = is_frame.high;
-  relation_names = made.relation_names;
+module _ (frame : Frame) (parts : List RelPart) (a : Inside) (is_frame : IsFrame frame) (made : IsMadeOf frame parts a) where
+  abbrev d : ℕ
+  d = frame.value_count
+
+  abbrev l : Language
+  l = over_frame frame parts a
+
+  -- what holds of the scopes in the fields, by the frame
+  all : AreAll frame.ranges d (map given_by parts) a.relations a.scopes.items a.on.items a.numbers.items
+  all = subst (λ (rs : List ValueRange). AreAll rs d (map given_by parts) a.relations a.scopes.items a.on.items a.numbers.items) made.ranges
+      (subst (λ (n : ℕ). AreAll (ranges_in a) n (map given_by parts) a.relations a.scopes.items a.on.items a.numbers.items) made.value_count made.all)
+
+  -- a scope, as it stands in the fields
+  record IsScopeAt (s : ℕ) : Type 0 where
+    pub inside : s < length a.scopes.items
+    pub scope_is : scope_at l s ≡ variables_in (scope_in a.scopes.items s)
+    pub relations_is : relations_on l s ≡ relations_at frame.ranges d a.relations a.scopes.items a.on.items a.numbers.items s
+
+  scope_there : (s : ℕ) → s < length l.scopes → IsScopeAt s
+  scope_there s low =
+      let inside : s < length a.scopes.items = omega (arith, low, length-map a.scopes.items variables_in) in
+      record {
+        inside = inside;
+        scope_is = get_or-map variables_in a.scopes.items s (record { size = 0; variables = [] }) [] inside;
+        relations_is = get_or-map-range_with_len (relations_at frame.ranges d a.relations a.scopes.items a.on.items a.numbers.items) 0 (length a.scopes.items) s s [] inside (let e : 0 + s ≡ s = omega arith in e);
+      }
+
+  given_sized : All (λ (g : Given). length g.relation ≡ d ^ g.arity) (map given_by parts)
   given_sized = All-map (λ (g : Given). length g.relation ≡ d ^ g.arity) given_by parts
-      (λ k part low. (made.tables k part low).each ∙ ap (λ n. n ^ (get_or parts k part).table.arity) (made.over k part low));
-  few_scopes = let few = made.scopes.few in omega (arith, few, length-map a.scopes.items variables_in);
-  scopes = made.scopes.lawful;
-  apart = made.scopes.apart;
-  closed = closed;
-  sized = λ arity some short. subst (All (λ (r : Relation). length r ≡ d ^ arity)) (sym (truths_at a.relations (arity - 1)))
-      (All-map (λ (r : Relation). length r ≡ d ^ arity) (λ (t : TruthTable). t.truth) (tables arity)
-      (All-weaker (IsOfKind arity d) (λ (t : TruthTable). length t.truth ≡ d ^ arity) (λ t (kind : IsOfKind arity d t). kind.size) (tables arity) (made.relations arity some short).kinds));
-  few_relations = λ arity some short.
-      let few = (made.relations arity some short).few in
-      omega (arith, few, ap length (truths_at a.relations (arity - 1)), length-map (tables arity) (λ (t : TruthTable). t.truth));
-  small = λ k scope low. few_places d parts made.over made.tables (length (get_or (map variables_in a.scopes.items) k scope)) (made.scopes.used k scope low);
-  used = λ k scope low.
-      let here : List ℕ = get_or (map variables_in a.scopes.items) k scope in
-      let is_scope = made.scopes.lawful k scope low in
-      some_relation (map given_by parts) (length here) (relations_of (over_frame frame parts a) (length here)) (made.scopes.used k scope low) (closed (length here) is_scope.not_empty is_scope.short);
-}
-  where
-    d : ℕ
-    d = frame.value_count
+      (λ k part low. (made.tables k part low).each ∙ ap (λ n. n ^ (get_or parts k part).table.arity) (made.over k part low))
 
-    tables : ℕ → List TruthTable
-    tables arity = get_or a.relations (arity - 1) []
+  closed : (s : ℕ) → s < length l.scopes → IsClosing (map (λ (g : Given). g.relation) (given_on l s)) (relations_on l s)
+  closed s low =
+      let at = scope_there s low in
+      subst (λ rs. IsClosing rs (relations_on l s)) (given_relations frame.ranges d (scope_at l s) (of_arity (length (scope_at l s)) (map given_by parts)))
+      (subst (λ (scope : List ℕ). IsClosing (given_at frame.ranges d (map given_by parts) scope) (relations_on l s)) (sym at.scope_is)
+      (subst (IsClosing (given_at frame.ranges d (map given_by parts) (variables_in (scope_in a.scopes.items s)))) (sym at.relations_is) (all.closing s at.inside)))
 
-    closed : (arity : ℕ) → 1 ≤ arity → arity ≤ 4 → IsClosing (relations_of_arity (map given_by parts) arity) (relations_of (over_frame frame parts a) arity)
-    closed arity some short = subst (IsClosing (relations_of_arity (map given_by parts) arity)) (sym (truths_at a.relations (arity - 1))) (made.relations arity some short).closing
+  -- each relation on a scope has a truth value for each tuple
+  sized : (s : ℕ) → s < length l.scopes → All (λ (r : Relation). length r ≡ d ^ length (scope_at l s)) (relations_on l s)
+  sized s low =
+      let at = scope_there s low in
+      closed_sized frame.ranges d (scope_at l s) (map given_by parts) (relations_on l s) given_sized (closed s low)
+
+  lawful_over : IsLanguage l
+  lawful_over = record {
+    some_variable = is_frame.some_variable;
+    few_variables = is_frame.few_variables;
+    names = is_frame.names;
+    some_value = is_frame.some_value;
+    few_values = is_frame.few_values;
+    low = is_frame.low;
+    high = is_frame.high;
+    ranged = is_frame.ranged;
+    ranges = is_frame.ranges;
+    relation_names = made.relation_names;
+    given_sized = given_sized;
+    few_scopes = let few = made.scopes.few in omega (arith, few, length-map a.scopes.items variables_in);
+    scopes = made.scopes.lawful;
+    apart = made.scopes.apart;
+    closed = closed;
+    sized = sized;
+    few_relations = λ s low. let at = scope_there s low in let few = all.few s at.inside in omega (arith, few, ap length at.relations_is);
+    small = λ k scope low. few_places d parts made.over made.tables (length (get_or (map variables_in a.scopes.items) k scope)) (made.scopes.used k scope low);
+    used = λ s low.
+        some_closed (map (λ (g : Given). g.relation) (given_on l s)) (relations_on l s)
+        (let some = some_kept (λ (g : Given). g.arity == length (scope_at l s)) (map given_by parts) (made.scopes.used s [] low) in
+        omega (arith, some, length-map (given_on l s) (λ (g : Given). g.relation), length-map (of_arity (length (scope_at l s)) (map given_by parts)) (given_within frame.ranges d (scope_at l s)))) (closed s low);
+  }
 
 pub sound : (frame : Frame) (parts : List RelPart) (a : Inside) → IsFrame frame → IsMadeOf frame parts a → IsSound a
 sound frame parts a is_frame made = record {
   lawful = subst IsLanguage (sym (seen-made frame parts a made)) (lawful_over frame parts a is_frame made);
   sized = made.sized;
   kinds = λ arity some short. subst (λ (d : ℕ). All (IsOfKind arity d) (get_or a.relations (arity - 1) [])) (sym made.value_count) (made.relations arity some short).kinds;
-  numbers = made.numbers;
+  is_whole = made.is_whole;
+  parts = made.all.parts;
 }
 
 pub built : (frame : Frame) (parts : List RelPart) (listed : Option (List (List ℕ))) (a : Inside) → IsFrame frame → IsMadeOf frame parts a →
@@ -153,9 +197,10 @@ built frame parts listed a is_frame made scopes = record {
   names = made.names;
   least_value = made.least_value;
   value_count = made.value_count;
+  ranges = made.ranges;
   given = ap (map given_by) made.given;
   scopes = scopes;
-  four = length-map a.relations truths ∙ made.four;
+  each = length-map (numbers (length a.scopes.items)) (relations_at (ranges_in a) a.value_count a.relations a.scopes.items a.on.items a.numbers.items) ∙ length-range_with_len 0 (length a.scopes.items) ∙ sym (length-map a.scopes.items variables_in);
   lawful = (sound frame parts a is_frame made).lawful;
 }
 

@@ -14,15 +14,18 @@ use Rattle.std.proofs.lemmas.Nat.{one_shl}
 use Rattle.std.proofs.lemmas.Nat.Bits.{bit_at-zero}
 use Rattle.assign.specs.SetLemmas.{is_one, is_one-or, is_one-pow}
 use Rattle.rel_table.specs.Relation.{Relation}
-use Rattle.language.specs.Language.{Given}
+use Rattle.language.specs.Language.{Given, of_arity}
 use Rattle.language.specs.declared.parts.RelPart.{RelPart}
 use Rattle.language.specs.Inside.{given_by}
+use Rattle.std.proofs.lemmas.List.Elements.{All-head, All-tail}
+use Rattle.language.proofs.Sizes.{of_arity_sized}
+use Rattle.language.proofs.Wording.{made}
 use Rattle.language.specs.ByName.{relation_among, texts_of}
 
 -- ---- a relation by its name
 
 abbrev pub among : ℕ → List ℕ → List RelPart → Option Relation
-among arity name parts = relation_among arity name (map given_by parts)
+among arity name parts = relation_among name (of_arity arity (map given_by parts))
 
 -- the part has the arity and the name
 abbrev pub is_called : ℕ → List ℕ → RelPart → Bool
@@ -49,6 +52,29 @@ among-drop arity name parts i part b low is test =
     ap (among arity name) (drop-cons parts i part low ∙ (λ j. sym is j ∷ drop (next j) parts))
     ∙ among-cons arity name part (drop (i + 1) parts)
     ∙ ap (λ t. cond t (Some part.table.truth) (among arity name (drop (i + 1) parts))) test
+
+-- of relations of one size
+find_sized : (n : ℕ) (name : List ℕ) (given : List Given) (r : Relation) → All (λ (g : Given). length g.relation ≡ n) given → Some r ≡ relation_among name given → length r ≡ n
+find_sized n name [] r sized is = absurd (let e : Some r ≡ None = is in cc)
+find_sized n name (g ∷ given) r sized is = go (bytes_eq g.name name) (find_sized n name given r (All-tail (λ (g : Given). length g.relation ≡ n) g given sized)) is
+  where
+    go : (b : Bool) → (Some r ≡ relation_among name given → length r ≡ n) → Some r ≡ option_map (λ (g : Given). g.relation) (cond b (Some g) (find (λ (g : Given). bytes_eq g.name name) given)) → length r ≡ n
+    go true rest is = let same : r ≡ g.relation = cc in ap length same ∙ All-head (λ (g : Given). length g.relation ≡ n) g given sized
+    go false rest is = rest is
+
+pub named_sized : (d arity : ℕ) (name : List ℕ) (given : List Given) (r : Relation) → All (λ (g : Given). length g.relation ≡ d ^ g.arity) given → Some r ≡ relation_among name (of_arity arity given) → length r ≡ d ^ arity
+named_sized d arity name given r sized is = find_sized (d ^ arity) name (of_arity arity given) r (of_arity_sized d arity given sized) is
+
+-- each made another
+pub among-made : (w : Relation → Relation) (name : List ℕ) (given : List Given) → relation_among name (map (made w) given) ≡ option_map w (relation_among name given)
+among-made w name [] = refl
+among-made w name (g ∷ given) = go (bytes_eq g.name name) (among-made w name given)
+  where
+    go : (b : Bool) → relation_among name (map (made w) given) ≡ option_map w (relation_among name given) →
+        option_map (λ (g : Given). g.relation) (cond b (Some (made w g)) (find (λ (g : Given). bytes_eq g.name name) (map (made w) given)))
+        ≡ option_map w (option_map (λ (g : Given). g.relation) (cond b (Some g) (find (λ (g : Given). bytes_eq g.name name) given)))
+    go true rest = refl
+    go false rest = rest
 
 -- ---- names one by one
 

@@ -1,56 +1,19 @@
 -- The numbers of candidates.
-use Rattle.std.proofs.Common.{◌≡◌, ℕ, zero, suc, ◌+◌, ◌-◌, ◌*◌, ◌<◌, ◌≤◌, List, [], ◌∷◌, ◌++◌, length, take, drop, get_or, refl, sym, ◌∙◌, ap, subst, arith, append_assoc}
+use Rattle.std.proofs.Common.{◌≡◌, ℕ, zero, suc, ◌+◌, ◌-◌, ◌*◌, ◌<◌, ◌≤◌, [], ◌∷◌, ◌++◌, length, take, get_or, sym, ◌∙◌, ap, subst, arith}
 use Rattle.std.specs.List.{flat_map}
-use Rattle.std.proofs.lemmas.List.{drop_more, drop_all, length-map, length-append, map-id, append-nil}
+use Rattle.std.proofs.lemmas.List.{length-map, length-append, map-id, append-nil}
 use Rattle.std.proofs.lemmas.List.FromFn.{length-range_with_len, get_or-range_with_len, map-range_with_len_more, take-map-range_with_len, get_or-map-range_with_len}
 use Rattle.std.proofs.lemmas.List.Concat.{flat_map-append, get_or-flat_map}
-use Rattle.rel_table.specs.Table.{TruthTable}
 use Rattle.assign.specs.Sets.{numbers}
 use Rattle.language.specs.declared.candidates.Candidate.{Candidate}
-use Rattle.language.specs.declared.scopes.Scope.{Scope}
 use Rattle.language.specs.Language.{Language, IsCandidate, candidates_on, candidates, number_of, relations_on}
 use Rattle.language.specs.Laws.{CandidatesAreNumbered}
-use Rattle.language.specs.Inside.{numbers_from}
-
--- ---- One scope after another
-
-pub next_number : (relations : List (List TruthTable)) (scopes : List Scope) (i before more : ℕ) (d : Scope) (whole done after : List ℕ) → i < length scopes →
-    more ≡ length (get_or relations ((get_or scopes i d).size - 1) []) → after ≡ done ++ before ∷ [] →
-    whole ≡ done ++ numbers_from before relations (drop i scopes) → whole ≡ after ++ numbers_from (before + more) relations (drop (i + 1) scopes)
-next_number relations scopes i before more d whole done after low count pushed so_far =
-    so_far
-    ∙ ap (λ ns. done ++ ns) (ap (numbers_from before relations) (drop_more scopes i d low) ∙ ap (λ n. before ∷ numbers_from (before + n) relations (drop (i + 1) scopes)) (sym count))
-    ∙ sym (append_assoc done (before ∷ []) (numbers_from (before + more) relations (drop (i + 1) scopes)))
-    ∙ ap (λ ns. ns ++ numbers_from (before + more) relations (drop (i + 1) scopes)) (sym pushed)
-
-pub last_number : (relations : List (List TruthTable)) (scopes : List Scope) (i before : ℕ) (whole done after : List ℕ) → length scopes ≤ i → after ≡ done ++ before ∷ [] →
-    whole ≡ done ++ numbers_from before relations (drop i scopes) → after ≡ whole
-last_number relations scopes i before whole done after past pushed so_far =
-    pushed ∙ sym (so_far ∙ ap (λ xs. done ++ numbers_from before relations xs) (drop_all i scopes past))
-
--- ---- What the numbers are
-
-pub length-numbers_from : (relations : List (List TruthTable)) (scopes : List Scope) (before : ℕ) → length (numbers_from before relations scopes) ≡ length scopes + 1
-length-numbers_from relations [] before = refl
-length-numbers_from relations (scope ∷ scopes) before =
-    let rest = length-numbers_from relations scopes (before + length (get_or relations (scope.size - 1) [])) in omega (arith, rest)
-
-pub first-numbers_from : (relations : List (List TruthTable)) (scopes : List Scope) (before : ℕ) → get_or (numbers_from before relations scopes) 0 0 ≡ before
-first-numbers_from relations [] before = refl
-first-numbers_from relations (scope ∷ scopes) before = refl
-
--- the next number is greater by the relations on the scope
-pub step-numbers_from : (relations : List (List TruthTable)) (scopes : List Scope) (before s : ℕ) (d : Scope) → s < length scopes →
-    get_or (numbers_from before relations scopes) (suc s) 0 ≡ get_or (numbers_from before relations scopes) s 0 + length (get_or relations ((get_or scopes s d).size - 1) [])
-step-numbers_from relations [] before s d low = absurd (omega arith)
-step-numbers_from relations (scope ∷ scopes) before zero d low = first-numbers_from relations scopes (before + length (get_or relations (scope.size - 1) []))
-step-numbers_from relations (scope ∷ scopes) before (suc s) d low = step-numbers_from relations scopes (before + length (get_or relations (scope.size - 1) [])) s d (omega arith)
 
 -- how many candidates are on the first s scopes
 abbrev pub count : Language → ℕ → ℕ
 count l s = length (flat_map (candidates_on l) (numbers s))
 
-numbers_more : (s : ℕ) → numbers (s + 1) ≡ numbers s ++ s ∷ []
+pub numbers_more : (s : ℕ) → numbers (s + 1) ≡ numbers s ++ s ∷ []
 numbers_more s = sym (map-id (numbers (s + 1))) ∙ map-range_with_len_more (λ (x : ℕ). x) 0 s s (let e : 0 + s ≡ s = omega arith in e) ∙ ap (λ xs. xs ++ s ∷ []) (map-id (numbers s))
 
 numbers_take : (s n : ℕ) → s ≤ n → take s (numbers n) ≡ numbers s

@@ -1,7 +1,8 @@
 -- What the fields of a language say of the language that they stand for.
-use Rattle.std.proofs.Common.{◌≡◌, ℕ, zero, suc, ◌+◌, ◌-◌, ◌<◌, ◌≤◌, ◌++◌, ◌∷◌, List, [], length, map, true, false, Bool, cond, ◌&&◌, nat_le, nat_lt, nat_eq, Some, None, refl, sym, ◌∙◌, ap, subst, arith, ◌⊎◌, inl, inr}
+use Rattle.std.proofs.Common.{◌≡◌, ℕ, zero, suc, ◌+◌, ◌-◌, ◌^◌, ◌<◌, ◌≤◌, ◌++◌, ◌∷◌, List, [], length, map, true, false, Bool, cond, ◌&&◌, nat_le, nat_lt, nat_eq, Some, None, refl, sym, ◌∙◌, ap, subst, arith, ◌⊎◌, inl, inr}
 use Rattle.std.specs.Prelude.{slice_index_or, string_bytes, All, AllPairs}
-use Rattle.std.specs.List.{flat_map}
+use Rattle.std.specs.List.{flat_map, range_with_len}
+use Rattle.std.proofs.lemmas.List.FromFn.{length-range_with_len, get_or-map-range_with_len}
 use Rattle.std.proofs.lemmas.List.{get_or-map, get_or_read, length-map}
 use Rattle.std.specs.List.Sorted.{IsNonDecreasingBy, IsPartitionedBy, IsPartitionPoint}
 use Rattle.std.proofs.lemmas.List.Sorted.{IsNonDecreasingBy-from_default, IsPartitionedBy-leb}
@@ -13,16 +14,19 @@ use Rattle.std.specs.Cmp.Lexicographic.{pointwise}
 use Rattle.rel_table.proofs.Pairwise.{pairs_head, pairs_tail}
 use Rattle.assign.specs.Sets.{is_same, IsSet, Rises}
 use Rattle.rel_table.specs.Table.{TruthTable}
+use Rattle.rel_table.specs.Closing.{IsOfKind}
 use Rattle.rel_table.specs.Relation.{Relation}
-use Rattle.language.specs.Language.{Language, Given, variable_count, candidates, scope_at, scope_number, relations_on, is_name, IsScope, IsLanguage}
-use Rattle.language.specs.Texts.{joined, names_containing, candidate_text}
+use Rattle.language.specs.Language.{Language, Given, variable_count, candidates, of_arity, given_within, given_on, scope_at, scope_of, scope_number, relations_on, is_name, IsScope, IsLanguage}
+use Rattle.language.specs.Texts.{joined, names_containing, scope_names, candidate_text}
 use Rattle.language.specs.declared.candidates.Candidate.{Candidate}
 use Rattle.language.specs.declared.parts.RelPart.{RelPart}
 use Rattle.language.specs.declared.scopes.Scope.{Scope}
 use Rattle.language.specs.declared.lang.Language.TheInside.{Inside}
 use Rattle.language.specs.Scopes.{variables_in}
-use Rattle.language.specs.Inside.{seen, given_by, truths, IsSound}
-use Rattle.language.proofs.Counting.{count, count_more, count_rises, count_few, first-numbers_from, step-numbers_from, length-numbers_from}
+use Rattle.language.specs.Inside.{seen, given_by, truths, tables_for, between, scope_in, relations_at, ranges_in, IsSound}
+use Rattle.language.specs.declared.ranges.ValueRange.{ValueRange}
+use Rattle.language.specs.Ranges.{widened}
+use Rattle.language.proofs.Counting.{count, count_more, count_rises, count_few}
 
 pub scope_here : (a : Inside) → IsSound a → (l : Language) → seen a ≡ l → (s : ℕ) (scope : Scope) → s < length l.scopes →
     scope ≡ slice_index_or a.scopes.items s scope → IsScope (variable_count l) (variables_in scope)
@@ -32,48 +36,104 @@ scope_here a sound l view s scope low is =
     let at : slice_index_or (seen a).scopes s [] ≡ variables_in scope = get_or-map variables_in a.scopes.items s scope [] short ∙ ap variables_in (sym is) in
     subst (λ (x : Language). IsScope (variable_count x) (variables_in scope)) view (subst (IsScope (variable_count (seen a))) at known)
 
-pub truths_at : (relations : List (List TruthTable)) (k : ℕ) → slice_index_or (map truths relations) k [] ≡ truths (slice_index_or relations k [])
-truths_at [] k = refl
-truths_at (tables ∷ relations) zero = refl
-truths_at (tables ∷ relations) (suc k) = truths_at relations k
+pub length-scopes : (a : Inside) (l : Language) → seen a ≡ l → length l.scopes ≡ length a.scopes.items
+length-scopes a l view = ap (λ (x : Language). length x.scopes) (sym view) ∙ length-map a.scopes.items variables_in
 
--- the relations on a scope are those that the tables of its arity hold
-pub relations_here : (a : Inside) (l : Language) → seen a ≡ l → (s arity : ℕ) → arity ≡ length (scope_at l s) → relations_on l s ≡ truths (slice_index_or a.relations (arity - 1) [])
-relations_here a l view s arity is =
-    ap (λ (n : ℕ). slice_index_or l.relations (n - 1) []) (sym is) ∙ ap (λ (x : Language). slice_index_or x.relations (arity - 1) []) (sym view) ∙ truths_at a.relations (arity - 1)
+-- the relations on a scope are those that the numbers of its tables say
+pub relations_here : (a : Inside) (l : Language) → seen a ≡ l → (s : ℕ) → s < length l.scopes →
+    relations_on l s ≡ relations_at (ranges_in a) a.value_count a.relations a.scopes.items a.on.items a.numbers.items s
+relations_here a l view s low =
+    let inside : s < length a.scopes.items = omega (arith, low, length-scopes a l view) in
+    ap (λ (x : Language). relations_on x s) (sym view)
+    ∙ get_or-map-range_with_len (relations_at (ranges_in a) a.value_count a.relations a.scopes.items a.on.items a.numbers.items) 0 (length a.scopes.items) s s [] inside (let e : 0 + s ≡ s = omega arith in e)
+
+-- there are as many as numbers
+pub length_here : (a : Inside) (l : Language) → seen a ≡ l → (s : ℕ) → s < length l.scopes → length (relations_on l s) ≡ slice_index_or a.numbers.items (s + 1) 0 - slice_index_or a.numbers.items s 0
+length_here a l view s low =
+    let first : ℕ = slice_index_or a.numbers.items s 0 in
+    let next : ℕ = slice_index_or a.numbers.items (s + 1) 0 in
+    ap length (relations_here a l view s low)
+    ∙ length-map (between a.on.items first next) (λ (k : ℕ). widened (ranges_in a) a.value_count (variables_in (scope_in a.scopes.items s)) (slice_index_or (truths (tables_for a.relations (scope_in a.scopes.items s))) k []))
+    ∙ length-map (range_with_len first (next - first)) (λ (at : ℕ). slice_index_or a.on.items at 0)
+    ∙ length-range_with_len first (next - first)
+
+pub count_here : (a : Inside) → IsSound a → (l : Language) → seen a ≡ l → (s first next : ℕ) → s < length l.scopes → first ≡ slice_index_or a.numbers.items s first → next ≡ slice_index_or a.numbers.items (s + 1) next →
+    next - first ≡ length (relations_on l s)
+count_here a sound l view s first next low first_is next_is =
+    let long = sound.parts.long in
+    let inside : s + 1 < length a.numbers.items = omega (arith, low, long, length-scopes a l view) in
+    let start = get_or_read a.numbers.items s first (omega arith) first_is 0 in
+    let end = get_or_read a.numbers.items (s + 1) next inside next_is 0 in
+    (λ i. end i - start i) ∙ sym (length_here a l view s low)
+
+-- the table of a relation on a scope, among those of its arity
+pub record IsTableAt (a : Inside) (l : Language) (s r : ℕ) (tables : List TruthTable) : Type 0 where
+  pub start : s < length a.numbers.items
+  pub place : slice_index_or a.numbers.items s 0 + r < length a.on.items
+  pub number : slice_index_or a.on.items (slice_index_or a.numbers.items s 0 + r) 0 < length tables
+  pub truth : (t : TruthTable) → t ≡ slice_index_or tables (slice_index_or a.on.items (slice_index_or a.numbers.items s 0 + r) 0) t → widened l.ranges l.value_count (scope_at l s) t.truth ≡ slice_index_or (relations_on l s) r []
+  pub kind : (t : TruthTable) → t ≡ slice_index_or tables (slice_index_or a.on.items (slice_index_or a.numbers.items s 0 + r) 0) t → IsOfKind (length (scope_at l s)) l.value_count t
+
+pub table_here : (a : Inside) → IsSound a → (l : Language) → seen a ≡ l → (s r : ℕ) (scope : List ℕ) (tables : List TruthTable) → s < length l.scopes → r < length (relations_on l s) →
+    scope ≡ scope_at l s → IsScope (variable_count l) scope → tables ≡ slice_index_or a.relations (length scope - 1) [] → IsTableAt a l s r tables
+table_here a sound l view s r scope tables low rel is is_scope tables_are =
+    let some = is_scope.not_empty in
+    let short = is_scope.short in
+    let inside : s < length a.scopes.items = omega (arith, low, length-scopes a l view) in
+    let here : scope_at (seen a) s ≡ variables_in (scope_in a.scopes.items s) = get_or-map variables_in a.scopes.items s (record { size = 0; variables = [] }) [] inside in
+    let variables : variables_in (scope_in a.scopes.items s) ≡ scope_at l s = sym here ∙ ap (λ (x : Language). scope_at x s) view in
+    let size : (scope_in a.scopes.items s).size ≡ length scope = sym (sound.sized s (record { size = 0; variables = [] }) inside) ∙ ap length (variables ∙ sym is) in
+    let tables_is : tables ≡ tables_for a.relations (scope_in a.scopes.items s) = tables_are ∙ ap (λ (n : ℕ). slice_index_or a.relations (n - 1) []) (sym size) in
+    let first : ℕ = slice_index_or a.numbers.items s 0 in
+    let next : ℕ = slice_index_or a.numbers.items (s + 1) 0 in
+    let part = sound.parts.part s inside in
+    let long = sound.parts.long in
+    let within = part.within in
+    let below : first + r < next = omega (arith, rel, length_here a l view s low) in
+    let number : slice_index_or a.on.items (first + r) 0 < length tables = subst (λ (ts : List TruthTable). slice_index_or a.on.items (first + r) 0 < length ts) (sym tables_is) (part.known (first + r) (omega arith) below) in
+    let kinds : All (IsOfKind (length scope) a.value_count) tables = subst (All (IsOfKind (length scope) a.value_count)) (sym tables_are) (sound.kinds (length scope) some short) in
+    let d : a.value_count ≡ l.value_count = ap (λ (x : Language). x.value_count) view in
+    let ranges : ranges_in a ≡ l.ranges = ap (λ (x : Language). x.ranges) view in
+    record {
+      start = omega (arith, inside, long);
+      place = omega (arith, below, within);
+      number = number;
+      truth = λ t at.
+          (λ i. widened (sym ranges i) (sym d i) (sym variables i) (sym (get_or-map (λ (t : TruthTable). t.truth) tables (slice_index_or a.on.items (first + r) 0) t [] number ∙ ap (λ (t : TruthTable). t.truth) (sym at)) i))
+          ∙ (λ i. widened (ranges_in a) a.value_count (variables_in (scope_in a.scopes.items s)) (slice_index_or (truths (tables_is i)) (slice_index_or a.on.items (first + r) 0) []))
+          ∙ sym (ap (λ (k : ℕ). widened (ranges_in a) a.value_count (variables_in (scope_in a.scopes.items s)) (slice_index_or (truths (tables_for a.relations (scope_in a.scopes.items s))) k []))
+          (get_or-map-range_with_len (λ (at : ℕ). slice_index_or a.on.items at 0) first (next - first) r (first + r) 0 (omega (arith, below)) refl))
+          ∙ sym (get_or-map (λ (k : ℕ). widened (ranges_in a) a.value_count (variables_in (scope_in a.scopes.items s)) (slice_index_or (truths (tables_for a.relations (scope_in a.scopes.items s))) k [])) (between a.on.items first next) r 0 []
+          (omega (arith, below, length-map (range_with_len first (next - first)) (λ (at : ℕ). slice_index_or a.on.items at 0), length-range_with_len first (next - first))))
+          ∙ ap (λ rs. slice_index_or rs r []) (sym (relations_here a l view s low));
+      kind = λ t at. subst (λ (n : ℕ). IsOfKind n l.value_count t) (ap length is)
+          (subst (λ (d : ℕ). IsOfKind (length scope) d t) d (subst (IsOfKind (length scope) a.value_count) (sym at) (kinds (slice_index_or a.on.items (first + r) 0) t number)));
+    }
 
 -- the numbers are those of first candidates, and the last one is that of all
 numbers_seen : (a : Inside) → IsSound a → (s : ℕ) → s ≤ length a.scopes.items → slice_index_or a.numbers.items s 0 ≡ count (seen a) s
-numbers_seen a sound zero low = ap (λ ns. slice_index_or ns 0 0) sound.numbers ∙ first-numbers_from a.relations a.scopes.items 0
+numbers_seen a sound zero low = sound.parts.first
 numbers_seen a sound (suc s) low =
-    let d : Scope = record { size = 0; variables = [] } in
-    let scope : Scope = slice_index_or a.scopes.items s d in
-    let here : scope_at (seen a) s ≡ variables_in scope = get_or-map variables_in a.scopes.items s d [] low in
-    let size : scope.size ≡ length (scope_at (seen a) s) = sym (sound.sized s d low) ∙ ap length (sym here) in
-    let relations : length (slice_index_or a.relations (scope.size - 1) []) ≡ length (relations_on (seen a) s) =
-    sym (ap length (relations_here a (seen a) refl s scope.size size) ∙ length-map (slice_index_or a.relations (scope.size - 1) []) (λ (t : TruthTable). t.truth)) in
-    ap (λ ns. slice_index_or ns (suc s) 0) sound.numbers
-    ∙ step-numbers_from a.relations a.scopes.items 0 s d low
-    ∙ ap (λ ns. slice_index_or ns s 0 + length (slice_index_or a.relations (scope.size - 1) [])) (sym sound.numbers)
-    ∙ (λ i. numbers_seen a sound s (omega arith) i + relations i)
-    ∙ sym (count_more (seen a) s)
-    ∙ ap (count (seen a)) (let e : s + 1 ≡ suc s = omega arith in e)
+    let next : s + 1 ≡ suc s = omega arith in
+    let so_far = numbers_seen a sound s (omega arith) in
+    let part = sound.parts.part s (omega arith) in
+    let rises = part.rises in
+    let more = length_here a (seen a) refl s (omega (arith, low, length-map a.scopes.items variables_in)) in
+    let grown = count_more (seen a) s in
+    ap (λ (n : ℕ). slice_index_or a.numbers.items n 0) (sym next) ∙ (let e : slice_index_or a.numbers.items (s + 1) 0 ≡ count (seen a) (s + 1) = omega (arith, so_far, rises, more, grown) in e) ∙ ap (count (seen a)) next
 
 pub numbers_here : (a : Inside) → IsSound a → (l : Language) → seen a ≡ l → (s : ℕ) → s ≤ length a.scopes.items → slice_index_or a.numbers.items s 0 ≡ count l s
 numbers_here a sound l view s low = numbers_seen a sound s low ∙ ap (λ (x : Language). count x s) view
 
 pub length-numbers : (a : Inside) → IsSound a → length a.numbers.items ≡ length a.scopes.items + 1
-length-numbers a sound = ap length sound.numbers ∙ length-numbers_from a.relations a.scopes.items 0
-
-pub length-scopes : (a : Inside) (l : Language) → seen a ≡ l → length l.scopes ≡ length a.scopes.items
-length-scopes a l view = ap (λ (x : Language). length x.scopes) (sym view) ∙ length-map a.scopes.items variables_in
+length-numbers a sound = sound.parts.long
 
 pub lawful_here : (a : Inside) → IsSound a → (l : Language) → seen a ≡ l → IsLanguage l
 lawful_here a sound l view = subst IsLanguage view sound.lawful
 
 -- at most 64 relations on each scope
 pub few_here : (l : Language) → IsLanguage l → (s : ℕ) → s < length l.scopes → length (relations_on l s) ≤ 64
-few_here l lawful s low = let scope = lawful.scopes s [] low in lawful.few_relations (length (scope_at l s)) scope.not_empty scope.short
+few_here l lawful s low = lawful.few_relations s low
 
 not_empty : (name : List ℕ) → is_name name ≡ true → 1 ≤ length name
 not_empty name h = leb-true 1 (length name) (and_parts _ _ (and_parts _ _ h).0).0
@@ -92,13 +152,29 @@ some_name a sound parts same k d low =
     subst (λ (ps : List RelPart). 1 ≤ length (string_bytes (slice_index_or ps k d).name)) (sym same)
     (subst (λ name. 1 ≤ length name) at (not_empty (slice_index_or n k []) formed))
 
+-- each relation of the vocabulary has a truth value for each tuple
+pub parts_sized : (a : Inside) → IsSound a → (parts : List RelPart) → parts ≡ a.given.items → All (λ (part : RelPart). length part.table.truth ≡ a.value_count ^ part.table.arity) parts
+parts_sized a sound parts same k part low =
+    let sized = sound.lawful.given_sized in
+    let inside : k < length a.given.items = subst (λ (ps : List RelPart). k < length ps) same low in
+    subst (λ (ps : List RelPart). length (slice_index_or ps k part).table.truth ≡ a.value_count ^ (slice_index_or ps k part).table.arity) (sym same)
+    (subst (λ (g : Given). length g.relation ≡ a.value_count ^ g.arity) (get_or-map given_by a.given.items k part (given_by part) inside) (sized k (given_by part) (omega (arith, inside, length-map a.given.items given_by))))
+
 -- the text of a candidate, by what the accessors give
-pub text_here : (l : Language) (c : Candidate) (arity : ℕ) (truth : Relation) (scope : List ℕ) (given : List Given) (names : List (List ℕ)) (text : List ℕ) →
-    arity ≡ length (scope_at l c.scope) → truth ≡ slice_index_or (relations_on l c.scope) c.rel [] → scope ≡ scope_at l c.scope → given ≡ l.given → names ≡ l.names →
-    text ≡ joined 38 (names_containing arity truth given) ++ flat_map (λ name. 32 ∷ name) (map (λ (v : ℕ). slice_index_or names v []) scope) →
+pub text_here : (l : Language) (c : Candidate) (d : ℕ) (ranges : List ValueRange) (truth : Relation) (scope : List ℕ) (given : List Given) (names : List (List ℕ)) (text : List ℕ) →
+    d ≡ l.value_count → ranges ≡ l.ranges → widened l.ranges l.value_count (scope_at l c.scope) truth ≡ slice_index_or (relations_on l c.scope) c.rel [] → scope ≡ scope_at l c.scope → given ≡ l.given → names ≡ l.names →
+    text ≡ joined 38 (names_containing (widened ranges d scope truth) (map (given_within ranges d scope) (of_arity (length scope) given))) ++ flat_map (λ name. 32 ∷ name) (map (λ (v : ℕ). slice_index_or names v []) scope) →
     text ≡ candidate_text l c
-text_here l c arity truth scope given names text a t s g n is =
-    is ∙ (λ i. joined 38 (names_containing (a i) (t i) (g i)) ++ flat_map (λ name. 32 ∷ name) (map (λ (v : ℕ). slice_index_or (n i) v []) (s i)))
+text_here l c d ranges truth scope given names text values rs t s g n is =
+    is ∙ (λ i. joined 38 (names_containing (widened (rs i) (values i) (s i) truth) (map (given_within (rs i) (values i) (s i)) (of_arity (length (s i)) (g i)))) ++ flat_map (λ name. 32 ∷ name) (map (λ (v : ℕ). slice_index_or (n i) v []) (s i)))
+    ∙ ap (λ r. joined 38 (names_containing r (given_on l c.scope)) ++ flat_map (λ name. 32 ∷ name) (scope_names l (scope_of l c))) t
+
+-- the variables of a scope have ranges
+pub known_here : (l : Language) → IsLanguage l → (scope : List ℕ) → IsScope (variable_count l) scope → All (λ v. v < length l.ranges) scope
+known_here l lawful scope is k v low = let known = is.known k v low in let ranged = lawful.ranged in omega (arith, known, ranged)
+
+pub scope_of_ranges : (l : Language) → IsLanguage l → (ranges : List ValueRange) (scope : List ℕ) → length ranges ≡ variable_count l → IsScope (variable_count l) scope → IsScope (length ranges) scope
+scope_of_ranges l lawful ranges scope same is = subst (λ (n : ℕ). IsScope n scope) (sym same) is
 
 -- a scope has room for its variables
 pub room_here : (a : Inside) → IsSound a → (l : Language) → seen a ≡ l → (s : ℕ) (scope : Scope) → s < length l.scopes → scope ≡ slice_index_or a.scopes.items s scope → scope.size ≤ 4

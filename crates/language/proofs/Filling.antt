@@ -1,16 +1,19 @@
 -- The assignment of a prefix, as its values come and go.
-use Rattle.std.proofs.Common.{◌≡◌, ℕ, suc, ◌<◌, false, cond, List, [], ◌∷◌, ◌++◌, length, replicate, Some, None, refl, sym, ◌∙◌, ap, arith, inl, inr, ◌⊎◌}
+use Rattle.std.proofs.Common.{◌≡◌, ℕ, suc, ◌<◌, Bool, true, false, cond, ◌&&◌, List, [], ◌∷◌, ◌++◌, length, replicate, Some, None, refl, sym, ◌∙◌, ap, arith, inl, inr, ◌⊎◌}
 use Rattle.std.specs.Prelude.{◌==◌, ◌≢◌, slice_index_or, slice_set, All, AllPairs}
 use Rattle.std.specs.Option.{ForSome}
 use Rattle.std.proofs.lemmas.List.{get_or-set_same, get_or-set_other, get_or-replicate, length-replicate}
 use Rattle.std.proofs.Math.ListN.{length-set}
 use Rattle.std.proofs.lemmas.List.FromFn.{fill_by_all, length-map-range_with_len}
 use Rattle.std.proofs.lemmas.List.Elements.{All-map}
-use Rattle.std.proofs.lemmas.Bool.{cases_eq, eq-eqb, ne_eqb}
-use Rattle.assign.specs.Assignment.{value_beside, assigned, IsAssignment}
+use Rattle.std.proofs.lemmas.Bool.{cases_eq, eq-eqb, ne_eqb, and_parts, and_from}
+use Rattle.assign.specs.Assignment.{value_of, value_beside, assigned, IsAssignment}
 use Rattle.language.proofs.Beside.{value_of_assigned, beside_none, beside_fits}
 use Rattle.language.proofs.Lists.{all_below}
-use Rattle.language.specs.Search.{IsOrder}
+use Rattle.language.specs.Ranges.{is_in}
+use Rattle.language.specs.Language.{Language, IsQuestion, variable_count, range_of, is_ranged}
+use Rattle.language.specs.Search.{IsOrder, are_ranged}
+use Rattle.language.proofs.Fronts.{assigned_more, ranged_at, ranged_from, ranged_more}
 
 -- ---- the value beside a variable, with one value more
 
@@ -88,3 +91,49 @@ assigned_fits d n order p small = record {
   size = length-map-range_with_len (value_beside order p) 0 n;
   values_fit = All-map (λ o. ForSome o (λ x. x < d)) (value_beside order p) _ (all_below (λ w. ForSome (value_beside order p w) (λ x. x < d)) n (λ w low. beside_fits d order p w small));
 }
+
+-- ---- ranges
+
+-- values below d, each one of its variable's, make a question
+pub question_there : (l : Language) (order p : List ℕ) → All (λ x. x < l.value_count) p → are_ranged l (assigned (variable_count l) order p) ≡ true → IsQuestion l (assigned (variable_count l) order p)
+question_there l order p small ranged =
+    let fits = assigned_fits l.value_count (variable_count l) order p small in
+    record { size = fits.size; values_fit = fits.values_fit; within = ranged_at l (assigned (variable_count l) order p) ranged }
+
+pub ranged_blank : (l : Language) (order : List ℕ) → are_ranged l (assigned (variable_count l) order []) ≡ true
+ranged_blank l order = ranged_from l (assigned (variable_count l) order []) (λ v low. ap (is_ranged l v) (value_of_assigned (variable_count l) order [] v low ∙ beside_none order v))
+
+-- with one value more that has to be one of the next variable's
+pub ranged_push : (l : Language) (order : List ℕ) → IsOrder (variable_count l) order → (p : List ℕ) (x : ℕ) → length p < variable_count l →
+    are_ranged l (assigned (variable_count l) order (p ++ x ∷ [])) ≡ (are_ranged l (assigned (variable_count l) order p) && is_in (range_of l (slice_index_or order (length p) 0)) x)
+ranged_push l order is p x short = both_are _ _ forth back
+  where
+    low : slice_index_or order (length p) 0 < variable_count l
+    low = next_known (variable_count l) order is p short
+
+    pushed : (w : ℕ) → w < variable_count l → value_of (assigned (variable_count l) order (p ++ x ∷ [])) w ≡ cond (slice_index_or order (length p) 0 == w) (Some x) (value_of (assigned (variable_count l) order p) w)
+    pushed w known = value_of_assigned (variable_count l) order (p ++ x ∷ []) w known ∙ beside_push order p x w is.different (let size = is.size in omega arith)
+        ∙ ap (cond (slice_index_or order (length p) 0 == w) (Some x)) (sym (value_of_assigned (variable_count l) order p w known))
+
+    at_next : value_of (assigned (variable_count l) order (p ++ x ∷ [])) (slice_index_or order (length p) 0) ≡ Some x
+    at_next = pushed (slice_index_or order (length p) 0) low ∙ ap (λ b. cond b (Some x) (value_of (assigned (variable_count l) order p) (slice_index_or order (length p) 0))) (eq-eqb _ _ refl)
+
+    forth : are_ranged l (assigned (variable_count l) order (p ++ x ∷ [])) ≡ true → (are_ranged l (assigned (variable_count l) order p) && is_in (range_of l (slice_index_or order (length p) 0)) x) ≡ true
+    forth h = and_from _ _
+        (ranged_more l (assigned (variable_count l) order p) (assigned (variable_count l) order (p ++ x ∷ [])) (assigned_more (variable_count l) order p (x ∷ [])) h)
+        (ap (is_ranged l (slice_index_or order (length p) 0)) (sym at_next) ∙ ranged_at l (assigned (variable_count l) order (p ++ x ∷ [])) h (slice_index_or order (length p) 0) low)
+
+    back : (are_ranged l (assigned (variable_count l) order p) && is_in (range_of l (slice_index_or order (length p) 0)) x) ≡ true → are_ranged l (assigned (variable_count l) order (p ++ x ∷ [])) ≡ true
+    back h =
+        let parts = and_parts (are_ranged l (assigned (variable_count l) order p)) _ h in
+        ranged_from l (assigned (variable_count l) order (p ++ x ∷ [])) (λ w known. ap (is_ranged l w) (pushed w known) ∙ go w (cases_eq (slice_index_or order (length p) 0) w) parts.1 (ranged_at l (assigned (variable_count l) order p) parts.0 w known))
+      where
+        go : (w : ℕ) → (slice_index_or order (length p) 0 ≡ w) ⊎ (slice_index_or order (length p) 0 ≢ w) → is_in (range_of l (slice_index_or order (length p) 0)) x ≡ true → is_ranged l w (value_of (assigned (variable_count l) order p) w) ≡ true →
+            is_ranged l w (cond (slice_index_or order (length p) 0 == w) (Some x) (value_of (assigned (variable_count l) order p) w)) ≡ true
+        go w (inl same) here rest = rw (eq-eqb _ w same) (ap (λ v. is_in (range_of l v) x) (sym same) ∙ here)
+        go w (inr differ) here rest = rw (ne_eqb _ w differ) rest
+
+    both_are : (a b : Bool) → (a ≡ true → b ≡ true) → (b ≡ true → a ≡ true) → a ≡ b
+    both_are true b f g = sym (f refl)
+    both_are false true f g = g refl
+    both_are false false f g = refl

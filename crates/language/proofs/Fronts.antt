@@ -1,15 +1,18 @@
--- What an assignment with more values tells of a candidate.
-use Rattle.std.proofs.Common.{◌≡◌, ℕ, ◌<◌, ◌≤◌, Bool, true, false, cond, not, List, [], ◌∷◌, ◌++◌, Option, Some, None, refl, sym, ◌∙◌, ap, arith, inl, inr, ◌⊎◌}
+-- What an assignment with more values tells of a candidate and of ranges.
+use Rattle.std.proofs.Common.{◌≡◌, ℕ, ◌+◌, ◌<◌, ◌≤◌, Bool, true, false, cond, not, List, [], ◌∷◌, ◌++◌, Option, Some, None, refl, sym, ◌∙◌, ap, arith, inl, inr, ◌⊎◌}
 use Rattle.std.specs.Prelude.{◌==◌, is_some, unwrap_or}
 use Rattle.std.proofs.Math.ListN.{get_or-eq_default}
-use Rattle.std.proofs.lemmas.List.FromFn.{length-map-range_with_len}
+use Rattle.std.proofs.lemmas.List.FromFn.{length-map-range_with_len, length-range_with_len, get_or-range_with_len}
+use Rattle.std.proofs.lemmas.List.Sums.{list_all-from_AllPass, AllPass-from_list_all}
 use Rattle.std.proofs.lemmas.Bool.{and_parts, and_from, both_ways, not-true, not_from_false, false_from_ne_true, cases_lt}
 use Rattle.assign.specs.Assignment.{Assignment, value_of, value_beside, assigned, covers, tuple_on}
 use Rattle.rel_table.specs.Relation.{holds}
 use Rattle.language.specs.declared.candidates.Candidate.{Candidate}
-use Rattle.language.specs.Language.{Language, variable_count, scope_of, relation_of, violates, accepts}
-use Rattle.language.specs.Search.{order_of, satisfies, is_plain}
+use Rattle.language.specs.Language.{Language, variable_count, scope_of, relation_of, violates, accepts, is_ranged}
+use Rattle.language.specs.Search.{order_of, satisfies, are_ranged, is_plain}
 use Rattle.language.proofs.Accepts.{accepted_at, accepted_from}
+use Rattle.assign.specs.Sets.{numbers}
+use Rattle.language.proofs.Lists.{all_below}
 use Rattle.language.proofs.Beside.{value_of_assigned}
 use Rattle.language.proofs.Preorder.{PassesFronts}
 
@@ -66,11 +69,30 @@ satisfies_more l c e f more h =
     let both = covers_more e f (scope_of l c) more parts.0 in
     and_from _ _ both.0 (ap (holds l.value_count (relation_of l c)) both.1 ∙ parts.1)
 
+-- ---- ranges
+
+pub ranged_at : (l : Language) (e : Assignment) → are_ranged l e ≡ true → (v : ℕ) → v < variable_count l → is_ranged l v (value_of e v) ≡ true
+ranged_at l e h v low =
+    ap (λ w. is_ranged l w (value_of e w)) (sym (get_or-range_with_len 0 (variable_count l) v 0 low ∙ (let e : 0 + v ≡ v = omega arith in e)))
+    ∙ AllPass-from_list_all (λ w. is_ranged l w (value_of e w)) (numbers (variable_count l)) h v 0 (let long = length-range_with_len 0 (variable_count l) in omega arith)
+
+pub ranged_from : (l : Language) (e : Assignment) → ((v : ℕ) → v < variable_count l → is_ranged l v (value_of e v) ≡ true) → are_ranged l e ≡ true
+ranged_from l e h = list_all-from_AllPass (λ v. is_ranged l v (value_of e v)) (numbers (variable_count l)) (all_below (λ v. is_ranged l v (value_of e v) ≡ true) (variable_count l) h)
+
+pub ranged_more : (l : Language) (e f : Assignment) → HasMore e f → are_ranged l f ≡ true → are_ranged l e ≡ true
+ranged_more l e f more h = ranged_from l e (λ v low. go v (value_of e v) refl (ranged_at l f h v low))
+  where
+    go : (v : ℕ) (o : Option ℕ) → value_of e v ≡ o → is_ranged l v (value_of f v) ≡ true → is_ranged l v o ≡ true
+    go v None is at = refl
+    go v (Some x) is at = ap (is_ranged l v) (sym (more v x is)) ∙ at
+
 -- each front of a plain prefix is plain
 pub plain_fronts : (l : Language) (network : List Candidate) (c : Candidate) → PassesFronts l.value_count (is_plain l network c)
 plain_fronts l network c = λ p q small h.
     let more = assigned_more (variable_count l) (order_of l c) p q in
-    let parts = and_parts (accepts l network (assigned (variable_count l) (order_of l c) (p ++ q))) _ h in
-    and_from _ _
+    let ranged = and_parts (are_ranged l (assigned (variable_count l) (order_of l c) (p ++ q))) _ h in
+    let parts = and_parts (accepts l network (assigned (variable_count l) (order_of l c) (p ++ q))) _ ranged.1 in
+    and_from _ _ (ranged_more l (assigned (variable_count l) (order_of l c) p) (assigned (variable_count l) (order_of l c) (p ++ q)) more ranged.0)
+    (and_from _ _
     (accepted_from l network (assigned (variable_count l) (order_of l c) p) (λ k d low bad. both_ways _ (accepted_at l network _ parts.0 k d low) (violates_more l _ _ _ more bad)))
-    (not_from_false _ (false_from_ne_true _ (λ bad. both_ways _ (not-true _ parts.1) (satisfies_more l c _ _ more bad))))
+    (not_from_false _ (false_from_ne_true _ (λ bad. both_ways _ (not-true _ parts.1) (satisfies_more l c _ _ more bad)))))

@@ -1,3 +1,11 @@
+pub mod Whole
+pub mod Ranged
+pub mod Widening
+pub mod Within
+pub mod Chosen
+pub mod Sizes
+pub mod ByScope
+pub mod SameRanges
 pub mod Meets
 pub mod Covered
 pub mod Members
@@ -29,3 +37,4 @@ pub mod Plain
 pub mod ByNames
 pub mod OneLanguage
 pub mod InOrder
+pub mod Alike

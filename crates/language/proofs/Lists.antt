@@ -34,6 +34,17 @@ pub nothing_passes : {X : Type 0} (p : X → Bool) (xs : List X) → ((x : X) �
 nothing_passes p [] h = refl
 nothing_passes p (x ∷ xs) h = rw (h x) (nothing_passes p xs h)
 
+pub filter_all : {X : Type 0} (p : X → Bool) (xs : List X) → All (λ x. p x ≡ true) xs → filter p xs ≡ xs
+filter_all p [] all = refl
+filter_all p (x ∷ xs) all =
+    let rest : filter p xs ≡ xs = filter_all p xs (All-tail (λ x. p x ≡ true) x xs all) in
+    λ i. cond (All-head (λ x. p x ≡ true) x xs all i) (x ∷ rest i) (rest i)
+
+pub filter_none : {X : Type 0} (p : X → Bool) (xs : List X) → All (λ x. p x ≡ false) xs → filter p xs ≡ []
+filter_none p [] none = refl
+filter_none p (x ∷ xs) none =
+    (λ i. cond (All-head (λ x. p x ≡ false) x xs none i) (x ∷ filter p xs) (filter p xs)) ∙ filter_none p xs (All-tail (λ x. p x ≡ false) x xs none)
+
 pub find_nothing : {X : Type 0} (p : X → Bool) (xs : List X) → list_any p xs ≡ false → find p xs ≡ None
 find_nothing p [] h = refl
 find_nothing p (x ∷ xs) h = go (p x) refl h (find_nothing p xs)

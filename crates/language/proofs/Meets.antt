@@ -1,5 +1,5 @@
 -- The intersection of two candidates on a scope is a candidate there.
-use Rattle.std.proofs.Common.{◌≡◌, ℕ, zero, suc, Bool, true, false, ◌||◌, ◌&&◌, not, List, [], ◌∷◌, ◌++◌, length, refl, sym, ◌∙◌, ap, subst}
+use Rattle.std.proofs.Common.{◌≡◌, ℕ, zero, suc, Bool, true, false, ◌||◌, ◌&&◌, not, List, [], ◌∷◌, ◌++◌, refl, sym, ◌∙◌, ap, subst}
 use Rattle.std.specs.Prelude.{Contains, slice_index_or}
 use Rattle.std.proofs.lemmas.List.Elements.{All-append, All-cons}
 use Rattle.std.proofs.lemmas.List.{get_or_default}
@@ -7,7 +7,7 @@ use Rattle.language.specs.declared.candidates.Candidate.{Candidate}
 use Rattle.assign.specs.Assignment.{covers, tuple_on}
 use Rattle.rel_table.specs.Relation.{Relation, place, meet, meet_all, IsIntersection}
 use Rattle.rel_table.proofs.Growing.{meet_assoc}
-use Rattle.language.specs.Language.{Language, IsLanguage, IsCandidate, relations_of}
+use Rattle.language.specs.Language.{Language, IsLanguage, IsCandidate, relations_on}
 use Rattle.language.specs.Laws.{IsMeetOf, CandidatesAreClosed}
 
 pub meet_at : (r q : Relation) (k : ℕ) → slice_index_or (meet r q) k false ≡ (slice_index_or r k false && slice_index_or q k false)
@@ -54,9 +54,8 @@ on_one_scope : (l : Language) → IsLanguage l → (s r q : ℕ) →
     (m : Candidate) × IsMeetOf l (record { scope = s; rel = r }) (record { scope = s; rel = q }) m
 on_one_scope l lawful s r q c d =
     let scope : List ℕ = slice_index_or l.scopes s [] in
-    let rels : List Relation = relations_of l (length scope) in
-    let is_scope = lawful.scopes s [] c.scope in
-    let closing = lawful.closed (length scope) is_scope.not_empty is_scope.short in
+    let rels : List Relation = relations_on l s in
+    let closing = lawful.closed s c.scope in
     let met = closing.every _ (intersections_meet _ _ _ (closing.each r [] c.rel) (closing.each q [] d.rel)) in
     let is : slice_index_or rels met.0 [] ≡ meet (slice_index_or rels r []) (slice_index_or rels q []) =
     get_or_default rels met.0 [] _ met.1 ∙ met.2 in (

@@ -1,7 +1,6 @@
 -- Some relations have one closing, and what is built of the same parts is the same.
-use Rattle.std.proofs.Common.{◌≡◌, ℕ, zero, suc, ◌+◌, ◌-◌, ◌<◌, ◌≤◌, List, [], ◌∷◌, map, get_or, refl, sym, ◌∙◌, ap, subst, arith}
-use Rattle.std.specs.Prelude.{AllPairs, Contains, ◌==◌}
-use Rattle.std.specs.List.{filter}
+use Rattle.std.proofs.Common.{◌≡◌, ℕ, zero, suc, ◌<◌, List, [], ◌∷◌, length, map, get_or, refl, sym, ◌∙◌, ap, subst, arith}
+use Rattle.std.specs.Prelude.{AllPairs, Contains}
 use Rattle.std.proofs.lemmas.Bool.{both_ways}
 use Rattle.std.proofs.lemmas.List.{same_lists, get_or_default}
 use Rattle.rel_table.specs.Relation.{Relation, IsIntersection, IsClosing}
@@ -9,7 +8,9 @@ use Rattle.rel_table.specs.InOrder.{Above}
 use Rattle.rel_table.proofs.Falling.{above_above}
 use Rattle.rel_table.proofs.Pairwise.{pairs_head, pairs_tail}
 use Rattle.rel_table.proofs.Tables.{not_above_itself}
-use Rattle.language.specs.Language.{Given}
+use Rattle.language.specs.declared.ranges.ValueRange.{ValueRange}
+use Rattle.language.specs.Ranges.{widened}
+use Rattle.language.specs.Language.{Given, of_arity, given_on}
 use Rattle.language.specs.Laws.{BuiltIsOne}
 
 -- ---- lists in falling order
@@ -62,33 +63,46 @@ one_closing file xs ys closing other =
 
 -- ---- languages
 
--- the relations of the vocabulary, those of an arity
-abbrev file_of : List Given → ℕ → List Relation
-file_of given arity = map (λ (g : Given). g.relation) (filter (λ (g : Given). g.arity == arity) given)
+-- the vocabulary's relations on a scope, by the fields that they depend on
+abbrev given_in : ℕ → List ValueRange → List Given → List (List ℕ) → ℕ → List Given
+given_in d ranges given scopes k =
+    map (λ (g : Given). record { name = g.name; arity = g.arity; relation = widened ranges d (get_or scopes k []) g.relation })
+    (of_arity (length (get_or scopes k [])) given)
 
 pub one_built : BuiltIsOne
 one_built frame parts listed l other built again =
     let relations : l.relations ≡ other.relations =
-    same_lists l.relations other.relations (built.four ∙ sym again.four) (λ k d low. same k d (omega (arith, low, built.four))) in
+    same_lists l.relations other.relations (built.each ∙ ap length scopes ∙ sym again.each) (λ k d low. same k d (omega (arith, low, built.each))) in
     λ i. record {
       names = (built.names ∙ sym again.names) i;
       least_value = (built.least_value ∙ sym again.least_value) i;
-      value_count = (built.value_count ∙ sym again.value_count) i;
-      given = (built.given ∙ sym again.given) i;
-      scopes = (built.scopes ∙ sym again.scopes) i;
+      value_count = values i;
+      ranges = ranges i;
+      given = given i;
+      scopes = scopes i;
       relations = relations i;
     }
   where
-    same : (k : ℕ) (d : List Relation) → k < 4 → get_or l.relations k d ≡ get_or other.relations k d
+    values : l.value_count ≡ other.value_count
+    values = built.value_count ∙ sym again.value_count
+
+    ranges : l.ranges ≡ other.ranges
+    ranges = built.ranges ∙ sym again.ranges
+
+    given : l.given ≡ other.given
+    given = built.given ∙ sym again.given
+
+    scopes : l.scopes ≡ other.scopes
+    scopes = built.scopes ∙ sym again.scopes
+
+    on_scope : (k : ℕ) → given_on l k ≡ given_on other k
+    on_scope k i = given_in (values i) (ranges i) (given i) (scopes i) k
+
+    same : (k : ℕ) (d : List Relation) → k < length l.scopes → get_or l.relations k d ≡ get_or other.relations k d
     same k d low =
-        let at : k + 1 - 1 ≡ k = omega arith in
-        let given : l.given ≡ other.given = built.given ∙ sym again.given in
-        let some : 1 ≤ k + 1 = omega arith in
-        let short : k + 1 ≤ 4 = omega arith in
-        let closed : IsClosing (file_of other.given (k + 1)) (get_or l.relations (k + 1 - 1) []) =
-        subst (λ g. IsClosing (file_of g (k + 1)) (get_or l.relations (k + 1 - 1) [])) given (built.lawful.closed (k + 1) some short) in
-        get_or_default l.relations k d [] (omega (arith, low, built.four))
-        ∙ ap (λ n. get_or l.relations n []) (sym at)
-        ∙ one_closing (file_of other.given (k + 1)) (get_or l.relations (k + 1 - 1) []) (get_or other.relations (k + 1 - 1) []) closed (again.lawful.closed (k + 1) some short)
-        ∙ ap (λ n. get_or other.relations n []) at
-        ∙ sym (get_or_default other.relations k d [] (omega (arith, low, again.four)))
+        let there : k < length other.scopes = omega (arith, low, ap length scopes) in
+        get_or_default l.relations k d [] (omega (arith, low, built.each))
+        ∙ one_closing (map (λ (g : Given). g.relation) (given_on other k)) (get_or l.relations k []) (get_or other.relations k [])
+        (subst (λ gs. IsClosing (map (λ (g : Given). g.relation) gs) (get_or l.relations k [])) (on_scope k) (built.lawful.closed k low))
+        (again.lawful.closed k there)
+        ∙ get_or_default other.relations k [] d (omega (arith, there, again.each))

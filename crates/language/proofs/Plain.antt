@@ -10,17 +10,19 @@ use Rattle.assign.specs.Assignment.{Assignment, value_beside, covers, tuple_on, 
 use Rattle.rel_table.specs.Relation.{holds}
 use Rattle.language.specs.declared.candidates.Candidate.{Candidate}
 use Rattle.language.specs.Language.{Language, IsLanguage, IsCandidate, IsQuestion, variable_count, scope_of, relation_of, violates, accepts}
-use Rattle.language.specs.Search.{order_of, prefixes, assignment_of, satisfies, is_plain, plain_size}
+use Rattle.language.specs.Search.{order_of, prefixes, assignment_of, satisfies, are_ranged, is_plain, plain_size}
 use Rattle.language.proofs.Members.{any-map, any-flat_map, any_number}
 use Rattle.language.proofs.Lists.{all_below, fewer_pass, front_of}
+use Rattle.language.proofs.Fronts.{ranged_from}
 use Rattle.language.proofs.Orders.{order_has, length-order, whole_prefix, covers_all, rises_there}
 
 -- ---- a longer network lets fewer prefixes pass
 
 longer_is_stricter : (l : Language) (network more : List Candidate) (c : Candidate) (p : List ℕ) → is_plain l (network ++ more) c p ≡ true → is_plain l network c p ≡ true
 longer_is_stricter l network more c p h =
-    let both = and_parts (accepts l (network ++ more) (assignment_of l c p)) _ h in
-    and_from _ _ (front_of (λ b. not (violates l b (assignment_of l c p))) network more both.0) both.1
+    let ranged = and_parts (are_ranged l (assignment_of l c p)) _ h in
+    let both = and_parts (accepts l (network ++ more) (assignment_of l c p)) _ ranged.1 in
+    and_from _ _ ranged.0 (and_from _ _ (front_of (λ b. not (violates l b (assignment_of l c p))) network more both.0) both.1)
 
 pub plain_is_less : (l : Language) (network more : List Candidate) (c : Candidate) → plain_size l (network ++ more) c ≤ plain_size l network c
 plain_is_less l network more c = fewer_pass (is_plain l (network ++ more) c) (is_plain l network c) (prefixes l.value_count (variable_count l)) (longer_is_stricter l network more c)
@@ -62,8 +64,9 @@ module _ (l : Language) (lawful : IsLanguage l) (c : Candidate) (is : IsCandidat
   -- the prefix of a question that the network accepts and that violates the candidate
   pub lets_plain : (network : List Candidate) (e : Assignment) → IsQuestion l e → is_complete e ≡ true → accepts l network e ≡ true → violates l c e ≡ true → is_plain l network c (tuple_on e (order_of l c)) ≡ true
   lets_plain network e question complete accepted bad =
-      subst (λ (x : Assignment). (accepts l network x && not (satisfies l c x)) ≡ true) (sym (whole_prefix l c scope_small e question.size complete))
-      (and_from _ _ accepted (unsatisfied (covers e (scope_of l c)) (holds l.value_count (relation_of l c) (tuple_on e (scope_of l c))) bad))
+      subst (λ (x : Assignment). (are_ranged l x && (accepts l network x && not (satisfies l c x))) ≡ true) (sym (whole_prefix l c scope_small e question.size complete))
+      (and_from _ _ (ranged_from l e question.within)
+      (and_from _ _ accepted (unsatisfied (covers e (scope_of l c)) (holds l.value_count (relation_of l c) (tuple_on e (scope_of l c))) bad)))
     where
       unsatisfied : (g b : Bool) → (g && not b) ≡ true → not (g && b) ≡ true
       unsatisfied true true h = h

@@ -9,7 +9,7 @@ use Rattle.std.proofs.lemmas.Bool.{ne_eqb}
 use Rattle.std.proofs.lemmas.List.Elements.{All-head, All-map, All-filter}
 use Rattle.assign.specs.Assignment.{Assignment, value_of}
 use Rattle.rel_table.specs.Relation.{Relation}
-use Rattle.language.specs.Language.{Given}
+use Rattle.language.specs.Language.{Given, of_arity}
 use Rattle.language.specs.declared.parts.RelPart.{RelPart}
 use Rattle.language.specs.Inside.{given_by}
 use Rattle.language.specs.Texts.{value_text, values_text, is_part, joined, names_containing}
@@ -91,45 +91,49 @@ map_cond : (f : Given → List ℕ) (b : Bool) (g : Given) (given : List Given) 
 map_cond f true g given = refl
 map_cond f false g given = refl
 
-filter_cond : (f : Given → List ℕ) (p : Given → Bool) (b : Bool) (g : Given) (given : List Given) →
-    map f (filter p (cond b (g ∷ given) given)) ≡ cond (b && p g) (f g ∷ map f (filter p given)) (map f (filter p given))
-filter_cond f p true g given = map_cond f (p g) g (filter p given)
-filter_cond f p false g given = refl
+-- a relation of the vocabulary, made another
+abbrev pub made : (Relation → Relation) → Given → Given
+made w g = record { name = g.name; arity = g.arity; relation = w g.relation }
 
--- the names of those parts that contain a relation of an arity
-abbrev pub names_of : ℕ → Relation → List RelPart → List (List ℕ)
-names_of arity r parts = names_containing arity r (map given_by parts)
+filter_cond : (w : Relation → Relation) (f : Given → List ℕ) (p : Given → Bool) (b : Bool) (g : Given) (given : List Given) →
+    map f (filter p (map (made w) (cond b (g ∷ given) given))) ≡ cond (b && p (made w g)) (f (made w g) ∷ map f (filter p (map (made w) given))) (map f (filter p (map (made w) given)))
+filter_cond w f p true g given = map_cond f (p (made w g)) (made w g) (filter p (map (made w) given))
+filter_cond w f p false g given = refl
 
-names_of-cons : (arity : ℕ) (r : Relation) (part : RelPart) (parts : List RelPart) →
-    names_of arity r (part ∷ parts) ≡ cond ((part.table.arity == arity) && is_part r part.table.truth) (string_bytes part.name ∷ names_of arity r parts) (names_of arity r parts)
-names_of-cons arity r part parts =
-    filter_cond (λ (g : Given). g.name) (λ (g : Given). is_part r g.relation) (part.table.arity == arity) (given_by part) (filter (λ (g : Given). g.arity == arity) (map given_by parts))
+-- the names of those parts that contain a relation of an arity, each made another
+abbrev pub names_of : (Relation → Relation) → ℕ → Relation → List RelPart → List (List ℕ)
+names_of w arity r parts = names_containing r (map (made w) (of_arity arity (map given_by parts)))
 
-pub some_names : (arity : ℕ) (r : Relation) (parts : List RelPart) → All (λ (part : RelPart). 1 ≤ length (string_bytes part.name)) parts → All (λ (name : List ℕ). 1 ≤ length name) (names_of arity r parts)
-some_names arity r parts h =
+names_of-cons : (w : Relation → Relation) (arity : ℕ) (r : Relation) (part : RelPart) (parts : List RelPart) →
+    names_of w arity r (part ∷ parts) ≡ cond ((part.table.arity == arity) && is_part r (w part.table.truth)) (string_bytes part.name ∷ names_of w arity r parts) (names_of w arity r parts)
+names_of-cons w arity r part parts =
+    filter_cond w (λ (g : Given). g.name) (λ (g : Given). is_part r g.relation) (part.table.arity == arity) (given_by part) (filter (λ (g : Given). g.arity == arity) (map given_by parts))
+
+pub some_names : (w : Relation → Relation) (arity : ℕ) (r : Relation) (parts : List RelPart) → All (λ (part : RelPart). 1 ≤ length (string_bytes part.name)) parts → All (λ (name : List ℕ). 1 ≤ length name) (names_of w arity r parts)
+some_names w arity r parts h =
     let nonempty : Given → Type 0 = λ g. 1 ≤ length g.name in
     All-map (λ (name : List ℕ). 1 ≤ length name) (λ (g : Given). g.name) _
-    (All-filter (λ (g : Given). is_part r g.relation) nonempty _ (All-filter (λ (g : Given). g.arity == arity) nonempty _ (All-map nonempty given_by parts h)))
+    (All-filter (λ (g : Given). is_part r g.relation) nonempty _ (All-map nonempty (made w) _ (All-filter (λ (g : Given). g.arity == arity) nonempty _ (All-map nonempty given_by parts h))))
 
-names_of-drop : (arity : ℕ) (r : Relation) (parts : List RelPart) (i : ℕ) (part : RelPart) (b : Bool) → i < length parts → part ≡ slice_index_or parts i part →
-    ((part.table.arity == arity) && is_part r part.table.truth) ≡ b →
-    names_of arity r (drop i parts) ≡ cond b (string_bytes part.name ∷ names_of arity r (drop (i + 1) parts)) (names_of arity r (drop (i + 1) parts))
-names_of-drop arity r parts i part b low is test =
+names_of-drop : (w : Relation → Relation) (arity : ℕ) (r : Relation) (parts : List RelPart) (i : ℕ) (part : RelPart) (b : Bool) → i < length parts → part ≡ slice_index_or parts i part →
+    ((part.table.arity == arity) && is_part r (w part.table.truth)) ≡ b →
+    names_of w arity r (drop i parts) ≡ cond b (string_bytes part.name ∷ names_of w arity r (drop (i + 1) parts)) (names_of w arity r (drop (i + 1) parts))
+names_of-drop w arity r parts i part b low is test =
     let next : suc i ≡ i + 1 = omega arith in
-    ap (names_of arity r) (drop-cons parts i part low ∙ (λ j. sym is j ∷ drop (next j) parts))
-    ∙ names_of-cons arity r part (drop (i + 1) parts)
-    ∙ ap (λ t. cond t (string_bytes part.name ∷ names_of arity r (drop (i + 1) parts)) (names_of arity r (drop (i + 1) parts))) test
+    ap (names_of w arity r) (drop-cons parts i part low ∙ (λ j. sym is j ∷ drop (next j) parts))
+    ∙ names_of-cons w arity r part (drop (i + 1) parts)
+    ∙ ap (λ t. cond t (string_bytes part.name ∷ names_of w arity r (drop (i + 1) parts)) (names_of w arity r (drop (i + 1) parts))) test
 
-pub name_written : (arity : ℕ) (r : Relation) (parts : List RelPart) (i : ℕ) (part : RelPart) (whole before after name : List ℕ) (b : Bool) → i < length parts → part ≡ slice_index_or parts i part →
-    b ≡ ((part.table.arity == arity) && is_part r part.table.truth) → b ≡ true → name ≡ string_bytes part.name → after ≡ cond (length before == 0) name (before ++ 38 ∷ name) →
-    whole ≡ joined_from before (names_of arity r (drop i parts)) → whole ≡ joined_from after (names_of arity r (drop (i + 1) parts))
-name_written arity r parts i part whole before after name b low is test on name_is more so_far =
-    so_far ∙ ap (joined_from before) (names_of-drop arity r parts i part true low is (sym test ∙ on))
-    ∙ ap (λ n. joined_from (cond (length before == 0) n (before ++ 38 ∷ n)) (names_of arity r (drop (i + 1) parts))) (sym name_is)
-    ∙ ap (λ t. joined_from t (names_of arity r (drop (i + 1) parts))) (sym more)
+pub name_written : (w : Relation → Relation) (arity : ℕ) (r : Relation) (parts : List RelPart) (i : ℕ) (part : RelPart) (whole before after name : List ℕ) (b : Bool) → i < length parts → part ≡ slice_index_or parts i part →
+    b ≡ ((part.table.arity == arity) && is_part r (w part.table.truth)) → b ≡ true → name ≡ string_bytes part.name → after ≡ cond (length before == 0) name (before ++ 38 ∷ name) →
+    whole ≡ joined_from before (names_of w arity r (drop i parts)) → whole ≡ joined_from after (names_of w arity r (drop (i + 1) parts))
+name_written w arity r parts i part whole before after name b low is test on name_is more so_far =
+    so_far ∙ ap (joined_from before) (names_of-drop w arity r parts i part true low is (sym test ∙ on))
+    ∙ ap (λ n. joined_from (cond (length before == 0) n (before ++ 38 ∷ n)) (names_of w arity r (drop (i + 1) parts))) (sym name_is)
+    ∙ ap (λ t. joined_from t (names_of w arity r (drop (i + 1) parts))) (sym more)
 
-pub name_left_out : (arity : ℕ) (r : Relation) (parts : List RelPart) (i : ℕ) (part : RelPart) (whole before after : List ℕ) (b : Bool) → i < length parts → part ≡ slice_index_or parts i part →
-    b ≡ ((part.table.arity == arity) && is_part r part.table.truth) → b ≡ false → after ≡ before →
-    whole ≡ joined_from before (names_of arity r (drop i parts)) → whole ≡ joined_from after (names_of arity r (drop (i + 1) parts))
-name_left_out arity r parts i part whole before after b low is test off same so_far =
-    so_far ∙ (λ j. joined_from (sym same j) (names_of-drop arity r parts i part false low is (sym test ∙ off) j))
+pub name_left_out : (w : Relation → Relation) (arity : ℕ) (r : Relation) (parts : List RelPart) (i : ℕ) (part : RelPart) (whole before after : List ℕ) (b : Bool) → i < length parts → part ≡ slice_index_or parts i part →
+    b ≡ ((part.table.arity == arity) && is_part r (w part.table.truth)) → b ≡ false → after ≡ before →
+    whole ≡ joined_from before (names_of w arity r (drop i parts)) → whole ≡ joined_from after (names_of w arity r (drop (i + 1) parts))
+name_left_out w arity r parts i part whole before after b low is test off same so_far =
+    so_far ∙ (λ j. joined_from (sym same j) (names_of-drop w arity r parts i part false low is (sym test ∙ off) j))

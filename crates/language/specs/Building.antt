@@ -7,17 +7,20 @@ use Rattle.std.specs.Bool.{beq}
 use Rattle.rel_table.specs.Relation.{Relation, tuples, meet}
 use Rattle.rel_table.specs.declared.table.CloseFault.TheVariants.{TooMany}
 use Rattle.language.specs.Language.{Language, Given, IsLanguage, AreNames}
+use Rattle.language.specs.Ranges.{IsRange}
+use Rattle.language.specs.declared.ranges.ValueRange.{ValueRange}
 use Rattle.language.specs.declared.parts.LangFault.{LangFault}
 use Rattle.language.specs.declared.parts.RelPart.{RelPart}
 use Rattle.language.specs.declared.parts.LangFault.TheVariants.{NoVariables, TooManyVariables, BadDomain, NoRelations, ScopeOrder, TooManyScopes, ScopeRepeated, Nested, NoRelationOfArity, Closing}
 use Rattle.language.specs.declared.parts.ScopePart.{ScopePart}
 use Rattle.language.specs.declared.parts.ScopePart.TheVariants as part
 
--- the variables' names and the values
+-- the variables' names and the values, and which of these each variable may have
 pub record Frame : Type 0 where
   pub names : List (List ℕ)
   pub least_value : ℤ
   pub value_count : ℕ
+  pub ranges : List ValueRange
 
 -- 1 to 128 variables, each with a name, and 1 to 64 values within a million
 pub record IsFrame (f : Frame) : Type 0 where
@@ -28,6 +31,12 @@ pub record IsFrame (f : Frame) : Type 0 where
   pub few_values : f.value_count ≤ 64
   pub low : negsuc 999999 ≤ℤ f.least_value
   pub high : (f.least_value +ℤ pos f.value_count) ≤ℤ pos 1000001
+  pub ranged : length f.ranges ≡ length f.names
+  pub ranges : All (IsRange f.value_count) f.ranges
+
+-- the range from one shown value to another, where the least value is shown as this
+abbrev pub range_between : ℤ → ℤ → ℤ → ValueRange
+range_between least first last = record { first = unsigned_abs (first -ℤ least); last = unsigned_abs (last -ℤ least) }
 
 -- the lowest value, the highest value: 1 to 64 values, each within a million
 abbrev pub is_domain : ℤ → ℤ → Bool
@@ -170,12 +179,13 @@ abbrev pub build_refusal : ℕ → List Given → Option (List (List ℕ)) → O
 build_refusal n [] listed = Some NoRelations
 build_refusal n (g ∷ given) listed = option_or (scopes_refusal (g ∷ given) (scopes_of n (g ∷ given) listed)) (closing_refusal (g ∷ given))
 
--- The language of a frame, of relations and of scopes: it has four lists of relations, for the arities 1 to 4.
+-- The language of a frame, of relations and of scopes.
 pub record IsBuilt (frame : Frame) (parts : List Given) (listed : Option (List (List ℕ))) (l : Language) : Type 0 where
   pub names : l.names ≡ frame.names
   pub least_value : l.least_value ≡ frame.least_value
   pub value_count : l.value_count ≡ frame.value_count
+  pub ranges : l.ranges ≡ frame.ranges
   pub given : l.given ≡ parts
   pub scopes : l.scopes ≡ scopes_of (length frame.names) parts listed
-  pub four : length l.relations ≡ 4
+  pub each : length l.relations ≡ length l.scopes
   pub lawful : IsLanguage l

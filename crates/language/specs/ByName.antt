@@ -1,12 +1,12 @@
 -- Scopes and relations, told by their names.
-use Rattle.std.specs.Prelude.{◌≡◌, ℕ, ◌<◌, ◌==◌, Bool, List, [], length, map, filter, position, Option, Some, None, slice_index_or, option_map}
+use Rattle.std.specs.Prelude.{◌≡◌, ℕ, ◌<◌, Bool, List, [], length, map, position, Option, Some, None, slice_index_or, option_map}
 use Rattle.std.specs.List.{find}
 use Rattle.std.specs.Borrow.{Bor}
 use Rattle.std.specs.Str.{bytes_eq}
 use Rattle.std.specs.Cmp.Lexicographic.{pointwise}
 use Rattle.assign.specs.SetLemmas.{is_one}
 use Rattle.rel_table.specs.Relation.{Relation}
-use Rattle.language.specs.Language.{Language, Given, scope_at, relations_on}
+use Rattle.language.specs.Language.{Language, Given, given_on, relations_on}
 use Rattle.language.specs.Texts.{is_part, scope_names}
 
 -- the texts that are pointed to
@@ -21,13 +21,13 @@ has_names l names scope = pointwise bytes_eq (scope_names l scope) names
 abbrev pub scope_named : Language → List (List ℕ) → Option ℕ
 scope_named l names = position (has_names l names) l.scopes
 
--- the relation of this arity and name
-abbrev pub relation_among : ℕ → List ℕ → List Given → Option Relation
-relation_among arity name given = option_map (λ (g : Given). g.relation) (find (λ (g : Given). bytes_eq g.name name) (filter (λ (g : Given). g.arity == arity) given))
+-- the relation of this name
+abbrev pub relation_among : List ℕ → List Given → Option Relation
+relation_among name given = option_map (λ (g : Given). g.relation) (find (λ (g : Given). bytes_eq g.name name) given)
 
--- the vocabulary's relation of this name, among those of a scope's arity
+-- the vocabulary's relation of this name, among those on a scope
 abbrev pub relation_named : Language → ℕ → List ℕ → Option Relation
-relation_named l s name = relation_among (length (scope_at l s)) name l.given
+relation_named l s name = relation_among name (given_on l s)
 
 -- bit k of the mask tells whether relation k on the scope lies within this one
 abbrev pub TellsWithin : Language → ℕ → Relation → ℕ → Type 0

@@ -1,3 +1,4 @@
+pub mod Ranges
 pub mod Language
 pub mod Answers
 pub mod Search

@@ -1,11 +1,11 @@
 -- The search for a complete question that the network accepts and that violates a candidate.
 use Rattle.std.specs.Prelude.{ℕ, zero, suc, ◌<◌, ◌≡◌, ◌≢◌, Bool, not, ◌&&◌, List, [], ◌∷◌, ◌++◌, length, map, filter, All, AllPairs}
-use Rattle.std.specs.List.{flat_map}
+use Rattle.std.specs.List.{flat_map, list_all}
 use Rattle.language.specs.declared.candidates.Candidate.{Candidate}
 use Rattle.assign.specs.Sets.{numbers, has}
-use Rattle.assign.specs.Assignment.{Assignment, assigned, covers, tuple_on}
+use Rattle.assign.specs.Assignment.{Assignment, value_of, assigned, covers, tuple_on}
 use Rattle.rel_table.specs.Relation.{holds}
-use Rattle.language.specs.Language.{Language, variable_count, scope_of, relation_of, accepts}
+use Rattle.language.specs.Language.{Language, variable_count, scope_of, relation_of, accepts, is_ranged}
 
 -- each of n variables once
 pub record IsOrder (n : ℕ) (order : List ℕ) : Type 0 where
@@ -30,9 +30,14 @@ assignment_of l c prefix = assigned (variable_count l) (order_of l c) prefix
 abbrev pub satisfies : Language → Candidate → Assignment → Bool
 satisfies l c e = covers e (scope_of l c) && holds l.value_count (relation_of l c) (tuple_on e (scope_of l c))
 
--- a prefix that violates nothing learned and doesn't satisfy the candidate
+-- whether each value that an assignment has is one of its variable's
+abbrev pub are_ranged : Language → Assignment → Bool
+are_ranged l e = list_all (λ v. is_ranged l v (value_of e v)) (numbers (variable_count l))
+
+-- a prefix whose values are their variables', that violates nothing learned and doesn't satisfy the candidate
 abbrev pub is_plain : Language → List Candidate → Candidate → List ℕ → Bool
-is_plain l network c prefix = let e : Assignment = assignment_of l c prefix in accepts l network e && not (satisfies l c e)
+is_plain l network c prefix =
+    let e : Assignment = assignment_of l c prefix in are_ranged l e && (accepts l network e && not (satisfies l c e))
 
 -- ---- The walk and its outcome
 

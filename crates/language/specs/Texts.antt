@@ -1,10 +1,10 @@
 -- The texts of questions and candidates.
-use Rattle.std.specs.Prelude.{ℕ, ℤ, pos, ◌+ℤ◌, Bool, not, ◌||◌, List, [], ◌∷◌, ◌++◌, map, filter, Option, Some, None, slice_index_or, ◌==◌, length}
+use Rattle.std.specs.Prelude.{ℕ, ℤ, pos, ◌+ℤ◌, Bool, not, ◌||◌, List, [], ◌∷◌, ◌++◌, map, filter, Option, Some, None, slice_index_or}
 use Rattle.std.specs.List.{list_all, zip, flat_map}
 use Rattle.std.specs.Fmt.{decimal, signed_decimal}
 use Rattle.assign.specs.Assignment.{Assignment}
 use Rattle.rel_table.specs.Relation.{Relation}
-use Rattle.language.specs.Language.{Language, Given, scope_of, relation_of}
+use Rattle.language.specs.Language.{Language, Given, given_on, scope_of, relation_of}
 use Rattle.language.specs.declared.candidates.Candidate.{Candidate}
 
 -- a space, the name, `=` and the shown value, where the variable has one
@@ -32,13 +32,13 @@ joined between [] = []
 joined between (piece ∷ []) = piece
 joined between (piece ∷ next ∷ pieces) = piece ++ between ∷ joined between (next ∷ pieces)
 
--- the names of those of an arity that contain a relation
-abbrev pub names_containing : ℕ → Relation → List Given → List (List ℕ)
-names_containing arity r given = map (λ (g : Given). g.name) (filter (λ (g : Given). is_part r g.relation) (filter (λ (g : Given). g.arity == arity) given))
+-- the names of those that contain a relation
+abbrev pub names_containing : Relation → List Given → List (List ℕ)
+names_containing r given = map (λ (g : Given). g.name) (filter (λ (g : Given). is_part r g.relation) given)
 
--- the vocabulary's relations of an arity that contain a relation
+-- the vocabulary's relations on the scope of this number that contain a relation there
 abbrev pub containing : Language → ℕ → Relation → List (List ℕ)
-containing l arity r = names_containing arity r l.given
+containing l s r = names_containing r (given_on l s)
 
 -- the names of a scope's variables
 abbrev pub scope_names : Language → List ℕ → List (List ℕ)
@@ -46,4 +46,4 @@ scope_names l scope = map (λ v. slice_index_or l.names v []) scope
 
 -- the relation's name, which lists those that contain it, and the scope's names: `eq&ne a b`
 abbrev pub candidate_text : Language → Candidate → List ℕ
-candidate_text l c = joined 38 (containing l (length (scope_of l c)) (relation_of l c)) ++ flat_map (λ name. 32 ∷ name) (scope_names l (scope_of l c))
+candidate_text l c = joined 38 (containing l c.scope (relation_of l c)) ++ flat_map (λ name. 32 ∷ name) (scope_names l (scope_of l c))

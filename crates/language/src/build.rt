@@ -7,7 +7,8 @@ ghost use Rattle.language.specs.Built.{IsClosedOf};
 
 use crate::frame::Frame;
 use crate::lang::Language;
-use crate::numbering::first_numbers;
+use crate::narrow::are_all;
+use crate::numbering::numbers_of;
 use crate::parts::{LangFault, RelPart, ScopePart};
 use crate::scopes::stated_scopes;
 use rel_table::{CloseFault, Closed, Memory, Table, close};
@@ -72,20 +73,26 @@ impl Language {
         }
         let scopes = stated_scopes(alloc, frame.names.len() as u8, &rels, scopes)?;
         let relations = closed_relations(alloc, &rels)?;
-        let numbers = first_numbers(alloc, &scopes, &relations)?;
         let Frame {
             names,
             least_value,
             value_count,
+            ranges,
         } = frame;
+        let own = &ranges[..names.len()];
+        let is_whole = are_all(own, value_count);
+        let numbers = numbers_of(alloc, own, value_count, &rels, &scopes, &relations)?;
         Ok(Language {
             names,
             least_value,
             value_count,
+            ranges,
+            is_whole,
             given: rels,
             scopes,
             relations,
-            numbers,
+            on: numbers.on,
+            numbers: numbers.starts,
         })
     }
 }

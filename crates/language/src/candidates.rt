@@ -5,6 +5,6 @@ pub type ScopeId = u16;
 #[derive(Clone, Copy, Debug, PartialEq, Eq)]
 pub struct Candidate {
     pub scope: ScopeId,
-    /// Among the relations of the scope's arity.
+    /// Among the relations on the scope.
     pub rel: u8,
 }

@@ -1,13 +1,18 @@
-ghost use Rattle.std.specs.Prelude.{◌≡◌, ◌<◌, ◌≤◌, ◌^◌, length, slice_index_or, [], IfSome, IfOk, string_bytes, false};
+ghost use Rattle.std.specs.Prelude.{◌≡◌, ◌<◌, ◌≤◌, ◌+◌, ◌^◌, ◌==◌, ℕ, IsTrue, length, slice_index_or, [], IfSome, IfOk, string_bytes, false};
+ghost use Rattle.std.specs.Int.{bit_at};
 ghost use Rattle.language.specs.Texts.{question_text, candidate_text};
-ghost use Rattle.language.specs.Language.{variable_count, scope_at, scope_number, candidates, number_of, relations_on, place_on, violates, IsLanguage, IsScope, IsCandidate, IsQuestion};
+ghost use Rattle.language.specs.Ranges.{are_in, widened, AgreeWithin};
+ghost use Rattle.rel_table.specs.Relation.{tuple_at};
+ghost use Rattle.language.specs.Language.{variable_count, range_of, is_whole, scope_at, scope_number, candidates, number_of, relations_on, place_on, violates, IsLanguage, IsScope, IsCandidate, IsQuestion};
 
 use crate::candidates::{Candidate, ScopeId};
+use crate::narrow::{are_whole, lies_within};
 use crate::parts::RelPart;
 use crate::places::place_of_values;
+use crate::ranges::ValueRange;
 use crate::scopes::{Scope, set_of};
 use crate::texts::{text_of_candidate, text_of_question};
-use assign::{Partial, VarSet};
+use assign::{MOST_VARIABLES, Partial, VarSet};
 use rel_table::{Closed, Memory, Table};
 use std::alloc::Global;
 use std::marker::Model;
@@ -20,12 +25,18 @@ pub struct Language {
     /// Value 0 is shown as this, value 1 as the next number, and so on.
     pub(crate) least_value: i64,
     pub(crate) value_count: u8,
+    /// The first of them are the variables'.
+    pub(crate) ranges: [ValueRange; MOST_VARIABLES as usize],
+    /// Whether each variable has all values.
+    pub(crate) is_whole: bool,
     /// The vocabulary's relations, in its order.
     pub(crate) given: Vec<RelPart>,
     /// A scope's number is its place here.
     pub(crate) scopes: Vec<Scope>,
-    /// The relations of each arity.
+    /// The relations of each arity, as tables.
     pub(crate) relations: Closed,
+    /// For each candidate the number of its relation's table, among those of its arity.
+    pub(crate) on: Vec<u8>,
     /// For each scope the number of its first candidate, and how many candidates there are last.
     pub(crate) numbers: Vec<u32>,
 }
@@ -57,6 +68,18 @@ impl Language {
         ensures lawful { IsLanguage self.now }
     {
         self.value_count
+    }
+
+    /// The first and the last value that a variable may have.
+    pub fn range(&self, v: u8) -> (u8, u8)
+        requires { v < variable_count self.now }
+        ensures first { result.0 ≡ (range_of self.now v).first }
+        ensures last { result.1 ≡ (range_of self.now v).last }
+        ensures some { result.0 ≤ result.1 }
+        ensures known { result.1 < self.now.value_count }
+    {
+        let range = self.ranges[v as usize];
+        (range.first, range.last)
     }
 
     /// How many scopes there are.
@@ -98,6 +121,14 @@ impl Language {
         None
     }
 
+    /// Whether each variable of a scope has all values.
+    pub fn is_whole(&self, s: ScopeId) -> bool
+        requires { s < length self.now.scopes }
+        ensures { result ≡ is_whole self.now s }
+    {
+        self.is_whole || are_whole(self.own_ranges(), self.value_count, self.scope(s))
+    }
+
     /// How many relations there are on a scope.
     pub fn relations_on(&self, s: ScopeId) -> u8
         requires { s < length self.now.scopes }
@@ -105,21 +136,48 @@ impl Language {
         ensures few { result ≤ 64 }
         ensures lawful { IsLanguage self.now }
     {
-        let arity = self.scope(s).len() as u8;
-        self.relations.list(arity).len() as u8
+        let s = s as usize;
+        (self.numbers[s + 1] - self.numbers[s]) as u8
     }
 
-    /// Relation r on a scope, as a table.
+    /// The ranges of the variables.
+    pub(crate) fn own_ranges(&self) -> &[ValueRange]
+        ensures is { result.now ≡ self.now.ranges }
+        ensures size { length result.now ≡ variable_count self.now }
+    {
+        &self.ranges[..self.names.len()]
+    }
+
+    /// Whether each value of the tuple at a place is one of its variable's.
+    fn is_inside(&self, s: ScopeId, place: u32) -> bool
+        requires scope { s < length self.now.scopes }
+        requires place { place < self.now.value_count ^ length (scope_at self.now s) }
+        ensures { result ≡ are_in self.now.ranges (scope_at self.now s) (tuple_at self.now.value_count (length (scope_at self.now s)) place) }
+    {
+        if self.is_whole {
+            return true;
+        }
+        let scope = self.scope(s);
+        let ranges = self.own_ranges();
+        are_whole(ranges, self.value_count, scope)
+            || lies_within(ranges, self.value_count, scope, place)
+    }
+
+    /// A table that agrees with relation r on a scope at each tuple within the ranges; outside them the relation holds. Where
+    /// each variable of the scope has all values it is the relation's.
     pub fn table_on(&self, s: ScopeId, r: u8) -> &Table
         requires scope { s < length self.now.scopes }
         requires rel { r < length (relations_on self.now s) }
-        ensures is { result.now.truth ≡ slice_index_or (relations_on self.now s) r [] }
+        ensures agrees { AgreeWithin self.now.ranges self.now.value_count (scope_at self.now s) result.now.truth (slice_index_or (relations_on self.now s) r []) }
+        ensures widened { widened self.now.ranges self.now.value_count (scope_at self.now s) result.now.truth ≡ slice_index_or (relations_on self.now s) r [] }
+        ensures whole { IsTrue (is_whole self.now s) → result.now.truth ≡ slice_index_or (relations_on self.now s) r [] }
         ensures arity { result.now.arity ≡ length (scope_at self.now s) }
         ensures values { result.now.value_count ≡ self.now.value_count }
         ensures size { length result.now.truth ≡ self.now.value_count ^ length (scope_at self.now s) }
     {
-        let arity = self.scope(s).len() as u8;
-        &self.relations.list(arity)[r as usize]
+        let tables = self.relations.list(self.scope(s).len() as u8);
+        let number = self.on[self.numbers[s as usize] as usize + r as usize];
+        &tables[number as usize]
     }
 
     /// Whether relation r on a scope accepts the tuple at a place.
@@ -129,7 +187,25 @@ impl Language {
         requires place { place < self.now.value_count ^ length (scope_at self.now s) }
         ensures { result ≡ slice_index_or (slice_index_or (relations_on self.now s) r []) place false }
     {
-        self.table_on(s, r).at(place)
+        self.table_on(s, r).at(place) || !self.is_inside(s, place)
+    }
+
+    /// The truth values of relation r on a scope from a place on, one for each value of the last variable: bit y is 1 where
+    /// it accepts the tuple y places further. The bits past the values mean nothing.
+    pub fn row_on(&self, s: ScopeId, r: u8, place: u32) -> u64
+        requires scope { s < length self.now.scopes }
+        requires rel { r < length (relations_on self.now s) }
+        requires row { place + self.now.value_count ≤ self.now.value_count ^ length (scope_at self.now s) }
+        ensures { (y : ℕ) → y < self.now.value_count → (bit_at result y == 1) ≡ slice_index_or (slice_index_or (relations_on self.now s) r []) (place + y) false }
+    {
+        if self.is_whole(s) {
+            return self.table_on(s, r).row(place);
+        }
+        let mut row = 0;
+        for y in 0..self.value_count {
+            row |= u64::from(self.holds(s, r, place + u32::from(y))) << y;
+        }
+        row
     }
 
     /// How many candidates there are.
@@ -199,9 +275,10 @@ impl Language {
         requires { IsCandidate self.now c }
         ensures { IfOk result (λ t. string_bytes t ≡ candidate_text self.now c) }
     {
-        let table = self.table_on(c.scope, c.rel);
+        let ranges = self.own_ranges();
         let scope = self.scope(c.scope);
-        let text = text_of_candidate(alloc, &self.given, table, &self.names, scope)?;
+        let table = self.table_on(c.scope, c.rel);
+        let text = text_of_candidate(alloc, &self.given, ranges, scope, table, &self.names)?;
         Ok(text)
     }
 }

@@ -1,23 +1,24 @@
 //! Scopes and relations, told by their names.
 
-ghost use Rattle.std.specs.Prelude.{◌≡◌, ℕ, ◌<◌, ◌≤◌, List, [], length, map, All, string_bytes, slice_index_or, option_map, IfSome};
+ghost use Rattle.std.specs.Prelude.{◌≡◌, ℕ, ◌^◌, ◌<◌, ◌≤◌, List, [], length, map, All, string_bytes, slice_index_or, option_map, IfSome};
 ghost use Rattle.std.specs.Str.{bytes_eq};
 ghost use Rattle.std.specs.Cmp.Lexicographic.{pointwise};
 ghost use Rattle.assign.specs.SetLemmas.{is_one};
 ghost use Rattle.rel_table.specs.Table.{TruthTable};
 ghost use Rattle.language.specs.Inside.{given_by};
-ghost use Rattle.language.specs.Language.{scope_at, relations_on, IsLanguage};
-ghost use Rattle.language.specs.Texts.{is_part};
+ghost use Rattle.language.specs.Language.{of_arity, scope_at, relations_on, IsLanguage};
+ghost use Rattle.language.specs.Ranges.{widened};
 ghost use Rattle.language.specs.ByName.{texts_of, has_names, scope_named, relation_among, relation_named, TellsWithin, TellsNamed};
 
 use crate::candidates::ScopeId;
 use crate::lang::Language;
+use crate::narrow::is_part_on;
 use crate::parts::RelPart;
 use rel_table::Table;
 
 /// The table of the relation of this arity and name.
 fn table_named<'a>(given: &'a [RelPart], arity: u8, name: &str) -> Option<&'a Table>
-    ensures { option_map (λ t. t.now.truth) result ≡ relation_among arity name.now (map given_by given.entry.now) }
+    ensures { option_map (λ t. t.now.truth) result ≡ relation_among name.now (of_arity arity (map given_by given.entry.now)) }
 {
     for part in given {
         if part.table.arity() == arity && part.name.as_str() == name {
@@ -43,13 +44,6 @@ fn are_named(all: &[String], scope: &[u8], names: &[&str]) -> bool
     true
 }
 
-/// Whether each tuple of the first relation is one of the second.
-fn lies_within(table: &Table, other: &Table) -> bool
-    ensures { result ≡ is_part table.now.truth other.now.truth }
-{
-    table.within(other)
-}
-
 impl Language {
     /// Whether the variables of a scope have these names, in this order.
     fn has_names(&self, s: ScopeId, names: &[&str]) -> bool
@@ -73,14 +67,17 @@ impl Language {
         None
     }
 
-    /// Which relations on a scope lie within a table's: bit r tells of relation r.
+    /// Which relations on a scope lie within a table's there: bit r tells of relation r.
     fn within(&self, s: ScopeId, table: &Table) -> u64
-        requires { s < length self.now.scopes }
-        ensures { TellsWithin self.now s table.now.truth result }
+        requires scope { s < length self.now.scopes }
+        requires size { length table.now.truth ≡ self.now.value_count ^ length (scope_at self.now s) }
+        ensures { TellsWithin self.now s (widened self.now.ranges self.now.value_count (scope_at self.now s) table.now.truth) result }
     {
+        let scope = self.scope(s);
+        let ranges = self.own_ranges();
         let mut relations = 0;
         for r in 0..self.relations_on(s) {
-            relations |= u64::from(lies_within(self.table_on(s, r), table)) << r;
+            relations |= u64::from(is_part_on(ranges, scope, self.table_on(s, r), table)) << r;
         }
         relations
     }

@@ -1,10 +1,15 @@
-ghost use Rattle.std.specs.Prelude.{◌≡◌, ◌<◌, ◌≤◌, ℕ, ◌++◌, ◌∷◌, ◌&&◌, ◌==◌, pos, negsuc, ◌≤ℤ◌, List, [], length, map, All, OnOk, IfOk, string_bytes, if◌then◌else◌, slice_index_or};
+ghost use Rattle.std.specs.Prelude.{◌≡◌, ◌<◌, ◌≤◌, ◌^◌, ℕ, ◌++◌, ◌∷◌, ◌&&◌, ◌==◌, pos, negsuc, ◌≤ℤ◌, List, [], length, map, All, OnOk, IfOk, string_bytes, if◌then◌else◌, slice_index_or};
 ghost use Rattle.std.specs.List.{flat_map};
 ghost use Rattle.std.specs.Fmt.{decimal};
 ghost use Rattle.language.specs.Inside.{given_by};
+ghost use Rattle.rel_table.specs.Relation.{Relation};
+ghost use Rattle.language.specs.Ranges.{widened};
+ghost use Rattle.language.specs.Language.{of_arity, given_within, IsScope};
 ghost use Rattle.language.specs.Texts.{value_text, values_text, is_part, joined, names_containing};
 
+use crate::narrow::is_part_on;
 use crate::parts::RelPart;
+use crate::ranges::ValueRange;
 use assign::Partial;
 use rel_table::Table;
 use std::alloc::{AllocError, Global};
@@ -49,11 +54,14 @@ pub(crate) fn text_of_question(
     Ok(text)
 }
 
-/// Whether the relation has the table's arity and contains it.
-fn contains(part: &RelPart, table: &Table) -> bool
-    ensures { result ≡ ((part.now.table.arity == table.now.arity) && is_part table.now.truth part.now.table.truth) }
+/// Whether the relation has the scope's length, and contains the table's there.
+fn contains(part: &RelPart, ranges: &[ValueRange], scope: &[u8], table: &Table) -> bool
+    requires scope { IsScope (length ranges.now) scope.now }
+    requires size { length table.now.truth ≡ table.now.value_count ^ length scope.now }
+    requires part { length part.now.table.truth ≡ table.now.value_count ^ part.now.table.arity }
+    ensures { let on : Relation → Relation = widened ranges.now table.now.value_count scope.now in result ≡ ((part.now.table.arity == length scope.now) && is_part (on table.now.truth) (on part.now.table.truth)) }
 {
-    part.table.arity() == table.arity() && table.within(&part.table)
+    part.table.arity() as usize == scope.len() && is_part_on(ranges, scope, table, &part.table)
 }
 
 /// Adds a name to others, with `&` between them.
@@ -67,13 +75,22 @@ fn add_name(text: &mut String, name: &str) -> Result<(), AllocError>
 }
 
 /// `eq&ne`
-fn name_of(alloc: Global, given: &[RelPart], table: &Table) -> Result<String, AllocError>
+fn name_of(
+    alloc: Global,
+    given: &[RelPart],
+    ranges: &[ValueRange],
+    scope: &[u8],
+    table: &Table,
+) -> Result<String, AllocError>
     requires names { All (λ part. 1 ≤ length (string_bytes part.name)) given.now }
-    ensures { IfOk result (λ t. string_bytes t ≡ joined 38 (names_containing table.now.arity table.now.truth (map given_by given.now))) }
+    requires sized { All (λ part. length part.table.truth ≡ table.now.value_count ^ part.table.arity) given.now }
+    requires scope { IsScope (length ranges.now) scope.now }
+    requires size { length table.now.truth ≡ table.now.value_count ^ length scope.now }
+    ensures { IfOk result (λ t. let d = table.now.value_count in string_bytes t ≡ joined 38 (names_containing (widened ranges.now d scope.now table.now.truth) (map (given_within ranges.now d scope.now) (of_arity (length scope.now) (map given_by given.now))))) }
 {
     let mut text = String::new(alloc);
     for part in given {
-        if contains(part, table) {
+        if contains(part, ranges, scope, table) {
             add_name(&mut text, part.name.as_str())?;
         }
     }
@@ -84,15 +101,19 @@ fn name_of(alloc: Global, given: &[RelPart], table: &Table) -> Result<String, Al
 pub(crate) fn text_of_candidate(
     alloc: Global,
     given: &[RelPart],
+    ranges: &[ValueRange],
+    scope: &[u8],
     table: &Table,
     names: &[String],
-    scope: &[u8],
 ) -> Result<String, AllocError>
     requires names { All (λ part. 1 ≤ length (string_bytes part.name)) given.now }
-    requires known { All (λ v. v < length names.now) scope.now }
-    ensures { IfOk result (λ t. string_bytes t ≡ joined 38 (names_containing table.now.arity table.now.truth (map given_by given.now)) ++ flat_map (λ name. 32 ∷ name) (map (λ (v : ℕ). slice_index_or (map string_bytes names.now) v []) scope.now)) }
+    requires sized { All (λ part. length part.table.truth ≡ table.now.value_count ^ part.table.arity) given.now }
+    requires scope { IsScope (length ranges.now) scope.now }
+    requires size { length table.now.truth ≡ table.now.value_count ^ length scope.now }
+    requires known { length names.now ≡ length ranges.now }
+    ensures { IfOk result (λ t. let d = table.now.value_count in string_bytes t ≡ joined 38 (names_containing (widened ranges.now d scope.now table.now.truth) (map (given_within ranges.now d scope.now) (of_arity (length scope.now) (map given_by given.now)))) ++ flat_map (λ name. 32 ∷ name) (map (λ (v : ℕ). slice_index_or (map string_bytes names.now) v []) scope.now)) }
 {
-    let mut text = name_of(alloc, given, table)?;
+    let mut text = name_of(alloc, given, ranges, scope, table)?;
     for v in scope {
         let name = names[*v as usize].as_str();
         write!(text, " {name}")?;

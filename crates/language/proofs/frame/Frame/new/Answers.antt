@@ -1,12 +1,15 @@
-use Rattle.std.proofs.Common.{◌≡◌, map, sym, ◌∙◌, arith, rules, to_z, of_z, w64}
-use Rattle.std.specs.Prelude.{String, string_bytes}
+use Rattle.std.proofs.Common.{◌≡◌, ℕ, map, take, replicate, length, sym, ◌∙◌, ap, subst, arith, rules, to_z, of_z, w64}
+use Rattle.std.specs.Prelude.{All, String, string_bytes}
 use Rattle.std.specs.declared.alloc.Global.{Global}
 use Rattle.std.proofs.lemmas.Int.{to_z-of_z}
-use Rattle.std.proofs.lemmas.List.{length-map}
+use Rattle.std.proofs.lemmas.List.{length-map, length-replicate, take-replicate}
+use Rattle.std.proofs.lemmas.List.Elements.{All-replicate}
 use Rattle.std.proofs.lemmas.Bool.{eqb-false}
-use Rattle.language.specs.Building.{is_domain}
+use Rattle.language.specs.Ranges.{whole_range, IsRange}
+use Rattle.language.specs.Building.{is_domain, values_between}
 use Rattle.language.proofs.Refusals.{bad_domain}
 use Rattle.language.proofs.frame.Frame.new.Goals as goal
+use Rattle.language.proofs.frame.Frame.new.Goals.{After-whole_ranges}
 
 pub returns-then-not-is_domain-clause-refused : goal.returns-then-not-is_domain-clause-refused
 returns-then-not-is_domain-clause-refused c =
@@ -17,16 +20,31 @@ returns-then-not-is_domain-clause-refused c =
     bad_domain (map (λ (s : String Global). string_bytes s) c.args.names.items) c.args.lo c.args.hi (omega (arith, some, long)) (omega (arith, long))
     ((λ i. is_domain (sym lo_is i) (sym hi_is i)) ∙ sym c.is_domain.ensures ∙ c.if-not-is_domain.true)
 
+ranges : (c : After-whole_ranges) → take (length c.args.names.items) c.whole_ranges.result ≡ replicate (length c.args.names.items) (whole_range c.values_between-value_count.result)
+ranges c = ap (take (length c.args.names.items)) c.whole_ranges.ensures ∙ take-replicate (length c.args.names.items) 128 (whole_range c.values_between-value_count.result) (omega arith)
+
 pub invariant_of-result : goal.invariant_of-result
 invariant_of-result c =
     let some = eqb-false _ _ (sym c.is_empty.ensures ∙ c.if-is_empty.false) in
     let long = length-map c.args.names.items (λ (s : String Global). string_bytes s) in
+    let value = c.values_between-value_count.ensures.some in
+    let n : ℕ = length c.args.names.items in
+    let d : ℕ = c.values_between-value_count.result in
     record {
       some_variable = omega (arith, some, long);
       few_variables = omega (arith, long);
       names = c.requires.names;
-      some_value = c.values_between.ensures.some;
-      few_values = c.values_between.ensures.few;
-      low = c.values_between.ensures.low;
-      high = c.values_between.ensures.high;
+      some_value = value;
+      few_values = c.values_between-value_count.ensures.few;
+      low = c.values_between-value_count.ensures.low;
+      high = c.values_between-value_count.ensures.high;
+      ranged = ap length (ranges c) ∙ length-replicate n (whole_range d) ∙ sym long;
+      ranges = subst (All (IsRange d)) (sym (ranges c)) (All-replicate (IsRange d) n (whole_range d) (record { some = omega arith; known = omega (arith, value) }));
     }
+
+pub returns-clause-ranges : goal.returns-clause-ranges
+returns-clause-ranges c =
+    let at = (goal.at.returns-clause-ranges c).After-whole_ranges in
+    let lo_is : to_z w64 (of_z w64 c.args.lo) ≡ c.args.lo = search (rules, to_z-of_z) in
+    let hi_is : to_z w64 (of_z w64 c.args.hi) ≡ c.args.hi = search (rules, to_z-of_z) in
+    ranges at ∙ ap (λ d. replicate (length c.args.names.items) (whole_range d)) (c.values_between-value_count.ensures.is ∙ (λ i. values_between (lo_is i) (hi_is i)))

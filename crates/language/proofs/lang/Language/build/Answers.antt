@@ -1,4 +1,4 @@
-use Rattle.std.proofs.Common.{◌≡◌, ℕ, ◌-◌, ◌≤◌, List, [], get_or, length, map, sym, ◌∙◌, ap, subst, arith, refl, to_z, of_z, w64}
+use Rattle.std.proofs.Common.{◌≡◌, ℕ, ◌-◌, ◌≤◌, List, [], get_or, take, length, map, ◌^◌, true, sym, ◌∙◌, ap, subst, arith, refl, to_z, of_z, w64}
 use Rattle.std.specs.Prelude.{String, string_bytes, Some, All}
 use Rattle.std.specs.declared.alloc.Global.{Global}
 use Rattle.std.proofs.lemmas.Int.{to_z-of_z}
@@ -9,12 +9,14 @@ use Rattle.language.specs.declared.parts.RelPart.{RelPart}
 use Rattle.rel_table.specs.Table.{IsTable}
 use Rattle.language.specs.declared.scopes.Scope.{Scope}
 use Rattle.language.specs.declared.lang.Language.TheInside.{Inside}
-use Rattle.language.specs.Built.{AreScopes, IsClosedOf}
+use Rattle.language.specs.Built.{AreScopes, IsClosedOf, AreAll}
+use Rattle.std.specs.List.{list_all}
+use Rattle.language.specs.Ranges.{is_whole_range}
 use Rattle.language.specs.Scopes.{variables_in}
 use Rattle.language.proofs.Wording.{least_fits}
-use Rattle.language.specs.Building.{Frame, IsFrame, listed_in, scopes_of, scopes_refusal}
-use Rattle.language.specs.Inside.{given_by, first_numbers}
-use Rattle.language.proofs.Built.{IsMadeOf, sound, built, refused_scopes, values_of, values_of-over}
+use Rattle.language.specs.Building.{has_arity, Frame, IsFrame, listed_in, scopes_of, scopes_refusal}
+use Rattle.language.specs.Inside.{given_by}
+use Rattle.language.proofs.Built.{IsMadeOf, sound, built, scopes_fit, refused_scopes, values_of, values_of-over}
 use Rattle.language.proofs.lang.Language.build.Goals as goal
 use Rattle.language.proofs.lang.Language.build.Goals.{In_ok-numbers}
 
@@ -23,15 +25,21 @@ fields c = record {
   names = c.frame.inside.names;
   least_value = to_z w64 (of_z w64 c.frame.inside.least_value);
   value_count = c.frame.inside.value_count;
+  ranges = c.frame.inside.ranges;
+  is_whole = c.are_all-is_whole.result;
   given = c.args.rels;
   scopes = c.in_ok-scopes.scopes;
   relations = c.in_ok-relations.relations;
-  numbers = c.in_ok-numbers.numbers;
+  on = c.in_ok-numbers.numbers.on;
+  numbers = c.in_ok-numbers.numbers.starts;
 }
 
 count : (c : In_ok-numbers) → c.len.result ≡ length c.args.frame.names
 count c =
     (let long : c.len.result ≡ length c.frame.inside.names.items = omega arith in long) ∙ sym (length-map c.frame.inside.names.items (λ (s : String Global). string_bytes s)) ∙ ap (λ (f : Frame). length f.names) c.frame.view_is
+
+own : (c : In_ok-numbers) → c.len-2.result ≡ length c.frame.inside.names.items
+own c = omega arith
 
 is_frame : (c : In_ok-numbers) → IsFrame c.args.frame
 is_frame c = subst IsFrame c.frame.view_is c.frame.invariant
@@ -45,19 +53,43 @@ made c =
       names = ap (λ (f : Frame). f.names) c.frame.view_is;
       least_value = small ∙ ap (λ (f : Frame). f.least_value) c.frame.view_is;
       value_count = ap (λ (f : Frame). f.value_count) c.frame.view_is;
+      ranges = ap (λ (f : Frame). f.ranges) c.frame.view_is;
       given = refl;
       over = c.requires.tables;
       tables = subst (All (λ (part : RelPart). IsTable part.table)) c.deref-2.ensures.value c.in_ok-relations.ensures.lawful;
       relation_names = c.requires.names;
       scopes = subst (λ (n : ℕ). AreScopes n (map given_by c.args.rels.items) c.in_ok-scopes.scopes.items) (count c)
           (subst (λ (parts : List RelPart). AreScopes c.len.result (map given_by parts) c.in_ok-scopes.scopes.items) c.deref.ensures.value c.in_ok-scopes.ensures.sound);
-      sized = subst (All (λ (scope : Scope). length (variables_in scope) ≡ scope.size)) c.deref-3.ensures.value c.in_ok-numbers.ensures.sized;
+      sized = subst (All (λ (scope : Scope). length (variables_in scope) ≡ scope.size)) c.deref-4.ensures.value c.in_ok-numbers.ensures.sized;
       relations = λ arity some short. subst (λ (d : ℕ). IsClosedOf d arity (map given_by c.args.rels.items) (get_or c.in_ok-relations.relations (arity - 1) [])) d
           (subst (λ (parts : List RelPart). IsClosedOf (values_of c.deref-2.result.now) arity (map given_by parts) (get_or c.in_ok-relations.relations (arity - 1) [])) c.deref-2.ensures.value
           (c.in_ok-relations.ensures.closed arity some short));
       four = c.in_ok-relations.ensures.four;
-      numbers = c.in_ok-numbers.ensures.is ∙ ap (first_numbers c.in_ok-relations.relations) c.deref-3.ensures.value;
+      all = subst (λ (n : ℕ). AreAll (take n c.frame.inside.ranges) c.frame.inside.value_count (map given_by c.args.rels.items) c.in_ok-relations.relations c.in_ok-scopes.scopes.items c.in_ok-numbers.numbers.on.items c.in_ok-numbers.numbers.starts.items) (own c)
+          (subst (λ (scopes : List Scope). AreAll (take c.len-2.result c.frame.inside.ranges) c.frame.inside.value_count (map given_by c.args.rels.items) c.in_ok-relations.relations scopes c.in_ok-numbers.numbers.on.items c.in_ok-numbers.numbers.starts.items) c.deref-4.ensures.value
+          (subst (λ (parts : List RelPart). AreAll (take c.len-2.result c.frame.inside.ranges) c.frame.inside.value_count (map given_by parts) c.in_ok-relations.relations c.deref-4.result.now c.in_ok-numbers.numbers.on.items c.in_ok-numbers.numbers.starts.items) c.deref-3.ensures.value
+          c.in_ok-numbers.ensures.all));
+      is_whole =
+          (let is : c.are_all-is_whole.result ≡ list_all (is_whole_range c.frame.inside.value_count) (take c.len-2.result c.frame.inside.ranges) = c.are_all-is_whole.ensures in is)
+          ∙ ap (λ (n : ℕ). list_all (is_whole_range c.frame.inside.value_count) (take n c.frame.inside.ranges)) (own c);
     }
+
+pub numbers_of-requires-clause-fits : goal.numbers_of-requires-clause-fits
+numbers_of-requires-clause-fits c =
+    let values : c.frame.inside.value_count ≡ c.args.frame.value_count = ap (λ (f : Frame). f.value_count) c.frame.view_is in
+    let used = subst (λ (parts : List RelPart). All (λ scope. has_arity (map given_by parts) (length scope) ≡ true) (map variables_in c.in_ok-scopes.scopes.items)) c.deref.ensures.value c.in_ok-scopes.ensures.sound.used in
+    subst (λ (scopes : List Scope). All (λ scope. c.frame.inside.value_count ^ length scope ≤ 65536) (map variables_in scopes)) (sym c.deref-4.ensures.value)
+    (subst (λ (d : ℕ). All (λ scope. d ^ length scope ≤ 65536) (map variables_in c.in_ok-scopes.scopes.items)) (sym values)
+    (scopes_fit c.args.frame.value_count c.args.rels.items c.in_ok-scopes.scopes.items c.requires.tables
+    (subst (All (λ (part : RelPart). IsTable part.table)) c.deref-2.ensures.value c.in_ok-relations.ensures.lawful) used))
+
+pub numbers_of-requires-clause-closed : goal.numbers_of-requires-clause-closed
+numbers_of-requires-clause-closed c = λ arity few short.
+    let some : 1 ≤ length c.args.rels.items = (let e = eqb-false _ _ (sym c.is_empty.ensures ∙ c.if-is_empty.false) in omega (arith, e)) in
+    let d : values_of c.deref-2.result.now ≡ c.frame.inside.value_count =
+    ap values_of c.deref-2.ensures.value ∙ values_of-over c.args.frame.value_count c.args.rels.items some c.requires.tables ∙ ap (λ (f : Frame). f.value_count) (sym c.frame.view_is) in
+    subst (λ (parts : List RelPart). IsClosedOf c.frame.inside.value_count arity (map given_by parts) (get_or c.in_ok-relations.relations (arity - 1) [])) (c.deref-2.ensures.value ∙ sym c.deref-3.ensures.value)
+    (subst (λ (d : ℕ). IsClosedOf d arity (map given_by c.deref-2.result.now) (get_or c.in_ok-relations.relations (arity - 1) [])) d (c.in_ok-relations.ensures.closed arity few short))
 
 pub invariant_of-result : goal.invariant_of-result
 invariant_of-result c = let at = (goal.at.invariant_of-result c).In_ok-numbers in sound at.args.frame at.args.rels.items (fields at) (is_frame at) (made at)

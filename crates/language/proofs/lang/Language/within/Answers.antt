@@ -1,17 +1,27 @@
-use Rattle.std.proofs.Common.{[], get_or, ◌∙◌, ap, arith}
-use Rattle.language.specs.Language.{relations_on}
+use Rattle.std.proofs.Common.{◌≡◌, [], get_or, ◌∙◌, ap, arith}
+use Rattle.rel_table.specs.Relation.{Relation}
+use Rattle.language.specs.Ranges.{widened}
+use Rattle.language.specs.Language.{Language, scope_at, relations_on}
 use Rattle.language.specs.Texts.{is_part}
 use Rattle.language.proofs.ByNames.{no_mask, mask_more}
 use Rattle.language.proofs.lang.Language.within.Goals as goal
 
 pub loop-r-init : goal.loop-r-init
-loop-r-init c = no_mask (λ k. is_part (get_or (relations_on c.args.self.now c.args.s) k []) c.args.table.now.truth)
+loop-r-init c =
+    let l : Language = c.args.self.now in
+    no_mask (λ k. is_part (get_or (relations_on l c.args.s) k []) (widened l.ranges l.value_count (scope_at l c.args.s) c.args.table.now.truth))
 
 pub loop-r-preserved : goal.loop-r-preserved
 loop-r-preserved c =
-    mask_more (λ k. is_part (get_or (relations_on c.args.self.now c.args.s) k []) c.args.table.now.truth) c.loop-r.r c.loop-r.relations c.from.result c.lies_within.result
-    (let few = c.relations_on-r-end.ensures.few in omega arith) c.from.ensures
-    (c.lies_within.ensures ∙ ap (λ t. is_part t c.args.table.now.truth) c.table_on.ensures.is) c.loop-r.invariant
+    let l : Language = c.args.self.now in
+    let other : Relation = widened l.ranges l.value_count (scope_at l c.args.s) c.args.table.now.truth in
+    let d : c.table_on.result.now.value_count ≡ l.value_count = c.table_on.ensures.values in
+    let is : c.is_part_on.result ≡ is_part (get_or (relations_on l c.args.s) c.loop-r.r []) other =
+    c.is_part_on.ensures
+    ∙ (λ i. is_part (widened (c.own_ranges-ranges.ensures.is i) (d i) (c.scope-scope.ensures.is i) c.table_on.result.now.truth) (widened (c.own_ranges-ranges.ensures.is i) (d i) (c.scope-scope.ensures.is i) c.args.table.now.truth))
+    ∙ ap (λ r. is_part r other) c.table_on.ensures.widened in
+    mask_more (λ k. is_part (get_or (relations_on l c.args.s) k []) other) c.loop-r.r c.loop-r.relations c.from.result c.is_part_on.result
+    (let few = c.relations_on-r-end.ensures.few in omega arith) c.from.ensures is c.loop-r.invariant
 
 pub returns : goal.returns
 returns c = λ k low. c.loop-r.invariant.low k (let is = c.relations_on-r-end.ensures.is in omega arith)

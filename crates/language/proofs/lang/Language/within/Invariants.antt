@@ -1,8 +1,9 @@
 use Rattle.std.specs.Prelude.{slice_index_or, []}
-use Rattle.language.specs.Language.{relations_on}
+use Rattle.language.specs.Ranges.{widened}
+use Rattle.language.specs.Language.{scope_at, relations_on}
 use Rattle.language.specs.Texts.{is_part}
 use Rattle.language.proofs.ByNames.{IsMaskOf}
 use Rattle.language.proofs.lang.Language.within.Given as goal
 
 abbrev pub invariant-loop-r : goal.invariant-loop-r
-invariant-loop-r l = IsMaskOf (λ k. is_part (slice_index_or (relations_on l.self l.s) k []) l.table.truth) l.r l.relations
+invariant-loop-r l = IsMaskOf (λ k. is_part (slice_index_or (relations_on l.self l.s) k []) (widened l.self.ranges l.self.value_count (scope_at l.self l.s) l.table.truth)) l.r l.relations

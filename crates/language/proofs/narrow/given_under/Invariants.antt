@@ -1,0 +1,14 @@
+use Rattle.std.proofs.Common.{◌≡◌, map, take}
+use Rattle.std.specs.Prelude.{All}
+use Rattle.rel_table.specs.Relation.{meet}
+use Rattle.rel_table.specs.Table.{TruthTable}
+use Rattle.language.specs.Inside.{given_by, truths}
+use Rattle.language.specs.Building.{relations_of_arity}
+use Rattle.language.proofs.narrow.given_under.Given as goal
+
+abbrev pub invariant-loop-part : goal.invariant-loop-part
+invariant-loop-part l = record {
+  are : truths l.under.items ≡ map (λ r. meet r l.mask.truth) (relations_of_arity (map given_by (take l.part-index l.rels)) l.mask.arity);
+  arity : All (λ (t : TruthTable). t.arity ≡ l.mask.arity) l.under.items;
+  values : All (λ (t : TruthTable). t.value_count ≡ l.mask.value_count) l.under.items;
+}

@@ -1,0 +1,12 @@
+use Rattle.std.proofs.Common.{sym, subst, ◌∙◌, map}
+use Rattle.language.specs.Inside.{given_by}
+use Rattle.language.specs.Built.{AreChosen}
+use Rattle.language.proofs.Within.{wholes_from}
+use Rattle.language.proofs.Chosen.{chosen_whole}
+use Rattle.language.proofs.narrow.numbers_on.Goals as goal
+
+pub returns-then-are_whole : goal.returns-then-are_whole
+returns-then-are_whole c =
+    subst (AreChosen c.args.ranges.now c.args.d (map given_by c.args.rels.now) c.args.tables.now c.args.scope.now) (sym c.in_ok-all_numbers.ensures)
+    (chosen_whole c.args.ranges.now c.args.d (map given_by c.args.rels.now) c.args.tables.now c.args.scope.now
+    (wholes_from c.args.ranges.now c.args.d c.args.scope.now c.requires.ranges.some_value (sym c.are_whole.ensures ∙ c.if-are_whole.true)) c.requires.closed)

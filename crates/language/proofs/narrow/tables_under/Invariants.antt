@@ -1,0 +1,13 @@
+use Rattle.std.proofs.Common.{◌≡◌, map, take}
+use Rattle.std.specs.Prelude.{All}
+use Rattle.rel_table.specs.Relation.{meet}
+use Rattle.rel_table.specs.Table.{TruthTable}
+use Rattle.language.specs.Inside.{truths}
+use Rattle.language.proofs.narrow.tables_under.Given as goal
+
+abbrev pub invariant-loop-table : goal.invariant-loop-table
+invariant-loop-table l = record {
+  are : truths l.under.items ≡ map (λ r. meet r l.mask.truth) (truths (take l.table-index l.tables));
+  arity : All (λ (t : TruthTable). t.arity ≡ l.mask.arity) l.under.items;
+  values : All (λ (t : TruthTable). t.value_count ≡ l.mask.value_count) l.under.items;
+}
