@@ -1,62 +1,77 @@
 -- The language that is built of what was read, or the fault that is met.
-use Rattle.std.proofs.Common.{◌≡◌, ℕ, ℤ, List, length, Option, Some, None, Result, Ok, option_map, refl, sym, ap, ◌∙◌, subst}
+use Rattle.std.proofs.Common.{◌≡◌, ℕ, ℤ, List, length, Option, Some, None, Ok, option_map, refl, ap, ◌∙◌, subst}
 use Rattle.language.specs.Language.{Language, Given}
 use Rattle.language.specs.Building as build
 use Rattle.language.specs.declared.parts.LangFault.{LangFault}
 use Rattle.voc_read.specs.declared.fault.VocFault.TheVariants.{Lang}
 use Rattle.voc_read.specs.Names.{names_refusal}
 use Rattle.voc_read.specs.Outline.{OutlineData}
+use Rattle.voc_read.specs.Ranges.{VariableRange, ranges_of, ranges_by, with_ranges}
 use Rattle.voc_read.specs.Relations.{given_of}
 use Rattle.voc_read.specs.Scopes.{scopes_of}
 use Rattle.voc_read.specs.Vocabulary.{Parts, outline_refusal, parts_from, refusal_after, IsFrameOf, IsLanguageOf}
 
 -- what was read, over these values
-pub record AreRead (o : OutlineData) (frame : build.Frame) (least_value : ℤ) (value_count : ℕ) (given : List Given) (listed : Option (List (List ℕ))) : Type 0 where
+pub record AreRead (o : OutlineData) (frame set : build.Frame) (least_value : ℤ) (value_count : ℕ) (found : List VariableRange) (given : List Given) (listed : Option (List (List ℕ))) : Type 0 where
   pub named : names_refusal o.names ≡ None
   pub outlined : outline_refusal o ≡ None
   pub framed : IsFrameOf o frame
   pub least : least_value ≡ frame.least_value
   pub count : value_count ≡ frame.value_count
+  pub ranges : ranges_of least_value value_count o.names o.ranges ≡ Ok found
   pub relations : given_of least_value value_count o.relations ≡ Ok given
   pub scopes : scopes_of o.names o.listed ≡ Ok listed
+  pub sets : set ≡ with_ranges frame found
 
-module _ (o : OutlineData) (frame : build.Frame) (least_value : ℤ) (value_count : ℕ) (given : List Given) (listed : Option (List (List ℕ))) (read : AreRead o frame least_value value_count given listed) where
+module _ (o : OutlineData) (frame set : build.Frame) (least_value : ℤ) (value_count : ℕ) (found : List VariableRange) (given : List Given) (listed : Option (List (List ℕ)))
+    (read : AreRead o frame set least_value value_count found given listed) where
+  values : ℕ
+  values = build.values_between o.least_value o.greatest_value
+
   parts : Parts
-  parts = record { names = o.names; least_value = o.least_value; greatest_value = o.greatest_value; given = given; listed = listed }
+  parts = record { names = o.names; least_value = o.least_value; greatest_value = o.greatest_value; ranges = found; given = given; listed = listed }
+
+  same_names : set.names ≡ o.names
+  same_names = ap (λ (f : build.Frame). f.names) read.sets ∙ read.framed.names
 
   are_parts : parts_from o ≡ Ok parts
-  unfolding parts
+  unfolding parts values
   are_parts =
       let low : least_value ≡ o.least_value = read.least ∙ read.framed.least_value in
-      let many : value_count ≡ build.values_between o.least_value o.greatest_value = read.count ∙ read.framed.value_count in
-      let relations : given_of o.least_value (build.values_between o.least_value o.greatest_value) o.relations ≡ Ok given =
+      let many : value_count ≡ values = read.count ∙ read.framed.value_count in
+      let ranges : ranges_of o.least_value values o.names o.ranges ≡ Ok found =
+      subst (λ n. ranges_of o.least_value n o.names o.ranges ≡ Ok found) many (subst (λ x. ranges_of x value_count o.names o.ranges ≡ Ok found) low read.ranges) in
+      let relations : given_of o.least_value values o.relations ≡ Ok given =
       subst (λ n. given_of o.least_value n o.relations ≡ Ok given) many (subst (λ x. given_of x value_count o.relations ≡ Ok given) low read.relations) in
-      rw (read.named, read.outlined, relations, read.scopes) refl
+      rw (read.named, read.outlined, ranges, relations, read.scopes) refl
 
   no_fault : (fault : Option LangFault) → option_map Lang fault ≡ None → fault ≡ None
   no_fault None h = refl
   no_fault (Some fault) h = absurd (cc)
 
-  pub is_language : (l : Language) → build.build_refusal (length frame.names) given listed ≡ None → build.IsBuilt frame given listed l → IsLanguageOf (parts_from o) l
-  unfolding parts
-  is_language l made built = record {
-    parts = parts;
-    read = are_parts;
-    framed = no_fault (build.frame_refusal o.names o.least_value o.greatest_value) read.outlined;
-    buildable = subst (λ names. build.build_refusal (length names) given listed ≡ None) read.framed.names made;
-    built = record {
-      names = built.names ∙ read.framed.names;
-      least_value = built.least_value ∙ read.framed.least_value;
-      value_count = built.value_count ∙ read.framed.value_count;
-      given = built.given;
-      scopes = built.scopes ∙ ap (λ names. build.scopes_of (length names) given listed) read.framed.names;
-      four = built.four;
-      lawful = built.lawful;
-    };
-  }
+  pub is_language : (l : Language) → build.build_refusal (length set.names) given listed ≡ None → build.IsBuilt set given listed l → IsLanguageOf (parts_from o) l
+  unfolding parts values
+  is_language l made built =
+      let as_set : build.IsBuilt (with_ranges frame found) given listed l = subst (λ (f : build.Frame). build.IsBuilt f given listed l) read.sets built in
+      record {
+        parts = parts;
+        read = are_parts;
+        framed = no_fault (build.frame_refusal o.names o.least_value o.greatest_value) read.outlined;
+        buildable = subst (λ names. build.build_refusal (length names) given listed ≡ None) same_names made;
+        built = record {
+          names = as_set.names ∙ read.framed.names;
+          least_value = as_set.least_value ∙ read.framed.least_value;
+          value_count = as_set.value_count ∙ read.framed.value_count;
+          ranges = as_set.ranges ∙ (λ i. ranges_by (length (read.framed.names i)) (read.framed.least_value i) (read.framed.value_count i) found);
+          given = as_set.given;
+          scopes = as_set.scopes ∙ ap (λ names. build.scopes_of (length names) given listed) read.framed.names;
+          each = as_set.each;
+          lawful = as_set.lawful;
+        };
+      }
 
-  pub is_refused : (fault : LangFault) → build.build_refusal (length frame.names) given listed ≡ Some fault → refusal_after (parts_from o) ≡ Some (Lang fault)
+  pub is_refused : (fault : LangFault) → build.build_refusal (length set.names) given listed ≡ Some fault → refusal_after (parts_from o) ≡ Some (Lang fault)
   unfolding parts
   is_refused fault refused =
-      let stated : build.build_refusal (length o.names) given listed ≡ Some fault = subst (λ names. build.build_refusal (length names) given listed ≡ Some fault) read.framed.names refused in
+      let stated : build.build_refusal (length o.names) given listed ≡ Some fault = subst (λ names. build.build_refusal (length names) given listed ≡ Some fault) same_names refused in
       ap refusal_after are_parts ∙ ap (λ f. option_map Lang f) stated

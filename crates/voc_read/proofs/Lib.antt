@@ -9,6 +9,9 @@ pub mod ReadSizes
 pub mod TextsRead
 pub mod RelationNames
 pub mod ScopeSteps
+pub mod RangeSteps
+pub mod KnownRanges
+pub mod RangesSet
 pub mod KnownScopes
 pub mod Refused
 pub mod NumberSteps

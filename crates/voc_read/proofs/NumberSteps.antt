@@ -1,10 +1,11 @@
 -- One name more of a scope is looked up.
 use Rattle.std.proofs.Common.{◌≡◌, ℕ, suc, ◌+◌, ◌<◌, ◌++◌, List, [], ◌∷◌, length, drop, get_or, Option, Some, None, option_map, option_and_then, Bor, refl, sym, ap, ◌∙◌, append_assoc, arith}
 use Rattle.std.specs.Option.{ok_or}
-use Rattle.std.specs.Prelude.{Result, Ok, Err}
+use Rattle.std.specs.Prelude.{Ok, Err}
 use Rattle.std.proofs.Math.Seq.{drop-cons}
 use Rattle.voc_read.specs.declared.fault.VocFault.{VocFault}
-use Rattle.voc_read.specs.Scopes.{number_of, numbers_of}
+use Rattle.voc_read.specs.Names.{number_of}
+use Rattle.voc_read.specs.Scopes.{numbers_of}
 use Rattle.voc_read.specs.Texts.{texts_of}
 
 -- the numbers from name j on

@@ -1,8 +1,7 @@
 -- What describes a language isn't refused.
-use Rattle.std.proofs.Common.{◌≡◌, ℕ, List, length, None, refl}
+use Rattle.std.proofs.Common.{◌≡◌, ℕ, List, None, refl}
 use Rattle.language.specs.Language.{Language}
-use Rattle.language.specs.Building.{build_refusal}
-use Rattle.voc_read.specs.Vocabulary.{parts_of, refusal_of_vocabulary, IsVocabulary}
+use Rattle.voc_read.specs.Vocabulary.{refusal_of_vocabulary, IsVocabulary}
 
 pub not_refused : (bytes : List ℕ) (l : Language) → IsVocabulary bytes l → refusal_of_vocabulary bytes ≡ None
 unfolding refusal_of_vocabulary

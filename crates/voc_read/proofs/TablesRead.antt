@@ -1,16 +1,13 @@
 -- The table of a relation's tuples.
-use Rattle.std.proofs.Common.{◌≡◌, ℕ, zero, suc, ℤ, pos, ◌^◌, ◌<◌, ◌≤◌, Bool, true, false, cond, List, length, nat_eq, nat_le, Option, Some, None, Result, Ok, Err, refl, sym, ap, ◌∙◌, ap₂, arith}
-use Rattle.std.specs.Prelude.{unsigned_abs}
+use Rattle.std.proofs.Common.{◌≡◌, ℕ, zero, suc, ℤ, pos, ◌^◌, ◌<◌, ◌≤◌, Bool, false, List, length, nat_eq, Some, None, Ok, Err, refl, sym, ap, ◌∙◌, ap₂, arith}
 use Rattle.std.specs.List.{list_any}
-use Rattle.std.specs.Option.{option_map}
 use Rattle.std.proofs.lemmas.List.{same_lists, get_or_default}
 use Rattle.std.proofs.lemmas.List.FromFn.{get_or-map-range_with_len, length-map-range_with_len}
 use Rattle.std.proofs.lemmas.Bool.{le-leb}
 use Rattle.std.proofs.lemmas.Option.{same_Some}
 use Rattle.rel_table.specs.Table.{TruthTable, IsTable}
-use Rattle.rel_table.specs.Made.{arity_of, size_for, size_of, place_of_shown, first_fault, refusal_from, refusal_of, IsMade, Marks}
+use Rattle.rel_table.specs.Made.{arity_of, place_of_shown, first_fault, refusal_of, IsMade, Marks}
 use Rattle.rel_table.specs.declared.table.TableFault.{TableFault}
-use Rattle.voc_read.specs.declared.fault.VocFault.{VocFault}
 use Rattle.voc_read.specs.declared.fault.VocFault.TheVariants.{Table}
 use Rattle.voc_read.specs.Rules.{accepting, relation_of_tuples}
 

@@ -12,7 +12,7 @@ use Rattle.serde_json.specs.View.{view, items_view}
 use Rattle.serde_json.specs.declared.value.Value.{Value}
 use Rattle.serde_json.proofs.Views.{items_len-items_view}
 use Rattle.voc_read.specs.declared.fault.VocFault.{VocFault}
-use Rattle.voc_read.specs.Widest.{widest, items_widest, members_widest}
+use Rattle.voc_read.specs.Widest.{widest, items_widest, members_widest, widest_in}
 
 either : (o : Ordering) (rest : Option Data) (d e : Data) (n : ℕ) → (rest ≡ Some e → widest e ≤ n) → widest d ≤ n → match_ordering o rest (Some d) rest ≡ Some e → widest e ≤ n
 either Less rest d e n more here h = more h
@@ -38,6 +38,10 @@ pub widest-found : (key : List ℕ) (value : Data) (found : Option (Bor Value)) 
     → IfOk (ok_or found fault) (λ v. widest (view v.now) ≤ widest value)
 widest-found key value None fault h = tt
 widest-found key value (Some v) fault h = widest-get key value (view v.now) (sym h)
+
+pub widest-found_in : (key : List ℕ) (value : Data) (found : Option (Bor Value)) → option_map (λ v. view v.now) found ≡ get key value → widest_in (option_map (λ v. view v.now) found) ≤ widest value
+widest-found_in key value None h = omega arith
+widest-found_in key value (Some v) h = widest-get key value (view v.now) (sym h)
 
 -- an array has at most so many values, and each has no larger array
 pub widest-as_array : (value : Data) (items : Items) → as_array value ≡ Some items → (items_len items ≤ widest value) × (items_widest items ≤ widest value)

@@ -12,9 +12,9 @@ use Rattle.rel_formula.specs.declared.fault.TableOfFault.TheVariants as evaluati
 use Rattle.language.specs.declared.parts.LangFault.{LangFault}
 use Rattle.language.specs.declared.parts.LangFault.TheVariants as lang
 use Rattle.voc_read.specs.declared.fault.Spot.{Spot}
-use Rattle.voc_read.specs.declared.fault.Spot.TheVariants.{Whole, Variables, Domain, Relations, Relation, Scopes, Scope}
+use Rattle.voc_read.specs.declared.fault.Spot.TheVariants.{Whole, Variables, Domain, Relations, Relation, Scopes, Scope, Ranges, Range}
 use Rattle.voc_read.specs.declared.fault.VocFault.{VocFault}
-use Rattle.voc_read.specs.declared.fault.VocFault.TheVariants.{TooLong, NotJson, Missing, WrongKind, UnknownKey, BadName, NameRepeated, BadRelName, RelRepeated, UnknownVariable, Formula, Table, TableOf, Lang, Memory}
+use Rattle.voc_read.specs.declared.fault.VocFault.TheVariants.{TooLong, NotJson, Missing, WrongKind, UnknownKey, BadName, NameRepeated, BadRelName, RelRepeated, UnknownVariable, RangeName, BadRange, RangeRepeated, Formula, Table, TableOf, Lang, Memory}
 
 -- where a fault is
 abbrev pub spot_text : Spot → List ℕ
@@ -25,6 +25,8 @@ spot_text Relations = codes "relations"
 spot_text (Relation i) = codes "relation " ++ decimal i
 spot_text Scopes = codes "scopes"
 spot_text (Scope i) = codes "scope " ++ decimal i
+spot_text Ranges = codes "ranges"
+spot_text (Range i) = codes "range " ++ decimal i
 
 -- two numbers
 abbrev pub pair_text : ℕ → ℕ → List ℕ
@@ -80,6 +82,9 @@ fault_text (WrongKind spot) = codes "wrong kind " ++ spot_text spot
 fault_text (UnknownKey spot) = codes "unknown key " ++ spot_text spot
 fault_text (BadName i) = codes "bad name " ++ decimal i
 fault_text (NameRepeated i j) = codes "name repeated " ++ pair_text i j
+fault_text (RangeName i) = codes "range name " ++ decimal i
+fault_text (BadRange i) = codes "bad range " ++ decimal i
+fault_text (RangeRepeated i j) = codes "range repeated " ++ pair_text i j
 fault_text (BadRelName i) = codes "bad relation name " ++ decimal i
 fault_text (RelRepeated i j) = codes "relation repeated " ++ pair_text i j
 fault_text (UnknownVariable i) = codes "unknown variable " ++ decimal i

@@ -7,6 +7,7 @@ pub mod Outline
 pub mod Rules
 pub mod Relations
 pub mod Scopes
+pub mod Ranges
 pub mod Widest
 pub mod Vocabulary
 pub mod FaultTexts

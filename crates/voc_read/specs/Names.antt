@@ -21,6 +21,10 @@ repeat_after before (name ∷ names) =
 abbrev pub first_repeat : List (List ℕ) → Option (ℕ × ℕ)
 first_repeat names = repeat_after [] names
 
+-- the number of the variable of this name
+abbrev pub number_of : List (List ℕ) → List ℕ → Option ℕ
+number_of names name = position (bytes_eq name) names
+
 -- why the names of the variables are refused
 abbrev pub names_refusal : List (List ℕ) → Option VocFault
 names_refusal names = option_or (option_map BadName (first_bad names)) (option_map (λ pair. NameRepeated pair.0 pair.1) (first_repeat names))

@@ -4,12 +4,12 @@ use Rattle.std.specs.Option.{ok_or, option_map, option_map_or}
 use Rattle.std.specs.Borrow.{Bor}
 use Rattle.serde_json.specs.declared.value.Value.{Value}
 use Rattle.std.specs.Str.{bytes_eq}
-use Rattle.serde_json.specs.Data.{Data, Items}
-use Rattle.serde_json.specs.Find.{as_array, as_str}
+use Rattle.serde_json.specs.Data.{Data, Items, no_items}
+use Rattle.serde_json.specs.Find.{as_array, as_str, get}
 use Rattle.serde_json.specs.View.{view, items_view}
 use Rattle.voc_read.specs.declared.fault.VocFault.{VocFault}
 use Rattle.voc_read.specs.declared.fault.VocFault.TheVariants.{WrongKind}
-use Rattle.voc_read.specs.declared.fault.Spot.TheVariants.{Whole, Variables, Domain, Relations, Scopes}
+use Rattle.voc_read.specs.declared.fault.Spot.TheVariants.{Whole, Variables, Domain, Relations, Scopes, Ranges}
 use Rattle.voc_read.specs.declared.outline.Held.{Held}
 use Rattle.voc_read.specs.declared.outline.Outline.{Outline}
 use Rattle.voc_read.specs.Answers.{then_on, unless}
@@ -23,11 +23,13 @@ pub record HeldData : Type 0 where
   pub domain : Data
   pub relations : Data
   pub scopes : Data
+  -- the key may be absent
+  pub ranges : Option Data
 
 abbrev pub vocabulary_keys : List (List ℕ)
-vocabulary_keys = codes "variables" ∷ codes "domain" ∷ codes "relations" ∷ codes "scopes" ∷ []
+vocabulary_keys = codes "variables" ∷ codes "domain" ∷ codes "relations" ∷ codes "scopes" ∷ codes "ranges" ∷ []
 
--- the values that an object holds under exactly these keys
+-- the values that an object holds under exactly these keys, of which `ranges` alone may be absent
 abbrev pub held_by : Data → Result HeldData VocFault
 held_by whole =
     unless (keys_refusal vocabulary_keys Whole whole) (
@@ -35,7 +37,11 @@ held_by whole =
     then_on (under (codes "domain") Domain whole) (λ domain.
     then_on (under (codes "relations") Relations whole) (λ relations.
     then_on (under (codes "scopes") Scopes whole) (λ scopes.
-    Ok (record { variables = variables; domain = domain; relations = relations; scopes = scopes }))))))
+    Ok (record { variables = variables; domain = domain; relations = relations; scopes = scopes; ranges = get (codes "ranges") whole }))))))
+
+-- a value that may be absent
+abbrev pub found_data : Option (Bor Value) → Option Data
+found_data found = option_map (λ value. view value.now) found
 
 abbrev pub held_data : Held → HeldData
 held_data held = record {
@@ -43,9 +49,10 @@ held_data held = record {
   domain = view held.domain.now;
   relations = view held.relations.now;
   scopes = view held.scopes.now;
+  ranges = found_data held.ranges;
 }
 
--- the names and the domain, with the relations and the scopes that are still to be read
+-- the names and the domain, with the relations, the scopes and the ranges that are still to be read
 pub record OutlineData : Type 0 where
   pub names : List (List ℕ)
   pub least_value : ℤ
@@ -53,6 +60,7 @@ pub record OutlineData : Type 0 where
   pub relations : Items
   -- the scopes that are listed, where they are
   pub listed : Option Items
+  pub ranges : Items
 
 -- the string `all`
 abbrev pub is_all : Data → Bool
@@ -62,6 +70,11 @@ is_all scopes = option_map_or (λ text. bytes_eq text (codes "all")) (as_str sco
 abbrev pub listed_under : Data → Result (Option Items) VocFault
 listed_under scopes = if is_all scopes then Ok None else then_on (ok_or (as_array scopes) (WrongKind Scopes)) (λ items. Ok (Some items))
 
+-- the ranges that are stated, none where the key is absent
+abbrev pub ranges_under : Option Data → Result Items VocFault
+ranges_under None = Ok no_items
+ranges_under (Some ranges) = ok_or (as_array ranges) (WrongKind Ranges)
+
 -- what the values are, where each is of its kind
 abbrev pub outline_of : HeldData → Result OutlineData VocFault
 outline_of held =
@@ -69,7 +82,8 @@ outline_of held =
     then_on (ok_or (number_pair held.domain) (WrongKind Domain)) (λ bounds.
     then_on (ok_or (as_array held.relations) (WrongKind Relations)) (λ relations.
     then_on (listed_under held.scopes) (λ listed.
-    Ok (record { names = names; least_value = bounds.0; greatest_value = bounds.1; relations = relations; listed = listed })))))
+    then_on (ranges_under held.ranges) (λ ranges.
+    Ok (record { names = names; least_value = bounds.0; greatest_value = bounds.1; relations = relations; listed = listed; ranges = ranges }))))))
 
 -- values that are listed, where some are
 abbrev pub listed_items : Option (Bor (List Value)) → Option Items
@@ -82,4 +96,5 @@ outline_data outline = record {
   greatest_value = outline.greatest_value;
   relations = items_view outline.relations.now;
   listed = listed_items outline.listed;
+  ranges = items_view outline.ranges.now;
 }

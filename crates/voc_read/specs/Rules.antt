@@ -1,5 +1,5 @@
 -- What tells which tuples a relation accepts: a list of them, or a formula.
-use Rattle.std.specs.Prelude.{ℕ, ◌^◌, nat_eq, ℤ, List, map, length, codes, Option, Some, None, Result, Ok, Err, ◌+◌}
+use Rattle.std.specs.Prelude.{ℕ, ◌^◌, nat_eq, ℤ, List, map, length, codes, Option, Some, None, Result, Ok, Err}
 use Rattle.std.specs.List.{list_any, range_with_len}
 use Rattle.std.specs.Option.{ok_or, option_map}
 use Rattle.serde_json.specs.Data.{Data}

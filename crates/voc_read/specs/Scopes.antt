@@ -1,17 +1,13 @@
 -- The scopes that a vocabulary lists.
-use Rattle.std.specs.Prelude.{ℕ, ◌+◌, List, [], ◌∷◌, position, Option, Some, None, Result, Ok}
+use Rattle.std.specs.Prelude.{ℕ, ◌+◌, List, [], ◌∷◌, Option, Some, None, Result, Ok}
 use Rattle.std.specs.Option.{ok_or, option_map, option_and_then}
-use Rattle.std.specs.Str.{bytes_eq}
 use Rattle.serde_json.specs.Data.{Data, Items, no_items, item}
 use Rattle.voc_read.specs.declared.fault.VocFault.{VocFault}
 use Rattle.voc_read.specs.declared.fault.VocFault.TheVariants.{WrongKind, UnknownVariable}
 use Rattle.voc_read.specs.declared.fault.Spot.TheVariants as spot
 use Rattle.voc_read.specs.Answers.{then_on}
+use Rattle.voc_read.specs.Names.{number_of}
 use Rattle.voc_read.specs.Values.{text_list}
-
--- the number of the variable of this name
-abbrev pub number_of : List (List ℕ) → List ℕ → Option ℕ
-number_of names name = position (bytes_eq name) names
 
 -- the numbers of the variables of these names, where each is the name of one
 abbrev pub numbers_of : List (List ℕ) → List (List ℕ) → Option (List ℕ)

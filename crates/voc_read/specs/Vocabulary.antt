@@ -11,6 +11,7 @@ use Rattle.voc_read.specs.declared.fault.VocFault.TheVariants.{TooLong, NotJson,
 use Rattle.voc_read.specs.Answers.{then_on, unless}
 use Rattle.voc_read.specs.Names.{names_refusal}
 use Rattle.voc_read.specs.Outline.{OutlineData, held_by, outline_of}
+use Rattle.voc_read.specs.Ranges.{VariableRange, ranges_of, ranges_by, HasWholeRanges}
 use Rattle.voc_read.specs.Relations.{given_of}
 use Rattle.voc_read.specs.Scopes.{scopes_of}
 
@@ -19,6 +20,7 @@ pub record Parts : Type 0 where
   pub names : List (List ℕ)
   pub least_value : ℤ
   pub greatest_value : ℤ
+  pub ranges : List VariableRange
   pub given : List Given
   -- the scopes that are listed, where they are
   pub listed : Option (List (List ℕ))
@@ -32,15 +34,18 @@ pub record IsFrameOf (outline : OutlineData) (frame : Frame) : Type 0 where
   pub names : frame.names ≡ outline.names
   pub least_value : frame.least_value ≡ outline.least_value
   pub value_count : frame.value_count ≡ values_between outline.least_value outline.greatest_value
+  pub whole : HasWholeRanges frame
 
--- the parts, where the names, the domain, the relations and the scopes are right, in this order
+-- the parts, where the names, the domain, the ranges, the relations and the scopes are right, in this order
 abbrev pub parts_from : OutlineData → Result Parts VocFault
 parts_from outline =
+    let value_count = values_between outline.least_value outline.greatest_value in
     unless (names_refusal outline.names) (
     unless (outline_refusal outline) (
-    then_on (given_of outline.least_value (values_between outline.least_value outline.greatest_value) outline.relations) (λ given.
+    then_on (ranges_of outline.least_value value_count outline.names outline.ranges) (λ ranges.
+    then_on (given_of outline.least_value value_count outline.relations) (λ given.
     then_on (scopes_of outline.names outline.listed) (λ listed.
-    Ok (record { names = outline.names; least_value = outline.least_value; greatest_value = outline.greatest_value; given = given; listed = listed })))))
+    Ok (record { names = outline.names; least_value = outline.least_value; greatest_value = outline.greatest_value; ranges = ranges; given = given; listed = listed }))))))
 
 -- the parts that a JSON value holds
 abbrev pub parts_in : Data → Result Parts VocFault
@@ -58,9 +63,11 @@ MOST_VOCABULARY = 4194304
 unfoldable pub parts_of : List ℕ → Result Parts VocFault
 parts_of bytes = if nat_lt MOST_VOCABULARY (length bytes) then Err TooLong else then_on (ok_or (json_of bytes) NotJson) parts_in
 
--- the names and the values
+-- the names and the values, with those of each variable
 abbrev pub frame_of : Parts → Frame
-frame_of parts = record { names = parts.names; least_value = parts.least_value; value_count = values_between parts.least_value parts.greatest_value }
+frame_of parts =
+    let value_count = values_between parts.least_value parts.greatest_value in
+    record { names = parts.names; least_value = parts.least_value; value_count = value_count; ranges = ranges_by (length parts.names) parts.least_value value_count parts.ranges }
 
 -- why the parts that were read make no language, or why none were read
 abbrev pub refusal_after : Result Parts VocFault → Option VocFault

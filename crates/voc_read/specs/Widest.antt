@@ -1,5 +1,5 @@
 -- How large the arrays of a JSON value are.
-use Rattle.std.specs.Prelude.{ℕ, max}
+use Rattle.std.specs.Prelude.{ℕ, max, Option, Some, None}
 use Rattle.serde_json.specs.Data.{Data, null, boolean, number, string, array, object, Items, no_items, item, Members, no_members, member}
 use Rattle.serde_json.specs.Events.{items_len}
 
@@ -20,3 +20,8 @@ abbrev mutual
   pub members_widest : Members → ℕ
   members_widest no_members = 0
   members_widest (member k d ms) = max (widest d) (members_widest ms)
+
+-- that of a value that may be absent
+abbrev pub widest_in : Option Data → ℕ
+widest_in None = 0
+widest_in (Some d) = widest d

@@ -16,6 +16,9 @@ pub enum Spot {
     Scopes,
     /// The listed scope of this number, counted from 0.
     Scope(u32),
+    Ranges,
+    /// The range of this number, counted from 0.
+    Range(u32),
 }
 
 /// Why a vocabulary is refused. Numbers count from 0 in the vocabulary's order.
@@ -39,6 +42,15 @@ pub enum VocFault {
     /// Two variables have one name: the second is the first that repeats one, the first is the one that it repeats.
     #[error("variables {0} and {1} have one name")]
     NameRepeated(u32, u32),
+    /// The range names something that is no variable.
+    #[error("range {0} names no variable")]
+    RangeName(u32),
+    /// The range is empty, or isn't within the domain.
+    #[error("range {0} has bad bounds")]
+    BadRange(u32),
+    /// Two ranges are of one variable.
+    #[error("ranges {0} and {1} are of one variable")]
+    RangeRepeated(u32, u32),
     /// The relation's name doesn't have the form of a name.
     #[error("relation {0} has a bad name")]
     BadRelName(u32),

@@ -9,6 +9,7 @@ mod making;
 mod names;
 mod outline;
 mod parsing;
+mod ranges;
 mod reading;
 mod relations;
 mod rules;

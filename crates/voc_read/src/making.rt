@@ -7,6 +7,7 @@ ghost use Rattle.language.specs.Building.{frame_refusal, values_between};
 ghost use Rattle.voc_read.specs.Answers.{Reads, Refuses};
 ghost use Rattle.voc_read.specs.Outline.{outline_data};
 ghost use Rattle.voc_read.specs.Vocabulary.{outline_refusal, parts_from, refusal_after, IsFrameOf, IsLanguageOf};
+ghost use Rattle.voc_read.specs.Ranges.{named_range, with_ranges, AreApart, HasWholeRanges, IsKnown};
 ghost use Rattle.voc_read.specs.Texts.{texts_of};
 ghost use Rattle.voc_read.specs.Widest.{items_widest};
 
@@ -14,6 +15,7 @@ use crate::domain::Domain;
 use crate::fault::VocFault;
 use crate::names::{check_names, to_strings};
 use crate::outline::Outline;
+use crate::ranges::{NamedRange, ranges_of};
 use crate::relations::given_of;
 use crate::scopes::scopes_of;
 use language::{Frame, LangFault, Language};
@@ -54,9 +56,23 @@ fn domain_of(frame: &Frame) -> Domain
     }
 }
 
-/// The language of the outline, or the first fault in its names, its domain, its relations, its scopes or what they make together.
+/// Gives each variable that has a range its values.
+fn set_ranges(frame: &mut Frame, ranges: &[NamedRange<'_>])
+    requires whole { HasWholeRanges frame.old }
+    requires known { All (IsKnown frame.old.names frame.old.least_value frame.old.value_count) (map named_range ranges.now) }
+    requires apart { AreApart (map named_range ranges.now) }
+    ensures { frame.new ≡ with_ranges frame.old (map named_range ranges.now) }
+{
+    for range in ranges {
+        frame.with_range(range.variable, range.lowest, range.highest);
+    }
+}
+
+/// The language of the outline, or the first fault in its names, its domain, its ranges, its relations, its scopes or
+/// what they make together.
 pub fn language_of(alloc: Global, outline: &Outline<'_>) -> Result<Language, VocFault>
     requires names { length outline.now.names.items < 2 ^ 32 }
+    requires ranges { length outline.now.ranges.now < 2 ^ 32 }
     requires relations { length outline.now.relations.now < 2 ^ 32 }
     requires scopes { IfSome outline.now.listed (λ list. length list.now < 2 ^ 32) }
     requires parts { items_widest (items_view outline.now.relations.now) < 2 ^ 32 }
@@ -64,8 +80,11 @@ pub fn language_of(alloc: Global, outline: &Outline<'_>) -> Result<Language, Voc
     ensures refused { IfErr result (λ e. e ≢ VocFault.Memory → refusal_after (parts_from (outline_data outline.now)) ≡ Some e) }
 {
     check_names(alloc, &outline.names)?;
-    let frame = frame_of(alloc, outline)?;
-    let given = given_of(alloc, domain_of(&frame), outline.relations)?;
+    let mut frame = frame_of(alloc, outline)?;
+    let domain = domain_of(&frame);
+    let ranges = ranges_of(alloc, domain, &outline.names, outline.ranges)?;
+    set_ranges(&mut frame, &ranges);
+    let given = given_of(alloc, domain, outline.relations)?;
     let scopes = scopes_of(alloc, &outline.names, outline.listed)?;
     match Language::build(alloc, frame, given, scopes) {
         Ok(language) => Ok(language),

@@ -2,8 +2,8 @@
 ghost use Rattle.std.specs.Prelude.{◌≡◌, ◌≤◌, length, IfOk, IfSome};
 ghost use Rattle.serde_json.specs.View.{view, items_view};
 ghost use Rattle.voc_read.specs.Answers.{Reads};
-ghost use Rattle.voc_read.specs.Outline.{held_by, held_data, is_all, listed_under, listed_items, outline_of, outline_data};
-ghost use Rattle.voc_read.specs.Widest.{widest, items_widest};
+ghost use Rattle.voc_read.specs.Outline.{held_by, held_data, found_data, is_all, listed_under, listed_items, ranges_under, outline_of, outline_data};
+ghost use Rattle.voc_read.specs.Widest.{widest, widest_in, items_widest};
 
 use crate::fault::{Spot, VocFault};
 use crate::keys::{check_keys, under};
@@ -11,7 +11,7 @@ use crate::values::{items_of, number_pair, text_list};
 use serde_json::Value;
 use std::alloc::Global;
 
-static KEYS: [&str; 4] = ["variables", "domain", "relations", "scopes"];
+static KEYS: [&str; 5] = ["variables", "domain", "relations", "scopes", "ranges"];
 
 /// The values under the keys of a vocabulary.
 #[derive(Clone, Copy)]
@@ -20,13 +20,16 @@ pub struct Held<'a> {
     pub domain: &'a Value,
     pub relations: &'a Value,
     pub scopes: &'a Value,
+    /// The value under the key that may be absent.
+    pub ranges: Option<&'a Value>,
 }
 
-/// The values that an object holds under exactly these keys.
+/// The values that an object holds under exactly these keys, of which `ranges` alone may be absent.
 pub fn held_by<'a>(whole: &'a Value) -> Result<Held<'a>, VocFault>
     ensures variables { IfOk result (λ held. widest (view held.variables.now) ≤ widest (view whole.entry.now)) }
     ensures relations { IfOk result (λ held. widest (view held.relations.now) ≤ widest (view whole.entry.now)) }
     ensures scopes { IfOk result (λ held. widest (view held.scopes.now) ≤ widest (view whole.entry.now)) }
+    ensures ranges { IfOk result (λ held. widest_in (found_data held.ranges) ≤ widest (view whole.entry.now)) }
     ensures is { Reads held_data (held_by (view whole.entry.now)) result }
 {
     check_keys(whole, &KEYS, Spot::Whole)?;
@@ -39,10 +42,11 @@ pub fn held_by<'a>(whole: &'a Value) -> Result<Held<'a>, VocFault>
         domain,
         relations,
         scopes,
+        ranges: whole.get("ranges"),
     })
 }
 
-/// The names and the domain, with the relations and the scopes that are still to be read.
+/// The names and the domain, with the relations, the scopes and the ranges that are still to be read.
 #[derive(Drop)]
 pub struct Outline<'a> {
     pub names: Vec<&'a str>,
@@ -51,6 +55,7 @@ pub struct Outline<'a> {
     pub relations: &'a [Value],
     /// The scopes that are listed, where they are.
     pub listed: Option<&'a [Value]>,
+    pub ranges: &'a [Value],
 }
 
 /// Whether the scopes are the string `all`.
@@ -75,23 +80,37 @@ fn listed_under<'a>(scopes: &'a Value) -> Result<Option<&'a [Value]>, VocFault>
     Ok(Some(list))
 }
 
+/// The ranges that are stated, none where the key is absent.
+fn ranges_under<'a>(ranges: Option<&'a Value>) -> Result<&'a [Value], VocFault>
+    ensures few { IfOk result (λ list. length list.now ≤ widest_in (found_data ranges.entry)) }
+    ensures is { Reads (λ list. items_view list.now) (ranges_under (found_data ranges.entry)) result }
+{
+    match ranges {
+        Some(value) => items_of(value, Spot::Ranges),
+        None => Ok(&[]),
+    }
+}
+
 /// What the values are, where each is of its kind.
 pub fn outline_of<'a>(alloc: Global, held: &Held<'a>) -> Result<Outline<'a>, VocFault>
     ensures few { IfOk result (λ outline. length outline.names.items ≤ widest (view held.entry.now.variables.now)) }
     ensures few_relations { IfOk result (λ outline. length outline.relations.now ≤ widest (view held.entry.now.relations.now)) }
     ensures parts { IfOk result (λ outline. items_widest (items_view outline.relations.now) ≤ widest (view held.entry.now.relations.now)) }
     ensures few_scopes { IfOk result (λ outline. IfSome outline.listed (λ list. length list.now ≤ widest (view held.entry.now.scopes.now))) }
+    ensures few_ranges { IfOk result (λ outline. length outline.ranges.now ≤ widest_in (found_data held.entry.now.ranges)) }
     ensures is { Reads outline_data (outline_of (held_data held.entry.now)) result }
 {
     let names = text_list(alloc, held.variables, Spot::Variables)?;
     let (least_value, greatest_value) = number_pair(alloc, held.domain, Spot::Domain)?;
     let relations = items_of(held.relations, Spot::Relations)?;
     let listed = listed_under(held.scopes)?;
+    let ranges = ranges_under(held.ranges)?;
     Ok(Outline {
         names,
         least_value,
         greatest_value,
         relations,
         listed,
+        ranges,
     })
 }

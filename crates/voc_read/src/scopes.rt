@@ -6,28 +6,17 @@ ghost use Rattle.language.specs.Building.{listed_in, AreKnown, AreCountable};
 ghost use Rattle.voc_read.specs.Answers.{Reads};
 ghost use Rattle.voc_read.specs.Names.{first_repeat};
 ghost use Rattle.voc_read.specs.Outline.{listed_items};
-ghost use Rattle.voc_read.specs.Scopes.{number_of, numbers_of, scope_of, scopes_from, scopes_of};
+ghost use Rattle.voc_read.specs.Scopes.{numbers_of, scope_of, scopes_from, scopes_of};
 ghost use Rattle.voc_read.specs.Texts.{texts_of};
 
 use crate::fault::{Spot, VocFault};
-use crate::names::index_names;
+use crate::names::{index_names, number_of};
 use crate::values::text_list;
 use indexmap::IndexSet;
 use language::ScopePart;
 use serde_json::Value;
 use smallvec::SmallVec;
 use std::alloc::Global;
-
-/// The number of the variable of this name.
-fn number_of(names: &IndexSet<&str>, name: &str) -> Option<u8>
-    requires { length names.now.keys ≤ 128 }
-    ensures { result ≡ number_of (texts_of names.now.keys) name.now }
-{
-    match names.get_index_of(&name) {
-        Some(number) => Some(number as u8),
-        None => None,
-    }
-}
 
 /// The numbers of the variables that scope i lists.
 fn numbers_of(

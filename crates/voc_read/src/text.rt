@@ -21,6 +21,8 @@ fn spot_text(alloc: Global, what: &str, spot: Spot) -> Result<String, AllocError
         Spot::Relation(i) => format!(in alloc; "{what}relation {i}"),
         Spot::Scopes => format!(in alloc; "{what}scopes"),
         Spot::Scope(i) => format!(in alloc; "{what}scope {i}"),
+        Spot::Ranges => format!(in alloc; "{what}ranges"),
+        Spot::Range(i) => format!(in alloc; "{what}range {i}"),
     }
 }
 
@@ -113,6 +115,9 @@ pub fn voc_text(alloc: Global, fault: VocFault) -> Result<String, AllocError>
         VocFault::UnknownKey(spot) => spot_text(alloc, "unknown key ", spot),
         VocFault::BadName(i) => format!(in alloc; "bad name {i}"),
         VocFault::NameRepeated(i, j) => format!(in alloc; "name repeated {i} {j}"),
+        VocFault::RangeName(i) => format!(in alloc; "range name {i}"),
+        VocFault::BadRange(i) => format!(in alloc; "bad range {i}"),
+        VocFault::RangeRepeated(i, j) => format!(in alloc; "range repeated {i} {j}"),
         VocFault::BadRelName(i) => format!(in alloc; "bad relation name {i}"),
         VocFault::RelRepeated(i, j) => format!(in alloc; "relation repeated {i} {j}"),
         VocFault::UnknownVariable(i) => format!(in alloc; "unknown variable {i}"),

@@ -1,35 +1,51 @@
-use Rattle.std.proofs.Common.{◌≡◌, ◌≢◌, None, Ok, subst, sym, ap, ◌∙◌}
+use Rattle.std.proofs.Common.{◌≡◌, ◌≢◌, None, Ok, map, subst, sym, ap, ◌∙◌}
 use Rattle.std.specs.Prelude.{Some}
+use Rattle.serde_json.specs.View.{items_view}
 use Rattle.language.specs.Building.{listed_in}
 use Rattle.language.specs.declared.parts.LangFault.TheVariants as lang
 use Rattle.voc_read.specs.Names.{names_refusal}
 use Rattle.voc_read.specs.Outline.{listed_items}
+use Rattle.voc_read.specs.Ranges.{named_range, ranges_of, with_ranges, AreApart}
 use Rattle.voc_read.specs.Scopes.{scopes_of}
 use Rattle.voc_read.specs.Texts.{texts_of}
-use Rattle.voc_read.proofs.LanguageMade.{AreRead, is_language, is_refused}
+use Rattle.voc_read.proofs.KnownRanges.{are_known, known_as}
+use Rattle.voc_read.proofs.LanguageMade.{is_language, is_refused}
 use Rattle.voc_read.proofs.making.language_of.Goals as goal
+
+pub set_ranges-requires-clause-known : goal.set_ranges-requires-clause-known
+set_ranges-requires-clause-known c =
+    known_as _ _ _ _ _ _ _ _ (ap texts_of c.deref-2.ensures.value ∙ sym c.in_ok-frame.ensures.frame.names) c.domain_of-domain.ensures.least c.domain_of-domain.ensures.count
+    (ap (map named_range) (sym c.deref-3.ensures.value)) (are_known _ _ _ (items_view c.args.outline.now.ranges.now) _ c.in_ok-ranges.ensures).0
+
+pub set_ranges-requires-clause-apart : goal.set_ranges-requires-clause-apart
+set_ranges-requires-clause-apart c =
+    subst (λ rs. AreApart (map named_range rs)) (sym c.deref-3.ensures.value) (are_known _ _ _ (items_view c.args.outline.now.ranges.now) _ c.in_ok-ranges.ensures).1
 
 pub returns-in-Ok-clause-ok : goal.returns-in-Ok-clause-ok
 returns-in-Ok-clause-ok c =
-    is_language _ _ _ _ _ _ record {
+    is_language _ _ _ _ _ _ _ _ record {
       named = subst (λ names. names_refusal (texts_of names) ≡ None) c.deref.ensures.value c.in_ok-check_names.ensures.refused;
       outlined = c.in_ok-frame.ensures.refused;
       framed = c.in_ok-frame.ensures.frame;
-      least = c.domain_of.ensures.least;
-      count = c.domain_of.ensures.count;
+      least = c.domain_of-domain.ensures.least;
+      count = c.domain_of-domain.ensures.count;
+      ranges = subst (λ names. ranges_of c.domain_of-domain.result.least_value c.domain_of-domain.result.value_count (texts_of names) (items_view c.args.outline.now.ranges.now) ≡ Ok (map named_range c.in_ok-ranges.ranges.items)) c.deref-2.ensures.value c.in_ok-ranges.ensures;
       relations = c.in_ok-given.ensures.is;
-      scopes = subst (λ names. scopes_of (texts_of names) (listed_items c.args.outline.now.listed) ≡ Ok (listed_in c.in_ok-scopes.scopes)) c.deref-2.ensures.value c.in_ok-scopes.ensures.is;
+      scopes = subst (λ names. scopes_of (texts_of names) (listed_items c.args.outline.now.listed) ≡ Ok (listed_in c.in_ok-scopes.scopes)) c.deref-4.ensures.value c.in_ok-scopes.ensures.is;
+      sets = c.set_ranges.ensures ∙ ap (λ rs. with_ranges c.in_ok-frame.frame (map named_range rs)) c.deref-3.ensures.value;
     } _ c.in-Ok.ensures.made c.in-Ok.ensures.built
 
-pub returns-in-Err-clause-refused : goal.returns-in-Err-clause-refused
-returns-in-Err-clause-refused c =
+pub returns-clause-refused : goal.returns-clause-refused
+returns-clause-refused c =
     λ real. let other : c.in-Err.fault ≢ lang.Memory = λ memory. real (c.lang_fault.ensures.memory memory) in
-    is_refused _ _ _ _ _ _ record {
+    is_refused _ _ _ _ _ _ _ _ record {
       named = subst (λ names. names_refusal (texts_of names) ≡ None) c.deref.ensures.value c.in_ok-check_names.ensures.refused;
       outlined = c.in_ok-frame.ensures.refused;
       framed = c.in_ok-frame.ensures.frame;
-      least = c.domain_of.ensures.least;
-      count = c.domain_of.ensures.count;
+      least = c.domain_of-domain.ensures.least;
+      count = c.domain_of-domain.ensures.count;
+      ranges = subst (λ names. ranges_of c.domain_of-domain.result.least_value c.domain_of-domain.result.value_count (texts_of names) (items_view c.args.outline.now.ranges.now) ≡ Ok (map named_range c.in_ok-ranges.ranges.items)) c.deref-2.ensures.value c.in_ok-ranges.ensures;
       relations = c.in_ok-given.ensures.is;
-      scopes = subst (λ names. scopes_of (texts_of names) (listed_items c.args.outline.now.listed) ≡ Ok (listed_in c.in_ok-scopes.scopes)) c.deref-2.ensures.value c.in_ok-scopes.ensures.is;
+      scopes = subst (λ names. scopes_of (texts_of names) (listed_items c.args.outline.now.listed) ≡ Ok (listed_in c.in_ok-scopes.scopes)) c.deref-4.ensures.value c.in_ok-scopes.ensures.is;
+      sets = c.set_ranges.ensures ∙ ap (λ rs. with_ranges c.in_ok-frame.frame (map named_range rs)) c.deref-3.ensures.value;
     } c.in-Err.fault (c.in-Err.ensures.refused other) ∙ ap Some (sym (c.lang_fault.ensures.other other))

@@ -1,5 +1,4 @@
-use Rattle.std.proofs.Common.{arith, length-append, ℕ}
-use Rattle.std.specs.declared.alloc.Global.{Global}
+use Rattle.std.proofs.Common.{arith, length-append}
 use Rattle.voc_read.proofs.ScopeSteps.{Listed, reads_one_more}
 use Rattle.voc_read.proofs.scopes.scopes_in.Goals as goal
 

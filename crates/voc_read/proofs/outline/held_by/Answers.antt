@@ -1,0 +1,7 @@
+use Rattle.std.proofs.Common.{codes}
+use Rattle.serde_json.specs.View.{view}
+use Rattle.voc_read.proofs.Widths.{widest-found_in}
+use Rattle.voc_read.proofs.outline.held_by.Goals as goal
+
+pub returns-clause-ranges : goal.returns-clause-ranges
+returns-clause-ranges c = widest-found_in (codes "ranges") (view c.args.whole.now) c.get.result c.get.ensures
