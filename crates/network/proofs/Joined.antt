@@ -1,26 +1,27 @@
 -- The intersection of several relations comes first among the relations that lie within each of them.
-use Rattle.std.proofs.Common.{◌≡◌, ◌≢◌, ℕ, zero, suc, ◌+◌, ◌-◌, ◌*◌, ◌^◌, ◌<◌, ◌≤◌, ◌++◌, ◌==◌, ◌&&◌, Bool, true, false, cond, w64, List, [], ◌∷◌, length, drop, map, get_or, Option, Some, None, Bor, refl, sym, ◌∙◌, ap, subst, arith, append_assoc, inl, inr, ◌⊎◌, min}
-use Rattle.std.specs.Prelude.{All, AllPairs, Contains, IsTrue, slice_index_or, position, bit_and}
+use Rattle.std.proofs.Common.{◌≡◌, ℕ, zero, suc, ◌+◌, ◌-◌, ◌^◌, ◌<◌, ◌≤◌, ◌++◌, ◌==◌, ◌&&◌, Bool, true, false, cond, w64, List, [], ◌∷◌, length, drop, map, get_or, Option, Some, None, Bor, refl, sym, ◌∙◌, ap, subst, arith, append_assoc, inl, inr, ◌⊎◌, min}
+use Rattle.std.specs.Prelude.{All, Contains, slice_index_or, position, bit_and}
 use Rattle.std.specs.Int.{bit_at, trailing_zeros}
-use Rattle.std.specs.List.{list_all, filter, find}
+use Rattle.std.specs.List.{find}
 use Rattle.std.specs.Str.{bytes_eq}
 use Rattle.std.proofs.lemmas.Option.{same_Some}
 use Rattle.std.specs.Option.{option_map, option_and_then}
 use Rattle.std.proofs.Math.Seq.{drop-cons}
-use Rattle.std.proofs.lemmas.Bool.{and_parts, and_from, both_ways, cases_order, eqb-true}
+use Rattle.std.proofs.lemmas.Bool.{and_parts, and_from, both_ways, cases_order}
 use Rattle.std.proofs.lemmas.Nat.Bits.{bit_at_and, bit_at_ones, bit_at-lt, bit_at-zero, bit_at-trailing_zeros}
 use Rattle.std.proofs.lemmas.List.{get_or_default}
 use Rattle.std.proofs.lemmas.List.Sums.{AllPass-from_list_all, list_all-from_AllPass}
-use Rattle.std.proofs.lemmas.List.Elements.{All-nil, All-cons, All-head, All-tail, All-contains, All-weaker, All-map, All-filter, filter_passes}
+use Rattle.std.proofs.lemmas.List.Elements.{All-nil, All-cons, All-head, All-tail, All-contains, All-weaker}
 use Rattle.assign.specs.SetLemmas.{is_one}
-use Rattle.rel_table.specs.Relation.{Relation, meet_all, is_above, IsIntersection, IsClosing}
+use Rattle.rel_table.specs.Relation.{Relation, meet_all, is_above, IsClosing}
 use Rattle.rel_table.proofs.Tables.{not_above_itself}
-use Rattle.language.specs.Language.{Language, Given, IsLanguage, scope_at, relations_on, given_of}
-use Rattle.language.specs.Building.{is_same_relation}
+use Rattle.language.specs.Language.{Language, Given, IsLanguage, scope_at, relations_on, given_on}
+use Rattle.language.specs.Building.{is_same_relation, relations_given}
 use Rattle.language.specs.Texts.{is_part}
 use Rattle.language.specs.ByName.{relation_named, TellsNamed, texts_of}
 use Rattle.language.proofs.Repeats.{same_is, same_itself}
 use Rattle.language.proofs.ByNames.{position_here}
+use Rattle.language.proofs.Ranged.{given_on_sized}
 use Rattle.network.specs.Masks.{is_within_all, TellsWithinAll}
 use Rattle.network.specs.Target.{relations_named, intersection_on, relation_by}
 use Rattle.network.proofs.Parts.{part_of_first, part_of_more, part_of_all}
@@ -199,10 +200,6 @@ found p (g ∷ given) r h = go (p g) h (found p given r)
     go true e rest = (zero, omega arith, same_Some g.relation r e)
     go false e rest = let has = rest e in (suc has.0, (let low = has.1 in omega (arith, low)), has.2)
 
--- the vocabulary's relations of a scope's arity
-abbrev pub given_on : Language → ℕ → List Relation
-given_on l s = map (λ (g : Given). g.relation) (given_of l (length (scope_at l s)))
-
 abbrev OfSome : {A : Type 0} → (A → Type 0) → Option A → Type 0
 OfSome P None = Unit {0}
 OfSome P (Some x) = P x
@@ -212,11 +209,10 @@ one_given P None rest h k = tt
 one_given P (Some r) None h k = tt
 one_given P (Some r) (Some rs) h k = All-cons P r rs (h r refl) k
 
-each_given : (l : Language) (s : ℕ) (names : List (List ℕ)) → OfSome (All (Contains (given_on l s))) (relations_named l s names)
-each_given l s [] = All-nil (Contains (given_on l s))
+each_given : (l : Language) (s : ℕ) (names : List (List ℕ)) → OfSome (All (Contains (relations_given (given_on l s)))) (relations_named l s names)
+each_given l s [] = All-nil (Contains (relations_given (given_on l s)))
 each_given l s (name ∷ names) =
-    one_given (Contains (given_on l s)) (relation_named l s name) (relations_named l s names)
-    (λ r e. found (λ (g : Given). bytes_eq g.name name) (given_of l (length (scope_at l s))) r e) (each_given l s names)
+    one_given (Contains (relations_given (given_on l s))) (relation_named l s name) (relations_named l s names) (λ r e. found (λ (g : Given). bytes_eq g.name name) (given_on l s) r e) (each_given l s names)
 
 none_left : (o : Option Relation) (rest : Option (List Relation)) → option_and_then (λ r. option_map (λ rs. r ∷ rs) rest) o ≡ Some [] → ⊥
 none_left None rest h = cc
@@ -230,13 +226,6 @@ some_named : (l : Language) (s : ℕ) (names : List (List ℕ)) → 1 ≤ length
 some_named l s [] some h = absurd (omega arith)
 some_named l s (name ∷ names) some h = none_left (relation_named l s name) (relations_named l s names) h
 
-sized_on : (l : Language) → IsLanguage l → (s : ℕ) → All (λ q. length q ≡ l.value_count ^ length (scope_at l s)) (given_on l s)
-sized_on l lawful s =
-    let arity = length (scope_at l s) in
-    All-map (λ q. length q ≡ l.value_count ^ arity) (λ (g : Given). g.relation) (given_of l arity)
-    (λ k d low. All-filter (λ (g : Given). g.arity == arity) (λ (g : Given). length g.relation ≡ l.value_count ^ g.arity) l.given lawful.given_sized k d low
-    ∙ ap (λ n. l.value_count ^ n) (eqb-true _ arity (filter_passes (λ (g : Given). g.arity == arity) l.given k d low)))
-
 -- the lowest one of the mask is the relation that the names stand for
 pub record IsJoined (l : Language) (s : ℕ) (names : List (List ℕ)) (mask : ℕ) : Type 0 where
   pub is : relation_by l s names ≡ Some (trailing_zeros w64 mask)
@@ -246,15 +235,16 @@ pub joined : (l : Language) → IsLanguage l → (s : ℕ) → s < length l.scop
     TellsWithinAll l s (relations_named l s names) (Some mask) → IsJoined l s names mask
 joined l lawful s known names some mask small tells = go (relations_named l s names) refl tells (each_given l s names)
   where
-    go : (o : Option (List Relation)) → relations_named l s names ≡ o → TellsWithinAll l s o (Some mask) → OfSome (All (Contains (given_on l s))) (relations_named l s names) → IsJoined l s names mask
+    file : List Relation
+    file = relations_given (given_on l s)
+
+    go : (o : Option (List Relation)) → relations_named l s names ≡ o → TellsWithinAll l s o (Some mask) → OfSome (All (Contains file)) (relations_named l s names) → IsJoined l s names mask
     go None e t given = absurd t
     go (Some []) e t given = absurd (some_named l s names some e)
     go (Some (first ∷ more)) e t given =
-        let arity = length (scope_at l s) in
-        let scope = lawful.scopes s [] known in
-        let all : All (Contains (given_on l s)) (first ∷ more) = subst (OfSome (All (Contains (given_on l s)))) e given in
-        let at = lowest (l.value_count ^ arity) (given_on l s) (relations_on l s) first more mask (sized_on l lawful s) (lawful.closed arity scope.not_empty scope.short) (lawful.few_relations arity scope.not_empty scope.short) small
-        (All-head (Contains (given_on l s)) first more all) (All-tail (Contains (given_on l s)) first more all) t in
+        let all : All (Contains file) (first ∷ more) = subst (OfSome (All (Contains file))) e given in
+        let at = lowest (l.value_count ^ length (scope_at l s)) file (relations_on l s) first more mask (given_on_sized l lawful s) (lawful.closed s known) (lawful.few_relations s known) small
+        (All-head (Contains file) first more all) (All-tail (Contains file) first more all) t in
         record { is = ap (λ o. option_and_then (intersection_on l s) o) e ∙ at.is; low = at.low }
 
 pub none_by : (l : Language) (s : ℕ) (names : List (List ℕ)) → TellsWithinAll l s (relations_named l s names) None → relation_by l s names ≡ None

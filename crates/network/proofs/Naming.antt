@@ -4,8 +4,8 @@ use Rattle.std.specs.Prelude.{◌==◌, nat_le, All, AllPairs, slice_index_or}
 use Rattle.std.specs.List.{list_all, filter}
 use Rattle.std.proofs.lemmas.Bool.{and_parts, and_from, leb-true, ne_eqb, cases_order}
 use Rattle.std.proofs.lemmas.List.{get_or-map, length-map}
-use Rattle.std.proofs.lemmas.List.Elements.{All-head, All-tail, All-nil, All-cons, All-filter}
-use Rattle.language.specs.Language.{Given, is_name, is_name_byte}
+use Rattle.std.proofs.lemmas.List.Elements.{All-head, All-tail, All-nil, All-cons, All-map, All-filter}
+use Rattle.language.specs.Language.{Language, Given, on_scope_of, is_name, is_name_byte}
 use Rattle.network.proofs.Cutting.{is_without, is_piece}
 
 -- ---- the bytes of names
@@ -79,6 +79,11 @@ same_numbers names (v ∷ vs) (w ∷ ws) apart low high e =
 abbrev pub names_of : List Given → List (List ℕ)
 names_of given = map (λ (g : Given). g.name) given
 
+-- on a scope they have the names that they have in the vocabulary
+pub names_on : (l : Language) (scope : List ℕ) (given : List Given) → names_of (map (on_scope_of l scope) given) ≡ names_of given
+names_on l scope [] = refl
+names_on l scope (g ∷ given) = ap (λ names. g.name ∷ names) (names_on l scope given)
+
 -- no two have one name
 abbrev pub Unlike : List Given → Type 0
 Unlike [] = Unit {0}
@@ -98,6 +103,10 @@ unlike-filter p (g ∷ given) unlike = go (p g) (unlike-filter p given unlike.1)
     go : (b : Bool) → Unlike (filter p given) → Unlike (cond b (g ∷ filter p given) (filter p given))
     go true rest = (All-filter p (λ (h : Given). g.name ≢ h.name) given unlike.0, rest)
     go false rest = rest
+
+pub unlike_on : (l : Language) (scope : List ℕ) (given : List Given) → Unlike given → Unlike (map (on_scope_of l scope) given)
+unlike_on l scope [] unlike = tt
+unlike_on l scope (g ∷ given) unlike = (All-map (λ (h : Given). g.name ≢ h.name) (on_scope_of l scope) given unlike.0, unlike_on l scope given unlike.1)
 
 pub names-filter : (p : Given → Bool) (given : List Given) → list_all is_name (names_of given) ≡ true → list_all is_name (names_of (filter p given)) ≡ true
 names-filter p [] h = refl

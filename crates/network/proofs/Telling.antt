@@ -1,20 +1,21 @@
 -- The text of a network tells it.
 use Rattle.std.proofs.Common.{◌≡◌, ℕ, ◌^◌, ◌<◌, ◌≤◌, true, ◌&&◌, not, List, [], ◌∷◌, ◌++◌, length, map, refl, sym, ◌∙◌, ap, subst, arith, inl, inr, ◌⊎◌}
-use Rattle.std.specs.Prelude.{◌==◌, All, AllPairs, slice_index_or}
+use Rattle.std.specs.Prelude.{◌==◌, AllPairs, slice_index_or}
 use Rattle.std.specs.List.{list_all, flat_map}
-use Rattle.std.proofs.lemmas.Bool.{and_parts, and_from, cases_order, both_ways, or_left, or_right, eq-eqb, eqb-true}
+use Rattle.std.proofs.lemmas.Bool.{and_parts, and_from, cases_order, both_ways, or_left, or_right, eq-eqb}
 use Rattle.std.proofs.lemmas.List.{length-map}
-use Rattle.std.proofs.lemmas.List.Elements.{All-filter, All-map, All-contains, filter_passes}
+use Rattle.std.proofs.lemmas.List.Elements.{All-map, All-contains}
 use Rattle.std.proofs.lemmas.List.Folds.{list_all-append}
 use Rattle.assign.specs.Sets.{has, is_within}
 use Rattle.rel_table.specs.Relation.{Relation}
 use Rattle.rel_table.proofs.Tables.{one_number}
 use Rattle.language.specs.declared.candidates.Candidate.{Candidate}
-use Rattle.language.specs.Language.{Language, Given, IsLanguage, IsCandidate, IsScope, AreApart, given_of, relations_of, scope_of, relation_of, is_name}
+use Rattle.language.specs.Language.{Language, Given, IsLanguage, IsCandidate, IsScope, AreApart, given_of, given_on, relations_on, scope_at, scope_of, relation_of, is_name}
 use Rattle.language.specs.Texts.{candidate_text, containing, scope_names, joined, is_part}
+use Rattle.language.proofs.Ranged.{given_on_sized}
 use Rattle.network.specs.Laws.{TextTellsNetwork}
 use Rattle.network.proofs.Cutting.{is_without, same_front, same_lines, same_words, same_pieces}
-use Rattle.network.proofs.Naming.{names-without, names-pieces, names_at, same_numbers, unlike_of, unlike-filter, names-filter, same_kept}
+use Rattle.network.proofs.Naming.{names-without, names-pieces, names_at, names_on, same_numbers, unlike_of, unlike_on, unlike-filter, names-filter, same_kept}
 use Rattle.network.proofs.Parts.{same_intersection}
 
 -- ---- what the parts of a text don't have
@@ -67,8 +68,10 @@ module _ (l : Language) (lawful : IsLanguage l) where
   scope_is : (c : Candidate) → IsCandidate l c → IsScope (length l.names) (scope_of l c)
   scope_is c is = lawful.scopes c.scope [] is.scope
 
-  relation_names : (arity : ℕ) (r : Relation) → list_all is_name (containing l arity r) ≡ true
-  relation_names arity r = names-filter (λ (g : Given). is_part r g.relation) (given_of l arity) (names-filter (λ (g : Given). g.arity == arity) l.given lawful.relation_names.formed)
+  relation_names : (s : ℕ) (r : Relation) → list_all is_name (containing l s r) ≡ true
+  relation_names s r =
+      names-filter (λ (g : Given). is_part r g.relation) (given_on l s)
+      (ap (list_all is_name) (names_on l (scope_at l s) (given_of l (length (scope_at l s)))) ∙ names-filter (λ (g : Given). g.arity == length (scope_at l s)) l.given lawful.relation_names.formed)
 
   variable_names : (c : Candidate) → IsCandidate l c → list_all is_name (scope_names l (scope_of l c)) ≡ true
   variable_names c is = names_at l.names (scope_of l c) lawful.names.formed (scope_is c is).known
@@ -76,21 +79,21 @@ module _ (l : Language) (lawful : IsLanguage l) where
   -- a text has no newline
   pub one_line : (c : Candidate) → IsCandidate l c → is_without 10 (candidate_text l c) ≡ true
   one_line c is =
-      let front = joined 38 (containing l (length (scope_of l c)) (relation_of l c)) in
+      let front = joined 38 (containing l c.scope (relation_of l c)) in
       let back = flat_map (λ name. 32 ∷ name) (scope_names l (scope_of l c)) in
       list_all-append (λ x. not (x == 10)) front back
       ∙ and_from (is_without 10 front) (is_without 10 back)
-      (joined_without 10 (containing l (length (scope_of l c)) (relation_of l c)) refl (names-without 10 (containing l (length (scope_of l c)) (relation_of l c)) (omega arith) (relation_names (length (scope_of l c)) (relation_of l c))))
+      (joined_without 10 (containing l c.scope (relation_of l c)) refl (names-without 10 (containing l c.scope (relation_of l c)) (omega arith) (relation_names c.scope (relation_of l c))))
       (words_without 10 (scope_names l (scope_of l c)) refl (names-without 10 (scope_names l (scope_of l c)) (omega arith) (variable_names c is)))
 
   -- the scope is told by the names after the spaces
   same_names : (c d : Candidate) → IsCandidate l c → IsCandidate l d → candidate_text l c ≡ candidate_text l d →
-      (joined 38 (containing l (length (scope_of l c)) (relation_of l c)) ≡ joined 38 (containing l (length (scope_of l d)) (relation_of l d))) × (scope_names l (scope_of l c) ≡ scope_names l (scope_of l d))
+      (joined 38 (containing l c.scope (relation_of l c)) ≡ joined 38 (containing l d.scope (relation_of l d))) × (scope_names l (scope_of l c) ≡ scope_names l (scope_of l d))
   same_names c d is other e =
-      let both = same_halves (joined 38 (containing l (length (scope_of l c)) (relation_of l c))) (joined 38 (containing l (length (scope_of l d)) (relation_of l d)))
+      let both = same_halves (joined 38 (containing l c.scope (relation_of l c))) (joined 38 (containing l d.scope (relation_of l d)))
       (scope_names l (scope_of l c)) (scope_names l (scope_of l d))
-      (joined_without 32 (containing l (length (scope_of l c)) (relation_of l c)) refl (names-without 32 (containing l (length (scope_of l c)) (relation_of l c)) (omega arith) (relation_names (length (scope_of l c)) (relation_of l c))))
-      (joined_without 32 (containing l (length (scope_of l d)) (relation_of l d)) refl (names-without 32 (containing l (length (scope_of l d)) (relation_of l d)) (omega arith) (relation_names (length (scope_of l d)) (relation_of l d))))
+      (joined_without 32 (containing l c.scope (relation_of l c)) refl (names-without 32 (containing l c.scope (relation_of l c)) (omega arith) (relation_names c.scope (relation_of l c))))
+      (joined_without 32 (containing l d.scope (relation_of l d)) refl (names-without 32 (containing l d.scope (relation_of l d)) (omega arith) (relation_names d.scope (relation_of l d))))
       (let some = (scope_is c is).not_empty in omega (arith, length-map (scope_of l c) (λ v. slice_index_or l.names v [])))
       (let some = (scope_is d other).not_empty in omega (arith, length-map (scope_of l d) (λ v. slice_index_or l.names v []))) e in (
         both.0,
@@ -102,30 +105,23 @@ module _ (l : Language) (lawful : IsLanguage l) where
   scope_told c d is other e = same_scope l.scopes c.scope d.scope lawful.apart is.scope other.scope
       (same_numbers l.names (scope_of l c) (scope_of l d) lawful.names.apart (scope_is c is).known (scope_is d other).known (same_names c d is other e).1)
 
-  given_sized : (arity : ℕ) → All (λ q. length q ≡ l.value_count ^ arity) (map (λ (g : Given). g.relation) (given_of l arity))
-  given_sized arity = All-map (λ q. length q ≡ l.value_count ^ arity) (λ (g : Given). g.relation) (given_of l arity)
-      (λ k d low. All-filter (λ (g : Given). g.arity == arity) (λ (g : Given). length g.relation ≡ l.value_count ^ g.arity) l.given lawful.given_sized k d low
-      ∙ ap (λ n. l.value_count ^ n) (eqb-true _ arity (filter_passes (λ (g : Given). g.arity == arity) l.given k d low)))
-
   -- the relation is told by the names before them
   relation_told : (s r q : ℕ) → IsCandidate l (record { scope = s; rel = r }) → IsCandidate l (record { scope = s; rel = q }) →
       candidate_text l (record { scope = s; rel = r }) ≡ candidate_text l (record { scope = s; rel = q }) → r ≡ q
   relation_told s r q is other e =
       let c : Candidate = record { scope = s; rel = r } in
       let d : Candidate = record { scope = s; rel = q } in
-      let arity = length (scope_of l c) in
-      let some = (scope_is c is).not_empty in
-      let short = (scope_is c is).short in
-      let closed = lawful.closed arity some short in
-      let names = same_pieces 38 (containing l arity (relation_of l c)) (containing l arity (relation_of l d)) (names-pieces (containing l arity (relation_of l c)) (relation_names arity (relation_of l c)))
-      (names-pieces (containing l arity (relation_of l d)) (relation_names arity (relation_of l d))) (same_names c d is other e).0 in
-      let kept = same_kept (λ (g : Given). is_part (relation_of l c) g.relation) (λ (g : Given). is_part (relation_of l d) g.relation) (given_of l arity)
-      (unlike-filter (λ (g : Given). g.arity == arity) l.given (unlike_of l.given lawful.relation_names.apart)) names in
-      let agree = All-map (λ p. is_part (relation_of l c) p ≡ is_part (relation_of l d) p) (λ (g : Given). g.relation) (given_of l arity) kept in
-      let same = same_intersection (l.value_count ^ arity) (map (λ (g : Given). g.relation) (given_of l arity)) (relation_of l c) (relation_of l d) (given_sized arity)
+      let given = given_on l s in
+      let closed = lawful.closed s is.scope in
+      let names = same_pieces 38 (containing l s (relation_of l c)) (containing l s (relation_of l d)) (names-pieces (containing l s (relation_of l c)) (relation_names s (relation_of l c)))
+      (names-pieces (containing l s (relation_of l d)) (relation_names s (relation_of l d))) (same_names c d is other e).0 in
+      let kept = same_kept (λ (g : Given). is_part (relation_of l c) g.relation) (λ (g : Given). is_part (relation_of l d) g.relation) given
+      (unlike_on l (scope_at l s) (given_of l (length (scope_at l s))) (unlike-filter (λ (g : Given). g.arity == length (scope_at l s)) l.given (unlike_of l.given lawful.relation_names.apart))) names in
+      let agree = All-map (λ p. is_part (relation_of l c) p ≡ is_part (relation_of l d) p) (λ (g : Given). g.relation) given kept in
+      let same = same_intersection (l.value_count ^ length (scope_at l s)) (map (λ (g : Given). g.relation) given) (relation_of l c) (relation_of l d) (given_on_sized l lawful s)
       (closed.each r [] is.rel) (closed.each q [] other.rel)
-      (λ p given. All-contains (λ p. is_part (relation_of l c) p ≡ is_part (relation_of l d) p) (map (λ (g : Given). g.relation) (given_of l arity)) p agree given) in
-      one_number (relations_of l arity) r q closed.falling is.rel other.rel same
+      (λ p there. All-contains (λ p. is_part (relation_of l c) p ≡ is_part (relation_of l d) p) (map (λ (g : Given). g.relation) given) p agree there) in
+      one_number (relations_on l s) r q closed.falling is.rel other.rel same
 
   pub candidate_told : (c d : Candidate) → IsCandidate l c → IsCandidate l d → candidate_text l c ≡ candidate_text l d → c ≡ d
   candidate_told c d is other e =

@@ -1,26 +1,23 @@
 -- Each question that is asked is one of the language, and gives some variable a value.
 use Rattle.std.proofs.Common.{◌≡◌, ℕ, zero, suc, ◌*◌, ◌<◌, ◌≤◌, Bool, true, false, ◌&&◌, not, List, [], ◌∷◌, ◌++◌, length, map, Option, Some, None, refl, sym, ◌∙◌, ap, subst, arith, inl, inr, ◌⊎◌, ⊎_elim}
-use Rattle.std.specs.Prelude.{◌==◌, All, nat_lt, slice_index_or, is_some, option_map, option_and_then, position}
-use Rattle.std.specs.List.{list_any, list_all}
-use Rattle.std.specs.Option.{ForSome, option_map_or}
-use Rattle.std.proofs.lemmas.Bool.{cases_lt, and_parts, eqb-true, ltb-true, or_cases, or_left}
+use Rattle.std.specs.Prelude.{All, slice_index_or, is_some, option_map, option_and_then, position}
+use Rattle.std.specs.List.{list_any}
+use Rattle.std.proofs.lemmas.Bool.{cases_lt, and_parts, or_cases, or_left}
 use Rattle.std.proofs.lemmas.List.Elements.{All-head, All-tail, All-nil, All-cons, All-map, All-weaker}
 use Rattle.std.proofs.lemmas.List.Folds.{list_any_at}
-use Rattle.std.proofs.lemmas.List.FromFn.{length-map-range_with_len}
-use Rattle.std.proofs.lemmas.List.Sums.{AllPass-from_list_all}
 use Rattle.std.proofs.Math.ListN.{get_or-eq_default}
 use Rattle.assign.specs.Sets.{numbers, is_same}
-use Rattle.assign.specs.Assignment.{Assignment, value_of, value_beside, covers, restrict, is_complete}
+use Rattle.assign.specs.Assignment.{Assignment, value_of, covers, restrict, is_complete}
 use Rattle.assign.specs.Events.{Answer}
 use Rattle.assign.specs.declared.events.Plan.{Plan}
 use Rattle.assign.specs.declared.events.Plan.TheVariants.{Scopes, Quacq, Multi}
 use Rattle.rel_table.specs.Relation.{tuples}
 use Rattle.language.specs.declared.candidates.Candidate.{Candidate}
-use Rattle.language.specs.Language.{Language, IsLanguage, IsCandidate, IsQuestion, candidates, is_question, variable_count, scope_of, violates, accepts}
+use Rattle.language.specs.Language.{Language, IsLanguage, IsCandidate, IsQuestion, candidates, is_question, variable_count, scope_at, scope_of, relations_on, violates, accepts}
 use Rattle.language.specs.Answers.{kept, is_struck, has_scope}
 use Rattle.language.specs.Scenes.{scene_of, on_scope, free_choices, violated_choices}
 use Rattle.language.specs.TellingApart.{Choice, splitting_tuple, tells_apart, remaining}
-use Rattle.language.proofs.Beside.{beside_fits}
+use Rattle.language.proofs.Ranged.{question_is, split_is_question}
 use Rattle.language.proofs.Lists.{find_all, all_below}
 use Rattle.language.proofs.Members.{any-filter}
 use Rattle.find_scope.specs.Halving.{Halved, Wants, Got}
@@ -29,34 +26,19 @@ use Rattle.session_laws.specs.Session.{State, Idle, Halving, Choosing, Walking, 
 use Rattle.session_laws.specs.Laws.{has_value, IsAskable, QuestionsHaveValues}
 use Rattle.session_laws.proofs.Lists.{all_flat_map, tuples_long}
 use Rattle.session_laws.proofs.OnScope.{covers_assigned}
-use Rattle.session_laws.proofs.Choices.{all_candidates}
+use Rattle.session_laws.proofs.Choices.{all_candidates, free_known}
 use Rattle.session_laws.proofs.Folds.{assignment_same, asked_is, passed, reached}
-use Rattle.session_laws.proofs.Restrict.{nothing, part_is_question}
+use Rattle.session_laws.proofs.Restrict.{part_is_question}
 use Rattle.session_laws.proofs.States.{holds_always, halving_asks}
 use Rattle.session_laws.proofs.Counted.{counted}
 
--- ---- a question by its test
-
-known_fits : (d : ℕ) (o : Option ℕ) → option_map_or (λ x. nat_lt x d) o true ≡ true → ForSome o (λ x. x < d)
-known_fits d None h = nothing (λ x. x < d)
-known_fits d (Some x) h = λ y same. subst (λ n. n < d) (let e : x ≡ y = cc in e) (ltb-true x d h)
-
-pub question_is : (l : Language) (q : Assignment) → is_question l q ≡ true → IsQuestion l q
-question_is l q h =
-    let parts = and_parts (length q == variable_count l) (list_all (λ o. option_map_or (λ x. nat_lt x l.value_count) o true) q) h in
-    record {
-      size = eqb-true _ _ parts.0;
-      values_fit = All-weaker (λ o. option_map_or (λ x. nat_lt x l.value_count) o true ≡ true) (λ o. ForSome o (λ x. x < l.value_count)) (known_fits l.value_count) q
-          (AllPass-from_list_all (λ o. option_map_or (λ x. nat_lt x l.value_count) o true) q parts.1);
-    }
-
 -- a whole example that may be put
-example_parts : (l : Language) (live network : List Candidate) (q : Assignment) → is_lawful l Quacq live network q ≡ true → IsQuestion l q × (is_complete q ≡ true)
-example_parts l live network q h =
+example_parts : (l : Language) → IsLanguage l → (live network : List Candidate) (q : Assignment) → is_lawful l Quacq live network q ≡ true → IsQuestion l q × (is_complete q ≡ true)
+example_parts l lawful live network q h =
     let one = and_parts (is_question l q && is_complete q && accepts_all q) (violates_some l live q) h in
     let two = and_parts (is_question l q && is_complete q) (accepts_all q) one.0 in
     let three = and_parts (is_question l q) (is_complete q) two.0 in
-    (question_is l q three.0, three.1)
+    (question_is l lawful q three.0, three.1)
   where
     accepts_all : Assignment → Bool
     accepts_all = accepts l network
@@ -156,28 +138,28 @@ replied_fits l t b (Choosing s choices network walk) fits = settle_fits l t s (r
 replied_fits l t true (Walking set walk network) fits = go_on_fits l t network (Some walk) fits
 replied_fits l t false (Walking set walk network) fits = settle_halving_fits l t walk.example set [] network (Some (record walk { waiting = set ∷ walk.waiting })) fits fits
 
-begun_fits : (l : Language) (plan : Plan) (t : List Answer) (live network : List Candidate) (q : Assignment) (b : Bool) → is_lawful l plan live network q ≡ true → Fits l (begun l plan t live network q b)
-begun_fits l Quacq t live network q true h = tt
-begun_fits l Quacq t live network q false h = settle_halving_fits l t q (numbers (variable_count l)) [] network None (example_parts l live network q h).0 tt
-begun_fits l Multi t live network q b h = replied_fits l t b (at_turn network (next_turn l network live q MOST_SETS (numbers (variable_count l) ∷ [])))
-    (turn_fits l network live q (example_parts l live network q h).0 MOST_SETS (numbers (variable_count l) ∷ []))
-begun_fits l Scopes t live network q b h = go (next_scope l live network)
+begun_fits : (l : Language) → IsLanguage l → (plan : Plan) (t : List Answer) (live network : List Candidate) (q : Assignment) (b : Bool) → is_lawful l plan live network q ≡ true → Fits l (begun l plan t live network q b)
+begun_fits l lawful Quacq t live network q true h = tt
+begun_fits l lawful Quacq t live network q false h = settle_halving_fits l t q (numbers (variable_count l)) [] network None (example_parts l lawful live network q h).0 tt
+begun_fits l lawful Multi t live network q b h = replied_fits l t b (at_turn network (next_turn l network live q MOST_SETS (numbers (variable_count l) ∷ [])))
+    (turn_fits l network live q (example_parts l lawful live network q h).0 MOST_SETS (numbers (variable_count l) ∷ []))
+begun_fits l lawful Scopes t live network q b h = go (next_scope l live network)
   where
     go : (o : Option ℕ) → Fits l (on_scope_asked l t b live network o)
     go None = tt
     go (Some s) = settle_fits l t s (replied_tuple (scene_of l s) b (free_choices live s) (splitting_tuple (scene_of l s) (free_choices live s))) network None tt
 
-step_fits : (l : Language) (plan : Plan) (t : List Answer) (a : Answer) (state next : State) → Fits l state → step l plan t a state ≡ Some next → Fits l next
-step_fits l plan t a (Idle network end) next fits h =
+step_fits : (l : Language) → IsLanguage l → (plan : Plan) (t : List Answer) (a : Answer) (state next : State) → Fits l state → step l plan t a state ≡ Some next → Fits l next
+step_fits l lawful plan t a (Idle network end) next fits h =
     let both = passed _ _ next h in
-    subst (Fits l) both.1 (begun_fits l plan (t ++ a ∷ []) (kept l t network) network a.question a.yes both.0)
-step_fits l plan t a (Over network) next fits h = absurd (let bad : ⊥ = cc in bad)
-step_fits l plan t a (Halving e set replies network walk) next fits h = subst (Fits l) (passed _ _ next h).1 (replied_fits l (t ++ a ∷ []) a.yes (Halving e set replies network walk) fits)
-step_fits l plan t a (Choosing s choices network walk) next fits h = subst (Fits l) (passed _ _ next h).1 (replied_fits l (t ++ a ∷ []) a.yes (Choosing s choices network walk) fits)
-step_fits l plan t a (Walking set walk network) next fits h = subst (Fits l) (passed _ _ next h).1 (replied_fits l (t ++ a ∷ []) a.yes (Walking set walk network) fits)
+    subst (Fits l) both.1 (begun_fits l lawful plan (t ++ a ∷ []) (kept l t network) network a.question a.yes both.0)
+step_fits l lawful plan t a (Over network) next fits h = absurd (let bad : ⊥ = cc in bad)
+step_fits l lawful plan t a (Halving e set replies network walk) next fits h = subst (Fits l) (passed _ _ next h).1 (replied_fits l (t ++ a ∷ []) a.yes (Halving e set replies network walk) fits)
+step_fits l lawful plan t a (Choosing s choices network walk) next fits h = subst (Fits l) (passed _ _ next h).1 (replied_fits l (t ++ a ∷ []) a.yes (Choosing s choices network walk) fits)
+step_fits l lawful plan t a (Walking set walk network) next fits h = subst (Fits l) (passed _ _ next h).1 (replied_fits l (t ++ a ∷ []) a.yes (Walking set walk network) fits)
 
-fits_always : (l : Language) (plan : Plan) (t : List Answer) (state : State) → state_after l plan t ≡ At state → Fits l state
-fits_always l plan t state h = reached l plan (λ before state. Fits l state) tt (step_fits l plan) t state h
+fits_always : (l : Language) → IsLanguage l → (plan : Plan) (t : List Answer) (state : State) → state_after l plan t ≡ At state → Fits l state
+fits_always l lawful plan t state h = reached l plan (λ before state. Fits l state) tt (step_fits l lawful plan) t state h
 
 -- ---- what is asked
 
@@ -195,23 +177,19 @@ module _ (l : Language) (lawful : IsLanguage l) where
       let one = pick (IsCandidate l) (λ c. keeps c && violates l c q) (candidates l) (all_candidates l) (sym (any-filter (λ c. violates l c q) keeps (candidates l)) ∙ h) in
       violated_some one.0 q one.1 (and_parts (keeps one.0) (violates l one.0 q) one.2).1
 
-  tuple_askable : (s : ℕ) (choices : List Choice) (u : List ℕ) → s < length l.scopes → splitting_tuple (scene_of l s) choices ≡ Some u → IsAskable l (on_scope l s u)
-  tuple_askable s choices u low found = record {
-    fits = record {
-      size = length-map-range_with_len (value_beside scope u) 0 (variable_count l);
-      values_fit = All-map (λ o. ForSome o (λ x. x < l.value_count)) (value_beside scope u) (numbers (variable_count l)) (λ k d there. beside_fits l.value_count scope u (slice_index_or (numbers (variable_count l)) k d) below);
-    };
-    some = covered_some (on_scope l s u) scope (scope_some s low) (covers_assigned (variable_count l) scope u (lawful.scopes s [] low).known long);
+  tuple_askable : (s : ℕ) (choices : List Choice) (u : List ℕ) → s < length l.scopes → All (λ x. (r : ℕ) → x ≡ Some r → IsCandidate l (record { scope = s; rel = r })) choices →
+      splitting_tuple (scene_of l s) choices ≡ Some u → IsAskable l (on_scope l s u)
+  tuple_askable s choices u low known found = record {
+    fits = split_is_question l lawful s low choices
+        (All-weaker (λ x. (r : ℕ) → x ≡ Some r → IsCandidate l (record { scope = s; rel = r })) (λ x. (r : ℕ) → x ≡ Some r → r < length (relations_on l s)) (λ x is r e. (is r e).rel) choices known) u long below found;
+    some = covered_some (on_scope l s u) (scope_at l s) (scope_some s low) (covers_assigned (variable_count l) (scope_at l s) u (lawful.scopes s [] low).known long);
   }
     where
-      scope : List ℕ
-      scope = slice_index_or l.scopes s []
-
-      long : length u ≡ length scope
-      long = find_all (λ (v : List ℕ). length v ≡ length scope) (tells_apart (scene_of l s) choices) (tuples l.value_count (length scope)) u (tuples_long l.value_count (length scope)) found
+      long : length u ≡ length (scope_at l s)
+      long = find_all (λ (v : List ℕ). length v ≡ length (scope_at l s)) (tells_apart (scene_of l s) choices) (tuples l.value_count (length (scope_at l s))) u (tuples_long l.value_count (length (scope_at l s))) found
 
       below : All (λ x. x < l.value_count) u
-      below = find_all (λ (v : List ℕ). All (λ x. x < l.value_count) v) (tells_apart (scene_of l s) choices) (tuples l.value_count (length scope)) u (tuples_below l.value_count (length scope)) found
+      below = find_all (λ (v : List ℕ). All (λ x. x < l.value_count) v) (tells_apart (scene_of l s) choices) (tuples l.value_count (length (scope_at l s))) u (tuples_below l.value_count (length (scope_at l s))) found
 
   scope_askable : (t : List Answer) (network : List Candidate) (q : Assignment) → is_just (scope_question l (kept l t network) network) q ≡ true → IsAskable l q
   scope_askable t network q h = go (next_scope l (kept l t network) network) refl h
@@ -223,11 +201,11 @@ module _ (l : Language) (lawful : IsLanguage l) where
           let is = asked_is l s (splitting_tuple (scene_of l s) (free_choices (kept l t network) s)) q just in
           let low : s < length l.scopes =
           find_all (λ v. v < length l.scopes) (is_undecided l (kept l t network) network) (numbers (length l.scopes)) s (all_below (λ v. v < length l.scopes) (length l.scopes) (λ v low. low)) next in
-          subst (IsAskable l) (sym is.2) (tuple_askable s (free_choices (kept l t network) s) is.0 low is.1)
+          subst (IsAskable l) (sym is.2) (tuple_askable s (free_choices (kept l t network) s) is.0 low (free_known l t network s) is.1)
 
   example_askable : (live network : List Candidate) (q : Assignment) → is_lawful l Quacq live network q ≡ true → IsAskable l q
   example_askable live network q h =
-      let parts = example_parts l live network q h in
+      let parts = example_parts l lawful live network q h in
       record { fits = parts.0; some = complete_some q (let some = lawful.some_variable in let size = parts.0.size in omega arith) parts.1 }
 
   lawful_askable : (plan : Plan) (t : List Answer) (network : List Candidate) (q : Assignment) → is_lawful l plan (kept l t network) network q ≡ true → IsAskable l q
@@ -245,7 +223,7 @@ module _ (l : Language) (lawful : IsLanguage l) where
       let asking = halving_asks l plan t e set replies network walk lawful at in
       let is : Some (restrict e asking.wanted) ≡ Some q = sym (ap (λ h. option_map (restrict e) (wanted_set h)) asking.wants) ∙ there in
       let same : restrict e asking.wanted ≡ q = cc in
-      subst (IsAskable l) same (part_askable t network e asking.wanted (fits_always l plan t (Halving e set replies network walk) at).0 asking.bites)
+      subst (IsAskable l) same (part_askable t network e asking.wanted (fits_always l lawful plan t (Halving e set replies network walk) at).0 asking.bites)
   open_askable plan t (Choosing s choices network walk) q at there = go (splitting_tuple (scene_of l s) choices) refl
     where
       go : (o : Option (List ℕ)) → splitting_tuple (scene_of l s) choices ≡ o → IsAskable l q
@@ -253,11 +231,12 @@ module _ (l : Language) (lawful : IsLanguage l) where
       go (Some u) found =
           let is : Some (on_scope l s u) ≡ Some q = sym (ap (option_map (on_scope l s)) found) ∙ there in
           let same : on_scope l s u ≡ q = cc in
-          subst (IsAskable l) same (tuple_askable s choices u (holds_always l lawful plan t (Choosing s choices network walk) at).0.low found)
+          let half = (holds_always l lawful plan t (Choosing s choices network walk) at).0 in
+          subst (IsAskable l) same (tuple_askable s choices u half.low half.known found)
   open_askable plan t (Walking set walk network) q at there =
       let same : restrict walk.example set ≡ q = let is : Some (restrict walk.example set) ≡ Some q = there in cc in
       subst (IsAskable l) same
-      (part_askable t network walk.example set (fits_always l plan t (Walking set walk network) at) (counted l lawful plan t (Walking set walk network) at).2)
+      (part_askable t network walk.example set (fits_always l lawful plan t (Walking set walk network) at) (counted l lawful plan t (Walking set walk network) at).2)
   open_askable plan t (Over network) q at there = absurd (let bad : None ≡ Some q = there in cc)
 
 just_one : (o : Option Assignment) (q : Assignment) → o ≡ Some q → is_just o q ≡ true

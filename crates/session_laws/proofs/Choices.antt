@@ -11,7 +11,7 @@ use Rattle.language.specs.declared.candidates.Candidate.{Candidate}
 use Rattle.assign.specs.Sets.{numbers}
 use Rattle.assign.specs.Assignment.{variables_of}
 use Rattle.rel_table.specs.Relation.{Relation, tuples}
-use Rattle.language.specs.Language.{Language, IsLanguage, IsCandidate, candidates, candidates_on, relations_of, violates, accepts}
+use Rattle.language.specs.Language.{Language, IsLanguage, IsCandidate, candidates, candidates_on, relations_on, violates, accepts}
 use Rattle.assign.specs.Events.{Answer}
 use Rattle.language.specs.Answers.{IsNetwork, IsNoOn, has_scope, agrees, is_struck, kept}
 use Rattle.language.specs.TellingApart.{Choice, Scene, allows, tells_apart, splitting_tuple, after_reply, remaining}
@@ -210,14 +210,13 @@ module _ (l : Language) (lawful : IsLanguage l) where
   settled t s (c ∷ cs) network half split = go (list_any is_none (c ∷ cs)) refl
     where
       tables : List Relation
-      tables = relations_of l (length (slice_index_or l.scopes s []))
+      tables = relations_on l s
 
       same_choice : (r q : ℕ) → IsCandidate l (record { scope = s; rel = r }) → IsCandidate l (record { scope = s; rel = q }) →
           list_any (is_number r) (c ∷ cs) ≡ true → list_any (is_number q) (c ∷ cs) ≡ true → r ≡ q
       same_choice r q is_r is_q there_r there_q =
-          let is = lawful.scopes s [] half.low in
-          let sized = lawful.sized (length (slice_index_or l.scopes s [])) is.not_empty is.short in
-          let closing = lawful.closed (length (slice_index_or l.scopes s [])) is.not_empty is.short in
+          let sized = lawful.sized s half.low in
+          let closing = lawful.closed s half.low in
           one_number tables r q closing.falling is_r.rel is_q.rel
           (same_table l.value_count (length (slice_index_or l.scopes s [])) (slice_index_or tables r []) (slice_index_or tables q []) (tells_apart (scene_of l s) (c ∷ cs))
           (sized r [] is_r.rel) (sized q [] is_q.rel) (find_none (tells_apart (scene_of l s) (c ∷ cs)) (tuples l.value_count (length (slice_index_or l.scopes s []))) split)
@@ -300,6 +299,29 @@ all_candidates l = all_flat_map (IsCandidate l) (candidates_on l) (numbers (leng
     All-map (IsCandidate l) (λ (r : ℕ). record { scope = s; rel = r }) _
     (all_below (λ r. IsCandidate l (record { scope = s; rel = r })) _ (λ r low_r. record { scope = low; rel = low_r }))))
 
+-- a free choice is none or a relation on the scope
+pub free_known : (l : Language) (t : List Answer) (network : List Candidate) (s : ℕ) →
+    All (λ x. (r : ℕ) → x ≡ Some r → IsCandidate l (record { scope = s; rel = r })) (free_choices (kept l t network) s)
+free_known l t network s =
+    All-append (λ x. (r : ℕ) → x ≡ Some r → IsCandidate l (record { scope = s; rel = r })) _ (None ∷ [])
+    (All-map (λ x. (r : ℕ) → x ≡ Some r → IsCandidate l (record { scope = s; rel = r })) (λ (c : Candidate). Some c.rel) here (λ k d h. known_here (slice_index_or here k d) (on_scope_here k d h) (candidate_here k d h)))
+    (All-cons (λ x. (r : ℕ) → x ≡ Some r → IsCandidate l (record { scope = s; rel = r })) None [] (λ r e. cc) (All-nil (λ x. (r : ℕ) → x ≡ Some r → IsCandidate l (record { scope = s; rel = r }))))
+  where
+    here : List Candidate
+    here = filter (λ c. c.scope == s) (kept l t network)
+
+    on_scope_here : All (λ (c : Candidate). (c.scope == s) ≡ true) here
+    on_scope_here = filter_passes (λ c. c.scope == s) (kept l t network)
+
+    candidate_here : All (IsCandidate l) here
+    candidate_here = All-filter (λ c. c.scope == s) (IsCandidate l) (kept l t network)
+        (All-filter (λ c. not (is_struck l t c) && not (has_scope network c.scope)) (IsCandidate l) (candidates l) (all_candidates l))
+
+    known_here : (c : Candidate) → (c.scope == s) ≡ true → IsCandidate l c → (r : ℕ) → Some c.rel ≡ Some r → IsCandidate l (record { scope = s; rel = r })
+    known_here c at is r e =
+        let same : c.rel ≡ r = cc in
+        subst (λ (x : Candidate). IsCandidate l x) (λ i. record { scope = eqb-true c.scope s at i; rel = same i }) is
+
 pub begin_halfway : (l : Language) (t : List Answer) (network : List Candidate) (s : ℕ) → IsSound l t network → next_scope l (kept l t network) network ≡ Some s →
     IsHalfway l t s (free_choices (kept l t network) s) network
 begin_halfway l t network s sound next = record {
@@ -313,9 +335,7 @@ begin_halfway l t network s sound next = record {
   agreeing = All-append (λ x. agrees l (learn network s x) t ≡ true) _ (None ∷ [])
       (All-map (λ x. agrees l (learn network s x) t ≡ true) (λ (c : Candidate). Some c.rel) here (λ k d h. agrees_with_fresh l network _ t sound.agreeing (fresh_here k d h)))
       (All-cons (λ x. agrees l (learn network s x) t ≡ true) None [] sound.agreeing (All-nil (λ x. agrees l (learn network s x) t ≡ true)));
-  known = All-append (λ x. (r : ℕ) → x ≡ Some r → IsCandidate l (record { scope = s; rel = r })) _ (None ∷ [])
-      (All-map (λ x. (r : ℕ) → x ≡ Some r → IsCandidate l (record { scope = s; rel = r })) (λ (c : Candidate). Some c.rel) here (λ k d h. known_here (slice_index_or here k d) (on_scope_here k d h) (candidate_here k d h)))
-      (All-cons (λ x. (r : ℕ) → x ≡ Some r → IsCandidate l (record { scope = s; rel = r })) None [] (λ r e. cc) (All-nil (λ x. (r : ℕ) → x ≡ Some r → IsCandidate l (record { scope = s; rel = r }))));
+  known = free_known l t network s;
   gone = λ r is lost. inl (true_from_ne_false _ (λ fresh. both_ways _ lost (kept_is_choice l t network (is_number r) (record { scope = s; rel = r }) is fresh free (eq-eqb r r refl))));
   none_gone = λ lost. absurd (both_ways _ lost (none_is_choice is_none (kept l t network) s refl));
 }
@@ -336,17 +356,8 @@ begin_halfway l t network s sound next = record {
     passes = All-filter (λ c. c.scope == s) (λ c. (not (is_struck l t c) && not (has_scope network c.scope)) ≡ true) (kept l t network)
         (filter_passes (λ c. not (is_struck l t c) && not (has_scope network c.scope)) (candidates l))
 
-    candidate_here : All (IsCandidate l) here
-    candidate_here = All-filter (λ c. c.scope == s) (IsCandidate l) (kept l t network)
-        (All-filter (λ c. not (is_struck l t c) && not (has_scope network c.scope)) (IsCandidate l) (candidates l) (all_candidates l))
-
     fresh_here : (k : ℕ) (d : Candidate) → k < length here → is_struck l t (record { scope = s; rel = (slice_index_or here k d).rel }) ≡ false
     fresh_here k d h = subst (λ (i : ℕ). is_struck l t (record { scope = i; rel = (slice_index_or here k d).rel }) ≡ false) (eqb-true _ s (on_scope_here k d h)) (not-true _ (and_parts _ _ (passes k d h)).0)
-
-    known_here : (c : Candidate) → (c.scope == s) ≡ true → IsCandidate l c → (r : ℕ) → Some c.rel ≡ Some r → IsCandidate l (record { scope = s; rel = r })
-    known_here c at is r e =
-        let same : c.rel ≡ r = cc in
-        subst (λ (x : Candidate). IsCandidate l x) (λ i. record { scope = eqb-true c.scope s at i; rel = same i }) is
 
 -- ---- the beginning
 

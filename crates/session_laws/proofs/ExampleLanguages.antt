@@ -1,6 +1,6 @@
 -- Two example languages are languages, so the laws speak of something.
 use Rattle.std.proofs.Common.{◌≡◌, ℕ, zero, suc, ◌<◌, ◌≤◌, ◌^◌, List, [], ◌∷◌, length, map, false, refl, sym, ◌∙◌, ap, subst, arith}
-use Rattle.std.specs.Prelude.{All, AllPairs, Contains, IsTrue, ◌≢◌, codes}
+use Rattle.std.specs.Prelude.{All, AllPairs, Contains, IsTrue, ◌≢◌, codes, replicate}
 use Rattle.std.specs.List.Sorted.{IsStrictlyIncreasing}
 use Rattle.std.proofs.lemmas.List.Elements.{All-nil, All-cons}
 use Rattle.std.proofs.lemmas.List.Kept.{AllPairs-cons}
@@ -8,7 +8,8 @@ use Rattle.std.proofs.lemmas.Int.{ints}
 use Rattle.std.proofs.lemmas.Bool.{both_ways}
 use Rattle.assign.specs.Sets.{is_same}
 use Rattle.rel_table.specs.Relation.{Relation, meet, meet_all, IsIntersection, IsClosing, is_above}
-use Rattle.language.specs.Language.{Given, IsLanguage, IsScope, AreApart, given_of, relations_of}
+use Rattle.language.specs.Ranges.{IsRange, whole_range}
+use Rattle.language.specs.Language.{Given, IsLanguage, IsScope, AreApart, scope_at, given_on, relations_on}
 use Rattle.session_laws.specs.Examples.{eq, ne, none, binary, equal_or_not, three_equal}
 use Rattle.session_laws.proofs.Restrict.{list_same}
 
@@ -29,13 +30,15 @@ one_apart R x = AllPairs-cons R x [] (All-nil (R x)) (none_apart R)
 three_apart : {X : Type 0} (R : X → X → Type 0) (x y z : X) → R x y → R x z → R y z → AllPairs R (x ∷ y ∷ z ∷ [])
 three_apart R x y z a b c = AllPairs-cons R x (y ∷ z ∷ []) (All-cons (R x) y (z ∷ []) a (one_of (R x) z b)) (AllPairs-cons R y (z ∷ []) (one_of (R y) z c) (one_apart R z))
 
-by_arity : (P : ℕ → Type 0) → P 1 → P 2 → P 3 → P 4 → (arity : ℕ) → 1 ≤ arity → arity ≤ 4 → P arity
-by_arity P one two three four zero h k = absurd (omega arith)
-by_arity P one two three four (suc zero) h k = one
-by_arity P one two three four (suc (suc zero)) h k = two
-by_arity P one two three four (suc (suc (suc zero))) h k = three
-by_arity P one two three four (suc (suc (suc (suc zero)))) h k = four
-by_arity P one two three four (suc (suc (suc (suc (suc a))))) h k = absurd (omega arith)
+at_one : (P : ℕ → Type 0) → P 0 → (s : ℕ) → s < 1 → P s
+at_one P one zero low = one
+at_one P one (suc s) low = absurd (omega arith)
+
+at_three : (P : ℕ → Type 0) → P 0 → P 1 → P 2 → (s : ℕ) → s < 3 → P s
+at_three P one two three zero low = one
+at_three P one two three (suc zero) low = two
+at_three P one two three (suc (suc zero)) low = three
+at_three P one two three (suc (suc (suc s))) low = absurd (omega arith)
 
 pair_rises : (a b : ℕ) → a < b → IsStrictlyIncreasing (a ∷ b ∷ [])
 pair_rises a b low zero h = low
@@ -51,13 +54,6 @@ pair_scope n a b low high = record {
 
 differ : (xs ys : List ℕ) → is_same xs ys ≡ false → xs ≢ ys
 differ xs ys off = λ e. both_ways _ off (ap (is_same xs) (sym e) ∙ list_same xs)
-
-none_closes : IsClosing [] []
-none_closes = record {
-  each = All-nil (IsIntersection []);
-  every = λ r is. absurd (let low = is.first_given.1 in omega arith);
-  falling = none_apart (λ r q. IsTrue (is_above r q));
-}
 
 -- ---- eq, ne and none: the intersections are these three again
 
@@ -100,6 +96,13 @@ three_close = record {
   falling = three_apart (λ r q. IsTrue (is_above r q)) eq ne none refl refl refl;
 }
 
+each_of : {X : Type 0} (P : X → Type 0) (n : ℕ) (x : X) → P x → All P (replicate n x)
+each_of P zero x p = All-nil P
+each_of P (suc n) x p = All-cons P x (replicate n x) p (each_of P n x p)
+
+two_values : IsRange 2 (whole_range 2)
+two_values = record { some = omega arith; known = omega arith }
+
 abbrev IsSized : Given → Type 0
 IsSized g = length g.relation ≡ 2 ^ g.arity
 
@@ -112,16 +115,18 @@ equal_or_not_is = record {
   few_values = omega arith;
   low = omega (arith, ints);
   high = omega (arith, ints);
+  ranged = refl;
+  ranges = each_of (IsRange 2) 2 (whole_range 2) two_values;
   relation_names = record { formed = refl; apart = three_apart (λ a b. a ≢ b) (codes "eq") (codes "ne") (codes "none") (differ (codes "eq") (codes "ne") refl) (differ (codes "eq") (codes "none") refl) (differ (codes "ne") (codes "none") refl) };
   given_sized = three_of IsSized (binary (codes "eq") eq) (binary (codes "ne") ne) (binary (codes "none") none) refl refl refl;
   few_scopes = omega arith;
   scopes = one_of (IsScope 2) (0 ∷ 1 ∷ []) (pair_scope 2 0 1 (omega arith) (omega arith));
   apart = one_apart AreApart (0 ∷ 1 ∷ []);
-  closed = by_arity (λ arity. IsClosing (map (λ (g : Given). g.relation) (given_of equal_or_not arity)) (relations_of equal_or_not arity)) none_closes three_close none_closes none_closes;
-  sized = by_arity (λ arity. All (λ r. length r ≡ 2 ^ arity) (relations_of equal_or_not arity)) (All-nil (λ (r : Relation). length r ≡ 2)) (three_of (λ (r : Relation). length r ≡ 4) eq ne none refl refl refl) (All-nil (λ (r : Relation). length r ≡ 8)) (All-nil (λ (r : Relation). length r ≡ 16));
-  few_relations = by_arity (λ arity. length (relations_of equal_or_not arity) ≤ 64) (omega arith) (omega arith) (omega arith) (omega arith);
+  closed = at_one (λ s. IsClosing (map (λ (g : Given). g.relation) (given_on equal_or_not s)) (relations_on equal_or_not s)) three_close;
+  sized = at_one (λ s. All (λ r. length r ≡ 2 ^ length (scope_at equal_or_not s)) (relations_on equal_or_not s)) (three_of (λ (r : Relation). length r ≡ 4) eq ne none refl refl refl);
+  few_relations = at_one (λ s. length (relations_on equal_or_not s) ≤ 64) (omega arith);
   small = one_of (λ (scope : List ℕ). 2 ^ length scope ≤ 65536) (0 ∷ 1 ∷ []) (omega arith);
-  used = one_of (λ scope. 1 ≤ length (relations_of equal_or_not (length scope))) (0 ∷ 1 ∷ []) (omega arith);
+  used = at_one (λ s. 1 ≤ length (relations_on equal_or_not s)) (omega arith);
 }
 
 -- ---- eq alone over three variables
@@ -150,14 +155,17 @@ three_equal_is = record {
   few_values = omega arith;
   low = omega (arith, ints);
   high = omega (arith, ints);
+  ranged = refl;
+  ranges = each_of (IsRange 2) 3 (whole_range 2) two_values;
   relation_names = record { formed = refl; apart = one_apart (λ a b. a ≢ b) (codes "eq") };
   given_sized = one_of IsSized (binary (codes "eq") eq) refl;
   few_scopes = omega arith;
   scopes = three_of (IsScope 3) (0 ∷ 1 ∷ []) (0 ∷ 2 ∷ []) (1 ∷ 2 ∷ []) (pair_scope 3 0 1 (omega arith) (omega arith)) (pair_scope 3 0 2 (omega arith) (omega arith)) (pair_scope 3 1 2 (omega arith) (omega arith));
   apart = three_apart AreApart (0 ∷ 1 ∷ []) (0 ∷ 2 ∷ []) (1 ∷ 2 ∷ []) (record { left = refl; right = refl }) (record { left = refl; right = refl }) (record { left = refl; right = refl });
-  closed = by_arity (λ arity. IsClosing (map (λ (g : Given). g.relation) (given_of three_equal arity)) (relations_of three_equal arity)) none_closes eq_closes none_closes none_closes;
-  sized = by_arity (λ arity. All (λ r. length r ≡ 2 ^ arity) (relations_of three_equal arity)) (All-nil (λ (r : Relation). length r ≡ 2)) (one_of (λ (r : Relation). length r ≡ 4) eq refl) (All-nil (λ (r : Relation). length r ≡ 8)) (All-nil (λ (r : Relation). length r ≡ 16));
-  few_relations = by_arity (λ arity. length (relations_of three_equal arity) ≤ 64) (omega arith) (omega arith) (omega arith) (omega arith);
+  closed = at_three (λ s. IsClosing (map (λ (g : Given). g.relation) (given_on three_equal s)) (relations_on three_equal s)) eq_closes eq_closes eq_closes;
+  sized = at_three (λ s. All (λ r. length r ≡ 2 ^ length (scope_at three_equal s)) (relations_on three_equal s))
+      (one_of (λ (r : Relation). length r ≡ 4) eq refl) (one_of (λ (r : Relation). length r ≡ 4) eq refl) (one_of (λ (r : Relation). length r ≡ 4) eq refl);
+  few_relations = at_three (λ s. length (relations_on three_equal s) ≤ 64) (omega arith) (omega arith) (omega arith);
   small = three_of (λ (scope : List ℕ). 2 ^ length scope ≤ 65536) (0 ∷ 1 ∷ []) (0 ∷ 2 ∷ []) (1 ∷ 2 ∷ []) (omega arith) (omega arith) (omega arith);
-  used = three_of (λ scope. 1 ≤ length (relations_of three_equal (length scope))) (0 ∷ 1 ∷ []) (0 ∷ 2 ∷ []) (1 ∷ 2 ∷ []) (omega arith) (omega arith) (omega arith);
+  used = at_three (λ s. 1 ≤ length (relations_on three_equal s)) (omega arith) (omega arith) (omega arith);
 }

@@ -47,7 +47,7 @@ module _ (l : Language) (lawful : IsLanguage l) (t : List Answer) (e : Assignmen
     is_here : (c : Candidate) → IsCandidate l c → scope_of l c ≡ s → c.scope ≡ n
     is_here c is same =
         let here : Candidate = record { scope = n; rel = 0 } in
-        same_scope l lawful here c (record { scope = low; rel = lawful.used n [] low }) is
+        same_scope l lawful here c (record { scope = low; rel = lawful.used n low }) is
         (sub_within (scope_of l c) (slice_index_or l.scopes n []) 0 (rising_scope l lawful c is) (λ v below h. ap (λ xs. has xs v) (sym (same ∙ sym scope_is)) ∙ h))
 
     -- a kept candidate there that e violates is a choice

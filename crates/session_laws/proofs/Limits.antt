@@ -1,13 +1,13 @@
 -- How many answers the largest language allows.
 use Rattle.std.proofs.Common.{ℕ, ◌+◌, ◌*◌, ◌≤◌, List, [], ◌∷◌, length, map, arith, length-append}
-use Rattle.std.specs.Prelude.{All, slice_index_or}
+use Rattle.std.specs.Prelude.{All}
 use Rattle.std.specs.List.{flat_map}
 use Rattle.std.proofs.lemmas.List.Elements.{All-head, All-tail, All-map}
 use Rattle.std.proofs.lemmas.List.FromFn.{length-map-range_with_len, length-range_with_len}
 use Rattle.std.proofs.lemmas.Nat.{mul-le}
 use Rattle.assign.specs.Sets.{numbers}
 use Rattle.language.specs.declared.candidates.Candidate.{Candidate}
-use Rattle.language.specs.Language.{Language, IsLanguage, variable_count, relations_of, candidates, candidates_on}
+use Rattle.language.specs.Language.{Language, IsLanguage, variable_count, relations_on, candidates, candidates_on}
 use Rattle.find_scope.specs.Bound.{log_up}
 use Rattle.find_scope.proofs.Counts.{log_is_least}
 use Rattle.language.proofs.Lists.{all_below}
@@ -36,9 +36,8 @@ module _ (l : Language) (lawful : IsLanguage l) where
   candidates_few : length (candidates l) ≤ length l.scopes * 64
   candidates_few =
       let all = flat_map_length (candidates_on l) 64 (numbers (length l.scopes)) (all_below (λ s. length (candidates_on l s) ≤ 64) (length l.scopes) (λ s low.
-      let scope = lawful.scopes s [] low in
-      let few = lawful.few_relations (length (slice_index_or l.scopes s [])) scope.not_empty scope.short in
-      omega (arith, length-map-range_with_len (λ r. let c : Candidate = record { scope = s; rel = r } in c) 0 (length (relations_of l (length (slice_index_or l.scopes s []))))))) in
+      let few = lawful.few_relations s low in
+      omega (arith, length-map-range_with_len (λ r. let c : Candidate = record { scope = s; rel = r } in c) 0 (length (relations_on l s))))) in
       omega (arith, length-range_with_len 0 (length l.scopes))
 
   arity_few : greatest_arity l ≤ 4

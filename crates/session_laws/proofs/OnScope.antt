@@ -11,7 +11,7 @@ use Rattle.assign.specs.Sets.{has, Rises}
 use Rattle.assign.specs.Assignment.{value_of, value_beside, assigned, covers, tuple_on, variables_of}
 use Rattle.language.specs.declared.candidates.Candidate.{Candidate}
 use Rattle.rel_table.specs.Relation.{holds}
-use Rattle.language.specs.Language.{Language, IsLanguage, variable_count, relations_of, violates, accepts}
+use Rattle.language.specs.Language.{Language, IsLanguage, variable_count, relations_on, violates, accepts}
 use Rattle.language.specs.Answers.{IsNetwork, has_scope}
 use Rattle.language.specs.TellingApart.{Choice, allows}
 use Rattle.language.specs.Scenes.{scene_of, on_scope}
@@ -85,13 +85,13 @@ module _ (l : Language) (lawful : IsLanguage l) (s : ℕ) (is_s : s < length l.s
       let is = lawful.scopes s [] is_s in
       let rises : Rises 0 (slice_index_or l.scopes s []) = scope_rises (variable_count l) (slice_index_or l.scopes s []) lawful.few_variables is.rising is.known in
       λ i. covers_assigned (variable_count l) (slice_index_or l.scopes s []) u is.known long i
-      && not (holds l.value_count (slice_index_or (relations_of l (length (slice_index_or l.scopes s []))) r []) (tuple_on_assigned (variable_count l) (slice_index_or l.scopes s []) u rises is.known long i))
+      && not (holds l.value_count (slice_index_or (relations_on l s) r []) (tuple_on_assigned (variable_count l) (slice_index_or l.scopes s []) u rises is.known long i))
 
   pub accepted_elsewhere : (network : List Candidate) → IsNetwork l network → has_scope network s ≡ false → accepts l network (on_scope l s u) ≡ true
   accepted_elsewhere network all none = true_from_ne_false _ (λ rejected.
       both_ways _ (none_on l network s (on_scope l s u) none)
       (rejected_on l network all s (on_scope l s u)
-      (only_there l lawful (record { scope = s; rel = 0 }) (record { scope = is_s; rel = lawful.used s [] is_s }) (on_scope l s u) exact_question) rejected))
+      (only_there l lawful (record { scope = s; rel = 0 }) (record { scope = is_s; rel = lawful.used s is_s }) (on_scope l s u) exact_question) rejected))
 
   -- the network with a choice learned accepts the question where the choice allows the tuple
   pub accepts_learned : (network : List Candidate) → IsNetwork l network → has_scope network s ≡ false → (c : Choice) → accepts l (learn network s c) (on_scope l s u) ≡ allows (scene_of l s) u c

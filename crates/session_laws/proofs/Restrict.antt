@@ -13,7 +13,7 @@ use Rattle.language.specs.declared.candidates.Candidate.{Candidate}
 use Rattle.assign.specs.Sets.{numbers, has, is_within, is_same, Rises}
 use Rattle.assign.specs.Assignment.{Assignment, value_of, restrict, covers, tuple_on, is_complete, variables_of}
 use Rattle.rel_table.specs.Relation.{holds}
-use Rattle.language.specs.Language.{Language, IsLanguage, IsCandidate, variable_count, scope_of, relation_of, violates, accepts, IsQuestion}
+use Rattle.language.specs.Language.{Language, IsLanguage, IsCandidate, variable_count, scope_of, relation_of, violates, accepts, IsQuestion, is_ranged}
 use Rattle.language.specs.Answers.{IsNetwork}
 use Rattle.assign.specs.SetLemmas.{set_where-same}
 use Rattle.assign.proofs.Masks.{canonical}
@@ -166,6 +166,7 @@ part_is_question l e w fits =
     record {
       size = length-map-range_with_len (λ v. cond (has w v) (value_of e v) None) 0 (length e) ∙ fits.size;
       values_fit = All-map (λ o. ForSome o (λ x. x < l.value_count)) (λ v. cond (has w v) (value_of e v) None) (numbers (length e)) (λ k d low. at (slice_index_or (numbers (length e)) k d));
+      within = λ v low. ap (is_ranged l v) (value_of_restrict e w v) ∙ ranged v (has w v) (fits.within v low);
     }
   where
     at : (v : ℕ) → ForSome (cond (has w v) (value_of e v) None) (λ x. x < l.value_count)
@@ -174,3 +175,7 @@ part_is_question l e w fits =
         go : (b : Bool) → ForSome (value_of e v) (λ x. x < l.value_count) → ForSome (cond b (value_of e v) None) (λ x. x < l.value_count)
         go true h = h
         go false h = nothing (λ x. x < l.value_count)
+
+    ranged : (v : ℕ) (b : Bool) → is_ranged l v (value_of e v) ≡ true → is_ranged l v (cond b (value_of e v) None) ≡ true
+    ranged v true h = h
+    ranged v false h = refl

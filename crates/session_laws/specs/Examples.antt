@@ -4,6 +4,7 @@ use Rattle.assign.specs.Sets.{numbers}
 use Rattle.assign.specs.Assignment.{Assignment, restrict}
 use Rattle.assign.specs.Events.{Answer}
 use Rattle.rel_table.specs.Relation.{Relation, tuples}
+use Rattle.language.specs.Ranges.{whole_range}
 use Rattle.language.specs.Language.{Language, Given}
 
 -- ---- relations on two variables of two values: the truth at 1 1, 1 2, 2 1 and 2 2
@@ -41,9 +42,10 @@ two given closed = record {
   names = codes "a" ∷ codes "b" ∷ [];
   least_value = pos 1;
   value_count = 2;
+  ranges = replicate 2 (whole_range 2);
   given = given;
   scopes = (0 ∷ 1 ∷ []) ∷ [];
-  relations = [] ∷ closed ∷ [] ∷ [] ∷ [];
+  relations = closed ∷ [];
 }
 
 -- the variables a, b and c
@@ -52,9 +54,10 @@ three given closed = record {
   names = codes "a" ∷ codes "b" ∷ codes "c" ∷ [];
   least_value = pos 1;
   value_count = 2;
+  ranges = replicate 3 (whole_range 2);
   given = given;
   scopes = (0 ∷ 1 ∷ []) ∷ (0 ∷ 2 ∷ []) ∷ (1 ∷ 2 ∷ []) ∷ [];
-  relations = [] ∷ closed ∷ [] ∷ [] ∷ [];
+  relations = closed ∷ closed ∷ closed ∷ [];
 }
 
 abbrev pub equal_or_not : Language
@@ -62,6 +65,16 @@ equal_or_not = two (binary (codes "eq") eq ∷ binary (codes "ne") ne ∷ binary
 
 abbrev pub orders : Language
 orders = two (binary (codes "le") le ∷ binary (codes "ge") ge ∷ binary (codes "ne") ne ∷ []) (le ∷ ge ∷ eq ∷ ne ∷ less ∷ more ∷ none ∷ [])
+
+-- the first variable is always 1, so these relations say something of the second alone: whether it may be 1, and whether 2
+abbrev pub beside_one : Bool → Bool → Relation
+beside_one one two = one ∷ two ∷ true ∷ true ∷ []
+
+abbrev pub first_is_one : Language
+first_is_one = record (two (binary (codes "le") le ∷ binary (codes "ge") ge ∷ binary (codes "ne") ne ∷ [])
+    (beside_one true true ∷ beside_one true false ∷ beside_one false true ∷ beside_one false false ∷ [])) {
+      ranges = record { first = 0; last = 0 } ∷ whole_range 2 ∷ [];
+    }
 
 abbrev pub three_equal : Language
 three_equal = three (binary (codes "eq") eq ∷ []) (eq ∷ [])
@@ -97,9 +110,10 @@ large = record {
   names = map (λ v. v ∷ []) (numbers 128);
   least_value = pos 0;
   value_count = 2;
+  ranges = replicate 128 (whole_range 2);
   given = binary (codes "ne") (map differs (tuples 2 2)) ∷ [];
   scopes = (0 ∷ 127 ∷ []) ∷ [];
-  relations = [] ∷ (map differs (tuples 2 2) ∷ []) ∷ [] ∷ [] ∷ [];
+  relations = (map differs (tuples 2 2) ∷ []) ∷ [];
 }
 
 abbrev pub all_zero : Assignment

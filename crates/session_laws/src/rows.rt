@@ -5,7 +5,7 @@ ghost use Rattle.assign.specs.declared.events.Plan.TheVariants.{Multi, Quacq, Sc
 ghost use Rattle.language.specs.Language.{candidates};
 ghost use Rattle.session_laws.specs.Walk.{Ended};
 ghost use Rattle.session_laws.specs.Session.{state_after, open_question, scope_question, At, Idle, Choosing, Over, Stray, Walking};
-ghost use Rattle.session_laws.specs.Examples.{equal_or_not, orders, three_equal, three_different, large, thirteen_noes, untrue, pair, triple, says};
+ghost use Rattle.session_laws.specs.Examples.{equal_or_not, first_is_one, orders, three_equal, three_different, large, thirteen_noes, untrue, pair, triple, says};
 
 /// Scope by scope: no to 0 and 0, yes to 0 and 1. `ne a b` is learned. The second question comes no earlier.
 pub fn learns_scope_by_scope()
@@ -28,6 +28,13 @@ pub fn collapses()
 /// No, no and yes: the relation learned is an intersection of two that were given.
 pub fn learns_an_intersection()
     ensures { state_after orders Quacq (says (pair 1 0) false ∷ says (pair 0 0) false ∷ says (pair 0 1) true ∷ []) ≡ At (Idle (record { scope = 0; rel = 4 } ∷ []) None) }
+{}
+
+/// The first variable is always 1, and an example with another value there has no place. Of the relations on the scope the one
+/// is learned that asks for 1 beside it.
+pub fn learns_within_a_range()
+    ensures outside { state_after first_is_one Quacq (says (pair 1 0) false ∷ []) ≡ Stray 1 }
+    ensures last { state_after first_is_one Quacq (says (pair 0 1) false ∷ says (pair 0 0) true ∷ []) ≡ At (Idle (record { scope = 0; rel = 1 } ∷ []) None) }
 {}
 
 /// Two of three pairs are to differ: each is learned from an example of its own.

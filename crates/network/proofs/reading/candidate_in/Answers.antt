@@ -1,4 +1,4 @@
-use Rattle.std.proofs.Common.{◌≡◌, ◌≤◌, length, sym, subst, arith}
+use Rattle.std.proofs.Common.{◌≤◌, length, sym, subst, arith}
 use Rattle.language.specs.declared.candidates.Candidate.{Candidate}
 use Rattle.serde_json.specs.View.{view}
 use Rattle.network.specs.declared.fault.NetFault.TheVariants.{BadItem}

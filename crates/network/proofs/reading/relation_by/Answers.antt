@@ -1,4 +1,4 @@
-use Rattle.std.proofs.Common.{length, ap, sym, subst, ◌≤◌, ◌≡◌, List, ℕ, Bor, arith}
+use Rattle.std.proofs.Common.{length, sym, ◌≤◌, ◌≡◌, List, ℕ, Bor, arith}
 use Rattle.std.proofs.lemmas.List.{length-map}
 use Rattle.language.specs.ByName.{texts_of}
 use Rattle.network.proofs.Joined.{IsJoined, joined}

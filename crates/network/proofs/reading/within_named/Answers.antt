@@ -1,6 +1,6 @@
 use Rattle.language.specs.ByName.{texts_of}
 use Rattle.language.proofs.Fields.{few_here}
-use Rattle.network.proofs.Joined.{begun, unknown, one_more}
+use Rattle.network.proofs.Joined.{begun, one_more}
 use Rattle.network.proofs.reading.within_named.Goals as goal
 
 pub loop-name-init : goal.loop-name-init
