@@ -7,3 +7,5 @@ pub mod Contained
 pub mod Bits
 pub mod Tabled
 pub mod Runs
+pub mod Rows
+pub mod Placed

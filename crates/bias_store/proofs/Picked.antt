@@ -1,10 +1,17 @@
 -- What a question violates on a scope.
 use Rattle.std.proofs.Common.{◌≡◌, ℕ, Bool, true, false, cond, ◌&&◌, not, [], Some, None, refl, sym, ◌∙◌, ap}
 use Rattle.std.specs.Prelude.{slice_index_or}
+use Rattle.std.specs.List.{filter}
 use Rattle.assign.specs.Assignment.{Assignment, covers, tuple_on}
 use Rattle.rel_table.specs.Relation.{place, holds}
 use Rattle.language.specs.Language.{Language, scope_at, relations_on, relation_of, place_on, violates}
+use Rattle.bias_store.specs.Masks.{ones_of}
+use Rattle.bias_store.proofs.Ones.{ones_of-zero}
 use Rattle.bias_store.proofs.Members.{candidate_at}
+
+-- nothing of no relations
+pub none_of_none : (l : Language) (s : ℕ) (q : Assignment) (relations : ℕ) → relations ≡ 0 → ones_of 0 ≡ filter (λ r. violates l (candidate_at s r) q) (ones_of relations)
+none_of_none l s q relations none = ones_of-zero ∙ sym (ap (filter (λ r. violates l (candidate_at s r) q)) (ap ones_of none ∙ ones_of-zero))
 
 -- nothing, where it doesn't cover the scope
 pub bare : (l : Language) (s : ℕ) (q : Assignment) → None ≡ place_on l s q → (r : ℕ) → violates l (candidate_at s r) q ≡ false

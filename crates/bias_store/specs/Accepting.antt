@@ -1,9 +1,10 @@
 -- Which relations on a scope accept a tuple.
-use Rattle.std.specs.Prelude.{ℕ, ◌≡◌, ◌+◌, ◌<◌, ◌≤◌, ◌^◌, false, List, [], length, slice_index_or}
+use Rattle.std.specs.Prelude.{ℕ, ◌≡◌, ◌≢◌, ◌+◌, ◌<◌, ◌≤◌, ◌^◌, false, List, [], ◌∷◌, length, slice_index_or}
 use Rattle.std.specs.List.{filter}
 use Rattle.assign.specs.Sets.{numbers}
 use Rattle.language.specs.Language.{Language, scope_at, relations_on}
 use Rattle.bias_store.specs.Masks.{ones_of}
+use Rattle.bias_store.specs.declared.tables.TheConstants.{NO_TABLE}
 
 -- the relations on the scope of this number that accept the tuple at a place, by number, rising
 abbrev pub accepting_on : Language → ℕ → ℕ → List ℕ
@@ -13,11 +14,13 @@ accepting_on l s place = filter (λ r. slice_index_or (slice_index_or (relations
 abbrev pub places_on : Language → ℕ → ℕ
 places_on l s = l.value_count ^ length (scope_at l s)
 
--- for each scope where its table begins, and the tables: a mask for each place; and for each scope a later one, or their number
+-- for each scope where its table begins, or that it has none, and the tables: a mask for each place; for each scope a later one, or their number; and
+-- for each scope where its row ends
 pub record Accepting : Type 0 where
   pub first : List ℕ
   pub masks : List ℕ
   pub next : List ℕ
+  pub rows : List ℕ
 
 -- the mask at a place of the table that begins here
 abbrev pub mask_in : List ℕ → ℕ → ℕ → ℕ
@@ -30,13 +33,35 @@ pub record AreRunsFrom (l : Language) (next : List ℕ) (low : ℕ) : Type 0 whe
   pub within : (s : ℕ) → low ≤ s → s < length l.scopes → slice_index_or next s 0 ≤ length l.scopes
   pub alike : (s k : ℕ) → low ≤ s → s < length l.scopes → s ≤ k → k < slice_index_or next s 0 → slice_index_or (scope_at l k) 0 0 ≡ slice_index_or (scope_at l s) 0 0
 
--- each scope of the language has a table of the relations that accept the tuple at each place
+-- the first variable of the scope of this number, and the second one
+abbrev pub first_of : Language → ℕ → ℕ
+first_of l s = slice_index_or (scope_at l s) 0 0
+
+abbrev pub second_of : Language → ℕ → ℕ
+second_of l s = slice_index_or (scope_at l s) 1 0
+
+-- from scope s to an end each scope has two variables: the same first one, and second ones that follow one another
+abbrev pub IsRow : Language → ℕ → ℕ → ℕ → ℕ → Type 0
+IsRow l first second s end = (j : ℕ) → s + j < end → scope_at l (s + j) ≡ first ∷ (second + j) ∷ []
+
+-- for each scope from low on where a row ends that begins there, if there is one
+pub record AreRowsFrom (l : Language) (rows : List ℕ) (low : ℕ) : Type 0 where
+  pub long : length rows ≡ length l.scopes
+  pub within : (s : ℕ) → low ≤ s → s < length l.scopes → slice_index_or rows s 0 ≤ length l.scopes
+  pub row : (s : ℕ) → low ≤ s → s < length l.scopes → IsRow l (first_of l s) (second_of l s) s (slice_index_or rows s 0)
+
+-- the scope's table begins here: for each place the relations that accept the tuple there
+pub record IsTableOf (l : Language) (s : ℕ) (masks : List ℕ) (begin : ℕ) : Type 0 where
+  pub inside : begin + places_on l s ≤ length masks
+  pub each : (place : ℕ) → place < places_on l s → ones_of (mask_in masks begin place) ≡ accepting_on l s place
+
+-- each scope of the language has such a table, or none
 pub record IsAcceptingOf (l : Language) (a : Accepting) : Type 0 where
   pub scopes : length a.first ≡ length l.scopes
   pub few : (s : ℕ) → s < length l.scopes → length (relations_on l s) ≤ 64
-  pub inside : (s : ℕ) → s < length l.scopes → slice_index_or a.first s 0 + places_on l s ≤ length a.masks
-  pub tables : (s place : ℕ) → s < length l.scopes → place < places_on l s → ones_of (mask_in a.masks (slice_index_or a.first s 0) place) ≡ accepting_on l s place
+  pub tables : (s : ℕ) → s < length l.scopes → slice_index_or a.first s 0 ≢ NO_TABLE → IsTableOf l s a.masks (slice_index_or a.first s 0)
   pub runs : AreRunsFrom l a.next 0
+  pub rows : AreRowsFrom l a.rows 0
 
 -- the masks of the first places of a scope's table, behind other ones
 pub record IsTabled (l : Language) (s : ℕ) (before masks : List ℕ) (place : ℕ) : Type 0 where

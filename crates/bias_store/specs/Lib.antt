@@ -1,4 +1,5 @@
 pub mod Masks
 pub mod Accepting
+pub mod Asked
 pub mod KeptSet
 pub mod Inside

@@ -1,17 +1,14 @@
 -- An assignment of exactly some variables, a value at a time.
-use Rattle.std.proofs.Common.{◌≡◌, ℕ, zero, suc, ◌+◌, ◌<◌, false, cond, List, [], ◌∷◌, ◌++◌, length, take, get_or, replicate, Some, None, refl, sym, ◌∙◌, ap, arith, inl, inr, ◌⊎◌}
+use Rattle.std.proofs.Common.{◌≡◌, ℕ, suc, ◌+◌, ◌<◌, false, cond, List, [], ◌∷◌, ◌++◌, length, take, get_or, replicate, Some, None, refl, sym, ◌∙◌, ap, arith, inl, inr, ◌⊎◌}
 use Rattle.std.specs.Prelude.{◌==◌, ◌≢◌, slice_index_or, slice_set, All, AllPairs}
-use Rattle.std.specs.Option.{ForSome}
-use Rattle.std.specs.List.{range_with_len}
 use Rattle.std.proofs.lemmas.List.{get_or-set_same, get_or-set_other, get_or-replicate, length-replicate, length-take, take_more}
 use Rattle.std.proofs.Math.ListN.{length-set}
 use Rattle.std.proofs.lemmas.List.FromFn.{fill_by_all, length-map-range_with_len}
-use Rattle.std.proofs.lemmas.List.Elements.{All-map, All-nil, All-cons}
 use Rattle.std.proofs.lemmas.List.Kept.{AllPairs-from_increasing}
 use Rattle.std.proofs.lemmas.Bool.{cases_eq, eq-eqb, ne_eqb}
-use Rattle.assign.specs.Assignment.{value_beside, assigned, IsAssignment}
+use Rattle.assign.specs.Assignment.{value_beside, assigned}
 use Rattle.language.specs.Language.{IsScope}
-use Rattle.language.proofs.Beside.{value_of_assigned, beside_none, beside_fits}
+use Rattle.language.proofs.Beside.{value_of_assigned, beside_none}
 
 tail_different : (v : ℕ) (vars : List ℕ) → AllPairs (λ a b. a < b) (v ∷ vars) → AllPairs (λ a b. a < b) vars
 tail_different v vars h = λ i j d low k. h (suc i) (suc j) d (omega arith) (omega arith)
@@ -61,15 +58,3 @@ module _ (n : ℕ) (scope u : List ℕ) (is : IsScope n scope) (long : length u 
     where
       size : length (take i u) ≡ i
       size = length-take i u ∙ (omega arith)
-
--- ---- its values
-
-all_numbers : (P : ℕ → Type 0) (a n : ℕ) → ((v : ℕ) → P v) → All P (range_with_len a n)
-all_numbers P a zero h = All-nil P
-all_numbers P a (suc n) h = All-cons P a (range_with_len (a + 1) n) (h a) (all_numbers P (a + 1) n h)
-
-pub assigned_fits : (d n : ℕ) (vars p : List ℕ) → All (λ x. x < d) p → IsAssignment n d (assigned n vars p)
-assigned_fits d n vars p small = record {
-  size = length-assigned n vars p;
-  values_fit = All-map (λ o. ForSome o (λ x. x < d)) (value_beside vars p) _ (all_numbers (λ w. ForSome (value_beside vars p w) (λ x. x < d)) 0 n (λ w. beside_fits d vars p w small));
-}

@@ -1,10 +1,10 @@
 //! The choices that are left on a scope.
 
-ghost use Rattle.std.specs.Prelude.{ℕ, ◌≡◌, ◌+◌, ◌^◌, ◌<◌, ◌≤◌, ◌==◌, ◌↔◌, [], length, All, IsTrue};
+ghost use Rattle.std.specs.Prelude.{ℕ, ◌≡◌, ◌+◌, ◌^◌, ◌<◌, ◌≤◌, ◌==◌, ◌↔◌, [], false, length, slice_index_or, All, IsTrue};
 ghost use Rattle.std.specs.List.{filter};
 ghost use Rattle.std.specs.Bool.{beq};
 ghost use Rattle.std.specs.Int.{bit_at};
-ghost use Rattle.language.specs.Language.{IsLanguage, scope_at};
+ghost use Rattle.language.specs.Language.{IsLanguage, is_whole, scope_at, relations_on};
 ghost use Rattle.language.specs.Scenes.{scene_of};
 ghost use Rattle.language.specs.TellingApart.{remaining};
 ghost use Rattle.find_c.specs.Choices.{choices_of, is_accepting, differ_at};
@@ -35,6 +35,23 @@ impl Model for Choices {
     ghost invariant = { λ c. c.relations < 2 ^ 64 };
 }
 
+/// The truth values of relation r on a scope from a place on, one for each value of the last variable. Where each variable there
+/// has all values, which is known already, they are those of its table.
+#[inline]
+fn row_of(lang: &Language, s: ScopeId, r: u8, whole: bool, place: u32) -> u64
+    requires scope { s < length lang.now.scopes }
+    requires rel { r < length (relations_on lang.now s) }
+    requires whole { whole ≡ is_whole lang.now s }
+    requires row { place + lang.now.value_count ≤ lang.now.value_count ^ length (scope_at lang.now s) }
+    ensures { (y : ℕ) → y < lang.now.value_count → (bit_at result y == 1) ≡ slice_index_or (slice_index_or (relations_on lang.now s) r []) (place + y) false }
+{
+    if whole {
+        lang.table_on(s, r).row(place)
+    } else {
+        lang.row_on(s, r, place)
+    }
+}
+
 impl Choices {
     pub fn new(relations: u64, free: bool) -> Choices
         ensures { result ≡ choices_of relations free }
@@ -57,11 +74,12 @@ impl Choices {
         requires row { place + lang.now.value_count ≤ lang.now.value_count ^ length (scope_at lang.now s) }
         ensures { (y : ℕ) → y < lang.now.value_count → (bit_at result y == 1) ≡ differ_at (scene_of lang.now s) self.now (place + y) }
     {
+        let whole = lang.is_whole(s);
         let (mut accepted, mut rejected) = (0, 0);
         let mut left = self.relations;
         while left != 0 {
             let (r, rest) = split_first(left);
-            let row = lang.table_on(s, r).row(place);
+            let row = row_of(lang, s, r, whole, place);
             accepted |= row;
             rejected |= !row;
             left = rest;

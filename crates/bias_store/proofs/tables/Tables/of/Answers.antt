@@ -1,29 +1,46 @@
-use Rattle.std.proofs.Common.{◌≡◌, ℕ, Vec, Global, ◌+◌, [], ◌∷◌, ◌++◌, length, sym, ap, ◌∙◌, arith}
-use Rattle.bias_store.proofs.Tabled.{tabled_like, tabled_new, tabled_at}
-use Rattle.bias_store.proofs.tables.Tables.of.Goals.{then-other-s+then-scope-size, else-other-s+in_ok-masks}
+use Rattle.std.proofs.Common.{ℕ, Vec, Global, ◌+◌, ◌*◌, ◌<◌, ◌≤◌, [], ◌∷◌, ◌++◌, length, refl, sym, ap, ◌∙◌, arith}
+use Rattle.bias_store.proofs.Tabled.{AreMade, begun_none, tabled_none, tabled_wider, made_at, made_narrow, made_like, made_new}
+use Rattle.bias_store.proofs.tables.Tables.of.Goals.{then-is_whole, then-begins-size+in_ok-masks, else-begins-size, else-is_whole}
 use Rattle.bias_store.proofs.tables.Tables.of.Goals as goal
+
+pub loop-s-init : goal.loop-s-init
+loop-s-init c =
+    let l = c.args.lang.now in
+    let lawful = c.scopes-s-end.ensures.lawful in
+    record {
+      made = made_at l _ _ _ _ _ _ 0 c.new-first.ensures.items refl refl (record { tabled = tabled_wider l [] [] c.new-masks.result.items 0 (tabled_none l) (omega arith) (λ i low. absurd (omega arith)); begun = begun_none l lawful _ c.new-masks.result.items refl });
+      few = omega (arith, ap length c.new-masks.ensures.items);
+    }
 
 pub loop-s-preserved : goal.loop-s-preserved
 loop-s-preserved c =
     let l = c.args.lang.now in
     let first = c.loop-s.first.items in
-    let masks = c.loop-s.masks.items in
     let few = c.loop-s.invariant.few in
-    let long = c.loop-s.invariant.tabled.long in
-    elim c.if-other-s.branch [
-      | then-other-s+then-scope-size w ↦
-          let size = ap length (sym w.scope.ensures.is) ∙ w.if-scope-size.true ∙ ap length c.scope-size.ensures.is in
+    elim c.if-is_whole.branch [
+      | then-is_whole w ↦
+          let low : c.loop-s.s < length l.scopes = (let is = c.scopes-s-end.ensures.is in omega arith) in
+          let whole = sym c.is_whole.ensures ∙ w.if-is_whole.true in
+          let size = ap length w.scope-size.ensures.is in
+          let made : AreMade l first w.if-begins-size.begins w.if-begins-size.masks.items c.loop-s.s × (length w.if-begins-size.masks.items ≤ 65536 * (c.loop-s.s + 1)) = elim w.if-begins-size.branch [
+            | then-begins-size+in_ok-masks v ↦
+                let long = v.in_ok-masks.ensures.long in
+                let small = c.scopes-s-end.ensures.lawful.small c.loop-s.s [] low in (
+                  made_at l _ _ _ _ _ _ c.loop-s.s refl v.begins-is (λ i. (v.masks-is i).items)
+                      (made_new l c.scopes-s-end.ensures.lawful first c.loop-s.begins c.loop-s.masks.items v.in_ok-masks.masks.items c.loop-s.s _ v.len.result low whole size (omega (arith, v.len.ensures)) v.in_ok-masks.ensures c.loop-s.invariant.made),
+                  omega (arith, few, small, long, ap (λ (v : Vec ℕ Global). length v.items) v.masks-is),
+                )
+            | else-begins-size v ↦ (
+              made_at l _ _ _ _ _ _ c.loop-s.s refl v.begins-is (λ i. (v.masks-is i).items) c.loop-s.invariant.made,
+              omega (arith, few, ap (λ (v : Vec ℕ Global). length v.items) v.masks-is),
+            )
+          ] in
           record {
-            tabled = tabled_at l _ _ _ _ (c.loop-s.s + 1) (c.in-Ok.ensures.items ∙ ap (λ b. first ++ b ∷ []) w.begin-is) (λ i. (w.masks-is i).items)
-                (tabled_like l first masks c.loop-s.s _ _ w.index.result.now c.loop-s.invariant.tabled w.if-other-s.true size w.from.ensures w.index.ensures);
-            few = omega (arith, few, ap (λ (v : Vec ℕ Global). length v.items) w.masks-is);
+            made = made_at l _ _ _ _ _ _ (c.loop-s.s + 1) c.in-Ok.ensures.items w.begins-is (λ i. (w.masks-is i).items) (made_like l first _ _ c.loop-s.s _ c.if-is_whole.begin low whole size w.begin-is made.0);
+            few = omega (arith, made.1, ap (λ (v : Vec ℕ Global). length v.items) w.masks-is);
           }
-      | else-other-s+in_ok-masks w ↦
-          let small = c.scopes-s-end.ensures.lawful.small c.loop-s.s [] (let is = c.scopes-s-end.ensures.is in omega arith) in
-          let long = w.in_ok-masks.ensures.long in
-          let begins : c.if-other-s.begin ≡ length masks = omega (arith, w.begin-is, w.len-begin.ensures) in
-          record {
-            tabled = tabled_at l _ _ _ _ (c.loop-s.s + 1) (c.in-Ok.ensures.items ∙ ap (λ b. first ++ b ∷ []) begins) (λ i. (w.masks-is i).items) (tabled_new l first masks _ c.loop-s.s c.loop-s.invariant.tabled w.in_ok-masks.ensures);
-            few = omega (arith, few, small, long, ap (λ (v : Vec ℕ Global). length v.items) w.masks-is);
-          }
+      | else-is_whole w ↦ record {
+        made = made_at l _ _ _ _ _ _ (c.loop-s.s + 1) (c.in-Ok.ensures.items ∙ ap (λ b. first ++ b ∷ []) w.begin-is) w.begins-is (λ i. (w.masks-is i).items) (made_narrow l first c.loop-s.begins c.loop-s.masks.items c.loop-s.s c.loop-s.invariant.made);
+        few = omega (arith, few, ap (λ (v : Vec ℕ Global). length v.items) w.masks-is);
+      }
     ]

@@ -1,8 +1,7 @@
-use Rattle.std.proofs.Common.{◌≡◌, ℕ, ◌+◌, ◌<◌, ◌∙◌, Some, ap, sym, subst, not, length, get_or, false, arith}
+use Rattle.std.proofs.Common.{◌+◌, ◌<◌, ◌∙◌, ap, sym, subst, not, length, arith}
 use Rattle.std.specs.Prelude.{All}
 use Rattle.std.specs.Int.{bit_not, w64}
 use Rattle.std.proofs.lemmas.List.Elements.{All-head, All-tail}
-use Rattle.assign.specs.SetLemmas.{is_one}
 use Rattle.language.specs.Language.{relations_on}
 use Rattle.language.specs.Scenes.{scene_of}
 use Rattle.bias_store.specs.Masks.{ones_of}
@@ -19,23 +18,17 @@ loop-left-init c = record {
   rejects = seen_none (scene_of c.args.lang.now c.args.s) c.args.place (rejects_at (scene_of c.args.lang.now c.args.s)) c.self.inside.relations;
 }
 
-pub table_on-requires-clause-rel : goal.table_on-requires-clause-rel
-table_on-requires-clause-rel c = All-head (λ r. r < length (relations_on c.args.lang.now c.args.s)) c.split_first-r.result.0 (ones_of c.split_first-r.result.1) (subst (λ rs. All (λ r. r < length (relations_on c.args.lang.now c.args.s)) rs) c.split_first-r.ensures c.loop-left.invariant.known)
-
-pub row-row-requires : goal.row-row-requires
-row-row-requires c = let fits = c.requires.row in let size = c.table_on.ensures.size in let values = c.table_on.ensures.values in omega arith
-
-tells : (c : goal.After-row-row) → (y : ℕ) → y < c.args.lang.now.value_count → is_one c.row-row.result y ≡ allows_at (scene_of c.args.lang.now c.args.s) (c.args.place + y) (Some c.split_first-r.result.0)
-tells c y low = c.row-row.ensures y (let values = c.table_on.ensures.values in omega arith) ∙ ap (λ t. get_or t (c.args.place + y) false) c.table_on.ensures.is
+pub row_of-row-requires-clause-rel : goal.row_of-row-requires-clause-rel
+row_of-row-requires-clause-rel c = All-head (λ r. r < length (relations_on c.args.lang.now c.args.s)) c.split_first-r.result.0 (ones_of c.split_first-r.result.1) (subst (λ rs. All (λ r. r < length (relations_on c.args.lang.now c.args.s)) rs) c.split_first-r.ensures c.loop-left.invariant.known)
 
 pub loop-left-preserved : goal.loop-left-preserved
 loop-left-preserved c =
     let scene = scene_of c.args.lang.now c.args.s in
     record {
       known = All-tail (λ r. r < length (relations_on c.args.lang.now c.args.s)) c.split_first-r.result.0 (ones_of c.split_first-r.result.1) (subst (λ rs. All (λ r. r < length (relations_on c.args.lang.now c.args.s)) rs) c.split_first-r.ensures c.loop-left.invariant.known);
-      accepts = seen_more scene c.args.place (allows_at scene) c.self.inside.relations c.loop-left.accepted c.loop-left.left c.split_first-r.result.0 c.split_first-r.result.1 c.row-row.result c.split_first-r.ensures (tells c) c.loop-left.invariant.accepts;
-      rejects = seen_more scene c.args.place (rejects_at scene) c.self.inside.relations c.loop-left.rejected c.loop-left.left c.split_first-r.result.0 c.split_first-r.result.1 (bit_not w64 c.row-row.result) c.split_first-r.ensures
-          (λ y low. is_one-not c.row-row.result y c.row-row.type_inv (let few = c.requires.lawful.few_values in omega arith) ∙ ap not (tells c y low)) c.loop-left.invariant.rejects;
+      accepts = seen_more scene c.args.place (allows_at scene) c.self.inside.relations c.loop-left.accepted c.loop-left.left c.split_first-r.result.0 c.split_first-r.result.1 c.row_of-row.result c.split_first-r.ensures c.row_of-row.ensures c.loop-left.invariant.accepts;
+      rejects = seen_more scene c.args.place (rejects_at scene) c.self.inside.relations c.loop-left.rejected c.loop-left.left c.split_first-r.result.0 c.split_first-r.result.1 (bit_not w64 c.row_of-row.result) c.split_first-r.ensures
+          (λ y low. is_one-not c.row_of-row.result y c.row_of-row.type_inv (let few = c.requires.lawful.few_values in omega arith) ∙ ap not (c.row_of-row.ensures y low)) c.loop-left.invariant.rejects;
     }
 
 pub returns-then-self : goal.returns-then-self

@@ -1,12 +1,13 @@
 use Rattle.std.proofs.Common.{ℕ, List, Option, Some, None, replicate, length, take, get_or, sym, ◌∙◌, ap, subst, arith}
 use Rattle.std.specs.Prelude.{slice_set}
 use Rattle.std.proofs.lemmas.List.{take_all}
-use Rattle.assign.specs.Assignment.{assigned, IsAssignment}
-use Rattle.language.specs.Language.{variable_count, scope_at}
+use Rattle.assign.specs.Assignment.{assigned}
+use Rattle.language.specs.Language.{variable_count, scope_at, IsQuestion}
+use Rattle.language.proofs.Ranged.{split_is_question}
 use Rattle.find_c.specs.Run.{Run}
 use Rattle.find_c.proofs.Lawful.{scope_is}
 use Rattle.find_c.proofs.Replies.{run_tuple}
-use Rattle.find_c.proofs.Filling.{assigned_blank, length-assigned, assigned_more, assigned_fits}
+use Rattle.find_c.proofs.Filling.{assigned_blank, length-assigned, assigned_more}
 use Rattle.find_c.proofs.run.RelRun.wants.Goals as goal
 
 pub loop-i-init : goal.loop-i-init
@@ -43,8 +44,9 @@ returns-clause-is c =
 
 pub returns-clause-fits : goal.returns-clause-fits
 returns-clause-fits c =
+    let l = c.args.lang.now in
+    let run = c.args.self.now in
     let scope = ap length (c.scope-v-items.ensures.is ∙ ap (λ (run : Run). scope_at c.args.lang.now run.scope) c.self.view_is) in
-    let tuple = run_tuple c.args.lang.now c.n.ensures.lawful c.args.self.now c.requires in
-    subst (IsAssignment (variable_count c.args.lang.now) c.args.lang.now.value_count)
-    (sym (c.loop-i.invariant ∙ ap (assigned (variable_count c.args.lang.now) (scope_at c.args.lang.now c.args.self.now.scope)) (take_all c.loop-i.i c.args.self.now.tuple (omega (arith, scope, tuple.long)))))
-    (assigned_fits c.args.lang.now.value_count (variable_count c.args.lang.now) (scope_at c.args.lang.now c.args.self.now.scope) c.args.self.now.tuple tuple.values)
+    let tuple = run_tuple l c.n.ensures.lawful run c.requires in
+    subst (IsQuestion l) (sym (c.loop-i.invariant ∙ ap (assigned (variable_count l) (scope_at l run.scope)) (take_all c.loop-i.i run.tuple (omega (arith, scope, tuple.long)))))
+    (split_is_question l c.n.ensures.lawful run.scope c.requires.scope run.choices c.requires.choices run.tuple tuple.long tuple.values c.requires.tuple)
