@@ -1,20 +1,20 @@
 -- Alive prefixes: what they say of plain ones, their fronts, and the domains on the way down.
-use Rattle.std.proofs.Common.{◌≡◌, ℕ, ◌<◌, ◌≤◌, Bool, true, false, cond, ◌&&◌, not, List, [], ◌∷◌, ◌++◌, length, Option, Some, None, refl, sym, ◌∙◌, ap, subst, arith, inl, inr, ◌⊎◌}
-use Rattle.std.specs.Prelude.{◌==◌, slice_index_or, All, is_some, unwrap_or}
+use Rattle.std.proofs.Common.{◌≡◌, ℕ, ◌<◌, ◌≤◌, Bool, true, false, ◌&&◌, not, List, [], ◌∷◌, ◌++◌, length, Option, Some, None, refl, sym, ◌∙◌, ap, subst, arith, inl, inr, ◌⊎◌}
+use Rattle.std.specs.Prelude.{slice_index_or, All, is_some, unwrap_or}
 use Rattle.std.specs.Option.{ForSome}
 use Rattle.std.specs.List.{list_all}
 use Rattle.std.proofs.Math.ListN.{get_or-eq_default}
 use Rattle.std.proofs.lemmas.List.{get_or-map}
 use Rattle.std.proofs.lemmas.List.Elements.{All-head, All-tail, All-nil, All-cons, All-map}
-use Rattle.std.proofs.lemmas.List.FromFn.{length-map-range_with_len}
 use Rattle.std.proofs.lemmas.List.Sums.{AllPass-from_list_all, list_all-from_AllPass}
-use Rattle.std.proofs.lemmas.Bool.{and_parts, and_from, or_cases, both_ways, not-true, not_from_false, false_from_ne_true, cases_lt, eqb-true}
+use Rattle.std.proofs.lemmas.Bool.{and_parts, and_from, both_ways, not-true, not_from_false, false_from_ne_true, cases_lt}
 use Rattle.assign.specs.Sets.{numbers, has}
-use Rattle.assign.specs.Assignment.{Assignment, value_of, value_beside, assigned, covers, tuple_on, is_complete}
+use Rattle.assign.specs.Assignment.{Assignment, value_of, assigned, covers, tuple_on, is_complete}
 use Rattle.language.specs.declared.candidates.Candidate.{Candidate}
-use Rattle.language.specs.Language.{Language, IsLanguage, IsCandidate, variable_count, scope_of, accepts}
+use Rattle.language.specs.Ranges.{is_in}
+use Rattle.language.specs.Language.{Language, IsLanguage, IsCandidate, variable_count, range_of, is_ranged, scope_of, accepts}
+use Rattle.language.specs.Search.{are_ranged}
 use Rattle.language.proofs.Accepts.{accepted_at, accepted_from}
-use Rattle.language.proofs.Beside.{value_of_assigned}
 use Rattle.language.proofs.Lists.{all_below}
 use Rattle.propagators.specs.Allowed.{AreConstraints, satisfies_one, is_allowed}
 use Rattle.propagators.specs.Families.{Family, Arc, arc_of, arcs_of, is_not_empty, domain_of, left_by, sets_on, is_consistent, is_arc_consistent, has_family, IsSubfamily, IsLargest, largest}
@@ -24,9 +24,10 @@ use Rattle.propagators.proofs.Living.{full_above, largest_tells, largest_long}
 use Rattle.propagators.proofs.Replacing.{supported_through, through_supported, all_full}
 use Rattle.propagators.proofs.Rounds.{tells_more}
 use Rattle.fd_solver.specs.Outcomes.{is_alive_in}
-use Rattle.fd_solver.proofs.Left.{length-left, left_value, left_known, left_more, has_value}
+use Rattle.propagators.proofs.Filled.{value_there}
+use Rattle.fd_solver.proofs.Left.{length-left, left_at, left_only, left_own, some_member, left_more}
 use Rattle.language.proofs.Preorder.{PassesFronts}
-use Rattle.language.proofs.Fronts.{assigned_more}
+use Rattle.language.proofs.Fronts.{assigned_more, ranged_from}
 use Rattle.language.proofs.Orders.{covers_all}
 
 -- ---- what an assignment leaves
@@ -43,17 +44,9 @@ one_tuple l e f [] (x ∷ tuple) sub h within = absurd within
 one_tuple l e f (v ∷ scope) [] sub h within = absurd within
 one_tuple l e f (v ∷ scope) (x ∷ tuple) sub h within =
     let parts = and_parts (is_some (value_of e v)) (covers e scope) h in
-    let here = sub v x within.0 in
-    let same : unwrap_or (value_of e v) 0 ≡ x = only (unwrap_or (value_of e v) 0) (ap (λ xs. has xs x) (sym (left_value l e v (unwrap_or (value_of e v) 0) (left_known l e v x here) (known_one (value_of e v) parts.0))) ∙ here) in
+    let same = (left_only l e v (unwrap_or (value_of e v) 0) x (known_one (value_of e v) parts.0) (sub v x within.0)).0 in
     let rest = one_tuple l e f scope tuple sub parts.1 within.1 in
     λ i. sym same i ∷ rest i
-  where
-    only : (y : ℕ) → has (y ∷ []) x ≡ true → y ≡ x
-    only y h = go (or_cases (y == x) false h)
-      where
-        go : ((y == x) ≡ true) ⊎ (false ≡ true) → y ≡ x
-        go (inl same) = eqb-true y x same
-        go (inr never) = absurd (both_ways _ refl never)
 
 member_of_some : (xs : List ℕ) → is_not_empty xs ≡ true → (x : ℕ) × (has xs x ≡ true)
 member_of_some [] h = cc
@@ -130,6 +123,24 @@ module _ (l : Language) (lawful : IsLanguage l) (list : List Candidate) (against
           let both = and_parts (covers e (scope_of l c)) _ bad in
           both_ways _ (not-true _ (holds_at c false (known c refl) (ok c refl) both.0)) both.1)
 
+-- ---- alive is within the ranges
+
+pub family_is_ranged : (l : Language) (list : List Candidate) (against : Option Candidate) (e : Assignment) → has_family l list against e ≡ true → are_ranged l e ≡ true
+family_is_ranged l list against e h = ranged_from l e (λ v low. go v low (value_of e v) refl)
+  where
+    arcs : List Arc
+    arcs = arcs_of l list against
+
+    full : list_all is_not_empty (largest (arcs_of l list against) (left_by l e)) ≡ true
+    full = sym (largest_tells l list against e) ∙ h
+
+    go : (v : ℕ) → v < variable_count l → (o : Option ℕ) → value_of e v ≡ o → is_ranged l v o ≡ true
+    go v low None is = refl
+    go v low (Some x) is =
+        let one = member_of_some (slice_index_or (largest (arcs_of l list against) (left_by l e)) v []) (all_full (largest (arcs_of l list against) (left_by l e)) full v (let long = largest_long (arcs_of l list against) (left_by l e) ∙ length-left l e in omega arith)) in
+        let here = left_only l e v x one.0 is ((largest_is (arcs_of l list against) (left_by l e)).within v one.0 one.1) in
+        ap (is_in (range_of l v)) here.0 ∙ (value_there l v one.0 here.1).1
+
 -- ---- a complete assignment that is plain is alive
 
 -- the scope of a candidate, or of none
@@ -140,47 +151,54 @@ scope_small l lawful c = go (cases_lt c.scope (length l.scopes))
     go (inl low) = (lawful.scopes c.scope [] low).known
     go (inr high) = subst (All (λ v. v < variable_count l)) (sym (get_or-eq_default l.scopes [] {n = c.scope} high)) (All-nil (λ v. v < variable_count l))
 
-value_there : (e : Assignment) (v : ℕ) → is_complete e ≡ true → v < length e → value_of e v ≡ Some (unwrap_or (value_of e v) 0)
-value_there e v complete low = known_one (value_of e v) (AllPass-from_list_all is_some e complete v None low)
+value_at : (e : Assignment) (v : ℕ) → is_complete e ≡ true → v < length e → value_of e v ≡ Some (unwrap_or (value_of e v) 0)
+value_at e v complete low = known_one (value_of e v) (AllPass-from_list_all is_some e complete v None low)
 
-within_own : (l : Language) (e : Assignment) (scope : List ℕ) → length e ≡ variable_count l → is_complete e ≡ true → All (λ v. v < length e) scope → IsWithin (sets_on (left_by l e) scope) (tuple_on e scope)
-within_own l e [] long complete small = tt
-within_own l e (v ∷ scope) long complete small = (
-  ap (λ xs. has xs (unwrap_or (value_of e v) 0)) (left_value l e v (unwrap_or (value_of e v) 0) (let low = All-head (λ v. v < length e) v scope small in omega arith) (value_there e v complete (All-head (λ v. v < length e) v scope small))) ∙ has_head (unwrap_or (value_of e v) 0) [],
-  within_own l e scope long complete (All-tail (λ v. v < length e) v scope small),
+-- an assignment that gives each variable one of its values
+record IsOwn (l : Language) (e : Assignment) : Type 0 where
+  lawful : IsLanguage l
+  long : length e ≡ variable_count l
+  complete : is_complete e ≡ true
+  ranged : are_ranged l e ≡ true
+
+within_own : (l : Language) (e : Assignment) (scope : List ℕ) → IsOwn l e → All (λ v. v < length e) scope → IsWithin (sets_on (left_by l e) scope) (tuple_on e scope)
+within_own l e [] own small = tt
+within_own l e (v ∷ scope) own small = (
+  (let below = All-head (λ v. v < length e) v scope small in
+      left_own l own.lawful e v (unwrap_or (value_of e v) 0) (let long = own.long in omega arith) (value_at e v own.complete below) own.ranged),
+  within_own l e scope own (All-tail (λ v. v < length e) v scope small),
 )
 
-consistent_own : (l : Language) (e : Assignment) (a : Arc) → length e ≡ variable_count l → is_complete e ≡ true → All (λ v. v < length e) a.scope → a.accepted (tuple_on e a.scope) ≡ true → is_consistent (left_by l e) a.scope a.accepted ≡ true
-consistent_own l e a long complete small at = consistent a (left_by l e) (record {
+consistent_own : (l : Language) (e : Assignment) (a : Arc) → IsOwn l e → All (λ v. v < length e) a.scope → a.accepted (tuple_on e a.scope) ≡ true → is_consistent (left_by l e) a.scope a.accepted ≡ true
+consistent_own l e a own small at = consistent a (left_by l e) (record {
   at = λ i x low h.
       let v : ℕ = slice_index_or a.scope i 0 in
       let below = small i 0 low in
-      let value = value_there e v complete below in
+      let value = value_at e v own.complete below in
       through_supported (sets_on (left_by l e) a.scope) a.accepted i x (record {
         tuple = tuple_on e a.scope;
-        within = within_own l e a.scope long complete small;
-        at = get_or-map (λ (v : ℕ). unwrap_or (value_of e v) 0) a.scope i 0 0 low ∙ only (unwrap_or (value_of e v) 0) x (ap (λ xs. has xs x) (sym (left_value l e v (unwrap_or (value_of e v) 0) (let size = long in omega arith) value)) ∙ h);
+        within = within_own l e a.scope own small;
+        at = get_or-map (λ (v : ℕ). unwrap_or (value_of e v) 0) a.scope i 0 0 low ∙ (left_only l e v (unwrap_or (value_of e v) 0) x value h).0;
         is = at;
       });
 })
-  where
-    only : (y x : ℕ) → has (y ∷ []) x ≡ true → y ≡ x
-    only y x h = go (or_cases (y == x) false h)
-      where
-        go : ((y == x) ≡ true) ⊎ (false ≡ true) → y ≡ x
-        go (inl same) = eqb-true y x same
-        go (inr never) = absurd (both_ways _ refl never)
 
-own_full : (l : Language) (e : Assignment) → length e ≡ variable_count l → is_complete e ≡ true → list_all is_not_empty (left_by l e) ≡ true
-own_full l e long complete = list_all-from_AllPass is_not_empty (left_by l e) (All-map (λ xs. is_not_empty xs ≡ true) (λ v. domain_of l v (value_of e v)) (numbers (variable_count l))
-    (all_below (λ v. is_not_empty (domain_of l v (value_of e v)) ≡ true) (variable_count l) (λ v low. ap (λ o. is_not_empty (domain_of l v o)) (value_there e v complete (omega arith)))))
+own_full : (l : Language) (e : Assignment) → IsOwn l e → list_all is_not_empty (left_by l e) ≡ true
+own_full l e own = list_all-from_AllPass is_not_empty (left_by l e) (All-map (λ xs. is_not_empty xs ≡ true) (λ v. domain_of l v (value_of e v)) (numbers (variable_count l))
+    (all_below (λ v. is_not_empty (domain_of l v (value_of e v)) ≡ true) (variable_count l) (λ v low.
+    some_member (domain_of l v (value_of e v)) (unwrap_or (value_of e v) 0)
+    (ap (λ xs. has xs (unwrap_or (value_of e v) 0)) (sym (left_at l e v low))
+    ∙ left_own l own.lawful e v (unwrap_or (value_of e v) 0) low (value_at e v own.complete (let long = own.long in omega arith)) own.ranged))))
 
-pub whole_has_family : (l : Language) → IsLanguage l → (list : List Candidate) (against : Option Candidate) (e : Assignment) → length e ≡ variable_count l → is_complete e ≡ true → is_allowed l list against e ≡ true → has_family l list against e ≡ true
-whole_has_family l lawful list against e long complete plain =
+pub whole_has_family : (l : Language) → IsLanguage l → (list : List Candidate) (against : Option Candidate) (e : Assignment) → length e ≡ variable_count l → is_complete e ≡ true → are_ranged l e ≡ true → is_allowed l list against e ≡ true → has_family l list against e ≡ true
+whole_has_family l lawful list against e long complete ranged plain =
     largest_tells l list against e
     ∙ full_above (left_by l e) (largest arcs (left_by l e)) (sym (largest_long arcs (left_by l e)))
-    ((largest_is arcs (left_by l e)).greatest (left_by l e) (λ v x h. h) own) (own_full l e long complete)
+    ((largest_is arcs (left_by l e)).greatest (left_by l e) (λ v x h. h) own) (own_full l e is_own)
   where
+    is_own : IsOwn l e
+    is_own = record { lawful = lawful; long = long; complete = complete; ranged = ranged }
+
     arcs : List Arc
     arcs = arcs_of l list against
 
@@ -203,11 +221,11 @@ whole_has_family l lawful list against e long complete plain =
     last : (o : Option Candidate) → not (satisfies_one l o e) ≡ true → ForSome o (λ c. is_consistent (left_by l e) (scope_of l c) (arc_of l c false).accepted ≡ true)
     last None h = λ c is. (let never : ⊥ = cc in absurd never)
     last (Some b) h = λ c is. (let same : b ≡ c = cc in subst (λ (c : Candidate). is_consistent (left_by l e) (scope_of l c) (arc_of l c false).accepted ≡ true) same
-        (consistent_own l e (arc_of l b false) long complete (small b) (failing (covers e (scope_of l b)) _ (covers_all e (scope_of l b) complete (small b)) (not-true _ h))))
+        (consistent_own l e (arc_of l b false) is_own (small b) (failing (covers e (scope_of l b)) _ (covers_all e (scope_of l b) complete (small b)) (not-true _ h))))
 
     own : is_arc_consistent (arcs_of l list against) (left_by l e) ≡ true
     own = arcs_from l list against (left_by l e)
-        (λ k d low. consistent_own l e (arc_of l (slice_index_or list k d) true) long complete (small (slice_index_or list k d))
+        (λ k d low. consistent_own l e (arc_of l (slice_index_or list k d) true) is_own (small (slice_index_or list k d))
         (holding (covers e (scope_of l (slice_index_or list k d))) _ (covers_all e (scope_of l (slice_index_or list k d)) complete (small (slice_index_or list k d))) (accepted_at l list e parts.0 k d low)))
         (last against parts.1)
 
@@ -230,30 +248,11 @@ family_of_fewer l network more c e h =
 
 -- ---- fronts
 
-beside_small : (d : ℕ) (vars p : List ℕ) (v x : ℕ) → All (λ y. y < d) p → value_beside vars p v ≡ Some x → x < d
-beside_small d [] p v x small h = cc
-beside_small d (w ∷ vars) [] v x small h = cc
-beside_small d (w ∷ vars) (y ∷ p) v x small h = go (w == v) h (beside_small d vars p v x (All-tail (λ z. z < d) y p small))
-  where
-    go : (b : Bool) → cond b (Some y) (value_beside vars p v) ≡ Some x → (value_beside vars p v ≡ Some x → x < d) → x < d
-    go true h rest = let same : y ≡ x = cc in subst (λ z. z < d) same (All-head (λ z. z < d) y p small)
-    go false h rest = rest h
-
-assigned_small : (d n : ℕ) (vars p : List ℕ) → All (λ y. y < d) p → (v x : ℕ) → value_of (assigned n vars p) v ≡ Some x → x < d
-assigned_small d n vars p small v x h = go (cases_lt v n)
-  where
-    go : (v < n) ⊎ (n ≤ v) → x < d
-    go (inl low) = beside_small d vars p v x small (sym (value_of_assigned n vars p v low) ∙ h)
-    go (inr high) = absurd (none_some (sym (get_or-eq_default (assigned n vars p) None {n = v} (omega (arith, length-map-range_with_len (value_beside vars p) 0 n))) ∙ h))
-      where
-        none_some : None ≡ Some x → ⊥
-        none_some e = cc
-
 pub alive_fronts : (l : Language) (list : List Candidate) (against : Option Candidate) (order : List ℕ) → PassesFronts l.value_count (is_alive_in l list against order)
 alive_fronts l list against order = λ p q small h.
     let n : ℕ = variable_count l in
     let left : (r : List ℕ) → length (left_by l (assigned (variable_count l) order r)) ≡ variable_count l = λ r. length-left l (assigned (variable_count l) order r) in
     largest_tells l list against (assigned (variable_count l) order p)
     ∙ tells_more (arcs_of l list against) (left_by l (assigned (variable_count l) order (p ++ q))) (left_by l (assigned (variable_count l) order p)) (left (p ++ q) ∙ sym (left p))
-    (left_more l (assigned (variable_count l) order p) (assigned (variable_count l) order (p ++ q)) (assigned_more (variable_count l) order p q) (λ v x h. has_value l v x (assigned_small l.value_count (variable_count l) order (p ++ q) small v x h)))
+    (left_more l (assigned (variable_count l) order p) (assigned (variable_count l) order (p ++ q)) (assigned_more (variable_count l) order p q))
     (sym (largest_tells l list against (assigned (variable_count l) order (p ++ q))) ∙ h)

@@ -1,16 +1,20 @@
 -- What an assignment leaves to the variables.
-use Rattle.std.proofs.Common.{◌≡◌, ℕ, zero, suc, ◌<◌, ◌≤◌, true, false, List, [], ◌∷◌, length, map, replicate, Option, Some, None, refl, sym, ◌∙◌, ap, subst, arith, inl, inr, ◌⊎◌}
-use Rattle.std.specs.Prelude.{◌==◌, slice_index_or}
+use Rattle.std.proofs.Common.{◌≡◌, ℕ, zero, suc, ◌<◌, ◌≤◌, true, List, [], ◌∷◌, length, map, replicate, Option, Some, None, refl, sym, ◌∙◌, ap, subst, arith, inl, inr, ◌⊎◌}
+use Rattle.std.specs.Prelude.{◌==◌, slice_index_or, nat_le}
+use Rattle.std.specs.List.{filter}
 use Rattle.std.proofs.Math.ListN.{get_or-eq_default}
 use Rattle.std.proofs.lemmas.List.FromFn.{length-map-range_with_len, get_or-map-range_with_len}
-use Rattle.std.proofs.lemmas.Bool.{or_cases, both_ways, cases_lt, eq-eqb, eqb-true}
+use Rattle.std.proofs.lemmas.Bool.{and_parts, and_from, both_ways, cases_lt, eq-eqb, eqb-true, leb-true}
 use Rattle.assign.specs.Sets.{numbers, has}
 use Rattle.assign.specs.Assignment.{Assignment, value_of, value_beside, assigned}
-use Rattle.language.specs.Language.{Language, variable_count, values_of}
+use Rattle.language.specs.Ranges.{is_in}
+use Rattle.language.specs.Language.{Language, IsLanguage, variable_count, range_of, values_of, is_ranged}
+use Rattle.language.specs.Search.{are_ranged}
 use Rattle.language.proofs.Beside.{value_of_assigned}
-use Rattle.language.proofs.Fronts.{HasMore}
+use Rattle.language.proofs.Fronts.{HasMore, ranged_at}
 use Rattle.language.proofs.Members.{any_number}
-use Rattle.propagators.specs.Families.{domain_of, left_by, IsSubfamily}
+use Rattle.propagators.specs.Families.{domain_of, left_by, is_not_empty, IsSubfamily}
+use Rattle.propagators.proofs.Ones.{has-filter}
 
 pub length-left : (l : Language) (e : Assignment) → length (left_by l e) ≡ variable_count l
 length-left l e = length-map-range_with_len (λ v. domain_of l v (value_of e v)) 0 (variable_count l)
@@ -29,34 +33,51 @@ left_known l e v x h = go (cases_lt v (variable_count l))
     go (inl low) = low
     go (inr high) = absurd (both_ways _ refl (sym (ap (λ xs. has xs x) (left_past l e v high)) ∙ h))
 
--- its one value, where it has one
-pub left_value : (l : Language) (e : Assignment) (v x : ℕ) → v < variable_count l → value_of e v ≡ Some x → slice_index_or (left_by l e) v [] ≡ x ∷ []
+-- of its values the one that it has
+pub left_value : (l : Language) (e : Assignment) (v x : ℕ) → v < variable_count l → value_of e v ≡ Some x → slice_index_or (left_by l e) v [] ≡ filter (λ y. x == y) (values_of l v)
 left_value l e v x low h = left_at l e v low ∙ ap (domain_of l v) h
+
+-- no other value is left to it
+pub left_only : (l : Language) (e : Assignment) (v x y : ℕ) → value_of e v ≡ Some x → has (slice_index_or (left_by l e) v []) y ≡ true → (x ≡ y) × (has (values_of l v) y ≡ true)
+left_only l e v x y is h =
+    let here : has (filter (λ z. x == z) (values_of l v)) y ≡ true = ap (λ xs. has xs y) (sym (left_value l e v x (left_known l e v y h) is)) ∙ h in
+    let parts = and_parts (has (values_of l v) y) (x == y) (sym (has-filter (λ z. x == z) (values_of l v) y) ∙ here) in
+    (eqb-true x y parts.1, parts.0)
+
+-- values in a variable's range are its values
+pub has_value : (l : Language) → IsLanguage l → (v x : ℕ) → v < variable_count l → is_in (range_of l v) x ≡ true → has (values_of l v) x ≡ true
+has_value l lawful v x low h =
+    let bounds = and_parts (nat_le (range_of l v).first x) (nat_le x (range_of l v).last) h in
+    let last = leb-true x (range_of l v).last bounds.1 in
+    let known = (lawful.ranges v (record { first = 0; last = 63 }) (let many = lawful.ranged in omega arith)).known in
+    has-filter (is_in (range_of l v)) (numbers l.value_count) x ∙ and_from _ _ (any_number (λ y. y == x) l.value_count x (omega arith) (eq-eqb x x refl)) h
+
+-- its value is left to it, where it is one of its own
+pub left_own : (l : Language) → IsLanguage l → (e : Assignment) (v x : ℕ) → v < variable_count l → value_of e v ≡ Some x → are_ranged l e ≡ true → has (slice_index_or (left_by l e) v []) x ≡ true
+left_own l lawful e v x low is ranged =
+    ap (λ xs. has xs x) (left_value l e v x low is) ∙ has-filter (λ y. x == y) (values_of l v) x
+    ∙ and_from _ _ (has_value l lawful v x low (ap (is_ranged l v) (sym is) ∙ ranged_at l e ranged v low)) (eq-eqb x x refl)
+
+pub some_member : (xs : List ℕ) (x : ℕ) → has xs x ≡ true → is_not_empty xs ≡ true
+some_member [] x h = cc
+some_member (y ∷ xs) x h = refl
 
 -- what is left by the values of some variables in their order
 pub left_beside : (l : Language) (order p : List ℕ) (v : ℕ) → v < variable_count l → slice_index_or (left_by l (assigned (variable_count l) order p)) v [] ≡ domain_of l v (value_beside order p v)
 left_beside l order p v low = left_at l (assigned (variable_count l) order p) v low ∙ ap (domain_of l v) (value_of_assigned (variable_count l) order p v low)
 
 -- where e has fewer values than f, it leaves more
-pub left_more : (l : Language) (e f : Assignment) → HasMore e f → ((v x : ℕ) → value_of f v ≡ Some x → has (values_of l v) x ≡ true) → IsSubfamily (left_by l f) (left_by l e)
-left_more l e f more fits v x h = ap (λ xs. has xs x) (left_at l e v low) ∙ go (value_of e v) (value_of f v) (more v) (fits v) (sym (ap (λ xs. has xs x) (left_at l f v low)) ∙ h)
+pub left_more : (l : Language) (e f : Assignment) → HasMore e f → IsSubfamily (left_by l f) (left_by l e)
+left_more l e f more v x h = ap (λ xs. has xs x) (left_at l e v low) ∙ go (value_of e v) (value_of f v) (more v) (sym (ap (λ xs. has xs x) (left_at l f v low)) ∙ h)
   where
     low : v < variable_count l
     low = left_known l f v x h
 
-    go : (o u : Option ℕ) → ((y : ℕ) → o ≡ Some y → u ≡ Some y) → ((y : ℕ) → u ≡ Some y → has (values_of l v) y ≡ true) → has (domain_of l v u) x ≡ true → has (domain_of l v o) x ≡ true
-    go None None more fits h = h
-    go None (Some y) more fits h = one (or_cases (y == x) false h)
-      where
-        one : ((y == x) ≡ true) ⊎ (false ≡ true) → has (values_of l v) x ≡ true
-        one (inl same) = subst (λ (z : ℕ). has (values_of l v) z ≡ true) (eqb-true y x same) (fits y refl)
-        one (inr never) = absurd (both_ways _ refl never)
-    go (Some y) None more fits h = absurd (let never : None ≡ Some y = more y refl in let is : ⊥ = cc in is)
-    go (Some y) (Some z) more fits h = (let same : Some z ≡ Some y = more y refl in subst (λ (o : Option ℕ). has (domain_of l v o) x ≡ true) same h)
-
--- each value below the number of values is one of a variable
-pub has_value : (l : Language) (v x : ℕ) → x < l.value_count → has (values_of l v) x ≡ true
-has_value l v x low = any_number (λ y. y == x) l.value_count x low (eq-eqb x x refl)
+    go : (o u : Option ℕ) → ((y : ℕ) → o ≡ Some y → u ≡ Some y) → has (domain_of l v u) x ≡ true → has (domain_of l v o) x ≡ true
+    go None None more h = h
+    go None (Some y) more h = (and_parts (has (values_of l v) x) (y == x) (sym (has-filter (λ z. y == z) (values_of l v) x) ∙ h)).0
+    go (Some y) None more h = absurd (let never : None ≡ Some y = more y refl in let is : ⊥ = cc in is)
+    go (Some y) (Some z) more h = (let same : Some z ≡ Some y = more y refl in subst (λ (o : Option ℕ). has (domain_of l v o) x ≡ true) same h)
 
 -- with no value at all each variable has all of its own
 pub left_none : (l : Language) → left_by l (replicate (variable_count l) None) ≡ map (values_of l) (numbers (variable_count l))

@@ -5,7 +5,7 @@ use Rattle.std.specs.List.{list_all, filter}
 use Rattle.std.proofs.Math.ListN.{length-set}
 use Rattle.std.proofs.lemmas.List.{get_or-set_same, get_or-set_other, set-get_or, take_all}
 use Rattle.std.proofs.lemmas.List.Sums.{AllPass-from_list_all}
-use Rattle.std.proofs.lemmas.Bool.{and_from, or_left, or_right, or_cases, both_ways, eqb-true, cases_eq, cases_lt, eq-eqb, ne_eqb}
+use Rattle.std.proofs.lemmas.Bool.{and_from, or_left, or_right, both_ways, cases_eq, cases_lt, eq-eqb, ne_eqb}
 use Rattle.assign.specs.Sets.{numbers, has, with_member}
 use Rattle.assign.specs.Assignment.{value_beside, assigned}
 use Rattle.language.specs.declared.candidates.Candidate.{Candidate}
@@ -24,7 +24,7 @@ use Rattle.propagators.proofs.Cutting.{not_with}
 use Rattle.propagators.proofs.Conditions.{arcs_small}
 use Rattle.fd_solver.specs.Outcomes.{IsOrder, is_alive_in}
 use Rattle.fd_solver.specs.Ready.{IsReady, AreReady, fixed}
-use Rattle.fd_solver.proofs.Left.{length-left, left_beside, left_past, has_value, left_none}
+use Rattle.fd_solver.proofs.Left.{length-left, left_beside, left_past, some_member, left_none}
 use Rattle.language.proofs.Filling.{beside_next, beside_push, next_known}
 
 -- ---- one value alone
@@ -42,10 +42,6 @@ fixed_within f v x low w y h = go (cases_eq v w)
     go (inl same) = ap (λ u. has (slice_index_or f u []) y) (sym same)
         ∙ (filter_has (λ z. x == z) (slice_index_or f v []) y (sym (ap (λ ys. has ys y) (fixed_same f v x low)) ∙ ap (λ u. has (slice_index_or (fixed f v x) u []) y) same ∙ h)).0
     go (inr other) = ap (λ ys. has ys y) (sym (fixed_other f v x w other)) ∙ h
-
-some_member : (xs : List ℕ) (x : ℕ) → has xs x ≡ true → is_not_empty xs ≡ true
-some_member [] x h = cc
-some_member (y ∷ xs) x h = refl
 
 pub fixed_full : (f : Family) (v x : ℕ) → v < length f → has (slice_index_or f v []) x ≡ true → list_all is_not_empty f ≡ true → list_all is_not_empty (fixed f v x) ≡ true
 fixed_full f v x low there full = full_from (fixed f v x) (λ w below. go w (let long = length-set f v (filter (λ y. x == y) (slice_index_or f v [])) in let h : w < length f = omega arith in h) (cases_eq v w))
@@ -96,7 +92,7 @@ fixed_settled l list against f v x lawful are ok = λ k a low none.
 -- ---- below a prefix
 
 module _ (l : Language) (list : List Candidate) (against : Option Candidate) (order : List ℕ) (is : IsOrder (variable_count l) order) (lawful : IsLanguage l) (are : AreConstraints l list against)
-    (p : List ℕ) (x : ℕ) (f : Family) (short : length p < variable_count l) (value : x < l.value_count) (ready : IsReady l list against (assigned (variable_count l) order p) f) where
+    (p : List ℕ) (x : ℕ) (f : Family) (short : length p < variable_count l) (ready : IsReady l list against (assigned (variable_count l) order p) f) where
   abbrev n : ℕ
   n = variable_count l
 
@@ -118,7 +114,7 @@ module _ (l : Language) (list : List Candidate) (against : Option Candidate) (or
   beside_at : (w : ℕ) → value_beside order (p ++ x ∷ []) w ≡ cond (slice_index_or order (length p) 0 == w) (Some x) (value_beside order p w)
   beside_at w = beside_push order p x w is.different (let size = is.size in omega arith)
 
-  new_there : slice_index_or (left_by l (assigned (variable_count l) order (p ++ x ∷ []))) (slice_index_or order (length p) 0) [] ≡ x ∷ []
+  new_there : slice_index_or (left_by l (assigned (variable_count l) order (p ++ x ∷ []))) (slice_index_or order (length p) 0) [] ≡ filter (λ y. x == y) (values_of l (slice_index_or order (length p) 0))
   new_there = left_beside l order (p ++ x ∷ []) (slice_index_or order (length p) 0) known
       ∙ ap (domain_of l (slice_index_or order (length p) 0)) (beside_at (slice_index_or order (length p) 0) ∙ ap (λ b. cond b (Some x) (value_beside order p (slice_index_or order (length p) 0))) (eq-eqb (slice_index_or order (length p) 0) _ refl))
 
@@ -137,18 +133,11 @@ module _ (l : Language) (list : List Candidate) (against : Option Candidate) (or
   new_within : IsSubfamily (left_by l (assigned (variable_count l) order (p ++ x ∷ []))) (left_by l (assigned (variable_count l) order p))
   new_within w y h = go (cases_eq (slice_index_or order (length p) 0) w)
     where
-      one : has (x ∷ []) y ≡ true → x ≡ y
-      one h = pick (or_cases (x == y) false h)
-        where
-          pick : ((x == y) ≡ true) ⊎ (false ≡ true) → x ≡ y
-          pick (inl same) = eqb-true x y same
-          pick (inr never) = absurd (both_ways _ refl never)
-
       go : (slice_index_or order (length p) 0 ≡ w) ⊎ (slice_index_or order (length p) 0 ≢ w) → has (slice_index_or (left_by l (assigned (variable_count l) order p)) w []) y ≡ true
       go (inl same) =
-          let at : has (x ∷ []) y ≡ true = ap (λ ys. has ys y) (sym new_there) ∙ ap (λ u. has (slice_index_or (left_by l (assigned (variable_count l) order (p ++ x ∷ []))) u []) y) same ∙ h in
+          let at : has (filter (λ z. x == z) (values_of l (slice_index_or order (length p) 0))) y ≡ true = ap (λ ys. has ys y) (sym new_there) ∙ ap (λ u. has (slice_index_or (left_by l (assigned (variable_count l) order (p ++ x ∷ []))) u []) y) same ∙ h in
           ap (λ u. has (slice_index_or (left_by l (assigned (variable_count l) order p)) u []) y) (sym same) ∙ ap (λ ys. has ys y) old_there
-          ∙ has_value l (slice_index_or order (length p) 0) y (subst (λ (z : ℕ). z < l.value_count) (one at) value)
+          ∙ (filter_has (λ z. x == z) (values_of l (slice_index_or order (length p) 0)) y at).0
       go (inr other) = ap (λ ys. has ys y) (sym (new_other w other)) ∙ h
 
   both_are : (w y : ℕ) → has (slice_index_or (fixed f (slice_index_or order (length p) 0) x) w []) y ≡ (has (slice_index_or (left_by l (assigned (variable_count l) order (p ++ x ∷ []))) w []) y && has (slice_index_or f w []) y)
@@ -160,9 +149,9 @@ module _ (l : Language) (list : List Candidate) (against : Option Candidate) (or
       turned false true = refl
       turned false false = refl
 
-      or_none : (b : Bool) → (b || false) ≡ b
-      or_none true = refl
-      or_none false = refl
+      within : (own all same : Bool) → (own ≡ true → all ≡ true) → (own && same) ≡ ((all && same) && own)
+      within true all same h = rw (h refl) (turned true same)
+      within false all same h = sym (turned (all && same) false)
 
       inside : (a b : Bool) → (b ≡ true → a ≡ true) → b ≡ (a && b)
       inside a true h = sym (ap (λ c. c && true) (h refl))
@@ -173,8 +162,10 @@ module _ (l : Language) (list : List Candidate) (against : Option Candidate) (or
           has (slice_index_or (fixed f (slice_index_or order (length p) 0) x) w []) y ≡ (has (slice_index_or (left_by l (assigned (variable_count l) order (p ++ x ∷ []))) w []) y && has (slice_index_or f w []) y)
       go (inl same) = subst (λ (u : ℕ). has (slice_index_or (fixed f (slice_index_or order (length p) 0) x) u []) y ≡ (has (slice_index_or (left_by l (assigned (variable_count l) order (p ++ x ∷ []))) u []) y && has (slice_index_or f u []) y)) same
           (ap (λ ys. has ys y) (fixed_same f (slice_index_or order (length p) 0) x known_in) ∙ has-filter (λ z. x == z) (slice_index_or f (slice_index_or order (length p) 0) []) y
-          ∙ turned (has (slice_index_or f (slice_index_or order (length p) 0) []) y) (x == y)
-          ∙ sym (ap (λ b. b && has (slice_index_or f (slice_index_or order (length p) 0) []) y) (ap (λ ys. has ys y) new_there ∙ or_none (x == y))))
+          ∙ within (has (slice_index_or f (slice_index_or order (length p) 0) []) y) (has (values_of l (slice_index_or order (length p) 0)) y) (x == y)
+          (λ h. ap (λ ys. has ys y) (sym old_there) ∙ ready.largest.within (slice_index_or order (length p) 0) y h)
+          ∙ sym (ap (λ b. b && has (slice_index_or f (slice_index_or order (length p) 0) []) y)
+          (ap (λ ys. has ys y) new_there ∙ has-filter (λ z. x == z) (values_of l (slice_index_or order (length p) 0)) y)))
       go (inr other) = ap (λ ys. has ys y) (fixed_other f (slice_index_or order (length p) 0) x w other)
           ∙ inside _ (has (slice_index_or f w []) y) (λ h. ap (λ ys. has ys y) (new_other w other) ∙ ready.largest.within w y h)
 

@@ -10,12 +10,12 @@ use Rattle.assign.specs.Assignment.{Assignment, assigned, value_beside, tuple_on
 use Rattle.language.specs.declared.candidates.Candidate.{Candidate}
 use Rattle.language.specs.Language.{Language, IsLanguage, IsCandidate, IsImplied, IsQuestion, variable_count, scope_of, violates, accepts}
 use Rattle.language.specs.Answers.{IsNetwork}
-use Rattle.language.specs.Search.{order_of, prefixes, assignment_of, satisfies, is_plain}
+use Rattle.language.specs.Search.{order_of, prefixes, assignment_of, satisfies, are_ranged, is_plain}
 use Rattle.language.proofs.Members.{any-filter, find_none, find_some}
 use Rattle.language.proofs.Beside.{tuple_fits}
 use Rattle.language.proofs.Lists.{find_all, any_weaker, find_nothing, fewer_pass}
 use Rattle.language.proofs.Preorder.{prefixes_small}
-use Rattle.language.proofs.Filling.{assigned_fits}
+use Rattle.language.proofs.Filling.{question_there}
 use Rattle.language.proofs.Orders.{order_small, whole_prefix, covers_all}
 use Rattle.language.proofs.Plain.{any_prefix, length-tuple_on, scope_small, long_order, lets_plain, complete_there, violated_there}
 use Rattle.language.proofs.Plain as plain
@@ -24,7 +24,7 @@ use Rattle.fd_solver.specs.Outcomes.{outcome_from, outcome_by, is_alive, alive_w
 use Rattle.fd_solver.specs.Laws.{AbsentIsImplied, SpentIsLong, PlainIsLess, IsQuestionAgainst, FoundIsLawful, AbsentStays, AliveIsPlain, AliveIsAllowed, WholeIsAlive}
 use Rattle.propagators.specs.Allowed.{AreConstraints}
 use Rattle.propagators.specs.Families.{has_family}
-use Rattle.fd_solver.proofs.Alive.{family_is_plain, whole_has_family, family_of_fewer}
+use Rattle.fd_solver.proofs.Alive.{family_is_plain, family_is_ranged, whole_has_family, family_of_fewer}
 
 -- ---- outcomes by their members
 
@@ -82,7 +82,8 @@ alive_is_allowed l list against order prefix lawful are h =
     family_is_plain l lawful list against are (assigned (variable_count l) order prefix) (length-map-range_with_len (value_beside order prefix) 0 (variable_count l)) h
 
 pub alive_is_plain : AliveIsPlain
-alive_is_plain l network c prefix lawful legal is h = alive_is_allowed l network (Some c) (order_of l c) prefix lawful (constraints l network c legal is) h
+alive_is_plain l network c prefix lawful legal is h = and_from _ _ (family_is_ranged l network (Some c) (assignment_of l c prefix) h)
+    (alive_is_allowed l network (Some c) (order_of l c) prefix lawful (constraints l network c legal is) h)
 
 -- ---- a candidate of the language
 
@@ -94,8 +95,9 @@ module _ (l : Language) (lawful : IsLanguage l) (network : List Candidate) (c : 
   lets_alive e question complete accepted bad =
       let plain = lets_plain l lawful c is network e question complete accepted bad in
       let same = whole_prefix l c small e question.size complete in
+      let parts = and_parts (are_ranged l e) _ (subst (λ (x : Assignment). (are_ranged l x && (accepts l network x && not (satisfies l c x))) ≡ true) same plain) in
       subst (λ (x : Assignment). has_family l network (Some c) x ≡ true) (sym same)
-      (whole_has_family l lawful network (Some c) e question.size complete (subst (λ (x : Assignment). (accepts l network x && not (satisfies l c x)) ≡ true) same plain))
+      (whole_has_family l lawful network (Some c) e question.size complete parts.0 parts.1)
 
   implied_where_absent : (budget : ℕ) → outcome_of_candidate l network c budget ≡ Absent → IsImplied l network c
   implied_where_absent budget absent = λ e question complete accepted. false_from_ne_true _ (λ bad.
@@ -118,10 +120,11 @@ module _ (l : Language) (lawful : IsLanguage l) (network : List Candidate) (c : 
       let fits = find_all (All (λ x. x < l.value_count)) (λ p. length p == variable_count l) (take budget (alive_walk l network c)) was.0
       (All-take (All (λ x. x < l.value_count)) budget (alive_walk l network c) (All-filter (is_alive l network c) (All (λ x. x < l.value_count)) (prefixes l.value_count (variable_count l)) (prefixes_small l.value_count (variable_count l)))) was.1 in
       let plain : is_plain l network c was.0 ≡ true = alive_is_plain l network c was.0 lawful legal is passes in
-      let parts = and_parts (accepts l network (assignment_of l c was.0)) (not (satisfies l c (assignment_of l c was.0))) plain in
+      let ranged = and_parts (are_ranged l (assignment_of l c was.0)) _ plain in
+      let parts = and_parts (accepts l network (assignment_of l c was.0)) (not (satisfies l c (assignment_of l c was.0))) ranged.1 in
       let complete = complete_there l lawful c is was.0 long in
       subst (IsQuestionAgainst l network c) was.2 (record {
-        question = assigned_fits l.value_count (variable_count l) (order_of l c) was.0 fits;
+        question = question_there l (order_of l c) was.0 fits ranged.0;
         complete = complete;
         accepted = parts.0;
         violates = violated_there l lawful c is (assignment_of l c was.0) (length-map-range_with_len (value_beside (order_of l c) was.0) 0 (variable_count l)) complete parts.1;
@@ -152,6 +155,8 @@ pub whole_is_alive : WholeIsAlive
 whole_is_alive l network c prefix lawful legal is long = go (is_plain l network c prefix) refl
   where
     go : (b : Bool) → is_plain l network c prefix ≡ b → is_alive l network c prefix ≡ is_plain l network c prefix
-    go true plain = whole_has_family l lawful network (Some c) (assignment_of l c prefix)
-        (length-map-range_with_len (value_beside (order_of l c) prefix) 0 (variable_count l)) (complete_there l lawful c is prefix long) plain ∙ sym plain
+    go true plain =
+        let parts = and_parts (are_ranged l (assignment_of l c prefix)) _ plain in
+        whole_has_family l lawful network (Some c) (assignment_of l c prefix)
+        (length-map-range_with_len (value_beside (order_of l c) prefix) 0 (variable_count l)) (complete_there l lawful c is prefix long) parts.0 parts.1 ∙ sym plain
     go false plain = false_from_ne_true _ (λ h. both_ways _ plain (alive_is_plain l network c prefix lawful legal is h)) ∙ sym plain

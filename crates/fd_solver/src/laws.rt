@@ -32,7 +32,8 @@ pub fn absent_stays()
     ensures { AbsentStays }
 {}
 
-/// An alive prefix is plain: it violates nothing of the network and doesn't satisfy the candidate.
+/// An alive prefix is plain: its values are their variables', it violates nothing of the network and doesn't satisfy the
+/// candidate.
 pub fn alive_is_plain()
     ensures { AliveIsPlain }
 {}

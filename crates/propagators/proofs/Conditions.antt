@@ -5,10 +5,12 @@ use Rattle.std.specs.List.{list_any, fold}
 use Rattle.std.specs.Option.{option_map_or}
 use Rattle.std.proofs.lemmas.List.{length-take, length-map, get_or-map}
 use Rattle.std.proofs.lemmas.List.Elements.{All-nil, All-cons, All-head, All-append, All-map}
-use Rattle.std.proofs.lemmas.Bool.{or_left, both_ways, eq-eqb}
+use Rattle.std.proofs.lemmas.Bool.{and_from, or_left, both_ways, eq-eqb}
 use Rattle.assign.specs.Sets.{numbers, has, Rises}
+use Rattle.rel_table.specs.Relation.{holds}
 use Rattle.rel_table.specs.Table.{TruthTable}
 use Rattle.language.specs.declared.candidates.Candidate.{Candidate}
+use Rattle.language.specs.Ranges.{are_in}
 use Rattle.language.specs.Language.{Language, IsLanguage, IsCandidate, IsScope, variable_count, scope_of, relation_of}
 use Rattle.language.proofs.Members.{any_number}
 use Rattle.language.proofs.Beside.{scope_rises}
@@ -16,7 +18,7 @@ use Rattle.assign.proofs.Masks.{lacks}
 use Rattle.propagators.specs.Allowed.{AreConstraints}
 use Rattle.propagators.specs.Values.{ones_of}
 use Rattle.propagators.specs.Families.{Family, Arc, is_wanted, arc_of, arcs_of, sets_on, is_not_empty, IsSubfamily}
-use Rattle.propagators.specs.Supports.{AreSupported, continues, AreBelow, IsFamilyOf, AreSettled, AreDifferent, IsUnderway, IsRevised, IsDead, replaced}
+use Rattle.propagators.specs.Supports.{IsWithin, AreSupported, continues, AreBelow, IsFamilyOf, AreSettled, AreDifferent, IsUnderway, IsRevised, IsDead, replaced}
 use Rattle.propagators.proofs.Cutting.{sets_for, set_for}
 use Rattle.propagators.proofs.Replacing.{is_revised, is_dead, set_at, supported_within, member_of_some}
 
@@ -80,7 +82,23 @@ arcs_different l list against lawful are = All-append IsApart (map (λ c. arc_of
 -- ---- families
 
 pub family_within : (l : Language) (f g : Family) → length g ≡ length f → IsSubfamily g f → IsFamilyOf l f → IsFamilyOf l g
-family_within l f g long sub is = record { size = long ∙ is.size; values = λ v x h. is.values v x (sub v x h) }
+family_within l f g long sub is = record { size = long ∙ is.size; values = λ v x h. is.values v x (sub v x h); within = λ v x h. is.within v x (sub v x h) }
+
+-- a tuple within the sets of a scope is within the ranges
+tuple_in : (l : Language) (f : Family) → IsFamilyOf l f → (scope tuple : List ℕ) → IsWithin (sets_on f scope) tuple → (length tuple ≡ length scope) × (are_in l.ranges scope tuple ≡ true)
+tuple_in l f is [] [] h = (refl, refl)
+tuple_in l f is [] (x ∷ tuple) h = absurd h
+tuple_in l f is (v ∷ scope) [] h = absurd h
+tuple_in l f is (v ∷ scope) (x ∷ tuple) h =
+    let rest = tuple_in l f is scope tuple h.1 in
+    (ap suc rest.0, and_from _ _ (is.within v x h.0) rest.1)
+
+-- what says of the tuples within the sets the same supports the same values
+supported_as : (sets : List (List ℕ)) (p q : List ℕ → Bool) (found : List (List ℕ)) → ((tuple : List ℕ) → IsWithin sets tuple → p tuple ≡ q tuple) → AreSupported sets p found → AreSupported sets q found
+supported_as sets p q found same is = record {
+  all = λ tuple within at. is.all tuple within (same tuple within ∙ at);
+  only = λ i x h. (let t = is.only i x h in record { tuple = t.tuple; within = t.within; at = t.at; is = sym (same t.tuple t.within) ∙ t.is });
+}
 
 pub family_under : (l : Language) (arcs : List Arc) (f g : Family) → IsFamilyOf l f → IsUnderway arcs f g → IsFamilyOf l g
 family_under l arcs f g is to = family_within l f g to.size to.within is
@@ -88,17 +106,22 @@ family_under l arcs f g is to = family_within l f g to.size to.within is
 -- ---- a candidate's supported values
 
 module _ (l : Language) (c : Candidate) (holding : Bool) (table : TruthTable) (f : Family) (scope sets found : List ℕ) (at : scope ≡ scope_of l c) (on : take (length scope) (map ones_of sets) ≡ sets_on f scope) where
-  -- the table says of tuples what the condition does
-  accepts_as : table.value_count ≡ l.value_count → table.truth ≡ relation_of l c → continues table holding 0 ≡ (arc_of l c holding).accepted
-  accepts_as values truth = λ i tuple. is_wanted holding (slice_index_or (truth i) (fold (λ at x. at * (values i) + x) 0 tuple) false)
+  -- the table says of the tuples on the scope that are within the ranges what the relation does
+  abbrev Agrees : Type 0
+  Agrees = (tuple : List ℕ) → length tuple ≡ length (scope_of l c) → are_in l.ranges (scope_of l c) tuple ≡ true → holds l.value_count table.truth tuple ≡ holds l.value_count (relation_of l c) tuple
 
-  pub supported_here : table.arity ≡ length (scope_of l c) → table.value_count ≡ l.value_count → table.truth ≡ relation_of l c →
+  pub supported_here : table.arity ≡ length (scope_of l c) → table.value_count ≡ l.value_count → Agrees → IsFamilyOf l f →
       AreSupported (take table.arity (map ones_of sets)) (continues table holding 0) (take table.arity (map ones_of found)) → AreSupported (sets_on f (scope_of l c)) (arc_of l c holding).accepted (sets_for (scope_of l c) found)
-  supported_here arity values truth is =
+  supported_here arity values agrees family is =
       let long : table.arity ≡ length scope = arity ∙ ap length (sym at) in
-      subst (λ (s : List (List ℕ)). AreSupported (sets_on f (scope_of l c)) (arc_of l c holding).accepted s) (ap (λ n. take n (map ones_of found)) arity)
-      (subst (λ (accepted : List ℕ → Bool). AreSupported (sets_on f (scope_of l c)) accepted (take table.arity (map ones_of found))) (accepts_as values truth)
+      supported_as (sets_on f (scope_of l c)) (continues table holding 0) (arc_of l c holding).accepted (sets_for (scope_of l c) found) accepts_as
+      (subst (λ (s : List (List ℕ)). AreSupported (sets_on f (scope_of l c)) (continues table holding 0) s) (ap (λ n. take n (map ones_of found)) arity)
       (subst (λ (s : List (List ℕ)). AreSupported s (continues table holding 0) (take table.arity (map ones_of found))) (ap (λ n. take n (map ones_of sets)) long ∙ on ∙ ap (sets_on f) at) is))
+    where
+      accepts_as : (tuple : List ℕ) → IsWithin (sets_on f (scope_of l c)) tuple → continues table holding 0 tuple ≡ (arc_of l c holding).accepted tuple
+      accepts_as tuple within =
+          let there = tuple_in l f family (scope_of l c) tuple within in
+          ap (λ d. is_wanted holding (slice_index_or table.truth (fold (λ at x. at * d + x) 0 tuple) false)) values ∙ ap (is_wanted holding) (agrees tuple there.0 there.1)
 
   -- the sets hold values of the language
   pub sets_below : IsFamilyOf l f → (d n : ℕ) → d ≡ l.value_count → n ≡ length scope → All (λ s. AreBelow d (ones_of s)) (take n sets)

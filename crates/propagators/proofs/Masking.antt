@@ -5,15 +5,18 @@ use Rattle.std.specs.Int.{bit_at}
 use Rattle.std.proofs.lemmas.List.{get_or-set_same, get_or-set_other}
 use Rattle.std.proofs.lemmas.Bool.{both_ways, cases_eq, cases_lt, eq-eqb, eqb-true, ne_eqb, or_cases, and_parts}
 use Rattle.assign.specs.Sets.{has}
+use Rattle.rel_table.specs.Relation.{Relation}
 use Rattle.rel_table.specs.Table.{TruthTable, truth_at}
+use Rattle.language.specs.Language.{Language, IsLanguage, scope_at, relations_on}
+use Rattle.language.proofs.Alike.{whole_alike}
 use Rattle.propagators.specs.Values.{ones_of}
 use Rattle.propagators.specs.Families.{Arc, is_wanted}
 use Rattle.propagators.specs.Supports.{continues}
 use Rattle.propagators.specs.Loose.{IsLoose}
-use Rattle.propagators.specs.Pairs.{AreMasksOf, goes, AreRight}
+use Rattle.propagators.specs.Pairs.{AreMasksOf, goes, AreRight, AreRightOn, IsWholePair, pairs_of}
 use Rattle.propagators.specs.Briefs.{IsBriefOf, IsBriefIn}
 use Rattle.propagators.specs.declared.briefs.Brief.{Brief}
-use Rattle.propagators.specs.declared.briefs.Brief.TheVariants.{Two, Whole}
+use Rattle.propagators.specs.declared.briefs.Brief.TheVariants.{Two, Other}
 use Rattle.propagators.specs.declared.plan.PairMasks.{PairMasks}
 use Rattle.propagators.proofs.Ones.{ones_of-zero, has-ones_of}
 
@@ -146,34 +149,43 @@ learned of table rel old new is few known rows columns other_rows other_columns 
 -- ---- briefs
 
 -- more relations are known
-pub brief_more : (of : ℕ → TruthTable) (known more : ℕ) (a : Arc) (b : Brief) → ((r : ℕ) → has (ones_of known) r ≡ true → has (ones_of more) r ≡ true) → IsBriefIn of known a b → IsBriefIn of more a b
-brief_more of known more a (Two p) grows is = record { scope = is.scope; low = is.low; known = grows p.rel is.known; accepted = is.accepted; loose = is.loose }
-brief_more of known more a Whole grows is = tt
+pub brief_more : (l : Language) (known more : ℕ) (a : Arc) (b : Brief) → ((r : ℕ) → has (ones_of known) r ≡ true → has (ones_of more) r ≡ true) → IsBriefIn l known a b → IsBriefIn l more a b
+brief_more l known more a (Two p) grows is = record { on = is.on; whole = is.whole; scope = is.scope; low = is.low; known = grows p.rel is.known; accepted = is.accepted; loose = is.loose }
+brief_more l known more a Other grows is = tt
 
 -- with the masks of its relation
-pub brief_told : (of : ℕ → TruthTable) (d : ℕ) (m : PairMasks) (a : Arc) (b : Brief) → ((r : ℕ) → (of r).value_count ≡ d) → AreRight of m → IsBriefIn of m.known a b → IsBriefOf d m a b
-brief_told of d m a (Two p) count right is = record {
+pub brief_told : (l : Language) (m : PairMasks) (a : Arc) (b : Brief) → AreRightOn l m → IsBriefIn l m.known a b → IsBriefOf l.value_count m a b
+brief_told l m a (Two p) right is = record {
   scope = is.scope;
   low = is.low;
-  row = λ x y low few. accepts x y ∙ ap (is_wanted p.holding) (sym (right.rows p.rel is.known x y (let e = count p.rel in omega arith) (let e = count p.rel in omega arith)));
-  column = λ x y low few. accepts x y ∙ ap (is_wanted p.holding) (sym (right.columns p.rel is.known y x (let e = count p.rel in omega arith) (let e = count p.rel in omega arith)));
-  loose = λ h. subst (λ (accepted : List ℕ → Bool). IsLoose d accepted) (sym is.accepted) (subst (λ (k : ℕ). IsLoose k (continues (of p.rel) p.holding 0)) (count p.rel) (is.loose h));
+  row = λ x y low few. accepts x y ∙ ap (is_wanted p.holding) (sym ((right is.on is.whole).rows p.rel is.known x y low few));
+  column = λ x y low few. accepts x y ∙ ap (is_wanted p.holding) (sym ((right is.on is.whole).columns p.rel is.known y x few low));
+  loose = λ h. subst (λ (accepted : List ℕ → Bool). IsLoose l.value_count accepted) (sym is.accepted) (is.loose h);
 }
   where
-    accepts : (x y : ℕ) → a.accepted (x ∷ y ∷ []) ≡ is_wanted p.holding (goes (of p.rel) x y)
-    accepts x y = ap (λ (accepted : List ℕ → Bool). accepted (x ∷ y ∷ [])) is.accepted ∙ ap (λ k. is_wanted p.holding (truth_at (of p.rel) (k * (of p.rel).value_count + y))) (let e : 0 * (of p.rel).value_count + x ≡ x = omega arith in e)
-brief_told of d m a Whole count right is = tt
+    accepts : (x y : ℕ) → a.accepted (x ∷ y ∷ []) ≡ is_wanted p.holding (goes (pairs_of l is.on p.rel) x y)
+    accepts x y = ap (λ (accepted : List ℕ → Bool). accepted (x ∷ y ∷ [])) is.accepted ∙ ap (λ k. is_wanted p.holding (truth_at (pairs_of l is.on p.rel) (k * l.value_count + y))) (let e : 0 * l.value_count + x ≡ x = omega arith in e)
+brief_told l m a Other right is = tt
 
-pub briefs_next : (of : ℕ → TruthTable) (known more : ℕ) (arcs : List Arc) (briefs : List Brief) (i : ℕ) (new : Brief) (here : Arc) → i < length briefs → ((a : Arc) → slice_index_or arcs i a ≡ here) → IsBriefIn of more here new →
-    ((r : ℕ) → has (ones_of known) r ≡ true → has (ones_of more) r ≡ true) → ((k : ℕ) (a : Arc) (b : Brief) → k < i → IsBriefIn of known (slice_index_or arcs k a) (slice_index_or briefs k b)) →
-    (k : ℕ) (a : Arc) (b : Brief) → k < i + 1 → IsBriefIn of more (slice_index_or arcs k a) (slice_index_or (slice_set briefs i new) k b)
-briefs_next of known more arcs briefs i new here low is told grows old k a b below = go (cases_eq k i)
+pub briefs_next : (l : Language) (known more : ℕ) (arcs : List Arc) (briefs : List Brief) (i : ℕ) (new : Brief) (here : Arc) → i < length briefs → ((a : Arc) → slice_index_or arcs i a ≡ here) → IsBriefIn l more here new →
+    ((r : ℕ) → has (ones_of known) r ≡ true → has (ones_of more) r ≡ true) → ((k : ℕ) (a : Arc) (b : Brief) → k < i → IsBriefIn l known (slice_index_or arcs k a) (slice_index_or briefs k b)) →
+    (k : ℕ) (a : Arc) (b : Brief) → k < i + 1 → IsBriefIn l more (slice_index_or arcs k a) (slice_index_or (slice_set briefs i new) k b)
+briefs_next l known more arcs briefs i new here low is told grows old k a b below = go (cases_eq k i)
   where
-    go : (k ≡ i) ⊎ (k ≢ i) → IsBriefIn of more (slice_index_or arcs k a) (slice_index_or (slice_set briefs i new) k b)
+    go : (k ≡ i) ⊎ (k ≢ i) → IsBriefIn l more (slice_index_or arcs k a) (slice_index_or (slice_set briefs i new) k b)
     go (inl same) =
-        subst (λ (j : ℕ). IsBriefIn of more (slice_index_or arcs j a) (slice_index_or (slice_set briefs i new) j b)) (sym same)
-        (subst (λ (arc : Arc). IsBriefIn of more arc (slice_index_or (slice_set briefs i new) i b)) (sym (is a))
-        (subst (λ (brief : Brief). IsBriefIn of more here brief) (sym (get_or-set_same briefs i new b low)) told))
+        subst (λ (j : ℕ). IsBriefIn l more (slice_index_or arcs j a) (slice_index_or (slice_set briefs i new) j b)) (sym same)
+        (subst (λ (arc : Arc). IsBriefIn l more arc (slice_index_or (slice_set briefs i new) i b)) (sym (is a))
+        (subst (λ (brief : Brief). IsBriefIn l more here brief) (sym (get_or-set_same briefs i new b low)) told))
     go (inr other) =
-        subst (λ (brief : Brief). IsBriefIn of more (slice_index_or arcs k a) brief) (sym (get_or-set_other briefs i k new b other))
-        (brief_more of known more (slice_index_or arcs k a) (slice_index_or briefs k b) grows (old k a b (omega arith)))
+        subst (λ (brief : Brief). IsBriefIn l more (slice_index_or arcs k a) brief) (sym (get_or-set_other briefs i k new b other))
+        (brief_more l known more (slice_index_or arcs k a) (slice_index_or briefs k b) grows (old k a b (omega arith)))
+
+-- ---- scopes of two variables that have all values
+
+-- the table of a relation on one of them is that of the relation of its number on each
+pub pair_alike : (l : Language) → IsLanguage l → (s t r : ℕ) (table : TruthTable) → IsWholePair l s → IsWholePair l t → table.arity ≡ length (scope_at l t) → table.value_count ≡ l.value_count →
+    table.truth ≡ slice_index_or (relations_on l t) r [] → pairs_of l s r ≡ table
+pair_alike l lawful s t r table one here arity values truth =
+    let same : relations_on l s ≡ relations_on l t = whole_alike l lawful s t one.known here.known one.whole here.whole (one.two ∙ sym here.two) in
+    λ i. record { arity = sym (arity ∙ here.two) i; value_count = sym values i; truth = (ap (λ (rs : List Relation). slice_index_or rs r []) same ∙ sym truth) i }

@@ -135,7 +135,7 @@ visit_begin arcs changed v f small full settled = record {
     go k a low h (inr lacking) = settled k a low (touch_without changed v (slice_index_or arcs k a).scope (small k a low) (lacking a) h)
 
 -- what isn't in the word of the variable lacks it
-pub visit_word : (arcs : List Arc) (words v w : ℕ) (sets begun : List ℕ) (from : Family) (waiting : List ℕ) (f : Family) (word : ℕ) → AreNoted arcs words sets → w < words → word ≡ slice_index_or sets (v * words + w) 0 →
+pub visit_word : (arcs : List Arc) (words v w : ℕ) (sets begun : List ℕ) (from : Family) (waiting : List ℕ) (f : Family) (word : ℕ) → AreNoted arcs words sets → w < words → word ≡ slice_index_or sets (w * 128 + v) 0 →
     IsVisiting arcs begun from (IsBefore arcs v w) waiting f → IsVisiting arcs begun from (IsWithout arcs v w word) waiting f
 visit_word arcs words v w sets begun from waiting f word noted room at is = record {
   underway = is.underway;
@@ -147,8 +147,8 @@ visit_word arcs words v w sets begun from waiting f word noted room at is = reco
     go k a low h (inl before) = is.settled k a low h before
     go k a low h (inr gone) = is.settled k a low h (inr (λ b. lacking b (has (slice_index_or arcs k b).scope v) refl))
       where
-        where_ : slice_index_or sets (v * words + k / 64) 0 ≡ word
-        where_ = ap (λ j. slice_index_or sets (v * words + j) 0) (ap (λ j. j / 64) gone.2 ∙ div-mul-add w 64 gone.0 gone.1) ∙ sym at
+        where_ : slice_index_or sets (k / 64 * 128 + v) 0 ≡ word
+        where_ = ap (λ j. slice_index_or sets (j * 128 + v) 0) (ap (λ j. j / 64) gone.2 ∙ div-mul-add w 64 gone.0 gone.1) ∙ sym at
 
         bit : k % 64 ≡ gone.0
         bit = ap (λ j. j % 64) gone.2 ∙ mod-mul-add w 64 gone.0 gone.1
@@ -260,25 +260,25 @@ set_grows sets at m x low is q b h = go (cases_eq q at)
 pub set_there : (sets : List ℕ) (at m x : ℕ) → at < length sets → ((y : ℕ) → has (ones_of m) y ≡ (has (ones_of (slice_index_or sets at 0)) y || (x == y))) → has (ones_of (slice_index_or (slice_set sets at m) at 0)) x ≡ true
 set_there sets at m x low is = ap (λ k. has (ones_of k) x) (get_or-set_same sets at m 0 low) ∙ is x ∙ or_right _ _ (eq-eqb x x refl)
 
-pub noted_more : (scope : List ℕ) (words i index : ℕ) (sets : List ℕ) (at m v : ℕ) → at ≡ v * words + i / 64 → v ≡ slice_index_or scope index 0 → at < length sets →
+pub noted_more : (scope : List ℕ) (words i index : ℕ) (sets : List ℕ) (at m v : ℕ) → at ≡ i / 64 * 128 + v → v ≡ slice_index_or scope index 0 → at < length sets →
     ((y : ℕ) → has (ones_of m) y ≡ (has (ones_of (slice_index_or sets at 0)) y || (i % 64 == y))) →
-    ((j : ℕ) → j < index → has (ones_of (slice_index_or sets (slice_index_or scope j 0 * words + i / 64) 0)) (i % 64) ≡ true) →
-    (j : ℕ) → j < index + 1 → has (ones_of (slice_index_or (slice_set sets at m) (slice_index_or scope j 0 * words + i / 64) 0)) (i % 64) ≡ true
+    ((j : ℕ) → j < index → has (ones_of (slice_index_or sets (i / 64 * 128 + slice_index_or scope j 0) 0)) (i % 64) ≡ true) →
+    (j : ℕ) → j < index + 1 → has (ones_of (slice_index_or (slice_set sets at m) (i / 64 * 128 + slice_index_or scope j 0) 0)) (i % 64) ≡ true
 noted_more scope words i index sets at m v place var low is old j below = go (cases_eq j index)
   where
-    go : (j ≡ index) ⊎ (j ≢ index) → has (ones_of (slice_index_or (slice_set sets at m) (slice_index_or scope j 0 * words + i / 64) 0)) (i % 64) ≡ true
-    go (inl same) = ap (λ k. has (ones_of (slice_index_or (slice_set sets at m) k 0)) (i % 64)) (sym (place ∙ ap (λ u. u * words + i / 64) (var ∙ ap (λ k. slice_index_or scope k 0) (sym same)))) ∙ set_there sets at m (i % 64) low is
-    go (inr other) = set_grows sets at m (i % 64) low is (slice_index_or scope j 0 * words + i / 64) (i % 64) (old j (omega arith))
+    go : (j ≡ index) ⊎ (j ≢ index) → has (ones_of (slice_index_or (slice_set sets at m) (i / 64 * 128 + slice_index_or scope j 0) 0)) (i % 64) ≡ true
+    go (inl same) = ap (λ k. has (ones_of (slice_index_or (slice_set sets at m) k 0)) (i % 64)) (sym (place ∙ ap (λ u. i / 64 * 128 + u) (var ∙ ap (λ k. slice_index_or scope k 0) (sym same)))) ∙ set_there sets at m (i % 64) low is
+    go (inr other) = set_grows sets at m (i % 64) low is (i / 64 * 128 + slice_index_or scope j 0) (i % 64) (old j (omega arith))
 
 pub noted_next : (arcs : List Arc) (words i : ℕ) (scope sets more : List ℕ) → ((a : Arc) → (slice_index_or arcs i a).scope ≡ scope) →
     ((q b : ℕ) → has (ones_of (slice_index_or sets q 0)) b ≡ true → has (ones_of (slice_index_or more q 0)) b ≡ true) →
-    ((j : ℕ) → j < length scope → has (ones_of (slice_index_or more (slice_index_or scope j 0 * words + i / 64) 0)) (i % 64) ≡ true) →
-    ((k v : ℕ) (a : Arc) → k < i → has (slice_index_or arcs k a).scope v ≡ true → has (ones_of (slice_index_or sets (v * words + k / 64) 0)) (k % 64) ≡ true) →
-    (k v : ℕ) (a : Arc) → k < i + 1 → has (slice_index_or arcs k a).scope v ≡ true → has (ones_of (slice_index_or more (v * words + k / 64) 0)) (k % 64) ≡ true
+    ((j : ℕ) → j < length scope → has (ones_of (slice_index_or more (i / 64 * 128 + slice_index_or scope j 0) 0)) (i % 64) ≡ true) →
+    ((k v : ℕ) (a : Arc) → k < i → has (slice_index_or arcs k a).scope v ≡ true → has (ones_of (slice_index_or sets (k / 64 * 128 + v) 0)) (k % 64) ≡ true) →
+    (k v : ℕ) (a : Arc) → k < i + 1 → has (slice_index_or arcs k a).scope v ≡ true → has (ones_of (slice_index_or more (k / 64 * 128 + v) 0)) (k % 64) ≡ true
 noted_next arcs words i scope sets more is grows there old k v a low h = go (cases_eq k i)
   where
-    go : (k ≡ i) ⊎ (k ≢ i) → has (ones_of (slice_index_or more (v * words + k / 64) 0)) (k % 64) ≡ true
-    go (inr other) = grows (v * words + k / 64) (k % 64) (old k v a (omega arith) h)
+    go : (k ≡ i) ⊎ (k ≢ i) → has (ones_of (slice_index_or more (k / 64 * 128 + v) 0)) (k % 64) ≡ true
+    go (inr other) = grows (k / 64 * 128 + v) (k % 64) (old k v a (omega arith) h)
     go (inl same) =
         let at = member_place scope v (ap (λ (xs : List ℕ). has xs v) (sym (is a)) ∙ ap (λ j. has (slice_index_or arcs j a).scope v) (sym same) ∙ h) in
-        ap (λ j. has (ones_of (slice_index_or more (v * words + j / 64) 0)) (j % 64)) same ∙ ap (λ u. has (ones_of (slice_index_or more (u * words + i / 64) 0)) (i % 64)) (sym at.2) ∙ there at.0 at.1
+        ap (λ j. has (ones_of (slice_index_or more (j / 64 * 128 + v) 0)) (j % 64)) same ∙ ap (λ u. has (ones_of (slice_index_or more (i / 64 * 128 + u) 0)) (i % 64)) (sym at.2) ∙ there at.0 at.1

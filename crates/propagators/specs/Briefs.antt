@@ -2,14 +2,15 @@
 use Rattle.std.specs.Prelude.{ℕ, ◌+◌, ◌*◌, ◌≡◌, ◌<◌, ◌==◌, true, List, [], ◌∷◌, length, slice_index_or}
 use Rattle.std.specs.Int.{bit_at}
 use Rattle.assign.specs.Sets.{has}
-use Rattle.rel_table.specs.Table.{TruthTable}
+use Rattle.language.specs.Language.{Language}
 use Rattle.propagators.specs.Values.{ones_of}
 use Rattle.propagators.specs.Families.{Arc, is_wanted}
 use Rattle.propagators.specs.Supports.{continues}
 use Rattle.propagators.specs.Loose.{IsLoose}
+use Rattle.propagators.specs.Pairs.{IsWholePair, pairs_of}
 use Rattle.propagators.specs.declared.briefs.Pair.{Pair}
 use Rattle.propagators.specs.declared.briefs.Brief.{Brief}
-use Rattle.propagators.specs.declared.briefs.Brief.TheVariants.{Two, Whole}
+use Rattle.propagators.specs.declared.briefs.Brief.TheVariants.{Two, Other}
 use Rattle.propagators.specs.declared.plan.PairMasks.{PairMasks}
 
 -- a condition on two variables, whose relation's masks are these
@@ -22,20 +23,22 @@ pub record IsPairOf (d : ℕ) (m : PairMasks) (a : Arc) (p : Pair) : Type 0 wher
 
 abbrev pub IsBriefOf : ℕ → PairMasks → Arc → Brief → Type 0
 IsBriefOf d m a (Two p) = IsPairOf d m a p
-IsBriefOf d m a Whole = Unit {0}
+IsBriefOf d m a Other = Unit {0}
 
 -- the first conditions have theirs, as far as these go
 abbrev pub AreBriefs : ℕ → PairMasks → List Arc → List Brief → Type 0
 AreBriefs d m arcs briefs = (k : ℕ) (a : Arc) (b : Brief) → k < length briefs → k < length arcs → IsBriefOf d m (slice_index_or arcs k a) (slice_index_or briefs k b)
 
--- a condition on two variables by its relation, which is one of those known
-pub record IsPairIn (of : ℕ → TruthTable) (seen : ℕ) (a : Arc) (p : Pair) : Type 0 where
+-- a condition on two variables that have all values by its relation, which is one of those known
+pub record IsPairIn (l : Language) (seen : ℕ) (a : Arc) (p : Pair) : Type 0 where
+  pub on : ℕ
+  pub whole : IsWholePair l on
   pub scope : a.scope ≡ p.first ∷ p.second ∷ []
   pub low : p.rel < 64
   pub known : has (ones_of seen) p.rel ≡ true
-  pub accepted : a.accepted ≡ continues (of p.rel) p.holding 0
-  pub loose : p.is_loose ≡ true → IsLoose (of p.rel).value_count (continues (of p.rel) p.holding 0)
+  pub accepted : a.accepted ≡ continues (pairs_of l on p.rel) p.holding 0
+  pub loose : p.is_loose ≡ true → IsLoose l.value_count (continues (pairs_of l on p.rel) p.holding 0)
 
-abbrev pub IsBriefIn : (ℕ → TruthTable) → ℕ → Arc → Brief → Type 0
-IsBriefIn of seen a (Two p) = IsPairIn of seen a p
-IsBriefIn of seen a Whole = Unit {0}
+abbrev pub IsBriefIn : Language → ℕ → Arc → Brief → Type 0
+IsBriefIn l seen a (Two p) = IsPairIn l seen a p
+IsBriefIn l seen a Other = Unit {0}

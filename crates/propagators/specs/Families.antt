@@ -24,10 +24,10 @@ abbrev pub is_not_empty : List ℕ → Bool
 is_not_empty [] = false
 is_not_empty (x ∷ xs) = true
 
--- what is left to a variable: the one value that it has, or, where it has none, all its values
+-- what is left to a variable: of its values the one that it has, or, where it has none, all
 abbrev pub domain_of : Language → ℕ → Option ℕ → List ℕ
 domain_of l v None = values_of l v
-domain_of l v (Some x) = x ∷ []
+domain_of l v (Some x) = filter (λ y. x == y) (values_of l v)
 
 -- what an assignment leaves to each variable
 abbrev pub left_by : Language → Assignment → Family

@@ -1,9 +1,9 @@
 -- Relations of two variables, by number, and the masks of those whose masks are made.
-use Rattle.std.specs.Prelude.{ℕ, ◌+◌, ◌*◌, ◌<◌, ◌≤◌, ◌≡◌, ◌==◌, ◌⊎◌, Bool, true, List, [], ◌∷◌, slice_index_or, slice_set}
+use Rattle.std.specs.Prelude.{ℕ, ◌+◌, ◌*◌, ◌<◌, ◌≤◌, ◌≡◌, ◌==◌, ◌⊎◌, Bool, true, List, [], ◌∷◌, length, slice_index_or, slice_set}
 use Rattle.std.specs.Int.{bit_at}
 use Rattle.assign.specs.Sets.{has}
 use Rattle.rel_table.specs.Table.{TruthTable, truth_at}
-use Rattle.language.specs.Language.{Language, relations_of}
+use Rattle.language.specs.Language.{Language, scope_at, relations_on, is_whole}
 use Rattle.propagators.specs.Values.{ones_of}
 use Rattle.propagators.specs.Families.{Family, Arc, is_not_empty, size_of}
 use Rattle.propagators.specs.Supports.{continues}
@@ -20,9 +20,15 @@ AreMasksOf d together masks at = (x y : ℕ) → x < d → y < d → (bit_at (sl
 abbrev pub goes : TruthTable → ℕ → ℕ → Bool
 goes table x y = truth_at table (x * table.value_count + y)
 
--- the relations of a language, as tables
-abbrev pub pairs_of : Language → ℕ → TruthTable
-pairs_of l r = record { arity = 2; value_count = l.value_count; truth = slice_index_or (relations_of l 2) r [] }
+-- a scope of two variables, each of which has all values
+pub record IsWholePair (l : Language) (s : ℕ) : Type 0 where
+  pub known : s < length l.scopes
+  pub two : length (scope_at l s) ≡ 2
+  pub whole : is_whole l s ≡ true
+
+-- the relations on such a scope, as tables
+abbrev pub pairs_of : Language → ℕ → ℕ → TruthTable
+pairs_of l s r = record { arity = 2; value_count = l.value_count; truth = slice_index_or (relations_on l s) r [] }
 
 -- the masks of the relations for which they are made
 pub record AreRight (of : ℕ → TruthTable) (m : PairMasks) : Type 0 where
@@ -30,6 +36,10 @@ pub record AreRight (of : ℕ → TruthTable) (m : PairMasks) : Type 0 where
   pub rows : (r : ℕ) → has (ones_of m.known) r ≡ true → AreMasksOf (of r).value_count (goes (of r)) m.rows.items (r * 64)
   pub columns : (r : ℕ) → has (ones_of m.known) r ≡ true → AreMasksOf (of r).value_count (λ y x. goes (of r) x y) m.columns.items (r * 64)
   pub loose : (r : ℕ) → has (ones_of m.loose) r ≡ true → IsLoose (of r).value_count (continues (of r) true 0)
+
+-- they are so on each such scope
+abbrev pub AreRightOn : Language → PairMasks → Type 0
+AreRightOn l m = (s : ℕ) → IsWholePair l s → AreRight (pairs_of l s) m
 
 -- ---- One variable beside another that has one value
 

@@ -9,10 +9,10 @@ use Rattle.propagators.specs.Loose.{IsLoose}
 use Rattle.propagators.specs.Briefs.{AreBriefs}
 use Rattle.propagators.specs.declared.plan.Plan.{Plan}
 
--- each variable's set, in so many words, has the conditions on it, as far as there is room
+-- in so many words for each variable, those of all variables one word after another, are the conditions on it, as far as there is room
 abbrev pub AreNoted : List Arc → ℕ → List ℕ → Type 0
 AreNoted arcs words sets =
-    (k v : ℕ) (a : Arc) → k < length arcs → k < words * 64 → has (slice_index_or arcs k a).scope v ≡ true → has (ones_of (slice_index_or sets (v * words + k / 64) 0)) (k % 64) ≡ true
+    (k v : ℕ) (a : Arc) → k < length arcs → k < words * 64 → has (slice_index_or arcs k a).scope v ≡ true → has (ones_of (slice_index_or sets (k / 64 * 128 + v) 0)) (k % 64) ≡ true
 
 -- a loose condition on two variables
 pub record IsLoosePair (d : ℕ) (a : Arc) : Type 0 where

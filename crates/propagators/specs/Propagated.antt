@@ -7,7 +7,7 @@ use Rattle.propagators.specs.Supports.{IsFamilyOf, AreSettled, AreFewer, IsUnder
 use Rattle.propagators.specs.Plans.{IsPlanOf, AreLeft}
 use Rattle.propagators.specs.declared.plan.Plan.{Plan}
 
--- a set of values of the language for each variable, and none is empty
+-- for each variable some of its values, and one at least
 pub record AreSome (l : Language) (f : Family) : Type 0 where
   pub family : IsFamilyOf l f
   pub full : list_all is_not_empty f ≡ true

@@ -3,7 +3,8 @@ use Rattle.std.specs.Prelude.{ℕ, ◌≡◌, ◌+◌, ◌*◌, ◌<◌, ◌⊎�
 use Rattle.std.specs.List.{fold, list_any, list_all}
 use Rattle.assign.specs.Sets.{has}
 use Rattle.rel_table.specs.Table.{TruthTable, truth_at}
-use Rattle.language.specs.Language.{Language, variable_count}
+use Rattle.language.specs.Ranges.{is_in}
+use Rattle.language.specs.Language.{Language, variable_count, range_of}
 use Rattle.propagators.specs.Families.{Family, Arc, is_wanted, is_consistent, is_arc_consistent, is_not_empty, size_of, IsSubfamily}
 
 -- a tuple takes each of its values from the set at its place
@@ -33,10 +34,11 @@ continues table holding at tuple = is_wanted holding (truth_at table (fold (λ a
 abbrev pub AreBelow : ℕ → List ℕ → Type 0
 AreBelow d xs = (x : ℕ) → has xs x ≡ true → x < d
 
--- a family has a set of values of the language for each variable
+-- a family has for each variable some of its values
 pub record IsFamilyOf (l : Language) (f : Family) : Type 0 where
   pub size : length f ≡ variable_count l
   pub values : (v : ℕ) → AreBelow l.value_count (slice_index_or f v [])
+  pub within : (v x : ℕ) → has (slice_index_or f v []) x ≡ true → is_in (range_of l v) x ≡ true
 
 -- g has of f's values those that the condition supports
 pub record IsRevised (a : Arc) (f g : Family) : Type 0 where

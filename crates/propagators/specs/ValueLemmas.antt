@@ -12,7 +12,7 @@ filter_nothing : (p : ℕ → Bool) (a n : ℕ) → ((v : ℕ) → a ≤ v → p
 filter_nothing p a zero h = refl
 filter_nothing p a (suc n) h = rw (h a (omega arith)) (filter_nothing p (a + 1) n (λ v low. h v (omega arith)))
 
-filter_front : (p : ℕ → Bool) (a n k : ℕ) → n ≤ k → ((v : ℕ) → a + n ≤ v → p v ≡ false) → filter p (range_with_len a k) ≡ filter p (range_with_len a n)
+pub filter_front : (p : ℕ → Bool) (a n k : ℕ) → n ≤ k → ((v : ℕ) → a + n ≤ v → p v ≡ false) → filter p (range_with_len a k) ≡ filter p (range_with_len a n)
 filter_front p a zero k le h = filter_nothing p a k (λ v low. h v (omega arith))
 filter_front p a (suc n) zero le h = absurd (omega arith)
 filter_front p a (suc n) (suc k) le h = ap (λ xs. cond (p a) (a ∷ xs) xs) (filter_front p (a + 1) n k (omega arith) (λ v low. h v (omega arith)))

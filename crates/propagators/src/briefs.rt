@@ -6,7 +6,7 @@ ghost use Rattle.language.specs.Language.{IsLanguage, IsCandidate};
 ghost use Rattle.propagators.specs.Allowed.{AreConstraints};
 ghost use Rattle.propagators.specs.Values.{ones_of};
 ghost use Rattle.propagators.specs.Families.{Arc, arc_of, arcs_of};
-ghost use Rattle.propagators.specs.Pairs.{pairs_of, AreRight};
+ghost use Rattle.propagators.specs.Pairs.{AreRightOn};
 ghost use Rattle.propagators.specs.Briefs.{IsBriefOf, IsBriefIn, AreBriefs};
 ghost use Rattle.propagators.specs.Plans.{IsLoosePair, AreTight};
 
@@ -15,7 +15,7 @@ use crate::plan::PairMasks;
 use assign::VarSet;
 use language::{Candidate, Language};
 
-/// A condition on two variables.
+/// A condition on two variables, each of which has all values.
 #[derive(Clone, Copy)]
 pub struct Pair {
     pub(crate) first: u8,
@@ -32,10 +32,10 @@ pub struct Pair {
 /// What is known of a condition before a search.
 #[derive(Clone, Copy)]
 pub enum Brief {
-    /// It has two variables.
+    /// It has two variables, each of which has all values.
     Two(Pair),
-    /// It has one, three or four variables.
-    Whole,
+    /// It is another one. On a scope where a variable lacks a value the number of a relation doesn't tell its masks.
+    Other,
 }
 
 impl Brief {
@@ -45,23 +45,24 @@ impl Brief {
     {
         match self {
             Brief::Two(pair) => pair.is_loose,
-            Brief::Whole => false,
+            Brief::Other => false,
         }
     }
 }
 
-/// The brief of a candidate, where it is to hold, or not to hold. The masks of its relation are made.
+/// The brief of a candidate, where it is to hold, or not to hold. For a condition on two variables that have all values
+/// the masks of its relation are made.
 fn brief_of(lang: &Language, c: Candidate, holding: bool, masks: &mut PairMasks) -> Brief
     requires lawful { IsLanguage lang.now }
     requires candidate { IsCandidate lang.now c }
-    requires right { AreRight (pairs_of lang.now) masks.old }
-    ensures right { AreRight (pairs_of lang.now) masks.new }
+    requires right { AreRightOn lang.now masks.old }
+    ensures right { AreRightOn lang.now masks.new }
     ensures grows { (r : ℕ) → has (ones_of masks.old.known) r ≡ true → has (ones_of masks.new.known) r ≡ true }
-    ensures is { IsBriefIn (pairs_of lang.now) masks.new.known (arc_of lang.now c holding) result }
+    ensures is { IsBriefIn lang.now masks.new.known (arc_of lang.now c holding) result }
 {
     let scope = lang.scope(c.scope);
-    if scope.len() != 2 {
-        return Brief::Whole;
+    if scope.len() != 2 || !lang.is_whole(c.scope) {
+        return Brief::Other;
     }
     let table = lang.table_on(c.scope, c.rel);
     masks.learn(table, c.rel);

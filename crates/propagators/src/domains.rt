@@ -9,7 +9,7 @@ ghost use Rattle.propagators.specs.Supports.{IsFamilyOf};
 ghost use Rattle.propagators.specs.Loose.{HasTwo};
 ghost use Rattle.propagators.specs.Pairs.{IsOnly, IsLeft};
 
-use crate::values::{first_values, has_value, is_empty, only_member, only_value, passing};
+use crate::values::{has_value, is_empty, only_member, only_value, passing, values_between};
 use language::Language;
 use std::marker::Model;
 
@@ -53,16 +53,16 @@ fn some_is_zero(masks: &[u64]) -> bool
 }
 
 impl Domains {
-    /// All values for each variable.
+    /// For each variable the values of its range.
     pub fn full(lang: &Language) -> Domains
         ensures is { result ≡ map (values_of lang.now) (numbers (variable_count lang.now)) }
         ensures family { IsFamilyOf lang.now result }
     {
         let n = lang.n();
-        let all = first_values(lang.d());
         let mut sets = [0; 128];
-        for v in 0..n as usize {
-            sets[v] = all;
+        for v in 0..n {
+            let (first, last) = lang.range(v);
+            sets[v as usize] = values_between(first, last);
         }
         Domains { sets, size: n }
     }

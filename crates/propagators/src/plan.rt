@@ -29,7 +29,8 @@ pub struct Plan {
     pub(crate) tight: VarSet,
     /// How many words a set of conditions has.
     pub(crate) words: usize,
-    /// For each variable the set of its conditions, in so many words: condition i is bit i % 64 of word i / 64.
+    /// So many words for each variable, the first ones of all variables, then the second ones and so on. Condition i is bit i % 64 of
+    /// word i / 64 of each of its variables; words past the last condition's mean nothing.
     pub(crate) sets: Vec<u64>,
     ghost long: { length sets.items ≡ 128 * words },
     ghost room: { length briefs.items ≤ words * 64 },

@@ -1,6 +1,6 @@
 //! Sets of values, each a mask of 64 bits.
 
-ghost use Rattle.std.specs.Prelude.{◌≡◌, ◌≢◌, ◌<◌, ◌≤◌, ◌==◌, ℕ, true, not, ◌&&◌, ◌||◌, IfSome, None};
+ghost use Rattle.std.specs.Prelude.{◌≡◌, ◌≢◌, ◌<◌, ◌≤◌, ◌==◌, ℕ, true, not, nat_le, ◌&&◌, ◌||◌, IfSome, None};
 ghost use Rattle.std.specs.List.{filter};
 ghost use Rattle.assign.specs.Sets.{numbers, has};
 ghost use Rattle.std.specs.Int.{bit_at};
@@ -15,6 +15,15 @@ pub(crate) fn first_values(d: u8) -> u64
     ensures { ones_of result ≡ numbers d }
 {
     if d == 64 { u64::MAX } else { (1 << d) - 1 }
+}
+
+/// The values from the first to the last.
+pub(crate) fn values_between(first: u8, last: u8) -> u64
+    requires some { first ≤ last }
+    requires known { last < 64 }
+    ensures { (x : ℕ) → has (ones_of result) x ≡ (nat_le first x && nat_le x last) }
+{
+    first_values(last + 1) & !first_values(first)
 }
 
 /// Whether x is a member.

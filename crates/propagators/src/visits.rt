@@ -30,10 +30,10 @@ fn note(sets: &mut [u64], words: usize, scope: &[u8], i: usize)
     requires low { i < words * 64 }
     requires known { All (λ v. v < 128) scope.now }
     ensures grows { (q b : ℕ) → has (ones_of (slice_index_or sets.old q 0)) b ≡ true → has (ones_of (slice_index_or sets.new q 0)) b ≡ true }
-    ensures there { (j : ℕ) → j < length scope.now → has (ones_of (slice_index_or sets.new (slice_index_or scope.now j 0 * words + i / 64) 0)) (i % 64) ≡ true }
+    ensures there { (j : ℕ) → j < length scope.now → has (ones_of (slice_index_or sets.new (i / 64 * 128 + slice_index_or scope.now j 0) 0)) (i % 64) ≡ true }
 {
     for v in scope {
-        let at = usize::from(*v) * words + i / 64;
+        let at = i / 64 * 128 + usize::from(*v);
         sets[at] = add_value(sets[at], (i % 64) as u8);
     }
 }
@@ -45,8 +45,10 @@ fn note_all(cons: &Constraints, sets: &mut [u64], words: usize)
     requires long { length sets.old ≡ 128 * words }
     ensures { AreNoted (arcs_of cons.now.lang.now cons.now.list.now cons.now.against) words sets.new }
 {
-    sets.fill(0);
-    for i in 0..cons.count().min(words * 64) {
+    let count = cons.count().min(words * 64);
+    // The other words are never read.
+    sets[..count.div_ceil(64) * 128].fill(0);
+    for i in 0..count {
         let (c, _holding) = cons.condition(i);
         note(sets, words, cons.lang.scope(c.scope), i);
     }
@@ -61,7 +63,7 @@ impl Plan {
     {
         let words = room.div_ceil(64);
         Ok(Plan {
-            briefs: vec![in alloc; Brief::Whole; room]?,
+            briefs: vec![in alloc; Brief::Other; room]?,
             masks: PairMasks::new(alloc)?,
             tight: VarSet::empty(),
             words,
@@ -103,7 +105,7 @@ fn beside(masks: &PairMasks, pair: Pair, doms: &Domains) -> Option<(u8, u64)>
 
 /// Revises condition i. To the variables that are waiting are added those that lost values; `No` where some variable has
 /// none left in an arc-consistent subfamily.
-fn look_at_whole(cons: &Constraints, i: usize, doms: &mut Domains, waiting: &mut VarSet) -> Alive
+fn look_at_other(cons: &Constraints, i: usize, doms: &mut Domains, waiting: &mut VarSet) -> Alive
     requires lawful { IsLanguage cons.now.lang.now }
     requires constraints { AreConstraints cons.now.lang.now cons.now.list.now cons.now.against }
     requires low { i < length (arcs_of cons.now.lang.now cons.now.list.now cons.now.against) }
@@ -124,7 +126,8 @@ fn look_at_whole(cons: &Constraints, i: usize, doms: &mut Domains, waiting: &mut
     }
 }
 
-/// `look_at_whole` for a condition on two variables. Where one of them has one value alone, a mask tells what goes with it.
+/// `look_at_other` for a condition on two variables that have all values. Where one of them has one value alone, a mask
+/// tells what goes with it.
 fn look_at_pair(
     cons: &Constraints,
     plan: &Plan,
@@ -146,7 +149,7 @@ fn look_at_pair(
         if pair.is_loose {
             return Alive::Yes;
         }
-        return look_at_whole(cons, i, doms, waiting);
+        return look_at_other(cons, i, doms, waiting);
     };
     match doms.keep(v, row, pair.holding) {
         Left::Nothing => Alive::No,
@@ -189,7 +192,7 @@ fn look_at(
     }
     match plan.briefs[i] {
         Brief::Two(pair) => look_at_pair(cons, plan, pair, i, doms, waiting),
-        Brief::Whole => look_at_whole(cons, i, doms, waiting),
+        Brief::Other => look_at_other(cons, i, doms, waiting),
     }
 }
 
@@ -212,7 +215,7 @@ fn visit(
 {
     let mut waiting = changed.without(v);
     for w in 0..cons.count().div_ceil(64) {
-        let mut rest = plan.sets[usize::from(v) * plan.words + w];
+        let mut rest = plan.sets[w * 128 + usize::from(v)];
         while rest != 0 {
             let b = least_value(rest);
             rest = without_value(rest, b);

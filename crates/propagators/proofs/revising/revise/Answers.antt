@@ -16,7 +16,7 @@ returns-then-is_empty-clause-dead c = λ none.
     dead_here c.args.lang.now c.args.c c.args.holding c.table_on.result.now c.args.doms.now c.scope-scope.result.now c.on.result c.supported-found.result c.scope-scope.ensures.is c.on.ensures c.requires.lawful c.requires.candidate c.requires.family
     c.supported-found.ensures.size c.scope-scope.ensures.scope.short
     (supported_here c.args.lang.now c.args.c c.args.holding c.table_on.result.now c.args.doms.now c.scope-scope.result.now c.on.result c.supported-found.result c.scope-scope.ensures.is c.on.ensures
-    c.table_on.ensures.arity c.table_on.ensures.values c.table_on.ensures.is c.supported-found.ensures.is)
+    c.table_on.ensures.arity c.table_on.ensures.values c.table_on.ensures.agrees c.requires.family c.supported-found.ensures.is)
     (not-true _ (sym c.is_empty.ensures ∙ c.if-is_empty.true))
 
 pub cut_all-requires-clause-few : goal.cut_all-requires-clause-few
@@ -30,12 +30,12 @@ cut_all-requires-clause-within c =
     found_within c.args.lang.now c.args.c c.args.holding c.table_on.result.now c.args.doms.now c.scope-scope.result.now c.on.result c.supported-found.result c.scope-scope.ensures.is c.on.ensures
     c.supported-found.ensures.size c.scope-scope.ensures.scope.short
     (supported_here c.args.lang.now c.args.c c.args.holding c.table_on.result.now c.args.doms.now c.scope-scope.result.now c.on.result c.supported-found.result c.scope-scope.ensures.is c.on.ensures
-    c.table_on.ensures.arity c.table_on.ensures.values c.table_on.ensures.is c.supported-found.ensures.is)
+    c.table_on.ensures.arity c.table_on.ensures.values c.table_on.ensures.agrees c.requires.family c.supported-found.ensures.is)
 
 pub returns-clause-revised : goal.returns-clause-revised
 returns-clause-revised c =
     revised_here c.args.lang.now c.args.c c.args.holding c.table_on.result.now c.args.doms.now c.scope-scope.result.now c.on.result c.supported-found.result c.scope-scope.ensures.is c.on.ensures c.requires.lawful c.requires.candidate c.requires.family
     c.supported-found.ensures.size c.scope-scope.ensures.scope.short
     (supported_here c.args.lang.now c.args.c c.args.holding c.table_on.result.now c.args.doms.now c.scope-scope.result.now c.on.result c.supported-found.result c.scope-scope.ensures.is c.on.ensures
-    c.table_on.ensures.arity c.table_on.ensures.values c.table_on.ensures.is c.supported-found.ensures.is)
+    c.table_on.ensures.arity c.table_on.ensures.values c.table_on.ensures.agrees c.requires.family c.supported-found.ensures.is)
     (not_false _ (sym c.is_empty.ensures ∙ c.if-is_empty.false)) c.cut_all.new.doms c.cut_all.ensures.is

@@ -10,11 +10,11 @@ loop-v-preserved c =
     let is = c.from.ensures in
     let v : c.from.result < 128 = omega arith in
     let word : c.args.i / 64 < c.args.words = div_below c.args.i 64 c.args.words (omega arith) c.requires.low in
-    let fits = mul-add-lt c.from.result c.args.words (c.args.i / 64) 128 v word in
+    let fits = mul-add-lt (c.args.i / 64) 128 c.from.result c.args.words word v in
     let long = c.loop-v.invariant.long in
-    let low : c.from.result * c.args.words + c.args.i / 64 < length c.loop-v.sets = omega arith in
+    let low : c.args.i / 64 * 128 + c.from.result < length c.loop-v.sets = omega arith in
     record {
-      long = length-set c.loop-v.sets (c.from.result * c.args.words + c.args.i / 64) c.add_value.result ∙ c.loop-v.invariant.long;
-      grows = λ q b h. set_grows c.loop-v.sets (c.from.result * c.args.words + c.args.i / 64) c.add_value.result (c.args.i % 64) low c.add_value.ensures q b (c.loop-v.invariant.grows q b h);
-      there = noted_more c.args.scope.now c.args.words c.args.i c.loop-v.v-index c.loop-v.sets (c.from.result * c.args.words + c.args.i / 64) c.add_value.result c.from.result (let e : c.from.result * c.args.words + c.args.i / 64 ≡ c.from.result * c.args.words + c.args.i / 64 = cc in e) c.from.ensures low c.add_value.ensures c.loop-v.invariant.there;
+      long = length-set c.loop-v.sets (c.args.i / 64 * 128 + c.from.result) c.add_value.result ∙ c.loop-v.invariant.long;
+      grows = λ q b h. set_grows c.loop-v.sets (c.args.i / 64 * 128 + c.from.result) c.add_value.result (c.args.i % 64) low c.add_value.ensures q b (c.loop-v.invariant.grows q b h);
+      there = noted_more c.args.scope.now c.args.words c.args.i c.loop-v.v-index c.loop-v.sets (c.args.i / 64 * 128 + c.from.result) c.add_value.result c.from.result (let e : c.args.i / 64 * 128 + c.from.result ≡ c.args.i / 64 * 128 + c.from.result = cc in e) c.from.ensures low c.add_value.ensures c.loop-v.invariant.there;
     }

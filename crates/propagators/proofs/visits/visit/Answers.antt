@@ -5,7 +5,7 @@ use Rattle.assign.specs.Sets.{without}
 use Rattle.propagators.specs.Families.{arcs_of}
 use Rattle.propagators.proofs.Rounds.{dead_before}
 use Rattle.propagators.proofs.Conditions.{arcs_small}
-use Rattle.propagators.proofs.Visiting.{IsVisiting, IsBefore, visit_begin, visit_word, visit_next}
+use Rattle.propagators.proofs.Visiting.{IsVisiting, IsBefore, visit_begin, visit_word, visit_look, visit_next}
 use Rattle.propagators.proofs.visits.visit.Goals as goal
 
 pub loop-w-init : goal.loop-w-init
@@ -24,12 +24,18 @@ loop-rest-init c =
     let is = c.from.ensures in
     let known = c.requires.known in
     let word : c.loop-w.w < c.args.plan.now.words = omega arith in
-    let fits = mul-add-lt c.args.v c.args.plan.now.words c.loop-w.w 128 c.requires.known word in
+    let fits = mul-add-lt c.loop-w.w 128 c.args.v c.args.plan.now.words word c.requires.known in
     visit_word (arcs_of c.args.cons.now.lang.now c.args.cons.now.list.now c.args.cons.now.against) c.args.plan.now.words c.args.v c.loop-w.w c.args.plan.now.sets.items (without c.args.changed c.args.v) c.args.doms.now c.loop-w.waiting c.loop-w.doms c.index-rest.result.now
     c.requires.plan.plan.noted word
-    (get_or_read c.args.plan.now.sets.items (c.from.result * c.args.plan.now.words + c.loop-w.w) c.index-rest.result.now (subst (λ (v : ℕ). v * c.args.plan.now.words + c.loop-w.w < length c.args.plan.now.sets.items) (sym c.from.ensures) (omega arith)) c.index-rest.ensures 0
-    ∙ ap (λ v. slice_index_or c.args.plan.now.sets.items (v * c.args.plan.now.words + c.loop-w.w) 0) c.from.ensures)
+    (get_or_read c.args.plan.now.sets.items (c.loop-w.w * 128 + c.from.result) c.index-rest.result.now (subst (λ (v : ℕ). c.loop-w.w * 128 + v < length c.args.plan.now.sets.items) (sym c.from.ensures) (omega arith)) c.index-rest.ensures 0
+    ∙ ap (λ v. slice_index_or c.args.plan.now.sets.items (c.loop-w.w * 128 + v) 0) c.from.ensures)
     c.loop-w.invariant
+
+pub loop-rest-preserved : goal.loop-rest-preserved
+loop-rest-preserved c =
+    visit_look (arcs_of c.args.cons.now.lang.now c.args.cons.now.list.now c.args.cons.now.against) c.args.v c.loop-w.w (without c.args.changed c.args.v) c.args.doms.now c.loop-rest.rest c.without_value-rest.result c.least_value-b.result
+    (c.loop-w.w * 64 + c.from-in-loop-rest.result) c.loop-rest.waiting c.look_at.new.waiting c.loop-rest.doms c.look_at.new.doms
+    c.least_value-b.ensures.low c.without_value-rest.ensures.has (ap (λ b. c.loop-w.w * 64 + b) c.from-in-loop-rest.ensures) c.loop-rest.invariant (c.in-Yes.ensures.looked refl)
 
 pub returns-in-No-clause-dead : goal.returns-in-No-clause-dead
 returns-in-No-clause-dead c = λ e. dead_before (arcs_of c.args.cons.now.lang.now c.args.cons.now.list.now c.args.cons.now.against) c.args.doms.now c.loop-rest.doms c.loop-rest.invariant.underway (c.in-No.ensures.dead refl)

@@ -17,7 +17,7 @@ returns-then-not-has-clause-is c =
     let deep = c.self.invariant in
     let at = c.len-at.ensures in
     let read : c.index.result.now ≡ (slice_index_or c.args.self.now.depths (length c.args.prefix.now) []) = get_or_read depths c.len-at.result c.index.result.now (omega arith) c.index.ensures [] ∙ (λ i. slice_index_or (c.self.view_is i).depths (c.len-at.ensures i) []) in
-    sym (below_lacking c.args.cons.now.lang.now c.args.cons.now.list.now c.args.cons.now.against c.args.order.now c.requires.order c.requires.lawful c.requires.constraints c.args.prefix.now c.args.x (slice_index_or c.args.self.now.depths (length c.args.prefix.now) []) c.requires.short c.requires.value (deepest c.args.cons.now.lang.now c.args.cons.now.list.now c.args.cons.now.against c.args.order.now c.args.prefix.now c.args.self.now.depths c.requires.ready.depths)
+    sym (below_lacking c.args.cons.now.lang.now c.args.cons.now.list.now c.args.cons.now.against c.args.order.now c.requires.order c.requires.lawful c.requires.constraints c.args.prefix.now c.args.x (slice_index_or c.args.self.now.depths (length c.args.prefix.now) []) c.requires.short (deepest c.args.cons.now.lang.now c.args.cons.now.list.now c.args.cons.now.against c.args.order.now c.args.prefix.now c.args.self.now.depths c.requires.ready.depths)
     ((λ i. has (slice_index_or (sym read i) (slice_index_or c.args.order.now (sym at i) 0) []) c.args.x) ∙ sym c.has.ensures ∙ c.if-not-has.true))
 
 pub returns-clause-is : goal.returns-clause-is
@@ -32,7 +32,7 @@ returns-clause-is c =
     let same : c.index_mut-2.result.now ≡ (slice_index_or c.args.self.now.depths (length c.args.prefix.now) []) =
     get_or_read (slice_set depths (c.len-at.result + 1) c.index-2.result.now) (c.len-at.result + 1) c.index_mut-2.result.now (let size = length-set depths (c.len-at.result + 1) c.index-2.result.now in omega arith) c.index_mut-2.ensures.value []
     ∙ get_or-set_same depths (c.len-at.result + 1) c.index-2.result.now [] room ∙ read in
-    entered c.args.cons.now.lang.now c.args.cons.now.list.now c.args.cons.now.against c.args.order.now c.requires.order c.requires.lawful c.requires.constraints c.args.prefix.now c.args.x (slice_index_or c.args.self.now.depths (length c.args.prefix.now) []) c.requires.short c.requires.value (deepest c.args.cons.now.lang.now c.args.cons.now.list.now c.args.cons.now.against c.args.order.now c.args.prefix.now c.args.self.now.depths c.requires.ready.depths)
+    entered c.args.cons.now.lang.now c.args.cons.now.list.now c.args.cons.now.against c.args.order.now c.requires.order c.requires.lawful c.requires.constraints c.args.prefix.now c.args.x (slice_index_or c.args.self.now.depths (length c.args.prefix.now) []) c.requires.short (deepest c.args.cons.now.lang.now c.args.cons.now.list.now c.args.cons.now.against c.args.order.now c.args.prefix.now c.args.self.now.depths c.requires.ready.depths)
     c.len-at.result c.index_mut-2.result.now c.narrow.new.doms c.narrow.result at same c.narrow.ensures.alive c.narrow.ensures.dead
 
 pub returns-clause-deeper : goal.returns-clause-deeper
@@ -49,7 +49,7 @@ returns-clause-deeper c = λ alive. record {
       ∙ get_or-set_same depths (c.len-at.result + 1) c.index-2.result.now [] room ∙ read in
       deeper_written c.args.cons.now.lang.now c.args.cons.now.list.now c.args.cons.now.against c.args.order.now c.args.prefix.now c.args.x c.len-at.result depths c.index-2.result.now c.narrow.new.doms at room
       (subst (AreReady c.args.cons.now.lang.now c.args.cons.now.list.now c.args.cons.now.against c.args.order.now c.args.prefix.now) (sym (ap (λ (w : Room). w.depths) c.self.view_is)) c.requires.ready.depths)
-      (entered_ready c.args.cons.now.lang.now c.args.cons.now.list.now c.args.cons.now.against c.args.order.now c.requires.order c.requires.lawful c.requires.constraints c.args.prefix.now c.args.x (slice_index_or c.args.self.now.depths (length c.args.prefix.now) []) c.requires.short c.requires.value (deepest c.args.cons.now.lang.now c.args.cons.now.list.now c.args.cons.now.against c.args.order.now c.args.prefix.now c.args.self.now.depths c.requires.ready.depths)
+      (entered_ready c.args.cons.now.lang.now c.args.cons.now.list.now c.args.cons.now.against c.args.order.now c.requires.order c.requires.lawful c.requires.constraints c.args.prefix.now c.args.x (slice_index_or c.args.self.now.depths (length c.args.prefix.now) []) c.requires.short (deepest c.args.cons.now.lang.now c.args.cons.now.list.now c.args.cons.now.against c.args.order.now c.args.prefix.now c.args.self.now.depths c.requires.ready.depths)
       c.len-at.result c.index_mut-2.result.now c.narrow.new.doms at same (c.narrow.ensures.alive alive)));
   plan = subst (IsPlanOf c.args.cons.now.lang.now.value_count (arcs_of c.args.cons.now.lang.now c.args.cons.now.list.now c.args.cons.now.against)) (sym (ap (λ (w : Room). w.plan) c.self.view_is)) c.requires.ready.plan;
 }

@@ -1,5 +1,5 @@
-use Rattle.std.proofs.Common.{◌≡◌, ◌++◌, ◌-◌, replicate}
+use Rattle.propagators.proofs.Filled.{AreFilled}
 use Rattle.propagators.proofs.domains.Domains.full.Given as goal
 
 abbrev pub invariant-loop-v : goal.invariant-loop-v
-invariant-loop-v l = l.sets ≡ replicate l.v l.all ++ replicate (128 - l.v) 0
+invariant-loop-v l = AreFilled l.lang l.v l.sets

@@ -1,0 +1,31 @@
+use Rattle.std.proofs.Common.{List, [], ℕ, true, sym, subst, refl, arith}
+use Rattle.propagators.specs.Families.{Arc, arcs_of}
+use Rattle.propagators.specs.Supports.{IsRevised, IsDead}
+use Rattle.propagators.specs.Plans.{IsLooked}
+use Rattle.propagators.proofs.Rounds.{dead_here}
+use Rattle.propagators.proofs.Conditions.{arcs_small}
+use Rattle.propagators.proofs.Visiting.{looked_same, looked_changed}
+use Rattle.propagators.proofs.visits.look_at_other.Goals as goal
+
+none : Arc
+none = record { scope = []; accepted = λ tuple. true }
+
+pub returns-in-None-clause-dead : goal.returns-in-None-clause-dead
+returns-in-None-clause-dead c = λ e.
+    dead_here (arcs_of c.args.cons.now.lang.now c.args.cons.now.list.now c.args.cons.now.against) c.args.doms.now c.args.i none c.requires.low
+    (subst (λ (a : Arc). IsDead a c.args.doms.now) (sym (c.condition-holding.ensures.is none)) (c.in-None.ensures.dead refl))
+
+pub returns-then-len-eq0-clause-looked : goal.returns-then-len-eq0-clause-looked
+returns-then-len-eq0-clause-looked c = λ e.
+    looked_same (arcs_of c.args.cons.now.lang.now c.args.cons.now.list.now c.args.cons.now.against) c.args.i c.args.waiting.now c.in-Some.lost c.args.doms.now c.revise.new.doms
+    (arcs_small c.args.cons.now.lang.now c.args.cons.now.list.now c.args.cons.now.against c.requires.lawful c.requires.constraints) c.requires.low c.requires.doms.full
+    (λ a. subst (λ (b : Arc). IsRevised b c.args.doms.now c.revise.new.doms) (sym (c.condition-holding.ensures.is a)) c.in-Some.ensures.revised) c.in-Some.ensures.cut
+    (let count = c.len.ensures.count in let none = c.if-len-eq0.true in omega arith)
+
+pub returns-else-len-eq0-clause-looked : goal.returns-else-len-eq0-clause-looked
+returns-else-len-eq0-clause-looked c = λ e.
+    subst (λ (next : List ℕ). IsLooked (arcs_of c.args.cons.now.lang.now c.args.cons.now.list.now c.args.cons.now.against) c.args.i c.args.waiting.now next c.args.doms.now c.revise.new.doms) (sym c.union.ensures)
+    (looked_changed (arcs_of c.args.cons.now.lang.now c.args.cons.now.list.now c.args.cons.now.against) c.args.i c.args.waiting.now c.in-Some.lost c.args.doms.now c.revise.new.doms
+    (arcs_small c.args.cons.now.lang.now c.args.cons.now.list.now c.args.cons.now.against c.requires.lawful c.requires.constraints) c.requires.low c.requires.doms.full
+    (λ a. subst (λ (b : Arc). IsRevised b c.args.doms.now c.revise.new.doms) (sym (c.condition-holding.ensures.is a)) c.in-Some.ensures.revised) c.in-Some.ensures.cut
+    (λ none. (let count = c.len.ensures.count in let some = c.if-len-eq0.false in omega arith)))
