@@ -9,3 +9,4 @@ pub mod Turning
 pub mod Reached
 pub mod NoNew
 pub mod Scoped
+pub mod Opened

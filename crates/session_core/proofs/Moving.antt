@@ -239,3 +239,7 @@ first_led k k' q run reply t lawful same knows is due new =
 
 pub led_as : (k : Knowledge) (t : List Answer) (state other : State) → state ≡ other → IsLed k t state → IsLed k t other
 led_as k t state other is h = record { at = h.at ∙ ap At is; knows = h.knows }
+
+-- what is known is the same
+pub led_from : (known k : Knowledge) (t : List Answer) (state : Knowledge → State) → known ≡ k → IsLed k t (state k) → IsLed known t (state known)
+led_from known k t state same h = subst (λ (x : Knowledge). IsLed x t (state x)) (sym same) h

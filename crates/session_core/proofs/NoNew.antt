@@ -33,4 +33,4 @@ never_idle k (puts.Tuple run) t network end on after idle = let no : ⊥ = apart
 pub settled : (session : Session) (t : List Answer) → HasNoNew session → Stands session t → IsSettled (knowledge_of session).lang (knowledge_of session).plan t (open_in session)
 settled (sessions.Idle idle) t none stands network end at = refl
 settled (sessions.Over over) t none stands network end at = refl
-settled (sessions.Asking asking) t on stands network end at = absurd (never_idle asking.knowledge asking.put t network end on stands.after at)
+settled (sessions.Asking asking) t on stands network end at = absurd (never_idle asking.knowledge.value asking.put.value t network end on stands.after at)

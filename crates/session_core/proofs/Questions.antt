@@ -1,24 +1,24 @@
--- Assignments that are questions of a language.
-use Rattle.std.proofs.Common.{◌≡◌, ℕ, Bool, true, ◌&&◌, length, refl, sym, ◌∙◌, ap, Option, None}
-use Rattle.std.specs.Prelude.{nat_lt}
-use Rattle.std.specs.List.{list_all}
-use Rattle.std.specs.Option.{option_map_or}
-use Rattle.std.proofs.lemmas.Bool.{eq-eqb}
-use Rattle.std.proofs.lemmas.List.Folds.{list_all-map}
-use Rattle.std.proofs.lemmas.List.FromFn.{fill_by_all}
-use Rattle.assign.specs.Sets.{numbers}
-use Rattle.assign.specs.Assignment.{Assignment, value_of}
-use Rattle.language.specs.Language.{Language, variable_count, is_question}
+-- An example that may be put is a question.
+use Rattle.std.proofs.Common.{◌≡◌, Bool, true, ◌&&◌, List, refl, sym, subst}
+use Rattle.std.specs.Prelude.{◌≢◌, IsTrue}
+use Rattle.std.proofs.lemmas.Bool.{and_parts}
+use Rattle.assign.specs.Assignment.{Assignment}
+use Rattle.assign.specs.declared.events.Plan.{Plan}
+use Rattle.assign.specs.declared.events.Plan.TheVariants.{Scopes, Quacq, Multi}
+use Rattle.language.specs.declared.candidates.Candidate.{Candidate}
+use Rattle.language.specs.Language.{Language, IsLanguage, IsQuestion}
+use Rattle.language.proofs.Ranged.{question_is}
+use Rattle.session_laws.specs.Session.{is_lawful}
+use Rattle.session_core.specs.declared.knowledge.Knowledge.{Knowledge}
+use Rattle.session_core.specs.Putting.{IsExample}
 
--- whether a value is one of the language, if it is there
-abbrev pub is_known : Language → Option ℕ → Bool
-is_known l o = option_map_or (λ x. nat_lt x l.value_count) o true
+first_of_four : (a b c d : Bool) → (a && b && c && d) ≡ true → a ≡ true
+first_of_four a b c d all = (and_parts a b (and_parts (a && b) c (and_parts (a && b && c) d all).0).0).0
 
--- each option is looked at where each variable is
-pub at_each : (f : Option ℕ → Bool) (e : Assignment) → list_all (λ v. f (value_of e v)) (numbers (length e)) ≡ list_all f e
-at_each f e =
-    sym (list_all-map f (value_of e) (numbers (length e))) ∙ ap (list_all f) (sym (fill_by_all (value_of e) e (length e) None refl (λ k low. refl)))
+pub by_plan : (l : Language) → IsLanguage l → (plan : Plan) (live network : List Candidate) (e : Assignment) → plan ≢ Scopes → IsTrue (is_lawful l plan live network e) → IsQuestion l e
+by_plan l lawful Scopes live network e other may = absurd (other refl)
+by_plan l lawful Quacq live network e other may = question_is l lawful e (first_of_four _ _ _ _ may)
+by_plan l lawful Multi live network e other may = question_is l lawful e (first_of_four _ _ _ _ may)
 
--- the test of a question, where it is long enough
-pub question_by : (l : Language) (q : Assignment) (b : Bool) → length q ≡ variable_count l → b ≡ list_all (λ v. is_known l (value_of q v)) (numbers (length q)) → b ≡ is_question l q
-question_by l q b long is = is ∙ at_each (is_known l) q ∙ sym (ap (λ c. c && list_all (is_known l) q) (eq-eqb (length q) (variable_count l) long))
+pub example_fits : (k k' : Knowledge) (e : Assignment) → IsLanguage k'.lang → k'.lang ≡ k.lang → IsExample k e → IsQuestion k'.lang e
+example_fits k k' e lawful same is = subst (λ l. IsQuestion l e) (sym same) (by_plan k.lang (subst IsLanguage same lawful) k.plan k.kept.members k.network.list e is.plan is.lawful)

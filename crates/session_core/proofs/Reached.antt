@@ -30,9 +30,9 @@ put_reached k (FirstTuple run) t h = record { state = Idle k.network.list h.end;
 put_reached k (Tuple run) t h = record { state = Choosing run.scope run.choices k.network.list (walk_in k.tree); at = h; learned = refl }
 
 pub reached : (session : Session) (t : List Answer) → Stands session t → IsReached (knowledge_of session) t
-reached (sessions.Idle idle) t h = record { state = Idle idle.knowledge.network.list h.after.end; at = h.after.idle; learned = refl }
-reached (sessions.Asking asking) t h = put_reached asking.knowledge asking.put t h.after
-reached (sessions.Over over) t h = record { state = Over over.knowledge.network.list; at = h.after; learned = refl }
+reached (sessions.Idle idle) t h = record { state = Idle idle.knowledge.value.network.list h.after.end; at = h.after.idle; learned = refl }
+reached (sessions.Asking asking) t h = put_reached asking.knowledge.value asking.put.value t h.after
+reached (sessions.Over over) t h = record { state = Over over.knowledge.value.network.list; at = h.after; learned = refl }
 
 -- where the last answer has ended the walk of an example, nothing is left to learn from it
 pub walk_left : (session : Session) (t : List Answer) (e : Assignment) → IsLanguage (knowledge_of session).lang → Stands session t → (knowledge_of session).plan ≡ Multi →

@@ -72,7 +72,7 @@ about_tuple l lawful run is = record {
   low = is.scope;
   alone = λ k low covered.
       same_scope l lawful (record { scope = run.scope; rel = 0 }) (record { scope = k; rel = 0 })
-      (record { scope = is.scope; rel = lawful.used run.scope [] is.scope }) (record { scope = low; rel = lawful.used k [] low })
+      (record { scope = is.scope; rel = lawful.used run.scope is.scope }) (record { scope = low; rel = lawful.used k low })
       (subst (λ set. is_within (scope_at l k) set ≡ true) (exact_question l lawful run.scope is.scope run.tuple (run_tuple l lawful run is).long)
       (covered_within (question_of l run) (scope_at l k) (λ i d below. let small = (lawful.scopes k [] low).known i d below in let few = lawful.few_variables in omega arith) covered));
 }

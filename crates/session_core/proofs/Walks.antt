@@ -1,17 +1,22 @@
 -- How a walk begins, and where there is none.
-use Rattle.std.proofs.Common.{◌≡◌, true, ◌&&◌, List, [], ◌∷◌, ◌∙◌, ap, None}
+use Rattle.std.proofs.Common.{◌≡◌, ◌⊎◌, inl, inr, true, ◌&&◌, List, [], ◌∷◌, ◌∙◌, refl, sym, ap, Option, Some, None}
 use Rattle.std.proofs.lemmas.Bool.{and_left}
 use Rattle.assign.specs.Sets.{numbers, is_within}
 use Rattle.assign.specs.Assignment.{Assignment}
 use Rattle.assign.specs.declared.events.Plan.TheVariants.{Multi}
+use Rattle.assign.specs.Events.{Answer}
 use Rattle.language.specs.declared.candidates.Candidate.{Candidate}
 use Rattle.language.specs.Language.{Language, IsLanguage, variable_count, scope_of, violates}
+use Rattle.language.specs.Answers.{kept}
 use Rattle.language.proofs.Accepts.{accepted_at}
-use Rattle.session_laws.specs.Walk.{Asks, violates_some, next_turn}
-use Rattle.session_laws.specs.Session.{MOST_SETS, is_lawful}
+use Rattle.session_laws.specs.Walk.{Turn, Asks, Ends, WalkEnd, violates_some, next_turn}
+use Rattle.session_laws.specs.Session.{State, Idle, MOST_SETS, at_turn, go_on, is_lawful}
 use Rattle.session_laws.proofs.Restrict.{restrict_all}
 use Rattle.session_laws.proofs.States.{put_is, first_turn, find_nothing}
-use Rattle.multi_tree.specs.Stage.{Stage, Ready, Asked, Done, walk_in, put_again}
+use Rattle.multi_tree.specs.declared.tree.TreeNext.{TreeNext}
+use Rattle.multi_tree.specs.declared.tree.TreeNext.TheVariants.{Ask, End, Capped}
+use Rattle.multi_tree.specs.Stage.{Stage, Ready, Asked, Done, walk_in, turn_at, put_again}
+use Rattle.multi_tree.specs.Standing.{answer_to}
 
 -- ---- the first turn
 
@@ -31,3 +36,19 @@ pub again_rests : (stage : Stage) → walk_in stage ≡ None → walk_in (put_ag
 again_rests (Ready w) h = h
 again_rests (Asked s w) h = cc
 again_rests (Done end) h = h
+
+-- ---- the end of a walk
+
+ends_at : (network : List Candidate) (turn : Turn) (answer : TreeNext) → answer ≡ answer_to turn → (answer ≡ End) ⊎ (answer ≡ Capped) → (end : Option WalkEnd) × (at_turn network turn ≡ Idle network end)
+ends_at network (Asks set walk) answer is (inl last) = absurd (let bad : Ask set ≡ End = sym is ∙ last in cc)
+ends_at network (Asks set walk) answer is (inr last) = absurd (let bad : Ask set ≡ Capped = sym is ∙ last in cc)
+ends_at network (Ends end) answer is last = (Some end, refl)
+
+-- where a turn comes to no set, nothing is open
+pub walk_ends : (l : Language) (t : List Answer) (live network : List Candidate) (stage : Stage) (answer : TreeNext) → live ≡ kept l t network → answer ≡ answer_to (turn_at l network live stage) →
+    (answer ≡ End) ⊎ (answer ≡ Capped) → (end : Option WalkEnd) × (go_on l t network (walk_in stage) ≡ Idle network end)
+walk_ends l t live network (Ready w) answer same is last =
+    ends_at network (next_turn l network (kept l t network) w.example w.left w.waiting) answer (is ∙ ap (λ (cs : List Candidate). answer_to (next_turn l network cs w.example w.left w.waiting)) same) last
+walk_ends l t live network (Asked set w) answer same is last =
+    ends_at network (next_turn l network (kept l t network) w.example w.left w.waiting) answer (is ∙ ap (λ (cs : List Candidate). answer_to (next_turn l network cs w.example w.left w.waiting)) same) last
+walk_ends l t live network (Done end) answer same is last = (None, refl)

@@ -27,5 +27,5 @@ IsNoneNew (puts.Tuple run) = Unit {0}
 -- no new question is put
 abbrev pub HasNoNew : Session → Type 0
 HasNoNew (sessions.Idle idle) = Unit {0}
-HasNoNew (sessions.Asking asking) = IsNoneNew asking.put
+HasNoNew (sessions.Asking asking) = IsNoneNew asking.put.value
 HasNoNew (sessions.Over over) = Unit {0}

@@ -21,9 +21,9 @@ use Rattle.session_core.specs.declared.session.Session.TheVariants as sessions
 
 -- what a session knows, whatever its kind
 abbrev pub knowledge_of : Session → Knowledge
-knowledge_of (sessions.Idle idle) = idle.knowledge
-knowledge_of (sessions.Asking asking) = asking.knowledge
-knowledge_of (sessions.Over over) = over.knowledge
+knowledge_of (sessions.Idle idle) = idle.knowledge.value
+knowledge_of (sessions.Asking asking) = asking.knowledge.value
+knowledge_of (sessions.Over over) = over.knowledge.value
 
 -- the question of a run on a scope
 abbrev pub question_of : Language → Run → Assignment
@@ -40,7 +40,7 @@ question_put l (puts.Tuple run) = question_of l run
 -- the question that is put, if one is
 abbrev pub open_in : Session → Option Assignment
 open_in (sessions.Idle idle) = None
-open_in (sessions.Asking asking) = Some (question_put asking.knowledge.lang asking.put)
+open_in (sessions.Asking asking) = Some (question_put asking.knowledge.value.lang asking.put.value)
 open_in (sessions.Over over) = None
 
 -- the answers lead to this state
@@ -80,9 +80,9 @@ PutAfter k (puts.Tuple run) t = LeadsTo k t (ChoosingState run.scope run.choices
 
 -- the kind, the network, the open question and what it belongs to, the walk too, are those that the answers lead to
 abbrev pub IsAfter : Session → List Answer → Type 0
-IsAfter (sessions.Idle idle) t = IsIdleAfter idle.knowledge t
-IsAfter (sessions.Asking asking) t = PutAfter asking.knowledge asking.put t
-IsAfter (sessions.Over over) t = LeadsTo over.knowledge t (OverState over.knowledge.network.list)
+IsAfter (sessions.Idle idle) t = IsIdleAfter idle.knowledge.value t
+IsAfter (sessions.Asking asking) t = PutAfter asking.knowledge.value asking.put.value t
+IsAfter (sessions.Over over) t = LeadsTo over.knowledge.value t (OverState over.knowledge.value.network.list)
 
 -- the kept candidates are those that the answers leave, and the count is theirs
 pub record Knows (k : Knowledge) (t : List Answer) : Type 0 where

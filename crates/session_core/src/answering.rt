@@ -1,11 +1,15 @@
 //! What an answer makes of what a session knows.
 
-ghost use Rattle.std.specs.Prelude.{◌≡◌, ◌+◌, ◌-◌, ◌^◌, min, ◌&&◌, not, filter, IfSome};
+ghost use Rattle.std.specs.Prelude.{◌≡◌, ◌+◌, ◌-◌, ◌^◌, min, true, false, not, filter, IfSome};
+ghost use Rattle.assign.specs.Assignment.{Assignment};
 ghost use Rattle.language.specs.Language.{IsLanguage, IsQuestion, violates};
 ghost use Rattle.bias_store.specs.KeptSet.{IsMadeFor};
 ghost use Rattle.session_core.specs.Known.{IsAbout, IsAnswered};
+ghost use Rattle.session_core.specs.Standing.{question_put};
 
 use crate::knowledge::Knowledge;
+use crate::put::Put;
+use crate::session::Asking;
 use assign::Partial;
 use bias_store::Kept;
 use language::{Language, ScopeId};
@@ -19,58 +23,61 @@ fn one_more(lang: &Language, answers: u32) -> u32
     answers.saturating_add(1)
 }
 
-/// The candidates that are kept after an answer. Where the question is about a tuple, no other scope is looked at.
-fn kept_after(
-    lang: &Language,
-    mut kept: Kept,
-    q: &Partial,
-    scope: Option<ScopeId>,
-    yes: bool,
-) -> Kept
-    requires made { IsMadeFor lang.now kept }
+/// Takes out the candidates that a question violates. Where it is about a tuple, no other scope is looked at.
+fn strike(lang: &Language, kept: &mut Kept, q: &Partial, scope: Option<ScopeId>)
+    requires made { IsMadeFor lang.now kept.old }
     requires question { IsQuestion lang.now q.now }
     requires about { IfSome scope (IsAbout lang.now q.now) }
-    ensures kept { result.members ≡ filter (λ c. not («yes» && violates lang.now c q.now)) kept.members }
-    ensures made { IsMadeFor lang.now result }
+    ensures kept { kept.new.members ≡ filter (λ c. not (violates lang.now c q.now)) kept.old.members }
+    ensures made { IsMadeFor lang.now kept.new }
 {
-    if yes {
-        match scope {
-            Some(s) => kept.strike_on(lang, s, q),
-            None => {
-                kept.strike(lang, q);
-            }
+    match scope {
+        Some(s) => kept.strike_on(lang, s, q),
+        None => {
+            kept.strike(lang, q);
         }
     }
-    kept
 }
 
 impl Knowledge {
-    /// After an answer to a question, which may be about a tuple on a scope: a yes strikes the candidates that it violates.
-    pub(crate) fn with_answer(self, q: &Partial, scope: Option<ScopeId>, yes: bool) -> Knowledge
-        requires question { IsQuestion self.lang q.now }
-        requires about { IfSome scope (IsAbout self.lang q.now) }
-        ensures answered { IsAnswered self q.now «yes» result }
-        ensures lawful { IsLanguage result.lang }
+    /// Takes in a yes to a question, which may be about a tuple on a scope: it strikes the candidates that the question
+    /// violates.
+    fn hear_yes(&mut self, q: &Partial, scope: Option<ScopeId>)
+        requires question { IsQuestion self.old.lang q.now }
+        requires about { IfSome scope (IsAbout self.old.lang q.now) }
+        ensures answered { IsAnswered self.old q.now true self.new }
+        ensures lawful { IsLanguage self.new.lang }
     {
-        let Knowledge {
-            lang,
-            plan,
-            kept,
-            network,
-            answers,
-            next,
-            tree,
-        } = self;
-        let kept = kept_after(&lang, kept, q, scope, yes);
-        let answers = one_more(&lang, answers);
-        Knowledge {
-            lang,
-            plan,
-            kept,
-            network,
-            answers,
-            next,
-            tree,
+        strike(&self.lang, &mut self.kept, q, scope);
+        self.answers = one_more(&self.lang, self.answers);
+    }
+
+    /// Takes in a no, which strikes none.
+    fn hear_no(&mut self)
+        ensures answered { (q : Assignment) → IsAnswered self.old q false self.new }
+        ensures lawful { IsLanguage self.new.lang }
+    {
+        self.answers = one_more(&self.lang, self.answers);
+    }
+}
+
+impl Asking {
+    /// What is known after an answer to the open question, and what was put. The question is made where it strikes.
+    pub(crate) fn known_after(self, yes: bool) -> (Box<Knowledge>, Box<Put>)
+        ensures answered { let k = self.knowledge.value in IsAnswered k (question_put k.lang self.put.value) «yes» result.0.value }
+        ensures lawful { IsLanguage result.0.value.lang }
+        ensures put { result.1.value ≡ self.put.value }
+    {
+        if yes {
+            let question = self.question();
+            let scope = self.scope();
+            let Asking { mut knowledge, put } = self;
+            knowledge.hear_yes(&question, scope);
+            (knowledge, put)
+        } else {
+            let Asking { mut knowledge, put } = self;
+            knowledge.hear_no();
+            (knowledge, put)
         }
     }
 }

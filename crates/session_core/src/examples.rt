@@ -1,41 +1,44 @@
 //! Which whole examples may be put.
 
-ghost use Rattle.std.specs.Prelude.{◌≡◌, true, length, nat_lt};
+ghost use Rattle.std.specs.Prelude.{◌≡◌, ◌<◌, true};
 ghost use Rattle.std.specs.List.{list_all};
-ghost use Rattle.std.specs.Option.{option_map_or};
 ghost use Rattle.assign.specs.Sets.{numbers};
 ghost use Rattle.assign.specs.Assignment.{value_of};
 ghost use Rattle.assign.specs.declared.events.Plan.TheVariants.{Quacq};
-ghost use Rattle.language.specs.Language.{is_question, IsQuestion};
+ghost use Rattle.language.specs.Language.{is_question, is_ranged, variable_count, IsQuestion};
 ghost use Rattle.session_laws.specs.Session.{is_lawful};
 
 use crate::knowledge::Knowledge;
 use assign::Partial;
 use language::Language;
 
-/// Whether a variable of q has no value or one of the language.
-fn is_value_known(lang: &Language, q: &Partial, v: u8) -> bool
-    ensures { result ≡ option_map_or (λ x. nat_lt x lang.now.value_count) (value_of q.now v) true }
+/// Whether a variable of q has no value or one of its range.
+fn is_value_ranged(lang: &Language, q: &Partial, v: u8) -> bool
+    requires { v < variable_count lang.now }
+    ensures { result ≡ is_ranged lang.now v (value_of q.now v) }
 {
     match q.get(v) {
-        Some(value) => value < lang.d(),
+        Some(value) => {
+            let (first, last) = lang.range(v);
+            first <= value && value <= last
+        }
         None => true,
     }
 }
 
-/// Whether each variable of q has no value or one of the language.
-fn are_values_known(lang: &Language, q: &Partial) -> bool
-    ensures { result ≡ list_all (λ v. option_map_or (λ x. nat_lt x lang.now.value_count) (value_of q.now v) true) (numbers (length q.now)) }
+/// Whether each variable of q has no value or one of its range.
+fn are_values_ranged(lang: &Language, q: &Partial) -> bool
+    ensures { result ≡ list_all (λ v. is_ranged lang.now v (value_of q.now v)) (numbers (variable_count lang.now)) }
 {
-    (0..q.len()).all(|v| is_value_known(lang, q, v))
+    (0..lang.n()).all(|v| is_value_ranged(lang, q, v))
 }
 
-/// Whether q is an assignment of the language's variables to its values.
+/// Whether q is an assignment of the language's variables, each to a value of its range.
 fn is_question(lang: &Language, q: &Partial) -> bool
     ensures is { result ≡ is_question lang.now q.now }
     ensures question { result ≡ true → IsQuestion lang.now q.now }
 {
-    q.len() == lang.n() && are_values_known(lang, q)
+    q.len() == lang.n() && are_values_ranged(lang, q)
 }
 
 /// Whether an example may be put: it is complete, the network accepts it, and it violates a kept candidate.

@@ -30,194 +30,162 @@ use language::Candidate;
 use multi_tree::TreeNext;
 
 /// The walk of an example goes on, where there is one, and else nothing is open.
-fn walk_on(knowledge: Knowledge) -> Session
-    ensures lang { (knowledge_of result).lang ≡ knowledge.lang }
-    ensures plan { (knowledge_of result).plan ≡ knowledge.plan }
+fn walk_on(mut knowledge: Box<Knowledge>, mut room: Box<Put>) -> Session
+    ensures lang { (knowledge_of result).lang ≡ knowledge.value.lang }
+    ensures plan { (knowledge_of result).plan ≡ knowledge.value.plan }
     ensures none_new { HasNoNew result }
-    ensures stands { let k = knowledge in StandsWhere k (λ t. go_on k.lang t k.network.list (walk_in k.tree)) result }
+    ensures stands { let k = knowledge.value in StandsWhere k (λ t. go_on k.lang t k.network.list (walk_in k.tree)) result }
 {
-    let Knowledge {
-        lang,
-        plan,
-        kept,
-        network,
-        answers,
-        next,
-        mut tree,
-    } = knowledge;
-    let turn = tree.next(&lang, &network, &kept);
-    let example = tree.example();
-    let knowledge = Knowledge {
-        lang,
-        plan,
-        kept,
-        network,
-        answers,
-        next,
-        tree,
-    };
-    match turn {
-        TreeNext::Ask(set) => Session::Asking(Asking {
-            knowledge,
-            put: Put::OnWalk { example, set },
-        }),
-        TreeNext::End | TreeNext::Capped => Session::Idle(Idle { knowledge }),
+    let known = knowledge.as_mut();
+    match known.tree.next(&known.lang, &known.network, &known.kept) {
+        TreeNext::Ask(set) => {
+            let example = known.tree.example();
+            *room = Put::OnWalk { example, set };
+            Session::Asking(Asking {
+                knowledge,
+                put: room,
+            })
+        }
+        TreeNext::End | TreeNext::Capped => Session::Idle(Idle { knowledge, room }),
     }
 }
 
 /// A candidate is learned, and its scope leaves the kept ones.
-pub(crate) fn learn(knowledge: Knowledge, c: Candidate) -> Session
-    requires candidate { IsCandidate knowledge.lang c }
-    requires fresh { has_scope knowledge.network.list c.scope ≡ false }
-    ensures lang { (knowledge_of result).lang ≡ knowledge.lang }
-    ensures plan { (knowledge_of result).plan ≡ knowledge.plan }
+pub(crate) fn learn(mut knowledge: Box<Knowledge>, room: Box<Put>, c: Candidate) -> Session
+    requires candidate { IsCandidate knowledge.value.lang c }
+    requires fresh { has_scope knowledge.value.network.list c.scope ≡ false }
+    ensures lang { (knowledge_of result).lang ≡ knowledge.value.lang }
+    ensures plan { (knowledge_of result).plan ≡ knowledge.value.plan }
     ensures none_new { HasNoNew result }
-    ensures stands { let k = knowledge in StandsWhere k (λ t. go_on k.lang t (k.network.list ++ c ∷ []) (walk_in k.tree)) result }
+    ensures stands { let k = knowledge.value in StandsWhere k (λ t. go_on k.lang t (k.network.list ++ c ∷ []) (walk_in k.tree)) result }
 {
-    let Knowledge {
-        lang,
-        plan,
-        mut kept,
-        mut network,
-        answers,
-        next,
-        tree,
-    } = knowledge;
-    kept.drop_scope(c.scope);
-    network.learn(c);
-    walk_on(Knowledge {
-        lang,
-        plan,
-        kept,
-        network,
-        answers,
-        next,
-        tree,
-    })
+    let known = knowledge.as_mut();
+    known.kept.drop_scope(c.scope);
+    known.network.learn(c);
+    walk_on(knowledge, room)
 }
 
 /// Choices on a scope are told apart further, or what remains of them is learned.
-pub(crate) fn tell_apart(knowledge: Knowledge, next: RelNext) -> Session
-    requires choices { AreChoices knowledge.lang knowledge.network.list next }
+pub(crate) fn tell_apart(knowledge: Box<Knowledge>, mut room: Box<Put>, next: RelNext) -> Session
+    requires choices { AreChoices knowledge.value.lang knowledge.value.network.list next }
     requires some { next ≢ RelNext.Nothing }
-    ensures lang { (knowledge_of result).lang ≡ knowledge.lang }
-    ensures plan { (knowledge_of result).plan ≡ knowledge.plan }
+    ensures lang { (knowledge_of result).lang ≡ knowledge.value.lang }
+    ensures plan { (knowledge_of result).plan ≡ knowledge.value.plan }
     ensures none_new { HasNoNew result }
-    ensures stands { (s : ℕ) (choices : List Choice) → let k = knowledge in LeavesChoices k.lang s choices next →
+    ensures stands { (s : ℕ) (choices : List Choice) → let k = knowledge.value in LeavesChoices k.lang s choices next →
         StandsWhere k (λ t. settle_choices k.lang t s choices k.network.list (walk_in k.tree)) result }
 {
     match next {
-        RelNext::Wants(run) => Session::Asking(Asking {
-            knowledge,
-            put: Put::Tuple(run),
-        }),
-        RelNext::Found(c) => learn(knowledge, c),
-        RelNext::Free => walk_on(knowledge),
+        RelNext::Wants(run) => {
+            *room = Put::Tuple(run);
+            Session::Asking(Asking {
+                knowledge,
+                put: room,
+            })
+        }
+        RelNext::Found(c) => learn(knowledge, room, c),
+        RelNext::Free => walk_on(knowledge, room),
         RelNext::Nothing => unreachable!(),
     }
 }
 
 /// The set that a halving found: a scope with kept candidates that the example violates, or nothing can be learned.
-fn take_found(knowledge: Knowledge, example: Partial, set: VarSet) -> Session
-    requires question { IsQuestion knowledge.lang example }
-    ensures lang { (knowledge_of result).lang ≡ knowledge.lang }
-    ensures plan { (knowledge_of result).plan ≡ knowledge.plan }
+fn take_found(knowledge: Box<Knowledge>, room: Box<Put>, example: Partial, set: VarSet) -> Session
+    requires question { IsQuestion knowledge.value.lang example }
+    ensures lang { (knowledge_of result).lang ≡ knowledge.value.lang }
+    ensures plan { (knowledge_of result).plan ≡ knowledge.value.plan }
     ensures none_new { HasNoNew result }
-    ensures stands { let k = knowledge in StandsWhere k (λ t. found k.lang t example k.network.list (walk_in k.tree) (scope_number k.lang set)) result }
+    ensures stands { let k = knowledge.value in StandsWhere k (λ t. found k.lang t example k.network.list (walk_in k.tree) (scope_number k.lang set)) result }
 {
-    let Some(s) = knowledge.lang.scope_of(set) else {
-        return Session::Over(Collapsed { knowledge });
+    let known = knowledge.as_ref();
+    let Some(s) = known.lang.scope_of(set) else {
+        return Session::Over(Collapsed { knowledge, room });
     };
-    match RelRun::start(&knowledge.lang, &knowledge.kept, s, &example) {
-        RelNext::Nothing => Session::Over(Collapsed { knowledge }),
-        next => tell_apart(knowledge, next),
+    match RelRun::start(&known.lang, &known.kept, s, &example) {
+        RelNext::Nothing => Session::Over(Collapsed { knowledge, room }),
+        next => tell_apart(knowledge, room, next),
     }
 }
 
 /// The halving of a set of an example's variables goes on by itself, and then asks or has found a set.
 pub(crate) fn halve_on(
-    knowledge: Knowledge,
+    knowledge: Box<Knowledge>,
+    mut room: Box<Put>,
     example: Partial,
     set: VarSet,
     next: ScopeNext,
 ) -> Session
-    requires question { IsQuestion knowledge.lang example }
-    ensures lang { (knowledge_of result).lang ≡ knowledge.lang }
-    ensures plan { (knowledge_of result).plan ≡ knowledge.plan }
+    requires question { IsQuestion knowledge.value.lang example }
+    ensures lang { (knowledge_of result).lang ≡ knowledge.value.lang }
+    ensures plan { (knowledge_of result).plan ≡ knowledge.value.plan }
     ensures none_new { HasNoNew result }
-    ensures stands { (replies : List Bool) → let k = knowledge in StandsFor next set replies →
+    ensures stands { (replies : List Bool) → let k = knowledge.value in StandsFor next set replies →
         StandsWhere k (λ t. settle_halving k.lang t example set replies k.network.list (walk_in k.tree)) result }
 {
     let size = set.len();
-    match settle(&knowledge.lang, &knowledge.kept, &example, size, next) {
-        ScopeNext::Wants(run) => Session::Asking(Asking {
-            knowledge,
-            put: Put::Part { example, set, run },
-        }),
-        ScopeNext::Found(got) => take_found(knowledge, example, got),
+    let known = knowledge.as_ref();
+    match settle(&known.lang, &known.kept, &example, size, next) {
+        ScopeNext::Wants(run) => {
+            *room = Put::Part { example, set, run };
+            Session::Asking(Asking {
+                knowledge,
+                put: room,
+            })
+        }
+        ScopeNext::Found(got) => take_found(knowledge, room, example, got),
     }
 }
 
-/// The set that the walk has asked about is put again, where there is a walk.
-fn with_set_again(knowledge: Knowledge) -> Knowledge
-    requires { knowledge.plan ≡ Multi → asked_in knowledge.tree ≢ None }
-    ensures { HasPutAgain knowledge result }
-{
-    let Knowledge {
-        lang,
-        plan,
-        kept,
-        network,
-        answers,
-        next,
-        mut tree,
-    } = knowledge;
-    if plan == Plan::Multi {
-        tree.again();
-    }
-    Knowledge {
-        lang,
-        plan,
-        kept,
-        network,
-        answers,
-        next,
-        tree,
+impl Knowledge {
+    /// The set that the walk has asked about is put again, where there is a walk.
+    fn put_set_again(&mut self)
+        requires { self.old.plan ≡ Multi → asked_in self.old.tree ≢ None }
+        ensures { HasPutAgain self.old self.new }
+    {
+        if self.plan == Plan::Multi {
+            self.tree.again();
+        }
     }
 }
 
 /// An example is answered on a set, which is halved after a no.
 pub(crate) fn part_answered(
-    knowledge: Knowledge,
+    mut knowledge: Box<Knowledge>,
+    room: Box<Put>,
     example: Partial,
     set: VarSet,
     yes: bool,
 ) -> Session
-    requires question { IsQuestion knowledge.lang example }
+    requires question { IsQuestion knowledge.value.lang example }
     requires some { 0 < length set }
-    requires asked { knowledge.plan ≡ Multi → asked_in knowledge.tree ≢ None }
-    ensures lang { (knowledge_of result).lang ≡ knowledge.lang }
-    ensures plan { (knowledge_of result).plan ≡ knowledge.plan }
+    requires asked { knowledge.value.plan ≡ Multi → asked_in knowledge.value.tree ≢ None }
+    ensures lang { (knowledge_of result).lang ≡ knowledge.value.lang }
+    ensures plan { (knowledge_of result).plan ≡ knowledge.value.plan }
     ensures none_new { HasNoNew result }
-    ensures stands { let k = knowledge in StandsWhere k (λ t. part_replied k.lang t example set «yes» k.network.list k.tree) result }
+    ensures stands { let k = knowledge.value in StandsWhere k (λ t. part_replied k.lang t example set «yes» k.network.list k.tree) result }
 {
     if yes {
-        return walk_on(knowledge);
+        return walk_on(knowledge, room);
     }
-    let knowledge = with_set_again(knowledge);
-    halve_on(knowledge, example, set, ScopeRun::start(set))
+    knowledge.put_set_again();
+    halve_on(knowledge, room, example, set, ScopeRun::start(set))
 }
 
 /// A tuple on a scope is answered.
-pub(crate) fn tuple_answered(knowledge: Knowledge, run: RelRun, yes: bool) -> Session
-    requires run { IsRun knowledge.lang run }
-    requires free { has_scope knowledge.network.list run.scope ≡ false }
-    ensures lang { (knowledge_of result).lang ≡ knowledge.lang }
-    ensures plan { (knowledge_of result).plan ≡ knowledge.plan }
+pub(crate) fn tuple_answered(
+    knowledge: Box<Knowledge>,
+    room: Box<Put>,
+    run: RelRun,
+    yes: bool,
+) -> Session
+    requires run { IsRun knowledge.value.lang run }
+    requires free { has_scope knowledge.value.network.list run.scope ≡ false }
+    ensures lang { (knowledge_of result).lang ≡ knowledge.value.lang }
+    ensures plan { (knowledge_of result).plan ≡ knowledge.value.plan }
     ensures none_new { HasNoNew result }
-    ensures stands { let k = knowledge in
+    ensures stands { let k = knowledge.value in
         StandsWhere k (λ t. settle_choices k.lang t run.scope (after_reply (scene_of k.lang run.scope) run.tuple «yes» run.choices) k.network.list (walk_in k.tree)) result }
 {
     let next = run.reply(&knowledge.lang, yes);
-    tell_apart(knowledge, next)
+    tell_apart(knowledge, room, next)
 }

@@ -37,17 +37,22 @@ pub fn begin(alloc: Global, lang: Language, plan: Plan) -> Result<Session, Memor
     let kept = Kept::of(alloc, &lang)?;
     let network = Network::new(alloc, &lang)?;
     let tree = Tree::make(alloc)?;
-    Ok(Session::Idle(Idle {
-        knowledge: Knowledge {
-            lang,
-            plan,
-            kept,
-            network,
-            answers: 0,
-            next: 0,
-            tree,
-        },
-    }))
+    let knowledge = Knowledge {
+        lang,
+        plan,
+        kept,
+        network,
+        answers: 0,
+        next: 0,
+        tree,
+    };
+    let Ok(knowledge) = Box::new(alloc, knowledge) else {
+        return Err(Memory);
+    };
+    let Ok(room) = Box::new(alloc, Put::blank()) else {
+        return Err(Memory);
+    };
+    Ok(Session::Idle(Idle { knowledge, room }))
 }
 
 impl Session {
@@ -59,45 +64,30 @@ impl Session {
         ensures plan { (knowledge_of result).plan ≡ (knowledge_of self).plan }
     {
         match self {
-            Session::Idle(idle) => idle.knowledge.fresh_session(),
-            Session::Asking(asking) => asking.knowledge.fresh_session(),
-            Session::Over(over) => over.knowledge.fresh_session(),
+            Session::Idle(idle) => fresh_session(idle.knowledge, idle.room),
+            Session::Asking(asking) => fresh_session(asking.knowledge, asking.put),
+            Session::Over(over) => fresh_session(over.knowledge, over.room),
         }
     }
 }
 
-impl Knowledge {
-    /// The session of the same language and plan that knows nothing yet.
-    fn fresh_session(self) -> Session
-        ensures stands { Stands result [] }
-        ensures idle { open_in result ≡ None }
-        ensures lang { (knowledge_of result).lang ≡ self.lang }
-        ensures plan { (knowledge_of result).plan ≡ self.plan }
-    {
-        let Knowledge {
-            lang,
-            plan,
-            mut kept,
-            mut network,
-            mut tree,
-            ..
-        } = self;
-        kept.reset(&lang);
-        network.clear();
-        tree.clear();
-        Session::Idle(Idle {
-            knowledge: Knowledge {
-                lang,
-                plan,
-                kept,
-                network,
-                answers: 0,
-                next: 0,
-                tree,
-            },
-        })
-    }
+/// The session of the same language and plan that knows nothing yet.
+fn fresh_session(mut knowledge: Box<Knowledge>, room: Box<Put>) -> Session
+    ensures stands { Stands result [] }
+    ensures idle { open_in result ≡ None }
+    ensures lang { (knowledge_of result).lang ≡ knowledge.value.lang }
+    ensures plan { (knowledge_of result).plan ≡ knowledge.value.plan }
+{
+    let known = knowledge.as_mut();
+    known.kept.reset(&known.lang);
+    known.network.clear();
+    known.tree.clear();
+    known.answers = 0;
+    known.next = 0;
+    Session::Idle(Idle { knowledge, room })
+}
 
+impl Knowledge {
     /// The run on the first scope whose choices differ.
     fn first_run(&self) -> Option<RelRun>
         ensures { let k = self.now in FirstRun k.lang k.kept.members k.network.list result }
@@ -125,94 +115,65 @@ impl Knowledge {
             None => false,
         }
     }
+}
 
-    /// Puts the first question of the first scope whose choices differ.
-    fn ask_first(self, q: Partial) -> Asking
-        requires plan { self.plan ≡ Plan.Scopes }
-        requires lawful { IsTrue (is_lawful self.lang self.plan self.kept.members self.network.list q) }
-        ensures question { open_in (Session.Asking result) ≡ Some q }
-        ensures lang { (knowledge_of (Session.Asking result)).lang ≡ self.lang }
-        ensures plan { (knowledge_of (Session.Asking result)).plan ≡ self.plan }
-        ensures stands { StandsWhereIdle self (Session.Asking result) }
-    {
-        let _ = q;
-        match self.first_run() {
-            Some(run) => {
-                let Knowledge {
-                    lang,
-                    plan,
-                    kept,
-                    network,
-                    answers,
-                    tree,
-                    ..
-                } = self;
-                Asking {
-                    knowledge: Knowledge {
-                        lang,
-                        plan,
-                        kept,
-                        network,
-                        answers,
-                        next: u32::from(run.scope()),
-                        tree,
-                    },
-                    put: Put::FirstTuple(run),
-                }
+/// Puts the first question of the first scope whose choices differ.
+fn ask_first(mut knowledge: Box<Knowledge>, mut room: Box<Put>, q: Partial) -> Asking
+    requires plan { knowledge.value.plan ≡ Plan.Scopes }
+    requires lawful { let k = knowledge.value in IsTrue (is_lawful k.lang k.plan k.kept.members k.network.list q) }
+    ensures question { open_in (Session.Asking result) ≡ Some q }
+    ensures lang { (knowledge_of (Session.Asking result)).lang ≡ knowledge.value.lang }
+    ensures plan { (knowledge_of (Session.Asking result)).plan ≡ knowledge.value.plan }
+    ensures stands { StandsWhereIdle knowledge.value (Session.Asking result) }
+{
+    let _ = q;
+    match knowledge.first_run() {
+        Some(run) => {
+            knowledge.next = u32::from(run.scope());
+            *room = Put::FirstTuple(run);
+            Asking {
+                knowledge,
+                put: room,
             }
-            None => unreachable!(),
         }
+        None => unreachable!(),
     }
+}
 
-    /// Puts an example.
-    fn ask_whole(self, q: Partial) -> Asking
-        requires plan { self.plan ≡ Plan.Quacq }
-        requires lawful { IsTrue (is_lawful self.lang self.plan self.kept.members self.network.list q) }
-        ensures question { open_in (Session.Asking result) ≡ Some q }
-        ensures lang { (knowledge_of (Session.Asking result)).lang ≡ self.lang }
-        ensures plan { (knowledge_of (Session.Asking result)).plan ≡ self.plan }
-        ensures stands { StandsWhereIdle self (Session.Asking result) }
-    {
-        Asking {
-            knowledge: self,
-            put: Put::Example(q),
-        }
+/// Puts an example.
+fn ask_whole(knowledge: Box<Knowledge>, mut room: Box<Put>, q: Partial) -> Asking
+    requires plan { knowledge.value.plan ≡ Plan.Quacq }
+    requires lawful { let k = knowledge.value in IsTrue (is_lawful k.lang k.plan k.kept.members k.network.list q) }
+    ensures question { open_in (Session.Asking result) ≡ Some q }
+    ensures lang { (knowledge_of (Session.Asking result)).lang ≡ knowledge.value.lang }
+    ensures plan { (knowledge_of (Session.Asking result)).plan ≡ knowledge.value.plan }
+    ensures stands { StandsWhereIdle knowledge.value (Session.Asking result) }
+{
+    *room = Put::Example(q);
+    Asking {
+        knowledge,
+        put: room,
     }
+}
 
-    /// Puts an example, and begins its walk.
-    fn ask_walked(self, q: Partial) -> Asking
-        requires plan { self.plan ≡ Plan.Multi }
-        requires lawful { IsTrue (is_lawful self.lang self.plan self.kept.members self.network.list q) }
-        ensures question { open_in (Session.Asking result) ≡ Some q }
-        ensures lang { (knowledge_of (Session.Asking result)).lang ≡ self.lang }
-        ensures plan { (knowledge_of (Session.Asking result)).plan ≡ self.plan }
-        ensures stands { StandsWhereIdle self (Session.Asking result) }
-    {
-        let Knowledge {
-            lang,
-            plan,
-            kept,
-            network,
-            answers,
-            next,
-            mut tree,
-        } = self;
-        let _variables = lang.n();
-        tree.start(&lang, q);
-        // All of it is asked about: the network accepts it, and it violates a kept candidate.
-        let _ = tree.next(&lang, &network, &kept);
-        Asking {
-            knowledge: Knowledge {
-                lang,
-                plan,
-                kept,
-                network,
-                answers,
-                next,
-                tree,
-            },
-            put: Put::Example(q),
-        }
+/// Puts an example, and begins its walk.
+fn ask_walked(mut knowledge: Box<Knowledge>, mut room: Box<Put>, q: Partial) -> Asking
+    requires plan { knowledge.value.plan ≡ Plan.Multi }
+    requires lawful { let k = knowledge.value in IsTrue (is_lawful k.lang k.plan k.kept.members k.network.list q) }
+    ensures question { open_in (Session.Asking result) ≡ Some q }
+    ensures lang { (knowledge_of (Session.Asking result)).lang ≡ knowledge.value.lang }
+    ensures plan { (knowledge_of (Session.Asking result)).plan ≡ knowledge.value.plan }
+    ensures stands { StandsWhereIdle knowledge.value (Session.Asking result) }
+{
+    let known = knowledge.as_mut();
+    let _variables = known.lang.n();
+    known.tree.start(&known.lang, q);
+    // All of it is asked about: the network accepts it, and it violates a kept candidate.
+    let _ = known.tree.next(&known.lang, &known.network, &known.kept);
+    *room = Put::Example(q);
+    Asking {
+        knowledge,
+        put: room,
     }
 }
 
@@ -249,22 +210,22 @@ impl Idle {
         ensures plan { (knowledge_of (Session.Asking result)).plan ≡ (knowledge_of (Session.Idle self)).plan }
         ensures stands { (t : List Answer) → Stands (Session.Idle self) t → Stands (Session.Asking result) t }
     {
-        let Idle { knowledge } = self;
+        let Idle { knowledge, room } = self;
         match knowledge.plan {
-            Plan::Scopes => knowledge.ask_first(q),
-            Plan::Quacq => knowledge.ask_whole(q),
-            Plan::Multi => knowledge.ask_walked(q),
+            Plan::Scopes => ask_first(knowledge, room, q),
+            Plan::Quacq => ask_whole(knowledge, room, q),
+            Plan::Multi => ask_walked(knowledge, room, q),
         }
     }
 }
 
 impl Asking {
     /// The scope of the tuple that is asked about, where it is one.
-    fn scope(&self) -> Option<ScopeId>
-        ensures { let k = knowledge_of (Session.Asking self.now) in IfSome result (IsAbout k.lang (question_put k.lang self.now.put)) }
+    pub(crate) fn scope(&self) -> Option<ScopeId>
+        ensures { let k = knowledge_of (Session.Asking self.now) in IfSome result (IsAbout k.lang (question_put k.lang self.now.put.value)) }
     {
         let _variables = self.knowledge.lang.n();
-        match &self.put {
+        match &*self.put {
             Put::FirstTuple(run) => Some(run.scope()),
             Put::Tuple(run) => Some(run.scope()),
             Put::Example(_) | Put::OnWalk { .. } | Put::Part { .. } => None,
@@ -277,7 +238,8 @@ impl Asking {
         ensures fits { IsQuestion (knowledge_of (Session.Asking self.now)).lang result }
         ensures asked { (t : List Answer) → let k = knowledge_of (Session.Asking self.now) in Stands (Session.Asking self.now) t → IsAskedAfter k.lang k.plan t result }
     {
-        match &self.put {
+        let _variables = self.knowledge.lang.n();
+        match &*self.put {
             Put::Example(example) => *example,
             Put::OnWalk { example, set } => example.restrict(*set),
             Put::Part { example, run, .. } => example.restrict(run.wants()),
@@ -309,19 +271,18 @@ impl Asking {
         ensures stands { (t : List Answer) (q : _) → open_in (Session.Asking self) ≡ Some q → Stands (Session.Asking self) t
             → Stands result (t ++ record { question = q; yes = «yes» } ∷ []) }
     {
-        let question = self.question();
-        let scope = self.scope();
-        let Asking { knowledge, put } = self;
-        let knowledge = knowledge.with_answer(&question, scope, yes);
-        match put {
+        let (knowledge, mut room) = self.known_after(yes);
+        match Box::replace(&mut room, Put::blank()) {
             Put::Example(example) => {
                 let all = VarSet::all(knowledge.lang.n());
-                part_answered(knowledge, example, all, yes)
+                part_answered(knowledge, room, example, all, yes)
             }
-            Put::OnWalk { example, set } => part_answered(knowledge, example, set, yes),
-            Put::Part { example, set, run } => halve_on(knowledge, example, set, run.reply(yes)),
-            Put::FirstTuple(run) => tuple_answered(knowledge, run, yes),
-            Put::Tuple(run) => tuple_answered(knowledge, run, yes),
+            Put::OnWalk { example, set } => part_answered(knowledge, room, example, set, yes),
+            Put::Part { example, set, run } => {
+                halve_on(knowledge, room, example, set, run.reply(yes))
+            }
+            Put::FirstTuple(run) => tuple_answered(knowledge, room, run, yes),
+            Put::Tuple(run) => tuple_answered(knowledge, room, run, yes),
         }
     }
 }

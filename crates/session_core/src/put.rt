@@ -25,3 +25,10 @@ pub enum Put {
     /// A further tuple on a scope.
     Tuple(RelRun),
 }
+
+impl Put {
+    /// What stands in the place of a question while none is put.
+    pub(crate) fn blank() -> Put {
+        Put::Example(Partial::blank(1))
+    }
+}

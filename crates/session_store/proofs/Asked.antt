@@ -6,7 +6,7 @@ use Rattle.std.proofs.lemmas.List.Folds.{list_any-append}
 use Rattle.assign.specs.Assignment.{Assignment, widened}
 use Rattle.assign.specs.Events.{Answer}
 use Rattle.assign.specs.declared.events.Plan.{Plan}
-use Rattle.language.specs.Language.{Language, IsLanguage}
+use Rattle.language.specs.Language.{Language, IsLanguage, IsQuestion}
 use Rattle.session_laws.specs.Laws.{has_value, IsAskable}
 use Rattle.session_laws.specs.Session.{State, Idle, Halving, Choosing, Walking, Over, At, state_after}
 use Rattle.session_laws.proofs.Askable.{questions_have_values}
@@ -31,3 +31,6 @@ module _ (l : Language) (lawful : IsLanguage l) where
 
   pub asked_has : (plan : Plan) (t : List Answer) (q : Assignment) → IsAskedAfter l plan t q → has_value q ≡ true
   asked_has plan t q asked = (asked_in plan t q asked.state asked.at asked.asked).some
+
+  pub asked_fits : (plan : Plan) (t : List Answer) (q : Assignment) → IsAskedAfter l plan t q → IsQuestion l q
+  asked_fits plan t q asked = (asked_in plan t q asked.state asked.at asked.asked).fits

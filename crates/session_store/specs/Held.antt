@@ -14,7 +14,7 @@ use Rattle.session_store.specs.declared.held.Held.{Held}
 
 -- the language, the plan and the question of a session that is there
 abbrev pub lang_in : Option Session → Language
-lang_in None = record { names = []; least_value = pos 0; value_count = 0; given = []; scopes = []; relations = [] }
+lang_in None = record { names = []; least_value = pos 0; value_count = 0; ranges = []; given = []; scopes = []; relations = [] }
 lang_in (Some session) = (knowledge_of session).lang
 
 abbrev pub plan_in : Option Session → Plan

@@ -121,7 +121,7 @@ impl Held {
     {
         match self.session.take() {
             Some(Session::Asking(asking)) => {
-                let _question = asking.question();
+                let _lang = asking.lang();
                 self.events.push(event).unwrap();
                 self.session = Some(asking.answer(yes));
             }

@@ -1,4 +1,4 @@
-use Rattle.std.proofs.Common.{◌∙◌, List, ℕ, sym, ap, subst}
+use Rattle.std.proofs.Common.{◌≡◌, ◌∙◌, List, ℕ, sym, ap, subst}
 use Rattle.find_scope.specs.Standing.{StandsFor}
 use Rattle.find_scope.specs.declared.run.ScopeNext.{ScopeNext}
 use Rattle.session_laws.specs.Session.{At}
@@ -10,9 +10,10 @@ use Rattle.session_core.proofs.going.halve_on.Goals as goal
 
 pub returns-in-Wants-clause-stands : goal.returns-in-Wants-clause-stands
 returns-in-Wants-clause-stands c = λ replies stands t led.
-    let k : Knowledge = c.args.knowledge in
+    let k : Knowledge = c.args.knowledge.value in
     let set : List ℕ = c.args.set in
-    let at = subst (λ (next : ScopeNext). StandsFor next set (all_replies k.lang k.kept.members c.args.example set replies)) c.in-Wants.is (c.settle.ensures set replies (sym c.len-size.ensures.count) stands) in
+    let settled = subst (λ (x : Knowledge). StandsFor c.settle.result set (all_replies x.lang x.kept.members c.args.example set replies)) c.as_ref-known.ensures (c.settle.ensures set replies (sym c.len-size.ensures.count) stands) in
+    let at = subst (λ (next : ScopeNext). StandsFor next set (all_replies k.lang k.kept.members c.args.example set replies)) c.in-Wants.is settled in
     record {
       after = record {
         replies = all_replies k.lang k.kept.members c.args.example set replies;
@@ -24,7 +25,8 @@ returns-in-Wants-clause-stands c = λ replies stands t led.
 
 pub returns-in-Found-clause-stands : goal.returns-in-Found-clause-stands
 returns-in-Found-clause-stands c = λ replies stands t led.
-    let k : Knowledge = c.args.knowledge in
+    let k : Knowledge = c.args.knowledge.value in
     let set : List ℕ = c.args.set in
-    let at = subst (λ (next : ScopeNext). StandsFor next set (all_replies k.lang k.kept.members c.args.example set replies)) c.in-Found.is (c.settle.ensures set replies (sym c.len-size.ensures.count) stands) in
+    let settled = subst (λ (x : Knowledge). StandsFor c.settle.result set (all_replies x.lang x.kept.members c.args.example set replies)) c.as_ref-known.ensures (c.settle.ensures set replies (sym c.len-size.ensures.count) stands) in
+    let at = subst (λ (next : ScopeNext). StandsFor next set (all_replies k.lang k.kept.members c.args.example set replies)) c.in-Found.is settled in
     c.take_found.ensures.stands t (led_as k t _ _ (settled_found k.lang t c.args.example set replies k.network.list k.kept.members (walk_in k.tree) c.in-Found.got led.knows.kept at) led)

@@ -1,18 +1,31 @@
-use Rattle.std.proofs.Common.{refl, sym, ◌∙◌, ap, [], None, List}
+use Rattle.std.proofs.Common.{◌≡◌, sym, ◌∙◌, ap, [], None, List}
 use Rattle.language.specs.declared.candidates.Candidate.{Candidate}
-use Rattle.language.specs.Language.{candidates}
+use Rattle.language.specs.Language.{Language, candidates}
 use Rattle.language.specs.Answers.{kept}
 use Rattle.session_laws.specs.Session.{At, Idle}
+use Rattle.multi_tree.specs.Stage.{Stage, Ready, Asked, Done, IsWalkOn, walk_in}
+use Rattle.session_core.specs.declared.knowledge.Knowledge.{Knowledge}
 use Rattle.session_core.proofs.Moving.{filter_all, state_nil}
 use Rattle.session_core.proofs.moves.begin.Goals as goal
 
 pub returns-clause-stands : goal.returns-clause-stands
 returns-clause-stands c =
-    let empty = sym c.in_ok-network.ensures.empty in
+    let k : Knowledge = c.in-Ok.knowledge.value in
+    let made = c.in-Ok.ensures.ok in
+    let empty = sym (ap (λ (x : Knowledge). x.network.list) made ∙ c.in_ok-network.ensures.empty) in
+    let all = ap (λ (x : Knowledge). x.kept.members) made ∙ c.in_ok-kept.ensures.all ∙ ap (λ (x : Knowledge). candidates x.lang) (sym made) in
     record {
-      after = record { end = None; idle = state_nil c.args.lang c.args.plan ∙ ap (λ (network : List Candidate). At (Idle network None)) empty };
+      after = record { end = None; idle = state_nil k.lang k.plan ∙ ap (λ (network : List Candidate). At (Idle network None)) empty };
       knows = record {
-        kept = c.in_ok-kept.ensures.all ∙ sym (filter_all (candidates c.args.lang)) ∙ ap (kept c.args.lang []) empty;
-        count = refl;
+        kept = all ∙ sym (filter_all (candidates k.lang)) ∙ ap (kept k.lang []) empty;
+        count = ap (λ (x : Knowledge). x.answers) made;
       };
     }
+
+at_rest : (l : Language) (stage : Stage) → walk_in stage ≡ None → IsWalkOn l stage
+at_rest l (Ready walk) none = absurd (let bad : ⊥ = cc in bad)
+at_rest l (Asked set walk) none = absurd (let bad : ⊥ = cc in bad)
+at_rest l (Done end) none = tt
+
+pub invariant_of-knowledge-clause-walks : goal.invariant_of-knowledge-clause-walks
+invariant_of-knowledge-clause-walks c = at_rest c.args.lang c.in_ok-tree.tree c.in_ok-tree.ensures

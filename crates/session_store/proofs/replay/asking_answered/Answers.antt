@@ -13,7 +13,7 @@ same_state s t e = cc
 
 pub returns-then-equals-clause-some : goal.returns-then-equals-clause-some
 returns-then-equals-clause-some c =
-    let k = c.args.asking.knowledge in
+    let k = c.args.asking.knowledge.value in
     let q : Assignment = c.args.question.now in
     let there : Assignment = c.question-open.result in
     let same : there ≡ q = c.equals.ensures.0 c.if-equals.true in
@@ -33,7 +33,7 @@ returns-then-equals-clause-some c =
 
 pub returns-else-equals-clause-none : goal.returns-else-equals-clause-none
 returns-else-equals-clause-none c =
-    let k = c.args.asking.knowledge in
+    let k = c.args.asking.knowledge.value in
     let q : Assignment = c.args.question.now in
     let there : Assignment = c.question-open.result in
     record {

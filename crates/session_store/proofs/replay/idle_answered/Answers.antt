@@ -5,7 +5,7 @@ use Rattle.session_store.proofs.replay.idle_answered.Goals as goal
 
 pub returns-then-is_lawful-clause-some : goal.returns-then-is_lawful-clause-some
 returns-then-is_lawful-clause-some c =
-    let k = c.args.idle.knowledge in
+    let k = c.args.idle.knowledge.value in
     let q = c.args.question.now in
     record {
       lang = c.answer.ensures.lang ∙ c.ask.ensures.lang;

@@ -1,19 +1,21 @@
-use Rattle.std.proofs.Common.{◌≡◌, ◌++◌, ◌∷◌, [], ◌∙◌, sym, ap, subst, arith, length, length-append, List, Option, Some}
+use Rattle.std.proofs.Common.{◌≡◌, ◌++◌, ◌∷◌, [], ◌∙◌, refl, sym, ap, subst, arith, length, length-append, List, Option, Some}
 use Rattle.std.proofs.lemmas.Bool.{cond-true}
 use Rattle.assign.specs.Assignment.{Assignment}
 use Rattle.assign.specs.Events.{Answer}
 use Rattle.assign.specs.declared.events.Event.{Event}
-use Rattle.language.specs.Language.{Language, variable_count}
+use Rattle.language.specs.Language.{Language, IsLanguage, variable_count}
 use Rattle.language.specs.Answers.{standing_on}
 use Rattle.assign.specs.declared.events.Plan.{Plan}
-use Rattle.session_core.specs.Standing.{Stands, knowledge_of}
+use Rattle.session_core.specs.Standing.{IsAskedAfter, Stands, knowledge_of, question_put}
 use Rattle.session_core.specs.declared.session.Session.{Session}
 use Rattle.session_core.specs.declared.session.Session.TheVariants as sessions
+use Rattle.session_core.proofs.Opened.{open_asked}
 use Rattle.session_store.specs.Kept.{answer_event}
 use Rattle.std.specs.Prelude.{All}
 use Rattle.std.proofs.lemmas.List.Elements.{All-nil, All-cons, All-append}
 use Rattle.session_store.specs.Held.{IsWide, StandsIn, lang_in, plan_in, question_in}
 use Rattle.session_store.specs.Replay.{HavePlaces}
+use Rattle.session_store.proofs.Asked.{asked_fits}
 use Rattle.session_store.proofs.Placing.{answer_has_place}
 use Rattle.session_store.proofs.Replaying.{both_same}
 use Rattle.session_store.proofs.Storables.{storable_wide}
@@ -22,24 +24,27 @@ use Rattle.session_store.proofs.held.Held.add.Goals as goal
 
 pub returns-clause-sound : goal.returns-clause-sound
 returns-clause-sound c =
-    let l : Language = c.in-Some-Asking.asking.knowledge.lang in
-    let p : Plan = c.in-Some-Asking.asking.knowledge.plan in
+    let l : Language = c.in-Some-Asking.asking.knowledge.value.lang in
+    let p : Plan = c.in-Some-Asking.asking.knowledge.value.plan in
     let events : List Event = c.args.self.now.events.items in
     let here : c.args.self.now.session ≡ Some (sessions.Asking c.in-Some-Asking.asking) =
     sym c.take.ensures.value ∙ c.in-Some-Asking.is ∙ ap (λ (s : Session). let o : Option Session = Some s in o) c.in-Some-Asking.field-0-is in
     let Sound : Option Session → Type 0 = λ o. StandsIn o events in
     let before : Stands (sessions.Asking c.in-Some-Asking.asking) (standing_on l events) = subst Sound here c.requires.sound.stands in
-    let q : Assignment = c.question-question.result in
-    let after = c.answer.ensures.stands (standing_on l events) q c.question-question.ensures.is before in
-    let is : c.args.event ≡ answer_event q c.args.yes = c.requires.is q (ap question_in here ∙ c.question-question.ensures.is) in
+    let q : Assignment = question_put l c.in-Some-Asking.asking.put.value in
+    let lawful : IsLanguage l = subst IsLanguage c.lang-lang.ensures.is c.lang-lang.ensures.lawful in
+    let asked : IsAskedAfter l p (standing_on l events) q = open_asked c.in-Some-Asking.asking (standing_on l events) before in
+    let size : length q ≡ variable_count l = (asked_fits l lawful p (standing_on l events) q asked).size in
+    let after = c.answer.ensures.stands (standing_on l events) q refl before in
+    let is : c.args.event ≡ answer_event q c.args.yes = c.requires.is q (ap question_in here) in
     let pushed : c.push.new.self.items ≡ events ++ c.args.event ∷ [] = c.push.ensures.items ∙ cond-true _ _ _ (c.push.ensures.succeeds c.requires.room) in
     let as_answer : c.push.new.self.items ≡ events ++ answer_event q c.args.yes ∷ [] = pushed ∙ ap (λ (e : Event). events ++ e ∷ []) is in
     let Placed : Option Session → Type 0 = λ o. HavePlaces (lang_in o) (plan_in o) events in
     let places : HavePlaces l p (events ++ answer_event q c.args.yes ∷ []) =
-    answer_has_place l p events q c.args.yes c.question-question.ensures.fits.size (subst Placed here c.requires.sound.places) (c.question-question.ensures.asked (standing_on l events) before) in
+    answer_has_place l p events q c.args.yes size (subst Placed here c.requires.sound.places) asked in
     let As : Language → Plan → Type 0 = λ m r. HavePlaces m r c.push.new.self.items in
     let added : standing_on l c.push.new.self.items ≡ standing_on l events ++ (let a : Answer = record { question = q; yes = c.args.yes } in a) ∷ [] =
-    ap (standing_on l) as_answer ∙ cut_to-standing-push (variable_count l) events q c.args.yes c.question-question.ensures.fits.size in
+    ap (standing_on l) as_answer ∙ cut_to-standing-push (variable_count l) events q c.args.yes size in
     record {
       stands = subst (Stands c.answer.result) (sym added ∙ ap (λ m. standing_on m c.push.new.self.items) (sym c.answer.ensures.lang)) after;
       wide = subst (All IsWide) (sym pushed) (All-append IsWide events (c.args.event ∷ []) c.requires.sound.wide (All-cons IsWide c.args.event [] (storable_wide c.args.event c.requires.storable) (All-nil IsWide)));

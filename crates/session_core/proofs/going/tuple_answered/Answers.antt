@@ -1,0 +1,24 @@
+use Rattle.std.proofs.Common.{subst}
+use Rattle.language.specs.TellingApart.{after_reply}
+use Rattle.language.specs.Scenes.{scene_of}
+use Rattle.find_c.specs.Standing.{LeavesChoices}
+use Rattle.session_core.specs.declared.knowledge.Knowledge.{Knowledge}
+use Rattle.session_core.proofs.going.tuple_answered.Goals as goal
+
+pub tell_apart-requires-clause-choices : goal.tell_apart-requires-clause-choices
+tell_apart-requires-clause-choices c =
+    let k : Knowledge = c.args.knowledge.value in
+    let run = c.args.run in
+    record {
+      scope = run.scope;
+      choices = after_reply (scene_of k.lang run.scope) run.tuple c.args.yes run.choices;
+      settled = subst (λ (x : Knowledge). LeavesChoices x.lang run.scope (after_reply (scene_of x.lang run.scope) run.tuple c.args.yes run.choices) c.reply-next.result) c.deref.ensures c.reply-next.ensures.settled;
+      free = c.requires.free;
+    }
+
+pub returns-clause-stands : goal.returns-clause-stands
+returns-clause-stands c =
+    let k : Knowledge = c.args.knowledge.value in
+    let run = c.args.run in
+    c.tell_apart.ensures.stands run.scope (after_reply (scene_of k.lang run.scope) run.tuple c.args.yes run.choices)
+    (subst (λ (x : Knowledge). LeavesChoices x.lang run.scope (after_reply (scene_of x.lang run.scope) run.tuple c.args.yes run.choices) c.reply-next.result) c.deref.ensures c.reply-next.ensures.settled)

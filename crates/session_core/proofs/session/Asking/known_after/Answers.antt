@@ -1,0 +1,25 @@
+use Rattle.std.proofs.Common.{◌≡◌, Bool, true, false, sym, subst}
+use Rattle.assign.specs.Assignment.{Assignment}
+use Rattle.session_core.specs.declared.knowledge.Knowledge.{Knowledge}
+use Rattle.session_core.specs.Known.{IsAnswered}
+use Rattle.session_core.specs.Standing.{question_put}
+use Rattle.session_core.proofs.Turning.{same_some}
+use Rattle.session_core.proofs.session.Asking.known_after.Goals as goal
+
+pub returns-then-yes-clause-answered : goal.returns-then-yes-clause-answered
+returns-then-yes-clause-answered c =
+    let k : Knowledge = c.args.self.knowledge.value in
+    let k' : Knowledge = c.hear_yes.new.self in
+    let q : Assignment = question_put k.lang c.args.self.put.value in
+    let first : Assignment = c.question-question.result in
+    let known = subst (λ (x : Knowledge). IsAnswered x first true k') c.deref_mut.ensures.value c.hear_yes.ensures.answered in
+    let is = subst (λ (reply : Bool). IsAnswered k first reply k') (sym c.if-yes.true) known in
+    subst (λ x. IsAnswered k x c.args.yes k') (same_some first q (sym c.question-question.ensures.is)) is
+
+pub returns-else-yes-clause-answered : goal.returns-else-yes-clause-answered
+returns-else-yes-clause-answered c =
+    let k : Knowledge = c.args.self.knowledge.value in
+    let k' : Knowledge = c.hear_no.new.self in
+    let q : Assignment = question_put k.lang c.args.self.put.value in
+    subst (λ (reply : Bool). IsAnswered k q reply k') (sym c.if-yes.false)
+    (subst (λ (x : Knowledge). IsAnswered x q false k') c.deref_mut-else-yes.ensures.value (c.hear_no.ensures.answered q))
