@@ -1,11 +1,13 @@
 -- So many lines, words or pairs, one after the other, as a loop reads them.
-use Rattle.std.proofs.Common.{◌≡◌, ℕ, suc, ◌+◌, ◌-◌, ◌<◌, ◌≤◌, List, [], ◌∷◌, ◌++◌, length, get_or, set, Option, Some, None, Result, Ok, Err, refl, sym, ap, ◌∙◌, append_assoc, arith, ◌⊎◌, inl, inr}
+use Rattle.std.proofs.Common.{◌≡◌, ℕ, suc, ◌+◌, ◌-◌, ◌<◌, ◌≤◌, true, List, [], ◌∷◌, ◌++◌, length, get_or, set, Option, Some, None, Result, Ok, Err, refl, sym, ap, ◌∙◌, append_assoc, arith, ◌⊎◌, inl, inr}
 use Rattle.std.specs.Option.{ok_or, option_map, option_and_then}
 use Rattle.std.proofs.lemmas.Bool.{cases_eq}
 use Rattle.std.proofs.lemmas.Option.{same_Some}
 use Rattle.std.proofs.lemmas.List.{append-nil, get_or-set_same, get_or-set_other, length-set}
-use Rattle.assign.specs.Assignment.{Assignment}
-use Rattle.language.specs.Language.{Language, IsQuestion}
+use Rattle.assign.specs.Assignment.{Assignment, value_of}
+use Rattle.language.specs.declared.ranges.ValueRange.{ValueRange}
+use Rattle.language.specs.Ranges.{is_in}
+use Rattle.language.specs.Language.{Language, IsQuestion, variable_count, range_of, is_ranged}
 use Rattle.cert_check.specs.declared.fault.CertFault.{CertFault}
 use Rattle.cert_check.specs.declared.fault.CertFault.TheVariants.{BadLine}
 use Rattle.cert_check.specs.declared.token.Token.{Token}
@@ -113,22 +115,23 @@ tokens_done items front = ap Some (append-nil front)
 
 -- ---- Pairs
 
-pub pairs_go_on : (d least : ℕ) (e : Assignment) (word : List ℕ) (words : List (List ℕ)) (v x : ℕ) → pair_in (length e) d least word ≡ Some (v, x) → with_pairs d least e (word ∷ words) ≡ with_pairs d (v + 1) (set e v (Some x)) words
+pub pairs_go_on : (ranges : List ValueRange) (least : ℕ) (e : Assignment) (word : List ℕ) (words : List (List ℕ)) (v x : ℕ) → pair_in ranges (length e) least word ≡ Some (v, x) → with_pairs ranges least e (word ∷ words) ≡ with_pairs ranges (v + 1) (set e v (Some x)) words
 unfolding with_pairs
-pairs_go_on d least e word words v x h = ap (option_and_then (λ (pair : ℕ × ℕ). with_pairs d (pair.0 + 1) (set e pair.0 (Some pair.1)) words)) h
+pairs_go_on ranges least e word words v x h = ap (option_and_then (λ (pair : ℕ × ℕ). with_pairs ranges (pair.0 + 1) (set e pair.0 (Some pair.1)) words)) h
 
-pub pairs_bad : (d least : ℕ) (e : Assignment) (word : List ℕ) (words : List (List ℕ)) → pair_in (length e) d least word ≡ None → with_pairs d least e (word ∷ words) ≡ None
+pub pairs_bad : (ranges : List ValueRange) (least : ℕ) (e : Assignment) (word : List ℕ) (words : List (List ℕ)) → pair_in ranges (length e) least word ≡ None → with_pairs ranges least e (word ∷ words) ≡ None
 unfolding with_pairs
-pairs_bad d least e word words h = ap (option_and_then (λ (pair : ℕ × ℕ). with_pairs d (pair.0 + 1) (set e pair.0 (Some pair.1)) words)) h
+pairs_bad ranges least e word words h = ap (option_and_then (λ (pair : ℕ × ℕ). with_pairs ranges (pair.0 + 1) (set e pair.0 (Some pair.1)) words)) h
 
-pub pairs_done : (d least : ℕ) (e : Assignment) → with_pairs d least e [] ≡ Some e
+pub pairs_done : (ranges : List ValueRange) (least : ℕ) (e : Assignment) → with_pairs ranges least e [] ≡ Some e
 unfolding with_pairs
-pairs_done d least e = refl
+pairs_done ranges least e = refl
 
-pub question_set : (l : Language) (e : Assignment) (v x : ℕ) → IsQuestion l e → x < l.value_count → IsQuestion l (set e v (Some x))
-question_set l e v x h fits = record {
+pub question_set : (l : Language) (e : Assignment) (v x : ℕ) → IsQuestion l e → v < variable_count l → x < l.value_count → is_in (range_of l v) x ≡ true → IsQuestion l (set e v (Some x))
+question_set l e v x h known fits within = record {
   size = length-set e v (Some x) ∙ h.size;
   values_fit = λ k d inside y is. go k d (let long = length-set e v (Some x) in omega (arith, long, inside)) y is (cases_eq k v);
+  within = λ k low. ranged k low (cases_eq k v);
 }
   where
     go : (k : ℕ) (d : Option ℕ) → k < length e → (y : ℕ) → get_or (set e v (Some x)) k d ≡ Some y → (k ≡ v) ⊎ (k ≡ v → ⊥) → y < l.value_count
@@ -136,3 +139,10 @@ question_set l e v x h fits = record {
         let this : x ≡ y = same_Some x y (sym (ap (λ i. get_or (set e v (Some x)) i d) same ∙ get_or-set_same e v (Some x) d (omega (arith, low, same))) ∙ is) in
         omega (arith, this, fits)
     go k d low y is (inr apart) = h.values_fit k d low y (sym (get_or-set_other e v k (Some x) d apart) ∙ is)
+
+    ranged : (k : ℕ) → k < variable_count l → (k ≡ v) ⊎ (k ≡ v → ⊥) → is_ranged l k (value_of (set e v (Some x)) k) ≡ true
+    ranged k low (inl same) =
+        ap (λ i. is_ranged l i (value_of (set e v (Some x)) i)) same
+        ∙ ap (is_ranged l v) (get_or-set_same e v (Some x) None (let size = h.size in omega (arith, known, size)))
+        ∙ within
+    ranged k low (inr apart) = ap (is_ranged l k) (get_or-set_other e v k (Some x) None apart) ∙ h.within k low

@@ -1,4 +1,5 @@
 pub mod Lists
+pub mod Within
 pub mod Refuted
 pub mod Goodness
 pub mod Finding

@@ -26,6 +26,7 @@ use Rattle.cert_check.specs.Refuting.{is_lawful, children, are_trees, refutes}
 use Rattle.cert_check.specs.Trees.{node_of, node_at, tree_from, tree_of}
 use Rattle.cert_check.proofs.Listing.{is_kept, implied_if_kept}
 use Rattle.cert_check.proofs.Trees.{branch_has_room, no_children}
+use Rattle.cert_check.proofs.Within.{IsNext, IsRanged, all_next, ranged_none, ranged_longer}
 
 -- ---- the tree of an implied candidate refutes it
 
@@ -33,6 +34,7 @@ module _ (l : Language) (network : List Candidate) (c : Candidate) (lawful : IsL
   -- a prefix that may stand in the tree
   record Fits (prefix : List ℕ) : Type 0 where
     small : All (λ x. x < l.value_count) prefix
+    ranged : IsRanged l c prefix
     short : length prefix ≤ variable_count l
 
   lawful_node : (prefix : List ℕ) → Fits prefix → is_lawful l network c prefix (node_at l network c prefix) ≡ true
@@ -44,32 +46,37 @@ module _ (l : Language) (network : List Candidate) (c : Candidate) (lawful : IsL
           let found = position-Some (λ d. violates l d (assignment_of l c prefix)) network i none e in
           ap (λ (o : Option Candidate). option_map_or (λ d. violates l d (assignment_of l c prefix)) o false) (slice_get-get_or network i none found.0) ∙ found.1
       go None e true s = s
-      go None e false s = lt-ltb (length prefix) (variable_count l) (branch_has_room l network c lawful is implied prefix fits.small fits.short (λ i. node_of (e i) (s i)))
+      go None e false s = lt-ltb (length prefix) (variable_count l) (branch_has_room l network c lawful is implied prefix fits.small fits.ranged fits.short (λ i. node_of (e i) (s i)))
 
   abbrev TreesAt : ℕ → Type 0
   TreesAt k = (prefix : List ℕ) (later : List (List ℕ)) (tokens : List Token) → variable_count l - length prefix ≡ k → Fits prefix → are_trees l network c later tokens ≡ true → are_trees l network c (prefix ∷ later) (tree_from l network c k prefix ++ tokens) ≡ true
 
-  below_all : (k : ℕ) → TreesAt k → (p : List ℕ) → (xs : List ℕ) → variable_count l - length p ≡ suc k → Fits p → All (λ x. x < l.value_count) xs → (later : List (List ℕ)) (tokens : List Token) → are_trees l network c later tokens ≡ true →
+  below_all : (k : ℕ) → TreesAt k → (p : List ℕ) → (xs : List ℕ) → variable_count l - length p ≡ suc k → Fits p → All (IsNext l lawful c is p) xs → (later : List (List ℕ)) (tokens : List Token) → are_trees l network c later tokens ≡ true →
       are_trees l network c (map (λ x. p ++ x ∷ []) xs ++ later) (flat_map (tree_from l network c k) (map (λ x. p ++ x ∷ []) xs) ++ tokens) ≡ true
   below_all k trees p [] left fits all later tokens h = h
   below_all k trees p (x ∷ xs) left fits all later tokens h =
       let first : List ℕ = p ++ x ∷ [] in
       let others : List (List ℕ) = map (λ y. p ++ y ∷ []) xs in
       let long = length-append p (x ∷ []) in
+      let next : IsNext l lawful c is p x = All-head (IsNext l lawful c is p) x xs all in
       subst (λ (ts : List Token). are_trees l network c (first ∷ (others ++ later)) ts ≡ true) (sym (append_assoc (tree_from l network c k first) (flat_map (tree_from l network c k) others) tokens))
       (trees first (others ++ later) (flat_map (tree_from l network c k) others ++ tokens) (omega (arith, left, long))
-      (record { small = All-push (λ y. y < l.value_count) p x fits.small (All-head (λ y. y < l.value_count) x xs all); short = omega (arith, left, long) })
-      (below_all k trees p xs left fits (All-tail (λ y. y < l.value_count) x xs all) later tokens h))
+      (record {
+        small = All-push (λ y. y < l.value_count) p x fits.small next.fits;
+        ranged = ranged_longer l lawful c is p x (omega (arith, left)) fits.ranged next.within;
+        short = omega (arith, left, long);
+      })
+      (below_all k trees p xs left fits (All-tail (IsNext l lawful c is p) x xs all) later tokens h))
 
   trees_lawful : (k : ℕ) → TreesAt k
   unfolding are_trees tree_from
   trees_lawful zero prefix later tokens left fits h = and_from _ _ (lawful_node prefix fits)
       (subst (λ (ps : List (List ℕ)). are_trees l network c (ps ++ later) tokens ≡ true) (sym (no_children l network c (node_at l network c prefix) prefix (λ branch.
-      (let low = branch_has_room l network c lawful is implied prefix fits.small fits.short branch in omega (arith, low, left))))) h)
+      (let low = branch_has_room l network c lawful is implied prefix fits.small fits.ranged fits.short branch in omega (arith, low, left))))) h)
   trees_lawful (suc k) prefix later tokens left fits h = and_from _ _ (lawful_node prefix fits) (go (trees_lawful k) (node_at l network c prefix))
     where
       go : TreesAt k → (token : Token) → are_trees l network c (children l c prefix token ++ later) (flat_map (tree_from l network c k) (children l c prefix token) ++ tokens) ≡ true
-      go trees Branch = below_all k trees prefix (values_of l (slice_index_or (order_of l c) (length prefix) 0)) left fits (all_below (λ x. x < l.value_count) l.value_count (λ x low. low)) later tokens h
+      go trees Branch = below_all k trees prefix (values_of l (slice_index_or (order_of l c) (length prefix) 0)) left fits (all_next l lawful c is prefix (omega (arith, left))) later tokens h
       go trees Holds = h
       go trees (Item i) = h
 
@@ -79,7 +86,7 @@ module _ (l : Language) (network : List Candidate) (c : Candidate) (lawful : IsL
 
   pub tree_refutes : refutes l network c (tree_of l network c) ≡ true
   tree_refutes = subst (λ (ts : List Token). are_trees l network c ([] ∷ []) ts ≡ true) (append-nil (tree_of l network c))
-      (trees_lawful (variable_count l) [] [] [] (omega arith) (record { small = All-nil (λ x. x < l.value_count); short = omega arith }) nothing_left)
+      (trees_lawful (variable_count l) [] [] [] (omega arith) (record { small = All-nil (λ x. x < l.value_count); ranged = ranged_none l c; short = omega arith }) nothing_left)
 
 -- ---- what is listed
 

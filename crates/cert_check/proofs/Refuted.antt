@@ -1,34 +1,25 @@
 -- What trees of tokens say: no complete assignment that goes on from a prefix is accepted and violates the candidate.
-use Rattle.std.proofs.Common.{◌≡◌, ℕ, zero, suc, ◌+◌, ◌<◌, ◌≤◌, Bool, true, false, ◌&&◌, not, List, [], ◌∷◌, ◌++◌, length, map, Option, Some, None, refl, sym, ◌∙◌, ap, subst, arith, inl, inr, ◌⊎◌, append_assoc, length-append}
+use Rattle.std.proofs.Common.{◌≡◌, ℕ, ◌<◌, Bool, true, false, ◌&&◌, not, List, [], ◌∷◌, ◌++◌, length, Option, Some, None, refl, sym, ◌∙◌, ap, subst, arith, append_assoc, length-append}
 use Rattle.std.specs.Prelude.{All, slice_get}
-use Rattle.std.specs.List.{range_with_len}
 use Rattle.std.specs.Option.{option_map_or}
-use Rattle.std.proofs.lemmas.List.Elements.{All-head, All-tail, All-nil, All-cons}
+use Rattle.std.proofs.lemmas.List.Elements.{All-head, All-nil, All-cons}
 use Rattle.std.proofs.lemmas.Option.{get_or_from_slice_get, slice_get_within}
-use Rattle.std.proofs.lemmas.Bool.{and_parts, both_ways, cases_eq, ltb-true, false_from_ne_true}
+use Rattle.std.proofs.lemmas.Bool.{and_parts, both_ways, ltb-true, false_from_ne_true}
 use Rattle.assign.specs.Assignment.{Assignment, tuple_on, covers}
 use Rattle.language.specs.declared.candidates.Candidate.{Candidate}
-use Rattle.language.specs.Language.{Language, IsLanguage, IsCandidate, IsImplied, variable_count, scope_of, violates, accepts}
-use Rattle.language.specs.Search.{order_of, assignment_of}
+use Rattle.language.specs.Ranges.{is_in}
+use Rattle.language.specs.Language.{Language, IsLanguage, IsCandidate, IsImplied, variable_count, range_of, scope_of, violates, accepts}
+use Rattle.language.specs.Search.{order_of, assignment_of, are_ranged}
 use Rattle.language.proofs.Accepts.{accepted_at}
 use Rattle.language.proofs.Beside.{tuple_fits}
-use Rattle.language.proofs.Fronts.{HasMore, assigned_more, violates_more, satisfies_more}
+use Rattle.language.proofs.Fronts.{HasMore, assigned_more, violates_more, satisfies_more, ranged_from}
 use Rattle.language.proofs.Orders.{order_small, whole_prefix, covers_all}
 use Rattle.language.proofs.Plain.{length-tuple_on, scope_small, long_order}
 use Rattle.cert_check.specs.declared.token.Token.{Token}
 use Rattle.cert_check.specs.declared.token.Token.TheVariants.{Branch, Holds, Item}
 use Rattle.cert_check.proofs.Lists.{all_left, all_right}
+use Rattle.cert_check.proofs.Within.{IsRanged, next_of, ranged_front, ranged_last, all_among}
 use Rattle.cert_check.specs.Refuting.{violates_item, is_lawful, children, are_trees, refutes}
-
--- ---- lists
-
-all_at : {X : Type 0} (P : X → Type 0) (f : ℕ → X) (a n v : ℕ) → All P (map f (range_with_len a n)) → a ≤ v → v < a + n → P (f v)
-all_at P f a zero v h low high = absurd (omega arith)
-all_at P f a (suc n) v h low high = go (cases_eq a v) (λ further. all_at P f (a + 1) n v (All-tail P (f a) (map f (range_with_len (a + 1) n)) h) further (omega arith))
-  where
-    go : (a ≡ v) ⊎ (a ≡ v → ⊥) → (a + 1 ≤ v → P (f v)) → P (f v)
-    go (inl same) next = subst (λ k. P (f k)) same (All-head P (f a) (map f (range_with_len (a + 1) n)) h)
-    go (inr other) next = next (omega arith)
 
 -- ---- what is closed
 
@@ -36,7 +27,7 @@ all_at P f a (suc n) v h low high = go (cases_eq a v) (λ further. all_at P f (a
 abbrev IsClosed : List ℕ → List ℕ → Type 0
 IsClosed whole prefix = (rest : List ℕ) → prefix ++ rest ≡ whole → ⊥
 
-module _ (l : Language) (network : List Candidate) (c : Candidate) (whole : List ℕ) (long : length whole ≡ variable_count l) (small : All (λ x. x < l.value_count) whole)
+module _ (l : Language) (network : List Candidate) (c : Candidate) (lawful : IsLanguage l) (is_c : IsCandidate l c) (whole : List ℕ) (long : length whole ≡ variable_count l) (small : All (λ x. x < l.value_count) whole) (ranged : IsRanged l c whole)
     (accepted : accepts l network (assignment_of l c whole) ≡ true) (bad : violates l c (assignment_of l c whole) ≡ true) where
   more_at : (prefix rest : List ℕ) → prefix ++ rest ≡ whole → HasMore (assignment_of l c prefix) (assignment_of l c whole)
   more_at prefix rest e = subst (λ (w : List ℕ). HasMore (assignment_of l c prefix) (assignment_of l c w)) e (assigned_more (variable_count l) (order_of l c) prefix rest)
@@ -59,8 +50,9 @@ module _ (l : Language) (network : List Candidate) (c : Candidate) (whole : List
   closed_by prefix Branch h below [] is = absurd (let short = ltb-true (length prefix) (variable_count l) h in let all = ap length is in let e = length-append prefix [] in omega (arith, short, all, e, long))
   closed_by prefix Branch h below (x ∷ rest) is =
       let fits : All (λ y. y < l.value_count) (x ∷ rest) = all_right (λ y. y < l.value_count) prefix (x ∷ rest) (subst (All (λ y. y < l.value_count)) (sym is) small) in
-      all_at (IsClosed whole) (λ y. prefix ++ y ∷ []) 0 l.value_count x below (omega arith) (let low = All-head (λ y. y < l.value_count) x rest fits in omega (arith, low)) rest
-      (append_assoc prefix (x ∷ []) rest ∙ is)
+      let further : (prefix ++ x ∷ []) ++ rest ≡ whole = append_assoc prefix (x ∷ []) rest ∙ is in
+      let within = ranged_last l lawful c is_c prefix x (ltb-true (length prefix) (variable_count l) h) (ranged_front l c (prefix ++ x ∷ []) rest (subst (IsRanged l c) (sym further) ranged)) in
+      all_among (IsClosed whole) (λ y. prefix ++ y ∷ []) (is_in (range_of l (next_of l c prefix))) 0 l.value_count x below (omega arith) (let low = All-head (λ y. y < l.value_count) x rest fits in omega (arith, low)) within rest further
 
   closed : (tokens : List Token) (later : List (List ℕ)) → are_trees l network c later tokens ≡ true → All (IsClosed whole) later
   unfolding are_trees
@@ -80,8 +72,9 @@ refuted_is_implied l network c tokens lawful is h = λ e question complete accep
     let values : List ℕ = tuple_on e (order_of l c) in
     let same = whole_prefix l c small e question.size complete in
     All-head (IsClosed values) [] []
-    (closed l network c values (length-tuple_on e (order_of l c) ∙ long_order l lawful c is)
+    (closed l network c lawful is values (length-tuple_on e (order_of l c) ∙ long_order l lawful c is)
     (tuple_fits l.value_count e (order_of l c) question.values_fit (covers_all e (order_of l c) complete (λ k d low. (let at = order_small l c small k d low in let size = question.size in omega arith))))
+    (subst (λ (x : Assignment). are_ranged l x ≡ true) (sym same) (ranged_from l e question.within))
     (subst (λ (x : Assignment). accepts l network x ≡ true) (sym same) accepted)
     (subst (λ (x : Assignment). violates l c x ≡ true) (sym same) bad)
     tokens ([] ∷ []) h)

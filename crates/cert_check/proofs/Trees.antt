@@ -1,22 +1,22 @@
 -- The tree of a candidate that the network implies.
-use Rattle.std.proofs.Common.{◌≡◌, ℕ, zero, suc, ◌+◌, ◌-◌, ◌<◌, ◌≤◌, Bool, true, false, cond, ◌&&◌, not, List, [], ◌∷◌, ◌++◌, length, map, Option, Some, None, refl, sym, ◌∙◌, ap, arith, inl, inr, ◌⊎◌, append_assoc, length-append}
+use Rattle.std.proofs.Common.{◌≡◌, ℕ, zero, suc, ◌+◌, ◌-◌, ◌<◌, ◌≤◌, Bool, true, false, cond, ◌&&◌, not, List, [], ◌∷◌, ◌++◌, length, map, Option, Some, None, refl, sym, ◌∙◌, ap, subst, arith, inl, inr, ◌⊎◌, append_assoc, length-append}
 use Rattle.std.specs.Prelude.{All, position, slice_index_or}
 use Rattle.std.specs.List.{filter, flat_map}
 use Rattle.std.proofs.lemmas.List.{append-nil, length-map}
 use Rattle.std.proofs.lemmas.List.Concat.{flat_map-append}
-use Rattle.std.proofs.lemmas.List.Elements.{All-head, All-tail, All-nil, All-append, All-push, filter-append}
+use Rattle.std.proofs.lemmas.List.Elements.{All-head, All-tail, All-nil, All-append, All-push, All-weaker, filter-append}
 use Rattle.std.proofs.lemmas.List.Quantifiers.{position-Some}
 use Rattle.std.proofs.lemmas.List.Sums.{list_all-from_AllPass}
 use Rattle.std.proofs.lemmas.Bool.{and_parts, both_ways, false_from_ne_true, not_from_false, cases_lt}
 use Rattle.assign.specs.Sets.{numbers}
 use Rattle.assign.specs.Assignment.{Assignment}
 use Rattle.language.specs.declared.candidates.Candidate.{Candidate}
-use Rattle.language.specs.Language.{Language, IsLanguage, IsCandidate, IsImplied, variable_count, values_of, violates, accepts}
-use Rattle.language.specs.Search.{order_of, prefixes, assignment_of, satisfies, is_plain, plain_size}
+use Rattle.language.specs.Ranges.{is_in}
+use Rattle.language.specs.Language.{Language, IsLanguage, IsCandidate, IsImplied, variable_count, range_of, values_of, violates, accepts}
+use Rattle.language.specs.Search.{order_of, prefixes, assignment_of, satisfies, are_ranged, is_plain, plain_size}
 use Rattle.language.proofs.Accepts.{accepted_at}
-use Rattle.language.proofs.Filling.{assigned_fits, size_of}
+use Rattle.language.proofs.Filling.{question_there, size_of}
 use Rattle.language.proofs.Fronts.{plain_fronts}
-use Rattle.language.proofs.Lists.{all_below}
 use Rattle.language.proofs.Orders.{orders_are_known}
 use Rattle.language.proofs.Plain.{complete_there, violated_there}
 use Rattle.language.proofs.Preorder.{filter_map_of, none_passes, prefixes_small}
@@ -25,6 +25,7 @@ use Rattle.cert_check.specs.declared.token.Token.TheVariants.{Branch, Holds, Ite
 use Rattle.cert_check.specs.Refuting.{children}
 use Rattle.cert_check.specs.Trees.{node_of, node_at, tree_from, tree_of, is_branch, branches}
 use Rattle.cert_check.proofs.Finding.{all_fail}
+use Rattle.cert_check.proofs.Within.{IsNext, IsRanged, all_next, next_of, ranged_none, ranged_front, ranged_longer, ranged_last}
 
 pub branches_both : (xs ys : List Token) → branches (xs ++ ys) ≡ branches xs + branches ys
 branches_both xs ys = ap length (filter-append is_branch xs ys) ∙ length-append (filter is_branch xs) (filter is_branch ys)
@@ -79,8 +80,10 @@ module _ (l : Language) (network : List Candidate) (c : Candidate) where
 
   -- ---- branches are plain prefixes
 
-  pub branch_is_plain : (prefix : List ℕ) → is_branch (node_at l network c prefix) ≡ is_plain l network c prefix
-  branch_is_plain prefix = go (position (λ d. violates l d (assignment_of l c prefix)) network) refl (satisfies l c (assignment_of l c prefix))
+  pub branch_is_plain : (prefix : List ℕ) → IsRanged l c prefix → is_branch (node_at l network c prefix) ≡ is_plain l network c prefix
+  branch_is_plain prefix ranged =
+      go (position (λ d. violates l d (assignment_of l c prefix)) network) refl (satisfies l c (assignment_of l c prefix))
+      ∙ ap (λ r. r && (accepts l network (assignment_of l c prefix) && not (satisfies l c (assignment_of l c prefix)))) (sym ranged)
     where
       accepted : position (λ d. violates l d (assignment_of l c prefix)) network ≡ None → accepts l network (assignment_of l c prefix) ≡ true
       accepted none = list_all-from_AllPass (λ d. not (violates l d (assignment_of l c prefix))) network (λ k d low. not_from_false _ (all_fail (λ d. violates l d (assignment_of l c prefix)) network none k d low))
@@ -98,19 +101,18 @@ module _ (l : Language) (network : List Candidate) (c : Candidate) where
   abbrev plain_below : List ℕ → List ℕ → Bool
   plain_below p q = is_plain l network c (p ++ q)
 
-  each_count : (k : ℕ) (p : List ℕ) → ((q : List ℕ) → All (λ x. x < l.value_count) q → branches (tree_from l network c k q) ≡ length (filter (plain_below q) (prefixes l.value_count k))) →
-      All (λ x. x < l.value_count) p → (xs : List ℕ) → All (λ x. x < l.value_count) xs →
+  each_count : (k : ℕ) (p : List ℕ) → (xs : List ℕ) → All (λ x. branches (tree_from l network c k (p ++ x ∷ [])) ≡ length (filter (plain_below (p ++ x ∷ [])) (prefixes l.value_count k))) xs →
       branches (flat_map (tree_from l network c k) (map (λ x. p ++ x ∷ []) xs)) ≡ length (filter (plain_below p) (flat_map (λ x. map (λ q. x ∷ q) (prefixes l.value_count k)) xs))
-  each_count k p shorter small [] fits = refl
-  each_count k p shorter small (x ∷ xs) fits =
+  each_count k p [] each = refl
+  each_count k p (x ∷ xs) each =
       let ps : List (List ℕ) = prefixes l.value_count k in
       let here : branches (tree_from l network c k (p ++ x ∷ [])) ≡ length (filter (plain_below p) (map (λ q. x ∷ q) ps)) =
-      shorter (p ++ x ∷ []) (All-push (λ y. y < l.value_count) p x small (All-head (λ y. y < l.value_count) x xs fits))
+      All-head (λ y. branches (tree_from l network c k (p ++ y ∷ [])) ≡ length (filter (plain_below (p ++ y ∷ [])) ps)) x xs each
       ∙ (λ i. length (filter (λ q. is_plain l network c (append_assoc p (x ∷ []) q i)) ps))
       ∙ sym (length-map (filter (λ q. plain_below p (x ∷ q)) ps) (λ q. x ∷ q))
       ∙ ap length (sym (filter_map_of (plain_below p) (λ q. x ∷ q) ps)) in
       branches_both (tree_from l network c k (p ++ x ∷ [])) (flat_map (tree_from l network c k) (map (λ y. p ++ y ∷ []) xs))
-      ∙ (λ i. here i + each_count k p shorter small xs (All-tail (λ y. y < l.value_count) x xs fits) i)
+      ∙ (λ i. here i + each_count k p xs (All-tail (λ y. branches (tree_from l network c k (p ++ y ∷ [])) ≡ length (filter (plain_below (p ++ y ∷ [])) ps)) x xs each) i)
       ∙ sym (length-append (filter (plain_below p) (map (λ q. x ∷ q) ps)) (filter (plain_below p) (flat_map (λ y. map (λ q. y ∷ q) ps) xs)))
       ∙ ap length (sym (filter-append (plain_below p) (map (λ q. x ∷ q) ps) (flat_map (λ y. map (λ q. y ∷ q) ps) xs)))
 
@@ -125,35 +127,65 @@ module _ (l : Language) (network : List Candidate) (c : Candidate) where
       both true = refl
       both false = refl
 
-  plain_here : (p : List ℕ) (token : Token) → node_at l network c p ≡ token → is_plain l network c p ≡ is_branch token
-  plain_here p token e = sym (branch_is_plain p) ∙ ap is_branch e
+  plain_here : (p : List ℕ) (token : Token) → IsRanged l c p → node_at l network c p ≡ token → is_plain l network c p ≡ is_branch token
+  plain_here p token ranged e = sym (branch_is_plain p ranged) ∙ ap is_branch e
 
-  count_from : (k : ℕ) (p : List ℕ) → All (λ x. x < l.value_count) p → branches (tree_from l network c k p) ≡ length (filter (plain_below p) (prefixes l.value_count k))
-  unfolding tree_from
-  count_from zero p small = at_end (is_branch (node_at l network c p)) (plain_below p []) (node_at l network c p) refl (branch_is_plain p ∙ ap (is_plain l network c) (sym (append-nil p)))
-  count_from (suc k) p small = go (count_from k) (node_at l network c p) refl
+  -- values that fail a test and below which nothing passes may be left out
+  left_out : (t : List ℕ → Bool) (s : ℕ → Bool) (ps : List (List ℕ)) → ((x : ℕ) → s x ≡ false → filter t (map (λ q. x ∷ q) ps) ≡ []) → (xs : List ℕ) →
+      filter t (flat_map (λ x. map (λ q. x ∷ q) ps) xs) ≡ filter t (flat_map (λ x. map (λ q. x ∷ q) ps) (filter s xs))
+  left_out t s ps none [] = refl
+  left_out t s ps none (x ∷ xs) = filter-append t (map (λ q. x ∷ q) ps) (flat_map (λ y. map (λ q. y ∷ q) ps) xs) ∙ go (s x) refl (left_out t s ps none xs)
     where
-      go : ((q : List ℕ) → All (λ x. x < l.value_count) q → branches (tree_from l network c k q) ≡ length (filter (plain_below q) (prefixes l.value_count k))) → (token : Token) → node_at l network c p ≡ token → branches (token ∷ flat_map (tree_from l network c k) (children l c p token)) ≡ length (filter (plain_below p) (prefixes l.value_count (suc k)))
-      go shorter Branch e =
-          let deeper : List (List ℕ) = flat_map (λ x. map (λ q. x ∷ q) (prefixes l.value_count k)) (numbers l.value_count) in
-          ap suc (each_count k p shorter small (numbers l.value_count) (all_below (λ x. x < l.value_count) l.value_count (λ x low. low)))
-          ∙ ap (λ b. length (cond b ([] ∷ filter (plain_below p) deeper) (filter (plain_below p) deeper))) (sym (ap (is_plain l network c) (append-nil p) ∙ plain_here p Branch e))
-      go shorter Holds e = sym (ap length (none_below (suc k) p small (plain_here p Holds e)))
-      go shorter (Item i) e = sym (ap length (none_below (suc k) p small (plain_here p (Item i) e)))
+      go : (b : Bool) → s x ≡ b → filter t (flat_map (λ y. map (λ q. y ∷ q) ps) xs) ≡ filter t (flat_map (λ y. map (λ q. y ∷ q) ps) (filter s xs)) →
+          filter t (map (λ q. x ∷ q) ps) ++ filter t (flat_map (λ y. map (λ q. y ∷ q) ps) xs) ≡ filter t (flat_map (λ y. map (λ q. y ∷ q) ps) (cond b (x ∷ filter s xs) (filter s xs)))
+      go true on rest = ap (λ qs. filter t (map (λ q. x ∷ q) ps) ++ qs) rest ∙ sym (filter-append t (map (λ q. x ∷ q) ps) (flat_map (λ y. map (λ q. y ∷ q) ps) (filter s xs)))
+      go false off rest = ap (λ qs. qs ++ filter t (flat_map (λ y. map (λ q. y ∷ q) ps) xs)) (none x off) ∙ rest
 
-  pub branches_are_plain : branches (tree_of l network c) ≡ plain_size l network c
-  branches_are_plain = count_from (variable_count l) [] (All-nil (λ x. x < l.value_count))
+  module _ (lawful : IsLanguage l) (is : IsCandidate l c) where
+    -- no plain prefix goes on with a value outside the range
+    outside : (k : ℕ) (p : List ℕ) (x : ℕ) → length p < variable_count l → is_in (range_of l (next_of l c p)) x ≡ false → filter (plain_below p) (map (λ q. x ∷ q) (prefixes l.value_count k)) ≡ []
+    outside k p x room out =
+        filter_map_of (plain_below p) (λ q. x ∷ q) (prefixes l.value_count k)
+        ∙ ap (λ (qs : List (List ℕ)). map (λ q. x ∷ q) qs) (none_passes (All (λ y. y < l.value_count)) (λ q. plain_below p (x ∷ q)) (prefixes l.value_count k) (prefixes_small l.value_count k) (λ q fits. false_from_ne_true _ (λ at.
+        both_ways _ out (ranged_last l lawful c is p x room (ranged_front l c (p ++ x ∷ []) q
+        (subst (IsRanged l c) (sym (append_assoc p (x ∷ []) q)) (and_parts (are_ranged l (assignment_of l c (p ++ x ∷ q))) _ at).0))))))
+
+    count_from : (k : ℕ) (p : List ℕ) → length p + k ≡ variable_count l → All (λ x. x < l.value_count) p → IsRanged l c p → branches (tree_from l network c k p) ≡ length (filter (plain_below p) (prefixes l.value_count k))
+    unfolding tree_from
+    count_from zero p long small ranged =
+        at_end (is_branch (node_at l network c p)) (plain_below p []) (node_at l network c p) refl (branch_is_plain p ranged ∙ ap (is_plain l network c) (sym (append-nil p)))
+    count_from (suc k) p long small ranged = go (count_from k) (node_at l network c p) refl
+      where
+        room : length p < variable_count l
+        room = omega (arith, long)
+
+        go : ((q : List ℕ) → length q + k ≡ variable_count l → All (λ x. x < l.value_count) q → IsRanged l c q → branches (tree_from l network c k q) ≡ length (filter (plain_below q) (prefixes l.value_count k))) →
+            (token : Token) → node_at l network c p ≡ token → branches (token ∷ flat_map (tree_from l network c k) (children l c p token)) ≡ length (filter (plain_below p) (prefixes l.value_count (suc k)))
+        go shorter Branch e =
+            let ps : List (List ℕ) = prefixes l.value_count k in
+            let values : List ℕ = values_of l (next_of l c p) in
+            let deeper : List (List ℕ) = flat_map (λ x. map (λ q. x ∷ q) ps) (numbers l.value_count) in
+            ap suc (each_count k p values (All-weaker (IsNext l lawful c is p) (λ x. branches (tree_from l network c k (p ++ x ∷ [])) ≡ length (filter (plain_below (p ++ x ∷ [])) ps)) (λ x next.
+            shorter (p ++ x ∷ []) (omega (arith, length-append p (x ∷ []), long)) (All-push (λ y. y < l.value_count) p x small next.fits) (ranged_longer l lawful c is p x room ranged next.within))
+            values (all_next l lawful c is p room)))
+            ∙ ap (λ (qs : List (List ℕ)). suc (length qs)) (sym (left_out (plain_below p) (is_in (range_of l (next_of l c p))) ps (λ x out. outside k p x room out) (numbers l.value_count)))
+            ∙ ap (λ b. length (cond b ([] ∷ filter (plain_below p) deeper) (filter (plain_below p) deeper))) (sym (ap (is_plain l network c) (append-nil p) ∙ plain_here p Branch ranged e))
+        go shorter Holds e = sym (ap length (none_below (suc k) p small (plain_here p Holds ranged e)))
+        go shorter (Item i) e = sym (ap length (none_below (suc k) p small (plain_here p (Item i) ranged e)))
+
+    pub branches_are_plain : branches (tree_of l network c) ≡ plain_size l network c
+    branches_are_plain = count_from (variable_count l) [] (omega arith) (All-nil (λ x. x < l.value_count)) (ranged_none l c)
 
   -- a complete prefix is no branch, since the candidate is implied
-  pub branch_has_room : IsLanguage l → IsCandidate l c → IsImplied l network c → (p : List ℕ) → All (λ x. x < l.value_count) p → length p ≤ variable_count l → node_at l network c p ≡ Branch → length p < variable_count l
-  branch_has_room lawful is implied p small short branch = go (cases_lt (length p) (variable_count l))
+  pub branch_has_room : IsLanguage l → IsCandidate l c → IsImplied l network c → (p : List ℕ) → All (λ x. x < l.value_count) p → IsRanged l c p → length p ≤ variable_count l → node_at l network c p ≡ Branch → length p < variable_count l
+  branch_has_room lawful is implied p small ranged short branch = go (cases_lt (length p) (variable_count l))
     where
       go : (length p < variable_count l) ⊎ (variable_count l ≤ length p) → length p < variable_count l
       go (inl low) = low
       go (inr high) =
           let e : Assignment = assignment_of l c p in
           let long : length p ≡ variable_count l = omega (arith, short, high) in
-          let parts = and_parts (accepts l network e) _ (plain_here p Branch branch) in
+          let parts = and_parts (accepts l network e) _ (and_parts (are_ranged l e) _ (plain_here p Branch ranged branch)).1 in
           let complete = complete_there l lawful c is p long in
-          absurd (both_ways _ (implied e (assigned_fits l.value_count (variable_count l) (order_of l c) p small) complete parts.0)
+          absurd (both_ways _ (implied e (question_there l (order_of l c) p small ranged) complete parts.0)
           (violated_there l lawful c is e (size_of (variable_count l) (order_of l c) (orders_are_known l c lawful is) p) complete parts.1))

@@ -1,62 +1,73 @@
 -- How the prefixes at which nodes are still to stand go on.
 use Rattle.std.proofs.Common.{◌≡◌, ℕ, suc, ◌+◌, ◌-◌, ◌<◌, ◌≤◌, Bool, true, false, not, ◌&&◌, List, [], ◌∷◌, ◌++◌, length, map, replicate, Some, None, refl, sym, ◌∙◌, ap, subst, arith, append_assoc, length-append}
-use Rattle.std.specs.Prelude.{All, slice_index_or, slice_set}
+use Rattle.std.specs.Prelude.{slice_index_or, slice_set}
 use Rattle.std.specs.List.{range_with_len}
 use Rattle.std.proofs.lemmas.List.{append-nil}
-use Rattle.std.proofs.lemmas.List.Elements.{All-head, All-push}
-use Rattle.assign.specs.Sets.{numbers}
+use Rattle.std.proofs.lemmas.List.Elements.{All-push}
 use Rattle.assign.specs.Assignment.{Assignment}
 use Rattle.language.specs.declared.candidates.Candidate.{Candidate}
-use Rattle.language.specs.Language.{Language, IsLanguage, IsCandidate, IsQuestion, variable_count}
+use Rattle.language.specs.Language.{Language, IsLanguage, IsCandidate, IsQuestion, variable_count, range_of, values_of}
 use Rattle.language.specs.Search.{order_of, assignment_of}
-use Rattle.language.proofs.Filling.{assigned_blank, assigned_push, assigned_pop, assigned_fits, next_known, size_of}
+use Rattle.language.proofs.Filling.{assigned_blank, assigned_push, assigned_pop, question_there, next_known, size_of}
 use Rattle.language.proofs.Orders.{orders_are_known}
-use Rattle.cert_check.proofs.Lists.{all_left, all_right}
+use Rattle.cert_check.proofs.Lists.{all_left}
 use Rattle.cert_check.specs.declared.token.Token.{Token}
 use Rattle.cert_check.specs.Refuting.{is_lawful, children, are_trees, refutes}
-use Rattle.cert_check.specs.Walking.{later_from, later, ahead, IsAt}
+use Rattle.cert_check.specs.Walking.{last_behind, later_from, later, ahead, IsAt}
+use Rattle.cert_check.proofs.Within.{IsNext, IsRanged, in_between, bounds, next_of, next_range, next_values, ranged_none, ranged_front, ranged_longer, ranged_last}
 
 -- ---- one value more, one value less
 
-after_push : (d : ℕ) (front p : List ℕ) (x : ℕ) → later_from d front (p ++ x ∷ []) ≡ map (λ y. (front ++ p) ++ y ∷ []) (range_with_len (x + 1) (d - (x + 1))) ++ later_from d front p
-unfolding later_from
-after_push d front [] x = ap (λ (f : List ℕ). map (λ y. f ++ y ∷ []) (range_with_len (x + 1) (d - (x + 1)))) (sym (append-nil front)) ∙ sym (append-nil (map (λ y. (front ++ []) ++ y ∷ []) (range_with_len (x + 1) (d - (x + 1)))))
-after_push d front (z ∷ p) x =
-    ap (λ (ps : List (List ℕ)). ps ++ map (λ y. front ++ y ∷ []) (range_with_len (z + 1) (d - (z + 1)))) (after_push d (front ++ z ∷ []) p x)
-    ∙ append_assoc (map (λ y. ((front ++ z ∷ []) ++ p) ++ y ∷ []) (range_with_len (x + 1) (d - (x + 1)))) (later_from d (front ++ z ∷ []) p) (map (λ y. front ++ y ∷ []) (range_with_len (z + 1) (d - (z + 1))))
-    ∙ ap (λ (f : List ℕ). map (λ y. f ++ y ∷ []) (range_with_len (x + 1) (d - (x + 1))) ++ (later_from d (front ++ z ∷ []) p ++ map (λ y. front ++ y ∷ []) (range_with_len (z + 1) (d - (z + 1))))) (append_assoc front (z ∷ []) p)
+-- the greater siblings of a value behind a prefix
+abbrev siblings_of : Language → Candidate → List ℕ → ℕ → List (List ℕ)
+siblings_of l c p x = map (λ y. p ++ y ∷ []) (range_with_len (x + 1) (last_behind l c p - x))
 
-siblings : (d : ℕ) (p : List ℕ) (x : ℕ) → later d (p ++ x ∷ []) ≡ map (λ y. p ++ y ∷ []) (range_with_len (x + 1) (d - (x + 1))) ++ later d p
-siblings d p x = after_push d [] p x
+module _ (l : Language) (c : Candidate) where
+  after_push : (front p : List ℕ) (x : ℕ) → later_from l c front (p ++ x ∷ []) ≡ siblings_of l c (front ++ p) x ++ later_from l c front p
+  unfolding later_from
+  after_push front [] x = ap (λ (f : List ℕ). siblings_of l c f x) (sym (append-nil front)) ∙ sym (append-nil (siblings_of l c (front ++ []) x))
+  after_push front (z ∷ p) x =
+      ap (λ (ps : List (List ℕ)). ps ++ siblings_of l c front z) (after_push (front ++ z ∷ []) p x)
+      ∙ append_assoc (siblings_of l c ((front ++ z ∷ []) ++ p) x) (later_from l c (front ++ z ∷ []) p) (siblings_of l c front z)
+      ∙ ap (λ (f : List ℕ). siblings_of l c f x ++ (later_from l c (front ++ z ∷ []) p ++ siblings_of l c front z)) (append_assoc front (z ∷ []) p)
 
-from_next : (d : ℕ) (p : List ℕ) (x : ℕ) → x < d → map (λ y. p ++ y ∷ []) (range_with_len x (d - x)) ++ later d p ≡ (p ++ x ∷ []) ∷ later d (p ++ x ∷ [])
-from_next d p x low =
-    ap (λ n. map (λ y. p ++ y ∷ []) (range_with_len x n) ++ later d p) (let e : d - x ≡ suc (d - (x + 1)) = omega arith in e)
-    ∙ ap (λ (ps : List (List ℕ)). (p ++ x ∷ []) ∷ ps) (sym (siblings d p x))
+  siblings : (p : List ℕ) (x : ℕ) → later l c (p ++ x ∷ []) ≡ siblings_of l c p x ++ later l c p
+  siblings p x = after_push [] p x
 
-pub later_next : (d : ℕ) (p : List ℕ) (x : ℕ) → x + 1 < d → later d (p ++ x ∷ []) ≡ ahead true d (p ++ (x + 1) ∷ [])
-later_next d p x low = siblings d p x ∙ from_next d p (x + 1) low
+  from_next : (p : List ℕ) (x : ℕ) → x ≤ last_behind l c p → map (λ y. p ++ y ∷ []) (range_with_len x (last_behind l c p + 1 - x)) ++ later l c p ≡ (p ++ x ∷ []) ∷ later l c (p ++ x ∷ [])
+  from_next p x low =
+      ap (λ n. map (λ y. p ++ y ∷ []) (range_with_len x n) ++ later l c p) (let e : last_behind l c p + 1 - x ≡ suc (last_behind l c p - x) = omega arith in e)
+      ∙ ap (λ (ps : List (List ℕ)). (p ++ x ∷ []) ∷ ps) (sym (siblings p x))
 
-pub later_last : (d : ℕ) (p : List ℕ) (x : ℕ) → d ≤ x + 1 → later d (p ++ x ∷ []) ≡ later d p
-later_last d p x high = siblings d p x ∙ ap (λ n. map (λ y. p ++ y ∷ []) (range_with_len (x + 1) n) ++ later d p) (let e : d - (x + 1) ≡ 0 = omega arith in e)
+  pub later_next : (p : List ℕ) (x : ℕ) → x < last_behind l c p → later l c (p ++ x ∷ []) ≡ ahead true l c (p ++ (x + 1) ∷ [])
+  later_next p x low =
+      siblings p x
+      ∙ ap (λ n. map (λ y. p ++ y ∷ []) (range_with_len (x + 1) n) ++ later l c p) (let e : last_behind l c p - x ≡ last_behind l c p + 1 - (x + 1) = omega arith in e)
+      ∙ from_next p (x + 1) (omega arith)
 
-pub branch_next : (d : ℕ) (p : List ℕ) → 0 < d → map (λ y. p ++ y ∷ []) (numbers d) ++ later d p ≡ ahead true d (p ++ 0 ∷ [])
-branch_next d p some = ap (λ n. map (λ y. p ++ y ∷ []) (range_with_len 0 n) ++ later d p) (let e : d ≡ d - 0 = omega arith in e) ∙ from_next d p 0 some
+  pub later_last : (p : List ℕ) (x : ℕ) → last_behind l c p ≤ x → later l c (p ++ x ∷ []) ≡ later l c p
+  later_last p x high = siblings p x ∙ ap (λ n. map (λ y. p ++ y ∷ []) (range_with_len (x + 1) n) ++ later l c p) (let e : last_behind l c p - x ≡ 0 = omega arith in e)
 
-pub later_none : (d : ℕ) → later d [] ≡ []
-unfolding later_from
-later_none d = refl
+  pub branch_next : IsLanguage l → IsCandidate l c → (p : List ℕ) → length p < variable_count l → map (λ y. p ++ y ∷ []) (values_of l (next_of l c p)) ++ later l c p ≡ ahead true l c (p ++ (range_of l (next_of l c p)).first ∷ [])
+  branch_next lawful is p room =
+      ap (λ (xs : List ℕ). map (λ y. p ++ y ∷ []) xs ++ later l c p) (next_values l lawful c is p room)
+      ∙ from_next p (range_of l (next_of l c p)).first (next_range l lawful c is p room).some
+
+  pub later_none : later l c [] ≡ []
+  unfolding later_from
+  later_none = refl
 
 -- ---- the assignment
 
 module _ (l : Language) (lawful : IsLanguage l) (c : Candidate) (is : IsCandidate l c) where
   pub at_begin : (e : Assignment) → e ≡ assignment_of l c [] → IsAt l c [] e
-  at_begin e h = record { short = omega arith; small = λ k d low. absurd (omega arith); is = h }
+  at_begin e h = record { short = omega arith; small = λ k d low. absurd (omega arith); ranged = ranged_none l c; is = h }
 
-  pub at_push : (p : List ℕ) (e : Assignment) (x : ℕ) → IsAt l c p e → length p < variable_count l → x < l.value_count → IsAt l c (p ++ x ∷ []) (slice_set e (slice_index_or (order_of l c) (length p) 0) (Some x))
-  at_push p e x at room low = record {
+  pub at_push : (p : List ℕ) (e : Assignment) (x : ℕ) → IsAt l c p e → length p < variable_count l → IsNext l lawful c is p x → IsAt l c (p ++ x ∷ []) (slice_set e (slice_index_or (order_of l c) (length p) 0) (Some x))
+  at_push p e x at room next = record {
     short = omega (arith, length-append p (x ∷ []));
-    small = All-push (λ y. y < l.value_count) p x at.small low;
+    small = All-push (λ y. y < l.value_count) p x at.small next.fits;
+    ranged = ranged_longer l lawful c is p x room at.ranged next.within;
     is = ap (λ (f : Assignment). slice_set f (slice_index_or (order_of l c) (length p) 0) (Some x)) at.is ∙ assigned_push (variable_count l) (order_of l c) (orders_are_known l c lawful is) p x room;
   }
 
@@ -64,12 +75,13 @@ module _ (l : Language) (lawful : IsLanguage l) (c : Candidate) (is : IsCandidat
   at_pop p e x at = record {
     short = let h = at.short in omega (arith, length-append p (x ∷ []), h);
     small = all_left (λ y. y < l.value_count) p (x ∷ []) at.small;
+    ranged = ranged_front l c p (x ∷ []) at.ranged;
     is = ap (λ (f : Assignment). slice_set f (slice_index_or (order_of l c) (length p) 0) None) at.is
         ∙ assigned_pop (variable_count l) (order_of l c) (orders_are_known l c lawful is) p x (let h = at.short in omega (arith, length-append p (x ∷ []), h));
   }
 
   pub at_question : (p : List ℕ) (e : Assignment) → IsAt l c p e → IsQuestion l e
-  at_question p e at = subst (IsQuestion l) (sym at.is) (assigned_fits l.value_count (variable_count l) (order_of l c) p at.small)
+  at_question p e at = subst (IsQuestion l) (sym at.is) (question_there l (order_of l c) p at.small at.ranged)
 
   -- the next variable is one of the language's
   pub next_in : (order p : List ℕ) (e : Assignment) (k : ℕ) → order ≡ order_of l c → k ≡ length p → IsAt l c p e → length p < variable_count l → (k < length order) × (slice_index_or order k 0 < length e)
@@ -81,10 +93,10 @@ module _ (l : Language) (lawful : IsLanguage l) (c : Candidate) (is : IsCandidat
       let size : length e ≡ variable_count l = ap length at.is ∙ size_of (variable_count l) (order_of l c) ordered p in
       (omega (arith, long, at_k, room), omega (arith, next, size))
 
-  pub pushed : (order p q : List ℕ) (e f : Assignment) (x k : ℕ) → order ≡ order_of l c → k ≡ length p → q ≡ p ++ x ∷ [] → f ≡ slice_set e (slice_index_or order k 0) (Some x) → IsAt l c p e → length p < variable_count l → x < l.value_count → IsAt l c q f
-  pushed order p q e f x k same at_k items set at room low =
+  pub pushed : (order p q : List ℕ) (e f : Assignment) (x k : ℕ) → order ≡ order_of l c → k ≡ length p → q ≡ p ++ x ∷ [] → f ≡ slice_set e (slice_index_or order k 0) (Some x) → IsAt l c p e → length p < variable_count l → IsNext l lawful c is p x → IsAt l c q f
+  pushed order p q e f x k same at_k items set at room next =
       subst (IsAt l c q) (sym (set ∙ (λ i. slice_set e (slice_index_or (same i) (at_k i) 0) (Some x))))
-      (subst (λ (r : List ℕ). IsAt l c r (slice_set e (slice_index_or (order_of l c) (length p) 0) (Some x))) (sym items) (at_push p e x at room low))
+      (subst (λ (r : List ℕ). IsAt l c r (slice_set e (slice_index_or (order_of l c) (length p) 0) (Some x))) (sym items) (at_push p e x at room next))
 
   pub popped : (order p q : List ℕ) (e f : Assignment) (x k : ℕ) → order ≡ order_of l c → k ≡ length q → p ≡ q ++ x ∷ [] → f ≡ slice_set e (slice_index_or order k 0) None → IsAt l c p e → IsAt l c q f
   popped order p q e f x k same at_k items set at =
@@ -92,15 +104,27 @@ module _ (l : Language) (lawful : IsLanguage l) (c : Candidate) (is : IsCandidat
       (at_pop q e x (subst (λ (r : List ℕ). IsAt l c r e) items at))
 
   -- a popped value, and the place that it leaves
-  pub last_fits : (p q : List ℕ) (e : Assignment) (x : ℕ) → p ≡ q ++ x ∷ [] → IsAt l c p e → (x < l.value_count) × (length q < variable_count l)
-  last_fits p q e x items at =
-      let small : All (λ y. y < l.value_count) (x ∷ []) = all_right (λ y. y < l.value_count) q (x ∷ []) (subst (All (λ y. y < l.value_count)) items at.small) in
-      (All-head (λ y. y < l.value_count) x [] small, let short = at.short in let long = ap length items in omega (arith, short, long, length-append q (x ∷ [])))
+  pub last_fits : (p q : List ℕ) (e : Assignment) (x : ℕ) → p ≡ q ++ x ∷ [] → IsAt l c p e → length q < variable_count l
+  last_fits p q e x items at = let short = at.short in let long = ap length items in omega (arith, short, long, length-append q (x ∷ []))
+
+  pub last_from : (p q : List ℕ) (e : Assignment) (x : ℕ) → p ≡ q ++ x ∷ [] → IsAt l c p e → (range_of l (next_of l c q)).first ≤ x
+  last_from p q e x items at = (bounds (range_of l (next_of l c q)) x (ranged_last l lawful c is q x (last_fits p q e x items at) (subst (IsRanged l c) items at.ranged))).0
+
+  -- a value that may follow: it isn't below the one that was popped, and not above the last
+  pub may_follow : (p : List ℕ) (x : ℕ) → length p < variable_count l → (range_of l (next_of l c p)).first ≤ x → x ≤ (range_of l (next_of l c p)).last → IsNext l lawful c is p x
+  may_follow p x room from to = record {
+    fits = let known = (next_range l lawful c is p room).known in omega (arith, to, known);
+    within = in_between (range_of l (next_of l c p)) x from to;
+  }
+
+  -- the variable at the place is the next one
+  pub at_next : (order p : List ℕ) (k : ℕ) → order ≡ order_of l c → k ≡ length p → slice_index_or order k 0 ≡ next_of l c p
+  at_next order p k same at_k = λ i. slice_index_or (same i) (at_k i) 0
 
   pub place_in : (order p q : List ℕ) (e : Assignment) (x k : ℕ) → order ≡ order_of l c → k ≡ length q → p ≡ q ++ x ∷ [] → IsAt l c p e → (k < length order) × (slice_index_or order k 0 < length e)
   place_in order p q e x k same at_k items at =
       let ordered = orders_are_known l c lawful is in
-      let room : length q < variable_count l = (last_fits p q e x items at).1 in
+      let room : length q < variable_count l = last_fits p q e x items at in
       let long : length order ≡ variable_count l = ap length same ∙ ordered.size in
       let next : slice_index_or order k 0 < variable_count l =
       subst (λ v. v < variable_count l) (sym (λ i. slice_index_or (same i) (at_k i) 0)) (next_known (variable_count l) (order_of l c) ordered q room) in
@@ -114,29 +138,29 @@ module _ (l : Language) (lawful : IsLanguage l) (c : Candidate) (is : IsCandidat
 -- ---- the tokens that are left
 
 module _ (l : Language) (network : List Candidate) (c : Candidate) where
-  pub tree_begins : (values : List ℕ) (tokens : List Token) → values ≡ [] → are_trees l network c (ahead true l.value_count values) tokens ≡ refutes l network c tokens
-  tree_begins values tokens none = ap (λ (vs : List ℕ). are_trees l network c (vs ∷ later l.value_count vs) tokens) none ∙ ap (λ (ps : List (List ℕ)). are_trees l network c ([] ∷ ps) tokens) (later_none l.value_count)
+  pub tree_begins : (values : List ℕ) (tokens : List Token) → values ≡ [] → are_trees l network c (ahead true l c values) tokens ≡ refutes l network c tokens
+  tree_begins values tokens none = ap (λ (vs : List ℕ). are_trees l network c (vs ∷ later l c vs) tokens) none ∙ ap (λ (ps : List (List ℕ)). are_trees l network c ([] ∷ ps) tokens) (later_none l c)
 
-  pub tree_ends : (is_open : Bool) (values : List ℕ) → are_trees l network c (ahead is_open l.value_count values) [] ≡ not is_open
+  pub tree_ends : (is_open : Bool) (values : List ℕ) → are_trees l network c (ahead is_open l c values) [] ≡ not is_open
   unfolding are_trees
   tree_ends true values = refl
   tree_ends false values = refl
 
-  pub tree_shut : (is_open : Bool) (values : List ℕ) (token : Token) (tokens : List Token) → is_open ≡ false → are_trees l network c (ahead is_open l.value_count values) (token ∷ tokens) ≡ false
+  pub tree_shut : (is_open : Bool) (values : List ℕ) (token : Token) (tokens : List Token) → is_open ≡ false → are_trees l network c (ahead is_open l c values) (token ∷ tokens) ≡ false
   unfolding are_trees
   tree_shut true values token tokens h = absurd (let no : ⊥ = cc in no)
   tree_shut false values token tokens h = refl
 
-  pub tree_unlawful : (is_open : Bool) (values : List ℕ) (token : Token) (tokens : List Token) → is_lawful l network c values token ≡ false → are_trees l network c (ahead is_open l.value_count values) (token ∷ tokens) ≡ false
+  pub tree_unlawful : (is_open : Bool) (values : List ℕ) (token : Token) (tokens : List Token) → is_lawful l network c values token ≡ false → are_trees l network c (ahead is_open l c values) (token ∷ tokens) ≡ false
   unfolding are_trees
-  tree_unlawful true values token tokens h = ap (λ b. b && are_trees l network c (children l c values token ++ later l.value_count values) tokens) h
+  tree_unlawful true values token tokens h = ap (λ b. b && are_trees l network c (children l c values token ++ later l c values) tokens) h
   tree_unlawful false values token tokens h = refl
 
   pub tree_step : (is_open : Bool) (values : List ℕ) (token : Token) (tokens : List Token) (below : List (List ℕ)) → is_open ≡ true → is_lawful l network c values token ≡ true →
-      children l c values token ++ later l.value_count values ≡ below → are_trees l network c (ahead is_open l.value_count values) (token ∷ tokens) ≡ are_trees l network c below tokens
+      children l c values token ++ later l c values ≡ below → are_trees l network c (ahead is_open l c values) (token ∷ tokens) ≡ are_trees l network c below tokens
   unfolding are_trees
   tree_step true values token tokens below h lawful next =
-      ap (λ b. b && are_trees l network c (children l c values token ++ later l.value_count values) tokens) lawful ∙ ap (λ (ps : List (List ℕ)). are_trees l network c ps tokens) next
+      ap (λ b. b && are_trees l network c (children l c values token ++ later l c values) tokens) lawful ∙ ap (λ (ps : List (List ℕ)). are_trees l network c ps tokens) next
   tree_step false values token tokens below h lawful next = absurd (let no : ⊥ = cc in no)
 
 pub no_items : (xs : List ℕ) → length xs ≡ 0 → xs ≡ []

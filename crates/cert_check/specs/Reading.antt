@@ -8,6 +8,8 @@ use Rattle.std.specs.Str.Parse.{digits_value}
 use Rattle.assign.specs.Assignment.{Assignment}
 use Rattle.assign.specs.Events.{Answer}
 use Rattle.language.specs.declared.candidates.Candidate.{Candidate}
+use Rattle.language.specs.declared.ranges.ValueRange.{ValueRange}
+use Rattle.language.specs.Ranges.{range_in}
 use Rattle.language.specs.Language.{Language, variable_count, relations_on, candidates}
 use Rattle.voc_read.specs.Vocabulary.{MOST_VOCABULARY, IsVocabulary, refusal_of_vocabulary}
 use Rattle.voc_read.specs.declared.fault.VocFault.{VocFault}
@@ -71,18 +73,22 @@ count_up_to most word line = option_and_then (λ n. if nat_le n most then Some n
 abbrev pub number_from : ℕ → ℕ → List ℕ → Option ℕ
 number_from least bound digits = option_and_then (λ n. if nat_le least n then Some n else None) (decimal_below bound digits)
 
--- the numbers of a variable, from the least on, and of its value: `1:0`
-abbrev pub pair_in : ℕ → ℕ → ℕ → List ℕ → Option (ℕ × ℕ)
-pair_in n d least word = option_and_then (λ parts. option_and_then (λ v. option_map (λ x. (v, x)) (decimal_below d parts.1)) (number_from least n parts.0)) (cut_at 58 word)
+-- the number of a value of a range
+abbrev pub value_in : ValueRange → List ℕ → Option ℕ
+value_in range digits = number_from range.first (range.last + 1) digits
+
+-- the numbers of one of n variables, from the least on, and of a value of its range: `1:0`
+abbrev pub pair_in : List ValueRange → ℕ → ℕ → List ℕ → Option (ℕ × ℕ)
+pair_in ranges n least word = option_and_then (λ parts. option_and_then (λ v. option_map (λ x. (v, x)) (value_in (range_in ranges v) parts.1)) (number_from least n parts.0)) (cut_at 58 word)
 
 -- the assignment with the values that these words give too, to variables that rise from the least on
-unfoldable pub with_pairs : ℕ → ℕ → Assignment → List (List ℕ) → Option Assignment
-with_pairs d least e [] = Some e
-with_pairs d least e (word ∷ words) = option_and_then (λ pair. with_pairs d (pair.0 + 1) (slice_set e pair.0 (Some pair.1)) words) (pair_in (length e) d least word)
+unfoldable pub with_pairs : List ValueRange → ℕ → Assignment → List (List ℕ) → Option Assignment
+with_pairs ranges least e [] = Some e
+with_pairs ranges least e (word ∷ words) = option_and_then (λ pair. with_pairs ranges (pair.0 + 1) (slice_set e pair.0 (Some pair.1)) words) (pair_in ranges (length e) least word)
 
 -- the assignment that gives these values
 abbrev pub question_in : Language → List ℕ → Option Assignment
-question_in l pairs = with_pairs l.value_count 0 (replicate (variable_count l) None) (words_in pairs)
+question_in l pairs = with_pairs l.ranges 0 (replicate (variable_count l) None) (words_in pairs)
 
 abbrev pub reply_in : List ℕ → Option Bool
 reply_in word = if bytes_eq word (codes "yes") then Some true else (if bytes_eq word (codes "no") then Some false else None)

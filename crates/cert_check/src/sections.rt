@@ -1,10 +1,11 @@
 //! The lines of answers, of a network's items and of listed candidates.
 
-ghost use Rattle.std.specs.Prelude.{◌≡◌, ◌<◌, ◌≤◌, All, IfOk, IfSome, Some, length, vec_len};
+ghost use Rattle.std.specs.Prelude.{◌≡◌, ◌<◌, ◌≤◌, All, IfOk, IfSome, IsTrue, Some, length, vec_len};
 ghost use Rattle.std.specs.Option.{ok_or, option_map};
-ghost use Rattle.language.specs.Language.{IsCandidate, IsQuestion, candidates};
+ghost use Rattle.language.specs.Language.{IsCandidate, IsQuestion, candidates, range_of};
+ghost use Rattle.language.specs.Ranges.{is_in};
 ghost use Rattle.language.specs.Answers.{IsNetwork};
-ghost use Rattle.cert_check.specs.Reading.{answer_in, answer_lines, item_in, item_lines, listed_in, listed_lines, next_line, pair_in, question_in, reply_in, token_in, tokens_in};
+ghost use Rattle.cert_check.specs.Reading.{answer_in, answer_lines, item_in, item_lines, listed_in, listed_lines, next_line, pair_in, question_in, reply_in, token_in, tokens_in, value_in};
 ghost use Rattle.cert_check.specs.Read.{AreFew, Reads, unread, words_left};
 
 use crate::cert::Listed;
@@ -20,16 +21,29 @@ use std::alloc::Global;
 
 // ---- Answers
 
-/// A variable, from the least on, and its value, both by number.
+/// The number of a value that a variable may have.
+fn value_in(lang: &Language, v: u8, digits: &[u8]) -> Option<u8>
+    requires { v < length lang.now.names }
+    ensures is { result ≡ value_in (range_of lang.now v) digits.now }
+    ensures fits { IfSome result (λ x. x < lang.now.value_count) }
+    ensures within { IfSome result (λ x. IsTrue (is_in (range_of lang.now v) x)) }
+{
+    let (first, last) = lang.range(v);
+    let x = number_from(u32::from(first), u32::from(last) + 1, digits)?;
+    Some(x as u8)
+}
+
+/// A variable, from the least on, and a value of its range, both by number.
 fn pair_in(lang: &Language, least: u32, word: &[u8]) -> Option<(u8, u8)>
-    ensures is { result ≡ pair_in (length lang.now.names) lang.now.value_count least word.now }
+    ensures is { result ≡ pair_in lang.now.ranges (length lang.now.names) least word.now }
     ensures known { IfSome result (λ pair. pair.0 < length lang.now.names) }
     ensures fits { IfSome result (λ pair. pair.1 < lang.now.value_count) }
+    ensures within { IfSome result (λ pair. IsTrue (is_in (range_of lang.now pair.0) pair.1)) }
 {
     let (first, second) = cut_at(word, b':')?;
-    let v = number_from(least, u32::from(lang.n()), first)?;
-    let x = decimal_below(u32::from(lang.d()), second)?;
-    Some((v as u8, x as u8))
+    let v = number_from(least, u32::from(lang.n()), first)? as u8;
+    let x = value_in(lang, v, second)?;
+    Some((v, x))
 }
 
 /// The assignment that pairs give.

@@ -92,13 +92,13 @@ fn go_on(lang: &Language, c: Candidate, order: &[u8], values: &mut Values, e: &m
     requires order { order.now ≡ order_of lang.now c }
     requires at { IsAt lang.now c values.old.items e.old }
     ensures at { IsAt lang.now c values.new.items e.new }
-    ensures next { later lang.now.value_count values.old.items ≡ ahead result lang.now.value_count values.new.items }
+    ensures next { later lang.now c values.old.items ≡ ahead result lang.now c values.new.items }
 {
-    let d = lang.d();
     while let Some(x) = values.pop() {
         let v = order[values.len()];
         e.clear(v);
-        if x + 1 < d {
+        let (_, last) = lang.range(v);
+        if x < last {
             e.set(v, x + 1);
             values.push(x + 1);
             return true;
@@ -122,12 +122,14 @@ pub(crate) fn step(
     requires at { IsAt lang.now c values.old.items e.old }
     requires branch { token ≡ Branch → length values.old.items < variable_count lang.now }
     ensures at { IsAt lang.now c values.new.items e.new }
-    ensures next { children lang.now c values.old.items token ++ later lang.now.value_count values.old.items ≡ ahead result lang.now.value_count values.new.items }
+    ensures next { children lang.now c values.old.items token ++ later lang.now c values.old.items ≡ ahead result lang.now c values.new.items }
 {
     match token {
         Token::Branch => {
-            e.set(order[values.len()], 0);
-            values.push(0);
+            let v = order[values.len()];
+            let (first, _) = lang.range(v);
+            e.set(v, first);
+            values.push(first);
             true
         }
         Token::Holds | Token::Item(_) => go_on(lang, c, order, values, e),

@@ -1,6 +1,6 @@
 //! The words of a line, and the numbers that they write.
 
-ghost use Rattle.std.specs.Prelude.{◌≡◌, ◌<◌, ◌==◌, ◌∷◌, length, position, IfSome};
+ghost use Rattle.std.specs.Prelude.{◌≡◌, ◌<◌, ◌≤◌, ◌==◌, ◌∷◌, length, position, IfSome};
 ghost use Rattle.std.specs.Iterator.{YieldsFirstRef, item_count};
 ghost use Rattle.std.specs.Option.{option_map};
 ghost use Rattle.cert_check.specs.Reading.{begins_well, capped, cut_at, decimal_below, decimal_in, number_from, words_in};
@@ -64,6 +64,7 @@ pub(crate) fn decimal_below(bound: u32, digits: &[u8]) -> Option<u32>
 /// The same, where it isn't below the least.
 pub(crate) fn number_from(least: u32, bound: u32, digits: &[u8]) -> Option<u32>
     ensures is { result ≡ number_from least bound digits.now }
+    ensures from { IfSome result (λ n. least ≤ n) }
     ensures low { IfSome result (λ n. n < bound) }
 {
     let number = decimal_below(bound, digits)?;

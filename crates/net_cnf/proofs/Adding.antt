@@ -69,7 +69,8 @@ grown_next_from f a x old mid new from before after =
     (sym (ap (λ n. flat_map f (range_with_len a n)) (let e : x + 1 - a ≡ (x - a) + 1 = omega arith in e) ∙ pieces_more f a (x - a) x (omega arith)))
     (grown_more old (flat_map f (range_with_len a (x - a))) (f x) mid new before after)
 
-pub too_long_from : (fault : CnfFault) (f : ℕ → List ℕ) (a x n : ℕ) (old mid : List ℕ) → a ≤ x → x < n → Grown old (flat_map f (range_with_len a (x - a))) mid → IsTooLong mid (f x) fault → IsTooLong old (flat_map f (range_with_len a (n - a))) fault
-too_long_from fault f a x n old mid from low before h =
-    too_long fault old (flat_map f (range_with_len a (x - a))) (f x) (flat_map f (range_with_len a (n - a))) mid before
-    (front f a (x - a) (n - a) x (omega arith) (omega arith)) h
+pub too_long_from : (fault : CnfFault) (f : ℕ → List ℕ) (a x n : ℕ) (old rest whole mid : List ℕ) → a ≤ x → x < a + n → Grown old (flat_map f (range_with_len a (x - a))) mid → flat_map f (range_with_len a n) ++ rest ≡ whole → IsTooLong mid (f x) fault → IsTooLong old whole fault
+too_long_from fault f a x n old rest whole mid from low before e h =
+    let short = front f a (x - a) n x (omega arith) (omega arith) in
+    let all = ap length e in
+    too_long fault old (flat_map f (range_with_len a (x - a))) (f x) whole mid before (omega (arith, short, all, length-append (flat_map f (range_with_len a n)) rest)) h

@@ -13,20 +13,22 @@ use Rattle.assign.specs.Sets.{numbers}
 use Rattle.assign.specs.Assignment.{Assignment, value_of, covers, tuple_on, is_complete, is_same_value}
 use Rattle.rel_table.specs.Relation.{holds}
 use Rattle.language.specs.declared.candidates.Candidate.{Candidate}
-use Rattle.language.specs.Language.{Language, variable_count, scope_of, relation_of, violates, accepts, IsLanguage, IsQuestion, IsCandidate}
+use Rattle.language.specs.Language.{Language, variable_count, values_of, is_ranged, scope_of, relation_of, violates, accepts, IsLanguage, IsQuestion, IsCandidate}
 use Rattle.language.specs.Answers.{IsNetwork}
-use Rattle.language.proofs.Members.{any-map, any_number, find_none, find_some}
-use Rattle.net_cnf.specs.Booleans.{Boolean, boolean, values_of, booleans_of, booleans, number_of, gives, bits}
-use Rattle.net_cnf.specs.Clauses.{Clause, is_met, satisfies, literal, some_value, not_both, no_two_values, tuples_on, values_in, rejected, none_rejected, clauses}
+use Rattle.language.proofs.Lists.{find_all}
+use Rattle.language.proofs.Members.{any-map, find_none, find_some}
+use Rattle.net_cnf.specs.Booleans.{Boolean, boolean, booleans_of, booleans, number_of, gives, bits}
+use Rattle.net_cnf.specs.Clauses.{Clause, is_met, satisfies, literal, some_value, each_two, not_both, no_two_values, tuples_on, values_in, rejected, none_rejected, clauses}
 use Rattle.net_cnf.specs.Laws.{IsOnly, ClausesEncode}
 use Rattle.net_cnf.proofs.Numbers.{truth_of, same_truths}
-use Rattle.net_cnf.proofs.Tests.{all-flat_map, all_failing, all_range, at_range, all_same, only_one, all_two, at_two, find_below}
+use Rattle.net_cnf.proofs.Runs.{IsValue, first_of, size_of, values-run, value_in, in_value, value_at, place_in, any_value, all_values}
+use Rattle.net_cnf.proofs.Tests.{all-flat_map, all_failing, all_range, at_range, all_same, only_one, all_two, at_two}
 
 -- ---- An assignment
 
 pub record Valued (l : Language) (e : Assignment) (v : ℕ) : Type 0 where
   pub value : ℕ
-  pub fits : value < l.value_count
+  pub among : IsValue l v value
   pub is : value_of e v ≡ Some value
 
 pub valued : (l : Language) (e : Assignment) (v : ℕ) → IsQuestion l e → is_complete e ≡ true → v < variable_count l → Valued l e v
@@ -37,7 +39,11 @@ valued l e v question complete low = go (value_of e v) refl
 
     go : (o : Option ℕ) → value_of e v ≡ o → Valued l e v
     go None none = absurd (both_ways (is_some (value_of e v)) (ap is_some none) (AllPass-from_list_all is_some e complete v None inside))
-    go (Some x) some = record { value = x; fits = question.values_fit v None inside x some; is = some }
+    go (Some x) some = record {
+      value = x;
+      among = in_value l v x low (question.values_fit v None inside x some) (ap (is_ranged l v) (sym some) ∙ question.within v low);
+      is = some;
+    }
 
 pub given_is : (e : Assignment) (v x y : ℕ) → value_of e v ≡ Some y → gives e (boolean v x) ≡ eqb y x
 given_is e v x y is = ap (λ (o : Option ℕ). is_same_value o (Some x)) is
@@ -56,32 +62,35 @@ same_as_false false = refl
 abbrev pub truth : Language → List Bool → Boolean → Bool
 truth l truths b = get_or truths (number_of l b - 1) false
 
-yes_met : (l : Language) (e : Assignment) (v x : ℕ) → v < variable_count l → x < l.value_count → is_met (bits l e) (literal l true (boolean v x)) ≡ gives e (boolean v x)
-yes_met l e v x low fits = same_as_true (truth l (bits l e) (boolean v x)) ∙ truth_of l (gives e) v x low fits
+yes_met : (l : Language) (e : Assignment) (v x : ℕ) → IsValue l v x → is_met (bits l e) (literal l true (boolean v x)) ≡ gives e (boolean v x)
+yes_met l e v x is = same_as_true (truth l (bits l e) (boolean v x)) ∙ truth_of l (gives e) v x is
 
-no_met : (l : Language) (e : Assignment) (v x : ℕ) → v < variable_count l → x < l.value_count → is_met (bits l e) (literal l false (boolean v x)) ≡ not (gives e (boolean v x))
-no_met l e v x low fits = same_as_false (truth l (bits l e) (boolean v x)) ∙ ap not (truth_of l (gives e) v x low fits)
+no_met : (l : Language) (e : Assignment) (v x : ℕ) → IsValue l v x → is_met (bits l e) (literal l false (boolean v x)) ≡ not (gives e (boolean v x))
+no_met l e v x is = same_as_false (truth l (bits l e) (boolean v x)) ∙ ap not (truth_of l (gives e) v x is)
 
 -- ---- The clauses hold of a complete assignment's Booleans
 
-some_met : (l : Language) (e : Assignment) (v : ℕ) → Valued l e v → v < variable_count l → list_any (is_met (bits l e)) (some_value l v) ≡ true
-some_met l e v y low =
+some_met : (l : Language) (e : Assignment) (v : ℕ) → Valued l e v → list_any (is_met (bits l e)) (some_value l v) ≡ true
+some_met l e v y =
     any-map (is_met (bits l e)) (literal l true) (booleans_of l v)
     ∙ any-map (λ b. is_met (bits l e) (literal l true b)) (boolean v) (values_of l v)
-    ∙ any_number (λ x. is_met (bits l e) (literal l true (boolean v x))) l.value_count y.value y.fits
-    (yes_met l e v y.value low y.fits ∙ given_is e v y.value y.value y.is ∙ eq-eqb y.value y.value refl)
+    ∙ any_value l v y.value (λ x. is_met (bits l e) (literal l true (boolean v x))) y.among
+    (yes_met l e v y.value y.among ∙ given_is e v y.value y.value y.is ∙ eq-eqb y.value y.value refl)
 
-not_given : (l : Language) (e : Assignment) (v x y : ℕ) → value_of e v ≡ Some y → v < variable_count l → x < l.value_count → (y ≡ x → ⊥) → is_met (bits l e) (literal l false (boolean v x)) ≡ true
-not_given l e v x y is low fits apart = no_met l e v x low fits ∙ ap not (given_is e v x y is ∙ ne_eqb y x apart)
+not_given : (l : Language) (e : Assignment) (v x y : ℕ) → value_of e v ≡ Some y → IsValue l v x → (y ≡ x → ⊥) → is_met (bits l e) (literal l false (boolean v x)) ≡ true
+not_given l e v x y is among apart = no_met l e v x among ∙ ap not (given_is e v x y is ∙ ne_eqb y x apart)
 
 no_two_met : (l : Language) (e : Assignment) (v : ℕ) → Valued l e v → v < variable_count l → list_all (list_any (is_met (bits l e))) (no_two_values l v) ≡ true
-no_two_met l e v y low = all_two (list_any (is_met (bits l e))) (not_both l) (boolean v) 0 l.value_count (λ i j from before high. go i j before (omega arith) (cases_eq y.value i))
+no_two_met l e v y low =
+    ap (λ xs. list_all (list_any (is_met (bits l e))) (each_two (not_both l) (map (boolean v) xs))) (values-run l v)
+    ∙ all_two (list_any (is_met (bits l e))) (not_both l) (boolean v) (first_of l v) (size_of l v) (λ i j from before high.
+    go i j before (value_at l v i low from (omega arith)) (value_at l v j low (omega arith) high) (cases_eq y.value i))
   where
-    go : (i j : ℕ) → i < j → j < l.value_count → (y.value ≡ i) ⊎ (y.value ≡ i → ⊥) → list_any (is_met (bits l e)) (not_both l (boolean v i) (boolean v j)) ≡ true
-    go i j before high (inr apart) = or_left (is_met (bits l e) (literal l false (boolean v i))) _ (not_given l e v i y.value y.is low (omega arith) apart)
-    go i j before high (inl same) =
+    go : (i j : ℕ) → i < j → IsValue l v i → IsValue l v j → (y.value ≡ i) ⊎ (y.value ≡ i → ⊥) → list_any (is_met (bits l e)) (not_both l (boolean v i) (boolean v j)) ≡ true
+    go i j before one two (inr apart) = or_left (is_met (bits l e) (literal l false (boolean v i))) _ (not_given l e v i y.value y.is one apart)
+    go i j before one two (inl same) =
         or_right (is_met (bits l e) (literal l false (boolean v i))) _
-        (or_left (is_met (bits l e) (literal l false (boolean v j))) false (not_given l e v j y.value y.is low high (λ also. absurd (omega (arith, same, also)))))
+        (or_left (is_met (bits l e) (literal l false (boolean v j))) false (not_given l e v j y.value y.is two (λ also. absurd (omega (arith, same, also)))))
 
 plain : (b : Bool) → ((b || false) && true) ≡ b
 plain true = refl
@@ -94,15 +103,16 @@ all_pass p (x ∷ xs) h = and_from (p x) (list_all p xs) (h x) (all_pass p xs h)
 -- all tuples of a scope are accepted or not the assignment's, where the assignment's is accepted
 tuples_tell : (l : Language) (e : Assignment) (q : List ℕ → Bool) (h : Boolean → Bool) (scope : List ℕ) → All (λ v. v < variable_count l) scope →
     ((v : ℕ) → v < variable_count l → Valued l e v) →
-    ((v x : ℕ) → v < variable_count l → x < l.value_count → h (boolean v x) ≡ not (gives e (boolean v x))) →
+    ((v x : ℕ) → IsValue l v x → h (boolean v x) ≡ not (gives e (boolean v x))) →
     list_all (λ tuple. q (values_in tuple) || list_any h tuple) (tuples_on l scope) ≡ q (tuple_on e scope)
 tuples_tell l e q h [] known all is = plain (q [])
 tuples_tell l e q h (v ∷ scope) known all is =
     all-flat_map test (λ b. map (λ tuple. b ∷ tuple) (tuples_on l scope)) (booleans_of l v)
     ∙ list_all-map (λ b. list_all test (map (λ tuple. b ∷ tuple) (tuples_on l scope))) (boolean v) (values_of l v)
-    ∙ all_same (λ x. list_all test (map (λ tuple. boolean v x ∷ tuple) (tuples_on l scope))) (λ x. cond (eqb y.value x) (q (x ∷ tuple_on e scope)) true) 0 l.value_count
-    (λ x from high. each (λ z. tuples_tell l e (λ values. q (z ∷ values)) h scope (All-tail (λ w. w < variable_count l) v scope known) all is) x (omega arith))
-    ∙ only_one (λ x. q (x ∷ tuple_on e scope)) y.value 0 l.value_count (omega arith) (let f = y.fits in omega (arith, f))
+    ∙ ap (list_all (λ x. list_all test (map (λ tuple. boolean v x ∷ tuple) (tuples_on l scope)))) (values-run l v)
+    ∙ all_same (λ x. list_all test (map (λ tuple. boolean v x ∷ tuple) (tuples_on l scope))) (λ x. cond (eqb y.value x) (q (x ∷ tuple_on e scope)) true) (first_of l v) (size_of l v)
+    (λ x from high. each (λ z. tuples_tell l e (λ values. q (z ∷ values)) h scope (All-tail (λ w. w < variable_count l) v scope known) all is) x (value_at l v x low from high))
+    ∙ only_one (λ x. q (x ∷ tuple_on e scope)) y.value (first_of l v) (size_of l v) y.among.from (let inside = place_in l v y.value y.among in let from = y.among.from in omega (arith, inside, from))
     ∙ ap (λ (o : Option ℕ). q (unwrap_or o 0 ∷ tuple_on e scope)) (sym y.is)
   where
     low : v < variable_count l
@@ -114,10 +124,10 @@ tuples_tell l e q h (v ∷ scope) known all is =
     test : List Boolean → Bool
     test = λ tuple. q (values_in tuple) || list_any h tuple
 
-    each : ((z : ℕ) → list_all (λ tuple. q (z ∷ values_in tuple) || list_any h tuple) (tuples_on l scope) ≡ q (z ∷ tuple_on e scope)) → (x : ℕ) → x < l.value_count → list_all test (map (λ tuple. boolean v x ∷ tuple) (tuples_on l scope)) ≡ cond (eqb y.value x) (q (x ∷ tuple_on e scope)) true
-    each further x fits =
+    each : ((z : ℕ) → list_all (λ tuple. q (z ∷ values_in tuple) || list_any h tuple) (tuples_on l scope) ≡ q (z ∷ tuple_on e scope)) → (x : ℕ) → IsValue l v x → list_all test (map (λ tuple. boolean v x ∷ tuple) (tuples_on l scope)) ≡ cond (eqb y.value x) (q (x ∷ tuple_on e scope)) true
+    each further x among =
         list_all-map test (λ tuple. boolean v x ∷ tuple) (tuples_on l scope)
-        ∙ ap (λ b. list_all (λ tuple. q (x ∷ values_in tuple) || (b || list_any h tuple)) (tuples_on l scope)) (is v x low fits ∙ ap not (given_is e v x y.value y.is))
+        ∙ ap (λ b. list_all (λ tuple. q (x ∷ values_in tuple) || (b || list_any h tuple)) (tuples_on l scope)) (is v x among ∙ ap not (given_is e v x y.value y.is))
         ∙ go (eqb y.value x)
       where
         go : (s : Bool) → list_all (λ tuple. q (x ∷ values_in tuple) || (not s || list_any h tuple)) (tuples_on l scope) ≡ cond s (q (x ∷ tuple_on e scope)) true
@@ -139,7 +149,7 @@ candidate_met l e c lawful candidate all =
     list_all-map (list_any (is_met (bits l e))) (λ tuple. map (literal l false) tuple) (rejected l c)
     ∙ all_failing (λ tuple. holds l.value_count (relation_of l c) (values_in tuple)) (λ tuple. list_any (is_met (bits l e)) (map (literal l false) tuple)) (tuples_on l (scope_of l c))
     ∙ (λ i. list_all (λ tuple. holds l.value_count (relation_of l c) (values_in tuple) || any-map (is_met (bits l e)) (literal l false) tuple i) (tuples_on l (scope_of l c)))
-    ∙ tuples_tell l e (holds l.value_count (relation_of l c)) (λ b. is_met (bits l e) (literal l false b)) (scope_of l c) known all (λ v x low fits. no_met l e v x low fits)
+    ∙ tuples_tell l e (holds l.value_count (relation_of l c)) (λ b. is_met (bits l e) (literal l false b)) (scope_of l c) known all (λ v x among. no_met l e v x among)
     ∙ not_rejecting (covers e (scope_of l c)) (holds l.value_count (relation_of l c) (tuple_on e (scope_of l c)))
     (covered e (scope_of l c) (variable_count l) known (λ v low. ap is_some (all v low).is))
   where
@@ -171,7 +181,7 @@ pub same_answers : (l : Language) (network : List Candidate) (e : Assignment) �
 same_answers l network e lawful known question complete =
     let all : (v : ℕ) → v < variable_count l → Valued l e v = λ v low. valued l e v question complete low in
     sym (kinds l network (bits l e)
-    ∙ (λ i. all_range (λ v. list_any (is_met (bits l e)) (some_value l v)) 0 (variable_count l) (λ v from low. some_met l e v (all v (omega arith)) (omega arith)) i
+    ∙ (λ i. all_range (λ v. list_any (is_met (bits l e)) (some_value l v)) 0 (variable_count l) (λ v from low. some_met l e v (all v (omega arith))) i
     && (all_range (λ v. list_all (list_any (is_met (bits l e))) (no_two_values l v)) 0 (variable_count l) (λ v from low. no_two_met l e v (all v (omega arith)) (omega arith)) i
     && network_met l e network lawful known all i)))
 
@@ -179,8 +189,8 @@ same_answers l network e lawful known question complete =
 
 -- each variable has a value, and no two
 record AreValues (l : Language) (truths : List Bool) : Type 0 where
-  some : (v : ℕ) → v < variable_count l → list_any (λ x. truth l truths (boolean v x)) (numbers l.value_count) ≡ true
-  apart : (v i j : ℕ) → v < variable_count l → i < j → j < l.value_count → truth l truths (boolean v i) ≡ true → truth l truths (boolean v j) ≡ true → ⊥
+  some : (v : ℕ) → v < variable_count l → list_any (λ x. truth l truths (boolean v x)) (values_of l v) ≡ true
+  apart : (v i j : ℕ) → i < j → IsValue l v i → IsValue l v j → truth l truths (boolean v i) ≡ true → truth l truths (boolean v j) ≡ true → ⊥
 
 not_both_true : (a b : Bool) → (beq a false || (beq b false || false)) ≡ true → a ≡ true → b ≡ true → ⊥
 not_both_true a b h on also = both_ways (beq a false || (beq b false || false)) (λ i. beq (on i) false || (beq (also i) false || false)) h
@@ -194,12 +204,16 @@ values_from l network truths h =
       some = λ v low.
           sym (any-map (is_met truths) (literal l true) (booleans_of l v)
           ∙ any-map (λ b. is_met truths (literal l true b)) (boolean v) (values_of l v)
-          ∙ (λ i. list_any (λ x. same_as_true (truth l truths (boolean v x)) i) (numbers l.value_count)))
+          ∙ (λ i. list_any (λ x. same_as_true (truth l truths (boolean v x)) i) (values_of l v)))
           ∙ at_range (λ w. list_any (is_met truths) (some_value l w)) 0 n v first.0 (omega arith) (omega arith);
-      apart = λ v i j low before high.
+      apart = λ v i j before one two.
+          let low = one.variable in
+          let from = two.from in
+          let inside = place_in l v j two in
           not_both_true (truth l truths (boolean v i)) (truth l truths (boolean v j))
-          (at_two (list_any (is_met truths)) (not_both l) (boolean v) 0 l.value_count i j
-          (at_range (λ w. list_all (list_any (is_met truths)) (no_two_values l w)) 0 n v second.0 (omega arith) (omega arith)) (omega arith) before (omega arith));
+          (at_two (list_any (is_met truths)) (not_both l) (boolean v) (first_of l v) (size_of l v) i j
+          (ap (λ xs. list_all (list_any (is_met truths)) (each_two (not_both l) (map (boolean v) xs))) (sym (values-run l v))
+          ∙ at_range (λ w. list_all (list_any (is_met truths)) (no_two_values l w)) 0 n v second.0 (omega arith) (omega (arith, low))) one.from before (omega (arith, from, inside)));
     }
 
 abbrev chosen : Language → List Bool → ℕ → Option ℕ
@@ -209,12 +223,12 @@ chosen l truths v = find (λ x. truth l truths (boolean v x)) (values_of l v)
 abbrev pub solution : Language → List Bool → Assignment
 solution l truths = map (chosen l truths) (numbers (variable_count l))
 
-value_at : (l : Language) (truths : List Bool) (v : ℕ) → v < variable_count l → value_of (solution l truths) v ≡ chosen l truths v
-value_at l truths v low = get_or-map-range_with_len (chosen l truths) 0 (variable_count l) v v None low (omega arith)
+solution_at : (l : Language) (truths : List Bool) (v : ℕ) → v < variable_count l → value_of (solution l truths) v ≡ chosen l truths v
+solution_at l truths v low = get_or-map-range_with_len (chosen l truths) 0 (variable_count l) v v None low (omega arith)
 
 record Chosen (l : Language) (truths : List Bool) (v : ℕ) : Type 0 where
   value : ℕ
-  fits : value < l.value_count
+  among : IsValue l v value
   is : chosen l truths v ≡ Some value
   on : truth l truths (boolean v value) ≡ true
 
@@ -222,22 +236,22 @@ choice : (l : Language) (truths : List Bool) (v : ℕ) → AreValues l truths �
 choice l truths v values low = go (chosen l truths v) refl
   where
     go : (o : Option ℕ) → chosen l truths v ≡ o → Chosen l truths v
-    go None none = absurd (both_ways (list_any (λ x. truth l truths (boolean v x)) (numbers l.value_count)) (find_none (λ x. truth l truths (boolean v x)) (values_of l v) none) (values.some v low))
+    go None none = absurd (both_ways (list_any (λ x. truth l truths (boolean v x)) (values_of l v)) (find_none (λ x. truth l truths (boolean v x)) (values_of l v) none) (values.some v low))
     go (Some x) some = record {
       value = x;
-      fits = (let low = find_below (λ y. truth l truths (boolean v y)) 0 l.value_count x some in omega (arith, low));
+      among = find_all (IsValue l v) (λ y. truth l truths (boolean v y)) (values_of l v) x (all_values l v (IsValue l v) low (λ y is. is)) some;
       is = some;
       on = find_some (λ y. truth l truths (boolean v y)) (values_of l v) x some;
     }
 
 -- the other Booleans of the variable are false
-only_chosen : (l : Language) (truths : List Bool) (v x : ℕ) → AreValues l truths → v < variable_count l → (y : Chosen l truths v) → x < l.value_count → eqb y.value x ≡ truth l truths (boolean v x)
-only_chosen l truths v x values low y fits = go (cases_eq y.value x) (truth l truths (boolean v x)) refl
+only_chosen : (l : Language) (truths : List Bool) (v x : ℕ) → AreValues l truths → (y : Chosen l truths v) → IsValue l v x → eqb y.value x ≡ truth l truths (boolean v x)
+only_chosen l truths v x values y among = go (cases_eq y.value x) (truth l truths (boolean v x)) refl
   where
     go : (y.value ≡ x) ⊎ (y.value ≡ x → ⊥) → (b : Bool) → truth l truths (boolean v x) ≡ b → eqb y.value x ≡ truth l truths (boolean v x)
     go (inl same) b is = eq-eqb y.value x same ∙ sym (ap (λ z. truth l truths (boolean v z)) (sym same) ∙ y.on)
     go (inr apart) false off = ne_eqb y.value x apart ∙ sym off
-    go (inr apart) true on = absurd (elim (cases_lt y.value x) [ inl before ↦ values.apart v y.value x low before fits y.on on | inr after ↦ values.apart v x y.value low (omega arith) y.fits on y.on ])
+    go (inr apart) true on = absurd (elim (cases_lt y.value x) [ inl before ↦ values.apart v y.value x before y.among among y.on on | inr after ↦ values.apart v x y.value (omega arith) among y.among on y.on ])
 
 pub one_solution : (l : Language) (network : List Candidate) (truths : List Bool) → length truths ≡ length (booleans l) → satisfies truths (clauses l network) ≡ true → (e : Assignment) × IsOnly l truths e
 one_solution l network truths long h = (
@@ -250,15 +264,18 @@ one_solution l network truths long h = (
           let y = choice l truths k values inside in
           let at : Some x ≡ Some y.value = sym some ∙ get_or-map-range_with_len (chosen l truths) 0 n k k d inside (omega arith) ∙ y.is in
           let same : x ≡ y.value = cc in
-          let fits = y.fits in
+          let fits = y.among.fits in
           omega (arith, same, fits);
+      within = λ v low.
+          let y = choice l truths v values low in
+          ap (is_ranged l v) (solution_at l truths v low ∙ y.is) ∙ value_in l v y.value y.among;
     };
     complete = list_all-map is_some (chosen l truths) (numbers n) ∙ all_range (λ v. is_some (chosen l truths v)) 0 n (λ v from low. ap is_some (choice l truths v values (omega arith)).is);
-    is = same_truths l (bits l (solution l truths)) truths (length-map (booleans l) (gives (solution l truths))) long (λ v x low fits.
-        let y = choice l truths v values low in
-        truth_of l (gives (solution l truths)) v x low fits
-        ∙ given_is (solution l truths) v x y.value (value_at l truths v low ∙ y.is)
-        ∙ only_chosen l truths v x values low y fits);
+    is = same_truths l (bits l (solution l truths)) truths (length-map (booleans l) (gives (solution l truths))) long (λ v x among.
+        let y = choice l truths v values among.variable in
+        truth_of l (gives (solution l truths)) v x among
+        ∙ given_is (solution l truths) v x y.value (solution_at l truths v among.variable ∙ y.is)
+        ∙ only_chosen l truths v x values y among);
     only = λ other question complete same.
         ext_get_or None other (solution l truths) (question.size ∙ sym (length-map-range_with_len (chosen l truths) 0 n)) (λ v inside.
         let size = question.size in
@@ -267,10 +284,10 @@ one_solution l network truths long h = (
         let y = choice l truths v values low in
         let on : eqb x.value y.value ≡ true =
         sym (given_is other v y.value x.value x.is)
-        ∙ sym (truth_of l (gives other) v y.value low y.fits)
+        ∙ sym (truth_of l (gives other) v y.value y.among)
         ∙ ap (λ (all : List Bool). truth l all (boolean v y.value)) same
         ∙ y.on in
-        x.is ∙ ap (λ (k : ℕ). Some k) (eqb-true x.value y.value on) ∙ sym (value_at l truths v low ∙ y.is));
+        x.is ∙ ap (λ (k : ℕ). Some k) (eqb-true x.value y.value on) ∙ sym (solution_at l truths v low ∙ y.is));
   },
 )
   where

@@ -1,7 +1,9 @@
+pub mod Runs
+pub mod Adding
 pub mod Numbers
 pub mod Tests
 pub mod Encoding
-pub mod Adding
+pub mod Outside
 pub mod Pieces
 pub mod Numerals
 pub mod Literals

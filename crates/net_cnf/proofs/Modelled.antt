@@ -1,6 +1,6 @@
 -- The bytes from which a solution is read are those that are a model of it.
 use Rattle.std.proofs.Common.{◌≡◌, ℕ, ◌+◌, ◌-◌, ◌<◌, ◌≤◌, ◌&&◌, not, Bool, true, false, cond, List, [], ◌∷◌, length, map, get_or, Option, Some, None, Result, Ok, Err, zero, suc, refl, sym, ◌∙◌, ap, arith, subst, ◌⊎◌, inl, inr}
-use Rattle.std.specs.Prelude.{find, position, is_some, is_none, nat_eq, nat_lt}
+use Rattle.std.specs.Prelude.{filter, find, position, is_some, is_none, nat_eq, nat_lt}
 use Rattle.std.specs.List.{range_with_len}
 use Rattle.std.specs.Option.{option_map}
 use Rattle.std.proofs.lemmas.Bool.{cases_order, not-true, not-false, not_from_true, not_from_false, lt-ltb, le-ltb, ltb-false, both_ways, false_from_ne_true, and_from, and_parts}
@@ -11,7 +11,7 @@ use Rattle.std.proofs.lemmas.List.Sums.{list_all-from_AllPass, AllPass-from_list
 use Rattle.assign.specs.Sets.{numbers}
 use Rattle.assign.specs.Assignment.{Assignment, is_complete}
 use Rattle.language.specs.declared.candidates.Candidate.{Candidate}
-use Rattle.language.specs.Language.{Language, variable_count, violates, IsQuestion}
+use Rattle.language.specs.Language.{Language, variable_count, is_ranged, violates, IsQuestion}
 use Rattle.language.proofs.ByNames.{position_nowhere}
 use Rattle.net_cnf.specs.Booleans.{boolean, booleans, number_of, gives, bits}
 use Rattle.net_cnf.specs.Laws.{ReadsModels, ReadIsNotRefused}
@@ -26,7 +26,8 @@ use Rattle.net_cnf.proofs.Cutting.{nowhere}
 use Rattle.net_cnf.proofs.Encoding.{Valued, valued, given_is}
 use Rattle.net_cnf.proofs.Marking.{find_nowhere}
 use Rattle.net_cnf.proofs.Numbers.{truth_of, same_truths}
-use Rattle.net_cnf.proofs.Valuing.{only_tells, only_some, one_passes, passes_one, true_below}
+use Rattle.net_cnf.proofs.Runs.{first_of, size_of, values-run, value_in, value_at, place_in}
+use Rattle.net_cnf.proofs.Valuing.{only_tells, only_some, one_passes, passes_one, true_of}
 
 -- ---- nothing is found
 
@@ -124,8 +125,13 @@ assignment_fits l truths = record {
   size = length-assignment l truths;
   values_fit = λ v d inside x is.
       let low : v < variable_count l = (let e = length-assignment l truths in omega (arith, e, inside)) in
-      true_below l truths v x (sym (value_is l truths v d low) ∙ is);
+      (true_of l truths v x low (sym (value_is l truths v d low) ∙ is)).fits;
+  within = λ v low. ap (is_ranged l v) (value_is l truths v None low) ∙ ranged v low (only_of (true_values l truths v)) refl;
 }
+  where
+    ranged : (v : ℕ) → v < variable_count l → (o : Option ℕ) → only_of (true_values l truths v) ≡ o → is_ranged l v o ≡ true
+    ranged v low None is = refl
+    ranged v low (Some x) is = value_in l v x (true_of l truths v x low is)
 
 assignment_complete : (l : Language) (truths : List Bool) → not_one l truths ≡ None → is_complete (assignment_of l truths) ≡ true
 assignment_complete l truths one = list_all-from_AllPass is_some (assignment_of l truths) (λ v d inside.
@@ -133,20 +139,25 @@ assignment_complete l truths one = list_all-from_AllPass is_some (assignment_of 
     ap is_some (value_is l truths v d low ∙ ap only_of (one_value l truths v one low).is))
 
 assignment_bits : (l : Language) (truths : List Bool) → length truths ≡ boolean_count l → not_one l truths ≡ None → bits l (assignment_of l truths) ≡ truths
-assignment_bits l truths long one = same_truths l (bits l (assignment_of l truths)) truths (length-map (booleans l) (gives (assignment_of l truths))) long (λ v x low fits.
-    let y = one_value l truths v one low in
-    truth_of l (gives (assignment_of l truths)) v x low fits
-    ∙ given_is (assignment_of l truths) v x y.value (value_is l truths v None low ∙ ap only_of y.is)
-    ∙ sym (one_passes (λ z. get_or truths (number_of l (boolean v z) - 1) false) l.value_count y.value x y.is fits))
+assignment_bits l truths long one = same_truths l (bits l (assignment_of l truths)) truths (length-map (booleans l) (gives (assignment_of l truths))) long (λ v x among.
+    let y = one_value l truths v one among.variable in
+    let from = among.from in
+    let inside = place_in l v x among in
+    truth_of l (gives (assignment_of l truths)) v x among
+    ∙ given_is (assignment_of l truths) v x y.value (value_is l truths v None among.variable ∙ ap only_of y.is)
+    ∙ sym (one_passes (λ z. get_or truths (number_of l (boolean v z) - 1) false) (first_of l v) (size_of l v) y.value x
+    (ap (filter (λ z. get_or truths (number_of l (boolean v z) - 1) false)) (sym (values-run l v)) ∙ y.is) from (omega (arith, from, inside))))
 
 -- the same, from the assignment
 abbrev valued_so : (l : Language) (truths : List Bool) (e : Assignment) (v : ℕ) → bits l e ≡ truths → Valued l e v → v < variable_count l → IsValued l truths v
 valued_so l truths e v same y low = record {
   value = y.value;
-  is = passes_one (λ x. get_or truths (number_of l (boolean v x) - 1) false) 0 l.value_count y.value (λ x from high.
+  is =
+      ap (filter (λ x. get_or truths (number_of l (boolean v x) - 1) false)) (values-run l v)
+      ∙ passes_one (λ x. get_or truths (number_of l (boolean v x) - 1) false) (first_of l v) (size_of l v) y.value (λ x from high.
       ap (λ t. get_or t (number_of l (boolean v x) - 1) false) (sym same)
-      ∙ truth_of l (gives e) v x low (omega arith)
-      ∙ given_is e v x y.value y.is) (omega arith) (let f = y.fits in omega (arith, f));
+      ∙ truth_of l (gives e) v x (value_at l v x low from high)
+      ∙ given_is e v x y.value y.is) y.among.from (let from = y.among.from in let inside = place_in l v y.value y.among in omega (arith, from, inside));
 }
 
 -- ---- both ways

@@ -1,9 +1,11 @@
 -- The lines of clauses, a piece for each number.
-use Rattle.std.proofs.Common.{◌≡◌, ℕ, zero, suc, ◌+◌, ◌-◌, ◌*◌, ◌/◌, ◌^◌, ◌<◌, ◌≤◌, Bool, true, false, not, cond, List, [], ◌∷◌, ◌++◌, length, map, take, get_or, set, replicate, ℤ, Some, None, refl, sym, ◌∙◌, ap, arith}
+use Rattle.std.proofs.Common.{◌≡◌, ℕ, zero, suc, ◌+◌, ◌-◌, ◌*◌, ◌/◌, ◌^◌, ◌<◌, ◌≤◌, ◌&&◌, Bool, true, false, not, cond, List, [], ◌∷◌, ◌++◌, length, map, take, get_or, set, replicate, ℤ, Some, None, refl, sym, ◌∙◌, ap, arith}
 use Rattle.std.specs.Prelude.{slice_get}
 use Rattle.std.specs.List.{flat_map, filter, range_with_len}
 use Rattle.std.proofs.lemmas.List.{append-nil, length-append, length-map, map-append, map-id, take_more}
 use Rattle.std.proofs.lemmas.Option.{get_or_from_slice_get}
+use Rattle.std.proofs.lemmas.Bool.{and_from, and_right}
+use Rattle.std.proofs.lemmas.List.Elements.{filter-append}
 use Rattle.std.proofs.Math.Nat.{mul-le-mul}
 use Rattle.std.proofs.lemmas.List.Concat.{flat_map-append}
 use Rattle.std.proofs.lemmas.List.FromFn.{fill_by_all, length-map-range_with_len, filter_of_map_range_with_len_more}
@@ -11,13 +13,16 @@ use Rattle.assign.specs.Sets.{numbers}
 use Rattle.rel_table.specs.Relation.{holds, tuples, tuple_at}
 use Rattle.rel_table.proofs.PlaceLemmas.{length-tuples, get_or-tuples, length-tuple_at, place-tuple_at}
 use Rattle.language.specs.declared.candidates.Candidate.{Candidate}
-use Rattle.language.specs.Language.{Language, variable_count, scope_of, relation_of}
+use Rattle.language.specs.Language.{Language, IsLanguage, IsCandidate, variable_count, range_of, values_of, scope_of, relation_of}
+use Rattle.language.specs.Ranges.{is_in, are_in, IsRange}
 use Rattle.language.specs.Texts.{value_text, values_text}
-use Rattle.net_cnf.specs.Booleans.{Boolean, boolean, booleans, booleans_of, values_of}
+use Rattle.net_cnf.specs.Booleans.{Boolean, boolean, booleans, booleans_of}
 use Rattle.net_cnf.specs.Clauses.{literal, some_value, each_two, not_both, no_two_values, tuples_on, values_in, rejected, none_rejected, clauses}
 use Rattle.net_cnf.specs.Paired.{paired, tuple_there, accepts_there, place_piece, item_piece}
 use Rattle.net_cnf.specs.Texts.{literal_text, clause_text, boolean_text}
-use Rattle.net_cnf.proofs.Numbers.{length-blocks}
+use Rattle.net_cnf.proofs.Adding.{pieces_more}
+use Rattle.net_cnf.proofs.Outside.{rejected_within}
+use Rattle.net_cnf.proofs.Runs.{first_of, size_of, values-run}
 
 pub flat_map-map : {X Y Z : Type 0} (f : Y → List Z) (g : X → Y) (xs : List X) → flat_map f (map g xs) ≡ flat_map (λ x. f (g x)) xs
 flat_map-map f g [] = refl
@@ -33,30 +38,35 @@ flat_map-flat_map f g (x ∷ xs) = flat_map-append f (g x) (flat_map g xs) ∙ a
 abbrev pub literal_piece : Language → Bool → Boolean → List ℕ
 literal_piece l positive b = literal_text (literal l positive b) ++ 32 ∷ []
 
-pub some_value_pieces : (l : Language) (v : ℕ) → flat_map (λ x. literal_piece l true (boolean v x)) (range_with_len 0 l.value_count) ++ 48 ∷ 10 ∷ [] ≡ clause_text (some_value l v)
+pub some_value_pieces : (l : Language) (v : ℕ) → flat_map (λ x. literal_piece l true (boolean v x)) (range_with_len (first_of l v) (size_of l v)) ++ 48 ∷ 10 ∷ [] ≡ clause_text (some_value l v)
 some_value_pieces l v = ap (λ r. r ++ 48 ∷ 10 ∷ [])
-    (sym (flat_map-map (λ literal. literal_text literal ++ 32 ∷ []) (literal l true) (booleans_of l v) ∙ flat_map-map (literal_piece l true) (boolean v) (values_of l v)))
+    (sym (flat_map-map (λ literal. literal_text literal ++ 32 ∷ []) (literal l true) (booleans_of l v) ∙ flat_map-map (literal_piece l true) (boolean v) (values_of l v)
+    ∙ ap (flat_map (λ x. literal_piece l true (boolean v x))) (values-run l v)))
 
 -- ---- each two
 
 abbrev pub pair_piece : Language → ℕ → ℕ → ℕ → List ℕ
 pair_piece l v x y = clause_text (not_both l (boolean v x) (boolean v y))
 
--- a value with each above it
+-- a value with each above it, up to the last
 abbrev pub row_piece : Language → ℕ → ℕ → ℕ → List ℕ
-row_piece l v d x = flat_map (pair_piece l v x) (range_with_len (x + 1) (d - (x + 1)))
+row_piece l v last x = flat_map (pair_piece l v x) (range_with_len (x + 1) (last - x))
 
-rows : (l : Language) (v d a n : ℕ) → d ≡ a + n → flat_map clause_text (each_two (not_both l) (map (boolean v) (range_with_len a n))) ≡ flat_map (row_piece l v d) (range_with_len a n)
-rows l v d a zero e = refl
-rows l v d a (suc n) e =
+rows : (l : Language) (v last a n : ℕ) → last + 1 ≡ a + n → flat_map clause_text (each_two (not_both l) (map (boolean v) (range_with_len a n))) ≡ flat_map (row_piece l v last) (range_with_len a n)
+rows l v last a zero e = refl
+rows l v last a (suc n) e =
     flat_map-append clause_text (map (not_both l (boolean v a)) (map (boolean v) (range_with_len (a + 1) n))) (each_two (not_both l) (map (boolean v) (range_with_len (a + 1) n)))
     ∙ (λ i. (flat_map-map clause_text (not_both l (boolean v a)) (map (boolean v) (range_with_len (a + 1) n))
     ∙ flat_map-map (λ b. clause_text (not_both l (boolean v a) b)) (boolean v) (range_with_len (a + 1) n)
-    ∙ ap (λ k. flat_map (pair_piece l v a) (range_with_len (a + 1) k)) (let g : n ≡ d - (a + 1) = omega arith in g)) i
-    ++ rows l v d (a + 1) n (omega arith) i)
+    ∙ ap (λ k. flat_map (pair_piece l v a) (range_with_len (a + 1) k)) (let g : n ≡ last - a = omega arith in g)) i
+    ++ rows l v last (a + 1) n (omega arith) i)
 
-pub no_two_pieces : (l : Language) (v : ℕ) → flat_map (row_piece l v l.value_count) (range_with_len 0 l.value_count) ≡ flat_map clause_text (no_two_values l v)
-no_two_pieces l v = sym (rows l v l.value_count 0 l.value_count (omega arith))
+pub no_two_pieces : (l : Language) (v : ℕ) → IsRange l.value_count (range_of l v) → flat_map (row_piece l v (range_of l v).last) (range_with_len (first_of l v) (size_of l v)) ≡ flat_map clause_text (no_two_values l v)
+no_two_pieces l v range =
+    let some = range.some in
+    let known = range.known in
+    sym (ap (λ xs. flat_map clause_text (each_two (not_both l) (map (boolean v) xs))) (values-run l v)
+    ∙ rows l v (range_of l v).last (first_of l v) (size_of l v) (omega (arith, some, known)))
 
 -- ---- the Booleans of a tuple
 
@@ -98,8 +108,8 @@ alone_shown least (name ∷ names) (suc v) x low = alone_shown least names v x (
 
 -- ---- the whole, by numbers of variables
 
-pub booleans_of_pieces : (l : Language) (v : ℕ) → flat_map (λ x. boolean_text l (boolean v x)) (range_with_len 0 l.value_count) ≡ flat_map (boolean_text l) (booleans_of l v)
-booleans_of_pieces l v = sym (flat_map-map (boolean_text l) (boolean v) (values_of l v))
+pub booleans_of_pieces : (l : Language) (v : ℕ) → flat_map (λ x. boolean_text l (boolean v x)) (range_with_len (first_of l v) (size_of l v)) ≡ flat_map (boolean_text l) (booleans_of l v)
+booleans_of_pieces l v = sym (flat_map-map (boolean_text l) (boolean v) (values_of l v) ∙ ap (flat_map (λ x. boolean_text l (boolean v x))) (values-run l v))
 
 pub booleans_pieces : (l : Language) → flat_map (λ v. flat_map (boolean_text l) (booleans_of l v)) (range_with_len 0 (variable_count l)) ≡ flat_map (boolean_text l) (booleans l)
 booleans_pieces l = sym (flat_map-flat_map (boolean_text l) (booleans_of l) (numbers (variable_count l)))
@@ -120,28 +130,56 @@ map-flat_map : {X Y Z : Type 0} (f : Y → Z) (g : X → List Y) (xs : List X) �
 map-flat_map f g [] = refl
 map-flat_map f g (x ∷ xs) = map-append f (g x) (flat_map g xs) ∙ ap (λ r. map f (g x) ++ r) (map-flat_map f g xs)
 
-tuples_paired : (l : Language) (scope : List ℕ) → tuples_on l scope ≡ map (paired scope) (tuples l.value_count (length scope))
+filter-map : {X Y : Type 0} (p : Y → Bool) (f : X → Y) (xs : List X) → filter p (map f xs) ≡ map f (filter (λ x. p (f x)) xs)
+filter-map p f [] = refl
+filter-map p f (x ∷ xs) = ap (λ r. cond (p (f x)) (f x ∷ r) r) (filter-map p f xs) ∙ go (p (f x))
+  where
+    go : (b : Bool) → cond b (f x ∷ map f (filter (λ y. p (f y)) xs)) (map f (filter (λ y. p (f y)) xs)) ≡ map f (cond b (x ∷ filter (λ y. p (f y)) xs) (filter (λ y. p (f y)) xs))
+    go true = refl
+    go false = refl
+
+filter-filter : {X : Type 0} (q p : X → Bool) (xs : List X) → filter q (filter p xs) ≡ filter (λ x. p x && q x) xs
+filter-filter q p [] = refl
+filter-filter q p (x ∷ xs) = go (p x) ∙ ap (λ r. cond (p x && q x) (x ∷ r) r) (filter-filter q p xs)
+  where
+    go : (b : Bool) → filter q (cond b (x ∷ filter p xs) (filter p xs)) ≡ cond (b && q x) (x ∷ filter q (filter p xs)) (filter q (filter p xs))
+    go true = refl
+    go false = refl
+
+-- of tuples that begin with each of several values, those whose first value and whose rest pass
+filter-first : (p : ℕ → Bool) (q : List ℕ → Bool) (r : List ℕ → Bool) (tuples : List (List ℕ)) → ((x : ℕ) (t : List ℕ) → r (x ∷ t) ≡ (p x && q t)) → (xs : List ℕ) →
+    filter r (flat_map (λ x. map (λ t. x ∷ t) tuples) xs) ≡ flat_map (λ x. map (λ t. x ∷ t) (filter q tuples)) (filter p xs)
+filter-first p q r tuples is [] = refl
+filter-first p q r tuples is (x ∷ xs) =
+    filter-append r (map (λ t. x ∷ t) tuples) (flat_map (λ y. map (λ t. y ∷ t) tuples) xs)
+    ∙ (λ i. (filter-map r (λ t. x ∷ t) tuples ∙ ap (map (λ t. x ∷ t)) (same_tests (λ t. is x t) tuples)) i ++ filter-first p q r tuples is xs i)
+    ∙ go (p x)
+  where
+    same_tests : {f g : List ℕ → Bool} → ((t : List ℕ) → f t ≡ g t) → (ts : List (List ℕ)) → filter f ts ≡ filter g ts
+    same_tests h [] = refl
+    same_tests h (t ∷ ts) = λ i. cond (h t i) (t ∷ same_tests h ts i) (same_tests h ts i)
+
+    none : (ts : List (List ℕ)) → filter (λ t. false) ts ≡ []
+    none [] = refl
+    none (t ∷ ts) = none ts
+
+    go : (b : Bool) → map (λ t. x ∷ t) (filter (λ t. b && q t) tuples) ++ flat_map (λ y. map (λ t. y ∷ t) (filter q tuples)) (filter p xs)
+        ≡ flat_map (λ y. map (λ t. y ∷ t) (filter q tuples)) (cond b (x ∷ filter p xs) (filter p xs))
+    go true = refl
+    go false = ap (λ r. map (λ t. x ∷ t) r ++ flat_map (λ y. map (λ t. y ∷ t) (filter q tuples)) (filter p xs)) (none tuples)
+
+-- those within the ranges
+tuples_paired : (l : Language) (scope : List ℕ) → tuples_on l scope ≡ map (paired scope) (filter (are_in l.ranges scope) (tuples l.value_count (length scope)))
 tuples_paired l [] = refl
 tuples_paired l (v ∷ scope) =
     flat_map-map (λ b. map (λ t. b ∷ t) (tuples_on l scope)) (boolean v) (values_of l v)
-    ∙ (λ i. flat_map (λ x. (ap (map (λ t. boolean v x ∷ t)) (tuples_paired l scope) ∙ paired_with v x scope (tuples l.value_count (length scope))) i) (range_with_len 0 l.value_count))
-    ∙ sym (map-flat_map (paired (v ∷ scope)) (λ x. map (λ t. x ∷ t) (tuples l.value_count (length scope))) (range_with_len 0 l.value_count))
+    ∙ (λ i. flat_map (λ x. (ap (map (λ t. boolean v x ∷ t)) (tuples_paired l scope) ∙ paired_with v x scope (filter (are_in l.ranges scope) (tuples l.value_count (length scope)))) i) (values_of l v))
+    ∙ sym (map-flat_map (paired (v ∷ scope)) (λ x. map (λ t. x ∷ t) (filter (are_in l.ranges scope) (tuples l.value_count (length scope)))) (values_of l v))
+    ∙ ap (map (paired (v ∷ scope)))
+    (sym (filter-first (is_in (range_of l v)) (are_in l.ranges scope) (are_in l.ranges (v ∷ scope)) (tuples l.value_count (length scope)) (λ x t. refl) (range_with_len 0 l.value_count)))
 
-pub tuples_by_place : (l : Language) (scope : List ℕ) → tuples_on l scope ≡ map (λ at. paired scope (tuple_at l.value_count (length scope) at)) (range_with_len 0 (l.value_count ^ length scope))
-tuples_by_place l scope =
-    tuples_paired l scope
-    ∙ ap (map (paired scope)) (fill_by_all (tuple_at d a) (tuples d a) (d ^ a) [] (length-tuples d a) (λ k low. get_or-tuples d a k low))
-    ∙ map-map (paired scope) (tuple_at d a) (range_with_len 0 (d ^ a))
-  where
-    d : ℕ
-    d = l.value_count
-
-    a : ℕ
-    a = length scope
-
-    map-map : {X Y Z : Type 0} (f : Y → Z) (g : X → Y) (xs : List X) → map f (map g xs) ≡ map (λ x. f (g x)) xs
-    map-map f g [] = refl
-    map-map f g (x ∷ xs) = ap (λ r. f (g x) ∷ r) (map-map f g xs)
+by_place : (d a : ℕ) → tuples d a ≡ map (tuple_at d a) (range_with_len 0 (d ^ a))
+by_place d a = fill_by_all (tuple_at d a) (tuples d a) (d ^ a) [] (length-tuples d a) (λ k low. get_or-tuples d a k low)
 
 values-paired : (scope values : List ℕ) → length scope ≡ length values → values_in (paired scope values) ≡ values
 values-paired [] [] e = refl
@@ -155,21 +193,46 @@ there l c at low =
     ap (holds l.value_count (relation_of l c)) (values-paired (scope_of l c) (tuple_at l.value_count (length (scope_of l c)) at) (sym (length-tuple_at l.value_count (length (scope_of l c)) at)))
     ∙ ap (λ k. get_or (relation_of l c) k false) (place-tuple_at l.value_count (length (scope_of l c)) at low)
 
-filter_cond : {X Y : Type 0} (s : Bool) (f : X → Y) (x : X) (xs : List X) (ys : List Y) → ys ≡ map f xs → cond (not s) (f x ∷ ys) ys ≡ map f (cond (not s) (x ∷ xs) xs)
-filter_cond true f x xs ys e = e
-filter_cond false f x xs ys e = ap (λ r. f x ∷ r) e
+filter_range : (p q : ℕ → Bool) (a n : ℕ) → ((k : ℕ) → k < a + n → p k ≡ q k) → filter p (range_with_len a n) ≡ filter q (range_with_len a n)
+filter_range p q a zero h = refl
+filter_range p q a (suc n) h = λ i.
+    let rest : filter p (range_with_len (a + 1) n) ≡ filter q (range_with_len (a + 1) n) = filter_range p q (a + 1) n (λ k low. h k (omega arith)) in
+    cond (h a (omega arith) i) (a ∷ rest i) (rest i)
 
--- a filter of a map over numbers, where the test answers by the number
-filter_by_number : {Y : Type 0} (p : Y → Bool) (q : ℕ → Bool) (f : ℕ → Y) (a n : ℕ) → ((k : ℕ) → k < a + n → p (f k) ≡ q k) → filter (λ y. not (p y)) (map f (range_with_len a n)) ≡ map f (filter (λ k. not (q k)) (range_with_len a n))
-filter_by_number p q f a zero h = refl
-filter_by_number p q f a (suc n) h =
-    ap (λ s. cond (not s) (f a ∷ filter (λ y. not (p y)) (map f (range_with_len (a + 1) n))) (filter (λ y. not (p y)) (map f (range_with_len (a + 1) n)))) (h a (omega arith))
-    ∙ filter_cond (q a) f a (filter (λ k. not (q k)) (range_with_len (a + 1) n)) (filter (λ y. not (p y)) (map f (range_with_len (a + 1) n))) (filter_by_number p q f (a + 1) n (λ k low. h k (omega arith)))
+-- a tuple outside the ranges is accepted
+pub rejected-is : (l : Language) (c : Candidate) → IsLanguage l → IsCandidate l c → rejected l c ≡ map (tuple_there l c) (filter (λ at. not (accepts_there l c at)) (range_with_len 0 (l.value_count ^ length (scope_of l c))))
+rejected-is l c lawful candidate =
+    ap (filter rejects) (tuples_paired l scope)
+    ∙ filter-map rejects (paired scope) (filter (are_in l.ranges scope) (tuples d a))
+    ∙ ap (map (paired scope))
+    (filter-filter (λ t. rejects (paired scope t)) (are_in l.ranges scope) (tuples d a)
+    ∙ ap (filter (λ t. are_in l.ranges scope t && rejects (paired scope t))) (by_place d a)
+    ∙ filter-map (λ t. are_in l.ranges scope t && rejects (paired scope t)) (tuple_at d a) (range_with_len 0 (d ^ a))
+    ∙ ap (map (tuple_at d a)) (filter_range (λ at. are_in l.ranges scope (tuple_at d a at) && rejects (tuple_there l c at)) (λ at. not (accepts_there l c at)) 0 (d ^ a) (λ k low. told k (omega arith))))
+    ∙ map-map (paired scope) (tuple_at d a) (filter (λ at. not (accepts_there l c at)) (range_with_len 0 (d ^ a)))
+  where
+    scope : List ℕ
+    scope = scope_of l c
 
-pub rejected-is : (l : Language) (c : Candidate) → rejected l c ≡ map (tuple_there l c) (filter (λ at. not (accepts_there l c at)) (range_with_len 0 (l.value_count ^ length (scope_of l c))))
-rejected-is l c =
-    ap (filter (λ tuple. not (holds l.value_count (relation_of l c) (values_in tuple)))) (tuples_by_place l (scope_of l c))
-    ∙ filter_by_number (λ tuple. holds l.value_count (relation_of l c) (values_in tuple)) (accepts_there l c) (tuple_there l c) 0 (l.value_count ^ length (scope_of l c)) (λ k low. there l c k (omega arith))
+    d : ℕ
+    d = l.value_count
+
+    a : ℕ
+    a = length scope
+
+    rejects : List Boolean → Bool
+    rejects tuple = not (holds d (relation_of l c) (values_in tuple))
+
+    told : (at : ℕ) → at < d ^ a → (are_in l.ranges scope (tuple_at d a at) && rejects (tuple_there l c at)) ≡ not (accepts_there l c at)
+    told at low = ap (λ b. are_in l.ranges scope (tuple_at d a at) && not b) (there l c at low) ∙ go (accepts_there l c at) refl
+      where
+        go : (b : Bool) → accepts_there l c at ≡ b → (are_in l.ranges scope (tuple_at d a at) && not b) ≡ not b
+        go true on = and_right (are_in l.ranges scope (tuple_at d a at)) false refl
+        go false off = and_from (are_in l.ranges scope (tuple_at d a at)) true (rejected_within l c at lawful candidate low off) refl
+
+    map-map : {X Y Z : Type 0} (f : Y → Z) (g : X → Y) (xs : List X) → map f (map g xs) ≡ map (λ x. f (g x)) xs
+    map-map f g [] = refl
+    map-map f g (x ∷ xs) = ap (λ r. f (g x) ∷ r) (map-map f g xs)
 
 -- the pieces of those that fail a test
 pieces_cond : (s : Bool) (x r : List ℕ) → cond s [] x ++ r ≡ cond (not s) (x ++ r) r
@@ -187,11 +250,11 @@ flat_map-failing f q (x ∷ xs) =
     ∙ pieces_cond (q x) (f x) (flat_map f (filter (λ y. not (q y)) xs))
     ∙ sym (flat_cond f (q x) x (filter (λ y. not (q y)) xs))
 
-pub place_pieces : (l : Language) (c : Candidate) → flat_map (place_piece l c) (range_with_len 0 (l.value_count ^ length (scope_of l c))) ≡ flat_map clause_text (none_rejected l c)
-place_pieces l c =
+pub place_pieces : (l : Language) (c : Candidate) → IsLanguage l → IsCandidate l c → flat_map (place_piece l c) (range_with_len 0 (l.value_count ^ length (scope_of l c))) ≡ flat_map clause_text (none_rejected l c)
+place_pieces l c lawful candidate =
     flat_map-failing (λ at. clause_text (map (literal l false) (tuple_there l c at))) (accepts_there l c) (range_with_len 0 (l.value_count ^ length (scope_of l c)))
     ∙ sym (flat_map-map clause_text (λ tuple. map (literal l false) tuple) (rejected l c)
-    ∙ ap (flat_map (λ tuple. clause_text (map (literal l false) tuple))) (rejected-is l c)
+    ∙ ap (flat_map (λ tuple. clause_text (map (literal l false) tuple))) (rejected-is l c lawful candidate)
     ∙ flat_map-map (λ tuple. clause_text (map (literal l false) tuple)) (tuple_there l c) (filter (λ at. not (accepts_there l c at)) (range_with_len 0 (l.value_count ^ length (scope_of l c)))))
 
 pub item_pieces : (l : Language) (network : List Candidate) → flat_map (item_piece l network) (range_with_len 0 (length network)) ≡ flat_map clause_text (flat_map (none_rejected l) network)
@@ -219,20 +282,25 @@ half (suc m) k e =
     let twice : suc m * (suc m - 1) ≡ 2 * k = ap (λ j. suc m * j) less ∙ (let g : suc m * m ≡ 2 * k = omega arith in g) in
     omega (arith, twice)
 
-pub length-no_two : (l : Language) (v : ℕ) → length (no_two_values l v) ≡ l.value_count * (l.value_count - 1) / 2
-length-no_two l v =
-    let long = length-map-range_with_len (boolean v) 0 l.value_count in
-    half l.value_count (length (no_two_values l v))
+pub length-no_two : (l : Language) (v d : ℕ) → d ≡ length (values_of l v) → length (no_two_values l v) ≡ d * (d - 1) / 2
+length-no_two l v d is =
+    let long = length-map (values_of l v) (boolean v) ∙ sym is in
+    half d (length (no_two_values l v))
     ((λ i. 2 * length (no_two_values l v) + sym long i) ∙ length-two (not_both l) (booleans_of l v) ∙ (λ i. long i * long i))
 
-pub length-rejected : (l : Language) (c : Candidate) → length (rejected l c) ≡ length (filter (λ at. not (accepts_there l c at)) (range_with_len 0 (l.value_count ^ length (scope_of l c))))
-length-rejected l c = ap length (rejected-is l c) ∙ length-map (filter (λ at. not (accepts_there l c at)) (range_with_len 0 (l.value_count ^ length (scope_of l c)))) (tuple_there l c)
+-- those of a variable more
+pub pairs_more : (l : Language) (v d : ℕ) → d ≡ length (values_of l v) → length (flat_map (no_two_values l) (range_with_len 0 (v + 1))) ≡ length (flat_map (no_two_values l) (range_with_len 0 v)) + d * (d - 1) / 2
+pairs_more l v d is =
+    let one = length-no_two l v d is in
+    ap length (pieces_more (no_two_values l) 0 v v (omega arith)) ∙ (let both = length-append (flat_map (no_two_values l) (range_with_len 0 v)) (no_two_values l v) in omega (arith, both, one))
 
-pub length-clauses : (l : Language) (network : List Candidate) → variable_count l + variable_count l * (l.value_count * (l.value_count - 1) / 2) + length (flat_map (none_rejected l) network) ≡ length (clauses l network)
+pub length-rejected : (l : Language) (c : Candidate) → IsLanguage l → IsCandidate l c → length (rejected l c) ≡ length (filter (λ at. not (accepts_there l c at)) (range_with_len 0 (l.value_count ^ length (scope_of l c))))
+length-rejected l c lawful candidate = ap length (rejected-is l c lawful candidate) ∙ length-map (filter (λ at. not (accepts_there l c at)) (range_with_len 0 (l.value_count ^ length (scope_of l c)))) (tuple_there l c)
+
+pub length-clauses : (l : Language) (network : List Candidate) → variable_count l + length (flat_map (no_two_values l) (numbers (variable_count l))) + length (flat_map (none_rejected l) network) ≡ length (clauses l network)
 length-clauses l network =
     let some = length-map-range_with_len (some_value l) 0 (variable_count l) in
-    let two = length-blocks (no_two_values l) (l.value_count * (l.value_count - 1) / 2) 0 (variable_count l) (length-no_two l) in
-    omega (arith, some, two, length-append (map (some_value l) (numbers (variable_count l))) (flat_map (no_two_values l) (numbers (variable_count l)) ++ flat_map (none_rejected l) network), length-append (flat_map (no_two_values l) (numbers (variable_count l))) (flat_map (none_rejected l) network))
+    omega (arith, some, length-append (map (some_value l) (numbers (variable_count l))) (flat_map (no_two_values l) (numbers (variable_count l)) ++ flat_map (none_rejected l) network), length-append (flat_map (no_two_values l) (numbers (variable_count l))) (flat_map (none_rejected l) network))
 
 -- ---- counts of those that fail a test
 
@@ -256,8 +324,8 @@ counted_more l network i c low at =
     (ap length (append-nil (none_rejected l (get_or network i c))) ∙ length-map (rejected l (get_or network i c)) (λ tuple. map (literal l false) tuple)
     ∙ ap (λ d. length (rejected l d)) (get_or_from_slice_get network i c c at))
 
-pub few_pairs : (n d : ℕ) → n < 256 → d < 256 → n + n * (d * (d - 1) / 2) < 2 ^ 32
-few_pairs n d low also =
-    let one : d * (d - 1) ≤ 255 * 255 = mul-le-mul (let e : d ≤ 255 = omega arith in e) (let e : d - 1 ≤ 255 = omega arith in e) in
-    let two : n * (d * (d - 1) / 2) ≤ 255 * 32768 = mul-le-mul (let e : n ≤ 255 = omega arith in e) (let e : d * (d - 1) / 2 ≤ 32768 = omega (arith, one) in e) in
-    omega (arith, two)
+-- how many pairs so many values have
+pub few_products : (d : ℕ) → d ≤ 256 → d * (d - 1) ≤ 65280
+few_products d low =
+    let most : d * (d - 1) ≤ 256 * 255 = mul-le-mul low (let e : d - 1 ≤ 255 = omega arith in e) in
+    omega (arith, most)

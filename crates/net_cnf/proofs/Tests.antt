@@ -1,6 +1,5 @@
 -- Tests of all members of a list, through the functions that make the lists of clauses.
-use Rattle.std.proofs.Common.{◌≡◌, ℕ, zero, suc, ◌+◌, ◌<◌, ◌≤◌, ◌&&◌, ◌||◌, not, Bool, true, false, cond, List, [], ◌∷◌, map, refl, sym, ◌∙◌, ap, arith, eqb, ◌⊎◌, inl, inr, Some}
-use Rattle.std.specs.Prelude.{find}
+use Rattle.std.proofs.Common.{◌≡◌, ℕ, zero, suc, ◌+◌, ◌<◌, ◌≤◌, ◌&&◌, ◌||◌, not, Bool, true, false, cond, List, [], ◌∷◌, map, refl, sym, ◌∙◌, ap, arith, eqb, ◌⊎◌, inl, inr}
 use Rattle.std.specs.List.{list_all, filter, flat_map, range_with_len}
 use Rattle.std.proofs.lemmas.Bool.{cases_eq, eq-eqb, ne_eqb, and_from, and_parts}
 use Rattle.std.proofs.lemmas.List.FromFn.{length-range_with_len, get_or-range_with_len}
@@ -87,13 +86,3 @@ at_two p f g a (suc n) i j h low before high = go (cases_eq a i) (λ from. at_tw
         ∙ at_range (λ k. p (f (g a) (g k))) (a + 1) n j
         (sym (list_all-map p (f (g a)) (map g (range_with_len (a + 1) n)) ∙ list_all-map (λ x. p (f (g a) x)) g (range_with_len (a + 1) n)) ∙ parts.0) (omega arith) (omega arith)
     go (inr apart) next = next (omega arith)
-
--- ---- the first that passes
-
-pub find_below : (p : ℕ → Bool) (a n y : ℕ) → find p (range_with_len a n) ≡ Some y → y < a + n
-find_below p a zero y h = cc
-find_below p a (suc n) y h = go (p a) refl (find_below p (a + 1) n y)
-  where
-    go : (b : Bool) → p a ≡ b → (find p (range_with_len (a + 1) n) ≡ Some y → y < (a + 1) + n) → y < a + suc n
-    go true on next = let e : Some a ≡ Some y = ap (λ b. cond b (Some a) (find p (range_with_len (a + 1) n))) (sym on) ∙ h in let same : a ≡ y = cc in omega (arith, same)
-    go false off next = let low = next (ap (λ b. cond b (Some a) (find p (range_with_len (a + 1) n))) (sym off) ∙ h) in omega (arith, low)

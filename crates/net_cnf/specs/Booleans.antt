@@ -1,18 +1,14 @@
--- The Booleans of a language: one for each variable and each of its values.
+-- The Booleans of a language: one for each variable and each value of its range.
 use Rattle.std.specs.Prelude.{ℕ, ◌+◌, ◌==◌, ◌&&◌, Bool, List, map, Some}
 use Rattle.std.specs.List.{flat_map, position_or_len}
 use Rattle.assign.specs.Sets.{numbers}
 use Rattle.assign.specs.Assignment.{Assignment, value_of, is_same_value}
-use Rattle.language.specs.Language.{Language, variable_count}
+use Rattle.language.specs.Language.{Language, variable_count, values_of}
 
 -- that a variable has a value
 pub record Boolean : Type 0 where
   pub variable : ℕ
   pub value : ℕ
-
--- the values of a variable, rising
-abbrev pub values_of : Language → ℕ → List ℕ
-values_of l v = numbers l.value_count
 
 abbrev pub boolean : ℕ → ℕ → Boolean
 boolean v x = record { variable = v; value = x }

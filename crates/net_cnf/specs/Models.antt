@@ -5,8 +5,8 @@ use Rattle.std.specs.List.{list_any, range_with_len}
 use Rattle.assign.specs.Sets.{numbers}
 use Rattle.assign.specs.Assignment.{Assignment, is_complete}
 use Rattle.language.specs.declared.candidates.Candidate.{Candidate}
-use Rattle.language.specs.Language.{Language, IsQuestion, variable_count, violates, accepts}
-use Rattle.net_cnf.specs.Booleans.{boolean, booleans, bits, number_of, values_of}
+use Rattle.language.specs.Language.{Language, IsQuestion, variable_count, values_of, violates, accepts}
+use Rattle.net_cnf.specs.Booleans.{boolean, booleans, bits, number_of}
 use Rattle.net_cnf.specs.Tokens.{tokens, bad_token, literal_in, literals_in}
 use Rattle.net_cnf.specs.declared.literal.Literal.{Literal}
 use Rattle.net_cnf.specs.declared.model_fault.ModelFault.{ModelFault}

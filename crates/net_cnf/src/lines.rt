@@ -1,10 +1,12 @@
 //! Pieces of the text, each added to what is written so far. A piece that makes the text too long isn't looked at further.
 
-ghost use Rattle.std.specs.Prelude.{◌≡◌, ℕ, ◌+◌, ◌-◌, ◌<◌, ◌≤◌, List, [], ◌∷◌, ◌++◌, length, All, MatchResult, IfOk, Some, string_bytes, slice_index_or, map, false, true};
+ghost use Rattle.std.specs.Prelude.{◌≡◌, ℕ, ◌+◌, ◌-◌, ◌*◌, ◌<◌, ◌≤◌, IsTrue, List, [], ◌∷◌, ◌++◌, length, All, MatchResult, IfOk, Some, string_bytes, slice_index_or, map, false, true};
 ghost use Rattle.std.specs.Fmt.{decimal};
 ghost use Rattle.std.specs.List.{flat_map, range_with_len};
 ghost use Rattle.assign.specs.Assignment.{Assignment};
-ghost use Rattle.language.specs.Language.{variable_count, IsLanguage, IsQuestion};
+ghost use Rattle.assign.specs.Sets.{numbers};
+ghost use Rattle.language.specs.Language.{variable_count, range_of, values_of, IsLanguage, IsQuestion};
+ghost use Rattle.language.specs.Ranges.{are_in};
 ghost use Rattle.language.specs.Texts.{values_text};
 ghost use Rattle.net_cnf.specs.Answers.{Adds, Grown};
 ghost use Rattle.net_cnf.specs.Booleans.{boolean, booleans_of, number_of};
@@ -21,21 +23,49 @@ use std::alloc::Global;
 /// The most bytes that the text may have.
 const MOST_TEXT: usize = 67_108_864;
 
+/// How many values a variable may have.
+pub(crate) fn width(lang: &Language, v: u8) -> u32
+    requires { v < variable_count lang.now }
+    ensures is { result ≡ length (values_of lang.now v) }
+    ensures some { 1 ≤ result }
+    ensures few { result ≤ lang.now.value_count }
+    ensures small { result ≤ 256 }
+{
+    let (first, last) = lang.range(v);
+    u32::from(last - first) + 1
+}
+
+/// How many Booleans the variables before one have.
+fn booleans_before(lang: &Language, v: u8) -> u32
+    requires { v ≤ variable_count lang.now }
+    ensures is { result ≡ length (flat_map (booleans_of lang.now) (numbers v)) }
+    ensures few { result ≤ v * lang.now.value_count }
+    ensures small { result ≤ 65536 }
+{
+    let mut count = 0;
+    for w in 0..v {
+        count += width(lang, w);
+    }
+    count
+}
+
 /// How many Booleans there are.
 pub(crate) fn boolean_count(lang: &Language) -> u32
     ensures count { result ≡ boolean_count lang.now }
     ensures few { result ≤ 8192 }
 {
-    u32::from(lang.n()) * u32::from(lang.d())
+    booleans_before(lang, lang.n())
 }
 
-/// The number of the Boolean that a variable has a value.
+/// The number of the Boolean that a variable has a value of its range.
 pub(crate) fn number_of(lang: &Language, v: u8, x: u8) -> u32
     requires variable { v < variable_count lang.now }
-    requires value { x < lang.now.value_count }
+    requires from { (range_of lang.now v).first ≤ x }
+    requires to { x ≤ (range_of lang.now v).last }
     ensures { result ≡ number_of lang.now (boolean v x) }
 {
-    u32::from(v) * u32::from(lang.d()) + u32::from(x) + 1
+    let (first, _) = lang.range(v);
+    booleans_before(lang, v) + u32::from(x - first) + 1
 }
 
 /// Whether a text of so many bytes isn't too long.
@@ -57,7 +87,8 @@ fn add_literal(
     positive: bool,
 ) -> Result<(), CnfFault>
     requires variable { v < variable_count lang.now }
-    requires value { x < lang.now.value_count }
+    requires from { (range_of lang.now v).first ≤ x }
+    requires to { x ≤ (range_of lang.now v).last }
     ensures { Adds (string_bytes text.old) (literal_text (literal lang.now positive (boolean v x)) ++ 32 ∷ []) (string_bytes text.new) result }
 {
     let number = number_of(lang, v, x);
@@ -81,9 +112,11 @@ fn add_end(text: &mut String) -> Result<(), CnfFault>
 pub(crate) fn add_some_value(text: &mut String, lang: &Language, v: u8) -> Result<(), CnfFault>
     requires room { length (string_bytes text.old) ≤ MOST_BYTES }
     requires variable { v < variable_count lang.now }
+    requires lawful { IsLanguage lang.now }
     ensures { Adds (string_bytes text.old) (clause_text (some_value lang.now v)) (string_bytes text.new) result }
 {
-    for x in 0..lang.d() {
+    let (first, last) = lang.range(v);
+    for x in first..last + 1 {
         add_literal(text, lang, v, x, true)?;
     }
     add_end(text)
@@ -93,8 +126,9 @@ pub(crate) fn add_some_value(text: &mut String, lang: &Language, v: u8) -> Resul
 fn add_not_both(text: &mut String, lang: &Language, v: u8, x: u8, y: u8) -> Result<(), CnfFault>
     requires room { length (string_bytes text.old) ≤ MOST_BYTES }
     requires variable { v < variable_count lang.now }
-    requires first { x < lang.now.value_count }
-    requires second { y < lang.now.value_count }
+    requires from { (range_of lang.now v).first ≤ x }
+    requires rising { x < y }
+    requires to { y ≤ (range_of lang.now v).last }
     ensures { Adds (string_bytes text.old) (clause_text (not_both lang.now (boolean v x) (boolean v y))) (string_bytes text.new) result }
 {
     add_literal(text, lang, v, x, false)?;
@@ -102,15 +136,17 @@ fn add_not_both(text: &mut String, lang: &Language, v: u8, x: u8, y: u8) -> Resu
     add_end(text)
 }
 
-/// Adds those clauses for a value and each value above it.
+/// Adds those clauses for a value and each value of the variable above it.
 fn add_not_above(text: &mut String, lang: &Language, v: u8, x: u8) -> Result<(), CnfFault>
     requires room { length (string_bytes text.old) ≤ MOST_BYTES }
     requires variable { v < variable_count lang.now }
-    requires value { x < lang.now.value_count }
+    requires from { (range_of lang.now v).first ≤ x }
+    requires to { x ≤ (range_of lang.now v).last }
     requires lawful { IsLanguage lang.now }
-    ensures { Adds (string_bytes text.old) (flat_map (λ y. clause_text (not_both lang.now (boolean v x) (boolean v y))) (range_with_len (x + 1) (lang.now.value_count - (x + 1)))) (string_bytes text.new) result }
+    ensures { Adds (string_bytes text.old) (flat_map (λ y. clause_text (not_both lang.now (boolean v x) (boolean v y))) (range_with_len (x + 1) ((range_of lang.now v).last - x))) (string_bytes text.new) result }
 {
-    for y in x + 1..lang.d() {
+    let (_, last) = lang.range(v);
+    for y in x + 1..last + 1 {
         add_not_both(text, lang, v, x, y)?;
     }
     Ok(())
@@ -123,7 +159,8 @@ pub(crate) fn add_no_two_values(text: &mut String, lang: &Language, v: u8) -> Re
     requires lawful { IsLanguage lang.now }
     ensures { Adds (string_bytes text.old) (flat_map clause_text (no_two_values lang.now v)) (string_bytes text.new) result }
 {
-    for x in 0..lang.d() {
+    let (first, last) = lang.range(v);
+    for x in first..last + 1 {
         add_not_above(text, lang, v, x)?;
     }
     Ok(())
@@ -139,7 +176,7 @@ pub(crate) fn add_not_all(
     requires room { length (string_bytes text.old) ≤ MOST_BYTES }
     requires long { length scope.now ≡ length values.now }
     requires variables { All (λ v. v < variable_count lang.now) scope.now }
-    requires values { All (λ x. x < lang.now.value_count) values.now }
+    requires values { IsTrue (are_in lang.now.ranges scope.now values.now) }
     ensures { Adds (string_bytes text.old) (clause_text (map (literal lang.now false) (paired scope.now values.now))) (string_bytes text.new) result }
 {
     for i in 0..scope.len() {
@@ -187,7 +224,8 @@ pub(crate) fn add_boolean(
     x: u8,
 ) -> Result<(), CnfFault>
     requires variable { v < variable_count lang.now }
-    requires value { x < lang.now.value_count }
+    requires from { (range_of lang.now v).first ≤ x }
+    requires to { x ≤ (range_of lang.now v).last }
     ensures { Adds (string_bytes text.old) (boolean_text lang.now (boolean v x)) (string_bytes text.new) result }
 {
     let mut alone = Partial::blank(lang.n());

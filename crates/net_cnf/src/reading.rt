@@ -2,7 +2,7 @@
 
 ghost use Rattle.std.specs.Prelude.{◌≡◌, ◌<◌, ◌≤◌, [], ◌∷◌, ◌++◌, List, length, map, IfOk, IfSome};
 ghost use Rattle.language.specs.Answers.{IsNetwork};
-ghost use Rattle.language.specs.Language.{variable_count, IsQuestion};
+ghost use Rattle.language.specs.Language.{variable_count, IsLanguage, IsQuestion};
 ghost use Rattle.net_cnf.specs.Answers.{Reads};
 ghost use Rattle.net_cnf.specs.Marked.{IsMarked, Marks, Names, HasOnes, truths};
 ghost use Rattle.net_cnf.specs.Models.{boolean_count, true_values, only_of, both_named, violated, solution_of, model_of, IsModel};
@@ -98,11 +98,13 @@ fn twice(signs: &[Signs]) -> Option<u32>
 fn true_value(lang: &Language, signs: &[Signs], v: u8) -> Option<u8>
     requires variable { v < variable_count lang.now }
     requires long { length signs.now ≡ boolean_count lang.now }
+    requires lawful { IsLanguage lang.now }
     ensures is { result ≡ only_of (true_values lang.now (truths signs.now) v) }
     ensures fits { IfSome result (λ x. x < lang.now.value_count) }
 {
+    let (first, last) = lang.range(v);
     let mut value = None;
-    for x in 0..lang.d() {
+    for x in first..last + 1 {
         if signs[(number_of(lang, v, x) - 1) as usize].positive {
             if value.is_some() {
                 return None;

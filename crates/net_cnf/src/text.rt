@@ -3,7 +3,7 @@
 ghost use Rattle.std.specs.Prelude.{◌≡◌, ◌^◌, ◌<◌, ◌≤◌, ◌++◌, ◌∷◌, [], length, map, string_bytes, IfOk, codes};
 ghost use Rattle.std.specs.List.{flat_map};
 ghost use Rattle.assign.specs.Sets.{numbers};
-ghost use Rattle.language.specs.Language.{variable_count, scope_of, IsLanguage, IsCandidate};
+ghost use Rattle.language.specs.Language.{variable_count, scope_at, scope_of, IsLanguage, IsCandidate};
 ghost use Rattle.language.specs.Answers.{IsNetwork};
 ghost use Rattle.net_cnf.specs.Answers.{Adds, Writes};
 ghost use Rattle.net_cnf.specs.Booleans.{booleans, booleans_of};
@@ -15,15 +15,38 @@ ghost use Rattle.net_cnf.specs.Texts.{MOST_BYTES, boolean_text, clause_text, cnf
 use crate::fault::CnfFault;
 use crate::lines::{
     add_boolean, add_head, add_no_two_values, add_not_all, add_some_value, boolean_count,
-    shown_values,
+    shown_values, width,
 };
 use assign::Partial;
-use language::{Candidate, Language, Memory};
+use language::{Candidate, Language, Memory, ScopeId};
 use network::Network;
 use rel_table::tuple_of;
 use std::alloc::Global;
 
 // ---- How many clauses there are
+
+/// How many pairs of values the variables have.
+fn pair_count(lang: &Language) -> u32
+    ensures is { result ≡ length (flat_map (no_two_values lang.now) (numbers (variable_count lang.now))) }
+    ensures few { result ≤ 8388608 }
+{
+    let mut count = 0;
+    for v in 0..lang.n() {
+        let d = width(lang, v);
+        count += d * (d - 1) / 2;
+    }
+    count
+}
+
+/// How many tuples of values there are on a scope. Its relations accept those with a value outside its variable's range.
+fn places_on(lang: &Language, s: ScopeId) -> u32
+    requires { s < length lang.now.scopes }
+    ensures is { result ≡ lang.now.value_count ^ length (scope_at lang.now s) }
+    ensures few { result ≤ 65536 }
+    ensures lawful { IsLanguage lang.now }
+{
+    u32::from(lang.d()).pow(lang.scope(s).len() as u32)
+}
 
 /// How many tuples a candidate rejects.
 fn rejected_by(lang: &Language, c: Candidate) -> u32
@@ -32,7 +55,7 @@ fn rejected_by(lang: &Language, c: Candidate) -> u32
     ensures few { result ≤ 65536 }
 {
     let mut count = 0;
-    for place in 0..lang.table_on(c.scope, c.rel).size() {
+    for place in 0..places_on(lang, c.scope) {
         if !lang.holds(c.scope, c.rel, place) {
             count += 1;
         }
@@ -57,10 +80,7 @@ fn clause_count(lang: &Language, net: &Network) -> u64
     requires { IsNetwork lang.now net.now.list }
     ensures { result ≡ length (clauses lang.now net.now.list) }
 {
-    let n = u64::from(lang.n());
-    let d = u64::from(lang.d());
-    let rejected = rejected_count(lang, net);
-    n + n * (d * (d - 1) / 2) + rejected
+    u64::from(lang.n()) + u64::from(pair_count(lang)) + rejected_count(lang, net)
 }
 
 // ---- Their lines
@@ -69,9 +89,11 @@ fn clause_count(lang: &Language, net: &Network) -> u64
 fn add_booleans_of(text: &mut String, alloc: Global, lang: &Language, v: u8) -> Result<(), CnfFault>
     requires room { length (string_bytes text.old) ≤ MOST_BYTES }
     requires variable { v < variable_count lang.now }
+    requires lawful { IsLanguage lang.now }
     ensures { Adds (string_bytes text.old) (flat_map (boolean_text lang.now) (booleans_of lang.now v)) (string_bytes text.new) result }
 {
-    for x in 0..lang.d() {
+    let (first, last) = lang.range(v);
+    for x in first..last + 1 {
         add_boolean(text, alloc, lang, v, x)?;
     }
     Ok(())
@@ -131,7 +153,7 @@ fn add_none_rejected(text: &mut String, lang: &Language, c: Candidate) -> Result
     requires candidate { IsCandidate lang.now c }
     ensures { Adds (string_bytes text.old) (flat_map clause_text (none_rejected lang.now c)) (string_bytes text.new) result }
 {
-    for place in 0..lang.table_on(c.scope, c.rel).size() {
+    for place in 0..places_on(lang, c.scope) {
         add_place(text, lang, c, place)?;
     }
     Ok(())

@@ -1,17 +1,17 @@
 -- Draws, hidden values, and what follows of them.
 use Rattle.std.proofs.Common.{◌≡◌, ◌≢◌, ℕ, zero, suc, ◌+◌, ◌/◌, ◌%◌, ◌^◌, ◌<◌, ◌≤◌, ◌++◌, ◌==◌, ◌&&◌, ◌||◌, Bool, true, false, not, cond, List, [], ◌∷◌, length, map, get_or, Option, Some, None, refl, sym, ◌∙◌, ap, subst, arith, inl, inr, ◌⊎◌}
-use Rattle.std.specs.Prelude.{All, AllPairs, slice_set, pos, String, string_bytes}
+use Rattle.std.specs.Prelude.{All, AllPairs, slice_set, pos, replicate, String, string_bytes}
 use Rattle.std.specs.declared.alloc.Global.{Global}
 use Rattle.std.proofs.lemmas.List.{map-append}
 use Rattle.std.proofs.lemmas.Option.{same_Some}
 use Rattle.language.specs.declared.parts.LangFault.{LangFault}
 use Rattle.std.specs.List.{list_all, filter}
-use Rattle.std.specs.Option.{ForSome}
+use Rattle.std.specs.Option.{ForSome, option_map_or}
 use Rattle.std.specs.Fmt.{decimal, digits}
 use Rattle.std.proofs.lemmas.Fmt.{decimal_injective}
 use Rattle.std.proofs.Math.ListN.{get_or-eq_default}
-use Rattle.std.proofs.lemmas.Bool.{and_from, ne_eqb, cases_eq}
-use Rattle.std.proofs.lemmas.List.{ext_get_or, get_or-set_same, get_or-set_other}
+use Rattle.std.proofs.lemmas.Bool.{and_from, ne_eqb, cases_eq, le-leb}
+use Rattle.std.proofs.lemmas.List.{ext_get_or, get_or-set_same, get_or-set_other, get_or-replicate, length-map}
 use Rattle.std.proofs.lemmas.List.Elements.{All-head, All-tail, All-weaker}
 use Rattle.language.specs.Answers.{has_scope}
 use Rattle.rel_table.specs.Relation.{holds, place}
@@ -19,7 +19,8 @@ use Rattle.std.proofs.lemmas.List.FromFn.{length-map-range_with_len, get_or-map-
 use Rattle.assign.specs.Sets.{numbers}
 use Rattle.assign.specs.Assignment.{Assignment, covers, tuple_on}
 use Rattle.language.specs.declared.candidates.Candidate.{Candidate}
-use Rattle.language.specs.Language.{Language, Given, AreNames, IsQuestion, accepts, violates, scope_of, relations_of}
+use Rattle.language.specs.Ranges.{is_in, range_in, whole_range}
+use Rattle.language.specs.Language.{Language, Given, AreNames, IsQuestion, accepts, violates, scope_of, relations_on}
 use Rattle.language.specs.Building.{Frame, build_refusal, pair_after}
 use Rattle.language.specs.Search.{satisfies}
 use Rattle.target_oracle.specs.Generator.{after, state_at, draw, names, name_of, given, frame, hidden, drawn_on, target_of, IsGenerated}
@@ -81,6 +82,13 @@ is_question number l built = record {
       let few : k < 10 = subst (λ n. k < n) (length-map-range_with_len (λ v. Some (draw number (v + 1) 3)) 0 10) low in
       let at : get_or (hidden number) k d ≡ Some (draw number (k + 1) 3) = get_or-map-range_with_len (λ v. Some (draw number (v + 1) 3)) 0 10 k k d few (omega arith) in
       subst (λ (o : Option ℕ). ForSome o (λ x. x < l.value_count)) (sym at) (λ x e. subst (λ n. n < l.value_count) (same_Some (draw number (k + 1) 3) x e) (subst (λ n. draw number (k + 1) 3 < n) (sym built.value_count) (let small : draw number (k + 1) 3 < 3 = omega arith in small)));
+  within = λ v low.
+      let few : v < 10 = omega (arith, low, ap length built.names, length-map-range_with_len name_of 0 10) in
+      let at : get_or (hidden number) v None ≡ Some (draw number (v + 1) 3) = get_or-map-range_with_len (λ v. Some (draw number (v + 1) 3)) 0 10 v v None few (omega arith) in
+      let all : range_in l.ranges v ≡ whole_range 3 = ap (λ ranges. range_in ranges v) built.ranges ∙ get_or-replicate 10 v (whole_range 3) (record { first = 0; last = 63 }) few in
+      let inside : is_in (whole_range 3) (draw number (v + 1) 3) ≡ true =
+      and_from _ _ (le-leb 0 (draw number (v + 1) 3) (omega arith)) (le-leb (draw number (v + 1) 3) 2 (let small : draw number (v + 1) 3 < 3 = omega arith in omega arith)) in
+      (λ i. option_map_or (is_in (all i)) (at i) true) ∙ inside;
 }
 
 -- ---- hidden values are a solution
@@ -125,8 +133,8 @@ later list s low = All-weaker (λ (c : Candidate). c.scope < s) (λ (c : Candida
 
 -- ---- the language
 
-pub frame_is : (f : Frame) → f.names ≡ names → f.least_value ≡ pos 1 → f.value_count ≡ 3 → f ≡ frame
-frame_is f a b c = λ i. record { names = a i; least_value = b i; value_count = c i }
+pub frame_is : (f : Frame) → f.names ≡ names → f.least_value ≡ pos 1 → f.value_count ≡ 3 → f.ranges ≡ replicate 10 (whole_range 3) → f ≡ frame
+frame_is f a b c ranges = λ i. record { names = a i; least_value = b i; value_count = c i; ranges = ranges i }
 
 pub nothing_on : (list : List Candidate) (s : ℕ) → All (λ (c : Candidate). c.scope < s) list → has_scope list s ≡ false
 nothing_on [] s low = refl
@@ -137,9 +145,9 @@ nothing_on (c ∷ list) s low =
 
 -- ---- a relation that there isn't
 
-pub none_satisfied : (l : Language) (c : Candidate) (e : Assignment) → length (relations_of l (length (scope_of l c))) ≤ c.rel → satisfies l c e ≡ false
+pub none_satisfied : (l : Language) (c : Candidate) (e : Assignment) → length (relations_on l c.scope) ≤ c.rel → satisfies l c e ≡ false
 none_satisfied l c e past =
-    ap (λ r. covers e (scope_of l c) && holds l.value_count r (tuple_on e (scope_of l c))) (get_or-eq_default (relations_of l (length (scope_of l c))) [] {n = c.rel} past)
+    ap (λ r. covers e (scope_of l c) && holds l.value_count r (tuple_on e (scope_of l c))) (get_or-eq_default (relations_on l c.scope) [] {n = c.rel} past)
     ∙ go (covers e (scope_of l c)) (place l.value_count (tuple_on e (scope_of l c)))
   where
     go : (b : Bool) (at : ℕ) → (b && get_or [] at false) ≡ false
@@ -164,3 +172,6 @@ no_refusal n parts fault size same refused = go (sym refused ∙ (λ i. build_re
 
 pub how_many : (f : Frame) → f.names ≡ names → length f.names ≡ 10
 how_many f same = ap length same ∙ length-map-range_with_len name_of 0 10
+
+pub how_many_strings : (items : List (String Global)) → map string_bytes items ≡ names → length items ≡ 10
+how_many_strings items same = sym (length-map items (λ (s : String Global). string_bytes s)) ∙ ap length same ∙ length-map-range_with_len name_of 0 10

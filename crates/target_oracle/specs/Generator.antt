@@ -1,11 +1,12 @@
 -- The language and the network that a number makes.
-use Rattle.std.specs.Prelude.{ℕ, zero, suc, ◌+◌, ◌*◌, ◌/◌, ◌%◌, ◌^◌, ◌==◌, pos, Bool, not, nat_le, List, [], ◌∷◌, length, map, filter, Some, None, codes}
+use Rattle.std.specs.Prelude.{ℕ, zero, suc, ◌+◌, ◌*◌, ◌/◌, ◌%◌, ◌^◌, ◌==◌, pos, Bool, not, nat_le, List, [], ◌∷◌, length, map, filter, replicate, Some, None, codes}
 use Rattle.std.specs.List.{flat_map}
 use Rattle.std.specs.Fmt.{decimal}
 use Rattle.assign.specs.Sets.{numbers}
 use Rattle.assign.specs.Assignment.{Assignment}
 use Rattle.rel_table.specs.Relation.{Relation}
 use Rattle.language.specs.declared.candidates.Candidate.{Candidate}
+use Rattle.language.specs.Ranges.{whole_range}
 use Rattle.language.specs.Language.{Language, Given}
 use Rattle.language.specs.Building.{Frame, IsBuilt}
 use Rattle.language.specs.Search.{satisfies}
@@ -49,9 +50,9 @@ given_where name test = record { name = name; arity = 2; relation = relation_whe
 abbrev pub given : List Given
 given = given_where (codes "le") (λ x y. nat_le x y) ∷ given_where (codes "ge") (λ x y. nat_le y x) ∷ given_where (codes "ne") (λ x y. not (x == y)) ∷ []
 
--- the values 1 to 3
+-- the values 1 to 3, all of them for each variable
 abbrev pub frame : Frame
-frame = record { names = names; least_value = pos 1; value_count = 3 }
+frame = record { names = names; least_value = pos 1; value_count = 3; ranges = replicate 10 (whole_range 3) }
 
 -- these relations on all pairs of these variables
 abbrev pub IsGenerated : Language → Type 0

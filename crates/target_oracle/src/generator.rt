@@ -122,7 +122,7 @@ fn is_satisfied(lang: &Language, c: Candidate, q: &Partial) -> bool
     }
     match lang.place_on(c.scope, q) {
         None => false,
-        Some(place) => lang.table_on(c.scope, c.rel).at(place),
+        Some(place) => lang.holds(c.scope, c.rel, place),
     }
 }
 

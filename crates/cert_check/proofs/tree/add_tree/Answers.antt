@@ -17,7 +17,7 @@ node-token-requires-clause-question c = at_question c.args.lang.now c.n.ensures.
 pub returns-then-count-budget-clause-long : goal.returns-then-count-budget-clause-long
 returns-then-count-budget-clause-long c =
     too_long c.args.lang.now c.args.net.now c.args.c c.args.budget (c.loop-is_open.count + c.branches_of-count.result) c.if-count-budget.true
-    (let most = next_counts c.args.lang.now c.args.net.now c.args.c c.args.sheet.now c.loop-is_open.sheet c.loop-is_open.count c.loop-is_open.is_open c.loop-is_open.values.items c.node-token.result c.loop-is_open-test.true
+    (let most = next_counts c.args.lang.now c.args.net.now c.args.c c.n.ensures.lawful c.requires.candidate c.args.sheet.now c.loop-is_open.sheet c.loop-is_open.count c.loop-is_open.is_open c.loop-is_open.values.items c.node-token.result c.loop-is_open-test.true
     (node_is c.args.lang.now c.args.net.now c.args.c c.loop-is_open.values.items c.loop-is_open.e c.node-token.result c.loop-is_open.invariant.at c.node-token.ensures)
     (has_room c.args.lang.now c.args.net.now c.args.c c.n.ensures.lawful c.requires.candidate c.requires.implied c.loop-is_open.values.items c.loop-is_open.e c.node-token.result c.loop-is_open.invariant.at (node_is c.args.lang.now c.args.net.now c.args.c c.loop-is_open.values.items c.loop-is_open.e c.node-token.result c.loop-is_open.invariant.at c.node-token.ensures))
     c.loop-is_open.invariant.written in
@@ -35,9 +35,9 @@ step-is_open-requires-clause-branch c =
 pub loop-is_open-preserved : goal.loop-is_open-preserved
 loop-is_open-preserved c = record {
   at = c.step-is_open.ensures.at;
-  written = subst (λ k. IsWritten c.args.lang.now c.args.net.now c.args.c c.args.sheet.now c.add_token.new.sheet (c.loop-is_open.count + k) (ahead c.step-is_open.result c.args.lang.now.value_count c.step-is_open.new.values.items)) (sym c.branches_of-count.ensures.is)
+  written = subst (λ k. IsWritten c.args.lang.now c.args.net.now c.args.c c.args.sheet.now c.add_token.new.sheet (c.loop-is_open.count + k) (ahead c.step-is_open.result c.args.lang.now c.args.c c.step-is_open.new.values.items)) (sym c.branches_of-count.ensures.is)
       (goes_on c.args.lang.now c.args.net.now c.args.c c.args.sheet.now c.loop-is_open.sheet c.add_token.new.sheet c.loop-is_open.count c.loop-is_open.is_open c.loop-is_open.values.items c.node-token.result
-      (ahead c.step-is_open.result c.args.lang.now.value_count c.step-is_open.new.values.items) c.loop-is_open-test.true
+      (ahead c.step-is_open.result c.args.lang.now c.args.c c.step-is_open.new.values.items) c.loop-is_open-test.true
       (node_is c.args.lang.now c.args.net.now c.args.c c.loop-is_open.values.items c.loop-is_open.e c.node-token.result c.loop-is_open.invariant.at c.node-token.ensures)
       (has_room c.args.lang.now c.args.net.now c.args.c c.n.ensures.lawful c.requires.candidate c.requires.implied c.loop-is_open.values.items c.loop-is_open.e c.node-token.result c.loop-is_open.invariant.at (node_is c.args.lang.now c.args.net.now c.args.c c.loop-is_open.values.items c.loop-is_open.e c.node-token.result c.loop-is_open.invariant.at c.node-token.ensures))
       c.step-is_open.ensures.next c.in_ok-add_token.ensures c.loop-is_open.invariant.written);
@@ -47,13 +47,13 @@ loop-is_open-preserved c = record {
 pub loop-is_open-smaller : goal.loop-is_open-smaller
 loop-is_open-smaller c =
     fewer_left c.args.lang.now c.args.net.now c.args.c c.loop-is_open.is_open c.loop-is_open.values.items c.node-token.result
-    (ahead c.step-is_open.result c.args.lang.now.value_count c.step-is_open.new.values.items) c.loop-is_open-test.true
+    (ahead c.step-is_open.result c.args.lang.now c.args.c c.step-is_open.new.values.items) c.loop-is_open-test.true
     (node_is c.args.lang.now c.args.net.now c.args.c c.loop-is_open.values.items c.loop-is_open.e c.node-token.result c.loop-is_open.invariant.at c.node-token.ensures)
     (has_room c.args.lang.now c.args.net.now c.args.c c.n.ensures.lawful c.requires.candidate c.requires.implied c.loop-is_open.values.items c.loop-is_open.e c.node-token.result c.loop-is_open.invariant.at (node_is c.args.lang.now c.args.net.now c.args.c c.loop-is_open.values.items c.loop-is_open.e c.node-token.result c.loop-is_open.invariant.at c.node-token.ensures))
     c.step-is_open.ensures.next
 
 pub returns-clause-long : goal.returns-clause-long
-returns-clause-long c = not_long c.args.lang.now c.args.net.now c.args.c c.args.budget c.args.sheet.now c.loop-is_open.sheet c.loop-is_open.count c.loop-is_open.is_open c.loop-is_open.values.items c.loop-is_open-test.false c.loop-is_open.invariant.few c.loop-is_open.invariant.written
+returns-clause-long c = not_long c.args.lang.now c.args.net.now c.args.c c.n.ensures.lawful c.requires.candidate c.args.budget c.args.sheet.now c.loop-is_open.sheet c.loop-is_open.count c.loop-is_open.is_open c.loop-is_open.values.items c.loop-is_open-test.false c.loop-is_open.invariant.few c.loop-is_open.invariant.written
 
 pub returns-clause-added : goal.returns-clause-added
 returns-clause-added c = λ _. whole_added c.args.lang.now c.args.net.now c.args.c c.args.sheet.now c.loop-is_open.sheet c.loop-is_open.count c.loop-is_open.is_open c.loop-is_open.values.items c.loop-is_open-test.false c.loop-is_open.invariant.written

@@ -19,12 +19,12 @@ returns-then-not-is_open c =
     elim c.then-not-is_open.branch [
       | then-not-is_open-via-then-not-is_open w ↦
           sym (tree_shut c.args.lang.now c.args.net.now c.args.c c.loop-token.is_open c.loop-token.values.items (get_or c.args.tokens.now c.loop-token.token-index Branch) (drop (suc c.loop-token.token-index) c.args.tokens.now) w.if-not-is_open.true)
-          ∙ sym (ap (are_trees c.args.lang.now c.args.net.now c.args.c (ahead c.loop-token.is_open c.args.lang.now.value_count c.loop-token.values.items)) (drop-cons c.args.tokens.now c.loop-token.token-index Branch c.loop-token-test.true))
+          ∙ sym (ap (are_trees c.args.lang.now c.args.net.now c.args.c (ahead c.loop-token.is_open c.args.lang.now c.args.c c.loop-token.values.items)) (drop-cons c.args.tokens.now c.loop-token.token-index Branch c.loop-token-test.true))
           ∙ c.loop-token.invariant.rest
       | then-not-is_open-via-else-not-is_open+then-not-is_lawful w ↦
           sym (tree_unlawful c.args.lang.now c.args.net.now c.args.c c.loop-token.is_open c.loop-token.values.items (get_or c.args.tokens.now c.loop-token.token-index Branch) (drop (suc c.loop-token.token-index) c.args.tokens.now)
           (ap (λ (vs : List ℕ). is_lawful c.args.lang.now c.args.net.now c.args.c vs (get_or c.args.tokens.now c.loop-token.token-index Branch)) (sym w.deref.ensures.0) ∙ sym w.is_lawful.ensures ∙ w.if-not-is_lawful.true))
-          ∙ sym (ap (are_trees c.args.lang.now c.args.net.now c.args.c (ahead c.loop-token.is_open c.args.lang.now.value_count c.loop-token.values.items)) (drop-cons c.args.tokens.now c.loop-token.token-index Branch c.loop-token-test.true))
+          ∙ sym (ap (are_trees c.args.lang.now c.args.net.now c.args.c (ahead c.loop-token.is_open c.args.lang.now c.args.c c.loop-token.values.items)) (drop-cons c.args.tokens.now c.loop-token.token-index Branch c.loop-token-test.true))
           ∙ c.loop-token.invariant.rest
     ]
 
@@ -32,12 +32,12 @@ pub loop-token-preserved : goal.loop-token-preserved
 loop-token-preserved c = record {
   at = c.step-is_open.ensures.at;
   rest =
-      ap (λ k. are_trees c.args.lang.now c.args.net.now c.args.c (ahead c.step-is_open.result c.args.lang.now.value_count c.step-is_open.new.values.items) (drop k c.args.tokens.now)) (add-one c.loop-token.token-index)
+      ap (λ k. are_trees c.args.lang.now c.args.net.now c.args.c (ahead c.step-is_open.result c.args.lang.now c.args.c c.step-is_open.new.values.items) (drop k c.args.tokens.now)) (add-one c.loop-token.token-index)
       ∙ sym (tree_step c.args.lang.now c.args.net.now c.args.c c.loop-token.is_open c.loop-token.values.items (get_or c.args.tokens.now c.loop-token.token-index Branch) (drop (suc c.loop-token.token-index) c.args.tokens.now)
-      (ahead c.step-is_open.result c.args.lang.now.value_count c.step-is_open.new.values.items) c.if-not-is_open.false
+      (ahead c.step-is_open.result c.args.lang.now c.args.c c.step-is_open.new.values.items) c.if-not-is_open.false
       (ap (λ (vs : List ℕ). is_lawful c.args.lang.now c.args.net.now c.args.c vs (get_or c.args.tokens.now c.loop-token.token-index Branch)) (sym c.deref.ensures.0) ∙ sym c.is_lawful.ensures ∙ c.if-not-is_lawful.false)
       c.step-is_open.ensures.next)
-      ∙ sym (ap (are_trees c.args.lang.now c.args.net.now c.args.c (ahead c.loop-token.is_open c.args.lang.now.value_count c.loop-token.values.items)) (drop-cons c.args.tokens.now c.loop-token.token-index Branch c.loop-token-test.true))
+      ∙ sym (ap (are_trees c.args.lang.now c.args.net.now c.args.c (ahead c.loop-token.is_open c.args.lang.now c.args.c c.loop-token.values.items)) (drop-cons c.args.tokens.now c.loop-token.token-index Branch c.loop-token-test.true))
       ∙ c.loop-token.invariant.rest;
 }
 
@@ -45,5 +45,5 @@ pub returns : goal.returns
 returns c =
     let past = c.loop-token-test.false in
     sym (tree_ends c.args.lang.now c.args.net.now c.args.c c.loop-token.is_open c.loop-token.values.items)
-    ∙ ap (are_trees c.args.lang.now c.args.net.now c.args.c (ahead c.loop-token.is_open c.args.lang.now.value_count c.loop-token.values.items)) (sym (drop_all c.loop-token.token-index c.args.tokens.now past))
+    ∙ ap (are_trees c.args.lang.now c.args.net.now c.args.c (ahead c.loop-token.is_open c.args.lang.now c.args.c c.loop-token.values.items)) (sym (drop_all c.loop-token.token-index c.args.tokens.now past))
     ∙ c.loop-token.invariant.rest

@@ -6,5 +6,5 @@ use Rattle.cert_check.proofs.walk.refutes.Given as goal
 abbrev pub invariant-loop-token : goal.invariant-loop-token
 invariant-loop-token l = record {
   at : IsAt l.fn.lang l.fn.c l.values.items l.e;
-  rest : are_trees l.fn.lang l.fn.net l.fn.c (ahead l.is_open l.fn.lang.value_count l.values.items) (drop l.token-index l.tokens) ≡ refutes l.fn.lang l.fn.net l.fn.c l.tokens;
+  rest : are_trees l.fn.lang l.fn.net l.fn.c (ahead l.is_open l.fn.lang l.fn.c l.values.items) (drop l.token-index l.tokens) ≡ refutes l.fn.lang l.fn.net l.fn.c l.tokens;
 }

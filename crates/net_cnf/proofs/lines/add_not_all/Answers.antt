@@ -6,6 +6,7 @@ use Rattle.net_cnf.specs.Clauses.{literal}
 use Rattle.net_cnf.specs.Paired.{paired}
 use Rattle.net_cnf.specs.Texts.{clause_text}
 use Rattle.net_cnf.proofs.Adding.{grown_next, too_long_at, adds_last}
+use Rattle.net_cnf.proofs.Outside.{within_at}
 use Rattle.net_cnf.proofs.Pieces.{not_all_piece, not_all_pieces}
 use Rattle.net_cnf.proofs.lines.add_not_all.Goals as goal
 
@@ -23,6 +24,12 @@ pub loop-i-preserved : goal.loop-i-preserved
 loop-i-preserved c =
     grown_next (not_all_piece c.args.lang.now c.args.scope.now c.args.values.now) c.loop-i.i (string_bytes c.args.text.now) (string_bytes c.loop-i.text) (string_bytes c.add_literal.new.text)
     c.loop-i.invariant c.in_ok-add_literal.ensures
+
+pub add_literal-requires-clause-from : goal.add_literal-requires-clause-from
+add_literal-requires-clause-from c = (within_at c.args.lang.now.ranges c.args.scope.now c.args.values.now c.loop-i.i c.loop-i-test.true c.requires.long c.requires.values).0
+
+pub add_literal-requires-clause-to : goal.add_literal-requires-clause-to
+add_literal-requires-clause-to c = (within_at c.args.lang.now.ranges c.args.scope.now c.args.values.now c.loop-i.i c.loop-i-test.true c.requires.long c.requires.values).1
 
 pub returns : goal.returns
 returns c =

@@ -1,10 +1,11 @@
-use Rattle.std.proofs.Common.{true}
+use Rattle.std.proofs.Common.{true, ◌-◌}
 use Rattle.std.specs.Prelude.{string_bytes}
 use Rattle.std.specs.List.{flat_map, range_with_len}
 use Rattle.net_cnf.specs.Answers.{Grown}
 use Rattle.net_cnf.specs.Booleans.{boolean}
 use Rattle.net_cnf.proofs.Pieces.{literal_piece}
+use Rattle.net_cnf.proofs.Runs.{first_of}
 use Rattle.net_cnf.proofs.lines.add_some_value.Given as goal
 
 abbrev pub invariant-loop-x : goal.invariant-loop-x
-invariant-loop-x l = Grown (string_bytes l.fn.text) (flat_map (λ x. literal_piece l.fn.lang true (boolean l.fn.v x)) (range_with_len 0 l.x)) (string_bytes l.text)
+invariant-loop-x l = Grown (string_bytes l.fn.text) (flat_map (λ x. literal_piece l.fn.lang true (boolean l.fn.v x)) (range_with_len (first_of l.fn.lang l.fn.v) (l.x - first_of l.fn.lang l.fn.v))) (string_bytes l.text)

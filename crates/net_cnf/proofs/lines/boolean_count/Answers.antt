@@ -1,6 +1,17 @@
-use Rattle.std.proofs.Common.{◌*◌, sym, ◌∙◌}
-use Rattle.net_cnf.proofs.Numbers.{length-booleans}
+use Rattle.std.proofs.Common.{◌*◌, ◌≤◌, length, ap, ◌∙◌, arith}
+use Rattle.std.specs.List.{flat_map}
+use Rattle.std.proofs.Math.Nat.{mul-le-mul}
+use Rattle.assign.specs.Sets.{numbers}
+use Rattle.net_cnf.specs.Booleans.{booleans_of}
 use Rattle.net_cnf.proofs.lines.boolean_count.Goals as goal
 
 pub returns-clause-count : goal.returns-clause-count
-returns-clause-count c = (λ i. (c.from.ensures ∙ c.n.ensures.is) i * (c.from-2.ensures ∙ c.d.ensures.is) i) ∙ sym (length-booleans c.args.lang.now)
+returns-clause-count c = c.booleans_before.ensures.is ∙ ap (λ n. length (flat_map (booleans_of c.args.lang.now) (numbers n))) c.n.ensures.is
+
+pub returns-clause-few : goal.returns-clause-few
+returns-clause-few c =
+    let lawful = c.n.ensures.lawful in
+    let is = c.n.ensures.is in
+    let most : c.n.result * c.args.lang.now.value_count ≤ 128 * 64 = mul-le-mul (let e : c.n.result ≤ 128 = (let few = lawful.few_variables in omega (arith, few, is)) in e) lawful.few_values in
+    let few = c.booleans_before.ensures.few in
+    omega (arith, most, few)

@@ -10,7 +10,8 @@ use Rattle.net_cnf.specs.Models.{true_values, only_of}
 use Rattle.net_cnf.specs.declared.model_fault.ModelFault.{ModelFault}
 use Rattle.net_cnf.specs.declared.model_fault.ModelFault.TheVariants.{NotOne}
 use Rattle.net_cnf.proofs.Taking.{or_value, or_fault}
-use Rattle.net_cnf.proofs.Valuing.{one_missing, ones_all, one_long, question_set, true_below}
+use Rattle.net_cnf.proofs.Runs.{IsValue}
+use Rattle.net_cnf.proofs.Valuing.{one_missing, ones_all, one_long, question_set, true_of}
 use Rattle.net_cnf.proofs.reading.assignment_of.Goals as goal
 
 pub returns-in_err-value-clause-is : goal.returns-in_err-value-clause-is
@@ -24,7 +25,7 @@ returns-in_err-value-clause-is c =
 
 pub loop-v-preserved : goal.loop-v-preserved
 loop-v-preserved c = record {
-  question = subst (IsQuestion c.args.lang.now) (sym c.set.ensures) (question_set c.args.lang.now c.loop-v.e c.loop-v.v c.in_ok-value.value c.loop-v.invariant.question fits);
+  question = subst (IsQuestion c.args.lang.now) (sym c.set.ensures) (question_set c.args.lang.now c.loop-v.e c.loop-v.v c.in_ok-value.value c.loop-v.invariant.question among);
   before = λ k low. ap (λ e. get_or e k None) c.set.ensures ∙ before k low (cases_lt k c.loop-v.v);
   one = λ k low. one k low (cases_lt k c.loop-v.v);
 }
@@ -35,8 +36,8 @@ loop-v-preserved c = record {
     only : only_of (true_values c.args.lang.now (truths c.args.signs.now) c.loop-v.v) ≡ Some c.in_ok-value.value
     only = sym c.true_value.ensures.is ∙ found
 
-    fits : c.in_ok-value.value < c.args.lang.now.value_count
-    fits = true_below c.args.lang.now (truths c.args.signs.now) c.loop-v.v c.in_ok-value.value only
+    among : IsValue c.args.lang.now c.loop-v.v c.in_ok-value.value
+    among = true_of c.args.lang.now (truths c.args.signs.now) c.loop-v.v c.in_ok-value.value (let test = c.loop-v-test.true in let is = c.n-v-end.ensures.is in omega (arith, test, is)) only
 
     inside : c.loop-v.v < length c.loop-v.e
     inside = let test = c.loop-v-test.true in let is = c.n-v-end.ensures.is in let size = c.loop-v.invariant.question.size in omega (arith, test, is, size)

@@ -4,7 +4,8 @@ use Rattle.std.specs.List.{range_with_len}
 use Rattle.std.specs.Option.{option_to_list}
 use Rattle.net_cnf.specs.Booleans.{boolean, number_of}
 use Rattle.net_cnf.specs.Marked.{truths}
+use Rattle.net_cnf.proofs.Runs.{first_of}
 use Rattle.net_cnf.proofs.reading.true_value.Given as goal
 
 abbrev pub invariant-loop-x : goal.invariant-loop-x
-invariant-loop-x l = filter (λ x. get_or (truths l.signs) (number_of l.lang (boolean l.v x) - 1) false) (range_with_len 0 l.x) ≡ option_to_list l.value
+invariant-loop-x l = filter (λ x. get_or (truths l.signs) (number_of l.lang (boolean l.v x) - 1) false) (range_with_len (first_of l.lang l.v) (l.x - first_of l.lang l.v)) ≡ option_to_list l.value

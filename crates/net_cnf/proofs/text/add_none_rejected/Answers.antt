@@ -18,7 +18,7 @@ returns-in_err-add_place c =
     let low : c.loop-place.place < c.args.lang.now.value_count ^ length (scope_of c.args.lang.now c.args.c) = omega arith in
     rw (p.1, p.2)
     (too_long_at c.in_err-add_place.field-0.0 f c.loop-place.place (c.args.lang.now.value_count ^ length (scope_of c.args.lang.now c.args.c)) (string_bytes c.args.text.now) [] (flat_map clause_text (none_rejected c.args.lang.now c.args.c)) (string_bytes c.loop-place.text)
-    low c.loop-place.invariant (append-nil (flat_map f (range_with_len 0 (c.args.lang.now.value_count ^ length (scope_of c.args.lang.now c.args.c)))) ∙ place_pieces c.args.lang.now c.args.c) c.in_err-add_place.ensures)
+    low c.loop-place.invariant (append-nil (flat_map f (range_with_len 0 (c.args.lang.now.value_count ^ length (scope_of c.args.lang.now c.args.c)))) ∙ place_pieces c.args.lang.now c.args.c c.places_on-place-end.ensures.lawful c.requires.candidate) c.in_err-add_place.ensures)
 
 pub loop-place-preserved : goal.loop-place-preserved
 loop-place-preserved c =
@@ -31,4 +31,4 @@ returns c =
     let f : ℕ → List ℕ = place_piece c.args.lang.now c.args.c in
     let all : c.loop-place.place ≡ c.args.lang.now.value_count ^ length (scope_of c.args.lang.now c.args.c) = omega arith in
     grown_as (string_bytes c.args.text.now) (flat_map f (range_with_len 0 c.loop-place.place)) (flat_map clause_text (none_rejected c.args.lang.now c.args.c)) (string_bytes c.loop-place.text)
-    (ap (λ n. flat_map f (range_with_len 0 n)) all ∙ place_pieces c.args.lang.now c.args.c) c.loop-place.invariant
+    (ap (λ n. flat_map f (range_with_len 0 n)) all ∙ place_pieces c.args.lang.now c.args.c c.places_on-place-end.ensures.lawful c.requires.candidate) c.loop-place.invariant

@@ -27,4 +27,4 @@ returns-clause-is c =
     let all : c.loop-place.place ≡ l.value_count ^ length (scope_of l c.args.c) = omega arith in
     c.loop-place.invariant.is
     ∙ ap (λ n. length (filter (λ at. not (accepts_there l c.args.c at)) (range_with_len 0 n))) all
-    ∙ sym (length-rejected l c.args.c)
+    ∙ sym (length-rejected l c.args.c c.places_on-place-end.ensures.lawful c.requires)

@@ -1,8 +1,10 @@
-use Rattle.std.proofs.Common.{None, List, sym, subst, ◌∙◌, true≢false}
+use Rattle.std.proofs.Common.{None, List, ap, sym, subst, ◌∙◌, true≢false}
+use Rattle.std.specs.Prelude.{replicate}
+use Rattle.language.specs.Ranges.{whole_range}
 use Rattle.language.specs.Language.{AreNames, Given}
 use Rattle.language.specs.Building.{Frame, IsBuilt}
 use Rattle.target_oracle.specs.Generator.{given}
-use Rattle.target_oracle.proofs.Draws.{are_names, frame_is, how_many, no_refusal}
+use Rattle.target_oracle.proofs.Draws.{are_names, frame_is, how_many, how_many_strings, no_refusal}
 use Rattle.target_oracle.proofs.generator.language.Goals as goal
 
 pub new-requires : goal.new-requires
@@ -15,5 +17,6 @@ unreachable-requires-then-not-is_memory c =
 
 pub returns-in-Ok-build : goal.returns-in-Ok-build
 returns-in-Ok-build c =
-    subst (λ (f : Frame). IsBuilt f given None c.in-Ok-build.language) (frame_is c.in-Ok.frame (c.in-Ok.ensures.names ∙ c.in_ok-names.ensures) c.in-Ok.ensures.least c.in-Ok.ensures.values)
+    subst (λ (f : Frame). IsBuilt f given None c.in-Ok-build.language) (frame_is c.in-Ok.frame (c.in-Ok.ensures.names ∙ c.in_ok-names.ensures) c.in-Ok.ensures.least c.in-Ok.ensures.values
+    (c.in-Ok.ensures.ranges ∙ ap (λ n. replicate n (whole_range 3)) (how_many_strings c.in_ok-names.names.items c.in_ok-names.ensures)))
     (subst (λ (parts : List Given). IsBuilt c.in-Ok.frame parts None c.in-Ok-build.language) c.in_ok-relations.ensures.is c.in-Ok-build.ensures.built)
