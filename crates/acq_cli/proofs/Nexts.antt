@@ -210,7 +210,7 @@ OverAt budget s = IsLanguage (knowledge_of s).lang → (t : List Answer) → Sta
     IsCollapsed (knowledge_of s).lang (terms_with (knowledge_of s).plan budget) t × (next_after (knowledge_of s).lang (terms_with (knowledge_of s).plan budget) t ≡ Some (Ends Collapsed))
 
 pub over_at : (budget : ℕ) (over : overs.Collapsed) → OverAt budget (sessions.Over over)
-over_at budget over lawful t stands = collapsed over.knowledge.lang (terms_with over.knowledge.plan budget) t over.knowledge.network.list lawful stands.after
+over_at budget over lawful t stands = collapsed over.knowledge.value.lang (terms_with over.knowledge.value.plan budget) t over.knowledge.value.network.list lawful stands.after
 
 -- a question that is put is the next one
 pub put_due : (l : Language) (terms : Terms) (t : List Answer) (put : Option Assignment) (n : Upcoming) (q : Assignment) → PutIs l terms t put n → (n ≡ nexts.Open q) ⊎ (n ≡ nexts.New q) → IsDue l terms t q

@@ -1,19 +1,17 @@
 -- What the next question's search says of a session.
-use Rattle.std.proofs.Common.{◌≡◌, ℕ, true, List, [], ◌∷◌, Option, refl, ◌∙◌, ap}
-use Rattle.std.specs.Prelude.{IsTrue, All, Any, ◌<◌, ◌&&◌, nat_lt, length, Some, None}
-use Rattle.std.specs.Option.{option_map_or, ForSome}
-use Rattle.std.specs.List.{list_all}
-use Rattle.std.proofs.lemmas.List.Elements.{All-filter, All-head, All-tail}
+use Rattle.std.proofs.Common.{◌≡◌, ℕ, true, List, Option, refl, ◌∙◌, ap}
+use Rattle.std.specs.Prelude.{IsTrue, All, Any, ◌&&◌, length, Some, None}
+use Rattle.std.proofs.lemmas.List.Elements.{All-filter}
 use Rattle.std.proofs.lemmas.List.Folds.{list_any_at}
-use Rattle.std.proofs.lemmas.Bool.{and_from, eq-eqb}
-use Rattle.std.proofs.Common.{lt-ltb}
+use Rattle.std.proofs.lemmas.Bool.{and_from}
 use Rattle.assign.specs.Assignment.{Assignment, is_complete}
 use Rattle.assign.specs.Events.{Answer}
 use Rattle.assign.specs.declared.events.Plan.{Plan}
 use Rattle.assign.specs.declared.events.Plan.TheVariants.{Quacq, Multi}
 use Rattle.language.specs.declared.candidates.Candidate.{Candidate}
-use Rattle.language.specs.Language.{Language, IsLanguage, IsCandidate, IsQuestion, candidates, is_question, variable_count, accepts, violates}
+use Rattle.language.specs.Language.{Language, IsLanguage, IsCandidate, IsQuestion, candidates, is_question, accepts, violates}
 use Rattle.language.specs.Answers.{IsNetwork, kept}
+use Rattle.language.proofs.Ranged.{question_passes}
 use Rattle.fd_solver.specs.Laws.{IsQuestionAgainst}
 use Rattle.fd_solver.proofs.Outcomes.{absent_is_implied, absent_stays, found_is_lawful}
 use Rattle.fd_solver.proofs.Outcomes as outcomes
@@ -51,14 +49,6 @@ marks_stay = marking.marks_stay absent_stays
 pub kept_network : (l : Language) (t : List Answer) (network : List Candidate) → IsNetwork l (kept l t network)
 kept_network l t network = All-filter _ (IsCandidate l) (candidates l) (all_candidates l)
 
-values_fit : (d : ℕ) (e : Assignment) → All (λ o. ForSome o (λ x. x < d)) e → list_all (λ o. option_map_or (λ x. nat_lt x d) o true) e ≡ true
-values_fit d [] h = refl
-values_fit d (None ∷ e) h = values_fit d e (All-tail (λ o. ForSome o (λ x. x < d)) None e h)
-values_fit d (Some x ∷ e) h = and_from _ _ (lt-ltb x d (All-head (λ o. ForSome o (λ x. x < d)) (Some x) e h x refl)) (values_fit d e (All-tail (λ o. ForSome o (λ x. x < d)) (Some x) e h))
-
-question_there : (l : Language) (q : Assignment) → IsQuestion l q → is_question l q ≡ true
-question_there l q fits = and_from _ _ (eq-eqb (length q) (variable_count l) fits.size) (values_fit l.value_count q fits.values_fit)
-
 violated_there : (l : Language) (live network : List Candidate) (q : Assignment) → Any (λ c. IsQuestionAgainst l network c q) live → violates_some l live q ≡ true
 violated_there l live network q (k, c, low, is, against) =
     list_any_at (λ d. violates l d q) live k c low (ap (λ d. violates l d q) is ∙ against.violates)
@@ -71,5 +61,5 @@ asked_is_example l plan budget t network end q lawful at h =
     let any : Any (λ c. IsQuestionAgainst l network c q) live = asked_is_lawful l network live budget q lawful legal (kept_network l t network) h in
     let against : IsQuestionAgainst l network any.1 q = any.4 in
     let passes : (is_question l q && is_complete q && accepts l network q && violates_some l live q) ≡ true =
-    and_from _ _ (and_from _ _ (and_from _ _ (question_there l q against.question) against.complete) against.accepted) (violated_there l live network q any) in
+    and_from _ _ (and_from _ _ (and_from _ _ (question_passes l q against.question) against.complete) against.accepted) (violated_there l live network q any) in
     record { quacq = passes; multi = passes; fits = against.question }

@@ -51,7 +51,7 @@ put_at k (puts.Tuple run) t after = record { state = _; at = after; network = re
 
 pub stands_at : (session : Session) (t : List Answer) → Stands session t → StandsIn (knowledge_of session) t
 stands_at (sessions.Idle idle) t h = record { state = _; at = h.after.idle; network = refl }
-stands_at (sessions.Asking asking) t h = put_at asking.knowledge asking.put t h.after
+stands_at (sessions.Asking asking) t h = put_at asking.knowledge.value asking.put.value t h.after
 stands_at (sessions.Over over) t h = record { state = _; at = h.after; network = refl }
 
 -- the answers that a session stands for have a place

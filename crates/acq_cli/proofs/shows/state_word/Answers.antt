@@ -11,7 +11,7 @@ use Rattle.acq_cli.proofs.shows.state_word.Goals as goal
 
 pub returns-in-Asking : goal.returns-in-Asking
 returns-in-Asking c t =
-    let k = c.in-Asking.asking.knowledge in
+    let k = c.in-Asking.asking.knowledge.value in
     let q = c.question-question.result in
     let P : Session → Type 0 = λ x. Stands x t → IsSettled (knowledge_of x).lang (knowledge_of x).plan t (open_in x) → codes "asking" ≡ reading_text (state_after (knowledge_of x).lang (knowledge_of x).plan t) in
     subst P (sym c.in-Asking.is)
