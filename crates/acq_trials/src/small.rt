@@ -140,11 +140,11 @@ pub fn networks(
     Ok(all)
 }
 
-/// The assignments that give each of n variables a value.
-pub fn assignments(alloc: Global, n: u8) -> Result<Vec<Values>, AllocError> {
+/// The assignments that give each of n variables a value, the first one of so many.
+pub fn assignments(alloc: Global, n: u8, firsts: u8) -> Result<Vec<Values>, AllocError> {
     let mut all = Vec::new(alloc);
     for bits in 0..8u8 {
-        if n > 2 || bits < 4 {
+        if (n > 2 || bits < 4) && bits & 1 < firsts {
             all.push([
                 Some(bits & 1),
                 Some((bits >> 1) & 1),
@@ -156,9 +156,10 @@ pub fn assignments(alloc: Global, n: u8) -> Result<Vec<Values>, AllocError> {
 }
 
 /// How many lists of values for the first variables of an order violate nothing of the network and don't satisfy the
-/// relation on the scope.
+/// relation on the scope. Where there are two variables the first has so many values.
 pub fn plain_size(
     n: u8,
+    firsts: u8,
     scopes: &[(u8, u8)],
     network: &[Pairs],
     scope: (u8, u8),
@@ -170,7 +171,7 @@ pub fn plain_size(
         3
     };
     let mut size = 1u32;
-    for x in 0..2u8 {
+    for x in 0..firsts {
         let one = with(&NO_VALUES, scope.0, x);
         size = size.saturating_add(1);
         for y in 0..2u8 {

@@ -23,6 +23,8 @@ const MOST_RUNS: u32 = 100_000;
 #[derive(Drop)]
 struct Small {
     n: u8,
+    /// How many values the first variable has. It has both where there are three variables.
+    firsts: u8,
     budget: u32,
     text: String,
     given: Vec<Pairs>,
@@ -49,8 +51,8 @@ fn relation_text(alloc: Global, i: usize, pairs: &Pairs) -> Result<String, Alloc
     Ok(text)
 }
 
-/// The vocabulary of these relations over n variables.
-fn vocabulary(alloc: Global, n: u8, given: &[Pairs]) -> Result<String, AllocError> {
+/// The vocabulary of these relations over n variables, the first of which has so many values.
+fn vocabulary(alloc: Global, n: u8, firsts: u8, given: &[Pairs]) -> Result<String, AllocError> {
     let names = if n == 2 {
         "\"a\",\"b\""
     } else {
@@ -59,6 +61,9 @@ fn vocabulary(alloc: Global, n: u8, given: &[Pairs]) -> Result<String, AllocErro
     let mut text = format!(in alloc; "{{\"variables\":[{names}],\"domain\":[0,1],\"relations\":[")?;
     for (i, pairs) in given.iter().enumerate() {
         text.push_str(&relation_text(alloc, i, pairs)?)?;
+    }
+    if firsts < 2 {
+        text.push_str("],\"ranges\":[[\"a\",0,0]")?;
     }
     text.push_str("],\"scopes\":\"all\"}\n")?;
     Ok(text)
@@ -75,20 +80,29 @@ fn words(alloc: Global, plan: &str, budget: u32) -> Result<Vec<String>, AllocErr
 
 impl Small {
     /// The vocabulary of the relations of the family whose bit is set.
-    fn of(alloc: Global, n: u8, chosen: u8, plan: &str, budget: u32) -> Result<Small, AllocError> {
+    fn of(alloc: Global, row: Row, chosen: u8) -> Result<Small, AllocError> {
+        let (n, firsts, plan, budget) = row;
         let mut given = Vec::new(alloc);
         for number in 0..6u8 {
             if (chosen >> number) & 1 == 1 {
                 given.push(pairs_of(number))?;
             }
         }
+        let text = vocabulary(alloc, n, firsts, &given)?;
+        if firsts < 2 {
+            // a value that the first variable doesn't have is accepted
+            for pairs in given.iter_mut() {
+                pairs[1] = [true; 2];
+            }
+        }
         let relations = closed(alloc, &given)?;
         Ok(Small {
             n,
+            firsts,
             budget,
-            text: vocabulary(alloc, n, &given)?,
+            text,
             networks: networks(alloc, scopes_of(n), &relations)?,
-            assignments: assignments(alloc, n)?,
+            assignments: assignments(alloc, n, firsts)?,
             words: words(alloc, plan, budget)?,
             given,
             relations,
@@ -174,7 +188,8 @@ impl Small {
                 if open {
                     listed = listed.saturating_add(1);
                 }
-                let long = plain_size(self.n, self.scopes(), &network, *scope, pairs) > self.budget;
+                let long = plain_size(self.n, self.firsts, self.scopes(), &network, *scope, pairs)
+                    > self.budget;
                 if open && !(kept && long) {
                     return false;
                 }
@@ -387,12 +402,12 @@ fn try_all(
     Err(Fail::from("too many runs"))
 }
 
-/// How many variables, the plan, and the budget.
-type Row = (u8, &'static str, u32);
+/// How many variables, how many values of the first one, the plan, and the budget.
+type Row = (u8, u8, &'static str, u32);
 
 /// Each vocabulary of the family, with each list of answers.
 fn try_family(rt: &(impl Threads + Sync), alloc: Global, row: Row) -> Result<Counts, Fail> {
-    let (n, plan, budget) = row;
+    let (n, _, _, _) = row;
     let mut counts = Counts {
         ended: [0; 3],
         spare: usize::MAX,
@@ -400,7 +415,7 @@ fn try_family(rt: &(impl Threads + Sync), alloc: Global, row: Row) -> Result<Cou
     for chosen in 1..64u8 {
         // Of the vocabularies over three variables, those of at most two relations.
         if n == 2 || chosen.count_ones() <= 2 {
-            let small = Small::of(alloc, n, chosen, plan, budget)?;
+            let small = Small::of(alloc, row, chosen)?;
             try_all(rt, alloc, &small, &mut counts)?;
         }
     }
@@ -410,14 +425,17 @@ fn try_family(rt: &(impl Threads + Sync), alloc: Global, row: Row) -> Result<Cou
 /// Each end is what the answers say, and comes within the bound.
 fn check_rows(rt: &(impl Abort + Threads + Sync), alloc: Global, rows: &[Row]) -> Result<(), Fail> {
     for row in rows {
-        let (n, plan, budget) = *row;
+        let (n, firsts, plan, budget) = *row;
         let Counts { ended, spare } = try_family(rt, alloc, *row)?;
-        assert!(rt; ended[0] > 0 || budget == 1, "{n} {plan} {budget}");
+        assert!(rt; ended[0] > 0 || budget == 1, "{n} {firsts} {plan} {budget}");
         assert!(rt; plan != "scopes" || ended[1] == 0);
-        assert!(rt; (budget < 100) == (ended[2] > 0), "{n} {plan} {budget}");
+        assert!(rt;
+            (budget < 100) == (ended[2] > 0),
+            "{n} {firsts} {plan} {budget}"
+        );
         // Some session about two variables takes as many questions as the bound says.
         assert!(rt;
-            n > 2 || plan == "multi" || budget < 100 || spare == 0,
+            n > 2 || firsts < 2 || plan == "multi" || budget < 100 || spare == 0,
             "{n} {plan} {budget} {spare}"
         );
     }
@@ -427,21 +445,39 @@ fn check_rows(rt: &(impl Abort + Threads + Sync), alloc: Global, rows: &[Row]) -
 #[test]
 fn each_end_about_two_variables(rt: HostRuntime) -> Result<(), Fail> {
     let rows = [
-        (2u8, "scopes", 100u32),
-        (2, "quacq", 100),
-        (2, "quacq", 1),
-        (2, "multi", 100),
-        (2, "multi", 1),
+        (2u8, 2u8, "scopes", 100u32),
+        (2, 2, "quacq", 100),
+        (2, 2, "quacq", 1),
+        (2, 2, "multi", 100),
+        (2, 2, "multi", 1),
+    ];
+    check_rows(&rt, rt.alloc(), &rows)
+}
+
+#[test]
+fn each_end_where_the_first_variable_has_one_value(rt: HostRuntime) -> Result<(), Fail> {
+    let rows = [
+        (2u8, 1u8, "scopes", 100u32),
+        (2, 1, "quacq", 100),
+        (2, 1, "multi", 100),
     ];
     check_rows(&rt, rt.alloc(), &rows)
 }
 
 #[test]
 fn each_end_about_three_variables_in_plan_quacq(rt: HostRuntime) -> Result<(), Fail> {
-    check_rows(&rt, rt.alloc(), &[(3u8, "quacq", 100u32), (3, "quacq", 2)])
+    check_rows(
+        &rt,
+        rt.alloc(),
+        &[(3u8, 2u8, "quacq", 100u32), (3, 2, "quacq", 2)],
+    )
 }
 
 #[test]
 fn each_end_about_three_variables_in_plan_multi(rt: HostRuntime) -> Result<(), Fail> {
-    check_rows(&rt, rt.alloc(), &[(3u8, "multi", 100u32), (3, "multi", 2)])
+    check_rows(
+        &rt,
+        rt.alloc(),
+        &[(3u8, 2u8, "multi", 100u32), (3, 2, "multi", 2)],
+    )
 }

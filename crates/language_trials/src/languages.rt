@@ -1,8 +1,9 @@
 //! Languages whose relations, numbers and texts were worked out by hand.
 
-use crate::samples::{language, question};
-use assign::{Partial, VarSet};
+use crate::texts::language;
+use assign::VarSet;
 use language::{Candidate, ScopeId};
+use samples::assigned;
 use std::process::Abort;
 use std::test::Fail;
 
@@ -47,17 +48,33 @@ fn relations_are_named_by_those_that_contain_them(rt: HostRuntime) -> Result<(),
 }
 
 #[test]
+fn relations_count_by_the_values_of_the_ranges(rt: HostRuntime) -> Result<(), Fail> {
+    let alloc = rt.alloc();
+    let lang = language(alloc, 2, &[LE, GE, NE], r#""all","ranges":[["v0",1,1]]"#)?;
+    assert!(rt; lang.n() == 2);
+    assert_eq!(rt; (lang.range(0), lang.range(1)), ((0, 0), (0, 1)));
+    let wanted = ["le", "le&ge", "le&ne", "le&ge&ne"];
+    assert_eq!(rt; lang.candidates() as usize, wanted.len());
+    for (number, name) in wanted.iter().enumerate() {
+        assert!(rt; number < lang.candidates() as usize);
+        let c = lang.candidate(number as u32);
+        let text = format!(in alloc; "{name} v0 v1")?;
+        assert_eq!(rt; lang.candidate_text(alloc, c)?.as_str(), text.as_str());
+    }
+    Ok(())
+}
+
+#[test]
 fn questions_are_put_and_places_found(rt: HostRuntime) -> Result<(), Fail> {
     let alloc = rt.alloc();
     let lang = language(alloc, 2, &[EQ, NE], "\"all\"")?;
     assert_eq!(rt; (lang.n(), lang.d()), (2, 2));
     assert!(rt; lang.scopes() == 1);
     assert_eq!(rt; lang.scope(0), [0, 1].as_slice());
-    let mut q = Partial::blank(2);
-    assert_eq!(rt; lang.question_text(alloc, 7, &q)?.as_str(), "q7");
-    assert_eq!(rt; lang.place_on(0, &q), None);
-    q.set(0, 0);
-    q.set(1, 1);
+    let none = assigned(&lang, &[], &[]);
+    assert_eq!(rt; lang.question_text(alloc, 7, &none)?.as_str(), "q7");
+    assert_eq!(rt; lang.place_on(0, &none), None);
+    let q = assigned(&lang, &[0, 1], &[0, 1]);
     assert_eq!(rt; lang.question_text(alloc, 1, &q)?.as_str(), "q1 v0=1 v1=2");
     assert_eq!(rt; lang.place_on(0, &q), Some(1));
     for (number, violated) in [(0, true), (1, false), (2, true)] {
@@ -74,7 +91,7 @@ fn the_largest_language(rt: HostRuntime) -> Result<(), Fail> {
     let lang = language(alloc, 128, &[LE, GE, NE], "\"all\"")?;
     assert_eq!(rt; lang.scopes(), 8128);
     assert_eq!(rt; lang.candidates(), 56896);
-    let q = question(&lang, &[(0, 0), (1, 1), (127, 0)]);
+    let q = assigned(&lang, &[0, 1, 127], &[0, 1, 0]);
     let rows = [
         (0, 0, 0, "le v0 v1", false),
         (1, 0, 1, "ge v0 v1", true),

@@ -9,8 +9,8 @@ mod languages;
 #[cfg(test)]
 mod networks;
 #[cfg(test)]
-mod samples;
-#[cfg(test)]
 mod scopes;
+#[cfg(test)]
+mod texts;
 #[cfg(test)]
 mod vocabularies;

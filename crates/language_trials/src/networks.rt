@@ -4,9 +4,9 @@ ghost use Rattle.std.specs.Prelude.{◌≡◌, false, length, IfOk};
 ghost use Rattle.language.specs.Language.{IsCandidate};
 ghost use Rattle.language.specs.Answers.{IsNetwork, has_scope};
 
-use crate::samples::question;
 use language::{Candidate, Language};
 use network::{Network, net_text, network_text, read_network};
+use samples::assigned;
 use std::alloc::Global;
 use std::process::Abort;
 use std::test::Fail;
@@ -19,6 +19,10 @@ const EQUAL: &str =
 /// The same with at most, at least and unequal.
 const ORDERS: &str =
     r#"{"variables":["a","b","c"],"domain":[1,2],"relations":[{"name":"le","arity":2,"tuples":[[1,1],[1,2],[2,2]]},{"name":"ge","arity":2,"tuples":[[1,1],[2,1],[2,2]]},{"name":"ne","arity":2,"tuples":[[1,2],[2,1]]}],"scopes":"all"}"#;
+
+/// The same where the first variable has the value 1 alone, so that it is at most each other one.
+const ORDERS_WITHIN: &str =
+    r#"{"variables":["a","b","c"],"domain":[1,2],"ranges":[["a",1,1]],"relations":[{"name":"le","arity":2,"tuples":[[1,1],[1,2],[2,2]]},{"name":"ge","arity":2,"tuples":[[1,1],[2,1],[2,2]]},{"name":"ne","arity":2,"tuples":[[1,2],[2,1]]}],"scopes":"all"}"#;
 
 /// Whether something is learned on a scope.
 fn is_taken(net: &Network, s: u16) -> bool
@@ -96,20 +100,24 @@ fn accepts_what_violates_none(rt: HostRuntime) -> Result<(), Fail> {
     let lang = read_vocabulary(alloc, EQUAL.as_bytes())?;
     // a and b differ, b and c are equal
     let net = network(alloc, &lang, &[(0, 1), (2, 0)])?;
-    let rows: [(&[(u8, u8)], bool); 9] = [
-        (&[], true),
-        (&[(0, 0), (2, 1)], true),
-        (&[(0, 0), (1, 1)], true),
-        (&[(0, 0), (1, 0)], false),
-        (&[(1, 0), (2, 1)], false),
-        (&[(0, 0), (1, 1), (2, 1)], true),
-        (&[(0, 0), (1, 1), (2, 0)], false),
-        (&[(0, 0), (1, 0), (2, 0)], false),
-        (&[(0, 1), (1, 1), (2, 0)], false),
+    let rows: [(&[u8], &[u8], bool); 9] = [
+        (&[], &[], true),
+        (&[0, 2], &[0, 1], true),
+        (&[0, 1], &[0, 1], true),
+        (&[0, 1], &[0, 0], false),
+        (&[1, 2], &[0, 1], false),
+        (&[0, 1, 2], &[0, 1, 1], true),
+        (&[0, 1, 2], &[0, 1, 0], false),
+        (&[0, 1, 2], &[0, 0, 0], false),
+        (&[0, 1, 2], &[1, 1, 0], false),
     ];
-    for (values, accepted) in rows {
-        let q = question(&lang, values);
-        assert_eq!(rt; net.accepts(&lang, &q), accepted, "{values:?}");
+    for (variables, values, accepted) in rows {
+        let q = assigned(&lang, variables, values);
+        assert_eq!(rt;
+            net.accepts(&lang, &q),
+            accepted,
+            "{variables:?} {values:?}"
+        );
     }
     Ok(())
 }
@@ -123,7 +131,7 @@ fn forgets_all(rt: HostRuntime) -> Result<(), Fail> {
     assert_eq!(rt; net.item(1), Candidate { scope: 1, rel: 0 });
     net.clear();
     assert_eq!(rt; net.len(), 0);
-    assert!(rt; net.accepts(&lang, &question(&lang, &[(0, 0), (1, 1), (2, 0)])));
+    assert!(rt; net.accepts(&lang, &assigned(&lang, &[0, 1, 2], &[0, 1, 0])));
     assert!(rt; lang.scopes() == 3);
     net.learn(Candidate { scope: 2, rel: 2 });
     assert_eq!(rt; net.item(0), Candidate { scope: 2, rel: 2 });
@@ -185,11 +193,15 @@ static TARGETS: [(&str, &str); 40] = [
     ),
 ];
 
-#[test]
-fn what_targets_tell(rt: HostRuntime) -> Result<(), Fail> {
-    let alloc = rt.alloc();
-    let lang = read_vocabulary(alloc, EQUAL.as_bytes())?;
-    for (text, wanted) in &TARGETS {
+/// Each network of the rows tells what stands beside it.
+fn check_rows(
+    rt: &impl Abort,
+    alloc: Global,
+    vocabulary: &str,
+    rows: &[(&str, &str)],
+) -> Result<(), Fail> {
+    let lang = read_vocabulary(alloc, vocabulary.as_bytes())?;
+    for (text, wanted) in rows {
         assert_eq!(rt;
             told(alloc, &lang, text.as_bytes())?.as_str(),
             *wanted,
@@ -197,6 +209,11 @@ fn what_targets_tell(rt: HostRuntime) -> Result<(), Fail> {
         );
     }
     Ok(())
+}
+
+#[test]
+fn what_targets_tell(rt: HostRuntime) -> Result<(), Fail> {
+    check_rows(&rt, rt.alloc(), EQUAL, &TARGETS)
 }
 
 /// Names that are joined, in any order, and the relation that they mean.
@@ -211,18 +228,17 @@ static JOINED: [(&str, &str); 8] = [
     (r#"[["le&ge&eq","b","c"]]"#, "unknown relation 0"),
 ];
 
+static JOINED_WITHIN: [(&str, &str); 4] = [
+    (r#"[["ge","a","b"]]"#, "le&ge a b\n"),
+    (r#"[["ge","b","c"]]"#, "ge b c\n"),
+    (r#"[["ne","a","c"],["le","a","b"]]"#, "le&ne a c\nle a b\n"),
+    (r#"[["ne&ge","a","b"]]"#, "le&ge&ne a b\n"),
+];
+
 #[test]
 fn joined_names_mean_the_intersection(rt: HostRuntime) -> Result<(), Fail> {
-    let alloc = rt.alloc();
-    let lang = read_vocabulary(alloc, ORDERS.as_bytes())?;
-    for (text, wanted) in &JOINED {
-        assert_eq!(rt;
-            told(alloc, &lang, text.as_bytes())?.as_str(),
-            *wanted,
-            "{text}"
-        );
-    }
-    Ok(())
+    check_rows(&rt, rt.alloc(), ORDERS, &JOINED)?;
+    check_rows(&rt, rt.alloc(), ORDERS_WITHIN, &JOINED_WITHIN)
 }
 
 /// An empty array and so many spaces.

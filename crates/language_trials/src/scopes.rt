@@ -1,6 +1,6 @@
 //! Which scopes and relations make a language, and the first fault of those that don't.
 
-use crate::samples::{first_wrong, of_arities, told, vocabulary};
+use crate::texts::{first_wrong, of_arities, told, vocabulary};
 use language::ScopeId;
 use std::alloc::{AllocError, Global};
 use std::test::Fail;

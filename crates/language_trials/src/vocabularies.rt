@@ -3,7 +3,7 @@
 ghost use Rattle.std.specs.Prelude.{◌<◌, length};
 ghost use Rattle.language.specs.Language.{IsCandidate};
 
-use crate::samples::{first_wrong, of_arities, told, vocabulary};
+use crate::texts::{first_wrong, of_arities, told, vocabulary};
 use language::{Candidate, Language, ScopeId};
 use rel_table::Table;
 use std::alloc::{AllocError, Global};
@@ -139,20 +139,52 @@ nested 0 1 | [["b","c"],["b"]]
 nested 1 2 | [["a"],["b","c"],["c"]]
 no relation of arity 1 | [["a","b"],["c"]]"#;
 
+/// Values under `ranges`.
+const RANGES: &str = r#"wrong kind ranges | {}
+wrong kind ranges | null
+wrong kind ranges | "all"
+taken | []
+taken | 0,"ranges":[]
+taken | [["a",1,2]]
+taken | [["b",2,2],["a",1,1]]
+wrong kind range 0 | ["a",1,2]
+wrong kind range 0 | [{"a":[1,2]}]
+wrong kind range 1 | [["a",1,1],["b",1]]
+wrong kind range 0 | [["a",1,2,2]]
+wrong kind range 0 | [[1,2,"a"]]
+wrong kind range 0 | [["a","1",2]]
+wrong kind range 0 | [["a",1,2.0]]
+wrong kind range 0 | [["a",1,9223372036854775808]]
+range name 0 | [["z",1,1]]
+range name 1 | [["a",1,1],["A",1,1]]
+range name 0 | [["",1,1]]
+bad range 0 | [["a",0,1]]
+bad range 0 | [["a",1,3]]
+bad range 0 | [["a",2,1]]
+bad range 1 | [["a",1,1],["b",-9223372036854775808,9223372036854775807]]
+range name 1 | [["a",1,1],["z",2,1]]
+bad range 0 | [["a",2,1],["z",1,1]]
+wrong kind range 2 | [["a",1,1],["a",1,1],0]
+range repeated 0 1 | [["a",1,1],["a",1,2]]
+range repeated 1 3 | [["c",1,1],["b",1,1],["a",1,1],["\u0062",1,1],["c",1,2]]"#;
+
 /// Vocabularies with two faults, of which the first is told.
 const PAIRS: &str = r#"unknown key whole | {"x":0}
 missing variables | {"domain":0}
 missing domain | {"variables":0}
 missing relations | {"variables":0,"domain":0}
-missing scopes | {"variables":0,"domain":0,"relations":0}
+missing scopes | {"variables":0,"domain":0,"relations":0,"ranges":0}
 wrong kind variables | {"variables":0,"domain":0,"relations":0,"scopes":0}
 wrong kind domain | {"variables":[""],"domain":0,"relations":0,"scopes":0}
 wrong kind relations | {"variables":[""],"domain":[2,1],"relations":0,"scopes":0}
-wrong kind scopes | {"variables":[""],"domain":[2,1],"relations":[0],"scopes":0}
+wrong kind scopes | {"variables":[""],"domain":[2,1],"relations":[0],"scopes":0,"ranges":0}
+wrong kind ranges | {"variables":[""],"domain":[2,1],"relations":[0],"scopes":"all","ranges":0}
 bad name 2 | {"variables":["a","a","",""],"domain":[2,1],"relations":[0],"scopes":"all"}
 name repeated 0 1 | {"variables":["a","a","a"],"domain":[2,1],"relations":[0],"scopes":"all"}
 no variables | {"variables":[],"domain":[2,1],"relations":[0],"scopes":"all"}
-bad domain | {"variables":["a"],"domain":[2,1],"relations":[0],"scopes":"all"}
+bad domain | {"variables":["a"],"domain":[2,1],"relations":[0],"scopes":"all","ranges":[0]}
+wrong kind range 0 | {"variables":["a"],"domain":[1,2],"relations":[0],"scopes":"all","ranges":[0]}
+range repeated 0 1 | {"variables":["a"],"domain":[1,2],"relations":[0],"scopes":[0],"ranges":[["a",1,1],["a",1,2]]}
 name repeated 1 2 | {"variables":["a","b","b","a"],"domain":[1,2],"relations":[],"scopes":"all"}
 wrong kind relation 0 | {"variables":["a"],"domain":[1,2],"relations":[0],"scopes":[0]}
 relation 0 table too large | {"variables":["a"],"domain":[1,17],"relations":[{"name":"r","arity":4,"tuples":[[0]]}],"scopes":[0]}
@@ -210,6 +242,11 @@ fn refusals(rt: HostRuntime) -> Result<(), Fail> {
         (
             SCOPES,
             r#"{"variables":["a","b","c"],"domain":[1,2],"relations":[{"name":"none","arity":2,"tuples":[]}],"scopes":"#,
+            "}",
+        ),
+        (
+            RANGES,
+            r#"{"variables":["a","b","c"],"domain":[1,2],"relations":[{"name":"none","arity":2,"tuples":[]}],"scopes":"all","ranges":"#,
             "}",
         ),
         (PAIRS, "", ""),

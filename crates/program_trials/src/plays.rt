@@ -108,6 +108,26 @@ fn a_network_answers(rt: HostRuntime) -> Result<(), Fail> {
     Ok(())
 }
 
+/// A relation in a network means the one on the scope that agrees with it within the ranges.
+#[test]
+fn a_network_answers_within_the_ranges(rt: HostRuntime) -> Result<(), Fail> {
+    let alloc = rt.alloc();
+    let mut disk = MemDisk::new(alloc, Vec::new(alloc), Vec::new(alloc), ROOM)?;
+    let made = run_on(&rt, alloc, "j new", vocabulary_of("within"), &mut disk)?;
+    assert_eq!(rt;
+        made.text.as_str(),
+        "created variables 2 scopes 1 candidates 4\n"
+    );
+    assert_eq!(rt; made.status, 0);
+    let ran = run_on(&rt, alloc, "j play", r#"[["ge","a","b"]]"#, &mut disk)?;
+    assert_eq!(rt;
+        ran.text.as_str(),
+        "q1 a=1 b=2 no\nq2 a=1 b=1 yes\nconverged 2\nle&ge a b\n"
+    );
+    assert_eq!(rt; ran.status, 0);
+    Ok(())
+}
+
 /// Commands one after the other over one journal: the words, the input, what is printed and the status.
 static COMMANDS: [(&str, &str, &str, u8); 8] = [
     ("j play", "[]", "refused journal no session\n", 3),

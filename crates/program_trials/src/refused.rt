@@ -1,6 +1,6 @@
 //! Vocabularies that are refused, each with its reason.
 
-use crate::runs::try_with;
+use crate::runs::{try_with, vocabulary_of};
 use std::test::Fail;
 
 /// Rows: the reason, and then the variables, the domain, the relations and the scopes.
@@ -56,6 +56,29 @@ static FORMS: [(&str, &str); 8] = [
         r#"{"variables":["a"],"domain":[1,2],"relations":[]}"#,
     ),
 ];
+
+/// Ranges beside a vocabulary that is taken without them: the reason, and the ranges.
+static RANGES: [(&str, &str); 4] = [
+    ("bad range 0", r#"[["a",0,1]]"#),
+    ("range name 0", r#"[["z",1,1]]"#),
+    ("range repeated 0 1", r#"[["a",1,1],["a",1,2]]"#),
+    ("wrong kind ranges", "{}"),
+];
+
+#[test]
+fn each_range(rt: HostRuntime) -> Result<(), Fail> {
+    let alloc = rt.alloc();
+    let vocabulary = vocabulary_of("order");
+    let parts = vocabulary.strip_suffix('}').unwrap_or("");
+    for (reason, ranges) in &RANGES {
+        let input = format!(in alloc; "{parts},\"ranges\":{ranges}}}\nyes\n")?;
+        let wanted = format!(in alloc; "refused vocabulary {reason}\n")?;
+        let ran = try_with(&rt, alloc, "", &input)?;
+        assert_eq!(rt; ran.text, wanted, "{ranges}");
+        assert_eq!(rt; ran.status, 2);
+    }
+    Ok(())
+}
 
 #[test]
 fn each_reason(rt: HostRuntime) -> Result<(), Fail> {

@@ -13,6 +13,8 @@ const ROWS: &str = "|two|yes no|q1 a=1 b=2/q2 a=1 b=1/converged 2/ne a b/|0
 |equal|no yes yes|q1 a=1 b=2 c=1/q2 a=1 b=2/q3 b=2 c=1/collapsed 3/|4
 --budget 1|two||undecided 0/open eq a b/open ne a b/open eq&ne a b/|5
 |order|no no yes|q1 a=2 b=1/q2 a=1 b=1/q3 a=1 b=2/converged 3/le&ne a b/|0
+|within|no yes|q1 a=1 b=2/q2 a=1 b=1/converged 2/le&ge a b/|0
+--plan scopes|within|yes no|q1 a=1 b=1/q2 a=1 b=2/converged 2/le&ge a b/|0
 |single|no|q1 x=5/converged 1/bad x/|0
 |other|no no yes no no|q1 a=1 b=1 c=1/q2 a=1 b=1/q3 a=1 b=2 c=1/q4 a=2 b=1 c=1/q5 b=1 c=1/converged 5/ne a b/ne b c/|0
 |empty||converged 0/|0

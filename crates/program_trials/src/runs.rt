@@ -16,6 +16,7 @@ none {"variables":["a","b"],"domain":[1,2],"relations":[{"name":"eq","arity":2,"
 equal {"variables":["a","b","c"],"domain":[1,2],"relations":[{"name":"eq","arity":2,"formula":["=","$0","$1"]}],"scopes":"all"}
 other {"variables":["a","b","c"],"domain":[1,2],"relations":[{"name":"ne","arity":2,"formula":["!=","$0","$1"]}],"scopes":"all"}
 order {"variables":["a","b"],"domain":[1,2],"relations":[{"name":"le","arity":2,"formula":["<=","$0","$1"]},{"name":"ge","arity":2,"formula":[">=","$0","$1"]},{"name":"ne","arity":2,"formula":["!=","$0","$1"]}],"scopes":"all"}
+within {"variables":["a","b"],"domain":[1,2],"ranges":[["a",1,1]],"relations":[{"name":"le","arity":2,"formula":["<=","$0","$1"]},{"name":"ge","arity":2,"formula":[">=","$0","$1"]},{"name":"ne","arity":2,"formula":["!=","$0","$1"]}],"scopes":"all"}
 single {"variables":["x"],"domain":[5,5],"relations":[{"name":"bad","arity":1,"tuples":[]}],"scopes":"all"}
 empty {"variables":["a","b"],"domain":[1,2],"relations":[{"name":"eq","arity":2,"formula":["=","$0","$1"]},{"name":"ne","arity":2,"formula":["!=","$0","$1"]}],"scopes":[]}
 any {"variables":["a","b"],"domain":[1,2],"relations":[{"name":"any","arity":2,"tuples":[[1,1],[1,2],[2,1],[2,2]]}],"scopes":"all"}

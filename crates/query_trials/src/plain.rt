@@ -7,17 +7,18 @@ use assign::Partial;
 use fd_solver::Outcome;
 use language::{Candidate, Language};
 use propagators::Constraints;
-use samples::{Relation, assigned, is_candidate};
+use samples::{Numbers, Relation, assigned, is_candidate, is_within, language_within, some_ranges};
 use std::alloc::Global;
 use std::process::Abort;
 use std::test::Fail;
 
-/// The language of two relations, and of what they have in common, over n variables of d values: the tuple of values x and
-/// y is in a relation where its bit d x + y is one.
+/// The language of two relations, and of what they have in common, over n variables of d values, of which the first have
+/// these ranges: the tuple of values x and y is in a relation where its bit d x + y is one.
 pub(crate) fn language(
     alloc: Global,
     n: u8,
     d: u8,
+    ranges: &[(u8, u8)],
     first: u64,
     second: u64,
 ) -> Result<Language, Fail> {
@@ -31,7 +32,20 @@ pub(crate) fn language(
         arity: 2,
         accepted: u128::from(accepted),
     });
-    Ok(samples::language(alloc, n, d, &relations, None)?)
+    Ok(language_within(alloc, n, d, ranges, &relations, None)?)
+}
+
+/// Some language of two or three variables and one to three values.
+pub(crate) fn some_language(alloc: Global, numbers: &mut Numbers) -> Result<Language, Fail> {
+    let n = 2 + numbers.byte_below(2);
+    let d = 1 + numbers.byte_below(3);
+    let ranges = some_ranges(alloc, numbers, n, d)?;
+    language(alloc, n, d, &ranges, numbers.below(512), numbers.below(512))
+}
+
+/// Whether a variable has a value.
+fn has_value(lang: &Language, v: u8, value: u8) -> bool {
+    v < lang.n() && is_within(lang, v, value)
 }
 
 /// Whether a question gives each variable of the candidate a value and doesn't violate it.
@@ -168,14 +182,19 @@ fn is_consistent(rt: &impl Abort, cons: &Constraints, family: &[u8; 4]) -> bool 
         && is_supported(cons.lang, c, false, family, false)
 }
 
-/// Whether a family has the values of a question alone, where there is one.
-fn is_within(family: &[u8; 4], e: &Partial) -> bool {
-    for v in 0..e.len() {
-        if let Some(x) = e.get(v) {
-            let set = set_of(family, v);
-            if !has(set, x) || set.count_ones() != 1 {
+/// Whether a family has values of the variables alone, and where a question gives a value that one alone.
+fn is_left(lang: &Language, family: &[u8; 4], e: &Partial) -> bool {
+    for v in 0..lang.n() {
+        let set = set_of(family, v);
+        for x in 0..8 {
+            if has(set, x) && !has_value(lang, v, x) {
                 return false;
             }
+        }
+        if let Some(x) = e.get(v)
+            && (!has(set, x) || set.count_ones() != 1)
+        {
+            return false;
         }
     }
     true
@@ -186,7 +205,7 @@ fn leaves_family(rt: &impl Abort, cons: &Constraints, e: &Partial) -> bool {
     let d = cons.lang.d();
     for number in 0..families(cons.lang.n(), d) {
         let family = family(number, d);
-        if is_within(&family, e) && is_consistent(rt, cons, &family) {
+        if is_left(cons.lang, &family, e) && is_consistent(rt, cons, &family) {
             return true;
         }
     }
@@ -203,6 +222,10 @@ pub(crate) fn outcome_by_list(
 ) -> Outcome {
     let mut left = budget;
     for prefix in all {
+        let mut values = order.iter().zip(prefix.iter());
+        if !values.all(|(v, x)| has_value(cons.lang, *v, *x)) {
+            continue;
+        }
         let e = assigned(cons.lang, order, prefix);
         // an arc-consistent family leaves nothing that breaks the constraints
         let is_alive = leaves_family(rt, cons, &e);

@@ -6,7 +6,7 @@ ghost use Rattle.language.specs.Answers.{IsNetwork, has_scope};
 ghost use Rattle.bias_store.specs.KeptSet.{IsMadeFor as IsKeptOf};
 ghost use Rattle.query_gen.specs.Marks.{IsMadeFor, MarksHold};
 
-use crate::plain::{language, outcome_by_list, prefixes};
+use crate::plain::{language, outcome_by_list, prefixes, some_language};
 use assign::Partial;
 use bias_store::Kept;
 use fd_solver::{Outcome, Work};
@@ -14,7 +14,7 @@ use language::{Candidate, Language};
 use network::Network;
 use propagators::Constraints;
 use query_gen::{Place, Query, Screen, next_query};
-use samples::{Numbers, assigned, is_candidate};
+use samples::{Numbers, assigned, is_candidate, is_within};
 use std::alloc::Global;
 use std::process::Abort;
 use std::test::Fail;
@@ -205,7 +205,7 @@ fn read(lang: &Language, e: &Partial) -> Partial
     let mut question = Partial::blank(lang.n());
     for v in 0..lang.n() {
         if let Some(x) = e.get(v)
-            && x < lang.d()
+            && is_within(lang, v, x)
         {
             question.set(v, x);
         }
@@ -243,10 +243,8 @@ fn turns(
 
 /// A few questions over some language.
 fn session(rt: &impl Abort, alloc: Global, numbers: &mut Numbers) -> Result<(), Fail> {
-    let n = 2 + numbers.byte_below(2);
-    let d = 1 + numbers.byte_below(3);
-    let lang = language(alloc, n, d, numbers.below(512), numbers.below(512))?;
-    let all = prefixes(alloc, n, d)?;
+    let lang = some_language(alloc, numbers)?;
+    let all = prefixes(alloc, lang.n(), lang.d())?;
     let budget = 1 + numbers.below(8) as u32;
     let mut screen = Screen::new(alloc, &lang)?;
     let mut kept = Kept::of(alloc, &lang)?;
@@ -307,7 +305,7 @@ fn has_first_question(
 fn first_questions(rt: HostRuntime) -> Result<(), Fail> {
     let alloc = rt.alloc();
     // eq accepts the places 0 and 3, ne the places 1 and 2
-    let lang = language(alloc, 2, 2, 0b1001, 0b0110)?;
+    let lang = language(alloc, 2, 2, &[], 0b1001, 0b0110)?;
     has_first_question(&rt, alloc, &lang, 1, false)?;
     has_first_question(&rt, alloc, &lang, 2, false)?;
     has_first_question(&rt, alloc, &lang, 3, true)?;

@@ -4,7 +4,7 @@ ghost use Rattle.std.specs.Prelude.{◌≡◌, ◌≢◌, true, AllPairs};
 ghost use Rattle.language.specs.Answers.{IsNetwork};
 ghost use Rattle.fd_solver.specs.Outcomes.{IsOrder};
 
-use crate::plain::{language, outcome_by_list, prefixes};
+use crate::plain::{language, outcome_by_list, prefixes, some_language};
 use fd_solver::{Outcome, Work, search};
 use language::{Candidate, Language};
 use propagators::Constraints;
@@ -102,12 +102,10 @@ fn some_order(alloc: Global, numbers: &mut Numbers, n: u8) -> Result<Vec<u8>, Fa
 
 /// Searches of some constraints over some language, beside the plain list.
 fn round(rt: &impl Abort, alloc: Global, numbers: &mut Numbers, at: u32) -> Result<(), Fail> {
-    let n = 2 + numbers.byte_below(2);
-    let d = 1 + numbers.byte_below(3);
-    let lang = language(alloc, n, d, numbers.below(512), numbers.below(512))?;
+    let lang = some_language(alloc, numbers)?;
     let mut work = Work::new(alloc, &lang)?;
-    let all = prefixes(alloc, n, d)?;
-    let order = some_order(alloc, numbers, n)?;
+    let all = prefixes(alloc, lang.n(), lang.d())?;
+    let order = some_order(alloc, numbers, lang.n())?;
     for _ in 0..4 {
         let list = some_network(alloc, numbers, &lang)?;
         let cons = Constraints {
@@ -160,7 +158,7 @@ fn known_searches(rt: HostRuntime) -> Result<(), Fail> {
     let on = |scope, rel| Candidate { scope, rel };
 
     // with v0=1 v1=1, the third prefix, the candidate that accepts nothing isn't satisfied
-    let two = language(alloc, 2, 2, 0b1001, 0b0110)?;
+    let two = language(alloc, 2, 2, &[], 0b1001, 0b0110)?;
     let first = assigned(&two, &[0, 1], &[0, 0]);
     let rows: [Row; 2] = [
         (&[], Some(on(0, both)), &[0, 1], 3, Outcome::Found(first)),
@@ -169,7 +167,7 @@ fn known_searches(rt: HostRuntime) -> Result<(), Fail> {
     check_rows(&rt, alloc, &two, &rows)?;
 
     // the scopes of v0, v1 and v2: 0 has v0 and v1, 1 has v0 and v2, 2 has v1 and v2
-    let three = language(alloc, 3, 2, 0b1001, 0b0110)?;
+    let three = language(alloc, 3, 2, &[], 0b1001, 0b0110)?;
     let rows: [Row; 2] = [
         // five prefixes are plain, and the empty one alone is alive
         (

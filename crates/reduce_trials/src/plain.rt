@@ -28,10 +28,32 @@ fn is_violated(d: u64, item: &Item, assignment: u64) -> bool {
     (item.accepted >> place) & 1 == 0
 }
 
-/// Whether each of so many assignments that violates none of both lists doesn't violate the item.
-fn is_implied(d: u64, assignments: u64, before: &[Item], behind: &[Item], item: &Item) -> bool {
+/// Whether each of the first variables has a value of its range, from a first to a last value, counted from 1.
+fn is_within(d: u64, ranges: &[(u8, u8)], assignment: u64) -> bool {
+    let base = d.max(1);
+    let mut left = assignment;
+    for (first, last) in ranges {
+        let shown = left % base + 1;
+        if shown < u64::from(*first) || u64::from(*last) < shown {
+            return false;
+        }
+        left /= base;
+    }
+    true
+}
+
+/// Whether each of so many assignments within the ranges that violates none of both lists doesn't violate the item.
+fn is_implied(
+    d: u64,
+    ranges: &[(u8, u8)],
+    assignments: u64,
+    before: &[Item],
+    behind: &[Item],
+    item: &Item,
+) -> bool {
     for assignment in 0..assignments {
-        if is_violated(d, item, assignment)
+        if is_within(d, ranges, assignment)
+            && is_violated(d, item, assignment)
             && !before.iter().any(|other| is_violated(d, other, assignment))
             && !behind.iter().any(|other| is_violated(d, other, assignment))
         {
@@ -42,10 +64,11 @@ fn is_implied(d: u64, assignments: u64, before: &[Item], behind: &[Item], item: 
 }
 
 /// The places of the items that remain when those are dropped that the others imply, in order, over so many assignments of d
-/// values.
+/// values, of which those within the ranges count.
 pub(crate) fn remaining(
     alloc: Global,
     d: u64,
+    ranges: &[(u8, u8)],
     assignments: u64,
     items: &[Item],
 ) -> Result<Vec<usize>, AllocError> {
@@ -53,7 +76,7 @@ pub(crate) fn remaining(
     let mut places = Vec::new(alloc);
     for place in 0..items.len() {
         let item = items[place];
-        if !is_implied(d, assignments, &kept, &items[place + 1..], &item) {
+        if !is_implied(d, ranges, assignments, &kept, &items[place + 1..], &item) {
             kept.push(item)?;
             places.push(place)?;
         }

@@ -5,7 +5,7 @@ use fd_solver::Work;
 use language::Language;
 use net_reduce::{ReduceFault, reduce};
 use network::{Network, read_network};
-use samples::{Numbers, Relation, language};
+use samples::{Numbers, Relation, language_within, some_ranges};
 use std::alloc::{AllocError, Global};
 use std::process::Abort;
 use std::test::Fail;
@@ -100,10 +100,12 @@ fn networks_beside_an_enumeration(rt: HostRuntime) -> Result<(), Fail> {
     for _ in 0..30 {
         for (n, d, assignments, masks) in [(4, 2, 16, 16), (3, 3, 27, 512)] {
             let relations = relations(numbers.below(masks), numbers.below(masks));
-            let lang = language(
+            let ranges = some_ranges(alloc, &mut numbers, n, d)?;
+            let lang = language_within(
                 alloc,
                 n,
                 d,
+                &ranges,
                 &relations.map(|(name, accepted)| Relation {
                     name,
                     arity: 2,
@@ -114,7 +116,7 @@ fn networks_beside_an_enumeration(rt: HostRuntime) -> Result<(), Fail> {
             let mut work = Work::new(alloc, &lang)?;
             for _ in 0..6 {
                 let items = items(alloc, &mut numbers, n, &relations)?;
-                let places = remaining(alloc, u64::from(d), assignments, &items)?;
+                let places = remaining(alloc, u64::from(d), &ranges, assignments, &items)?;
                 let text = text_of(alloc, &items)?;
                 compare(&rt, alloc, &mut work, &lang, &text, &places)?;
             }

@@ -1,3 +1,4 @@
+use crate::numbers::Numbers;
 use language::Language;
 use std::alloc::{AllocError, Global};
 use voc_read::{VocFault, read_vocabulary};
@@ -82,15 +83,26 @@ fn scopes_text(alloc: Global, n: u8, scopes: Option<&[u128]>) -> Result<String, 
     listed(alloc, &lists)
 }
 
+/// The ranges of the first variables, of each its name and the first and the last value.
+fn ranges_text(alloc: Global, ranges: &[(u8, u8)]) -> Result<String, AllocError> {
+    let mut lists = Vec::new(alloc);
+    for (v, (first, last)) in ranges.iter().enumerate() {
+        lists.push(format!(in alloc; "[\"v{v}\",{first},{last}]")?)?;
+    }
+    listed(alloc, &lists)
+}
+
 /// The vocabulary of a language's parts.
 fn vocabulary(
     alloc: Global,
     n: u8,
     d: u8,
+    ranges: &[(u8, u8)],
     relations: &[Relation],
     scopes: Option<&[u128]>,
 ) -> Result<String, AllocError> {
     let variables = names(alloc, n, u128::MAX)?;
+    let ranges = ranges_text(alloc, ranges)?;
     let mut parts = Vec::new(alloc);
     for part in relations {
         parts.push(relation_text(alloc, d, part)?)?;
@@ -98,7 +110,7 @@ fn vocabulary(
     let relations = listed(alloc, &parts)?;
     let scopes = scopes_text(alloc, n, scopes)?;
     format!(in alloc;
-        "{{\"variables\":{variables},\"domain\":[1,{d}],\"relations\":{relations},\"scopes\":{scopes}}}"
+        "{{\"variables\":{variables},\"domain\":[1,{d}],\"ranges\":{ranges},\"relations\":{relations},\"scopes\":{scopes}}}"
     )
 }
 
@@ -111,6 +123,37 @@ pub fn language(
     relations: &[Relation],
     scopes: Option<&[u128]>,
 ) -> Result<Language, VocFault> {
-    let text = vocabulary(alloc, n, d, relations, scopes)?;
+    language_within(alloc, n, d, &[], relations, scopes)
+}
+
+/// The same where the first variables have these ranges, each from a first to a last of the values 1 to d.
+pub fn language_within(
+    alloc: Global,
+    n: u8,
+    d: u8,
+    ranges: &[(u8, u8)],
+    relations: &[Relation],
+    scopes: Option<&[u128]>,
+) -> Result<Language, VocFault> {
+    let text = vocabulary(alloc, n, d, ranges, relations, scopes)?;
     read_vocabulary(alloc, text.as_bytes())
+}
+
+/// Some ranges of the values 1 to d for n variables, or none.
+pub fn some_ranges(
+    alloc: Global,
+    numbers: &mut Numbers,
+    n: u8,
+    d: u8,
+) -> Result<Vec<(u8, u8)>, AllocError> {
+    let mut ranges = Vec::new(alloc);
+    if numbers.below(2) == 0 {
+        return Ok(ranges);
+    }
+    for _ in 0..n {
+        let one = numbers.byte_below(d).saturating_add(1);
+        let other = numbers.byte_below(d).saturating_add(1);
+        ranges.push((one.min(other), one.max(other)))?;
+    }
+    Ok(ranges)
 }

@@ -9,6 +9,6 @@ mod languages;
 mod numbers;
 mod questions;
 
-pub use languages::{Relation, language, places};
+pub use languages::{Relation, language, language_within, places, some_ranges};
 pub use numbers::Numbers;
-pub use questions::{assigned, is_candidate, question};
+pub use questions::{assigned, is_candidate, is_within, question};

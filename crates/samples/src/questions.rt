@@ -1,5 +1,6 @@
-ghost use Rattle.std.specs.Prelude.{◌≡◌, true};
-ghost use Rattle.language.specs.Language.{IsQuestion, IsCandidate};
+ghost use Rattle.std.specs.Prelude.{◌≡◌, ◌<◌, true};
+ghost use Rattle.language.specs.Ranges.{is_in};
+ghost use Rattle.language.specs.Language.{IsQuestion, IsCandidate, variable_count, range_of};
 
 use assign::Partial;
 use language::{Candidate, Language};
@@ -11,13 +12,23 @@ pub fn is_candidate(lang: &Language, c: Candidate) -> bool
     u32::from(c.scope) < lang.scopes() && c.rel < lang.relations_on(c.scope)
 }
 
+/// Whether a value is one of the variable's.
+pub fn is_within(lang: &Language, v: u8, value: u8) -> bool
+    requires { v < variable_count lang.now }
+    ensures is { result ≡ is_in (range_of lang.now v) value }
+    ensures fits { result ≡ true → value < lang.now.value_count }
+{
+    let (first, last) = lang.range(v);
+    first <= value && value <= last
+}
+
 /// The question that gives these values, as far as they go, to the variables of an order.
 pub fn assigned(lang: &Language, order: &[u8], values: &[u8]) -> Partial
     ensures { IsQuestion lang.now result }
 {
     let mut e = Partial::blank(lang.n());
     for at in 0..order.len().min(values.len()) {
-        if order[at] < lang.n() && values[at] < lang.d() {
+        if order[at] < lang.n() && is_within(lang, order[at], values[at]) {
             e.set(order[at], values[at]);
         }
     }
@@ -31,7 +42,7 @@ pub fn question(lang: &Language, asked: u128, values: u128) -> Partial
     let mut q = Partial::blank(lang.n());
     for v in 0..lang.n() {
         let value = ((values >> v) & 1) as u8;
-        if (asked >> v) & 1 == 1 && value < lang.d() {
+        if (asked >> v) & 1 == 1 && is_within(lang, v, value) {
             q.set(v, value);
         }
     }

@@ -194,7 +194,7 @@ impl Fold {
                 None => false,
             };
         }
-        (0..lists.variables).all(|v| lists.has_value(value_of(values, v)))
+        (0..lists.variables).all(|v| lists.has_value(v, value_of(values, v)))
             && self.accepts(lists, values)
             && self.violates_kept(lists, values)
     }

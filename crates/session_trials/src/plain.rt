@@ -26,6 +26,8 @@ pub(crate) struct Scope {
 pub(crate) struct Lists {
     pub(crate) variables: u8,
     pub(crate) values: u8,
+    /// Each variable's first and last value.
+    pub(crate) ranges: Vec<(u8, u8)>,
     pub(crate) scopes: Vec<Scope>,
 }
 
@@ -152,10 +154,16 @@ impl Scope {
 }
 
 impl Lists {
-    /// Whether there is a value, and the language has it.
-    pub(crate) fn has_value(&self, value: Option<u8>) -> bool {
+    /// The first and the last value of a variable.
+    pub(crate) fn range(&self, v: u8) -> (u8, u8) {
+        self.ranges.get(v as usize).copied().unwrap_or((0, 0))
+    }
+
+    /// Whether there is a value, and the variable has it.
+    pub(crate) fn has_value(&self, v: u8, value: Option<u8>) -> bool {
+        let (first, last) = self.range(v);
         match value {
-            Some(value) => value < self.values,
+            Some(value) => first <= value && value <= last,
             None => false,
         }
     }

@@ -1,7 +1,7 @@
 //! Random answers, given to a session and to the fold.
 
 use crate::fold::{Fold, State};
-use crate::plain::{Lists, MOST_VARIABLES, Values, value_of};
+use crate::plain::{Lists, Values, value_of};
 use crate::vocabularies::{language, lists_of};
 use assign::{Partial, Plan};
 use language::{Candidate, Language};
@@ -56,11 +56,17 @@ fn has_values(q: &Partial, variables: u8, values: &Values) -> bool {
     q.len() == variables && (0..128u8).all(|v| q.get(v) == value_of(values, v))
 }
 
+/// How many values a variable has.
+fn values_of(lists: &Lists, v: u8) -> u8 {
+    let (first, last) = lists.range(v);
+    last.saturating_sub(first).saturating_add(1)
+}
+
 /// How many complete assignments there are.
 fn examples(lists: &Lists) -> u8 {
     let mut count = 1u8;
-    for _ in 0..lists.variables {
-        count = count.saturating_mul(lists.values);
+    for v in 0..lists.variables {
+        count = count.saturating_mul(values_of(lists, v));
     }
     count
 }
@@ -69,11 +75,10 @@ fn examples(lists: &Lists) -> u8 {
 fn example(lists: &Lists, number: u8) -> Values {
     let mut values = [None; 5];
     let mut left = number;
-    for v in 0..MOST_VARIABLES {
-        if v < lists.variables as usize {
-            values[v] = Some(left % lists.values.max(1));
-        }
-        left /= lists.values.max(1);
+    for v in 0..lists.variables.min(5) {
+        let count = values_of(lists, v).max(1);
+        values[v as usize] = Some(lists.range(v).0.saturating_add(left % count));
+        left /= count;
     }
     values
 }
@@ -143,7 +148,8 @@ fn is_as_lawful(idle: &Idle, lists: &Lists, fold: &Fold, values: &Values) -> boo
     idle.is_lawful(&q) == fold.is_lawful(lists, values) && !idle.is_lawful(&longer)
 }
 
-/// Whether the same may be put, where nothing is open: whole examples, parts of them, and such with a value too great.
+/// Whether the same may be put, where nothing is open: whole examples, parts of them, and such with a value too great for its
+/// variable.
 fn has_same_lawful(idle: &Idle, lists: &Lists, fold: &Fold, random: &mut Numbers) -> bool {
     for turn in 0..TRIED {
         let whole = example(lists, random.byte_below(examples(lists)));
@@ -151,7 +157,7 @@ fn has_same_lawful(idle: &Idle, lists: &Lists, fold: &Fold, random: &mut Numbers
         let mut part = whole;
         part[at] = None;
         let mut odd = whole;
-        odd[at] = Some(lists.values);
+        odd[at] = Some(lists.range(turn % 2).1.saturating_add(1));
         let are_same = [whole, part, odd]
             .iter()
             .all(|values| is_as_lawful(idle, lists, fold, values));

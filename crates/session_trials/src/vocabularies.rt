@@ -1,11 +1,11 @@
 //! Random small languages, and what they hold as lists.
 
 ghost use Rattle.std.specs.Prelude.{◌<◌, length};
+ghost use Rattle.language.specs.Language.{relations_on};
 
 use crate::plain::{Lists, MOST_RELATIONS, Scope};
 use language::Language;
-use rel_table::Table;
-use samples::{Numbers, Relation, places};
+use samples::{Numbers, Relation, language_within, places, some_ranges};
 use std::alloc::Global;
 use std::test::Fail;
 
@@ -97,7 +97,7 @@ fn sets(alloc: Global, random: &mut Numbers, shape: &Shape) -> Result<Vec<u128>,
     Ok(sets)
 }
 
-/// A random language: two to five variables with one to three values, one to three relations of one to four places, and
+/// A random language: two to five variables with one to three values, or some of these alone, one to three relations of one to four places, and
 /// their intersections.
 pub(crate) fn language(alloc: Global, random: &mut Numbers) -> Result<Language, Fail> {
     let shape = random_shape(random);
@@ -108,14 +108,19 @@ pub(crate) fn language(alloc: Global, random: &mut Numbers) -> Result<Language, 
     } else {
         Some(sets.as_slice())
     };
-    Ok(samples::language(alloc, shape.variables, shape.values, &relations, scopes)?)
+    let (n, d) = (shape.variables, shape.values);
+    let ranges = some_ranges(alloc, random, n, d)?;
+    Ok(language_within(alloc, n, d, &ranges, &relations, scopes)?)
 }
 
-/// The truth of a relation at each tuple.
-fn truths(alloc: Global, table: &Table) -> Result<Vec<bool>, Fail> {
+/// The truth of relation r on a scope at each tuple.
+fn truths(alloc: Global, lang: &Language, s: u16, r: u8) -> Result<Vec<bool>, Fail>
+    requires scope { s < length lang.now.scopes }
+    requires relation { r < length (relations_on lang.now s) }
+{
     let mut truths = Vec::new(alloc);
-    for place in 0..table.size() {
-        truths.push(table.at(place))?;
+    for place in 0..lang.table_on(s, r).size() {
+        truths.push(lang.holds(s, r, place))?;
     }
     Ok(truths)
 }
@@ -126,7 +131,7 @@ fn relations_on(alloc: Global, lang: &Language, s: u16) -> Result<Vec<Vec<bool>>
 {
     let mut relations = Vec::new(alloc);
     for r in 0..lang.relations_on(s) {
-        relations.push(truths(alloc, lang.table_on(s, r))?)?;
+        relations.push(truths(alloc, lang, s, r)?)?;
     }
     if relations.len() > MOST_RELATIONS {
         return Err(Fail::from("too many relations"));
@@ -151,9 +156,14 @@ pub(crate) fn lists_of(alloc: Global, lang: &Language) -> Result<Lists, Fail> {
     for s in 0..lang.scopes() as u16 {
         scopes.push(scope(alloc, lang, s)?)?;
     }
+    let mut ranges = Vec::new(alloc);
+    for v in 0..lang.n() {
+        ranges.push(lang.range(v))?;
+    }
     Ok(Lists {
         variables: lang.n(),
         values: lang.d(),
+        ranges,
         scopes,
     })
 }

@@ -9,6 +9,10 @@ use std::process::Abort;
 pub(crate) const TWO: &str =
     r#"{"variables":["a","b"],"domain":[1,2],"relations":[{"name":"eq","arity":2,"formula":["=","$0","$1"]},{"name":"ne","arity":2,"formula":["!=","$0","$1"]}],"scopes":"all"}"#;
 
+/// The same where the first variable has the value 1 alone.
+pub(crate) const WITHIN: &str =
+    r#"{"variables":["a","b"],"domain":[1,2],"ranges":[["a",1,1]],"relations":[{"name":"eq","arity":2,"formula":["=","$0","$1"]},{"name":"ne","arity":2,"formula":["!=","$0","$1"]}],"scopes":"all"}"#;
+
 /// Three variables in a row.
 pub(crate) const THREE: &str =
     r#"{"variables":["a","b","c"],"domain":[1,2],"relations":[{"name":"eq","arity":2,"formula":["=","$0","$1"]},{"name":"ne","arity":2,"formula":["!=","$0","$1"]}],"scopes":[["a","b"],["b","c"]]}"#;

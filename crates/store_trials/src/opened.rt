@@ -1,6 +1,6 @@
 //! Files as they open: those whose answers have places, strays, vocabularies that are refused, and what is no journal.
 
-use crate::files::{THREE, TWO, Told, disk_with, file_of, raised_file_of, wide};
+use crate::files::{THREE, TWO, Told, WITHIN, disk_with, file_of, raised_file_of, wide};
 use crate::steps::{Stand, events_of, plan_of, stand_of};
 use answer_journal::JFault;
 use assign::Plan;
@@ -48,7 +48,7 @@ fn opens(rt: &impl Abort, alloc: Global, bytes: &[u8]) -> Result<Opened, Fail> {
 type Row = (u8, &'static str, &'static [Told<'static>], Opened);
 
 /// Answers that have places.
-static PLACES: [Row; 15] = [
+static PLACES: [Row; 16] = [
     (1, TWO, &[], Opened::Session(Plan::Scopes, 0, At::Idle)),
     (2, TWO, &[], Opened::Session(Plan::Quacq, 0, At::Idle)),
     (3, TWO, &[], Opened::Session(Plan::Multi, 0, At::Idle)),
@@ -87,6 +87,12 @@ static PLACES: [Row; 15] = [
         TWO,
         &[(&[(0, 0), (1, 0)], true), (&[(0, 0), (1, 1)], false)],
         Opened::Session(Plan::Scopes, 2, At::Idle),
+    ),
+    (
+        2,
+        WITHIN,
+        &[(&[(0, 0), (1, 1)], false), (&[(0, 0), (1, 0)], true)],
+        Opened::Session(Plan::Quacq, 2, At::Idle),
     ),
     // No to the whole, and yes to both scopes within it.
     (
@@ -151,9 +157,9 @@ static PLACES: [Row; 15] = [
 ];
 
 /// The first answer that has no place is named.
-static STRAYS: [Row; 20] = [
+static STRAYS: [Row; 21] = [
     // The first may not be put: a part of an example, another question than the first of a scope, a value or a variable that
-    // isn't in the vocabulary.
+    // isn't in the vocabulary, or a value that the variable doesn't have.
     (
         2,
         TWO,
@@ -182,6 +188,12 @@ static STRAYS: [Row; 20] = [
         2,
         TWO,
         &[(&[(0, 0), (1, 1), (127, 0)], true)],
+        Opened::Refused(SFault::Stray(1)),
+    ),
+    (
+        2,
+        WITHIN,
+        &[(&[(0, 1), (1, 0)], true)],
         Opened::Refused(SFault::Stray(1)),
     ),
     // The second may not be put: nothing is learned from it.

@@ -99,8 +99,9 @@ fn push_relation(text: &mut String, random: &mut Numbers, name: &str) -> Result<
     text.push_str("]}")
 }
 
-/// Two or three variables, two values, and two relations on all pairs or on some.
-fn vocabulary(alloc: Global, random: &mut Numbers) -> Result<String, AllocError> {
+/// Two or three variables, two values, of which the second variable may have one alone, and two relations on all pairs or on
+/// some.
+fn vocabulary(alloc: Global, random: &mut Numbers, has_range: bool) -> Result<String, AllocError> {
     let (variables, scopes) = match random.byte_below(4) {
         0 => (r#"["a","b"]"#, r#""all""#),
         1 => (r#"["a","b","c"]"#, r#"[["b","c"],["a","b"]]"#),
@@ -112,6 +113,9 @@ fn vocabulary(alloc: Global, random: &mut Numbers) -> Result<String, AllocError>
     push_relation(&mut text, random, "first")?;
     text.push(',')?;
     push_relation(&mut text, random, "second")?;
+    if has_range {
+        text.push_str("],\"ranges\":[[\"b\",2,2]")?;
+    }
     text.push_str("],\"scopes\":")?;
     text.push_str(scopes)?;
     text.push('}')?;
@@ -376,8 +380,9 @@ fn session(
     alloc: Global,
     plan: Plan,
     random: &mut Numbers,
+    has_range: bool,
 ) -> Result<Tally, Fail> {
-    let text = vocabulary(alloc, random)?;
+    let text = vocabulary(alloc, random, has_range)?;
     let lang = read_vocabulary(alloc, text.as_bytes())?;
     let user = User::new(alloc, random, &lang)?;
     let mut disk = disk_with(rt, alloc, &[])?;
@@ -392,7 +397,7 @@ fn answers_that_are_taken_back_leave_nothing(rt: HostRuntime) -> Result<(), Fail
     for number in 0..SESSIONS {
         let mut random = Numbers::new(number);
         let plan = plans[(number % 3) as usize];
-        let tally = session(&rt, rt.alloc(), plan, &mut random)?;
+        let tally = session(&rt, rt.alloc(), plan, &mut random, number % 4 == 0)?;
         sum = sum.plus(tally);
     }
     let Tally {

@@ -6,10 +6,10 @@ ghost use Rattle.language.specs.Inside.{given_by};
 ghost use Rattle.language.specs.Building.{IsOver};
 
 use acq_io::{MemSink, MemSource};
-use assign::Partial;
 use language::{Candidate, Frame, Language, RelPart, ScopePart};
 use network::read_network;
 use rel_table::Table;
+use samples::assigned;
 use std::alloc::{AllocError, Global};
 use std::test::Fail;
 use target_oracle::{LineTeacher, NetTeacher, Teacher, Told, generate};
@@ -65,12 +65,7 @@ fn is_turn<T: Teacher<MemSource, MemSink>>(
 ) -> Result<bool, Fail>
     requires { T.fits teacher.old lang.now }
 {
-    if lang.n() != 2 || lang.d() != 2 {
-        return Err(Fail::from("another language"));
-    }
-    let mut question = Partial::blank(2);
-    question.set(0, 0);
-    question.set(1, 0);
+    let question = assigned(lang, &[0, 1], &[0, 0]);
     let mut source = MemSource::new(input, vec![in alloc; fails.0]?);
     let mut sink = MemSink::new(alloc, vec![in alloc; fails.1]?);
     let told = teacher.told(alloc, &mut source, &mut sink, lang, k, &question);
