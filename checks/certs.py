@@ -3,11 +3,12 @@
 
 usage: checks/certs.py PROGRAM [SESSIONS]
 
-Each session draws a language, a plan and a target, as checks/owners.py does; the target answers (`play`). Where that converges,
-`certify` has to write the text that is built here from what `show` prints, byte for byte, and the checker here and `check` have
-to confirm it. Elsewhere, and in sessions that are cut off, `certify` has to refuse. Then each text is changed at random places,
-and checker and `check` have to say the same of it: the same line that offends, or the same flaw. Nothing here is the program's:
-the reader and the checker are written from docs/formats.md. The seed is the number of the session, so a failure comes again.
+Each session draws a language, some of its variables with a range of values, a plan and a target, as checks/owners.py does; the
+target answers (`play`). Where that converges, `certify` has to write the text that is built here from what `show` prints, byte
+for byte, and the checker here and `check` have to confirm it. Elsewhere, and in sessions that are cut off, `certify` has to
+refuse. Then each text is changed at random places, and checker and `check` have to say the same of it: the same line that
+offends, or the same flaw. Nothing here is the program's: the reader and the checker are written from docs/formats.md. The seed is
+the number of the session, so a failure comes again.
 """
 
 import json
@@ -95,15 +96,17 @@ def read(data, lang):
         word, pairs = reader.take(f"(yes|no)((?: {PLAIN}:{PLAIN})+)")
         shown = [tuple(int(number) for number in pair.split(":")) for pair in pairs.split()]
         variables = [v for v, _ in shown]
-        if variables != sorted(set(variables)) or variables[-1] >= len(lang.names) or any(i >= len(lang.values) for _, i in shown):
+        if variables != sorted(set(variables)) or variables[-1] >= len(lang.names):
+            raise reader.bad()
+        if any(i >= len(lang.values) or lang.values[i] not in lang.ranges[v] for v, i in shown):
             raise reader.bad()
         answers.append(({v: lang.values[i] for v, i in shown}, word == "yes"))
     network = []
     for _ in range(reader.number("network")):
         scope, relation = map(int, reader.take(f"{NUMBER} {NUMBER}"))
-        if scope >= len(lang.scopes) or relation >= len(lang.closed[len(lang.scopes[scope])]):
+        if scope >= len(lang.scopes) or relation >= len(lang.closed[lang.scopes[scope]]):
             raise reader.bad()
-        network.append((lang.scopes[scope], lang.closed[len(lang.scopes[scope])][relation]))
+        network.append((lang.scopes[scope], lang.closed[lang.scopes[scope]][relation]))
     listed = []
     for _ in range(reader.number("implied")):
         number, tokens = reader.take(f"{NUMBER}((?: (?:b|c|{PLAIN}))*)")
@@ -141,7 +144,7 @@ def refutes(lang, network, candidate, tokens):
         if token == "b":
             if len(values) == len(order):
                 return False
-            still += [[*values, value] for value in reversed(lang.values)]
+            still += [[*values, value] for value in reversed(lang.ranges[order[len(values)]])]
         elif token == "c":
             if not satisfies(candidate, shown):
                 return False
@@ -180,7 +183,7 @@ def flaw_of(lang, answers, network, listed):
 
 def name_of(lang, candidate):
     scope, table = candidate
-    names = [r for r, (arity, t) in lang.tables.items() if arity == len(scope) and table <= t]
+    names = [r for r, t in lang.on(scope).items() if table <= t]
     return " ".join(["&".join(names), *(lang.names[v] for v in scope)])
 
 
@@ -207,7 +210,7 @@ def tree(lang, network, candidate):
         tokens.append(str(item) if item is not None else "c" if satisfies(candidate, shown) else "b")
         if tokens[-1] == "b":
             assert len(values) < len(order), "what is listed isn't implied"
-            still += [[*values, value] for value in reversed(lang.values)]
+            still += [[*values, value] for value in reversed(lang.ranges[order[len(values)]])]
     return tokens
 
 
@@ -220,7 +223,7 @@ def written(lang, answers, network):
         pairs = " ".join(f"{v}:{lang.values.index(value)}" for v, value in sorted(shown.items()))
         lines.append(f"{'yes' if yes else 'no'} {pairs}")
     lines.append(f"network {len(network)}")
-    lines += [f"{lang.scopes.index(scope)} {lang.closed[len(scope)].index(table)}" for scope, table in network]
+    lines += [f"{lang.scopes.index(scope)} {lang.closed[scope].index(table)}" for scope, table in network]
     left = [(n, c) for n, c in enumerate(lang.candidates) if c[0] not in done and not struck(c)]
     lines.append(f"implied {len(left)}")
     lines += [" ".join([str(n), *tree(lang, network, c)]) for n, c in left]
@@ -299,7 +302,7 @@ def session(program, number):
     assert status == 0, f"new ends with status {status}"
     ending, asked = "suspended", 0
     if draw.random() < 0.9:
-        target = [(scope, table) for scope in lang.scopes for table in [draw.choice([None, *lang.closed[len(scope)]])] if table is not None]
+        target = [(scope, table) for scope in lang.scopes for table in [draw.choice([None, *lang.closed[scope]])] if table is not None]
         words = ["--budget", "2"] if draw.random() < 0.1 else []
         told, _ = program.run([journal, "play", *words], target_of(lang, target))
         last = [line for line in told.decode().splitlines() if not line.startswith("q")][0]

@@ -60,14 +60,26 @@ def draw_truth(draw, arity, depth):
     return [operator] + [draw_truth(draw, arity, depth - 1) for _ in range(parts)]
 
 
+def draw_range(draw, values):
+    """Some neighbouring values."""
+    first = draw.randrange(len(values))
+    return values[first : draw.randint(first, len(values) - 1) + 1]
+
+
 class Language:
-    """A vocabulary, with its relations as sets of tuples, and its candidates in order."""
+    """A vocabulary, with its relations as sets of tuples, and its candidates in order.
+
+    A relation on a scope is the set of its tuples within the ranges of the scope's variables: no other tuple is ever asked.
+    """
 
     def __init__(self, draw, most_variables=4, most_values=3):
         count = draw.randint(1, most_variables)
         least = draw.randint(-2, 1)
         self.values = list(range(least, least + draw.randint(1, most_values)))
         self.names = [f"v{i}" for i in range(count)]
+        self.ranges = [self.values] * count
+        if draw.random() < 0.5:
+            self.ranges = [draw_range(draw, self.values) if draw.random() < 0.6 else self.values for _ in self.names]
         self.tables = {}
         relations = []
         for i in range(draw.randint(1, 3)):
@@ -92,32 +104,45 @@ class Language:
                 if len(self.scopes) < 4 and not any(set(scope) <= set(s) or set(s) <= set(scope) for s in self.scopes):
                     self.scopes.append(scope)
             given = [[self.names[v] for v in scope] for scope in self.scopes]
-        self.text = json.dumps(
-            {"variables": self.names, "domain": [self.values[0], self.values[-1]], "relations": relations, "scopes": given}
-        )
-        self.closed = {arity: self.closing(arity) for arity in arities}
-        self.candidates = [(scope, table) for scope in self.scopes for table in self.closed[len(scope)]]
-        self.wholes = list(itertools.product(self.values, repeat=count))
+        whole = {"variables": self.names, "domain": [self.values[0], self.values[-1]], "relations": relations, "scopes": given}
+        narrow = [[name, own[0], own[-1]] for name, own in zip(self.names, self.ranges) if own != self.values]
+        if narrow:
+            # an entry for a variable with all values says nothing, and their order is free
+            more = [[name, own[0], own[-1]] for name, own in zip(self.names, self.ranges) if own == self.values and draw.random() < 0.2]
+            whole["ranges"] = draw.sample(narrow + more, len(narrow) + len(more))
+        self.text = json.dumps(whole)
+        self.closed = {scope: self.closing(scope) for scope in self.scopes}
+        self.candidates = [(scope, table) for scope in self.scopes for table in self.closed[scope]]
+        self.wholes = list(itertools.product(*self.ranges))
 
-    def closing(self, arity):
-        """All intersections of the relations, a relation that contains another one first."""
-        tables = [table for a, table in self.tables.values() if a == arity]
+    def tuples(self, scope):
+        """Those within the ranges of a scope's variables."""
+        return list(itertools.product(*(self.ranges[v] for v in scope)))
+
+    def on(self, scope):
+        """The relations on a scope, by name."""
+        within = frozenset(self.tuples(scope))
+        return {name: table & within for name, (arity, table) in self.tables.items() if arity == len(scope)}
+
+    def closing(self, scope):
+        """All intersections of the relations on a scope, a relation that contains another one first."""
+        tables = list(self.on(scope).values())
         found = {
             frozenset.intersection(*some)
             for size in range(1, len(tables) + 1)
             for some in itertools.combinations(tables, size)
         }
-        tuples = list(itertools.product(self.values, repeat=arity))
+        tuples = self.tuples(scope)
         return sorted(found, key=lambda table: [t in table for t in tuples], reverse=True)
 
     def networks(self):
         """All networks: one candidate or none on each scope."""
-        choices = [[None, *((scope, table) for table in self.closed[len(scope)])] for scope in self.scopes]
+        choices = [[None, *((scope, table) for table in self.closed[scope])] for scope in self.scopes]
         for network in itertools.product(*choices):
             yield [candidate for candidate in network if candidate]
 
     def network_count(self):
-        return math.prod(len(self.closed[len(scope)]) + 1 for scope in self.scopes)
+        return math.prod(len(self.closed[scope]) + 1 for scope in self.scopes)
 
     def solutions(self, network):
         return [whole for whole in self.wholes if accepts(network, dict(enumerate(whole)))]
@@ -125,9 +150,10 @@ class Language:
     def candidate_of(self, text):
         """The candidate of this text. Its name lists all relations that contain it."""
         name, *variables = text.split(" ")
-        table = frozenset.intersection(*(self.tables[one][1] for one in name.split("&")))
         scope = tuple(self.names.index(v) for v in variables)
-        full = "&".join(r for r, (a, t) in self.tables.items() if a == len(scope) and table <= t)
+        given = self.on(scope)
+        table = frozenset.intersection(*(given[one] for one in name.split("&")))
+        full = "&".join(r for r, t in given.items() if table <= t)
         assert name == full, f"{name} for {full}"
         return scope, table
 
@@ -155,6 +181,7 @@ def play(program, lang, words, owner):
                 last.append(line.rstrip("\n"))
                 continue
             shown = {lang.names.index(name): int(value) for name, value in (part.split("=") for part in parts)}
+            assert all(value in lang.ranges[v] for v, value in shown.items()), f"{line} isn't within the ranges"
             answers.append((shown, owner(shown)))
             run.stdin.write("yes\n" if answers[-1][1] else "no\n")
             run.stdin.flush()

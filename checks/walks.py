@@ -11,7 +11,6 @@ recursions over the answers. The program's questions, its ending and its network
 the session, so a failure comes again.
 """
 
-import itertools
 import random
 import sys
 
@@ -36,7 +35,8 @@ def solution(lang, network, candidate):
             return None
         if len(shown) == len(order):
             return shown
-        longer = (below({**shown, order[len(shown)]: value}) for value in lang.values)
+        v = order[len(shown)]
+        longer = (below({**shown, v: value}) for value in lang.ranges[v])
         return next((found for found in longer if found), None)
 
     return below({})
@@ -125,7 +125,7 @@ class Learning:
     def by_scopes(self):
         """Tells apart what is possible on each scope, and a relation of all tuples, which isn't learned."""
         for scope in self.lang.scopes:
-            whole = frozenset(itertools.product(self.lang.values, repeat=len(scope)))
+            whole = frozenset(self.lang.tuples(scope))
             table = yield from self.told_apart(scope, [*(table for s, table in self.possible() if s == scope), whole])
             if table != whole:
                 self.network.append((scope, table))
@@ -149,7 +149,7 @@ def session(program, number):
     lang = Language(draw, 6, 4)
     while len(lang.candidates) < FEWEST_CANDIDATES:
         lang = Language(draw, 6, 4)
-    drawn = [(scope, draw.choice([None, *lang.closed[len(scope)]])) for scope in lang.scopes]
+    drawn = [(scope, draw.choice([None, *lang.closed[scope]])) for scope in lang.scopes]
     target = [candidate for candidate in drawn if candidate[1] is not None]
     owner = (lambda shown: accepts(target, shown)) if draw.random() < 0.7 else (lambda shown: draw.random() < 0.5)
     plan = draw.choice(["quacq", "multi", "scopes"])
