@@ -181,7 +181,6 @@ def play(program, lang, words, owner):
                 last.append(line.rstrip("\n"))
                 continue
             shown = {lang.names.index(name): int(value) for name, value in (part.split("=") for part in parts)}
-            assert all(value in lang.ranges[v] for v, value in shown.items()), f"{line} isn't within the ranges"
             answers.append((shown, owner(shown)))
             run.stdin.write("yes\n" if answers[-1][1] else "no\n")
             run.stdin.flush()
@@ -193,6 +192,7 @@ def check(lang, plan, answers, last, status):
     """What the ending says is so."""
     ending, count = last[0].split(" ")
     assert int(count) == len(answers), "the count isn't that of the answers"
+    assert all(value in lang.ranges[v] for shown, _ in answers for v, value in shown.items()), "a question leaves the ranges"
     assert status == {"converged": 0, "collapsed": 4, "undecided": 5}[ending], f"status {status}"
     agreeing = [m for m in lang.networks() if all(accepts(m, shown) == yes for shown, yes in answers)]
     if ending == "collapsed":
