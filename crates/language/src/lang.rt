@@ -1,5 +1,6 @@
 ghost use Rattle.std.specs.Prelude.{◌≡◌, ◌<◌, ◌≤◌, ◌+◌, ◌^◌, ◌==◌, ℕ, IsTrue, length, slice_index_or, [], IfSome, IfOk, string_bytes, false};
 ghost use Rattle.std.specs.Int.{bit_at};
+ghost use Rattle.assign.specs.Sets.{is_same, least_of};
 ghost use Rattle.language.specs.Texts.{question_text, candidate_text};
 ghost use Rattle.language.specs.Ranges.{are_in, widened, AgreeWithin};
 ghost use Rattle.rel_table.specs.Relation.{tuple_at};
@@ -107,14 +108,28 @@ impl Language {
         set_of(self.scopes[s as usize].as_slice())
     }
 
+    /// Whether a scope has exactly these variables, where this is the least one. Most scopes begin with another one.
+    fn has_variables(&self, s: ScopeId, w: VarSet, least: Option<u8>) -> bool
+        requires scope { s < length self.now.scopes }
+        requires least { least ≡ least_of w }
+        ensures { result ≡ is_same w (scope_at self.now s) }
+    {
+        let first = self.scope(s)[0];
+        match least {
+            Some(v) if v == first => w == self.scope_set(s),
+            _ => false,
+        }
+    }
+
     /// The scope that has exactly these variables, if there is one.
     pub fn scope_of(&self, w: VarSet) -> Option<ScopeId>
         ensures is { result ≡ scope_number self.now w }
         ensures known { IfSome result (λ s. s < length self.now.scopes) }
         ensures scope { IfSome result (λ s. scope_at self.now s ≡ w) }
     {
+        let least = w.least();
         for s in 0..self.scopes.len() as ScopeId {
-            if w == self.scope_set(s) {
+            if self.has_variables(s, w, least) {
                 return Some(s);
             }
         }

@@ -1,6 +1,6 @@
 ghost use Rattle.std.specs.Prelude.{◌≡◌, ◌<◌, ◌≤◌, ◌^◌, ℕ, ◌++◌, ◌∷◌, ◌&&◌, ◌==◌, pos, negsuc, ◌≤ℤ◌, List, [], length, map, All, OnOk, IfOk, string_bytes, if◌then◌else◌, slice_index_or};
 ghost use Rattle.std.specs.List.{flat_map};
-ghost use Rattle.std.specs.Fmt.{decimal};
+ghost use Rattle.std.specs.Fmt.{decimal, signed_decimal};
 ghost use Rattle.language.specs.Inside.{given_by};
 ghost use Rattle.rel_table.specs.Relation.{Relation};
 ghost use Rattle.language.specs.Ranges.{widened};
@@ -14,6 +14,16 @@ use assign::Partial;
 use rel_table::Table;
 use std::alloc::{AllocError, Global};
 
+/// Adds a number. Most have one digit, and are spared the general way, which takes much longer.
+fn add_number(text: &mut String, number: i64) -> Result<(), AllocError>
+    ensures { OnOk result (string_bytes text.new ≡ string_bytes text.old ++ signed_decimal number) }
+{
+    match u8::try_from(number) {
+        Ok(digit) if digit < 10 => text.push(char::from(b'0' + digit)),
+        _ => write!(text, "{number}"),
+    }
+}
+
 /// Adds a space, the name, `=` and the shown value, where the variable has a value.
 fn add_value(
     text: &mut String,
@@ -25,13 +35,13 @@ fn add_value(
     requires high { least_value ≤ℤ pos 1000000 }
     ensures { OnOk result (string_bytes text.new ≡ string_bytes text.old ++ value_text least_value name.now value) }
 {
-    match value {
-        None => Ok(()),
-        Some(value) => {
-            let shown = least_value + i64::from(value);
-            write!(text, " {name}={shown}")
-        }
-    }
+    let Some(value) = value else {
+        return Ok(());
+    };
+    text.push(' ')?;
+    text.push_str(name)?;
+    text.push('=')?;
+    add_number(text, least_value + i64::from(value))
 }
 
 /// `q1 a=1 b=2`
