@@ -71,9 +71,10 @@ mask_all l s place r mask end few is =
 none_accepts : (relations : List Relation) (place r : ℕ) → length relations ≤ r → get_or (get_or relations r []) place false ≡ false
 none_accepts relations place r past = ap (λ t. get_or t place false) (get_or-eq_default relations [] {n = r} past)
 
-pub accepting_bit : (l : Language) (s place mask r : ℕ) → r < 64 → ones_of mask ≡ accepting_on l s place → is_one mask r ≡ get_or (get_or (relations_on l s) r []) place false
-accepting_bit l s place mask r low is =
-    sym (has-ones_of mask r low) ∙ ap (λ xs. has xs r) is ∙ has-filter (λ k. get_or (get_or (relations_on l s) k []) place false) (numbers (length (relations_on l s))) r
+-- a relation is among those that accept
+pub has_accepting : (l : Language) (s place mask r : ℕ) → ones_of mask ≡ accepting_on l s place → has (ones_of mask) r ≡ get_or (get_or (relations_on l s) r []) place false
+has_accepting l s place mask r is =
+    ap (λ xs. has xs r) is ∙ has-filter (λ k. get_or (get_or (relations_on l s) k []) place false) (numbers (length (relations_on l s))) r
     ∙ go (cases_lt r (length (relations_on l s)))
   where
     go : (r < length (relations_on l s)) ⊎ (length (relations_on l s) ≤ r) →
@@ -81,6 +82,9 @@ accepting_bit l s place mask r low is =
     go (inl below) = ap (λ b. b && get_or (get_or (relations_on l s) r []) place false) (any_number (λ x. x == r) (length (relations_on l s)) r below (eq-eqb r r refl))
     go (inr past) = ap (λ b. has (numbers (length (relations_on l s))) r && b) (none_accepts (relations_on l s) place r past)
         ∙ and_false (has (numbers (length (relations_on l s))) r) ∙ sym (none_accepts (relations_on l s) place r past)
+
+pub accepting_bit : (l : Language) (s place mask r : ℕ) → r < 64 → ones_of mask ≡ accepting_on l s place → is_one mask r ≡ get_or (get_or (relations_on l s) r []) place false
+accepting_bit l s place mask r low is = sym (has-ones_of mask r low) ∙ has_accepting l s place mask r is
 
 -- the same of every number, where there are few relations
 pub any_accepting_bit : (l : Language) (s place mask r : ℕ) → mask < 2 ^ 64 → length (relations_on l s) ≤ 64 → ones_of mask ≡ accepting_on l s place → is_one mask r ≡ get_or (get_or (relations_on l s) r []) place false
@@ -97,3 +101,13 @@ without_accepting l s q place relations mask small at is =
     ones_of-passing (bit_and relations (bit_not w64 mask)) relations (λ r. not (get_or (get_or (relations_on l s) r []) place false))
     (λ r low. is_one-and_not relations mask r small low ∙ ap (λ b. is_one relations r && not b) (accepting_bit l s place mask r low is))
     ∙ (λ i. filter (λ r. sym (covered l s q place r at) i) (ones_of relations))
+
+-- one mask without another
+pub ones_without : (mask other : ℕ) → other < 2 ^ 64 → ones_of (bit_and mask (bit_not w64 other)) ≡ filter (λ r. not (has (ones_of other) r)) (ones_of mask)
+ones_without mask other small =
+    ones_of-passing (bit_and mask (bit_not w64 other)) mask (λ r. not (has (ones_of other) r)) (λ r low. is_one-and_not mask other r small low ∙ ap (λ b. is_one mask r && not b) (sym (has-ones_of other r low)))
+
+-- without those that accept its tuple, a question violates those that are left
+pub without_those : (l : Language) (s : ℕ) (q : Assignment) (place relations mask : ℕ) → Some place ≡ place_on l s q → ones_of mask ≡ accepting_on l s place →
+    filter (λ r. not (has (ones_of mask) r)) (ones_of relations) ≡ filter (λ r. violates l (candidate_at s r) q) (ones_of relations)
+without_those l s q place relations mask at is = λ i. filter (λ r. (ap not (has_accepting l s place mask r is) ∙ sym (covered l s q place r at)) i) (ones_of relations)

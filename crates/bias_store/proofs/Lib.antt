@@ -9,3 +9,7 @@ pub mod Tabled
 pub mod Runs
 pub mod Rows
 pub mod Placed
+pub mod InRow
+pub mod Showing
+pub mod Violating
+pub mod Striking

@@ -1,8 +1,8 @@
 -- Runs of scopes with the same first variable, and scopes that a question leaves open.
-use Rattle.std.proofs.Common.{◌≡◌, ℕ, ◌+◌, ◌-◌, ◌<◌, ◌≤◌, Bool, false, ◌&&◌, ◌||◌, not, List, [], ◌∷◌, length, get_or, Option, None, refl, sym, ◌∙◌, ap, subst, arith, inl, inr, ◌⊎◌, get_or-set_same, get_or-set_other}
+use Rattle.std.proofs.Common.{◌≡◌, ℕ, ◌+◌, ◌-◌, ◌<◌, ◌≤◌, Bool, false, ◌&&◌, ◌||◌, not, List, [], ◌∷◌, length, get_or, None, refl, sym, ◌∙◌, ap, subst, arith, inl, inr, ◌⊎◌, get_or-set_same, get_or-set_other}
 use Rattle.std.specs.Prelude.{slice_set, replicate, is_some}
 use Rattle.std.specs.List.{list_any}
-use Rattle.std.proofs.lemmas.Bool.{cases_eq, cases_lt, false_from_ne_true}
+use Rattle.std.proofs.lemmas.Bool.{cases_eq, false_from_ne_true}
 use Rattle.std.proofs.lemmas.List.{length-set, length-replicate, get_or-replicate}
 use Rattle.assign.specs.Assignment.{Assignment, value_of, covers, tuple_on}
 use Rattle.rel_table.specs.Relation.{holds}
@@ -103,13 +103,3 @@ module _ (l : Language) (next : List ℕ) (n back s i x : ℕ) (is : AreRunsFrom
   step_on j end read same = subst (AreRunsFrom l (slice_set next i x)) (let e : s ≡ n - (back + 1) = omega arith in e)
       (subst (λ (k : ℕ). AreRunsFrom l (slice_set next k x) s) (sym at)
       (runs_on l next s x later (omega arith) (let long = later.long in read_at next (s + 1) j x (omega arith) end read) same))
-
--- ---- one step over a run
-
-pub step_over : (l : Language) (q : Assignment) (next : List ℕ) (s at to : ℕ) (o : Option ℕ) → IsLanguage l → AreRunsFrom l next 0 → at < length l.scopes → to ≡ get_or next at 0 → o ≡ value_of q (get_or (scope_at l at) 0 0) → o ≡ None →
-    ((k : ℕ) → s ≤ k → k < at → covers q (scope_at l k) ≡ false) → (k : ℕ) → s ≤ k → k < to → covers q (scope_at l k) ≡ false
-step_over l q next s at to o lawful runs here is value off passed k from until = go (cases_lt k at)
-  where
-    go : (k < at) ⊎ (at ≤ k) → covers q (scope_at l k) ≡ false
-    go (inl before) = passed k from before
-    go (inr behind) = run_open l q next at k lawful runs here (sym value ∙ off) behind (omega arith)

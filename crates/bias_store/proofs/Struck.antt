@@ -100,7 +100,7 @@ struck_all fails old now s before count is end = filter_of_masks (λ c. not (fai
 
 -- ---- whether one fails
 
-fails_of_filter : (p : ℕ → Bool) (xs : List ℕ) → filter p xs ≡ [] → list_any p xs ≡ false
+pub fails_of_filter : (p : ℕ → Bool) (xs : List ℕ) → filter p xs ≡ [] → list_any p xs ≡ false
 fails_of_filter p [] none = refl
 fails_of_filter p (x ∷ xs) none = go (p x) refl none (fails_of_filter p xs)
   where
@@ -119,24 +119,22 @@ all_stay : (p : ℕ → Bool) (xs : List ℕ) → list_any p xs ≡ false → fi
 all_stay p [] none = refl
 all_stay p (x ∷ xs) none = let parts = or_parts (p x) (list_any p xs) none in rw parts.0 (ap (λ ys. x ∷ ys) (all_stay p xs parts.1))
 
--- one scope more is struck, where none fails there
-pub struck_none : (fails : Candidate → Bool) (old now : List ℕ) (s before count relations failing : ℕ) → IsStruck fails old now s before count → relations ≡ slice_index_or now s 0 →
-    ones_of failing ≡ filter (λ r. fails (candidate_at s r)) (ones_of relations) → failing ≡ 0 → IsStruck fails old now (s + 1) before count
-struck_none fails old now s before count relations failing is here fail none = record {
+-- scopes on which none of the candidates that are left fails are passed over
+pub struck_pass : (fails : Candidate → Bool) (old now : List ℕ) (s t before count : ℕ) → IsStruck fails old now s before count → ((k : ℕ) → s ≤ k → k < t → filter (λ r. fails (candidate_at k r)) (ones_of (slice_index_or now k 0)) ≡ []) →
+    s ≤ t → IsStruck fails old now t before count
+struck_pass fails old now s t before count is none ahead = record {
   long = is.long;
   counted = is.counted;
   fewer = is.fewer;
-  struck = λ k below. go k below (cases_eq k s);
+  struck = λ k low. go k low (cases_lt k s);
   rest = λ k past. is.rest k (omega arith);
 }
   where
-    stay : ones_of relations ≡ filter (λ r. not (fails (candidate_at s r))) (ones_of relations)
-    stay = sym (all_stay (λ r. fails (candidate_at s r)) (ones_of relations) (none_fails (λ r. fails (candidate_at s r)) relations failing fail none))
-
-    go : (k : ℕ) → k < s + 1 → (k ≡ s) ⊎ (k ≡ s → ⊥) → ones_of (slice_index_or now k 0) ≡ filter (λ r. not (fails (candidate_at k r))) (ones_of (slice_index_or old k 0))
-    go k below (inl same) = subst (λ (t : ℕ). ones_of (slice_index_or now t 0) ≡ filter (λ r. not (fails (candidate_at t r))) (ones_of (slice_index_or old t 0))) (sym same)
-        (ap ones_of (sym here) ∙ stay ∙ ap (λ m. filter (λ r. not (fails (candidate_at s r))) (ones_of m)) (here ∙ is.rest s (omega arith)))
-    go k below (inr other) = is.struck k (omega arith)
+    go : (k : ℕ) → k < t → (k < s) ⊎ (s ≤ k) → ones_of (slice_index_or now k 0) ≡ filter (λ r. not (fails (candidate_at k r))) (ones_of (slice_index_or old k 0))
+    go k low (inl before) = is.struck k before
+    go k low (inr from) =
+        sym (all_stay (λ r. fails (candidate_at k r)) (ones_of (slice_index_or now k 0)) (fails_of_filter (λ r. fails (candidate_at k r)) (ones_of (slice_index_or now k 0)) (none k from low)))
+        ∙ ap (λ m. filter (λ r. not (fails (candidate_at k r))) (ones_of m)) (is.rest k from)
 
 pub one_fails : (fails : ℕ → Bool) (relations failing : ℕ) → failing < 2 ^ 64 → ones_of failing ≡ filter fails (ones_of relations) → (failing ≡ 0 → ⊥) → list_any fails (ones_of relations) ≡ true
 one_fails fails relations failing small is some =

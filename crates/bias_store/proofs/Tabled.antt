@@ -103,7 +103,7 @@ begun_new l lawful begins masks wider s low whole is table = record {
         (λ some. table_wider l t (get_or begins (length (scope_at l t)) 0) masks wider (let long = table.long in omega arith) table.same (is.tables t there other some))
 
 -- all scopes have theirs, or none
-pub tabled_all : (l : Language) (first masks next rows : List ℕ) (s : ℕ) → IsLanguage l → AreTabled l first masks s → s ≡ length l.scopes → AreRunsFrom l next 0 → AreRowsFrom l rows 0 →
+pub tabled_all : (l : Language) (first masks next rows : List ℕ) (s : ℕ) → IsLanguage l → AreTabled l first masks s → s ≡ length l.scopes → AreRunsFrom l next 0 → AreRowsFrom l first rows 0 →
     IsAcceptingOf l (record { first = first; masks = masks; next = next; rows = rows })
 tabled_all l first masks next rows s lawful is end runs in_rows = record {
   scopes = is.long ∙ end;

@@ -40,15 +40,17 @@ first_of l s = slice_index_or (scope_at l s) 0 0
 abbrev pub second_of : Language → ℕ → ℕ
 second_of l s = slice_index_or (scope_at l s) 1 0
 
--- from scope s to an end each scope has two variables: the same first one, and second ones that follow one another
-abbrev pub IsRow : Language → ℕ → ℕ → ℕ → ℕ → Type 0
-IsRow l first second s end = (j : ℕ) → s + j < end → scope_at l (s + j) ≡ first ∷ (second + j) ∷ []
+-- from a scope to an end the scopes have two variables and one table: the same first variable, and second ones that follow one another
+pub record IsRow (l : Language) (tables : List ℕ) (s end : ℕ) : Type 0 where
+  pub pairs : (j : ℕ) → s + j < end → scope_at l (s + j) ≡ first_of l s ∷ (second_of l s + j) ∷ []
+  pub alike : (j : ℕ) → s + j < end → slice_index_or tables (s + j) 0 ≡ slice_index_or tables s 0
+  pub some : s < end → slice_index_or tables s 0 ≢ NO_TABLE
 
 -- for each scope from low on where a row ends that begins there, if there is one
-pub record AreRowsFrom (l : Language) (rows : List ℕ) (low : ℕ) : Type 0 where
+pub record AreRowsFrom (l : Language) (tables rows : List ℕ) (low : ℕ) : Type 0 where
   pub long : length rows ≡ length l.scopes
   pub within : (s : ℕ) → low ≤ s → s < length l.scopes → slice_index_or rows s 0 ≤ length l.scopes
-  pub row : (s : ℕ) → low ≤ s → s < length l.scopes → IsRow l (first_of l s) (second_of l s) s (slice_index_or rows s 0)
+  pub row : (s : ℕ) → low ≤ s → s < length l.scopes → IsRow l tables s (slice_index_or rows s 0)
 
 -- the scope's table begins here: for each place the relations that accept the tuple there
 pub record IsTableOf (l : Language) (s : ℕ) (masks : List ℕ) (begin : ℕ) : Type 0 where
@@ -61,7 +63,7 @@ pub record IsAcceptingOf (l : Language) (a : Accepting) : Type 0 where
   pub few : (s : ℕ) → s < length l.scopes → length (relations_on l s) ≤ 64
   pub tables : (s : ℕ) → s < length l.scopes → slice_index_or a.first s 0 ≢ NO_TABLE → IsTableOf l s a.masks (slice_index_or a.first s 0)
   pub runs : AreRunsFrom l a.next 0
-  pub rows : AreRowsFrom l a.rows 0
+  pub rows : AreRowsFrom l a.first a.rows 0
 
 -- the masks of the first places of a scope's table, behind other ones
 pub record IsTabled (l : Language) (s : ℕ) (before masks : List ℕ) (place : ℕ) : Type 0 where

@@ -1,17 +1,15 @@
 //! The kept candidates.
 
-ghost use Rattle.std.specs.Prelude.{◌≡◌, ◌+◌, ◌<◌, ◌↔◌, ◌==◌, IsTrue, IfSome, IfOk, Contains, All, length, filter, not};
+ghost use Rattle.std.specs.Prelude.{◌≡◌, ◌+◌, ◌<◌, ◌↔◌, ◌==◌, IsTrue, IfOk, Contains, length, filter, not};
 ghost use Rattle.std.specs.List.{list_any};
-ghost use Rattle.std.specs.Option.{ForSome};
-ghost use Rattle.assign.specs.Assignment.{Assignment};
-ghost use Rattle.language.specs.Language.{Language, candidates, relations_on, place_on, violates, IsQuestion};
+ghost use Rattle.language.specs.Language.{Language, candidates, violates, IsQuestion};
 ghost use Rattle.bias_store.specs.Masks.{ones_of};
-ghost use Rattle.bias_store.specs.Accepting.{accepting_on, places_on, IsAcceptingOf};
-ghost use Rattle.bias_store.specs.Asked.{IsAsked};
+ghost use Rattle.bias_store.specs.Accepting.{accepting_on, places_on};
 ghost use Rattle.bias_store.specs.KeptSet.{kept_relations, CoversOnly, IsMadeFor};
 
 use crate::masks::{first_relations, has_relation, relation_count};
-use crate::tables::{Asked, Tables, leaps_of};
+use crate::shown::Shown;
+use crate::tables::{Tables, violated_on};
 use assign::Partial;
 use language::{Candidate, Language, Memory, ScopeId};
 use std::alloc::Global;
@@ -38,84 +36,6 @@ impl Model for Kept {
     ghost view = { seen };
 
     ghost invariant = { IsCounted };
-}
-
-/// The place of the question's tuple on a scope of any length. A call of its own, so that the loops over scopes stay small.
-#[inline(never)]
-fn place_on_any(lang: &Language, s: ScopeId, q: &Partial) -> Option<u32>
-    requires scope { s < length lang.now.scopes }
-    requires question { IsQuestion lang.now q.now }
-    ensures is { result ≡ place_on lang.now s q.now }
-    ensures below { IfSome result (λ place. place < places_on lang.now s) }
-{
-    lang.place_on(s, q)
-}
-
-/// The place of the question's tuple on a scope, where it gives each variable there a value.
-#[inline]
-fn place_at(lang: &Language, at: Asked, q: &Partial) -> Option<u32>
-    requires asked { IsAsked lang.now q.now at }
-    requires scope { at.scope < length lang.now.scopes }
-    requires question { IsQuestion lang.now q.now }
-    ensures is { result ≡ place_on lang.now at.scope q.now }
-    ensures below { IfSome result (λ place. place < places_on lang.now at.scope) }
-{
-    if at.scope < at.end {
-        let second = q.get(at.second)?;
-        Some(u32::from(at.value) * u32::from(lang.d()) + u32::from(second))
-    } else {
-        place_on_any(lang, at.scope, q)
-    }
-}
-
-/// Of these relations on a scope, those that a question violates whose tuple there has this place: none where it has none, since
-/// it leaves a variable open.
-#[inline]
-fn violated_at(
-    tables: &Tables,
-    lang: &Language,
-    s: ScopeId,
-    place: Option<u32>,
-    relations: u64,
-) -> u64
-    requires tables { IsAcceptingOf lang.now tables.now }
-    requires scope { s < length lang.now.scopes }
-    requires place { ForSome place (λ at. at < places_on lang.now s) }
-    ensures { (q : Assignment) → place ≡ place_on lang.now s q → ones_of result ≡ filter (λ r. violates lang.now (record { scope = s; rel = r }) q) (ones_of relations) }
-{
-    match place {
-        None => 0,
-        Some(place) => relations & !tables.accepting(lang, s, place),
-    }
-}
-
-/// Of these relations on a scope, those that the question violates: none where it leaves a variable there open.
-fn violated_on(tables: &Tables, lang: &Language, s: ScopeId, q: &Partial, relations: u64) -> u64
-    requires tables { IsAcceptingOf lang.now tables.now }
-    requires scope { s < length lang.now.scopes }
-    requires known { All (λ r. r < length (relations_on lang.now s)) (ones_of relations) }
-    requires question { IsQuestion lang.now q.now }
-    ensures { ones_of result ≡ filter (λ r. violates lang.now (record { scope = s; rel = r }) q.now) (ones_of relations) }
-{
-    if relations == 0 {
-        return 0;
-    }
-    violated_at(tables, lang, s, lang.place_on(s, q), relations)
-}
-
-/// The same for a scope that is gone over.
-#[inline]
-fn violated_there(tables: &Tables, lang: &Language, at: Asked, q: &Partial, relations: u64) -> u64
-    requires tables { IsAcceptingOf lang.now tables.now }
-    requires asked { IsAsked lang.now q.now at }
-    requires scope { at.scope < length lang.now.scopes }
-    requires question { IsQuestion lang.now q.now }
-    ensures { ones_of result ≡ filter (λ r. violates lang.now (record { scope = at.scope; rel = r }) q.now) (ones_of relations) }
-{
-    if relations == 0 {
-        return 0;
-    }
-    violated_at(tables, lang, at.scope, place_at(lang, at, q), relations)
 }
 
 impl Kept {
@@ -177,24 +97,14 @@ impl Kept {
         requires question { IsQuestion lang.now q.now }
         ensures { result ≡ list_any (λ c. violates lang.now c q.now) self.now.members }
     {
-        let scopes = lang.scopes() as ScopeId;
-        let leaps = leaps_of(q);
-        let mut at = self.tables.first_asked(lang, q, &leaps);
-        while at.scope < scopes {
-            let relations = self.relations[usize::from(at.scope)];
-            if violated_there(&self.tables, lang, at, q, relations) != 0 {
-                return true;
-            }
-            at = self.tables.next_asked(lang, at, q, &leaps);
-        }
-        false
+        let shown = Shown::of(q);
+        let found = self
+            .tables
+            .next_violated(lang, q, &shown, &self.relations, 0);
+        found.is_some()
     }
 
     /// Takes out the candidates that the question violates, and answers how many they were.
-    ///
-    /// Scopes whose first variable the question leaves open are passed over in runs, and in a row of scopes those whose second
-    /// one it leaves open. Each other one costs the reading of its values, and where they are all there, one AND; or one look at
-    /// each relation, where a variable there hasn't all values.
     pub fn strike(&mut self, lang: &Language, q: &Partial) -> u32
         requires made { IsMadeFor lang.now self.old }
         requires question { IsQuestion lang.now q.now }
@@ -203,18 +113,15 @@ impl Kept {
         ensures made { IsMadeFor lang.now self.new }
     {
         let count_before = self.count;
-        let scopes = lang.scopes() as ScopeId;
-        let leaps = leaps_of(q);
-        let mut at = self.tables.first_asked(lang, q, &leaps);
-        while at.scope < scopes {
-            let relations = self.relations[usize::from(at.scope)];
-            let violated = violated_there(&self.tables, lang, at, q, relations);
-            // Most scopes lose nothing.
-            if violated != 0 {
-                self.relations[usize::from(at.scope)] = relations & !violated;
-                self.count -= relation_count(violated);
-            }
-            at = self.tables.next_asked(lang, at, q, &leaps);
+        let shown = Shown::of(q);
+        let mut from = 0;
+        while let Some(found) = self
+            .tables
+            .next_violated(lang, q, &shown, &self.relations, from)
+        {
+            self.relations[usize::from(found.scope)] &= !found.relations;
+            self.count -= relation_count(found.relations);
+            from = found.scope + 1;
         }
         count_before - self.count
     }

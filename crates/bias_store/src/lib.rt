@@ -7,6 +7,7 @@
 
 mod kept;
 mod masks;
+mod shown;
 mod tables;
 
 pub use kept::Kept;

@@ -1,28 +1,27 @@
 //! Which relations on a scope accept which tuples.
 
-ghost use Rattle.std.specs.Prelude.{ℕ, ◌≡◌, ◌+◌, ◌<◌, ◌≤◌, false, length, slice_index_or, IfOk};
-ghost use Rattle.assign.specs.Assignment.{Assignment, covers};
-ghost use Rattle.language.specs.Language.{Language, scope_at};
+ghost use Rattle.std.specs.Prelude.{◌≡◌, ◌+◌, ◌<◌, ◌≤◌, Some, length, slice_index_or, IfOk, IfSome, IfNone};
+ghost use Rattle.std.specs.Option.{ForSome};
+ghost use Rattle.assign.specs.Assignment.{Assignment, value_of};
+ghost use Rattle.language.specs.Language.{place_on, IsQuestion};
 ghost use Rattle.bias_store.specs.Masks.{ones_of};
-ghost use Rattle.bias_store.specs.Accepting.{accepting_on, places_on, AreRunsFrom, IsRow, AreRowsFrom, IsAcceptingOf, IsTabled, first_of, second_of};
-ghost use Rattle.bias_store.specs.Asked.{AreLeaps, IsAsked};
+ghost use Rattle.bias_store.specs.Accepting.{accepting_on, places_on, AreRunsFrom, IsRow, AreRowsFrom, IsAcceptingOf, IsTabled, first_of};
+ghost use Rattle.bias_store.specs.Shown.{IsShown};
+ghost use Rattle.bias_store.specs.Violated.{violated_on, AreNoneViolated, IsViolated};
 
+use crate::shown::Shown;
 use assign::Partial;
 use language::{Language, Memory, ScopeId};
 use std::alloc::{AllocError, Global};
 use std::marker::Model;
 
-/// Where a question's scopes are gone over.
+/// A scope with relations that a question violates.
 #[derive(Clone, Copy)]
-pub(crate) struct Asked {
-    /// A scope whose first variable the question gives a value; how many scopes there are, where no more such ones come.
+pub(crate) struct Violated {
+    /// The scope's number.
     pub(crate) scope: ScopeId,
-    /// Where its row ends; no greater than the scope, where it is in none.
-    pub(crate) end: ScopeId,
-    /// The scope's second variable, where it is in a row.
-    pub(crate) second: u8,
-    /// The value of the first one.
-    pub(crate) value: u8,
+    /// The relations: bit r is one where the question violates relation r.
+    pub(crate) relations: u64,
 }
 
 /// In place of where a scope's table begins: it has none.
@@ -100,74 +99,85 @@ fn runs_of(alloc: Global, lang: &Language) -> Result<Vec<ScopeId>, AllocError>
 }
 
 /// Where the row ends that begins with a scope, if one that begins with the next scope ends there.
-fn row_of(lang: &Language, s: ScopeId, end: ScopeId) -> ScopeId
+fn row_of(lang: &Language, first: &[u32], s: ScopeId, end: ScopeId) -> ScopeId
     requires scope { s < length lang.now.scopes }
+    requires first { length first.now ≡ length lang.now.scopes }
     requires within { end ≤ length lang.now.scopes }
-    requires row { IsRow lang.now (first_of lang.now (s + 1)) (second_of lang.now (s + 1)) (s + 1) end }
+    requires row { IsRow lang.now first.now (s + 1) end }
     ensures within { result ≤ length lang.now.scopes }
-    ensures row { IsRow lang.now (first_of lang.now s) (second_of lang.now s) s result }
+    ensures row { IsRow lang.now first.now s result }
 {
     let scopes = lang.scopes() as ScopeId;
-    let [first, second] = *lang.scope(s) else {
+    let [variable, second] = *lang.scope(s) else {
         return 0;
     };
+    if first[usize::from(s)] == NO_TABLE {
+        return 0;
+    }
     let next = s + 1;
-    if next == scopes {
+    if next == scopes || first[usize::from(next)] != first[usize::from(s)] {
         return next;
     }
     match *lang.scope(next) {
-        [other, third] if other == first && third == second + 1 => end.max(next),
+        [other, third] if other == variable && third == second + 1 => end.max(next),
         _ => next,
     }
 }
 
-/// For each scope of two variables where its row ends.
-fn rows_of(alloc: Global, lang: &Language) -> Result<Vec<ScopeId>, AllocError>
-    ensures { IfOk result (λ v. AreRowsFrom lang.now v.items 0) }
+/// For each scope of two variables that has a table where its row ends.
+fn rows_of(alloc: Global, lang: &Language, first: &[u32]) -> Result<Vec<ScopeId>, AllocError>
+    requires { length first.now ≡ length lang.now.scopes }
+    ensures { IfOk result (λ v. AreRowsFrom lang.now first.now v.items 0) }
 {
     let scopes = lang.scopes() as ScopeId;
     let mut rows = vec![in alloc; 0; usize::from(scopes)]?;
     let mut end = 0;
     for back in 0..scopes {
         let s = scopes - 1 - back;
-        end = row_of(lang, s, end);
+        end = row_of(lang, first, s, end);
         rows[usize::from(s)] = end;
     }
     Ok(rows)
 }
 
-/// For each number of a variable the first one from it on that the question gives a value; 128 where there is none.
-pub(crate) fn leaps_of(q: &Partial) -> [u8; 129]
-    ensures { AreLeaps q.now result }
+/// Of these relations on a scope, those that a question violates whose tuple there has this place: none where it has none, since
+/// it leaves a variable open.
+#[inline]
+fn violated_at(
+    tables: &Tables,
+    lang: &Language,
+    s: ScopeId,
+    place: Option<u32>,
+    relations: u64,
+) -> u64
+    requires tables { IsAcceptingOf lang.now tables.now }
+    requires scope { s < length lang.now.scopes }
+    requires place { ForSome place (λ at. at < places_on lang.now s) }
+    ensures { (q : Assignment) → place ≡ place_on lang.now s q → ones_of result ≡ violated_on lang.now q s relations }
 {
-    let mut leaps = [128; 129];
-    let n = q.len();
-    for back in 0..n {
-        let v = n - 1 - back;
-        leaps[usize::from(v)] = match q.get(v) {
-            Some(_) => v,
-            None => leaps[usize::from(v) + 1],
-        };
+    match place {
+        None => 0,
+        Some(place) => relations & !tables.accepting(lang, s, place),
     }
-    leaps
 }
 
-/// From a scope in a row and its second variable on the first ones where the second variable has a value; the row's end, where none has
-/// one.
-#[inline]
-fn leap(scope: ScopeId, second: u8, end: ScopeId, leaps: &[u8; 129]) -> (ScopeId, u8)
-    requires second { second ≤ 128 }
-    requires end { end ≤ 8192 }
-    requires inside { scope < end }
-    requires leaps { second ≤ slice_index_or leaps.now second 0 }
-    ensures ahead { scope ≤ result.0 }
-    ensures inside { result.0 ≤ end }
-    ensures row { (l : Language) (first : ℕ) → IsRow l first second scope end → IsRow l first result.1 result.0 end }
-    ensures passed { (l : Language) (q : Assignment) (first k : ℕ) → AreLeaps q leaps.now → IsRow l first second scope end → scope ≤ k → k < result.0 → covers q (scope_at l k) ≡ false }
+/// Of these relations on a scope, those that the question violates: none where it leaves a variable there open.
+pub(crate) fn violated_on(
+    tables: &Tables,
+    lang: &Language,
+    s: ScopeId,
+    q: &Partial,
+    relations: u64,
+) -> u64
+    requires tables { IsAcceptingOf lang.now tables.now }
+    requires scope { s < length lang.now.scopes }
+    requires question { IsQuestion lang.now q.now }
+    ensures { ones_of result ≡ violated_on lang.now q.now s relations }
 {
-    let to = leaps[usize::from(second)];
-    let leapt = scope + ScopeId::from(to - second);
-    (leapt.min(end), to)
+    if relations == 0 {
+        return 0;
+    }
+    violated_at(tables, lang, s, lang.place_on(s, q), relations)
 }
 
 impl Tables {
@@ -193,7 +203,7 @@ impl Tables {
                 return Err(Memory);
             };
         }
-        let (Ok(next), Ok(rows)) = (runs_of(alloc, lang), rows_of(alloc, lang)) else {
+        let (Ok(next), Ok(rows)) = (runs_of(alloc, lang), rows_of(alloc, lang, &first)) else {
             return Err(Memory);
         };
         Ok(Tables {
@@ -204,100 +214,86 @@ impl Tables {
         })
     }
 
-    /// The first scope on which the question may tell something. Those before it have a variable that the question leaves open.
-    pub(crate) fn first_asked(&self, lang: &Language, q: &Partial, leaps: &[u8; 129]) -> Asked
-        requires made { IsAcceptingOf lang.now self.now }
-        requires leaps { AreLeaps q.now leaps.now }
-        ensures asked { IsAsked lang.now q.now result }
-        ensures passed { (k : ℕ) → k < result.scope → covers q.now (scope_at lang.now k) ≡ false }
-    {
-        let first = self.asked_from(lang, 0, q, leaps);
-        Asked {
-            scope: first.scope,
-            end: first.end,
-            second: first.second,
-            value: first.value,
-        }
-    }
-
-    /// The next one.
+    /// In the row that begins with a scope the first scope with relations, of these, that the question violates.
     #[inline]
-    pub(crate) fn next_asked(
+    fn next_in_row(
         &self,
         lang: &Language,
-        mut at: Asked,
         q: &Partial,
-        leaps: &[u8; 129],
-    ) -> Asked
+        shown: &Shown,
+        relations: &[u64],
+        s: ScopeId,
+        value: u8,
+    ) -> Option<Violated>
         requires made { IsAcceptingOf lang.now self.now }
-        requires leaps { AreLeaps q.now leaps.now }
-        requires asked { IsAsked lang.now q.now at }
-        requires some { at.scope < length lang.now.scopes }
-        ensures asked { IsAsked lang.now q.now result }
-        ensures ahead { at.scope < result.scope }
-        ensures passed { (k : ℕ) → at.scope < k → k < result.scope → covers q.now (scope_at lang.now k) ≡ false }
+        requires question { IsQuestion lang.now q.now }
+        requires shown { IsShown q.now shown.now }
+        requires relations { length relations.now ≡ length lang.now.scopes }
+        requires row { s < slice_index_or self.now.rows s 0 }
+        requires scope { s < length lang.now.scopes }
+        requires value { value_of q.now (first_of lang.now s) ≡ Some value }
+        ensures found { IfSome result (IsViolated lang.now q.now relations.now s) }
+        ensures none { IfNone result (AreNoneViolated lang.now q.now relations.now s (slice_index_or self.now.rows s 0)) }
     {
-        at.scope += 1;
-        if at.scope < at.end {
-            let (scope, second) = leap(at.scope, at.second + 1, at.end, leaps);
-            at.scope = scope;
-            at.second = second;
-        }
-        if at.scope >= at.end {
-            // Field by field, so that a caller's `at` can stay in registers.
-            let next = self.asked_from(lang, at.scope, q, leaps);
-            at.scope = next.scope;
-            at.end = next.end;
-            at.second = next.second;
-            at.value = next.value;
-        }
-        at
+        let end = self.rows[usize::from(s)];
+        let second = usize::from(lang.scope(s)[1]);
+        let d = usize::from(lang.d());
+        let begin = self.first[usize::from(s)] as usize + usize::from(value) * d;
+        let row = &relations[usize::from(s)..usize::from(end)];
+        let accepting = &self.masks[begin..begin + d];
+        let (place, violated) = shown.first_in_row(q, row, accepting, second)?;
+        Some(Violated {
+            scope: s + place as ScopeId,
+            relations: violated,
+        })
     }
 
-    /// The first one from this scope on. A run whose first variable the question leaves open is passed over in one step.
-    // Called once for each row. Inlined, it would keep `next_asked` from being so.
-    #[inline(never)]
-    fn asked_from(&self, lang: &Language, s: ScopeId, q: &Partial, leaps: &[u8; 129]) -> Asked
+    /// From a scope on the first one with relations, of these, that the question violates.
+    ///
+    /// Scopes whose first variable the question leaves open are passed over in runs, and in a row of scopes those whose second
+    /// one it leaves open. Each other one costs the reading of a value, and one AND; or one look at each relation, where a variable
+    /// there hasn't all values.
+    pub(crate) fn next_violated(
+        &self,
+        lang: &Language,
+        q: &Partial,
+        shown: &Shown,
+        relations: &[u64],
+        from: ScopeId,
+    ) -> Option<Violated>
         requires made { IsAcceptingOf lang.now self.now }
-        requires leaps { AreLeaps q.now leaps.now }
-        requires scope { s ≤ length lang.now.scopes }
-        ensures asked { IsAsked lang.now q.now result }
-        ensures ahead { s ≤ result.scope }
-        ensures passed { (k : ℕ) → s ≤ k → k < result.scope → covers q.now (scope_at lang.now k) ≡ false }
+        requires question { IsQuestion lang.now q.now }
+        requires shown { IsShown q.now shown.now }
+        requires relations { length relations.now ≡ length lang.now.scopes }
+        requires from { from ≤ length lang.now.scopes }
+        ensures found { IfSome result (IsViolated lang.now q.now relations.now from) }
+        ensures none { IfNone result (AreNoneViolated lang.now q.now relations.now from (length lang.now.scopes)) }
     {
         let scopes = lang.scopes() as ScopeId;
-        let mut scope = s;
-        while scope < scopes {
-            let Some(value) = q.get(lang.scope(scope)[0]) else {
-                scope = self.next[usize::from(scope)];
+        let mut s = from;
+        while s < scopes {
+            let Some(value) = q.get(lang.scope(s)[0]) else {
+                s = self.next[usize::from(s)];
                 continue;
             };
-            let end = self.rows[usize::from(scope)];
-            if end <= scope {
-                return Asked {
-                    scope,
-                    end,
-                    second: 0,
-                    value,
-                };
+            let end = self.rows[usize::from(s)];
+            if s < end {
+                if let Some(found) = self.next_in_row(lang, q, shown, relations, s, value) {
+                    return Some(found);
+                }
+                s = end;
+            } else {
+                let violated = violated_on(self, lang, s, q, relations[usize::from(s)]);
+                if violated != 0 {
+                    return Some(Violated {
+                        scope: s,
+                        relations: violated,
+                    });
+                }
+                s += 1;
             }
-            let (leapt, second) = leap(scope, lang.scope(scope)[1], end, leaps);
-            if leapt < end {
-                return Asked {
-                    scope: leapt,
-                    end,
-                    second,
-                    value,
-                };
-            }
-            scope = end;
         }
-        Asked {
-            scope,
-            end: 0,
-            second: 0,
-            value: 0,
-        }
+        None
     }
 
     /// The relations on a scope that accept the tuple at a place: bit r is one exactly where relation r does.

@@ -1,10 +1,10 @@
 use Rattle.std.proofs.Common.{◌-◌, ◌≤◌, length}
-use Rattle.bias_store.specs.Accepting.{AreRowsFrom, IsRow, first_of, second_of}
+use Rattle.bias_store.specs.Accepting.{AreRowsFrom, IsRow}
 use Rattle.bias_store.proofs.tables.rows_of.Given as goal
 
 abbrev pub invariant-loop-back : goal.invariant-loop-back
 invariant-loop-back l = record {
-  rows : AreRowsFrom l.lang l.rows.items (l.scopes - l.back);
+  rows : AreRowsFrom l.lang l.first l.rows.items (l.scopes - l.back);
   within : l.end ≤ length l.lang.scopes;
-  row : IsRow l.lang (first_of l.lang (l.scopes - l.back)) (second_of l.lang (l.scopes - l.back)) (l.scopes - l.back) l.end;
+  row : IsRow l.lang l.first (l.scopes - l.back) l.end;
 }

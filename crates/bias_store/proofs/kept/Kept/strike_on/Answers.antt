@@ -1,22 +1,14 @@
 use Rattle.std.proofs.Common.{◌≡◌, ◌-◌, ◌<◌, length, not, ◌∙◌, ap, subst, sym, arith}
-use Rattle.std.specs.Prelude.{slice_set, bit_and, All}
+use Rattle.std.specs.Prelude.{slice_set, bit_and}
 use Rattle.std.specs.List.{filter}
 use Rattle.std.specs.Int.{bit_not, w64}
-use Rattle.language.specs.Language.{violates, IsCandidate}
+use Rattle.language.specs.Language.{violates}
 use Rattle.bias_store.specs.KeptSet.{KeptSet}
 use Rattle.bias_store.specs.Inside.{members_from}
 use Rattle.bias_store.proofs.Members.{read_at}
 use Rattle.bias_store.proofs.Runs.{open_elsewhere}
-use Rattle.bias_store.proofs.Struck.{IsStruck, enough_alone, struck_alone, struck_all, known_relations, made_still}
+use Rattle.bias_store.proofs.Struck.{IsStruck, enough_alone, struck_alone, struck_all, made_still}
 use Rattle.bias_store.proofs.kept.Kept.strike_on.Goals as goal
-
-pub violated_on-struck-requires-clause-known : goal.violated_on-struck-requires-clause-known
-violated_on-struck-requires-clause-known c =
-    let old = c.self.inside.relations.items in
-    let scopes = ap (λ (k : KeptSet). k.scopes) c.self.view_is in
-    let made = c.requires.made.scopes in
-    known_relations c.args.lang.now old c.args.s c.index-relations.result.now (subst (λ (k : KeptSet). All (IsCandidate c.args.lang.now) k.members) (sym c.self.view_is) c.requires.made.known) (omega arith)
-    (read_at old c.args.s c.from.result c.index-relations.result.now (omega arith) c.from.ensures c.index-relations.ensures)
 
 pub overflow_sub-self : goal.overflow_sub-self
 overflow_sub-self c =

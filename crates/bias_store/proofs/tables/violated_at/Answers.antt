@@ -5,7 +5,7 @@ use Rattle.bias_store.specs.Masks.{ones_of}
 use Rattle.bias_store.proofs.Ones.{ones_of-zero}
 use Rattle.bias_store.proofs.Picked.{bare}
 use Rattle.bias_store.proofs.Bits.{without_accepting}
-use Rattle.bias_store.proofs.kept.violated_at.Goals as goal
+use Rattle.bias_store.proofs.tables.violated_at.Goals as goal
 
 pub returns-in-None : goal.returns-in-None
 returns-in-None c = λ q at.

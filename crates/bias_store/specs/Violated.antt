@@ -1,0 +1,25 @@
+-- What a question violates on the scopes of a language, of the relations that a mask for each scope has.
+use Rattle.std.specs.Prelude.{ℕ, ◌≡◌, ◌≢◌, ◌^◌, ◌<◌, ◌≤◌, List, [], length, slice_index_or}
+use Rattle.std.specs.List.{filter}
+use Rattle.assign.specs.Assignment.{Assignment}
+use Rattle.language.specs.Language.{Language, IsLanguage, violates}
+use Rattle.bias_store.specs.Masks.{ones_of}
+use Rattle.bias_store.specs.declared.tables.Violated.{Violated}
+
+-- of the relations of a mask, those on the scope of this number that the question violates
+abbrev pub violated_on : Language → Assignment → ℕ → ℕ → List ℕ
+violated_on l q s mask = filter (λ r. violates l (record { scope = s; rel = r }) q) (ones_of mask)
+
+-- none, from a scope to another one
+abbrev pub AreNoneViolated : Language → Assignment → List ℕ → ℕ → ℕ → Type 0
+AreNoneViolated l q masks from to = (s : ℕ) → from ≤ s → s < to → violated_on l q s (slice_index_or masks s 0) ≡ []
+
+-- the first scope from one on that has some, and those
+pub record IsViolated (l : Language) (q : Assignment) (masks : List ℕ) (from : ℕ) (v : Violated) : Type 0 where
+  pub lawful : IsLanguage l
+  pub within : v.scope < length l.scopes
+  pub ahead : from ≤ v.scope
+  pub none : AreNoneViolated l q masks from v.scope
+  pub here : ones_of v.relations ≡ violated_on l q v.scope (slice_index_or masks v.scope 0)
+  pub some : v.relations ≢ 0
+  pub small : v.relations < 2 ^ 64
