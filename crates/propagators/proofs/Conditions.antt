@@ -94,7 +94,7 @@ tuple_in l f is (v ∷ scope) (x ∷ tuple) h =
     (ap suc rest.0, and_from _ _ (is.within v x h.0) rest.1)
 
 -- what says of the tuples within the sets the same supports the same values
-supported_as : (sets : List (List ℕ)) (p q : List ℕ → Bool) (found : List (List ℕ)) → ((tuple : List ℕ) → IsWithin sets tuple → p tuple ≡ q tuple) → AreSupported sets p found → AreSupported sets q found
+pub supported_as : (sets : List (List ℕ)) (p q : List ℕ → Bool) (found : List (List ℕ)) → ((tuple : List ℕ) → IsWithin sets tuple → p tuple ≡ q tuple) → AreSupported sets p found → AreSupported sets q found
 supported_as sets p q found same is = record {
   all = λ tuple within at. is.all tuple within (same tuple within ∙ at);
   only = λ i x h. (let t = is.only i x h in record { tuple = t.tuple; within = t.within; at = t.at; is = sym (same t.tuple t.within) ∙ t.is });

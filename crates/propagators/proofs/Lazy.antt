@@ -1,19 +1,20 @@
 -- Loose conditions stay consistent while a variable keeps two values.
-use Rattle.std.proofs.Common.{◌≡◌, ℕ, zero, suc, ◌+◌, ◌<◌, Bool, true, false, ◌||◌, List, [], ◌∷◌, length, refl, sym, ◌∙◌, ap, subst, arith, inl, inr, ◌⊎◌}
-use Rattle.std.specs.Prelude.{◌==◌, ◌≢◌, slice_index_or}
+use Rattle.std.proofs.Common.{◌≡◌, ℕ, zero, suc, ◌+◌, ◌<◌, ◌≤◌, Bool, true, false, ◌||◌, List, [], ◌∷◌, length, refl, sym, ◌∙◌, ap, subst, arith, inl, inr, ◌⊎◌}
+use Rattle.std.specs.Prelude.{◌==◌, ◌≢◌, slice_index_or, All}
 use Rattle.std.specs.List.{list_any, list_all}
 use Rattle.std.proofs.lemmas.Bool.{both_ways, cases_eq, eq-eqb, eqb-true, or_left, or_cases}
 use Rattle.assign.specs.Sets.{has, union}
 use Rattle.assign.specs.SetLemmas.{has-set_where}
 use Rattle.propagators.specs.Families.{Family, Arc, sets_on, is_consistent, is_not_empty, size_of}
-use Rattle.propagators.specs.Supports.{AreBelow, AreDifferent, IsWithin, IsThrough, IsRevised}
+use Rattle.propagators.specs.Supports.{AreBelow, AreDifferent, AreSettled, IsWithin, IsThrough, IsRevised}
 use Rattle.propagators.specs.Loose.{HasTwo}
 use Rattle.propagators.specs.Pairs.{IsNarrowed}
-use Rattle.propagators.specs.Plans.{IsLoosePair, IsLooked}
+use Rattle.propagators.specs.Plans.{IsLoosePair, IsLooked, AreTight}
 use Rattle.propagators.proofs.Pruned.{consistent, supporting}
 use Rattle.propagators.proofs.Replacing.{supported_through, through_supported, member_place}
 use Rattle.propagators.proofs.Rounds.{AreSmall, stays_consistent, underway_begin, underway_step}
-use Rattle.propagators.proofs.Loose.{in_row, in_column}
+use Rattle.propagators.proofs.Loose.{in_row, in_column, loose_consistent}
+use Rattle.propagators.proofs.Conditions.{IsOver}
 use Rattle.propagators.proofs.Beside.{narrowed_others, apart_of}
 
 none : Arc
@@ -139,3 +140,34 @@ tight_more d arcs i tight more small low here old k v a below there none = go (c
     go : (k ≡ i) ⊎ (k ≢ i) → IsLoosePair d (slice_index_or arcs k a)
     go (inl same) = subst (λ (j : ℕ). IsLoosePair d (slice_index_or arcs j a)) (sym same) (here v a (ap (λ j. has (slice_index_or arcs j a).scope v) (sym same) ∙ there) parts.1)
     go (inr other) = old k v a (omega arith) there parts.0
+
+-- ---- at first
+
+untouched_at : (changed scope : List ℕ) → list_any (has changed) scope ≡ false → (j e : ℕ) → j < length scope → has changed (slice_index_or scope j e) ≡ false
+untouched_at changed [] none j e low = absurd (omega arith)
+untouched_at changed (v ∷ scope) none zero e low = (no_or (has changed v) (list_any (has changed) scope) none).0
+untouched_at changed (v ∷ scope) none (suc j) e low = untouched_at changed scope (no_or (has changed v) (list_any (has changed) scope) none).1 j e (omega arith)
+
+head_there : (scope : List ℕ) → 1 ≤ length scope → has scope (slice_index_or scope 0 0) ≡ true
+head_there [] some = absurd (omega arith)
+head_there (v ∷ scope) some = or_left _ _ (eq-eqb v v refl)
+
+-- a condition is settled where its variables have two values and loose conditions alone
+pub settled_first : (d n : ℕ) (arcs : List Arc) (count : ℕ) (tight changed : List ℕ) (f : Family) → All (IsOver n) arcs → n ≤ 128 → length arcs ≤ count → AreTight d arcs count tight → ((v : ℕ) → AreBelow d (slice_index_or f v [])) →
+    ((u : ℕ) → u < 128 → has changed u ≡ false → has tight u ≡ false) → ((u : ℕ) → u < n → has changed u ≡ false → HasTwo (slice_index_or f u [])) → AreSettled arcs changed f
+settled_first d n arcs count tight changed f over few room are below part two = λ k a low none.
+    (let on = over k a low in
+    let some = on.some in
+    let first = on.known 0 0 (omega arith) in
+    let loose = are k (slice_index_or (slice_index_or arcs k a).scope 0 0) a low (omega arith) (head_there (slice_index_or arcs k a).scope some)
+    (part (slice_index_or (slice_index_or arcs k a).scope 0 0) (omega arith) (untouched_at changed (slice_index_or arcs k a).scope none 0 0 (omega arith))) in
+    loose_consistent d (slice_index_or arcs k a) f loose.loose loose.long below (λ j e l. two (slice_index_or (slice_index_or arcs k a).scope j e) (on.known j e l) (untouched_at changed (slice_index_or arcs k a).scope none j e l)))
+
+-- one variable more was looked at
+pub two_more : (f : Family) (changed next : List ℕ) (v : ℕ) → v < 128 → ((u : ℕ) → u < 128 → has next u ≡ false → has changed u ≡ false) → (has next v ≡ false → HasTwo (slice_index_or f v [])) →
+    ((u : ℕ) → u < v → has changed u ≡ false → HasTwo (slice_index_or f u [])) → (u : ℕ) → u < v + 1 → has next u ≡ false → HasTwo (slice_index_or f u [])
+two_more f changed next v few grows here old u low none = go (cases_eq u v)
+  where
+    go : (u ≡ v) ⊎ (u ≢ v) → HasTwo (slice_index_or f u [])
+    go (inl same) = subst (λ (k : ℕ). HasTwo (slice_index_or f k [])) (sym same) (here (ap (λ k. has next k) (sym same) ∙ none))
+    go (inr other) = old u (omega arith) (grows u (omega arith) none)

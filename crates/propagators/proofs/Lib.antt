@@ -13,3 +13,4 @@ pub mod Visiting
 pub mod Beside
 pub mod Masking
 pub mod Lazy
+pub mod ByMasks

@@ -5,7 +5,7 @@ use Rattle.assign.specs.Sets.{has}
 use Rattle.rel_table.specs.Table.{TruthTable, truth_at}
 use Rattle.language.specs.Language.{Language, scope_at, relations_on, is_whole}
 use Rattle.propagators.specs.Values.{ones_of}
-use Rattle.propagators.specs.Families.{Family, Arc, is_not_empty, size_of}
+use Rattle.propagators.specs.Families.{Family, Arc, is_wanted, is_not_empty, size_of}
 use Rattle.propagators.specs.Supports.{continues}
 use Rattle.propagators.specs.Loose.{IsLoose}
 use Rattle.propagators.specs.declared.plan.PairMasks.{PairMasks}
@@ -19,6 +19,10 @@ AreMasksOf d together masks at = (x y : ℕ) → x < d → y < d → (bit_at (sl
 -- whether the first value and the second go together
 abbrev pub goes : TruthTable → ℕ → ℕ → Bool
 goes table x y = truth_at table (x * table.value_count + y)
+
+-- whether by a relation's rows a tuple's first value and its second go together, or don't, where that is wanted
+abbrev pub goes_by : List ℕ → ℕ → Bool → List ℕ → Bool
+goes_by rows r holding tuple = is_wanted holding (bit_at (slice_index_or rows (r * 64 + slice_index_or tuple 0 0) 0) (slice_index_or tuple 1 0) == 1)
 
 -- a scope of two variables, each of which has all values
 pub record IsWholePair (l : Language) (s : ℕ) : Type 0 where

@@ -2,13 +2,15 @@
 
 ghost use Rattle.std.specs.Prelude.{◌≡◌, ◌<◌, ℕ, true, false, length, slice_index_or};
 ghost use Rattle.assign.specs.Sets.{has};
-ghost use Rattle.language.specs.Language.{IsLanguage, IsCandidate};
+ghost use Rattle.language.specs.Language.{IsLanguage, IsCandidate, scope_of};
 ghost use Rattle.propagators.specs.Allowed.{AreConstraints};
 ghost use Rattle.propagators.specs.Values.{ones_of};
 ghost use Rattle.propagators.specs.Families.{Arc, arc_of, arcs_of};
-ghost use Rattle.propagators.specs.Pairs.{AreRightOn};
-ghost use Rattle.propagators.specs.Briefs.{IsBriefOf, IsBriefIn, AreBriefs};
-ghost use Rattle.propagators.specs.Plans.{IsLoosePair, AreTight};
+ghost use Rattle.propagators.specs.Supports.{continues};
+ghost use Rattle.propagators.specs.Loose.{IsLoose};
+ghost use Rattle.propagators.specs.Pairs.{IsWholePair, AreRightOn, pairs_of};
+ghost use Rattle.propagators.specs.Briefs.{IsBriefOf, IsBriefIn};
+ghost use Rattle.propagators.specs.Plans.{IsLoosePair};
 
 use crate::constraints::Constraints;
 use crate::plan::PairMasks;
@@ -50,46 +52,74 @@ impl Brief {
     }
 }
 
-/// The brief of a candidate, where it is to hold, or not to hold. For a condition on two variables that have all values
-/// the masks of its relation are made.
-fn brief_of(lang: &Language, c: Candidate, holding: bool, masks: &mut PairMasks) -> Brief
+/// `learn` by the relation's table.
+#[inline(never)]
+fn learn_table(lang: &Language, c: Candidate, holding: bool, masks: &mut PairMasks) -> bool
     requires lawful { IsLanguage lang.now }
     requires candidate { IsCandidate lang.now c }
+    requires pair { IsWholePair lang.now c.scope }
+    requires right { AreRightOn lang.now masks.old }
+    ensures right { AreRightOn lang.now masks.new }
+    ensures grows { (r : ℕ) → has (ones_of masks.old.known) r ≡ true → has (ones_of masks.new.known) r ≡ true }
+    ensures known { has (ones_of masks.new.known) c.rel ≡ true }
+    ensures loose { result ≡ true → IsLoose lang.now.value_count (continues (pairs_of lang.now c.scope c.rel) holding 0) }
+{
+    let table = lang.table_on(c.scope, c.rel);
+    masks.learn(table, c.rel);
+    masks.is_loose(table, c.rel, holding)
+}
+
+/// Makes the masks of the candidate's relation, unless they are made, and says whether it is known to be loose where it is to
+/// hold, or not to hold.
+fn learn(lang: &Language, c: Candidate, holding: bool, masks: &mut PairMasks) -> bool
+    requires lawful { IsLanguage lang.now }
+    requires candidate { IsCandidate lang.now c }
+    requires pair { IsWholePair lang.now c.scope }
+    requires right { AreRightOn lang.now masks.old }
+    ensures right { AreRightOn lang.now masks.new }
+    ensures grows { (r : ℕ) → has (ones_of masks.old.known) r ≡ true → has (ones_of masks.new.known) r ≡ true }
+    ensures known { has (ones_of masks.new.known) c.rel ≡ true }
+    ensures loose { result ≡ true → IsLoose lang.now.value_count (continues (pairs_of lang.now c.scope c.rel) holding 0) }
+{
+    // Most relations are known, and their table need not be found.
+    if holding && masks.knows(c.rel) {
+        return masks.holds_loosely(c.rel);
+    }
+    learn_table(lang, c, holding, masks)
+}
+
+/// The brief of a candidate on a scope, where it is to hold, or not to hold. For a condition on two variables that have all
+/// values the masks of its relation are made.
+pub(crate) fn brief_of(
+    lang: &Language,
+    c: Candidate,
+    scope: &[u8],
+    holding: bool,
+    masks: &mut PairMasks,
+) -> Brief
+    requires lawful { IsLanguage lang.now }
+    requires candidate { IsCandidate lang.now c }
+    requires scope { scope.now ≡ scope_of lang.now c }
     requires right { AreRightOn lang.now masks.old }
     ensures right { AreRightOn lang.now masks.new }
     ensures grows { (r : ℕ) → has (ones_of masks.old.known) r ≡ true → has (ones_of masks.new.known) r ≡ true }
     ensures is { IsBriefIn lang.now masks.new.known (arc_of lang.now c holding) result }
 {
-    let scope = lang.scope(c.scope);
     if scope.len() != 2 || !lang.is_whole(c.scope) {
         return Brief::Other;
     }
-    let table = lang.table_on(c.scope, c.rel);
-    masks.learn(table, c.rel);
+    let is_loose = learn(lang, c, holding, masks);
     Brief::Two(Pair {
         first: scope[0],
         second: scope[1],
         rel: c.rel,
         holding,
-        is_loose: masks.is_loose(table, c.rel, holding),
+        is_loose,
     })
 }
 
-/// The briefs of the first conditions, as many as there is room for, and the masks of their relations.
-pub(crate) fn brief_all(cons: &Constraints, masks: &mut PairMasks, briefs: &mut [Brief])
-    requires lawful { IsLanguage cons.now.lang.now }
-    requires constraints { AreConstraints cons.now.lang.now cons.now.list.now cons.now.against }
-    ensures { AreBriefs cons.now.lang.now.value_count masks.new (arcs_of cons.now.lang.now cons.now.list.now cons.now.against) briefs.new }
-{
-    masks.clear();
-    for i in 0..briefs.len().min(cons.count()) {
-        let (c, holding) = cons.condition(i);
-        briefs[i] = brief_of(cons.lang, c, holding, masks);
-    }
-}
-
 /// The variables of condition i, unless it is loose.
-fn tight_on(cons: &Constraints, i: usize, brief: Brief) -> VarSet
+pub(crate) fn tight_on(cons: &Constraints, i: usize, brief: Brief) -> VarSet
     requires constraints { AreConstraints cons.now.lang.now cons.now.list.now cons.now.against }
     requires low { i < length (arcs_of cons.now.lang.now cons.now.list.now cons.now.against) }
     ensures { (d v : ℕ) (m : PairMasks) (a : Arc) → IsBriefOf d m (slice_index_or (arcs_of cons.now.lang.now cons.now.list.now cons.now.against) i a) brief → has (slice_index_or (arcs_of cons.now.lang.now cons.now.list.now cons.now.against) i a).scope v ≡ true → has result v ≡ false → IsLoosePair d (slice_index_or (arcs_of cons.now.lang.now cons.now.list.now cons.now.against) i a) }
@@ -99,18 +129,4 @@ fn tight_on(cons: &Constraints, i: usize, brief: Brief) -> VarSet
     }
     let (c, _holding) = cons.condition(i);
     cons.lang.scope_set(c.scope)
-}
-
-/// The variables that have a condition which isn't loose, of the first conditions, as many as there are briefs.
-pub(crate) fn tight_in(cons: &Constraints, masks: &PairMasks, briefs: &[Brief]) -> VarSet
-    requires lawful { IsLanguage cons.now.lang.now }
-    requires constraints { AreConstraints cons.now.lang.now cons.now.list.now cons.now.against }
-    requires briefs { AreBriefs cons.now.lang.now.value_count masks.now (arcs_of cons.now.lang.now cons.now.list.now cons.now.against) briefs.now }
-    ensures { AreTight cons.now.lang.now.value_count (arcs_of cons.now.lang.now cons.now.list.now cons.now.against) (length briefs.now) result }
-{
-    let mut tight = VarSet::empty();
-    for i in 0..briefs.len().min(cons.count()) {
-        tight = tight.union(tight_on(cons, i, briefs[i]));
-    }
-    tight
 }

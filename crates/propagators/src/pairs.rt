@@ -107,6 +107,22 @@ impl PairMasks {
         self.loose = add_where(self.loose, rel, is_loose(table, true));
     }
 
+    /// Whether the masks of a relation are made.
+    #[inline]
+    pub(crate) fn knows(&self, rel: u8) -> bool
+        ensures { result ≡ has (ones_of self.now.known) rel }
+    {
+        has_value(self.known, rel)
+    }
+
+    /// `is_loose` for a relation that is to hold.
+    #[inline]
+    pub(crate) fn holds_loosely(&self, rel: u8) -> bool
+        ensures { result ≡ has (ones_of self.now.loose) rel }
+    {
+        has_value(self.loose, rel)
+    }
+
     /// Whether a relation whose masks are made is known to reject no value of either variable with two values of the other,
     /// or, where it isn't to hold, to accept none with two.
     pub(crate) fn is_loose(&self, table: &Table, rel: u8, holding: bool) -> bool
@@ -128,6 +144,17 @@ impl PairMasks {
         ensures { result ≡ slice_index_or self.now.rows.items (rel * 64 + x) 0 }
     {
         self.rows[usize::from(rel) * 64 + usize::from(x)]
+    }
+
+    /// For each value of the first variable the values of the second one that go with it.
+    #[inline]
+    pub(crate) fn rows_of(&self, rel: u8) -> &[u64]
+        requires { rel < 64 }
+        ensures long { length result.now ≡ 64 }
+        ensures rows { (x : ℕ) → x < 64 → slice_index_or result.now x 0 ≡ slice_index_or self.now.rows.items (rel * 64 + x) 0 }
+    {
+        let at = usize::from(rel) * 64;
+        &self.rows[at..at + 64]
     }
 
     /// The values of the first variable that go with y.

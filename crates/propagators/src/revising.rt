@@ -1,16 +1,19 @@
-ghost use Rattle.std.specs.Prelude.{◌≡◌, ◌<◌, ◌≤◌, ℕ, [], true, false, All, IfSome, None, length, map, take, slice_index_or};
+ghost use Rattle.std.specs.Prelude.{◌≡◌, ◌<◌, ◌≤◌, ℕ, [], ◌∷◌, true, false, All, IfSome, None, length, map, take, slice_index_or};
 ghost use Rattle.std.specs.List.{list_any};
 ghost use Rattle.assign.specs.Sets.{has};
 ghost use Rattle.language.specs.Language.{IsLanguage, IsCandidate};
 ghost use Rattle.propagators.specs.Allowed.{AreConstraints};
 ghost use Rattle.propagators.specs.Values.{ones_of};
-ghost use Rattle.propagators.specs.Families.{arc_of, arcs_of};
-ghost use Rattle.propagators.specs.Supports.{AreDifferent, IsFamilyOf, IsRevised, IsDead, IsCut, replaced};
+ghost use Rattle.propagators.specs.Families.{Arc, arc_of, arcs_of};
+ghost use Rattle.propagators.specs.Supports.{AreBelow, AreDifferent, IsFamilyOf, IsRevised, IsDead, IsCut, replaced};
+ghost use Rattle.propagators.specs.Briefs.{IsPairOf};
 ghost use Rattle.propagators.specs.Propagated.{IsSettledBut, IsPropagated, RunsEmpty, IsPassed};
 
+use crate::briefs::Pair;
 use crate::constraints::Constraints;
 use crate::domains::Domains;
-use crate::supports::supported;
+use crate::plan::PairMasks;
+use crate::supports::{in_pair, supported};
 use crate::values::is_empty;
 use assign::VarSet;
 use language::{Candidate, Language};
@@ -77,6 +80,26 @@ pub(crate) fn revise(
         return None;
     }
     Some(cut_all(doms, scope, &found))
+}
+
+/// `revise` for a condition on two variables, by the masks of its relation.
+pub(crate) fn revise_pair(masks: &PairMasks, pair: Pair, doms: &mut Domains) -> Option<VarSet>
+    requires rel { pair.rel < 64 }
+    requires first { pair.first < length doms.old }
+    requires second { pair.second < length doms.old }
+    requires apart { AreDifferent (pair.first ∷ pair.second ∷ []) }
+    requires few { length doms.old ≤ 128 }
+    ensures revised { IfSome result (λ changed. (d : ℕ) (a : Arc) → IsPairOf d masks.now a pair → ((v : ℕ) → AreBelow d (slice_index_or doms.old v [])) → IsRevised a doms.old doms.new) }
+    ensures cut { IfSome result (λ changed. IsCut changed doms.old doms.new) }
+    ensures dead { result ≡ None → (d : ℕ) (a : Arc) → IsPairOf d masks.now a pair → ((v : ℕ) → AreBelow d (slice_index_or doms.old v [])) → IsDead a doms.old }
+{
+    let scope = [pair.first, pair.second];
+    let sets = doms.on(&scope);
+    let found = in_pair(masks, pair.rel, pair.holding, sets[0], sets[1]);
+    if is_empty(found.0) {
+        return None;
+    }
+    Some(cut_all(doms, &scope, &[found.0, found.1, 0, 0]))
 }
 
 /// Goes once through the conditions that have a changed variable. Says which variables lost values; `None` where some

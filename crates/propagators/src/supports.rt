@@ -3,7 +3,9 @@
 ghost use Rattle.std.specs.Prelude.{◌≡◌, ◌+◌, ◌*◌, ◌^◌, ◌<◌, ◌≤◌, ◌==◌, ℕ, List, [], ◌∷◌, length, map, take, All};
 ghost use Rattle.propagators.specs.Values.{ones_of};
 ghost use Rattle.propagators.specs.Supports.{AreSupported, AreBelow, continues};
+ghost use Rattle.propagators.specs.Pairs.{goes_by};
 
+use crate::plan::PairMasks;
 use crate::values::{either, least_value, passing, with_value, without_value};
 use rel_table::Table;
 
@@ -36,6 +38,31 @@ fn in_two(table: &Table, holding: bool, at: u32, first: u64, last: u64) -> (u64,
         let x = least_value(rest);
         rest = without_value(rest, x);
         let below = in_one(table, holding, at * d + u32::from(x), last);
+        a = with_value(a, x, below);
+        b = either(b, below);
+    }
+    (a, b)
+}
+
+/// The supported values of two sets, by the masks of a relation.
+#[inline]
+pub(crate) fn in_pair(
+    masks: &PairMasks,
+    rel: u8,
+    holding: bool,
+    first: u64,
+    last: u64,
+) -> (u64, u64)
+    requires low { rel < 64 }
+    ensures { AreSupported (ones_of first ∷ ones_of last ∷ []) (goes_by masks.now.rows.items rel holding) (ones_of result.0 ∷ ones_of result.1 ∷ []) }
+{
+    let rows = masks.rows_of(rel);
+    let (mut a, mut b) = (0, 0);
+    let mut rest = first;
+    while rest != 0 {
+        let x = least_value(rest);
+        rest = without_value(rest, x);
+        let below = passing(last, rows[usize::from(x)], holding);
         a = with_value(a, x, below);
         b = either(b, below);
     }

@@ -4,22 +4,22 @@ ghost use Rattle.std.specs.Prelude.{◌≡◌, ◌<◌, ◌≤◌, ◌+◌, ◌*
 ghost use Rattle.std.specs.Int.{bit_at};
 ghost use Rattle.std.specs.List.{list_all};
 ghost use Rattle.assign.specs.Sets.{has, without};
-ghost use Rattle.language.specs.Language.{IsLanguage};
+ghost use Rattle.language.specs.Language.{IsLanguage, variable_count};
 ghost use Rattle.propagators.specs.Allowed.{AreConstraints};
 ghost use Rattle.propagators.specs.Values.{ones_of};
 ghost use Rattle.propagators.specs.Families.{Arc, arcs_of, is_not_empty, is_wanted};
 ghost use Rattle.propagators.specs.Supports.{AreBelow, IsFamilyOf};
 ghost use Rattle.propagators.specs.Loose.{HasTwo};
 ghost use Rattle.propagators.specs.Pairs.{IsBeside};
-ghost use Rattle.propagators.specs.Briefs.{IsPairOf};
-ghost use Rattle.propagators.specs.Plans.{IsPlanOf, AreNoted, IsLooked};
+ghost use Rattle.propagators.specs.Briefs.{IsPairOf, AreBriefs};
+ghost use Rattle.propagators.specs.Plans.{IsPlanOf, AreNoted, AreTight, IsLooked};
 ghost use Rattle.propagators.specs.Propagated.{AreSome, IsSettledBut, IsPropagated, RunsEmpty, IsWholePlanOf, IsVisited};
 
-use crate::briefs::{Brief, Pair, brief_all, tight_in};
+use crate::briefs::{Brief, Pair, brief_of, tight_on};
 use crate::constraints::Constraints;
 use crate::domains::{Domains, Left};
 use crate::plan::{PairMasks, Plan};
-use crate::revising::{Alive, revise, settle};
+use crate::revising::{Alive, revise, revise_pair, settle};
 use crate::values::{add_value, least_value, without_value};
 use assign::VarSet;
 use std::alloc::{AllocError, Global};
@@ -38,20 +38,63 @@ fn note(sets: &mut [u64], words: usize, scope: &[u8], i: usize)
     }
 }
 
-/// Notes the conditions with their variables, as far as there is room.
-fn note_all(cons: &Constraints, sets: &mut [u64], words: usize)
+/// Clears the words of so many conditions and n variables, as far as there is room. The others are never read.
+fn clear_sets(sets: &mut [u64], words: usize, count: usize, n: u8)
+    requires long { length sets.old ≡ 128 * words }
+    requires few { n ≤ 128 }
+    ensures { length sets.new ≡ length sets.old }
+{
+    let used = count.div_ceil(64).min(words);
+    for w in 0..used {
+        sets[w * 128..w * 128 + usize::from(n)].fill(0);
+    }
+}
+
+/// Notes the conditions from one on with their variables, as far as there is room.
+fn note_rest(cons: &Constraints, sets: &mut [u64], words: usize, from: usize)
     requires lawful { IsLanguage cons.now.lang.now }
     requires constraints { AreConstraints cons.now.lang.now cons.now.list.now cons.now.against }
     requires long { length sets.old ≡ 128 * words }
+    requires first { (k v : ℕ) (a : Arc) → k < from → has (slice_index_or (arcs_of cons.now.lang.now cons.now.list.now cons.now.against) k a).scope v ≡ true → has (ones_of (slice_index_or sets.old (k / 64 * 128 + v) 0)) (k % 64) ≡ true }
     ensures { AreNoted (arcs_of cons.now.lang.now cons.now.list.now cons.now.against) words sets.new }
 {
-    let count = cons.count().min(words * 64);
-    // The other words are never read.
-    sets[..count.div_ceil(64) * 128].fill(0);
-    for i in 0..count {
+    for i in from..cons.count().min(words * 64) {
         let (c, _holding) = cons.condition(i);
         note(sets, words, cons.lang.scope(c.scope), i);
     }
+}
+
+/// The briefs of the first conditions, as many as there is room for, and the masks of their relations. All conditions are
+/// noted with their variables, as far as there is room. Says which variables have a condition with a brief that isn't loose.
+fn arrange_all(
+    cons: &Constraints,
+    masks: &mut PairMasks,
+    briefs: &mut [Brief],
+    sets: &mut [u64],
+    words: usize,
+) -> VarSet
+    requires lawful { IsLanguage cons.now.lang.now }
+    requires constraints { AreConstraints cons.now.lang.now cons.now.list.now cons.now.against }
+    requires long { length sets.old ≡ 128 * words }
+    requires room { length briefs.old ≤ words * 64 }
+    ensures briefs { AreBriefs cons.now.lang.now.value_count masks.new (arcs_of cons.now.lang.now cons.now.list.now cons.now.against) briefs.new }
+    ensures tight { AreTight cons.now.lang.now.value_count (arcs_of cons.now.lang.now cons.now.list.now cons.now.against) (length briefs.new) result }
+    ensures noted { AreNoted (arcs_of cons.now.lang.now cons.now.list.now cons.now.against) words sets.new }
+{
+    masks.clear();
+    clear_sets(sets, words, cons.count(), cons.lang.n());
+    let mut tight = VarSet::empty();
+    let end = briefs.len().min(cons.count());
+    for i in 0..end {
+        let (c, holding) = cons.condition(i);
+        let scope = cons.lang.scope(c.scope);
+        note(sets, words, scope, i);
+        let brief = brief_of(cons.lang, c, scope, holding, masks);
+        briefs[i] = brief;
+        tight = tight.union(tight_on(cons, i, brief));
+    }
+    note_rest(cons, sets, words, end);
+    tight
 }
 
 impl Plan {
@@ -77,9 +120,13 @@ impl Plan {
         requires constraints { AreConstraints cons.now.lang.now cons.now.list.now cons.now.against }
         ensures { IsPlanOf cons.now.lang.now.value_count (arcs_of cons.now.lang.now cons.now.list.now cons.now.against) self.new }
     {
-        brief_all(cons, &mut self.masks, &mut self.briefs);
-        self.tight = tight_in(cons, &self.masks, &self.briefs);
-        note_all(cons, &mut self.sets, self.words);
+        self.tight = arrange_all(
+            cons,
+            &mut self.masks,
+            &mut self.briefs,
+            &mut self.sets,
+            self.words,
+        );
     }
 }
 
@@ -126,8 +173,38 @@ fn look_at_other(cons: &Constraints, i: usize, doms: &mut Domains, waiting: &mut
     }
 }
 
-/// `look_at_other` for a condition on two variables that have all values. Where one of them has one value alone, a mask
-/// tells what goes with it.
+/// `look_at_other` for a condition on two variables, by the masks of its relation. Apart from the loop over conditions, which
+/// seldom comes here.
+#[inline(never)]
+fn look_at_both(
+    cons: &Constraints,
+    plan: &Plan,
+    pair: Pair,
+    i: usize,
+    doms: &mut Domains,
+    waiting: &mut VarSet,
+) -> Alive
+    requires lawful { IsLanguage cons.now.lang.now }
+    requires constraints { AreConstraints cons.now.lang.now cons.now.list.now cons.now.against }
+    requires pair { (a : Arc) → IsPairOf cons.now.lang.now.value_count plan.now.masks (slice_index_or (arcs_of cons.now.lang.now cons.now.list.now cons.now.against) i a) pair }
+    requires low { i < length (arcs_of cons.now.lang.now cons.now.list.now cons.now.against) }
+    requires doms { AreSome cons.now.lang.now doms.old }
+    ensures looked { result ≡ Alive.Yes → IsLooked (arcs_of cons.now.lang.now cons.now.list.now cons.now.against) i waiting.old waiting.new doms.old doms.new }
+    ensures dead { result ≡ Alive.No → RunsEmpty (arcs_of cons.now.lang.now cons.now.list.now cons.now.against) doms.old }
+{
+    match revise_pair(&plan.masks, pair, doms) {
+        None => Alive::No,
+        Some(lost) => {
+            if lost.len() == 0 {
+                return Alive::Yes;
+            }
+            *waiting = waiting.union(lost);
+            Alive::Yes
+        }
+    }
+}
+
+/// `look_at_both`, but where one of the two variables has one value alone, a mask tells what goes with it.
 fn look_at_pair(
     cons: &Constraints,
     plan: &Plan,
@@ -149,7 +226,7 @@ fn look_at_pair(
         if pair.is_loose {
             return Alive::Yes;
         }
-        return look_at_other(cons, i, doms, waiting);
+        return look_at_both(cons, plan, pair, i, doms, waiting);
     };
     match doms.keep(v, row, pair.holding) {
         Left::Nothing => Alive::No,
@@ -171,11 +248,12 @@ fn look_at_pair(
     }
 }
 
-/// Looks at condition i, if there is one. To the variables that are waiting are added those that lost values; `No`
+/// Looks at condition i, if there is one among so many. To the variables that are waiting are added those that lost values; `No`
 /// where some variable has none left in an arc-consistent subfamily.
 fn look_at(
     cons: &Constraints,
     plan: &Plan,
+    count: usize,
     i: usize,
     doms: &mut Domains,
     waiting: &mut VarSet,
@@ -183,11 +261,12 @@ fn look_at(
     requires lawful { IsLanguage cons.now.lang.now }
     requires constraints { AreConstraints cons.now.lang.now cons.now.list.now cons.now.against }
     requires plan { IsWholePlanOf cons.now.lang.now.value_count (arcs_of cons.now.lang.now cons.now.list.now cons.now.against) plan.now }
+    requires count { count ≡ length (arcs_of cons.now.lang.now cons.now.list.now cons.now.against) }
     requires doms { AreSome cons.now.lang.now doms.old }
     ensures looked { result ≡ Alive.Yes → IsLooked (arcs_of cons.now.lang.now cons.now.list.now cons.now.against) i waiting.old waiting.new doms.old doms.new }
     ensures dead { result ≡ Alive.No → RunsEmpty (arcs_of cons.now.lang.now cons.now.list.now cons.now.against) doms.old }
 {
-    if i >= cons.count() {
+    if i >= count {
         return Alive::Yes;
     }
     match plan.briefs[i] {
@@ -214,12 +293,20 @@ fn visit(
     ensures dead { result ≡ None → RunsEmpty (arcs_of cons.now.lang.now cons.now.list.now cons.now.against) doms.old }
 {
     let mut waiting = changed.without(v);
-    for w in 0..cons.count().div_ceil(64) {
+    let count = cons.count();
+    for w in 0..count.div_ceil(64) {
         let mut rest = plan.sets[w * 128 + usize::from(v)];
         while rest != 0 {
             let b = least_value(rest);
             rest = without_value(rest, b);
-            match look_at(cons, plan, w * 64 + usize::from(b), doms, &mut waiting) {
+            match look_at(
+                cons,
+                plan,
+                count,
+                w * 64 + usize::from(b),
+                doms,
+                &mut waiting,
+            ) {
                 Alive::No => return None,
                 Alive::Yes => {}
             }
@@ -272,6 +359,39 @@ pub fn propagate_after(
     }
 }
 
+/// The set, and the variable if it has one value alone.
+fn with_single(set: VarSet, doms: &Domains, v: u8) -> VarSet
+    requires known { v < length doms.now }
+    requires few { v < 128 }
+    requires full { list_all is_not_empty doms.now ≡ true }
+    ensures grows { (u : ℕ) → u < 128 → has result u ≡ false → has set u ≡ false }
+    ensures two { has result v ≡ false → HasTwo (slice_index_or doms.now v []) }
+{
+    match doms.only(v) {
+        Some(_) => set.with(v),
+        None => set,
+    }
+}
+
+/// Those of n variables whose conditions are looked at first: each that has one value alone or a condition that isn't loose.
+fn first_changed(cons: &Constraints, plan: &Plan, doms: &Domains, n: u8) -> VarSet
+    requires lawful { IsLanguage cons.now.lang.now }
+    requires constraints { AreConstraints cons.now.lang.now cons.now.list.now cons.now.against }
+    requires plan { IsPlanOf cons.now.lang.now.value_count (arcs_of cons.now.lang.now cons.now.list.now cons.now.against) plan.now }
+    requires doms { AreSome cons.now.lang.now doms.now }
+    requires variables { n ≡ variable_count cons.now.lang.now }
+    ensures { IsSettledBut cons.now.lang.now (arcs_of cons.now.lang.now cons.now.list.now cons.now.against) result doms.now }
+{
+    if cons.count() > plan.briefs.len() {
+        return VarSet::all(n);
+    }
+    let mut changed = plan.tight;
+    for v in 0..n {
+        changed = with_single(changed, doms, v);
+    }
+    changed
+}
+
 /// `propagate` with a plan of the conditions.
 pub fn propagate_all(cons: &Constraints, plan: &Plan, doms: &mut Domains) -> Alive
     requires constraints { AreConstraints cons.now.lang.now cons.now.list.now cons.now.against }
@@ -283,5 +403,6 @@ pub fn propagate_all(cons: &Constraints, plan: &Plan, doms: &mut Domains) -> Ali
     if doms.has_empty() {
         return Alive::No;
     }
-    propagate_after(cons, plan, doms, VarSet::all(cons.lang.n()))
+    let changed = first_changed(cons, plan, doms, cons.lang.n());
+    propagate_after(cons, plan, doms, changed)
 }

@@ -9,7 +9,7 @@ use Rattle.propagators.proofs.visits.look_at.Goals as goal
 pub look_at_pair-requires-clause-pair : goal.look_at_pair-requires-clause-pair
 look_at_pair-requires-clause-pair c = λ a.
     (let room = c.requires.plan.room in
-    let count = c.count.ensures in
+    let count = c.requires.count in
     let low = c.if-i-count.false in
     subst (λ (b : Brief). IsBriefOf c.args.cons.now.lang.now.value_count c.args.plan.now.masks (slice_index_or (arcs_of c.args.cons.now.lang.now c.args.cons.now.list.now c.args.cons.now.against) c.args.i a) b)
     (sym (get_or_read c.args.plan.now.briefs.items c.args.i c.index.result.now (omega arith) c.index.ensures c.index.result.now) ∙ c.in-Two.is)

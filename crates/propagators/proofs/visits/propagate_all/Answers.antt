@@ -1,21 +1,15 @@
-use Rattle.std.proofs.Common.{◌∙◌, ap, sym, subst, ℕ, List}
+use Rattle.std.proofs.Common.{◌∙◌, sym}
 use Rattle.std.proofs.lemmas.Bool.{not-true}
-use Rattle.assign.specs.Sets.{numbers}
-use Rattle.language.specs.Language.{variable_count}
 use Rattle.propagators.specs.Families.{arcs_of}
-use Rattle.propagators.specs.Supports.{AreSettled}
 use Rattle.propagators.proofs.Ones.{not_false}
 use Rattle.propagators.proofs.Rounds.{empty_stays}
-use Rattle.propagators.proofs.Conditions.{all_settled, arcs_over}
 use Rattle.propagators.proofs.visits.propagate_all.Goals as goal
 
 pub returns-then-has_empty-clause-dead : goal.returns-then-has_empty-clause-dead
 returns-then-has_empty-clause-dead c = λ e. empty_stays (arcs_of c.args.cons.now.lang.now c.args.cons.now.list.now c.args.cons.now.against) c.args.doms.now (not-true _ (sym c.has_empty.ensures ∙ c.if-has_empty.true))
 
-pub propagate_after-requires-clause-doms : goal.propagate_after-requires-clause-doms
-propagate_after-requires-clause-doms c = record {
+pub first_changed-changed-requires-clause-doms : goal.first_changed-changed-requires-clause-doms
+first_changed-changed-requires-clause-doms c = record {
   family = c.requires.family;
   full = not_false _ (sym c.has_empty.ensures ∙ c.if-has_empty.false);
-  settled = subst (λ (xs : List ℕ). AreSettled (arcs_of c.args.cons.now.lang.now c.args.cons.now.list.now c.args.cons.now.against) xs c.args.doms.now) (sym (c.all.ensures ∙ ap numbers c.n.ensures.is))
-      (all_settled (arcs_of c.args.cons.now.lang.now c.args.cons.now.list.now c.args.cons.now.against) (variable_count c.args.cons.now.lang.now) c.args.doms.now (arcs_over c.args.cons.now.lang.now c.args.cons.now.list.now c.args.cons.now.against c.n.ensures.lawful c.requires.constraints));
 }

@@ -1,7 +1,7 @@
 use Rattle.std.proofs.Common.{◌∙◌, ap, sym, arith}
 use Rattle.propagators.specs.Families.{Arc, arcs_of}
 use Rattle.propagators.proofs.Visiting.{noted_next}
-use Rattle.propagators.proofs.visits.note_all.Goals as goal
+use Rattle.propagators.proofs.visits.note_rest.Goals as goal
 
 pub loop-i-preserved : goal.loop-i-preserved
 loop-i-preserved c = record {

@@ -3,7 +3,7 @@ use Rattle.std.specs.Prelude.{slice_index_or}
 use Rattle.assign.specs.Sets.{has}
 use Rattle.propagators.specs.Values.{ones_of}
 use Rattle.propagators.specs.Families.{Arc, arcs_of}
-use Rattle.propagators.proofs.visits.note_all.Given as goal
+use Rattle.propagators.proofs.visits.note_rest.Given as goal
 
 abbrev pub invariant-loop-i : goal.invariant-loop-i
 invariant-loop-i l = record {

@@ -1,0 +1,51 @@
+use Rattle.std.proofs.Common.{List, [], ◌<◌, length, ℕ, true, sym, subst, refl, arith}
+use Rattle.propagators.specs.Families.{Arc, arcs_of}
+use Rattle.propagators.specs.Supports.{AreDifferent}
+use Rattle.propagators.specs.Plans.{IsLooked}
+use Rattle.propagators.proofs.Rounds.{dead_here}
+use Rattle.std.specs.Prelude.{slice_index_or, All}
+use Rattle.propagators.proofs.Conditions.{arcs_small, arcs_within, arcs_different}
+use Rattle.propagators.proofs.Visiting.{looked_same, looked_changed}
+use Rattle.propagators.proofs.visits.look_at_both.Goals as goal
+
+none : Arc
+none = record { scope = []; accepted = λ tuple. true }
+
+pub returns-in-None-clause-dead : goal.returns-in-None-clause-dead
+returns-in-None-clause-dead c = λ e.
+    dead_here (arcs_of c.args.cons.now.lang.now c.args.cons.now.list.now c.args.cons.now.against) c.args.doms.now c.args.i none c.requires.low
+    (c.in-None.ensures.dead refl c.args.cons.now.lang.now.value_count (slice_index_or (arcs_of c.args.cons.now.lang.now c.args.cons.now.list.now c.args.cons.now.against) c.args.i none) (c.requires.pair none) c.requires.doms.family.values)
+
+pub returns-then-len-eq0-clause-looked : goal.returns-then-len-eq0-clause-looked
+returns-then-len-eq0-clause-looked c = λ e.
+    looked_same (arcs_of c.args.cons.now.lang.now c.args.cons.now.list.now c.args.cons.now.against) c.args.i c.args.waiting.now c.in-Some.lost c.args.doms.now c.revise_pair.new.doms
+    (arcs_small c.args.cons.now.lang.now c.args.cons.now.list.now c.args.cons.now.against c.requires.lawful c.requires.constraints) c.requires.low c.requires.doms.full
+    (λ a. c.in-Some.ensures.revised c.args.cons.now.lang.now.value_count (slice_index_or (arcs_of c.args.cons.now.lang.now c.args.cons.now.list.now c.args.cons.now.against) c.args.i a) (c.requires.pair a) c.requires.doms.family.values) c.in-Some.ensures.cut
+    (let count = c.len.ensures.count in let none = c.if-len-eq0.true in omega arith)
+
+pub returns-else-len-eq0-clause-looked : goal.returns-else-len-eq0-clause-looked
+returns-else-len-eq0-clause-looked c = λ e.
+    subst (λ (next : List ℕ). IsLooked (arcs_of c.args.cons.now.lang.now c.args.cons.now.list.now c.args.cons.now.against) c.args.i c.args.waiting.now next c.args.doms.now c.revise_pair.new.doms) (sym c.union.ensures)
+    (looked_changed (arcs_of c.args.cons.now.lang.now c.args.cons.now.list.now c.args.cons.now.against) c.args.i c.args.waiting.now c.in-Some.lost c.args.doms.now c.revise_pair.new.doms
+    (arcs_small c.args.cons.now.lang.now c.args.cons.now.list.now c.args.cons.now.against c.requires.lawful c.requires.constraints) c.requires.low c.requires.doms.full
+    (λ a. c.in-Some.ensures.revised c.args.cons.now.lang.now.value_count (slice_index_or (arcs_of c.args.cons.now.lang.now c.args.cons.now.list.now c.args.cons.now.against) c.args.i a) (c.requires.pair a) c.requires.doms.family.values) c.in-Some.ensures.cut
+    (λ none. (let count = c.len.ensures.count in let some = c.if-len-eq0.false in omega arith)))
+
+pub revise_pair-requires-clause-rel : goal.revise_pair-requires-clause-rel
+revise_pair-requires-clause-rel c = (c.requires.pair none).low
+
+pub revise_pair-requires-clause-first : goal.revise_pair-requires-clause-first
+revise_pair-requires-clause-first c =
+    let known = arcs_within c.args.cons.now.lang.now c.args.cons.now.list.now c.args.cons.now.against c.requires.lawful c.requires.constraints c.args.doms.now c.requires.doms.family c.args.i none c.requires.low in
+    subst (λ (scope : List ℕ). All (λ v. v < length c.args.doms.now) scope) ((c.requires.pair none).scope) known 0 0 (omega arith)
+
+pub revise_pair-requires-clause-second : goal.revise_pair-requires-clause-second
+revise_pair-requires-clause-second c =
+    let known = arcs_within c.args.cons.now.lang.now c.args.cons.now.list.now c.args.cons.now.against c.requires.lawful c.requires.constraints c.args.doms.now c.requires.doms.family c.args.i none c.requires.low in
+    subst (λ (scope : List ℕ). All (λ v. v < length c.args.doms.now) scope) ((c.requires.pair none).scope) known 1 0 (omega arith)
+
+pub revise_pair-requires-clause-apart : goal.revise_pair-requires-clause-apart
+revise_pair-requires-clause-apart c = subst AreDifferent ((c.requires.pair none).scope) (arcs_different c.args.cons.now.lang.now c.args.cons.now.list.now c.args.cons.now.against c.requires.lawful c.requires.constraints c.args.i none c.requires.low)
+
+pub revise_pair-requires-clause-few : goal.revise_pair-requires-clause-few
+revise_pair-requires-clause-few c = (let size = c.requires.doms.family.size in let few = c.requires.lawful.few_variables in omega arith)
