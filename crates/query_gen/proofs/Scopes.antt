@@ -1,5 +1,6 @@
 -- A part's search, one scope after another.
-use Rattle.std.proofs.Common.{◌≡◌, ℕ, zero, suc, ◌+◌, ◌-◌, ◌<◌, ◌≤◌, false, List, [], length, get_or, replicate, ◌∙◌, ap, subst, arith, inl, inr, ◌⊎◌}
+use Rattle.std.proofs.Common.{◌≡◌, ℕ, zero, suc, ◌+◌, ◌-◌, ◌<◌, ◌≤◌, false, List, [], length, get_or, replicate, refl, ◌∙◌, ap, subst, arith, inl, inr, ◌⊎◌}
+use Rattle.std.specs.Prelude.{◌≢◌}
 use Rattle.std.proofs.lemmas.Bool.{cases_lt}
 use Rattle.std.proofs.lemmas.List.{get_or-replicate, length-replicate}
 use Rattle.std.proofs.Math.ListN.{get_or-eq_default}
@@ -9,8 +10,9 @@ use Rattle.language.specs.Language.{Language, IsCandidate, relations_on, number_
 use Rattle.language.proofs.Counting.{count, count_more, count_rises}
 use Rattle.bias_store.specs.KeptSet.{kept_relations}
 use Rattle.query_gen.specs.declared.query.Query.{Query}
+use Rattle.query_gen.specs.declared.query.Query.TheVariants.{Ask, AllImplied, Undecided}
 use Rattle.query_gen.specs.Questions.{is_among}
-use Rattle.query_gen.specs.Parts.{reach, start_of, IsScopeOf, IsSearchedTo, IsSearchedBefore}
+use Rattle.query_gen.specs.Parts.{is_ask, reach, start_of, IsScopeOf, IsSearchedTo, IsSearchedBefore}
 use Rattle.query_gen.proofs.OnScope.{among_has}
 use Rattle.query_gen.proofs.Parts.{next_other}
 
@@ -41,6 +43,14 @@ scope_inside l first end s a b is_a is_b at_a at_b some from to = record {
   rising = omega arith;
 }
 
+-- the last one doesn't come before the first one
+pub rising_scopes : (l : Language) (first end : ℕ) (a b : Candidate) (s t : ℕ) → s ≡ a.scope → t ≡ b.scope → number_of l a ≡ first → number_of l b ≡ end - 1 → IsCandidate l a → IsCandidate l b → first < end → s ≤ t + 1
+rising_scopes l first end a b s t at_s at_t at_a at_b is_a is_b some = go (cases_lt b.scope a.scope)
+  where
+    go : (b.scope < a.scope) ⊎ (a.scope ≤ b.scope) → s ≤ t + 1
+    go (inr up) = omega arith
+    go (inl down) = absurd (let here = from_start l a in let there = from_start l b in let rel = is_b.rel in let next = start_next l b.scope in let rises = start_rises l (b.scope + 1) a.scope (omega arith) in omega arith)
+
 -- ---- A scope that has no kept candidate
 
 passed : (l : Language) (network kept : List Candidate) (budget first s : ℕ) (bytes : List ℕ) (answer : Query) → s < length l.scopes → kept_relations kept s ≡ [] → (k n : ℕ) → first ≤ n → start_of l s ≤ n →
@@ -66,6 +76,26 @@ scope_passed l network kept budget first end s bytes answer inside none before =
     (let e : reach first end (start_of l s) + (reach first end (start_of l (s + 1)) - reach first end (start_of l s)) ≡ reach first end (start_of l (s + 1)) = omega arith in e)
     (passed l network kept budget first s bytes answer inside.known none (reach first end (start_of l (s + 1)) - reach first end (start_of l s)) (reach first end (start_of l s)) (omega arith) (omega arith) (omega arith) before)
 
+-- one scope more has none
+pub none_so_far : (kept : List Candidate) (from s : ℕ) → ((k : ℕ) → from ≤ k → k < s → kept_relations kept k ≡ []) → kept_relations kept s ≡ [] → (k : ℕ) → from ≤ k → k < s + 1 → kept_relations kept k ≡ []
+none_so_far kept from s before here k low high = go (cases_lt k s)
+  where
+    go : (k < s) ⊎ (s ≤ k) → kept_relations kept k ≡ []
+    go (inl below) = before k low below
+    go (inr past) = ap (kept_relations kept) (let e : k ≡ s = omega arith in e) ∙ here
+
+-- as many of them
+pub scopes_passed : (l : Language) (network kept : List Candidate) (budget first end s t : ℕ) (bytes : List ℕ) (answer : Query) → s ≤ t → ((k : ℕ) → s ≤ k → k < t → IsScopeOf l first end k) →
+    ((k : ℕ) → s ≤ k → k < t → kept_relations kept k ≡ []) → IsSearchedBefore l network kept budget first end s bytes answer → IsSearchedBefore l network kept budget first end t bytes answer
+scopes_passed l network kept budget first end s t bytes answer rising inside none before =
+    subst (λ (k : ℕ). IsSearchedBefore l network kept budget first end k bytes answer) (let e : s + (t - s) ≡ t = omega arith in e) (go (t - s) (omega arith))
+  where
+    go : (n : ℕ) → s + n ≤ t → IsSearchedBefore l network kept budget first end (s + n) bytes answer
+    go zero low = subst (λ (k : ℕ). IsSearchedBefore l network kept budget first end k bytes answer) (let e : s ≡ s + 0 = omega arith in e) before
+    go (suc n) low =
+        subst (λ (k : ℕ). IsSearchedBefore l network kept budget first end k bytes answer) (let e : (s + n) + 1 ≡ s + suc n = omega arith in e)
+        (scope_passed l network kept budget first end (s + n) bytes answer (inside (s + n) (omega arith) (omega arith)) (none (s + n) (omega arith) (omega arith)) (go n (omega arith)))
+
 -- bytes that are all 0
 pub blank : (bytes : List ℕ) (n : ℕ) → bytes ≡ replicate {A = ℕ} n 0 → (k : ℕ) → get_or bytes k 0 ≡ 0
 blank bytes n is k = ap (λ (xs : List ℕ). get_or xs k 0) is ∙ go (cases_lt k n)
@@ -78,3 +108,10 @@ blank bytes n is k = ap (λ (xs : List ℕ). get_or xs k 0) is ∙ go (cases_lt 
 
 pub moved : (l : Language) (network kept : List Candidate) (budget first m n : ℕ) (bytes : List ℕ) (answer : Query) → m ≡ n → IsSearchedTo l network kept budget first m bytes answer → IsSearchedTo l network kept budget first n bytes answer
 moved l network kept budget first m n bytes answer same before = subst (λ (k : ℕ). IsSearchedTo l network kept budget first k bytes answer) same before
+
+-- ---- Answers
+
+pub no_ask : (answer : Query) → ((e : _) → answer ≢ Ask e) → is_ask answer ≡ false
+no_ask (Ask e) other = absurd (other e refl)
+no_ask AllImplied other = refl
+no_ask Undecided other = refl

@@ -1,9 +1,9 @@
 //! Where one part of the candidates is searched.
 
-ghost use Rattle.std.specs.Prelude.{◌≡◌, ◌+◌, ◌-◌, ◌<◌, ◌≤◌, ◌/◌, IfOk, length, replicate, vec_len, true, false};
+ghost use Rattle.std.specs.Prelude.{ℕ, ◌≡◌, ◌+◌, ◌-◌, ◌<◌, ◌≤◌, ◌/◌, [], IfOk, length, replicate, vec_len, true, false};
 ghost use Rattle.language.specs.Language.{IsCandidate, candidates, number_of};
 ghost use Rattle.language.specs.Answers.{IsNetwork};
-ghost use Rattle.bias_store.specs.KeptSet.{IsMadeFor as IsKeptOf};
+ghost use Rattle.bias_store.specs.KeptSet.{kept_relations, IsMadeFor as IsKeptOf};
 ghost use Rattle.query_gen.specs.Marks.{IsMadeFor, MarksHold};
 ghost use Rattle.query_gen.specs.Parts.{byte_for, is_ask, IsScopeOf, IsSearched, IsSearchedBefore, IsSearchedTo};
 
@@ -44,6 +44,23 @@ fn byte_for(outcome: &Outcome) -> u8
         Outcome::Absent => IMPLIED,
         Outcome::Spent => SPENT,
     }
+}
+
+/// The first scope from one on that has a kept candidate, or the end where none has.
+fn kept_from(kept: &Kept, from: u32, end: u32) -> u32
+    requires rising { from ≤ end }
+    requires known { end ≤ kept.now.scopes }
+    requires numbers { end ≤ 65536 }
+    ensures from { from ≤ result }
+    ensures within { result ≤ end }
+    ensures none { (s : ℕ) → from ≤ s → s < result → kept_relations kept.now.members s ≡ [] }
+{
+    for scope in from..end {
+        if kept.on_scope(scope as ScopeId) != 0 {
+            return scope;
+        }
+    }
+    end
 }
 
 impl Place {
@@ -102,12 +119,22 @@ impl Place {
         }
         let start = u32::from(lang.candidate(first).scope);
         let last = u32::from(lang.candidate(end - 1).scope);
-        for scope in start..last + 1 {
-            let scope = scope as ScopeId;
-            self.search_scope(screen, lang, kept, net, budget, first, end, scope);
+        let mut scope = kept_from(kept, start, last + 1);
+        while scope <= last {
+            self.search_scope(
+                screen,
+                lang,
+                kept,
+                net,
+                budget,
+                first,
+                end,
+                scope as ScopeId,
+            );
             if let Query::Ask(_) = self.answer {
                 return;
             }
+            scope = kept_from(kept, scope + 1, last + 1);
         }
     }
 
@@ -136,9 +163,6 @@ impl Place {
         ensures found { is_ask self.new.answer ≡ true → IsSearched lang.now net.now.list kept.now.members budget first end self.new.marks.items self.new.answer }
         ensures size { vec_len self.new.marks ≡ vec_len self.old.marks }
     {
-        if kept.on_scope(scope) == 0 {
-            return;
-        }
         let count = u32::from(lang.relations_on(scope));
         let base = lang.number_of(Candidate { scope, rel: 0 });
         for number in first.max(base)..end.min(base.saturating_add(count)) {

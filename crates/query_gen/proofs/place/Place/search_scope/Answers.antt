@@ -1,17 +1,8 @@
-use Rattle.std.proofs.Common.{◌≡◌, ◌+◌, [], sym, ◌∙◌, ap, arith}
-use Rattle.bias_store.specs.Masks.{ones_of}
-use Rattle.bias_store.specs.KeptSet.{kept_relations}
-use Rattle.bias_store.proofs.Ones.{ones_of-zero}
+use Rattle.std.proofs.Common.{◌+◌, arith}
 use Rattle.query_gen.specs.Parts.{reach, start_of}
 use Rattle.query_gen.proofs.Parts.{searched_found}
-use Rattle.query_gen.proofs.Scopes.{start_next, scope_passed, moved}
+use Rattle.query_gen.proofs.Scopes.{start_next, moved}
 use Rattle.query_gen.proofs.place.Place.search_scope.Goals as goal
-
-pub returns-then-on_scope-eq0-clause-further : goal.returns-then-on_scope-eq0-clause-further
-returns-then-on_scope-eq0-clause-further c = λ still.
-    let none : kept_relations c.args.kept.now.members c.args.scope ≡ [] = sym c.on_scope.ensures ∙ ap ones_of c.if-on_scope-eq0.true ∙ ones_of-zero in
-    scope_passed c.args.lang.now c.args.net.now.list c.args.kept.now.members c.args.budget c.args.first c.args.end c.args.scope c.args.self.now.marks.items c.args.self.now.answer
-    c.requires.scope none c.requires.before
 
 pub returns-in-Ask-clause-found : goal.returns-in-Ask-clause-found
 returns-in-Ask-clause-found c = λ asks.

@@ -1,0 +1,10 @@
+use Rattle.std.proofs.Common.{sym, ◌∙◌, ap}
+use Rattle.bias_store.specs.Masks.{ones_of}
+use Rattle.bias_store.proofs.Ones.{ones_of-zero}
+use Rattle.query_gen.proofs.Scopes.{none_so_far}
+use Rattle.query_gen.proofs.place.kept_from.Goals as goal
+
+pub loop-scope-preserved : goal.loop-scope-preserved
+loop-scope-preserved c =
+    none_so_far c.args.kept.now.members c.args.from c.loop-scope.scope c.loop-scope.invariant
+    (sym c.on_scope.ensures ∙ ap ones_of c.if-on_scope-ne0.false ∙ ones_of-zero)
