@@ -1,6 +1,6 @@
 -- The choices of a mask: those that agree with a reply, none of them, the one that remains.
-use Rattle.std.proofs.Common.{◌≡◌, ℕ, ◌<◌, ◌^◌, Bool, true, false, cond, ◌&&◌, ◌||◌, not, List, [], ◌∷◌, ◌++◌, map, Some, None, refl, sym, ◌∙◌, ap}
-use Rattle.std.specs.Prelude.{bit_and, is_none}
+use Rattle.std.proofs.Common.{◌≡◌, ℕ, ◌<◌, ◌≤◌, ◌^◌, Bool, true, false, cond, ◌&&◌, ◌||◌, not, List, [], ◌∷◌, ◌++◌, map, length, Some, None, refl, sym, ◌∙◌, ap, subst, arith}
+use Rattle.std.specs.Prelude.{◌≢◌, bit_and, is_none}
 use Rattle.std.specs.Bool.{beq}
 use Rattle.std.specs.List.{filter, list_any}
 use Rattle.std.specs.Int.{bit_not, w64}
@@ -8,7 +8,7 @@ use Rattle.std.proofs.lemmas.List.Elements.{filter-append}
 use Rattle.assign.specs.SetLemmas.{is_one}
 use Rattle.bias_store.specs.Masks.{ones_of}
 use Rattle.language.specs.TellingApart.{Choice, remaining}
-use Rattle.find_c.specs.Choices.{choices_of, is_accepting}
+use Rattle.find_c.specs.Choices.{choices_of, beside_none, is_accepting}
 use Rattle.bias_store.proofs.Ones.{is_one-and, is_one-and_not, ones_of-passing, ones_of-zero, no_ones}
 
 -- ---- truth values
@@ -109,3 +109,74 @@ first_remains r rs = ap (λ b. cond b None (Some r)) (no_none rs)
 -- the first relation remains where none is no choice
 pub remaining_first : (mask v : ℕ) (others : List ℕ) → ones_of mask ≡ v ∷ others → remaining (choices_of mask false) ≡ Some v
 remaining_first mask v others is = ap (λ rs. remaining (map (λ r. let c : Choice = Some r in c) rs ++ [])) is ∙ first_remains v others
+
+-- ---- few of them
+
+none_in_zero : (m : ℕ) (free : Bool) → m ≡ 0 → choices_of m free ≡ cond free (None ∷ []) []
+none_in_zero m free none = ap (λ rs. map (λ r. let c : Choice = Some r in c) rs ++ cond free (None ∷ []) []) (ap ones_of none ∙ ones_of-zero)
+
+first_in : (m r : ℕ) (others : List ℕ) (free : Bool) → ones_of m ≡ r ∷ others → choices_of m free ≡ Some r ∷ map (λ k. let c : Choice = Some k in c) others ++ cond free (None ∷ []) []
+first_in m r others free is = ap (λ rs. map (λ k. let c : Choice = Some k in c) rs ++ cond free (None ∷ []) []) is
+
+pub few_of_none : (m : ℕ) (free : Bool) → m ≡ 0 → length (choices_of m free) ≤ 1
+few_of_none m free none = subst (λ cs. length cs ≤ 1) (sym (none_in_zero m free none)) (few free)
+  where
+    few : (b : Bool) → length (cond b (let one : List Choice = None ∷ [] in one) []) ≤ 1
+    few true = omega arith
+    few false = omega arith
+
+pub few_of_first : (m r others : ℕ) → ones_of m ≡ r ∷ ones_of others → others ≡ 0 → length (choices_of m false) ≤ 1
+few_of_first m r others is none = let one = ap length (first_in m r [] false (is ∙ ap (λ n. r ∷ ones_of n) none ∙ ap (λ rs. r ∷ rs) ones_of-zero)) in omega arith
+
+-- one relation alone is the first without others
+pub no_others : (m r others : ℕ) → others < 2 ^ 64 → ones_of m ≡ r ∷ ones_of others → length (choices_of m false) ≤ 1 → others ≡ 0
+no_others m r others small is few = no_ones others small (go (ones_of others) (subst (λ cs. length cs ≤ 1) (first_in m r (ones_of others) false is) few))
+  where
+    go : (rs : List ℕ) → length (Some r ∷ map (λ k. let c : Choice = Some k in c) rs ++ []) ≤ 1 → rs ≡ []
+    go [] h = refl
+    go (k ∷ rs) h = absurd (omega arith)
+
+-- a relation and none are two
+pub more_beside_none : (m r others : ℕ) → ones_of m ≡ r ∷ ones_of others → length (choices_of m true) ≤ 1 → ⊥
+more_beside_none m r others is few = go (ones_of others) (subst (λ cs. length cs ≤ 1) (first_in m r (ones_of others) true is) few)
+  where
+    go : (rs : List ℕ) → length (Some r ∷ map (λ k. let c : Choice = Some k in c) rs ++ None ∷ []) ≤ 1 → ⊥
+    go [] h = omega arith
+    go (k ∷ rs) h = omega arith
+
+-- ---- one relation beside none
+
+-- not where none is no choice
+pub beside_nothing : (m : ℕ) → beside_none (choices_of m false) ≡ None
+beside_nothing m = go (ones_of m)
+  where
+    go : (rs : List ℕ) → beside_none (map (λ r. let c : Choice = Some r in c) rs ++ []) ≡ None
+    go [] = refl
+    go (r ∷ []) = refl
+    go (r ∷ k ∷ rs) = refl
+
+pub none_alone : (m : ℕ) (free : Bool) → m ≡ 0 → beside_none (choices_of m free) ≡ None
+none_alone m free none = ap beside_none (none_in_zero m free none) ∙ go free
+  where
+    go : (b : Bool) → beside_none (cond b (None ∷ []) []) ≡ None
+    go true = refl
+    go false = refl
+
+pub one_beside_none : (m r others : ℕ) → ones_of m ≡ r ∷ ones_of others → others ≡ 0 → beside_none (choices_of m true) ≡ Some r
+one_beside_none m r others is none = ap beside_none (first_in m r [] true (is ∙ ap (λ n. r ∷ ones_of n) none ∙ ap (λ rs. r ∷ rs) ones_of-zero))
+
+pub more_than_one : (m r others : ℕ) → others < 2 ^ 64 → ones_of m ≡ r ∷ ones_of others → others ≢ 0 → beside_none (choices_of m true) ≡ None
+more_than_one m r others small is more = ap beside_none (first_in m r (ones_of others) true is) ∙ go (ones_of others) (λ e. more (no_ones others small e))
+  where
+    go : (rs : List ℕ) → rs ≢ [] → beside_none (Some r ∷ map (λ k. let c : Choice = Some k in c) rs ++ None ∷ []) ≡ None
+    go [] some = absurd (some refl)
+    go (k ∷ rs) some = refl
+
+-- what is told apart from none is so
+pub beside_none_is : (cs : List Choice) (r : ℕ) → beside_none cs ≡ Some r → cs ≡ Some r ∷ None ∷ []
+beside_none_is [] r e = cc
+beside_none_is (None ∷ cs) r e = cc
+beside_none_is (Some k ∷ []) r e = cc
+beside_none_is (Some k ∷ Some j ∷ cs) r e = cc
+beside_none_is (Some k ∷ None ∷ []) r e = ap (λ x. x ∷ None ∷ []) e
+beside_none_is (Some k ∷ None ∷ d ∷ cs) r e = cc

@@ -1,17 +1,22 @@
 -- The search for the least tuple on which two choices differ.
-use Rattle.std.proofs.Common.{◌≡◌, ℕ, zero, suc, ◌+◌, ◌*◌, ◌^◌, ◌<◌, ◌≤◌, Bool, true, false, cond, ◌&&◌, not, List, [], length, drop, get_or, Some, None, refl, sym, ◌∙◌, ap, arith, drop-cons, pow-suc, suc-mul, mul_comm}
+use Rattle.std.proofs.Common.{◌≡◌, ℕ, zero, suc, ◌+◌, ◌*◌, ◌^◌, ◌<◌, ◌≤◌, Bool, true, false, cond, ◌&&◌, ◌||◌, not, List, [], ◌∷◌, length, drop, get_or, Some, None, refl, sym, ◌∙◌, ap, subst, arith, drop-cons, pow-suc, suc-mul, mul_comm}
 use Rattle.std.specs.Prelude.{◌==◌, find}
 use Rattle.std.specs.Bool.{beq}
-use Rattle.std.specs.Int.{trailing_zeros, w64}
+use Rattle.std.specs.Int.{bit_not, trailing_zeros, w64}
 use lib.Count.{count_trailing_zeros}
 use Rattle.std.specs.List.{filter, list_any}
 use Rattle.std.proofs.lemmas.List.{drop_all}
 use Rattle.std.proofs.lemmas.Nat.Bits.{bit_at-zero, bit_at-trailing_zeros}
 use Rattle.assign.specs.SetLemmas.{is_one}
+use Rattle.bias_store.proofs.Ones.{is_one-not}
 use Rattle.rel_table.specs.Relation.{place, tuples}
 use Rattle.rel_table.proofs.PlaceLemmas.{length-tuples, get_or-tuples, place-tuple_at}
-use Rattle.language.specs.TellingApart.{Choice, Scene, allows, tells_apart, after_reply}
-use Rattle.find_c.specs.Choices.{is_accepting, allows_at, differ_at}
+use Rattle.language.specs.Language.{Language, scope_at}
+use Rattle.language.specs.Scenes.{scene_of}
+use Rattle.language.specs.TellingApart.{Choice, Scene, allows, tells_apart, splitting_tuple, after_reply}
+use Rattle.find_c.specs.Choices.{beside_none, is_accepting, allows_at, differ_at}
+use Rattle.find_c.specs.Inside.{IsAtRow, IsFoundFrom}
+use Rattle.find_c.proofs.Marks.{beside_none_is}
 
 -- a choice allows a tuple where it allows its place
 pub allows_there : (scene : Scene) (u : List ℕ) (p : ℕ) → place scene.value_count u ≡ p → (c : Choice) → allows_at scene p c ≡ allows scene u c
@@ -90,10 +95,7 @@ module _ (scene : Scene) (cs : List Choice) (p mask y : ℕ) (fits : p + scene.v
   pub found_past_row : scene.value_count ≤ y → find (tells_apart scene cs) (drop p (tuples scene.value_count scene.arity)) ≡ find (tells_apart scene cs) (drop (p + scene.value_count) (tuples scene.value_count scene.arity))
   found_past_row past = none_until scene cs p scene.value_count fits (λ k below. sym (tells k below) ∙ lowest.none k (omega arith))
 
--- so many rows are left from a place on
-pub record IsAtRow (d places p : ℕ) : Type 0 where
-  pub rows : ℕ
-  pub end : p + rows * d ≡ places
+-- ---- rows
 
 pub at_first_row : (d a : ℕ) → 1 ≤ a → IsAtRow d (d ^ a) 0
 at_first_row d zero some = absurd (omega arith)
@@ -106,9 +108,59 @@ row_fits d places p is low = go is.rows is.end
     go zero end = omega arith
     go (suc rows) end = omega (arith, suc-mul rows d)
 
+-- past the last row is the end
+pub at_end : (d places p : ℕ) → IsAtRow d places p → places ≤ p → p ≡ places
+at_end d places p is past = let end = is.end in omega arith
+
 pub at_next_row : (d places p : ℕ) → IsAtRow d places p → p < places → IsAtRow d places (p + d)
 at_next_row d places p is low = go is.rows is.end
   where
     go : (rows : ℕ) → p + rows * d ≡ places → IsAtRow d places (p + d)
     go zero end = absurd (omega arith)
     go (suc rows) end = record { rows = rows; end = omega (arith, suc-mul rows d) }
+
+pub from_first_row : (l : Language) (s : ℕ) (cs : List Choice) → 1 ≤ length (scope_at l s) → IsFoundFrom l s cs 0
+from_first_row l s cs some = record { found = refl; row = at_first_row l.value_count (length (scope_at l s)) some }
+
+pub from_next_row : (l : Language) (s : ℕ) (cs : List Choice) (p n mask y : ℕ) → IsFoundFrom l s cs p → p < l.value_count ^ length (scope_at l s) → l.value_count ≤ 64 → n ≡ l.value_count →
+    ((k : ℕ) → k < l.value_count → is_one mask k ≡ differ_at (scene_of l s) cs (p + k)) → IsLowest mask y → n ≤ y → IsFoundFrom l s cs (p + n)
+from_next_row l s cs p n mask y from low small row tells lowest past =
+    let fits = row_fits l.value_count (l.value_count ^ length (scope_at l s)) p from.row low in
+    record {
+      found = ap (λ k. find (tells_apart (scene_of l s) cs) (drop (p + k) (tuples l.value_count (length (scope_at l s))))) row
+          ∙ sym (found_past_row (scene_of l s) cs p mask y fits small tells lowest (omega arith)) ∙ from.found;
+      row = subst (λ k. IsAtRow l.value_count (l.value_count ^ length (scope_at l s)) (p + k)) (sym row) (at_next_row l.value_count (l.value_count ^ length (scope_at l s)) p from.row low);
+    }
+
+-- ---- few choices
+
+-- one choice doesn't differ from itself
+pub none_of_one : (scene : Scene) (cs : List Choice) → length cs ≤ 1 → splitting_tuple scene cs ≡ None
+none_of_one scene cs few = go (tuples scene.value_count scene.arity)
+  where
+    same : (cs : List Choice) → length cs ≤ 1 → (u : List ℕ) → tells_apart scene cs u ≡ false
+    same [] few u = refl
+    same (c ∷ []) few u = off (allows scene u c)
+      where
+        off : (b : Bool) → ((b || false) && (not b || false)) ≡ false
+        off true = refl
+        off false = refl
+    same (c ∷ d ∷ cs) few u = absurd (omega arith)
+
+    go : (us : List (List ℕ)) → find (tells_apart scene cs) us ≡ None
+    go [] = refl
+    go (u ∷ us) = ap (λ b. cond b (Some u) (find (tells_apart scene cs) us)) (same cs few u) ∙ go us
+
+-- a relation and none differ where the relation rejects
+pub differ_from_none : (scene : Scene) (r p : ℕ) → not (allows_at scene p (Some r)) ≡ differ_at scene (Some r ∷ None ∷ []) p
+differ_from_none scene r p = go (allows_at scene p (Some r))
+  where
+    go : (b : Bool) → not b ≡ ((b || (true || false)) && (not b || (false || false)))
+    go true = refl
+    go false = refl
+
+-- so where the relation's row has no one
+pub rejecting_row : (scene : Scene) (cs : List Choice) (r p row : ℕ) → row < 2 ^ 64 → scene.value_count ≤ 64 → beside_none cs ≡ Some r →
+    ((k : ℕ) → k < scene.value_count → is_one row k ≡ allows_at scene (p + k) (Some r)) → (k : ℕ) → k < scene.value_count → is_one (bit_not w64 row) k ≡ differ_at scene cs (p + k)
+rejecting_row scene cs r p row fits few is tells k low =
+    is_one-not row k fits (omega arith) ∙ ap not (tells k low) ∙ differ_from_none scene r (p + k) ∙ ap (λ ds. differ_at scene ds (p + k)) (sym (beside_none_is cs r is))

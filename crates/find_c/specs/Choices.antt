@@ -1,5 +1,5 @@
 -- Choices as the relations of a mask, with the choice of none or without it.
-use Rattle.std.specs.Prelude.{ℕ, ◌==◌, Bool, true, false, not, ◌&&◌, List, [], ◌∷◌, ◌++◌, map, Some, None, slice_index_or, if◌then◌else◌}
+use Rattle.std.specs.Prelude.{ℕ, ◌==◌, Bool, true, false, not, ◌&&◌, List, [], ◌∷◌, ◌++◌, map, Option, Some, None, slice_index_or, if◌then◌else◌}
 use Rattle.std.specs.List.{list_any}
 use Rattle.std.specs.Int.{bit_at}
 use Rattle.bias_store.specs.Masks.{ones_of}
@@ -8,6 +8,15 @@ use Rattle.language.specs.TellingApart.{Choice, Scene}
 -- the relations of a mask as choices, and none where it is one
 abbrev pub choices_of : ℕ → Bool → List Choice
 choices_of relations free = map (λ r. Some r) (ones_of relations) ++ (if free then None ∷ [] else [])
+
+-- the relation that is told apart from none, where there are no other choices
+abbrev pub beside_none : List Choice → Option ℕ
+beside_none [] = None
+beside_none (None ∷ choices) = None
+beside_none (Some r ∷ []) = None
+beside_none (Some r ∷ Some s ∷ choices) = None
+beside_none (Some r ∷ None ∷ []) = Some r
+beside_none (Some r ∷ None ∷ c ∷ choices) = None
 
 -- whether a choice accepts a tuple, given the mask of the relations that do
 abbrev pub is_accepting : ℕ → Choice → Bool

@@ -1,4 +1,5 @@
 pub mod Choices
 pub mod Run
+pub mod Inside
 pub mod Standing
 pub mod Rows

@@ -7,7 +7,7 @@ ghost use Rattle.std.specs.Int.{bit_at};
 ghost use Rattle.language.specs.Language.{IsLanguage, is_whole, scope_at, relations_on};
 ghost use Rattle.language.specs.Scenes.{scene_of};
 ghost use Rattle.language.specs.TellingApart.{remaining};
-ghost use Rattle.find_c.specs.Choices.{choices_of, is_accepting, differ_at};
+ghost use Rattle.find_c.specs.Choices.{choices_of, beside_none, is_accepting, differ_at};
 ghost use Rattle.find_c.specs.Run.{IsChoiceOn};
 
 use bias_store::split_first;
@@ -63,6 +63,31 @@ impl Choices {
         ensures { IsTrue result ↔ (self.now ≡ []) }
     {
         !self.free && self.relations == 0
+    }
+
+    /// Whether there is one choice at most.
+    pub fn is_single(&self) -> bool
+        ensures { IsTrue result ↔ (length self.now ≤ 1) }
+    {
+        if self.relations == 0 {
+            return true;
+        }
+        let (_, others) = split_first(self.relations);
+        !self.free && others == 0
+    }
+
+    /// The relation that is told apart from none, where there are no other choices.
+    pub fn beside_none(&self) -> Option<u8>
+        ensures { result ≡ beside_none self.now }
+    {
+        if !self.free {
+            return None;
+        }
+        if self.relations == 0 {
+            return None;
+        }
+        let (r, others) = split_first(self.relations);
+        if others == 0 { Some(r) } else { None }
     }
 
     /// Where two choices differ among the places from one on, one for each value of the last variable: bit y is 1 exactly

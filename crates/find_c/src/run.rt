@@ -1,11 +1,13 @@
 //! Telling the choices on a scope apart, a reply at a time.
 
-ghost use Rattle.std.specs.Prelude.{◌≡◌, ◌≢◌, ◌↔◌, ◌^◌, ◌<◌, Bool, List, [], ◌∷◌, ◌++◌, length, All};
-ghost use Rattle.language.specs.Language.{scope_at, IsQuestion};
+ghost use Rattle.std.specs.Prelude.{ℕ, ◌≡◌, ◌≢◌, ◌↔◌, ◌⊎◌, ◌^◌, ◌<◌, Bool, true, false, List, [], ◌∷◌, ◌++◌, length, Some, None, slice_index_or, All};
+ghost use Rattle.rel_table.specs.Relation.{tuples};
+ghost use Rattle.language.specs.Language.{is_whole, scope_at, IsQuestion};
 ghost use Rattle.bias_store.specs.KeptSet.{IsMadeFor};
 ghost use Rattle.language.specs.TellingApart.{Choice, splitting_tuple, after_reply};
 ghost use Rattle.language.specs.Scenes.{scene_of, on_scope, free_choices, violated_choices};
-ghost use Rattle.find_c.specs.Choices.{is_accepting, allows_at};
+ghost use Rattle.find_c.specs.Choices.{beside_none, is_accepting, allows_at};
+ghost use Rattle.find_c.specs.Inside.{IsFoundFrom, IsFurthest};
 ghost use Rattle.find_c.specs.Run.{IsRun, IsChoiceOn};
 ghost use Rattle.find_c.specs.Standing.{LeavesChoices, StandsFor};
 
@@ -69,6 +71,23 @@ impl RelRun {
         ensures some { result ≢ RelNext.Nothing }
     {
         settle(lang, s, Choices::new(kept.on_scope(s), true))
+    }
+
+    /// The run on all kept candidates on a scope, and none of them, where the place of its question is known: it isn't looked for.
+    pub fn asking(lang: &Language, kept: &Kept, s: ScopeId, place: u32) -> RelRun
+        requires made { IsMadeFor lang.now kept.now }
+        requires scope { s < length lang.now.scopes }
+        requires place { place < lang.now.value_count ^ length (scope_at lang.now s) }
+        ensures scope { result.scope ≡ s }
+        ensures choices { result.choices ≡ free_choices kept.now.members s }
+        ensures tuple { result.tuple ≡ slice_index_or (tuples lang.now.value_count (length (scope_at lang.now s))) place [] }
+    {
+        let relations = kept.on_scope(s);
+        RelRun {
+            scope: s,
+            choices: Choices::new(relations, true),
+            tuple: Tuple::at(lang.d(), lang.scope(s).len() as u8, place),
+        }
     }
 
     /// The scope whose relations are told apart.
@@ -160,11 +179,14 @@ fn splitting_tuple(lang: &Language, s: ScopeId, choices: &Choices) -> Option<Tup
     requires known { All (IsChoiceOn lang.now s) choices.now }
     ensures { result ≡ splitting_tuple (scene_of lang.now s) choices.now }
 {
+    if choices.is_single() {
+        return None;
+    }
     let value_count = lang.d();
     let row = u32::from(value_count);
     let size = lang.scope(s).len() as u8;
     let places = row.pow(u32::from(size));
-    let mut place = 0;
+    let mut place = first_row(lang, s, choices, places);
     while place < places {
         // 64, which is no value of a row, where they don't differ.
         let y = choices.differences(lang, s, place).trailing_zeros();
@@ -174,6 +196,36 @@ fn splitting_tuple(lang: &Language, s: ScopeId, choices: &Choices) -> Option<Tup
         place += row;
     }
     None
+}
+
+/// A row such that no two choices differ before it. Where one relation alone is told apart from none, on a scope whose variables
+/// have all values, it is the first on which the relation rejects a tuple, or the end: there may be thousands before it. Else it
+/// is the first row.
+fn first_row(lang: &Language, s: ScopeId, choices: &Choices, places: u32) -> u32
+    requires scope { s < length lang.now.scopes }
+    requires known { All (IsChoiceOn lang.now s) choices.now }
+    requires places { places ≡ lang.now.value_count ^ length (scope_at lang.now s) }
+    ensures found { IsFoundFrom lang.now s choices.now result }
+    ensures furthest { (r : ℕ) → beside_none choices.now ≡ Some r → is_whole lang.now s ≡ true → IsFurthest lang.now s choices.now result }
+    ensures first { (beside_none choices.now ≡ None) ⊎ (is_whole lang.now s ≡ false) → result ≡ 0 }
+{
+    let row = u32::from(lang.d());
+    let Some(r) = choices.beside_none() else {
+        return 0;
+    };
+    if !lang.is_whole(s) {
+        return 0;
+    }
+    let table = lang.table_on(s, r);
+    let mut place = 0;
+    while place < places {
+        let y = (!table.row(place)).trailing_zeros();
+        if y < row {
+            return place;
+        }
+        place += row;
+    }
+    place
 }
 
 /// The relations on a scope that accept the tuple at a place: bit r is 1 exactly where relation r does.

@@ -1,18 +1,20 @@
-use Rattle.std.proofs.Common.{◌≡◌, ◌+◌, ◌^◌, length, drop, get_or, Some, [], refl, sym, ◌∙◌, ap, subst, arith}
-use Rattle.std.specs.Prelude.{find}
+use Rattle.std.proofs.Common.{◌≡◌, ◌+◌, ◌^◌, length, get_or, Some, [], sym, ◌∙◌, ap, arith}
 use Rattle.std.specs.Int.{trailing_zeros, w64}
 use Rattle.rel_table.specs.Relation.{tuples}
 use Rattle.language.specs.Language.{scope_at}
-use Rattle.language.specs.TellingApart.{tells_apart}
 use Rattle.language.specs.Scenes.{scene_of}
 use Rattle.find_c.proofs.Lawful.{few_places}
-use Rattle.find_c.proofs.Splitting.{found_in_row, found_past_row, found_nowhere, lowest_is, IsAtRow, at_first_row, row_fits, at_next_row}
+use Rattle.find_c.proofs.Splitting.{found_in_row, found_nowhere, from_next_row, lowest_is, none_of_one, row_fits}
 use Rattle.find_c.proofs.run.splitting_tuple.Goals as goal
 
+pub returns-then-is_single : goal.returns-then-is_single
+returns-then-is_single c = sym (none_of_one (scene_of c.args.lang.now c.args.s) c.args.choices.now (c.is_single.ensures.0 c.if-is_single.true))
+
+pub first_row-place-requires-clause-places : goal.first_row-place-requires-clause-places
+first_row-place-requires-clause-places c = c.pow-places.ensures ∙ (λ i. (c.from-row.ensures ∙ c.d-value_count.ensures.is) i ^ (c.from.ensures ∙ ap length c.scope.ensures.is) i)
+
 pub loop-place-init : goal.loop-place-init
-loop-place-init c =
-    let scope = c.d-value_count.ensures.lawful.scopes c.args.s [] c.requires.scope in
-    record { found = refl; row = at_first_row c.args.lang.now.value_count (length (scope_at c.args.lang.now c.args.s)) scope.not_empty }
+loop-place-init c = c.first_row-place.ensures.found
 
 pub differences-y-requires-clause-row : goal.differences-y-requires-clause-row
 differences-y-requires-clause-row c =
@@ -48,18 +50,9 @@ pub loop-place-preserved : goal.loop-place-preserved
 loop-place-preserved c =
     let all : c.pow-places.result ≡ c.args.lang.now.value_count ^ length (scope_at c.args.lang.now c.args.s) = c.pow-places.ensures ∙ (λ i. (c.from-row.ensures ∙ c.d-value_count.ensures.is) i ^ (c.from.ensures ∙ ap length c.scope.ensures.is) i) in
     let low = c.loop-place-test.true in
-    let fits = row_fits c.args.lang.now.value_count (c.args.lang.now.value_count ^ length (scope_at c.args.lang.now c.args.s)) c.loop-place.place c.loop-place.invariant.row (omega arith) in
-    let row : c.from-row.result ≡ c.args.lang.now.value_count = c.from-row.ensures ∙ c.d-value_count.ensures.is in
     let past = c.if-y-row.false in
-    let y = trailing_zeros w64 c.differences-y.result in
-    record {
-      found = ap (λ n. find (tells_apart (scene_of c.args.lang.now c.args.s) c.args.choices.now) (drop (c.loop-place.place + n) (tuples c.args.lang.now.value_count (length (scope_at c.args.lang.now c.args.s))))) row
-          ∙ sym (found_past_row (scene_of c.args.lang.now c.args.s) c.args.choices.now c.loop-place.place c.differences-y.result y fits c.d-value_count.ensures.lawful.few_values c.differences-y.ensures
-          (lowest_is c.differences-y.result c.differences-y.type_inv) (omega arith))
-          ∙ c.loop-place.invariant.found;
-      row = subst (λ n. IsAtRow c.args.lang.now.value_count (c.args.lang.now.value_count ^ length (scope_at c.args.lang.now c.args.s)) (c.loop-place.place + n)) (sym row)
-          (at_next_row c.args.lang.now.value_count (c.args.lang.now.value_count ^ length (scope_at c.args.lang.now c.args.s)) c.loop-place.place c.loop-place.invariant.row (omega arith));
-    }
+    from_next_row c.args.lang.now c.args.s c.args.choices.now c.loop-place.place c.from-row.result c.differences-y.result (trailing_zeros w64 c.differences-y.result) c.loop-place.invariant (omega arith)
+    c.d-value_count.ensures.lawful.few_values (c.from-row.ensures ∙ c.d-value_count.ensures.is) c.differences-y.ensures (lowest_is c.differences-y.result c.differences-y.type_inv) (omega arith)
 
 pub returns : goal.returns
 returns c =
