@@ -10,3 +10,4 @@ pub mod Reached
 pub mod NoNew
 pub mod Scoped
 pub mod Opened
+pub mod Asked

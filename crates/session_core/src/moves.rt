@@ -95,6 +95,20 @@ impl Knowledge {
         first_run(&self.lang, &self.kept, self.next)
     }
 
+    /// The same, given its question: that isn't looked for again.
+    fn run_asking(&self, q: &Partial) -> Option<RelRun>
+        requires { let k = self.now in IsTrue (is_lawful k.lang Plan.Scopes k.kept.members k.network.list q.now) }
+        ensures { let k = self.now in FirstRun k.lang k.kept.members k.network.list result }
+    {
+        for s in self.next..self.lang.scopes() {
+            // It gives values to the variables of one scope alone.
+            if let Some(place) = self.lang.place_on(s as ScopeId, q) {
+                return Some(RelRun::asking(&self.lang, &self.kept, s as ScopeId, place));
+            }
+        }
+        self.first_run()
+    }
+
     /// The first question of the first scope whose choices differ. None where there is none.
     fn first_question(&self) -> Option<Partial>
         ensures is { let k = self.now in result ≡ scope_question k.lang k.kept.members k.network.list }
@@ -126,8 +140,7 @@ fn ask_first(mut knowledge: Box<Knowledge>, mut room: Box<Put>, q: Partial) -> A
     ensures plan { (knowledge_of (Session.Asking result)).plan ≡ knowledge.value.plan }
     ensures stands { StandsWhereIdle knowledge.value (Session.Asking result) }
 {
-    let _ = q;
-    match knowledge.first_run() {
+    match knowledge.run_asking(&q) {
         Some(run) => {
             knowledge.next = u32::from(run.scope());
             *room = Put::FirstTuple(run);
