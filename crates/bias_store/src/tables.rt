@@ -39,8 +39,8 @@ pub(crate) struct Tables {
     masks: Vec<u64>,
     /// For each scope the next one with another first variable, and past the last such one how many scopes there are.
     next: Vec<ScopeId>,
-    /// For each scope of two variables where its row ends: the scopes of a row have the same first variable, and their second ones
-    /// follow one another.
+    /// For each scope where its row ends; no greater than the scope, where it is in none. The scopes of a row have two variables and
+    /// one table: the same first variable, and second ones that follow one another.
     rows: Vec<ScopeId>,
 }
 
