@@ -15,11 +15,6 @@ and_false false = refl
 abbrev placed : Language → Assignment → List ℕ → Option ℕ
 placed l q xs = if covers q xs then Some (place l.value_count (tuple_on q xs)) else None
 
--- none, where the second variable has no value
-pub no_pair : (l : Language) (s : ℕ) (q : Assignment) (first second : ℕ) → scope_at l s ≡ first ∷ second ∷ [] → value_of q second ≡ None → None ≡ place_on l s q
-no_pair l s q first second is none =
-    sym (ap (λ b. if b then Some (place l.value_count (tuple_on q (first ∷ second ∷ []))) else None) (ap (λ o. is_some (value_of q first) && (is_some o && true)) none ∙ and_false (is_some (value_of q first)))) ∙ ap (placed l q) (sym is)
-
 of_two : (d : ℕ) (o p : Option ℕ) (x y : ℕ) → o ≡ Some x → p ≡ Some y → Some (x * d + y) ≡ (if is_some o && (is_some p && true) then Some ((0 * d + unwrap_or o 0) * d + unwrap_or p 0) else None)
 of_two d o p x y first second = sym (
     (λ i. if is_some (first i) && (is_some (second i) && true) then Some ((0 * d + unwrap_or (first i) 0) * d + unwrap_or (second i) 0) else None)

@@ -1,7 +1,6 @@
 -- Runs of scopes with the same first variable, and scopes that a question leaves open.
-use Rattle.std.proofs.Common.{◌≡◌, ℕ, ◌+◌, ◌-◌, ◌<◌, ◌≤◌, Bool, false, ◌&&◌, ◌||◌, not, List, [], ◌∷◌, length, get_or, None, refl, sym, ◌∙◌, ap, subst, arith, inl, inr, ◌⊎◌, get_or-set_same, get_or-set_other}
+use Rattle.std.proofs.Common.{◌≡◌, ℕ, ◌+◌, ◌-◌, ◌<◌, ◌≤◌, false, ◌&&◌, not, List, [], ◌∷◌, length, get_or, None, sym, ◌∙◌, ap, subst, arith, inl, inr, ◌⊎◌, get_or-set_same, get_or-set_other}
 use Rattle.std.specs.Prelude.{slice_set, replicate, is_some}
-use Rattle.std.specs.List.{list_any}
 use Rattle.std.proofs.lemmas.Bool.{cases_eq, false_from_ne_true}
 use Rattle.std.proofs.lemmas.List.{length-set, length-replicate, get_or-replicate}
 use Rattle.assign.specs.Assignment.{Assignment, value_of, covers, tuple_on}
@@ -84,10 +83,6 @@ open_violates l s q none r = ap (λ b. b && not (holds l.value_count (relation_o
 -- nothing on another scope than the only one that is covered
 pub open_elsewhere : (l : Language) (s : ℕ) (q : Assignment) (n : ℕ) → n ≡ length l.scopes → CoversOnly l s q → (k : ℕ) → k < n → (k ≡ s → ⊥) → (r : ℕ) → violates l (candidate_at k r) q ≡ false
 open_elsewhere l s q n all only k low other = open_violates l k q (false_from_ne_true _ (λ covered. other (only k (omega arith) covered)))
-
-pub none_of : (p : ℕ → Bool) (xs : List ℕ) → ((x : ℕ) → p x ≡ false) → list_any p xs ≡ false
-none_of p [] h = refl
-none_of p (x ∷ xs) h = ap (λ b. b || list_any p xs) (h x) ∙ none_of p xs h
 
 -- ---- one step of the way back from the last scope
 

@@ -5,17 +5,17 @@ use Rattle.std.specs.List.{filter, list_any}
 use Rattle.std.specs.Int.{bit_not, w64}
 use Rattle.std.proofs.lemmas.Bool.{cases_eq, cases_lt, eq-eqb, ne_eqb, or_parts, true_from_ne_false}
 use Rattle.std.proofs.lemmas.List.{length-set}
-use Rattle.std.proofs.lemmas.List.Elements.{All-filter, All-weaker}
+use Rattle.std.proofs.lemmas.List.Elements.{All-filter}
 use Rattle.std.proofs.lemmas.List.Filters.{length-filter_both}
 use Rattle.language.specs.declared.candidates.Candidate.{Candidate}
-use Rattle.language.specs.Language.{Language, IsCandidate, relations_on}
+use Rattle.language.specs.Language.{Language, IsCandidate}
 use Rattle.language.proofs.Lists.{nothing_passes}
 use Rattle.bias_store.specs.Masks.{ones_of}
 use Rattle.bias_store.specs.Accepting.{IsAcceptingOf}
 use Rattle.bias_store.specs.KeptSet.{KeptSet, IsMadeFor}
 use Rattle.bias_store.specs.Inside.{members_from}
 use Rattle.bias_store.proofs.Ones.{ones_of-zero, ones_of-and_not, no_ones}
-use Rattle.bias_store.proofs.Members.{candidate_at, length-members_set, fewer_on_one, known_on, filter_of_masks, all_pass}
+use Rattle.bias_store.proofs.Members.{candidate_at, length-members_set, fewer_on_one, filter_of_masks, all_pass}
 
 -- the scopes below s are struck, and the count is right
 pub record IsStruck (fails : Candidate → Bool) (old now : List ℕ) (s before count : ℕ) : Type 0 where
@@ -163,12 +163,6 @@ dropped_count masks s relations dropping count low here counts counted =
     (omega arith, omega arith)
 
 -- ---- made for a language
-
--- the relations of a mask are known
-pub known_relations : (l : Language) (masks : List ℕ) (s relations : ℕ) → All (IsCandidate l) (members_from 0 masks) → s < length masks → relations ≡ slice_index_or masks s 0 →
-    All (λ r. r < length (relations_on l s)) (ones_of relations)
-known_relations l masks s relations known low here = subst (λ m. All (λ r. r < length (relations_on l s)) (ones_of m)) (sym here)
-    (All-weaker (λ r. IsCandidate l (candidate_at s r)) (λ r. r < length (relations_on l s)) (λ r is. is.rel) (ones_of (slice_index_or masks s 0)) (known_on (IsCandidate l) masks s low known))
 
 -- a set with some of the members is made for the same languages
 pub made_still : (l : Language) (old new : KeptSet) (ok : Candidate → Bool) → IsMadeFor l old → new.scopes ≡ old.scopes → new.members ≡ filter ok old.members → new.accepting ≡ old.accepting → IsMadeFor l new
