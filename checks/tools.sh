@@ -1,0 +1,24 @@
+#!/bin/sh
+# Installs what checks beside the gate use and the machine lacks, where this runs as root and the system has packages: a C compiler
+# (memory.py), strace (faults.py) and a SAT solver (models.py, desk.py). It never fails: each check says by itself what it passes over.
+#
+# usage: checks/tools.sh
+set -u
+
+missing=
+command -v cc >/dev/null || missing="$missing gcc libc6-dev"
+command -v strace >/dev/null || missing="$missing strace"
+command -v cadical >/dev/null || command -v kissat >/dev/null || command -v minisat >/dev/null || command -v clasp >/dev/null ||
+    missing="$missing cadical"
+[ -n "$missing" ] || exit 0
+
+if [ "$(id -u)" -ne 0 ] || ! command -v apt-get >/dev/null; then
+    echo "tools: not installed, and checks that want them pass over what they can't do:$missing"
+    exit 0
+fi
+apt-get update >/dev/null 2>&1
+for package in $missing; do
+    DEBIAN_FRONTEND=noninteractive apt-get install -y --no-install-recommends "$package" >/dev/null 2>&1 ||
+        echo "tools: $package could not be installed, and checks that want it pass over what they can't do"
+done
+exit 0
