@@ -99,7 +99,7 @@ fn arrange_all(
 }
 
 impl Plan {
-    /// Room for so many conditions: some 22 bytes for each, and 64 KB for the masks of relations. `AllocError` where the
+    /// Room for so many conditions: some 23 bytes for each, and 64 KB for the masks of relations. `AllocError` where the
     /// allocator gives no memory.
     pub fn new(alloc: Global, room: usize) -> Result<Plan, AllocError>
         requires { room ≤ 65536 }
