@@ -65,7 +65,7 @@ fn narrow(cons: &Constraints, plan: &Plan, doms: &mut Domains, v: u8, x: u8) -> 
 
 impl Work {
     /// Room for a search: some 130 KB for the values of each depth, 64 KB for the masks of the relations of two variables, and
-    /// some 22 bytes for each of as many conditions as there are scopes, and one more. `Memory` where there is none.
+    /// some 23 bytes for each of as many conditions as there are scopes, and one more. `Memory` where there is none.
     ///
     /// With more conditions than that a search is as exact and slower.
     pub fn new(alloc: Global, lang: &Language) -> Result<Work, Memory>

@@ -1,19 +1,24 @@
--- Loose conditions stay consistent while a variable keeps two values.
+-- Bounded conditions stay consistent while a variable keeps more values than its limit.
 use Rattle.std.proofs.Common.{◌≡◌, ℕ, zero, suc, ◌+◌, ◌<◌, ◌≤◌, Bool, true, false, ◌||◌, List, [], ◌∷◌, length, refl, sym, ◌∙◌, ap, subst, arith, inl, inr, ◌⊎◌}
-use Rattle.std.specs.Prelude.{◌==◌, ◌≢◌, slice_index_or, All}
+use Rattle.std.specs.Prelude.{◌==◌, ◌≢◌, slice_index_or, slice_set, All}
 use Rattle.std.specs.List.{list_any, list_all}
+use Rattle.std.proofs.lemmas.List.{get_or-set_same, get_or-set_other}
 use Rattle.std.proofs.lemmas.Bool.{both_ways, cases_eq, eq-eqb, eqb-true, or_left, or_cases}
-use Rattle.assign.specs.Sets.{has, union}
-use Rattle.assign.specs.SetLemmas.{has-set_where}
+use Rattle.assign.specs.Sets.{has}
 use Rattle.propagators.specs.Families.{Family, Arc, sets_on, is_consistent, is_not_empty, size_of}
 use Rattle.propagators.specs.Supports.{AreBelow, AreDifferent, AreSettled, IsWithin, IsThrough, IsRevised}
-use Rattle.propagators.specs.Loose.{HasTwo}
+use Rattle.propagators.specs.Loose.{HasMore, IsBounded}
 use Rattle.propagators.specs.Pairs.{IsNarrowed}
-use Rattle.propagators.specs.Plans.{IsLoosePair, IsLooked, AreTight}
+use Rattle.propagators.specs.Plans.{IsLooked, AreLimits}
+use Rattle.propagators.specs.Briefs.{IsPairOf, IsBriefOf, AreBriefs, at_place, bound_at}
+use Rattle.propagators.specs.declared.plan.Bounds.{Bounds}
+use Rattle.propagators.specs.declared.plan.PairMasks.{PairMasks}
+use Rattle.propagators.specs.declared.briefs.Brief.{Brief}
+use Rattle.propagators.specs.declared.briefs.Brief.TheVariants.{Two, Other}
 use Rattle.propagators.proofs.Pruned.{consistent, supporting}
 use Rattle.propagators.proofs.Replacing.{supported_through, through_supported, member_place}
 use Rattle.propagators.proofs.Rounds.{AreSmall, stays_consistent, underway_begin, underway_step}
-use Rattle.propagators.proofs.Loose.{in_row, in_column, loose_consistent}
+use Rattle.propagators.proofs.Loose.{in_row, in_column, more_less, bounded_consistent}
 use Rattle.propagators.proofs.Conditions.{IsOver}
 use Rattle.propagators.proofs.Beside.{narrowed_others, apart_of}
 
@@ -38,19 +43,26 @@ pair_of xs ys accepted i x t = go t.tuple t.within t.at t.is
     go (p ∷ q ∷ []) h at is = record { first = p; second = q; in_first = h.0; in_second = h.1.0; is = is; at = at }
     go (p ∷ q ∷ r ∷ tuple) h at is = absurd h.1.1
 
-pub loose_stays : (d : ℕ) (a : Arc) (f g : Family) (v : ℕ) → IsLoosePair d a → AreDifferent a.scope → ((u : ℕ) → AreBelow d (slice_index_or g u [])) → ((u : ℕ) → u ≢ v → slice_index_or g u [] ≡ slice_index_or f u []) →
-    ((x : ℕ) → has (slice_index_or g v []) x ≡ true → has (slice_index_or f v []) x ≡ true) → HasTwo (slice_index_or g v []) → has a.scope v ≡ true → is_consistent f a.scope a.accepted ≡ true → is_consistent g a.scope a.accepted ≡ true
-loose_stays d a f g v pair different below others part two there ok = consistent a g (record {
-  at = λ i x low here. through_supported (sets_on g a.scope) a.accepted i x (at a.scope pair.long different there (λ j y l h. supported_through (sets_on f a.scope) a.accepted j y ((supporting a f ok).at j y l h)) i x low here);
+-- a bounded condition on two variables, each of whose limits is at least its bound
+pub record IsCapped (d : ℕ) (a : Arc) (limits : List ℕ) : Type 0 where
+  pub bounds : Bounds
+  pub long : length a.scope ≡ 2
+  pub is : IsBounded d a.accepted bounds
+  pub within : (j : ℕ) → j < length a.scope → at_place bounds j ≤ slice_index_or limits (slice_index_or a.scope j 0) 0
+
+pub bounded_stays : (d : ℕ) (a : Arc) (f g : Family) (v : ℕ) (limits : List ℕ) → d ≤ 128 → (pair : IsCapped d a limits) → AreDifferent a.scope → ((u : ℕ) → AreBelow d (slice_index_or g u [])) → ((u : ℕ) → u ≢ v → slice_index_or g u [] ≡ slice_index_or f u []) →
+    ((x : ℕ) → has (slice_index_or g v []) x ≡ true → has (slice_index_or f v []) x ≡ true) → HasMore (slice_index_or limits v 0) (slice_index_or g v []) → has a.scope v ≡ true → is_consistent f a.scope a.accepted ≡ true → is_consistent g a.scope a.accepted ≡ true
+bounded_stays d a f g v limits few pair different below others part more there ok = consistent a g (record {
+  at = λ i x low here. through_supported (sets_on g a.scope) a.accepted i x (at a.scope pair.long different there pair.within (λ j y l h. supported_through (sets_on f a.scope) a.accepted j y ((supporting a f ok).at j y l h)) i x low here);
 })
   where
-    at : (scope : List ℕ) → length scope ≡ 2 → AreDifferent scope → has scope v ≡ true →
+    at : (scope : List ℕ) → length scope ≡ 2 → AreDifferent scope → has scope v ≡ true → ((j : ℕ) → j < length scope → at_place pair.bounds j ≤ slice_index_or limits (slice_index_or scope j 0) 0) →
         ((j y : ℕ) → j < length scope → has (slice_index_or f (slice_index_or scope j 0) []) y ≡ true → IsThrough (sets_on f scope) a.accepted j y) →
         (i x : ℕ) → i < length scope → has (slice_index_or g (slice_index_or scope i 0) []) x ≡ true → IsThrough (sets_on g scope) a.accepted i x
-    at [] long different there old i x low here = absurd (omega arith)
-    at (u ∷ []) long different there old i x low here = absurd (omega arith)
-    at (u ∷ w ∷ r ∷ scope) long different there old i x low here = absurd (omega arith)
-    at (u ∷ w ∷ []) long different there old i x low here = go (cases_eq v u) i low here
+    at [] long different there within old i x low here = absurd (omega arith)
+    at (u ∷ []) long different there within old i x low here = absurd (omega arith)
+    at (u ∷ w ∷ r ∷ scope) long different there within old i x low here = absurd (omega arith)
+    at (u ∷ w ∷ []) long different there within old i x low here = go (cases_eq v u) i low here
       where
         u_w : u ≢ w
         u_w = apart_of u w different
@@ -72,11 +84,11 @@ loose_stays d a f g v pair different below others part two there ok = consistent
             let t = pair_of (slice_index_or f u []) (slice_index_or f w []) a.accepted 0 x (old 0 x (omega arith) was) in
             record { tuple = x ∷ t.second ∷ []; within = (here, (ap (λ ys. has ys t.second) (others w (λ e. u_w (sym same ∙ sym e))) ∙ t.in_second, tt)); at = refl; is = ap (λ k. a.accepted (k ∷ t.second ∷ [])) (sym t.at) ∙ t.is }
         go (inl same) (suc zero) low here =
-            let t = in_column d a.accepted pair.loose (slice_index_or g u []) x (below w x here) (below u) (subst (λ (k : ℕ). HasTwo (slice_index_or g k [])) same two) in
+            let t = in_column d a.accepted pair.bounds few pair.is (slice_index_or limits u 0) (slice_index_or g u []) x (below w x here) (below u) (subst (λ (k : ℕ). HasMore (slice_index_or limits k 0) (slice_index_or g k [])) same more) (within 0 (omega arith)) in
             record { tuple = t.0 ∷ x ∷ []; within = (t.1, (here, tt)); at = refl; is = t.2 }
         go (inl same) (suc (suc i)) low here = absurd (omega arith)
         go (inr other) zero low here =
-            let t = in_row d a.accepted pair.loose (slice_index_or g w []) x (below u x here) (below w) (subst (λ (k : ℕ). HasTwo (slice_index_or g k [])) (last other) two) in
+            let t = in_row d a.accepted pair.bounds few pair.is (slice_index_or limits w 0) (slice_index_or g w []) x (below u x here) (below w) (subst (λ (k : ℕ). HasMore (slice_index_or limits k 0) (slice_index_or g k [])) (last other) more) (within 1 (omega arith)) in
             record { tuple = x ∷ t.0 ∷ []; within = (here, (t.1, tt)); at = refl; is = t.2 }
         go (inr other) (suc zero) low here =
             let same = last other in
@@ -85,11 +97,11 @@ loose_stays d a f g v pair different below others part two there ok = consistent
             record { tuple = t.first ∷ x ∷ []; within = (ap (λ ys. has ys t.first) (others u (λ e. other (sym e))) ∙ t.in_first, (here, tt)); at = refl; is = ap (λ k. a.accepted (t.first ∷ k ∷ [])) (sym t.at) ∙ t.is }
         go (inr other) (suc (suc i)) low here = absurd (omega arith)
 
--- a variable lost values, has two, and loose conditions alone
-pub beside_lazy : (d : ℕ) (arcs : List Arc) (i : ℕ) (waiting : List ℕ) (f g : Family) (v : ℕ) (pass : ℕ → Bool) → AreSmall arcs → ((k : ℕ) (a : Arc) → k < length arcs → AreDifferent (slice_index_or arcs k a).scope) → i < length arcs →
-    list_all is_not_empty f ≡ true → ((a : Arc) → IsRevised (slice_index_or arcs i a) f g) → IsNarrowed v pass f g → size_of g < size_of f → ((u : ℕ) → AreBelow d (slice_index_or f u [])) → HasTwo (slice_index_or g v []) →
-    ((k : ℕ) (a : Arc) → k < length arcs → has (slice_index_or arcs k a).scope v ≡ true → IsLoosePair d (slice_index_or arcs k a)) → IsLooked arcs i waiting waiting f g
-beside_lazy d arcs i waiting f g v pass small different low full to narrowed less below two loose = record {
+-- a variable lost values, and has more than its limit
+pub beside_lazy : (d : ℕ) (arcs : List Arc) (i : ℕ) (waiting : List ℕ) (f g : Family) (v : ℕ) (pass : ℕ → Bool) (limits : List ℕ) → d ≤ 128 → AreSmall arcs → ((k : ℕ) (a : Arc) → k < length arcs → AreDifferent (slice_index_or arcs k a).scope) → i < length arcs →
+    list_all is_not_empty f ≡ true → ((a : Arc) → IsRevised (slice_index_or arcs i a) f g) → IsNarrowed v pass f g → size_of g < size_of f → ((u : ℕ) → AreBelow d (slice_index_or f u [])) → HasMore (slice_index_or limits v 0) (slice_index_or g v []) →
+    ((k : ℕ) (a : Arc) → k < length arcs → has (slice_index_or arcs k a).scope v ≡ true → IsCapped d (slice_index_or arcs k a) limits) → IsLooked arcs i waiting waiting f g
+beside_lazy d arcs i waiting f g v pass limits few small different low full to narrowed less below more capped = record {
   underway = underway_step arcs f f g i none low (underway_begin arcs f full) (to none);
   left = inr less;
   here = λ a under. (to a).consistent;
@@ -117,29 +129,53 @@ beside_lazy d arcs i waiting f g v pass small different low full to narrowed les
     stay k a under ok false lacking =
         stays_consistent (slice_index_or arcs k a) f g (v ∷ []) (small k a under) (λ u few no. narrowed_others f g v pass narrowed u (λ e. both_ways _ no (or_left _ _ (eq-eqb v u (sym e))))) (single (slice_index_or arcs k a).scope lacking) ok
     stay k a under ok true there =
-        loose_stays d (slice_index_or arcs k a) f g v (loose k a under there) (different k a under) (λ u x h. below u x ((to a).within u x h)) (narrowed_others f g v pass narrowed) (λ x h. (narrowed.values x h).0) two there ok
+        bounded_stays d (slice_index_or arcs k a) f g v limits few (capped k a under there) (different k a under) (λ u x h. below u x ((to a).within u x h)) (narrowed_others f g v pass narrowed) (λ x h. (narrowed.values x h).0) more there ok
 
--- ---- the variables that have other conditions
+-- ---- the limits of variables
 
 no_or : (a b : Bool) → (a || b) ≡ false → (a ≡ false) × (b ≡ false)
 no_or true b h = cc
 no_or false b h = (refl, h)
 
-pub tight_more : (d : ℕ) (arcs : List Arc) (i : ℕ) (tight more : List ℕ) → AreSmall arcs → i < length arcs →
-    ((v : ℕ) (a : Arc) → has (slice_index_or arcs i a).scope v ≡ true → has more v ≡ false → IsLoosePair d (slice_index_or arcs i a)) →
-    ((k v : ℕ) (a : Arc) → k < i → has (slice_index_or arcs k a).scope v ≡ true → has tight v ≡ false → IsLoosePair d (slice_index_or arcs k a)) →
-    (k v : ℕ) (a : Arc) → k < i + 1 → has (slice_index_or arcs k a).scope v ≡ true → has (union tight more) v ≡ false → IsLoosePair d (slice_index_or arcs k a)
-tight_more d arcs i tight more small low here old k v a below there none = go (cases_eq k i)
+-- the conditions of a variable whose limit is below 64 are bounded ones on two variables
+pub capped : (d : ℕ) (m : PairMasks) (arcs : List Arc) (briefs : List Brief) (limits : List ℕ) → AreBriefs d m arcs briefs → AreLimits arcs briefs limits →
+    (k v : ℕ) (a : Arc) → k < length arcs → k < length briefs → has (slice_index_or arcs k a).scope v ≡ true → slice_index_or limits v 0 < 64 → IsCapped d (slice_index_or arcs k a) limits
+capped d m arcs briefs limits told limited k v a low room there few = go (slice_index_or briefs k Other) refl
   where
-    few : v < 128
-    few = (let at = member_place (slice_index_or arcs k a).scope v there in let bound = small k a (omega arith) at.0 0 at.1 in omega (arith, at.2))
+    go : (b : Brief) → slice_index_or briefs k Other ≡ b → IsCapped d (slice_index_or arcs k a) limits
+    go (Two p) e =
+        let is : IsPairOf d m (slice_index_or arcs k a) p = subst (IsBriefOf d m (slice_index_or arcs k a)) e (told k a Other room low) in
+        record {
+          bounds = p.bounds;
+          long = ap length is.scope;
+          is = is.bounds;
+          within = λ j l. subst (λ (b : Brief). bound_at b j ≤ slice_index_or limits (slice_index_or (slice_index_or arcs k a).scope j 0) 0) e (limited k j a Other room low l);
+        }
+    go Other e =
+        let at = member_place (slice_index_or arcs k a).scope v there in
+        let most : 64 ≤ slice_index_or limits (slice_index_or (slice_index_or arcs k a).scope at.0 0) 0 = subst (λ (b : Brief). bound_at b at.0 ≤ slice_index_or limits (slice_index_or (slice_index_or arcs k a).scope at.0 0) 0) e (limited k at.0 a Other room low at.1) in
+        let here : 64 ≤ slice_index_or limits v 0 = subst (λ (u : ℕ). 64 ≤ slice_index_or limits u 0) at.2 most in
+        absurd (omega arith)
 
-    parts : (has tight v ≡ false) × (has more v ≡ false)
-    parts = no_or _ _ (sym (has-set_where (λ w. has tight w || has more w) v few) ∙ none)
+-- one condition more
+pub limits_next : (arcs : List Arc) (briefs : List Brief) (limits raised scope : List ℕ) (i : ℕ) (new : Brief) → i < length briefs → ((a : Arc) → (slice_index_or arcs i a).scope ≡ scope) →
+    ((j : ℕ) → j < length scope → bound_at new j ≤ slice_index_or raised (slice_index_or scope j 0) 0) → ((u : ℕ) → slice_index_or limits u 0 ≤ slice_index_or raised u 0) →
+    ((k j : ℕ) (a : Arc) (b : Brief) → k < i → j < length (slice_index_or arcs k a).scope → bound_at (slice_index_or briefs k b) j ≤ slice_index_or limits (slice_index_or (slice_index_or arcs k a).scope j 0) 0) →
+    (k j : ℕ) (a : Arc) (b : Brief) → k < i + 1 → j < length (slice_index_or arcs k a).scope → bound_at (slice_index_or (slice_set briefs i new) k b) j ≤ slice_index_or raised (slice_index_or (slice_index_or arcs k a).scope j 0) 0
+limits_next arcs briefs limits raised scope i new room is there grows old k j a b low l = go (cases_eq k i)
+  where
+    at : List ℕ → ℕ
+    at xs = slice_index_or raised (slice_index_or xs j 0) 0
 
-    go : (k ≡ i) ⊎ (k ≢ i) → IsLoosePair d (slice_index_or arcs k a)
-    go (inl same) = subst (λ (j : ℕ). IsLoosePair d (slice_index_or arcs j a)) (sym same) (here v a (ap (λ j. has (slice_index_or arcs j a).scope v) (sym same) ∙ there) parts.1)
-    go (inr other) = old k v a (omega arith) there parts.0
+    go : (k ≡ i) ⊎ (k ≢ i) → bound_at (slice_index_or (slice_set briefs i new) k b) j ≤ at (slice_index_or arcs k a).scope
+    go (inl same) =
+        let on : (slice_index_or arcs k a).scope ≡ scope = ap (λ (q : ℕ). (slice_index_or arcs q a).scope) same ∙ is a in
+        let brief : slice_index_or (slice_set briefs i new) k b ≡ new = ap (λ (q : ℕ). slice_index_or (slice_set briefs i new) q b) same ∙ get_or-set_same briefs i new b room in
+        subst (λ (c : Brief). bound_at c j ≤ at (slice_index_or arcs k a).scope) (sym brief)
+        (subst (λ (xs : List ℕ). bound_at new j ≤ at xs) (sym on) (there j (subst (λ (xs : List ℕ). j < length xs) on l)))
+    go (inr other) =
+        subst (λ (c : Brief). bound_at c j ≤ at (slice_index_or arcs k a).scope) (sym (get_or-set_other briefs i k new b other))
+        (let before = old k j a b (omega arith) l in let more = grows (slice_index_or (slice_index_or arcs k a).scope j 0) in omega arith)
 
 -- ---- at first
 
@@ -152,22 +188,25 @@ head_there : (scope : List ℕ) → 1 ≤ length scope → has scope (slice_inde
 head_there [] some = absurd (omega arith)
 head_there (v ∷ scope) some = or_left _ _ (eq-eqb v v refl)
 
--- a condition is settled where its variables have two values and loose conditions alone
-pub settled_first : (d n : ℕ) (arcs : List Arc) (count : ℕ) (tight changed : List ℕ) (f : Family) → All (IsOver n) arcs → n ≤ 128 → length arcs ≤ count → AreTight d arcs count tight → ((v : ℕ) → AreBelow d (slice_index_or f v [])) →
-    ((u : ℕ) → u < 128 → has changed u ≡ false → has tight u ≡ false) → ((u : ℕ) → u < n → has changed u ≡ false → HasTwo (slice_index_or f u [])) → AreSettled arcs changed f
-settled_first d n arcs count tight changed f over few room are below part two = λ k a low none.
+-- a condition is settled where its variables have more values than their limits
+pub settled_first : (d n : ℕ) (m : PairMasks) (arcs : List Arc) (briefs : List Brief) (limits changed : List ℕ) (f : Family) → d ≤ 128 → All (IsOver n) arcs → length arcs ≤ length briefs → AreBriefs d m arcs briefs → AreLimits arcs briefs limits → ((v : ℕ) → AreBelow d (slice_index_or f v [])) →
+    ((u : ℕ) → u < n → has changed u ≡ false → HasMore (slice_index_or limits u 0) (slice_index_or f u [])) → AreSettled arcs changed f
+settled_first d n m arcs briefs limits changed f few over room told limited below more = λ k a low none.
     (let on = over k a low in
     let some = on.some in
-    let first = on.known 0 0 (omega arith) in
-    let loose = are k (slice_index_or (slice_index_or arcs k a).scope 0 0) a low (omega arith) (head_there (slice_index_or arcs k a).scope some)
-    (part (slice_index_or (slice_index_or arcs k a).scope 0 0) (omega arith) (untouched_at changed (slice_index_or arcs k a).scope none 0 0 (omega arith))) in
-    loose_consistent d (slice_index_or arcs k a) f loose.loose loose.long below (λ j e l. two (slice_index_or (slice_index_or arcs k a).scope j e) (on.known j e l) (untouched_at changed (slice_index_or arcs k a).scope none j e l)))
+    let many : (j : ℕ) → j < length (slice_index_or arcs k a).scope → HasMore (slice_index_or limits (slice_index_or (slice_index_or arcs k a).scope j 0) 0) (slice_index_or f (slice_index_or (slice_index_or arcs k a).scope j 0) []) =
+    λ j l. more (slice_index_or (slice_index_or arcs k a).scope j 0) (on.known j 0 l) (untouched_at changed (slice_index_or arcs k a).scope none j 0 l) in
+    let pair = capped d m arcs briefs limits told limited k (slice_index_or (slice_index_or arcs k a).scope 0 0) a low (omega arith) (head_there (slice_index_or arcs k a).scope some) (many 0 some).low in
+    let long = pair.long in
+    let first : 0 < length (slice_index_or arcs k a).scope = omega arith in
+    let second : 1 < length (slice_index_or arcs k a).scope = omega arith in
+    bounded_consistent d (slice_index_or arcs k a) f pair.bounds few pair.is pair.long below (more_less _ _ _ (pair.within 0 first) (many 0 first)) (more_less _ _ _ (pair.within 1 second) (many 1 second)))
 
 -- one variable more was looked at
-pub two_more : (f : Family) (changed next : List ℕ) (v : ℕ) → v < 128 → ((u : ℕ) → u < 128 → has next u ≡ false → has changed u ≡ false) → (has next v ≡ false → HasTwo (slice_index_or f v [])) →
-    ((u : ℕ) → u < v → has changed u ≡ false → HasTwo (slice_index_or f u [])) → (u : ℕ) → u < v + 1 → has next u ≡ false → HasTwo (slice_index_or f u [])
-two_more f changed next v few grows here old u low none = go (cases_eq u v)
+pub more_next : (f : Family) (limits changed next : List ℕ) (v : ℕ) → v < 128 → ((u : ℕ) → u < 128 → has next u ≡ false → has changed u ≡ false) → (has next v ≡ false → HasMore (slice_index_or limits v 0) (slice_index_or f v [])) →
+    ((u : ℕ) → u < v → has changed u ≡ false → HasMore (slice_index_or limits u 0) (slice_index_or f u [])) → (u : ℕ) → u < v + 1 → has next u ≡ false → HasMore (slice_index_or limits u 0) (slice_index_or f u [])
+more_next f limits changed next v few grows here old u low none = go (cases_eq u v)
   where
-    go : (u ≡ v) ⊎ (u ≢ v) → HasTwo (slice_index_or f u [])
-    go (inl same) = subst (λ (k : ℕ). HasTwo (slice_index_or f k [])) (sym same) (here (ap (λ k. has next k) (sym same) ∙ none))
+    go : (u ≡ v) ⊎ (u ≢ v) → HasMore (slice_index_or limits u 0) (slice_index_or f u [])
+    go (inl same) = subst (λ (k : ℕ). HasMore (slice_index_or limits k 0) (slice_index_or f k [])) (sym same) (here (ap (λ k. has next k) (sym same) ∙ none))
     go (inr other) = old u (omega arith) (grows u (omega arith) none)

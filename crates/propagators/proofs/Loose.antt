@@ -1,21 +1,21 @@
--- Conditions that take nothing away while their two variables have two values.
-use Rattle.std.proofs.Common.{◌≡◌, ℕ, zero, suc, ◌+◌, ◌*◌, ◌<◌, ◌≤◌, Bool, true, false, ◌&&◌, ◌||◌, not, List, [], ◌∷◌, length, take, refl, sym, ◌∙◌, ap, subst, arith, inl, inr, ◌⊎◌}
+-- Conditions that take nothing away while their two variables have more values than they reject.
+use Rattle.std.proofs.Common.{◌≡◌, ℕ, zero, suc, ◌+◌, ◌*◌, ◌<◌, ◌≤◌, Bool, true, false, cond, ◌&&◌, ◌||◌, not, List, [], ◌∷◌, length, take, refl, sym, ◌∙◌, ap, subst, arith, inl, inr, ◌⊎◌, lit≤}
 use Rattle.std.specs.Prelude.{◌==◌, ◌≢◌, slice_index_or, All}
-use Rattle.std.specs.List.{fold, list_any, list_all}
+use Rattle.std.specs.List.{filter, range_with_len, list_any, list_all}
 use Rattle.std.specs.Int.{bit_at}
 use Rattle.std.proofs.lemmas.List.{take_more, take_all}
 use Rattle.std.proofs.lemmas.List.Elements.{All-head, All-tail, All-push}
-use Rattle.std.proofs.lemmas.Bool.{and_parts, and_from, or_left, or_right, both_ways, not-true, cases_eq, eq-eqb, eqb-true}
-use Rattle.assign.specs.Sets.{numbers, has, minus, is_within}
-use Rattle.assign.specs.SetLemmas.{has-set_where}
-use Rattle.rel_table.specs.Table.{TruthTable, truth_at}
-use Rattle.language.specs.declared.candidates.Candidate.{Candidate}
-use Rattle.language.specs.Language.{Language, relation_of}
-use Rattle.language.proofs.Members.{any_number}
+use Rattle.std.proofs.lemmas.Bool.{and_parts, and_from, or_left, or_right, or_cases, both_ways, not-true, cases_eq, eq-eqb, eqb-true}
+use Rattle.assign.specs.Sets.{numbers, has, set_where, minus, is_within, IsSet}
+use Rattle.assign.specs.SetLemmas.{has-set_where, filter_agree_from}
 use Rattle.propagators.specs.Values.{ones_of}
-use Rattle.propagators.specs.Families.{Family, Arc, is_wanted, arc_of, sets_on, is_consistent}
-use Rattle.propagators.specs.Supports.{IsThrough, AreBelow, continues}
-use Rattle.propagators.specs.Loose.{HasTwo, IsLoose}
+use Rattle.propagators.specs.Families.{Family, Arc, is_wanted, sets_on, is_consistent}
+use Rattle.propagators.specs.Supports.{IsThrough, AreBelow}
+use Rattle.propagators.specs.Loose.{HasTwo, HasMore, IsBounded, rejected_of}
+use Rattle.propagators.specs.declared.plan.Bounds.{Bounds}
+use Rattle.propagators.specs.ValueLemmas.{filter_front}
+use Rattle.propagators.proofs.Ones.{has-ones_of, ones_of-passing}
+use Rattle.assign.proofs.Masks.{canonical, rises_filter}
 use Rattle.propagators.proofs.Pruned.{consistent, has_head}
 use Rattle.propagators.proofs.Replacing.{through_supported}
 
@@ -43,89 +43,82 @@ one_member xs rest x goes none y z at_y at_z = sym (is y at_y) ∙ is z at_z
         go true same lost = eqb-true x w same
         go false other lost = absurd (both_ways _ lost (and_from _ _ at (ap not other)))
 
--- ---- a loose condition
+-- ---- more values than are rejected
 
-module _ (d : ℕ) (accepted : List ℕ → Bool) (loose : IsLoose d accepted) where
-  -- each value of the first variable goes with one of two values of the second
-  pub in_row : (xs : List ℕ) (x : ℕ) → x < d → AreBelow d xs → HasTwo xs → (y : ℕ) × (has xs y ≡ true) × (accepted (x ∷ y ∷ []) ≡ true)
-  in_row xs x low below two = go (accepted (x ∷ two.first ∷ [])) (accepted (x ∷ two.second ∷ [])) refl refl
-    where
-      go : (a b : Bool) → accepted (x ∷ two.first ∷ []) ≡ a → accepted (x ∷ two.second ∷ []) ≡ b → (y : ℕ) × (has xs y ≡ true) × (accepted (x ∷ y ∷ []) ≡ true)
-      go true b e f = (two.first, two.there, e)
-      go false true e f = (two.second, two.also, f)
-      go false false e f = absurd (two.apart (loose.rows x two.first two.second low (below two.first two.there) (below two.second two.also) e f))
-
-  pub in_column : (xs : List ℕ) (y : ℕ) → y < d → AreBelow d xs → HasTwo xs → (x : ℕ) × (has xs x ≡ true) × (accepted (x ∷ y ∷ []) ≡ true)
-  in_column xs y low below two = go (accepted (two.first ∷ y ∷ [])) (accepted (two.second ∷ y ∷ [])) refl refl
-    where
-      go : (a b : Bool) → accepted (two.first ∷ y ∷ []) ≡ a → accepted (two.second ∷ y ∷ []) ≡ b → (x : ℕ) × (has xs x ≡ true) × (accepted (x ∷ y ∷ []) ≡ true)
-      go true b e f = (two.first, two.there, e)
-      go false true e f = (two.second, two.also, f)
-      go false false e f = absurd (two.apart (loose.columns two.first two.second y (below two.first two.there) (below two.second two.also) low e f))
-
-pub loose_consistent : (d : ℕ) (a : Arc) (f : Family) → IsLoose d a.accepted → length a.scope ≡ 2 → ((v : ℕ) → AreBelow d (slice_index_or f v [])) → All (λ v. HasTwo (slice_index_or f v [])) a.scope → is_consistent f a.scope a.accepted ≡ true
-loose_consistent d a f loose long below two = consistent a f (record { at = λ i x low here. through_supported (sets_on f a.scope) a.accepted i x (at a.scope long two i x low here) })
+-- a member that passes, or none
+search_in : (q : ℕ → Bool) (xs : List ℕ) → ((x : ℕ) × (has xs x ≡ true) × (q x ≡ true)) ⊎ ((x : ℕ) → has xs x ≡ true → q x ≡ false)
+search_in q [] = inr (λ x h. absurd (both_ways _ refl h))
+search_in q (x ∷ xs) = go (q x) refl (search_in q xs)
   where
-    at : (scope : List ℕ) → length scope ≡ 2 → All (λ v. HasTwo (slice_index_or f v [])) scope → (i x : ℕ) → i < length scope → has (slice_index_or f (slice_index_or scope i 0) []) x ≡ true → IsThrough (sets_on f scope) a.accepted i x
-    at [] long two i x low here = absurd (omega arith)
-    at (u ∷ []) long two i x low here = absurd (omega arith)
-    at (u ∷ v ∷ []) long two zero x low here =
-        let other = in_row d a.accepted loose (slice_index_or f v []) x (below u x here) (below v) (two 1 0 (omega arith)) in
+    go : (b : Bool) → q x ≡ b → ((y : ℕ) × (has xs y ≡ true) × (q y ≡ true)) ⊎ ((y : ℕ) → has xs y ≡ true → q y ≡ false) → ((y : ℕ) × (has (x ∷ xs) y ≡ true) × (q y ≡ true)) ⊎ ((y : ℕ) → has (x ∷ xs) y ≡ true → q y ≡ false)
+    go true at rest = inl (x, has_head x xs, at)
+    go false at (inl found) = inl (found.0, or_right _ _ found.1, found.2)
+    go false at (inr none) = inr (λ y h. pick y (or_cases (x == y) (has xs y) h))
+      where
+        pick : (y : ℕ) → ((x == y) ≡ true) ⊎ (has xs y ≡ true) → q y ≡ false
+        pick y (inl same) = ap q (sym (eqb-true x y same)) ∙ at
+        pick y (inr later) = none y later
+
+-- a stronger test keeps no more
+fewer_kept : (p q : ℕ → Bool) (a n : ℕ) → ((x : ℕ) → p x ≡ true → q x ≡ true) → length (filter p (range_with_len a n)) ≤ length (filter q (range_with_len a n))
+fewer_kept p q a zero h = omega arith
+fewer_kept p q a (suc n) h = go (p a) (q a) refl refl (fewer_kept p q (a + 1) n h)
+  where
+    go : (b c : Bool) → p a ≡ b → q a ≡ c → length (filter p (range_with_len (a + 1) n)) ≤ length (filter q (range_with_len (a + 1) n)) →
+        length (cond b (a ∷ filter p (range_with_len (a + 1) n)) (filter p (range_with_len (a + 1) n))) ≤ length (cond c (a ∷ filter q (range_with_len (a + 1) n)) (filter q (range_with_len (a + 1) n)))
+    go true true e f rest = omega arith
+    go true false e f rest = absurd (both_ways _ f (h a e))
+    go false true e f rest = omega arith
+    go false false e f rest = rest
+
+-- a set of numbers below d, by its members
+set_below : (d : ℕ) (xs : List ℕ) → d ≤ 128 → IsSet xs → AreBelow d xs → filter (has xs) (numbers d) ≡ xs
+unfolding set_where
+set_below d xs few set below = sym (filter_front (has xs) 0 d 128 few (λ v high. out v high (has xs v) refl)) ∙ canonical xs set
+  where
+    out : (v : ℕ) → 0 + d ≤ v → (b : Bool) → has xs v ≡ b → b ≡ false
+    out v high false e = refl
+    out v high true e = absurd (let low = below v e in omega arith)
+
+-- of more values than are rejected one is accepted
+pub one_accepted : (d k : ℕ) (q : ℕ → Bool) (xs : List ℕ) → d ≤ 128 → HasMore k xs → AreBelow d xs → rejected_of d q ≤ k → (x : ℕ) × (has xs x ≡ true) × (q x ≡ true)
+one_accepted d k q xs few more below bound = go (search_in q xs)
+  where
+    go : ((x : ℕ) × (has xs x ≡ true) × (q x ≡ true)) ⊎ ((x : ℕ) → has xs x ≡ true → q x ≡ false) → (x : ℕ) × (has xs x ≡ true) × (q x ≡ true)
+    go (inl found) = found
+    go (inr none) = absurd (
+        let long : length (filter (has xs) (numbers d)) ≡ length xs = ap length (set_below d xs few more.set below) in
+        let fewer : length (filter (has xs) (numbers d)) ≤ length (filter (λ x. not (q x)) (numbers d)) = fewer_kept (has xs) (λ x. not (q x)) 0 d (λ x h. ap not (none x h)) in
+        let many = more.more in
+        omega arith)
+
+pub more_less : (j k : ℕ) (xs : List ℕ) → j ≤ k → HasMore k xs → HasMore j xs
+more_less j k xs le is = record { set = is.set; more = (let more = is.more in omega arith); low = (let low = is.low in omega arith) }
+
+module _ (d : ℕ) (accepted : List ℕ → Bool) (b : Bounds) (few : d ≤ 128) (bounded : IsBounded d accepted b) where
+  -- a value of the first variable goes with one of many values of the second
+  pub in_row : (k : ℕ) (xs : List ℕ) (x : ℕ) → x < d → AreBelow d xs → HasMore k xs → b.second ≤ k → (y : ℕ) × (has xs y ≡ true) × (accepted (x ∷ y ∷ []) ≡ true)
+  in_row k xs x low below more le = one_accepted d b.second (λ y. accepted (x ∷ y ∷ [])) xs few (more_less b.second k xs le more) below (bounded.second x low)
+
+  pub in_column : (k : ℕ) (xs : List ℕ) (y : ℕ) → y < d → AreBelow d xs → HasMore k xs → b.first ≤ k → (x : ℕ) × (has xs x ≡ true) × (accepted (x ∷ y ∷ []) ≡ true)
+  in_column k xs y low below more le = one_accepted d b.first (λ x. accepted (x ∷ y ∷ [])) xs few (more_less b.first k xs le more) below (bounded.first y low)
+
+pub bounded_consistent : (d : ℕ) (a : Arc) (f : Family) (b : Bounds) → d ≤ 128 → IsBounded d a.accepted b → length a.scope ≡ 2 → ((v : ℕ) → AreBelow d (slice_index_or f v [])) →
+    HasMore b.first (slice_index_or f (slice_index_or a.scope 0 0) []) → HasMore b.second (slice_index_or f (slice_index_or a.scope 1 0) []) → is_consistent f a.scope a.accepted ≡ true
+bounded_consistent d a f b few bounded long below first second = consistent a f (record { at = λ i x low here. through_supported (sets_on f a.scope) a.accepted i x (at a.scope long first second i x low here) })
+  where
+    at : (scope : List ℕ) → length scope ≡ 2 → HasMore b.first (slice_index_or f (slice_index_or scope 0 0) []) → HasMore b.second (slice_index_or f (slice_index_or scope 1 0) []) →
+        (i x : ℕ) → i < length scope → has (slice_index_or f (slice_index_or scope i 0) []) x ≡ true → IsThrough (sets_on f scope) a.accepted i x
+    at [] long one two i x low here = absurd (omega arith)
+    at (u ∷ []) long one two i x low here = absurd (omega arith)
+    at (u ∷ v ∷ []) long one two zero x low here =
+        let other = in_row d a.accepted b few bounded b.second (slice_index_or f v []) x (below u x here) (below v) two (omega arith) in
         record { tuple = x ∷ other.0 ∷ []; within = (here, (other.1, tt)); at = refl; is = other.2 }
-    at (u ∷ v ∷ []) long two (suc zero) x low here =
-        let other = in_column d a.accepted loose (slice_index_or f u []) x (below v x here) (below u) (two 0 0 (omega arith)) in
+    at (u ∷ v ∷ []) long one two (suc zero) x low here =
+        let other = in_column d a.accepted b few bounded b.first (slice_index_or f u []) x (below v x here) (below u) one (omega arith) in
         record { tuple = other.0 ∷ x ∷ []; within = (other.1, (here, tt)); at = refl; is = other.2 }
-    at (u ∷ v ∷ []) long two (suc (suc i)) x low here = absurd (omega arith)
-    at (u ∷ v ∷ w ∷ scope) long two i x low here = absurd (omega arith)
-
--- ---- rows, one after another
-
--- the first x rows reject no two values, and what they reject is seen
-pub record IsLooseBelow (d : ℕ) (accepted : List ℕ → Bool) (x seen : ℕ) : Type 0 where
-  pub rows : (w y z : ℕ) → w < x → y < d → z < d → accepted (w ∷ y ∷ []) ≡ false → accepted (w ∷ z ∷ []) ≡ false → y ≡ z
-  pub noted : (w y : ℕ) → w < x → y < d → accepted (w ∷ y ∷ []) ≡ false → has (ones_of seen) y ≡ true
-  pub columns : (u w y : ℕ) → u < x → w < x → y < d → accepted (u ∷ y ∷ []) ≡ false → accepted (w ∷ y ∷ []) ≡ false → u ≡ w
-
-pub loose_begin : (d : ℕ) (accepted : List ℕ → Bool) (seen : ℕ) → IsLooseBelow d accepted 0 seen
-loose_begin d accepted seen = record {
-  rows = λ w y z low. absurd (omega arith);
-  noted = λ w y low. absurd (omega arith);
-  columns = λ u w y low. absurd (omega arith);
-}
-
-pub loose_more : (d : ℕ) (accepted : List ℕ → Bool) (x seen rejected next : ℕ) → IsLooseBelow d accepted x seen →
-    ((y : ℕ) → y < d → accepted (x ∷ y ∷ []) ≡ false → has (ones_of rejected) y ≡ true) →
-    ((y z : ℕ) → has (ones_of rejected) y ≡ true → has (ones_of rejected) z ≡ true → y ≡ z) →
-    ((y : ℕ) → has (ones_of seen) y ≡ true → has (ones_of rejected) y ≡ true → ⊥) →
-    ((y : ℕ) → has (ones_of next) y ≡ (has (ones_of seen) y || has (ones_of rejected) y)) → IsLooseBelow d accepted (x + 1) next
-loose_more d accepted x seen rejected next is has_rejected single apart joins = record {
-  rows = λ w y z low ly lz e f. rows w y z low ly lz e f (cases_eq w x);
-  noted = λ w y low ly e. noted w y low ly e (cases_eq w x);
-  columns = λ u w y lu lw ly e f. columns u w y lu lw ly e f (cases_eq u x) (cases_eq w x);
-}
-  where
-    here : (w y : ℕ) → w ≡ x → y < d → accepted (w ∷ y ∷ []) ≡ false → has (ones_of rejected) y ≡ true
-    here w y same ly e = has_rejected y ly (ap (λ v. accepted (v ∷ y ∷ [])) (sym same) ∙ e)
-
-    rows : (w y z : ℕ) → w < x + 1 → y < d → z < d → accepted (w ∷ y ∷ []) ≡ false → accepted (w ∷ z ∷ []) ≡ false → (w ≡ x) ⊎ (w ≢ x) → y ≡ z
-    rows w y z low ly lz e f (inl same) = single y z (here w y same ly e) (here w z same lz f)
-    rows w y z low ly lz e f (inr other) = is.rows w y z (omega arith) ly lz e f
-
-    noted : (w y : ℕ) → w < x + 1 → y < d → accepted (w ∷ y ∷ []) ≡ false → (w ≡ x) ⊎ (w ≢ x) → has (ones_of next) y ≡ true
-    noted w y low ly e (inl same) = joins y ∙ or_right _ _ (here w y same ly e)
-    noted w y low ly e (inr other) = joins y ∙ or_left _ _ (is.noted w y (omega arith) ly e)
-
-    columns : (u w y : ℕ) → u < x + 1 → w < x + 1 → y < d → accepted (u ∷ y ∷ []) ≡ false → accepted (w ∷ y ∷ []) ≡ false → (u ≡ x) ⊎ (u ≢ x) → (w ≡ x) ⊎ (w ≢ x) → u ≡ w
-    columns u w y lu lw ly e f (inl a) (inl b) = a ∙ sym b
-    columns u w y lu lw ly e f (inl a) (inr b) = absurd (apart y (is.noted w y (omega arith) ly f) (here u y a ly e))
-    columns u w y lu lw ly e f (inr a) (inl b) = absurd (apart y (is.noted u y (omega arith) ly e) (here w y b ly f))
-    columns u w y lu lw ly e f (inr a) (inr b) = is.columns u w y (omega arith) (omega arith) ly e f
-
-pub loose_end : (d : ℕ) (accepted : List ℕ → Bool) (x seen : ℕ) → d ≤ x → IsLooseBelow d accepted x seen → IsLoose d accepted
-loose_end d accepted x seen all is = record {
-  rows = λ w y z lw ly lz e f. is.rows w y z (omega arith) ly lz e f;
-  columns = λ u w y lu lw ly e f. is.columns u w y (omega arith) (omega arith) ly e f;
-}
+    at (u ∷ v ∷ []) long one two (suc (suc i)) x low here = absurd (omega arith)
+    at (u ∷ v ∷ w ∷ scope) long one two i x low here = absurd (omega arith)
 
 -- ---- untouched scopes
 
@@ -144,7 +137,7 @@ all_more P xs i d low all here = subst (All P) (sym (take_more xs i d low)) (All
 pub all_taken : (P : ℕ → Type 0) (xs : List ℕ) (i : ℕ) → length xs ≤ i → All P (take i xs) → All P xs
 all_taken P xs i all = subst (All P) (take_all i xs all)
 
--- ---- what a row rejects
+-- ---- what a mask rejects
 
 wanted_not : (holding b : Bool) → is_wanted (not holding) b ≡ not (is_wanted holding b)
 wanted_not true b = refl
@@ -154,17 +147,35 @@ wanted_not false b = sym (twice b)
     twice true = refl
     twice false = refl
 
-pub row_rejects : (table : TruthTable) (holding : Bool) (all rejected row a b x y n : ℕ) → a ≡ x → b ≡ table.value_count → ones_of all ≡ numbers n → n ≡ table.value_count → y < table.value_count →
-    (has (ones_of rejected) y ≡ (has (ones_of all) y && is_wanted (not holding) (bit_at row y == 1))) → (bit_at row y == 1) ≡ truth_at table (a * b + y) → continues table holding 0 (x ∷ y ∷ []) ≡ false → has (ones_of rejected) y ≡ true
-row_rejects table holding all rejected row a b x y n at_a at_b whole count low is bit fails =
-    is ∙ and_from _ _ (ap (λ xs. has xs y) whole ∙ any_number (λ z. z == y) n y (omega arith) (eq-eqb y y refl))
-    (wanted_not holding (bit_at row y == 1)
-    ∙ ap (λ t. not (is_wanted holding t)) (bit ∙ ap (truth_at table) ((λ i. at_a i * at_b i + y) ∙ ap (λ k. k * table.value_count + y) (let e : x ≡ 0 * table.value_count + x = omega arith in e)))
-    ∙ ap not fails)
+pub rejected_same : (d : ℕ) (p q : ℕ → Bool) → ((x : ℕ) → x < d → p x ≡ q x) → rejected_of d p ≡ rejected_of d q
+rejected_same d p q h = ap length (filter_agree_from (λ x. not (p x)) (λ x. not (q x)) 0 d (λ x from low. ap not (h x (omega arith))))
 
--- ---- a candidate's relation
+-- how many of the first d values don't pass a row
+pub row_rejects : (d all rejected row : ℕ) (holding : Bool) → ones_of all ≡ numbers d → ((y : ℕ) → has (ones_of rejected) y ≡ (has (ones_of all) y && is_wanted (not holding) (bit_at row y == 1))) →
+    rejected_of d (λ y. is_wanted holding (bit_at row y == 1)) ≡ length (ones_of rejected)
+row_rejects d all rejected row holding whole is =
+    ap length (
+    filter_agree_from (λ y. not (is_wanted holding (bit_at row y == 1))) fails 0 d (λ y from low. sym (wanted_not holding (bit_at row y == 1)))
+    ∙ ap (filter fails) (sym whole)
+    ∙ sym (ones_of-passing rejected all fails (λ y low. sym (has-ones_of rejected y low) ∙ is y ∙ ap (λ b. b && fails y) (has-ones_of all y low))))
+  where
+    fails : ℕ → Bool
+    fails y = is_wanted (not holding) (bit_at row y == 1)
 
-pub brief_loose : (l : Language) (c : Candidate) (holding : Bool) (table : TruthTable) → table.value_count ≡ l.value_count → table.truth ≡ relation_of l c → IsLoose table.value_count (continues table holding 0) → IsLoose l.value_count (arc_of l c holding).accepted
-brief_loose l c holding table values truth loose =
-    subst (λ (accepted : List ℕ → Bool). IsLoose l.value_count accepted)
-    (λ i tuple. is_wanted holding (slice_index_or (truth i) (fold (λ at x. at * (values i) + x) 0 tuple) false)) (subst (λ (d : ℕ). IsLoose d (continues table holding 0)) values loose)
+-- one row more
+pub rejects_next : (d at : ℕ) (holding : Bool) (masks : List ℕ) (x most next : ℕ) → most ≤ next → rejected_of d (λ y. is_wanted holding (bit_at (slice_index_or masks (at + x) 0) y == 1)) ≤ next →
+    ((z : ℕ) → z < x → rejected_of d (λ y. is_wanted holding (bit_at (slice_index_or masks (at + z) 0) y == 1)) ≤ most) →
+    (z : ℕ) → z < x + 1 → rejected_of d (λ y. is_wanted holding (bit_at (slice_index_or masks (at + z) 0) y == 1)) ≤ next
+rejects_next d at holding masks x most next more here old z low = go (cases_eq z x)
+  where
+    many : ℕ → ℕ
+    many k = rejected_of d (λ y. is_wanted holding (bit_at (slice_index_or masks (at + k) 0) y == 1))
+
+    go : (z ≡ x) ⊎ (z ≢ x) → many z ≤ next
+    go (inl same) = subst (λ (k : ℕ). many k ≤ next) (sym same) here
+    go (inr other) = (let before : many z ≤ most = old z (omega arith) in omega arith)
+
+-- the values of a mask are a set
+pub ones_of-set : (mask : ℕ) → IsSet (ones_of mask)
+unfolding ones_of
+ones_of-set mask = rises_filter (λ x. bit_at mask x == 1) 0 64 (lit≤ tt)

@@ -3,7 +3,7 @@ use Rattle.std.proofs.Common.{◌≡◌, ℕ, ◌+◌, ◌*◌, ◌<◌, ◌≤�
 use Rattle.std.specs.Prelude.{◌==◌, ◌≢◌, slice_index_or, slice_set}
 use Rattle.std.specs.Int.{bit_at}
 use Rattle.std.proofs.lemmas.List.{get_or-set_same, get_or-set_other}
-use Rattle.std.proofs.lemmas.Bool.{both_ways, cases_eq, cases_lt, eq-eqb, eqb-true, ne_eqb, or_cases, and_parts}
+use Rattle.std.proofs.lemmas.Bool.{both_ways, cases_eq, cases_lt, eq-eqb, eqb-true, ne_eqb, or_cases}
 use Rattle.assign.specs.Sets.{has}
 use Rattle.rel_table.specs.Relation.{Relation}
 use Rattle.rel_table.specs.Table.{TruthTable, truth_at}
@@ -12,7 +12,9 @@ use Rattle.language.proofs.Alike.{whole_alike}
 use Rattle.propagators.specs.Values.{ones_of}
 use Rattle.propagators.specs.Families.{Arc, is_wanted}
 use Rattle.propagators.specs.Supports.{continues}
-use Rattle.propagators.specs.Loose.{IsLoose}
+use Rattle.propagators.specs.Loose.{IsBounded, rejected_of}
+use Rattle.propagators.specs.declared.plan.Bounds.{Bounds}
+use Rattle.propagators.proofs.Loose.{rejected_same}
 use Rattle.propagators.specs.Pairs.{AreMasksOf, goes, AreRight, AreRightOn, IsWholePair, pairs_of}
 use Rattle.propagators.specs.Briefs.{IsBriefOf, IsBriefIn}
 use Rattle.propagators.specs.declared.briefs.Brief.{Brief}
@@ -83,14 +85,29 @@ column_more table y x column next held at is old = record { below = λ z low. be
 pub column_end : (table : TruthTable) (y x column : ℕ) → table.value_count ≤ x → table.value_count ≤ 64 → IsColumnBelow table y x column → (z : ℕ) → z < table.value_count → (bit_at column z == 1) ≡ goes table z y
 column_end table y x column all few is z low = sym (has-ones_of column z (omega arith)) ∙ is.below z (omega arith)
 
+-- ---- the bounds of a relation, by its masks
+
+pub bounded_by : (d : ℕ) (table : TruthTable) (holding : Bool) (rows columns : List ℕ) (at : ℕ) (b : Bounds) → table.value_count ≡ d → AreMasksOf d (goes table) rows at → AreMasksOf d (λ y x. goes table x y) columns at →
+    ((y : ℕ) → y < d → rejected_of d (λ x. is_wanted holding (bit_at (slice_index_or columns (at + y) 0) x == 1)) ≤ b.first) →
+    ((x : ℕ) → x < d → rejected_of d (λ y. is_wanted holding (bit_at (slice_index_or rows (at + x) 0) y == 1)) ≤ b.second) → IsBounded d (continues table holding 0) b
+bounded_by d table holding rows columns at b values in_rows in_columns first second = record {
+  first = λ y low. subst (λ (k : ℕ). k ≤ b.first) (rejected_same d (λ x. is_wanted holding (bit_at (slice_index_or columns (at + y) 0) x == 1)) (λ x. continues table holding 0 (x ∷ y ∷ []))
+      (λ x few. ap (is_wanted holding) (in_columns y x low few) ∙ sym (accepts x y))) (first y low);
+  second = λ x low. subst (λ (k : ℕ). k ≤ b.second) (rejected_same d (λ y. is_wanted holding (bit_at (slice_index_or rows (at + x) 0) y == 1)) (λ y. continues table holding 0 (x ∷ y ∷ []))
+      (λ y few. ap (is_wanted holding) (in_rows x y low few) ∙ sym (accepts x y))) (second x low);
+}
+  where
+    accepts : (x y : ℕ) → continues table holding 0 (x ∷ y ∷ []) ≡ is_wanted holding (goes table x y)
+    accepts x y = ap (λ k. is_wanted holding (truth_at table (k * table.value_count + y))) (let e : 0 * table.value_count + x ≡ x = omega arith in e)
+
 -- ---- a relation more
 
-pub nothing_right : (of : ℕ → TruthTable) (m : PairMasks) → m.known ≡ 0 → m.loose ≡ 0 → AreRight of m
-nothing_right of m known loose = record {
+pub nothing_right : (of : ℕ → TruthTable) (m : PairMasks) → m.known ≡ 0 → AreRight of m
+nothing_right of m known = record {
   small = λ r h. absurd (none m.known known r h);
   rows = λ r h. absurd (none m.known known r h);
   columns = λ r h. absurd (none m.known known r h);
-  loose = λ r h. absurd (none m.loose loose r h);
+  bounds = λ r b h. absurd (none m.known known r h);
 }
   where
     none : (mask : ℕ) → mask ≡ 0 → (r : ℕ) → has (ones_of mask) r ≡ true → ⊥
@@ -101,13 +118,13 @@ pub learned : (of : ℕ → TruthTable) (table : TruthTable) (rel : ℕ) (old ne
     ((r : ℕ) → has (ones_of new.known) r ≡ (has (ones_of old.known) r || (rel == r))) →
     AreMasksOf table.value_count (goes table) new.rows.items (rel * 64) → AreMasksOf table.value_count (λ y x. goes table x y) new.columns.items (rel * 64) →
     AreOutside old.rows.items new.rows.items (rel * 64) → AreOutside old.columns.items new.columns.items (rel * 64) →
-    (loose : Bool) → (loose ≡ true → IsLoose table.value_count (continues table true 0)) → ((r : ℕ) → has (ones_of new.loose) r ≡ (has (ones_of old.loose) r || (loose && (rel == r)))) →
+    (measured : Bounds) → IsBounded table.value_count (continues table true 0) measured → rel < length old.bounds.items → new.bounds.items ≡ slice_set old.bounds.items rel measured →
     AreRight of old → AreRight of new
-learned of table rel old new is few known rows columns other_rows other_columns loose told loosens right = record {
+learned of table rel old new is few known rows columns other_rows other_columns measured told room written right = record {
   small = λ r h. small r (or_cases _ _ (sym (known r) ∙ h));
   rows = λ r h. rows_of r (cases_eq r rel) h;
   columns = λ r h. columns_of r (cases_eq r rel) h;
-  loose = λ r h. loose_of r (or_cases _ _ (sym (loosens r) ∙ h));
+  bounds = λ r b h. bounds_of r b (cases_eq r rel) h;
 }
   where
     small : (r : ℕ) → (has (ones_of old.known) r ≡ true) ⊎ ((rel == r) ≡ true) → (of r).value_count ≤ 64
@@ -142,15 +159,18 @@ learned of table rel old new is few known rows columns other_rows other_columns 
         let small = right.small r before in
         ap (λ m. bit_at m y == 1) (other_columns (r * 64 + x) (outside r x other (omega arith))) ∙ right.columns r before x y low few)
 
-    loose_of : (r : ℕ) → (has (ones_of old.loose) r ≡ true) ⊎ ((loose && (rel == r)) ≡ true) → IsLoose (of r).value_count (continues (of r) true 0)
-    loose_of r (inl before) = right.loose r before
-    loose_of r (inr here) = (let parts = and_parts loose (rel == r) here in subst (λ (t : TruthTable). IsLoose t.value_count (continues t true 0)) (sym is ∙ ap of (eqb-true rel r parts.1)) (told parts.0))
+    bounds_of : (r : ℕ) (b : Bounds) → (r ≡ rel) ⊎ (r ≢ rel) → has (ones_of new.known) r ≡ true → IsBounded (of r).value_count (continues (of r) true 0) (slice_index_or new.bounds.items r b)
+    bounds_of r b (inl same) h =
+        subst (λ (t : TruthTable). IsBounded t.value_count (continues t true 0) (slice_index_or new.bounds.items r b)) (sym is ∙ ap of (sym same))
+        (subst (IsBounded table.value_count (continues table true 0)) (sym (ap (λ (bs : List Bounds). slice_index_or bs r b) written ∙ ap (λ (q : ℕ). slice_index_or (slice_set old.bounds.items rel measured) q b) same ∙ get_or-set_same old.bounds.items rel measured b room)) told)
+    bounds_of r b (inr other) h =
+        subst (IsBounded (of r).value_count (continues (of r) true 0)) (sym (ap (λ (bs : List Bounds). slice_index_or bs r b) written ∙ get_or-set_other old.bounds.items rel r measured b other)) (right.bounds r b (was r other h))
 
 -- ---- briefs
 
 -- more relations are known
 pub brief_more : (l : Language) (known more : ℕ) (a : Arc) (b : Brief) → ((r : ℕ) → has (ones_of known) r ≡ true → has (ones_of more) r ≡ true) → IsBriefIn l known a b → IsBriefIn l more a b
-brief_more l known more a (Two p) grows is = record { on = is.on; whole = is.whole; scope = is.scope; low = is.low; known = grows p.rel is.known; accepted = is.accepted; loose = is.loose }
+brief_more l known more a (Two p) grows is = record { on = is.on; whole = is.whole; scope = is.scope; low = is.low; known = grows p.rel is.known; accepted = is.accepted; bounds = is.bounds }
 brief_more l known more a Other grows is = tt
 
 -- with the masks of its relation
@@ -160,7 +180,7 @@ brief_told l m a (Two p) right is = record {
   low = is.low;
   row = λ x y low few. accepts x y ∙ ap (is_wanted p.holding) (sym ((right is.on is.whole).rows p.rel is.known x y low few));
   column = λ x y low few. accepts x y ∙ ap (is_wanted p.holding) (sym ((right is.on is.whole).columns p.rel is.known y x few low));
-  loose = λ h. subst (λ (accepted : List ℕ → Bool). IsLoose l.value_count accepted) (sym is.accepted) (is.loose h);
+  bounds = subst (λ (accepted : List ℕ → Bool). IsBounded l.value_count accepted p.bounds) (sym is.accepted) is.bounds;
 }
   where
     accepts : (x y : ℕ) → a.accepted (x ∷ y ∷ []) ≡ is_wanted p.holding (goes (pairs_of l is.on p.rel) x y)

@@ -1,6 +1,8 @@
--- Conditions on two variables that take nothing away while both have two values.
-use Rattle.std.specs.Prelude.{ℕ, ◌≡◌, ◌≢◌, ◌<◌, Bool, true, false, List, [], ◌∷◌}
-use Rattle.assign.specs.Sets.{has}
+-- Conditions on two variables that take nothing away while their variables have many values.
+use Rattle.std.specs.Prelude.{ℕ, ◌≡◌, ◌≢◌, ◌<◌, ◌≤◌, Bool, true, not, List, [], ◌∷◌, length}
+use Rattle.std.specs.List.{filter}
+use Rattle.assign.specs.Sets.{numbers, has, IsSet}
+use Rattle.propagators.specs.declared.plan.Bounds.{Bounds}
 
 -- two members
 pub record HasTwo (xs : List ℕ) : Type 0 where
@@ -10,7 +12,17 @@ pub record HasTwo (xs : List ℕ) : Type 0 where
   pub also : has xs second ≡ true
   pub apart : first ≢ second
 
--- no value of either variable is rejected with two values of the other
-pub record IsLoose (d : ℕ) (accepted : List ℕ → Bool) : Type 0 where
-  pub rows : (x y z : ℕ) → x < d → y < d → z < d → accepted (x ∷ y ∷ []) ≡ false → accepted (x ∷ z ∷ []) ≡ false → y ≡ z
-  pub columns : (x w y : ℕ) → x < d → w < d → y < d → accepted (x ∷ y ∷ []) ≡ false → accepted (w ∷ y ∷ []) ≡ false → x ≡ w
+-- a set of more than so many members, which are few enough for a mask
+pub record HasMore (k : ℕ) (xs : List ℕ) : Type 0 where
+  pub set : IsSet xs
+  pub more : k < length xs
+  pub low : k < 64
+
+-- how many of d values a test rejects
+abbrev pub rejected_of : ℕ → (ℕ → Bool) → ℕ
+rejected_of d test = length (filter (λ x. not (test x)) (numbers d))
+
+-- no value of either variable is rejected with more values of the other than that one's bound
+pub record IsBounded (d : ℕ) (accepted : List ℕ → Bool) (b : Bounds) : Type 0 where
+  pub first : (y : ℕ) → y < d → rejected_of d (λ x. accepted (x ∷ y ∷ [])) ≤ b.first
+  pub second : (x : ℕ) → x < d → rejected_of d (λ y. accepted (x ∷ y ∷ [])) ≤ b.second

@@ -7,7 +7,8 @@ use Rattle.language.specs.Language.{Language, scope_at, relations_on, is_whole}
 use Rattle.propagators.specs.Values.{ones_of}
 use Rattle.propagators.specs.Families.{Family, Arc, is_wanted, is_not_empty, size_of}
 use Rattle.propagators.specs.Supports.{continues}
-use Rattle.propagators.specs.Loose.{IsLoose}
+use Rattle.propagators.specs.Loose.{IsBounded}
+use Rattle.propagators.specs.declared.plan.Bounds.{Bounds}
 use Rattle.propagators.specs.declared.plan.PairMasks.{PairMasks}
 use Rattle.propagators.specs.declared.domains.Left.{Left}
 use Rattle.propagators.specs.declared.domains.Left.TheVariants.{Nothing, Fewer, Same}
@@ -39,7 +40,7 @@ pub record AreRight (of : ℕ → TruthTable) (m : PairMasks) : Type 0 where
   pub small : (r : ℕ) → has (ones_of m.known) r ≡ true → (of r).value_count ≤ 64
   pub rows : (r : ℕ) → has (ones_of m.known) r ≡ true → AreMasksOf (of r).value_count (goes (of r)) m.rows.items (r * 64)
   pub columns : (r : ℕ) → has (ones_of m.known) r ≡ true → AreMasksOf (of r).value_count (λ y x. goes (of r) x y) m.columns.items (r * 64)
-  pub loose : (r : ℕ) → has (ones_of m.loose) r ≡ true → IsLoose (of r).value_count (continues (of r) true 0)
+  pub bounds : (r : ℕ) (b : Bounds) → has (ones_of m.known) r ≡ true → IsBounded (of r).value_count (continues (of r) true 0) (slice_index_or m.bounds.items r b)
 
 -- they are so on each such scope
 abbrev pub AreRightOn : Language → PairMasks → Type 0

@@ -1,12 +1,12 @@
 -- Which conditions each variable has, and what looking at one of them does.
-use Rattle.std.specs.Prelude.{ℕ, ◌+◌, ◌*◌, ◌/◌, ◌%◌, ◌≡◌, ◌<◌, ◌⊎◌, true, false, List, length, slice_index_or}
+use Rattle.std.specs.Prelude.{ℕ, ◌+◌, ◌*◌, ◌/◌, ◌%◌, ◌≡◌, ◌<◌, ◌≤◌, ◌⊎◌, true, false, List, length, slice_index_or}
 use Rattle.std.specs.List.{list_any}
 use Rattle.assign.specs.Sets.{has}
 use Rattle.propagators.specs.Values.{ones_of}
 use Rattle.propagators.specs.Families.{Family, Arc, is_consistent, size_of}
 use Rattle.propagators.specs.Supports.{IsUnderway}
-use Rattle.propagators.specs.Loose.{IsLoose}
-use Rattle.propagators.specs.Briefs.{AreBriefs}
+use Rattle.propagators.specs.Briefs.{AreBriefs, bound_at}
+use Rattle.propagators.specs.declared.briefs.Brief.{Brief}
 use Rattle.propagators.specs.declared.plan.Plan.{Plan}
 
 -- in so many words for each variable, those of all variables one word after another, are the conditions on it, as far as there is room
@@ -14,20 +14,16 @@ abbrev pub AreNoted : List Arc → ℕ → List ℕ → Type 0
 AreNoted arcs words sets =
     (k v : ℕ) (a : Arc) → k < length arcs → k < words * 64 → has (slice_index_or arcs k a).scope v ≡ true → has (ones_of (slice_index_or sets (k / 64 * 128 + v) 0)) (k % 64) ≡ true
 
--- a loose condition on two variables
-pub record IsLoosePair (d : ℕ) (a : Arc) : Type 0 where
-  pub long : length a.scope ≡ 2
-  pub loose : IsLoose d a.accepted
-
--- of the first conditions each that a variable has is a loose one on two variables, but for these variables
-abbrev pub AreTight : ℕ → List Arc → ℕ → List ℕ → Type 0
-AreTight d arcs count tight = (k v : ℕ) (a : Arc) → k < length arcs → k < count → has (slice_index_or arcs k a).scope v ≡ true → has tight v ≡ false → IsLoosePair d (slice_index_or arcs k a)
+-- the limit of each variable is at least each bound that the first conditions have at it
+abbrev pub AreLimits : List Arc → List Brief → List ℕ → Type 0
+AreLimits arcs briefs limits =
+    (k j : ℕ) (a : Arc) (b : Brief) → k < length briefs → k < length arcs → j < length (slice_index_or arcs k a).scope → bound_at (slice_index_or briefs k b) j ≤ slice_index_or limits (slice_index_or (slice_index_or arcs k a).scope j 0) 0
 
 -- a plan of these conditions
 pub record IsPlanOf (d : ℕ) (arcs : List Arc) (p : Plan) : Type 0 where
   pub briefs : AreBriefs d p.masks arcs p.briefs.items
   pub noted : AreNoted arcs p.words p.sets.items
-  pub tight : AreTight d arcs (length p.briefs.items) p.tight
+  pub limits : AreLimits arcs p.briefs.items p.limits.items
 
 -- the same variables are waiting and nothing has changed, or values were taken away
 abbrev pub AreLeft : List ℕ → List ℕ → Family → Family → Type 0

@@ -1,20 +1,16 @@
 //! What is known of a condition before a search.
 
-ghost use Rattle.std.specs.Prelude.{◌≡◌, ◌<◌, ℕ, true, false, length, slice_index_or};
+ghost use Rattle.std.specs.Prelude.{◌≡◌, ◌<◌, ◌≤◌, ℕ, true, All, length, slice_index_or};
 ghost use Rattle.assign.specs.Sets.{has};
 ghost use Rattle.language.specs.Language.{IsLanguage, IsCandidate, scope_of};
-ghost use Rattle.propagators.specs.Allowed.{AreConstraints};
 ghost use Rattle.propagators.specs.Values.{ones_of};
-ghost use Rattle.propagators.specs.Families.{Arc, arc_of, arcs_of};
+ghost use Rattle.propagators.specs.Families.{arc_of};
 ghost use Rattle.propagators.specs.Supports.{continues};
-ghost use Rattle.propagators.specs.Loose.{IsLoose};
+ghost use Rattle.propagators.specs.Loose.{IsBounded};
 ghost use Rattle.propagators.specs.Pairs.{IsWholePair, AreRightOn, pairs_of};
-ghost use Rattle.propagators.specs.Briefs.{IsBriefOf, IsBriefIn};
-ghost use Rattle.propagators.specs.Plans.{IsLoosePair};
+ghost use Rattle.propagators.specs.Briefs.{IsBriefIn, IsBriefOn, bound_at};
 
-use crate::constraints::Constraints;
-use crate::plan::PairMasks;
-use assign::VarSet;
+use crate::plan::{Bounds, PairMasks};
 use language::{Candidate, Language};
 
 /// A condition on two variables, each of which has all values.
@@ -26,9 +22,9 @@ pub struct Pair {
     pub(crate) rel: u8,
     /// Whether the relation is to hold, or not to hold.
     pub(crate) holding: bool,
-    /// Whether it rejects no value of either variable with two values of the other. Then it takes nothing away while both
-    /// have two values.
-    pub(crate) is_loose: bool,
+    /// How many values of either variable it rejects at most with one of the other. With more of them it takes no value of
+    /// the other away.
+    pub(crate) bounds: Bounds,
 }
 
 /// What is known of a condition before a search.
@@ -40,21 +36,9 @@ pub enum Brief {
     Other,
 }
 
-impl Brief {
-    /// Whether the condition has two variables and is loose.
-    fn is_loose(self) -> bool
-        ensures { result ≡ true → (d : ℕ) (m : PairMasks) (a : Arc) → IsBriefOf d m a self → IsLoosePair d a }
-    {
-        match self {
-            Brief::Two(pair) => pair.is_loose,
-            Brief::Other => false,
-        }
-    }
-}
-
 /// `learn` by the relation's table.
 #[inline(never)]
-fn learn_table(lang: &Language, c: Candidate, holding: bool, masks: &mut PairMasks) -> bool
+fn learn_table(lang: &Language, c: Candidate, holding: bool, masks: &mut PairMasks) -> Bounds
     requires lawful { IsLanguage lang.now }
     requires candidate { IsCandidate lang.now c }
     requires pair { IsWholePair lang.now c.scope }
@@ -62,16 +46,16 @@ fn learn_table(lang: &Language, c: Candidate, holding: bool, masks: &mut PairMas
     ensures right { AreRightOn lang.now masks.new }
     ensures grows { (r : ℕ) → has (ones_of masks.old.known) r ≡ true → has (ones_of masks.new.known) r ≡ true }
     ensures known { has (ones_of masks.new.known) c.rel ≡ true }
-    ensures loose { result ≡ true → IsLoose lang.now.value_count (continues (pairs_of lang.now c.scope c.rel) holding 0) }
+    ensures bounds { IsBounded lang.now.value_count (continues (pairs_of lang.now c.scope c.rel) holding 0) result }
 {
     let table = lang.table_on(c.scope, c.rel);
     masks.learn(table, c.rel);
-    masks.is_loose(table, c.rel, holding)
+    masks.bounds(table, c.rel, holding)
 }
 
-/// Makes the masks of the candidate's relation, unless they are made, and says whether it is known to be loose where it is to
-/// hold, or not to hold.
-fn learn(lang: &Language, c: Candidate, holding: bool, masks: &mut PairMasks) -> bool
+/// Makes the masks of the candidate's relation, unless they are made, and gives its bounds where it is to hold, or not to
+/// hold.
+fn learn(lang: &Language, c: Candidate, holding: bool, masks: &mut PairMasks) -> Bounds
     requires lawful { IsLanguage lang.now }
     requires candidate { IsCandidate lang.now c }
     requires pair { IsWholePair lang.now c.scope }
@@ -79,11 +63,11 @@ fn learn(lang: &Language, c: Candidate, holding: bool, masks: &mut PairMasks) ->
     ensures right { AreRightOn lang.now masks.new }
     ensures grows { (r : ℕ) → has (ones_of masks.old.known) r ≡ true → has (ones_of masks.new.known) r ≡ true }
     ensures known { has (ones_of masks.new.known) c.rel ≡ true }
-    ensures loose { result ≡ true → IsLoose lang.now.value_count (continues (pairs_of lang.now c.scope c.rel) holding 0) }
+    ensures bounds { IsBounded lang.now.value_count (continues (pairs_of lang.now c.scope c.rel) holding 0) result }
 {
     // Most relations are known, and their table need not be found.
     if holding && masks.knows(c.rel) {
-        return masks.holds_loosely(c.rel);
+        return masks.bounds_of(c.rel);
     }
     learn_table(lang, c, holding, masks)
 }
@@ -104,29 +88,47 @@ pub(crate) fn brief_of(
     ensures right { AreRightOn lang.now masks.new }
     ensures grows { (r : ℕ) → has (ones_of masks.old.known) r ≡ true → has (ones_of masks.new.known) r ≡ true }
     ensures is { IsBriefIn lang.now masks.new.known (arc_of lang.now c holding) result }
+    ensures on { IsBriefOn scope.now result }
 {
     if scope.len() != 2 || !lang.is_whole(c.scope) {
         return Brief::Other;
     }
-    let is_loose = learn(lang, c, holding, masks);
+    let bounds = learn(lang, c, holding, masks);
     Brief::Two(Pair {
         first: scope[0],
         second: scope[1],
         rel: c.rel,
         holding,
-        is_loose,
+        bounds,
     })
 }
 
-/// The variables of condition i, unless it is loose.
-pub(crate) fn tight_on(cons: &Constraints, i: usize, brief: Brief) -> VarSet
-    requires constraints { AreConstraints cons.now.lang.now cons.now.list.now cons.now.against }
-    requires low { i < length (arcs_of cons.now.lang.now cons.now.list.now cons.now.against) }
-    ensures { (d v : ℕ) (m : PairMasks) (a : Arc) → IsBriefOf d m (slice_index_or (arcs_of cons.now.lang.now cons.now.list.now cons.now.against) i a) brief → has (slice_index_or (arcs_of cons.now.lang.now cons.now.list.now cons.now.against) i a).scope v ≡ true → has result v ≡ false → IsLoosePair d (slice_index_or (arcs_of cons.now.lang.now cons.now.list.now cons.now.against) i a) }
+/// Raises a variable's limit to a bound.
+fn raise(limits: &mut [u8], v: u8, bound: u8)
+    requires { v < length limits.old }
+    ensures there { bound ≤ slice_index_or limits.new v 0 }
+    ensures grows { (u : ℕ) → slice_index_or limits.old u 0 ≤ slice_index_or limits.new u 0 }
 {
-    if brief.is_loose() {
-        return VarSet::empty();
+    let v = usize::from(v);
+    limits[v] = limits[v].max(bound);
+}
+
+/// Raises the limits of a scope's variables to the bounds of the brief that the condition has.
+pub(crate) fn raise_all(limits: &mut [u8], scope: &[u8], brief: Brief)
+    requires known { All (λ v. v < length limits.old) scope.now }
+    requires is { IsBriefOn scope.now brief }
+    ensures there { (j : ℕ) → j < length scope.now → bound_at brief j ≤ slice_index_or limits.new (slice_index_or scope.now j 0) 0 }
+    ensures grows { (u : ℕ) → slice_index_or limits.old u 0 ≤ slice_index_or limits.new u 0 }
+{
+    match brief {
+        Brief::Two(pair) => {
+            raise(limits, pair.first, pair.bounds.first);
+            raise(limits, pair.second, pair.bounds.second);
+        }
+        Brief::Other => {
+            for v in scope {
+                raise(limits, *v, 64);
+            }
+        }
     }
-    let (c, _holding) = cons.condition(i);
-    cons.lang.scope_set(c.scope)
 }

@@ -1,4 +1,4 @@
-ghost use Rattle.std.specs.Prelude.{◌≡◌, ◌<◌, ◌≤◌, ◌==◌, ℕ, [], true, false, not, length, map, take, slice_index_or, slice_set, All, IfSome, None};
+ghost use Rattle.std.specs.Prelude.{◌≡◌, ◌<◌, ◌≤◌, ◌==◌, ℕ, [], true, false, not, nat_lt, length, map, take, slice_index_or, slice_set, All, IfSome, None};
 ghost use Rattle.std.specs.List.{filter, list_all, list_any};
 ghost use Rattle.std.specs.Int.{bit_at};
 ghost use Rattle.assign.specs.Sets.{numbers, has, IsSet};
@@ -6,10 +6,10 @@ ghost use Rattle.language.specs.Language.{Language, variable_count, values_of};
 ghost use Rattle.propagators.specs.Values.{ones_of};
 ghost use Rattle.propagators.specs.Families.{is_not_empty, is_wanted, sets_on, size_of};
 ghost use Rattle.propagators.specs.Supports.{IsFamilyOf};
-ghost use Rattle.propagators.specs.Loose.{HasTwo};
+ghost use Rattle.propagators.specs.Loose.{HasTwo, HasMore};
 ghost use Rattle.propagators.specs.Pairs.{IsOnly, IsLeft};
 
-use crate::values::{has_value, is_empty, only_member, only_value, passing, values_between};
+use crate::values::{count, has_value, is_empty, only_member, only_value, passing, values_between};
 use language::Language;
 use std::marker::Model;
 
@@ -100,6 +100,16 @@ impl Domains {
         ensures two { result ≡ None → is_not_empty (slice_index_or self.now v []) ≡ true → HasTwo (slice_index_or self.now v []) }
     {
         only_member(self.sets[v as usize])
+    }
+
+    /// Whether the variable has more than so many values.
+    #[inline]
+    pub(crate) fn has_more(&self, v: u8, most: u8) -> bool
+        requires { v < length self.now }
+        ensures is { result ≡ nat_lt most (length (slice_index_or self.now v [])) }
+        ensures more { result ≡ true → HasMore most (slice_index_or self.now v []) }
+    {
+        count(self.sets[v as usize]) > most
     }
 
     /// Leaves the variable those of its values that pass: whose bit in the row is 1, or is 0 where the row isn't to hold.

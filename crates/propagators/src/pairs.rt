@@ -1,4 +1,4 @@
-//! Relations of two variables: which values go together, and which relations are loose.
+//! Relations of two variables: which values go together, and how many a value rejects at most.
 
 ghost use Rattle.std.specs.Prelude.{◌≡◌, ◌+◌, ◌*◌, ◌<◌, ◌≤◌, ◌==◌, ◌⊎◌, ℕ, true, length, slice_index_or};
 ghost use Rattle.std.specs.Int.{bit_at};
@@ -6,32 +6,27 @@ ghost use Rattle.assign.specs.Sets.{has};
 ghost use Rattle.rel_table.specs.Table.{TruthTable};
 ghost use Rattle.propagators.specs.Values.{ones_of};
 ghost use Rattle.propagators.specs.Supports.{continues};
-ghost use Rattle.propagators.specs.Loose.{IsLoose};
+ghost use Rattle.propagators.specs.Loose.{rejected_of, IsBounded};
+ghost use Rattle.propagators.specs.Families.{is_wanted};
 ghost use Rattle.propagators.specs.Pairs.{AreMasksOf, goes, AreRight};
 
-use crate::plan::PairMasks;
-use crate::values::{
-    add_value, add_where, are_apart, either, first_values, has_value, is_single, passing,
-};
+use crate::plan::{Bounds, PairMasks};
+use crate::values::{add_value, add_where, count, first_values, has_value, passing};
 use rel_table::Table;
 use std::alloc::{AllocError, Global};
 
-/// Whether a relation of two variables rejects no value of either with two values of the other.
-pub(crate) fn is_loose(table: &Table, holding: bool) -> bool
-    requires { table.now.arity ≡ 2 }
-    ensures { result ≡ true → IsLoose table.now.value_count (continues table.now holding 0) }
+/// Of d masks from a place on, how many of the first d values one rejects at most.
+fn most_rejected(masks: &[u64], at: usize, d: u8, holding: bool) -> u8
+    requires few { d ≤ 64 }
+    requires fit { at + 64 ≤ length masks.now }
+    ensures { (x : ℕ) → x < d → rejected_of d (λ y. is_wanted holding (bit_at (slice_index_or masks.now (at + x) 0) y == 1)) ≤ result }
 {
-    let d = table.value_count();
     let all = first_values(d);
-    let mut seen = 0;
-    for x in 0..d {
-        let rejected = passing(all, table.row(u32::from(x) * u32::from(d)), !holding);
-        if !is_single(rejected) || !are_apart(seen, rejected) {
-            return false;
-        }
-        seen = either(seen, rejected);
+    let mut most = 0;
+    for x in 0..usize::from(d) {
+        most = most.max(count(passing(all, masks[at + x], !holding)));
     }
-    true
+    most
 }
 
 /// The first values that go with a second one.
@@ -74,7 +69,10 @@ impl PairMasks {
             rows: vec![in alloc; 0; 4096]?,
             columns: vec![in alloc; 0; 4096]?,
             known: 0,
-            loose: 0,
+            bounds: vec![in alloc; Bounds {
+                first: 0,
+                second: 0
+            }; 64]?,
         })
     }
 
@@ -83,7 +81,6 @@ impl PairMasks {
         ensures { (of : ℕ → TruthTable) → AreRight of self.new }
     {
         self.known = 0;
-        self.loose = 0;
     }
 
     /// Makes the masks of a relation, unless they are made.
@@ -104,7 +101,7 @@ impl PairMasks {
             table,
         );
         self.known = add_value(self.known, rel);
-        self.loose = add_where(self.loose, rel, is_loose(table, true));
+        self.bounds[usize::from(rel)] = self.measure(rel, table.value_count(), true);
     }
 
     /// Whether the masks of a relation are made.
@@ -115,24 +112,38 @@ impl PairMasks {
         has_value(self.known, rel)
     }
 
-    /// `is_loose` for a relation that is to hold.
-    #[inline]
-    pub(crate) fn holds_loosely(&self, rel: u8) -> bool
-        ensures { result ≡ has (ones_of self.now.loose) rel }
+    /// The bounds of a relation over d values whose masks are made, where it is to hold, or not to hold.
+    fn measure(&self, rel: u8, d: u8, holding: bool) -> Bounds
+        requires low { rel < 64 }
+        requires few { d ≤ 64 }
+        ensures { (table : TruthTable) → table.value_count ≡ d → AreMasksOf d (goes table) self.now.rows.items (rel * 64) → AreMasksOf d (λ y x. goes table x y) self.now.columns.items (rel * 64) → IsBounded d (continues table holding 0) result }
     {
-        has_value(self.loose, rel)
+        let at = usize::from(rel) * 64;
+        Bounds {
+            first: most_rejected(&self.columns, at, d, holding),
+            second: most_rejected(&self.rows, at, d, holding),
+        }
     }
 
-    /// Whether a relation whose masks are made is known to reject no value of either variable with two values of the other,
-    /// or, where it isn't to hold, to accept none with two.
-    pub(crate) fn is_loose(&self, table: &Table, rel: u8, holding: bool) -> bool
-        requires { table.now.arity ≡ 2 }
-        ensures { result ≡ true → (of : ℕ → TruthTable) → of rel ≡ table.now → AreRight of self.now → IsLoose table.now.value_count (continues table.now holding 0) }
+    /// The bounds of a relation that is to hold, whose masks are made.
+    #[inline]
+    pub(crate) fn bounds_of(&self, rel: u8) -> Bounds
+        requires low { rel < 64 }
+        ensures { (b : Bounds) → result ≡ slice_index_or self.now.bounds.items rel b }
+    {
+        self.bounds[usize::from(rel)]
+    }
+
+    /// The bounds of a relation whose masks are made, where it is to hold, or not to hold.
+    pub(crate) fn bounds(&self, table: &Table, rel: u8, holding: bool) -> Bounds
+        requires low { rel < 64 }
+        requires known { has (ones_of self.now.known) rel ≡ true }
+        ensures { (of : ℕ → TruthTable) → of rel ≡ table.now → AreRight of self.now → IsBounded table.now.value_count (continues table.now holding 0) result }
     {
         if holding {
-            has_value(self.loose, rel)
+            self.bounds_of(rel)
         } else {
-            is_loose(table, false)
+            self.measure(rel, table.value_count(), false)
         }
     }
 

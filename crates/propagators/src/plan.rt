@@ -1,7 +1,15 @@
 ghost use Rattle.std.specs.Prelude.{◌≡◌, ◌≤◌, ◌*◌, length};
 
 use crate::briefs::Brief;
-use assign::VarSet;
+
+/// For a condition on two variables how many values of one it rejects at most with a value of the other.
+#[derive(Clone, Copy)]
+pub struct Bounds {
+    /// Of the first variable's values.
+    pub(crate) first: u8,
+    /// Of the second variable's values.
+    pub(crate) second: u8,
+}
 
 /// For relations of two variables, by number, and each value of either variable, the values of the other that go with it.
 #[derive(Drop)]
@@ -12,10 +20,11 @@ pub struct PairMasks {
     pub(crate) columns: Vec<u64>,
     /// The relations whose masks are made.
     pub(crate) known: u64,
-    /// Those of them that reject no value of either variable with two values of the other.
-    pub(crate) loose: u64,
+    /// For relation r its bounds where it is to hold, at r.
+    pub(crate) bounds: Vec<Bounds>,
     ghost rows_long: { length rows.items ≡ 4096 },
     ghost columns_long: { length columns.items ≡ 4096 },
+    ghost bounds_long: { length bounds.items ≡ 64 },
 }
 
 /// What is known of the conditions before a search.
@@ -25,8 +34,8 @@ pub struct Plan {
     pub(crate) briefs: Vec<Brief>,
     /// The masks of the relations of the conditions on two variables.
     pub(crate) masks: PairMasks,
-    /// The variables that have a condition which isn't loose.
-    pub(crate) tight: VarSet,
+    /// For each variable a bound of its conditions: with more values it supports each value of the others.
+    pub(crate) limits: Vec<u8>,
     /// How many words a set of conditions has.
     pub(crate) words: usize,
     /// So many words for each variable, the first ones of all variables, then the second ones and so on. Condition i is bit i % 64 of
@@ -34,4 +43,5 @@ pub struct Plan {
     pub(crate) sets: Vec<u64>,
     ghost long: { length sets.items ≡ 128 * words },
     ghost room: { length briefs.items ≤ words * 64 },
+    ghost limits_long: { length limits.items ≡ 128 },
 }

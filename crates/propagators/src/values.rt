@@ -1,6 +1,6 @@
 //! Sets of values, each a mask of 64 bits.
 
-ghost use Rattle.std.specs.Prelude.{◌≡◌, ◌≢◌, ◌<◌, ◌≤◌, ◌==◌, ℕ, true, not, nat_le, ◌&&◌, ◌||◌, IfSome, None};
+ghost use Rattle.std.specs.Prelude.{◌≡◌, ◌≢◌, ◌<◌, ◌≤◌, ◌==◌, ℕ, true, not, nat_le, ◌&&◌, ◌||◌, IfSome, None, length};
 ghost use Rattle.std.specs.List.{filter};
 ghost use Rattle.assign.specs.Sets.{numbers, has};
 ghost use Rattle.std.specs.Int.{bit_at};
@@ -118,20 +118,13 @@ pub(crate) fn only_member(values: u64) -> Option<u8>
     }
 }
 
-/// Whether there is one member at most.
+/// How many members there are.
 #[inline]
-pub(crate) fn is_single(values: u64) -> bool
-    ensures { result ≡ true → (y z : ℕ) → has (ones_of values) y ≡ true → has (ones_of values) z ≡ true → y ≡ z }
+pub(crate) fn count(values: u64) -> u8
+    ensures is { result ≡ length (ones_of values) }
+    ensures few { result ≤ 64 }
 {
-    values == 0 || without_value(values, least_value(values)) == 0
-}
-
-/// Whether no member of one is a member of the other.
-#[inline]
-pub(crate) fn are_apart(a: u64, b: u64) -> bool
-    ensures { result ≡ true → (y : ℕ) → has (ones_of a) y ≡ true → has (ones_of b) y ≡ true → ⊥ }
-{
-    a & b == 0
+    values.count_ones() as u8
 }
 
 /// The members, and x.

@@ -9,13 +9,13 @@ ghost use Rattle.propagators.specs.Allowed.{AreConstraints};
 ghost use Rattle.propagators.specs.Values.{ones_of};
 ghost use Rattle.propagators.specs.Families.{Arc, arcs_of, is_not_empty, is_wanted};
 ghost use Rattle.propagators.specs.Supports.{AreBelow, IsFamilyOf};
-ghost use Rattle.propagators.specs.Loose.{HasTwo};
+ghost use Rattle.propagators.specs.Loose.{HasTwo, HasMore};
 ghost use Rattle.propagators.specs.Pairs.{IsBeside};
 ghost use Rattle.propagators.specs.Briefs.{IsPairOf, AreBriefs};
-ghost use Rattle.propagators.specs.Plans.{IsPlanOf, AreNoted, AreTight, IsLooked};
+ghost use Rattle.propagators.specs.Plans.{IsPlanOf, AreNoted, AreLimits, IsLooked};
 ghost use Rattle.propagators.specs.Propagated.{AreSome, IsSettledBut, IsPropagated, RunsEmpty, IsWholePlanOf, IsVisited};
 
-use crate::briefs::{Brief, Pair, brief_of, tight_on};
+use crate::briefs::{Brief, Pair, brief_of, raise_all};
 use crate::constraints::Constraints;
 use crate::domains::{Domains, Left};
 use crate::plan::{PairMasks, Plan};
@@ -65,25 +65,27 @@ fn note_rest(cons: &Constraints, sets: &mut [u64], words: usize, from: usize)
 }
 
 /// The briefs of the first conditions, as many as there is room for, and the masks of their relations. All conditions are
-/// noted with their variables, as far as there is room. Says which variables have a condition with a brief that isn't loose.
+/// noted with their variables, as far as there is room. Each variable's limit is the largest bound of its briefs.
 fn arrange_all(
     cons: &Constraints,
     masks: &mut PairMasks,
     briefs: &mut [Brief],
     sets: &mut [u64],
     words: usize,
-) -> VarSet
+    limits: &mut [u8],
+)
     requires lawful { IsLanguage cons.now.lang.now }
     requires constraints { AreConstraints cons.now.lang.now cons.now.list.now cons.now.against }
     requires long { length sets.old ≡ 128 * words }
     requires room { length briefs.old ≤ words * 64 }
+    requires wide { length limits.old ≡ 128 }
     ensures briefs { AreBriefs cons.now.lang.now.value_count masks.new (arcs_of cons.now.lang.now cons.now.list.now cons.now.against) briefs.new }
-    ensures tight { AreTight cons.now.lang.now.value_count (arcs_of cons.now.lang.now cons.now.list.now cons.now.against) (length briefs.new) result }
+    ensures limits { AreLimits (arcs_of cons.now.lang.now cons.now.list.now cons.now.against) briefs.new limits.new }
     ensures noted { AreNoted (arcs_of cons.now.lang.now cons.now.list.now cons.now.against) words sets.new }
 {
     masks.clear();
     clear_sets(sets, words, cons.count(), cons.lang.n());
-    let mut tight = VarSet::empty();
+    limits.fill(0);
     let end = briefs.len().min(cons.count());
     for i in 0..end {
         let (c, holding) = cons.condition(i);
@@ -91,14 +93,13 @@ fn arrange_all(
         note(sets, words, scope, i);
         let brief = brief_of(cons.lang, c, scope, holding, masks);
         briefs[i] = brief;
-        tight = tight.union(tight_on(cons, i, brief));
+        raise_all(limits, scope, brief);
     }
     note_rest(cons, sets, words, end);
-    tight
 }
 
 impl Plan {
-    /// Room for so many conditions: some 22 bytes for each, and 64 KB for the masks of relations. `AllocError` where the
+    /// Room for so many conditions: some 23 bytes for each, and 64 KB for the masks of relations. `AllocError` where the
     /// allocator gives no memory.
     pub fn new(alloc: Global, room: usize) -> Result<Plan, AllocError>
         requires { room ≤ 65536 }
@@ -108,7 +109,7 @@ impl Plan {
         Ok(Plan {
             briefs: vec![in alloc; Brief::Other; room]?,
             masks: PairMasks::new(alloc)?,
-            tight: VarSet::empty(),
+            limits: vec![in alloc; 0; 128]?,
             words,
             sets: vec![in alloc; 0; 128 * words]?,
         })
@@ -120,12 +121,13 @@ impl Plan {
         requires constraints { AreConstraints cons.now.lang.now cons.now.list.now cons.now.against }
         ensures { IsPlanOf cons.now.lang.now.value_count (arcs_of cons.now.lang.now cons.now.list.now cons.now.against) self.new }
     {
-        self.tight = arrange_all(
+        arrange_all(
             cons,
             &mut self.masks,
             &mut self.briefs,
             &mut self.sets,
             self.words,
+            &mut self.limits,
         );
     }
 }
@@ -223,7 +225,10 @@ fn look_at_pair(
     ensures dead { result ≡ Alive.No → RunsEmpty (arcs_of cons.now.lang.now cons.now.list.now cons.now.against) doms.old }
 {
     let Some((v, row)) = beside(&plan.masks, pair, doms) else {
-        if pair.is_loose {
+        // More values of each are left than one of the other rejects.
+        if doms.has_more(pair.first, pair.bounds.first)
+            && doms.has_more(pair.second, pair.bounds.second)
+        {
             return Alive::Yes;
         }
         return look_at_both(cons, plan, pair, i, doms, waiting);
@@ -231,18 +236,12 @@ fn look_at_pair(
     match doms.keep(v, row, pair.holding) {
         Left::Nothing => Alive::No,
         Left::Fewer => {
-            if plan.tight.has(v) {
-                *waiting = waiting.with(v);
+            // Its conditions stay consistent while it has more values than its limit.
+            if doms.has_more(v, plan.limits[usize::from(v)]) {
                 return Alive::Yes;
             }
-            match doms.only(v) {
-                Some(_) => {
-                    *waiting = waiting.with(v);
-                    Alive::Yes
-                }
-                // Its conditions are loose, and stay consistent while it has two values.
-                None => Alive::Yes,
-            }
+            *waiting = waiting.with(v);
+            Alive::Yes
         }
         Left::Same => Alive::Yes,
     }
@@ -359,21 +358,21 @@ pub fn propagate_after(
     }
 }
 
-/// The set, and the variable if it has one value alone.
-fn with_single(set: VarSet, doms: &Domains, v: u8) -> VarSet
+/// The set, and the variable unless it has more than so many values.
+fn with_few(set: VarSet, doms: &Domains, v: u8, most: u8) -> VarSet
     requires known { v < length doms.now }
     requires few { v < 128 }
-    requires full { list_all is_not_empty doms.now ≡ true }
     ensures grows { (u : ℕ) → u < 128 → has result u ≡ false → has set u ≡ false }
-    ensures two { has result v ≡ false → HasTwo (slice_index_or doms.now v []) }
+    ensures more { has result v ≡ false → HasMore most (slice_index_or doms.now v []) }
 {
-    match doms.only(v) {
-        Some(_) => set.with(v),
-        None => set,
+    if doms.has_more(v, most) {
+        set
+    } else {
+        set.with(v)
     }
 }
 
-/// Those of n variables whose conditions are looked at first: each that has one value alone or a condition that isn't loose.
+/// Those of n variables whose conditions are looked at first: each that has no more values than its limit.
 fn first_changed(cons: &Constraints, plan: &Plan, doms: &Domains, n: u8) -> VarSet
     requires lawful { IsLanguage cons.now.lang.now }
     requires constraints { AreConstraints cons.now.lang.now cons.now.list.now cons.now.against }
@@ -385,9 +384,9 @@ fn first_changed(cons: &Constraints, plan: &Plan, doms: &Domains, n: u8) -> VarS
     if cons.count() > plan.briefs.len() {
         return VarSet::all(n);
     }
-    let mut changed = plan.tight;
+    let mut changed = VarSet::empty();
     for v in 0..n {
-        changed = with_single(changed, doms, v);
+        changed = with_few(changed, doms, v, plan.limits[usize::from(v)]);
     }
     changed
 }

@@ -8,8 +8,8 @@ two_of (x ∷ []) h = absurd (omega arith)
 two_of (x ∷ y ∷ []) h = refl
 two_of (x ∷ y ∷ z ∷ xs) h = absurd (omega arith)
 
-pub learn-is_loose-requires-clause-pair : goal.learn-is_loose-requires-clause-pair
-learn-is_loose-requires-clause-pair c = record { known = c.requires.candidate.scope; two = ap length (sym c.requires.scope) ∙ c.if-scope-ne2.false; whole = sym c.if-not-is_whole.ensures }
+pub learn-bounds-requires-clause-pair : goal.learn-bounds-requires-clause-pair
+learn-bounds-requires-clause-pair c = record { known = c.requires.candidate.scope; two = ap length (sym c.requires.scope) ∙ c.if-scope-ne2.false; whole = sym c.if-not-is_whole.ensures }
 
 pub returns-clause-is : goal.returns-clause-is
 returns-clause-is c = record {
@@ -17,7 +17,10 @@ returns-clause-is c = record {
   whole = record { known = c.requires.candidate.scope; two = ap length (sym c.requires.scope) ∙ c.if-scope-ne2.false; whole = sym c.if-not-is_whole.ensures };
   scope = sym c.requires.scope ∙ two_of c.args.scope.now c.if-scope-ne2.false;
   low = (let rel = c.requires.candidate.rel in let few = c.requires.lawful.few_relations c.args.c.scope c.requires.candidate.scope in omega arith);
-  known = c.learn-is_loose.ensures.known;
+  known = c.learn-bounds.ensures.known;
   accepted = refl;
-  loose = c.learn-is_loose.ensures.loose;
+  bounds = c.learn-bounds.ensures.bounds;
 }
+
+pub returns-clause-on : goal.returns-clause-on
+returns-clause-on c = two_of c.args.scope.now c.if-scope-ne2.false

@@ -4,7 +4,7 @@ use Rattle.propagators.specs.Families.{Arc, arc_of, arcs_of}
 use Rattle.propagators.specs.Briefs.{IsBriefOf}
 use Rattle.propagators.proofs.Conditions.{arcs_small}
 use Rattle.propagators.proofs.Masking.{briefs_next, brief_told}
-use Rattle.propagators.proofs.Lazy.{tight_more}
+use Rattle.propagators.proofs.Lazy.{limits_next}
 use Rattle.propagators.proofs.Visiting.{noted_next}
 use Rattle.propagators.proofs.visits.arrange_all.Goals as goal
 
@@ -13,16 +13,10 @@ loop-i-preserved c = record {
   right = c.brief_of-brief.ensures.right;
   briefs = briefs_next c.args.cons.now.lang.now c.loop-i.masks.known c.brief_of-brief.new.masks.known (arcs_of c.args.cons.now.lang.now c.args.cons.now.list.now c.args.cons.now.against) c.loop-i.briefs c.loop-i.i c.brief_of-brief.result (arc_of c.args.cons.now.lang.now c.condition-holding.result.0 c.condition-holding.result.1)
       (let end = c.min-end.ensures in let low = c.loop-i-test.true in let long = c.loop-i.auto.briefs in omega arith) c.condition-holding.ensures.is c.brief_of-brief.ensures.is c.brief_of-brief.ensures.grows c.loop-i.invariant.briefs;
-  tight = λ k v a below there none. (
-      let end = c.min-end.ensures in
-      let count = c.count-2.ensures in
-      let low = c.loop-i-test.true in
-      tight_more c.args.cons.now.lang.now.value_count (arcs_of c.args.cons.now.lang.now c.args.cons.now.list.now c.args.cons.now.against) c.loop-i.i c.loop-i.tight c.tight_on.result
-      (arcs_small c.args.cons.now.lang.now c.args.cons.now.list.now c.args.cons.now.against c.requires.lawful c.requires.constraints) (omega arith)
-      (λ u b in_scope lacking. c.tight_on.ensures c.args.cons.now.lang.now.value_count u c.brief_of-brief.new.masks b
-      (subst (λ (arc : Arc). IsBriefOf c.args.cons.now.lang.now.value_count c.brief_of-brief.new.masks arc c.brief_of-brief.result) (sym (c.condition-holding.ensures.is b))
-      (brief_told c.args.cons.now.lang.now c.brief_of-brief.new.masks _ c.brief_of-brief.result c.brief_of-brief.ensures.right c.brief_of-brief.ensures.is)) in_scope lacking)
-      c.loop-i.invariant.tight k v a below there (ap (λ xs. has xs v) (sym c.union-tight.ensures) ∙ none));
+  limits = limits_next (arcs_of c.args.cons.now.lang.now c.args.cons.now.list.now c.args.cons.now.against) c.loop-i.briefs c.loop-i.limits c.raise_all.new.limits c.scope-scope.result.now c.loop-i.i c.brief_of-brief.result
+      (let end = c.min-end.ensures in let low = c.loop-i-test.true in let long = c.loop-i.auto.briefs in omega arith)
+      (λ a. ap (λ (b : Arc). b.scope) (c.condition-holding.ensures.is a) ∙ sym c.scope-scope.ensures.is) c.raise_all.ensures.there c.raise_all.ensures.grows c.loop-i.invariant.limits;
+  wide = (let same = c.raise_all.auto.limits in let wide = c.loop-i.invariant.wide in omega arith);
   long = (let same = c.note.auto.sets in let long = c.loop-i.invariant.long in omega arith);
   noted = noted_next (arcs_of c.args.cons.now.lang.now c.args.cons.now.list.now c.args.cons.now.against) c.args.words c.loop-i.i c.scope-scope.result.now c.loop-i.sets c.note.new.sets
       (λ a. ap (λ (b : Arc). b.scope) (c.condition-holding.ensures.is a) ∙ sym c.scope-scope.ensures.is) c.note.ensures.grows c.note.ensures.there c.loop-i.invariant.noted;
@@ -32,3 +26,7 @@ pub returns-clause-briefs : goal.returns-clause-briefs
 returns-clause-briefs c = λ k a b low below.
     brief_told c.args.cons.now.lang.now c.loop-i.masks _ _ c.loop-i.invariant.right
     (c.loop-i.invariant.briefs k a b (let end = c.min-end.ensures in let done = c.loop-i-test.false in let count = c.count-2.ensures in let long = c.loop-i.auto.briefs in omega arith))
+
+pub returns-clause-limits : goal.returns-clause-limits
+returns-clause-limits c = λ k j a b low below l.
+    c.loop-i.invariant.limits k j a b (let end = c.min-end.ensures in let done = c.loop-i-test.false in let count = c.count-2.ensures in let long = c.loop-i.auto.briefs in omega arith) l

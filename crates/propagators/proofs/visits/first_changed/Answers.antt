@@ -1,10 +1,13 @@
-use Rattle.std.proofs.Common.{◌∙◌, ℕ, List, length, ap, subst, sym, arith}
+use Rattle.std.proofs.Common.{◌≡◌, ◌∙◌, ℕ, List, [], length, ap, subst, sym, arith}
+use Rattle.std.specs.Prelude.{slice_index_or}
+use Rattle.std.proofs.lemmas.List.{get_or_read}
 use Rattle.assign.specs.Sets.{numbers}
+use Rattle.propagators.specs.Loose.{HasMore}
 use Rattle.language.specs.Language.{variable_count}
 use Rattle.propagators.specs.Families.{arcs_of}
 use Rattle.propagators.specs.Supports.{AreSettled}
 use Rattle.propagators.proofs.Conditions.{all_settled, arcs_over}
-use Rattle.propagators.proofs.Lazy.{settled_first, two_more}
+use Rattle.propagators.proofs.Lazy.{settled_first, more_next}
 use Rattle.propagators.proofs.visits.first_changed.Goals as goal
 
 pub returns-then-count-len : goal.returns-then-count-len
@@ -16,17 +19,23 @@ returns-then-count-len c = record {
 }
 
 pub loop-v-preserved : goal.loop-v-preserved
-loop-v-preserved c = record {
-  part = λ u few none. c.loop-v.invariant.part u few (c.with_single-changed.ensures.grows u few none);
-  two = two_more c.args.doms.now c.loop-v.changed c.with_single-changed.result c.loop-v.v (let few = c.requires.lawful.few_variables in let n = c.requires.variables in let low = c.loop-v-test.true in omega arith) c.with_single-changed.ensures.grows c.with_single-changed.ensures.two c.loop-v.invariant.two;
-}
+loop-v-preserved c =
+    let few = c.requires.lawful.few_variables in
+    let n = c.requires.variables in
+    let low = c.loop-v-test.true in
+    let wide = c.args.plan.now.limits_long in
+    let at = c.from.ensures in
+    let limit : c.index.result.now ≡ slice_index_or c.args.plan.now.limits.items c.loop-v.v 0 =
+    get_or_read c.args.plan.now.limits.items c.from.result c.index.result.now (omega arith) c.index.ensures 0 ∙ ap (λ (v : ℕ). slice_index_or c.args.plan.now.limits.items v 0) c.from.ensures in
+    more_next c.args.doms.now c.args.plan.now.limits.items c.loop-v.changed c.with_few-changed.result c.loop-v.v (omega arith) c.with_few-changed.ensures.grows
+    (λ none. subst (λ (most : ℕ). HasMore most (slice_index_or c.args.doms.now c.loop-v.v [])) limit (c.with_few-changed.ensures.more none)) c.loop-v.invariant
 
 pub returns : goal.returns
 returns c = record {
   family = c.requires.doms.family;
   full = c.requires.doms.full;
-  settled = settled_first c.args.cons.now.lang.now.value_count (variable_count c.args.cons.now.lang.now) (arcs_of c.args.cons.now.lang.now c.args.cons.now.list.now c.args.cons.now.against) (length c.args.plan.now.briefs.items)
-      c.args.plan.now.tight c.loop-v.changed c.args.doms.now (arcs_over c.args.cons.now.lang.now c.args.cons.now.list.now c.args.cons.now.against c.requires.lawful c.requires.constraints) c.requires.lawful.few_variables
-      (let count = c.count.ensures in let room = c.len.ensures in let low = c.if-count-len.false in omega arith) c.requires.plan.tight c.requires.doms.family.values c.loop-v.invariant.part
-      (λ u low none. c.loop-v.invariant.two u (let n = c.requires.variables in let end = c.loop-v-test.false in omega arith) none);
+  settled = settled_first c.args.cons.now.lang.now.value_count (variable_count c.args.cons.now.lang.now) c.args.plan.now.masks (arcs_of c.args.cons.now.lang.now c.args.cons.now.list.now c.args.cons.now.against) c.args.plan.now.briefs.items c.args.plan.now.limits.items c.loop-v.changed c.args.doms.now
+      (let few = c.requires.lawful.few_values in omega arith) (arcs_over c.args.cons.now.lang.now c.args.cons.now.list.now c.args.cons.now.against c.requires.lawful c.requires.constraints)
+      (let count = c.count.ensures in let room = c.len.ensures in let low = c.if-count-len.false in omega arith) c.requires.plan.briefs c.requires.plan.limits c.requires.doms.family.values
+      (λ u low none. c.loop-v.invariant u (let n = c.requires.variables in let end = c.loop-v-test.false in omega arith) none);
 }

@@ -1,16 +1,16 @@
-use Rattle.std.proofs.Common.{◌<◌, ◌∙◌, ℕ, List, [], ◌∷◌, true, length, sym, ap, subst, refl, arith}
+use Rattle.std.proofs.Common.{◌≡◌, ◌<◌, ◌∙◌, ℕ, List, [], ◌∷◌, true, length, sym, ap, subst, refl, arith}
 use Rattle.std.specs.Prelude.{slice_index_or, All, ◌==◌}
 use Rattle.std.specs.Int.{bit_at}
-use Rattle.std.proofs.lemmas.List.Elements.{All-nil, All-cons}
+use Rattle.std.proofs.lemmas.List.{get_or_read}
 use Rattle.propagators.specs.Families.{Arc, arcs_of, is_wanted}
-use Rattle.propagators.specs.Loose.{HasTwo}
+use Rattle.propagators.specs.Loose.{HasMore}
 use Rattle.propagators.specs.Plans.{IsLooked}
-use Rattle.propagators.proofs.Loose.{loose_consistent}
+use Rattle.propagators.proofs.Loose.{bounded_consistent}
 use Rattle.propagators.proofs.Rounds.{dead_here}
 use Rattle.propagators.proofs.Conditions.{arcs_small, arcs_within, arcs_different}
 use Rattle.propagators.proofs.Visiting.{looked_over}
 use Rattle.propagators.proofs.Beside.{beside_revised, beside_dead, beside_same, beside_fewer}
-use Rattle.propagators.proofs.Lazy.{beside_lazy}
+use Rattle.propagators.proofs.Lazy.{beside_lazy, capped}
 use Rattle.propagators.proofs.visits.look_at_pair.Goals as goal
 
 none : Arc
@@ -32,16 +32,15 @@ beside-requires-clause-second c =
 pub beside-requires-clause-small : goal.beside-requires-clause-small
 beside-requires-clause-small c = λ v x h. (let low = c.requires.doms.family.values v x h in let few = c.requires.lawful.few_values in omega arith)
 
-pub returns-then-pair-clause-looked : goal.returns-then-pair-clause-looked
-returns-then-pair-clause-looked c = λ e.
+pub returns-then-has_more-2-clause-looked : goal.returns-then-has_more-2-clause-looked
+returns-then-has_more-2-clause-looked c = λ e.
     looked_over (arcs_of c.args.cons.now.lang.now c.args.cons.now.list.now c.args.cons.now.against) c.args.i c.args.waiting.now c.args.doms.now c.requires.doms.full (λ a low.
     (let pair = c.requires.pair a in
-    let two = c.in_default.ensures.two refl in
-    loose_consistent c.args.cons.now.lang.now.value_count (slice_index_or (arcs_of c.args.cons.now.lang.now c.args.cons.now.list.now c.args.cons.now.against) c.args.i a) c.args.doms.now
-    (pair.loose c.if-pair.true) (ap length pair.scope) c.requires.doms.family.values
-    (subst (λ (scope : List ℕ). All (λ v. HasTwo (slice_index_or c.args.doms.now v [])) scope) (sym pair.scope)
-    (All-cons (λ v. HasTwo (slice_index_or c.args.doms.now v [])) c.args.pair.first (c.args.pair.second ∷ []) two.0
-    (All-cons (λ v. HasTwo (slice_index_or c.args.doms.now v [])) c.args.pair.second [] two.1 (All-nil (λ v. HasTwo (slice_index_or c.args.doms.now v []))))))))
+    let few = c.requires.lawful.few_values in
+    bounded_consistent c.args.cons.now.lang.now.value_count (slice_index_or (arcs_of c.args.cons.now.lang.now c.args.cons.now.list.now c.args.cons.now.against) c.args.i a) c.args.doms.now c.args.pair.bounds (omega arith)
+    pair.bounds (ap length pair.scope) c.requires.doms.family.values
+    (subst (λ (scope : List ℕ). HasMore c.args.pair.bounds.first (slice_index_or c.args.doms.now (slice_index_or scope 0 0) [])) (sym pair.scope) (c.if-has_more.ensures.more refl))
+    (subst (λ (scope : List ℕ). HasMore c.args.pair.bounds.second (slice_index_or c.args.doms.now (slice_index_or scope 1 0) [])) (sym pair.scope) (c.if-has_more-2.ensures.more refl))))
 
 pub returns-in-Nothing-clause-dead : goal.returns-in-Nothing-clause-dead
 returns-in-Nothing-clause-dead c = λ e.
@@ -51,8 +50,8 @@ returns-in-Nothing-clause-dead c = λ e.
     (arcs_within c.args.cons.now.lang.now c.args.cons.now.list.now c.args.cons.now.against c.requires.lawful c.requires.constraints c.args.doms.now c.requires.doms.family c.args.i none c.requires.low)
     c.requires.doms.family.values (c.in-Some.ensures.beside c.args.cons.now.lang.now.value_count (slice_index_or (arcs_of c.args.cons.now.lang.now c.args.cons.now.list.now c.args.cons.now.against) c.args.i none) (c.requires.pair none) c.requires.doms.family.values) c.in-Nothing.ensures)
 
-pub returns-then-has-clause-looked : goal.returns-then-has-clause-looked
-returns-then-has-clause-looked c = λ e.
+pub returns-else-has_more-3-clause-looked : goal.returns-else-has_more-3-clause-looked
+returns-else-has_more-3-clause-looked c = λ e.
     subst (λ (next : List ℕ). IsLooked (arcs_of c.args.cons.now.lang.now c.args.cons.now.list.now c.args.cons.now.against) c.args.i c.args.waiting.now next c.args.doms.now c.keep.new.self) (sym c.with.ensures)
     (beside_fewer (arcs_of c.args.cons.now.lang.now c.args.cons.now.list.now c.args.cons.now.against) c.args.i c.args.waiting.now c.args.doms.now c.keep.new.self c.in-Some.v (λ x. is_wanted c.args.pair.holding (bit_at c.in-Some.row x == 1))
     (arcs_small c.args.cons.now.lang.now c.args.cons.now.list.now c.args.cons.now.against c.requires.lawful c.requires.constraints) c.requires.low c.requires.doms.full
@@ -62,28 +61,26 @@ returns-then-has-clause-looked c = λ e.
     c.requires.doms.family.values (c.in-Some.ensures.beside c.args.cons.now.lang.now.value_count (slice_index_or (arcs_of c.args.cons.now.lang.now c.args.cons.now.list.now c.args.cons.now.against) c.args.i a) (c.requires.pair a) c.requires.doms.family.values) c.keep.new.self c.in-Fewer.ensures.0)
     c.in-Fewer.ensures.0 c.in-Fewer.ensures.1)
 
-pub returns-in-Some-only-clause-looked : goal.returns-in-Some-only-clause-looked
-returns-in-Some-only-clause-looked c = λ e.
-    subst (λ (next : List ℕ). IsLooked (arcs_of c.args.cons.now.lang.now c.args.cons.now.list.now c.args.cons.now.against) c.args.i c.args.waiting.now next c.args.doms.now c.keep.new.self) (sym c.with-in-Some-only.ensures)
-    (beside_fewer (arcs_of c.args.cons.now.lang.now c.args.cons.now.list.now c.args.cons.now.against) c.args.i c.args.waiting.now c.args.doms.now c.keep.new.self c.in-Some.v (λ x. is_wanted c.args.pair.holding (bit_at c.in-Some.row x == 1))
-    (arcs_small c.args.cons.now.lang.now c.args.cons.now.list.now c.args.cons.now.against c.requires.lawful c.requires.constraints) c.requires.low c.requires.doms.full
-    (λ a. beside_revised c.args.cons.now.lang.now.value_count (slice_index_or (arcs_of c.args.cons.now.lang.now c.args.cons.now.list.now c.args.cons.now.against) c.args.i a) c.args.doms.now c.in-Some.v (λ x. is_wanted c.args.pair.holding (bit_at c.in-Some.row x == 1))
-    (arcs_different c.args.cons.now.lang.now c.args.cons.now.list.now c.args.cons.now.against c.requires.lawful c.requires.constraints c.args.i a c.requires.low)
-    (arcs_within c.args.cons.now.lang.now c.args.cons.now.list.now c.args.cons.now.against c.requires.lawful c.requires.constraints c.args.doms.now c.requires.doms.family c.args.i a c.requires.low)
-    c.requires.doms.family.values (c.in-Some.ensures.beside c.args.cons.now.lang.now.value_count (slice_index_or (arcs_of c.args.cons.now.lang.now c.args.cons.now.list.now c.args.cons.now.against) c.args.i a) (c.requires.pair a) c.requires.doms.family.values) c.keep.new.self c.in-Fewer.ensures.0)
-    c.in-Fewer.ensures.0 c.in-Fewer.ensures.1)
-
-pub returns-in-None-clause-looked : goal.returns-in-None-clause-looked
-returns-in-None-clause-looked c = λ e.
-    beside_lazy c.args.cons.now.lang.now.value_count (arcs_of c.args.cons.now.lang.now c.args.cons.now.list.now c.args.cons.now.against) c.args.i c.args.waiting.now c.args.doms.now c.keep.new.self c.in-Some.v (λ x. is_wanted c.args.pair.holding (bit_at c.in-Some.row x == 1))
+pub returns-then-has_more-3-clause-looked : goal.returns-then-has_more-3-clause-looked
+returns-then-has_more-3-clause-looked c = λ e.
+    let known = c.in-Some.ensures.known in
+    let size = c.requires.doms.family.size in
+    let few = c.requires.lawful.few_variables in
+    let wide = c.args.plan.now.limits_long in
+    let at = c.from.ensures in
+    let limit : c.index.result.now ≡ slice_index_or c.args.plan.now.limits.items c.in-Some.v 0 =
+    get_or_read c.args.plan.now.limits.items c.from.result c.index.result.now (omega arith) c.index.ensures 0 ∙ ap (λ (v : ℕ). slice_index_or c.args.plan.now.limits.items v 0) c.from.ensures in
+    let more : HasMore (slice_index_or c.args.plan.now.limits.items c.in-Some.v 0) (slice_index_or c.keep.new.self c.in-Some.v []) =
+    subst (λ (most : ℕ). HasMore most (slice_index_or c.keep.new.self c.in-Some.v [])) limit (c.if-has_more-3.ensures.more refl) in
+    beside_lazy c.args.cons.now.lang.now.value_count (arcs_of c.args.cons.now.lang.now c.args.cons.now.list.now c.args.cons.now.against) c.args.i c.args.waiting.now c.args.doms.now c.keep.new.self c.in-Some.v (λ x. is_wanted c.args.pair.holding (bit_at c.in-Some.row x == 1)) c.args.plan.now.limits.items (let few = c.requires.lawful.few_values in omega arith)
     (arcs_small c.args.cons.now.lang.now c.args.cons.now.list.now c.args.cons.now.against c.requires.lawful c.requires.constraints)
     (arcs_different c.args.cons.now.lang.now c.args.cons.now.list.now c.args.cons.now.against c.requires.lawful c.requires.constraints) c.requires.low c.requires.doms.full
     (λ a. beside_revised c.args.cons.now.lang.now.value_count (slice_index_or (arcs_of c.args.cons.now.lang.now c.args.cons.now.list.now c.args.cons.now.against) c.args.i a) c.args.doms.now c.in-Some.v (λ x. is_wanted c.args.pair.holding (bit_at c.in-Some.row x == 1))
     (arcs_different c.args.cons.now.lang.now c.args.cons.now.list.now c.args.cons.now.against c.requires.lawful c.requires.constraints c.args.i a c.requires.low)
     (arcs_within c.args.cons.now.lang.now c.args.cons.now.list.now c.args.cons.now.against c.requires.lawful c.requires.constraints c.args.doms.now c.requires.doms.family c.args.i a c.requires.low)
     c.requires.doms.family.values (c.in-Some.ensures.beside c.args.cons.now.lang.now.value_count (slice_index_or (arcs_of c.args.cons.now.lang.now c.args.cons.now.list.now c.args.cons.now.against) c.args.i a) (c.requires.pair a) c.requires.doms.family.values) c.keep.new.self c.in-Fewer.ensures.0)
-    c.in-Fewer.ensures.0 c.in-Fewer.ensures.1 c.requires.doms.family.values (c.in-None.ensures.two refl c.in-Fewer.ensures.0.some)
-    (λ k a low there. c.requires.plan.plan.tight k c.in-Some.v a low (let room = c.requires.plan.room in omega arith) there (sym c.has.ensures ∙ c.if-has.false))
+    c.in-Fewer.ensures.0 c.in-Fewer.ensures.1 c.requires.doms.family.values more
+    (λ k a low there. capped c.args.cons.now.lang.now.value_count c.args.plan.now.masks (arcs_of c.args.cons.now.lang.now c.args.cons.now.list.now c.args.cons.now.against) c.args.plan.now.briefs.items c.args.plan.now.limits.items c.requires.plan.plan.briefs c.requires.plan.plan.limits k c.in-Some.v a low (let room = c.requires.plan.room in omega arith) there more.low)
 
 pub returns-in-Same-clause-looked : goal.returns-in-Same-clause-looked
 returns-in-Same-clause-looked c = λ e.

@@ -3,4 +3,4 @@ use Rattle.propagators.proofs.Masking.{nothing_right}
 use Rattle.propagators.proofs.plan.PairMasks.clear.Goals as goal
 
 pub returns : goal.returns
-returns c = λ of. nothing_right of _ refl refl
+returns c = λ of. nothing_right of _ refl
