@@ -1,11 +1,11 @@
 -- Conditions that take nothing away while their two variables have more values than they reject.
-use Rattle.std.proofs.Common.{◌≡◌, ℕ, zero, suc, ◌+◌, ◌*◌, ◌<◌, ◌≤◌, Bool, true, false, cond, ◌&&◌, ◌||◌, not, List, [], ◌∷◌, length, take, refl, sym, ◌∙◌, ap, subst, arith, inl, inr, ◌⊎◌, lit≤}
+use Rattle.std.proofs.Common.{◌≡◌, ℕ, zero, suc, ◌+◌, ◌<◌, ◌≤◌, Bool, true, false, cond, ◌&&◌, ◌||◌, not, List, [], ◌∷◌, length, take, refl, sym, ◌∙◌, ap, subst, arith, inl, inr, ◌⊎◌, lit≤}
 use Rattle.std.specs.Prelude.{◌==◌, ◌≢◌, slice_index_or, All}
 use Rattle.std.specs.List.{filter, range_with_len, list_any, list_all}
 use Rattle.std.specs.Int.{bit_at}
 use Rattle.std.proofs.lemmas.List.{take_more, take_all}
 use Rattle.std.proofs.lemmas.List.Elements.{All-head, All-tail, All-push}
-use Rattle.std.proofs.lemmas.Bool.{and_parts, and_from, or_left, or_right, or_cases, both_ways, not-true, cases_eq, eq-eqb, eqb-true}
+use Rattle.std.proofs.lemmas.Bool.{and_parts, and_from, or_right, or_cases, both_ways, not-true, cases_eq, eq-eqb, eqb-true}
 use Rattle.assign.specs.Sets.{numbers, has, set_where, minus, is_within, IsSet}
 use Rattle.assign.specs.SetLemmas.{has-set_where, filter_agree_from}
 use Rattle.propagators.specs.Values.{ones_of}

@@ -1,8 +1,5 @@
-use Rattle.std.proofs.Common.{◌≡◌, ◌≤◌, ◌+◌, ◌<◌, ◌∙◌, rules, arith}
-use Rattle.std.specs.Prelude.{◌==◌, slice_index_or}
-use Rattle.std.specs.Int.{bit_at}
-use Rattle.propagators.specs.Families.{is_wanted}
-use Rattle.propagators.specs.Loose.{rejected_of}
+use Rattle.std.proofs.Common.{◌≤◌, ◌+◌, rules, arith}
+use Rattle.std.specs.Prelude.{slice_index_or}
 use Rattle.propagators.proofs.Loose.{rejects_next, row_rejects}
 use Rattle.propagators.proofs.pairs.most_rejected.Goals as goal
 

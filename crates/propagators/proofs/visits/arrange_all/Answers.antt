@@ -1,8 +1,5 @@
-use Rattle.std.proofs.Common.{◌∙◌, ap, sym, subst, arith}
-use Rattle.assign.specs.Sets.{has}
+use Rattle.std.proofs.Common.{◌∙◌, ap, sym, arith}
 use Rattle.propagators.specs.Families.{Arc, arc_of, arcs_of}
-use Rattle.propagators.specs.Briefs.{IsBriefOf}
-use Rattle.propagators.proofs.Conditions.{arcs_small}
 use Rattle.propagators.proofs.Masking.{briefs_next, brief_told}
 use Rattle.propagators.proofs.Lazy.{limits_next}
 use Rattle.propagators.proofs.Visiting.{noted_next}
