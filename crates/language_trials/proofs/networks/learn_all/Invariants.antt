@@ -1,0 +1,6 @@
+use Rattle.std.proofs.Common.{◌≡◌, length}
+use Rattle.language.specs.Answers.{IsNetwork}
+use Rattle.language_trials.proofs.networks.learn_all.Given as goal
+
+abbrev pub invariant-loop-word : goal.invariant-loop-word
+invariant-loop-word l = IsNetwork l.fn.lang l.net.list × (l.net.scopes ≡ length l.fn.lang.scopes)
