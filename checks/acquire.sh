@@ -39,21 +39,40 @@ start_slow() {
     await [ -e waits ]
 }
 
+# (some rows have two words)
+# shellcheck disable=SC2086
+help_words() {
+    for words in --help -h help "--unproved --help" "--unproved help"; do
+        report "$words" "$usage" "$(bare ./acquire $words 2>"$room/said" | head -n 1)"
+        report "$words: status, and nothing is said" "0 " "$(bare ./acquire $words >"$room/printed" 2>"$room/said"; echo $?) $(cat "$room/said")"
+    done
+}
+
+# shellcheck disable=SC2086
+no_words() {
+    for words in "" --unproved; do
+        report "no words: $words" " 1" "$(bare ./acquire $words 2>"$room/said") $?"
+        report "no words: $words: usage" "$usage" "$(head -n 1 "$room/said")"
+    done
+}
+
+# shellcheck disable=SC2086
+not_alone() {
+    for words in "help run" "--help run" "run --help" "--version run"; do
+        report "a word that isn't alone: $words" "one $here $words" "$(./acquire $words 2>&1)"
+    done
+}
+
 here=$room/top
 usage=$(sed -n '/^usage: /p' "$top/docs/formats.md")
 
 unbuilt
-for words in --help -h help "--unproved --help" "--unproved help"; do
-    report "$words" "$usage 0 " "$(bare ./acquire $words 2>"$room/said" | head -n 1) $(bare ./acquire $words >/dev/null 2>&1; echo $?) $(cat "$room/said")"
-done
+help_words
 report "version" "proved with $(cat "$top/tools/kit") 0" "$(bare ./acquire --version 2>"$room/said" | tail -n 1) $?"
 report "version of a folder" 1 "$(./acquire --version | grep -c "^acquire (its commit isn't known")"
 echo "1a2b3c4 of 2026-11-29" >tools/commit
 report "version of an archive" "acquire 1a2b3c4 of 2026-11-29" "$(./acquire --version | head -n 1)"
-for words in "" --unproved; do
-    report "no words: $words" " 1" "$(bare ./acquire $words 2>"$room/said") $?"
-    report "no words: $words: usage" "$usage" "$(head -n 1 "$room/said")"
-done
+no_words
 report "nothing is built by these" "" "$(ls crates/acquire/out 2>/dev/null)"
 git init -q . && git add -A && git -c user.name=a -c user.email=a@b commit -q -m one
 report "version of a commit" "acquire $(git log -1 --format='%h of %cs')" "$(./acquire --version | head -n 1)"
@@ -66,9 +85,7 @@ report "it says how long that takes" 1 "$(grep -c "^acquire: the whole takes 29 
 rm "$kit/bin/asked"
 expect "second start" "one $here run 6 1"
 report "rt isn't asked" "" "$(cat "$kit/bin/asked" 2>/dev/null)"
-for words in "help run" "--help run" "run --help" "--version run"; do
-    report "a word that isn't alone: $words" "one $here $words" "$(./acquire $words 2>&1)"
-done
+not_alone
 
 touch crates/low/src/lib.rt
 expect "touched" "one $here run 6 1"
@@ -126,7 +143,7 @@ report "no rt, which is told" 1 "$(grep -c "rt, which .* isn't on the path" "$ro
 unbuilt
 expect_unproved "first start" "unproved one $here run 6 1 1"
 report "nothing is proved for it" 0 "$(builds)"
-report "its tools" "clang -O1 unlinked ld.lld -o program unlinked last" "$(echo $(cat "$kit/toolchain/bin/words"))"
+report "its tools" "clang -O1 unlinked ld.lld -o program unlinked last" "$(tr '\n' ' ' <"$kit/toolchain/bin/words" | sed 's/ $//')"
 rm "$kit/bin/asked"
 expect_unproved "second start" "unproved one $here run 6 1 1"
 report "unproved: rt isn't asked" "" "$(cat "$kit/bin/asked" 2>/dev/null)"
@@ -201,7 +218,7 @@ kill -s TERM "$!"
 wait "$!"
 report "stopped" "143 0" "$? $(pgrep -fc "$kit/bin/rt")"
 rm slow
-report "no mark is left" "" "$(ls crates/acquire/out | grep mark)"
+report "no mark is left" "" "$(find crates/acquire/out -name '*mark*')"
 expect "started again" "five $here run 6 5"
 
 finish

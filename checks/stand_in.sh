@@ -105,7 +105,7 @@ report() {
     fi
 }
 
-lines_of() { cat "$1" 2>/dev/null | wc -l | tr -d ' '; }
+lines_of() { if [ -e "$1" ]; then wc -l <"$1"; else echo 0; fi; }
 
 await() {
     for _ in {1..300}; do
