@@ -40,7 +40,8 @@ _acquire() {
         return
     fi
     mapfile -t COMPREPLY < <(compgen -W "$found" -- "$cur")
-    if [[ $at -eq 1 ]]; then
+    # (bash would put a \ before each : of a file's name)
+    if [[ $at -eq 1 && $cur != [:-]* ]] && compgen -f -- "$cur" >/dev/null; then
         compopt -o filenames 2>/dev/null
         while IFS= read -r file; do COMPREPLY+=("$file"); done < <(compgen -f -- "$cur")
     fi

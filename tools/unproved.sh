@@ -2,16 +2,16 @@
 # A program without proof that is kept. `acquire` reads this in.
 #
 # `rt try` compiles the source without proof, runs it once and keeps no program. So it is called over a copy of the kit, made of
-# links, in which two of its tools are small scripts: the compiler optimizes, and leaves out the tests of addresses, by which a
-# start takes half a second; the linker leaves what it linked. Whatever the kit does in another way than these scripts expect is
-# passed on as it is. Where no program comes out, there is none.
+# links, in which three of its tools are small scripts: the compiler optimizes, and leaves out the tests of addresses, which make the
+# program many times slower; the linker leaves what it linked; the prover, which looks for names that a proof couldn't have, yields to
+# both. Where the kit calls them in another way than these scripts expect, its words are passed on as they are.
 
 # Lays the copy out in the folder `room`. What is linked there is left as `linked`.
 lay_out_kit() {
     page=$(rt doc) && from=$(dirname -- "$page") || return 1
     [ -x "$from/bin/rt" ] && [ -x "$from/toolchain/bin/ld.lld" ] && [ -x "$from/toolchain/bin/clang" ] || return 1
     to=$room/kit
-    mkdir -p "$to/bin" "$to/toolchain/bin" && ln -s "$from/toolchain/bin" "$room/real" || return 1
+    mkdir -p "$to/bin" "$to/toolchain/bin" && ln -s "$from" "$room/from" || return 1
     link_all "$from" "$to" && link_all "$from/bin" "$to/bin" &&
         link_all "$from/toolchain" "$to/toolchain" && link_all "$from/toolchain/bin" "$to/toolchain/bin" || return 1
     # rt finds its kit by where it lies itself.
@@ -29,12 +29,12 @@ for word; do
     esac
     set -- "$@" "$word"
 done
-exec "${0%/*}/../../../real/clang" "$@"
+exec "${0%/*}/../../../from/toolchain/bin/clang" "$@"
 END
     cat >"$to/toolchain/bin/ld.lld" <<'END'
 #!/bin/sh
 room=${0%/*}/../../..
-link() { "$room/real/ld.lld" "$@"; }
+link() { "$room/from/toolchain/bin/ld.lld" "$@"; }
 # The library of the tests of addresses is the one that is taken whole.
 link_without() {
     whole=
@@ -54,6 +54,11 @@ for word; do
 done
 END
     chmod +x "$to/toolchain/bin/clang" "$to/toolchain/bin/ld.lld"
+    [ -e "$to/bin/rattle" ] || return 0
+    rm "$to/bin/rattle" && cat >"$to/bin/rattle" <<'END' && chmod +x "$to/bin/rattle"
+#!/bin/sh
+exec nice -n 19 "${0%/*}/../../from/bin/rattle" "$@"
+END
 }
 
 # Links what lies in one folder into another one, but for what is there.
