@@ -140,6 +140,40 @@ echo two >crates/low/src/lib.rt
 report "no rt, and not built" " 70" "$(bare ./acquire run 2>"$room/said") $?"
 report "no rt, which is told" 1 "$(grep -c "rt, which .* isn't on the path" "$room/said")"
 
+# What is told of a build of three crates, of which the first takes three times its share and the second doesn't end.
+foretell() (
+    # shellcheck source=tools/progress.sh
+    . "$top/tools/progress.sh"
+    # shellcheck disable=SC2317 # (what is read in calls it)
+    date() { echo "$time"; }
+    told_at() {
+        time=$1
+        look_how_far
+        echo "$line"
+    }
+    kind=proved
+    home=$here
+    names=$(printf '%s\n' low mid acquire)
+    printf 'SECONDS 1000\nlow 100\nacquire 800\n' >tools/shares
+    mkdir -p crates/mid/src crates/{low,mid}/out/rlib
+    yes | head -n 891 >crates/mid/src/lib.rt
+    time=10000
+    begin_progress
+    rmdir crates/low/out/rlib
+    told_at 10000
+    mkdir crates/low/out/rlib
+    touch crates/low/out/rlib/stamp
+    told_at 10300
+    told_at 12300
+    touch crates/mid/out/rlib/stamp
+    told_at 12301
+)
+unbuilt
+report "how far a build is" "0 of 3 crates proved in 0 s, some 16 min left; now a look at all sources
+1 of 3 crates proved in 5 min 0 s, some 29 min left; now mid
+1 of 3 crates proved in 38 min 20 s, some 26 min left; now mid
+2 of 3 crates proved in 38 min 21 s, some 106 min left; now acquire" "$(foretell)"
+
 unbuilt
 expect_unproved "first start" "unproved one $here run 6 1 1"
 report "nothing is proved for it" 0 "$(builds)"
