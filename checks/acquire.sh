@@ -1,60 +1,19 @@
 #!/usr/bin/env bash
-# The script `acquire` with a stand-in for rt, which proves nothing: when it builds, when it doesn't, and what it says then.
+# The script `acquire` with a stand-in for the kit, which proves nothing: when it builds, when it doesn't, what it says then, and that
+# it never takes an unproved program for the proved one.
 set -u
 top=$(cd "$(dirname "$0")/.." && pwd)
-room=$(mktemp -d)
-trap 'rm -rf "$room"' EXIT
-passed=0
-failed=0
+what=acquire
+# shellcheck source=checks/stand_in.sh
+. "$top/checks/stand_in.sh"
 
-# The stand-in builds a program that prints the text of one source and its words. It refuses a source with the word BROKEN,
-# and leaves a line in `built` for each build. Once it has read the source it waits while there is a file `slow`.
-mkdir "$room/bin" "$room/elsewhere"
-cat >"$room/bin/rt" <<'END'
-#!/bin/sh
-echo "$1" >>"$(dirname "$0")/asked"
-[ "$1" = version ] && exec cat "$(dirname "$0")/kit"
-cd ../.. || exit 2
-was=$(cat crates/low/src/* crates/acquire/src/*)
-while [ -e slow ]; do
-    touch waits
-    sleep 0.1
-done
-grep -q BROKEN crates/low/src/lib.rt && exit 1
-if [ "$was" != "$(cat kept 2>/dev/null)" ]; then
-    echo build >>built
-    { echo "#!/bin/sh"; echo "echo $(cat crates/low/src/lib.rt) \$(pwd) \"\$*\"; exit 6"; } >crates/acquire/out/new
-    chmod +x crates/acquire/out/new
-    mv crates/acquire/out/new crates/acquire/out/acquire
-    echo "$was" >kept
-fi
-END
-chmod +x "$room/bin/rt"
-PATH=$room/bin:$PATH
-
-# A repository of three crates, of which the program needs two.
 fresh() {
-    rm -rf "$room/top"
-    mkdir -p "$room/top/examples/first" "$room"/top/crates/{low,acquire,beside}/{src,specs,must-fail}
-    cp "$top/acquire" "$room/top/"
-    cd "$room/top" || exit 1
-    printf 'low: # the lowest\nbeside: low\nacquire: low json\n' >crates.txt
-    touch HANDLES examples/first/input crates/beside/src/lib.rt crates/acquire/src/main.rt crates/low/specs/Lib.antt
-    echo one >crates/low/src/lib.rt
-    echo first kit >"$room/bin/kit"
+    unbuilt
     printed=$(./acquire run 2>"$room/said")
 }
 
-report() {
-    if [ "$2" = "$3" ]; then
-        passed=$((passed + 1))
-    else
-        failed=$((failed + 1))
-        echo "acquire: $1: '$3' and not '$2'"
-    fi
-}
-
-builds() { wc -l <"$room/top/built" | tr -d ' '; }
+builds() { lines_of "$room/top/built"; }
+compiled() { lines_of "$room/top/compiled"; }
 
 # What a start prints, its status, and how many builds there have been.
 start() {
@@ -64,29 +23,69 @@ start() {
 
 expect() { report "$1" "$2" "$(start)"; }
 
+# The same without proof: how many tries there have been, and how many lines say so.
+start_unproved() {
+    printed=$(./acquire --unproved run 2>"$room/said")
+    echo "$printed $? $(compiled) $(grep -c "nothing of this program is proved" "$room/said")"
+}
+
+expect_unproved() { report "unproved: $1" "$2" "$(start_unproved)"; }
+
 # Starts `acquire WORD` beside this script, and goes on once its build waits.
 start_slow() {
     rm -f waits
     touch slow
-    ./acquire "$1" >"$room/$1" 2>&1 &
+    ./acquire "$@" >"$room/${*: -1}" 2>&1 &
     await [ -e waits ]
 }
 
-await() {
-    for _ in {1..300}; do
-        "$@" && return
-        sleep 0.1
+# (some rows have two words)
+# shellcheck disable=SC2086
+help_words() {
+    for words in --help -h help "--unproved --help" "--unproved help"; do
+        report "$words" "$usage" "$(bare ./acquire $words 2>"$room/said" | head -n 1)"
+        report "$words: status, and nothing is said" "0 " "$(bare ./acquire $words >"$room/printed" 2>"$room/said"; echo $?) $(cat "$room/said")"
+    done
+}
+
+# shellcheck disable=SC2086
+no_words() {
+    for words in "" --unproved; do
+        report "no words: $words" " 1" "$(bare ./acquire $words 2>"$room/said") $?"
+        report "no words: $words: usage" "$usage" "$(head -n 1 "$room/said")"
+    done
+}
+
+# shellcheck disable=SC2086
+not_alone() {
+    for words in "help run" "--help run" "run --help" "--version run"; do
+        report "a word that isn't alone: $words" "one $here $words" "$(./acquire $words 2>&1)"
     done
 }
 
 here=$room/top
+usage=$(sed -n '/^usage: /p' "$top/docs/formats.md")
+
+unbuilt
+help_words
+report "version" "proved with $(cat "$top/tools/kit") 0" "$(bare ./acquire --version 2>"$room/said" | tail -n 1) $?"
+report "version of a folder" 1 "$(./acquire --version | grep -c "^acquire (its commit isn't known")"
+echo "1a2b3c4 of 2026-11-29" >tools/commit
+report "version of an archive" "acquire 1a2b3c4 of 2026-11-29" "$(./acquire --version | head -n 1)"
+no_words
+report "nothing is built by these" "" "$(ls crates/acquire/out 2>/dev/null)"
+git init -q . && git add -A && git -c user.name=a -c user.email=a@b commit -q -m one
+report "version of a commit" "acquire $(git log -1 --format='%h of %cs')" "$(./acquire --version | head -n 1)"
+echo more >>HANDLES
+report "version with changes" "acquire $(git log -1 --format='%h of %cs'), with changes" "$(./acquire --version | head -n 1)"
+
 fresh
 report "first start" "one $here run 1" "$printed $(builds)"
-rm "$room/bin/asked"
+report "it says how long that takes" 1 "$(grep -c "^acquire: the whole takes 29 minutes" "$room/said")"
+rm "$kit/bin/asked"
 expect "second start" "one $here run 6 1"
-report "rt isn't asked" "" "$(cat "$room/bin/asked" 2>/dev/null)"
-report "no words" " 1" "$(./acquire 2>"$room/said") $?"
-report "help" "$(sed -n '/^usage: /p' "$top/docs/formats.md")" "$(head -n 1 "$room/said")"
+report "rt isn't asked" "" "$(cat "$kit/bin/asked" 2>/dev/null)"
+not_alone
 
 touch crates/low/src/lib.rt
 expect "touched" "one $here run 6 1"
@@ -116,16 +115,16 @@ mv crates/low/proofs crates/beside/src
 echo BROKEN >crates/low/src/lib.rt
 report "broken" " 70" "$(start | cut -d' ' -f1-2)"
 report "broken again" " 70" "$(start | cut -d' ' -f1-2)"
+report "broken, and unproved" " 70" "$(start_unproved | cut -d' ' -f1-2)"
 cp "$room/kept" crates/low/src/lib.rt
 report "mended" "one $here run 6" "$(start | cut -d' ' -f1-4)"
 
 fresh
-echo second kit >"$room/bin/kit"
-touch "$room/bin/rt"
+echo second kit >"$kit/bin/kit"
+touch "$kit/bin/rt"
 expect "another kit, of which the build sees no change" "one $here run 6 1"
 report "it says so" "the program was built with another kit" "$(sed -n 's/^acquire: \(.*\);.*/\1/p' "$room/said")"
 printf '#!/bin/sh\necho other\n' >crates/acquire/out/acquire
-rm kept
 expect "another program in its place" "one $here run 6 2"
 rm crates/acquire/out/build.stamp
 expect "no stamp" "one $here run 6 2"
@@ -134,13 +133,101 @@ ln -s ../top/acquire "$room/elsewhere/first"
 ln -s "$room/elsewhere/first" "$room/elsewhere/second"
 report "a link to a link" "one $room/elsewhere run" "$(cd "$room/elsewhere" && ./second run 2>&1)"
 report "nothing beside it" "first second" "$(cd "$room/elsewhere" && echo *)"
-bare=$(for it in sh awk sed find head sha256sum sort touch mv rm cut dirname readlink mkdir cat date wc; do command -v "$it"; done)
-mkdir "$room/bare"
-for it in $bare; do ln -s "$it" "$room/bare/"; done
-report "no rt, and built" "one $here run" "$(PATH=$room/bare ./acquire run 2>&1)"
-echo two >crates/low/src/lib.rt
-report "no rt, and not built" " 70" "$(PATH=$room/bare ./acquire run 2>"$room/said") $?"
+report "no rt, and built" "one $here run" "$(bare ./acquire run 2>&1)"
+report "no rt, and not built unproved" " 70" "$(bare ./acquire --unproved run 2>"$room/said") $?"
 report "no rt, which is told" 1 "$(grep -c "rt, which .* isn't on the path" "$room/said")"
+echo two >crates/low/src/lib.rt
+report "no rt, and not built" " 70" "$(bare ./acquire run 2>"$room/said") $?"
+report "no rt, which is told" 1 "$(grep -c "rt, which .* isn't on the path" "$room/said")"
+
+# What is told of a build of three crates, of which the first takes three times its share and the second doesn't end.
+foretell() (
+    # shellcheck source=tools/progress.sh
+    . "$top/tools/progress.sh"
+    # shellcheck disable=SC2317 # (what is read in calls it)
+    date() { echo "$time"; }
+    told_at() {
+        time=$1
+        look_how_far
+        echo "$line"
+    }
+    kind=proved
+    home=$here
+    names=$(printf '%s\n' low mid acquire)
+    printf 'SECONDS 1000\nlow 100\nacquire 800\n' >tools/shares
+    mkdir -p crates/mid/src crates/{low,mid}/out/rlib
+    yes | head -n 891 >crates/mid/src/lib.rt
+    time=10000
+    begin_progress
+    rmdir crates/low/out/rlib
+    told_at 10000
+    mkdir crates/low/out/rlib
+    touch crates/low/out/rlib/stamp
+    told_at 10300
+    told_at 12300
+    touch crates/mid/out/rlib/stamp
+    told_at 12301
+)
+unbuilt
+report "how far a build is" "0 of 3 crates proved in 0 s, some 16 min left; now a look at all sources
+1 of 3 crates proved in 5 min 0 s, some 29 min left; now mid
+1 of 3 crates proved in 38 min 20 s, some 26 min left; now mid
+2 of 3 crates proved in 38 min 21 s, some 106 min left; now acquire" "$(foretell)"
+
+unbuilt
+expect_unproved "first start" "unproved one $here run 6 1 1"
+report "nothing is proved for it" 0 "$(builds)"
+report "its tools" "clang -O1 unlinked ld.lld -o program unlinked last" "$(tr '\n' ' ' <"$kit/toolchain/bin/words" | sed 's/ $//')"
+rm "$kit/bin/asked"
+expect_unproved "second start" "unproved one $here run 6 1 1"
+report "unproved: rt isn't asked" "" "$(cat "$kit/bin/asked" 2>/dev/null)"
+expect "the proved one isn't there" "one $here run 6 1"
+report "nothing is said of proof" 0 "$(grep -c "nothing of this" "$room/said")"
+expect_unproved "with the proved one" "unproved one $here run 6 1 1"
+touch crates/low/src/lib.rt
+expect_unproved "touched" "unproved one $here run 6 1 1"
+echo two >crates/low/src/lib.rt
+expect_unproved "changed" "unproved two $here run 6 2 1"
+expect "changed for both" "two $here run 6 2"
+
+# Each in the place of the other, alone and with its stamp.
+cd crates/acquire/out || exit 1
+for it in acquire acquire-unproved build.stamp unproved.stamp; do cp -p "$it" "$room/$it"; done
+cp "$room/acquire-unproved" acquire
+cd ../../..
+expect "an unproved one in its place" "two $here run 6 3"
+cp "$room/acquire-unproved" crates/acquire/out/acquire
+cp "$room/unproved.stamp" crates/acquire/out/build.stamp
+expect "with the stamp of that one" "two $here run 6 4"
+cp "$room/acquire" crates/acquire/out/acquire-unproved
+expect_unproved "the proved one in its place" "unproved two $here run 6 3 1"
+cp "$room/acquire" crates/acquire/out/acquire-unproved
+cp "$room/build.stamp" crates/acquire/out/unproved.stamp
+expect_unproved "with the stamp of that one" "unproved two $here run 6 4 1"
+rm crates/acquire/out/acquire
+expect "only the unproved one is there" "two $here run 6 5"
+
+for row in "links_otherwise:nothing is linked" "printed:it doesn't run the first example" "ld.lld:no linker"; do
+    unbuilt
+    case $row in
+    links_otherwise*) touch "$kit/bin/links_otherwise" ;;
+    printed*) echo q1 >examples/first/printed ;;
+    *) mv "$kit/toolchain/bin/ld.lld" "$room/ld.lld" ;;
+    esac
+    report "unproved: ${row#*:}" " 70" "$(start_unproved | cut -d' ' -f1-2)"
+    report "unproved: ${row#*:}: what to do is told" 1 "$(grep -c "to run it once: (cd .* rt try" "$room/said")"
+    report "unproved: ${row#*:}: nothing is left" "" "$(find crates/acquire/out "$room/tmp" -mindepth 1 ! -name '*.l*')"
+done
+mv "$room/ld.lld" "$kit/toolchain/bin/"
+
+unbuilt
+start_slow --unproved stopped
+kill -s TERM "$!"
+wait "$!"
+report "unproved: stopped" "143" "$?"
+rm slow
+report "unproved: nothing is left" "" "$(find crates/acquire/out "$room/tmp" -mindepth 1 ! -name '*.l*')"
+expect_unproved "started again" "unproved one $here run 6 1 1"
 
 fresh
 echo two >crates/low/src/lib.rt
@@ -163,10 +250,9 @@ echo five >crates/low/src/lib.rt
 start_slow stopped
 kill -s TERM "$!"
 wait "$!"
-report "stopped" "143 0" "$? $(pgrep -fc "$room/bin/rt")"
+report "stopped" "143 0" "$? $(pgrep -fc "$kit/bin/rt")"
 rm slow
-report "no mark is left" "" "$(ls crates/acquire/out | grep mark)"
+report "no mark is left" "" "$(find crates/acquire/out -name '*mark*')"
 expect "started again" "five $here run 6 5"
 
-echo "acquire: $passed passed, $failed failed"
-[ "$failed" -eq 0 ]
+finish

@@ -1,0 +1,153 @@
+#!/usr/bin/env bash
+# .ci/run with stand-ins for the kit and for the checks: what has passed is recorded, so that `acquire` proves nothing again and release.sh
+# makes a tar file; nothing else is.
+set -u
+top=$(cd "$(dirname "$0")/.." && pwd)
+what=gate
+# shellcheck source=checks/stand_in.sh
+. "$top/checks/stand_in.sh"
+
+# A commit of such a repository, with checks that look at nothing.
+fresh() {
+    unbuilt
+    mkdir -p checks .ci docs "$room/made"
+    cp "$top/.ci/run" .ci/
+    cp -r "$top/man" "$top/completions" "$top/Makefile" "$top/release.sh" "$top/.gitignore" .
+    cp "$top/docs/formats.md" docs/
+    for it in "$top"/checks/*; do
+        [ -x "$it" ] && [ -f "$it" ] && printf '#!/bin/sh\n' >"checks/${it##*/}"
+    done
+    chmod +x checks/*
+    echo "first kit" >tools/kit
+    commit
+    rm -f "$room"/made/*
+}
+
+# What the stand-in leaves is no part of the commit.
+commit() {
+    git init -q . && printf '%s\n' slow waits built kept >.git/info/exclude &&
+        git add -A && git -c user.name=a -c user.email=a@b commit -q -m more
+}
+
+gate() {
+    .ci/run >"$room/printed" 2>"$room/said"
+    echo "$?"
+}
+
+# What `acquire` prints, its status, and how many builds it took.
+start() { echo "$(./acquire run 2>"$room/said") $? $(lines_of built)"; }
+
+# The status of release.sh, and what it made.
+release() {
+    ./release.sh "$room/made" >"$room/printed" 2>"$room/said"
+    echo "$? $(cd "$room/made" && echo *)"
+}
+
+refuses() { report "release: $1" "1 *" "$(release)"; }
+
+# Changes a source while rt ci is at work.
+change_during() {
+    touch slow
+    gate >"$room/status" &
+    await [ -e waits ]
+    "$@"
+    rm slow waits
+    wait
+}
+
+here=$room/top
+fresh
+report "passed" "0 5 passed, 0 failed" "$(gate) $(cat "$room/printed")"
+report "nothing is said" "" "$(cat "$room/said")"
+rm "$kit/bin/asked"
+report "acquire proves nothing again" "one $here run 6 0" "$(start)"
+report "rt isn't asked" "" "$(cat "$kit/bin/asked" 2>/dev/null)"
+report "the record" "$(git rev-parse HEAD) $(sha256sum <crates/acquire/out/acquire) first kit 5 passed, 0 failed" "$(tr '\n' ' ' <.ci/out/passed | sed 's/ $//')"
+report "nothing else is left" "passed" "$(ls .ci/out)"
+name=acquire-$(git log -1 --format=%cs)-$(git rev-parse --short HEAD)
+report "release" "0 $name.tar.gz" "$(release)"
+mkdir "$room/unpacked" && tar -xzf "$room/made/$name.tar.gz" -C "$room/unpacked"
+report "its program" "$(sha256sum <crates/acquire/out/acquire)" "$(sha256sum <"$room/unpacked/$name/bin/acquire")"
+report "its version" "commit $(git rev-parse HEAD) kit first kit gate 5 passed, 0 failed" "$(head -n 3 "$room/unpacked/$name/VERSION" | tr '\n' ' ' | sed 's/ $//')"
+report "its sums" 0 "$(cd "$room/unpacked/$name" && sha256sum --quiet -c SHA256; echo $?)"
+report "its files" "README SHA256 VERSION bin/acquire example/input example/printed share/bash-completion/completions/acquire share/doc/acquire/formats.md share/man/man1/acquire.1 share/zsh/site-functions/_acquire" \
+    "$(cd "$room/unpacked/$name" && find . -type f | sed 's/^..//' | LC_ALL=C sort | tr '\n' ' ' | sed 's/ $//')"
+cp "$room/made/$name.tar.gz" "$room/first" && rm "$room"/made/*
+release >"$room/status"
+report "the same twice" 0 "$(cmp "$room/first" "$room/made/$name.tar.gz"; echo $?)"
+rm "$room"/made/*
+
+cp -p crates/acquire/out/acquire "$room/kept"
+printf '#!/bin/sh\necho other\n' >crates/acquire/out/acquire
+refuses "another program"
+cp "$room/kept" crates/acquire/out/acquire
+report "release: the program as it was" 0 "$(release | cut -d' ' -f1)"
+rm "$room"/made/*
+echo more >README.md
+refuses "a new file"
+git add -A && git -c user.name=a -c user.email=a@b commit -q -m more
+refuses "another commit"
+git reset -q --hard HEAD~1
+echo two >crates/low/src/lib.rt
+refuses "a changed source"
+git checkout -q .
+sed -i '4s/0 failed/1 failed/' .ci/out/passed
+refuses "a record of something else"
+rm .ci/out/passed
+refuses "no record"
+
+fresh
+report "broken" "3 1 passed, 1 failed" "$(echo BROKEN >crates/low/src/lib.rt; gate) $(cat "$room/printed")"
+refuses "broken"
+git checkout -q .
+report "mended" "one $here run 6 1" "$(start)"
+refuses "no gate"
+
+fresh
+printf '#!/bin/sh\nexit 4\n' >checks/kills.py
+commit
+report "a check fails" 4 "$(gate)"
+report "its program is proved" "one $here run 6 0" "$(start)"
+refuses "a check fails"
+
+fresh
+gate >"$room/status"
+printf '#!/bin/sh\nexit 4\n' >checks/kills.py
+gate >"$room/status"
+git checkout -q .
+refuses "an earlier gate has passed"
+
+fresh
+echo "two" >crates/low/src/lib.rt
+report "a tree that is no commit" 0 "$(gate)"
+report "it is told" 1 "$(grep -c "isn't that of a commit" "$room/said")"
+report "its program is proved" "two $here run 6 0" "$(start)"
+commit
+refuses "a tree that was no commit"
+
+change() { echo two >crates/low/src/lib.rt; }
+change_back() {
+    cp crates/low/src/lib.rt "$room/kept"
+    change
+    cp "$room/kept" crates/low/src/lib.rt
+}
+touch_check() { touch checks/kills.py; }
+fresh
+change_during change
+report "changed meanwhile" "0 1" "$(cat "$room/status") $(grep -c "has been touched since the gate began, so acquire" "$room/said")"
+report "changed meanwhile: it is proved" "two $here run 6 1" "$(start)"
+fresh
+change_during change_back
+report "changed and back meanwhile" "0 1" "$(cat "$room/status") $(grep -c "has been touched since the gate began, so acquire" "$room/said")"
+report "changed and back meanwhile: it is proved" "one $here run 6 1" "$(start)"
+refuses "changed and back meanwhile"
+fresh
+change_during touch_check
+report "a check is touched meanwhile" "0 1" "$(cat "$room/status") $(grep -c "kills.py has been touched .* nothing to release" "$room/said")"
+report "a check is touched meanwhile: the program is proved" "one $here run 6 0" "$(start)"
+refuses "a check is touched meanwhile"
+fresh
+change_during touch "$kit/bin/rt"
+report "rt is touched meanwhile: it is proved" "one $here run 6 1" "$(start)"
+
+finish
