@@ -9,6 +9,8 @@ folder. Then each command is run again and again from the same file, and each ti
 - is the last one: the program is killed (SIGKILL) before it is made; so it is with each write to standard output;
 - fails: writes and syncs with EIO and with ENOSPC, all others with EIO. Then the status is 10.
 
+A folder that can't be synced since the system doesn't offer it, or since it may not be read, is no fault: the journal is made.
+
 Each time what was printed is what comes before that call. Behind `run` the file has the answers from before and the first so
 many of this run: each one after which a further line was printed, and at most one more. Behind `new` it has no session, or the
 new one without answers, or what stood there if that is not to be written over; behind `show` it is as before. `show` and `run`
@@ -233,6 +235,25 @@ def faults_in_new(room, session):
         each_fault(room, f"new over {name}", words, session.vocabulary, old, order, fault_in_new, *more)
 
 
+def folder_is_not_synced(room, session, call, error):
+    room.put(None)
+    words = ["new", "--plan", session.plan]
+    text, status, lines = room.trace(words, session.vocabulary, "-e", f"inject={call.name}:error={error}:when={call.number}")
+    assert any("(INJECTED)" in line and room.folder in line for line in lines), "the call wasn't made to fail"
+    assert status == 0 and text.startswith("created "), f"it ends with status {status} and prints {text!r}"
+    check(room.program, session, room.journal, 0)
+
+
+def folders_without_sync(room, session):
+    room.put(None)
+    calls = list(calls_of(room, ["new", "--plan", session.plan], session.vocabulary))
+    at = next(number for number, call in enumerate(calls) if call.kind == "sync folder")
+    # The folder is opened right before.
+    for call, errors in [(calls[at], ["EINVAL", "EOPNOTSUPP", "ENOSYS"]), (calls[at - 1], ["EACCES", "EPERM"])]:
+        for error in errors:
+            room.case(f"the folder, {call}, {error}", folder_is_not_synced, room, session, call, error)
+
+
 def faults_in_run(room, session, before):
     old = journal_of(room, session, before)
     given, more = session.input_from(before, before + 2), (session, old, before, before + 2)
@@ -250,6 +271,7 @@ def faults_in_show(room, session):
 
 def calls_that_fail(room, drawn):
     faults_in_new(room, drawn[0])
+    folders_without_sync(room, drawn[0])
     faults_in_show(room, drawn[0])
     faults_in_run(room, drawn[0], 0)
     for session in drawn:

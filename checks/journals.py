@@ -6,10 +6,14 @@ usage: checks/journals.py PROGRAM
 Rows of commands over one file, files that are no journal, files that can't be opened or written, a disk that is full, what a
 command leaves of its input, and a person at a terminal who presses Ctrl-C between two answers and goes on later. A limit on the
 length of files, by which a write fails as it does where no room is left, stands for the full disk. Where this runs as root, the
-rows on files that may not be read or written are run as nobody.
+rows on files and folders that may not be read or written are run as nobody.
+
+Then what could destroy a journal: standard streams that are closed or lead to the journal, and a file that somebody else cuts,
+removes or replaces while the program waits for an answer.
 """
 
 import contextlib
+import itertools
 import os
 import pty
 import resource
@@ -45,6 +49,25 @@ COMMANDS = [
     ("new --plan scopes", None, "refused journal session there\n", 3, 208),
 ]
 
+# Commands with standard input, standard output or both and standard error closed: the words, the input, how many bytes of the
+# session of COMMANDS the file has before (None is no file) and after, where nothing is closed; and the statuses. With the output
+# closed, what is in the file before the first line is written is there too.
+CLOSED = [
+    ("new", None, None, 184, {"input": 8, "output": 9, "all": 8}),
+    ("new", None, 196, 196, {"input": 8, "output": 9, "all": 8}),
+    ("run", b"no\n", 196, 208, {"input": 8, "output": 9, "all": 9}),
+    ("play", b'[["ne","a","b"]]', 184, 208, {"input": 8, "output": 9, "all": 8}),
+    ("show", b"", 196, 196, {"input": 0, "output": 9, "all": 9}),
+    ("back", b"", 196, 209, {"input": 0, "output": 9, "all": 9}),
+    ("certify", b"", 208, 208, {"input": 0, "output": 9, "all": 9}),
+    ("reduce", b"", 208, 208, {"input": 0, "output": 9, "all": 9}),
+    ("cnf", b"", 208, 208, {"input": 0, "output": 9, "all": 9}),
+    ("model", b"v 1 -2 -3 4 0\n", 208, 208, {"input": 8, "output": 9, "all": 8}),
+]
+STREAMS = {"input": [0], "output": [1], "error": [2], "all": [0, 1, 2]}
+# These add to the file before they write a line.
+ADD_FIRST = ("new", "back")
+
 
 class Room:
     """A folder, the program and the vocabulary, and how many rows were as they should be."""
@@ -72,20 +95,24 @@ class Room:
             file.write(content)
         return self.path(name)
 
-    def look(self, journal, words, given=b"", limit=None, user=None):
-        """What a command prints, and its status. Files may get `limit` bytes long, if there is one."""
+    def look(self, journal, words, given=b"", limit=None, user=None, closed=(), prepare=lambda: None):
+        """What a command prints, and its status. Files may get `limit` bytes long, if there is one. The streams of `closed` are
+        closed, and `prepare` is called, before the program starts."""
 
-        def prepare():
+        def begin():
             if limit is not None:
                 signal.signal(signal.SIGXFSZ, signal.SIG_IGN)
                 resource.setrlimit(resource.RLIMIT_FSIZE, (limit, limit))
+            prepare()
+            for stream in closed:
+                os.close(stream)
 
         done = subprocess.run(
             [self.program, journal, *words.split()],
             input=self.vocabulary if given is None else given,
             stdout=subprocess.PIPE,
             timeout=20,
-            preexec_fn=prepare,
+            preexec_fn=begin,
             user=user,
             check=False,
         )
@@ -111,6 +138,8 @@ def over_one_file(room):
 def worked_journal(room, name="worked"):
     """The file of 196 bytes, with one answer."""
     journal = room.path(name)
+    with contextlib.suppress(FileNotFoundError):
+        os.remove(journal)
     room.look(journal, "new", None)
     room.look(journal, "run", b"yes\n")
     return journal
@@ -196,6 +225,130 @@ def full_disk(room):
     room.look(journal, "new", None)
     room.report("run at 196 bytes", ("q1 a=1 b=2\nq2 a=1 b=1\n", 10), room.look(journal, "run", b"yes\nno\n", limit=196))
     room.report("then run at 196", ("q2 a=1 b=1\nsuspended 1\n", 6), room.look(journal, "run"))
+
+
+def at_the_limit(room):
+    """The system's signal at the limit ends the program, as a kill does, and no answer is lost after which a line was printed."""
+    journal = worked_journal(room, "signal")
+    limit = lambda: resource.setrlimit(resource.RLIMIT_FSIZE, (200, 200))
+    got = room.look(journal, "run", b"no\n", prepare=limit)
+    room.report("the signal at the limit", ("q2 a=1 b=1\n", -signal.SIGXFSZ), got)
+    room.report("then show", "answers 1", room.look(journal, "show")[0].splitlines()[2])
+
+
+def session(room, length):
+    """The file of so many bytes in the session of COMMANDS."""
+    journal = worked_journal(room, "session")
+    if length == 208:
+        room.look(journal, "run", b"no\n")
+    content = content_of(journal)
+    return content[:183] + b"\0" if length == 184 else content
+
+
+def closed_streams(room):
+    """No byte of a journal changes but by what the command adds, whatever is closed; and each command says what it lacked."""
+    for words, given, before, after, statuses in CLOSED:
+        wanted = None if before is None else session(room, before)
+        journal = room.path("closed")
+
+        def over(**more):
+            if before is None:
+                with contextlib.suppress(FileNotFoundError):
+                    os.remove(journal)
+            else:
+                room.put("closed", wanted)
+            return room.look(journal, words, given, **more)
+
+        whole = over()
+        done = content_of(journal)
+        room.report(f"{words} over {before} bytes, its length", after, len(done))
+        for name, closed in STREAMS.items():
+            row = f"{words} over {before} bytes, closed: {name}"
+            text, status = over(closed=closed)
+            room.report(row, statuses.get(name, whole[1]), status)
+            if name in ("error", "input") and status == whole[1]:
+                room.report(f"{row}, what is printed", whole[0], text)
+            adds = status == whole[1] or status == 9 and words in ADD_FIRST
+            room.report(f"{row}, the file", done if adds else wanted, content_of(journal))
+
+
+def own_streams(room):
+    """A journal that standard input or output leads to is refused, under each name that it has."""
+    before = content_of(worked_journal(room, "stream"))
+    journal = room.path("stream")
+    os.link(journal, room.path("second name"))
+    os.symlink("stream", room.path("link"))
+    rows = itertools.product(
+        ["stream", "second name", "link"],
+        ["run", "play", "show", "back", "model"],
+        [("input", 0, os.O_RDONLY), ("output >>", 1, os.O_WRONLY | os.O_APPEND), ("output 1<>", 1, os.O_RDWR)],
+    )
+    for name, words, (way, stream, how) in rows:
+        got = room.look(room.path(name), words, prepare=lambda: os.dup2(os.open(journal, how), stream))
+        room.report(f"{words}, {name} is the {way}", (("", 10), before), (got, content_of(journal)))
+        room.put("stream", before)
+    room.report("a link to a journal", ("q2 a=1 b=1\nsuspended 1\n", 6), room.look(room.path("link"), "run"))
+    voc = room.put("vocabulary", room.vocabulary)
+    for words, stream, how in [("new", 0, os.O_RDONLY), ("new", 1, os.O_RDWR)]:
+        got = room.look(voc, words, None, prepare=lambda: os.dup2(os.open(voc, how), stream))
+        room.report(f"new, its own stream {stream}", (("", 10), room.vocabulary), (got, content_of(voc)))
+    os.symlink("nothing", room.path("no link"))
+    room.report("a link to nothing, new", ("", 10), room.look(room.path("no link"), "new", None))
+    room.report("a link to nothing, nothing is made", False, os.path.exists(room.path("nothing")))
+    # Nobody reads what is written.
+    source, end = os.pipe()
+    os.close(source)
+    room.report("a pipe without a reader", 9, room.look(journal, "show", prepare=lambda: os.dup2(end, 1))[1])
+    os.close(end)
+    room.report("a pipe without a reader, the file", before, content_of(journal))
+
+
+def while_it_waits(room):
+    """What somebody else does to the file between a question and its answer: the answer isn't taken, and nothing is written."""
+    other = session(room, 208)
+
+    def cut(journal):
+        os.truncate(journal, 0)
+
+    def cut_in_a_record(journal):
+        os.truncate(journal, 190)
+
+    def remove(journal):
+        os.remove(journal)
+
+    def replace(journal):
+        os.replace(room.put("other", other), journal)
+
+    def rename(journal):
+        os.replace(journal, room.path("renamed"))
+
+    for harm in [cut, cut_in_a_record, remove, replace, rename]:
+        journal = worked_journal(room, "waits")
+        before = content_of(journal)
+        words = [room.program, journal, "run"]
+        with subprocess.Popen(words, stdin=subprocess.PIPE, stdout=subprocess.PIPE) as program:
+            room.report(f"{harm.__name__}, the question", b"q2 a=1 b=1\n", program.stdout.readline())
+            harm(journal)
+            left = content_of(journal)
+            text = program.communicate(b"no\n", timeout=20)[0]
+        room.report(f"{harm.__name__}, then", (b"", 10), (text, program.returncode))
+        room.report(f"{harm.__name__}, the file", left, content_of(journal))
+        if harm is rename:
+            room.report("rename, the journal", before, content_of(room.path("renamed")))
+
+
+def folder_that_may_not_be_read(room):
+    """A journal is made in a folder that may be written in and not read."""
+    user = NOBODY if os.geteuid() == 0 else None
+    os.mkdir(room.path("dark"))
+    if user is not None:
+        os.chown(room.path("dark"), user, user)
+    os.chmod(room.path("dark"), 0o300)
+    journal = room.path("dark/journal")
+    created = ("created variables 2 scopes 1 candidates 3\n", 0)
+    room.report("a folder that may not be read, new", created, room.look(journal, "new", None, user=user))
+    room.report("then run", ("q1 a=1 b=2\nsuspended 0\n", 6), room.look(journal, "run", user=user))
+    os.chmod(room.path("dark"), 0o700)
 
 
 def what_is_left(room):
@@ -308,13 +461,28 @@ def at_a_terminal(room):
     room.report("try, the end", ("suspended 1\n", 6), trying.wait())
 
 
+PARTS = [
+    over_one_file,
+    no_journals,
+    no_files,
+    full_disk,
+    at_the_limit,
+    closed_streams,
+    own_streams,
+    while_it_waits,
+    folder_that_may_not_be_read,
+    what_is_left,
+    at_a_terminal,
+]
+
+
 def main():
     if len(sys.argv) != 2:
         print(__doc__)
         sys.exit(2)
     with tempfile.TemporaryDirectory() as folder:
         room = Room(folder, sys.argv[1])
-        for part in [over_one_file, no_journals, no_files, full_disk, what_is_left, at_a_terminal]:
+        for part in PARTS:
             part(room)
     print(f"journals: {room.passed} passed, {room.failed} failed")
     sys.exit(1 if room.failed else 0)

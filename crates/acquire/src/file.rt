@@ -6,10 +6,10 @@
 ghost use Rattle.std.specs.Prelude.{◌≡◌, ◌≤◌, ◌+◌, ◌^◌, ◌-◌, min, None, IfSome, length};
 ghost use Rattle.disk_model.specs.Disk.{Rose, HasCause};
 
+use crate::journal_file::JournalFile;
 use disk_model::{Disk, Failed};
-use std::fs::{File, OpenOptions};
+use std::fs::File;
 use std::io::ErrorKind;
-use std::os::unix::fs::FileExt;
 use std::path::Path;
 use std::rt::Files;
 
@@ -18,7 +18,7 @@ use std::rt::Files;
 pub struct FileDisk<'a, R: Files<File = File>> {
     rt: &'a R,
     name: &'a str,
-    file: Option<File>,
+    file: Option<JournalFile>,
     /// How often a call failed.
     faults: u64,
 }
@@ -51,22 +51,12 @@ impl<'a, R: Files<File = File>> FileDisk<'a, R> {
         if self.file.is_some() {
             return Ok(());
         }
-        match OpenOptions::new()
-            .read(true)
-            .write(true)
-            .create(make)
-            .open(self.rt, self.name)
-        {
+        match JournalFile::open(self.rt, self.name, make) {
             Ok(file) => {
-                self.file = Some(file);
+                self.file = file;
                 Ok(())
             }
-            Err(e) => {
-                if !make && e.kind() == ErrorKind::NotFound {
-                    return Ok(());
-                }
-                Err(self.fault())
-            }
+            Err(Failed) => Err(self.fault()),
         }
     }
 
@@ -79,7 +69,7 @@ impl<'a, R: Files<File = File>> FileDisk<'a, R> {
         let Some(file) = &self.file else {
             return Err(self.fault());
         };
-        if file.write_all_at(bytes, at).is_err() {
+        if file.write_all(self.rt, self.name, at, bytes).is_err() {
             return Err(self.fault());
         }
         if at == 0 {
@@ -88,15 +78,21 @@ impl<'a, R: Files<File = File>> FileDisk<'a, R> {
         Ok(())
     }
 
-    /// Has the file's entry in its folder written.
+    /// Has the file's entry in its folder written, where the system offers that. A folder that may be written in and not read
+    /// can't be synced, and on some file systems none can: that is no fault.
     fn sync_folder(&mut self) -> Result<(), Failed>
         ensures { HasCause self.old.faults self.new.faults result }
     {
-        let Ok(folder) = File::open(self.rt, folder_of(self.name)) else {
-            return Err(self.fault());
+        let folder = match File::open(self.rt, folder_of(self.name)) {
+            Ok(folder) => folder,
+            Err(e) if e.kind() == ErrorKind::PermissionDenied => return Ok(()),
+            Err(_) => return Err(self.fault()),
         };
         match folder.sync_all() {
             Ok(()) => Ok(()),
+            Err(e) if matches!(e.kind(), ErrorKind::InvalidInput | ErrorKind::Unsupported) => Ok(
+                (),
+            ),
             Err(_) => Err(self.fault()),
         }
     }
@@ -134,9 +130,9 @@ impl<'a, R: Files<File = File>> Disk for FileDisk<'a, R> {
         let Some(file) = &self.file else {
             return Ok(0);
         };
-        match length_of(file) {
-            Some(length) => Ok(length),
-            None => Err(self.fault()),
+        match file.length(self.rt, self.name) {
+            Ok(length) => Ok(length),
+            Err(Failed) => Err(self.fault()),
         }
     }
 
@@ -145,9 +141,9 @@ impl<'a, R: Files<File = File>> Disk for FileDisk<'a, R> {
         let Some(file) = &self.file else {
             return Ok(0);
         };
-        match read_all(file, at, buf) {
-            Some(count) => Ok(count),
-            None => Err(self.fault()),
+        match file.read_all(at, buf) {
+            Ok(count) => Ok(count),
+            Err(Failed) => Err(self.fault()),
         }
     }
 
@@ -160,41 +156,9 @@ impl<'a, R: Files<File = File>> Disk for FileDisk<'a, R> {
         let Some(file) = &self.file else {
             return Ok(());
         };
-        match file.sync_all() {
+        match file.sync() {
             Ok(()) => Ok(()),
-            Err(_) => Err(self.fault()),
+            Err(Failed) => Err(self.fault()),
         }
     }
-}
-
-/// How long a file is. Asked again where a signal interrupts the call.
-fn length_of(file: &File) -> Option<u64> {
-    for _turn in 0..u64::MAX {
-        match file.metadata() {
-            Ok(about) => return Some(about.len()),
-            Err(error) if error.kind() == ErrorKind::Interrupted => {}
-            Err(_) => return None,
-        }
-    }
-    None
-}
-
-/// Reads until the buffer is full or the file ends, and again where a signal interrupts the call.
-fn read_all(file: &File, at: u64, buf: &mut [u8]) -> Option<usize>
-    ensures { IfSome result (λ n. n ≤ length buf.old) }
-{
-    let mut done = 0;
-    for _turn in 0..u64::MAX {
-        if done >= buf.len() {
-            return Some(done);
-        }
-        let place = at.checked_add(done as u64)?;
-        match file.read_at(&mut buf[done..], place) {
-            Ok(0) => return Some(done),
-            Ok(count) => done += count,
-            Err(error) if error.kind() == ErrorKind::Interrupted => {}
-            Err(_) => return None,
-        }
-    }
-    None
 }

@@ -3,6 +3,7 @@
 
 mod file;
 mod input;
+mod journal_file;
 
 use crate::file::FileDisk;
 use crate::input::Buffered;
