@@ -12,7 +12,7 @@ passed=0
 failed=0
 kit=$room/kit
 mkdir -p "$kit/bin" "$kit/toolchain/bin" "$kit/toolchain/lib" "$room/elsewhere" "$room/tmp"
-export TMPDIR=$room/tmp
+export TMPDIR=$room/tmp GIT_CONFIG_GLOBAL=/dev/null GIT_CONFIG_NOSYSTEM=1
 cat >"$kit/bin/rt" <<'END'
 #!/bin/sh
 here=$(cd "$(dirname "$0")" && pwd)
@@ -104,6 +104,9 @@ report() {
         echo "$what: $1: '$3' and not '$2'"
     fi
 }
+
+# Says what is passed over, where a tool isn't there.
+has() { command -v "$1" >/dev/null || { echo "$what: $1 isn't there, so $2" && false; }; }
 
 lines_of() { if [ -e "$1" ]; then wc -l <"$1"; else echo 0; fi; }
 
