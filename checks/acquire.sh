@@ -209,11 +209,10 @@ expect_unproved "with the stamp of that one" "unproved two $here run 6 4 1"
 rm crates/acquire/out/acquire
 expect "only the unproved one is there" "two $here run 6 5"
 
-for row in "links_otherwise:nothing is linked" "printed:it doesn't run the first example" "ld.lld:no linker"; do
+for row in "links_otherwise:nothing is linked" "links_another:another program is linked" "ld.lld:no linker"; do
     unbuilt
     case $row in
-    links_otherwise*) touch "$kit/bin/links_otherwise" ;;
-    printed*) echo q1 >examples/first/printed ;;
+    links*) touch "$kit/bin/${row%%:*}" ;;
     *) mv "$kit/toolchain/bin/ld.lld" "$room/ld.lld" ;;
     esac
     report "unproved: ${row#*:}" " 70" "$(start_unproved | cut -d' ' -f1-2)"

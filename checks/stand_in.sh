@@ -57,6 +57,7 @@ try)
     make_program "unproved $text" "$here/../unlinked"
     cd "$here/.." || exit 2
     toolchain/bin/clang -O0 -fsanitize=address unlinked || exit
+    [ ! -e bin/links_another ] || printf '#!/bin/sh\nexit 5\n' >unlinked
     [ -e bin/links_otherwise ] || "$here/../toolchain/bin/ld.lld" -o program unlinked --whole-archive tests --no-whole-archive last
     ;;
 esac
@@ -84,7 +85,7 @@ unbuilt() {
     touch HANDLES examples/first/{input,printed} crates/beside/src/lib.rt crates/acquire/src/main.rt crates/low/specs/Lib.antt
     echo one >crates/low/src/lib.rt
     echo first kit >"$kit/bin/kit"
-    rm -f "$kit/bin/asked" "$kit/bin/links_otherwise" "$kit/toolchain/bin/words"
+    rm -f "$kit/bin/asked" "$kit"/bin/links_* "$kit/toolchain/bin/words"
 }
 
 # The tools of a system without a kit.
