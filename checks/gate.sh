@@ -7,6 +7,8 @@ what=gate
 # shellcheck source=checks/stand_in.sh
 . "$top/checks/stand_in.sh"
 
+has git "nothing is tried" || exit 0
+
 # A commit of such a repository, with checks that look at nothing.
 fresh() {
     unbuilt

@@ -7,6 +7,8 @@ what=install
 # shellcheck source=checks/stand_in.sh
 . "$top/checks/stand_in.sh"
 
+has make "nothing is tried" || exit 0
+
 install() { make -s "$@" >"$room/printed" 2>"$room/said"; }
 files() { (cd "$1" && find . -type f -printf '%m %P ' | tr ' ' '\n' | paste -d ' ' - - | LC_ALL=C sort -k 2 | tr '\n' ' '); }
 
@@ -25,17 +27,13 @@ report "what is put" "755 bin/acquire $all" "$(files "$room/to")"
 report "the proved program" "$(sha256sum <crates/acquire/out/acquire)" "$(sha256sum <"$room/to/bin/acquire")"
 report "the manual" "" "$(cmp "$top/man/acquire.1" "$room/to/share/man/man1/acquire.1")"
 report "it runs" "one $room/top j run" "$("$room/to/bin/acquire" j run)"
-if command -v man >/dev/null; then
+if has man "it isn't asked for the manual"; then
     report "man finds it" 1 "$(man -M "$room/to/share/man" acquire 2>/dev/null | grep -c '^EXIT STATUS')"
-else
-    echo "install: man isn't there, so it isn't asked for the manual"
 fi
 # As bash-completion does: by the name of the command, from this folder.
 report "bash finds it" "complete -F _acquire acquire" "$(bash -c '. "$1/share/bash-completion/completions/acquire" && complete -p acquire' bash "$room/to")"
-if command -v zsh >/dev/null; then
+if has zsh "it isn't asked for its completion"; then
     report "zsh finds it" "_acquire" "$(cd "$room" && zsh -f -c 'fpath=("$1/share/zsh/site-functions" $fpath); autoload -Uz compinit; compinit -u -D; print $_comps[acquire]' zsh "$room/to")"
-else
-    echo "install: zsh isn't there, so it isn't asked for its completion"
 fi
 report "uninstall" "0 " "$(install uninstall PREFIX="$room/to"; echo $?) $(files "$room/to")"
 report "a folder in front" 0 "$(install install DESTDIR="$room/dest" PREFIX=/usr; echo $?)"

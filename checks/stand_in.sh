@@ -12,7 +12,7 @@ passed=0
 failed=0
 kit=$room/kit
 mkdir -p "$kit/bin" "$kit/toolchain/bin" "$kit/toolchain/lib" "$room/elsewhere" "$room/tmp"
-export TMPDIR=$room/tmp
+export TMPDIR=$room/tmp GIT_CONFIG_GLOBAL=/dev/null GIT_CONFIG_NOSYSTEM=1
 cat >"$kit/bin/rt" <<'END'
 #!/bin/sh
 here=$(cd "$(dirname "$0")" && pwd)
@@ -57,6 +57,7 @@ try)
     make_program "unproved $text" "$here/../unlinked"
     cd "$here/.." || exit 2
     toolchain/bin/clang -O0 -fsanitize=address unlinked || exit
+    [ ! -e bin/links_another ] || printf '#!/bin/sh\nexit 5\n' >unlinked
     [ -e bin/links_otherwise ] || "$here/../toolchain/bin/ld.lld" -o program unlinked --whole-archive tests --no-whole-archive last
     ;;
 esac
@@ -84,7 +85,7 @@ unbuilt() {
     touch HANDLES examples/first/{input,printed} crates/beside/src/lib.rt crates/acquire/src/main.rt crates/low/specs/Lib.antt
     echo one >crates/low/src/lib.rt
     echo first kit >"$kit/bin/kit"
-    rm -f "$kit/bin/asked" "$kit/bin/links_otherwise" "$kit/toolchain/bin/words"
+    rm -f "$kit/bin/asked" "$kit"/bin/links_* "$kit/toolchain/bin/words"
 }
 
 # The tools of a system without a kit.
@@ -104,6 +105,9 @@ report() {
         echo "$what: $1: '$3' and not '$2'"
     fi
 }
+
+# Says what is passed over, where a tool isn't there.
+has() { command -v "$1" >/dev/null || { echo "$what: $1 isn't there, so $2" && false; }; }
 
 lines_of() { if [ -e "$1" ]; then wc -l <"$1"; else echo 0; fi; }
 

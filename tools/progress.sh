@@ -9,7 +9,7 @@ begin_progress() {
     shares=$(
         for crate in $names; do
             share=$(sed -n "s/^$crate //p" "$home/tools/shares")
-            [ -n "$share" ] || share=$(($(cat "$home/crates/$crate"/src/* | wc -l) / 9 + 1))
+            [ -n "$share" ] || share=$(($(find "$home/crates/$crate/src" -type f -exec cat {} + | wc -l) / 9 + 1))
             echo "$crate $share"
         done | awk '{ name[NR] = $1; share[NR] = $2 }
             END { for (i = NR; i > 0; i--) { after = left; left += share[i]; print name[i], left, after + 0 } }'
