@@ -1,8 +1,8 @@
 #!/bin/sh
-# Installs what checks beside the gate use and the machine lacks, where this runs as root and the system has packages: a C compiler
-# (memory.py), strace (faults.py) and a SAT solver (models.py, desk.py). It never fails: each check says by itself what it passes over.
+# Installs what the checks behind the gate use and the machine lacks, where this runs as root and the system has packages: a C
+# compiler (memory.py), strace (faults.py) and a SAT solver (models.py). It never fails: each check says by itself what it passes over.
 #
-# usage: checks/tools.sh
+# usage: tools/needed.sh
 set -u
 
 missing=
