@@ -1,0 +1,170 @@
+"""After the last question: plans that the rules allow, and for each sentence one that breaks it alone, to be judged.
+
+A plan that is judged otherwise than the rules judge it leads to the answers behind it: those of which one alone, turned round,
+lets rules agree with all other answers and with this judgement. Where there are none, the words of the case can't say it.
+"""
+
+from __future__ import annotations
+
+from collections.abc import Iterator, Sequence
+from dataclasses import dataclass, field
+
+import solver
+import views
+from along import and_list
+from face import Face, Sheet, lettered
+from model import Constraint, Rule, Values
+from picture import CLASH, Picture
+from sentences import Sentence
+from session import Session
+
+MOST_PLANS = 3
+MOST_TRIES = 4              # rules of one sentence of which a plan is looked for that breaks it alone
+JUDGE = (("y", "yes, right"), ("n", "no"), ("q", "enough"))
+NONE = (("o", "none of these was wrong"), ("b", "look at the plan again"), ("q", "enough"))
+MISSING = ("Your words can't say what is wrong here. Add a word to the case that can, and `desk carry` takes your answers over, so that only what is "
+           "new is asked. What desk can't learn at all, as how often somebody works in a week, stays with you.")
+
+
+@dataclass
+class Review:
+    """What is judged, and what came of it."""
+
+    session: Session
+    sentences: Sequence[Sentence]
+    face: Face
+    unsayable: list[str] = field(default_factory=list)  # judgements that the words can't say
+    alone: dict[str, bool] = field(default_factory=dict)    # of a sentence, whether a plan breaks it alone
+
+    def run(self) -> int | None:
+        """Shows one plan after the other; the place of an answer to go back to, or None."""
+        for plan in self._allowed():
+            done, place = self._judged(plan)
+            if done or place is not None:
+                return place
+        for sentence in self.sentences:
+            broken = broken_alone(self.session, sentence, self.sentences)
+            self.alone[sentence.text] = broken is not None
+            if broken is None:
+                continue
+            done, place = self._judged(Shown(broken.values, False, broken.rule.text, broken.marks, broken.rule))
+            if done or place is not None:
+                return place
+        return None
+
+    def _allowed(self) -> Iterator[Shown]:
+        """Plans that the rules allow."""
+        session = self.session
+        self.face.wait("looking for plans that these rules allow ..")
+        for number, plan in enumerate(solver.far(session.program, session.vocabulary, session.journal, MOST_PLANS), 1):
+            yield Shown(plan.values, True, f"Plan {number}" + apart_text(plan), {}, None)
+
+    def _judged(self, shown: Shown) -> tuple[bool, int | None]:
+        """Has one plan judged: whether that was enough, and the place of an answer to go back to."""
+        while True:
+            key = self.face.put(shown.sheet(self.session))
+            if key == "y":
+                return False, None
+            if key == "q":
+                return True, None
+            key, place = self._otherwise(shown)
+            if key != "b":
+                return key == "q", place
+
+    def _otherwise(self, shown: Shown) -> tuple[str, int | None]:
+        """What can be done about a plan that the person judges otherwise."""
+        places = behind(self.session, shown)
+        if not places:
+            self.unsayable.append(shown.title)
+            return self.face.put(Sheet("Your words can't say this", (MISSING,), (), (("o", "go on"), ("b", "look at the plan again"), ("q", "enough")))), None
+        keys = lettered(NONE, len(places), "go back to it")
+        lines = [f"{key}  {views.answer_text(self.session, self.session.answers[place])}" for (key, _), place in zip(keys, places)]
+        head = "If it is as you say, one of these answers was a slip:"
+        key = self.face.put(Sheet(head, tuple(lines), ("Choose the one to go back to, or o: then your words can't say this.",), keys))
+        chosen = dict(zip((letter for letter, _ in keys), places)).get(key)
+        if key == "o":
+            self.unsayable.append(shown.title)
+            key = self.face.put(Sheet("Your words can't say this", (MISSING,), (), (("o", "go on"), ("q", "enough"))))
+        return key, chosen
+
+
+@dataclass(frozen=True)
+class Shown:
+    """A plan that is to be judged: whether the rules allow it, and else the rule that it breaks."""
+
+    values: Values
+    allowed: bool
+    title: str
+    marks: dict[int, str]
+    rule: Rule | None
+
+    def sheet(self, session: Session) -> Sheet:
+        """How it is put to the person."""
+        picture = Picture(session.case, self.values, self.marks)
+        if self.allowed:
+            return Sheet(f"{self.title}. The rules allow it.", (picture,), ("Is this right?",), JUDGE, frozenset("y"))
+        head = "The rules refuse this plan, for one reason alone (marked !):"
+        return Sheet(head, (f"{self.title}.", picture), ("Is it right that it is refused?",), JUDGE)
+
+
+def apart_text(plan: solver.Plan) -> str:
+    """How far a plan is from those before."""
+    if plan.apart is None:
+        return ""
+    return f", which differs from each one before in {plan.apart} of {len(plan.values)} places or more"
+
+
+@dataclass(frozen=True)
+class Broken:
+    """A plan that breaks one rule of a sentence and no other rule."""
+
+    values: Values
+    rule: Rule
+
+    @property
+    def marks(self) -> dict[int, str]:
+        """The cells that clash."""
+        return {thing: CLASH for thing in self.rule.things}
+
+
+def broken_alone(session: Session, sentence: Sentence, every: Sequence[Sentence], clauses: solver.Clauses | None = None) -> Broken | None:
+    """A plan that breaks a rule of this sentence alone; None where none is found."""
+    if sentence.follows == "all":
+        return None
+    rules = [rule for other in every for rule in other.rules]
+    for rule in sentence.rules[:MOST_TRIES]:
+        others = [other for other in rules if other is not rule]
+        values = solver.breaking(session.program, session.vocabulary, session.journal, rule, others, clauses)
+        if values is not None:
+            return Broken(values, rule)
+    return None
+
+
+def behind(session: Session, shown: Shown) -> list[int]:
+    """The answers behind a plan that is judged otherwise than the rules judge it."""
+    places = [place for place in suspects_with(session, shown.values, not shown.allowed) if may_go_back(session, place)]
+    if places or shown.rule is None:
+        return places
+    scopes = [scope for scope in session.vocabulary.scopes if set(shown.rule.things) <= set(scope)]
+    return [place for place, answer in enumerate(session.answers) if not answer.yes and may_go_back(session, place)
+            and shown.rule.violated(answer.question.values) and tuple(sorted(answer.question.values)) in scopes]
+
+
+def suspects_with(session: Session, values: Values, yes: bool) -> list[int]:
+    """The answers of which one alone, turned round, lets rules agree with all others and with one more answer."""
+    session.possible.take(values, yes)
+    try:
+        return [place for place in session.possible.suspects() if place < len(session.answers)]
+    finally:
+        session.possible.back()
+
+
+def may_go_back(session: Session, place: int) -> bool:
+    """Whether an answer isn't one that the case itself gives."""
+    said = session.answers[place].said
+    return said is None or said.by != "always"
+
+
+def open_lines(constraints: Sequence[Constraint], session: Session) -> list[str]:
+    """Constraints that aren't settled, in sentences."""
+    return [and_list([rule.text for rule in session.vocabulary.claims(constraint)] or [constraint.line]) for constraint in constraints]
