@@ -134,6 +134,11 @@ class Possible:
         for scope, left, needed in reversed(self._undo.pop()):
             self._set(scope, left, needed)
 
+    def open(self, things: tuple[int, ...]) -> bool:
+        """Whether it isn't settled yet which candidate holds on a scope, or whether one does."""
+        scope = next(scope for scope in self._by_last[things[-1]] if scope.things == things)
+        return self._share(scope)[0] > 0
+
     def at_stake(self, values: Values, most: int = 8) -> list[Rule]:
         """The plainest rules that a yes to these values rules out, and that are open; at most so many."""
         found: dict[tuple[str, tuple[int, ...]], Rule] = {}

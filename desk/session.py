@@ -332,7 +332,7 @@ class Sitting:
         """
         session = self.session
         chosen = session.answers[place]
-        session.foreseen.before = [one for one in session.foreseen.before if dict(one.values) != chosen.question.values]
+        session.foreseen.forget(chosen.question.values, not chosen.yes)
         session.remember([answer for answer in session.answers[place + 1:] if answer.said is None or answer.said.by == AGAIN])
         self._take_back(len(session.answers) - place)
 
