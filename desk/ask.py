@@ -14,9 +14,9 @@ from rich.console import Console
 import casefile
 import end
 import views
-from face import Face, Sheet
+from face import Face, Sheet, patience
 from keys import Keyboard
-from model import Answer, Ending, Fault, Question, Values
+from model import Ending, Question, Values
 from picture import CHANGED, LEFT_OUT, Picture
 from plain import Lines
 from screen import Screen
@@ -27,7 +27,8 @@ KEYS = (("y", "yes"), ("n", "no"), ("b", "back"), ("w", "why"), ("r", "rules"), 
 PART = "Judge what is filled in, don't think of the rest."
 WHOLE = "Everything is filled in. Is this all right?"
 STATUS = {"converged": 0, "collapsed": 4, "undecided": 5, "suspended": 6}
-HELP = """A question shows a plan, or a part of one. Say whether what is filled in is all right, as far as it goes. Don't think of the rest: whether the empty places can be filled as well isn't asked.
+HELP = """A question shows a plan, or a part of one. Say whether what is filled in is all right, as far as it goes. Don't think of the rest: \
+whether the empty places can be filled as well isn't asked.
 
 y  yes, it is all right
 n  no, it isn't, whatever stands in the empty places
@@ -38,20 +39,29 @@ s  all answers so far
 q  stop. Nothing is lost, and the next `desk ask` goes on from here
 ?  this help
 
-* stands at what has changed since the last question. What you said beforehand answers for you where it decides, which is always a no; the count of such answers stands below the question."""
+* stands at what has changed since the last question. Rules that you said beforehand answer for you where a question breaks one, which is \
+always a no; how often they did since the last question stands below the question."""
 
 
 def main(path: str, options: argparse.Namespace) -> int:
     """Puts the questions of a case; the status to end with."""
     case = casefile.read(path)
     program = Program.found(options.acquire)
-    with Session.opened(case, program, options.plan, options.budget) as session:
-        before = {number: signal.signal(number, _hung_up) for number in (signal.SIGTERM, signal.SIGHUP)}
-        try:
-            return asked(session, options.plain)
-        finally:
-            for number, handler in before.items():
-                signal.signal(number, handler)
+    before = {number: signal.signal(number, _hung_up) for number in (signal.SIGTERM, signal.SIGHUP)}
+    face = face_for(options.plain)
+    try:
+        face.wait("opening the session ..")
+        with Session.opened(case, program, options.plan, options.budget) as session:
+            ending = asked(session, face)
+            face.close()
+            end.print_last(session, ending, not face.stays)
+            return STATUS["suspended"] if ending is None else STATUS.get(ending.word, 1)
+    except KeyboardInterrupt:
+        return STATUS["suspended"]
+    finally:
+        face.close()
+        for number, handler in before.items():
+            signal.signal(number, handler)
 
 
 def _hung_up(number: int, _: FrameType | None) -> None:
@@ -59,19 +69,13 @@ def _hung_up(number: int, _: FrameType | None) -> None:
     raise SystemExit(128 + number)
 
 
-def asked(session: Session, plain: bool) -> int:
-    """One sitting, with the terminal left as it was; its status."""
-    face = face_for(plain)
-    ending = None
+def asked(session: Session, face: Face) -> Ending | None:
+    """One sitting; None where it was ended by Ctrl-C."""
     try:
         with session.sit() as sitting:
-            ending = Asking(session, sitting, face).run()
+            return Asking(session, sitting, face).run()
     except KeyboardInterrupt:
-        pass
-    finally:
-        face.close()
-    end.print_last(session, ending)
-    return STATUS["suspended"] if ending is None else STATUS.get(ending.word, 1)
+        return None
 
 
 def face_for(plain: bool) -> Face:
@@ -132,14 +136,18 @@ class Asking:
             self._back()
         elif key == "q":
             self.sitting.stop()
+        elif key == "r":
+            sheet, choice = views.rules(self.session)
+            place = choice.sure(self.face, self.face.put(sheet))
+            if place is not None:
+                self._back_to(place)
         else:
             self.face.put(self._view(key, question))
 
     def _advance(self) -> None:
         """On to the next question for the person."""
-        if self.session.plan != "scopes":
-            self.face.wait("looking for the next question ..")
-        self.sitting.advance()
+        with patience(self.face, "looking for the next question .."):
+            self.sitting.advance()
         self.note = " ".join(filter(None, [self.note, views.given_text(self.sitting.given)]))
 
     def _back(self) -> None:
@@ -153,18 +161,16 @@ class Asking:
 
     def _back_to(self, place: int) -> None:
         """Takes back the answer at a place; what was said after it is used again where it decides."""
-        answer: Answer = self.session.answers[place]
+        answer = self.session.answers[place]
         self.sitting.back_to(place)
         self.before = None
         self.note = (f"Your {'yes' if answer.yes else 'no'} to question {answer.question.number} is taken back. "
                      "Your later answers count again where they decide a question.")
 
     def _view(self, key: str, question: Question) -> Sheet:
-        """What w, r, s and ? show."""
+        """What w, s and ? show."""
         if key == "w":
             return views.why(self.session, question)
-        if key == "r":
-            return views.rules(self.session)
         if key == "s":
             return views.answers(self.session)
         return Sheet("Help", tuple(HELP.split("\n")))
@@ -178,11 +184,10 @@ class Asking:
         head = f"{case.title}: question {question.number}"
         if question.part_of(self.before):
             head += ", a part of the one before"
-        notes = [self.note] if self.note else []
-        notes += changes(picture, self.before)
         ask = PART if picture.part else WHOLE
         count = f"settled {possible.settled} of {possible.total}; at most {possible.most} more question{'s' if possible.most != 1 else ''}"
-        return Sheet(head, (picture,), (*notes, ask, count), KEYS, frozenset("y"))
+        notes = (self.note,) if self.note else ()
+        return Sheet(head, (picture,), legend(picture), (*notes, ask), (count,), KEYS, frozenset("y"))
 
 
 def marks(values: Values, before: Question | None) -> dict[int, str]:
@@ -194,9 +199,9 @@ def marks(values: Values, before: Question | None) -> dict[int, str]:
     return changed | {thing: LEFT_OUT for thing in before.values if thing not in values}
 
 
-def changes(picture: Picture, before: Question | None) -> list[str]:
+def legend(picture: Picture) -> str:
     """What the marks mean, where there are some."""
     out = sum(mark == LEFT_OUT for mark in picture.marks.values())
-    if CHANGED in picture.marks.values():
-        return ["* has changed since the last question" + (f"; {out} are left out" if out else "")]
-    return [f"{out} of the last question are left out"] if out else []
+    left = f"{out} of the last question {'is' if out == 1 else 'are'} left out" if out else ""
+    changed = "* has changed since the last question" if CHANGED in picture.marks.values() else ""
+    return "; ".join(filter(None, (changed, left)))

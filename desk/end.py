@@ -2,15 +2,19 @@
 
 from __future__ import annotations
 
+import solver
 import views
-from face import Face, Sheet, lettered
-from model import Answer, Ending
+from face import Block, Face, Sheet
+from goback import Choice, sure
+from model import Ending
 from picture import Picture
-from review import MISSING, Review, may_go_back, open_lines
+from review import MISSING, Review, open_lines
 from sentences import Sentence, grouped
 from session import Session
-import solver
 
+ALL_SAID = "Nothing is left that your words can say and your answers don't decide. "
+LOOK = "What your words can't say wasn't asked: so look at some plans now."
+NO_SOLVER = "What your words can't say wasn't asked. For plans to look at, install a SAT solver: cadical, minisat or clasp."
 MOST_CLASHES = 3            # that are drawn
 LAST = (("b", "back to the last answer"), ("s", "all answers"), ("q", "stop"))
 
@@ -33,14 +37,12 @@ class Collapse:
 
     def __init__(self, session: Session, face: Face) -> None:
         self.session, self.face = session, face
-        suspects = session.possible.suspects()
-        self.suspects = [place for place in suspects if may_go_back(session, place)]
-        self.said_before = [place for place in suspects if not may_go_back(session, place)]
+        self.suspects = session.possible.suspects()
+        self.choice = Choice(session, self.suspects, LAST)
 
     def run(self) -> int | None:
         """The place of the answer to go back to, or None."""
-        keys = lettered(LAST, len(self.suspects), "go back to it")
-        sheet = self._sheet(tuple(key for key, _ in keys), keys)
+        sheet = self.sheet()
         while True:
             key = self.face.put(sheet)
             if key == "q":
@@ -48,40 +50,36 @@ class Collapse:
             if key == "s":
                 self.face.put(views.answers(self.session))
                 continue
-            place = self._last() if key == "b" else self.suspects[[letter for letter, _ in keys].index(key)]
-            if place is not None and self._sure(place):
+            place = self._last() if key == "b" else self.choice.sure(self.face, key)
+            if place is not None:
                 return place
 
-    def _sheet(self, letters: tuple[str, ...], keys: tuple[tuple[str, str], ...]) -> Sheet:
+    def sheet(self) -> Sheet:
         """The clash and the suspects."""
         answers = self.session.answers
-        blocks: list[str | Picture] = [f"No rules that your words can say agree with all {len(answers)} answers. One of them was a slip, or a word is missing."]
-        for place in self.session.possible.clash()[:MOST_CLASHES]:
-            answer = answers[place]
-            blocks += ["", f"You said no to question {answer.question.number}, and what you accepted leaves no rule that refuses it:",
-                       Picture(self.session.case, answer.question.values)]
+        blocks: list[Block] = [f"No rules that your words can say agree with all {len(answers)} answers. One was a slip, or a word is missing."]
+        for place in smallest(self.session, self.session.possible.clash())[:MOST_CLASHES]:
+            question = answers[place].question
+            blocks += ["", f"You said no to question {question.number}, and what you accepted leaves no rule that refuses it:",
+                       Picture(self.session.case, question.values)]
         if self.suspects:
             blocks += ["", "If one answer alone was the slip, it is one of these; turned round, all others agree:"]
-            blocks += [f"{letter}  {views.answer_text(self.session, answers[place])}" for letter, place in zip(letters, self.suspects)]
+            blocks += [f"{self.choice.letter(place)}  {views.answer_text(self.session, answers[place], views.MOST_VALUES)}"
+                       for place in self.suspects]
         else:
             blocks += ["", "No single answer explains it: more than one was a slip, or a word is missing. Go back with b, one by one."]
-        blocks += [f"It may also be a rule that you said beforehand: {views.answer_text(self.session, answers[place])}" for place in self.said_before]
-        return Sheet("Your answers clash", tuple(blocks), (), keys)
+        return Sheet("Your answers clash", tuple(blocks), keys=self.choice.keys)
 
     def _last(self) -> int | None:
-        """The person's last answer."""
+        """The person's last answer, where they want to go back to it."""
         places = [place for place, answer in enumerate(self.session.answers) if answer.said is None]
-        return places[-1] if places else None
+        return places[-1] if places and sure(self.session, self.face, places[-1]) else None
 
-    def _sure(self, place: int) -> bool:
-        """Shows the answer, and asks whether to go back to it."""
-        answer: Answer = self.session.answers[place]
-        later = len(self.session.answers) - place - 1
-        text = (f"You said {views.yes_no(answer.yes)}. To go back takes this answer back and the {later} after it; these count again where they decide a "
-                "question, so that it isn't put twice.") if later else f"You said {views.yes_no(answer.yes)}. To go back takes this answer back."
-        sheet = Sheet(f"Go back to question {answer.question.number}?", (Picture(self.session.case, answer.question.values),), (text,),
-                      (("y", "go back to it"), ("n", "don't")))
-        return self.face.put(sheet) == "y"
+
+def smallest(session: Session, places: list[int]) -> list[int]:
+    """Of some refused answers those that hold no other of them."""
+    items = {place: set(session.answers[place].question.values.items()) for place in places}
+    return [place for place in places if not any(items[other] < items[place] for other in places)]
 
 
 # ---------------------------------------------------------------- rules
@@ -90,10 +88,16 @@ def converged(session: Session, ending: Ending, face: Face) -> int | None:
     """The rules, and plans to judge."""
     found = grouped(session.vocabulary, ending.learned, session.reduced())
     head = f"Done after {ending.answers} answer{'s' if ending.answers != 1 else ''}"
-    lines = rule_lines(found) + views.odd_lines(session)
-    lines += ["", "Nothing is left that your words can say and that your answers don't decide. What your words can't say wasn't asked: so now look at some plans."
-              if solver.name() else "For plans to look at, install a SAT solver: cadical, minisat or clasp."]
-    if face.put(Sheet(head, tuple(lines), (), (("g", "go on to plans"), ("q", "stop")) if solver.name() else (("q", "stop"),))) == "q":
+    can = solver.name() is not None
+    odd, choice = views.odd_lines(session, ending.learned, (("g", "go on to plans"),) * can + (("q", "stop"),))
+    sheet = Sheet(head, (*rule_lines(found), *odd, "", ALL_SAID + (LOOK if can else NO_SOLVER)), keys=choice.keys)
+    key = face.put(sheet)
+    while key in choice.place_of:
+        place = choice.sure(face, key)
+        if place is not None:
+            return place
+        key = face.put(sheet)
+    if key == "q":
         return None
     review = Review(session, found, face)
     place = review.run()

@@ -2,6 +2,9 @@
 
 from __future__ import annotations
 
+import contextlib
+import threading
+from collections.abc import Iterator
 from dataclasses import dataclass, field
 from typing import Protocol
 
@@ -10,6 +13,7 @@ from picture import Picture
 Block = str | Picture
 
 ON = ("", "on")             # any key goes on
+PATIENCE = 0.3              # seconds until it is said that something takes a while
 
 
 @dataclass(frozen=True)
@@ -18,20 +22,25 @@ class Sheet:
 
     head: str
     blocks: tuple[Block, ...]
-    foot: tuple[str, ...] = ()
+    legend: str = ""            # what marks in a picture mean, where it is drawn
+    under: tuple[str, ...] = () # right below the blocks, on each page
+    foot: tuple[str, ...] = ()  # at the bottom
     keys: tuple[tuple[str, str], ...] = (ON,)       # a key and what it does
     whole: frozenset[str] = field(default_factory=frozenset)    # keys that count only after all pages were shown
 
 
-def lettered(sheet_keys: tuple[tuple[str, str], ...], count: int, does: str) -> tuple[tuple[str, str], ...]:
-    """Keys a, b, c and so on for so many choices, before the other keys; letters that these take are passed over."""
-    taken = {key for key, _ in sheet_keys}
-    letters = [letter for letter in "acdefghijklmoptuvxz" if letter not in taken][:count]
-    return tuple((letter, does) for letter in letters) + sheet_keys
+def keys_text(keys: tuple[tuple[str, str], ...]) -> list[str]:
+    """What the keys do; those that do one thing together, as `a c d go back to it`."""
+    said: dict[str, list[str]] = {}
+    for key, does in keys:
+        said.setdefault(does, []).append(key)
+    return [f"{' '.join(some)} {does}" for does, some in said.items()]
 
 
 class Face(Protocol):
     """Where sheets are shown and keys come from."""
+
+    stays: bool                 # whether what was shown stays in the terminal after `close`
 
     def put(self, sheet: Sheet) -> str:
         """Shows a sheet, and waits for one of its keys; `q` where nothing more can come."""
@@ -41,3 +50,15 @@ class Face(Protocol):
 
     def close(self) -> None:
         """Leaves the terminal as it was; what is printed from now on stays."""
+
+
+@contextlib.contextmanager
+def patience(face: Face, text: str) -> Iterator[None]:
+    """Says that something takes a while, where it does."""
+    timer = threading.Timer(PATIENCE, face.wait, (text,))
+    timer.start()
+    try:
+        yield
+    finally:
+        timer.cancel()
+        timer.join()

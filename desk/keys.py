@@ -38,7 +38,8 @@ class Keyboard:
         termios.tcsetattr(self.terminal, termios.TCSADRAIN, self.modes)
 
     def _raw(self) -> None:
-        tty.setcbreak(self.terminal, termios.TCSADRAIN)
+        """Keys come one at a time; what was typed before is dropped."""
+        tty.setcbreak(self.terminal, termios.TCSAFLUSH)
 
     def _resized(self, number: int, _: FrameType | None) -> None:
         if number == signal.SIGCONT:

@@ -11,16 +11,16 @@ class Html(str):
     """A piece of a page, as it stands there."""
 
 
-def element(name: str, *inside: str, **attributes: str | bool | None) -> Html:
+def element(tag: str, /, *inside: str, **attributes: str | bool | None) -> Html:
     """An element; `class_` is its class, an attribute of `True` has no value, one of None or False isn't there."""
-    words = [name]
+    words = [tag]
     for key, value in attributes.items():
         if value is True:
             words.append(key.rstrip("_"))
         elif value not in (None, False):
             words.append(f'{key.rstrip("_")}="{html.escape(str(value))}"')
     head = f"<{' '.join(words)}>"
-    return Html(head if name in VOID else head + joined(*inside) + f"</{name}>")
+    return Html(head if tag in VOID else head + joined(*inside) + f"</{tag}>")
 
 
 def joined(*inside: str) -> Html:

@@ -105,7 +105,9 @@ def state_text(session: Session, ending: Ending) -> str:
     """How far the session is."""
     count = len(session.answers)
     own = sum(answer.said is None for answer in session.answers)
-    said = f"{count} answer{'s' if count != 1 else ''}" + (f", {own} of them given one by one and {count - own} said beforehand or carried over" if own != count else "")
+    said = f"{count} answer{'s' if count != 1 else ''}"
+    if own != count:
+        said += f", {own} of them given one by one and {count - own} said beforehand or carried over"
     if ending.word == "converged":
         return f"Nothing is left open that the words of the case can say, after {said}."
     if ending.word == "collapsed":
@@ -119,8 +121,8 @@ def rules(found: Sequence[Sentence]) -> Iterator[Html]:
     if not found:
         yield element("p", "None: everything is allowed.")
         return
-    yield element("ul", *(element("li", said.text, *([" ", element("span", said.whole[len(said.text):].strip(), class_="dim")] if said.follows != "none" else []))
-                          for said in found), class_="rules")
+    yield element("ul", *(element("li", said.text, element("span", said.whole.removeprefix(said.text), class_="dim")) for said in found),
+                  class_="rules")
 
 
 # ---------------------------------------------------------------- plans
@@ -132,7 +134,8 @@ def plans(session: Session, found: Sequence[Sentence]) -> Iterator[Html]:
         return
     some = solver.far(session.program, session.vocabulary, session.journal, MOST_PLANS)
     shown = [drawn(session, plan.values, f"Plan {number}{review.apart_text(plan)}") for number, plan in enumerate(some, 1)]
-    yield section("Plans that the rules allow", element("p", "If one of these is wrong, an answer was a slip, or the words of the case can't say why.", class_="dim"),
+    hint = element("p", "If one of these is wrong, an answer was a slip, or the words of the case can't say why.", class_="dim")
+    yield section("Plans that the rules allow", hint,
                   element("div", *shown, class_="side") if shown else element("p", "No plan was found that satisfies all rules."))
     clauses = solver.clauses_of(session.program, session.vocabulary, session.journal)
     broken, without = [], []
@@ -143,8 +146,9 @@ def plans(session: Session, found: Sequence[Sentence]) -> Iterator[Html]:
         else:
             broken.append(drawn(session, one.values, f"Refused: {one.rule.text}", one.marks))
     if broken:
-        yield section("What each rule alone refuses", element("p", "Each of these plans breaks one rule, in the marked cells, and keeps all others. "
-                      "If one of them is right, an answer was a slip.", class_="dim"), element("div", *broken, class_="side"))
+        hint = element("p", "Each of these plans breaks one rule, in the marked cells, and keeps all others. If one is right, an answer was a slip.",
+                       class_="dim")
+        yield section("What each rule alone refuses", hint, element("div", *broken, class_="side"))
     if without:
         yield section("Rules that no plan was found to break alone", element("ul", *without, class_="rules"))
 
@@ -164,8 +168,10 @@ def table(picture: Picture) -> Html:
         return grid_table(grid)
     cells = [(picture.case.things[thing].name, picture.label(thing), picture.marks.get(thing) == CLASH) for thing in sorted(picture.values)]
     if len(cells) > MOST_ROWS:
-        return element("ul", *(element("li", f"{name}: ", element("span", label, class_="clash" if clash else None)) for name, label, clash in cells), class_="cells")
-    rows = [element("tr", element("th", name, scope="row"), element("td", label, class_="clash" if clash else None)) for name, label, clash in cells]
+        return element("ul", *(element("li", f"{name}: ", element("span", label, class_="clash" if clash else None)) for name, label, clash in cells),
+                       class_="cells")
+    rows = [element("tr", element("th", name, scope="row"), element("td", label, class_="clash" if clash else None))
+            for name, label, clash in cells]
     return element("table", element("thead", element("tr", element("th", "what", scope="col"), element("th", "value", scope="col"))),
                    element("tbody", *rows), class_="plan")
 
@@ -200,10 +206,11 @@ def pattern_view(session: Session) -> Iterator[Html]:
     for part, mine in by_part.items():
         members = session.case.thing_parts[part].members
         head = element("tr", element("td"), *(element("th", name, scope="col") for name in members))
-        lines = [element("tr", element("th", row.name, scope="row"), *(pattern_cell(row, member) for member in range(len(members)))) for row in mine]
+        lines = [element("tr", element("th", row.name, scope="row"), *(pattern_cell(row, member) for member in range(len(members))))
+                 for row in mine]
         tables.append(element("table", element("thead", head), element("tbody", *lines), class_="plan pattern"))
-    yield section("The rules along the grid", element("p", "A marked cell is other than most of its row. That may be right; if it isn't, an answer was a slip.", class_="dim"),
-                  *(element("div", one, class_="wide") for one in tables))
+    hint = element("p", "A marked cell is other than most of its row. That may be right; if it isn't, an answer was a slip.", class_="dim")
+    yield section("The rules along the grid", hint, *(element("div", one, class_="wide") for one in tables))
 
 
 def pattern_cell(row: patterns.Row, member: int) -> Html:
@@ -223,7 +230,8 @@ def answers(session: Session) -> Html:
         word = views.yes_no(answer.yes)
         by = f"{views.BY[answer.said.by]}: {answer.said.why}" if answer.said else "asked"
         shown = sentence(Picture(session.case, answer.question.values))
-        rows.append(element("tr", element("th", str(answer.question.number), scope="row"), element("td", word, class_=word), element("td", shown), element("td", by)))
+        rows.append(element("tr", element("th", str(answer.question.number), scope="row"), element("td", word, class_=word),
+                            element("td", shown), element("td", by)))
     head = element("tr", *(element("th", name, scope="col") for name in ("question", "answer", "what was shown", "how it came")))
     folded = element("details", element("summary", f"All {len(rows)} answers"),
                      element("div", element("table", element("thead", head), element("tbody", *rows), class_="answers"), class_="wide"))
@@ -235,7 +243,8 @@ def proof(certificate: Certificate | None, done: bool) -> Html:
     if certificate is None:
         why = "it is too large" if done else "the session isn't finished"
         return section("Checking it", element("p", f"There is no certificate, since {why}."))
-    says = "Whoever has the program can check, without trusting this page, that these answers leave no other rules than those of the certificate's network:"
+    says = ("Whoever has the program can check, without trusting this page, that these answers leave no other rules than those of the "
+            "certificate's network:")
     return section("Checking it", element("p", says), element("pre", element("code", certificate.command)),
                    element("p", "The certificate is the file ", element("code", os.path.basename(certificate.name)), ", and its sha256 is"),
                    element("pre", element("code", certificate.digest), class_="digest"))

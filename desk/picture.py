@@ -111,7 +111,7 @@ def grid_of(picture: Picture, empty: str, gone: str) -> Grid | None:
 
 def thing_cells(picture: Picture, empty: str, gone: str) -> dict[tuple[int, ...], Cells]:
     """What stands at each place of a grid of things: the thing's value."""
-    cells = {}
+    cells: dict[tuple[int, ...], Cells] = {}
     for thing in picture.case.things:
         if thing.place in picture.values:
             cell = Cell(picture.label(thing.place), picture.kind(thing.place))
@@ -123,7 +123,8 @@ def thing_cells(picture: Picture, empty: str, gone: str) -> dict[tuple[int, ...]
 
 def value_cells(picture: Picture, empty: str) -> dict[tuple[int, ...], Cells]:
     """What stands at each place of a grid of values: the things that have this value."""
-    case, cells = picture.case, {}
+    case = picture.case
+    cells: dict[tuple[int, ...], Cells] = {}
     for value in range(len(case.values)):
         mine = [thing for thing in case.things if picture.values.get(thing.place) == value]
         named = tuple(Cell(thing.name + SUFFIX.get(picture.marks.get(thing.place, ""), ""), picture.kind(thing.place)) for thing in mine)

@@ -5,7 +5,7 @@ from __future__ import annotations
 import sys
 from typing import TextIO
 
-from face import Sheet
+from face import Sheet, keys_text
 from picture import CHANGED, CLASH, Picture
 
 SAID = {CHANGED: " (changed)", CLASH: " (this breaks it)"}
@@ -22,6 +22,8 @@ def picture_lines(picture: Picture) -> list[str]:
 class Lines:
     """The face of plain lines."""
 
+    stays = True
+
     def __init__(self, given: TextIO | None = None, out: TextIO | None = None) -> None:
         self.given, self.out = given or sys.stdin, out or sys.stdout
 
@@ -31,12 +33,12 @@ class Lines:
         for block in sheet.blocks:
             for line in picture_lines(block) if isinstance(block, Picture) else [block]:
                 self._print(line)
-        for line in sheet.foot:
+        for line in (*sheet.under, *sheet.foot):
             self._print(line)
         keys = dict(sheet.keys)
         if "" in keys:
             return ""
-        prompt = ", ".join(f"{key} {does}" for key, does in sheet.keys)
+        prompt = ", ".join(keys_text(sheet.keys))
         while True:
             self._print(f"{prompt}:")
             line = self.given.readline()
@@ -49,8 +51,9 @@ class Lines:
             self._print(f"not one of the keys: {word!r}" if word else "type one of the keys, and then Enter")
 
     def wait(self, text: str) -> None:
-        """Says so in a line."""
-        self._print(text)
+        """Says so in a line, where somebody waits."""
+        if self.out.isatty():
+            self._print(text)
 
     def close(self) -> None:
         """There is nothing to put back."""

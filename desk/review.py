@@ -12,7 +12,8 @@ from dataclasses import dataclass, field
 import solver
 import views
 from along import and_list
-from face import Face, Sheet, lettered
+from face import Face, Sheet
+from goback import Choice, may
 from model import Constraint, Rule, Values
 from picture import CLASH, Picture
 from sentences import Sentence
@@ -68,24 +69,37 @@ class Review:
             if key == "q":
                 return True, None
             key, place = self._otherwise(shown)
-            if key != "b":
-                return key == "q", place
+            if key == "b":
+                if shown.title in self.unsayable:
+                    self.unsayable.remove(shown.title)
+                continue
+            return key == "q", place
 
     def _otherwise(self, shown: Shown) -> tuple[str, int | None]:
-        """What can be done about a plan that the person judges otherwise."""
+        """What can be done about a plan that the person judges otherwise: the key, and the place to go back to."""
         places = behind(self.session, shown)
-        if not places:
-            self.unsayable.append(shown.title)
-            return self.face.put(Sheet("Your words can't say this", (MISSING,), (), (("o", "go on"), ("b", "look at the plan again"), ("q", "enough")))), None
-        keys = lettered(NONE, len(places), "go back to it")
-        lines = [f"{key}  {views.answer_text(self.session, self.session.answers[place])}" for (key, _), place in zip(keys, places)]
-        head = "If it is as you say, one of these answers was a slip:"
-        key = self.face.put(Sheet(head, tuple(lines), ("Choose the one to go back to, or o: then your words can't say this.",), keys))
-        chosen = dict(zip((letter for letter, _ in keys), places)).get(key)
+        choice = Choice(self.session, places, NONE)
+        key = "o"
+        while places:
+            lines = tuple(self._lines(places, choice))
+            key = self.face.put(Sheet("If it is as you say, one of these answers was a slip:", lines, keys=choice.keys))
+            if key not in choice.place_of:
+                break
+            place = choice.sure(self.face, key)
+            if place is not None:
+                return key, place
         if key == "o":
             self.unsayable.append(shown.title)
-            key = self.face.put(Sheet("Your words can't say this", (MISSING,), (), (("o", "go on"), ("q", "enough"))))
-        return key, chosen
+            key = self.face.put(Sheet("Your words can't say this", (MISSING,), keys=(("o", "go on"), ("b", "look at the plan again"), ("q", "enough"))))
+        return key, None
+
+    def _lines(self, places: Sequence[int], choice: Choice) -> Iterator[str]:
+        """Answers to choose from."""
+        for place in places:
+            if choice.letter(place).strip():
+                yield f"{choice.letter(place)}  {views.answer_text(self.session, self.session.answers[place], views.MOST_VALUES)}"
+        if len(choice.place_of) < len(places):
+            yield f"and {len(places) - len(choice.place_of)} others"
 
 
 @dataclass(frozen=True)
@@ -102,16 +116,18 @@ class Shown:
         """How it is put to the person."""
         picture = Picture(session.case, self.values, self.marks)
         if self.allowed:
-            return Sheet(f"{self.title}. The rules allow it.", (picture,), ("Is this right?",), JUDGE, frozenset("y"))
+            return Sheet(f"{self.title}. The rules allow it.", (picture,), under=("Is this right?",), keys=JUDGE, whole=frozenset("y"))
         head = "The rules refuse this plan, for one reason alone (marked !):"
-        return Sheet(head, (f"{self.title}.", picture), ("Is it right that it is refused?",), JUDGE)
+        return Sheet(head, (f"{self.title}.", picture), under=("Is it right that it is refused?",), keys=JUDGE)
 
 
 def apart_text(plan: solver.Plan) -> str:
     """How far a plan is from those before."""
     if plan.apart is None:
         return ""
-    return f", which differs from each one before in {plan.apart} of {len(plan.values)} places or more"
+    places = len(plan.values)
+    far = f"all {places} places" if plan.apart == places else f"{plan.apart} of {places} places at least"
+    return f", which differs from each one before in {far}"
 
 
 @dataclass(frozen=True)
@@ -142,11 +158,11 @@ def broken_alone(session: Session, sentence: Sentence, every: Sequence[Sentence]
 
 def behind(session: Session, shown: Shown) -> list[int]:
     """The answers behind a plan that is judged otherwise than the rules judge it."""
-    places = [place for place in suspects_with(session, shown.values, not shown.allowed) if may_go_back(session, place)]
+    places = [place for place in suspects_with(session, shown.values, not shown.allowed) if may(session, place)]
     if places or shown.rule is None:
         return places
     scopes = [scope for scope in session.vocabulary.scopes if set(shown.rule.things) <= set(scope)]
-    return [place for place, answer in enumerate(session.answers) if not answer.yes and may_go_back(session, place)
+    return [place for place, answer in enumerate(session.answers) if not answer.yes and may(session, place)
             and shown.rule.violated(answer.question.values) and tuple(sorted(answer.question.values)) in scopes]
 
 
@@ -157,12 +173,6 @@ def suspects_with(session: Session, values: Values, yes: bool) -> list[int]:
         return [place for place in session.possible.suspects() if place < len(session.answers)]
     finally:
         session.possible.back()
-
-
-def may_go_back(session: Session, place: int) -> bool:
-    """Whether an answer isn't one that the case itself gives."""
-    said = session.answers[place].said
-    return said is None or said.by != "always"
 
 
 def open_lines(constraints: Sequence[Constraint], session: Session) -> list[str]:

@@ -4,23 +4,35 @@ from __future__ import annotations
 
 import time
 from collections.abc import Iterator
+from dataclasses import dataclass
 
 from rich.console import Console
 from rich.control import Control
 from rich.segment import Segment, SegmentLines
 from rich.text import Text
 
-from face import Block, Sheet
+from face import Block, Sheet, keys_text
 from keys import ENDED, RESIZED, Keyboard
-from picture import Lines, Picture, pages, plan_lines, utf8
+from picture import Lines, Picture, pages, plan_lines
 
 __all__ = ["Screen", "plan_lines"]
 
 LEAST_BODY = 3      # lines; where there are fewer, what stands below the body gives way
 
 
+@dataclass(frozen=True)
+class Frame:
+    """The lines around the body of a sheet."""
+
+    head: Lines
+    under: Lines
+    foot: Lines
+
+
 class Screen:
     """The face of a terminal that can move its cursor."""
+
+    stays = False
 
     def __init__(self, console: Console, keyboard: Keyboard) -> None:
         self.console, self.keyboard = console, keyboard
@@ -52,7 +64,7 @@ class Screen:
             key = self.keyboard.read_after(shown)
             if key == ENDED:
                 return "q"
-            count = len(self._pages(sheet, message))
+            count = len(self._pages(sheet, self._frame(sheet, message)))
             page, message = min(page, count - 1), ""
             if key == RESIZED:
                 seen = {page}
@@ -82,28 +94,41 @@ class Screen:
     def _draw(self, sheet: Sheet, page: int, message: str) -> None:
         """One page of a sheet, over whatever the screen shows."""
         width, height = self.console.size
-        parts = self._pages(sheet, message)
-        body = parts[page]
-        lines = self._head(sheet) + body
-        foot = self._foot(sheet, message, page, len(parts))
-        lines += [[] for _ in range(height - len(lines) - len(foot))] + foot
+        frame = self._frame(sheet, message)
+        parts = self._pages(sheet, frame)
+        lines = frame.head + parts[page] + frame.under
+        foot = frame.foot + self._text(self._keys(sheet, page, len(parts)), "reverse")
+        spare = height - len(lines) - len(foot)
+        if spare > 1 and frame.under:
+            lines[len(lines) - len(frame.under):len(lines) - len(frame.under)] = [[]]
+            spare -= 1
+        lines += [[] for _ in range(spare)]
+        lines += foot
         shaped = Segment.set_shape(lines[:height], width, height)
         with self.console:
             self.console.control(Control.home())
             self.console.print(SegmentLines(shaped[:-1], new_lines=True), end="")
             self.console.print(SegmentLines(shaped[-1:]), end="")
 
-    def _pages(self, sheet: Sheet, message: str) -> list[Lines]:
+    def _frame(self, sheet: Sheet, message: str) -> Frame:
+        """What stands around the body; the lines of the keys come last."""
+        under = [line for text in filter(None, (sheet.legend, *sheet.under)) for line in self._text(text)]
+        foot = [line for text in sheet.foot for line in self._text(text)]
+        return Frame(self._text(sheet.head, "bold"), under, foot + (self._text(message, "bold") if message else []))
+
+    def _pages(self, sheet: Sheet, frame: Frame) -> list[Lines]:
         """The body of a sheet, cut where the screen ends; a picture is cut only where it is higher than the screen."""
         width, height = self.console.size
-        room = max(LEAST_BODY, height - len(self._head(sheet)) - len(self._foot(sheet, message, 0, 1)))
-        if sum(map(len, self._units(sheet.blocks, width, room))) > room:       # a hint at further pages takes room itself
-            room = max(LEAST_BODY, height - len(self._head(sheet)) - len(self._foot(sheet, message, 0, 2)))
-        cut: list[Lines] = [[]]
-        for unit in self._units(sheet.blocks, width, room):
-            if cut[-1] and len(cut[-1]) + len(unit) > room:
-                cut.append([])
-            cut[-1] = cut[-1] + unit
+        rest = height - len(frame.head) - len(frame.under) - len(frame.foot)
+        for count in (1, 2):            # what is said of further pages takes room itself
+            room = max(LEAST_BODY, rest - len(self._text(self._keys(sheet, 0, count))))
+            cut: list[Lines] = [[]]
+            for unit in self._units(sheet.blocks, width, room):
+                if cut[-1] and len(cut[-1]) + len(unit) > room:
+                    cut.append([])
+                cut[-1] = cut[-1] + unit
+            if len(cut) == 1:
+                break
         return cut
 
     def _units(self, blocks: tuple[Block, ...], width: int, room: int) -> Iterator[Lines]:
@@ -117,23 +142,14 @@ class Screen:
     def _text(self, text: str, style: str = "") -> Lines:
         return self.console.render_lines(Text(text, style=style), self.console.options, pad=False)
 
-    def _head(self, sheet: Sheet) -> Lines:
-        return self._text(sheet.head, "bold")
-
-    def _foot(self, sheet: Sheet, message: str, page: int, count: int) -> Lines:
-        """The lines below the body: what the sheet says there, a message, and the keys."""
-        lines = [line for text in sheet.foot for line in self._text(text)]
-        if message:
-            lines += self._text(message, "bold")
-        return lines + self._text(self._keys(sheet, page, count), "reverse")
-
     def _keys(self, sheet: Sheet, page: int, count: int) -> str:
         """What the keys do, shortly where the line is short."""
         more = f"space more ({page + 1} of {count})" if count > 1 else ""
         if "" in dict(sheet.keys):
             return "  ".join(filter(None, [more, "any other key goes on" if more else "any key goes on"]))
-        words = [f"{key} {does}" for key, does in sheet.keys] + [more] * bool(more)
-        if len("  ".join(words)) <= self.console.width:
-            return "  ".join(words)
+        words = keys_text(sheet.keys) + [more] * bool(more)
+        for between in ("   ", "  ", " "):
+            if len(between.join(words)) <= self.console.width:
+                return between.join(words)
         short = [f"{key} {does}" if place < 2 else key for place, (key, does) in enumerate(sheet.keys)]
         return "  ".join(short + [f"space {page + 1}/{count}"] * bool(more))

@@ -186,6 +186,7 @@ def _components(pairs: set[Things]) -> list[list[Things]]:
     """Pairs that hang together, in lists."""
     of: dict[int, int] = {}
     def root(thing: int) -> int:
+        """The thing that stands for all that hang together with this one."""
         while of.setdefault(thing, thing) != thing:
             thing = of[thing]
         return thing

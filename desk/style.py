@@ -14,7 +14,8 @@ COLOURS = {
     "odd-ground": ("#fff3c4", "#40350b"),
 }
 # text, and the grounds that it stands on
-PAIRS = (("text", "ground"), ("text", "head"), ("text", "odd-ground"), ("dim", "ground"), ("clash", "clash-ground"), ("yes", "ground"), ("no", "ground"))
+PAIRS = (("text", "ground"), ("text", "head"), ("text", "odd-ground"), ("dim", "ground"), ("clash", "clash-ground"), ("yes", "ground"),
+         ("no", "ground"))
 
 
 def _colours(place: int) -> str:
@@ -49,6 +50,8 @@ ul.cells{{columns:11rem;padding:0;list-style:none}}
 pre{{white-space:pre-wrap;overflow-wrap:anywhere}}
 summary{{cursor:pointer}}
 li,td,th,figcaption,h1{{overflow-wrap:anywhere}}
-@media print{{body{{font-size:10.5pt}}main{{max-width:none;padding:0}}figure,tr,li{{break-inside:avoid}}h2{{break-after:avoid}}thead{{display:table-header-group}}
-figure,.wide{{overflow:visible}}}}
+@media print{{
+body{{font-size:10.5pt}}main{{max-width:none;padding:0}}figure,tr,li{{break-inside:avoid}}h2{{break-after:avoid}}
+thead{{display:table-header-group}}figure,.wide{{overflow:visible}}
+}}
 """

@@ -7,12 +7,14 @@ from collections.abc import Sequence
 
 import patterns
 import sentences
-from face import Sheet
-from model import Answer, Question
+from face import ON, Sheet
+from goback import Choice, Keys
+from model import Answer, Constraint, Question
 from picture import Picture, sentence
 from session import Session
 
 MOST_RULES = 8              # of the rules that a yes rules out
+MOST_VALUES = 6             # of an answer in a line, where it is shown whole elsewhere
 BY = {"always": "said beforehand", "carried": "from the earlier session", "again": "said before you went back"}
 
 
@@ -31,10 +33,12 @@ def given_text(given: Sequence[Answer]) -> str:
     return f"Answered for you: {', '.join(said)}{one}."
 
 
-def answer_text(session: Session, answer: Answer) -> str:
-    """An answer as one line."""
+def answer_text(session: Session, answer: Answer, most: int | None = None) -> str:
+    """An answer as one line, with so many values at most."""
     why = f" ({BY[answer.said.by]}: {answer.said.why})" if answer.said else ""
-    shown = sentence(Picture(session.case, answer.question.values))
+    values = answer.question.values
+    some = dict(sorted(values.items())[:most])
+    shown = sentence(Picture(session.case, some)) + (f" and {len(values) - len(some)} more" if len(some) < len(values) else "")
     return f"{answer.question.number}. {yes_no(answer.yes)}: {shown}{why}"
 
 
@@ -48,24 +52,24 @@ def why(session: Session, question: Question) -> Sheet:
     return Sheet(f"Why question {question.number} is asked", tuple(lines))
 
 
-def rules(session: Session) -> Sheet:
-    """The rules so far in sentences, and the odd ones."""
+def rules(session: Session) -> tuple[Sheet, Choice]:
+    """The rules so far in sentences, and the odd ones, with the keys that go back to the answers behind these."""
     learned = session.learned()
     lines = [f"- {said.text}" for said in sentences.grouped(session.vocabulary, learned)] or ["None yet."]
-    return Sheet("Rules so far", tuple(lines + odd_lines(session)))
+    more, choice = odd_lines(session, learned, (("o", "on"),))
+    return Sheet("Rules so far", tuple(lines + more), keys=choice.keys if choice.place_of else (ON,)), choice
 
 
-def odd_lines(session: Session) -> list[str]:
-    """The odd ones out with the answers behind them; nothing where there are none."""
-    odd = patterns.odd(session.vocabulary, session.learned(), session.answers, session.possible.open)
-    if not odd:
-        return []
+def odd_lines(session: Session, learned: Sequence[Constraint], keys: Keys) -> tuple[list[str], Choice]:
+    """The odd ones out, and the answers behind them to go back to; nothing where there are none."""
+    odd = patterns.odd(session.vocabulary, learned, session.answers, session.possible.open)
+    choice = Choice(session, [place for one in odd for place in one.behind], keys)
     names = [thing.name for thing in session.case.things]
-    lines = ["", "Other than most of their pattern. That may be right; if it isn't, an answer was a slip:"]
+    lines = ["", "Other than most of their pattern. That may be right; if it isn't, an answer was a slip:"] if odd else []
     for one in odd:
         lines.append(f"- {one.text(names)}")
-        lines += ["    " + answer_text(session, session.answers[place]) for place in one.behind]
-    return lines
+        lines += [f"  {choice.letter(place)}  {answer_text(session, session.answers[place], MOST_VALUES)}" for place in one.behind]
+    return lines, choice
 
 
 def answers(session: Session) -> Sheet:
