@@ -10,7 +10,7 @@ from __future__ import annotations
 import dataclasses
 import itertools
 import json
-from collections.abc import Callable, Iterator
+from collections.abc import Callable, Iterable, Iterator
 
 import catalogue
 import closing
@@ -140,6 +140,27 @@ class Vocabulary:
             if _all_of(others, inside) == target:
                 kept = others
         return tuple(rule for rule, _ in kept)
+
+    def network(self, rules: Iterable[Rule]) -> list[list[str]]:
+        """Rules as a network for `play`: on each scope the relations that together say those of them that may be learned there."""
+        said: dict[tuple[int, ...], int] = {}
+        choices: dict[tuple[int, ...], set[int]] = {}
+        around: dict[int, list[tuple[int, ...]]] = {}
+        for scope in self.scopes:
+            for thing in scope:
+                around.setdefault(thing, []).append(scope)
+        for rule in rules:
+            for scope in around.get(rule.things[0], ()):
+                if set(rule.things) <= set(scope) and self._may_be_learned(rule, scope, choices):
+                    places = tuple(scope.index(thing) for thing in rule.things)
+                    said[scope] = said.get(scope, self.inside(scope)) & self._word_table(rule.word, places, len(scope))
+        return [self.item(scope, table) for scope, table in said.items() if table != self.inside(scope)]
+
+    def item(self, scope: tuple[int, ...], table: int) -> list[str]:
+        """An item of a network: the relations that hold this table, and the scope."""
+        inside = self.inside(scope)
+        names_of = [relation.name for relation in self.closings[len(scope)].relations if relation.table & table == table & inside]
+        return ["&".join(names_of), *(self.names[thing] for thing in scope)]
 
     # ---- how it is made
 
