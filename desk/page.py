@@ -85,10 +85,10 @@ def certified(session: Session, ending: Ending, name: str) -> Certificate | None
 def page(session: Session, ending: Ending, certificate: Certificate | None) -> str:
     """The whole page."""
     done = ending.word == "converged"
-    learned = ending.learned if done else tuple(session.learned())
+    learned = ending.learned if done else () if ending.word == "collapsed" else tuple(session.learned())
     found = grouped(session.vocabulary, learned, session.reduced() if done else None)
     body = joined(element("h1", session.case.title), element("p", state_text(session, ending), class_="dim"),
-                  section("The rules", *rules(found)),
+                  *([] if ending.word == "collapsed" else [section("The rules" if done else "Rules so far", *rules(found))]),
                   *(plans(session, found) if done else ()),
                   *pattern_view(session), answers(session), proof(certificate, done))
     head = joined(element("meta", charset="utf-8"), element("meta", name="viewport", content="width=device-width, initial-scale=1"),
@@ -119,10 +119,15 @@ def state_text(session: Session, ending: Ending) -> str:
 def rules(found: Sequence[Sentence]) -> Iterator[Html]:
     """The rules in sentences."""
     if not found:
-        yield element("p", "None: everything is allowed.")
+        yield element("p", "None.")
         return
-    yield element("ul", *(element("li", said.text, element("span", said.whole.removeprefix(said.text), class_="dim")) for said in found),
-                  class_="rules")
+    yield element("ul", *(rule(said) for said in found), class_="rules")
+
+
+def rule(said: Sentence) -> Html:
+    """A sentence, and what of it follows from others."""
+    mark = said.whole.removeprefix(said.text)
+    return element("li", said.text, *([element("span", mark, class_="dim")] if mark else []))
 
 
 # ---------------------------------------------------------------- plans
@@ -142,7 +147,7 @@ def plans(session: Session, found: Sequence[Sentence]) -> Iterator[Html]:
     for said in found:
         one = review.broken_alone(session, said, found, clauses)
         if one is None:
-            without.append(element("li", said.whole))
+            without.append(rule(said))
         else:
             broken.append(drawn(session, one.values, f"Refused: {one.rule.text}", one.marks))
     if broken:

@@ -49,7 +49,9 @@ ul.rules li{{margin:.2rem 0}}
 ul.cells{{columns:11rem;padding:0;list-style:none}}
 pre{{white-space:pre-wrap;overflow-wrap:anywhere}}
 summary{{cursor:pointer}}
-li,td,th,figcaption,h1{{overflow-wrap:anywhere}}
+li,figcaption,h1,h2,p{{overflow-wrap:anywhere}}
+td,th{{overflow-wrap:break-word}}
+@media screen and (max-width:40rem){{.plan{{font-size:.75rem}}.plan td,.plan th,.plan thead th{{padding:.1rem .25rem;min-width:0}}}}
 @media print{{
 body{{font-size:10.5pt}}main{{max-width:none;padding:0}}figure,tr,li{{break-inside:avoid}}h2{{break-after:avoid}}
 thead{{display:table-header-group}}figure,.wide{{overflow:visible}}
