@@ -118,13 +118,18 @@ class Session:
         self.possible: Possible
 
     @classmethod
-    def opened(cls, case: Case, program: Program, plan: str | None = None, budget: int | None = None, make: bool = True) -> Session:
-        """Opens a case's session, which is made where there is none and `make` says so; a fault where that can't be."""
+    def opened(cls, case: Case, program: Program, plan: str | None = None, budget: int | None = None, make: bool = True,
+               before: Sequence[dict] = ()) -> Session:
+        """Opens a case's session; a fault where that can't be.
+
+        It is made where there is none and `make` says so, with old answers by names that may answer for the person.
+        """
         journal = journal_of(case.path)
         if not make and not os.path.exists(journal):
             raise Fault(f"{case.path} has no session yet: `desk ask {case.path}` begins one")
         session = cls(case, program, journal, _locked(journal), budget)
         try:
+            session.foreseen.before = old_answers(session.case, before)
             session._begin(plan, make)
         except BaseException:
             session.close()

@@ -101,6 +101,17 @@ class Vocabulary:
             self._boxes[ranges] = closing.box(ranges, self.coding.size)
         return self._boxes[ranges]
 
+    def strictest(self, scope: tuple[int, ...]) -> int:
+        """What every candidate of a scope accepts."""
+        inside = table = self.inside(scope)
+        for relation in self.closings[len(scope)].relations:
+            table &= relation.table
+        return table & inside
+
+    def choices(self, scope: tuple[int, ...]) -> int:
+        """How many candidates a scope has, but for one that accepts everything."""
+        return self.closings[len(scope)].different_within(self.inside(scope)).bit_count()
+
     # ---- rules in the case's words
 
     def rules_on(self, scope: tuple[int, ...]) -> Iterator[tuple[Rule, int]]:
@@ -159,7 +170,7 @@ class Vocabulary:
     def item(self, scope: tuple[int, ...], table: int) -> list[str]:
         """An item of a network: the relations that hold this table, and the scope."""
         inside = self.inside(scope)
-        names_of = [relation.name for relation in self.closings[len(scope)].relations if relation.table & table == table & inside]
+        names_of = [relation.name for relation in self.closings[len(scope)].relations if relation.table & table & inside == table & inside]
         return ["&".join(names_of), *(self.names[thing] for thing in scope)]
 
     # ---- how it is made
