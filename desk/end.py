@@ -10,7 +10,7 @@ from model import Ending
 from picture import Picture
 from review import MISSING, Review, open_lines
 from sentences import Sentence, grouped
-from session import Session
+from session import Session, said_by
 
 ALL_SAID = "Nothing is left that your words can say and your answers don't decide. "
 LOOK = "What your words can't say wasn't asked: so look at some plans now."
@@ -133,4 +133,5 @@ def print_last(session: Session, ending: Ending | None, rules: bool = True) -> N
     elif ending.word == "undecided" and rules:
         print("\n".join(undecided_lines(session, ending)))
     elif ending.word in ("refused", "failed"):
-        print(f"The program ended: {ending.text or f'status {ending.status}'}. Each answer after which another question came is kept.")
+        print(said_by(session.journal, ending.status, ending.text))
+        print(f"{len(session.answers)} answers stand; each one after which another question came is among them.")

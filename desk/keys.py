@@ -8,6 +8,7 @@ import signal
 import termios
 import time
 import tty
+from collections.abc import Callable
 from types import FrameType
 
 RESIZED = "resized"         # the window has another size, or the program was in the background: draw anew
@@ -16,17 +17,22 @@ GUARD = 0.15                # seconds in which no key counts after something new
 
 
 class Keyboard:
-    """A context manager: inside it the terminal gives keys without Enter and without showing them."""
+    """A context manager: inside it the terminal gives keys without Enter and without showing them.
+
+    Where the program is stopped by Ctrl-Z, the terminal is as it was until it goes on. `leave` and `enter` are called then, for
+    what else has to be put back."""
 
     def __init__(self, terminal: int = 0) -> None:
         self.terminal = terminal
+        self.leave: Callable[[], None] = lambda: None
+        self.enter: Callable[[], None] = lambda: None
         self.before: dict[int, object] = {}
 
     def __enter__(self) -> Keyboard:
         self.modes = termios.tcgetattr(self.terminal)
         self.heard, self.told = os.pipe()
         os.set_blocking(self.told, False)
-        self.before = {number: signal.signal(number, self._resized) for number in (signal.SIGWINCH, signal.SIGCONT)}
+        self.before = {signal.SIGWINCH: signal.signal(signal.SIGWINCH, self._resized), signal.SIGTSTP: signal.signal(signal.SIGTSTP, self._stopped)}
         self._raw()
         return self
 
@@ -41,9 +47,19 @@ class Keyboard:
         """Keys come one at a time; what was typed before is dropped."""
         tty.setcbreak(self.terminal, termios.TCSAFLUSH)
 
+    def _stopped(self, number: int, frame: FrameType | None) -> None:
+        """Ctrl-Z: stops with the terminal as it was, and takes it up again when the program goes on."""
+        self.leave()
+        termios.tcsetattr(self.terminal, termios.TCSADRAIN, self.modes)
+        signal.signal(number, signal.SIG_DFL)
+        os.kill(os.getpid(), number)
+        signal.signal(number, self._stopped)
+        self._raw()
+        self.enter()
+        self._resized(number, frame)
+
     def _resized(self, number: int, _: FrameType | None) -> None:
-        if number == signal.SIGCONT:
-            self._raw()
+        """Has the screen drawn anew."""
         try:
             os.write(self.told, b".")
         except BlockingIOError:

@@ -36,18 +36,27 @@ class Screen:
 
     def __init__(self, console: Console, keyboard: Keyboard) -> None:
         self.console, self.keyboard = console, keyboard
+        self.keyboard.leave, self.keyboard.enter = self._leave, self._enter
         self.keyboard.__enter__()
-        self.console.set_alt_screen(True)
-        self.console.show_cursor(False)
+        self._enter()
         self.closed = False
 
     def close(self) -> None:
         """Leaves the terminal as it was."""
         if not self.closed:
             self.closed = True
-            self.console.show_cursor(True)
-            self.console.set_alt_screen(False)
+            self._leave()
             self.keyboard.__exit__()
+
+    def _enter(self) -> None:
+        """On to the screen that is drawn on."""
+        self.console.set_alt_screen(True)
+        self.console.show_cursor(False)
+
+    def _leave(self) -> None:
+        """Back to what stood in the terminal before."""
+        self.console.show_cursor(True)
+        self.console.set_alt_screen(False)
 
     def wait(self, text: str) -> None:
         """Says in the last line that something takes a while."""
