@@ -1,7 +1,8 @@
 """`desk carry`: a case has changed, and what was answered before counts on as far as it decides.
 
 Each question of the new session that the old answers decide is answered from them: a part of an accepted one is accepted, and
-what holds a refused one is refused. Old answers about things or values that the new case lacks are left out.
+what holds a refused one is refused. Of an accepted one that names what the new case lacks the rest counts; a refused one is
+left out then.
 """
 
 from __future__ import annotations
@@ -13,7 +14,7 @@ import re
 import casefile
 from foreseen import CARRIED
 from model import Case, Fault
-from session import Session, head_of, is_question, journal_of, kept_of, old_answers, read_kept
+from session import Session, head_of, is_question, journal_of, kept_of, locked, old_answers, read_kept
 from talk import Program
 from vocabulary import Vocabulary
 
@@ -77,10 +78,12 @@ def named(case: Case, words: Vocabulary, tokens: list[str], yes: bool) -> dict:
 def put_aside(path: str) -> str:
     """Moves a session away under the next free number; the new name of its journal."""
     stem = re.sub(r"\.case$", "", path)
+    held = locked(journal_of(path))     # nobody is in front of it
     number = 1
     while any(os.path.exists(f"{stem}.{number}{end}") for end in (".journal", ".session")):
         number += 1
     journal = journal_of(path)
     os.rename(kept_of(journal), f"{stem}.{number}.session")
     os.rename(journal, f"{stem}.{number}.journal")
+    os.close(held)
     return f"{stem}.{number}.journal"

@@ -71,7 +71,10 @@ def write_kept(journal: str, case: Case, before: Sequence[Old]) -> None:
 
 
 def old_answers(case: Case, named: Sequence[dict]) -> list[Old]:
-    """Old answers of a case's things and values; those that name others are left out."""
+    """Old answers, of what the case has of their things and values.
+
+    What is left of an accepted one is accepted as well. A refused one that names what isn't there any more says nothing.
+    """
     thing_of = {thing.name: thing for thing in case.things}
     value_of = {name: value for value, name in enumerate(case.values)}
     found = []
@@ -79,10 +82,9 @@ def old_answers(case: Case, named: Sequence[dict]) -> list[Old]:
         values: Values = {}
         for name, label in one["values"].items():
             thing, value = thing_of.get(name), value_of.get(label)
-            if thing is None or value not in thing.allowed:
-                break
-            values[thing.place] = value
-        else:
+            if thing is not None and value in thing.allowed:
+                values[thing.place] = value
+        if values and (one["yes"] or len(values) == len(one["values"])):
             found.append(old(values, bool(one["yes"]), str(one["by"])))
     return found
 
@@ -127,7 +129,7 @@ class Session:
         journal = journal_of(case.path)
         if not make and not os.path.exists(journal):
             raise Fault(f"{case.path} has no session yet: `desk ask {case.path}` begins one")
-        session = cls(case, program, journal, _locked(journal), budget)
+        session = cls(case, program, journal, locked(journal), budget)
         try:
             session.foreseen.before = old_answers(session.case, before)
             session._begin(plan, make)
@@ -399,7 +401,7 @@ def said_by(journal: str, status: int, text: str) -> str:
     return f"{journal}: acquire says: {said[-1] if said else reasons.get(status, f'status {status}')}"
 
 
-def _locked(journal: str) -> int:
+def locked(journal: str) -> int:
     """The journal, opened and locked; a fault where another desk has it."""
     try:
         try:
