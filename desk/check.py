@@ -230,7 +230,7 @@ def because(best: Figures, some: list[Figures], grid: bool) -> str:
     if careful is None:
         return "It shows the fewest values to judge. Go through all answers once at the end."
     return (f"It shows the fewest values to judge; plan {careful.plan}, which notices slips, costs {careful.effort / max(best.effort, 1):.1f} times the reading. "
-            + ("What is the odd one out in the grid is shown instead; " if grid else "") + "look at the plans that break a rule, at the end.")
+            + ("What is the odd one out in the grid is shown instead. " if grid else "") + "Look at the plans that break a rule, at the end.")
 
 
 def table(rows: list[tuple[str, ...]], width: int) -> Iterator[str]:

@@ -29,7 +29,7 @@ VALUES = ["p", "q", "r", "s"]
 
 def case_text(draw: random.Random) -> str:
     """A small case: things with shared values or values of their own, `only` lines, groups of one to four things."""
-    count = draw.randint(2, 5)
+    count = draw.randint(3, 6)
     things = [f"t{k}" for k in range(count)]
     values = VALUES[:draw.randint(3, 4)]
     lines = [f"title: drawn\nthings: {' '.join(things)}\nvalues: {' '.join(values)}"]
@@ -37,7 +37,7 @@ def case_text(draw: random.Random) -> str:
         if draw.random() < 0.3:
             lines.append(f"only {thing}: {' '.join(draw.sample(values, draw.randint(2, len(values) - 1)))}")
     groups: set[tuple[str, ...]] = set()
-    for _ in range(draw.randint(1, 4)):
+    for _ in range(draw.randint(2, 7)):
         size = min(count, draw.choice([1, 2, 2, 2, 3, 4]))
         groups.add(tuple(sorted(draw.sample(things, size))))
     lines.append("ask: " + ", ".join(" - ".join(group) for group in sorted(groups)))
