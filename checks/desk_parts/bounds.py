@@ -12,7 +12,7 @@ from possible import Possible
 from session import is_question
 from talk import Program
 
-SESSIONS = 300
+SESSIONS = 240
 PLANTED = [
     ("possible.py", "return left, left + len(scope.things) * self._lg + 1", "return left, left - 1 + len(scope.things) * self._lg // 2"),
     ("possible.py", "            return left, left\n", "            return left, left - 1\n"),
