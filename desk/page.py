@@ -87,10 +87,10 @@ def page(session: Session, ending: Ending, certificate: Certificate | None) -> s
     done = ending.word == "converged"
     learned = ending.learned if done else () if ending.word == "collapsed" else tuple(session.learned())
     found = grouped(session.vocabulary, learned, session.reduced() if done else None)
-    body = joined(element("h1", session.case.title), element("p", state_text(session, ending), class_="dim"),
-                  *([] if ending.word == "collapsed" else [section("The rules" if done else "Rules so far", *rules(found))]),
-                  *(plans(session, found) if done else ()),
-                  *pattern_view(session), answers(session), proof(certificate, done))
+    ruled = () if ending.word == "collapsed" else (section("The rules" if done else "Rules so far", *rules(found)),
+                                                   *(plans(session, found) if done else ()), *pattern_view(session))
+    body = joined(element("h1", session.case.title), element("p", state_text(session, ending), class_="dim"), *ruled, answers(session),
+                  proof(certificate, ending.word))
     head = joined(element("meta", charset="utf-8"), element("meta", name="viewport", content="width=device-width, initial-scale=1"),
                   element("title", session.case.title), element("style", Html(STYLE)))
     return "<!DOCTYPE html>\n" + element("html", element("head", head), element("body", element("main", body)), lang="en") + "\n"
@@ -243,10 +243,10 @@ def answers(session: Session) -> Html:
     return section("What was asked", folded)
 
 
-def proof(certificate: Certificate | None, done: bool) -> Html:
+def proof(certificate: Certificate | None, ended: str) -> Html:
     """How another can check it."""
     if certificate is None:
-        why = "it is too large" if done else "the session isn't finished"
+        why = {"converged": "it is too large", "collapsed": "the answers clash"}.get(ended, "the session isn't finished")
         return section("Checking it", element("p", f"There is no certificate, since {why}."))
     says = ("Whoever has the program can check, without trusting this page, that these answers leave no other rules than those of the "
             "certificate's network:")

@@ -260,7 +260,7 @@ def plain_values(lines: list[str]) -> Named:
     found = {}
     for line in lines[1:]:
         name, colon, rest = line.partition(": ")
-        if not colon:
+        if not colon or name.startswith(("Answered for", "Your ")):
             break
         found[name] = rest.removesuffix(" (changed)").removesuffix(" (this breaks it)")
     return found

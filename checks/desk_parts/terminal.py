@@ -67,6 +67,12 @@ def run(program: str) -> list[str]:
     return faults
 
 
+def quick(program: str) -> list[str]:
+    """The same in little: one session at one size, and a few rows."""
+    faults = [f"terminal: {fault}" for fault in one_session(program, "team", "multi", 12, (40, 12))] if shutil.which("tmux") else []
+    return faults + [f"terminal: {row.__name__}: {fault}" for row in (guard, interrupted_once, uncoloured, all_of_it) for fault in row(program)]
+
+
 # ---------------------------------------------------------------- what stands on the screen
 
 def at_sizes(program: str) -> list[str]:
@@ -263,11 +269,16 @@ def resized(program: str) -> list[str]:
             tmux.close()
 
 
-def interrupted(program: str) -> list[str]:
+def interrupted(program: str, turns: int = KILLS) -> list[str]:
     """Ctrl-C at random moments: nothing acknowledged is lost, the terminal is as it was, no process is left."""
     def stop(it: Terminal, path: str) -> None:
         os.write(it.file, b"\x03")
-    return killed_somehow(program, stop, lambda status: status == 6)
+    return killed_somehow(program, stop, lambda status: status == 6, turns=turns)
+
+
+def interrupted_once(program: str) -> list[str]:
+    """The same once."""
+    return interrupted(program, 1)
 
 
 def desk_killed(program: str) -> list[str]:
@@ -291,12 +302,13 @@ def acquire_killed(program: str) -> list[str]:
     return killed_somehow(program, stop, lambda status: status == 1)
 
 
-def killed_somehow(program: str, stop: Callable[[Terminal, str], None], right: Callable[[int | None], bool], put_back: bool = True) -> list[str]:
+def killed_somehow(program: str, stop: Callable[[Terminal, str], None], right: Callable[[int | None], bool], put_back: bool = True,
+                   turns: int = KILLS) -> list[str]:
     """Sessions that are ended at random moments behind a key."""
     draw = random.Random(7)
     with room() as path:
         acknowledged = 0
-        for turn in range(KILLS):
+        for turn in range(turns):
             it = Terminal(hands.words(path, program, "--plan", "quacq"))
             try:
                 before = it.modes()
