@@ -150,11 +150,11 @@ def _farthest(clauses: Clauses, before: list[Values]) -> tuple[set[int] | None, 
             more, count = at_least(clauses.literals(values), middle, count)
             extra += more
         true = solved(count, extra)
-        if true is None:
+        reached = -1 if true is None else min(_distance(clauses.values(true), values) for values in before)
+        if reached < middle:            # also where a solver says what isn't so
             high = middle - 1
-            continue
-        best = true
-        low = min(_distance(clauses.values(true), values) for values in before)
+        else:
+            best, low = true, reached
     return best, low
 
 

@@ -38,7 +38,7 @@ words: all three different, not all three the same, at most one of three x
 
 PLANTED = [
     ("solver.py", "true = solved(count, extra)\n", "true = solved(count, list(clauses.clauses))\n"),
-    ("solver.py", "low = min(_distance(", "low = max(_distance("),
+    ("solver.py", "else min(_distance(", "else max(_distance("),
     ("solver.py", "    if reply.status != 0 or not reply.lines or not reply.lines[0].startswith(\"solution\"):\n        return None\n    return vocabulary.values_of(reply.lines[0].split()[1:])",
      "    return clauses.values(true)"),
     ("solver.py", "    for other in others:\n        extra +=", "    for other in others[1:]:\n        extra +="),
@@ -166,6 +166,14 @@ def without(program: str) -> list[str]:
             solver.name = real
 
 
+def constant(program: str, path: str) -> str:
+    """What a solver says that always finds one and the same plan."""
+    with session.Session.opened(casefile.read(path), talk.Program(program)) as one:
+        clauses = solver.clauses_of(one.program, one.vocabulary, one.journal)
+        assert clauses is not None
+        return "s SATISFIABLE\nv " + " ".join(map(str, clauses.literals(all_plans(one, one.state().learned)[0]))) + " 0\n"
+
+
 def lying(program: str) -> list[str]:
     """Whatever a solver prints, no plan is shown that the rules don't allow."""
     found = []
@@ -175,7 +183,7 @@ def lying(program: str) -> list[str]:
         fake = os.path.join(folder, "cadical")
         os.environ["PATH"] = folder + os.pathsep + before
         try:
-            for says in ("s SATISFIABLE\nv 1 4 7 10 13 16 0\n", "s SATISFIABLE\nv 1 2 3 0\n", "s SATISFIABLE\nv 0\n", "v x\n", "", "v 99999 0\n", "v -1 -2 0\n"):
+            for says in (constant(program, path), "s SATISFIABLE\nv 1 4 7 10 13 16 0\n", "s SATISFIABLE\nv 1 2 3 0\n", "s SATISFIABLE\nv 0\n", "v x\n", "", "v 99999 0\n", "v -1 -2 0\n"):
                 with open(fake, "w", encoding="utf-8") as file:
                     file.write(f"#!/bin/sh\nprintf '{says}'\nexit 10\n")
                 os.chmod(fake, os.stat(fake).st_mode | stat.S_IXUSR)
