@@ -44,7 +44,7 @@ def main(path: str, options: argparse.Namespace) -> int:
 
 def advised(case: Case, words: Vocabulary, program: Program) -> str:
     """The plan of questions that is advised for a case."""
-    return trials.best(trials.compared(words, program)).plan
+    return "scopes" if words.lifted else trials.best(words, trials.compared(words, program)).plan
 
 
 def print_wrapped(line: str, width: int) -> None:
@@ -214,23 +214,33 @@ def compared(words: Vocabulary, some: list[Figures], width: int) -> Iterator[str
            "collapsed. A session that doesn't collapse isn't a sign of good answers.")
     yield ("Plan scopes never notices a slip: each of its questions is about one group, so no two answers can disagree, and one wrong "
            "answer is one wrong rule.")
-    best = trials.best(some)
+    best = trials.best(words, some)
     yield ""
-    yield f"Advice: plan {best.plan}. {because(best, some, bool(words.case.thing_parts))}"
+    yield f"Advice: plan {best.plan}. {because(words, best, some)}"
     if words.case.plan and words.case.plan != best.plan:
         yield f"The case says plan {words.case.plan}, and that counts."
 
 
-def because(best: Figures, some: list[Figures], grid: bool) -> str:
+def because(words: Vocabulary, best: Figures, some: list[Figures]) -> str:
     """Why a plan is advised."""
+    if words.lifted:
+        return (f"{' and '.join(f'`{text}`' for text in words.lifted)} speak{'s' if len(words.lifted) == 1 else ''} of fewer things than groups "
+                "have that are asked about. The other plans also ask about parts of groups, where a no because of such a word may end the "
+                "session though no answer was wrong." + odd_one_out(words))
     cheapest = min(some, key=lambda one: one.effort)
     if best.plan != "scopes":
         return "It notices slips" + ("." if best is cheapest else f", and costs {best.effort / max(cheapest.effort, 1):.1f} times the reading of plan {cheapest.plan}.")
     careful = min((one for one in some if one.notices), key=lambda one: one.effort, default=None)
     if careful is None:
-        return "It shows the fewest values to judge. Go through all answers once at the end."
-    return (f"It shows the fewest values to judge; plan {careful.plan}, which notices slips, costs {careful.effort / max(best.effort, 1):.1f} times the reading. "
-            + ("What is the odd one out in the grid is shown instead. " if grid else "") + "Look at the plans that break a rule, at the end.")
+        return "It shows the fewest values to judge." + odd_one_out(words)
+    return (f"It shows the fewest values to judge; plan {careful.plan}, which notices slips, costs {careful.effort / max(best.effort, 1):.1f} times the reading."
+            + odd_one_out(words))
+
+
+def odd_one_out(words: Vocabulary) -> str:
+    """What helps against slips in plan `scopes`."""
+    grid = " A group whose rule is another than that of its like in the grid is shown as the odd one out." if words.case.thing_parts else ""
+    return grid + " Look at the plans that break a rule, at the end."
 
 
 def table(rows: list[tuple[str, ...]], width: int) -> Iterator[str]:

@@ -109,9 +109,9 @@ def changed(before: Case, now: Case) -> str | None:
 class Session:
     """The session of a case, held by a lock; a context manager."""
 
-    def __init__(self, case: Case, program: Program, journal: str, lock: int, budget: int | None) -> None:
+    def __init__(self, words: vocabulary.Vocabulary, program: Program, journal: str, lock: int, budget: int | None) -> None:
         """Made by `opened` alone."""
-        self.vocabulary = vocabulary.build(case)
+        self.vocabulary = words
         self.case, self.program, self.journal = self.vocabulary.case, program, journal
         self._lock, self.budget = lock, budget
         self.plan = ""
@@ -129,7 +129,8 @@ class Session:
         journal = journal_of(case.path)
         if not make and not os.path.exists(journal):
             raise Fault(f"{case.path} has no session yet: `desk ask {case.path}` begins one")
-        session = cls(case, program, journal, locked(journal), budget)
+        words = vocabulary.build(case)
+        session = cls(words, program, journal, locked(journal), budget)
         try:
             session.foreseen.before = old_answers(session.case, before)
             session._begin(plan, make)

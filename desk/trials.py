@@ -162,8 +162,13 @@ def compared(words: Vocabulary, program: Program) -> list[Figures]:
     return [figures(words, program, plan) for plan in PLANS]
 
 
-def best(some: list[Figures]) -> Figures:
-    """The plan to take: the cheapest of those that notice slips, unless it costs much more than the cheapest of all."""
+def best(words: Vocabulary, some: list[Figures]) -> Figures:
+    """The plan to take: the cheapest of those that notice slips, unless it costs much more than the cheapest of all.
+
+    Where words are lifted it is plan `scopes`, since in the others a session may collapse with no wrong answer.
+    """
+    if words.lifted:
+        return next(one for one in some if one.plan == "scopes")
     cheapest = min(some, key=lambda one: one.effort)
     careful = min((one for one in some if one.notices), key=lambda one: one.effort, default=cheapest)
     return careful if careful.effort <= DEAR * cheapest.effort else cheapest

@@ -22,6 +22,7 @@ from model import MOST_RELATIONS, Case, Constraint, Fault, Group, Rule, Values, 
 
 MOST_SCOPES = 8192          # of the program
 MOST_BYTES = 4_194_304      # of the program
+SPEAKS_OF = {1: "never V", 2: "different", 3: "all three different", 4: "all four different"}
 
 # a word at places of a group, as `never Ann` at its second place
 Lifted = tuple[Word, tuple[int, ...]]
@@ -50,6 +51,16 @@ class Vocabulary:
         if len(self.json.encode()) > MOST_BYTES:
             raise Fault(f"{case.path}: in the program's form the case has more than {MOST_BYTES} bytes: fewer values or words make it shorter")
         self._always_are_asked()
+
+    @property
+    def lifted(self) -> tuple[str, ...]:
+        """The words that are asked about on groups with more things than they speak of.
+
+        In plan `scopes` each question is about a whole group, so a no has a rule of that group behind it. The other plans also
+        ask about parts, and a no to a part because of such a word has none where no group that holds the word's things lies
+        within the part: the session then collapses, though no answer was wrong.
+        """
+        return tuple(dict.fromkeys(word.text for arity, lifts in self._lifts.items() for word, places in lifts if len(places) < arity))
 
     # ---- to and fro
 
@@ -250,10 +261,11 @@ class Vocabulary:
         return accepts
 
     def _word_table(self, word: Word, places: tuple[int, ...], arity: int) -> int:
-        """The table of one word at places; of one that names things, wherever these stand."""
+        """The table of one word at places; of one that names things which have numbers of their own, wherever these stand."""
         key = ((word, places), arity)
         if key not in self._tables:
-            accepts = self._named_test([word]) if word.things else self._test(word, places)
+            apart = bool(word.things and self.coding.owner_of)
+            accepts = self._named_test([word]) if apart else self._test(word, places)
             self._tables[key] = closing.table_of(arity, self.coding.size, accepts)
         return self._tables[key]
 
@@ -281,7 +293,7 @@ class Vocabulary:
             if not self._lifts[arity] and not self._named[arity]:
                 group = next(group for group in case.groups if len(group.things) == arity)
                 raise Fault(f"{path}: `{group.phrase}` puts {arity} thing{'s' if arity > 1 else ''} together, and no word speaks of so many; "
-                            f"one that does is `{next(entry.form for entry in catalogue.ENTRIES if entry.arity == arity)}`")
+                            f"one that does is `{SPEAKS_OF[arity]}`")
         for word in case.words:
             if not word.things and word.arity > max(self.arities):
                 raise Fault(f"{path}: `{word.text}` speaks of {word.arity} things, and `ask` puts no more than {max(self.arities)} together")
@@ -320,12 +332,15 @@ class Vocabulary:
         choices: dict[tuple[int, ...], set[int]] = {}
         for rule in self.case.always:
             around = [scope for scope in self.scopes if set(rule.things) <= set(scope)]
-            if not around:
-                who = " - ".join(self.case.things[thing].name for thing in sorted(rule.things))
-                raise Fault(f"{self.case.path}: always: \"{rule.text}\" is about {who}, which `ask` doesn't put together; add `{who}` to `ask`")
-            if not any(self._may_be_learned(rule, scope, choices) for scope in around):
-                raise Fault(f"{self.case.path}: always: \"{rule.text}\" can't be learned: `{rule.word.text}` isn't among the words, "
-                            "or they read the things in another order; add it to `words`")
+            if around and all(self._may_be_learned(rule, scope, choices) for scope in around):
+                continue
+            who = " - ".join(self.case.things[thing].name for thing in sorted(rule.things))
+            head = f"{self.case.path}: always: \"{rule.text}\" can't be learned: "
+            if not around or (rule.word in self.case.words and tuple(sorted(rule.things)) == rule.things):
+                raise Fault(f"{head}`ask` doesn't put {who} together; add `{who}` to `ask`")
+            if rule.word in self.case.words:
+                raise Fault(f"{head}words read things in the order of the case: {who}; add the word that says it so")
+            raise Fault(f"{head}`{rule.word.text}` isn't among the words; add it to `words`")
 
     def _may_be_learned(self, rule: Rule, scope: tuple[int, ...], choices: dict[tuple[int, ...], set[int]]) -> bool:
         """Whether a rule is a candidate on a scope, or forbids nothing there."""
