@@ -150,10 +150,11 @@ class _Reader:
                 own.append((names.checked(line.name), self._unique(names.listed(line.text), "value")))
             else:
                 self._listed_things(line, own)
+            if own:
+                self._unique([name for name, _ in own], "thing")
         if not own:
             self.line_number = 0
             raise Fault("there are no things: a line such as `things: maths english sport` is missing")
-        self._unique([name for name, _ in own], "thing")
         if len(own) > MOST_THINGS:
             raise Fault(f"there are {len(own)} things; the program takes {MOST_THINGS}")
         self.line_number = 0

@@ -294,7 +294,7 @@ def _thing(setting: Setting, name: str) -> int:
     """The place of a thing that a word names."""
     known = [thing.name for thing in setting.things]
     if name not in known:
-        raise Fault(f"no such thing: {name}{names.nearest(name, known)}")
+        raise Fault(f"no such thing: {name}{names.nearest(name, known) or '; there are ' + names.choices(known)}")
     return known.index(name)
 
 

@@ -186,6 +186,7 @@ class Session:
         if difference is None and text != self.vocabulary.json.encode():
             difference = "it is said to the program in another way"
         if difference is not None:
+            self._shown()       # a file that is damaged isn't a case that has changed
             raise Fault(f"{self.case.path} has changed since its session began: {difference}. Take the change back, or take the answers over "
                         f"into a new session by `desk carry {self.case.path}`")
         wanted = plan or self.case.plan
@@ -199,14 +200,19 @@ class Session:
         """Puts down what desk keeps."""
         write_kept(self.journal, self.case, self.foreseen.before)
 
-    def reload(self) -> None:
-        """The answers that stand, as the program shows them."""
+    def _shown(self) -> list[str]:
+        """What `show` prints; a fault where it refuses the file."""
         reply = self.program.call([self.journal, "show"])
         if reply.status:
             raise Fault(said_by(self.journal, reply.status, reply.text))
+        return reply.lines
+
+    def reload(self) -> None:
+        """The answers that stand, as the program shows them."""
+        lines = self._shown()
         self.answers = []
         self.possible = Possible(self.vocabulary, self.plan)
-        for line in reply.lines:
+        for line in lines:
             head, *tokens = line.split()
             if is_question(head):
                 self.added(Question(int(head[1:]), self.vocabulary.values_of(tokens[:-1])), tokens[-1] == "yes")
