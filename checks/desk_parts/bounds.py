@@ -71,7 +71,7 @@ def run(program: str) -> list[str]:
         found, came, most = session(program, words, PLANS[seed % 3], random.Random(1000 + seed))
         faults += found
         questions, bound, sessions = questions + came, bound + most, sessions + 1
-        if len(faults) > 20:
+        if len(faults) > drawn.ENOUGH:
             break
     print(f"bounds: {sessions} sessions of {questions} questions, at each the bound; at first it was {bound / max(questions, 1):.2f} times what came")
     return faults

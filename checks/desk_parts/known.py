@@ -173,7 +173,7 @@ def run(program: str) -> list[str]:
                 found, given = part(it, folder, seed, words, case.text)
                 faults += named(found, f"{what}, drawn{seed}")
                 counts[what] += given
-        if len(faults) > 20:
+        if len(faults) > drawn.ENOUGH:
             break
     faults += [f"{what}: nothing was ever given, which tests little" for what, count in counts.items() if not count]
     print("known: answers given for the person, all as the person would: " + ", ".join(f"{count} {what}" for what, count in counts.items()))

@@ -73,7 +73,7 @@ def run(program: str) -> list[str]:
         found, collapsed, hit = session(program, words, every, PLANS[1 + seed % 2], random.Random(seed))
         faults += found
         sessions, collapses, hits = sessions + 1, collapses + collapsed, hits + hit
-        if len(faults) > 20:
+        if len(faults) > drawn.ENOUGH:
             break
     if collapses < 10:
         faults.append(f"only {collapses} of {sessions} sessions collapsed, which tests little")
