@@ -29,12 +29,12 @@ class Sheet:
     whole: frozenset[str] = field(default_factory=frozenset)    # keys that count only after all pages were shown
 
 
-def keys_text(keys: tuple[tuple[str, str], ...]) -> list[str]:
-    """What the keys do; those that do one thing together, as `a c d go back to it`."""
+def keys_text(keys: tuple[tuple[str, str], ...], explained: int | None = None) -> list[str]:
+    """What the keys do; those that do one thing together, as `a c d go back to it`. Only so many are explained, if need be."""
     said: dict[str, list[str]] = {}
     for key, does in keys:
         said.setdefault(does, []).append(key)
-    return [f"{' '.join(some)} {does}" for does, some in said.items()]
+    return [" ".join(some) + (f" {does}" if explained is None or place < explained else "") for place, (does, some) in enumerate(said.items())]
 
 
 class Face(Protocol):

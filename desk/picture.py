@@ -219,8 +219,9 @@ def pages(console: Console, picture: Picture, width: int, height: int | None = N
     """The picture within this width and height, on as few pages as it takes; no height means any."""
     unicode = utf8(console)
     grid = grid_of(picture, "·" if unicode else ".", "–" if unicode else "-")
-    labels = max(map(cell_len, picture.case.values)) + 1 if shape(picture.case) == "things" else 0
-    for way, ruled, least in itertools.product((grid, grid.turned()) if grid else (), (True, False), (labels, 0)):
+    # all columns as wide as a cell may get, so that nothing moves from question to question; without room for that, as narrow as can be
+    widest = 1 + max(map(cell_len, picture.case.values if shape(picture.case) == "things" else [thing.name for thing in picture.case.things]))
+    for way, ruled, least in itertools.product((grid, grid.turned()) if grid else (), (True, False), (widest, 0)):
         look = Look(ruled, least)
         wide, high = size_of(way, look)
         if wide <= width and (height is None or high <= height):

@@ -77,7 +77,7 @@ class Screen:
             page, message = min(page, count - 1), ""
             if key == RESIZED:
                 seen = {page}
-            elif key in " \t" and count > 1:
+            elif key in " \t" and (count > 1 or "" not in dict(sheet.keys)):
                 page = (page + 1) % count
                 seen.add(page)
             else:
@@ -160,5 +160,4 @@ class Screen:
         for between in ("   ", "  ", " "):
             if len(between.join(words)) <= self.console.width:
                 return between.join(words)
-        short = [f"{key} {does}" if place < 2 else key for place, (key, does) in enumerate(sheet.keys)]
-        return "  ".join(short + [f"space {page + 1}/{count}"] * bool(more))
+        return "  ".join(keys_text(sheet.keys, 2) + [f"space {page + 1}/{count}"] * bool(more))

@@ -39,15 +39,12 @@ words: a=x not with b=y
 """
 
 PLANTED = [
+    # names aren't escaped
     ("markup.py", "else html.escape(piece) for piece", "else piece for piece"),
-    ("markup.py", "{html.escape(str(value))}", "{value}"),
-    ("page.py", "for said in found), class_=\"rules\")", "for said in found[1:]), class_=\"rules\")"),
-    ("page.py", "hashlib.sha256(content)", "hashlib.sha256(content[:-1])"),
+    # the days of a plan are shifted by one
     ("page.py", "*(element(\"th\", name, scope=\"col\") for name in grid.heads)", "*(element(\"th\", name, scope=\"col\") for name in grid.heads[1:] + grid.heads[:1])"),
-    ("page.py", "for number, plan in enumerate(some, 1)]", "for number, plan in enumerate(some[:1], 1)]"),
-    ("page.py", "    if reply.status != 0 or session.program.call([\":memory:\", \"check\"], content).status != 0:\n        return None\n", "    content = content[:-4]\n"),
+    # a text that is hard to read
     ("style.py", "\"dim\": (\"#566072\"", "\"dim\": (\"#8a93a3\""),
-    ("page.py", "element(\"td\", word, class_=word)", "element(\"td\", \"yes\", class_=word)"),
 ]
 
 

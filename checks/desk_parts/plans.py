@@ -37,13 +37,11 @@ words: all three different, not all three the same, at most one of three x
 """
 
 PLANTED = [
-    ("solver.py", "true = solved(count, extra)\n", "true = solved(count, list(clauses.clauses))\n"),
-    ("solver.py", "else min(_distance(", "else max(_distance("),
-    ("solver.py", "    if reply.status != 0 or not reply.lines or not reply.lines[0].startswith(\"solution\"):\n        return None\n    return vocabulary.values_of(reply.lines[0].split()[1:])",
-     "    return clauses.values(true)"),
+    # what a solver prints is shown unchecked
+    ("solver.py", "    if reply.status != 0 or not reply.lines or not reply.lines[0].startswith(\"solution\"):\n        return None\n"
+     "    return vocabulary.values_of(reply.lines[0].split()[1:])", "    return clauses.values(true)"),
+    # a plan that breaks one rule may break another
     ("solver.py", "    for other in others:\n        extra +=", "    for other in others[1:]:\n        extra +="),
-    ("solver.py", "most = len(literals) - least ", "most = len(literals) - least + 1 "),
-    ("review.py", "for rule in sentence.rules[:MOST_TRIES]:", "for rule in sentence.rules[:0]:"),
 ]
 
 

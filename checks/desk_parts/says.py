@@ -33,12 +33,9 @@ words: all three different, different
 CASES = (hands.WARD, hands.SCHOOL, hands.BICYCLE, hands.TEAM, HALL, TRIOS)
 
 PLANTED = [
+    # an exception isn't named
     ("sentences.py", "out = [part.members[member] for member in one.might if", "out = [part.members[member] for member in one.might[1:] if"),
-    ("sentences.py", "few = one.every and len(out)", "few = len(out)"),
-    ("sentences.py", "for things in sorted(left):", "for things in sorted(left)[1:]:"),
-    ("sentences.py", "if pair not in have and not", "if pair in have and not"),
-    ("along.py", "1: f\" {place} the next {name}\", -1: f\" {place} the {name} before\"", "1: f\" {place} the {name} before\", -1: f\" {place} the next {name}\""),
-    ("patterns.py", "if said[scope] != most and", "if said[scope] == most and"),
+    # a yes that has nothing to do with it is said to be behind an odd one
     ("patterns.py", "        if answer.yes and breaks:", "        if answer.yes:"),
 ]
 

@@ -24,15 +24,12 @@ DRAWN = 40
 NAMES = ("Ann", "Bär", "Çelik", "Łukasz Nowak", "李小龍", "Ōno", "a-very-long-name-for-one-cell-of-a-table", "[bold]x[/bold]", "&lt;", "Zoë", "x", "🚲")
 
 PLANTED = [
-    ("picture.py", "    things = sorted(picture.values)\n", "    things = sorted(picture.values)[1:]\n"),
+    # a cell is dropped where a list stands in
     ("picture.py", "return [in_columns(entries[at:at + a_page], columns, wide) for at", "return [in_columns(entries[at:at + a_page - 1], columns, wide) for at"),
+    # a table that is too wide isn't turned or listed, but cut off
     ("picture.py", "first + sum(widths) + 3 * len(widths) + 4", "first + sum(widths)"),
-    ("picture.py", "    for at, letter in enumerate(entry.plain):\n        room += cell_len(letter)", "    for at, letter in enumerate(entry.plain):\n        room += 0"),
-    ("picture.py", "SUFFIX = {CHANGED: \"*\"", "SUFFIX = {CHANGED: \"\""),
+    # what has stayed is marked, and what has changed isn't
     ("ask.py", "if before.values.get(thing) != value}", "if before.values.get(thing) == value}"),
-    ("ask.py", "ask = PART if picture.part else WHOLE", "ask = WHOLE"),
-    ("screen.py", "if cut[-1] and len(cut[-1]) + len(unit) > room:", "if cut[-1] and len(cut[-1]) + len(unit) > room + 1:"),
-    ("plain.py", "for line in picture_lines(block)", "for line in picture_lines(block)[:2]"),
 ]
 
 

@@ -22,12 +22,11 @@ words: different
 """
 
 PLANTED = [
+    # an answer is turned round
     ("ask.py", "self.sitting.answer(key == \"y\")", "self.sitting.answer(key == \"n\")"),
-    ("goback.py", "zip(letters, dict.fromkeys(", "zip(letters[1:], dict.fromkeys("),
-    ("views.py", "rules[:MOST_RULES]", "rules"),
-    ("end.py", "if not any(items[other] < items[place] for other in places)", "if any(items[other] < items[place] for other in places)"),
-    ("review.py", "suspects_with(session, shown.values, not shown.allowed)", "suspects_with(session, shown.values, shown.allowed)"),
-    ("goback.py", "return said is None or said.by != \"always\"", "return True"),
+    # another answer is gone back to than the one that was chosen
+    ("goback.py", "self.place_of = dict(zip(letters, dict.fromkeys(place for place in places if may(session, place))))",
+     "self.place_of = dict(zip(letters, dict.fromkeys(place - 1 for place in places if may(session, place) and place)))"),
 ]
 
 
@@ -38,7 +37,7 @@ def run(program: str) -> list[str]:
 
 def quick(program: str) -> list[str]:
     """The same in little."""
-    return looked(program, ROWS[:6])
+    return looked(program, (keys, odd_one))
 
 
 def looked(program: str, rows: Iterable[object]) -> list[str]:

@@ -29,24 +29,14 @@ KILLS = 8
 RED = re.compile(rb"\x1b\[[0-9;]*\b(3[0-7]|4[0-7]|9[0-7]|10[0-7]|38|48)\b[0-9;]*m")
 
 PLANTED = [
-    # a cell is dropped where a list stands in
-    ("picture.py", "for at in range(0, len(entries), a_page)]", "for at in range(0, len(entries) - 1, a_page)]"),
-    # the last column of a table is left out
-    ("picture.py", "for across in range(len(parts[0].members))))", "for across in range(len(parts[0].members) - 1))))"),
     # each value has the name of the next one
     ("picture.py", "return self.case.label(self.values[thing]) +", "return self.case.values[(self.values[thing] + 1) % len(self.case.values)] +"),
-    # a wide table isn't turned or listed, but cut off
-    ("picture.py", "if wide <= width and", "if"),
     # the guard is off
     ("keys.py", "now - shown >= GUARD", "now - shown >= 0"),
     # the terminal isn't put back
-    ("keys.py", "        termios.tcsetattr(self.terminal, termios.TCSADRAIN, self.modes)\n", ""),
+    ("screen.py", "            self.keyboard.__exit__()\n", ""),
     # yes is taken before all pages were seen
     ("screen.py", "if key in sheet.whole and not all_seen:", "if False:"),
-    # colours in spite of NO_COLOR, by turns of the terminal's own
-    ("ask.py", "Console(highlight=False, markup=False, emoji=False)\n    if not", "Console(highlight=False, markup=False, emoji=False, no_color=False)\n    if not"),
-    # a screen is drawn where nobody can see one
-    ("ask.py", "if plain or dumb or not (sys.stdin.isatty() and sys.stdout.isatty()):", "if plain:"),
 ]
 
 
