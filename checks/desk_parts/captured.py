@@ -42,7 +42,7 @@ def school(named: dict[str, str]) -> bool:
     """No two lessons at once, maths and english on two days, maths before physics, art and sport on one day."""
     day = {name: DAYS.index(value.split()[0]) for name, value in named.items()}
     return (len(set(named.values())) == len(named) and day.get("maths", -1) != day.get("english", -2)
-            and day.get("maths", -1) < day.get("physics", 9) and day.get("art", 0) == day.get("sport", day.get("art", 0)))
+            and day.get("maths", -1) < day.get("physics", 9) and len({day[name] for name in ("art", "sport") if name in day}) < 2)
 
 
 def bicycle(named: dict[str, str]) -> bool:
