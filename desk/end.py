@@ -4,6 +4,7 @@ from __future__ import annotations
 
 import solver
 import views
+from along import and_list
 from face import Block, Face, Sheet
 from goback import Choice, sure
 from model import Ending
@@ -15,6 +16,8 @@ from session import Session, said_by
 ALL_SAID = "Nothing is left that your words can say and your answers don't decide. "
 LOOK = "What your words can't say wasn't asked: so look at some plans now."
 NO_SOLVER = "What your words can't say wasn't asked. For plans to look at, install a SAT solver: cadical, minisat or clasp."
+LIFTED = ("It may also be that no answer was wrong: {words} {speak} of fewer things than are asked about together, and in plan {plan} a right no to a "
+          "part of a plan can then end so. In plan scopes it can't: `desk ask --plan scopes` in a new session.")
 MOST_CLASHES = 3            # that are drawn
 LAST = (("b", "back to the last answer"), ("s", "all answers"), ("q", "stop"))
 
@@ -68,6 +71,9 @@ class Collapse:
                        for place in self.suspects]
         else:
             blocks += ["", "No single answer explains it: more than one was a slip, or a word is missing. Go back with b, one by one."]
+        lifted = [f"`{word}`" for word in self.session.vocabulary.lifted]
+        if lifted and self.session.plan != "scopes":
+            blocks += ["", LIFTED.format(words=and_list(lifted), speak="speaks" if len(lifted) == 1 else "speak", plan=self.session.plan)]
         return Sheet("Your answers clash", tuple(blocks), keys=self.choice.keys)
 
     def _last(self) -> int | None:

@@ -22,6 +22,7 @@ from session import Session
 MOST_PLANS = 3
 MOST_TRIES = 4              # rules of one sentence of which a plan is looked for that breaks it alone
 JUDGE = (("y", "yes, right"), ("n", "no"), ("q", "enough"))
+UNSAYABLE = (("o", "go on"), ("b", "look at the plan again"), ("q", "enough"))
 NONE = (("o", "none of these was wrong"), ("b", "look at the plan again"), ("q", "enough"))
 MISSING = ("Your words can't say what is wrong here. Add a word to the case that can, and `desk carry` takes your answers over, so that only what is "
            "new is asked. What desk can't learn at all, as how often somebody works in a week, stays with you.")
@@ -90,7 +91,7 @@ class Review:
                 return key, place
         if key == "o":
             self.unsayable.append(shown.title)
-            key = self.face.put(Sheet("Your words can't say this", (MISSING,), keys=(("o", "go on"), ("b", "look at the plan again"), ("q", "enough"))))
+            key = self.face.put(Sheet("Your words can't say this", (MISSING,), keys=UNSAYABLE))
         return key, None
 
     def _lines(self, places: Sequence[int], choice: Choice) -> Iterator[str]:

@@ -96,7 +96,8 @@ def school(q: Named) -> bool:
 
 def bicycle(q: Named) -> bool:
     """What doesn't go together."""
-    bad = (("frame", "carbon", "motor", "hub"), ("brakes", "rim", "motor", "mid"), ("motor", "hub", "battery", "none"), ("motor", "mid", "battery", "none"))
+    bad = (("frame", "carbon", "motor", "hub"), ("brakes", "rim", "motor", "mid"), ("motor", "hub", "battery", "none"),
+           ("motor", "mid", "battery", "none"))
     return not any(q.get(a) == x and q.get(b) == y for a, x, b, y in bad)
 
 
@@ -150,7 +151,14 @@ def answered(path: str, program: str, owner: Owner, plan: str = "scopes", most: 
 
 def acquire(program: str, path: str, *command: str) -> list[str]:
     """What the program says of a journal, as lines."""
-    return subprocess.run([program, journal(path), *command], stdin=subprocess.DEVNULL, stdout=subprocess.PIPE, text=True, check=False).stdout.splitlines()
+    ran = subprocess.run([program, journal(path), *command], stdin=subprocess.DEVNULL, stdout=subprocess.PIPE, text=True, check=False)
+    return ran.stdout.splitlines()
+
+
+def report(program: str, path: str, target: str) -> subprocess.CompletedProcess[str]:
+    """Calls desk report."""
+    command = ["/usr/bin/python3", os.path.join(DESK, "desk"), "report", path, target, "--acquire", program]
+    return subprocess.run(command, capture_output=True, text=True, check=False)
 
 
 def answers(program: str, path: str) -> int:
@@ -365,7 +373,8 @@ class Tmux:
     def __init__(self, command: list[str], width: int, height: int) -> None:
         self.socket = f"desk-{os.getpid()}-{time.monotonic_ns()}"
         line = " ".join("'" + word.replace("'", "'\\''") + "'" for word in command)
-        self._tmux("-f", "/dev/null", "new-session", "-d", "-s", "it", "-x", str(width), "-y", str(height), f"LANG=C.UTF-8 {line}; echo ended $?; sleep 600")
+        self._tmux("-f", "/dev/null", "new-session", "-d", "-s", "it", "-x", str(width), "-y", str(height),
+                   f"LANG=C.UTF-8 {line}; echo ended $?; sleep 600")
 
     def _tmux(self, *rest: str) -> str:
         return subprocess.run(["tmux", "-u", "-L", self.socket, *rest], stdout=subprocess.PIPE, text=True, encoding="utf-8", check=False,

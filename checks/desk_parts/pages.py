@@ -42,7 +42,7 @@ PLANTED = [
     # names aren't escaped
     ("markup.py", "else html.escape(piece) for piece", "else piece for piece"),
     # the days of a plan are shifted by one
-    ("page.py", "*(element(\"th\", name, scope=\"col\") for name in grid.heads)", "*(element(\"th\", name, scope=\"col\") for name in grid.heads[1:] + grid.heads[:1])"),
+    ("page.py", "name, scope=\"col\") for name in grid.heads)", "name, scope=\"col\") for name in grid.heads[1:] + grid.heads[:1])"),
     # a text that is hard to read
     ("style.py", "\"dim\": (\"#566072\"", "\"dim\": (\"#8a93a3\""),
 ]
@@ -121,7 +121,7 @@ class Page(HTMLParser):
 def one_page(program: str, path: str, ending: str, browser: str | None) -> list[str]:
     """The page of a session."""
     target = path.removesuffix(".case") + ".html"
-    ran = subprocess.run(["/usr/bin/python3", os.path.join(hands.DESK, "desk"), "report", path, target, "--acquire", program], capture_output=True, text=True, check=False)
+    ran = hands.report(program, path, target)
     if ran.returncode != 0:
         return [f"status {ran.returncode}: {ran.stderr}"]
     with open(target, encoding="utf-8") as file:
@@ -202,7 +202,8 @@ def plans(one: session.Session, page: Page, state: object) -> list[str]:
     rules = {rule.text: rule for it in some for rule in it.rules}
     allowed = [plan for plan, caption in zip(drawn, captions) if caption.startswith("Plan")]
     for plan in allowed:
-        if set(plan) != {thing.place for thing in one.case.things} or not all(one.vocabulary.accepts(constraint, plan) for constraint in state.learned):
+        whole = set(plan) == {thing.place for thing in one.case.things}
+        if not whole or not all(one.vocabulary.accepts(constraint, plan) for constraint in state.learned):
             found.append(f"{plan} isn't a plan that the rules allow")
     if len(allowed) < min(4, len(solver.plans(one.program, one.vocabulary, one.journal, 4))):
         found.append(f"{len(allowed)} plans are drawn")
@@ -305,17 +306,12 @@ def contrast() -> list[str]:
     return found
 
 
-def report(program: str, path: str, target: str) -> subprocess.CompletedProcess[str]:
-    """Calls desk report."""
-    return subprocess.run(["/usr/bin/python3", os.path.join(hands.DESK, "desk"), "report", path, target, "--acquire", program], capture_output=True, text=True, check=False)
-
-
 def clash(program: str) -> list[str]:
     """Of answers that clash there are no rules on the page."""
     with hands.room() as path:
         ending = hands.answered(path, program, hands.ward, "quacq", slip=60)
         target = path + ".html"
-        ran = report(program, path, target)
+        ran = hands.report(program, path, target)
         with open(target, encoding="utf-8") as file:
             content = file.read()
         page = Page(content)
@@ -329,11 +325,11 @@ def unwritable(program: str) -> list[str]:
     with hands.room("leer", TEMPER) as path:
         hands.answered(path, program, lambda q: True)
         folder = os.path.dirname(path)
-        ran = report(program, path, os.path.join(folder, "nowhere", "page.html"))
+        ran = hands.report(program, path, os.path.join(folder, "nowhere", "page.html"))
         os.mkdir(os.path.join(folder, "taken.html"))
-        other = report(program, path, os.path.join(folder, "taken.html"))
+        other = hands.report(program, path, os.path.join(folder, "taken.html"))
         left = [name for name in os.listdir(folder) if name.startswith("tmp")]
-        if ran.returncode != 1 or "Traceback" in ran.stderr or "nowhere" not in ran.stderr or other.returncode != 1 or "Traceback" in other.stderr or left:
+        if ran.returncode != 1 or other.returncode != 1 or "Traceback" in ran.stderr + other.stderr or "nowhere" not in ran.stderr or left:
             return [f"{ran.returncode}, {ran.stderr}; {other.returncode}, {other.stderr}; {left}"]
         return []
 
@@ -341,7 +337,7 @@ def unwritable(program: str) -> list[str]:
 def no_session(program: str) -> list[str]:
     """Without a session there is no page, and none is begun."""
     with hands.room() as path:
-        ran = report(program, path, path + ".html")
+        ran = hands.report(program, path, path + ".html")
         if ran.returncode != 1 or "no session" not in ran.stderr or os.path.exists(hands.journal(path)) or os.path.exists(path + ".html"):
             return [f"{ran.returncode}, {ran.stderr}, {os.listdir(os.path.dirname(path))}"]
         return []

@@ -57,7 +57,8 @@ def run(program: str) -> list[str]:
     if installed:
         faults += [f"plans: a solver that lies: {fault}" for fault in lying(program)]
     missing = [name for name in solver.SOLVERS if name not in installed]
-    print(f"plans: {counts[0]} plans and {counts[1]} broken rules by {', '.join(installed) or 'no solver'}" + (f"; not installed: {', '.join(missing)}" if missing else ""))
+    print(f"plans: {counts[0]} plans and {counts[1]} broken rules by {', '.join(installed) or 'no solver'}"
+          + (f"; not installed: {', '.join(missing)}" if missing else ""))
     return faults
 
 
@@ -144,7 +145,8 @@ def alone(one: session.Session, ending: model.Ending, every: list[model.Values],
             found.append(f"{rule.text}: {got} doesn't break it alone")
     for sentence in said:
         shown = review.broken_alone(one, sentence, said)
-        can = any(rule.violated(plan) and not any(other.violated(plan) for other in rules if other is not rule) for rule in sentence.rules[:4] for plan in plans)
+        can = any(rule.violated(plan) and not any(other.violated(plan) for other in rules if other is not rule)
+                  for rule in sentence.rules[:4] for plan in plans)
         if sentence.follows != "all" and (shown is not None) != can:
             found.append(f"{sentence.text}: shows {shown}, and that there is one is {can}")
         if shown is not None and set(shown.marks) != set(shown.rule.things):
@@ -181,7 +183,8 @@ def lying(program: str) -> list[str]:
         fake = os.path.join(folder, "cadical")
         os.environ["PATH"] = folder + os.pathsep + before
         try:
-            for says in (constant(program, path), "s SATISFIABLE\nv 1 4 7 10 13 16 0\n", "s SATISFIABLE\nv 1 2 3 0\n", "s SATISFIABLE\nv 0\n", "v x\n", "", "v 99999 0\n", "v -1 -2 0\n"):
+            for says in (constant(program, path), "s SATISFIABLE\nv 1 4 7 10 13 16 0\n", "s SATISFIABLE\nv 1 2 3 0\n", "s SATISFIABLE\nv 0\n",
+                         "v x\n", "", "v 99999 0\n", "v -1 -2 0\n"):
                 with open(fake, "w", encoding="utf-8") as file:
                     file.write(f"#!/bin/sh\nprintf '{says}'\nexit 10\n")
                 os.chmod(fake, os.stat(fake).st_mode | stat.S_IXUSR)

@@ -71,7 +71,8 @@ def drawn_constraints(draw: random.Random, words: vocabulary.Vocabulary) -> list
     return found
 
 
-def wrong(words: vocabulary.Vocabulary, constraints: list[model.Constraint], needed: list[model.Constraint], said: list[sentences.Sentence]) -> list[str]:
+def wrong(words: vocabulary.Vocabulary, constraints: list[model.Constraint], needed: list[model.Constraint],
+          said: list[sentences.Sentence]) -> list[str]:
     """What is wrong with sentences: their rules aren't those of the constraints, or their text doesn't say their rules."""
     found = []
     claimed = {(rule.word.text, rule.things) for one in constraints for rule in words.claims(one)}
@@ -115,8 +116,11 @@ def read_back(case: model.Case, text: str) -> set[str]:
         but = [rest]
     if m := re.match(r"(every (\w+)|(?:on|at|in|for) ([^:]+)): (.*)", text):
         return read_along(case, m, but)
-    return {one for one in each_two(text, [thing.name for thing in case.things]) if not but or not any(all(re.search(rf"(?<!\w){re.escape(name)}(?!\w)", one) for name in pair.split(" and "))
-                                                                       for pair in but[0].split(", "))}
+    def names_both(one: str, pair: str) -> bool:
+        """Whether a sentence is about both things of `a and b`."""
+        return all(re.search(rf"(?<!\w){re.escape(name)}(?!\w)", one) for name in pair.split(" and "))
+    every = each_two(text, [thing.name for thing in case.things])
+    return {one for one in every if not but or not any(names_both(one, pair) for pair in but[0].split(", "))}
 
 
 def names_of(text: str) -> list[str]:
@@ -183,15 +187,16 @@ def learned(words: vocabulary.Vocabulary, relation: str, leave: tuple[tuple[str,
 def worked(program: str) -> list[str]:
     """Sentences worked by hand."""
     found = []
+    nights = "every day: night and early on the next day differ; night and late on the next day differ"
+    lessons = "each two of Mathe, Englisch, Physik, Kunst, Sport and Geschichte differ"
     rows: tuple[tuple[str, str, tuple[tuple[str, str], ...], list[str]], ...] = (
-        (hands.WARD, "different", (), ["every day: each two of early, late and night differ",
-                                       "every day: night and early on the next day differ; night and late on the next day differ"]),
-        (hands.WARD, "different", (("Sun_early", "Sun_late"),), ["every day: early and night differ; late and night differ", "every day: early and late differ, but not on Sun",
-                                                                 "every day: night and early on the next day differ; night and late on the next day differ"]),
-        (hands.SCHOOL, "different", (), ["each two of Mathe, Englisch, Physik, Kunst, Sport and Geschichte differ"]),
-        (hands.SCHOOL, "different", (("Mathe", "Kunst"),), ["each two of Mathe, Englisch, Physik, Kunst, Sport and Geschichte differ, but not Mathe and Kunst"]),
+        (hands.WARD, "different", (), ["every day: each two of early, late and night differ", nights]),
+        (hands.WARD, "different", (("Sun_early", "Sun_late"),),
+         ["every day: early and night differ; late and night differ", "every day: early and late differ, but not on Sun", nights]),
+        (hands.SCHOOL, "different", (), [lessons]),
+        (hands.SCHOOL, "different", (("Mathe", "Kunst"),), [lessons + ", but not Mathe and Kunst"]),
         (hands.WARD.replace("same day,", "Mon early - Mon late, Tue early - Tue late,"), "different", (),
-         ["every day: night and early on the next day differ; night and late on the next day differ", "on Mon and Tue: early and late differ"]),
+         [nights, "on Mon and Tue: early and late differ"]),
     )
     for text, relation, leave, wanted in rows:
         words = vocabulary.build(casefile.parse(text, "worked.case"))
@@ -200,7 +205,7 @@ def worked(program: str) -> list[str]:
             found.append(f"{got} and not {wanted}")
     words = vocabulary.build(casefile.parse(hands.SCHOOL, "worked.case"))
     constraints = learned(words, "different")
-    got = [one.follows for one in sentences.grouped(words, constraints, constraints[1:])] + [one.follows for one in sentences.grouped(words, constraints, [])]
+    got = [one.follows for needed in (constraints[1:], []) for one in sentences.grouped(words, constraints, needed)]
     if got != ["some", "all"]:
         found.append(f"what follows: {got}")
     return found

@@ -21,11 +21,12 @@ from rich.cells import cell_len
 from rich.console import Console
 
 DRAWN = 40
-NAMES = ("Ann", "Bär", "Çelik", "Łukasz Nowak", "李小龍", "Ōno", "a-very-long-name-for-one-cell-of-a-table", "[bold]x[/bold]", "&lt;", "Zoë", "x", "🚲")
+NAMES = ("Ann", "Bär", "Çelik", "Łukasz Nowak", "李小龍", "Ōno", "a-very-long-name-for-one-cell-of-a-table", "[bold]x[/bold]", "&lt;", "Zoë",
+         "x", "🚲")
 
 PLANTED = [
     # a cell is dropped where a list stands in
-    ("picture.py", "return [in_columns(entries[at:at + a_page], columns, wide) for at", "return [in_columns(entries[at:at + a_page - 1], columns, wide) for at"),
+    ("picture.py", "in_columns(entries[at:at + a_page], columns, wide) for at", "in_columns(entries[at:at + a_page - 1], columns, wide) for at"),
     # a table that is too wide isn't turned or listed, but cut off
     ("picture.py", "first + sum(widths) + 3 * len(widths) + 4", "first + sum(widths)"),
     # what has stayed is marked, and what has changed isn't
@@ -65,11 +66,13 @@ def drawn_case(draw: random.Random) -> model.Case:
         for one in parts:
             found = [(f"{name} {member}".strip(), (*at, place)) for name, at in found for place, member in enumerate(one.members)]
         return found
-    thing_parts = {"things": (part(7, "day"), part(3, "shift")), "both": (part(4, "day"), part(2, "shift")), "cube": (part(4, "day"), part(3, "shift"), part(2, "ward"))}.get(kind, ())
+    thing_parts = {"things": (part(7, "day"), part(3, "shift")), "both": (part(4, "day"), part(2, "shift")),
+                   "cube": (part(4, "day"), part(3, "shift"), part(2, "ward"))}.get(kind, ())
     value_parts = (part(5, "day"), part(4, "hour")) if kind in ("values", "both") else ()
     values = tuple(name for name, _ in product(value_parts)) if value_parts else tuple(draw.sample(NAMES, draw.randint(2, 6)))
     every = tuple(range(len(values)))
-    named = product(thing_parts) if thing_parts else [(f"{name} {k}", ()) for k in range(draw.randint(1, 3)) for name in draw.sample(NAMES, draw.randint(1, 9))]
+    listed = [(f"{name} {k}", ()) for k in range(draw.randint(1, 3)) for name in draw.sample(NAMES, draw.randint(1, 9))]
+    named = product(thing_parts) if thing_parts else listed
     things = tuple(model.Thing(place, name, at, every) for place, (name, at) in enumerate(dict(named).items()))
     return model.Case("drawn", "", "Drawn", things, thing_parts, values, value_parts, (), (), (), None)
 
@@ -110,7 +113,8 @@ def lost(it: picture.Picture, width: int, height: int | None) -> list[str]:
         elif "─" in whole and not cell_at(whole, it, thing, wanted, grid):
             found.append(f"{wanted} doesn't stand at {label if grid else name}")
     if "─" not in whole:
-        entries = re.sub(r"\s+", "", "".join(f"{it.case.things[t].name}{it.case.values[v]}{letter.get(it.marks.get(t, ''), '')}" for t, v in sorted(it.values.items())))
+        said = [f"{it.case.things[t].name}{it.case.values[v]}{letter.get(it.marks.get(t, ''), '')}" for t, v in sorted(it.values.items())]
+        entries = re.sub(r"\s+", "", "".join(said))
         if len(flat) != len(entries) or sorted(flat) != sorted(entries):
             found.append("the list isn't exactly its entries")
     return found
@@ -134,8 +138,8 @@ def whole_screens() -> list[str]:
     found = []
     case = casefile.parse(hands.WARD, "ward.case")
     values = {thing.place: thing.place % 5 for thing in case.things}
-    sheet = face.Sheet("Ward: question 3", ("Some words before the picture, which may take a line or two.", picture.Picture(case, values)), "a legend",
-                       ("Judge it.",), ("settled 3 of 9",), (("y", "yes"), ("n", "no"), ("q", "stop")))
+    blocks = ("Some words before the picture, which may take a line or two.", picture.Picture(case, values))
+    sheet = face.Sheet("Ward: question 3", blocks, "a legend", ("Judge it.",), ("settled 3 of 9",), (("y", "yes"), ("n", "no"), ("q", "stop")))
     for width, height in ((200, 50), (80, 24), (60, 20), (40, 12), (40, 10)):
         it = screen.Screen.__new__(screen.Screen)
         it.console = console(width, height)
@@ -217,7 +221,8 @@ def lines_of_plan() -> list[str]:
     found = []
     for width in (30, 40, 80):
         lines = screen.plan_lines(case, values, width)
-        if any("\x1b" in line or cell_len(line) > width for line in lines) or not all(any(thing.name in line for line in lines) for thing in case.things):
+        shown = all(any(thing.name in line for line in lines) for thing in case.things)
+        if not shown or any("\x1b" in line or cell_len(line) > width for line in lines):
             found.append(f"at {width}: {lines}")
     return found
 

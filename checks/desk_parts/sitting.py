@@ -153,8 +153,9 @@ def clash(program: str) -> list[str]:
             more, sheet = sat(it, hands.ward)
             it.say("q")
             it.end()
-            if f"Go back to question {slip}?" not in sure[0] or f"question {slip}:" not in it.lines[it.lines.index(sure[0]) + len(sure)].replace(",", ":") + ":":
-                found.append(f"slip {slip}: {sure[:2]}")
+            again = it.lines[it.lines.index(sure[0]) + len(sure)]
+            if f"Go back to question {slip}?" not in sure[0] or not re.search(rf"question {slip}\b", again):
+                found.append(f"slip {slip}: {sure[:2]}, then {again}")
             if it.ran.returncode != 0 or learned(program, path) != wanted:
                 found.append(f"slip {slip}: after going back {it.ran.returncode} and other rules")
             if count + more > 248 + 20:

@@ -9,7 +9,6 @@ import json
 import os
 import random
 import re
-import resource
 import shutil
 import signal
 import subprocess
@@ -193,7 +192,8 @@ def guard(program: str) -> list[str]:
     real, clock.monotonic = clock.monotonic, lambda: now[0]
     try:
         found = []
-        for steps, wanted in (([(0.0, "y"), (0.149, "y"), (0.151, "n"), (0.302, "q")], "q"), ([(0.15, "y")], "y"), ([(0.03 * k, "y") for k in range(1, 40)] + [(1.4, "n")], "n"),
+        held = [(0.03 * k, "y") for k in range(1, 40)]
+        for steps, wanted in (([(0.0, "y"), (0.149, "y"), (0.151, "n"), (0.302, "q")], "q"), ([(0.15, "y")], "y"), ([*held, (1.4, "n")], "n"),
                               ([(0.01, keys.RESIZED)], keys.RESIZED)):
             script[:] = steps
             got = Scripted().read_after(0.0)
@@ -391,7 +391,8 @@ def piped(program: str) -> list[str]:
         if hands.answers(program, path) != 1:
             found.append(f"{hands.answers(program, path)} answers stand")
     with room() as path:
-        ran = subprocess.run(hands.words(path, program, "--plan", "scopes"), input="y\nn\n", stdout=subprocess.PIPE, text=True, check=False, env={**os.environ, "LC_ALL": "C"})
+        ran = subprocess.run(hands.words(path, program, "--plan", "scopes"), input="y\nn\n", stdout=subprocess.PIPE, text=True, check=False,
+                             env={**os.environ, "LC_ALL": "C"})
         if ran.returncode != 6 or hands.answers(program, path) != 2:
             found.append(f"LC_ALL=C over pipes: {ran.returncode}")
     return found
@@ -461,8 +462,8 @@ def two_desks(program: str) -> list[str]:
 def suspended(program: str) -> list[str]:
     """Ctrl-Z and on again: the screen comes back, and keys count."""
     with room() as path:
-        it = Terminal(["/bin/bash", "--norc", "-i", "-c", "set -m; " + " ".join(hands.words(path, program, "--plan", "scopes")) + "; echo BETWEEN; sleep 0.3; fg"],
-                      env={"PS1": "$ "})
+        line = "set -m; " + " ".join(hands.words(path, program, "--plan", "scopes")) + "; echo BETWEEN; sleep 0.3; fg"
+        it = Terminal(["/bin/bash", "--norc", "-i", "-c", line], env={"PS1": "$ "})
         try:
             it.wait_for("question 1")
             time.sleep(0.3)
@@ -490,7 +491,8 @@ def on_disks(program: str) -> list[str]:
     with tempfile.TemporaryDirectory() as folder:
         for way in (["unshare", "--mount"], ["unshare", "--mount", "--map-root-user"]):
             if subprocess.run([*way, "mount", "-t", "tmpfs", "none", folder], capture_output=True, check=False).returncode == 0:
-                ran = subprocess.run([*way, sys.executable, os.path.realpath(__file__), program, folder], stdout=subprocess.PIPE, text=True, check=False)
+                ran = subprocess.run([*way, sys.executable, os.path.realpath(__file__), program, folder], stdout=subprocess.PIPE, text=True,
+                                     check=False)
                 return list(json.loads(ran.stdout)) if ran.returncode == 0 else [f"the disks: status {ran.returncode}"]
     print("terminal: nothing may be mounted here, so no disk was full or read-only")
     return []
