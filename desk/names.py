@@ -9,7 +9,7 @@ from collections.abc import Iterable, Sequence
 
 from model import Fault
 
-# what `..` counts through, beside whole numbers and single letters
+# what `..` counts through, beside whole numbers, also behind a name as in `Y1 .. Y4`, and single letters
 SEQUENCES = (
     "Mon Tue Wed Thu Fri Sat Sun",
     "Monday Tuesday Wednesday Thursday Friday Saturday Sunday",
@@ -102,11 +102,10 @@ def between(first: str, last: str) -> list[str]:
         row = sequence.split()
         if first in row and last in row and row.index(first) <= row.index(last):
             return row[row.index(first):row.index(last) + 1]
-    if re.fullmatch(r"\d{1,6}", first) and re.fullmatch(r"\d{1,6}", last):
-        low, high = int(first), int(last)
-        if low <= high and high - low < 200:
-            width = len(first) if first.startswith("0") else 1
-            return [str(number).zfill(width) for number in range(low, high + 1)]
+    one, other = (re.fullmatch(r"(.*?)(\d{1,6})", end) for end in (first, last))
+    if one and other and one[1] == other[1] and 0 <= int(other[2]) - int(one[2]) < 200:
+        width = len(one[2]) if one[2].startswith("0") else 1
+        return [one[1] + str(number).zfill(width) for number in range(int(one[2]), int(other[2]) + 1)]
     if len(first) == len(last) == 1 and first.isalpha() and last.isalpha() and first.isupper() == last.isupper() and first <= last:
         return [chr(code) for code in range(ord(first), ord(last) + 1)]
     raise Fault(f"`{first} .. {last}` can't be filled in: write the names out, or count days, months, numbers or letters upwards")

@@ -53,7 +53,7 @@ def bicycle(named: dict[str, str]) -> bool:
 
 
 def garden(named: dict[str, str]) -> bool:
-    """Nothing twice running, no tomatoes beside potatoes in time, beans in each three years."""
+    """Nothing twice running, no tomatoes beside potatoes in time, beans in each three years, no two beds at rest in a year."""
     beds = [[named.get(f"{bed} Y{year}") for year in (1, 2, 3, 4)] for bed in ("north", "south", "east")]
     for bed in beds:
         for one, other in itertools.pairwise(bed):
@@ -61,7 +61,7 @@ def garden(named: dict[str, str]) -> bool:
                 return False
         if any(None not in three and "beans" not in three for three in (bed[:3], bed[1:])):
             return False
-    return True
+    return all(year.count("rest") < 2 for year in zip(*beds, strict=True))
 
 
 OWNERS: dict[str, Callable[[dict[str, str]], bool]] = {"ward": ward, "school": school, "bicycle": bicycle, "garden": garden}

@@ -7,6 +7,7 @@ import tempfile
 
 import casefile
 import drawn
+import names
 from model import Fault
 from vocabulary import Vocabulary
 
@@ -73,6 +74,10 @@ def told(text: str) -> str:
     return ""
 
 
+FILLED = {"Mon .. Wed": ["Mon", "Tue", "Wed"], "8..11": ["8", "9", "10", "11"], "Y1 .. Y3": ["Y1", "Y2", "Y3"], "08 .. 10": ["08", "09", "10"],
+          "A .. C x": ["A", "B", "C", "x"], "Nov .. Dec": ["Nov", "Dec"], "ganz spät, B 1 .. B 2": ["ganz spät", "B 1", "B 2"]}
+
+
 def right() -> list[str]:
     """A case that uses what a case can say."""
     text = ("\ufefftitle: Küche & <b>&\"  # a comment\r\n\n# another\nthings: Bär, \"Frau Müller\", Ωmega, b&r\n"
@@ -99,7 +104,7 @@ def right() -> list[str]:
 
 def run(program: str) -> list[str]:
     """Faults in what is told."""
-    faults = right()
+    faults = right() + [f"`{text}` is {names.listed(text)}" for text, wanted in FILLED.items() if names.listed(text) != wanted]
     for text, wanted in FAULTS:
         if told(text) != wanted:
             faults.append(f"of {text!r} it says {told(text)!r}, and not {wanted!r}")
