@@ -385,11 +385,11 @@ class Tmux:
         return self._tmux("capture-pane", "-p", "-t", "it")
 
     def wait_for(self, pattern: str, patience: float = PATIENCE) -> str:
-        """The screen once the pattern is on it; what is there where it never comes."""
+        """The screen once the pattern is on it and it stays as it is; what is there where it never comes."""
         shown = [""]
         def there() -> bool:
-            shown[0] = self.capture()
-            return re.search(pattern, shown[0]) is not None
+            before, shown[0] = shown[0], self.capture()
+            return before == shown[0] and re.search(pattern, shown[0]) is not None
         until(there, patience)
         return shown[0]
 

@@ -88,7 +88,7 @@ def one_session(program: str, name: str, plan: str, most: int, size: tuple[int, 
         try:
             number = 1
             while number <= most:
-                shown = tmux.wait_for(rf"question {number}\b|Done after|clash|ended \d")
+                shown = tmux.wait_for(rf"question {number}\b[\s\S]*y yes|Done after|clash|ended \d")
                 if not re.search(rf"question {number}\b", shown):
                     break
                 _, wanted = expected(program, path)
