@@ -8,7 +8,7 @@ from __future__ import annotations
 
 import itertools
 import re
-from collections.abc import Callable, Iterator
+from collections.abc import Callable, Iterator, Sequence
 from dataclasses import dataclass
 
 import names
@@ -137,14 +137,19 @@ def _of_one(setting: Setting, text: str) -> Word | None:
         sets = [setting.value_set(name) for name in m[1].split(" or ")]
         if not all(sets):
             return None
-        some = frozenset().union(*sets)
-        return made(lambda x: x in some, f"is only {m[1]}")
+        return only(setting, m[1].split(" or "), frozenset().union(*sets))
     if (m := re.fullmatch(r"(.+) or (earlier|later)", text)) and m[1] in setting.values:
         v = setting.values.index(m[1])
         if m[2] == "earlier":
             return made(lambda x: x <= v, f"is {m[1]} or earlier")
         return made(lambda x: x >= v, f"is {m[1]} or later")
     return None
+
+
+def only(setting: Setting, some: Sequence[str], values: frozenset[int]) -> Word:
+    """The word `only V or W` of these names and values."""
+    shown = f"is only {' or '.join(some)}"
+    return _word(setting, f"only {' or '.join(some)}", 1, lambda x: x in values, "{0} " + shown, shown)
 
 
 def _of_two(setting: Setting, text: str) -> Word | None:

@@ -23,6 +23,7 @@ MOST_TRIALS = 12
 MEMORY = "/dev/shm"     # journals of trials are kept here where it is there: nothing is lost with them
 WORK = 4000             # trials of a plan are so few that they have about so many scopes in all
 MOST_FOR_SLIPS = 600    # scopes; above it slips aren't tried
+STEPS = 5               # of the search for a plan that keeps what was said beforehand, for each thing
 READING = 3             # a question costs so much beside one for each value that it shows
 DEAR = 2.5              # a plan that notices slips may cost so many times what the cheapest costs
 ENOUGH = 0.25           # of slips noticed, for a plan to be one that notices them
@@ -67,7 +68,7 @@ def hidden_plan(words: Vocabulary, draw: random.Random) -> Values:
     for rule in case.always:
         for thing in rule.things:
             by_thing.setdefault(thing, []).append(rule)
-    for _ in range(50 * len(values)):
+    for _ in range(STEPS * len(values)):
         broken = [rule for rule in case.always if rule.violated(values)]
         if not broken:
             break

@@ -45,6 +45,7 @@ class Vocabulary:
         self.closings = self._closed()
         self._not_too_many()
         self._by_name = {(relation.arity, relation.name): relation.table for made in self.closings.values() for relation in made.relations}
+        self._holding: dict[tuple[int, ...], list[tuple[int, ...]]] = {}
         self._boxes: dict[tuple[tuple[int, int], ...], int] = {}
         self._tables: dict[tuple[Lifted, int], int] = {}
         self.json = self._json()
@@ -167,13 +168,9 @@ class Vocabulary:
         """Rules as a network for `play`: on each scope the relations that together say those of them that may be learned there."""
         said: dict[tuple[int, ...], int] = {}
         choices: dict[tuple[int, ...], set[int]] = {}
-        around: dict[int, list[tuple[int, ...]]] = {}
-        for scope in self.scopes:
-            for thing in scope:
-                around.setdefault(thing, []).append(scope)
         for rule in rules:
-            for scope in around.get(rule.things[0], ()):
-                if set(rule.things) <= set(scope) and self._may_be_learned(rule, scope, choices):
+            for scope in self._around(rule.things):
+                if self._may_be_learned(rule, scope, choices):
                     places = tuple(scope.index(thing) for thing in rule.things)
                     said[scope] = said.get(scope, self.inside(scope)) & self._word_table(rule.word, places, len(scope))
         return [self.item(scope, table) for scope, table in said.items() if table != self.inside(scope)]
@@ -331,7 +328,7 @@ class Vocabulary:
         """Each rule said beforehand is one that may be learned; else a fault that says why it isn't."""
         choices: dict[tuple[int, ...], set[int]] = {}
         for rule in self.case.always:
-            around = [scope for scope in self.scopes if set(rule.things) <= set(scope)]
+            around = self._around(rule.things)
             if around and all(self._may_be_learned(rule, scope, choices) for scope in around):
                 continue
             who = " - ".join(self.case.things[thing].name for thing in sorted(rule.things))
@@ -341,6 +338,15 @@ class Vocabulary:
             if rule.word in self.case.words:
                 raise Fault(f"{head}words read things in the order of the case: {who}; add the word that says it so")
             raise Fault(f"{head}`{rule.word.text}` isn't among the words; add it to `words`")
+
+    def _around(self, things: tuple[int, ...]) -> list[tuple[int, ...]]:
+        """The scopes that hold some things."""
+        if not self._holding:
+            for scope in self.scopes:
+                for size in range(1, len(scope) + 1):
+                    for some in itertools.combinations(scope, size):
+                        self._holding.setdefault(some, []).append(scope)
+        return self._holding.get(tuple(sorted(things)), [])
 
     def _may_be_learned(self, rule: Rule, scope: tuple[int, ...], choices: dict[tuple[int, ...], set[int]]) -> bool:
         """Whether a rule is a candidate on a scope, or forbids nothing there."""
@@ -384,7 +390,7 @@ def with_loose(case: Case, numbers: Coding) -> Case:
         if place not in grouped:
             continue
         thing = case.things[place]
-        word = catalogue.word(setting, "only " + " or ".join(case.values[value] for value in thing.allowed))
+        word = catalogue.only(setting, [case.values[value] for value in thing.allowed], frozenset(thing.allowed))
         words += [word] if word not in words else []
         rules.append(Rule(word, (place,), word.said_of((thing.name,))))
     return dataclasses.replace(case, words=tuple(words), always=tuple(rules))

@@ -6,7 +6,6 @@ import os
 import tempfile
 
 import casefile
-import drawn
 import names
 from model import Fault
 from vocabulary import Vocabulary

@@ -10,7 +10,6 @@ import os
 import tempfile
 from collections.abc import Callable
 
-import drawn
 from model import Fault
 from talk import Program
 from vocabulary import Vocabulary

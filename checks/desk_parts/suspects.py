@@ -13,6 +13,7 @@ from session import is_question
 
 SESSIONS = 250
 MOST_NETWORKS = 3000
+LISTS = 6           # of any answers, for each case
 PLANTED = [
     ("possible.py", "if len(clash) == 1 and self._innocent_without(clash[0], open_by):", "if len(clash) == 1:"),
     ("possible.py", "again[scope.things] |= once[scope.things] & gone", "again[scope.things] |= 0 & gone"),
@@ -62,6 +63,23 @@ def session(program: str, words: drawn.Vocabulary, every: list[Net], plan: str, 
     return faults, collapsed, collapsed and len(slips) == 1 and min(slips) in wanted
 
 
+def any_answers(words: drawn.Vocabulary, every: list[Net], draw: random.Random) -> list[str]:
+    """Answers of any kind, as no session has them, that no network gives."""
+    possible = Possible(words, "multi")
+    plans = list(drawn.in_ranges(words))
+    seen = set()
+    for _ in range(draw.randint(3, 9)):
+        whole = draw.choice(plans)
+        values = {thing: whole[thing] for thing in sorted(draw.sample(sorted(whole), draw.randint(1, len(whole))))}
+        if str(values) not in seen:
+            seen.add(str(values))
+            possible.take(values, draw.random() < 0.5)
+    if any(all(agrees(words, network, values, yes) for values, yes in possible.answers) for network in every):
+        return [f"{words.case.path}: a network agrees, and the clash is {possible.clash()}"] if possible.clash() else []
+    wanted = by_trial(words, every, possible.answers)
+    return [] if possible.suspects() == wanted else [f"{words.case.path}: of any answers the suspects are {wanted}, and desk says {possible.suspects()}"]
+
+
 def run(program: str) -> list[str]:
     """Faults of all drawn sessions."""
     faults: list[str] = []
@@ -72,6 +90,8 @@ def run(program: str) -> list[str]:
             continue
         found, collapsed, hit = session(program, words, every, PLANS[1 + seed % 2], random.Random(seed))
         faults += found
+        for turn in range(LISTS):
+            faults += any_answers(words, every, random.Random(100 * seed + turn))
         sessions, collapses, hits = sessions + 1, collapses + collapsed, hits + hit
         if len(faults) > drawn.ENOUGH:
             break
