@@ -50,7 +50,7 @@ def main(path: str, options: argparse.Namespace) -> int:
     before = {number: signal.signal(number, _hung_up) for number in (signal.SIGTERM, signal.SIGHUP)}
     face = face_for(options.plain)
     try:
-        face.wait("opening the session ..")
+        face.wait("opening the session; for a new one the best plan is looked for ..")
         with Session.opened(case, program, options.plan, options.budget) as session:
             ending = asked(session, face)
             face.close()
@@ -113,6 +113,8 @@ class Asking:
 
     def run(self) -> Ending:
         """Asks until the program ends or the person stops."""
+        if self.session.answers:
+            self.note = f"It goes on where it was, after {len(self.session.answers)} answer{'s' if len(self.session.answers) != 1 else ''}."
         self._advance()
         while True:
             while self.sitting.question is not None:

@@ -16,8 +16,8 @@ from session import Session, said_by
 ALL_SAID = "Nothing is left that your words can say and your answers don't decide. "
 LOOK = "What your words can't say wasn't asked: so look at some plans now."
 NO_SOLVER = "What your words can't say wasn't asked. For plans to look at, install a SAT solver: cadical, minisat or clasp."
-LIFTED = ("It may also be that no answer was wrong: {words} {speak} of fewer things than are asked about together, and in plan {plan} a right no to a "
-          "part of a plan can then end so. In plan scopes it can't: `desk ask --plan scopes` in a new session.")
+LIFTED = ("It may also be that no answer was wrong: {words} {speak} of fewer things than are asked about together, and in plan {plan} "
+          "a right no to a part of a plan can then end so. In plan scopes it can't: `desk ask --plan scopes` in a new session.")
 MOST_CLASHES = 3            # that are drawn
 LAST = (("b", "back to the last answer"), ("s", "all answers"), ("q", "stop"))
 

@@ -22,6 +22,7 @@ from session import Session
 MOST_PLANS = 3
 MOST_TRIES = 4              # rules of one sentence of which a plan is looked for that breaks it alone
 JUDGE = (("y", "yes, right"), ("n", "no"), ("q", "enough"))
+BEFOREHAND = "It stands in a line `always` of the case. If it isn't so, take it out there; `desk carry` takes your other answers over."
 UNSAYABLE = (("o", "go on"), ("b", "look at the plan again"), ("q", "enough"))
 NONE = (("o", "none of these was wrong"), ("b", "look at the plan again"), ("q", "enough"))
 MISSING = ("Your words can't say what is wrong here. Add a word to the case that can, and `desk carry` takes your answers over, so that only what is "
@@ -89,7 +90,9 @@ class Review:
             place = choice.sure(self.face, key)
             if place is not None:
                 return key, place
-        if key == "o":
+        if key == "o" and shown.rule is not None and said_beforehand(self.session, shown.rule):
+            key = self.face.put(Sheet("You said this rule beforehand", (f"{shown.title}. " + BEFOREHAND,), keys=UNSAYABLE))
+        elif key == "o":
             self.unsayable.append(shown.title)
             key = self.face.put(Sheet("Your words can't say this", (MISSING,), keys=UNSAYABLE))
         return key, None
@@ -165,6 +168,11 @@ def behind(session: Session, shown: Shown) -> list[int]:
     scopes = [scope for scope in session.vocabulary.scopes if set(shown.rule.things) <= set(scope)]
     return [place for place, answer in enumerate(session.answers) if not answer.yes and may(session, place)
             and shown.rule.violated(answer.question.values) and tuple(sorted(answer.question.values)) in scopes]
+
+
+def said_beforehand(session: Session, rule: Rule) -> bool:
+    """Whether a rule is one of the case's own."""
+    return any((one.word.text, one.things) == (rule.word.text, rule.things) for one in session.case.always)
 
 
 def suspects_with(session: Session, values: Values, yes: bool) -> list[int]:

@@ -132,21 +132,24 @@ class Screen:
         for count in (1, 2):            # what is said of further pages takes room itself
             room = max(LEAST_BODY, rest - len(self._text(self._keys(sheet, 0, count))))
             cut: list[Lines] = [[]]
-            for unit in self._units(sheet.blocks, width, room):
-                if cut[-1] and len(cut[-1]) + len(unit) > room:
-                    cut.append([])
-                cut[-1] = cut[-1] + unit
+            for block in sheet.blocks:
+                for unit in self._units(block, width, room, len(cut[-1])):
+                    if cut[-1] and len(cut[-1]) + len(unit) > room:
+                        cut.append([])
+                    cut[-1] = cut[-1] + unit
             if len(cut) == 1:
                 break
         return cut
 
-    def _units(self, blocks: tuple[Block, ...], width: int, room: int) -> Iterator[Lines]:
-        """What isn't cut any further: pages of pictures, and single lines of text."""
-        for block in blocks:
-            if isinstance(block, Picture):
-                yield from pages(self.console, block, width, room)
-            else:
-                yield from ([line] for line in self._text(block))
+    def _units(self, block: Block, width: int, room: int, used: int) -> Iterator[Lines]:
+        """What isn't cut any further: single lines of text, and pages of a picture, which begins on a page of which so many lines
+        are used where it takes no more pages so."""
+        if not isinstance(block, Picture):
+            yield from ([line] for line in self._text(block))
+            return
+        anew = pages(self.console, block, width, room)
+        here = pages(self.console, block, width, room - used) if 0 < used <= room - LEAST_BODY else anew
+        yield from here if len(here) <= len(anew) else anew
 
     def _text(self, text: str, style: str = "") -> Lines:
         return self.console.render_lines(Text(text, style=style), self.console.options, pad=False)

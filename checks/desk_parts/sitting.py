@@ -300,6 +300,23 @@ def refused_plan(program: str) -> list[str]:
         return [] if learned(program, path) == [] and "No rule is needed" in " ".join(end) else [f"{end}, {learned(program, path)}"]
 
 
+def refused_beforehand(program: str) -> list[str]:
+    """A plan that is refused for a rule said beforehand: no answer is blamed, and it is said where the rule stands."""
+    with room("two", TWO + "always: different on all\n") as path:
+        it = Piped(path, program, "--plan", "scopes")
+        sat(it, lambda q: True)
+        it.say("g")
+        sheet = it.sheet() or []
+        while "The rules allow it." in sheet[0]:
+            it.say("y")
+            sheet = it.sheet() or []
+        it.say("n")
+        told = it.sheet() or []
+        it.say("q")
+        it.end()
+        return [] if told[0] == "You said this rule beforehand" and "`always`" in told[1] and it.ran.returncode == 0 else [f"{sheet}, {told}"]
+
+
 def odd_one(program: str) -> list[str]:
     """A slip in plan scopes ends in rules; the odd one out shows it, at any time, and going back to it mends them."""
     def all_days(q: hands.Named) -> bool:
@@ -353,4 +370,4 @@ def undecided(program: str) -> list[str]:
         return [] if status == 5 and any("Not settled" in line for line in it.lines) else [f"{status}, {it.lines[-5:]}, {it.errors}"]
 
 
-ROWS = (keys, always, minimal, allowed_plan, refused_plan, why_is_capped, clash, goes_on, clash_kept, odd_one, changed, undecided)
+ROWS = (keys, always, minimal, allowed_plan, refused_plan, refused_beforehand, why_is_capped, clash, goes_on, clash_kept, odd_one, changed, undecided)
