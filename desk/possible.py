@@ -183,21 +183,13 @@ class Possible:
     def suspects(self) -> list[int]:
         """The answers of which one alone, turned round, lets some network agree with all; the latest first.
 
-        A no that becomes a yes takes candidates away, so it has to be the only one that isn't explained. A yes that becomes a no
-        gives back on each scope the candidates that it alone had ruled out; these have to explain it and each unexplained one.
+        A no that isn't explained is accepted by each candidate that is left, so turned into a yes it takes none away: it is a
+        suspect where it is the only such one, and no other no is. A yes that becomes a no gives back on each scope the candidates
+        that it alone had ruled out; these have to explain it and each unexplained one.
         """
-        open_by, clash = self._open_by_yes(), self.clash()
+        clash = self.clash()
         found = self._guilty_yes(clash) if clash else []
-        if len(clash) == 1 and self._innocent_without(clash[0], open_by):
-            found.append(clash[0])
-        return sorted(found, reverse=True)
-
-    def _innocent_without(self, no: int, open_by: dict[tuple[int, ...], int]) -> bool:
-        """Whether all other refusals are explained where this one is a yes."""
-        turned = dict(open_by)
-        for scope, accepting in self._within(self.answers[no][0]):
-            turned[scope.things] &= accepting
-        return all(self._explained(values, turned) for k, (values, yes) in enumerate(self.answers) if not yes and k != no)
+        return sorted(found + (clash if len(clash) == 1 else []), reverse=True)
 
     def _guilty_yes(self, clash: list[int]) -> list[int]:
         """The accepted answers that may be turned round."""

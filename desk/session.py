@@ -194,9 +194,9 @@ class Session:
             raise Fault(f"the session of {self.case.path} has plan {self.plan}, which stays as long as it goes on")
         self.foreseen = Foreseen(self.case, old_answers(self.case, kept.get("before", [])))
         if kept.get("case") != self.case.text:
-            self._keep()
+            self.keep()
 
-    def _keep(self) -> None:
+    def keep(self) -> None:
         """Puts down what desk keeps."""
         write_kept(self.journal, self.case, self.foreseen.before)
 
@@ -230,15 +230,10 @@ class Session:
         self.possible.back()
         return self.answers.pop()
 
-    def remember(self, some: Sequence[Answer]) -> None:
-        """Keeps answers that are about to be taken back, so that they are given again where they decide."""
-        self.foreseen.remember([old(one.question.values, one.yes, AGAIN) for one in some])
-        self._keep()
-
     def contradicted(self, values: Values, yes: bool) -> None:
         """Drops the old answers that a new one contradicts."""
         if self.foreseen.forget(values, yes):
-            self._keep()
+            self.keep()
 
     def learned(self) -> list[Constraint]:
         """The constraints that are learned so far, as the program shows them."""
@@ -346,8 +341,11 @@ class Sitting:
         """
         session = self.session
         chosen = session.answers[place]
+        session.foreseen.remember([old(answer.question.values, answer.yes, AGAIN) for answer in session.answers[place + 1:]
+                                   if answer.said is None or answer.said.by == AGAIN])
+        # neither an old answer nor a later one is to decide the question that the person wants to see again
         session.foreseen.forget(chosen.question.values, not chosen.yes)
-        session.remember([answer for answer in session.answers[place + 1:] if answer.said is None or answer.said.by == AGAIN])
+        session.keep()
         self._take_back(len(session.answers) - place)
 
     def _take_back(self, count: int) -> None:

@@ -20,7 +20,7 @@ from session import Session
 from talk import Program
 from vocabulary import Vocabulary
 
-SESSIONS = 60
+SESSIONS = 40
 PLANTED = [
     ("foreseen.py", "return Said(False, ALWAYS, rule.text)", "return Said(True, ALWAYS, rule.text)"),
     ("foreseen.py", "if one.yes and asked <= one.items", "if one.yes and one.items <= asked"),
@@ -125,7 +125,23 @@ def carried(program: Program, folder: str, seed: int, words: Vocabulary, text: s
     with Session.opened(casefile.read(new), program) as session:
         faults = [f"carried {answer}" for answer in session.answers if answer.yes != truth(answer.question.values)]
         found, given = sat(session, truth)
-        return faults + found, given
+    return faults + found + put_again(program, new), given
+
+
+def put_again(program: Program, path: str) -> list[str]:
+    """Who goes back to an answer that was carried over is asked, also on another day: it isn't given again."""
+    with Session.opened(casefile.read(path), program) as session:
+        places = [place for place, answer in enumerate(session.answers) if answer.said is not None and answer.said.by == "carried"]
+        if not places:
+            return []
+        wanted = session.answers[places[-1]].question
+        with session.sit() as sitting:
+            sitting.advance()
+            sitting.back_to(places[-1])
+            sitting.stop()
+    with Session.opened(casefile.read(path), program) as session, session.sit() as sitting:
+        sitting.advance()
+        return [] if sitting.question == wanted else [f"after going back to {wanted} on another day {sitting.question} is put"]
 
 
 def again(program: Program, folder: str, seed: int, words: Vocabulary, text: str) -> tuple[list[str], int]:

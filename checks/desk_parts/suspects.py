@@ -15,7 +15,7 @@ SESSIONS = 250
 MOST_NETWORKS = 3000
 LISTS = 6           # of any answers, for each case
 PLANTED = [
-    ("possible.py", "if len(clash) == 1 and self._innocent_without(clash[0], open_by):", "if len(clash) == 1:"),
+    ("possible.py", "clash if len(clash) == 1 else []", "clash"),
     ("possible.py", "again[scope.things] |= once[scope.things] & gone", "again[scope.things] |= 0 & gone"),
 ]
 Net = dict[tuple[int, ...], int]
