@@ -11,6 +11,7 @@ import subprocess
 from collections.abc import Iterable
 
 import hands        # desk's folder is on the path now
+import solver
 from hands import Owner, Piped, is_question, plain_values, room
 
 ALWAYS = hands.WARD + "always: different on same day\n"
@@ -45,13 +46,15 @@ def looked(program: str, rows: Iterable[object]) -> list[str]:
     faults = []
     count = 0
     for row in rows:
+        if row in WITH_SOLVER and solver.name() is None:
+            continue
         count += 1
         name = getattr(row, "__name__", "")
         try:
             faults += [f"sitting: {name}: {fault}" for fault in row(program)]     # type: ignore[operator]
         except Exception as error:      # a row that breaks is a fault of what it looks at
             faults.append(f"sitting: {name}: {error!r}")
-    print(f"sitting: {count} rows over pipes")
+    print(f"sitting: {count} rows over pipes" + ("" if solver.name() else "; no plan is judged, since no solver is installed"))
     return faults
 
 
@@ -370,4 +373,5 @@ def undecided(program: str) -> list[str]:
         return [] if status == 5 and any("Not settled" in line for line in it.lines) else [f"{status}, {it.lines[-5:]}, {it.errors}"]
 
 
+WITH_SOLVER = (allowed_plan, refused_plan, refused_beforehand)
 ROWS = (keys, always, minimal, allowed_plan, refused_plan, refused_beforehand, why_is_capped, clash, goes_on, clash_kept, odd_one, changed, undecided)

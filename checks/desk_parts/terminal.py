@@ -46,20 +46,22 @@ def run(program: str) -> list[str]:
         faults += at_sizes(program)
     else:
         print("terminal: tmux isn't installed, so no screen was looked at")
-    for row in ROWS:
+    rows = [row for row in ROWS if row not in IN_TMUX or shutil.which("tmux")]
+    for row in rows:
         try:
             faults += [f"terminal: {row.__name__}: {fault}" for fault in row(program)]
         except Exception as error:     # a row that breaks is a fault of what it looks at
             faults.append(f"terminal: {row.__name__}: {error!r}")
     faults += [f"terminal: {fault}" for fault in on_disks(program)]
-    print(f"terminal: {len(SESSIONS)} sessions at {len(SIZES)} sizes, {len(ROWS)} rows of keys, kills and pipes")
+    print(f"terminal: {len(SESSIONS)} sessions at {len(SIZES)} sizes, {len(rows)} rows of keys, kills and pipes")
     return faults
 
 
 def quick(program: str) -> list[str]:
     """The same in little: one session at one size, and a few rows."""
     faults = [f"terminal: {fault}" for fault in one_session(program, "team", "multi", 12, (40, 12))] if shutil.which("tmux") else []
-    return faults + [f"terminal: {row.__name__}: {fault}" for row in (guard, interrupted_once, uncoloured, all_of_it) for fault in row(program)]
+    rows = (guard, interrupted_once, uncoloured, *((all_of_it,) if shutil.which("tmux") else ()))
+    return faults + [f"terminal: {row.__name__}: {fault}" for row in rows for fault in row(program)]
 
 
 # ---------------------------------------------------------------- what stands on the screen
@@ -482,6 +484,7 @@ def suspended(program: str) -> list[str]:
 
 ROWS = (guard, guard_at_terminal, all_of_it, resized, interrupted, desk_killed, acquire_killed, dumb, uncoloured, piped, broken_output, wrong_keys,
         plain_at_terminal, two_desks, suspended)
+IN_TMUX = (all_of_it, resized)
 
 
 # ---------------------------------------------------------------- disks of its own
