@@ -1,0 +1,121 @@
+"""Cases with a fault: each is told with file, line and the nearest right form. And cases that are right in all their parts."""
+
+from __future__ import annotations
+
+import os
+import tempfile
+
+import casefile
+import names
+from model import Fault
+from vocabulary import Vocabulary
+
+WARD = "things: day Mon .. Sun x shift early late night\nvalues: Ann Ben Cas Dee Eve\n"
+ASK = "ask: same day\nwords: different\n"
+LIST = "things: maths english sport\nvalues: 1 .. 5\n"
+PLANTED = [
+    ("casefile.py", "self.line_number = number\n", "self.line_number = number - 1\n"),
+    ("names.py", 'return f"; the nearest is `{found[0]}`" if found else ""', 'return ""'),
+]
+
+# a text, and what is said of it behind the file's name
+FAULTS = [
+    ("thigns: a b\n", ":1: no such key: thigns; the nearest is `things`"),
+    ("title: x\nthings a b\n", ":2: a line is `key: text`; the nearest is `things`"),
+    ("only: a\n", ":1: no such key: only; the nearest is `only NAME`"),
+    ("title: x\n", ": there are no things: a line such as `things: maths english sport` is missing"),
+    ("title: x\ntitle: y\nthings: a b\nvalues: 1 2\nask: all\nwords: same\n", ":2: `title` stands twice; the first is in line 1"),
+    ("things: a b\nask: all\nwords: same\n", ": `a` has no values: a line such as `values: Ann Ben Cas` is missing"),
+    ("things: a b a\nvalues: 1 2\n", ":1: the thing `a` stands twice"),
+    ("things: a b\nvalues: 1 2 1\n", ":2: the value `1` stands twice"),
+    ("things: a b\nvalues: 1 .. 65\n", ":2: there are 65 values, and the program takes 64: leave some out, or split the case"),
+    ("things: 1 .. 129\nvalues: a b\n", ":2: there are 129 things; the program takes 128"),
+    ("things: day Mon Tue x shift\nvalues: a\n", ":1: a side of a grid is its name and its members, as `day Mon Tue`; `shift` has no members"),
+    ("things: day Mon .. Foo x shift a b\nvalues: c\n", ":1: `Mon .. Foo` can't be filled in: write the names out, or count days, months, numbers or letters upwards"),
+    ("things: a=b c\nvalues: d e\n", ":1: `a=b`: a name has no `=` in it"),
+    (WARD + "only Mno early: Ann\n" + ASK, ":3: no such thing: Mno early; the nearest is `Mon early`"),
+    (WARD + "only Mon early: Anne\n" + ASK, ":3: no such value: Anne; the nearest is `Ann`"),
+    (WARD + "only Mon: Ann\nonly Mon early: Ben\n" + ASK, ":4: `Mon early` would have no value left"),
+    (WARD + "ask: sam day\nwords: different\n", ":3: `sam day` isn't a way to put things together; the nearest is `same day`"),
+    (WARD + "ask: nigth to next day early\nwords: different\n", ":3: `nigth to next day early` isn't a way to put things together; the nearest is `night to next day early`"),
+    (WARD + "ask: Mon early - Tue erly\nwords: different\n", ":3: no such thing: Tue erly; the nearest is `Tue early`"),
+    (WARD + "ask: same day\n", ": there are no words: a line such as `words: different, before` is missing; `desk words` lists all"),
+    (WARD + "words: different\n", ": nothing is asked about: a line such as `ask: all` is missing"),
+    (WARD + "ask: same day\nwords: diferent\n", ":4: the word `diferent` isn't in the catalogue; the nearest is `different`"),
+    (WARD + "ask: same day\nwords: different, never An\n", ":4: the word `never An` isn't in the catalogue; the nearest is `never Ann`"),
+    ("things: a b\nvalues: day Mon Tue x hour 1 2\nask: all\nwords: at least 2 apart\n",
+     ":4: the word `at least 2 apart` isn't in the catalogue; in a grid it is counted in a part: `at least 2 day apart`"),
+    ("thing a: x y\nthing b: z\nwords: a=x not with b=zz\n", ":3: b has no value zz; the nearest is `z`"),
+    ("thing a: x y\nthing b: z\nwords: a=x not with c=z\n", ":3: no such thing: c; there are a, b"),
+    (LIST + "ask: all\nwords: same, all three different\n", ": `all three different` speaks of 3 things, and `ask` puts no more than 2 together"),
+    (LIST + "ask: all triples\nwords: four in order\n", ": `all triples` puts 3 things together, and no word speaks of so many; one that does is `all three different`"),
+    (LIST + "ask: all\nwords: different\nplan: scops\n", ":5: no such plan: scops; there are scopes, quacq, multi"),
+    (LIST + "ask: maths - english\nwords: different\nalways: different on maths - sport\n",
+     ": always: \"maths and sport differ\" can't be learned: `ask` doesn't put maths - sport together; add `maths - sport` to `ask`"),
+    (LIST + "ask: all\nwords: different\nalways: same on maths - sport\n",
+     ": always: \"maths and sport are the same\" can't be learned: `same` isn't among the words; add it to `words`"),
+    (LIST + "ask: all\nwords: before\nalways: before on sport - maths\n",
+     ": always: \"sport is before maths\" can't be learned: words read things in the order of the case: maths - sport; add the word that says it so"),
+    (LIST + "ask: all\nwords: different\nalways: different\n",
+     ":5: of which things? Write `different on same day`, `different on all`, or name them, as `different on maths - english`"),
+    (WARD + "ask: same day\nwords: different, never Ann, never Ben, never Cas, never Dee\n",
+     ": the words combine to 511 rules on groups of 2, and the program takes 64; without `never Dee` and `never Cas` they are 31"),
+    ("things: a b c\nvalues: 1 .. 41\nask: all triples\nwords: all three different\n", ": groups of 3 things take 40 values at most, and there are 41"),
+]
+
+
+def told(text: str) -> str:
+    """What is said of a text, behind the file's name; empty where it is taken."""
+    try:
+        Vocabulary(casefile.parse(text, "it.case"))
+    except Fault as fault:
+        return str(fault).removeprefix("it.case")
+    return ""
+
+
+FILLED = {"Mon .. Wed": ["Mon", "Tue", "Wed"], "8..11": ["8", "9", "10", "11"], "Y1 .. Y3": ["Y1", "Y2", "Y3"], "08 .. 10": ["08", "09", "10"],
+          "A .. C x": ["A", "B", "C", "x"], "Nov .. Dec": ["Nov", "Dec"], "ganz spät, B 1 .. B 2": ["ganz spät", "B 1", "B 2"]}
+
+
+def right() -> list[str]:
+    """A case that uses what a case can say."""
+    text = ("\ufefftitle: Küche & <b>&\"  # a comment\r\n\n# another\nthings: Bär, \"Frau Müller\", Ωmega, b&r\n"
+            "values: früh, ganz spät, frei\nonly Bär: früh .. frei\nonly Ωmega: frei früh\n"
+            "ask: Bär - Frau Müller - Ωmega, each, b&r - Bär\nwords: different, no früh after ganz spät, never frei\nalways: never frei on b&r\nplan: scopes\n")
+    with tempfile.TemporaryDirectory() as folder:
+        path = os.path.join(folder, "kitchen.case")
+        with open(path, "w", encoding="utf-8", newline="") as file:
+            file.write(text)
+        case = casefile.read(path)
+    words = Vocabulary(case)
+    faults = []
+    if case.title != "Küche & <b>&\"" or [thing.name for thing in case.things] != ["Bär", "Frau Müller", "Ωmega", "b&r"]:
+        faults.append(f"the names are {case.title}, {case.things}")
+    if words.names != ("Baer", "Frau_Mueller", "mega", "b-r"):
+        faults.append(f"the program's names are {words.names}")
+    if words.scopes != ((0, 1, 2), (0, 3)) or case.things[2].allowed != (0, 2):
+        faults.append(f"the scopes are {words.scopes}, and Ωmega takes {case.things[2].allowed}")
+    for values in ({0: 1, 1: 0, 3: 2}, {2: 0}, {0: 0, 1: 1, 2: 2, 3: 0}):
+        if words.values_of(words.tokens_of(values)) != values:
+            faults.append(f"{values} come back as {words.values_of(words.tokens_of(values))}")
+    return faults
+
+
+def run(program: str) -> list[str]:
+    """Faults in what is told."""
+    faults = right() + [f"`{text}` is {names.listed(text)}" for text, wanted in FILLED.items() if names.listed(text) != wanted]
+    for text, wanted in FAULTS:
+        if told(text) != wanted:
+            faults.append(f"of {text!r} it says {told(text)!r}, and not {wanted!r}")
+    with tempfile.TemporaryDirectory() as folder:
+        path = os.path.join(folder, "latin.case")
+        with open(path, "wb") as file:
+            file.write(b"title: x\nthings: B\xe4r\n")
+        try:
+            casefile.read(path)
+            faults.append("a text that isn't UTF-8 is taken")
+        except Fault as fault:
+            if "latin.case:2: this isn't UTF-8" not in str(fault):
+                faults.append(str(fault))
+    print(f"faults: {len(FAULTS) + 1} cases with a fault, each with its line and the nearest right form")
+    return faults

@@ -1,0 +1,197 @@
+"""Plans from a SAT solver beside plain trial of all values, with each solver that is installed, and with one that lies.
+
+Of small sessions all plans are listed by trial. A plan that desk shows has to be one of them, and as far from those before as
+any is. A plan that breaks one rule alone has to do so, and where desk finds none there is none.
+"""
+
+from __future__ import annotations
+
+import itertools
+import os
+import random
+import shutil
+import stat
+import tempfile
+
+import hands        # desk's folder is on the path now
+import casefile
+import model
+import review
+import sentences
+import session
+import solver
+import talk
+
+SESSIONS = 5
+SMALL = """title: Small
+things: day Mon Tue x shift early late night
+values: Ann Ben Cas
+ask: same day, night to next day early
+words: different, never Ann, one of them Cas
+"""
+TRIO = """title: Trio
+things: a b c d
+values: x y z
+ask: a-b-c, b-c-d
+words: all three different, not all three the same, at most one of three x
+"""
+
+PLANTED = [
+    # what a solver prints is shown unchecked
+    ("solver.py", "    if reply.status != 0 or not reply.lines or not reply.lines[0].startswith(\"solution\"):\n        return None\n"
+     "    return vocabulary.values_of(reply.lines[0].split()[1:])", "    return clauses.values(true)"),
+    # a plan that breaks one rule may break another
+    ("solver.py", "    for other in others:\n        extra +=", "    for other in others[1:]:\n        extra +="),
+]
+
+
+def run(program: str) -> list[str]:
+    """The faults that were found."""
+    faults: list[str] = []
+    installed = [name for name in solver.SOLVERS if shutil.which(name)]
+    counts = [0, 0]
+    for turn in range(SESSIONS):
+        for name in installed:
+            faults += [f"plans: {name}, session {turn}: {fault}" for fault in one_session(program, turn, name, counts)]
+    faults += [f"plans: {fault}" for fault in without(program)]
+    if installed:
+        faults += [f"plans: a solver that lies: {fault}" for fault in lying(program)]
+    missing = [name for name in solver.SOLVERS if name not in installed]
+    print(f"plans: {counts[0]} plans and {counts[1]} broken rules by {', '.join(installed) or 'no solver'}"
+          + (f"; not installed: {', '.join(missing)}" if missing else ""))
+    return faults
+
+
+def one_session(program: str, turn: int, name: str, counts: list[int]) -> list[str]:
+    """The plans of one session."""
+    draw = random.Random(turn)
+    text = (SMALL, TRIO)[turn % 2]
+    real, solver.name = solver.name, lambda: name
+    try:
+        with hands.room("small", text) as path:
+            case = casefile.read(path)
+            rules = drawn_rules(draw, case)
+            hands.answered(path, program, lambda q: not any(broken(rule, q) for rule in rules))
+            with session.Session.opened(case, talk.Program(program)) as one:
+                ending = one.state()
+                if ending.word != "converged":
+                    return [f"ends {ending.word}"]
+                every = all_plans(one, ending.learned)
+                return far(one, every, counts) + alone(one, ending, every, counts)
+    finally:
+        solver.name = real
+
+
+def drawn_rules(draw: random.Random, case: model.Case) -> list[tuple[model.Word, tuple[str, ...]]]:
+    """Some rules that the case can say, by names."""
+    found = []
+    for group in case.groups:
+        word = draw.choice(case.words)
+        if draw.random() < 0.7 and word.arity <= len(group.things):
+            found.append((word, tuple(case.things[thing].name for thing in group.things[:word.arity])))
+    return found
+
+
+def broken(rule: tuple[model.Word, tuple[str, ...]], q: hands.Named) -> bool:
+    """Whether named values break a rule."""
+    word, things = rule
+    names = ["Ann", "Ben", "Cas"] if "Mon early" in "".join(things) or things[0][:3] in ("Mon", "Tue") else ["x", "y", "z"]
+    return all(thing in q for thing in things) and not word.holds(*(names.index(q[thing]) for thing in things))
+
+
+def all_plans(one: session.Session, learned: tuple[model.Constraint, ...]) -> list[model.Values]:
+    """All plans that constraints allow, by trial."""
+    things = one.case.things
+    plans = (dict(enumerate(some)) for some in itertools.product(*(thing.allowed for thing in things)))
+    return [plan for plan in plans if all(one.vocabulary.accepts(constraint, plan) for constraint in learned)]
+
+
+def distance(a: model.Values, b: model.Values) -> int:
+    """In how many values two plans differ."""
+    return sum(a[thing] != b[thing] for thing in a)
+
+
+def far(one: session.Session, every: list[model.Values], counts: list[int]) -> list[str]:
+    """Each plan is one of all, and as far from those before as can be."""
+    found, before = [], []
+    for place, plan in enumerate(solver.far(one.program, one.vocabulary, one.journal, 5)):
+        counts[0] += 1
+        if plan.values not in every:
+            found.append(f"plan {place} isn't allowed: {plan.values}")
+        best = max((min(distance(other, it) for it in before) for other in every), default=0) if before else None
+        got = min(distance(plan.values, it) for it in before) if before else None
+        if plan.apart != best or got != best:
+            found.append(f"plan {place} is said to be {plan.apart} apart, is {got}, and {best} can be had")
+        before.append(plan.values)
+    if len(before) < min(5, len(every)):
+        found.append(f"{len(before)} plans of {len(every)}")
+    return found
+
+
+def alone(one: session.Session, ending: model.Ending, every: list[model.Values], counts: list[int]) -> list[str]:
+    """A plan for each rule that can be broken alone, and none else."""
+    said = sentences.grouped(one.vocabulary, ending.learned, one.reduced())
+    rules = [rule for sentence in said for rule in sentence.rules]
+    plans = [dict(enumerate(some)) for some in itertools.product(*(thing.allowed for thing in one.case.things))]
+    found = []
+    for rule in rules:
+        counts[1] += 1
+        others = [other for other in rules if other is not rule]
+        can = any(rule.violated(plan) and not any(other.violated(plan) for other in others) for plan in plans)
+        got = solver.breaking(one.program, one.vocabulary, one.journal, rule, others)
+        if (got is not None) != can:
+            found.append(f"{rule.text}: {got}, and that there is one is {can}")
+        if got is not None and (not rule.violated(got) or any(other.violated(got) for other in others) or got in every):
+            found.append(f"{rule.text}: {got} doesn't break it alone")
+    for sentence in said:
+        shown = review.broken_alone(one, sentence, said)
+        can = any(rule.violated(plan) and not any(other.violated(plan) for other in rules if other is not rule)
+                  for rule in sentence.rules[:4] for plan in plans)
+        if sentence.follows != "all" and (shown is not None) != can:
+            found.append(f"{sentence.text}: shows {shown}, and that there is one is {can}")
+        if shown is not None and set(shown.marks) != set(shown.rule.things):
+            found.append(f"{sentence.text}: marks {shown.marks}")
+    return found
+
+
+def without(program: str) -> list[str]:
+    """Without a solver there are no plans, and nothing breaks."""
+    with hands.room("small", SMALL) as path:
+        hands.answered(path, program, lambda q: len(set(q.values())) == len(q))
+        real, solver.name = solver.name, lambda: None
+        try:
+            with session.Session.opened(casefile.read(path), talk.Program(program)) as one:
+                return [] if solver.far(one.program, one.vocabulary, one.journal, 3) == [] else ["there are plans without a solver"]
+        finally:
+            solver.name = real
+
+
+def constant(program: str, path: str) -> str:
+    """What a solver says that always finds one and the same plan."""
+    with session.Session.opened(casefile.read(path), talk.Program(program)) as one:
+        clauses = solver.clauses_of(one.program, one.vocabulary, one.journal)
+        assert clauses is not None
+        return "s SATISFIABLE\nv " + " ".join(map(str, clauses.literals(all_plans(one, one.state().learned)[0]))) + " 0\n"
+
+
+def lying(program: str) -> list[str]:
+    """Whatever a solver prints, no plan is shown that the rules don't allow."""
+    found = []
+    before = os.environ["PATH"]
+    with tempfile.TemporaryDirectory() as folder, hands.room("small", SMALL) as path:
+        hands.answered(path, program, lambda q: len(set(q.values())) == len(q))
+        fake = os.path.join(folder, "cadical")
+        os.environ["PATH"] = folder + os.pathsep + before
+        try:
+            for says in (constant(program, path), "s SATISFIABLE\nv 1 4 7 10 13 16 0\n", "s SATISFIABLE\nv 1 2 3 0\n", "s SATISFIABLE\nv 0\n",
+                         "v x\n", "", "v 99999 0\n", "v -1 -2 0\n"):
+                with open(fake, "w", encoding="utf-8") as file:
+                    file.write(f"#!/bin/sh\nprintf '{says}'\nexit 10\n")
+                os.chmod(fake, os.stat(fake).st_mode | stat.S_IXUSR)
+                with session.Session.opened(casefile.read(path), talk.Program(program)) as one:
+                    plans = solver.far(one.program, one.vocabulary, one.journal, 2)
+                    every = all_plans(one, one.state().learned)
+                    found += [f"{says!r} gives {plan.values}" for plan in plans if plan.values not in every]
+        finally:
+            os.environ["PATH"] = before
+    return found

@@ -1,0 +1,234 @@
+"""How questions look, without a terminal: random cases at random sizes, pages, marks, keys and what they do.
+
+A picture is drawn at every width from 40 columns on, and each of its cells has to stand there, whatever it takes: a table, the
+table turned, a list in columns, further pages.
+"""
+
+from __future__ import annotations
+
+import io
+import random
+import re
+
+import hands        # desk's folder is on the path now
+import casefile
+import face
+import model
+import picture
+import plain
+import screen
+from rich.cells import cell_len
+from rich.console import Console
+
+DRAWN = 40
+NAMES = ("Ann", "Bär", "Çelik", "Łukasz Nowak", "李小龍", "Ōno", "a-very-long-name-for-one-cell-of-a-table", "[bold]x[/bold]", "&lt;", "Zoë",
+         "x", "🚲")
+
+PLANTED = [
+    # a cell is dropped where a list stands in
+    ("picture.py", "in_columns(entries[at:at + a_page], columns, wide) for at", "in_columns(entries[at:at + a_page - 1], columns, wide) for at"),
+    # a table that is too wide isn't turned or listed, but cut off
+    ("picture.py", "first + sum(widths) + 3 * len(widths) + 4", "first + sum(widths)"),
+    # what has stayed is marked, and what has changed isn't
+    ("ask.py", "if before.values.get(thing) != value}", "if before.values.get(thing) == value}"),
+]
+
+
+def run(program: str) -> list[str]:
+    """The faults that were found."""
+    faults: list[str] = []
+    draw = random.Random(11)
+    looked = 0
+    for turn in range(DRAWN):
+        case = drawn_case(draw)
+        values = drawn_values(draw, case)
+        marks = {thing.place: draw.choice((picture.CHANGED, picture.CLASH, picture.LEFT_OUT)) for thing in case.things if draw.random() < 0.3}
+        marks = {thing: mark for thing, mark in marks.items() if (thing in values) != (mark == picture.LEFT_OUT)}
+        it = picture.Picture(case, values, marks)
+        for width in (40, 41, 47, 60, 80, 132, 200):
+            for height in (3, 6, 12, 40, None):
+                looked += 1
+                faults += [f"screens: case {turn} at {width}x{height}: {fault}" for fault in lost(it, width, height)]
+    for row in (whole_screens, changes, notes, lines_of_plan, markup_is_text):
+        faults += [f"screens: {row.__name__}: {fault}" for fault in row()]
+    print(f"screens: {looked} pictures of {DRAWN} drawn cases")
+    return faults[:20]
+
+
+def drawn_case(draw: random.Random) -> model.Case:
+    """A case with a list or a grid of things or values."""
+    kind = draw.choice(("list", "things", "values", "both", "cube"))
+    def part(count: int, what: str) -> model.Part:
+        some = draw.sample(NAMES, min(count, len(NAMES)))
+        return model.Part(what, tuple(some))
+    def product(parts: tuple[model.Part, ...]) -> list[tuple[str, tuple[int, ...]]]:
+        found: list[tuple[str, tuple[int, ...]]] = [("", ())]
+        for one in parts:
+            found = [(f"{name} {member}".strip(), (*at, place)) for name, at in found for place, member in enumerate(one.members)]
+        return found
+    thing_parts = {"things": (part(7, "day"), part(3, "shift")), "both": (part(4, "day"), part(2, "shift")),
+                   "cube": (part(4, "day"), part(3, "shift"), part(2, "ward"))}.get(kind, ())
+    value_parts = (part(5, "day"), part(4, "hour")) if kind in ("values", "both") else ()
+    values = tuple(name for name, _ in product(value_parts)) if value_parts else tuple(draw.sample(NAMES, draw.randint(2, 6)))
+    every = tuple(range(len(values)))
+    listed = [(f"{name} {k}", ()) for k in range(draw.randint(1, 3)) for name in draw.sample(NAMES, draw.randint(1, 9))]
+    named = product(thing_parts) if thing_parts else listed
+    things = tuple(model.Thing(place, name, at, every) for place, (name, at) in enumerate(dict(named).items()))
+    return model.Case("drawn", "", "Drawn", things, thing_parts, values, value_parts, (), (), (), None)
+
+
+def drawn_values(draw: random.Random, case: model.Case) -> model.Values:
+    """Values of some things or of all."""
+    share = draw.choice((0.1, 0.5, 1.0))
+    some = [thing.place for thing in case.things if draw.random() < share] or [0]
+    return {thing: draw.randrange(len(case.values)) for thing in some}
+
+
+def console(width: int, height: int = 24) -> Console:
+    """A console that writes to nowhere."""
+    return Console(width=width, height=height, file=io.StringIO(), force_terminal=True, color_system=None, legacy_windows=False)
+
+
+def text_of(page: picture.Lines) -> list[str]:
+    """The lines of a page without colours."""
+    return ["".join(part.text for part in line) for line in page]
+
+
+def lost(it: picture.Picture, width: int, height: int | None) -> list[str]:
+    """What is wrong with a picture at this size: a line too wide, a page too high, a cell that isn't there."""
+    pages = [text_of(page) for page in picture.pages(console(width), it, width, height)]
+    found = [f"a line is wider: {line!r}" for page in pages for line in page if cell_len(line) > width]
+    if height is not None and any(len(page) > height for page in pages):
+        found.append(f"a page has {max(map(len, pages))} lines")
+    whole = "\n".join(line for page in pages for line in page)
+    flat = re.sub(r"\s+", "", whole)
+    letter = {picture.CHANGED: "*", picture.CLASH: "!"}
+    grid = picture.shape(it.case) == "values" and "─" in whole
+    for thing, value in it.values.items():
+        mark = letter.get(it.marks.get(thing, ""), "")
+        name, label = it.case.things[thing].name, it.case.values[value]
+        wanted = name + mark if grid else label + mark
+        if re.sub(r"\s+", "", wanted) not in flat:
+            found.append(f"{name} {label} isn't there")
+        elif "─" in whole and not cell_at(whole, it, thing, wanted, grid):
+            found.append(f"{wanted} doesn't stand at {label if grid else name}")
+    if "─" not in whole:
+        said = [f"{it.case.things[t].name}{it.case.values[v]}{letter.get(it.marks.get(t, ''), '')}" for t, v in sorted(it.values.items())]
+        entries = re.sub(r"\s+", "", "".join(said))
+        if len(flat) != len(entries) or sorted(flat) != sorted(entries):
+            found.append("the list isn't exactly its entries")
+    return found
+
+
+def cell_at(whole: str, it: picture.Picture, thing: int, wanted: str, grid: bool) -> bool:
+    """Whether a cell of the table stands below and beside the right heads."""
+    rows = [[cell.strip() for cell in line.strip().strip("│").split("│")] for line in whole.split("\n") if "│" in line]
+    place = it.case.values[it.values[thing]] if grid else it.case.things[thing].name
+    row = ""
+    for cells in rows[1:]:
+        row = cells[0] or row
+        for head, cell in zip(rows[0][1:], cells[1:]):
+            if cell == wanted and place in (f"{head} {row}", f"{row} {head}"):
+                return True
+    return False
+
+
+def whole_screens() -> list[str]:
+    """A whole screen has exactly its lines at each size, and its pages together hold all that it shows."""
+    found = []
+    case = casefile.parse(hands.WARD, "ward.case")
+    values = {thing.place: thing.place % 5 for thing in case.things}
+    blocks = ("Some words before the picture, which may take a line or two.", picture.Picture(case, values))
+    sheet = face.Sheet("Ward: question 3", blocks, "a legend", ("Judge it.",), ("settled 3 of 9",), (("y", "yes"), ("n", "no"), ("q", "stop")))
+    for width, height in ((200, 50), (80, 24), (60, 20), (40, 12), (40, 10)):
+        it = screen.Screen.__new__(screen.Screen)
+        it.console = console(width, height)
+        pages = it._pages(sheet, it._frame(sheet, ""))
+        text = "\n".join("\n".join(text_of(page)) for page in pages)
+        for page in range(len(pages)):
+            it.console.file = io.StringIO()
+            it._draw(sheet, page, "")
+            drawn = it.console.file.getvalue().removeprefix("\x1b[H").split("\n")
+            if len(drawn) != height or any(cell_len(re.sub(r"\x1b\[[0-9;?]*[A-Za-z]", "", line)) != width for line in drawn):
+                found.append(f"{width}x{height}: {len(drawn)} lines")
+            if "y yes" not in drawn[-1]:
+                found.append(f"{width}x{height}: page {page} doesn't end with the keys")
+            if "Judge it." not in "".join(drawn) or "settled 3 of 9" not in "".join(drawn):
+                found.append(f"{width}x{height}: page {page} doesn't say what is asked")
+        missing = [name for name in ("Mon early", "Sun night") if name not in text and not all(part in text for part in name.split())]
+        if missing or sum(text.count(value) for value in case.values) != len(values):
+            found.append(f"{width}x{height}: {missing}, {sum(text.count(value) for value in case.values)} values")
+    return found
+
+
+def changes() -> list[str]:
+    """The marks are what differs from the last question, and nothing else."""
+    import ask
+    found = []
+    for last, now, wanted in (
+            (None, {0: 1}, {}),
+            ({0: 1, 1: 1}, {0: 1, 1: 2}, {1: picture.CHANGED}),
+            ({0: 1, 1: 1, 2: 1}, {0: 1, 1: 1}, {2: picture.LEFT_OUT}),
+            ({0: 1}, {0: 1, 3: 2}, {3: picture.CHANGED}),
+            ({0: 1, 1: 1}, {2: 1, 3: 1}, {}),
+            ({0: 1, 1: 1}, {0: 1, 1: 1}, {})):
+        got = ask.marks(now, None if last is None else model.Question(1, last))
+        if got != wanted:
+            found.append(f"from {last} to {now}: {got}")
+    return found
+
+
+def notes() -> list[str]:
+    """A part of a plan has the note that only what is filled in counts; a whole one hasn't, and changes are explained."""
+    import ask
+    case = casefile.parse(hands.WARD, "ward.case")
+    class Still:
+        """A session that is asked how far it is."""
+        settled, total, most = 120, 231, 114
+    class Quiet:
+        """What a sheet is made of."""
+        possible = Still()
+    Quiet.case = case       # type: ignore[attr-defined]
+    it = ask.Asking(Quiet(), None, None)    # type: ignore[arg-type]
+    it.before = model.Question(1, {0: 0, 1: 0})
+    part = it.sheet(model.Question(2, {0: 0, 1: 1}))
+    whole = it.sheet(model.Question(3, {thing.place: 0 for thing in case.things}))
+    found = []
+    if part.under[-1] != "Judge what is filled in, don't think of the rest." or "*" not in part.legend:
+        found.append(f"a part: {part}")
+    if "don't think of the rest" in " ".join(whole.under):
+        found.append("a whole plan has the note for a part")
+    if part.foot != ("settled 120 of 231; at most 114 more questions",) or part.whole != frozenset("y"):
+        found.append(f"how far: {part.foot}")
+    said = io.StringIO()
+    plain.Lines(io.StringIO("y\n"), said).put(part)
+    if "Mon early: Ann\nMon late: Ben (changed)\n" not in said.getvalue():
+        found.append(f"plain lines: {said.getvalue()}")
+    lines = plain.picture_lines(picture.Picture(case, {thing.place: thing.place % 5 for thing in case.things}, {1: picture.CLASH}))
+    said.truncate(0)
+    plain.Lines(io.StringIO("q\n"), said).put(whole)
+    if lines != [f"{thing.name}: {case.values[thing.place % 5]}" + " (this breaks it)" * (thing.place == 1) for thing in case.things]:
+        found.append(f"plain lines of a picture: {lines}")
+    if said.getvalue().count(": Ann") != len(case.things):
+        found.append(f"plain lines of a whole plan: {said.getvalue()}")
+    return found
+
+
+def lines_of_plan() -> list[str]:
+    """A plan in plain text: no escape, no line too wide, all values."""
+    case = casefile.parse(hands.SCHOOL, "school.case")
+    values = {thing.place: thing.place * 2 for thing in case.things}
+    found = []
+    for width in (30, 40, 80):
+        lines = screen.plan_lines(case, values, width)
+        shown = all(any(thing.name in line for line in lines) for thing in case.things)
+        if not shown or any("\x1b" in line or cell_len(line) > width for line in lines):
+            found.append(f"at {width}: {lines}")
+    return found
+
+
+def markup_is_text() -> list[str]:
+    """Names that look like rich's markup are names."""
+    case = model.Case("x", "", "[red]T[/red]", (model.Thing(0, "[bold]x[/bold]", (), (0,)),), (), (":smile:",), (), (), (), (), None)
+    text = "\n".join(screen.plan_lines(case, {0: 0}, 80))
+    return [] if "[bold]x[/bold]" in text and ":smile:" in text else [text]

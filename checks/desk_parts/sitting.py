@@ -1,0 +1,377 @@
+"""A sitting from end to end, over pipes: keys, going back, what is answered for the person, a clash, the plans at the end.
+
+The person of each row knows the rules of the case and may slip once. What the journal holds at the end is compared with the
+session of a person who never slipped.
+"""
+
+from __future__ import annotations
+
+import re
+import subprocess
+from collections.abc import Iterable
+
+import hands        # desk's folder is on the path now
+import solver
+from hands import Owner, Piped, is_question, plain_values, room
+
+ALWAYS = hands.WARD + "always: different on same day\n"
+TWO = """title: Two
+things: a b
+values: x y z
+ask: all
+words: different
+"""
+
+PLANTED = [
+    # an answer is turned round
+    ("ask.py", "self.sitting.answer(key == \"y\")", "self.sitting.answer(key == \"n\")"),
+    # another answer is gone back to than the one that was chosen
+    ("goback.py", "self.place_of = dict(zip(letters, dict.fromkeys(place for place in places if may(session, place))))",
+     "self.place_of = dict(zip(letters, dict.fromkeys(place - 1 for place in places if may(session, place) and place)))"),
+]
+
+
+def run(program: str) -> list[str]:
+    """The faults that were found."""
+    return looked(program, ROWS)
+
+
+def quick(program: str) -> list[str]:
+    """The same in little."""
+    return looked(program, (keys, odd_one))
+
+
+def looked(program: str, rows: Iterable[object]) -> list[str]:
+    """The faults of some rows."""
+    faults = []
+    count = 0
+    for row in rows:
+        if row in WITH_SOLVER and solver.name() is None:
+            continue
+        count += 1
+        name = getattr(row, "__name__", "")
+        try:
+            faults += [f"sitting: {name}: {fault}" for fault in row(program)]     # type: ignore[operator]
+        except Exception as error:      # a row that breaks is a fault of what it looks at
+            faults.append(f"sitting: {name}: {error!r}")
+    print(f"sitting: {count} rows over pipes" + ("" if solver.name() else "; no plan is judged, since no solver is installed"))
+    return faults
+
+
+def sat(it: Piped, owner: Owner, slips: Iterable[int] = (), most: int = 2000) -> tuple[int, list[str] | None]:
+    """Answers questions until another sheet comes; how many, and that sheet."""
+    count, slips = 0, set(slips)
+    while count < most:
+        sheet = it.sheet()
+        if sheet is None or not is_question(sheet):
+            return count, sheet
+        count += 1
+        it.say("y" if owner(plain_values(sheet)) != (count in slips) else "n")
+    return count, it.sheet()
+
+
+def learned(program: str, path: str) -> list[str]:
+    """The learned lines of a journal."""
+    lines = hands.acquire(program, path, "show")
+    start = next(k for k, line in enumerate(lines) if line.startswith("learned "))
+    return sorted(lines[start + 1:-1])
+
+
+def right(program: str, plan: str, owner: Owner = hands.ward, text: str = hands.WARD) -> list[str]:
+    """What somebody learns who never slips."""
+    with room("ward", text) as path:
+        hands.answered(path, program, owner, plan)
+        return learned(program, path)
+
+
+def letter_of(sheet: list[str], number: int) -> str:
+    """The key for the answer to a question, on a sheet with choices."""
+    found = [line.split()[0] for line in sheet if re.match(rf"\s*[a-z]  {number}\. ", line)]
+    return found[0] if found else ""
+
+
+# ---------------------------------------------------------------- rows
+
+def keys(program: str) -> list[str]:
+    """y, n, b, w, r, s, ? and q, one after the other."""
+    found = []
+    with room() as path:
+        it = Piped(path, program, "--plan", "scopes")
+        first = it.sheet() or []
+        steps = (("b", "no answer of yours"), ("y", "question 2"), ("n", "question 3"), ("w", "Why question 3"), ("", "question 3"),
+                 ("s", "1. yes: Mon early Ann, Mon late Ann"), ("", "2. no:"), ("r", "Rules so far"), ("?", "y  yes"), ("b", "question 2"))
+        for key, wanted in steps:
+            if key:
+                it.say(key)
+                sheet = it.sheet() or []
+            if wanted not in "\n".join(sheet):
+                found.append(f"after {key!r}: {sheet} and not {wanted!r}")
+        if plain_values(sheet) != {"Mon early": "Ann", "Mon night": "Ann"} or "Your no to question 2 is taken back" not in "\n".join(sheet):
+            found.append(f"b shows {sheet}")
+        if plain_values(first) != {"Mon early": "Ann", "Mon late": "Ann"}:
+            found.append(f"the first question: {first}")
+        it.say("q")
+        if it.end() != 6 or hands.answers(program, path) != 1:
+            found.append(f"q: {it.ran.returncode}, {hands.answers(program, path)} answers")
+        shown = hands.acquire(program, path, "show")
+        if "q1 Mon_early=1 Mon_late=1 yes" not in shown:
+            found.append(f"the journal: {shown[:3]}")
+    return found
+
+
+def goes_on(program: str) -> list[str]:
+    """A second sitting begins at the question at which the first ended, and ends with the same rules."""
+    with room() as path:
+        it = Piped(path, program, "--plan", "quacq")
+        sat(it, hands.ward, most=20)
+        it.end()
+        before = hands.due(program, path)
+        it = Piped(path, program)
+        sheet = it.sheet() or []
+        found = [] if plain_values(sheet) == before[1] and f"question {before[0]}" in sheet[0] else [f"{sheet} and not {before}"]
+        it.say("y" if hands.ward(plain_values(sheet)) else "n")
+        sat(it, hands.ward)
+        it.say("q")
+        it.end()
+        return found + ([] if it.ran.returncode == 0 and learned(program, path) == right(program, "quacq") else ["other rules at the end"])
+
+
+def clash(program: str) -> list[str]:
+    """A slip that collapses: it is among the suspects, going back to it in the same sitting mends it, and little is asked anew."""
+    wanted, found = right(program, "quacq"), []
+    for slip in (60, 90):
+        with room() as path:
+            it = Piped(path, program, "--plan", "quacq")
+            count, sheet = sat(it, hands.ward, [slip])
+            if sheet is None or sheet[0] != "Your answers clash":
+                found.append(f"slip {slip}: {sheet}")
+                continue
+            letter = letter_of(sheet, slip)
+            if not letter or "leaves no rule that refuses it" not in "\n".join(sheet):
+                found.append(f"slip {slip} isn't among the suspects: {sheet}")
+                continue
+            it.say(letter)
+            sure = it.sheet() or []
+            it.say("y")
+            more, sheet = sat(it, hands.ward)
+            it.say("q")
+            it.end()
+            again = it.lines[it.lines.index(sure[0]) + len(sure)]
+            if f"Go back to question {slip}?" not in sure[0] or not re.search(rf"question {slip}\b", again):
+                found.append(f"slip {slip}: {sure[:2]}, then {again}")
+            if it.ran.returncode != 0 or learned(program, path) != wanted:
+                found.append(f"slip {slip}: after going back {it.ran.returncode} and other rules")
+            if count + more > 248 + 20:
+                found.append(f"slip {slip}: {more} more questions after {count}")
+    return found
+
+
+def clash_kept(program: str) -> list[str]:
+    """A clash that is left by q is there again at the next sitting; b goes back by one."""
+    with room() as path:
+        it = Piped(path, program, "--plan", "quacq")
+        count, _ = sat(it, hands.ward, [60])
+        it.say("q")
+        status = it.end()
+        it = Piped(path, program)
+        sheet = it.sheet() or [""]
+        it.say("b")
+        sure = it.sheet() or [""]
+        it.say("y")
+        again = it.sheet() or [""]
+        it.say("q")
+        it.end()
+        if status != 4 or sheet[0] != "Your answers clash" or f"question {count}?" not in sure[0] or f"question {count}" not in again[0]:
+            return [f"{status}, {sheet[:1]}, {sure[:1]}, {again[:1]}, after {count}"]
+        return [] if hands.answers(program, path) == count - 1 else [f"{hands.answers(program, path)} answers"]
+
+
+def minimal(program: str) -> list[str]:
+    """Of refused plans that clash and hold one another the smallest is shown."""
+    with room() as path:
+        it = Piped(path, program, "--plan", "quacq")
+        _, sheet = sat(it, hands.ward, [90])
+        it.say("q")
+        it.end()
+        said = [line for line in sheet or [] if line.startswith("You said no to question")]
+        return [] if len(said) == 1 else [f"{said}"]
+
+
+def always(program: str) -> list[str]:
+    """Rules said beforehand answer for the person, are told as such, and are never gone back to."""
+    found = []
+    with room("ward", ALWAYS) as path:
+        it = Piped(path, program, "--plan", "scopes")
+        first = it.sheet() or []
+        if "question 2" not in first[0] or not any("Answered for you: " in line and "said beforehand" in line for line in first):
+            found.append(f"the first question: {first}")
+        it.say("b")
+        if "no answer of yours" not in "\n".join(it.sheet() or []):
+            found.append("b takes back what was said beforehand")
+        it.say("y" if hands.ward(plain_values(first)) else "n")
+        it.sheet()
+        it.say("b")
+        again = it.sheet() or []
+        if plain_values(again) != plain_values(first):
+            found.append(f"after b: {again} and not {first}")
+        it.say("s")
+        if not any("(said beforehand: Mon early and Mon late differ)" in line for line in it.sheet() or []):
+            found.append("s doesn't mark what was said beforehand")
+        it.say("y" if hands.ward(plain_values(first)) else "n")
+        count, end = sat(it, lambda q: hands.ward(q) and len(set(q.values())) == len(q))
+        it.say("q")
+        it.end()
+        if it.ran.returncode != 0 or count > 90:
+            found.append(f"{count} questions, {it.ran.returncode}, {(end or [''])[:2]}")
+        if any(re.match(r"\s+[a-z]  .*said beforehand", line) for line in end or []):
+            found.append("an answer that was said beforehand can be gone back to")
+    return found
+
+
+def why_is_capped(program: str) -> list[str]:
+    """w shows eight rules at most, and that there are others."""
+    with room() as path:
+        it = Piped(path, program, "--plan", "quacq")
+        it.sheet()
+        it.say("w")
+        lines = [line for line in it.sheet() or [] if line.startswith("- ")]
+        it.end()
+        return [] if len(lines) == 9 and lines[-1] == "- and others" and len(set(lines)) == 9 else [f"{lines}"]
+
+
+def allowed_plan(program: str) -> list[str]:
+    """A plan that is judged wrong leads to the answers behind it, or to what the words can't say."""
+    found = []
+    with room("two", TWO) as path:
+        it = Piped(path, program, "--plan", "scopes")
+        _, sheet = sat(it, lambda q: True)
+        it.say("g")
+        plan = it.sheet() or []
+        it.say("n")
+        behind = it.sheet() or []
+        letter = letter_of(behind, 1)
+        if not letter or "The rules allow it." not in plan[0] or "Is this right?" not in plan:
+            return [f"{plan}, then {behind}"]
+        it.say("o")
+        cant = it.sheet() or []
+        it.say("q")
+        it.end()
+        if "can't say" not in cant[0] or it.ran.returncode != 0 or not any(line.startswith("- Plan 1") for line in it.lines):
+            found.append(f"after o: {cant}, {it.ran.returncode}, {it.lines[-4:]}")
+        it = Piped(path, program)
+        it.sheet()
+        for key in ("g", "n", letter, "y"):
+            it.say(key)
+            sheet = it.sheet() or []
+        if "question 1" not in sheet[0]:
+            found.append(f"going back: {sheet}")
+        it.say("n")
+        sheet = it.sheet() or []
+        it.say("q")
+        it.end()
+        if "- a and b differ" not in sheet or learned(program, path) != ["different a b"]:
+            found.append(f"after going back: {sheet}")
+    return found
+
+
+def refused_plan(program: str) -> list[str]:
+    """A refused plan that is judged right leads to the no behind it; going back to that takes the rule away."""
+    with room("two", TWO) as path:
+        it = Piped(path, program, "--plan", "scopes")
+        sat(it, lambda q: len(set(q.values())) == len(q))
+        it.say("g")
+        sheet = it.sheet() or []
+        while "The rules allow it." in sheet[0]:
+            it.say("y")
+            sheet = it.sheet() or []
+        marked = [line for line in sheet if line.endswith("(this breaks it)")]
+        if "for one reason alone" not in sheet[0] or "a and b differ." not in sheet or len(marked) != 2:
+            return [f"{sheet}"]
+        it.say("n")
+        behind = it.sheet() or []
+        letter = letter_of(behind, 1)
+        if not letter:
+            return [f"{behind}"]
+        it.say(letter)
+        it.sheet()
+        it.say("y")
+        it.sheet()
+        it.say("y")
+        end = it.sheet() or []
+        it.say("q")
+        it.end()
+        return [] if learned(program, path) == [] and "No rule is needed" in " ".join(end) else [f"{end}, {learned(program, path)}"]
+
+
+def refused_beforehand(program: str) -> list[str]:
+    """A plan that is refused for a rule said beforehand: no answer is blamed, and it is said where the rule stands."""
+    with room("two", TWO + "always: different on all\n") as path:
+        it = Piped(path, program, "--plan", "scopes")
+        sat(it, lambda q: True)
+        it.say("g")
+        sheet = it.sheet() or []
+        while "The rules allow it." in sheet[0]:
+            it.say("y")
+            sheet = it.sheet() or []
+        it.say("n")
+        told = it.sheet() or []
+        it.say("q")
+        it.end()
+        return [] if told[0] == "You said this rule beforehand" and "`always`" in told[1] and it.ran.returncode == 0 else [f"{sheet}, {told}"]
+
+
+def odd_one(program: str) -> list[str]:
+    """A slip in plan scopes ends in rules; the odd one out shows it, at any time, and going back to it mends them."""
+    def all_days(q: hands.Named) -> bool:
+        """The ward's rules without an exception."""
+        return hands.ward(q) and not ("Sun early" in q and q.get("Sun early") == q.get("Sun late"))
+    wanted = right(program, "scopes", all_days)
+    with room() as path:
+        it = Piped(path, program, "--plan", "scopes")
+        sat(it, all_days, [4], 60)
+        it.say("r")
+        sheet = it.sheet() or []
+        letter = letter_of(sheet, 4)
+        if not letter or "Other than most of their pattern" not in "\n".join(sheet):
+            it.end()
+            return [f"{sheet}"]
+        it.say(letter)
+        it.sheet()
+        it.say("y")
+        count, _ = sat(it, all_days)
+        it.say("q")
+        it.end()
+        if it.ran.returncode != 0 or learned(program, path) != wanted:
+            return [f"{it.ran.returncode}, {sorted(set(learned(program, path)) ^ set(wanted))}"]
+        return [] if count < 100 else [f"{count} questions after going back"]
+
+
+def changed(program: str) -> list[str]:
+    """A case that has changed under its session is refused, and nothing is mixed."""
+    with room() as path:
+        it = Piped(path, program, "--plan", "scopes")
+        sat(it, hands.ward, most=5)
+        it.end()
+        with open(path, encoding="utf-8") as file:
+            text = file.read()
+        with open(path, "w", encoding="utf-8") as file:
+            file.write(text.replace("never Ann", "never Ben"))
+        ran = subprocess.run(hands.words(path, program), input="y\n", capture_output=True, text=True, check=False)
+        if ran.returncode != 1 or "desk carry" not in ran.stderr or "question" in ran.stdout or hands.answers(program, path) != 5:
+            return [f"{ran.returncode}, {ran.stderr}, {hands.answers(program, path)} answers"]
+        return []
+
+
+def undecided(program: str) -> list[str]:
+    """A search that is too long: what was learned, what is open, status 5, and no question goes lost."""
+    with room() as path:
+        it = Piped(path, program, "--plan", "quacq", "--budget", "1")
+        count, _ = sat(it, hands.ward)
+        status = it.end()
+        if status == 0 and count:
+            return []       # this program's search needs no more
+        return [] if status == 5 and any("Not settled" in line for line in it.lines) else [f"{status}, {it.lines[-5:]}, {it.errors}"]
+
+
+WITH_SOLVER = (allowed_plan, refused_plan, refused_beforehand)
+ROWS = (keys, always, minimal, allowed_plan, refused_plan, refused_beforehand, why_is_capped, clash, goes_on, clash_kept, odd_one, changed, undecided)

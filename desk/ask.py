@@ -1,0 +1,209 @@
+"""`desk ask`: the questions of a session, one at a time, put to a person."""
+
+from __future__ import annotations
+
+import argparse
+import locale
+import os
+import signal
+import sys
+from types import FrameType
+
+from rich.console import Console
+
+import casefile
+import end
+import views
+from face import Face, Sheet, patience
+from keys import Keyboard
+from model import Ending, Question, Values
+from picture import CHANGED, LEFT_OUT, Picture
+from plain import Lines
+from screen import Screen
+from session import Session, Sitting
+from talk import Program
+
+KEYS = (("y", "yes"), ("n", "no"), ("b", "back"), ("w", "why"), ("r", "rules"), ("s", "answers"), ("q", "stop"), ("?", "help"))
+PART = "Judge what is filled in, don't think of the rest."
+WHOLE = "Everything is filled in. Is this all right?"
+STATUS = {"converged": 0, "collapsed": 4, "undecided": 5, "suspended": 6}
+HELP = """A question shows a plan, or a part of one. Say whether what is filled in is all right, as far as it goes. Don't think of the rest: \
+whether the empty places can be filled as well isn't asked.
+
+y  yes, it is all right
+n  no, it isn't, whatever stands in the empty places
+b  back: takes your last answer back, and shows that question again
+w  why: which rules a yes rules out
+r  rules so far, and what is odd about them
+s  all answers so far
+q  stop. Nothing is lost, and the next `desk ask` goes on from here
+?  this help
+
+* stands at what has changed since the last question. Rules that you said beforehand answer for you where a question breaks one, which is \
+always a no; how often they did since the last question stands below the question."""
+
+
+def main(path: str, options: argparse.Namespace) -> int:
+    """Puts the questions of a case; the status to end with."""
+    case = casefile.read(path)
+    program = Program.found(options.acquire)
+    before = {number: signal.signal(number, _hung_up) for number in (signal.SIGTERM, signal.SIGHUP)}
+    face = face_for(options.plain)
+    try:
+        face.wait("opening the session; for a new one the best plan is looked for ..")
+        with Session.opened(case, program, options.plan, options.budget) as session:
+            ending = asked(session, face)
+            face.close()
+            end.print_last(session, ending, not face.stays)
+            return STATUS["suspended"] if ending is None else STATUS.get(ending.word, 1)
+    except KeyboardInterrupt:
+        return STATUS["suspended"]
+    finally:
+        face.close()
+        for number, handler in before.items():
+            signal.signal(number, handler)
+
+
+def _hung_up(number: int, _: FrameType | None) -> None:
+    """The terminal is put back before the program ends."""
+    raise SystemExit(128 + number)
+
+
+def asked(session: Session, face: Face) -> Ending | None:
+    """One sitting; None where it was ended by Ctrl-C."""
+    try:
+        with session.sit() as sitting:
+            return Asking(session, sitting, face).run()
+    except KeyboardInterrupt:
+        return None
+
+
+def face_for(plain: bool) -> Face:
+    """A screen where the terminal is one that can move its cursor, and else lines."""
+    dumb = os.environ.get("TERM", "dumb") in ("dumb", "unknown", "")
+    if plain or dumb or not (sys.stdin.isatty() and sys.stdout.isatty()):
+        return Lines()
+    return Screen(console_for(), Keyboard(sys.stdin.fileno()))
+
+
+def console_for() -> Console:
+    """Rich's console, which draws in ASCII where the locale has no more."""
+    console = Console(highlight=False, markup=False, emoji=False)
+    if not locale.nl_langinfo(locale.CODESET).upper().replace("-", "").startswith("UTF8"):
+        console = AsciiConsole(highlight=False, markup=False, emoji=False)
+    return console
+
+
+class AsciiConsole(Console):
+    """A console that draws lines in ASCII. Names are printed as they are all the same."""
+
+    @property
+    def encoding(self) -> str:
+        """What can be drawn."""
+        return "ascii"
+
+
+class Asking:
+    """The questions of one sitting."""
+
+    def __init__(self, session: Session, sitting: Sitting, face: Face) -> None:
+        self.session, self.sitting, self.face = session, sitting, face
+        self.before: Question | None = None         # the last question that the person saw
+        self.note = ""                              # what happened since, above the next question
+
+    def run(self) -> Ending:
+        """Asks until the program ends or the person stops."""
+        if self.session.answers:
+            self.note = f"It goes on where it was, after {len(self.session.answers)} answer{'s' if len(self.session.answers) != 1 else ''}."
+        self._advance()
+        while True:
+            while self.sitting.question is not None:
+                self._one(self.sitting.question)
+            ending = self.sitting.ending
+            assert ending is not None
+            place = end.shown(self.session, ending, self.face)
+            if place is None:
+                return ending
+            self._back_to(place)
+
+    def _one(self, question: Question) -> None:
+        """Puts one question, until a key moves on from it."""
+        key = self.face.put(self.sheet(question))
+        self.note = ""
+        if key in ("y", "n"):
+            self.before = question
+            self.sitting.answer(key == "y")
+            self._advance()
+        elif key == "b":
+            self._back()
+        elif key == "q":
+            self.sitting.stop()
+        elif key == "r":
+            sheet, choice = views.rules(self.session)
+            place = choice.sure(self.face, self.face.put(sheet))
+            if place is not None:
+                self._back_to(place)
+        else:
+            self.face.put(self._view(key, question))
+
+    def _advance(self) -> None:
+        """On to the next question for the person."""
+        with patience(self.face, "looking for the next question .."):
+            self.sitting.advance()
+        self.note = " ".join(filter(None, [self.note, views.given_text(self.sitting.given)]))
+
+    def _back(self) -> None:
+        """Takes the person's last answer back."""
+        last = next((answer for answer in reversed(self.session.answers) if answer.said is None), None)
+        if last is None or not self.sitting.back():
+            self.note = "There is no answer of yours to take back."
+            return
+        self.before = None
+        self.note = f"Your {'yes' if last.yes else 'no'} to question {last.question.number} is taken back; here it comes again."
+
+    def _back_to(self, place: int) -> None:
+        """Takes back the answer at a place; what was said after it is used again where it decides."""
+        answer = self.session.answers[place]
+        self.sitting.back_to(place)
+        self.before = None
+        self.note = (f"Your {'yes' if answer.yes else 'no'} to question {answer.question.number} is taken back. "
+                     "Your later answers count again where they decide a question.")
+
+    def _view(self, key: str, question: Question) -> Sheet:
+        """What w, s and ? show."""
+        if key == "w":
+            return views.why(self.session, question)
+        if key == "s":
+            return views.answers(self.session)
+        return Sheet("Help", tuple(HELP.split("\n")))
+
+    # ---- how a question looks
+
+    def sheet(self, question: Question) -> Sheet:
+        """A question as it is shown."""
+        case, possible = self.session.case, self.session.possible
+        picture = Picture(case, question.values, marks(question.values, self.before))
+        head = f"{case.title}: question {question.number}"
+        if question.part_of(self.before):
+            head += ", a part of the one before"
+        ask = PART if picture.part else WHOLE
+        count = f"settled {possible.settled} of {possible.total}; at most {possible.most} more question{'s' if possible.most != 1 else ''}"
+        notes = (self.note,) if self.note else ()
+        return Sheet(head, (picture,), legend(picture), (*notes, ask), (count,), KEYS, frozenset("y"))
+
+
+def marks(values: Values, before: Question | None) -> dict[int, str]:
+    """What differs from the last question: other values, and places that are empty now. Where the two have no place in common
+    there is nothing to compare, and where all places are new as well."""
+    if before is None or not set(values) & set(before.values):
+        return {}
+    changed = {thing: CHANGED for thing, value in values.items() if before.values.get(thing) != value}
+    return changed | {thing: LEFT_OUT for thing in before.values if thing not in values}
+
+
+def legend(picture: Picture) -> str:
+    """What the marks mean, where there are some."""
+    out = sum(mark == LEFT_OUT for mark in picture.marks.values())
+    left = f"{out} of the last question {'is' if out == 1 else 'are'} left out" if out else ""
+    changed = "* has changed since the last question" if CHANGED in picture.marks.values() else ""
+    return "; ".join(filter(None, (changed, left)))

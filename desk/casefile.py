@@ -1,0 +1,332 @@
+"""Reads a case: a plain text of lines `key: text`, in which everything behind a `#` is a comment.
+
+    title: Ward roster, one week
+    things: day Mon .. Sun x shift early late night
+    values: Ann Ben Cas Dee Eve
+    only Mon early: Ann Ben
+    ask: same day, night to next day early
+    words: different, never Ann
+    always: different on same day
+    plan: scopes
+
+Each fault is told with file and line, and with the nearest right form where one is near.
+"""
+
+from __future__ import annotations
+
+import itertools
+import re
+from dataclasses import dataclass
+
+import catalogue
+import groups
+import names
+from model import MOST_VALUES, PLANS, Case, Fault, Group, Part, Rule, Thing, Word
+
+KEYS = ("title", "things", "values", "ask", "words", "always", "plan", "thing NAME", "only NAME")
+MOST_THINGS = 128       # of the program
+MOST_BYTES = 1_000_000
+
+
+@dataclass(frozen=True)
+class Line:
+    """A line of a case: its number, its key, what its key is about, and its text."""
+
+    number: int
+    key: str
+    name: str
+    text: str
+
+
+@dataclass(frozen=True)
+class Piece:
+    """What stands between two commas of a line."""
+
+    line: Line
+    text: str
+
+
+def read(path: str) -> Case:
+    """The case in a file; a fault where it isn't one."""
+    try:
+        with open(path, "rb") as file:
+            raw = file.read(MOST_BYTES + 1)
+    except OSError as error:
+        raise Fault(f"{path}: {error.strerror}") from None
+    if len(raw) > MOST_BYTES:
+        raise Fault(f"{path}: a case has at most {MOST_BYTES} bytes")
+    try:
+        return parse(raw.decode("utf-8-sig"), path)
+    except UnicodeDecodeError as error:
+        raise Fault(f"{path}:{raw[:error.start].count(10) + 1}: this isn't UTF-8; save the file as UTF-8") from None
+
+
+def parse(text: str, path: str) -> Case:
+    """The case of a text; `path` is for faults, and for where the session is kept."""
+    return _Reader(text, path).case()
+
+
+class _Reader:
+    """One reading of one text."""
+
+    def __init__(self, text: str, path: str) -> None:
+        self.text, self.path, self.line_number = text, path, 0
+        self.lines: list[Line] = []
+        self.things: list[Thing] = []
+        self.values: list[str] = []
+        self.thing_parts: tuple[Part, ...] = ()
+        self.value_parts: tuple[Part, ...] = ()
+
+    def case(self) -> Case:
+        """Reads all lines, the things first, since others name them."""
+        try:
+            self._cut()
+            self._things()
+            self._only()
+            setting = catalogue.Setting(tuple(self.things), tuple(self.values), self.value_parts)
+            words = self._words(setting)
+            asked = self._groups(words)
+            always = self._always(setting)
+            title, plan = self._one("title"), self._one("plan")
+            if plan is not None and plan not in PLANS:
+                raise Fault(f"no such plan: {plan}; there are {', '.join(PLANS)}")
+            return Case(self.path, self.text, title or re.sub(r"\.case$", "", self.path.rsplit("/", 1)[-1]), tuple(self.things), self.thing_parts,
+                        tuple(self.values), self.value_parts, tuple(asked), tuple(words), tuple(always), plan)
+        except Fault as fault:
+            where = f"{self.path}:{self.line_number}" if self.line_number else self.path
+            raise Fault(f"{where}: {fault}") from None
+
+    def _cut(self) -> None:
+        """The lines, without comments and empty ones."""
+        for number, raw in enumerate(self.text.splitlines(), 1):
+            self.line_number = number
+            line = re.sub(r"(^|\s)#.*", "", raw).strip()
+            if not line:
+                continue
+            head, colon, rest = line.partition(":")
+            words = head.split()
+            if not colon or not words:
+                raise Fault(f"a line is `key: text`{names.nearest(line.split()[0], KEYS)}")
+            key, name = words[0], " ".join(words[1:])
+            with_name = key in ("thing", "only")
+            if key not in [known.split()[0] for known in KEYS] or with_name != bool(name):
+                raise Fault(f"no such key: {head.strip()}{names.nearest(head.strip(), KEYS) or '; there are ' + ', '.join(KEYS)}")
+            self.lines.append(Line(number, key, name, rest.strip()))
+        self.line_number = 0
+
+    def _of(self, *keys: str) -> list[Line]:
+        """The lines with these keys."""
+        return [line for line in self.lines if line.key in keys]
+
+    def _at(self, line: Line) -> Line:
+        """Says where a fault that comes now is."""
+        self.line_number = line.number
+        return line
+
+    def _one(self, key: str) -> str | None:
+        """The text of a line that stands once at most."""
+        lines = self._of(key)
+        if len(lines) > 1:
+            self._at(lines[1])
+            raise Fault(f"`{key}` stands twice; the first is in line {lines[0].number}")
+        if lines:
+            return self._at(lines[0]).text
+        return None
+
+    def _pieces(self, key: str) -> list[Piece]:
+        """What stands between commas in all lines of a key."""
+        return [Piece(line, part.strip()) for line in self._of(key) for part in line.text.split(",") if part.strip()]
+
+    # ---- things and values
+
+    def _things(self) -> None:
+        """Things and values, each a list or a grid, or things with lists of their own."""
+        own: list[tuple[str, list[str]]] = []
+        for line in self._of("things", "thing", "values"):
+            self._at(line)
+            if line.key == "values":
+                self._values(line)
+            elif line.key == "thing":
+                own.append((names.checked(line.name), self._unique(names.listed(line.text), "value")))
+            else:
+                self._listed_things(line, own)
+            if own:
+                self._unique([name for name, _ in own], "thing")
+        if not own:
+            self.line_number = 0
+            raise Fault("there are no things: a line such as `things: maths english sport` is missing")
+        if len(own) > MOST_THINGS:
+            raise Fault(f"there are {len(own)} things; the program takes {MOST_THINGS}")
+        self.line_number = 0
+        self._labels(own)
+
+    def _listed_things(self, line: Line, own: list[tuple[str, list[str]]]) -> None:
+        """A `things` line: a list, or the one grid."""
+        parts = self._grid(line)
+        if parts:
+            if own or self.thing_parts:
+                raise Fault("a grid of things stands alone: there are other things already")
+            self.thing_parts = parts
+            own += [(name, []) for name in self._cells(parts)]
+        elif self.thing_parts:
+            raise Fault("a grid of things stands alone: its line is above")
+        else:
+            own += [(name, []) for name in names.listed(line.text)]
+
+    def _values(self, line: Line) -> None:
+        """A `values` line: a list, or the one grid."""
+        parts = self._grid(line)
+        if self.value_parts or (parts and self.values):
+            raise Fault("a grid of values stands alone")
+        self.value_parts = parts
+        self.values += self._cells(parts) if parts else names.listed(line.text)
+        self._unique(self.values, "value")
+        if len(self.values) > MOST_VALUES:
+            raise Fault(f"there are {len(self.values)} values, and the program takes {MOST_VALUES}: leave some out, or split the case")
+
+    def _labels(self, own: list[tuple[str, list[str]]]) -> None:
+        """Gives each thing its values: its own, or those of the `values` lines."""
+        shared = len(self.values)
+        if self.value_parts and any(labels for _, labels in own):
+            raise Fault("things with values of their own don't go with a grid of values")
+        for name, labels in own:
+            if not labels and not shared:
+                raise Fault(f"`{name}` has no values: a line such as `values: Ann Ben Cas` is missing")
+            self.values += [label for label in labels if label not in self.values]
+        if len(self.values) > MOST_VALUES:
+            raise Fault(f"there are {len(self.values)} values in all, and the program takes {MOST_VALUES}: leave some out, or split the case")
+        cells = list(itertools.product(*(range(len(part.members)) for part in self.thing_parts))) if self.thing_parts else []
+        for place, (name, labels) in enumerate(own):
+            allowed = sorted(self.values.index(label) for label in labels) if labels else range(shared)
+            self.things.append(Thing(place, name, cells[place] if cells else (), tuple(allowed)))
+
+    def _unique(self, some: list[str], what: str) -> list[str]:
+        """The same names; a fault where one stands twice or there is none."""
+        if not some:
+            raise Fault(f"a {what} at least has to be named")
+        for name in some:
+            if some.count(name) > 1:
+                raise Fault(f"the {what} `{name}` stands twice")
+        return some
+
+    def _grid(self, line: Line) -> tuple[Part, ...]:
+        """`day Mon .. Sun x shift early late` as its parts; none where it is a list."""
+        sides = re.split(r"\s+x\s+", line.text)
+        if len(sides) < 2 or any(side.strip().endswith(",") or side.strip().startswith(",") for side in sides):
+            return ()
+        parts = []
+        for side in sides:
+            name, _, rest = side.strip().partition(" ")
+            if not rest.strip():
+                raise Fault(f"a side of a grid is its name and its members, as `day Mon Tue`; `{name}` has no members")
+            parts.append(Part(names.checked(name), tuple(self._unique(names.listed(rest), "member"))))
+        self._unique([part.name for part in parts], "side")
+        for member in (members := [member for part in parts for member in part.members]):
+            if members.count(member) > 1:
+                raise Fault(f"`{member}` stands in two sides of the grid")
+        return tuple(parts)
+
+    def _cells(self, parts: tuple[Part, ...]) -> list[str]:
+        """The names of a grid's cells: `Mon early`."""
+        return [" ".join(cell) for cell in itertools.product(*(part.members for part in parts))]
+
+    # ---- what the other lines say of them
+
+    def _only(self) -> None:
+        """`only NAME: values`: NAME is a thing or a member of a side, and the values may have `..` between them."""
+        for line in self._of("only"):
+            self._at(line)
+            allowed = self._allowed(line.text)
+            for thing in self._meant(line.name):
+                left = tuple(value for value in thing.allowed if value in allowed)
+                if not left:
+                    raise Fault(f"`{thing.name}` would have no value left")
+                self.things[thing.place] = Thing(thing.place, thing.name, thing.at, left)
+        self.line_number = 0
+
+    def _meant(self, name: str) -> list[Thing]:
+        """The things that `only NAME` is about."""
+        found = [thing for thing in self.things if thing.name == name]
+        for k, part in enumerate(self.thing_parts):
+            if not found and name in part.members:
+                found = [thing for thing in self.things if thing.at[k] == part.members.index(name)]
+        if not found:
+            every = [thing.name for thing in self.things] + [member for part in self.thing_parts for member in part.members]
+            raise Fault(f"no such thing: {name}{names.nearest(name, every)}")
+        return found
+
+    def _allowed(self, text: str) -> set[int]:
+        """The values of a list, in which `..` stands between two of them."""
+        setting = catalogue.Setting((), tuple(self.values), self.value_parts)
+        known = self.values + [member for part in self.value_parts for member in part.members]
+        allowed: set[int] = set()
+        sides = [names.told_apart(side, known, "value") for side in text.split("..")]
+        if not all(sides):
+            raise Fault("`..` stands between two values" if len(sides) > 1 else "a value at least has to be named")
+        for k, side in enumerate(sides):
+            for name in side:
+                allowed |= setting.value_set(name) or set()
+            if k:
+                low, high = min(setting.value_set(sides[k - 1][-1])), max(setting.value_set(side[0]))
+                if low > high:
+                    raise Fault(f"`{sides[k - 1][-1]} .. {side[0]}` goes backwards")
+                allowed |= set(range(low, high + 1))
+        return allowed
+
+    def _words(self, setting: catalogue.Setting) -> list[Word]:
+        """The words, each once."""
+        found: dict[str, Word] = {}
+        for piece in self._pieces("words"):
+            self._at(piece.line)
+            word = catalogue.word(setting, piece.text)
+            found[word.text] = word
+        self.line_number = 0
+        if not found:
+            raise Fault("there are no words: a line such as `words: different, before` is missing; `desk words` lists all")
+        return list(found.values())
+
+    def _groups(self, words: list[Word]) -> list[Group]:
+        """What is asked about: the `ask` lines, and the pairs of words that name their things."""
+        found: dict[tuple[int, ...], Group] = {}
+        for piece in self._pieces("ask"):
+            self._at(piece.line)
+            for things in groups.meant(self.things, self.thing_parts, piece.text):
+                key = tuple(sorted(things))
+                found.setdefault(key, Group(key, piece.text))
+        self.line_number = 0
+        for word in words:
+            if word.things:
+                key = tuple(sorted(word.things))
+                found.setdefault(key, Group(key, " - ".join(self.things[thing].name for thing in key)))
+        if not found:
+            raise Fault("nothing is asked about: a line such as `ask: all` is missing")
+        return list(found.values())
+
+    def _always(self, setting: catalogue.Setting) -> list[Rule]:
+        """The rules that are said beforehand: `WORD on PHRASE`, or a word that names its things."""
+        found: dict[tuple[str, tuple[int, ...]], Rule] = {}
+        for piece in self._pieces("always"):
+            self._at(piece.line)
+            for word, things in self._said(setting, piece.text):
+                text = word.said_of(tuple(self.things[thing].name for thing in things))
+                found.setdefault((word.text, things), Rule(word, things, text))
+        self.line_number = 0
+        return list(found.values())
+
+    def _said(self, setting: catalogue.Setting, text: str) -> list[tuple[Word, tuple[int, ...]]]:
+        """The rules of one piece of an `always` line."""
+        head, on, phrase = text.rpartition(" on ")
+        word = catalogue.word(setting, head if on else text)
+        if word.things and not on:
+            return [(word, word.things)]
+        if word.things:
+            raise Fault(f"`{word.text}` names its things: leave `on {phrase}` out")
+        if not on:
+            raise Fault(f"of which things? Write `{text} on same day`, `{text} on all`, or name them, as `{text} on "
+                        + " - ".join(thing.name for thing in self.things[:word.arity]) + "`")
+        found = []
+        for things in groups.meant(self.things, self.thing_parts, phrase):
+            if len(things) < word.arity:
+                raise Fault(f"`{word.text}` is about {word.arity} things, and `{phrase}` puts {len(things)} together")
+            found += [(word, some) for some in itertools.combinations(things, word.arity)]
+        return found

@@ -1,0 +1,255 @@
+"""`desk report`: one page of HTML, without script, with the rules, plans and answers of a session."""
+
+from __future__ import annotations
+
+import argparse
+import hashlib
+import os
+import shlex
+import tempfile
+from collections.abc import Iterator, Sequence
+
+import casefile
+import patterns
+import review
+import solver
+import views
+from markup import Html, element, joined
+from model import Ending, Fault, Values
+from picture import CLASH, Cells, Grid, Picture, grid_of, sentence
+from sentences import Sentence, grouped
+from session import Session
+from style import STYLE
+from talk import Program
+
+MOST_PLANS = 4
+MOST_COLUMNS = 10           # of a table on a page of paper; with more it is turned, or a list
+MOST_ROWS = 12              # of a list in one column
+
+
+def main(path: str, options: argparse.Namespace) -> int:
+    """Writes the page of a case's session, and its certificate beside it."""
+    case = casefile.read(path)
+    with Session.opened(case, Program.found(options.acquire), make=False) as session:
+        ending = session.state()
+        certificate = certified(session, ending, os.path.splitext(options.file)[0] + ".certificate")
+        written(options.file, page(session, ending, certificate).encode())
+    print(f"written: {options.file}" + (f" and {certificate.name}" if certificate else ""))
+    return 0
+
+
+def written(path: str, content: bytes) -> None:
+    """Writes a file whole, or leaves what was there; a fault where it can't be."""
+    folder = os.path.dirname(path) or "."
+    try:
+        handle, made = tempfile.mkstemp(dir=folder)
+        try:
+            with os.fdopen(handle, "wb") as file:
+                file.write(content)
+                file.flush()
+                os.fsync(file.fileno())
+            os.chmod(made, 0o644)
+            os.replace(made, path)
+        except BaseException:
+            os.unlink(made)
+            raise
+    except OSError as error:
+        raise Fault(f"{path}: {error.strerror}") from None
+
+
+# ---------------------------------------------------------------- the certificate
+
+class Certificate:
+    """A file that another can check without trusting this session."""
+
+    def __init__(self, name: str, content: bytes, program: str) -> None:
+        self.name = name
+        self.digest = hashlib.sha256(content).hexdigest()
+        self.command = f"{program} :memory: check < {shlex.quote(os.path.basename(name))}"
+
+
+def certified(session: Session, ending: Ending, name: str) -> Certificate | None:
+    """Writes the certificate of a session that has converged, where `check` confirms it."""
+    if ending.word != "converged":
+        return None
+    reply = session.program.call([session.journal, "certify"])
+    content = reply.text.encode()
+    if reply.status != 0 or session.program.call([":memory:", "check"], content).status != 0:
+        return None
+    written(name, content)
+    return Certificate(name, content, "acquire")
+
+
+# ---------------------------------------------------------------- the page
+
+def page(session: Session, ending: Ending, certificate: Certificate | None) -> str:
+    """The whole page."""
+    done = ending.word == "converged"
+    learned = ending.learned if done else () if ending.word == "collapsed" else tuple(session.learned())
+    found = grouped(session.vocabulary, learned, session.reduced() if done else None)
+    ruled = () if ending.word == "collapsed" else (section("The rules" if done else "Rules so far", *rules(found)),
+                                                   *(plans(session, found) if done else ()), *pattern_view(session))
+    body = joined(element("h1", session.case.title), element("p", state_text(session, ending), class_="dim"), *ruled, answers(session),
+                  proof(certificate, ending.word))
+    head = joined(element("meta", charset="utf-8"), element("meta", name="viewport", content="width=device-width, initial-scale=1"),
+                  element("title", session.case.title), element("style", Html(STYLE)))
+    return "<!DOCTYPE html>\n" + element("html", element("head", head), element("body", element("main", body)), lang="en") + "\n"
+
+
+def section(title: str, *inside: str) -> Html:
+    """A part of the page with its heading."""
+    return element("section", element("h2", title), *inside)
+
+
+def state_text(session: Session, ending: Ending) -> str:
+    """How far the session is."""
+    count = len(session.answers)
+    own = sum(answer.said is None for answer in session.answers)
+    said = f"{count} answer{'s' if count != 1 else ''}"
+    if own != count:
+        said += f", {own} of them given one by one and {count - own} said beforehand or carried over"
+    if ending.word == "converged":
+        return f"Nothing is left open that the words of the case can say, after {said}."
+    if ending.word == "collapsed":
+        return f"The answers clash: no rules agree with all of them. There are {said}."
+    possible = session.possible
+    return f"Not finished: {said} so far; settled {possible.settled} of {possible.total}, at most {possible.most} more questions."
+
+
+def rules(found: Sequence[Sentence]) -> Iterator[Html]:
+    """The rules in sentences."""
+    if not found:
+        yield element("p", "None.")
+        return
+    yield element("ul", *(rule(said) for said in found), class_="rules")
+
+
+def rule(said: Sentence) -> Html:
+    """A sentence, and what of it follows from others."""
+    mark = said.whole.removeprefix(said.text)
+    return element("li", said.text, *([element("span", mark, class_="dim")] if mark else []))
+
+
+# ---------------------------------------------------------------- plans
+
+def plans(session: Session, found: Sequence[Sentence]) -> Iterator[Html]:
+    """Plans that the rules allow, and for each sentence one that breaks it alone."""
+    if solver.name() is None:
+        yield section("Plans", element("p", "None are drawn, since no SAT solver is installed: cadical, minisat or clasp."))
+        return
+    some = solver.far(session.program, session.vocabulary, session.journal, MOST_PLANS)
+    shown = [drawn(session, plan.values, f"Plan {number}{review.apart_text(plan)}") for number, plan in enumerate(some, 1)]
+    hint = element("p", "If one of these is wrong, an answer was a slip, or the words of the case can't say why.", class_="dim")
+    yield section("Plans that the rules allow", hint,
+                  element("div", *shown, class_="side") if shown else element("p", "No plan was found that satisfies all rules."))
+    clauses = solver.clauses_of(session.program, session.vocabulary, session.journal)
+    broken, without = [], []
+    for said in found:
+        one = review.broken_alone(session, said, found, clauses)
+        if one is None:
+            without.append(rule(said))
+        else:
+            broken.append(drawn(session, one.values, f"Refused: {one.rule.text}", one.marks))
+    if broken:
+        hint = element("p", "Each of these plans breaks one rule, in the marked cells, and keeps all others. If one is right, an answer was a slip.",
+                       class_="dim")
+        yield section("What each rule alone refuses", hint, element("div", *broken, class_="side"))
+    if without:
+        yield section("Rules that no plan was found to break alone", element("ul", *without, class_="rules"))
+
+
+def drawn(session: Session, values: Values, caption: str, marks: dict[int, str] | None = None) -> Html:
+    """A plan as a table or a list with its caption."""
+    picture = Picture(session.case, values, marks or {})
+    return element("figure", element("figcaption", caption), table(picture))
+
+
+def table(picture: Picture) -> Html:
+    """The picture's table."""
+    grid = grid_of(picture, "", "")
+    if grid and len(grid.heads) > MOST_COLUMNS:
+        grid = grid.turned() if len(grid.rows) <= MOST_COLUMNS else None
+    if grid:
+        return grid_table(grid)
+    cells = [(picture.case.things[thing].name, picture.label(thing), picture.marks.get(thing) == CLASH) for thing in sorted(picture.values)]
+    if len(cells) > MOST_ROWS:
+        return element("ul", *(element("li", f"{name}: ", element("span", label, class_="clash" if clash else None)) for name, label, clash in cells),
+                       class_="cells")
+    rows = [element("tr", element("th", name, scope="row"), element("td", label, class_="clash" if clash else None))
+            for name, label, clash in cells]
+    return element("table", element("thead", element("tr", element("th", "what", scope="col"), element("th", "value", scope="col"))),
+                   element("tbody", *rows), class_="plan")
+
+
+def grid_table(grid: Grid) -> Html:
+    """A table with heads at the top and at the left."""
+    head = element("tr", element("td"), *(element("th", name, scope="col") for name in grid.heads))
+    rows = []
+    for name, cells in grid.rows:
+        made = [grid_cell(cell) for cell in cells]
+        rows.append(element("tr", element("th", name, scope="row"), *made))
+    return element("table", element("thead", head), element("tbody", *rows), class_="plan")
+
+
+def grid_cell(lines: Cells) -> Html:
+    """What stands at one place, a line each."""
+    inside = [piece for cell in lines if cell.text for piece in (element("br"), cell.text)][1:]
+    return element("td", *inside, class_="clash" if any(cell.kind == CLASH for cell in lines) else None)
+
+
+# ---------------------------------------------------------------- the pattern view
+
+def pattern_view(session: Session) -> Iterator[Html]:
+    """In a grid case: each pattern's rules along the grid, the odd ones marked."""
+    rows = patterns.rows(session.vocabulary, session.learned(), session.answers, session.possible.open)
+    by_part: dict[int, list[patterns.Row]] = {}
+    for row in rows:
+        by_part.setdefault(row.part, []).append(row)
+    if not rows:
+        return
+    tables = []
+    for part, mine in by_part.items():
+        members = session.case.thing_parts[part].members
+        head = element("tr", element("td"), *(element("th", name, scope="col") for name in members))
+        lines = [element("tr", element("th", row.name, scope="row"), *(pattern_cell(row, member) for member in range(len(members))))
+                 for row in mine]
+        tables.append(element("table", element("thead", head), element("tbody", *lines), class_="plan pattern"))
+    hint = element("p", "A marked cell is other than most of its row. That may be right; if it isn't, an answer was a slip.", class_="dim")
+    yield section("The rules along the grid", hint, *(element("div", one, class_="wide") for one in tables))
+
+
+def pattern_cell(row: patterns.Row, member: int) -> Html:
+    """The rules of a pattern at one place."""
+    cell = row.cells.get(member)
+    if cell is None:
+        return element("td", class_="none")
+    return element("td", cell.text + (" (odd)" if cell.odd else ""), class_="odd" if cell.odd else None)
+
+
+# ---------------------------------------------------------------- answers and certificate
+
+def answers(session: Session) -> Html:
+    """All answers, folded away."""
+    rows = []
+    for answer in session.answers:
+        word = views.yes_no(answer.yes)
+        by = f"{views.BY[answer.said.by]}: {answer.said.why}" if answer.said else "asked"
+        shown = sentence(Picture(session.case, answer.question.values))
+        rows.append(element("tr", element("th", str(answer.question.number), scope="row"), element("td", word, class_=word),
+                            element("td", shown), element("td", by)))
+    head = element("tr", *(element("th", name, scope="col") for name in ("question", "answer", "what was shown", "how it came")))
+    folded = element("details", element("summary", f"All {len(rows)} answers"),
+                     element("div", element("table", element("thead", head), element("tbody", *rows), class_="answers"), class_="wide"))
+    return section("What was asked", folded)
+
+
+def proof(certificate: Certificate | None, ended: str) -> Html:
+    """How another can check it."""
+    if certificate is None:
+        why = {"converged": "it is too large", "collapsed": "the answers clash"}.get(ended, "the session isn't finished")
+        return section("Checking it", element("p", f"There is no certificate, since {why}."))
+    says = ("Whoever has the program can check, without trusting this page, that these answers leave no other rules than those of the "
+            "certificate's network:")
+    return section("Checking it", element("p", says), element("pre", element("code", certificate.command)),
+                   element("p", "The certificate is the file ", element("code", os.path.basename(certificate.name)), ", and its sha256 is"),
+                   element("pre", element("code", certificate.digest), class_="digest"))

@@ -1,0 +1,135 @@
+"""The odd one out in a grid case: groups whose rule is another than that of most groups of their pattern.
+
+Groups make a pattern where they differ in one part of the grid alone, as early and late of each day do. That most of them have
+one rule and a few another may be right, as on a Sunday, and may be a slip; so it is shown, with the answers behind it, and no
+answer is changed.
+"""
+
+from __future__ import annotations
+
+from collections import Counter, defaultdict
+from collections.abc import Callable, Iterable, Sequence
+from dataclasses import dataclass
+
+from along import Along, Pattern, Things
+from model import Answer, Constraint, Rule
+from vocabulary import Vocabulary
+
+LEAST_GROUPS = 3            # settled ones of a pattern, from which on one can be odd
+Said = tuple[str, Things]          # a rule's word, and the places of its things in the group
+
+
+@dataclass(frozen=True)
+class Odd:
+    """A group whose rules are others than those of most of its pattern."""
+
+    scope: Things
+    has: tuple[Rule, ...]
+    most: tuple[Rule, ...]          # what it would have if it were as most are
+    of: int                         # how many groups of the pattern are as most are
+    behind: Things         # places of the answers that made it so
+
+    def text(self, names: Sequence[str]) -> str:
+        """What is odd, for people."""
+        who = ", ".join(names[thing] for thing in self.scope)
+        here = "; ".join(rule.text for rule in self.has) or "no rule"
+        there = "; ".join(rule.text for rule in self.most) or "no rule"
+        return f"{who}: {here}. As {self.of} others of its pattern it would be: {there}."
+
+
+def odd(vocabulary: Vocabulary, learned: Iterable[Constraint], answers: Sequence[Answer], is_open: Callable[[Things], bool]) -> list[Odd]:
+    """The odd ones among the groups on which all is settled; none where the things are no grid."""
+    if len(vocabulary.case.thing_parts) < 2:
+        return []
+    on = {constraint.scope: vocabulary.claims(constraint) for constraint in learned}
+    settled = [scope for scope in vocabulary.scopes if scope in on or not is_open(scope)]
+    found: dict[Things, Odd] = {}
+    for scopes in _patterns(Along(vocabulary.case), settled).values():
+        said = {scope: frozenset(_said(rule, scope) for rule in on.get(scope, ())) for scope in scopes}
+        (most, count), *_ = Counter(said.values()).most_common(1)
+        if len(scopes) < LEAST_GROUPS or 2 * count <= len(scopes):
+            continue
+        model = next(scope for scope in scopes if said[scope] == most)
+        for scope in scopes:
+            if said[scope] != most and scope not in found:
+                would = tuple(_moved(rule, model, scope, vocabulary) for rule in on.get(model, ()))
+                has = on.get(scope, ())
+                found[scope] = Odd(scope, has, would, count, behind(scope, has, would, answers))
+    return [found[scope] for scope in sorted(found)]
+
+
+def _patterns(along: Along, scopes: Iterable[Things]) -> dict[Pattern, list[Things]]:
+    """Groups by pattern, along each part of the grid."""
+    found: dict[Pattern, list[Things]] = defaultdict(list)
+    for scope in scopes:
+        for part in range(len(along.case.thing_parts)):
+            found[along.pattern(scope, part)].append(scope)
+    return found
+
+
+def _said(rule: Rule, scope: Things) -> Said:
+    return rule.word.text, tuple(scope.index(thing) for thing in rule.things)
+
+
+def _moved(rule: Rule, scope: Things, to: Things, vocabulary: Vocabulary) -> Rule:
+    """The same rule about the things of another group of the pattern."""
+    things = tuple(to[scope.index(thing)] for thing in rule.things)
+    return Rule(rule.word, things, rule.word.said_of(tuple(vocabulary.case.things[thing].name for thing in things)))
+
+
+def behind(scope: Things, has: Sequence[Rule], would: Sequence[Rule], answers: Sequence[Answer]) -> Things:
+    """The answers that made a group's rules what they are: each no about exactly this group that one of its own rules
+    explains and none of the others does, and each yes that breaks one of the others."""
+    found = []
+    for place, answer in enumerate(answers):
+        values = answer.question.values
+        breaks = any(rule.violated(values) for rule in would)
+        if answer.yes and breaks:
+            found.append(place)
+        elif not answer.yes and set(values) == set(scope) and not breaks and any(rule.violated(values) for rule in has):
+            found.append(place)
+    return tuple(found)
+
+
+# ---------------------------------------------------------------- all patterns side by side
+
+@dataclass(frozen=True)
+class Cell:
+    """What holds at one place of a pattern."""
+
+    text: str
+    odd: bool
+
+
+@dataclass(frozen=True)
+class Row:
+    """A pattern, and what holds at its places along its part."""
+
+    part: int
+    name: str
+    cells: dict[int, Cell]
+
+
+def rows(vocabulary: Vocabulary, learned: Sequence[Constraint], answers: Sequence[Answer], is_open: Callable[[Things], bool]) -> list[Row]:
+    """Each pattern of two groups and more, with the rules of its groups; each group stands in one row alone."""
+    along = Along(vocabulary.case)
+    if not along.is_grid:
+        return []
+    on = {constraint.scope: vocabulary.claims(constraint) for constraint in learned}
+    strange = {one.scope for one in odd(vocabulary, learned, answers, is_open)}
+    left, made = set(vocabulary.scopes), []
+    for pattern, scopes in sorted(_patterns(along, vocabulary.scopes).items(), key=lambda it: (-len(it[1]), it[0].part, it[0].fixed, it[0].steps)):
+        mine = [scope for scope in scopes if scope in left]
+        if len(mine) < 2:
+            continue
+        left -= set(mine)
+        cells = {along.member(scope, pattern.part): Cell(_shown(scope, on.get(scope, ()), is_open), scope in strange) for scope in mine}
+        made.append(Row(pattern.part, ", ".join(along.spoken(pattern)), cells))
+    return made
+
+
+def _shown(scope: Things, rules: Sequence[Rule], is_open: Callable[[Things], bool]) -> str:
+    """The rules of a group, shortly."""
+    if rules:
+        return "; ".join(dict.fromkeys(rule.word.text for rule in rules))
+    return "open" if is_open(scope) else "no rule"

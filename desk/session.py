@@ -1,0 +1,423 @@
+"""A case's session: the journal of the program, what desk keeps beside it, and a sitting in front of it.
+
+The journal is made, read and written by the program alone; desk looks at its first bytes, in which the plan and the vocabulary
+stand, to see whether they are still those of the case. What desk keeps beside it, in JSON: the text of the case when the
+session began, and the old answers that may answer for the person.
+"""
+
+from __future__ import annotations
+
+import fcntl
+import json
+import os
+import re
+from collections.abc import Sequence
+
+import casefile
+import vocabulary
+from foreseen import AGAIN, Foreseen, Old, old
+from model import Answer, Case, Constraint, Ending, Fault, Question, Values
+from possible import Possible
+from talk import Program, Run
+
+PLAN_OF_BYTE = {1: "scopes", 2: "quacq", 3: "multi"}
+
+
+def journal_of(path: str) -> str:
+    """The journal of a case."""
+    return re.sub(r"\.(case|journal)$", "", path) + ".journal"
+
+
+def kept_of(journal: str) -> str:
+    """What desk keeps beside a journal."""
+    return journal.removesuffix(".journal") + ".session"
+
+
+def head_of(journal: str) -> tuple[str, bytes] | None:
+    """The plan and the vocabulary of a journal; None where it has no session.
+
+    By the form of journals: a magic of 8 bytes, a gate, a kind, a length of 4 bytes, the plan, the vocabulary.
+    """
+    with open(journal, "rb") as file:
+        head = file.read(15)
+        if len(head) < 15 or head[8] != 1:
+            return None
+        return PLAN_OF_BYTE.get(head[14], "?"), file.read(int.from_bytes(head[10:14], "big") - 1)
+
+
+def read_kept(journal: str) -> dict[str, object]:
+    """What desk keeps beside a journal; empty where it isn't there."""
+    try:
+        with open(kept_of(journal), encoding="utf-8") as file:
+            kept = json.load(file)
+    except FileNotFoundError:
+        return {}
+    except (OSError, ValueError) as error:
+        raise Fault(f"{kept_of(journal)} can't be read: {error}") from None
+    if not isinstance(kept, dict) or not isinstance(kept.get("case"), str) or not isinstance(kept.get("before"), list):
+        raise Fault(f"{kept_of(journal)} isn't what desk keeps beside a session")
+    return kept
+
+
+def write_kept(journal: str, case: Case, before: Sequence[Old]) -> None:
+    """Puts down what desk keeps, as a whole or not at all."""
+    named = [{"yes": one.yes, "by": one.by, "values": {case.things[thing].name: case.values[value] for thing, value in one.values}} for one in before]
+    path = kept_of(journal)
+    with open(path + ".new", "w", encoding="utf-8") as file:
+        json.dump({"case": case.text, "before": named}, file, ensure_ascii=False, indent=1)
+        file.flush()
+        os.fsync(file.fileno())
+    os.replace(path + ".new", path)
+
+
+def old_answers(case: Case, named: Sequence[dict]) -> list[Old]:
+    """Old answers, of what the case has of their things and values.
+
+    What is left of an accepted one is accepted as well. A refused one that names what isn't there any more says nothing.
+    """
+    thing_of = {thing.name: thing for thing in case.things}
+    value_of = {name: value for value, name in enumerate(case.values)}
+    found = []
+    for one in named:
+        values: Values = {}
+        for name, label in one["values"].items():
+            thing, value = thing_of.get(name), value_of.get(label)
+            if thing is not None and value in thing.allowed:
+                values[thing.place] = value
+        if values and (one["yes"] or len(values) == len(one["values"])):
+            found.append(old(values, bool(one["yes"]), str(one["by"])))
+    return found
+
+
+def changed(before: Case, now: Case) -> str | None:
+    """What of a case has changed such that its answers mean something else; None where nothing has."""
+    def groups(case: Case) -> list[tuple[int, ...]]:
+        return [group.things for group in case.groups]
+    for what, one, other in (
+            ("its things are others", [(thing.name, thing.allowed) for thing in before.things], [(thing.name, thing.allowed) for thing in now.things]),
+            ("its values are others", before.values, now.values),
+            ("other groups are asked about", groups(before), groups(now)),
+            ("its words are others", [word.text for word in before.words], [word.text for word in now.words])):
+        if one != other:
+            return what
+    said = {(rule.word.text, rule.things) for rule in now.always}
+    if any((rule.word.text, rule.things) not in said for rule in before.always):
+        return "a rule that was said beforehand is gone"
+    return None
+
+
+class Session:
+    """The session of a case, held by a lock; a context manager."""
+
+    def __init__(self, words: vocabulary.Vocabulary, program: Program, journal: str, lock: int, budget: int | None) -> None:
+        """Made by `opened` alone."""
+        self.vocabulary = words
+        self.case, self.program, self.journal = self.vocabulary.case, program, journal
+        self._lock, self.budget = lock, budget
+        self.plan = ""
+        self.foreseen = Foreseen(self.case)
+        self.answers: list[Answer] = []
+        self.possible: Possible
+
+    @classmethod
+    def opened(cls, case: Case, program: Program, plan: str | None = None, budget: int | None = None, make: bool = True,
+               before: Sequence[dict] = ()) -> Session:
+        """Opens a case's session; a fault where that can't be.
+
+        It is made where there is none and `make` says so, with old answers by names that may answer for the person.
+        """
+        journal = journal_of(case.path)
+        if not make and not os.path.exists(journal):
+            raise Fault(f"{case.path} has no session yet: `desk ask {case.path}` begins one")
+        words = vocabulary.build(case)
+        session = cls(words, program, journal, locked(journal), budget)
+        try:
+            session.foreseen.before = old_answers(session.case, before)
+            session._begin(plan, make)
+        except BaseException:
+            session.close()
+            raise
+        return session
+
+    def __enter__(self) -> Session:
+        return self
+
+    def __exit__(self, *_: object) -> None:
+        self.close()
+
+    def close(self) -> None:
+        """Gives the lock back."""
+        if self._lock >= 0:
+            if os.fstat(self._lock).st_size == 0 and os.path.exists(self.journal):
+                os.unlink(self.journal)
+            os.close(self._lock)
+            self._lock = -1
+
+    def _begin(self, plan: str | None, make: bool) -> None:
+        """Makes the session or goes on with it."""
+        head = head_of(self.journal)
+        if head is None and os.fstat(self._lock).st_size > 9:
+            self.plan = "?"
+            self.reload()       # the program says what is wrong with the file
+        if head is None:
+            if not make:
+                raise Fault(f"{self.case.path} has no session yet: `desk ask {self.case.path}` begins one")
+            self._make(plan)
+        else:
+            self._go_on(head, plan)
+        self.reload()
+
+    def _make(self, plan: str | None) -> None:
+        """A new session."""
+        if plan is None and self.case.plan is None:
+            import check        # which asks this module for sessions as well
+            plan = check.advised(self.case, self.vocabulary, self.program)
+        self.plan = plan or self.case.plan or "scopes"
+        write_kept(self.journal, self.case, self.foreseen.before)
+        reply = self.program.call([self.journal, "new", "--plan", self.plan], self.vocabulary.json.encode())
+        if reply.status:
+            raise Fault(said_by(self.journal, reply.status, reply.text))
+
+    def _go_on(self, head: tuple[str, bytes], plan: str | None) -> None:
+        """A session that is there, where it is one of this case."""
+        self.plan, text = head
+        kept = read_kept(self.journal)
+        difference = changed(casefile.parse(str(kept["case"]), self.case.path), casefile.parse(self.case.text, self.case.path)) if kept else None
+        if difference is None and text != self.vocabulary.json.encode():
+            difference = "it is said to the program in another way"
+        if difference is not None:
+            self._shown()       # a file that is damaged isn't a case that has changed
+            raise Fault(f"{self.case.path} has changed since its session began: {difference}. Take the change back, or take the answers over "
+                        f"into a new session by `desk carry {self.case.path}`")
+        wanted = plan or self.case.plan
+        if wanted and wanted != self.plan:
+            raise Fault(f"the session of {self.case.path} has plan {self.plan}, which stays as long as it goes on")
+        self.foreseen = Foreseen(self.case, old_answers(self.case, kept.get("before", [])))
+        if kept.get("case") != self.case.text:
+            self.keep()
+
+    def keep(self) -> None:
+        """Puts down what desk keeps."""
+        write_kept(self.journal, self.case, self.foreseen.before)
+
+    def _shown(self) -> list[str]:
+        """What `show` prints; a fault where it refuses the file."""
+        reply = self.program.call([self.journal, "show"])
+        if reply.status:
+            raise Fault(said_by(self.journal, reply.status, reply.text))
+        return reply.lines
+
+    def reload(self) -> None:
+        """The answers that stand, as the program shows them."""
+        lines = self._shown()
+        self.answers = []
+        self.possible = Possible(self.vocabulary, self.plan)
+        for line in lines:
+            head, *tokens = line.split()
+            if is_question(head):
+                self.added(Question(int(head[1:]), self.vocabulary.values_of(tokens[:-1])), tokens[-1] == "yes")
+
+    def added(self, question: Question, yes: bool, by_person: bool = False) -> Answer:
+        """An answer that stands now. Where it isn't known who gave it, it counts as given for the person if it is foreseen."""
+        said = None if by_person else self.foreseen.answer(question.values)
+        answer = Answer(question, yes, said if said is not None and said.yes == yes else None)
+        self.answers.append(answer)
+        self.possible.take(question.values, yes)
+        return answer
+
+    def taken_back(self) -> Answer:
+        """The last answer stands no more."""
+        self.possible.back()
+        return self.answers.pop()
+
+    def contradicted(self, values: Values, yes: bool) -> None:
+        """Drops the old answers that a new one contradicts."""
+        if self.foreseen.forget(values, yes):
+            self.keep()
+
+    def learned(self) -> list[Constraint]:
+        """The constraints that are learned so far, as the program shows them."""
+        lines = self.program.call([self.journal, "show"]).lines
+        start = next((k for k, line in enumerate(lines) if re.fullmatch(r"learned \d+", line)), len(lines))
+        return [self.vocabulary.constraint(line) for line in lines[start + 1:] if not line.startswith("state ")]
+
+    def reduced(self) -> list[Constraint] | None:
+        """Those of them from which the others follow; None where the search for that is too long."""
+        reply = self.program.call([self.journal, "reduce", *self.budget_words()])
+        return None if reply.status else [self.vocabulary.constraint(line) for line in reply.lines[1:]]
+
+    def budget_words(self) -> list[str]:
+        """The option for the program."""
+        return [] if self.budget is None else ["--budget", str(self.budget)]
+
+    def state(self) -> Ending:
+        """Where the session stands; `suspended` where a question is open."""
+        reply = self.program.call([self.journal, "run", *self.budget_words()])
+        return ending_of(self.vocabulary, [line for line in reply.lines if not is_question(line.split()[0])], reply.status)
+
+    def sit(self) -> Sitting:
+        """A sitting in front of it."""
+        return Sitting(self)
+
+    def run(self) -> Run:
+        """The program over the journal, waiting for answers."""
+        return Run(self.program, [self.journal, "run", *self.budget_words()], self._lock)
+
+
+class Sitting:
+    """A person in front of a session; a context manager. Either a question waits, or it has ended."""
+
+    def __init__(self, session: Session) -> None:
+        """Starts the program; `advance` then finds the first question."""
+        self.session = session
+        self.question: Question | None = None
+        self.ending: Ending | None = None
+        self.given: list[Answer] = []
+        self._run: Run | None = session.run()
+
+    def __enter__(self) -> Sitting:
+        return self
+
+    def __exit__(self, *_: object) -> None:
+        self.close()
+
+    def advance(self) -> None:
+        """Goes on until the person is needed or the run has ended. What is foreseen is answered, and stands in `given`."""
+        self.question, self.given = None, []
+        while self._next():
+            assert self.question is not None and self._run is not None
+            said = self.session.foreseen.answer(self.question.values)
+            if said is None:
+                return
+            self._run.say("yes" if said.yes else "no")
+            self.given.append(self.session.added(self.question, said.yes))
+
+    def _next(self) -> bool:
+        """Reads the next question; False where the run has ended instead."""
+        if self._run is None:
+            return False
+        line = self._run.line()
+        head, *tokens = line.split() or [""]
+        if is_question(head):
+            self.question = Question(int(head[1:]), self.session.vocabulary.values_of(tokens))
+            return True
+        self._ended([line] if line else [])
+        return False
+
+    def _ended(self, lines: list[str]) -> None:
+        """Reads how the run has ended, and ends the program."""
+        assert self._run is not None
+        self.question = None
+        lines = lines + self._run.rest()
+        status = self._run.close()
+        self._run = None
+        self.ending = ending_of(self.session.vocabulary, [line for line in lines if not is_question(line.split()[0])], status)
+        if self.ending.word == "failed":
+            self.session.reload()
+
+    def answer(self, yes: bool) -> None:
+        """The person's answer to the question; `advance` goes on."""
+        assert self.question is not None and self._run is not None
+        self.session.contradicted(self.question.values, yes)
+        self._run.say("yes" if yes else "no")
+        self.session.added(self.question, yes, by_person=True)
+        self.question = None
+
+    def back(self) -> bool:
+        """Takes back the person's last answer and what was given for them behind it; False where they have answered nothing.
+
+        The question that comes again waits then.
+        """
+        own = [place for place, answer in enumerate(self.session.answers) if answer.said is None]
+        if not own:
+            return False
+        self._take_back(len(self.session.answers) - own[-1])
+        return True
+
+    def back_to(self, place: int) -> None:
+        """Takes back the answers from a place on, also after the end. Its question waits then.
+
+        The person's later ones are remembered first, and given again where they decide.
+        """
+        session = self.session
+        chosen = session.answers[place]
+        session.foreseen.remember([old(answer.question.values, answer.yes, AGAIN) for answer in session.answers[place + 1:]
+                                   if answer.said is None or answer.said.by == AGAIN])
+        # neither an old answer nor a later one is to decide the question that the person wants to see again
+        session.foreseen.forget(chosen.question.values, not chosen.yes)
+        session.keep()
+        self._take_back(len(session.answers) - place)
+
+    def _take_back(self, count: int) -> None:
+        """Takes so many answers back, by the run where one waits, else by calls."""
+        if self._run is None or self.question is None:
+            self._restart(count)
+            return
+        for _ in range(count):
+            self._run.say("back")
+            if not self._next():
+                return
+            self.session.taken_back()
+
+    def _restart(self, count: int) -> None:
+        """Takes answers back by calls, and starts the program again."""
+        self.close()
+        for _ in range(count):
+            reply = self.session.program.call([self.session.journal, "back"])
+            if reply.status:
+                raise Fault(said_by(self.session.journal, reply.status, reply.text))
+            self.session.taken_back()
+        self.ending, self._run = None, self.session.run()
+        self._next()
+
+    def stop(self) -> None:
+        """The person stops; all answers are kept."""
+        if self._run is not None:
+            self._ended([])
+
+    def close(self) -> None:
+        """Leaves no process behind."""
+        if self._run is not None:
+            self._run.close()
+            self._run = None
+
+
+def is_question(head: str) -> bool:
+    """Whether a line that begins so is a question's."""
+    return head[:1] == "q" and head[1:].isdigit()
+
+
+def ending_of(words: vocabulary.Vocabulary, lines: Sequence[str], status: int) -> Ending:
+    """How a run has ended, from its closing lines."""
+    head = lines[0].split() if lines else []
+    if len(head) == 2 and head[0] in ("converged", "collapsed", "undecided", "suspended"):
+        learned = tuple(words.constraint(line) for line in lines[1:] if not line.startswith("open "))
+        left = tuple(words.constraint(line.removeprefix("open ")) for line in lines[1:] if line.startswith("open "))
+        return Ending(head[0], int(head[1]), learned, left, status)
+    return Ending("refused" if head[:1] == ["refused"] else "failed", 0, status=status, text="\n".join(lines))
+
+
+def said_by(journal: str, status: int, text: str) -> str:
+    """What the program said, for people."""
+    reasons = {8: "its input failed", 9: "its output failed", 10: "the file may not be read and written, or the disk is full", 11: "memory was wanting"}
+    if status < 0:
+        return f"{journal}: acquire was ended by signal {-status}; the answers are kept"
+    said = text.strip().splitlines()
+    return f"{journal}: acquire says: {said[-1] if said else reasons.get(status, f'status {status}')}"
+
+
+def locked(journal: str) -> int:
+    """The journal, opened and locked; a fault where another desk has it."""
+    try:
+        try:
+            file = os.open(journal, os.O_RDWR | os.O_CREAT, 0o666)
+        except PermissionError:
+            file = os.open(journal, os.O_RDONLY)
+    except OSError as error:
+        raise Fault(f"{journal}: {error.strerror}") from None
+    try:
+        fcntl.flock(file, fcntl.LOCK_EX | fcntl.LOCK_NB)
+    except BlockingIOError:
+        os.close(file)
+        raise Fault(f"{journal}: another desk works on it; end that one first") from None
+    return file
