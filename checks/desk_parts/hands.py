@@ -291,6 +291,8 @@ class Terminal:
             del whole[name]
         self.pid, self.file = pty.fork()
         if self.pid == 0:
+            # whoever started this check in the background has Ctrl-C ignored, and a new program would take that over
+            signal.signal(signal.SIGINT, signal.SIG_DFL)
             os.execvpe(command[0], command, whole)
         fcntl.ioctl(self.file, termios.TIOCSWINSZ, struct.pack("HHHH", height, width, 0, 0))
         self.status: int | None = None
