@@ -79,9 +79,8 @@ def part(name: str, program: str, call: str = "run", folder: str = DESK, enough:
 
 def planted(program: str, bugs: list[tuple[str, int]]) -> list[str]:
     """Plants bugs in copies of desk, one each; those that their part doesn't notice."""
-    def one(bug: tuple[str, int]) -> str | None:
-        name, place = bug
-        file, old, new = importlib.import_module(name).PLANTED[place]
+    def one(bug: tuple[str, tuple[str, str, str]]) -> str | None:
+        name, (file, old, new) = bug
         with tempfile.TemporaryDirectory() as folder:
             copy = os.path.join(folder, "desk")
             shutil.copytree(DESK, copy, ignore=shutil.ignore_patterns("__pycache__"))
@@ -94,8 +93,10 @@ def planted(program: str, bugs: list[tuple[str, int]]) -> list[str]:
                 source.write(text.replace(old, new, 1))
             _, faults = part(name, program, "quick", copy, 0)
         return None if faults else f"{name} doesn't notice that in {file} `{old.strip()}` is `{new.strip()}`"
+    # The parts are imported here: threads that import side by side may see a module that isn't whole yet.
+    changes = [(name, importlib.import_module(name).PLANTED[place]) for name, place in bugs]
     with ThreadPoolExecutor(4) as pool:
-        return [fault for fault in pool.map(one, bugs) if fault]
+        return [fault for fault in pool.map(one, changes) if fault]
 
 
 def main() -> int:
