@@ -79,9 +79,11 @@ def part(name: str, program: str, call: str = "run", folder: str = DESK, enough:
 
 def planted(program: str, bugs: list[tuple[str, int]]) -> list[str]:
     """Plants bugs in copies of desk, one each; those that their part doesn't notice."""
-    def one(bug: tuple[str, int]) -> str | None:
-        name, place = bug
-        file, old, new = importlib.import_module(name).PLANTED[place]
+    # The parts are read in here: threads that import at the same time may find a module of Python's half read.
+    changes = [(name, *importlib.import_module(name).PLANTED[place]) for name, place in bugs]
+
+    def one(change: tuple[str, str, str, str]) -> str | None:
+        name, file, old, new = change
         with tempfile.TemporaryDirectory() as folder:
             copy = os.path.join(folder, "desk")
             shutil.copytree(DESK, copy, ignore=shutil.ignore_patterns("__pycache__"))
@@ -95,7 +97,7 @@ def planted(program: str, bugs: list[tuple[str, int]]) -> list[str]:
             _, faults = part(name, program, "quick", copy, 0)
         return None if faults else f"{name} doesn't notice that in {file} `{old.strip()}` is `{new.strip()}`"
     with ThreadPoolExecutor(4) as pool:
-        return [fault for fault in pool.map(one, bugs) if fault]
+        return [fault for fault in pool.map(one, changes) if fault]
 
 
 def main() -> int:
