@@ -3,8 +3,9 @@
 #
 # `rt try` compiles the source without proof, runs it once and keeps no program. So it is called over a copy of the kit, made of
 # links, in which three of its tools are small scripts: the compiler optimizes, and leaves out the tests of addresses, which make the
-# program many times slower; the linker leaves what it linked; the prover, which looks for names that a proof couldn't have, yields to
-# both. Where the kit calls them in another way than these scripts expect, its words are passed on as they are.
+# program many times slower; the linker leaves what it linked; the prover, which would look beside them for names that a proof couldn't
+# have, and takes a quarter of a build's processor time for that, does nothing. Where the kit calls the others in another way than these
+# scripts expect, its words are passed on as they are.
 
 # Lays the copy out in the folder `room`. What is linked there is left as `linked`.
 lay_out_kit() {
@@ -55,10 +56,7 @@ done
 END
     chmod +x "$to/toolchain/bin/clang" "$to/toolchain/bin/ld.lld"
     [ -e "$to/bin/rattle" ] || return 0
-    rm "$to/bin/rattle" && cat >"$to/bin/rattle" <<'END' && chmod +x "$to/bin/rattle"
-#!/bin/sh
-exec nice -n 19 "${0%/*}/../../from/bin/rattle" "$@"
-END
+    rm "$to/bin/rattle" && printf '#!/bin/sh\n' >"$to/bin/rattle" && chmod +x "$to/bin/rattle"
 }
 
 # Links what lies in one folder into another one, but for what is there.
