@@ -43,6 +43,26 @@ one_member xs rest x goes none y z at_y at_z = sym (is y at_y) ∙ is z at_z
         go true same lost = eqb-true x w same
         go false other lost = absurd (both_ways _ lost (and_from _ _ at (ap not other)))
 
+pub two_long : (xs : List ℕ) → HasTwo xs → 1 < length xs
+two_long [] is = absurd (both_ways _ refl is.there)
+two_long (x ∷ []) is = absurd (is.apart (sym (one is.first is.there) ∙ one is.second is.also))
+  where
+    one : (y : ℕ) → has (x ∷ []) y ≡ true → x ≡ y
+    one y h = go (or_cases (x == y) false h)
+      where
+        go : ((x == y) ≡ true) ⊎ (false ≡ true) → x ≡ y
+        go (inl same) = eqb-true x y same
+        go (inr never) = absurd (both_ways _ refl never)
+two_long (x ∷ y ∷ xs) is = omega arith
+
+pub one_long : (xs : List ℕ) → IsSet xs → ((y z : ℕ) → has xs y ≡ true → has xs z ≡ true → y ≡ z) → length xs ≤ 1
+one_long [] set one = omega arith
+one_long (x ∷ []) set one = omega arith
+one_long (x ∷ y ∷ xs) set one = absurd (
+    let same : x ≡ y = one x y (has_head x (y ∷ xs)) (or_right _ _ (has_head y xs)) in
+    let rises : x + 1 ≤ y = set.2.0 in
+    omega arith)
+
 -- ---- more values than are rejected
 
 -- a member that passes, or none

@@ -1,6 +1,6 @@
 //! Sets of values, each a mask of 64 bits.
 
-ghost use Rattle.std.specs.Prelude.{◌≡◌, ◌≢◌, ◌<◌, ◌≤◌, ◌==◌, ℕ, true, not, nat_le, ◌&&◌, ◌||◌, IfSome, None, length};
+ghost use Rattle.std.specs.Prelude.{◌≡◌, ◌≢◌, ◌<◌, ◌≤◌, ◌==◌, ℕ, true, not, nat_le, nat_lt, ◌&&◌, ◌||◌, IfSome, None, length};
 ghost use Rattle.std.specs.List.{filter};
 ghost use Rattle.assign.specs.Sets.{numbers, has};
 ghost use Rattle.std.specs.Int.{bit_at};
@@ -125,6 +125,19 @@ pub(crate) fn count(values: u64) -> u8
     ensures few { result ≤ 64 }
 {
     values.count_ones() as u8
+}
+
+/// Whether there are more members than so many.
+#[inline]
+pub(crate) fn are_more(values: u64, most: u8) -> bool
+    ensures is { result ≡ nat_lt most (length (ones_of values)) }
+    ensures few { result ≡ true → most < 64 }
+{
+    if most != 1 {
+        return count(values) > most;
+    }
+    // Whether there is a second one is seen without counting them.
+    values != 0 && without_value(values, least_value(values)) != 0
 }
 
 /// The members, and x.
