@@ -39,3 +39,4 @@ pub mod OneLanguage
 pub mod InOrder
 pub mod Alike
 pub mod PairMasking
+pub mod Running

@@ -1,17 +1,20 @@
 -- The masks of relations of two variables, one after another.
-use Rattle.std.proofs.Common.{◌≡◌, ℕ, zero, suc, ◌+◌, ◌-◌, ◌*◌, take, drop, ◌<◌, ◌≤◌, Bool, true, false, cond, not, List, [], ◌∷◌, ◌++◌, length, refl, sym, ◌∙◌, ap, subst, arith, inl, inr, ◌⊎◌}
-use Rattle.std.specs.Prelude.{◌==◌, ◌≢◌, slice_index_or, slice_set, max}
+use Rattle.std.proofs.Common.{◌≡◌, ℕ, zero, suc, ◌+◌, ◌-◌, ◌*◌, ◌%◌, ◌&&◌, take, drop, ◌<◌, ◌≤◌, Bool, true, false, cond, not, List, [], ◌∷◌, ◌++◌, length, refl, sym, ◌∙◌, ap, subst, arith, inl, inr, ◌⊎◌}
+use Rattle.std.specs.Prelude.{◌==◌, ◌≢◌, nat_le, slice_index_or, slice_set, max}
 use Rattle.std.specs.Int.{bit_at}
-use Rattle.std.specs.List.{filter}
+use Rattle.std.specs.Bool.{beq}
+use Rattle.std.specs.List.{filter, list_all, range_with_len}
+use Rattle.std.proofs.lemmas.List.Folds.{list_all-append, list_all_at}
+use Rattle.std.proofs.lemmas.List.FromFn.{length-range_with_len, get_or-range_with_len}
 use Rattle.std.proofs.lemmas.List.{get_or-set_same, get_or-set_other, length-append, get_or_append_left, get_or-append_right, get_or-take, get_or-drop}
 use Rattle.std.proofs.Math.Seq.{take-append_seam}
 use Rattle.std.proofs.lemmas.List.Elements.{filter-append}
-use Rattle.std.proofs.lemmas.Bool.{cases_eq}
+use Rattle.std.proofs.lemmas.Bool.{cases_eq, both_ways}
 use Rattle.std.proofs.Math.Nat.{le-max_left, le-max_right}
 use Rattle.assign.specs.Sets.{numbers}
 use Rattle.assign.specs.SetLemmas.{filter_agree_from}
 use Rattle.rel_table.specs.Relation.{Relation}
-use Rattle.language.specs.Pairs.{go_together, rejected_of, most_of, ArePairTables, IsPairTable}
+use Rattle.language.specs.Pairs.{go_together, rejected_of, most_of, ArePairTables, IsPairTable, changes_of, is_running}
 use Rattle.language.specs.PairMasks.{AreMasksFrom, ArePairMasksAt}
 use Rattle.language.specs.declared.masks.PairBounds.{PairBounds}
 use Rattle.language.specs.Language.{Language}
@@ -100,6 +103,67 @@ pub bounds_from : (d : ℕ) (together : ℕ → ℕ → Bool) (masks : List ℕ)
     most_of (λ x. rejected_of d (λ y. bit_at (slice_index_or masks (at + x) 0) y == 1)) d ≡ most_of (λ x. rejected_of d (together x)) d
 bounds_from d together masks at are = most_same _ _ d (λ x low. rejected_same d (λ y. bit_at (slice_index_or masks (at + x) 0) y == 1) (together x) (λ y few. are x y low few))
 
+-- ---- how often bits change
+
+pub changes_more : (test : ℕ → Bool) (x : ℕ) → 1 ≤ x → changes_of test (x + 1) ≡ changes_of test x + cond (beq (test (x - 1)) (test x)) 0 1
+changes_more test zero some = absurd (omega arith)
+changes_more test (suc k) some =
+    let next : suc k + 1 ≡ suc (suc k) = omega arith in
+    let before : suc k - 1 ≡ k = omega arith in
+    ap (changes_of test) next ∙ ap (λ (n : ℕ). changes_of test (suc k) + cond (beq (test n) (test (suc k))) 0 1) (sym before)
+
+pub changes_few : (test : ℕ → Bool) (x : ℕ) → changes_of test x ≤ x
+changes_few test zero = omega arith
+changes_few test (suc zero) = omega arith
+changes_few test (suc (suc k)) = (let rest = changes_few test (suc k) in let one = small (beq (test k) (test (suc k))) in omega arith)
+  where
+    small : (b : Bool) → cond b 0 1 ≤ 1
+    small true = omega arith
+    small false = omega arith
+
+pub changes_same : (p q : ℕ → Bool) (d : ℕ) → ((x : ℕ) → x < d → p x ≡ q x) → changes_of p d ≡ changes_of q d
+changes_same p q zero h = refl
+changes_same p q (suc zero) h = refl
+changes_same p q (suc (suc k)) h = λ i. changes_same p q (suc k) (λ x low. h x (omega arith)) i + cond (beq (h k (omega arith) i) (h (suc k) (omega arith) i)) 0 1
+
+pub change_on : (b differ : Bool) → differ ≡ not b → differ ≡ true → ◌≡◌ {A = ℕ} (cond b 0 1) 1
+change_on true differ is on = absurd (both_ways differ is on)
+change_on false differ is on = refl
+
+pub change_off : (b differ : Bool) → differ ≡ not b → differ ≡ false → ◌≡◌ {A = ℕ} (cond b 0 1) 0
+change_off true differ is off = refl
+change_off false differ is off = absurd (both_ways differ off is)
+
+-- of two bits
+pub differ_is : (x y : ℕ) → x < 2 → y < 2 → ((x + y) % 2 == 1) ≡ not (beq (x == 1) (y == 1))
+differ_is zero zero h k = refl
+differ_is zero (suc zero) h k = refl
+differ_is (suc zero) zero h k = refl
+differ_is (suc zero) (suc zero) h k = refl
+differ_is zero (suc (suc y)) h k = absurd (omega arith)
+differ_is (suc zero) (suc (suc y)) h k = absurd (omega arith)
+differ_is (suc (suc x)) y h k = absurd (omega arith)
+
+pub running_more : (p : ℕ → Bool) (y : ℕ) → list_all p (numbers y) ≡ true → p y ≡ true → list_all p (numbers (y + 1)) ≡ true
+running_more p y before here = ap (list_all p) (numbers_more y) ∙ list_all-append p (numbers y) (y ∷ []) ∙ (λ i. before i && (here i && true))
+
+pub running_fails : (p : ℕ → Bool) (d y : ℕ) → y < d → p y ≡ false → list_all p (numbers d) ≡ false
+running_fails p d y low fails =
+    list_all_at p (numbers d) y 0 (let long = length-range_with_len 0 d in omega arith)
+    (ap p (get_or-range_with_len 0 d y 0 low ∙ (let e : 0 + y ≡ y = omega arith in e)) ∙ fails)
+
+pub running_from : (d : ℕ) (together : ℕ → ℕ → Bool) (masks : List ℕ) (at : ℕ) → AreMasksFrom d together masks at →
+    is_running d (λ x y. bit_at (slice_index_or masks (at + x) 0) y == 1) ≡ is_running d together
+running_from d together masks at are = all_same (λ y low. ap (λ n. nat_le n 1) (changes_same (λ x. bit_at (slice_index_or masks (at + x) 0) y == 1) (λ x. together x y) d (λ x few. are x y few low)))
+  where
+    all_same : ((y : ℕ) → y < d → nat_le (changes_of (λ x. bit_at (slice_index_or masks (at + x) 0) y == 1) d) 1 ≡ nat_le (changes_of (λ x. together x y) d) 1) →
+        is_running d (λ x y. bit_at (slice_index_or masks (at + x) 0) y == 1) ≡ is_running d together
+    all_same same = all_agree (λ y. nat_le (changes_of (λ x. bit_at (slice_index_or masks (at + x) 0) y == 1) d) 1) (λ y. nat_le (changes_of (λ x. together x y) d) 1) 0 d (λ y from low. same y (omega arith))
+      where
+        all_agree : (p q : ℕ → Bool) (a n : ℕ) → ((y : ℕ) → a ≤ y → y < a + n → p y ≡ q y) → list_all p (range_with_len a n) ≡ list_all q (range_with_len a n)
+        all_agree p q a zero h = refl
+        all_agree p q a (suc n) h = λ i. h a (omega arith) (omega arith) i && all_agree p q (a + 1) n (λ y from low. h y (omega arith) (omega arith)) i
+
 -- ---- one table after another
 
 -- other tables' masks may change
@@ -138,6 +202,7 @@ table_more d pairs t old_rows rows old_columns columns bounds b few low rows_lon
           by_column = masks_stay d (λ y x. go_together d (slice_index_or pairs k []) x y) old_columns columns k t few before other_columns old.by_column;
           first = old.first;
           second = old.second;
+          chain = old.chain;
         })
 
 pub masks_as : (d : ℕ) (pairs : List Relation) (t : ℕ) (rows other_rows columns other_columns : List ℕ) (bounds other_bounds : List PairBounds) → rows ≡ other_rows → columns ≡ other_columns → bounds ≡ other_bounds →

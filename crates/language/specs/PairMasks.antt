@@ -2,7 +2,7 @@
 use Rattle.std.specs.Prelude.{ℕ, ◌+◌, ◌*◌, ◌<◌, ◌≡◌, ◌==◌, Bool, List, [], length, slice_index_or}
 use Rattle.std.specs.Int.{bit_at}
 use Rattle.rel_table.specs.Relation.{Relation}
-use Rattle.language.specs.Pairs.{go_together, first_bound, second_bound}
+use Rattle.language.specs.Pairs.{go_together, first_bound, second_bound, is_chain}
 use Rattle.language.specs.declared.masks.PairBounds.{PairBounds}
 use Rattle.language.specs.declared.masks.PairMasks.{PairMasks}
 
@@ -16,6 +16,7 @@ pub record ArePairMasksAt (d : ℕ) (r : Relation) (rows columns : List ℕ) (at
   pub by_column : AreMasksFrom d (λ y x. go_together d r x y) columns at
   pub first : b.first ≡ first_bound d r
   pub second : b.second ≡ second_bound d r
+  pub chain : b.is_chain ≡ is_chain d r
 
 -- and of one table after another
 pub record ArePairMasks (d : ℕ) (pairs : List Relation) (m : PairMasks) : Type 0 where

@@ -1,6 +1,7 @@
 -- The relations of two variables by masks: which values go together, and how many a value rejects at most.
-use Rattle.std.specs.Prelude.{ℕ, zero, suc, ◌+◌, ◌*◌, ◌<◌, ◌≡◌, ◌==◌, Bool, false, not, List, [], length, slice_index_or, max}
-use Rattle.std.specs.List.{filter}
+use Rattle.std.specs.Prelude.{ℕ, zero, suc, ◌+◌, ◌*◌, ◌<◌, ◌≡◌, ◌==◌, ◌&&◌, Bool, false, not, cond, nat_le, List, [], length, slice_index_or, max}
+use Rattle.std.specs.Bool.{beq}
+use Rattle.std.specs.List.{filter, list_all}
 use Rattle.std.specs.Int.{bit_at}
 use Rattle.assign.specs.Sets.{numbers}
 use Rattle.rel_table.specs.Relation.{Relation, IsClosing}
@@ -45,3 +46,17 @@ first_bound d r = most_of (λ y. rejected_of d (λ x. go_together d r x y)) d
 
 abbrev pub second_bound : ℕ → Relation → ℕ
 second_bound d r = most_of (λ x. rejected_of d (go_together d r x)) d
+
+-- how often a test changes as it goes over the first numbers
+abbrev pub changes_of : (ℕ → Bool) → ℕ → ℕ
+changes_of test zero = 0
+changes_of test (suc zero) = 0
+changes_of test (suc (suc k)) = changes_of test (suc k) + cond (beq (test k) (test (suc k))) 0 1
+
+-- whether, as x goes over the values, each of the others begins or ceases to go with it once at most
+abbrev pub is_running : ℕ → (ℕ → ℕ → Bool) → Bool
+is_running d together = list_all (λ y. nat_le (changes_of (λ x. together x y) d) 1) (numbers d)
+
+-- whether it is so for either variable, as with all orders
+abbrev pub is_chain : ℕ → Relation → Bool
+is_chain d r = is_running d (go_together d r) && is_running d (λ y x. go_together d r x y)

@@ -1,12 +1,13 @@
 //! The relations of two variables by masks: which values go together, and how many a value rejects at most.
 
-ghost use Rattle.std.specs.Prelude.{◌≡◌, ◌+◌, ◌*◌, ◌<◌, ◌≤◌, ◌==◌, ◌⊎◌, ℕ, List, [], All, IfOk, length, slice_index_or};
+ghost use Rattle.std.specs.Prelude.{◌≡◌, ◌+◌, ◌*◌, ◌<◌, ◌≤◌, ◌==◌, ◌&&◌, ◌⊎◌, ℕ, not, List, [], All, IfOk, length, slice_index_or};
+ghost use Rattle.std.specs.Bool.{beq};
 ghost use Rattle.std.specs.Int.{bit_at};
 ghost use Rattle.rel_table.specs.Relation.{Relation};
 ghost use Rattle.rel_table.specs.Closing.{IsOfKind};
 ghost use Rattle.language.specs.Inside.{truths};
 ghost use Rattle.language.specs.Language.{scope_at, relations_on};
-ghost use Rattle.language.specs.Pairs.{go_together, rejected_of, most_of, first_bound, second_bound, AreMasksOf, ArePairTables, IsPairTable, IsPairTableOn};
+ghost use Rattle.language.specs.Pairs.{go_together, rejected_of, most_of, first_bound, second_bound, changes_of, is_running, is_chain, AreMasksOf, ArePairTables, IsPairTable, IsPairTableOn};
 ghost use Rattle.language.specs.PairMasks.{AreMasksFrom, ArePairMasksAt, ArePairMasks};
 
 use crate::candidates::ScopeId;
@@ -14,13 +15,17 @@ use crate::lang::Language;
 use rel_table::Table;
 use std::alloc::{AllocError, Global};
 
-/// For a relation of two variables how many values of one it rejects at most beside a value of the other.
+/// For a relation of two variables how many values of one it rejects at most beside a value of the other, and whether these
+/// run one way.
 #[derive(Clone, Copy, Debug, PartialEq, Eq)]
 pub struct PairBounds {
     /// Of the first variable's values.
     pub first: u8,
     /// Of the second variable's values.
     pub second: u8,
+    /// Whether it is a chain: as either variable goes over its values, each value of the other begins or ceases once at most
+    /// to go with them. All orders are chains.
+    pub is_chain: bool,
 }
 
 /// For tables of two variables, by number, and each value of either variable, the values of the other that go with it.
@@ -94,6 +99,58 @@ fn most_rejected(masks: &[u64], at: usize, d: u8) -> u8
     most
 }
 
+/// Whether one of two masks has a bit that the other lacks.
+fn differ_at(one: u64, other: u64, x: u8) -> bool
+    requires { x < 64 }
+    ensures { result ≡ not (beq (bit_at one x == 1) (bit_at other x == 1)) }
+{
+    ((one ^ other) >> x) & 1 == 1
+}
+
+/// How often a bit changes over d masks from a place on.
+fn changes(masks: &[u64], at: usize, d: u8, bit: u8) -> u8
+    requires some { 1 ≤ d }
+    requires few { d ≤ 64 }
+    requires fit { at + 64 ≤ length masks.now }
+    requires bit { bit < 64 }
+    ensures { result ≡ changes_of (λ x. bit_at (slice_index_or masks.now (at + x) 0) bit == 1) d }
+{
+    let mut changes = 0;
+    for x in 1..d {
+        let here = at + usize::from(x);
+        if differ_at(masks[here - 1], masks[here], bit) {
+            changes += 1;
+        }
+    }
+    changes
+}
+
+/// Whether over d masks from a place on each of the first d bits changes once at most.
+fn are_running(masks: &[u64], at: usize, d: u8) -> bool
+    requires some { 1 ≤ d }
+    requires few { d ≤ 64 }
+    requires fit { at + 64 ≤ length masks.now }
+    ensures { result ≡ is_running d (λ x y. bit_at (slice_index_or masks.now (at + x) 0) y == 1) }
+{
+    for y in 0..d {
+        if changes(masks, at, d, y) > 1 {
+            return false;
+        }
+    }
+    true
+}
+
+/// Whether it is so of a relation's rows and of its columns.
+fn is_chain(rows: &[u64], columns: &[u64], at: usize, d: u8) -> bool
+    requires some { 1 ≤ d }
+    requires few { d ≤ 64 }
+    requires rows_fit { at + 64 ≤ length rows.now }
+    requires columns_fit { at + 64 ≤ length columns.now }
+    ensures { result ≡ (is_running d (λ x y. bit_at (slice_index_or rows.now (at + x) 0) y == 1) && is_running d (λ y x. bit_at (slice_index_or columns.now (at + y) 0) x == 1)) }
+{
+    are_running(rows, at, d) && are_running(columns, at, d)
+}
+
 /// Writes the masks of table t, and gives its bounds.
 fn write_table(rows: &mut [u64], columns: &mut [u64], t: usize, table: &Table) -> PairBounds
     requires two { table.now.arity ≡ 2 }
@@ -110,6 +167,7 @@ fn write_table(rows: &mut [u64], columns: &mut [u64], t: usize, table: &Table) -
     PairBounds {
         first: most_rejected(columns, 64 * t, d),
         second: most_rejected(rows, 64 * t, d),
+        is_chain: is_chain(rows, columns, 64 * t, d),
     }
 }
 
@@ -173,12 +231,14 @@ impl Language {
         &self.pairs.columns[at..at + 64]
     }
 
-    /// How many values of either variable a table of two variables rejects at most beside a value of the other, of all values.
+    /// How many values of either variable a table of two variables rejects at most beside a value of the other, of all values,
+    /// and whether it is a chain.
     #[inline]
     pub fn pair_bounds(&self, table: u8) -> PairBounds
         requires { IsPairTable self.now table }
         ensures first { (pairs : List Relation) → ArePairTables self.now pairs → result.first ≡ first_bound self.now.value_count (slice_index_or pairs table []) }
         ensures second { (pairs : List Relation) → ArePairTables self.now pairs → result.second ≡ second_bound self.now.value_count (slice_index_or pairs table []) }
+        ensures chain { (pairs : List Relation) → ArePairTables self.now pairs → result.is_chain ≡ is_chain self.now.value_count (slice_index_or pairs table []) }
     {
         self.pairs.bounds[usize::from(table)]
     }

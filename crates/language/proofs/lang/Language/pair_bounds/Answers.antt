@@ -13,3 +13,8 @@ pub returns-clause-second : goal.returns-clause-second
 returns-clause-second c pairs are =
     ap (λ (b : PairBounds). b.second) c.index.ensures ∙ ap (λ (n : ℕ). (slice_index_or c.self.inside.pairs.bounds.items n c.index.result.now).second) c.from.ensures
     ∙ (masks_here c.self.inside c.self.invariant c.args.self.now c.self.view_is pairs c.args.table c.index.result.now c.requires are).second
+
+pub returns-clause-chain : goal.returns-clause-chain
+returns-clause-chain c pairs are =
+    ap (λ (b : PairBounds). b.is_chain) c.index.ensures ∙ ap (λ (n : ℕ). (slice_index_or c.self.inside.pairs.bounds.items n c.index.result.now).is_chain) c.from.ensures
+    ∙ (masks_here c.self.inside c.self.invariant c.args.self.now c.self.view_is pairs c.args.table c.index.result.now c.requires are).chain
