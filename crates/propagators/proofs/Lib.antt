@@ -13,4 +13,5 @@ pub mod Visiting
 pub mod Beside
 pub mod Masking
 pub mod Lazy
+pub mod Chains
 pub mod ByMasks

@@ -20,6 +20,8 @@ use Rattle.propagators.specs.Briefs.{IsBriefOf, IsBriefIn}
 use Rattle.propagators.specs.declared.briefs.Brief.{Brief}
 use Rattle.propagators.specs.declared.briefs.Brief.TheVariants.{Two, Other}
 use Rattle.propagators.specs.declared.plan.PairMasks.{PairMasks}
+use Rattle.propagators.specs.Chains.{IsRunning}
+use Rattle.propagators.proofs.Chains.{running_wanted}
 use Rattle.propagators.proofs.Ones.{ones_of-zero, has-ones_of}
 
 -- ---- one mask after another
@@ -89,12 +91,18 @@ column_end table y x column all few is z low = sym (has-ones_of column z (omega 
 
 pub bounded_by : (d : ℕ) (table : TruthTable) (holding : Bool) (rows columns : List ℕ) (at : ℕ) (b : Bounds) → table.value_count ≡ d → AreMasksOf d (goes table) rows at → AreMasksOf d (λ y x. goes table x y) columns at →
     ((y : ℕ) → y < d → rejected_of d (λ x. is_wanted holding (bit_at (slice_index_or columns (at + y) 0) x == 1)) ≤ b.first) →
-    ((x : ℕ) → x < d → rejected_of d (λ y. is_wanted holding (bit_at (slice_index_or rows (at + x) 0) y == 1)) ≤ b.second) → IsBounded d (continues table holding 0) b
-bounded_by d table holding rows columns at b values in_rows in_columns first second = record {
+    ((x : ℕ) → x < d → rejected_of d (λ y. is_wanted holding (bit_at (slice_index_or rows (at + x) 0) y == 1)) ≤ b.second) →
+    (b.is_chain ≡ true → IsRunning d (λ x y. bit_at (slice_index_or rows (at + x) 0) y == 1)) → (b.is_chain ≡ true → IsRunning d (λ y x. bit_at (slice_index_or columns (at + y) 0) x == 1)) →
+    IsBounded d (continues table holding 0) b
+bounded_by d table holding rows columns at b values in_rows in_columns first second rows_run columns_run = record {
   first = λ y low. subst (λ (k : ℕ). k ≤ b.first) (rejected_same d (λ x. is_wanted holding (bit_at (slice_index_or columns (at + y) 0) x == 1)) (λ x. continues table holding 0 (x ∷ y ∷ []))
       (λ x few. ap (is_wanted holding) (in_columns y x low few) ∙ sym (accepts x y))) (first y low);
   second = λ x low. subst (λ (k : ℕ). k ≤ b.second) (rejected_same d (λ y. is_wanted holding (bit_at (slice_index_or rows (at + x) 0) y == 1)) (λ y. continues table holding 0 (x ∷ y ∷ []))
       (λ y few. ap (is_wanted holding) (in_rows x y low few) ∙ sym (accepts x y))) (second x low);
+  chain = λ told. record {
+    rows = running_wanted d holding (λ x y. bit_at (slice_index_or rows (at + x) 0) y == 1) (λ x y. continues table holding 0 (x ∷ y ∷ [])) (λ x y low few. accepts x y ∙ ap (is_wanted holding) (sym (in_rows x y low few))) (rows_run told);
+    columns = running_wanted d holding (λ y x. bit_at (slice_index_or columns (at + y) 0) x == 1) (λ y x. continues table holding 0 (x ∷ y ∷ [])) (λ y x low few. accepts x y ∙ ap (is_wanted holding) (sym (in_columns y x low few))) (columns_run told);
+  };
 }
   where
     accepts : (x y : ℕ) → continues table holding 0 (x ∷ y ∷ []) ≡ is_wanted holding (goes table x y)

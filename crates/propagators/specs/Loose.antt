@@ -2,6 +2,7 @@
 use Rattle.std.specs.Prelude.{ℕ, ◌≡◌, ◌≢◌, ◌<◌, ◌≤◌, Bool, true, not, List, [], ◌∷◌, length}
 use Rattle.std.specs.List.{filter}
 use Rattle.assign.specs.Sets.{numbers, has, IsSet}
+use Rattle.propagators.specs.Chains.{IsChain}
 use Rattle.propagators.specs.declared.plan.Bounds.{Bounds}
 
 -- two members
@@ -26,3 +27,5 @@ rejected_of d test = length (filter (λ x. not (test x)) (numbers d))
 pub record IsBounded (d : ℕ) (accepted : List ℕ → Bool) (b : Bounds) : Type 0 where
   pub first : (y : ℕ) → y < d → rejected_of d (λ x. accepted (x ∷ y ∷ [])) ≤ b.first
   pub second : (x : ℕ) → x < d → rejected_of d (λ y. accepted (x ∷ y ∷ [])) ≤ b.second
+  -- what is said to be a chain is one
+  pub chain : b.is_chain ≡ true → IsChain d accepted

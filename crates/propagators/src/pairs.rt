@@ -6,12 +6,15 @@ ghost use Rattle.assign.specs.Sets.{has};
 ghost use Rattle.rel_table.specs.Table.{TruthTable};
 ghost use Rattle.propagators.specs.Values.{ones_of};
 ghost use Rattle.propagators.specs.Supports.{continues};
+ghost use Rattle.propagators.specs.Chains.{IsRunning};
 ghost use Rattle.propagators.specs.Loose.{rejected_of, IsBounded};
 ghost use Rattle.propagators.specs.Families.{is_wanted};
 ghost use Rattle.propagators.specs.Pairs.{AreMasksOf, goes, AreRight};
 
 use crate::plan::{Bounds, PairMasks};
-use crate::values::{add_value, add_where, count, first_values, has_value, passing};
+use crate::values::{
+    add_value, add_where, count, differing, either, first_values, has_value, is_empty, passing,
+};
 use rel_table::Table;
 use std::alloc::{AllocError, Global};
 
@@ -27,6 +30,24 @@ fn most_rejected(masks: &[u64], at: usize, d: u8, holding: bool) -> u8
         most = most.max(count(passing(all, masks[at + x], !holding)));
     }
     most
+}
+
+/// Whether of d masks from a place on each of the first d bits changes once at most.
+fn are_running(masks: &[u64], at: usize, d: u8) -> bool
+    requires few { d ≤ 64 }
+    requires fit { at + 64 ≤ length masks.now }
+    ensures { result ≡ true → IsRunning d (λ x y. bit_at (slice_index_or masks.now (at + x) 0) y == 1) }
+{
+    let all = first_values(d);
+    let mut changed = 0;
+    for x in 1..usize::from(d) {
+        let next = passing(all, differing(masks[at + x - 1], masks[at + x]), true);
+        if !is_empty(passing(changed, next, true)) {
+            return false;
+        }
+        changed = either(changed, next);
+    }
+    true
 }
 
 /// The first values that go with a second one.
@@ -71,7 +92,8 @@ impl PairMasks {
             known: 0,
             bounds: vec![in alloc; Bounds {
                 first: 0,
-                second: 0
+                second: 0,
+                is_chain: false
             }; 64]?,
         })
     }
@@ -112,6 +134,17 @@ impl PairMasks {
         has_value(self.known, rel)
     }
 
+    /// Whether a relation over d values whose masks are made is a chain.
+    fn is_chain(&self, rel: u8, d: u8) -> bool
+        requires low { rel < 64 }
+        requires few { d ≤ 64 }
+        ensures rows { result ≡ true → IsRunning d (λ x y. bit_at (slice_index_or self.now.rows.items (rel * 64 + x) 0) y == 1) }
+        ensures columns { result ≡ true → IsRunning d (λ y x. bit_at (slice_index_or self.now.columns.items (rel * 64 + y) 0) x == 1) }
+    {
+        let at = usize::from(rel) * 64;
+        are_running(&self.rows, at, d) && are_running(&self.columns, at, d)
+    }
+
     /// The bounds of a relation over d values whose masks are made, where it is to hold, or not to hold.
     fn measure(&self, rel: u8, d: u8, holding: bool) -> Bounds
         requires low { rel < 64 }
@@ -122,6 +155,7 @@ impl PairMasks {
         Bounds {
             first: most_rejected(&self.columns, at, d, holding),
             second: most_rejected(&self.rows, at, d, holding),
+            is_chain: self.is_chain(rel, d),
         }
     }
 

@@ -2,13 +2,17 @@ ghost use Rattle.std.specs.Prelude.{◌≡◌, ◌≤◌, ◌*◌, length};
 
 use crate::briefs::Brief;
 
-/// For a condition on two variables how many values of one it rejects at most with a value of the other.
+/// For a condition on two variables how many values of one it rejects at most with a value of the other, and whether these run
+/// one way.
 #[derive(Clone, Copy)]
 pub struct Bounds {
     /// Of the first variable's values.
     pub(crate) first: u8,
     /// Of the second variable's values.
     pub(crate) second: u8,
+    /// Whether it is a chain: as either variable goes over its values, each value of the other begins or ceases once at most
+    /// to go with them. All orders are chains.
+    pub(crate) is_chain: bool,
 }
 
 /// For relations of two variables, by number, and each value of either variable, the values of the other that go with it.

@@ -95,7 +95,7 @@ pub(crate) fn revise_pair(masks: &PairMasks, pair: Pair, doms: &mut Domains) -> 
 {
     let scope = [pair.first, pair.second];
     let sets = doms.on(&scope);
-    let found = in_pair(masks, pair.rel, pair.holding, sets[0], sets[1]);
+    let found = in_pair(masks, pair, sets[0], sets[1]);
     if is_empty(found.0) {
         return None;
     }

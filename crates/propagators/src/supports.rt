@@ -1,12 +1,18 @@
 //! Which values of some sets an accepted tuple goes through.
 
-ghost use Rattle.std.specs.Prelude.{◌≡◌, ◌+◌, ◌*◌, ◌^◌, ◌<◌, ◌≤◌, ◌==◌, ℕ, List, [], ◌∷◌, length, map, take, All};
+ghost use Rattle.std.specs.Prelude.{◌≡◌, ◌+◌, ◌*◌, ◌^◌, ◌<◌, ◌≤◌, ◌==◌, ◌&&◌, ◌||◌, ℕ, true, List, [], ◌∷◌, length, map, take, All};
+ghost use Rattle.std.specs.Int.{bit_at};
+ghost use Rattle.assign.specs.Sets.{has};
 ghost use Rattle.propagators.specs.Values.{ones_of};
 ghost use Rattle.propagators.specs.Supports.{AreSupported, AreBelow, continues};
+ghost use Rattle.propagators.specs.Families.{Arc, is_wanted};
+ghost use Rattle.propagators.specs.Chains.{IsChain};
 ghost use Rattle.propagators.specs.Pairs.{goes_by};
+ghost use Rattle.propagators.specs.Briefs.{IsPairOf};
 
+use crate::briefs::Pair;
 use crate::plan::PairMasks;
-use crate::values::{either, least_value, passing, with_value, without_value};
+use crate::values::{either, greatest_value, least_value, passing, with_value, without_value};
 use rel_table::Table;
 
 /// The supported values of one set.
@@ -44,15 +50,9 @@ fn in_two(table: &Table, holding: bool, at: u32, first: u64, last: u64) -> (u64,
     (a, b)
 }
 
-/// The supported values of two sets, by the masks of a relation.
+/// The supported values of two sets, by the rows of a relation.
 #[inline]
-pub(crate) fn in_pair(
-    masks: &PairMasks,
-    rel: u8,
-    holding: bool,
-    first: u64,
-    last: u64,
-) -> (u64, u64)
+fn in_rows(masks: &PairMasks, rel: u8, holding: bool, first: u64, last: u64) -> (u64, u64)
     requires low { rel < 64 }
     ensures { AreSupported (ones_of first ∷ ones_of last ∷ []) (goes_by masks.now.rows.items rel holding) (ones_of result.0 ∷ ones_of result.1 ∷ []) }
 {
@@ -67,6 +67,54 @@ pub(crate) fn in_pair(
         b = either(b, below);
     }
     (a, b)
+}
+
+/// The values that go with one of two others, by the masks of these, or don't, where that is wanted.
+#[inline]
+fn with_either(values: u64, one: u64, other: u64, holding: bool) -> u64
+    ensures { (y : ℕ) → has (ones_of result) y ≡ ((has (ones_of values) y && is_wanted holding (bit_at one y == 1)) || (has (ones_of values) y && is_wanted holding (bit_at other y == 1))) }
+{
+    either(
+        passing(values, one, holding),
+        passing(values, other, holding),
+    )
+}
+
+/// `in_pair` for a chain: what goes with some value of a set goes with the least or the greatest one.
+#[inline]
+fn in_chain(masks: &PairMasks, pair: Pair, first: u64, last: u64) -> (u64, u64)
+    requires low { pair.rel < 64 }
+    ensures first { (x : ℕ) → has (ones_of result.0) x ≡ true → has (ones_of first) x ≡ true }
+    ensures last { (y : ℕ) → has (ones_of result.1) y ≡ true → has (ones_of last) y ≡ true }
+    ensures supported { (d : ℕ) (a : Arc) → IsPairOf d masks.now a pair → IsChain d a.accepted → AreBelow d (ones_of first) → AreBelow d (ones_of last) → AreSupported (ones_of first ∷ ones_of last ∷ []) a.accepted (ones_of result.0 ∷ ones_of result.1 ∷ []) }
+{
+    if first == 0 {
+        return (0, 0);
+    }
+    if last == 0 {
+        return (0, 0);
+    }
+    let least = masks.column(pair.rel, least_value(last));
+    let greatest = masks.column(pair.rel, greatest_value(last));
+    let a = with_either(first, least, greatest, pair.holding);
+    let least = masks.row(pair.rel, least_value(first));
+    let greatest = masks.row(pair.rel, greatest_value(first));
+    (a, with_either(last, least, greatest, pair.holding))
+}
+
+/// The supported values of two sets, by the masks of a pair's relation.
+#[inline]
+pub(crate) fn in_pair(masks: &PairMasks, pair: Pair, first: u64, last: u64) -> (u64, u64)
+    requires low { pair.rel < 64 }
+    ensures first { (x : ℕ) → has (ones_of result.0) x ≡ true → has (ones_of first) x ≡ true }
+    ensures last { (y : ℕ) → has (ones_of result.1) y ≡ true → has (ones_of last) y ≡ true }
+    ensures supported { (d : ℕ) (a : Arc) → IsPairOf d masks.now a pair → AreBelow d (ones_of first) → AreBelow d (ones_of last) → AreSupported (ones_of first ∷ ones_of last ∷ []) a.accepted (ones_of result.0 ∷ ones_of result.1 ∷ []) }
+{
+    if pair.bounds.is_chain {
+        in_chain(masks, pair, first, last)
+    } else {
+        in_rows(masks, pair.rel, pair.holding, first, last)
+    }
 }
 
 /// The supported values of three sets.

@@ -39,9 +39,21 @@ pub(crate) fn has_value(values: u64, x: u8) -> bool
 pub(crate) fn least_value(values: u64) -> u8
     requires { values ≢ 0 }
     ensures there { has (ones_of values) result ≡ true }
+    ensures least { (x : ℕ) → has (ones_of values) x ≡ true → result ≤ x }
     ensures low { result < 64 }
 {
     values.trailing_zeros() as u8
+}
+
+/// The greatest member.
+#[inline]
+pub(crate) fn greatest_value(values: u64) -> u8
+    requires { values ≢ 0 }
+    ensures there { has (ones_of values) result ≡ true }
+    ensures greatest { (x : ℕ) → has (ones_of values) x ≡ true → x ≤ result }
+    ensures low { result < 64 }
+{
+    63 - values.leading_zeros() as u8
 }
 
 /// The members other than x.
@@ -75,6 +87,14 @@ pub(crate) fn with_value(values: u64, x: u8, others: u64) -> u64
     } else {
         values | (1 << x)
     }
+}
+
+/// The members of one of two alone.
+#[inline]
+pub(crate) fn differing(a: u64, b: u64) -> u64
+    ensures { (y : ℕ) → has (ones_of result) y ≡ not (bit_at a y == bit_at b y) }
+{
+    a ^ b
 }
 
 /// The members of one or both.

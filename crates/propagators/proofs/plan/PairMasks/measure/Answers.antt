@@ -13,3 +13,4 @@ returns c = λ table values in_rows in_columns.
     (subst (λ (masks : List ℕ). (y : ℕ) → y < c.args.d → rejected_of c.args.d (λ x. is_wanted c.args.holding (bit_at (slice_index_or masks (c.from-at.result * 64 + y) 0) x == 1)) ≤ c.most_rejected.result) c.deref.ensures.value c.most_rejected.ensures))
     (subst (λ (at : ℕ). (x : ℕ) → x < c.args.d → rejected_of c.args.d (λ y. is_wanted c.args.holding (bit_at (slice_index_or c.args.self.now.rows.items (at + x) 0) y == 1)) ≤ c.most_rejected-2.result) (ap (λ (r : ℕ). r * 64) c.from-at.ensures)
     (subst (λ (masks : List ℕ). (x : ℕ) → x < c.args.d → rejected_of c.args.d (λ y. is_wanted c.args.holding (bit_at (slice_index_or masks (c.from-at.result * 64 + x) 0) y == 1)) ≤ c.most_rejected-2.result) c.deref-2.ensures.value c.most_rejected-2.ensures))
+    c.is_chain.ensures.rows c.is_chain.ensures.columns

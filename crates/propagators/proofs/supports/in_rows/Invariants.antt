@@ -2,7 +2,7 @@ use Rattle.std.proofs.Common.{[], ◌∷◌}
 use Rattle.propagators.specs.Values.{ones_of}
 use Rattle.propagators.specs.Pairs.{goes_by}
 use Rattle.propagators.proofs.Sweeping.{IsSweeping}
-use Rattle.propagators.proofs.supports.in_pair.Given as goal
+use Rattle.propagators.proofs.supports.in_rows.Given as goal
 
 abbrev pub invariant-loop-rest : goal.invariant-loop-rest
 invariant-loop-rest l = IsSweeping l.fn.first l.rest (ones_of l.fn.last ∷ []) (goes_by l.masks.rows.items l.fn.rel l.fn.holding) l.a (ones_of l.b ∷ [])
