@@ -4,12 +4,12 @@ use Rattle.std.specs.Prelude.{slice_index_or, All}
 use Rattle.std.proofs.lemmas.List.Elements.{All-nil, All-cons}
 use Rattle.assign.specs.Sets.{has}
 use Rattle.propagators.specs.Values.{ones_of}
-use Rattle.propagators.specs.Families.{Family, Arc, sets_on, is_not_empty}
+use Rattle.std.specs.Prelude.{◌==◌}
+use Rattle.std.specs.Int.{bit_at}
+use Rattle.propagators.specs.Families.{Family, Arc, sets_on, is_wanted, is_not_empty}
 use Rattle.propagators.specs.Supports.{AreBelow, AreDifferent, AreSupported, IsWithin, IsThrough, IsRevised, IsDead, replaced}
 use Rattle.propagators.specs.Pairs.{goes_by}
-use Rattle.propagators.specs.Briefs.{IsPairOf}
 use Rattle.propagators.specs.declared.briefs.Pair.{Pair}
-use Rattle.propagators.specs.declared.plan.PairMasks.{PairMasks}
 use Rattle.propagators.proofs.Conditions.{supported_as}
 use Rattle.propagators.proofs.Replacing.{is_revised, is_dead, member_of_some, value_within}
 
@@ -45,15 +45,15 @@ pair_part xs ys found_x found_y accepted is = (λ x h. from 0 x (omega arith) (i
     from : (i x : ℕ) → i < 2 → IsThrough (xs ∷ ys ∷ []) accepted i x → has (slice_index_or (xs ∷ ys ∷ []) i []) x ≡ true
     from i x low t = ap (has (slice_index_or (xs ∷ ys ∷ []) i [])) (sym t.at) ∙ value_within (xs ∷ ys ∷ []) t.tuple i t.within low
 
--- by the rows of its relation the condition says the same of the tuples within sets
-pub rows_supported : (d : ℕ) (m : PairMasks) (a : Arc) (p : Pair) (xs ys : List ℕ) (found : List (List ℕ)) → IsPairOf d m a p → AreBelow d xs → AreBelow d ys →
-    AreSupported (xs ∷ ys ∷ []) (goes_by m.rows.items p.rel p.holding) found → AreSupported (xs ∷ ys ∷ []) a.accepted found
-rows_supported d m a p xs ys found is below_x below_y = supported_as (xs ∷ ys ∷ []) (goes_by m.rows.items p.rel p.holding) a.accepted found same
+-- by its rows the condition says the same of the tuples within sets
+pub rows_supported : (d : ℕ) (accepted : List ℕ → Bool) (holding : Bool) (rows xs ys : List ℕ) (found : List (List ℕ)) → ((x y : ℕ) → x < d → y < d → accepted (x ∷ y ∷ []) ≡ is_wanted holding (bit_at (slice_index_or rows x 0) y == 1)) → AreBelow d xs → AreBelow d ys →
+    AreSupported (xs ∷ ys ∷ []) (goes_by rows holding) found → AreSupported (xs ∷ ys ∷ []) accepted found
+rows_supported d accepted holding rows xs ys found is below_x below_y = supported_as (xs ∷ ys ∷ []) (goes_by rows holding) accepted found same
   where
-    same : (tuple : List ℕ) → IsWithin (xs ∷ ys ∷ []) tuple → goes_by m.rows.items p.rel p.holding tuple ≡ a.accepted tuple
+    same : (tuple : List ℕ) → IsWithin (xs ∷ ys ∷ []) tuple → goes_by rows holding tuple ≡ accepted tuple
     same [] h = absurd h
     same (v ∷ []) h = absurd h.1
-    same (v ∷ w ∷ []) h = sym (is.row v w (below_x v h.0) (below_y w h.1.0))
+    same (v ∷ w ∷ []) h = sym (is v w (below_x v h.0) (below_y w h.1.0))
     same (v ∷ w ∷ u ∷ tuple) h = absurd h.1.1
 
 module _ (a : Arc) (p : Pair) (f : Family) (x y : ℕ) (scope : a.scope ≡ p.first ∷ p.second ∷ []) (apart : AreDifferent (p.first ∷ p.second ∷ [])) (first : p.first < length f) (second : p.second < length f)

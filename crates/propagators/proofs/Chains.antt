@@ -1,79 +1,13 @@
 -- Relations of two variables whose rows and columns run one way.
-use Rattle.std.proofs.Common.{◌≡◌, ℕ, zero, suc, ◌+◌, ◌-◌, ◌<◌, ◌≤◌, Bool, true, false, ◌&&◌, ◌||◌, not, List, [], ◌∷◌, refl, sym, ◌∙◌, ap, arith, inl, inr, ◌⊎◌}
-use Rattle.std.specs.Prelude.{◌==◌, ◌≢◌, slice_index_or}
-use Rattle.std.specs.Int.{bit_at}
-use Rattle.std.proofs.lemmas.Bool.{and_parts, and_from, or_left, or_right, or_cases, both_ways, cases_eq, eq-eqb, eqb-true}
-use Rattle.assign.specs.Sets.{numbers, has}
-use Rattle.language.proofs.Members.{any_number}
+use Rattle.std.proofs.Common.{◌≡◌, ℕ, zero, suc, ◌<◌, Bool, true, ◌&&◌, ◌||◌, List, [], ◌∷◌, refl, sym, ◌∙◌, ap, arith, inl, inr, ◌⊎◌}
+use Rattle.std.specs.Prelude.{slice_index_or}
+use Rattle.std.proofs.lemmas.Bool.{and_parts, and_from, or_left, or_right, or_cases, both_ways}
+use Rattle.assign.specs.Sets.{has}
 use Rattle.propagators.specs.Values.{ones_of}
-use Rattle.propagators.specs.Families.{is_wanted, is_not_empty}
+use Rattle.propagators.specs.Families.{is_wanted}
 use Rattle.propagators.specs.Supports.{AreBelow, AreSupported, IsWithin, IsThrough}
 use Rattle.propagators.specs.Chains.{IsRunning, IsChain, AreEnds}
-use Rattle.propagators.proofs.Ones.{ones_of-zero, has-ones_of, not_false}
-
--- ---- one mask after another
-
--- of the first x numbers the test of each y changes once at most, and where it has changed is noted
-pub record IsRunningTo (d : ℕ) (test : ℕ → ℕ → Bool) (x changed : ℕ) : Type 0 where
-  pub between : (low z high y : ℕ) → low ≤ z → z ≤ high → high < x → y < d → (test z y ≡ test low y) ⊎ (test z y ≡ test high y)
-  pub steady : (z y : ℕ) → z < x → y < d → has (ones_of changed) y ≡ false → test z y ≡ test 0 y
-
-pub running_begin : (d : ℕ) (test : ℕ → ℕ → Bool) → IsRunningTo d test 1 0
-running_begin d test = record {
-  between = λ low z high y from to end few. inl (ap (λ (k : ℕ). test k y) (let e : z ≡ low = omega arith in e));
-  steady = λ z y low few none. ap (λ (k : ℕ). test k y) (let e : z ≡ 0 = omega arith in e);
-}
-
-neither : (p q : Bool) → (p || q) ≡ false → (p ≡ false) × (q ≡ false)
-neither true q h = absurd (both_ways _ h refl)
-neither false q h = (refl, h)
-
-pub running_more : (d : ℕ) (test : ℕ → ℕ → Bool) (x changed next more : ℕ) → 1 ≤ x → ((y : ℕ) → y < d → has (ones_of next) y ≡ false → test (x - 1) y ≡ test x y) →
-    ((y : ℕ) → y < d → has (ones_of changed) y ≡ true → has (ones_of next) y ≡ true → ⊥) → ((y : ℕ) → has (ones_of more) y ≡ (has (ones_of changed) y || has (ones_of next) y)) →
-    IsRunningTo d test x changed → IsRunningTo d test (x + 1) more
-running_more d test x changed next more some same apart is old = record {
-  between = λ low z high y from to end few. between low z high y from to end few (cases_eq high x) (cases_eq z x);
-  steady = λ z y low few none. steady z y low few (neither _ _ (sym (is y) ∙ none)) (cases_eq z x);
-}
-  where
-    between : (low z high y : ℕ) → low ≤ z → z ≤ high → high < x + 1 → y < d → (high ≡ x) ⊎ (high ≢ x) → (z ≡ x) ⊎ (z ≢ x) → (test z y ≡ test low y) ⊎ (test z y ≡ test high y)
-    between low z high y from to end few (inr before) here = old.between low z high y from to (omega arith) few
-    between low z high y from to end few (inl last) (inl here) = inr (ap (λ (k : ℕ). test k y) (here ∙ sym last))
-    between low z high y from to end few (inl last) (inr before) = go (has (ones_of next) y) refl (has (ones_of changed) y) refl
-      where
-        go : (b : Bool) → has (ones_of next) y ≡ b → (c : Bool) → has (ones_of changed) y ≡ c → (test z y ≡ test low y) ⊎ (test z y ≡ test high y)
-        go true on true was = absurd (apart y few was on)
-        go true on false was = inl (old.steady z y (omega arith) few was ∙ sym (old.steady low y (omega arith) few was))
-        go false off c was = ends (old.between low z (x - 1) y from (omega arith) (omega arith) few)
-          where
-            ends : (test z y ≡ test low y) ⊎ (test z y ≡ test (x - 1) y) → (test z y ≡ test low y) ⊎ (test z y ≡ test high y)
-            ends (inl e) = inl e
-            ends (inr e) = inr (e ∙ same y few off ∙ ap (λ (k : ℕ). test k y) (sym last))
-
-    steady : (z y : ℕ) → z < x + 1 → y < d → (has (ones_of changed) y ≡ false) × (has (ones_of next) y ≡ false) → (z ≡ x) ⊎ (z ≢ x) → test z y ≡ test 0 y
-    steady z y low few none (inl here) = ap (λ (k : ℕ). test k y) here ∙ sym (same y few none.1) ∙ old.steady (x - 1) y (omega arith) few none.0
-    steady z y low few none (inr before) = old.steady z y (omega arith) few none.0
-
-right_false : (p q : Bool) → p ≡ true → (p && q) ≡ false → q ≡ false
-right_false true q h e = e
-right_false false q h e = absurd (both_ways _ refl h)
-
--- where two masks don't differ among the first d bits they are the same
-pub same_where : (d all differ next a b y : ℕ) → y < d → d ≤ 64 → ones_of all ≡ numbers d → ((z : ℕ) → has (ones_of differ) z ≡ not (bit_at a z == bit_at b z)) →
-    ((z : ℕ) → has (ones_of next) z ≡ (has (ones_of all) z && is_wanted true (bit_at differ z == 1))) → has (ones_of next) y ≡ false → (bit_at a y == 1) ≡ (bit_at b y == 1)
-same_where d all differ next a b y low few whole differs passes none =
-    let there : has (ones_of all) y ≡ true = ap (λ xs. has xs y) whole ∙ any_number (λ x. x == y) d y low (eq-eqb y y refl) in
-    let off : (bit_at differ y == 1) ≡ false = right_false (has (ones_of all) y) (bit_at differ y == 1) there (sym (passes y) ∙ none) in
-    ap (λ (k : ℕ). k == 1) (eqb-true (bit_at a y) (bit_at b y) (not_false _ (sym (differs y) ∙ has-ones_of differ y (omega arith) ∙ off)))
-
-none_has : (xs : List ℕ) → is_not_empty xs ≡ false → (y : ℕ) → has xs y ≡ false
-none_has [] h y = refl
-none_has (x ∷ xs) h y = absurd (both_ways _ h refl)
-
--- two masks have no member in common, where none passes
-pub apart_where : (changed next both y : ℕ) → y < 64 → ((z : ℕ) → has (ones_of both) z ≡ (has (ones_of changed) z && is_wanted true (bit_at next z == 1))) → is_not_empty (ones_of both) ≡ false →
-    has (ones_of changed) y ≡ true → has (ones_of next) y ≡ true → ⊥
-apart_where changed next both y low passes none was on = both_ways _ (none_has (ones_of both) none y) (passes y ∙ and_from _ _ was (sym (has-ones_of next y low) ∙ on))
+use Rattle.propagators.proofs.Ones.{ones_of-zero}
 
 -- the same, where what runs is to hold or not to hold
 pub running_wanted : (d : ℕ) (holding : Bool) (p q : ℕ → ℕ → Bool) → ((x y : ℕ) → x < d → y < d → q x y ≡ is_wanted holding (p x y)) → IsRunning d p → IsRunning d q

@@ -15,3 +15,4 @@ pub mod Masking
 pub mod Lazy
 pub mod Chains
 pub mod ByMasks
+pub mod Standing

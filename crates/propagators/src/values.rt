@@ -89,14 +89,6 @@ pub(crate) fn with_value(values: u64, x: u8, others: u64) -> u64
     }
 }
 
-/// The members of one of two alone.
-#[inline]
-pub(crate) fn differing(a: u64, b: u64) -> u64
-    ensures { (y : ℕ) → has (ones_of result) y ≡ not (bit_at a y == bit_at b y) }
-{
-    a ^ b
-}
-
 /// The members of one or both.
 #[inline]
 pub(crate) fn either(a: u64, b: u64) -> u64
@@ -167,13 +159,4 @@ pub(crate) fn add_value(values: u64, x: u8) -> u64
     ensures { (y : ℕ) → has (ones_of result) y ≡ (has (ones_of values) y || (x == y)) }
 {
     values | (1 << x)
-}
-
-/// The members, and x where it is to be one.
-#[inline]
-pub(crate) fn add_where(values: u64, x: u8, is_one: bool) -> u64
-    requires { x < 64 }
-    ensures { (y : ℕ) → has (ones_of result) y ≡ (has (ones_of values) y || (is_one && (x == y))) }
-{
-    if is_one { add_value(values, x) } else { values }
 }
