@@ -33,4 +33,4 @@ room_of w = length w.plan.briefs.items
 -- the room is ready for the search below a prefix
 pub record IsArranged (l : Language) (list : List Candidate) (against : Option Candidate) (order : List ℕ) (p : List ℕ) (w : Room) : Type 0 where
   pub depths : AreReady l list against order p w.depths
-  pub plan : IsPlanOf l.value_count (arcs_of l list against) w.plan
+  pub plan : IsPlanOf l (arcs_of l list against) w.plan

@@ -44,7 +44,7 @@ impl Model for Work {
 fn narrow(cons: &Constraints, plan: &Plan, doms: &mut Domains, v: u8, x: u8) -> bool
     requires lawful { IsLanguage cons.now.lang.now }
     requires constraints { AreConstraints cons.now.lang.now cons.now.list.now cons.now.against }
-    requires plan { IsPlanOf cons.now.lang.now.value_count (arcs_of cons.now.lang.now cons.now.list.now cons.now.against) plan.now }
+    requires plan { IsPlanOf cons.now.lang.now (arcs_of cons.now.lang.now cons.now.list.now cons.now.against) plan.now }
     requires doms { AreSome cons.now.lang.now doms.old }
     requires consistent { is_arc_consistent (arcs_of cons.now.lang.now cons.now.list.now cons.now.against) doms.old ≡ true }
     requires known { v < variable_count cons.now.lang.now }
@@ -64,8 +64,8 @@ fn narrow(cons: &Constraints, plan: &Plan, doms: &mut Domains, v: u8, x: u8) -> 
 }
 
 impl Work {
-    /// Room for a search: some 130 KB for the values of each depth, 64 KB for the masks of the relations of two variables, and
-    /// some 23 bytes for each of as many conditions as there are scopes, and one more. `Memory` where there is none.
+    /// Room for a search: some 130 KB for the values of each depth, and some 23 bytes for each of as many conditions as there are
+    /// scopes, and one more. `Memory` where there is none.
     ///
     /// With more conditions than that a search is as exact and slower.
     pub fn new(alloc: Global, lang: &Language) -> Result<Work, Memory>
@@ -84,7 +84,7 @@ impl Work {
     pub(crate) fn begin(&mut self, cons: &Constraints) -> bool
         requires lawful { IsLanguage cons.now.lang.now }
         requires constraints { AreConstraints cons.now.lang.now cons.now.list.now cons.now.against }
-        ensures plan { IsPlanOf cons.now.lang.now.value_count (arcs_of cons.now.lang.now cons.now.list.now cons.now.against) self.new.plan }
+        ensures plan { IsPlanOf cons.now.lang.now (arcs_of cons.now.lang.now cons.now.list.now cons.now.against) self.new.plan }
         ensures ready { result ≡ true → IsReady cons.now.lang.now cons.now.list.now cons.now.against (replicate (variable_count cons.now.lang.now) None) (slice_index_or self.new.depths 0 []) }
         ensures dead { result ≡ false → has_family cons.now.lang.now cons.now.list.now cons.now.against (replicate (variable_count cons.now.lang.now) None) ≡ false }
     {

@@ -19,10 +19,11 @@ use Rattle.language.specs.declared.lang.Language.TheInside.{Inside}
 use Rattle.language.specs.Language.{Language, Given, of_arity, given_on, given_within, relations_on, scope_at, IsLanguage, AreNames}
 use Rattle.language.specs.Ranges.{is_whole_range, widened}
 use Rattle.language.specs.declared.ranges.ValueRange.{ValueRange}
-use Rattle.language.specs.Building.{Frame, IsFrame, IsOver, IsBuilt, has_arity, relations_given, scopes_of, scopes_refusal, closing_refusal, build_refusal}
+use Rattle.language.specs.Building.{Frame, IsFrame, IsOver, IsBuilt, has_arity, relations_of_arity, relations_given, scopes_of, scopes_refusal, closing_refusal, build_refusal}
 use Rattle.language.specs.Built.{AreScopes, IsClosedOf, AreAll, given_at}
 use Rattle.language.specs.Scopes.{variables_in}
-use Rattle.language.specs.Inside.{seen, given_by, ranges_in, scope_in, relations_at, IsSound}
+use Rattle.language.specs.Inside.{seen, given_by, ranges_in, scope_in, relations_at, pairs_in, IsSound}
+use Rattle.language.specs.PairMasks.{ArePairMasks}
 use Rattle.assign.specs.Sets.{numbers}
 use Rattle.language.proofs.Sizes.{closed_sized}
 use Rattle.language.proofs.Members.{any-map}
@@ -88,6 +89,7 @@ pub record IsMadeOf (frame : Frame) (parts : List RelPart) (a : Inside) : Type 0
   pub four : length a.relations ≡ 4
   pub all : AreAll (ranges_in a) a.value_count (map given_by parts) a.relations a.scopes.items a.on.items a.numbers.items
   pub is_whole : a.is_whole ≡ list_all (is_whole_range a.value_count) (ranges_in a)
+  pub masks : ArePairMasks a.value_count (pairs_in a) a.pairs
 
 -- the language over a frame
 abbrev over_frame : Frame → List RelPart → Inside → Language
@@ -189,6 +191,8 @@ sound frame parts a is_frame made = record {
   kinds = λ arity some short. subst (λ (d : ℕ). All (IsOfKind arity d) (get_or a.relations (arity - 1) [])) (sym made.value_count) (made.relations arity some short).kinds;
   is_whole = made.is_whole;
   parts = made.all.parts;
+  pairs = subst (λ (given : List RelPart). IsClosing (relations_of_arity (map given_by given) 2) (pairs_in a)) (sym made.given) (made.relations 2 (omega arith) (omega arith)).closing;
+  masks = made.masks;
 }
 
 pub built : (frame : Frame) (parts : List RelPart) (listed : Option (List (List ℕ))) (a : Inside) → IsFrame frame → IsMadeOf frame parts a →

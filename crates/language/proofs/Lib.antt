@@ -38,3 +38,5 @@ pub mod ByNames
 pub mod OneLanguage
 pub mod InOrder
 pub mod Alike
+pub mod PairMasking
+pub mod Running

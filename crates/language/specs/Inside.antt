@@ -12,6 +12,8 @@ use Rattle.assign.specs.Sets.{numbers}
 use Rattle.language.specs.declared.ranges.ValueRange.{ValueRange}
 use Rattle.language.specs.Ranges.{is_whole_range, widened}
 use Rattle.language.specs.Scopes.{variables_in}
+use Rattle.language.specs.Pairs.{ArePairTables}
+use Rattle.language.specs.PairMasks.{ArePairMasks}
 use Rattle.language.specs.declared.lang.Language.TheInside.{Inside}
 
 -- a relation of the vocabulary, with its name
@@ -74,9 +76,15 @@ pub record AreParts (tables : List (List TruthTable)) (scopes : List Scope) (on 
   pub first : slice_index_or starts 0 0 ≡ 0
   pub part : (s : ℕ) → s < length scopes → IsPart (tables_for tables (scope_in scopes s)) on (slice_index_or starts s 0) (slice_index_or starts (s + 1) 0)
 
+-- the relations of two variables that tables hold
+abbrev pub pairs_in : Inside → List Relation
+pairs_in a = truths (slice_index_or a.relations 1 [])
+
 pub record IsSound (a : Inside) : Type 0 where
   pub lawful : IsLanguage (seen a)
   pub sized : All (λ (scope : Scope). length (variables_in scope) ≡ scope.size) a.scopes.items
   pub kinds : AreByArity a.value_count a.relations
   pub is_whole : a.is_whole ≡ list_all (is_whole_range a.value_count) (ranges_in a)
   pub parts : AreParts a.relations a.scopes.items a.on.items a.numbers.items
+  pub pairs : ArePairTables (seen a) (pairs_in a)
+  pub masks : ArePairMasks a.value_count (pairs_in a) a.pairs

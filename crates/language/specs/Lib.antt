@@ -13,3 +13,5 @@ pub mod Framing
 pub mod Built
 pub mod TellingApart
 pub mod Scenes
+pub mod Pairs
+pub mod PairMasks

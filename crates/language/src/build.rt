@@ -7,6 +7,7 @@ ghost use Rattle.language.specs.Built.{IsClosedOf};
 
 use crate::frame::Frame;
 use crate::lang::Language;
+use crate::masks::PairMasks;
 use crate::narrow::are_all;
 use crate::numbering::numbers_of;
 use crate::parts::{LangFault, RelPart, ScopePart};
@@ -82,6 +83,7 @@ impl Language {
         let own = &ranges[..names.len()];
         let is_whole = are_all(own, value_count);
         let numbers = numbers_of(alloc, own, value_count, &rels, &scopes, &relations)?;
+        let pairs = PairMasks::of(alloc, value_count, relations.list(2))?;
         Ok(Language {
             names,
             least_value,
@@ -93,6 +95,7 @@ impl Language {
             relations,
             on: numbers.on,
             numbers: numbers.starts,
+            pairs,
         })
     }
 }

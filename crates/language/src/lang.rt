@@ -7,6 +7,7 @@ ghost use Rattle.rel_table.specs.Relation.{tuple_at};
 ghost use Rattle.language.specs.Language.{variable_count, range_of, is_whole, scope_at, scope_number, candidates, number_of, relations_on, place_on, violates, IsLanguage, IsScope, IsCandidate, IsQuestion};
 
 use crate::candidates::{Candidate, ScopeId};
+use crate::masks::PairMasks;
 use crate::narrow::{are_whole, lies_within};
 use crate::parts::RelPart;
 use crate::places::place_of_values;
@@ -40,6 +41,8 @@ pub struct Language {
     pub(crate) on: Vec<u8>,
     /// For each scope the number of its first candidate, and how many candidates there are last.
     pub(crate) numbers: Vec<u32>,
+    /// The tables of two variables, as masks.
+    pub(crate) pairs: PairMasks,
 }
 
 impl Model for Language {

@@ -10,8 +10,8 @@ use Rattle.assign.specs.Sets.{numbers, has, Rises}
 use Rattle.rel_table.specs.Relation.{holds}
 use Rattle.rel_table.specs.Table.{TruthTable}
 use Rattle.language.specs.declared.candidates.Candidate.{Candidate}
-use Rattle.language.specs.Ranges.{are_in}
-use Rattle.language.specs.Language.{Language, IsLanguage, IsCandidate, IsScope, variable_count, scope_of, relation_of}
+use Rattle.language.specs.Ranges.{is_in, are_in}
+use Rattle.language.specs.Language.{Language, IsLanguage, IsCandidate, IsScope, variable_count, range_of, scope_of, relation_of}
 use Rattle.language.proofs.Members.{any_number}
 use Rattle.language.proofs.Beside.{scope_rises}
 use Rattle.assign.proofs.Masks.{lacks}
@@ -85,13 +85,13 @@ pub family_within : (l : Language) (f g : Family) → length g ≡ length f → 
 family_within l f g long sub is = record { size = long ∙ is.size; values = λ v x h. is.values v x (sub v x h); within = λ v x h. is.within v x (sub v x h) }
 
 -- a tuple within the sets of a scope is within the ranges
-tuple_in : (l : Language) (f : Family) → IsFamilyOf l f → (scope tuple : List ℕ) → IsWithin (sets_on f scope) tuple → (length tuple ≡ length scope) × (are_in l.ranges scope tuple ≡ true)
+pub tuple_in : (l : Language) (f : Family) → ((v x : ℕ) → has (slice_index_or f v []) x ≡ true → is_in (range_of l v) x ≡ true) → (scope tuple : List ℕ) → IsWithin (sets_on f scope) tuple → (length tuple ≡ length scope) × (are_in l.ranges scope tuple ≡ true)
 tuple_in l f is [] [] h = (refl, refl)
 tuple_in l f is [] (x ∷ tuple) h = absurd h
 tuple_in l f is (v ∷ scope) [] h = absurd h
 tuple_in l f is (v ∷ scope) (x ∷ tuple) h =
     let rest = tuple_in l f is scope tuple h.1 in
-    (ap suc rest.0, and_from _ _ (is.within v x h.0) rest.1)
+    (ap suc rest.0, and_from _ _ (is v x h.0) rest.1)
 
 -- what says of the tuples within the sets the same supports the same values
 pub supported_as : (sets : List (List ℕ)) (p q : List ℕ → Bool) (found : List (List ℕ)) → ((tuple : List ℕ) → IsWithin sets tuple → p tuple ≡ q tuple) → AreSupported sets p found → AreSupported sets q found
@@ -120,7 +120,7 @@ module _ (l : Language) (c : Candidate) (holding : Bool) (table : TruthTable) (f
     where
       accepts_as : (tuple : List ℕ) → IsWithin (sets_on f (scope_of l c)) tuple → continues table holding 0 tuple ≡ (arc_of l c holding).accepted tuple
       accepts_as tuple within =
-          let there = tuple_in l f family (scope_of l c) tuple within in
+          let there = tuple_in l f family.within (scope_of l c) tuple within in
           ap (λ d. is_wanted holding (slice_index_or table.truth (fold (λ at x. at * d + x) 0 tuple) false)) values ∙ ap (is_wanted holding) (agrees tuple there.0 there.1)
 
   -- the sets hold values of the language

@@ -6,13 +6,14 @@ use Rattle.std.proofs.lemmas.List.{get_or-set_same, get_or-set_other}
 use Rattle.std.proofs.lemmas.Bool.{both_ways, cases_eq, eq-eqb, eqb-true, or_left, or_cases}
 use Rattle.assign.specs.Sets.{has}
 use Rattle.propagators.specs.Families.{Family, Arc, sets_on, is_consistent, is_not_empty, size_of}
-use Rattle.propagators.specs.Supports.{AreBelow, AreDifferent, AreSettled, IsWithin, IsThrough, IsRevised}
+use Rattle.propagators.specs.Supports.{AreBelow, IsFamilyOf, AreDifferent, AreSettled, IsWithin, IsThrough, IsRevised}
 use Rattle.propagators.specs.Loose.{HasMore, IsBounded}
 use Rattle.propagators.specs.Pairs.{IsNarrowed}
 use Rattle.propagators.specs.Plans.{IsLooked, AreLimits}
-use Rattle.propagators.specs.Briefs.{IsPairOf, IsBriefOf, AreBriefs, at_place, bound_at}
-use Rattle.propagators.specs.declared.plan.Bounds.{Bounds}
-use Rattle.propagators.specs.declared.plan.PairMasks.{PairMasks}
+use Rattle.propagators.specs.Pairs.{AgreeInside}
+use Rattle.propagators.specs.Briefs.{by_pair, IsPairOf, IsBriefOf, AreBriefs, at_place, bound_at}
+use Rattle.language.specs.Language.{Language}
+use Rattle.language.specs.declared.masks.PairBounds.{PairBounds}
 use Rattle.propagators.specs.declared.briefs.Brief.{Brief}
 use Rattle.propagators.specs.declared.briefs.Brief.TheVariants.{Two, Other}
 use Rattle.propagators.proofs.Pruned.{consistent, supporting}
@@ -20,6 +21,7 @@ use Rattle.propagators.proofs.Replacing.{supported_through, through_supported, m
 use Rattle.propagators.proofs.Rounds.{AreSmall, stays_consistent, underway_begin, underway_step}
 use Rattle.propagators.proofs.Loose.{in_row, in_column, more_less, bounded_consistent}
 use Rattle.propagators.proofs.Conditions.{IsOver}
+use Rattle.propagators.proofs.Standing.{consistent_as, agree_back}
 use Rattle.propagators.proofs.Beside.{narrowed_others, apart_of}
 
 none : Arc
@@ -44,13 +46,19 @@ pair_of xs ys accepted i x t = go t.tuple t.within t.at t.is
     go (p ∷ q ∷ r ∷ tuple) h at is = absurd h.1.1
 
 -- a bounded condition on two variables, each of whose limits is at least its bound
-pub record IsCapped (d : ℕ) (a : Arc) (limits : List ℕ) : Type 0 where
-  pub bounds : Bounds
+pub record IsCappedBy (d : ℕ) (a : Arc) (limits : List ℕ) : Type 0 where
+  pub bounds : PairBounds
   pub long : length a.scope ≡ 2
   pub is : IsBounded d a.accepted bounds
   pub within : (j : ℕ) → j < length a.scope → at_place bounds j ≤ slice_index_or limits (slice_index_or a.scope j 0) 0
 
-pub bounded_stays : (d : ℕ) (a : Arc) (f g : Family) (v : ℕ) (limits : List ℕ) → d ≤ 128 → (pair : IsCapped d a limits) → AreDifferent a.scope → ((u : ℕ) → AreBelow d (slice_index_or g u [])) → ((u : ℕ) → u ≢ v → slice_index_or g u [] ≡ slice_index_or f u []) →
+-- one that says the same within the ranges is such a condition
+pub record IsCapped (l : Language) (a : Arc) (limits : List ℕ) : Type 0 where
+  pub by : List ℕ → Bool
+  pub agree : AgreeInside l a.scope by a.accepted
+  pub capped : IsCappedBy l.value_count (record { scope = a.scope; accepted = by }) limits
+
+pub bounded_stays : (d : ℕ) (a : Arc) (f g : Family) (v : ℕ) (limits : List ℕ) → d ≤ 128 → (pair : IsCappedBy d a limits) → AreDifferent a.scope → ((u : ℕ) → AreBelow d (slice_index_or g u [])) → ((u : ℕ) → u ≢ v → slice_index_or g u [] ≡ slice_index_or f u []) →
     ((x : ℕ) → has (slice_index_or g v []) x ≡ true → has (slice_index_or f v []) x ≡ true) → HasMore (slice_index_or limits v 0) (slice_index_or g v []) → has a.scope v ≡ true → is_consistent f a.scope a.accepted ≡ true → is_consistent g a.scope a.accepted ≡ true
 bounded_stays d a f g v limits few pair different below others part more there ok = consistent a g (record {
   at = λ i x low here. through_supported (sets_on g a.scope) a.accepted i x (at a.scope pair.long different there pair.within (λ j y l h. supported_through (sets_on f a.scope) a.accepted j y ((supporting a f ok).at j y l h)) i x low here);
@@ -98,10 +106,10 @@ bounded_stays d a f g v limits few pair different below others part more there o
         go (inr other) (suc (suc i)) low here = absurd (omega arith)
 
 -- a variable lost values, and has more than its limit
-pub beside_lazy : (d : ℕ) (arcs : List Arc) (i : ℕ) (waiting : List ℕ) (f g : Family) (v : ℕ) (pass : ℕ → Bool) (limits : List ℕ) → d ≤ 128 → AreSmall arcs → ((k : ℕ) (a : Arc) → k < length arcs → AreDifferent (slice_index_or arcs k a).scope) → i < length arcs →
-    list_all is_not_empty f ≡ true → ((a : Arc) → IsRevised (slice_index_or arcs i a) f g) → IsNarrowed v pass f g → size_of g < size_of f → ((u : ℕ) → AreBelow d (slice_index_or f u [])) → HasMore (slice_index_or limits v 0) (slice_index_or g v []) →
-    ((k : ℕ) (a : Arc) → k < length arcs → has (slice_index_or arcs k a).scope v ≡ true → IsCapped d (slice_index_or arcs k a) limits) → IsLooked arcs i waiting waiting f g
-beside_lazy d arcs i waiting f g v pass limits few small different low full to narrowed less below more capped = record {
+pub beside_lazy : (l : Language) (arcs : List Arc) (i : ℕ) (waiting : List ℕ) (f g : Family) (v : ℕ) (pass : ℕ → Bool) (limits : List ℕ) → l.value_count ≤ 128 → AreSmall arcs → ((k : ℕ) (a : Arc) → k < length arcs → AreDifferent (slice_index_or arcs k a).scope) → i < length arcs →
+    list_all is_not_empty f ≡ true → ((a : Arc) → IsRevised (slice_index_or arcs i a) f g) → IsNarrowed v pass f g → size_of g < size_of f → IsFamilyOf l f → HasMore (slice_index_or limits v 0) (slice_index_or g v []) →
+    ((k : ℕ) (a : Arc) → k < length arcs → has (slice_index_or arcs k a).scope v ≡ true → IsCapped l (slice_index_or arcs k a) limits) → IsLooked arcs i waiting waiting f g
+beside_lazy l arcs i waiting f g v pass limits few small different low full to narrowed less family more capped = record {
   underway = underway_step arcs f f g i none low (underway_begin arcs f full) (to none);
   left = inr less;
   here = λ a under. (to a).consistent;
@@ -129,7 +137,11 @@ beside_lazy d arcs i waiting f g v pass limits few small different low full to n
     stay k a under ok false lacking =
         stays_consistent (slice_index_or arcs k a) f g (v ∷ []) (small k a under) (λ u few no. narrowed_others f g v pass narrowed u (λ e. both_ways _ no (or_left _ _ (eq-eqb v u (sym e))))) (single (slice_index_or arcs k a).scope lacking) ok
     stay k a under ok true there =
-        bounded_stays d (slice_index_or arcs k a) f g v limits few (capped k a under there) (different k a under) (λ u x h. below u x ((to a).within u x h)) (narrowed_others f g v pass narrowed) (λ x h. (narrowed.values x h).0) more there ok
+        let arc : Arc = slice_index_or arcs k a in
+        let pair = capped k a under there in
+        consistent_as l g arc.scope pair.by arc.accepted (λ u x h. family.within u x ((to a).within u x h)) pair.agree
+        (bounded_stays l.value_count (record { scope = arc.scope; accepted = pair.by }) f g v limits few pair.capped (different k a under) (λ u x h. family.values u x ((to a).within u x h)) (narrowed_others f g v pass narrowed) (λ x h. (narrowed.values x h).0) more there
+        (consistent_as l f arc.scope arc.accepted pair.by family.within (agree_back l arc.scope pair.by arc.accepted pair.agree) ok))
 
 -- ---- the limits of variables
 
@@ -138,18 +150,22 @@ no_or true b h = cc
 no_or false b h = (refl, h)
 
 -- the conditions of a variable whose limit is below 64 are bounded ones on two variables
-pub capped : (d : ℕ) (m : PairMasks) (arcs : List Arc) (briefs : List Brief) (limits : List ℕ) → AreBriefs d m arcs briefs → AreLimits arcs briefs limits →
-    (k v : ℕ) (a : Arc) → k < length arcs → k < length briefs → has (slice_index_or arcs k a).scope v ≡ true → slice_index_or limits v 0 < 64 → IsCapped d (slice_index_or arcs k a) limits
-capped d m arcs briefs limits told limited k v a low room there few = go (slice_index_or briefs k Other) refl
+pub capped : (l : Language) (arcs : List Arc) (briefs : List Brief) (limits : List ℕ) → AreBriefs l arcs briefs → AreLimits arcs briefs limits →
+    (k v : ℕ) (a : Arc) → k < length arcs → k < length briefs → has (slice_index_or arcs k a).scope v ≡ true → slice_index_or limits v 0 < 64 → IsCapped l (slice_index_or arcs k a) limits
+capped l arcs briefs limits told limited k v a low room there few = go (slice_index_or briefs k Other) refl
   where
-    go : (b : Brief) → slice_index_or briefs k Other ≡ b → IsCapped d (slice_index_or arcs k a) limits
+    go : (b : Brief) → slice_index_or briefs k Other ≡ b → IsCapped l (slice_index_or arcs k a) limits
     go (Two p) e =
-        let is : IsPairOf d m (slice_index_or arcs k a) p = subst (IsBriefOf d m (slice_index_or arcs k a)) e (told k a Other room low) in
+        let is : IsPairOf l (slice_index_or arcs k a) p = subst (IsBriefOf l (slice_index_or arcs k a)) e (told k a Other room low) in
         record {
-          bounds = p.bounds;
-          long = ap length is.scope;
-          is = is.bounds;
-          within = λ j l. subst (λ (b : Brief). bound_at b j ≤ slice_index_or limits (slice_index_or (slice_index_or arcs k a).scope j 0) 0) e (limited k j a Other room low l);
+          by = by_pair l is.pairs p;
+          agree = is.agree;
+          capped = record {
+            bounds = p.bounds;
+            long = ap length is.scope;
+            is = is.bounds;
+            within = λ j below. subst (λ (b : Brief). bound_at b j ≤ slice_index_or limits (slice_index_or (slice_index_or arcs k a).scope j 0) 0) e (limited k j a Other room low below);
+          };
         }
     go Other e =
         let at = member_place (slice_index_or arcs k a).scope v there in
@@ -189,18 +205,20 @@ head_there [] some = absurd (omega arith)
 head_there (v ∷ scope) some = or_left _ _ (eq-eqb v v refl)
 
 -- a condition is settled where its variables have more values than their limits
-pub settled_first : (d n : ℕ) (m : PairMasks) (arcs : List Arc) (briefs : List Brief) (limits changed : List ℕ) (f : Family) → d ≤ 128 → All (IsOver n) arcs → length arcs ≤ length briefs → AreBriefs d m arcs briefs → AreLimits arcs briefs limits → ((v : ℕ) → AreBelow d (slice_index_or f v [])) →
+pub settled_first : (l : Language) (n : ℕ) (arcs : List Arc) (briefs : List Brief) (limits changed : List ℕ) (f : Family) → l.value_count ≤ 128 → All (IsOver n) arcs → length arcs ≤ length briefs → AreBriefs l arcs briefs → AreLimits arcs briefs limits → IsFamilyOf l f →
     ((u : ℕ) → u < n → has changed u ≡ false → HasMore (slice_index_or limits u 0) (slice_index_or f u [])) → AreSettled arcs changed f
-settled_first d n m arcs briefs limits changed f few over room told limited below more = λ k a low none.
+settled_first l n arcs briefs limits changed f few over room told limited family more = λ k a low none.
     (let on = over k a low in
     let some = on.some in
-    let many : (j : ℕ) → j < length (slice_index_or arcs k a).scope → HasMore (slice_index_or limits (slice_index_or (slice_index_or arcs k a).scope j 0) 0) (slice_index_or f (slice_index_or (slice_index_or arcs k a).scope j 0) []) =
-    λ j l. more (slice_index_or (slice_index_or arcs k a).scope j 0) (on.known j 0 l) (untouched_at changed (slice_index_or arcs k a).scope none j 0 l) in
-    let pair = capped d m arcs briefs limits told limited k (slice_index_or (slice_index_or arcs k a).scope 0 0) a low (omega arith) (head_there (slice_index_or arcs k a).scope some) (many 0 some).low in
-    let long = pair.long in
-    let first : 0 < length (slice_index_or arcs k a).scope = omega arith in
-    let second : 1 < length (slice_index_or arcs k a).scope = omega arith in
-    bounded_consistent d (slice_index_or arcs k a) f pair.bounds few pair.is pair.long below (more_less _ _ _ (pair.within 0 first) (many 0 first)) (more_less _ _ _ (pair.within 1 second) (many 1 second)))
+    let arc : Arc = slice_index_or arcs k a in
+    let many : (j : ℕ) → j < length arc.scope → HasMore (slice_index_or limits (slice_index_or arc.scope j 0) 0) (slice_index_or f (slice_index_or arc.scope j 0) []) =
+    λ j below. more (slice_index_or arc.scope j 0) (on.known j 0 below) (untouched_at changed arc.scope none j 0 below) in
+    let pair = capped l arcs briefs limits told limited k (slice_index_or arc.scope 0 0) a low (omega arith) (head_there arc.scope some) (many 0 some).low in
+    let long = pair.capped.long in
+    let first : 0 < length arc.scope = omega arith in
+    let second : 1 < length arc.scope = omega arith in
+    consistent_as l f arc.scope pair.by arc.accepted family.within pair.agree
+    (bounded_consistent l.value_count (record { scope = arc.scope; accepted = pair.by }) f pair.capped.bounds few pair.capped.is pair.capped.long family.values (more_less _ _ _ (pair.capped.within 0 first) (many 0 first)) (more_less _ _ _ (pair.capped.within 1 second) (many 1 second))))
 
 -- one variable more was looked at
 pub more_next : (f : Family) (limits changed next : List ℕ) (v : ℕ) → v < 128 → ((u : ℕ) → u < 128 → has next u ≡ false → has changed u ≡ false) → (has next v ≡ false → HasMore (slice_index_or limits v 0) (slice_index_or f v [])) →

@@ -13,4 +13,6 @@ pub mod Visiting
 pub mod Beside
 pub mod Masking
 pub mod Lazy
+pub mod Chains
 pub mod ByMasks
+pub mod Standing

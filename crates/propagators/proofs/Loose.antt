@@ -11,8 +11,9 @@ use Rattle.assign.specs.SetLemmas.{has-set_where, filter_agree_from}
 use Rattle.propagators.specs.Values.{ones_of}
 use Rattle.propagators.specs.Families.{Family, Arc, is_wanted, sets_on, is_consistent}
 use Rattle.propagators.specs.Supports.{IsThrough, AreBelow}
-use Rattle.propagators.specs.Loose.{HasTwo, HasMore, IsBounded, rejected_of}
-use Rattle.propagators.specs.declared.plan.Bounds.{Bounds}
+use Rattle.language.specs.Pairs.{rejected_of}
+use Rattle.language.specs.declared.masks.PairBounds.{PairBounds}
+use Rattle.propagators.specs.Loose.{HasTwo, HasMore, IsBounded}
 use Rattle.propagators.specs.ValueLemmas.{filter_front}
 use Rattle.propagators.proofs.Ones.{has-ones_of, ones_of-passing}
 use Rattle.assign.proofs.Masks.{canonical, rises_filter}
@@ -42,6 +43,26 @@ one_member xs rest x goes none y z at_y at_z = sym (is y at_y) ∙ is z at_z
         go : (b : Bool) → (x == w) ≡ b → (has xs w && not (x == w)) ≡ false → x ≡ w
         go true same lost = eqb-true x w same
         go false other lost = absurd (both_ways _ lost (and_from _ _ at (ap not other)))
+
+pub two_long : (xs : List ℕ) → HasTwo xs → 1 < length xs
+two_long [] is = absurd (both_ways _ refl is.there)
+two_long (x ∷ []) is = absurd (is.apart (sym (one is.first is.there) ∙ one is.second is.also))
+  where
+    one : (y : ℕ) → has (x ∷ []) y ≡ true → x ≡ y
+    one y h = go (or_cases (x == y) false h)
+      where
+        go : ((x == y) ≡ true) ⊎ (false ≡ true) → x ≡ y
+        go (inl same) = eqb-true x y same
+        go (inr never) = absurd (both_ways _ refl never)
+two_long (x ∷ y ∷ xs) is = omega arith
+
+pub one_long : (xs : List ℕ) → IsSet xs → ((y z : ℕ) → has xs y ≡ true → has xs z ≡ true → y ≡ z) → length xs ≤ 1
+one_long [] set one = omega arith
+one_long (x ∷ []) set one = omega arith
+one_long (x ∷ y ∷ xs) set one = absurd (
+    let same : x ≡ y = one x y (has_head x (y ∷ xs)) (or_right _ _ (has_head y xs)) in
+    let rises : x + 1 ≤ y = set.2.0 in
+    omega arith)
 
 -- ---- more values than are rejected
 
@@ -95,7 +116,7 @@ one_accepted d k q xs few more below bound = go (search_in q xs)
 pub more_less : (j k : ℕ) (xs : List ℕ) → j ≤ k → HasMore k xs → HasMore j xs
 more_less j k xs le is = record { set = is.set; more = (let more = is.more in omega arith); low = (let low = is.low in omega arith) }
 
-module _ (d : ℕ) (accepted : List ℕ → Bool) (b : Bounds) (few : d ≤ 128) (bounded : IsBounded d accepted b) where
+module _ (d : ℕ) (accepted : List ℕ → Bool) (b : PairBounds) (few : d ≤ 128) (bounded : IsBounded d accepted b) where
   -- a value of the first variable goes with one of many values of the second
   pub in_row : (k : ℕ) (xs : List ℕ) (x : ℕ) → x < d → AreBelow d xs → HasMore k xs → b.second ≤ k → (y : ℕ) × (has xs y ≡ true) × (accepted (x ∷ y ∷ []) ≡ true)
   in_row k xs x low below more le = one_accepted d b.second (λ y. accepted (x ∷ y ∷ [])) xs few (more_less b.second k xs le more) below (bounded.second x low)
@@ -103,7 +124,7 @@ module _ (d : ℕ) (accepted : List ℕ → Bool) (b : Bounds) (few : d ≤ 128)
   pub in_column : (k : ℕ) (xs : List ℕ) (y : ℕ) → y < d → AreBelow d xs → HasMore k xs → b.first ≤ k → (x : ℕ) × (has xs x ≡ true) × (accepted (x ∷ y ∷ []) ≡ true)
   in_column k xs y low below more le = one_accepted d b.first (λ x. accepted (x ∷ y ∷ [])) xs few (more_less b.first k xs le more) below (bounded.first y low)
 
-pub bounded_consistent : (d : ℕ) (a : Arc) (f : Family) (b : Bounds) → d ≤ 128 → IsBounded d a.accepted b → length a.scope ≡ 2 → ((v : ℕ) → AreBelow d (slice_index_or f v [])) →
+pub bounded_consistent : (d : ℕ) (a : Arc) (f : Family) (b : PairBounds) → d ≤ 128 → IsBounded d a.accepted b → length a.scope ≡ 2 → ((v : ℕ) → AreBelow d (slice_index_or f v [])) →
     HasMore b.first (slice_index_or f (slice_index_or a.scope 0 0) []) → HasMore b.second (slice_index_or f (slice_index_or a.scope 1 0) []) → is_consistent f a.scope a.accepted ≡ true
 bounded_consistent d a f b few bounded long below first second = consistent a f (record { at = λ i x low here. through_supported (sets_on f a.scope) a.accepted i x (at a.scope long first second i x low here) })
   where
@@ -163,13 +184,13 @@ row_rejects d all rejected row holding whole is =
     fails y = is_wanted (not holding) (bit_at row y == 1)
 
 -- one row more
-pub rejects_next : (d at : ℕ) (holding : Bool) (masks : List ℕ) (x most next : ℕ) → most ≤ next → rejected_of d (λ y. is_wanted holding (bit_at (slice_index_or masks (at + x) 0) y == 1)) ≤ next →
-    ((z : ℕ) → z < x → rejected_of d (λ y. is_wanted holding (bit_at (slice_index_or masks (at + z) 0) y == 1)) ≤ most) →
-    (z : ℕ) → z < x + 1 → rejected_of d (λ y. is_wanted holding (bit_at (slice_index_or masks (at + z) 0) y == 1)) ≤ next
-rejects_next d at holding masks x most next more here old z low = go (cases_eq z x)
+pub rejects_next : (d : ℕ) (holding : Bool) (masks : List ℕ) (x most next : ℕ) → most ≤ next → rejected_of d (λ y. is_wanted holding (bit_at (slice_index_or masks x 0) y == 1)) ≤ next →
+    ((z : ℕ) → z < x → rejected_of d (λ y. is_wanted holding (bit_at (slice_index_or masks z 0) y == 1)) ≤ most) →
+    (z : ℕ) → z < x + 1 → rejected_of d (λ y. is_wanted holding (bit_at (slice_index_or masks z 0) y == 1)) ≤ next
+rejects_next d holding masks x most next more here old z low = go (cases_eq z x)
   where
     many : ℕ → ℕ
-    many k = rejected_of d (λ y. is_wanted holding (bit_at (slice_index_or masks (at + k) 0) y == 1))
+    many k = rejected_of d (λ y. is_wanted holding (bit_at (slice_index_or masks k 0) y == 1))
 
     go : (z ≡ x) ⊎ (z ≢ x) → many z ≤ next
     go (inl same) = subst (λ (k : ℕ). many k ≤ next) (sym same) here

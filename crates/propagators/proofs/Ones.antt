@@ -1,13 +1,15 @@
 -- The values of a mask: of none, of the first ones, of those that pass a test.
-use Rattle.std.proofs.Common.{◌≡◌, ℕ, zero, suc, ◌-◌, ◌<◌, ◌≤◌, ◌^◌, Bool, true, false, cond, ◌&&◌, ◌||◌, not, List, [], ◌∷◌, length, map, refl, sym, ◌∙◌, ap, subst, arith, inl, inr, ◌⊎◌, lit≤}
+use Rattle.std.proofs.Common.{◌≡◌, ℕ, zero, suc, ◌+◌, ◌-◌, ◌*◌, ◌%◌, ◌<◌, ◌≤◌, ◌^◌, Bool, true, false, cond, ◌&&◌, ◌||◌, not, List, [], ◌∷◌, length, map, refl, sym, ◌∙◌, ap, subst, arith, inl, inr, ◌⊎◌, lit≤}
 use Rattle.std.specs.Prelude.{◌==◌, ◌≢◌, bit_and, bit_or, min, count_ones, All}
 use Rattle.std.specs.List.{filter, list_any, list_all}
 use Rattle.std.specs.Int.{bit_at, bit_not, w64}
+use Rattle.std.specs.Int.Bits.{bit_xor}
+use Rattle.std.specs.Int.Count.{count_leading_zeros}
 use Rattle.std.proofs.lemmas.Bool.{cases_lt, cases_eq, eqb-true, eq-eqb, ne_eqb, both_ways}
 use Rattle.std.proofs.lemmas.List.Elements.{All-head, All-tail}
-use Rattle.std.proofs.Math.Nat.{pow-le-pow_right}
-use Rattle.std.proofs.lemmas.Nat.{zero_from_ones, or_lt, and_le_l, pow_below}
-use Rattle.std.proofs.lemmas.Nat.Bits.{bit_at-lt, bit_at_and, bit_at_not, bit_at_above}
+use Rattle.std.proofs.Math.Nat.{pow-le-pow_right, pow-suc}
+use Rattle.std.proofs.lemmas.Nat.{zero_from_ones, or_lt, xor_lt, and_le_l, pow_below, leading_top}
+use Rattle.std.proofs.lemmas.Nat.Bits.{bit_at-lt, bit_at_and, bit_at_xor, bit_at_not, bit_at_above, bit_at_cat_high}
 use Rattle.assign.specs.Sets.{numbers, has, members_of, mask_of}
 use Rattle.assign.specs.SetLemmas.{filter_agree_from, is_one, is_one-or, is_one-pow, has-members_of, has-set_where_above}
 use Rattle.assign.proofs.Masks.{members_of-ones, length-members_of}
@@ -166,6 +168,50 @@ less-without a x fits small there =
     lost true true h = refl
     lost false true h = refl
     lost p false h = cc
+
+pub has-xor : (a b x : ℕ) → a < 2 ^ 64 → b < 2 ^ 64 → has (ones_of (bit_xor a b)) x ≡ not (bit_at a x == bit_at b x)
+has-xor a b x fa fb = has_by_bits (bit_xor a b) x (not (bit_at a x == bit_at b x)) (xor_lt 64 a b fa fb)
+    (λ low. ap (λ y. y == 1) (bit_at_xor a b x) ∙ one (bit_at a x) (bit_at b x) (bit_at-lt a x) (bit_at-lt b x))
+    (λ high. ap not (eq-eqb (bit_at a x) (bit_at b x) (bit_at_above a 64 x fa high ∙ sym (bit_at_above b 64 x fb high))))
+  where
+    one : (x y : ℕ) → x < 2 → y < 2 → ((x + y) % 2 == 1) ≡ not (x == y)
+    one zero zero h k = refl
+    one zero (suc zero) h k = refl
+    one (suc zero) zero h k = refl
+    one (suc zero) (suc zero) h k = refl
+    one zero (suc (suc y)) h k = absurd (omega arith)
+    one (suc zero) (suc (suc y)) h k = absurd (omega arith)
+    one (suc (suc x)) y h k = absurd (omega arith)
+
+-- ---- the least one and the greatest
+
+pub none_lower : (mask least x : ℕ) → mask < 2 ^ 64 → ((i : ℕ) → i < least → bit_at mask i ≡ 0) → has (ones_of mask) x ≡ true → least ≤ x
+none_lower mask least x fits below there = go (cases_lt x least) (cases_lt x 64)
+  where
+    go : (x < least) ⊎ (least ≤ x) → (x < 64) ⊎ (64 ≤ x) → least ≤ x
+    go (inr le) small = le
+    go (inl lt) (inl small) = absurd (both_ways _ (has-ones_of mask x small ∙ ap (λ y. y == 1) (below x lt)) there)
+    go (inl lt) (inr large) = absurd (both_ways _ (has_above mask x fits large) there)
+
+-- the place of the highest one
+pub highest : (mask : ℕ) → 0 < mask → mask < 2 ^ 64 → (j : ℕ) × (count_leading_zeros 64 mask + suc j ≡ 64) × (has (ones_of mask) j ≡ true) × ((x : ℕ) → has (ones_of mask) x ≡ true → x ≤ j)
+highest mask some fits =
+    let top = leading_top 64 mask some fits in
+    let whole = top.1 in
+    (top.0, top.1, has-ones_of mask top.0 (omega arith) ∙ ap (λ y. y == 1) (one_at mask top.0 top.2 top.3), none_higher top.0 top.3)
+  where
+    one_at : (m k : ℕ) → 2 ^ k ≤ m → m < 2 ^ suc k → bit_at m k ≡ 1
+    one_at m k low high =
+        let twice : 2 ^ suc k ≡ 2 ^ k * 2 = pow-suc 2 k in
+        ap (λ n. bit_at n k) (let e : m ≡ 1 * 2 ^ k + (m - 2 ^ k) = omega arith in e) ∙ bit_at_cat_high 1 k (m - 2 ^ k) k (omega arith) (omega arith) ∙ ap (bit_at 1) (let e : k - k ≡ 0 = omega arith in e)
+
+    none_higher : (j : ℕ) → mask < 2 ^ suc j → (x : ℕ) → has (ones_of mask) x ≡ true → x ≤ j
+    none_higher j high x there = go (cases_lt j x) (cases_lt x 64)
+      where
+        go : (j < x) ⊎ (x ≤ j) → (x < 64) ⊎ (64 ≤ x) → x ≤ j
+        go (inr le) small = le
+        go (inl lt) (inl small) = absurd (both_ways _ (has-ones_of mask x small ∙ ap (λ y. y == 1) (bit_at_above mask (suc j) x high (omega arith))) there)
+        go (inl lt) (inr large) = absurd (both_ways _ (has_above mask x fits large) there)
 
 pub none_in : (a : ℕ) → a ≡ 0 → is_not_empty (ones_of a) ≡ false
 none_in a e = ap (λ m. is_not_empty (ones_of m)) e ∙ ap is_not_empty ones_of-zero

@@ -65,7 +65,7 @@ pub through_supported : (sets : List (List ℕ)) (accepted : List ℕ → Bool) 
 through_supported sets accepted i x t = any_within (λ tuple. (slice_index_or tuple i 0 == x) && accepted tuple) sets t.tuple t.within (and_from _ _ (eq-eqb _ x t.at) t.is)
 
 -- the value of a tuple within sets is one of the set at its place
-value_within : (sets : List (List ℕ)) (tuple : List ℕ) (i : ℕ) → IsWithin sets tuple → i < length sets → has (slice_index_or sets i []) (slice_index_or tuple i 0) ≡ true
+pub value_within : (sets : List (List ℕ)) (tuple : List ℕ) (i : ℕ) → IsWithin sets tuple → i < length sets → has (slice_index_or sets i []) (slice_index_or tuple i 0) ≡ true
 value_within [] tuple i h low = absurd (omega arith)
 value_within (xs ∷ sets) [] i h low = absurd h
 value_within (xs ∷ sets) (x ∷ tuple) zero h low = h.0

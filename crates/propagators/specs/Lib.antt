@@ -5,6 +5,7 @@ pub mod Values
 pub mod ValueLemmas
 pub mod InsideDomains
 pub mod Supports
+pub mod Chains
 pub mod Loose
 pub mod Pairs
 pub mod Briefs

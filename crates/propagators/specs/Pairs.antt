@@ -1,50 +1,36 @@
--- Relations of two variables, by number, and the masks of those whose masks are made.
-use Rattle.std.specs.Prelude.{ℕ, ◌+◌, ◌*◌, ◌<◌, ◌≤◌, ◌≡◌, ◌==◌, ◌⊎◌, Bool, true, List, [], ◌∷◌, length, slice_index_or, slice_set}
+-- Conditions on two variables, by the tables of their relations.
+use Rattle.std.specs.Prelude.{ℕ, ◌<◌, ◌≡◌, ◌==◌, ◌⊎◌, Bool, true, List, [], ◌∷◌, length, slice_index_or, slice_set}
 use Rattle.std.specs.Int.{bit_at}
 use Rattle.assign.specs.Sets.{has}
-use Rattle.rel_table.specs.Table.{TruthTable, truth_at}
-use Rattle.language.specs.Language.{Language, scope_at, relations_on, is_whole}
-use Rattle.propagators.specs.Values.{ones_of}
+use Rattle.rel_table.specs.Relation.{Relation}
+use Rattle.rel_table.specs.Table.{TruthTable}
+use Rattle.language.specs.Language.{Language}
+use Rattle.language.specs.Ranges.{are_in}
 use Rattle.propagators.specs.Families.{Family, Arc, is_wanted, is_not_empty, size_of}
 use Rattle.propagators.specs.Supports.{continues}
-use Rattle.propagators.specs.Loose.{IsBounded}
-use Rattle.propagators.specs.declared.plan.Bounds.{Bounds}
-use Rattle.propagators.specs.declared.plan.PairMasks.{PairMasks}
 use Rattle.propagators.specs.declared.domains.Left.{Left}
 use Rattle.propagators.specs.declared.domains.Left.TheVariants.{Nothing, Fewer, Same}
 
--- from a place on there is a mask for each of d values, whose bits tell which of d others go with it
-abbrev pub AreMasksOf : ℕ → (ℕ → ℕ → Bool) → List ℕ → ℕ → Type 0
-AreMasksOf d together masks at = (x y : ℕ) → x < d → y < d → (bit_at (slice_index_or masks (at + x) 0) y == 1) ≡ together x y
+-- a table of two variables, by its number
+abbrev pub pair_at : Language → List Relation → ℕ → TruthTable
+pair_at l pairs t = record { arity = 2; value_count = l.value_count; truth = slice_index_or pairs t [] }
 
--- whether the first value and the second go together
-abbrev pub goes : TruthTable → ℕ → ℕ → Bool
-goes table x y = truth_at table (x * table.value_count + y)
+-- what it says of two values, where it is to hold, or not to hold
+abbrev pub by_table : Language → List Relation → ℕ → Bool → List ℕ → Bool
+by_table l pairs t holding = continues (pair_at l pairs t) holding 0
+
+-- one test says of the tuples on a scope that are within the ranges what another does
+abbrev pub AgreeInside : Language → List ℕ → (List ℕ → Bool) → (List ℕ → Bool) → Type 0
+AgreeInside l scope p q = (tuple : List ℕ) → length tuple ≡ length scope → are_in l.ranges scope tuple ≡ true → p tuple ≡ q tuple
 
 -- whether by a relation's rows a tuple's first value and its second go together, or don't, where that is wanted
-abbrev pub goes_by : List ℕ → ℕ → Bool → List ℕ → Bool
-goes_by rows r holding tuple = is_wanted holding (bit_at (slice_index_or rows (r * 64 + slice_index_or tuple 0 0) 0) (slice_index_or tuple 1 0) == 1)
+abbrev pub goes_by : List ℕ → Bool → List ℕ → Bool
+goes_by rows holding tuple = is_wanted holding (bit_at (slice_index_or rows (slice_index_or tuple 0 0) 0) (slice_index_or tuple 1 0) == 1)
 
--- a scope of two variables, each of which has all values
-pub record IsWholePair (l : Language) (s : ℕ) : Type 0 where
-  pub known : s < length l.scopes
-  pub two : length (scope_at l s) ≡ 2
-  pub whole : is_whole l s ≡ true
-
--- the relations on such a scope, as tables
-abbrev pub pairs_of : Language → ℕ → ℕ → TruthTable
-pairs_of l s r = record { arity = 2; value_count = l.value_count; truth = slice_index_or (relations_on l s) r [] }
-
--- the masks of the relations for which they are made
-pub record AreRight (of : ℕ → TruthTable) (m : PairMasks) : Type 0 where
-  pub small : (r : ℕ) → has (ones_of m.known) r ≡ true → (of r).value_count ≤ 64
-  pub rows : (r : ℕ) → has (ones_of m.known) r ≡ true → AreMasksOf (of r).value_count (goes (of r)) m.rows.items (r * 64)
-  pub columns : (r : ℕ) → has (ones_of m.known) r ≡ true → AreMasksOf (of r).value_count (λ y x. goes (of r) x y) m.columns.items (r * 64)
-  pub bounds : (r : ℕ) (b : Bounds) → has (ones_of m.known) r ≡ true → IsBounded (of r).value_count (continues (of r) true 0) (slice_index_or m.bounds.items r b)
-
--- they are so on each such scope
-abbrev pub AreRightOn : Language → PairMasks → Type 0
-AreRightOn l m = (s : ℕ) → IsWholePair l s → AreRight (pairs_of l s) m
+-- a test of two values by masks: the rows of the first ones and the columns of the second ones
+pub record AreSides (d : ℕ) (accepted : List ℕ → Bool) (holding : Bool) (rows columns : List ℕ) : Type 0 where
+  pub row : (x y : ℕ) → x < d → y < d → accepted (x ∷ y ∷ []) ≡ is_wanted holding (bit_at (slice_index_or rows x 0) y == 1)
+  pub column : (x y : ℕ) → x < d → y < d → accepted (x ∷ y ∷ []) ≡ is_wanted holding (bit_at (slice_index_or columns y 0) x == 1)
 
 -- ---- One variable beside another that has one value
 

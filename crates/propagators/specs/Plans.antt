@@ -2,6 +2,7 @@
 use Rattle.std.specs.Prelude.{ℕ, ◌+◌, ◌*◌, ◌/◌, ◌%◌, ◌≡◌, ◌<◌, ◌≤◌, ◌⊎◌, true, false, List, length, slice_index_or}
 use Rattle.std.specs.List.{list_any}
 use Rattle.assign.specs.Sets.{has}
+use Rattle.language.specs.Language.{Language}
 use Rattle.propagators.specs.Values.{ones_of}
 use Rattle.propagators.specs.Families.{Family, Arc, is_consistent, size_of}
 use Rattle.propagators.specs.Supports.{IsUnderway}
@@ -20,8 +21,8 @@ AreLimits arcs briefs limits =
     (k j : ℕ) (a : Arc) (b : Brief) → k < length briefs → k < length arcs → j < length (slice_index_or arcs k a).scope → bound_at (slice_index_or briefs k b) j ≤ slice_index_or limits (slice_index_or (slice_index_or arcs k a).scope j 0) 0
 
 -- a plan of these conditions
-pub record IsPlanOf (d : ℕ) (arcs : List Arc) (p : Plan) : Type 0 where
-  pub briefs : AreBriefs d p.masks arcs p.briefs.items
+pub record IsPlanOf (l : Language) (arcs : List Arc) (p : Plan) : Type 0 where
+  pub briefs : AreBriefs l arcs p.briefs.items
   pub noted : AreNoted arcs p.words p.sets.items
   pub limits : AreLimits arcs p.briefs.items p.limits.items
 

@@ -29,8 +29,8 @@ abbrev pub RunsEmpty : List Arc → Family → Type 0
 RunsEmpty arcs f = list_all is_not_empty (largest arcs f) ≡ false
 
 -- a plan of these conditions that has a brief of each
-pub record IsWholePlanOf (d : ℕ) (arcs : List Arc) (p : Plan) : Type 0 where
-  pub plan : IsPlanOf d arcs p
+pub record IsWholePlanOf (l : Language) (arcs : List Arc) (p : Plan) : Type 0 where
+  pub plan : IsPlanOf l arcs p
   pub room : length arcs ≤ length p.briefs.items
 
 -- g is f after the conditions of one waiting variable were looked at. The others were waiting then, and now next are.

@@ -9,7 +9,9 @@ ghost use Rattle.propagators.specs.Supports.{IsFamilyOf};
 ghost use Rattle.propagators.specs.Loose.{HasTwo, HasMore};
 ghost use Rattle.propagators.specs.Pairs.{IsOnly, IsLeft};
 
-use crate::values::{count, has_value, is_empty, only_member, only_value, passing, values_between};
+use crate::values::{
+    are_more, has_value, is_empty, only_member, only_value, passing, values_between,
+};
 use language::Language;
 use std::marker::Model;
 
@@ -109,7 +111,7 @@ impl Domains {
         ensures is { result ≡ nat_lt most (length (slice_index_or self.now v [])) }
         ensures more { result ≡ true → HasMore most (slice_index_or self.now v []) }
     {
-        count(self.sets[v as usize]) > most
+        are_more(self.sets[v as usize], most)
     }
 
     /// Leaves the variable those of its values that pass: whose bit in the row is 1, or is 0 where the row isn't to hold.

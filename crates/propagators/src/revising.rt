@@ -1,4 +1,4 @@
-ghost use Rattle.std.specs.Prelude.{◌≡◌, ◌<◌, ◌≤◌, ℕ, [], ◌∷◌, true, false, All, IfSome, None, length, map, take, slice_index_or};
+ghost use Rattle.std.specs.Prelude.{◌≡◌, ◌<◌, ◌≤◌, ℕ, List, [], ◌∷◌, true, false, All, IfSome, None, length, map, take, slice_index_or};
 ghost use Rattle.std.specs.List.{list_any};
 ghost use Rattle.assign.specs.Sets.{has};
 ghost use Rattle.language.specs.Language.{IsLanguage, IsCandidate};
@@ -6,13 +6,15 @@ ghost use Rattle.propagators.specs.Allowed.{AreConstraints};
 ghost use Rattle.propagators.specs.Values.{ones_of};
 ghost use Rattle.propagators.specs.Families.{Arc, arc_of, arcs_of};
 ghost use Rattle.propagators.specs.Supports.{AreBelow, AreDifferent, IsFamilyOf, IsRevised, IsDead, IsCut, replaced};
-ghost use Rattle.propagators.specs.Briefs.{IsPairOf};
+ghost use Rattle.propagators.specs.Loose.{IsBounded};
+ghost use Rattle.propagators.specs.Briefs.{by_pair, arc_by};
+ghost use Rattle.rel_table.specs.Relation.{Relation};
+ghost use Rattle.language.specs.Pairs.{ArePairTables, IsPairTable};
 ghost use Rattle.propagators.specs.Propagated.{IsSettledBut, IsPropagated, RunsEmpty, IsPassed};
 
 use crate::briefs::Pair;
 use crate::constraints::Constraints;
 use crate::domains::Domains;
-use crate::plan::PairMasks;
 use crate::supports::{in_pair, supported};
 use crate::values::is_empty;
 use assign::VarSet;
@@ -83,19 +85,20 @@ pub(crate) fn revise(
 }
 
 /// `revise` for a condition on two variables, by the masks of its relation.
-pub(crate) fn revise_pair(masks: &PairMasks, pair: Pair, doms: &mut Domains) -> Option<VarSet>
-    requires rel { pair.rel < 64 }
+pub(crate) fn revise_pair(lang: &Language, pair: Pair, doms: &mut Domains) -> Option<VarSet>
+    requires lawful { IsLanguage lang.now }
+    requires table { IsPairTable lang.now pair.table }
     requires first { pair.first < length doms.old }
     requires second { pair.second < length doms.old }
     requires apart { AreDifferent (pair.first ∷ pair.second ∷ []) }
     requires few { length doms.old ≤ 128 }
-    ensures revised { IfSome result (λ changed. (d : ℕ) (a : Arc) → IsPairOf d masks.now a pair → ((v : ℕ) → AreBelow d (slice_index_or doms.old v [])) → IsRevised a doms.old doms.new) }
+    ensures revised { IfSome result (λ changed. (pairs : List Relation) → ArePairTables lang.now pairs → IsBounded lang.now.value_count (by_pair lang.now pairs pair) pair.bounds → ((v : ℕ) → AreBelow lang.now.value_count (slice_index_or doms.old v [])) → IsRevised (arc_by lang.now pairs pair) doms.old doms.new) }
     ensures cut { IfSome result (λ changed. IsCut changed doms.old doms.new) }
-    ensures dead { result ≡ None → (d : ℕ) (a : Arc) → IsPairOf d masks.now a pair → ((v : ℕ) → AreBelow d (slice_index_or doms.old v [])) → IsDead a doms.old }
+    ensures dead { result ≡ None → (pairs : List Relation) → ArePairTables lang.now pairs → IsBounded lang.now.value_count (by_pair lang.now pairs pair) pair.bounds → ((v : ℕ) → AreBelow lang.now.value_count (slice_index_or doms.old v [])) → IsDead (arc_by lang.now pairs pair) doms.old }
 {
     let scope = [pair.first, pair.second];
     let sets = doms.on(&scope);
-    let found = in_pair(masks, pair.rel, pair.holding, sets[0], sets[1]);
+    let found = in_pair(lang, pair, sets[0], sets[1]);
     if is_empty(found.0) {
         return None;
     }

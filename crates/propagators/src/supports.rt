@@ -1,12 +1,21 @@
 //! Which values of some sets an accepted tuple goes through.
 
-ghost use Rattle.std.specs.Prelude.{◌≡◌, ◌+◌, ◌*◌, ◌^◌, ◌<◌, ◌≤◌, ◌==◌, ℕ, List, [], ◌∷◌, length, map, take, All};
+ghost use Rattle.std.specs.Prelude.{◌≡◌, ◌+◌, ◌*◌, ◌^◌, ◌<◌, ◌≤◌, ◌==◌, ◌&&◌, ◌||◌, ℕ, Bool, true, List, [], ◌∷◌, length, map, take, All};
+ghost use Rattle.std.specs.Int.{bit_at};
+ghost use Rattle.assign.specs.Sets.{has};
 ghost use Rattle.propagators.specs.Values.{ones_of};
 ghost use Rattle.propagators.specs.Supports.{AreSupported, AreBelow, continues};
-ghost use Rattle.propagators.specs.Pairs.{goes_by};
+ghost use Rattle.propagators.specs.Families.{is_wanted};
+ghost use Rattle.propagators.specs.Loose.{IsBounded};
+ghost use Rattle.propagators.specs.Chains.{IsChain};
+ghost use Rattle.propagators.specs.Pairs.{goes_by, AreSides};
+ghost use Rattle.propagators.specs.Briefs.{by_pair};
+ghost use Rattle.rel_table.specs.Relation.{Relation};
+ghost use Rattle.language.specs.Pairs.{ArePairTables, IsPairTable};
 
-use crate::plan::PairMasks;
-use crate::values::{either, least_value, passing, with_value, without_value};
+use crate::briefs::Pair;
+use crate::values::{either, greatest_value, least_value, passing, with_value, without_value};
+use language::Language;
 use rel_table::Table;
 
 /// The supported values of one set.
@@ -44,19 +53,12 @@ fn in_two(table: &Table, holding: bool, at: u32, first: u64, last: u64) -> (u64,
     (a, b)
 }
 
-/// The supported values of two sets, by the masks of a relation.
+/// The supported values of two sets, by the rows of a relation.
 #[inline]
-pub(crate) fn in_pair(
-    masks: &PairMasks,
-    rel: u8,
-    holding: bool,
-    first: u64,
-    last: u64,
-) -> (u64, u64)
-    requires low { rel < 64 }
-    ensures { AreSupported (ones_of first ∷ ones_of last ∷ []) (goes_by masks.now.rows.items rel holding) (ones_of result.0 ∷ ones_of result.1 ∷ []) }
+fn in_rows(rows: &[u64], holding: bool, first: u64, last: u64) -> (u64, u64)
+    requires { length rows.now ≡ 64 }
+    ensures { AreSupported (ones_of first ∷ ones_of last ∷ []) (goes_by rows.now holding) (ones_of result.0 ∷ ones_of result.1 ∷ []) }
 {
-    let rows = masks.rows_of(rel);
     let (mut a, mut b) = (0, 0);
     let mut rest = first;
     while rest != 0 {
@@ -67,6 +69,62 @@ pub(crate) fn in_pair(
         b = either(b, below);
     }
     (a, b)
+}
+
+/// The values that go with one of two others, by the masks of these, or don't, where that is wanted.
+#[inline]
+fn with_either(values: u64, one: u64, other: u64, holding: bool) -> u64
+    ensures { (y : ℕ) → has (ones_of result) y ≡ ((has (ones_of values) y && is_wanted holding (bit_at one y == 1)) || (has (ones_of values) y && is_wanted holding (bit_at other y == 1))) }
+{
+    either(
+        passing(values, one, holding),
+        passing(values, other, holding),
+    )
+}
+
+/// `in_pair` for a chain: what goes with some value of a set goes with the least or the greatest one.
+#[inline]
+fn in_chain(rows: &[u64], columns: &[u64], holding: bool, first: u64, last: u64) -> (u64, u64)
+    requires rows_long { length rows.now ≡ 64 }
+    requires columns_long { length columns.now ≡ 64 }
+    ensures first { (x : ℕ) → has (ones_of result.0) x ≡ true → has (ones_of first) x ≡ true }
+    ensures last { (y : ℕ) → has (ones_of result.1) y ≡ true → has (ones_of last) y ≡ true }
+    ensures supported { (d : ℕ) (accepted : List ℕ → Bool) → AreSides d accepted holding rows.now columns.now → IsChain d accepted → AreBelow d (ones_of first) → AreBelow d (ones_of last) → AreSupported (ones_of first ∷ ones_of last ∷ []) accepted (ones_of result.0 ∷ ones_of result.1 ∷ []) }
+{
+    if first == 0 {
+        return (0, 0);
+    }
+    if last == 0 {
+        return (0, 0);
+    }
+    let least = columns[usize::from(least_value(last))];
+    let greatest = columns[usize::from(greatest_value(last))];
+    let a = with_either(first, least, greatest, holding);
+    let least = rows[usize::from(least_value(first))];
+    let greatest = rows[usize::from(greatest_value(first))];
+    (a, with_either(last, least, greatest, holding))
+}
+
+/// The supported values of two sets, by the masks of a pair's table.
+#[inline]
+pub(crate) fn in_pair(lang: &Language, pair: Pair, first: u64, last: u64) -> (u64, u64)
+    requires table { IsPairTable lang.now pair.table }
+    ensures first { (x : ℕ) → has (ones_of result.0) x ≡ true → has (ones_of first) x ≡ true }
+    ensures last { (y : ℕ) → has (ones_of result.1) y ≡ true → has (ones_of last) y ≡ true }
+    ensures supported { (pairs : List Relation) → ArePairTables lang.now pairs → IsBounded lang.now.value_count (by_pair lang.now pairs pair) pair.bounds → AreBelow lang.now.value_count (ones_of first) → AreBelow lang.now.value_count (ones_of last) → AreSupported (ones_of first ∷ ones_of last ∷ []) (by_pair lang.now pairs pair) (ones_of result.0 ∷ ones_of result.1 ∷ []) }
+{
+    let rows = lang.pair_rows(pair.table);
+    if pair.bounds.is_chain {
+        in_chain(
+            rows,
+            lang.pair_columns(pair.table),
+            pair.holding,
+            first,
+            last,
+        )
+    } else {
+        in_rows(rows, pair.holding, first, last)
+    }
 }
 
 /// The supported values of three sets.

@@ -1,6 +1,6 @@
 //! Sets of values, each a mask of 64 bits.
 
-ghost use Rattle.std.specs.Prelude.{◌≡◌, ◌≢◌, ◌<◌, ◌≤◌, ◌==◌, ℕ, true, not, nat_le, ◌&&◌, ◌||◌, IfSome, None, length};
+ghost use Rattle.std.specs.Prelude.{◌≡◌, ◌≢◌, ◌<◌, ◌≤◌, ◌==◌, ℕ, true, not, nat_le, nat_lt, ◌&&◌, ◌||◌, IfSome, None, length};
 ghost use Rattle.std.specs.List.{filter};
 ghost use Rattle.assign.specs.Sets.{numbers, has};
 ghost use Rattle.std.specs.Int.{bit_at};
@@ -39,9 +39,21 @@ pub(crate) fn has_value(values: u64, x: u8) -> bool
 pub(crate) fn least_value(values: u64) -> u8
     requires { values ≢ 0 }
     ensures there { has (ones_of values) result ≡ true }
+    ensures least { (x : ℕ) → has (ones_of values) x ≡ true → result ≤ x }
     ensures low { result < 64 }
 {
     values.trailing_zeros() as u8
+}
+
+/// The greatest member.
+#[inline]
+pub(crate) fn greatest_value(values: u64) -> u8
+    requires { values ≢ 0 }
+    ensures there { has (ones_of values) result ≡ true }
+    ensures greatest { (x : ℕ) → has (ones_of values) x ≡ true → x ≤ result }
+    ensures low { result < 64 }
+{
+    63 - values.leading_zeros() as u8
 }
 
 /// The members other than x.
@@ -127,6 +139,19 @@ pub(crate) fn count(values: u64) -> u8
     values.count_ones() as u8
 }
 
+/// Whether there are more members than so many.
+#[inline]
+pub(crate) fn are_more(values: u64, most: u8) -> bool
+    ensures is { result ≡ nat_lt most (length (ones_of values)) }
+    ensures few { result ≡ true → most < 64 }
+{
+    if most != 1 {
+        return count(values) > most;
+    }
+    // Whether there is a second one is seen without counting them.
+    values != 0 && without_value(values, least_value(values)) != 0
+}
+
 /// The members, and x.
 #[inline]
 pub(crate) fn add_value(values: u64, x: u8) -> u64
@@ -134,13 +159,4 @@ pub(crate) fn add_value(values: u64, x: u8) -> u64
     ensures { (y : ℕ) → has (ones_of result) y ≡ (has (ones_of values) y || (x == y)) }
 {
     values | (1 << x)
-}
-
-/// The members, and x where it is to be one.
-#[inline]
-pub(crate) fn add_where(values: u64, x: u8, is_one: bool) -> u64
-    requires { x < 64 }
-    ensures { (y : ℕ) → has (ones_of result) y ≡ (has (ones_of values) y || (is_one && (x == y))) }
-{
-    if is_one { add_value(values, x) } else { values }
 }

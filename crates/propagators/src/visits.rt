@@ -1,6 +1,6 @@
 //! Propagation with a plan: only the conditions of a changed variable are looked at.
 
-ghost use Rattle.std.specs.Prelude.{◌≡◌, ◌<◌, ◌≤◌, ◌+◌, ◌*◌, ◌/◌, ◌%◌, ◌==◌, ℕ, [], true, false, All, IfSome, IfOk, None, length, slice_index_or};
+ghost use Rattle.std.specs.Prelude.{◌≡◌, ◌<◌, ◌≤◌, ◌+◌, ◌*◌, ◌/◌, ◌%◌, ◌==◌, ℕ, List, [], true, false, All, IfSome, IfOk, None, length, slice_index_or};
 ghost use Rattle.std.specs.Int.{bit_at};
 ghost use Rattle.std.specs.List.{list_all};
 ghost use Rattle.assign.specs.Sets.{has, without};
@@ -11,17 +11,20 @@ ghost use Rattle.propagators.specs.Families.{Arc, arcs_of, is_not_empty, is_want
 ghost use Rattle.propagators.specs.Supports.{AreBelow, IsFamilyOf};
 ghost use Rattle.propagators.specs.Loose.{HasTwo, HasMore};
 ghost use Rattle.propagators.specs.Pairs.{IsBeside};
-ghost use Rattle.propagators.specs.Briefs.{IsPairOf, AreBriefs};
+ghost use Rattle.propagators.specs.Briefs.{IsPairOf, AreBriefs, arc_by};
+ghost use Rattle.rel_table.specs.Relation.{Relation};
+ghost use Rattle.language.specs.Pairs.{ArePairTables, IsPairTable};
 ghost use Rattle.propagators.specs.Plans.{IsPlanOf, AreNoted, AreLimits, IsLooked};
 ghost use Rattle.propagators.specs.Propagated.{AreSome, IsSettledBut, IsPropagated, RunsEmpty, IsWholePlanOf, IsVisited};
 
 use crate::briefs::{Brief, Pair, brief_of, raise_all};
 use crate::constraints::Constraints;
 use crate::domains::{Domains, Left};
-use crate::plan::{PairMasks, Plan};
+use crate::plan::Plan;
 use crate::revising::{Alive, revise, revise_pair, settle};
 use crate::values::{add_value, least_value, without_value};
 use assign::VarSet;
+use language::Language;
 use std::alloc::{AllocError, Global};
 
 /// Notes a condition with the variables of its scope.
@@ -64,11 +67,10 @@ fn note_rest(cons: &Constraints, sets: &mut [u64], words: usize, from: usize)
     }
 }
 
-/// The briefs of the first conditions, as many as there is room for, and the masks of their relations. All conditions are
-/// noted with their variables, as far as there is room. Each variable's limit is the largest bound of its briefs.
+/// The briefs of the first conditions, as many as there is room for. All conditions are noted with their variables, as far as
+/// there is room. Each variable's limit is the largest bound of its briefs.
 fn arrange_all(
     cons: &Constraints,
-    masks: &mut PairMasks,
     briefs: &mut [Brief],
     sets: &mut [u64],
     words: usize,
@@ -79,11 +81,10 @@ fn arrange_all(
     requires long { length sets.old ≡ 128 * words }
     requires room { length briefs.old ≤ words * 64 }
     requires wide { length limits.old ≡ 128 }
-    ensures briefs { AreBriefs cons.now.lang.now.value_count masks.new (arcs_of cons.now.lang.now cons.now.list.now cons.now.against) briefs.new }
+    ensures briefs { AreBriefs cons.now.lang.now (arcs_of cons.now.lang.now cons.now.list.now cons.now.against) briefs.new }
     ensures limits { AreLimits (arcs_of cons.now.lang.now cons.now.list.now cons.now.against) briefs.new limits.new }
     ensures noted { AreNoted (arcs_of cons.now.lang.now cons.now.list.now cons.now.against) words sets.new }
 {
-    masks.clear();
     clear_sets(sets, words, cons.count(), cons.lang.n());
     limits.fill(0);
     let end = briefs.len().min(cons.count());
@@ -91,7 +92,7 @@ fn arrange_all(
         let (c, holding) = cons.condition(i);
         let scope = cons.lang.scope(c.scope);
         note(sets, words, scope, i);
-        let brief = brief_of(cons.lang, c, scope, holding, masks);
+        let brief = brief_of(cons.lang, c, scope, holding);
         briefs[i] = brief;
         raise_all(limits, scope, brief);
     }
@@ -99,8 +100,7 @@ fn arrange_all(
 }
 
 impl Plan {
-    /// Room for so many conditions: some 23 bytes for each, and 64 KB for the masks of relations. `AllocError` where the
-    /// allocator gives no memory.
+    /// Room for so many conditions: some 23 bytes for each. `AllocError` where the allocator gives no memory.
     pub fn new(alloc: Global, room: usize) -> Result<Plan, AllocError>
         requires { room ≤ 65536 }
         ensures { IfOk result (λ p. length p.briefs.items ≡ room) }
@@ -108,7 +108,6 @@ impl Plan {
         let words = room.div_ceil(64);
         Ok(Plan {
             briefs: vec![in alloc; Brief::Other; room]?,
-            masks: PairMasks::new(alloc)?,
             limits: vec![in alloc; 0; 128]?,
             words,
             sets: vec![in alloc; 0; 128 * words]?,
@@ -119,11 +118,10 @@ impl Plan {
     pub fn arrange(&mut self, cons: &Constraints)
         requires lawful { IsLanguage cons.now.lang.now }
         requires constraints { AreConstraints cons.now.lang.now cons.now.list.now cons.now.against }
-        ensures { IsPlanOf cons.now.lang.now.value_count (arcs_of cons.now.lang.now cons.now.list.now cons.now.against) self.new }
+        ensures { IsPlanOf cons.now.lang.now (arcs_of cons.now.lang.now cons.now.list.now cons.now.against) self.new }
     {
         arrange_all(
             cons,
-            &mut self.masks,
             &mut self.briefs,
             &mut self.sets,
             self.words,
@@ -133,21 +131,21 @@ impl Plan {
 }
 
 /// The variable of a pair whose other variable has one value alone, and the mask of its values that go with that one.
-fn beside(masks: &PairMasks, pair: Pair, doms: &Domains) -> Option<(u8, u64)>
-    requires rel { pair.rel < 64 }
+fn beside(lang: &Language, pair: Pair, doms: &Domains) -> Option<(u8, u64)>
+    requires table { IsPairTable lang.now pair.table }
     requires first { pair.first < length doms.now }
     requires second { pair.second < length doms.now }
     requires small { (v : ℕ) → AreBelow 64 (slice_index_or doms.now v []) }
     requires full { list_all is_not_empty doms.now ≡ true }
-    ensures beside { IfSome result (λ r. (d : ℕ) (a : Arc) → IsPairOf d masks.now a pair → ((v : ℕ) → AreBelow d (slice_index_or doms.now v [])) → IsBeside d a doms.now r.0 (λ x. is_wanted pair.holding (bit_at r.1 x == 1))) }
+    ensures beside { IfSome result (λ r. (pairs : List Relation) → ArePairTables lang.now pairs → ((v : ℕ) → AreBelow lang.now.value_count (slice_index_or doms.now v [])) → IsBeside lang.now.value_count (arc_by lang.now pairs pair) doms.now r.0 (λ x. is_wanted pair.holding (bit_at r.1 x == 1))) }
     ensures known { IfSome result (λ r. r.0 < length doms.now) }
     ensures two { result ≡ None → HasTwo (slice_index_or doms.now pair.first []) × HasTwo (slice_index_or doms.now pair.second []) }
 {
     if let Some(x) = doms.only(pair.first) {
-        return Some((pair.second, masks.row(pair.rel, x)));
+        return Some((pair.second, lang.pair_rows(pair.table)[usize::from(x)]));
     }
     if let Some(y) = doms.only(pair.second) {
-        return Some((pair.first, masks.column(pair.rel, y)));
+        return Some((pair.first, lang.pair_columns(pair.table)[usize::from(y)]));
     }
     None
 }
@@ -180,7 +178,6 @@ fn look_at_other(cons: &Constraints, i: usize, doms: &mut Domains, waiting: &mut
 #[inline(never)]
 fn look_at_both(
     cons: &Constraints,
-    plan: &Plan,
     pair: Pair,
     i: usize,
     doms: &mut Domains,
@@ -188,13 +185,13 @@ fn look_at_both(
 ) -> Alive
     requires lawful { IsLanguage cons.now.lang.now }
     requires constraints { AreConstraints cons.now.lang.now cons.now.list.now cons.now.against }
-    requires pair { (a : Arc) → IsPairOf cons.now.lang.now.value_count plan.now.masks (slice_index_or (arcs_of cons.now.lang.now cons.now.list.now cons.now.against) i a) pair }
+    requires pair { (a : Arc) → IsPairOf cons.now.lang.now (slice_index_or (arcs_of cons.now.lang.now cons.now.list.now cons.now.against) i a) pair }
     requires low { i < length (arcs_of cons.now.lang.now cons.now.list.now cons.now.against) }
     requires doms { AreSome cons.now.lang.now doms.old }
     ensures looked { result ≡ Alive.Yes → IsLooked (arcs_of cons.now.lang.now cons.now.list.now cons.now.against) i waiting.old waiting.new doms.old doms.new }
     ensures dead { result ≡ Alive.No → RunsEmpty (arcs_of cons.now.lang.now cons.now.list.now cons.now.against) doms.old }
 {
-    match revise_pair(&plan.masks, pair, doms) {
+    match revise_pair(cons.lang, pair, doms) {
         None => Alive::No,
         Some(lost) => {
             if lost.len() == 0 {
@@ -217,21 +214,21 @@ fn look_at_pair(
 ) -> Alive
     requires lawful { IsLanguage cons.now.lang.now }
     requires constraints { AreConstraints cons.now.lang.now cons.now.list.now cons.now.against }
-    requires plan { IsWholePlanOf cons.now.lang.now.value_count (arcs_of cons.now.lang.now cons.now.list.now cons.now.against) plan.now }
-    requires pair { (a : Arc) → IsPairOf cons.now.lang.now.value_count plan.now.masks (slice_index_or (arcs_of cons.now.lang.now cons.now.list.now cons.now.against) i a) pair }
+    requires plan { IsWholePlanOf cons.now.lang.now (arcs_of cons.now.lang.now cons.now.list.now cons.now.against) plan.now }
+    requires pair { (a : Arc) → IsPairOf cons.now.lang.now (slice_index_or (arcs_of cons.now.lang.now cons.now.list.now cons.now.against) i a) pair }
     requires low { i < length (arcs_of cons.now.lang.now cons.now.list.now cons.now.against) }
     requires doms { AreSome cons.now.lang.now doms.old }
     ensures looked { result ≡ Alive.Yes → IsLooked (arcs_of cons.now.lang.now cons.now.list.now cons.now.against) i waiting.old waiting.new doms.old doms.new }
     ensures dead { result ≡ Alive.No → RunsEmpty (arcs_of cons.now.lang.now cons.now.list.now cons.now.against) doms.old }
 {
-    let Some((v, row)) = beside(&plan.masks, pair, doms) else {
+    let Some((v, row)) = beside(cons.lang, pair, doms) else {
         // More values of each are left than one of the other rejects.
         if doms.has_more(pair.first, pair.bounds.first)
             && doms.has_more(pair.second, pair.bounds.second)
         {
             return Alive::Yes;
         }
-        return look_at_both(cons, plan, pair, i, doms, waiting);
+        return look_at_both(cons, pair, i, doms, waiting);
     };
     match doms.keep(v, row, pair.holding) {
         Left::Nothing => Alive::No,
@@ -259,7 +256,7 @@ fn look_at(
 ) -> Alive
     requires lawful { IsLanguage cons.now.lang.now }
     requires constraints { AreConstraints cons.now.lang.now cons.now.list.now cons.now.against }
-    requires plan { IsWholePlanOf cons.now.lang.now.value_count (arcs_of cons.now.lang.now cons.now.list.now cons.now.against) plan.now }
+    requires plan { IsWholePlanOf cons.now.lang.now (arcs_of cons.now.lang.now cons.now.list.now cons.now.against) plan.now }
     requires count { count ≡ length (arcs_of cons.now.lang.now cons.now.list.now cons.now.against) }
     requires doms { AreSome cons.now.lang.now doms.old }
     ensures looked { result ≡ Alive.Yes → IsLooked (arcs_of cons.now.lang.now cons.now.list.now cons.now.against) i waiting.old waiting.new doms.old doms.new }
@@ -285,7 +282,7 @@ fn visit(
 ) -> Option<VarSet>
     requires lawful { IsLanguage cons.now.lang.now }
     requires constraints { AreConstraints cons.now.lang.now cons.now.list.now cons.now.against }
-    requires plan { IsWholePlanOf cons.now.lang.now.value_count (arcs_of cons.now.lang.now cons.now.list.now cons.now.against) plan.now }
+    requires plan { IsWholePlanOf cons.now.lang.now (arcs_of cons.now.lang.now cons.now.list.now cons.now.against) plan.now }
     requires doms { IsSettledBut cons.now.lang.now (arcs_of cons.now.lang.now cons.now.list.now cons.now.against) changed doms.old }
     requires known { v < 128 }
     ensures visited { IfSome result (λ next. IsVisited (arcs_of cons.now.lang.now cons.now.list.now cons.now.against) (without changed v) next doms.old doms.new) }
@@ -318,7 +315,7 @@ fn visit(
 fn visit_all(cons: &Constraints, plan: &Plan, doms: &mut Domains, changed: VarSet) -> Alive
     requires lawful { IsLanguage cons.now.lang.now }
     requires constraints { AreConstraints cons.now.lang.now cons.now.list.now cons.now.against }
-    requires plan { IsWholePlanOf cons.now.lang.now.value_count (arcs_of cons.now.lang.now cons.now.list.now cons.now.against) plan.now }
+    requires plan { IsWholePlanOf cons.now.lang.now (arcs_of cons.now.lang.now cons.now.list.now cons.now.against) plan.now }
     requires doms { IsSettledBut cons.now.lang.now (arcs_of cons.now.lang.now cons.now.list.now cons.now.against) changed doms.old }
     ensures alive { result ≡ Alive.Yes → IsPropagated cons.now.lang.now (arcs_of cons.now.lang.now cons.now.list.now cons.now.against) doms.old doms.new }
     ensures dead { result ≡ Alive.No → RunsEmpty (arcs_of cons.now.lang.now cons.now.list.now cons.now.against) doms.old }
@@ -346,7 +343,7 @@ pub fn propagate_after(
 ) -> Alive
     requires lawful { IsLanguage cons.now.lang.now }
     requires constraints { AreConstraints cons.now.lang.now cons.now.list.now cons.now.against }
-    requires plan { IsPlanOf cons.now.lang.now.value_count (arcs_of cons.now.lang.now cons.now.list.now cons.now.against) plan.now }
+    requires plan { IsPlanOf cons.now.lang.now (arcs_of cons.now.lang.now cons.now.list.now cons.now.against) plan.now }
     requires doms { IsSettledBut cons.now.lang.now (arcs_of cons.now.lang.now cons.now.list.now cons.now.against) changed doms.old }
     ensures alive { result ≡ Alive.Yes → IsPropagated cons.now.lang.now (arcs_of cons.now.lang.now cons.now.list.now cons.now.against) doms.old doms.new }
     ensures dead { result ≡ Alive.No → RunsEmpty (arcs_of cons.now.lang.now cons.now.list.now cons.now.against) doms.old }
@@ -376,7 +373,7 @@ fn with_few(set: VarSet, doms: &Domains, v: u8, most: u8) -> VarSet
 fn first_changed(cons: &Constraints, plan: &Plan, doms: &Domains, n: u8) -> VarSet
     requires lawful { IsLanguage cons.now.lang.now }
     requires constraints { AreConstraints cons.now.lang.now cons.now.list.now cons.now.against }
-    requires plan { IsPlanOf cons.now.lang.now.value_count (arcs_of cons.now.lang.now cons.now.list.now cons.now.against) plan.now }
+    requires plan { IsPlanOf cons.now.lang.now (arcs_of cons.now.lang.now cons.now.list.now cons.now.against) plan.now }
     requires doms { AreSome cons.now.lang.now doms.now }
     requires variables { n ≡ variable_count cons.now.lang.now }
     ensures { IsSettledBut cons.now.lang.now (arcs_of cons.now.lang.now cons.now.list.now cons.now.against) result doms.now }
@@ -394,7 +391,7 @@ fn first_changed(cons: &Constraints, plan: &Plan, doms: &Domains, n: u8) -> VarS
 /// `propagate` with a plan of the conditions.
 pub fn propagate_all(cons: &Constraints, plan: &Plan, doms: &mut Domains) -> Alive
     requires constraints { AreConstraints cons.now.lang.now cons.now.list.now cons.now.against }
-    requires plan { IsPlanOf cons.now.lang.now.value_count (arcs_of cons.now.lang.now cons.now.list.now cons.now.against) plan.now }
+    requires plan { IsPlanOf cons.now.lang.now (arcs_of cons.now.lang.now cons.now.list.now cons.now.against) plan.now }
     requires family { IsFamilyOf cons.now.lang.now doms.old }
     ensures alive { result ≡ Alive.Yes → IsPropagated cons.now.lang.now (arcs_of cons.now.lang.now cons.now.list.now cons.now.against) doms.old doms.new }
     ensures dead { result ≡ Alive.No → RunsEmpty (arcs_of cons.now.lang.now cons.now.list.now cons.now.against) doms.old }

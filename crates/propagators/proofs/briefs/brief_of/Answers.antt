@@ -1,5 +1,6 @@
 use Rattle.std.proofs.Common.{◌≡◌, ◌∙◌, ℕ, List, [], ◌∷◌, ap, sym, refl, length, arith}
 use Rattle.std.specs.Prelude.{slice_index_or}
+use Rattle.propagators.specs.Families.{is_wanted}
 use Rattle.propagators.proofs.briefs.brief_of.Goals as goal
 
 two_of : (xs : List ℕ) → length xs ≡ 2 → xs ≡ slice_index_or xs 0 0 ∷ slice_index_or xs 1 0 ∷ []
@@ -8,18 +9,17 @@ two_of (x ∷ []) h = absurd (omega arith)
 two_of (x ∷ y ∷ []) h = refl
 two_of (x ∷ y ∷ z ∷ xs) h = absurd (omega arith)
 
-pub learn-bounds-requires-clause-pair : goal.learn-bounds-requires-clause-pair
-learn-bounds-requires-clause-pair c = record { known = c.requires.candidate.scope; two = ap length (sym c.requires.scope) ∙ c.if-scope-ne2.false; whole = sym c.if-not-is_whole.ensures }
+pub pair_table-table-requires-clause-two : goal.pair_table-table-requires-clause-two
+pair_table-table-requires-clause-two c = ap length (sym c.requires.scope) ∙ c.if-scope-ne2.false
 
 pub returns-clause-is : goal.returns-clause-is
 returns-clause-is c = record {
-  on = c.args.c.scope;
-  whole = record { known = c.requires.candidate.scope; two = ap length (sym c.requires.scope) ∙ c.if-scope-ne2.false; whole = sym c.if-not-is_whole.ensures };
   scope = sym c.requires.scope ∙ two_of c.args.scope.now c.if-scope-ne2.false;
-  low = (let rel = c.requires.candidate.rel in let few = c.requires.lawful.few_relations c.args.c.scope c.requires.candidate.scope in omega arith);
-  known = c.learn-bounds.ensures.known;
-  accepted = refl;
-  bounds = c.learn-bounds.ensures.bounds;
+  table = c.pair_table-table.ensures.table;
+  pairs = c.pair_table-table.ensures.on.pairs;
+  are = c.pair_table-table.ensures.on.are;
+  agree = λ tuple long inside. ap (is_wanted c.args.holding) (c.pair_table-table.ensures.on.agrees tuple long inside);
+  bounds = c.bounds_of.ensures c.pair_table-table.ensures.on.pairs c.pair_table-table.ensures.on.are;
 }
 
 pub returns-clause-on : goal.returns-clause-on

@@ -1,25 +1,23 @@
-use Rattle.std.proofs.Common.{◌∙◌, ◌∷◌, ℕ, List, [], ap, sym}
-use Rattle.std.specs.Prelude.{◌==◌, slice_index_or}
-use Rattle.std.specs.Int.{bit_at}
-use Rattle.assign.specs.Sets.{has}
+use Rattle.std.proofs.Common.{[], ◌∷◌}
 use Rattle.propagators.specs.Values.{ones_of}
-use Rattle.propagators.specs.Families.{is_wanted}
 use Rattle.propagators.specs.Pairs.{goes_by}
-use Rattle.propagators.proofs.Ones.{ones_of-zero}
-use Rattle.propagators.proofs.Sweeping.{sweep_begin, sweep_step, sweep_end, one_supported, both_true, part_true}
+use Rattle.propagators.specs.Briefs.{by_pair}
+use Rattle.propagators.proofs.Masking.{sides, by_rows}
+use Rattle.propagators.proofs.ByMasks.{pair_part, rows_supported}
 use Rattle.propagators.proofs.supports.in_pair.Goals as goal
 
-pub loop-rest-init : goal.loop-rest-init
-loop-rest-init c = sweep_begin c.args.first (ones_of c.args.last ∷ []) (goes_by c.args.masks.now.rows.items c.args.rel c.args.holding) (ones_of 0 ∷ []) (ones_of-zero, tt)
+pub returns-then-pair-clause-supported : goal.returns-then-pair-clause-supported
+returns-then-pair-clause-supported c = λ pairs are bounded. c.in_chain.ensures.supported c.args.lang.now.value_count (by_pair c.args.lang.now pairs c.args.pair)
+    (sides c.args.lang.now pairs c.args.pair.table c.args.pair.holding c.pair_rows-rows.result.now c.pair_columns.result.now (c.pair_rows-rows.ensures.masks pairs are) (c.pair_columns.ensures.masks pairs are))
+    (bounded.chain c.if-pair.true)
 
-pub loop-rest-preserved : goal.loop-rest-preserved
-loop-rest-preserved c =
-    sweep_step c.args.first c.loop-rest.rest (ones_of c.args.last) [] (goes_by c.args.masks.now.rows.items c.args.rel c.args.holding) c.loop-rest.a (ones_of c.loop-rest.b ∷ []) c.least_value-x.result c.without_value-rest.result c.passing-below.result c.with_value-a.result [] (ones_of c.either-b.result ∷ [])
-    c.loop-rest.invariant c.least_value-x.ensures.there c.without_value-rest.ensures.has
-    (one_supported (ones_of c.args.last) (ones_of c.passing-below.result) (λ (tuple : List ℕ). goes_by c.args.masks.now.rows.items c.args.rel c.args.holding (c.least_value-x.result ∷ tuple))
-    (λ y there. c.passing-below.ensures y ∙ both_true _ _ there ∙ ap (λ row. is_wanted c.args.holding (bit_at row y == 1)) (ap (λ x. slice_index_or c.rows_of-rows.result.now x 0) c.from.ensures ∙ c.rows_of-rows.ensures.rows c.least_value-x.result c.least_value-x.ensures.low))
-    (λ y h. part_true (has (ones_of c.args.last) y) _ (sym (c.passing-below.ensures y) ∙ h)))
-    c.with_value-a.ensures (c.either-b.ensures, tt)
+pub returns-else-pair-clause-first : goal.returns-else-pair-clause-first
+returns-else-pair-clause-first c = (pair_part (ones_of c.args.first) (ones_of c.args.last) (ones_of c.in_rows.result.0) (ones_of c.in_rows.result.1) (goes_by c.pair_rows-rows.result.now c.args.pair.holding) c.in_rows.ensures).0
 
-pub returns : goal.returns
-returns c = sweep_end c.args.first c.loop-rest.rest (ones_of c.args.last ∷ []) (goes_by c.args.masks.now.rows.items c.args.rel c.args.holding) c.loop-rest.a (ones_of c.loop-rest.b ∷ []) c.loop-rest-test.false c.loop-rest.invariant
+pub returns-else-pair-clause-last : goal.returns-else-pair-clause-last
+returns-else-pair-clause-last c = (pair_part (ones_of c.args.first) (ones_of c.args.last) (ones_of c.in_rows.result.0) (ones_of c.in_rows.result.1) (goes_by c.pair_rows-rows.result.now c.args.pair.holding) c.in_rows.ensures).1
+
+pub returns-else-pair-clause-supported : goal.returns-else-pair-clause-supported
+returns-else-pair-clause-supported c = λ pairs are bounded below_first below_last.
+    rows_supported c.args.lang.now.value_count (by_pair c.args.lang.now pairs c.args.pair) c.args.pair.holding c.pair_rows-rows.result.now (ones_of c.args.first) (ones_of c.args.last) (ones_of c.in_rows.result.0 ∷ ones_of c.in_rows.result.1 ∷ [])
+    (by_rows c.args.lang.now pairs c.args.pair.table c.args.pair.holding c.pair_rows-rows.result.now (c.pair_rows-rows.ensures.masks pairs are)) below_first below_last c.in_rows.ensures

@@ -1,15 +1,14 @@
 use Rattle.std.proofs.Common.{◌∙◌, ap, sym, arith}
 use Rattle.propagators.specs.Families.{Arc, arc_of, arcs_of}
-use Rattle.propagators.proofs.Masking.{briefs_next, brief_told}
+use Rattle.propagators.proofs.Masking.{briefs_next}
 use Rattle.propagators.proofs.Lazy.{limits_next}
 use Rattle.propagators.proofs.Visiting.{noted_next}
 use Rattle.propagators.proofs.visits.arrange_all.Goals as goal
 
 pub loop-i-preserved : goal.loop-i-preserved
 loop-i-preserved c = record {
-  right = c.brief_of-brief.ensures.right;
-  briefs = briefs_next c.args.cons.now.lang.now c.loop-i.masks.known c.brief_of-brief.new.masks.known (arcs_of c.args.cons.now.lang.now c.args.cons.now.list.now c.args.cons.now.against) c.loop-i.briefs c.loop-i.i c.brief_of-brief.result (arc_of c.args.cons.now.lang.now c.condition-holding.result.0 c.condition-holding.result.1)
-      (let end = c.min-end.ensures in let low = c.loop-i-test.true in let long = c.loop-i.auto.briefs in omega arith) c.condition-holding.ensures.is c.brief_of-brief.ensures.is c.brief_of-brief.ensures.grows c.loop-i.invariant.briefs;
+  briefs = briefs_next c.args.cons.now.lang.now (arcs_of c.args.cons.now.lang.now c.args.cons.now.list.now c.args.cons.now.against) c.loop-i.briefs c.loop-i.i c.brief_of-brief.result (arc_of c.args.cons.now.lang.now c.condition-holding.result.0 c.condition-holding.result.1)
+      (let end = c.min-end.ensures in let low = c.loop-i-test.true in let long = c.loop-i.auto.briefs in omega arith) c.condition-holding.ensures.is c.brief_of-brief.ensures.is c.loop-i.invariant.briefs;
   limits = limits_next (arcs_of c.args.cons.now.lang.now c.args.cons.now.list.now c.args.cons.now.against) c.loop-i.briefs c.loop-i.limits c.raise_all.new.limits c.scope-scope.result.now c.loop-i.i c.brief_of-brief.result
       (let end = c.min-end.ensures in let low = c.loop-i-test.true in let long = c.loop-i.auto.briefs in omega arith)
       (λ a. ap (λ (b : Arc). b.scope) (c.condition-holding.ensures.is a) ∙ sym c.scope-scope.ensures.is) c.raise_all.ensures.there c.raise_all.ensures.grows c.loop-i.invariant.limits;
@@ -21,8 +20,7 @@ loop-i-preserved c = record {
 
 pub returns-clause-briefs : goal.returns-clause-briefs
 returns-clause-briefs c = λ k a b low below.
-    brief_told c.args.cons.now.lang.now c.loop-i.masks _ _ c.loop-i.invariant.right
-    (c.loop-i.invariant.briefs k a b (let end = c.min-end.ensures in let done = c.loop-i-test.false in let count = c.count-2.ensures in let long = c.loop-i.auto.briefs in omega arith))
+    c.loop-i.invariant.briefs k a b (let end = c.min-end.ensures in let done = c.loop-i-test.false in let count = c.count-2.ensures in let long = c.loop-i.auto.briefs in omega arith)
 
 pub returns-clause-limits : goal.returns-clause-limits
 returns-clause-limits c = λ k j a b low below l.

@@ -4,14 +4,12 @@ use Rattle.assign.specs.Sets.{has}
 use Rattle.propagators.specs.Values.{ones_of}
 use Rattle.propagators.specs.Families.{Arc, arcs_of}
 use Rattle.propagators.specs.declared.briefs.Brief.{Brief}
-use Rattle.propagators.specs.Pairs.{AreRightOn}
-use Rattle.propagators.specs.Briefs.{IsBriefIn, bound_at}
+use Rattle.propagators.specs.Briefs.{IsBriefOf, bound_at}
 use Rattle.propagators.proofs.visits.arrange_all.Given as goal
 
 abbrev pub invariant-loop-i : goal.invariant-loop-i
 invariant-loop-i l = record {
-  right : AreRightOn l.cons.lang.now l.masks;
-  briefs : (k : ℕ) (a : Arc) (b : Brief) → k < l.i → IsBriefIn l.cons.lang.now l.masks.known (slice_index_or (arcs_of l.cons.lang.now l.cons.list.now l.cons.against) k a) (slice_index_or l.briefs k b);
+  briefs : (k : ℕ) (a : Arc) (b : Brief) → k < l.i → IsBriefOf l.cons.lang.now (slice_index_or (arcs_of l.cons.lang.now l.cons.list.now l.cons.against) k a) (slice_index_or l.briefs k b);
   limits : (k j : ℕ) (a : Arc) (b : Brief) → k < l.i → j < length (slice_index_or (arcs_of l.cons.lang.now l.cons.list.now l.cons.against) k a).scope → bound_at (slice_index_or l.briefs k b) j ≤ slice_index_or l.limits (slice_index_or (slice_index_or (arcs_of l.cons.lang.now l.cons.list.now l.cons.against) k a).scope j 0) 0;
   wide : length l.limits ≡ 128;
   long : length l.sets ≡ 128 * l.words;

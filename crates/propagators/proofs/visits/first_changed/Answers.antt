@@ -34,8 +34,8 @@ pub returns : goal.returns
 returns c = record {
   family = c.requires.doms.family;
   full = c.requires.doms.full;
-  settled = settled_first c.args.cons.now.lang.now.value_count (variable_count c.args.cons.now.lang.now) c.args.plan.now.masks (arcs_of c.args.cons.now.lang.now c.args.cons.now.list.now c.args.cons.now.against) c.args.plan.now.briefs.items c.args.plan.now.limits.items c.loop-v.changed c.args.doms.now
+  settled = settled_first c.args.cons.now.lang.now (variable_count c.args.cons.now.lang.now) (arcs_of c.args.cons.now.lang.now c.args.cons.now.list.now c.args.cons.now.against) c.args.plan.now.briefs.items c.args.plan.now.limits.items c.loop-v.changed c.args.doms.now
       (let few = c.requires.lawful.few_values in omega arith) (arcs_over c.args.cons.now.lang.now c.args.cons.now.list.now c.args.cons.now.against c.requires.lawful c.requires.constraints)
-      (let count = c.count.ensures in let room = c.len.ensures in let low = c.if-count-len.false in omega arith) c.requires.plan.briefs c.requires.plan.limits c.requires.doms.family.values
+      (let count = c.count.ensures in let room = c.len.ensures in let low = c.if-count-len.false in omega arith) c.requires.plan.briefs c.requires.plan.limits c.requires.doms.family
       (λ u low none. c.loop-v.invariant u (let n = c.requires.variables in let end = c.loop-v-test.false in omega arith) none);
 }

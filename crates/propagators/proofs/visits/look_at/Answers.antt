@@ -11,6 +11,6 @@ look_at_pair-requires-clause-pair c = λ a.
     (let room = c.requires.plan.room in
     let count = c.requires.count in
     let low = c.if-i-count.false in
-    subst (λ (b : Brief). IsBriefOf c.args.cons.now.lang.now.value_count c.args.plan.now.masks (slice_index_or (arcs_of c.args.cons.now.lang.now c.args.cons.now.list.now c.args.cons.now.against) c.args.i a) b)
+    subst (λ (b : Brief). IsBriefOf c.args.cons.now.lang.now (slice_index_or (arcs_of c.args.cons.now.lang.now c.args.cons.now.list.now c.args.cons.now.against) c.args.i a) b)
     (sym (get_or_read c.args.plan.now.briefs.items c.args.i c.index.result.now (omega arith) c.index.ensures c.index.result.now) ∙ c.in-Two.is)
     (c.requires.plan.plan.briefs c.args.i a c.index.result.now (omega arith) (omega arith)))

@@ -1,8 +1,13 @@
-use Rattle.std.proofs.Common.{◌≡◌, ◌<◌, ◌∙◌, ℕ, List, [], true, length, sym, ap, subst, refl, arith}
+use Rattle.std.proofs.Common.{◌≡◌, ◌<◌, ◌∙◌, ◌∷◌, ℕ, List, [], true, length, sym, ap, subst, refl, arith}
 use Rattle.std.specs.Prelude.{slice_index_or, All, ◌==◌}
 use Rattle.std.specs.Int.{bit_at}
 use Rattle.std.proofs.lemmas.List.{get_or_read}
-use Rattle.propagators.specs.Families.{Arc, arcs_of, is_wanted}
+use Rattle.language.specs.Language.{Language}
+use Rattle.propagators.specs.Families.{Family, Arc, arcs_of, is_wanted}
+use Rattle.propagators.specs.Supports.{AreDifferent}
+use Rattle.propagators.specs.Briefs.{arc_by, IsPairOf}
+use Rattle.propagators.specs.declared.briefs.Pair.{Pair}
+use Rattle.propagators.proofs.Standing.{stood_consistent, stood_revised, stood_dead}
 use Rattle.propagators.specs.Loose.{HasMore}
 use Rattle.propagators.specs.Plans.{IsLooked}
 use Rattle.propagators.proofs.Loose.{bounded_consistent}
@@ -16,8 +21,8 @@ use Rattle.propagators.proofs.visits.look_at_pair.Goals as goal
 none : Arc
 none = record { scope = []; accepted = λ tuple. true }
 
-pub beside-requires-clause-rel : goal.beside-requires-clause-rel
-beside-requires-clause-rel c = (c.requires.pair none).low
+pub beside-requires-clause-table : goal.beside-requires-clause-table
+beside-requires-clause-table c = (c.requires.pair none).table
 
 pub beside-requires-clause-first : goal.beside-requires-clause-first
 beside-requires-clause-first c =
@@ -37,28 +42,36 @@ returns-then-has_more-2-clause-looked c = λ e.
     looked_over (arcs_of c.args.cons.now.lang.now c.args.cons.now.list.now c.args.cons.now.against) c.args.i c.args.waiting.now c.args.doms.now c.requires.doms.full (λ a low.
     (let pair = c.requires.pair a in
     let few = c.requires.lawful.few_values in
-    bounded_consistent c.args.cons.now.lang.now.value_count (slice_index_or (arcs_of c.args.cons.now.lang.now c.args.cons.now.list.now c.args.cons.now.against) c.args.i a) c.args.doms.now c.args.pair.bounds (omega arith)
-    pair.bounds (ap length pair.scope) c.requires.doms.family.values
-    (subst (λ (scope : List ℕ). HasMore c.args.pair.bounds.first (slice_index_or c.args.doms.now (slice_index_or scope 0 0) [])) (sym pair.scope) (c.if-has_more.ensures.more refl))
-    (subst (λ (scope : List ℕ). HasMore c.args.pair.bounds.second (slice_index_or c.args.doms.now (slice_index_or scope 1 0) [])) (sym pair.scope) (c.if-has_more-2.ensures.more refl))))
+    stood_consistent c.args.cons.now.lang.now (slice_index_or (arcs_of c.args.cons.now.lang.now c.args.cons.now.list.now c.args.cons.now.against) c.args.i a) c.args.pair c.args.doms.now pair c.requires.doms.family
+    (bounded_consistent c.args.cons.now.lang.now.value_count (arc_by c.args.cons.now.lang.now pair.pairs c.args.pair) c.args.doms.now c.args.pair.bounds (omega arith)
+    pair.bounds refl c.requires.doms.family.values (c.if-has_more.ensures.more refl) (c.if-has_more-2.ensures.more refl))))
+
+-- the pair's variables are different ones of the language
+different_in : (l : Language) (a : Arc) (p : Pair) → IsPairOf l a p → AreDifferent a.scope → AreDifferent (p.first ∷ p.second ∷ [])
+different_in l a p is apart = subst AreDifferent is.scope apart
+
+known_in : (l : Language) (a : Arc) (p : Pair) (f : Family) → IsPairOf l a p → All (λ v. v < length f) a.scope → All (λ v. v < length f) (p.first ∷ p.second ∷ [])
+known_in l a p f is below = subst (λ (scope : List ℕ). All (λ v. v < length f) scope) is.scope below
 
 pub returns-in-Nothing-clause-dead : goal.returns-in-Nothing-clause-dead
 returns-in-Nothing-clause-dead c = λ e.
     dead_here (arcs_of c.args.cons.now.lang.now c.args.cons.now.list.now c.args.cons.now.against) c.args.doms.now c.args.i none c.requires.low
-    (beside_dead c.args.cons.now.lang.now.value_count (slice_index_or (arcs_of c.args.cons.now.lang.now c.args.cons.now.list.now c.args.cons.now.against) c.args.i none) c.args.doms.now c.in-Some.v (λ x. is_wanted c.args.pair.holding (bit_at c.in-Some.row x == 1))
-    (arcs_different c.args.cons.now.lang.now c.args.cons.now.list.now c.args.cons.now.against c.requires.lawful c.requires.constraints c.args.i none c.requires.low)
-    (arcs_within c.args.cons.now.lang.now c.args.cons.now.list.now c.args.cons.now.against c.requires.lawful c.requires.constraints c.args.doms.now c.requires.doms.family c.args.i none c.requires.low)
-    c.requires.doms.family.values (c.in-Some.ensures.beside c.args.cons.now.lang.now.value_count (slice_index_or (arcs_of c.args.cons.now.lang.now c.args.cons.now.list.now c.args.cons.now.against) c.args.i none) (c.requires.pair none) c.requires.doms.family.values) c.in-Nothing.ensures)
+    (stood_dead c.args.cons.now.lang.now (slice_index_or (arcs_of c.args.cons.now.lang.now c.args.cons.now.list.now c.args.cons.now.against) c.args.i none) c.args.pair c.args.doms.now (c.requires.pair none) c.requires.doms.family
+    (beside_dead c.args.cons.now.lang.now.value_count (arc_by c.args.cons.now.lang.now (c.requires.pair none).pairs c.args.pair) c.args.doms.now c.in-Some.v (λ x. is_wanted c.args.pair.holding (bit_at c.in-Some.row x == 1))
+    (different_in c.args.cons.now.lang.now (slice_index_or (arcs_of c.args.cons.now.lang.now c.args.cons.now.list.now c.args.cons.now.against) c.args.i none) c.args.pair (c.requires.pair none) (arcs_different c.args.cons.now.lang.now c.args.cons.now.list.now c.args.cons.now.against c.requires.lawful c.requires.constraints c.args.i none c.requires.low))
+    (known_in c.args.cons.now.lang.now (slice_index_or (arcs_of c.args.cons.now.lang.now c.args.cons.now.list.now c.args.cons.now.against) c.args.i none) c.args.pair c.args.doms.now (c.requires.pair none) (arcs_within c.args.cons.now.lang.now c.args.cons.now.list.now c.args.cons.now.against c.requires.lawful c.requires.constraints c.args.doms.now c.requires.doms.family c.args.i none c.requires.low))
+    c.requires.doms.family.values (c.in-Some.ensures.beside (c.requires.pair none).pairs (c.requires.pair none).are c.requires.doms.family.values) c.in-Nothing.ensures))
 
 pub returns-else-has_more-3-clause-looked : goal.returns-else-has_more-3-clause-looked
 returns-else-has_more-3-clause-looked c = λ e.
     subst (λ (next : List ℕ). IsLooked (arcs_of c.args.cons.now.lang.now c.args.cons.now.list.now c.args.cons.now.against) c.args.i c.args.waiting.now next c.args.doms.now c.keep.new.self) (sym c.with.ensures)
     (beside_fewer (arcs_of c.args.cons.now.lang.now c.args.cons.now.list.now c.args.cons.now.against) c.args.i c.args.waiting.now c.args.doms.now c.keep.new.self c.in-Some.v (λ x. is_wanted c.args.pair.holding (bit_at c.in-Some.row x == 1))
     (arcs_small c.args.cons.now.lang.now c.args.cons.now.list.now c.args.cons.now.against c.requires.lawful c.requires.constraints) c.requires.low c.requires.doms.full
-    (λ a. beside_revised c.args.cons.now.lang.now.value_count (slice_index_or (arcs_of c.args.cons.now.lang.now c.args.cons.now.list.now c.args.cons.now.against) c.args.i a) c.args.doms.now c.in-Some.v (λ x. is_wanted c.args.pair.holding (bit_at c.in-Some.row x == 1))
-    (arcs_different c.args.cons.now.lang.now c.args.cons.now.list.now c.args.cons.now.against c.requires.lawful c.requires.constraints c.args.i a c.requires.low)
-    (arcs_within c.args.cons.now.lang.now c.args.cons.now.list.now c.args.cons.now.against c.requires.lawful c.requires.constraints c.args.doms.now c.requires.doms.family c.args.i a c.requires.low)
-    c.requires.doms.family.values (c.in-Some.ensures.beside c.args.cons.now.lang.now.value_count (slice_index_or (arcs_of c.args.cons.now.lang.now c.args.cons.now.list.now c.args.cons.now.against) c.args.i a) (c.requires.pair a) c.requires.doms.family.values) c.keep.new.self c.in-Fewer.ensures.0)
+    (λ a. stood_revised c.args.cons.now.lang.now (slice_index_or (arcs_of c.args.cons.now.lang.now c.args.cons.now.list.now c.args.cons.now.against) c.args.i a) c.args.pair c.args.doms.now (c.requires.pair a) c.requires.doms.family c.keep.new.self
+    (beside_revised c.args.cons.now.lang.now.value_count (arc_by c.args.cons.now.lang.now (c.requires.pair a).pairs c.args.pair) c.args.doms.now c.in-Some.v (λ x. is_wanted c.args.pair.holding (bit_at c.in-Some.row x == 1))
+    (different_in c.args.cons.now.lang.now (slice_index_or (arcs_of c.args.cons.now.lang.now c.args.cons.now.list.now c.args.cons.now.against) c.args.i a) c.args.pair (c.requires.pair a) (arcs_different c.args.cons.now.lang.now c.args.cons.now.list.now c.args.cons.now.against c.requires.lawful c.requires.constraints c.args.i a c.requires.low))
+    (known_in c.args.cons.now.lang.now (slice_index_or (arcs_of c.args.cons.now.lang.now c.args.cons.now.list.now c.args.cons.now.against) c.args.i a) c.args.pair c.args.doms.now (c.requires.pair a) (arcs_within c.args.cons.now.lang.now c.args.cons.now.list.now c.args.cons.now.against c.requires.lawful c.requires.constraints c.args.doms.now c.requires.doms.family c.args.i a c.requires.low))
+    c.requires.doms.family.values (c.in-Some.ensures.beside (c.requires.pair a).pairs (c.requires.pair a).are c.requires.doms.family.values) c.keep.new.self c.in-Fewer.ensures.0))
     c.in-Fewer.ensures.0 c.in-Fewer.ensures.1)
 
 pub returns-then-has_more-3-clause-looked : goal.returns-then-has_more-3-clause-looked
@@ -72,21 +85,23 @@ returns-then-has_more-3-clause-looked c = λ e.
     get_or_read c.args.plan.now.limits.items c.from.result c.index.result.now (omega arith) c.index.ensures 0 ∙ ap (λ (v : ℕ). slice_index_or c.args.plan.now.limits.items v 0) c.from.ensures in
     let more : HasMore (slice_index_or c.args.plan.now.limits.items c.in-Some.v 0) (slice_index_or c.keep.new.self c.in-Some.v []) =
     subst (λ (most : ℕ). HasMore most (slice_index_or c.keep.new.self c.in-Some.v [])) limit (c.if-has_more-3.ensures.more refl) in
-    beside_lazy c.args.cons.now.lang.now.value_count (arcs_of c.args.cons.now.lang.now c.args.cons.now.list.now c.args.cons.now.against) c.args.i c.args.waiting.now c.args.doms.now c.keep.new.self c.in-Some.v (λ x. is_wanted c.args.pair.holding (bit_at c.in-Some.row x == 1)) c.args.plan.now.limits.items (let few = c.requires.lawful.few_values in omega arith)
+    beside_lazy c.args.cons.now.lang.now (arcs_of c.args.cons.now.lang.now c.args.cons.now.list.now c.args.cons.now.against) c.args.i c.args.waiting.now c.args.doms.now c.keep.new.self c.in-Some.v (λ x. is_wanted c.args.pair.holding (bit_at c.in-Some.row x == 1)) c.args.plan.now.limits.items (let few = c.requires.lawful.few_values in omega arith)
     (arcs_small c.args.cons.now.lang.now c.args.cons.now.list.now c.args.cons.now.against c.requires.lawful c.requires.constraints)
     (arcs_different c.args.cons.now.lang.now c.args.cons.now.list.now c.args.cons.now.against c.requires.lawful c.requires.constraints) c.requires.low c.requires.doms.full
-    (λ a. beside_revised c.args.cons.now.lang.now.value_count (slice_index_or (arcs_of c.args.cons.now.lang.now c.args.cons.now.list.now c.args.cons.now.against) c.args.i a) c.args.doms.now c.in-Some.v (λ x. is_wanted c.args.pair.holding (bit_at c.in-Some.row x == 1))
-    (arcs_different c.args.cons.now.lang.now c.args.cons.now.list.now c.args.cons.now.against c.requires.lawful c.requires.constraints c.args.i a c.requires.low)
-    (arcs_within c.args.cons.now.lang.now c.args.cons.now.list.now c.args.cons.now.against c.requires.lawful c.requires.constraints c.args.doms.now c.requires.doms.family c.args.i a c.requires.low)
-    c.requires.doms.family.values (c.in-Some.ensures.beside c.args.cons.now.lang.now.value_count (slice_index_or (arcs_of c.args.cons.now.lang.now c.args.cons.now.list.now c.args.cons.now.against) c.args.i a) (c.requires.pair a) c.requires.doms.family.values) c.keep.new.self c.in-Fewer.ensures.0)
-    c.in-Fewer.ensures.0 c.in-Fewer.ensures.1 c.requires.doms.family.values more
-    (λ k a low there. capped c.args.cons.now.lang.now.value_count c.args.plan.now.masks (arcs_of c.args.cons.now.lang.now c.args.cons.now.list.now c.args.cons.now.against) c.args.plan.now.briefs.items c.args.plan.now.limits.items c.requires.plan.plan.briefs c.requires.plan.plan.limits k c.in-Some.v a low (let room = c.requires.plan.room in omega arith) there more.low)
+    (λ a. stood_revised c.args.cons.now.lang.now (slice_index_or (arcs_of c.args.cons.now.lang.now c.args.cons.now.list.now c.args.cons.now.against) c.args.i a) c.args.pair c.args.doms.now (c.requires.pair a) c.requires.doms.family c.keep.new.self
+    (beside_revised c.args.cons.now.lang.now.value_count (arc_by c.args.cons.now.lang.now (c.requires.pair a).pairs c.args.pair) c.args.doms.now c.in-Some.v (λ x. is_wanted c.args.pair.holding (bit_at c.in-Some.row x == 1))
+    (different_in c.args.cons.now.lang.now (slice_index_or (arcs_of c.args.cons.now.lang.now c.args.cons.now.list.now c.args.cons.now.against) c.args.i a) c.args.pair (c.requires.pair a) (arcs_different c.args.cons.now.lang.now c.args.cons.now.list.now c.args.cons.now.against c.requires.lawful c.requires.constraints c.args.i a c.requires.low))
+    (known_in c.args.cons.now.lang.now (slice_index_or (arcs_of c.args.cons.now.lang.now c.args.cons.now.list.now c.args.cons.now.against) c.args.i a) c.args.pair c.args.doms.now (c.requires.pair a) (arcs_within c.args.cons.now.lang.now c.args.cons.now.list.now c.args.cons.now.against c.requires.lawful c.requires.constraints c.args.doms.now c.requires.doms.family c.args.i a c.requires.low))
+    c.requires.doms.family.values (c.in-Some.ensures.beside (c.requires.pair a).pairs (c.requires.pair a).are c.requires.doms.family.values) c.keep.new.self c.in-Fewer.ensures.0))
+    c.in-Fewer.ensures.0 c.in-Fewer.ensures.1 c.requires.doms.family more
+    (λ k a low there. capped c.args.cons.now.lang.now (arcs_of c.args.cons.now.lang.now c.args.cons.now.list.now c.args.cons.now.against) c.args.plan.now.briefs.items c.args.plan.now.limits.items c.requires.plan.plan.briefs c.requires.plan.plan.limits k c.in-Some.v a low (let room = c.requires.plan.room in omega arith) there more.low)
 
 pub returns-in-Same-clause-looked : goal.returns-in-Same-clause-looked
 returns-in-Same-clause-looked c = λ e.
     beside_same (arcs_of c.args.cons.now.lang.now c.args.cons.now.list.now c.args.cons.now.against) c.args.i c.args.waiting.now c.args.doms.now c.keep.new.self
     (arcs_small c.args.cons.now.lang.now c.args.cons.now.list.now c.args.cons.now.against c.requires.lawful c.requires.constraints) c.requires.low c.requires.doms.full
-    (λ a. beside_revised c.args.cons.now.lang.now.value_count (slice_index_or (arcs_of c.args.cons.now.lang.now c.args.cons.now.list.now c.args.cons.now.against) c.args.i a) c.args.doms.now c.in-Some.v (λ x. is_wanted c.args.pair.holding (bit_at c.in-Some.row x == 1))
-    (arcs_different c.args.cons.now.lang.now c.args.cons.now.list.now c.args.cons.now.against c.requires.lawful c.requires.constraints c.args.i a c.requires.low)
-    (arcs_within c.args.cons.now.lang.now c.args.cons.now.list.now c.args.cons.now.against c.requires.lawful c.requires.constraints c.args.doms.now c.requires.doms.family c.args.i a c.requires.low)
-    c.requires.doms.family.values (c.in-Some.ensures.beside c.args.cons.now.lang.now.value_count (slice_index_or (arcs_of c.args.cons.now.lang.now c.args.cons.now.list.now c.args.cons.now.against) c.args.i a) (c.requires.pair a) c.requires.doms.family.values) c.keep.new.self c.in-Same.ensures.0) c.in-Same.ensures.1
+    (λ a. stood_revised c.args.cons.now.lang.now (slice_index_or (arcs_of c.args.cons.now.lang.now c.args.cons.now.list.now c.args.cons.now.against) c.args.i a) c.args.pair c.args.doms.now (c.requires.pair a) c.requires.doms.family c.keep.new.self
+    (beside_revised c.args.cons.now.lang.now.value_count (arc_by c.args.cons.now.lang.now (c.requires.pair a).pairs c.args.pair) c.args.doms.now c.in-Some.v (λ x. is_wanted c.args.pair.holding (bit_at c.in-Some.row x == 1))
+    (different_in c.args.cons.now.lang.now (slice_index_or (arcs_of c.args.cons.now.lang.now c.args.cons.now.list.now c.args.cons.now.against) c.args.i a) c.args.pair (c.requires.pair a) (arcs_different c.args.cons.now.lang.now c.args.cons.now.list.now c.args.cons.now.against c.requires.lawful c.requires.constraints c.args.i a c.requires.low))
+    (known_in c.args.cons.now.lang.now (slice_index_or (arcs_of c.args.cons.now.lang.now c.args.cons.now.list.now c.args.cons.now.against) c.args.i a) c.args.pair c.args.doms.now (c.requires.pair a) (arcs_within c.args.cons.now.lang.now c.args.cons.now.list.now c.args.cons.now.against c.requires.lawful c.requires.constraints c.args.doms.now c.requires.doms.family c.args.i a c.requires.low))
+    c.requires.doms.family.values (c.in-Some.ensures.beside (c.requires.pair a).pairs (c.requires.pair a).are c.requires.doms.family.values) c.keep.new.self c.in-Same.ensures.0)) c.in-Same.ensures.1

@@ -51,5 +51,5 @@ returns-clause-deeper c = λ alive. record {
       (subst (AreReady c.args.cons.now.lang.now c.args.cons.now.list.now c.args.cons.now.against c.args.order.now c.args.prefix.now) (sym (ap (λ (w : Room). w.depths) c.self.view_is)) c.requires.ready.depths)
       (entered_ready c.args.cons.now.lang.now c.args.cons.now.list.now c.args.cons.now.against c.args.order.now c.requires.order c.requires.lawful c.requires.constraints c.args.prefix.now c.args.x (slice_index_or c.args.self.now.depths (length c.args.prefix.now) []) c.requires.short (deepest c.args.cons.now.lang.now c.args.cons.now.list.now c.args.cons.now.against c.args.order.now c.args.prefix.now c.args.self.now.depths c.requires.ready.depths)
       c.len-at.result c.index_mut-2.result.now c.narrow.new.doms at same (c.narrow.ensures.alive alive)));
-  plan = subst (IsPlanOf c.args.cons.now.lang.now.value_count (arcs_of c.args.cons.now.lang.now c.args.cons.now.list.now c.args.cons.now.against)) (sym (ap (λ (w : Room). w.plan) c.self.view_is)) c.requires.ready.plan;
+  plan = subst (IsPlanOf c.args.cons.now.lang.now (arcs_of c.args.cons.now.lang.now c.args.cons.now.list.now c.args.cons.now.against)) (sym (ap (λ (w : Room). w.plan) c.self.view_is)) c.requires.ready.plan;
 }

@@ -6,7 +6,8 @@ use Rattle.std.proofs.lemmas.Bool.{eqb-false}
 use Rattle.std.proofs.lemmas.List.{length-map}
 use Rattle.std.proofs.lemmas.Result.{err_from_is_err_and}
 use Rattle.language.specs.declared.parts.RelPart.{RelPart}
-use Rattle.rel_table.specs.Table.{IsTable}
+use Rattle.rel_table.specs.Table.{TruthTable, IsTable}
+use Rattle.rel_table.specs.Closing.{IsOfKind}
 use Rattle.language.specs.declared.scopes.Scope.{Scope}
 use Rattle.language.specs.declared.lang.Language.TheInside.{Inside}
 use Rattle.language.specs.Built.{AreScopes, IsClosedOf, AreAll}
@@ -15,12 +16,13 @@ use Rattle.language.specs.Ranges.{is_whole_range}
 use Rattle.language.specs.Scopes.{variables_in}
 use Rattle.language.proofs.Wording.{least_fits}
 use Rattle.language.specs.Building.{has_arity, Frame, IsFrame, listed_in, scopes_of, scopes_refusal}
-use Rattle.language.specs.Inside.{given_by}
+use Rattle.language.specs.Inside.{given_by, truths}
+use Rattle.language.specs.PairMasks.{ArePairMasks}
 use Rattle.language.proofs.Built.{IsMadeOf, sound, built, scopes_fit, refused_scopes, values_of, values_of-over}
 use Rattle.language.proofs.lang.Language.build.Goals as goal
-use Rattle.language.proofs.lang.Language.build.Goals.{In_ok-numbers}
+use Rattle.language.proofs.lang.Language.build.Goals.{In_ok-pairs}
 
-abbrev fields : (c : In_ok-numbers) → Inside
+abbrev fields : (c : In_ok-pairs) → Inside
 fields c = record {
   names = c.frame.inside.names;
   least_value = to_z w64 (of_z w64 c.frame.inside.least_value);
@@ -32,19 +34,20 @@ fields c = record {
   relations = c.in_ok-relations.relations;
   on = c.in_ok-numbers.numbers.on;
   numbers = c.in_ok-numbers.numbers.starts;
+  pairs = c.in_ok-pairs.pairs;
 }
 
-count : (c : In_ok-numbers) → c.len.result ≡ length c.args.frame.names
+count : (c : In_ok-pairs) → c.len.result ≡ length c.args.frame.names
 count c =
     (let long : c.len.result ≡ length c.frame.inside.names.items = omega arith in long) ∙ sym (length-map c.frame.inside.names.items (λ (s : String Global). string_bytes s)) ∙ ap (λ (f : Frame). length f.names) c.frame.view_is
 
-own : (c : In_ok-numbers) → c.len-2.result ≡ length c.frame.inside.names.items
+own : (c : In_ok-pairs) → c.len-2.result ≡ length c.frame.inside.names.items
 own c = omega arith
 
-is_frame : (c : In_ok-numbers) → IsFrame c.args.frame
+is_frame : (c : In_ok-pairs) → IsFrame c.args.frame
 is_frame c = subst IsFrame c.frame.view_is c.frame.invariant
 
-made : (c : In_ok-numbers) → IsMadeOf c.args.frame c.args.rels.items (fields c)
+made : (c : In_ok-pairs) → IsMadeOf c.args.frame c.args.rels.items (fields c)
 made c =
     let some : 1 ≤ length c.args.rels.items = (let e = eqb-false _ _ (sym c.is_empty.ensures ∙ c.if-is_empty.false) in omega (arith, e)) in
     let small = to_z-of_z w64 c.frame.inside.least_value (least_fits c.frame.inside.least_value c.frame.inside.value_count c.frame.invariant.some_value c.frame.invariant.low c.frame.invariant.high) in
@@ -72,6 +75,7 @@ made c =
       is_whole =
           (let is : c.are_all-is_whole.result ≡ list_all (is_whole_range c.frame.inside.value_count) (take c.len-2.result c.frame.inside.ranges) = c.are_all-is_whole.ensures in is)
           ∙ ap (λ (n : ℕ). list_all (is_whole_range c.frame.inside.value_count) (take n c.frame.inside.ranges)) (own c);
+      masks = subst (λ (tables : List TruthTable). ArePairMasks c.frame.inside.value_count (truths tables) c.in_ok-pairs.pairs) c.list.ensures c.in_ok-pairs.ensures;
     }
 
 pub numbers_of-requires-clause-fits : goal.numbers_of-requires-clause-fits
@@ -91,12 +95,23 @@ numbers_of-requires-clause-closed c = λ arity few short.
     subst (λ (parts : List RelPart). IsClosedOf c.frame.inside.value_count arity (map given_by parts) (get_or c.in_ok-relations.relations (arity - 1) [])) (c.deref-2.ensures.value ∙ sym c.deref-3.ensures.value)
     (subst (λ (d : ℕ). IsClosedOf d arity (map given_by c.deref-2.result.now) (get_or c.in_ok-relations.relations (arity - 1) [])) d (c.in_ok-relations.ensures.closed arity few short))
 
+pub of-requires-clause-kinds : goal.of-requires-clause-kinds
+of-requires-clause-kinds c =
+    let some : 1 ≤ length c.args.rels.items = (let e = eqb-false _ _ (sym c.is_empty.ensures ∙ c.if-is_empty.false) in omega (arith, e)) in
+    let d : values_of c.deref-2.result.now ≡ c.frame.inside.value_count =
+    ap values_of c.deref-2.ensures.value ∙ values_of-over c.args.frame.value_count c.args.rels.items some c.requires.tables ∙ ap (λ (f : Frame). f.value_count) (sym c.frame.view_is) in
+    subst (All (IsOfKind 2 c.frame.inside.value_count)) (sym c.list.ensures)
+    (subst (λ (d : ℕ). All (IsOfKind 2 d) (get_or c.in_ok-relations.relations 1 [])) d (c.in_ok-relations.ensures.closed 2 (omega arith) (omega arith)).kinds)
+
+pub of-requires-clause-few : goal.of-requires-clause-few
+of-requires-clause-few c = subst (λ (tables : List TruthTable). length tables ≤ 64) (sym c.list.ensures) (c.in_ok-relations.ensures.closed 2 (omega arith) (omega arith)).few
+
 pub invariant_of-result : goal.invariant_of-result
-invariant_of-result c = let at = (goal.at.invariant_of-result c).In_ok-numbers in sound at.args.frame at.args.rels.items (fields at) (is_frame at) (made at)
+invariant_of-result c = let at = (goal.at.invariant_of-result c).In_ok-pairs in sound at.args.frame at.args.rels.items (fields at) (is_frame at) (made at)
 
 pub returns-clause-built : goal.returns-clause-built
 returns-clause-built c =
-    let at = (goal.at.returns-clause-built c).In_ok-numbers in
+    let at = (goal.at.returns-clause-built c).In_ok-pairs in
     built at.args.frame at.args.rels.items (listed_in at.args.scopes) (fields at) (is_frame at) (made at)
     (subst (λ (n : ℕ). map variables_in at.in_ok-scopes.scopes.items ≡ scopes_of n (map given_by at.args.rels.items) (listed_in at.args.scopes)) (count at)
     (subst (λ (parts : List RelPart). map variables_in at.in_ok-scopes.scopes.items ≡ scopes_of at.len.result (map given_by parts) (listed_in at.args.scopes)) at.deref.ensures.value at.in_ok-scopes.ensures.is))

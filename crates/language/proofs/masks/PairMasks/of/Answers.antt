@@ -1,0 +1,33 @@
+use Rattle.std.proofs.Common.{◌≡◌, ℕ, ◌+◌, ◌*◌, ◌++◌, ◌∷◌, List, [], length, ap, ◌∙◌, sym, subst, arith}
+use Rattle.std.specs.Prelude.{slice_index_or}
+use Rattle.std.proofs.lemmas.List.{get_or-map, length-map}
+use Rattle.rel_table.specs.Relation.{Relation}
+use Rattle.rel_table.specs.Table.{TruthTable}
+use Rattle.language.specs.Inside.{truths}
+use Rattle.language.specs.PairMasks.{ArePairMasksAt}
+use Rattle.language.proofs.PairMasking.{AreFirstMasks, table_more, masks_as, written}
+use Rattle.language.proofs.masks.PairMasks.of.Goals as goal
+
+pub loop-t-preserved : goal.loop-t-preserved
+loop-t-preserved c =
+    let t : ℕ = c.loop-t.t in
+    let d : ℕ = c.args.d in
+    let tables : List TruthTable = c.args.tables.now in
+    let low = c.loop-t-test.true in
+    let table : TruthTable = c.index-tables-t.result in
+    let values : table.value_count ≡ d = ap (λ (t : TruthTable). t.value_count) c.index-tables-t.is ∙ (c.requires.kinds t table low).values in
+    let truth : table.truth ≡ slice_index_or (truths tables) t [] = ap (λ (t : TruthTable). t.truth) c.index-tables-t.is ∙ sym (get_or-map (λ (t : TruthTable). t.truth) tables t table [] low) in
+    let rows = written c.write_table-bound.new.rows c.loop-t.rows.items c.loop-t.rows.len (c.write_table-bound.auto.rows ∙ c.deref_mut.ensures.len) in
+    let columns = written c.write_table-bound.new.columns c.loop-t.columns.items c.loop-t.columns.len (c.write_table-bound.auto.columns ∙ c.deref_mut-in-loop-t.ensures.len) in
+    let here : ArePairMasksAt d (slice_index_or (truths tables) t []) c.write_table-bound.new.rows c.write_table-bound.new.columns (64 * t) c.write_table-bound.result =
+    subst (λ (n : ℕ). ArePairMasksAt n (slice_index_or (truths tables) t []) c.write_table-bound.new.rows c.write_table-bound.new.columns (64 * t) c.write_table-bound.result) values
+    (subst (λ (r : Relation). ArePairMasksAt table.value_count r c.write_table-bound.new.rows c.write_table-bound.new.columns (64 * t) c.write_table-bound.result) truth c.write_table-bound.ensures.masks) in
+    let first : AreFirstMasks d (truths tables) t c.deref_mut.result.now c.deref_mut-in-loop-t.result.now c.loop-t.bounds.items =
+    subst (λ (xs : List ℕ). AreFirstMasks d (truths tables) t xs c.deref_mut-in-loop-t.result.now c.loop-t.bounds.items) (sym c.deref_mut.ensures.value)
+    (subst (λ (ys : List ℕ). AreFirstMasks d (truths tables) t c.loop-t.rows.items ys c.loop-t.bounds.items) (sym c.deref_mut-in-loop-t.ensures.value) c.loop-t.invariant) in
+    let small = c.write_table-bound.ensures.small in
+    let long : length (truths tables) ≡ length tables = length-map tables (λ (t : TruthTable). t.truth) in
+    let more : AreFirstMasks d (truths tables) (t + 1) c.write_table-bound.new.rows c.write_table-bound.new.columns (c.loop-t.bounds.items ++ c.write_table-bound.result ∷ []) =
+    table_more d (truths tables) t c.deref_mut.result.now c.write_table-bound.new.rows c.deref_mut-in-loop-t.result.now c.write_table-bound.new.columns c.loop-t.bounds.items c.write_table-bound.result
+    (omega arith) (omega arith) c.write_table-bound.auto.rows c.write_table-bound.auto.columns c.write_table-bound.ensures.other_rows c.write_table-bound.ensures.other_columns here first in
+    masks_as d (truths tables) (t + 1) _ c.write_table-bound.new.rows _ c.write_table-bound.new.columns _ (c.loop-t.bounds.items ++ c.write_table-bound.result ∷ []) rows columns c.in_ok-push.ensures.items more

@@ -1,0 +1,8 @@
+use Rattle.std.proofs.Common.{◌≡◌, ◌+◌}
+use Rattle.std.specs.Prelude.{◌==◌, slice_index_or}
+use Rattle.std.specs.Int.{bit_at}
+use Rattle.language.specs.Pairs.{changes_of}
+use Rattle.language.proofs.masks.changes.Given as goal
+
+abbrev pub invariant-loop-x : goal.invariant-loop-x
+invariant-loop-x l = l.changes ≡ changes_of (λ x. bit_at (slice_index_or l.masks (l.at + x) 0) l.bit == 1) l.x
