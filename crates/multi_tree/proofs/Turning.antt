@@ -1,6 +1,10 @@
 -- What becomes of a set that is taken.
-use Rattle.std.proofs.Common.{◌≡◌, ℕ, zero, suc, ◌-◌, ◌<◌, ◌≤◌, Bool, true, false, cond, List, [], ◌∷◌, ◌++◌, length, take, get_or, Some, None, refl, sym, ◌∙◌, ap, subst, arith}
-use Rattle.std.specs.List.{list_any, find}
+use Rattle.std.proofs.Common.{◌≡◌, ℕ, zero, suc, ◌+◌, ◌-◌, ◌<◌, ◌≤◌, Bool, true, false, cond, ◌&&◌, List, [], ◌∷◌, ◌++◌, length, take, drop, set, get_or, Option, Some, None, refl, sym, ◌∙◌, ap, subst, arith}
+use Rattle.std.specs.Prelude.{All, IfSome, IsTrue}
+use Rattle.std.specs.Int.{from_bool}
+use Rattle.std.specs.List.{list_any, filter, find}
+use Rattle.std.proofs.lemmas.List.{append-nil, length-drop, take-append-drop, take_all, take_more_set, take-set}
+use Rattle.std.proofs.lemmas.List.Elements.{All-head, All-tail, filter_more}
 use Rattle.std.proofs.lemmas.List.Folds.{Any-from_list_any}
 use Rattle.std.proofs.lemmas.Bool.{and_parts, both_ways, or_parts}
 use Rattle.assign.specs.Sets.{has, is_within}
@@ -25,6 +29,93 @@ find_never p [] none = refl
 find_never p (y ∷ xs) none =
     let parts = or_parts (p y) (list_any p xs) none in
     ap (λ b. cond b (Some y) (find p xs)) parts.0 ∙ find_never p xs parts.1
+
+-- of two lists, one behind the other
+pub find_behind : {X : Type 0} (p : X → Bool) (xs ys : List X) → find p xs ≡ None → find p (xs ++ ys) ≡ find p ys
+find_behind p [] ys none = refl
+find_behind p (x ∷ xs) ys none = go (p x) none (find_behind p xs ys)
+  where
+    go : (b : Bool) → cond b (Some x) (find p xs) ≡ None → (find p xs ≡ None → find p (xs ++ ys) ≡ find p ys) → cond b (Some x) (find p (xs ++ ys)) ≡ find p ys
+    go true none rest = absurd (let no : ⊥ = cc in no)
+    go false none rest = rest none
+
+pub find_before : {X : Type 0} (p : X → Bool) (xs ys : List X) (x : X) → find p xs ≡ Some x → find p (xs ++ ys) ≡ Some x
+find_before p [] ys x some = absurd (let no : ⊥ = cc in no)
+find_before p (y ∷ xs) ys x some = go (p y) some (find_before p xs ys x)
+  where
+    go : (b : Bool) → cond b (Some y) (find p xs) ≡ Some x → (find p xs ≡ Some x → find p (xs ++ ys) ≡ Some x) → cond b (Some y) (find p (xs ++ ys)) ≡ Some x
+    go true some rest = some
+    go false some rest = rest some
+
+-- those that pass one test are listed, and then the other test is made
+pub find_listed : {X : Type 0} (p q : X → Bool) (xs : List X) → find q (filter p xs) ≡ find (λ x. p x && q x) xs
+find_listed p q [] = refl
+find_listed p q (x ∷ xs) = go (p x) (find_listed p q xs)
+  where
+    go : (b : Bool) → find q (filter p xs) ≡ find (λ x. p x && q x) xs → find q (cond b (x ∷ filter p xs) (filter p xs)) ≡ cond (b && q x) (Some x) (find (λ x. p x && q x) xs)
+    go true rest = ap (λ o. cond (q x) (Some x) o) rest
+    go false rest = rest
+
+-- the found one passes, and is in the list
+pub find_passes : {X : Type 0} (P : X → Type 0) (p : X → Bool) (xs : List X) (x : X) → All P xs → find p xs ≡ Some x → P x × (p x ≡ true)
+find_passes P p [] x all some = absurd (let no : ⊥ = cc in no)
+find_passes P p (y ∷ xs) x all some = go (p y) refl some (find_passes P p xs x (All-tail P y xs all))
+  where
+    go : (b : Bool) → p y ≡ b → cond b (Some y) (find p xs) ≡ Some x → (find p xs ≡ Some x → P x × (p x ≡ true)) → P x × (p x ≡ true)
+    go true on some rest = let same : y ≡ x = cc in subst (λ z. P z × (p z ≡ true)) same (All-head P y xs all, on)
+    go false off some rest = rest some
+
+-- one item more is looked at
+pub listed_more : (p : Candidate → Bool) (xs list : List Candidate) (i count : ℕ) (c : Candidate) → i < length xs → count < length list → c ≡ get_or xs i c → p c ≡ true →
+    take count list ≡ filter p (take i xs) → take (count + 1) (set list count c) ≡ filter p (take (i + 1) xs)
+listed_more p xs list i count c low room is on before =
+    take_more_set list count c room
+    ∙ ap (λ ys. ys ++ c ∷ []) before
+    ∙ ap (λ ys. filter p (take i xs) ++ ys) ((λ j. is j ∷ []) ∙ sym (ap (λ b. cond b (get_or xs i c ∷ []) []) (ap p (sym is) ∙ on)))
+    ∙ sym (filter_more p xs i c low)
+
+pub listed_still : (p : Candidate → Bool) (xs list : List Candidate) (i count : ℕ) (c : Candidate) → i < length xs → c ≡ get_or xs i c → p c ≡ false →
+    take count list ≡ filter p (take i xs) → take count list ≡ filter p (take (i + 1) xs)
+listed_still p xs list i count c low is off before =
+    before ∙ sym (append-nil (filter p (take i xs))) ∙ ap (λ ys. filter p (take i xs) ++ ys) (sym (ap (λ b. cond b (get_or xs i c ∷ []) []) (ap p (sym is) ∙ off)))
+    ∙ sym (filter_more p xs i c low)
+
+pub at_most_one : (b : Bool) → from_bool b ≤ 1
+at_most_one true = omega arith
+at_most_one false = omega arith
+
+pub listed_step : (p : Candidate → Bool) (xs list : List Candidate) (i count more : ℕ) (c : Candidate) (b : Bool) → i < length xs → count < length list → c ≡ get_or xs i c → p c ≡ b → more ≡ count + from_bool b →
+    take count list ≡ filter p (take i xs) → take more (set list count c) ≡ filter p (take (i + 1) xs)
+listed_step p xs list i count more c true low room is on put before = ap (λ n. take n (set list count c)) put ∙ listed_more p xs list i count c low room is on before
+listed_step p xs list i count more c false low room is off put before =
+    ap (λ n. take n (set list count c)) (put ∙ (let e : count + 0 ≡ count = omega arith in e)) ∙ take-set list count c ∙ listed_still p xs list i count c low is off before
+
+-- ---- a listed candidate within a set, or one behind those that were looked at
+
+module _ (l : Language) (network : List Candidate) (e : Assignment) (set : List ℕ) where
+  abbrev pub lies : Candidate → Bool
+  lies c = is_within (scope_of l c) set
+
+  abbrev pub bites : Candidate → Bool
+  bites c = violates l c e
+
+  pub listed_found : (listed : List Candidate) (n : ℕ) (c : Candidate) → listed ≡ filter bites (take n network) → find lies listed ≡ Some c → learned_within l network e set ≡ Some c
+  listed_found listed n c is some =
+      ap (find (λ x. bites x && lies x)) (sym (take-append-drop n network))
+      ∙ find_before (λ x. bites x && lies x) (take n network) (drop n network) c (sym (find_listed bites lies (take n network)) ∙ ap (find lies) (sym is) ∙ some)
+
+  pub listed_none : (listed : List Candidate) (n : ℕ) → listed ≡ filter bites (take n network) → find lies listed ≡ None → learned_within l (take (length network - n) (drop n network)) e set ≡ learned_within l network e set
+  listed_none listed n is none = ap (find (λ x. bites x && lies x)) (take_all (length network - n) (drop n network) (let left = length-drop n network in omega arith)) ∙ sym (
+      ap (find (λ x. bites x && lies x)) (sym (take-append-drop n network))
+      ∙ find_behind (λ x. bites x && lies x) (take n network) (drop n network) (sym (find_listed bites lies (take n network)) ∙ ap (find lies) (sym is) ∙ none))
+
+  pub found_known : IsNetwork l network → (o : Option Candidate) → learned_within l network e set ≡ o → IfSome o (IsCandidate l)
+  found_known known None h = tt
+  found_known known (Some c) h = (find_passes (IsCandidate l) (λ x. bites x && lies x) network c known h).0
+
+  pub found_within : IsNetwork l network → (o : Option Candidate) → learned_within l network e set ≡ o → IfSome o (λ c. IsTrue (is_within (scope_of l c) set))
+  found_within known None h = tt
+  found_within known (Some c) h = (and_parts (bites c) (lies c) (find_passes (IsCandidate l) (λ x. bites x && lies x) network c known h).1).1
 
 -- ---- a turn
 

@@ -1,4 +1,5 @@
 pub mod Depth
 pub mod Stage
 pub mod Standing
+pub mod Listed
 pub mod Inside

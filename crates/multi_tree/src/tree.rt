@@ -1,12 +1,13 @@
 //! The walk of an example, a turn at a time.
 
-ghost use Rattle.std.specs.Prelude.{◌≡◌, ◌≢◌, ◌<◌, ◌≤◌, ◌++◌, ◌∷◌, ℕ, List, [], length, IfOk, IfSome, IsTrue, Some, None};
+ghost use Rattle.std.specs.Prelude.{◌≡◌, ◌≢◌, ◌<◌, ◌≤◌, ◌++◌, ◌∷◌, ℕ, List, [], length, find, IfOk, IfSome, IsTrue, Some, None};
 ghost use Rattle.assign.specs.Sets.{is_within};
 ghost use Rattle.language.specs.Language.{scope_of, IsCandidate, IsQuestion};
 ghost use Rattle.language.specs.Answers.{IsNetwork};
 ghost use Rattle.bias_store.specs.KeptSet.{IsMadeFor};
 ghost use Rattle.session_laws.specs.Walk.{learned_within, next_turn, parts_without};
 ghost use Rattle.multi_tree.specs.Depth.{Fits};
+ghost use Rattle.multi_tree.specs.Listed.{AreListed};
 ghost use Rattle.multi_tree.specs.Stage.{walk_in, asked_in, example_in, begun, turn_at, stage_after, put_again, IsWalkOn};
 ghost use Rattle.multi_tree.specs.Standing.{answer_to, turn_told, Move, Turns, PutsAgain, StandsFor};
 
@@ -20,6 +21,9 @@ use std::marker::Model;
 
 /// How many sets one walk may take.
 const MOST_SETS: u16 = 4096;
+
+/// How many items that an example violates are listed at most.
+const MOST_LISTED: usize = 1024;
 
 /// How far a walk has come.
 #[derive(Clone, Copy, Debug)]
@@ -191,12 +195,13 @@ fn take_sets(
     ensures some { (set : List ℕ) → result ≡ TreeNext.Ask set → 0 < length set }
 {
     let _variables = lang.n();
+    let listed = listed_of(lang, net.list(), example);
     while *left > 0 {
         let Some(set) = waiting.pop() else {
             return TreeNext::End;
         };
         *left -= 1;
-        match learned_within(lang, net, example, set) {
+        match listed_within(lang, net, &listed, example, set) {
             Some(c) => split(lang, waiting, set, c),
             None => {
                 if kept.strikes_any(lang, &example.restrict(set)) {
@@ -224,20 +229,88 @@ fn split(lang: &Language, waiting: &mut Stack, set: VarSet, c: Candidate)
     waiting.push_parts(set, lang.scope(c.scope));
 }
 
-/// The first learned candidate that the example violates and whose scope lies within the set.
-fn learned_within(
+/// The first items of a network that an example violates. The example stays the same while a walk takes sets, and mostly
+/// violates few of the items.
+#[derive(Clone, Copy)]
+struct Listed {
+    /// The first of these places have them, in learning order.
+    items: [Candidate; MOST_LISTED],
+    /// How many there are.
+    count: usize,
+    /// How many items of the network were looked at: all, where there was room.
+    looked_at: usize,
+}
+
+/// Lists them, as far as there is room.
+fn listed_of(lang: &Language, net: &[Candidate], example: &Partial) -> Listed
+    requires question { IsQuestion lang.now example.now }
+    requires network { IsNetwork lang.now net.now }
+    ensures { AreListed lang.now net.now example.now result }
+{
+    let mut listed = Listed {
+        items: [Candidate { scope: 0, rel: 0 }; MOST_LISTED],
+        count: 0,
+        looked_at: 0,
+    };
+    for i in 0..net.len() {
+        if listed.count == MOST_LISTED {
+            return listed;
+        }
+        // One that holds is written over by the next one.
+        listed.items[listed.count] = net[i];
+        listed.count += usize::from(lang.candidate_violated(net[i], example));
+        listed.looked_at = i + 1;
+    }
+    listed
+}
+
+/// The first candidate of a list whose scope lies within the set.
+fn first_within(lang: &Language, list: &[Candidate], set: VarSet) -> Option<Candidate>
+    requires { IsNetwork lang.now list.now }
+    ensures { result ≡ find (λ c. is_within (scope_of lang.now c) set) list.now }
+{
+    for c in list {
+        if lang.scope_set(c.scope).within(set) {
+            return Some(*c);
+        }
+    }
+    None
+}
+
+/// The first learned candidate that the example violates and whose scope lies within the set: a listed one, or one of those
+/// that weren't looked at.
+fn listed_within(
     lang: &Language,
     net: &Network,
+    listed: &Listed,
     example: &Partial,
     set: VarSet,
 ) -> Option<Candidate>
     requires question { IsQuestion lang.now example.now }
     requires network { IsNetwork lang.now net.now.list }
+    requires listed { AreListed lang.now net.now.list example.now listed.now }
     ensures is { result ≡ learned_within lang.now net.now.list example.now set }
     ensures known { IfSome result (IsCandidate lang.now) }
     ensures within { IfSome result (λ c. IsTrue (is_within (scope_of lang.now c) set)) }
 {
-    for c in net.list() {
+    match first_within(lang, &listed.items[..listed.count], set) {
+        Some(c) => Some(c),
+        None => learned_within(lang, &net.list()[listed.looked_at..], example, set),
+    }
+}
+
+/// The first candidate of a list that the example violates and whose scope lies within the set.
+fn learned_within(
+    lang: &Language,
+    list: &[Candidate],
+    example: &Partial,
+    set: VarSet,
+) -> Option<Candidate>
+    requires question { IsQuestion lang.now example.now }
+    requires network { IsNetwork lang.now list.now }
+    ensures { result ≡ learned_within lang.now list.now example.now set }
+{
+    for c in list {
         if lang.candidate_violated(*c, example) && lang.scope_set(c.scope).within(set) {
             return Some(*c);
         }

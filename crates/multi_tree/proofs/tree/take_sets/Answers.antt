@@ -1,7 +1,9 @@
-use Rattle.std.proofs.Common.{◌≡◌, ◌-◌, ◌<◌, true, false, length, sym, ◌∙◌, ap, subst, arith}
+use Rattle.std.proofs.Common.{◌≡◌, ◌-◌, ◌<◌, true, false, List, length, sym, ◌∙◌, ap, subst, arith}
+use Rattle.language.specs.declared.candidates.Candidate.{Candidate}
 use Rattle.language.specs.Language.{IsQuestion}
 use Rattle.session_laws.specs.Walk.{next_turn, violates_some}
 use Rattle.session_laws.proofs.Restrict.{part_is_question}
+use Rattle.multi_tree.specs.Listed.{AreListed}
 use Rattle.multi_tree.proofs.Turning.{none_waits, cut_off, splits, asks, drops, taken, some_asked}
 use Rattle.multi_tree.proofs.tree.take_sets.Goals as goal
 
@@ -9,16 +11,19 @@ pub returns-in_default-clause-turn : goal.returns-in_default-clause-turn
 returns-in_default-clause-turn c =
     none_waits c.args.lang.now c.args.net.now.list c.args.kept.now.members c.args.example.now c.loop-left.left c.loop-left.waiting c.in_default.ensures.empty ∙ c.loop-left.invariant
 
-pub loop-left-preserved-in-Some-learned_within : goal.loop-left-preserved-in-Some-learned_within
-loop-left-preserved-in-Some-learned_within c =
+pub loop-left-preserved-in-Some-listed_within : goal.loop-left-preserved-in-Some-listed_within
+loop-left-preserved-in-Some-listed_within c =
     let l = c.args.lang.now in
     let network = c.args.net.now.list in
     let kept = c.args.kept.now.members in
     let e = c.args.example.now in
     ap (next_turn l network kept e (c.loop-left.left - 1)) c.split.ensures
-    ∙ sym (splits l network kept e (c.loop-left.left - 1) c.in-Some.set c.pop.new.self c.in-Some-learned_within.c (sym c.learned_within.ensures.is ∙ c.in-Some-learned_within.is))
+    ∙ sym (splits l network kept e (c.loop-left.left - 1) c.in-Some.set c.pop.new.self c.in-Some-listed_within.c (sym c.listed_within.ensures.is ∙ c.in-Some-listed_within.is))
     ∙ taken l network kept e c.loop-left.left c.in-Some.set c.pop.new.self c.loop-left.waiting c.loop-left-test.true c.in-Some.ensures.top
     ∙ c.loop-left.invariant
+
+pub listed_within-requires-clause-listed : goal.listed_within-requires-clause-listed
+listed_within-requires-clause-listed c = subst (λ (network : List Candidate). AreListed c.args.lang.now network c.args.example.now c.listed_of-listed.result) c.list.ensures c.listed_of-listed.ensures
 
 pub strikes_any-requires-clause-question : goal.strikes_any-requires-clause-question
 strikes_any-requires-clause-question c =
@@ -30,7 +35,7 @@ returns-then-strikes_any-clause-turn c =
     let network = c.args.net.now.list in
     let kept = c.args.kept.now.members in
     let e = c.args.example.now in
-    sym (asks l network kept e (c.loop-left.left - 1) c.in-Some.set c.pop.new.self (sym c.learned_within.ensures.is ∙ c.in-None.is)
+    sym (asks l network kept e (c.loop-left.left - 1) c.in-Some.set c.pop.new.self (sym c.listed_within.ensures.is ∙ c.in-None.is)
     (ap (violates_some l kept) (sym c.restrict.ensures) ∙ sym c.strikes_any.ensures ∙ c.if-strikes_any.true))
     ∙ taken l network kept e c.loop-left.left c.in-Some.set c.pop.new.self c.loop-left.waiting c.loop-left-test.true c.in-Some.ensures.top
     ∙ c.loop-left.invariant
@@ -48,7 +53,7 @@ loop-left-preserved c =
     let network = c.args.net.now.list in
     let kept = c.args.kept.now.members in
     let e = c.args.example.now in
-    sym (drops l network kept e (c.loop-left.left - 1) c.in-Some.set c.pop.new.self (sym c.learned_within.ensures.is ∙ c.in-None.is)
+    sym (drops l network kept e (c.loop-left.left - 1) c.in-Some.set c.pop.new.self (sym c.listed_within.ensures.is ∙ c.in-None.is)
     (ap (violates_some l kept) (sym c.restrict.ensures) ∙ sym c.strikes_any.ensures ∙ c.if-strikes_any.false))
     ∙ taken l network kept e c.loop-left.left c.in-Some.set c.pop.new.self c.loop-left.waiting c.loop-left-test.true c.in-Some.ensures.top
     ∙ c.loop-left.invariant

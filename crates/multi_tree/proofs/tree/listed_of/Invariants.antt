@@ -1,0 +1,9 @@
+use Rattle.std.proofs.Common.{◌≡◌}
+use Rattle.multi_tree.specs.Listed.{AreListed}
+use Rattle.multi_tree.proofs.tree.listed_of.Given as goal
+
+abbrev pub invariant-loop-i : goal.invariant-loop-i
+invariant-loop-i l = record {
+  listed : AreListed l.fn.lang l.net l.fn.example l.listed;
+  all : l.listed.looked_at ≡ l.i;
+}
