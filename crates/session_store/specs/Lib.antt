@@ -8,3 +8,4 @@ pub mod Faults
 pub mod Loose
 pub mod Store
 pub mod Opening
+pub mod Opened

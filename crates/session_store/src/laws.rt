@@ -1,6 +1,9 @@
-//! What holds of the replay of every list of events. These functions do nothing.
+//! What holds of every list of events and of every file. These functions do nothing.
 
 ghost use Rattle.session_store.specs.Laws.{RecordsAreAnswers, ReplayIsState, FrontsHavePlaces, StrayIsFirst};
+ghost use Rattle.session_store.specs.Opened.{OpensOnce};
+
+use answer_journal::no_two_readings;
 
 /// What is replayed are the answers that stand, each with the number of the record that holds it.
 pub fn records_are_answers()
@@ -22,3 +25,11 @@ pub fn fronts_have_places()
 pub fn stray_is_first()
     ensures { StrayIsFirst }
 {}
+
+/// No bytes open in two ways: with two sessions, with one and a refusal, or with two refusals.
+pub fn no_two_openings()
+    ensures { OpensOnce }
+{
+    // a law: no bytes have two readings
+    no_two_readings();
+}
