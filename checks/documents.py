@@ -87,6 +87,8 @@ class Crate:
                     owner, call = None, ("", owner)
                     self.clauses[call] |= set()
                     self.public |= {call} if line.startswith("pub fn") else set()
+                    # what takes nothing and gives nothing is called for what it says
+                    self.laws |= {call[1]} if line.startswith("pub fn") and line.endswith("()") else set()
                 else:
                     (self.consts if kind == "const" else self.types).add(owner)
             elif item and owner and re.match("    [a-z]", line):
