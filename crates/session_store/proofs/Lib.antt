@@ -6,3 +6,4 @@ pub mod Fronts
 pub mod Placing
 pub mod Vocabularies
 pub mod Stores
+pub mod Keepers
