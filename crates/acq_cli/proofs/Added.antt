@@ -10,7 +10,7 @@ use Rattle.language.specs.Language.{Language, IsLanguage}
 use Rattle.language.specs.Answers.{standing_on}
 use Rattle.session_laws.specs.Session.{At, state_after}
 use Rattle.session_core.specs.Standing.{IsAskedAfter}
-use Rattle.session_store.specs.Keeping.{both_as}
+use Rattle.session_store.proofs.Keepers.{both_as}
 use Rattle.session_store.specs.Replay.{HavePlaces}
 use Rattle.session_store.proofs.Fronts.{replay_is_state}
 use Rattle.session_store.proofs.Placing.{answer_has_place, back_has_place}

@@ -10,7 +10,7 @@ use Rattle.target_oracle.specs.Turns.{Turns, Reply}
 use Rattle.acq_cli.specs.Closings.{closing_of}
 use Rattle.acq_cli.specs.Run.{Closing, Puts, Ends, next_after, next_on, number_on, event_heard}
 use Rattle.acq_cli.specs.declared.terms.Terms.{Terms}
-use Rattle.session_store.specs.Keeping.{both_as}
+use Rattle.session_store.proofs.Keepers.{both_as}
 use Rattle.query_gen.specs.Marks.{Remembered, IsMadeFor}
 use Rattle.acq_cli.specs.Driven.{Point, CutOff, HasEnded, Loses, MayFollow, RanTo, TellsFull, UnkeptTo}
 use Rattle.acq_cli.specs.Loop.{EndsAs, HasTurned}

@@ -1,5 +1,6 @@
 -- What was done about the words.
 use Rattle.std.proofs.Common.{◌≡◌, ◌∙◌, ℕ, List, [], Option, Result, Ok, Err, refl, sym, ap, subst, inl, inr, ⊎_elim, arith}
+use Rattle.disk_model.specs.declared.disk.Disk.{Ghosts as DiskOf}
 use Rattle.acq_io.specs.declared.streams.Put.{Put}
 use Rattle.acq_io.specs.declared.streams.Put.TheVariants as put
 use Rattle.acq_words.specs.Request.{IsAnswer, answer_to, contents_of}
@@ -58,19 +59,19 @@ is_refused words Memory is = tt
 abbrev wanting : Result Ending Put
 wanting = Err put.Memory
 
-module _ {D : Type 0} (content : D → Option (List ℕ)) (may_leave : D → List ℕ → Type 0) (moment : D → ℕ) (left_since : D → ℕ → List ℕ → Type 0) where
-  module _ (only_now : (disk : D) (c : List ℕ) → left_since disk (moment disk) c → may_leave disk c) (left written : Option (List ℕ)) (disk : D) where
-    stays : StaysClosed content may_leave moment left_since left written left written disk disk wanting
+module _ {D : Type 0} (disk : DiskOf D) where
+  module _ (only_now : (d : D) (c : List ℕ) → disk.left_since d (disk.moment d) c → disk.may_leave d c) (left written : Option (List ℕ)) (d : D) where
+    stays : StaysClosed disk left written left written d d wanting
     stays = record {
       fault = store.Memory;
       why = λ bytes told. tt;
       refuses = (refl, refl);
       unread = refl;
       same = refl;
-      any_moment = started moment left_since disk (may_leave disk) (only_now disk);
+      any_moment = started disk d (disk.may_leave d) (only_now d);
     }
 
-    pub does_nothing : (asked : Result Command UsageFault) → Does content may_leave moment left_since asked left written left written disk disk wanting
+    pub does_nothing : (asked : Result Command UsageFault) → Does disk asked left written left written d d wanting
     does_nothing (Ok (command.New plan)) = inl (record { why = inr (inr refl, refl); same = refl })
     does_nothing (Ok (command.Run budget)) = inl stays
     does_nothing (Ok (command.Try plan budget)) = unbegun (terms_with plan budget) left left written (inl ([], omega arith, λ k d low. absurd (omega (arith, low)), takes_none left))
@@ -117,50 +118,50 @@ without_usage without.Memory usage written written' (is, told) = cc
 ends_usage : (end : Ending) (usage : UsageFault) (text : List ℕ) (written written' : Option (List ℕ)) → (ending.Usage usage ≡ end → ⊥) → EndsWith end text written written' (using_so usage) → ⊥
 ends_usage end usage text written written' other (is, told) = other is
 
-module _ {D : Type 0} (content : D → Option (List ℕ)) (may_leave : D → List ℕ → Type 0) (moment : D → ℕ) (left_since : D → ℕ → List ℕ → Type 0) (left written left' written' : Option (List ℕ)) (old new : D) where
-  new_usage : (plan : Plan) (usage : UsageFault) → News content may_leave moment left_since plan left written left' written' old new (using_so usage) → ⊥
+module _ {D : Type 0} (disk : DiskOf D) (left written left' written' : Option (List ℕ)) (old new : D) where
+  new_usage : (plan : Plan) (usage : UsageFault) → News disk plan left written left' written' old new (using_so usage) → ⊥
   new_usage plan usage news =
       ⊎_elim
       (λ none. ⊎_elim (λ long. let is : ending.Usage usage ≡ _ = long.1.0 in cc) (λ other. ⊎_elim (λ e. cc) (λ e. cc) other.0) none.why)
       (λ read. ⊎_elim (λ made. let is : ending.Usage usage ≡ ending.Done = made.tells.0 in cc) (λ not_made. making_usage not_made.fault usage written written' not_made.refuses) read.makes)
       news
 
-  run_usage : (budget : ℕ) (usage : UsageFault) → RunsOn content may_leave moment left_since budget left written left' written' old new (using_so usage) → ⊥
+  run_usage : (budget : ℕ) (usage : UsageFault) → RunsOn disk budget left written left' written' old new (using_so usage) → ⊥
   run_usage budget usage runs = ⊎_elim (λ closed. refuses_usage closed.fault usage written written' closed.refuses) (λ goes_on. not_loops goes_on.tries.how (ending.Usage usage) goes_on.tries.is refl) runs
 
-  play_usage : (budget : ℕ) (usage : UsageFault) → PlaysOn content may_leave moment left_since budget left written left' written' old new (using_so usage) → ⊥
+  play_usage : (budget : ℕ) (usage : UsageFault) → PlaysOn disk budget left written left' written' old new (using_so usage) → ⊥
   play_usage budget usage plays =
       ⊎_elim (λ closed. refuses_usage closed.fault usage written written' closed.refuses)
       (λ rest. ⊎_elim (λ stale. let is : ending.Usage usage ≡ ending.NotFresh stale.number = stale.tells.0 in cc)
       (λ more. ⊎_elim (λ none. without_usage none.why usage written written' none.ends) (λ played. not_loops played.on.tries.how (ending.Usage usage) played.on.tries.is refl) more) rest)
       plays
 
-  show_usage : (usage : UsageFault) → Shows content may_leave moment left_since left written written' old new (using_so usage) → ⊥
+  show_usage : (usage : UsageFault) → Shows disk left written written' old new (using_so usage) → ⊥
   show_usage usage shows =
       ⊎_elim (λ closed. refuses_usage closed.fault usage written written' closed.refuses) (λ shown. let is : ending.Usage usage ≡ ending.Done = shown.tells.0 in cc) shows
 
   demo_usage : (number budget : ℕ) (usage : UsageFault) → Demos number budget written written' (using_so usage) → ⊥
   demo_usage number budget usage demos = ⊎_elim (λ none. let is : using_so usage ≡ wanting = none.0 in cc) (λ demo. demo.ends) demos
 
-  reduce_usage : (budget : ℕ) (usage : UsageFault) → Reduces content may_leave moment left_since budget left written written' old new (using_so usage) → ⊥
+  reduce_usage : (budget : ℕ) (usage : UsageFault) → Reduces disk budget left written written' old new (using_so usage) → ⊥
   reduce_usage budget usage reduces =
       ⊎_elim (λ closed. refuses_usage closed.fault usage written written' closed.refuses)
       (λ reduced. ⊎_elim (λ part. let is : ending.Usage usage ≡ ending.Done = part.tells.0 in cc)
       (λ rest. ⊎_elim (λ spent. let is : ending.Usage usage ≡ ending.ReduceSpent spent.number = spent.tells.0 in cc) (λ none. let is : using_so usage ≡ wanting = none.0 in cc) rest) reduced.reduces)
       reduces
 
-  print_usage : (usage : UsageFault) → Prints content may_leave moment left_since left written written' old new (using_so usage) → ⊥
+  print_usage : (usage : UsageFault) → Prints disk left written written' old new (using_so usage) → ⊥
   print_usage usage prints = ⊎_elim (λ closed. refuses_usage closed.fault usage written written' closed.refuses) (λ printed. prints_no_usage printed.lang _ written written' usage printed.prints) prints
 
-  solve_usage : (usage : UsageFault) → Solves content may_leave moment left_since left written left' written' old new (using_so usage) → ⊥
+  solve_usage : (usage : UsageFault) → Solves disk left written left' written' old new (using_so usage) → ⊥
   solve_usage usage solves = ⊎_elim (λ closed. refuses_usage closed.fault usage written written' closed.refuses) (λ solved. solves_no_usage solved.lang _ left written left' written' usage solved.solves) solves
 
-  certify_usage : (budget : ℕ) (usage : UsageFault) → Certifies content may_leave moment left_since budget left written written' old new (using_so usage) → ⊥
+  certify_usage : (budget : ℕ) (usage : UsageFault) → Certifies disk budget left written written' old new (using_so usage) → ⊥
   certify_usage budget usage certifies =
       ⊎_elim (λ closed. refuses_usage closed.fault usage written written' closed.refuses)
       (λ told. certifies_no_usage told.lang told.plan told.voc told.events budget written written' usage told.certifies) certifies
 
-  back_usage : (usage : UsageFault) → TakesBack content may_leave moment left_since left written written' old new (using_so usage) → ⊥
+  back_usage : (usage : UsageFault) → TakesBack disk left written written' old new (using_so usage) → ⊥
   back_usage usage backs =
       ⊎_elim (λ closed. refuses_usage closed.fault usage written written' closed.refuses)
       (λ rest. ⊎_elim (λ nothing. let is : ending.Usage usage ≡ ending.NothingBack = nothing.tells.0 in cc)
@@ -169,20 +170,20 @@ module _ {D : Type 0} (content : D → Option (List ℕ)) (may_leave : D → Lis
       (λ other. ⊎_elim (λ none. let is : using_so usage ≡ wanting = none in cc) (λ failed. let is : using_so usage ≡ Ok ending.DiskFault = failed in cc) other.2) taken.ends) more) rest)
       backs
 
-  pub usage_is : (asked : Result Command UsageFault) (end : Ending) → Does content may_leave moment left_since asked left written left' written' old new (Ok end) → (usage : UsageFault) → end ≡ ending.Usage usage → asked ≡ Err usage
+  pub usage_is : (asked : Result Command UsageFault) (end : Ending) → Does disk asked left written left' written' old new (Ok end) → (usage : UsageFault) → end ≡ ending.Usage usage → asked ≡ Err usage
   usage_is (Err fault) end does usage is = ap (λ (f : UsageFault). let r : Result Command UsageFault = Err f in r) (same (sym does.0 ∙ is))
     where
       same : ending.Usage fault ≡ ending.Usage usage → fault ≡ usage
       same e = cc
-  usage_is (Ok (command.New plan)) end does usage is = let P : Ending → Type 0 = λ x. News content may_leave moment left_since plan left written left' written' old new (Ok x) in absurd (new_usage plan usage (subst P is does))
-  usage_is (Ok (command.Run budget)) end does usage is = let P : Ending → Type 0 = λ x. RunsOn content may_leave moment left_since budget left written left' written' old new (Ok x) in absurd (run_usage budget usage (subst P is does))
+  usage_is (Ok (command.New plan)) end does usage is = let P : Ending → Type 0 = λ x. News disk plan left written left' written' old new (Ok x) in absurd (new_usage plan usage (subst P is does))
+  usage_is (Ok (command.Run budget)) end does usage is = let P : Ending → Type 0 = λ x. RunsOn disk budget left written left' written' old new (Ok x) in absurd (run_usage budget usage (subst P is does))
   usage_is (Ok (command.Try plan budget)) end does usage is = let P : Ending → Type 0 = λ x. Acquires (terms_with plan budget) left written left' written' x in absurd (subst P is does)
-  usage_is (Ok command.Show) end does usage is = let P : Ending → Type 0 = λ x. Shows content may_leave moment left_since left written written' old new (Ok x) in absurd (show_usage usage (subst P is does))
-  usage_is (Ok command.Back) end does usage is = let P : Ending → Type 0 = λ x. TakesBack content may_leave moment left_since left written written' old new (Ok x) in absurd (back_usage usage (subst P is does))
-  usage_is (Ok (command.Play budget)) end does usage is = let P : Ending → Type 0 = λ x. PlaysOn content may_leave moment left_since budget left written left' written' old new (Ok x) in absurd (play_usage budget usage (subst P is does))
+  usage_is (Ok command.Show) end does usage is = let P : Ending → Type 0 = λ x. Shows disk left written written' old new (Ok x) in absurd (show_usage usage (subst P is does))
+  usage_is (Ok command.Back) end does usage is = let P : Ending → Type 0 = λ x. TakesBack disk left written written' old new (Ok x) in absurd (back_usage usage (subst P is does))
+  usage_is (Ok (command.Play budget)) end does usage is = let P : Ending → Type 0 = λ x. PlaysOn disk budget left written left' written' old new (Ok x) in absurd (play_usage budget usage (subst P is does))
   usage_is (Ok (command.Demo number budget)) end does usage is = let P : Ending → Type 0 = λ x. Demos number budget written written' (Ok x) in absurd (demo_usage number budget usage (subst P is does))
-  usage_is (Ok (command.Reduce budget)) end does usage is = let P : Ending → Type 0 = λ x. Reduces content may_leave moment left_since budget left written written' old new (Ok x) in absurd (reduce_usage budget usage (subst P is does))
-  usage_is (Ok command.Cnf) end does usage is = let P : Ending → Type 0 = λ x. Prints content may_leave moment left_since left written written' old new (Ok x) in absurd (print_usage usage (subst P is does))
-  usage_is (Ok command.Model) end does usage is = let P : Ending → Type 0 = λ x. Solves content may_leave moment left_since left written left' written' old new (Ok x) in absurd (solve_usage usage (subst P is does))
-  usage_is (Ok (command.Certify budget)) end does usage is = let P : Ending → Type 0 = λ x. Certifies content may_leave moment left_since budget left written written' old new (Ok x) in absurd (certify_usage budget usage (subst P is does))
+  usage_is (Ok (command.Reduce budget)) end does usage is = let P : Ending → Type 0 = λ x. Reduces disk budget left written written' old new (Ok x) in absurd (reduce_usage budget usage (subst P is does))
+  usage_is (Ok command.Cnf) end does usage is = let P : Ending → Type 0 = λ x. Prints disk left written written' old new (Ok x) in absurd (print_usage usage (subst P is does))
+  usage_is (Ok command.Model) end does usage is = let P : Ending → Type 0 = λ x. Solves disk left written left' written' old new (Ok x) in absurd (solve_usage usage (subst P is does))
+  usage_is (Ok (command.Certify budget)) end does usage is = let P : Ending → Type 0 = λ x. Certifies disk budget left written written' old new (Ok x) in absurd (certify_usage budget usage (subst P is does))
   usage_is (Ok command.Check) end does usage is = let P : Ending → Type 0 = λ x. Confirms left written left' written' (Ok x) in absurd (confirms_no_usage left written left' written' usage (subst P is does))

@@ -1,6 +1,7 @@
 -- What `certify` tells of a file, exactly.
 use Rattle.std.proofs.Common.{◌≡◌, ◌≤◌, ◌⊎◌, ◌∙◌, ℕ, Bool, true, false, List, length, Option, Some, Result, Ok, Err, refl, sym, ap, subst, inl, inr, ⊎_elim, arith}
 use Rattle.std.specs.Prelude.{◌≢◌, All, IfOk}
+use Rattle.disk_model.specs.declared.disk.Disk.{Ghosts as DiskOf}
 use Rattle.acq_io.specs.declared.streams.Put.{Put}
 use Rattle.acq_io.specs.declared.streams.Put.TheVariants as put
 use Rattle.acq_words.specs.declared.request.UsageFault.{UsageFault}
@@ -222,22 +223,22 @@ module _ (once : ReadOnce) (budget : ℕ) (file : List ℕ) (end : Ending) (held
         refused = λ fault. (λ e. absurd (more_unmade end n fault is e), λ other. absurd (more (one_end file budget other.session held other.at)));
       }
 
-module _ {D : Type 0} (content : D → Option (List ℕ)) (may_leave : D → List ℕ → Type 0) (moment : D → ℕ) (left_since : D → ℕ → List ℕ → Type 0) where
-  pub certify_ends : ReadOnce → (budget : ℕ) (left written written' : Option (List ℕ)) (old new : D) (got : Result Ending Put) → Certifies content may_leave moment left_since budget left written written' old new got → CertifyEnds budget (content old) (ended_as got)
+module _ {D : Type 0} (disk : DiskOf D) where
+  pub certify_ends : ReadOnce → (budget : ℕ) (left written written' : Option (List ℕ)) (old new : D) (got : Result Ending Put) → Certifies disk budget left written written' old new got → CertifyEnds budget (disk.content old) (ended_as got)
   certify_ends once budget left written written' old new (Err put.Failed) does = λ file told. inl (inr (inl refl))
   certify_ends once budget left written written' old new (Err put.Memory) does = λ file told. inl (inr (inr (inr refl)))
   certify_ends once budget left written written' old new (Ok end) (inl closed) = λ file told.
       ⊎_elim (λ broken. inl broken) (λ is. inr (certify_closed once budget file end closed.fault (is.0, closed.why file told) is.1)) (closed_end written written' end closed.fault (untold closed.fault) refl closed.refuses)
   certify_ends once budget left written written' old new (Ok end) (inr told_of) = λ file told. go file told told_of.certifies
     where
-      held : (file : List ℕ) → content old ≡ Some file → HoldsSession file
+      held : (file : List ℕ) → disk.content old ≡ Some file → HoldsSession file
       held file told = record { plan = told_of.plan; voc = told_of.voc; events = told_of.events; says = told_of.says file told; lang = told_of.lang; read = told_of.read; places = told_of.places }
 
-      made_in : (file : List ℕ) (told : content old ≡ Some file) → HasConverged file (held file told) budget → (r : Making) → certificate_in file (held file told) budget ≡ r → TellsCertificate r written written' (okay end) → IsBrokenOff end ⊎ CertifiesExactly budget file end
+      made_in : (file : List ℕ) (told : disk.content old ≡ Some file) → HasConverged file (held file told) budget → (r : Making) → certificate_in file (held file told) budget ≡ r → TellsCertificate r written written' (okay end) → IsBrokenOff end ⊎ CertifiesExactly budget file end
       made_in file told at (Ok text) it tells = inr (certify_done once budget file end (held file told) text at it tells.0)
       made_in file told at (Err fault) it tells = inr (certify_unmade once budget file end (held file told) fault at it tells.0)
 
-      go : (file : List ℕ) → content old ≡ Some file → CertifiesTo told_of.lang told_of.plan told_of.voc told_of.events budget written written' (okay end) → IsBrokenOff end ⊎ CertifiesExactly budget file end
+      go : (file : List ℕ) → disk.content old ≡ Some file → CertifiesTo told_of.lang told_of.plan told_of.voc told_of.events budget written written' (okay end) → IsBrokenOff end ⊎ CertifiesExactly budget file end
       go file told (inl is) = made_in file told is.done.ends (certificate_in file (held file told) budget) refl is.tells
       go file told (inr (inl lacks)) = inr (certify_more once budget file end (held file told) lacks.more lacks.tells.0)
       go file told (inr (inr none)) = absurd (err_ok put.Memory end (sym none.0))

@@ -3,6 +3,7 @@ use Rattle.std.proofs.Common.{◌≡◌, ◌∙◌, ◌⊎◌, ℕ, ◌+◌, ◌
 use Rattle.std.specs.Prelude.{IfSome, IsSome, nat_le}
 use Rattle.std.specs.Option.{option_map}
 use Rattle.std.proofs.lemmas.List.{append-nil}
+use Rattle.disk_model.specs.declared.disk.Disk.{Ghosts as DiskOf}
 use Rattle.acq_io.specs.Whole.{Gathered, gathered, Gives, first_line_of, all_of}
 use Rattle.acq_io.specs.declared.streams.Put.TheVariants as put
 use Rattle.acq_io.specs.declared.whole.AllFault.{AllFault}
@@ -292,15 +293,15 @@ told_end number l terms events written written' (ending.CertRefused fault) made 
 told_end number l terms events written written' (ending.Flawed flaw) made enough tells = absurd tells
 told_end number l terms events written written' (ending.CertUnread fault) made enough tells = absurd tells
 
-module _ {D : Type 0} (content : D → Option (List ℕ)) (may_leave : D → List ℕ → Type 0) (moment : D → ℕ) (left_since : D → ℕ → List ℕ → Type 0) (left written left' written' : Option (List ℕ)) (old new : D) (end : Ending) (calm : NoFault end) where
-  run_completes : (budget : ℕ) → RunsOn content may_leave moment left_since budget left written left' written' old new (okay end) → (bytes file : List ℕ) → left ≡ Some bytes → content old ≡ Some file → IsSome written → RunHasEnough budget bytes file → ConvergesOrCollapses end
+module _ {D : Type 0} (disk : DiskOf D) (left written left' written' : Option (List ℕ)) (old new : D) (end : Ending) (calm : NoFault end) where
+  run_completes : (budget : ℕ) → RunsOn disk budget left written left' written' old new (okay end) → (bytes file : List ℕ) → left ≡ Some bytes → disk.content old ≡ Some file → IsSome written → RunHasEnough budget bytes file → ConvergesOrCollapses end
   run_completes budget (inl closed) bytes file from told tells has =
       ⊎_elim (λ broken. inr (inr (broken_memory end broken calm))) (λ is. absurd (has.opens closed.fault (is.0, closed.why file told))) (closed_end written written' end closed.fault (untold closed.fault) refl closed.refuses)
   run_completes budget (inr on) bytes file from told tells has =
       lines_end on.lang (terms_with on.plan budget) on.events on.later left written left' written' end bytes on.read.built.lawful (places_reached on.lang on.plan on.events on.places) from tells
       (has.room on.plan on.voc on.events on.lang (on.says file told) on.read) (has.enough on.plan on.voc on.events on.lang (on.says file told) on.read) calm on.tries
 
-  play_completes : (budget : ℕ) → PlaysOn content may_leave moment left_since budget left written left' written' old new (okay end) → (bytes file : List ℕ) → left ≡ Some bytes → content old ≡ Some file → IsSome written → PlayHasEnough budget bytes file → Converges end
+  play_completes : (budget : ℕ) → PlaysOn disk budget left written left' written' old new (okay end) → (bytes file : List ℕ) → left ≡ Some bytes → disk.content old ≡ Some file → IsSome written → PlayHasEnough budget bytes file → Converges end
   play_completes budget (inl closed) bytes file from told tells has =
       ⊎_elim (λ broken. inr (broken_memory end broken calm)) (λ is. absurd (has.opens closed.fault (is.0, closed.why file told))) (closed_end written written' end closed.fault (untold closed.fault) refl closed.refuses)
   play_completes budget (inr (inl stale)) bytes file from told tells has =
@@ -344,18 +345,18 @@ module _ {D : Type 0} (content : D → Option (List ℕ)) (may_leave : D → Lis
   back_completes : (content' : Option (List ℕ)) → BackEnds content' end → (file : List ℕ) → content' ≡ Some file → HoldsLast file → IsDoneWith end
   back_completes content' ends file told held = ⊎_elim (λ broken. inr (broken_memory end broken calm)) (λ exactly. inl (exactly.done.1 held)) (ends file told)
 
-  pub completes : (asked : Result Command UsageFault) → Does content may_leave moment left_since asked left written left' written' old new (okay end) → EndsExactly asked left (content old) end → Completes asked left written (content old) end
-  completes (Ok (command.New plan)) does ends = λ bytes from file told. new_completes (content old) ends bytes file from told
+  pub completes : (asked : Result Command UsageFault) → Does disk asked left written left' written' old new (okay end) → EndsExactly asked left (disk.content old) end → Completes asked left written (disk.content old) end
+  completes (Ok (command.New plan)) does ends = λ bytes from file told. new_completes (disk.content old) ends bytes file from told
   completes (Ok (command.Run budget)) does ends = λ bytes from file told. run_completes budget does bytes file from told
   completes (Ok (command.Play budget)) does ends = λ bytes from file told. play_completes budget does bytes file from told
-  completes (Ok command.Show) does ends = λ file told. show_completes (content old) ends file told
-  completes (Ok command.Back) does ends = λ file told. back_completes (content old) ends file told
+  completes (Ok command.Show) does ends = λ file told. show_completes (disk.content old) ends file told
+  completes (Ok command.Back) does ends = λ file told. back_completes (disk.content old) ends file told
   completes (Ok (command.Try plan budget)) does ends = λ bytes from tells has. try_completes (terms_with plan budget) left written left' written' bytes from tells has end calm does
   completes (Ok (command.Demo number budget)) does ends = λ enough. demo_completes number budget does enough
-  completes (Ok (command.Reduce budget)) does ends = λ file told. reduce_completes budget (content old) ends file told
-  completes (Ok command.Cnf) does ends = λ file told. print_completes (content old) ends file told
-  completes (Ok command.Model) does ends = λ bytes from file told. solve_completes (content old) ends bytes file from told
-  completes (Ok (command.Certify budget)) does ends = λ file told. certify_completes budget (content old) ends file told
+  completes (Ok (command.Reduce budget)) does ends = λ file told. reduce_completes budget (disk.content old) ends file told
+  completes (Ok command.Cnf) does ends = λ file told. print_completes (disk.content old) ends file told
+  completes (Ok command.Model) does ends = λ bytes from file told. solve_completes (disk.content old) ends bytes file from told
+  completes (Ok (command.Certify budget)) does ends = λ file told. certify_completes budget (disk.content old) ends file told
   completes (Ok command.Check) does ends = λ bytes from. check_completes ends bytes from
   completes (Err fault) does ends = tt
 

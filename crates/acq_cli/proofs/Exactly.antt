@@ -1,6 +1,7 @@
 -- Exactly when a command over a journal is done or refused, of what it has done.
 use Rattle.std.proofs.Common.{◌≡◌, ◌⊎◌, ℕ, List, get_or, take, Option, Some, None, Result, Ok, Err, refl, sym, ◌∙◌, ap, subst, inl, inr, ⊎_elim, arith}
 use Rattle.std.specs.Option.{option_map}
+use Rattle.disk_model.specs.declared.disk.Disk.{Ghosts as DiskOf}
 use Rattle.acq_io.specs.Whole.{Gathered, gathered, Gives, all_of}
 use Rattle.acq_io.specs.declared.streams.Put.{Put}
 use Rattle.acq_io.specs.declared.streams.Put.TheVariants as put
@@ -171,8 +172,8 @@ not_made bytes file voc written written' end (store.Voc f) got why told =
 not_made bytes file voc written written' end (store.Stray i) got why told = absurd why
 not_made bytes file voc written written' end store.Memory got why told = absurd (err_ok put.Memory end (sym told.0))
 
-module _ {D : Type 0} (content : D → Option (List ℕ)) (may_leave : D → List ℕ → Type 0) (moment : D → ℕ) (left_since : D → ℕ → List ℕ → Type 0) where
-  pub new_ends : (plan : Plan) (left written left' written' : Option (List ℕ)) (old new : D) (got : Result Ending Put) → News content may_leave moment left_since plan left written left' written' old new got → NewEnds left (content old) (ended_as got)
+module _ {D : Type 0} (disk : DiskOf D) where
+  pub new_ends : (plan : Plan) (left written left' written' : Option (List ℕ)) (old new : D) (got : Result Ending Put) → News disk plan left written left' written' old new got → NewEnds left (disk.content old) (ended_as got)
   new_ends plan left written left' written' old new (Err put.Failed) news = λ bytes from file told. inl (inr (inl refl))
   new_ends plan left written left' written' old new (Err put.Memory) news = λ bytes from file told. inl (inr (inr (inr refl)))
   new_ends plan left written left' written' old new (Ok end) (inl none) = λ bytes from file told.
@@ -307,8 +308,8 @@ closed_exactly once file end f why is = record {
   refused = λ n. (λ e. subst (RefusesOpening file) (same_reason end f n is e) why, λ so. is ∙ refused_as f n (only_reason once file n f so why));
 }
 
-module _ {D : Type 0} (content : D → Option (List ℕ)) (may_leave : D → List ℕ → Type 0) (moment : D → ℕ) (left_since : D → ℕ → List ℕ → Type 0) where
-  pub run_ends : ReadOnce → (budget : ℕ) (left written left' written' : Option (List ℕ)) (old new : D) (got : Result Ending Put) → RunsOn content may_leave moment left_since budget left written left' written' old new got → RunEnds (content old) (ended_as got)
+module _ {D : Type 0} (disk : DiskOf D) where
+  pub run_ends : ReadOnce → (budget : ℕ) (left written left' written' : Option (List ℕ)) (old new : D) (got : Result Ending Put) → RunsOn disk budget left written left' written' old new got → RunEnds (disk.content old) (ended_as got)
   run_ends once budget left written left' written' old new (Err put.Failed) runs = λ file told. inl (inr (inl refl))
   run_ends once budget left written left' written' old new (Err put.Memory) runs = λ file told. inl (inr (inr (inr refl)))
   run_ends once budget left written left' written' old new (Ok end) (inl closed) = λ file told.
@@ -317,7 +318,7 @@ module _ {D : Type 0} (content : D → Option (List ℕ)) (may_leave : D → Lis
       let held : HoldsSession file = record { plan = on.plan; voc = on.voc; events = on.events; says = on.says file told; lang = on.lang; read = on.read; places = on.places } in
       inr (record { refused = λ f. (λ e. absurd (not_loops on.tries.how (ending.JournalRefused f) (on.tries.is ∙ ap okay e) refl), λ why. absurd (holds_none once file f why held)) })
 
-  pub show_ends : ReadOnce → (left written written' : Option (List ℕ)) (old new : D) (got : Result Ending Put) → Shows content may_leave moment left_since left written written' old new got → ShowEnds (content old) (ended_as got)
+  pub show_ends : ReadOnce → (left written written' : Option (List ℕ)) (old new : D) (got : Result Ending Put) → Shows disk left written written' old new got → ShowEnds (disk.content old) (ended_as got)
   show_ends once left written written' old new (Err put.Failed) shows = λ file told. inl (inr (inl refl))
   show_ends once left written written' old new (Err put.Memory) shows = λ file told. inl (inr (inr (inr refl)))
   show_ends once left written written' old new (Ok end) (inl closed) = λ file told.

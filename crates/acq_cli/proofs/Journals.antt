@@ -3,6 +3,7 @@ use Rattle.std.proofs.Common.{◌≡◌, ◌⊎◌, ℕ, List, [], ◌∷◌, �
 use Rattle.std.specs.Prelude.{◌≢◌, IfOk, OnErr, IsSome}
 use Rattle.std.specs.Option.{ForSome}
 use Rattle.std.proofs.lemmas.List.{append-nil}
+use Rattle.disk_model.specs.declared.disk.Disk.{Ghosts as DiskOf}
 use Rattle.acq_io.specs.Streams.{Adds, AddsFront}
 use Rattle.acq_io.specs.declared.streams.Put.{Put}
 use Rattle.acq_io.specs.declared.streams.Put.TheVariants as put
@@ -10,8 +11,7 @@ use Rattle.answer_journal.specs.declared.fault.JFault.TheVariants as journal
 use Rattle.assign.specs.Assignment.{Assignment}
 use Rattle.assign.specs.declared.events.Event.{Event}
 use Rattle.assign.specs.declared.events.Plan.{Plan}
-use Rattle.disk_model.specs.Disk.{LeavesOnly}
-use Rattle.disk_model.specs.Moments.{joined}
+use Rattle.disk_model.specs.Moments.{LeavesOnly, joined}
 use Rattle.language.specs.Language.{Language, IsLanguage}
 use Rattle.session_store.specs.Left.{OpensWith, OpensWithin, SaysSession, LeavesNow, bytes_told}
 use Rattle.session_store.specs.Keeping.{Persists, FailsWith}
@@ -72,17 +72,17 @@ pub disk_failed : (got : Result Ending Put) → IsDisk got ⊎ (IsDisk got → �
 disk_failed (Err e) = inr (err_ok e ending.DiskFault)
 disk_failed (Ok end) = ⊎_elim (λ is. inl (ap okay is)) (λ other. inr (λ h. other (same_ok end ending.DiskFault h))) (other_ending end)
 
-module _ {D : Type 0} (content : D → Option (List ℕ)) (may_leave : D → List ℕ → Type 0) (moment : D → ℕ) (left_since : D → ℕ → List ℕ → Type 0) where
+module _ {D : Type 0} (disk : DiskOf D) where
   -- what holds of its language, plan and events holds of what it is about
   pub goes_on_with : (P : Language → Plan → List Event → List Event → Type 0) (turns : Turns) (may : Language → Assignment → Told → Type 0) (budget : ℕ) (left written left' written' : Option (List ℕ)) (first old new : D) (got : Result Ending Put) (plan : Plan) (voc : List ℕ) (events later : List Event) (open_then : Option Assignment) (lang : Language) →
-      ForSome (content first) (λ bytes. SaysSession bytes plan voc events) → IsVocabulary voc lang → HavePlaces lang plan events → content old ≡ content first → LeavesOnly moment left_since first old (may_leave first) →
-      IsLanguage lang → IsAdded lang plan (may lang) events later → ForSome (content old) (λ _. IsSome (content new)) → ((IsDisk got → ⊥) → ForSome (content old) (λ _. Persists content may_leave moment left_since plan voc events later old new)) →
-      (IsDisk got → FailsWith content may_leave moment left_since plan voc events later open_then
+      ForSome (disk.content first) (λ bytes. SaysSession bytes plan voc events) → IsVocabulary voc lang → HavePlaces lang plan events → disk.content old ≡ disk.content first → LeavesOnly disk first old (disk.may_leave first) →
+      IsLanguage lang → IsAdded lang plan (may lang) events later → ForSome (disk.content old) (λ _. IsSome (disk.content new)) → ((IsDisk got → ⊥) → ForSome (disk.content old) (λ _. Persists disk plan voc events later old new)) →
+      (IsDisk got → FailsWith disk plan voc events later open_then
       (Loses turns lang (terms_with plan budget) (point_of events left written) (point_of later left' written')) old new) →
       IfOk got (Tries turns lang (terms_with plan budget) events later left written left' written') →
       OnErr got (BreaksRun turns lang (terms_with plan budget) events later left written left' written') →
       P lang plan events later →
-      (on : GoesOn content may_leave moment left_since turns may budget left written left' written' first new got) × P on.lang on.plan on.events on.later
+      (on : GoesOn disk turns may budget left written left' written' first new got) × P on.lang on.plan on.events on.later
   goes_on_with P turns may budget left written left' written' first old new got plan voc events later open_then lang says read places still opening lawful added on persists fails tries part has =
       ⊎_elim
       (λ is.
@@ -105,16 +105,16 @@ module _ {D : Type 0} (content : D → Option (List ℕ)) (may_leave : D → Lis
           one_lost = λ so. (f.event, refl, f.lost);
           all_places = placed_event run_laws lang lawful (terms_with plan budget) later f.lost.question f.event (record { puts = f.lost.puts; fits = f.lost.fits }) f.lost.follows (added.places places);
           any_moment = λ bytes told.
-              joined moment left_since first old new (may_leave first) (OpensWithin plan voc events (later ++ last)) (λ c. may_leave first c ⊎ OpensWithin plan voc events (later ++ last) c) opening (f.any_moment bytes (still ∙ told))
+              joined disk first old new (disk.may_leave first) (OpensWithin plan voc events (later ++ last)) (λ c. disk.may_leave first c ⊎ OpensWithin plan voc events (later ++ last) c) opening (f.any_moment bytes (still ∙ told))
               (λ c was. inl was) (λ c opens. inr opens);
-          now = λ bytes told. let t = bytes_told (content new) (on bytes (still ∙ told)) in record { bytes = t.0; tells = t.1; each = f.now bytes (still ∙ told) };
+          now = λ bytes told. let t = bytes_told (disk.content new) (on bytes (still ∙ told)) in record { bytes = t.0; tells = t.1; each = f.now bytes (still ∙ told) };
         },
         has,
       ))
       (λ no.
       let p = persists no in
       let same : later ++ [] ≡ later = append-nil later in
-      let Within : List Event → Type 0 = λ l. LeavesOnly moment left_since old new (OpensWithin plan voc events l) in (
+      let Within : List Event → Type 0 = λ l. LeavesOnly disk old new (OpensWithin plan voc events l) in (
         record {
           plan = plan;
           voc = voc;
@@ -132,7 +132,7 @@ module _ {D : Type 0} (content : D → Option (List ℕ)) (may_leave : D → Lis
           one_lost = λ is. absurd (no is);
           all_places = let Placed : List Event → Type 0 = λ x. HavePlaces lang plan x in subst Placed (sym same) (added.places places);
           any_moment = λ bytes told.
-              joined moment left_since first old new (may_leave first) (OpensWithin plan voc events (later ++ [])) (λ c. may_leave first c ⊎ OpensWithin plan voc events (later ++ []) c) opening
+              joined disk first old new (disk.may_leave first) (OpensWithin plan voc events (later ++ [])) (λ c. disk.may_leave first c ⊎ OpensWithin plan voc events (later ++ []) c) opening
               (subst Within (sym same) (p bytes (still ∙ told)).any_moment) (λ c was. inl was) (λ c opens. inr opens);
           now = λ bytes told. let n = (p bytes (still ∙ told)).now in record { bytes = n.bytes; tells = n.tells; each = λ c left. inl (n.each c left) };
         },
@@ -141,13 +141,13 @@ module _ {D : Type 0} (content : D → Option (List ℕ)) (may_leave : D → Lis
       (disk_failed got)
 
   pub goes_on : (turns : Turns) (may : Language → Assignment → Told → Type 0) (budget : ℕ) (left written left' written' : Option (List ℕ)) (first old new : D) (got : Result Ending Put) (plan : Plan) (voc : List ℕ) (events later : List Event) (open_then : Option Assignment) (lang : Language) →
-      ForSome (content first) (λ bytes. SaysSession bytes plan voc events) → IsVocabulary voc lang → HavePlaces lang plan events → content old ≡ content first → LeavesOnly moment left_since first old (may_leave first) →
-      IsLanguage lang → IsAdded lang plan (may lang) events later → ForSome (content old) (λ _. IsSome (content new)) → ((IsDisk got → ⊥) → ForSome (content old) (λ _. Persists content may_leave moment left_since plan voc events later old new)) →
-      (IsDisk got → FailsWith content may_leave moment left_since plan voc events later open_then
+      ForSome (disk.content first) (λ bytes. SaysSession bytes plan voc events) → IsVocabulary voc lang → HavePlaces lang plan events → disk.content old ≡ disk.content first → LeavesOnly disk first old (disk.may_leave first) →
+      IsLanguage lang → IsAdded lang plan (may lang) events later → ForSome (disk.content old) (λ _. IsSome (disk.content new)) → ((IsDisk got → ⊥) → ForSome (disk.content old) (λ _. Persists disk plan voc events later old new)) →
+      (IsDisk got → FailsWith disk plan voc events later open_then
       (Loses turns lang (terms_with plan budget) (point_of events left written) (point_of later left' written')) old new) →
       IfOk got (Tries turns lang (terms_with plan budget) events later left written left' written') →
       OnErr got (BreaksRun turns lang (terms_with plan budget) events later left written left' written') →
-      GoesOn content may_leave moment left_since turns may budget left written left' written' first new got
+      GoesOn disk turns may budget left written left' written' first new got
   goes_on turns may budget left written left' written' first old new got plan voc events later open_then lang says read places still opening lawful added on persists fails tries part =
       (goes_on_with (λ l p es fs. Unit {0}) turns may budget left written left' written' first old new got plan voc events later open_then lang says read places still opening lawful added on persists fails tries part tt).0
 
@@ -217,14 +217,14 @@ untold_failed P fault end is = untold_has (λ r. r ≡ Err put.Failed → P) fau
 -- ---- making a journal
 
 -- what is left of a store that was just made
-pub made_now : {D : Type 0} (content : D → Option (List ℕ)) (may_leave : D → List ℕ → Type 0) (disk : D) (made : Store) (plan : Plan) (voc : List ℕ) (bytes : List ℕ) → content disk ≡ Some bytes →
-    plan_of made ≡ plan → voc_of made ≡ voc → events_of made ≡ [] → IsThere made.journal (plan_of made) (voc_of made) (events_of made) (may_leave disk) bytes → LeavesNow content may_leave (OpensWith plan voc []) disk
-made_now content may_leave disk made plan voc bytes told planned same none there = record {
+pub made_now : {D : Type 0} (disk : DiskOf D) (new : D) (made : Store) (plan : Plan) (voc : List ℕ) (bytes : List ℕ) → disk.content new ≡ Some bytes →
+    plan_of made ≡ plan → voc_of made ≡ voc → events_of made ≡ [] → IsThere made.journal (plan_of made) (voc_of made) (events_of made) (disk.may_leave new) bytes → LeavesNow disk (OpensWith plan voc []) new
+made_now disk new made plan voc bytes told planned same none there = record {
   bytes = bytes;
   tells = told;
   each = λ c left.
       let A : Plan → Type 0 = λ p. OpensWith p (voc_of made) (events_of made) c in
       let B : List ℕ → Type 0 = λ v. OpensWith plan v (events_of made) c in
       let C : List Event → Type 0 = λ e. OpensWith plan voc e c in
-      subst C none (subst B same (subst A planned (opens_there made.journal (plan_of made) (voc_of made) (events_of made) (may_leave disk) bytes c there left)));
+      subst C none (subst B same (subst A planned (opens_there made.journal (plan_of made) (voc_of made) (events_of made) (disk.may_leave new) bytes c there left)));
 }

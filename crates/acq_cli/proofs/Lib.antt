@@ -7,6 +7,8 @@ pub mod Turning
 pub mod Standings
 pub mod Added
 pub mod Answered
+pub mod Entries
+pub mod Hearing
 pub mod Nexts
 pub mod OpenCandidates
 pub mod OpenLines

@@ -37,8 +37,8 @@ use Rattle.acq_cli.specs.Points.{terms_with}
 use Rattle.acq_cli.specs.Run.{Next, Puts, Ends, Converged, Collapsed, puts_or, searched, idle_next, next_at, next_in, next_after}
 use Rattle.acq_cli.specs.Driven.{IsDone, IsCollapsed, IsLeftOpen, TellsOpen}
 use Rattle.acq_cli.specs.Due.{IsDue, NextIs, PutIs}
-use Rattle.acq_cli.specs.declared.driving.Upcoming.{Upcoming}
-use Rattle.acq_cli.specs.declared.driving.Upcoming.TheVariants as nexts
+use Rattle.acq_cli.specs.declared.next.Upcoming.{Upcoming}
+use Rattle.acq_cli.specs.declared.next.Upcoming.TheVariants as nexts
 use Rattle.acq_cli.proofs.Questions.{IsLawfulExample, asked_is_example, all_are_implied, undecided_is_spent, kept_network, same_state}
 use Rattle.acq_cli.proofs.Few.{are_few}
 use Rattle.acq_cli.proofs.OpenCandidates.{some_open, each_open}

@@ -2,6 +2,7 @@
 use Rattle.std.proofs.Common.{◌≡◌, ◌⊎◌, ◌∙◌, ℕ, ◌<◌, ◌≤◌, Bool, true, false, cond, List, length, Option, Some, Result, Ok, Err, refl, sym, subst, inl, inr, ⊎_elim, arith}
 use Rattle.std.specs.Prelude.{◌≢◌, IfOk, nat_lt}
 use Rattle.std.proofs.lemmas.Bool.{ltb-true, ltb-false}
+use Rattle.disk_model.specs.declared.disk.Disk.{Ghosts as DiskOf}
 use Rattle.acq_io.specs.declared.streams.Put.{Put}
 use Rattle.acq_io.specs.declared.streams.Put.TheVariants as put
 use Rattle.acq_words.specs.declared.request.UsageFault.{UsageFault}
@@ -115,24 +116,24 @@ print_large once file end held long is = record {
   large = (λ e. record { session = held; long = long }, λ other. is);
 }
 
-module _ {D : Type 0} (content : D → Option (List ℕ)) (may_leave : D → List ℕ → Type 0) (moment : D → ℕ) (left_since : D → ℕ → List ℕ → Type 0) where
-  pub print_ends : ReadOnce → (left written written' : Option (List ℕ)) (old new : D) (got : Result Ending Put) → Prints content may_leave moment left_since left written written' old new got → PrintEnds (content old) (ended_as got)
+module _ {D : Type 0} (disk : DiskOf D) where
+  pub print_ends : ReadOnce → (left written written' : Option (List ℕ)) (old new : D) (got : Result Ending Put) → Prints disk left written written' old new got → PrintEnds (disk.content old) (ended_as got)
   print_ends once left written written' old new (Err put.Failed) prints = λ file told. inl (inr (inl refl))
   print_ends once left written written' old new (Err put.Memory) prints = λ file told. inl (inr (inr (inr refl)))
   print_ends once left written written' old new (Ok end) (inl closed) = λ file told.
       ⊎_elim (λ broken. inl broken) (λ is. inr (print_closed once file end closed.fault (is.0, closed.why file told) is.1)) (closed_end written written' end closed.fault (untold closed.fault) refl closed.refuses)
   print_ends once left written written' old new (Ok end) (inr printed) = λ file told. go file told printed.prints
     where
-      held : (file : List ℕ) → content old ≡ Some file → HoldsSession file
+      held : (file : List ℕ) → disk.content old ≡ Some file → HoldsSession file
       held file told = record { plan = printed.plan; voc = printed.voc; events = printed.events; says = printed.says file told; lang = printed.lang; read = printed.read; places = printed.places }
 
       text : List ℕ
       text = cnf_text printed.lang (network_after printed.lang printed.plan printed.events)
 
-      by : (file : List ℕ) → content old ≡ Some file → (b : Bool) → nat_lt MOST_BYTES (length text) ≡ b → TellsClauses (cond b (Err cnf.TooLarge) (Ok text)) written written' (okay end) → IsBrokenOff end ⊎ PrintsExactly file end
+      by : (file : List ℕ) → disk.content old ≡ Some file → (b : Bool) → nat_lt MOST_BYTES (length text) ≡ b → TellsClauses (cond b (Err cnf.TooLarge) (Ok text)) written written' (okay end) → IsBrokenOff end ⊎ PrintsExactly file end
       by file told true long tells = inr (print_large once file end (held file told) (ltb-true MOST_BYTES (length text) long) tells.0)
       by file told false fits tells = inr (print_done once file end (held file told) (ltb-false MOST_BYTES (length text) fits) tells.0)
 
-      go : (file : List ℕ) → content old ≡ Some file → PrintsTo printed.lang (network_after printed.lang printed.plan printed.events) written written' (okay end) → IsBrokenOff end ⊎ PrintsExactly file end
+      go : (file : List ℕ) → disk.content old ≡ Some file → PrintsTo printed.lang (network_after printed.lang printed.plan printed.events) written written' (okay end) → IsBrokenOff end ⊎ PrintsExactly file end
       go file told (inl says) = by file told (nat_lt MOST_BYTES (length text)) refl says.tells
       go file told (inr none) = absurd (err_ok put.Memory end (sym none.0))

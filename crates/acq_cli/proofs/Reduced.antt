@@ -2,6 +2,7 @@
 use Rattle.std.proofs.Common.{◌≡◌, ◌⊎◌, ◌∙◌, ℕ, ◌<◌, List, [], length, Option, Some, Result, Ok, Err, refl, sym, ap, subst, inl, inr, ⊎_elim}
 use Rattle.std.specs.Prelude.{◌≢◌, IfOk}
 use Rattle.std.proofs.lemmas.Bool.{cases_order}
+use Rattle.disk_model.specs.declared.disk.Disk.{Ghosts as DiskOf}
 use Rattle.acq_io.specs.declared.streams.Put.{Put}
 use Rattle.acq_io.specs.declared.streams.Put.TheVariants as put
 use Rattle.answer_journal.specs.Unique.{spells_once}
@@ -146,18 +147,18 @@ reduce_spent once budget file end held n at is = record {
   );
 }
 
-module _ {D : Type 0} (content : D → Option (List ℕ)) (may_leave : D → List ℕ → Type 0) (moment : D → ℕ) (left_since : D → ℕ → List ℕ → Type 0) where
-  pub reduce_ends : ReadOnce → (budget : ℕ) (left written written' : Option (List ℕ)) (old new : D) (got : Result Ending Put) → Reduces content may_leave moment left_since budget left written written' old new got → ReduceEnds budget (content old) (ended_as got)
+module _ {D : Type 0} (disk : DiskOf D) where
+  pub reduce_ends : ReadOnce → (budget : ℕ) (left written written' : Option (List ℕ)) (old new : D) (got : Result Ending Put) → Reduces disk budget left written written' old new got → ReduceEnds budget (disk.content old) (ended_as got)
   reduce_ends once budget left written written' old new (Err put.Failed) reduces = λ file told. inl (inr (inl refl))
   reduce_ends once budget left written written' old new (Err put.Memory) reduces = λ file told. inl (inr (inr (inr refl)))
   reduce_ends once budget left written written' old new (Ok end) (inl closed) = λ file told.
       ⊎_elim (λ broken. inl broken) (λ is. inr (reduce_closed once budget file end closed.fault (is.0, closed.why file told) is.1)) (closed_end written written' end closed.fault (untold closed.fault) refl closed.refuses)
   reduce_ends once budget left written written' old new (Ok end) (inr reduced) = λ file told. go file told reduced.reduces
     where
-      held : (file : List ℕ) → content old ≡ Some file → HoldsSession file
+      held : (file : List ℕ) → disk.content old ≡ Some file → HoldsSession file
       held file told = record { plan = reduced.plan; voc = reduced.voc; events = reduced.events; says = reduced.says file told; lang = reduced.lang; read = reduced.read; places = reduced.places }
 
-      go : (file : List ℕ) → content old ≡ Some file → ReducesTo reduced.lang (network_after reduced.lang reduced.plan reduced.events) (standing_on reduced.lang reduced.events) budget written written' (okay end) →
+      go : (file : List ℕ) → disk.content old ≡ Some file → ReducesTo reduced.lang (network_after reduced.lang reduced.plan reduced.events) (standing_on reduced.lang reduced.events) budget written written' (okay end) →
           IsBrokenOff end ⊎ ReducesExactly budget file end
       go file told (inl part) = inr (reduce_done once budget file end (held file told) part.searched.decided part.tells.0)
       go file told (inr (inl spent)) = inr (reduce_spent once budget file end (held file told) spent.number spent.at spent.tells.0)

@@ -2,6 +2,7 @@
 use Rattle.std.proofs.Common.{◌≡◌, ◌⊎◌, ◌∙◌, ◌+◌, ℕ, Bool, true, false, cond, List, [], length, drop, Option, Some, Result, Ok, Err, refl, sym, ap, subst, inl, inr, ⊎_elim}
 use Rattle.std.specs.Prelude.{◌≢◌, IfOk, nat_le}
 use Rattle.std.proofs.lemmas.Bool.{leb-false}
+use Rattle.disk_model.specs.declared.disk.Disk.{Ghosts as DiskOf}
 use Rattle.acq_io.specs.Whole.{Gives, all_of, gathered}
 use Rattle.acq_io.specs.declared.streams.Put.{Put}
 use Rattle.acq_io.specs.declared.streams.Put.TheVariants as put
@@ -149,8 +150,8 @@ long_refused l network bytes is = go (nat_le (length bytes) 4194304) refl is
     go true which e = absurd (fine_long bytes e)
     go false which e = long_model l network bytes (leb-false (length bytes) 4194304 which)
 
-module _ {D : Type 0} (content : D → Option (List ℕ)) (may_leave : D → List ℕ → Type 0) (moment : D → ℕ) (left_since : D → ℕ → List ℕ → Type 0) where
-  pub solve_ends : ReadOnce → (left written left' written' : Option (List ℕ)) (old new : D) (got : Result Ending Put) → Solves content may_leave moment left_since left written left' written' old new got → SolveEnds left (content old) (ended_as got)
+module _ {D : Type 0} (disk : DiskOf D) where
+  pub solve_ends : ReadOnce → (left written left' written' : Option (List ℕ)) (old new : D) (got : Result Ending Put) → Solves disk left written left' written' old new got → SolveEnds left (disk.content old) (ended_as got)
   solve_ends once left written left' written' old new (Err put.Failed) solves = λ bytes from file told. inl (inr (inl refl))
   solve_ends once left written left' written' old new (Err put.Memory) solves = λ bytes from file told. inl (inr (inr (inr refl)))
   solve_ends once left written left' written' old new (Ok end) (inl closed) = λ bytes from file told.
@@ -163,19 +164,19 @@ module _ {D : Type 0} (content : D → Option (List ℕ)) (may_leave : D → Lis
       network : List Candidate
       network = network_after l solved.plan solved.events
 
-      held : (file : List ℕ) → content old ≡ Some file → HoldsSession file
+      held : (file : List ℕ) → disk.content old ≡ Some file → HoldsSession file
       held file told = record { plan = solved.plan; voc = solved.voc; events = solved.events; says = solved.says file told; lang = l; read = solved.read; places = solved.places }
 
-      by : (bytes file : List ℕ) → content old ≡ Some file → (r : Result Assignment ModelFault) → model_of l network bytes ≡ r → TellsSolution l r written written' (okay end) → IsBrokenOff end ⊎ SolvesExactly bytes file end
+      by : (bytes file : List ℕ) → disk.content old ≡ Some file → (r : Result Assignment ModelFault) → model_of l network bytes ≡ r → TellsSolution l r written written' (okay end) → IsBrokenOff end ⊎ SolvesExactly bytes file end
       by bytes file told (Ok e) is tells = inr (solve_done once bytes file end (held file told) e is tells.0)
       by bytes file told (Err fault) is tells = inr (solve_refused once bytes file end (held file told) fault is tells.0)
 
-      read : (bytes file : List ℕ) → left ≡ Some bytes → content old ≡ Some file → (got : List ℕ) → Gives (all_of 4194304) left left' (fine got) → TellsSolution l (model_of l network got) written written' (okay end) → IsBrokenOff end ⊎ SolvesExactly bytes file end
+      read : (bytes file : List ℕ) → left ≡ Some bytes → disk.content old ≡ Some file → (got : List ℕ) → Gives (all_of 4194304) left left' (fine got) → TellsSolution l (model_of l network got) written written' (okay end) → IsBrokenOff end ⊎ SolvesExactly bytes file end
       read bytes file from told got gives tells =
           let whole : bytes ≡ got = whole_of bytes got (gives_got (all_of 4194304) left left' (fine got) bytes gives from) in
           by bytes file told (model_of l network got) (ap (model_of l network) whole) tells
 
-      go : (bytes : List ℕ) → left ≡ Some bytes → (file : List ℕ) → content old ≡ Some file → SolvesTo l network left written left' written' (okay end) → IsBrokenOff end ⊎ SolvesExactly bytes file end
+      go : (bytes : List ℕ) → left ≡ Some bytes → (file : List ℕ) → disk.content old ≡ Some file → SolvesTo l network left written left' written' (okay end) → IsBrokenOff end ⊎ SolvesExactly bytes file end
       go bytes from file told (inl whole) = ⊎_elim (λ tells. read bytes file from told whole.bytes whole.gives tells) (λ none. absurd (err_ok put.Memory end (sym none.0))) whole.tells
       go bytes from file told (inr (inl long)) =
           inr (solve_refused once bytes file end (held file told) model.TooLong (long_refused l network bytes (gives_got (all_of 4194304) left left' long_one bytes long.0 from)) long.1.0)

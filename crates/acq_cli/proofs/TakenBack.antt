@@ -2,6 +2,7 @@
 use Rattle.std.proofs.Common.{◌≡◌, ◌⊎◌, ◌∙◌, ℕ, ◌+◌, ◌<◌, ◌≤◌, List, [], ◌∷◌, ◌++◌, length, Option, Some, Result, Ok, Err, refl, sym, ap, subst, inl, inr, ⊎_elim, arith}
 use Rattle.std.specs.Prelude.{◌≢◌, IfOk, IsSome}
 use Rattle.std.specs.Option.{ForSome}
+use Rattle.disk_model.specs.declared.disk.Disk.{Ghosts as DiskOf}
 use Rattle.acq_io.specs.declared.streams.Put.{Put}
 use Rattle.acq_io.specs.declared.streams.Put.TheVariants as put
 use Rattle.answer_journal.specs.Unique.{spells_once}
@@ -10,10 +11,10 @@ use Rattle.assign.specs.Events.{standing}
 use Rattle.assign.specs.declared.events.Event.{Event}
 use Rattle.assign.specs.declared.events.Event.TheVariants as event
 use Rattle.assign.specs.declared.events.Plan.{Plan}
-use Rattle.disk_model.specs.Disk.{LeavesOnly}
-use Rattle.disk_model.specs.Moments.{joined, weaker}
+use Rattle.disk_model.specs.Moments.{LeavesOnly, joined, weaker}
 use Rattle.language.specs.Answers.{standing_on}
-use Rattle.session_store.specs.Keeping.{Persists, FailsWith, both_as, within_more}
+use Rattle.session_store.specs.Keeping.{Persists, FailsWith}
+use Rattle.session_store.proofs.Keepers.{both_as, within_more}
 use Rattle.session_store.specs.Left.{OpensWithin, OpensWithOrWithout, bytes_told}
 use Rattle.session_store.specs.declared.fault.SFault.{SFault}
 use Rattle.acq_cli.specs.Exactly.{HoldsSession, IsBrokenOff, OpensExactly, RefusesOpening}
@@ -74,32 +75,32 @@ back_same : (m : ℕ) (events later : List Event) (written written' : Option (Li
 back_same m events later written written' got (inl (is, tells)) failed = absurd (done_kept (taken_text m) written written' got tells failed)
 back_same m events later written written' got (inr (same, silent, rest)) failed = same
 
-module _ {D : Type 0} (content : D → Option (List ℕ)) (may_leave : D → List ℕ → Type 0) (moment : D → ℕ) (left_since : D → ℕ → List ℕ → Type 0) where
+module _ {D : Type 0} (disk : DiskOf D) where
   -- what a crash leaves of a take-back, of what the keeper's call left
   pub leaves_back : (plan : Plan) (voc : List ℕ) (m : ℕ) (events later : List Event) (written written' : Option (List ℕ)) (put : Option Assignment) (first old new : D) (got : Result Ending Put) →
-      content old ≡ content first → LeavesOnly moment left_since first old (may_leave first) → EndsBack m events later written written' got → ForSome (content old) (λ _. IsSome (content new)) →
-      ((got ≡ okay ending.DiskFault → ⊥) → ForSome (content old) (λ _. Persists content may_leave moment left_since plan voc events later old new)) →
-      (got ≡ okay ending.DiskFault → FailsWith content may_leave moment left_since plan voc events later put (λ lost. lost ≡ event.Back) old new) →
-      LeavesBack content may_leave moment left_since plan voc events later first new got
+      disk.content old ≡ disk.content first → LeavesOnly disk first old (disk.may_leave first) → EndsBack m events later written written' got → ForSome (disk.content old) (λ _. IsSome (disk.content new)) →
+      ((got ≡ okay ending.DiskFault → ⊥) → ForSome (disk.content old) (λ _. Persists disk plan voc events later old new)) →
+      (got ≡ okay ending.DiskFault → FailsWith disk plan voc events later put (λ lost. lost ≡ event.Back) old new) →
+      LeavesBack disk plan voc events later first new got
   leaves_back plan voc m events later written written' put first old new got still opening ends on persists fails =
       let more : List Event = events ++ event.Back ∷ [] in
       let Within : List ℕ → Type 0 = OpensWithin plan voc events more in
-      let joins : (bytes : List ℕ) → content first ≡ Some bytes → LeavesOnly moment left_since old new Within → LeavesOnly moment left_since first new (λ c. may_leave first c ⊎ Within c) =
-      λ bytes told any. joined moment left_since first old new (may_leave first) Within (λ c. may_leave first c ⊎ Within c) opening any (λ c was. inl was) (λ c opens. inr opens) in
+      let joins : (bytes : List ℕ) → disk.content first ≡ Some bytes → LeavesOnly disk old new Within → LeavesOnly disk first new (λ c. disk.may_leave first c ⊎ Within c) =
+      λ bytes told any. joined disk first old new (disk.may_leave first) Within (λ c. disk.may_leave first c ⊎ Within c) opening any (λ c was. inl was) (λ c opens. inr opens) in
       record {
         any_moment = λ bytes told.
             ⊎_elim
             (λ is.
             let f = fails is in
-            let As : List Event → Event → Type 0 = λ es e. LeavesOnly moment left_since old new (OpensWithin plan voc events (es ++ e ∷ [])) in
+            let As : List Event → Event → Type 0 = λ es e. LeavesOnly disk old new (OpensWithin plan voc events (es ++ e ∷ [])) in
             joins bytes told (both_as As later events f.event event.Back (back_same m events later written written' got ends is) f.lost (f.any_moment bytes (still ∙ told))))
-            (λ no. joins bytes told (weaker moment left_since old new (OpensWithin plan voc events later) Within (persists no bytes (still ∙ told)).any_moment (λ c w. grows ends c w)))
+            (λ no. joins bytes told (weaker disk old new (OpensWithin plan voc events later) Within (persists no bytes (still ∙ told)).any_moment (λ c w. grows ends c w)))
             (disk_failed got);
         now = λ no bytes told. (persists no bytes (still ∙ told)).now;
         failed = λ is bytes told.
             let f = fails is in
-            let t = bytes_told (content new) (on bytes (still ∙ told)) in
-            let As : List Event → Event → Type 0 = λ es e. (c : List ℕ) → may_leave new c → OpensWithOrWithout plan voc es e c in
+            let t = bytes_told (disk.content new) (on bytes (still ∙ told)) in
+            let As : List Event → Event → Type 0 = λ es e. (c : List ℕ) → disk.may_leave new c → OpensWithOrWithout plan voc es e c in
             record { bytes = t.0; tells = t.1; each = both_as As later events f.event event.Back (back_same m events later written written' got ends is) f.lost (f.now bytes (still ∙ told)) };
       }
     where
@@ -155,11 +156,11 @@ back_done once file end held some room is = record {
   done = (λ e. record { session = held; some = some; room = room }, λ other. is);
 }
 
-module _ {D : Type 0} (content : D → Option (List ℕ)) (may_leave : D → List ℕ → Type 0) (moment : D → ℕ) (left_since : D → ℕ → List ℕ → Type 0) where
-  held_by : (old new : D) (file : List ℕ) → IsOpened content may_leave moment left_since old new → content old ≡ Some file → HoldsSession file
+module _ {D : Type 0} (disk : DiskOf D) where
+  held_by : (old new : D) (file : List ℕ) → IsOpened disk old new → disk.content old ≡ Some file → HoldsSession file
   held_by old new file opened told = record { plan = opened.plan; voc = opened.voc; events = opened.events; says = opened.says file told; lang = opened.lang; read = opened.read; places = opened.places }
 
-  pub back_ends : ReadOnce → (left written written' : Option (List ℕ)) (old new : D) (got : Result Ending Put) → TakesBack content may_leave moment left_since left written written' old new got → BackEnds (content old) (ended_as got)
+  pub back_ends : ReadOnce → (left written written' : Option (List ℕ)) (old new : D) (got : Result Ending Put) → TakesBack disk left written written' old new got → BackEnds (disk.content old) (ended_as got)
   unfolding held_by
   back_ends once left written written' old new (Err put.Failed) backs = λ file told. inl (inr (inl refl))
   back_ends once left written written' old new (Err put.Memory) backs = λ file told. inl (inr (inr (inr refl)))
@@ -171,7 +172,7 @@ module _ {D : Type 0} (content : D → Option (List ℕ)) (may_leave : D → Lis
       inr (back_full once file end (held_by old new file full.opened told) full.some full.full full.tells.0)
   back_ends once left written written' old new (Ok end) (inr (inr (inr taken))) = λ file told. go file told taken.ends
     where
-      go : (file : List ℕ) → content old ≡ Some file → EndsBack (length (standing_on taken.lang taken.events)) taken.events taken.later written written' (okay end) → IsBrokenOff end ⊎ BacksExactly file end
+      go : (file : List ℕ) → disk.content old ≡ Some file → EndsBack (length (standing_on taken.lang taken.events)) taken.events taken.later written written' (okay end) → IsBrokenOff end ⊎ BacksExactly file end
       go file told (inl (is, tells)) =
           let held : HoldsSession file = record { plan = taken.plan; voc = taken.voc; events = taken.events; says = taken.says file told; lang = taken.lang; read = taken.read; places = taken.places } in
           inr (back_done once file end held taken.some taken.room tells.0)

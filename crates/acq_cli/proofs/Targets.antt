@@ -25,6 +25,7 @@ use Rattle.language.specs.Answers.{IsNetwork, agrees, standing_on}
 use Rattle.network.specs.Target.{network_of, network_in, json_of}
 use Rattle.network.specs.Answers.{then_on}
 use Rattle.std.specs.Option.{ok_or}
+use Rattle.disk_model.specs.declared.disk.Disk.{Ghosts as DiskOf}
 use Rattle.network.specs.declared.fault.NetFault.{NetFault}
 use Rattle.network.specs.declared.fault.NetFault.TheVariants as net
 use Rattle.session_store.specs.declared.fault.SFault.{SFault}
@@ -355,8 +356,8 @@ play_on once bytes file end held target fresh reads no_journal no_stale no_targe
   refused = λ g. (λ e. absurd (no_target g e), λ holds. absurd (okay_refusing target g (sym reads ∙ must_be bytes file held g holds)));
 }
 
-module _ {D : Type 0} (content : D → Option (List ℕ)) (may_leave : D → List ℕ → Type 0) (moment : D → ℕ) (left_since : D → ℕ → List ℕ → Type 0) where
-  abbrev held_by : (old new : D) (file : List ℕ) → IsOpened content may_leave moment left_since old new → content old ≡ Some file → HoldsSession file
+module _ {D : Type 0} (disk : DiskOf D) where
+  abbrev held_by : (old new : D) (file : List ℕ) → IsOpened disk old new → disk.content old ≡ Some file → HoldsSession file
   held_by old new file opened told = record { plan = opened.plan; voc = opened.voc; events = opened.events; says = opened.says file told; lang = opened.lang; read = opened.read; places = opened.places }
 
   lacks_so : ReadOnce → (left written left' written' : Option (List ℕ)) (bytes file : List ℕ) (end : Ending) (held : HoldsSession file) → standing_on held.lang held.events ≡ [] → left ≡ Some bytes →
@@ -365,7 +366,7 @@ module _ {D : Type 0} (content : D → Option (List ℕ)) (may_leave : D → Lis
   lacks_so once left written left' written' bytes file end held fresh from without.ReadFault lacks ends = inl (inl (same_ok end ending.ReadFault ends.0))
   lacks_so once left written left' written' bytes file end held fresh from without.Memory lacks ends = absurd (err_ok put.Memory end (sym ends.0))
 
-  pub play_ends : ReadOnce → (budget : ℕ) (left written left' written' : Option (List ℕ)) (old new : D) (got : Result Ending Put) → PlaysOn content may_leave moment left_since budget left written left' written' old new got → PlayEnds left (content old) (ended_as got)
+  pub play_ends : ReadOnce → (budget : ℕ) (left written left' written' : Option (List ℕ)) (old new : D) (got : Result Ending Put) → PlaysOn disk budget left written left' written' old new got → PlayEnds left (disk.content old) (ended_as got)
   play_ends once budget left written left' written' old new (Err put.Failed) plays = λ bytes from file told. inl (inr (inl refl))
   play_ends once budget left written left' written' old new (Err put.Memory) plays = λ bytes from file told. inl (inr (inr (inr refl)))
   play_ends once budget left written left' written' old new (Ok end) (inl closed) = λ bytes from file told.
@@ -383,17 +384,17 @@ module _ {D : Type 0} (content : D → Option (List ℕ)) (may_leave : D → Lis
       (λ m e. not_loops on.tries.how (ending.NotFresh m) (on.tries.is ∙ ap okay e) refl)
       (λ f e. not_loops on.tries.how (ending.TargetRefused f) (on.tries.is ∙ ap okay e) refl))
 
-  pub ends_exactly : ReadOnce → (asked : Result Command UsageFault) (left written left' written' : Option (List ℕ)) (old new : D) (got : Result Ending Put) → Does content may_leave moment left_since asked left written left' written' old new got →
-      EndsExactly asked left (content old) (ended_as got)
-  ends_exactly once (Ok (command.New plan)) left written left' written' old new got does = new_ends content may_leave moment left_since plan left written left' written' old new got does
-  ends_exactly once (Ok (command.Run budget)) left written left' written' old new got does = run_ends content may_leave moment left_since once budget left written left' written' old new got does
+  pub ends_exactly : ReadOnce → (asked : Result Command UsageFault) (left written left' written' : Option (List ℕ)) (old new : D) (got : Result Ending Put) → Does disk asked left written left' written' old new got →
+      EndsExactly asked left (disk.content old) (ended_as got)
+  ends_exactly once (Ok (command.New plan)) left written left' written' old new got does = new_ends disk plan left written left' written' old new got does
+  ends_exactly once (Ok (command.Run budget)) left written left' written' old new got does = run_ends disk once budget left written left' written' old new got does
   ends_exactly once (Ok (command.Play budget)) left written left' written' old new got does = play_ends once budget left written left' written' old new got does
-  ends_exactly once (Ok command.Show) left written left' written' old new got does = show_ends content may_leave moment left_since once left written written' old new got does
-  ends_exactly once (Ok command.Back) left written left' written' old new got does = back_ends content may_leave moment left_since once left written written' old new got does
-  ends_exactly once (Ok (command.Reduce budget)) left written left' written' old new got does = reduce_ends content may_leave moment left_since once budget left written written' old new got does
-  ends_exactly once (Ok command.Cnf) left written left' written' old new got does = print_ends content may_leave moment left_since once left written written' old new got does
-  ends_exactly once (Ok command.Model) left written left' written' old new got does = solve_ends content may_leave moment left_since once left written left' written' old new got does
-  ends_exactly once (Ok (command.Certify budget)) left written left' written' old new got does = certify_ends content may_leave moment left_since once budget left written written' old new got does
+  ends_exactly once (Ok command.Show) left written left' written' old new got does = show_ends disk once left written written' old new got does
+  ends_exactly once (Ok command.Back) left written left' written' old new got does = back_ends disk once left written written' old new got does
+  ends_exactly once (Ok (command.Reduce budget)) left written left' written' old new got does = reduce_ends disk once budget left written written' old new got does
+  ends_exactly once (Ok command.Cnf) left written left' written' old new got does = print_ends disk once left written written' old new got does
+  ends_exactly once (Ok command.Model) left written left' written' old new got does = solve_ends disk once left written left' written' old new got does
+  ends_exactly once (Ok (command.Certify budget)) left written left' written' old new got does = certify_ends disk once budget left written written' old new got does
   ends_exactly once (Ok command.Check) left written left' written' old new got does = confirm_ends left written left' written' got does
   ends_exactly once (Ok (command.Try plan budget)) left written left' written' old new got does = tt
   ends_exactly once (Ok (command.Demo number budget)) left written left' written' old new got does = tt

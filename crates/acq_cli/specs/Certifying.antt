@@ -2,6 +2,7 @@
 use Rattle.std.specs.Prelude.{◌≡◌, ◌⊎◌, ◌↔◌, ◌++◌, ◌∷◌, [], ℕ, Bool, true, false, List, length, Option, Some, Result, Ok, Err, codes}
 use Rattle.std.specs.Fmt.{decimal}
 use Rattle.std.specs.Option.{ForSome}
+use Rattle.disk_model.specs.declared.disk.Disk.{Ghosts as DiskOf}
 use Rattle.acq_io.specs.declared.streams.Put.{Put}
 use Rattle.acq_io.specs.declared.streams.Put.TheVariants as put
 use Rattle.assign.specs.Events.{Answer}
@@ -10,7 +11,7 @@ use Rattle.assign.specs.declared.events.Plan.{Plan}
 use Rattle.cert_check.specs.Making.{made}
 use Rattle.cert_check.specs.Texts.{make_fault_line}
 use Rattle.cert_check.specs.declared.fault.MakeFault.{MakeFault}
-use Rattle.disk_model.specs.Disk.{LeavesOnly}
+use Rattle.disk_model.specs.Moments.{LeavesOnly}
 use Rattle.language.specs.Language.{Language}
 use Rattle.language.specs.Answers.{standing_on}
 use Rattle.session_store.specs.Left.{SaysSession}
@@ -66,23 +67,23 @@ CertifiesTo l plan voc events budget written written' got =
 -- ---- The command
 
 -- the meanings of a disk
-module _ {D : Type 0} (content : D → Option (List ℕ)) (may_leave : D → List ℕ → Type 0) (moment : D → ℕ) (left_since : D → ℕ → List ℕ → Type 0) where
+module _ {D : Type 0} (disk : DiskOf D) where
   -- The session of a journal is certified, or isn't: that of its bytes, where the disk tells them. The disk holds what it held.
   pub record IsToldOf (budget : ℕ) (written written' : Option (List ℕ)) (old new : D) (got : Result Ending Put) : Type 0 where
     pub plan : Plan
     pub voc : List ℕ
     pub events : List Event
-    pub says : ForSome (content old) (λ bytes. SaysSession bytes plan voc events)
+    pub says : ForSome (disk.content old) (λ bytes. SaysSession bytes plan voc events)
     pub lang : Language
     pub read : IsVocabulary voc lang
     pub places : HavePlaces lang plan events
     pub certifies : CertifiesTo lang plan voc events budget written written' got
-    pub same : content new ≡ content old
-    pub any_moment : LeavesOnly moment left_since old new (may_leave old)
+    pub same : disk.content new ≡ disk.content old
+    pub any_moment : LeavesOnly disk old new (disk.may_leave old)
 
   abbrev pub Certifies : ℕ → (left written written' : Option (List ℕ)) → D → D → Result Ending Put → Type 0
   Certifies budget left written written' old new got =
-      StaysClosed content may_leave moment left_since left written left written' old new got ⊎ IsToldOf budget written written' old new got
+      StaysClosed disk left written left written' old new got ⊎ IsToldOf budget written written' old new got
 
 -- ---- Exactly when
 

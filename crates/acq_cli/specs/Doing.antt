@@ -1,5 +1,6 @@
 -- What the program has done, by what the words ask for.
 use Rattle.std.specs.Prelude.{ℕ, List, Option, Result, Ok, Err}
+use Rattle.disk_model.specs.declared.disk.Disk.{Ghosts as DiskOf}
 use Rattle.acq_io.specs.declared.streams.Put.{Put}
 use Rattle.acq_words.specs.declared.request.Command.{Command}
 use Rattle.acq_words.specs.declared.request.Command.TheVariants as command
@@ -24,19 +25,19 @@ use Rattle.acq_cli.specs.declared.ending.Ending.{Ending}
 use Rattle.acq_cli.specs.declared.ending.Ending.TheVariants as ending
 
 -- the meanings of a disk
-module _ {D : Type 0} (content : D → Option (List ℕ)) (may_leave : D → List ℕ → Type 0) (moment : D → ℕ) (left_since : D → ℕ → List ℕ → Type 0) where
+module _ {D : Type 0} (disk : DiskOf D) where
   -- each command has what it does in a file of its own; refused words are told by the usage line
   abbrev pub Does : Result Command UsageFault → (left written left' written' : Option (List ℕ)) → (old new : D) → Result Ending Put → Type 0
-  Does (Ok (command.New plan)) left written left' written' old new got = News content may_leave moment left_since plan left written left' written' old new got
-  Does (Ok (command.Run budget)) left written left' written' old new got = RunsOn content may_leave moment left_since budget left written left' written' old new got
+  Does (Ok (command.New plan)) left written left' written' old new got = News disk plan left written left' written' old new got
+  Does (Ok (command.Run budget)) left written left' written' old new got = RunsOn disk budget left written left' written' old new got
   Does (Ok (command.Try plan budget)) left written left' written' old new got = Acquires (terms_with plan budget) left written left' written' (ended_as got)
-  Does (Ok (command.Play budget)) left written left' written' old new got = PlaysOn content may_leave moment left_since budget left written left' written' old new got
-  Does (Ok command.Show) left written left' written' old new got = Shows content may_leave moment left_since left written written' old new got
-  Does (Ok command.Back) left written left' written' old new got = TakesBack content may_leave moment left_since left written written' old new got
+  Does (Ok (command.Play budget)) left written left' written' old new got = PlaysOn disk budget left written left' written' old new got
+  Does (Ok command.Show) left written left' written' old new got = Shows disk left written written' old new got
+  Does (Ok command.Back) left written left' written' old new got = TakesBack disk left written written' old new got
   Does (Ok (command.Demo number budget)) left written left' written' old new got = Demos number budget written written' got
-  Does (Ok (command.Reduce budget)) left written left' written' old new got = Reduces content may_leave moment left_since budget left written written' old new got
-  Does (Ok command.Cnf) left written left' written' old new got = Prints content may_leave moment left_since left written written' old new got
-  Does (Ok command.Model) left written left' written' old new got = Solves content may_leave moment left_since left written left' written' old new got
-  Does (Ok (command.Certify budget)) left written left' written' old new got = Certifies content may_leave moment left_since budget left written written' old new got
+  Does (Ok (command.Reduce budget)) left written left' written' old new got = Reduces disk budget left written written' old new got
+  Does (Ok command.Cnf) left written left' written' old new got = Prints disk left written written' old new got
+  Does (Ok command.Model) left written left' written' old new got = Solves disk left written left' written' old new got
+  Does (Ok (command.Certify budget)) left written left' written' old new got = Certifies disk budget left written written' old new got
   Does (Ok command.Check) left written left' written' old new got = Confirms left written left' written' got
   Does (Err fault) left written left' written' old new got = EndsWith (ending.Usage fault) usage_text written written' got

@@ -12,8 +12,8 @@ use Rattle.acq_cli.specs.Driven.{IsDone, IsCollapsed, IsLeftOpen}
 use Rattle.acq_cli.specs.declared.terms.Terms.{Terms}
 use Rattle.acq_cli.specs.declared.driving.Drove.{Drove}
 use Rattle.acq_cli.specs.declared.driving.Drove.TheVariants as drove
-use Rattle.acq_cli.specs.declared.driving.Upcoming.{Upcoming}
-use Rattle.acq_cli.specs.declared.driving.Upcoming.TheVariants as next
+use Rattle.acq_cli.specs.declared.next.Upcoming.{Upcoming}
+use Rattle.acq_cli.specs.declared.next.Upcoming.TheVariants as next
 
 -- this question comes next
 pub record IsDue (l : Language) (terms : Terms) (t : List Answer) (q : Assignment) : Type 0 where

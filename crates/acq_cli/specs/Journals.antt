@@ -2,10 +2,11 @@
 use Rattle.std.specs.Prelude.{◌≡◌, ℕ, List, [], ◌∷◌, ◌++◌, Option, Some, None, Result, Ok, Err, codes}
 use Rattle.std.specs.Fmt.{decimal}
 use Rattle.std.specs.Option.{ForSome}
+use Rattle.disk_model.specs.declared.disk.Disk.{Ghosts as DiskOf}
 use Rattle.acq_io.specs.Streams.{Adds, AddsFront}
 use Rattle.acq_io.specs.declared.streams.Put.{Put}
 use Rattle.answer_journal.specs.declared.fault.JFault.{JFault}
-use Rattle.disk_model.specs.Disk.{LeavesOnly}
+use Rattle.disk_model.specs.Moments.{LeavesOnly}
 use Rattle.session_store.specs.Opening.{NotOpened}
 use Rattle.session_store.specs.declared.fault.SFault.{SFault}
 use Rattle.voc_read.specs.FaultTexts.{fault_text}
@@ -74,12 +75,12 @@ Refuses fault written written' got = EndsUntold (untold fault) fault written wri
 -- ---- A journal that isn't opened
 
 -- the meanings of a disk
-module _ {D : Type 0} (content : D → Option (List ℕ)) (may_leave : D → List ℕ → Type 0) (moment : D → ℕ) (left_since : D → ℕ → List ℕ → Type 0) where
+module _ {D : Type 0} (disk : DiskOf D) where
   -- The journal wasn't opened, for what its bytes say where the disk tells them. The disk holds what it held.
   pub record StaysClosed (left written left' written' : Option (List ℕ)) (old new : D) (got : Result Ending Put) : Type 0 where
     pub fault : SFault
-    pub why : ForSome (content old) (λ bytes. NotOpened bytes fault)
+    pub why : ForSome (disk.content old) (λ bytes. NotOpened bytes fault)
     pub refuses : Refuses fault written written' got
     pub unread : left' ≡ left
-    pub same : content new ≡ content old
-    pub any_moment : LeavesOnly moment left_since old new (may_leave old)
+    pub same : disk.content new ≡ disk.content old
+    pub any_moment : LeavesOnly disk old new (disk.may_leave old)

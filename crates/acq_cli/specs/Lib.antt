@@ -4,6 +4,7 @@ pub mod Closings
 pub mod Driven
 pub mod Added
 pub mod Due
+pub mod Heard
 pub mod Points
 pub mod Loop
 pub mod Texts

@@ -1,4 +1,4 @@
--- What a turn and the loop begin with, how they go on and end, and what stays the same.
+-- What a turn and the loop begin with, and how they go on and end.
 use Rattle.std.specs.Prelude.{◌≡◌, ◌≤◌, ◌<◌, ◌+◌, ℕ, IsTrue, Bool, List, length, Option, Some}
 use Rattle.acq_io.specs.Streams.{HasCalled, Rose, TakesSome}
 use Rattle.acq_words.specs.Request.{IsBudget}
@@ -86,32 +86,3 @@ pub record EndsAs (turns : Turns) (l : Language) (terms : Terms) (old new : Poin
   pub ends : Drives turns l terms old new how
   pub tells : TellsCandidates l terms (standing_on l new.events) marks how
   pub full : TellsFull l terms new.events how
-
--- ---- what stays the same
-
--- the meanings of a keeper
-module _ {K D : Type 0} (lang_of : K → Language) (plan_of : K → Plan) (voc_of : K → List ℕ) (events_of : K → List Event) (writes_of live_of : K → Bool) (is_sound : K → Type 0) (fits_disk : K → D → Type 0) where
-  -- nothing of it has changed but the question that is put
-  pub record OnlyPuts (old new : K) : Type 0 where
-    pub lang : lang_of new ≡ lang_of old
-    pub plan : plan_of new ≡ plan_of old
-    pub voc : voc_of new ≡ voc_of old
-    pub events : events_of new ≡ events_of old
-    pub writes : writes_of new ≡ writes_of old
-    pub live : live_of new ≡ live_of old
-    pub sound : is_sound new
-    pub sits : (disk : D) → fits_disk old disk → fits_disk new disk
-
-module _ {K D : Type 0} (is_sound : K → Type 0) (live_of : K → Bool) (fits_disk : K → D → Type 0) where
-  -- its session is there, an event may be added, and it and the disk belong together
-  pub record IsKeeping (keep : K) (disk : D) : Type 0 where
-    pub sound : is_sound keep
-    pub live : IsTrue (live_of keep)
-    pub sits : fits_disk keep disk
-
-module _ {K : Type 0} (lang_of : K → Language) (plan_of : K → Plan) (is_sound : K → Type 0) where
-  -- it keeps a session of the same language and plan
-  pub record IsSameSession (old new : K) : Type 0 where
-    pub lang : lang_of new ≡ lang_of old
-    pub plan : plan_of new ≡ plan_of old
-    pub sound : is_sound new

@@ -2,14 +2,14 @@
 use Rattle.std.specs.Prelude.{◌≡◌, ◌⊎◌, ℕ, List, [], ◌∷◌, ◌++◌, length, Option, Some, Result, Ok, Err, IsSome, codes}
 use Rattle.std.specs.Fmt.{decimal}
 use Rattle.std.specs.Option.{ForSome}
+use Rattle.disk_model.specs.declared.disk.Disk.{Ghosts as DiskOf}
 use Rattle.acq_io.specs.Whole.{Gives, all_of}
 use Rattle.acq_io.specs.declared.streams.Put.{Put}
 use Rattle.voc_read.specs.declared.fault.VocFault.{VocFault}
 use Rattle.answer_journal.specs.Journal.{HasNoSession}
 use Rattle.answer_journal.specs.Making.{IsCreating}
-use Rattle.answer_journal.specs.Steps.{IsOnlyRead}
+use Rattle.disk_model.specs.Moments.{IsOnlyRead, LeavesOnly}
 use Rattle.assign.specs.declared.events.Plan.{Plan}
-use Rattle.disk_model.specs.Disk.{LeavesOnly}
 use Rattle.language.specs.Language.{Language, variable_count, candidates}
 use Rattle.session_store.specs.Left.{OpensWith, LeavesNow}
 use Rattle.session_store.specs.Opening.{NotMade}
@@ -36,28 +36,28 @@ RefusesMaking (store.Voc f) written written' got = EndsWith (ending.VocRefused f
 RefusesMaking (store.Stray i) written written' got = Refuses (store.Stray i) written written' got
 RefusesMaking store.Memory written written' got = Refuses store.Memory written written' got
 
-module _ {D : Type 0} (content : D → Option (List ℕ)) (may_leave : D → List ℕ → Type 0) (moment : D → ℕ) (left_since : D → ℕ → List ℕ → Type 0) where
+module _ {D : Type 0} (disk : DiskOf D) where
   -- The journal is made, and a crash leaves nothing else, whether or not that could be said.
   pub record IsMade (plan : Plan) (voc : List ℕ) (written written' : Option (List ℕ)) (old new : D) (got : Result Ending Put) : Type 0 where
-    pub free : ForSome (content old) HasNoSession
+    pub free : ForSome (disk.content old) HasNoSession
     pub lang : Language
     pub read : IsVocabulary voc lang
     pub tells : EndsWith ending.Done (created_text lang) written written' got
-    pub now : ForSome (content old) (λ _. LeavesNow content may_leave (OpensWith plan voc []) new)
-    pub any_moment : ForSome (content old) (λ _. LeavesOnly moment left_since old new (IsCreating (may_leave old) plan voc))
+    pub now : ForSome (disk.content old) (λ _. LeavesNow disk (OpensWith plan voc []) new)
+    pub any_moment : ForSome (disk.content old) (λ _. LeavesOnly disk old new (IsCreating (disk.may_leave old) plan voc))
 
   -- It isn't, and what was written is why.
   pub record IsNotMade (plan : Plan) (voc : List ℕ) (written written' : Option (List ℕ)) (old new : D) (got : Result Ending Put) : Type 0 where
     pub fault : SFault
-    pub why : ForSome (content old) (λ bytes. NotMade voc bytes fault)
+    pub why : ForSome (disk.content old) (λ bytes. NotMade voc bytes fault)
     -- a vocabulary is refused for what it says, before the disk is touched
     pub unread : (f : VocFault) → fault ≡ store.Voc f → (refusal_of_vocabulary voc ≡ Some f) × (new ≡ old)
     pub refuses : RefusesMaking fault written written' got
     -- the file and each content of a crash are as they were, but where the disk failed over a file that had no session
-    pub untouched : (fault ≡ store.Journal journal.DiskFault) ⊎ IsOnlyRead content may_leave moment left_since old new
-    pub spared : ForSome (content old) (λ bytes. HasNoSession bytes ⊎ IsOnlyRead content may_leave moment left_since old new)
-    pub told : ForSome (content old) (λ _. IsSome (content new))
-    pub any_moment : ForSome (content old) (λ _. LeavesOnly moment left_since old new (IsCreating (may_leave old) plan voc))
+    pub untouched : (fault ≡ store.Journal journal.DiskFault) ⊎ IsOnlyRead disk old new
+    pub spared : ForSome (disk.content old) (λ bytes. HasNoSession bytes ⊎ IsOnlyRead disk old new)
+    pub told : ForSome (disk.content old) (λ _. IsSome (disk.content new))
+    pub any_moment : ForSome (disk.content old) (λ _. LeavesOnly disk old new (IsCreating (disk.may_leave old) plan voc))
 
   abbrev pub Makes : Plan → List ℕ → (written written' : Option (List ℕ)) → D → D → Result Ending Put → Type 0
   Makes plan voc written written' old new got = IsMade plan voc written written' old new got ⊎ IsNotMade plan voc written written' old new got

@@ -1,13 +1,14 @@
 -- What `play` has done.
 use Rattle.std.specs.Prelude.{◌≡◌, ◌⊎◌, ◌↔◌, ◌≤◌, ℕ, false, IsTrue, List, [], length, Option, Result, Ok, Err, IfOk}
 use Rattle.std.specs.Option.{ForSome}
+use Rattle.disk_model.specs.declared.disk.Disk.{Ghosts as DiskOf}
 use Rattle.acq_io.specs.Whole.{Gives, all_of}
 use Rattle.acq_io.specs.declared.streams.Put.{Put}
 use Rattle.acq_io.specs.declared.whole.AllFault.{AllFault}
 use Rattle.assign.specs.Events.{Answer}
 use Rattle.assign.specs.declared.events.Event.{Event}
 use Rattle.assign.specs.declared.events.Plan.{Plan}
-use Rattle.disk_model.specs.Disk.{LeavesOnly}
+use Rattle.disk_model.specs.Moments.{LeavesOnly}
 use Rattle.language.specs.declared.candidates.Candidate.{Candidate}
 use Rattle.language.specs.Language.{Language, HasSameSolutions}
 use Rattle.language.specs.Answers.{IsNetwork, agrees, standing_on}
@@ -84,18 +85,18 @@ pub record IsAnsweredBy (target : List Candidate) (l : Language) (terms : Terms)
 -- ---- The command
 
 -- the meanings of a disk
-module _ {D : Type 0} (content : D → Option (List ℕ)) (may_leave : D → List ℕ → Type 0) (moment : D → ℕ) (left_since : D → ℕ → List ℕ → Type 0) where
+module _ {D : Type 0} (disk : DiskOf D) where
   -- A session was opened, which is that of the journal where the disk tells its bytes. The disk holds what it held.
   pub record IsOpened (old new : D) : Type 0 where
     pub plan : Plan
     pub voc : List ℕ
     pub events : List Event
-    pub says : ForSome (content old) (λ bytes. SaysSession bytes plan voc events)
+    pub says : ForSome (disk.content old) (λ bytes. SaysSession bytes plan voc events)
     pub lang : Language
     pub read : IsVocabulary voc lang
     pub places : HavePlaces lang plan events
-    pub same : content new ≡ content old
-    pub any_moment : LeavesOnly moment left_since old new (may_leave old)
+    pub same : disk.content new ≡ disk.content old
+    pub any_moment : LeavesOnly disk old new (disk.may_leave old)
 
   -- some answers stand, which is told before anything is read
   pub record IsNotFresh (left written left' written' : Option (List ℕ)) (old new : D) (got : Result Ending Put) : Type 0 where
@@ -118,14 +119,14 @@ module _ {D : Type 0} (content : D → Option (List ℕ)) (may_leave : D → Lis
   pub record IsPlayed (budget : ℕ) (left written left' written' : Option (List ℕ)) (old new : D) (got : Result Ending Put) : Type 0 where
     pub target : List Candidate
     pub rest : Option (List ℕ)
-    pub on : GoesOn content may_leave moment left_since (net_turn target false) (net_may_say target) budget rest written left' written' old new got
+    pub on : GoesOn disk (net_turn target false) (net_may_say target) budget rest written left' written' old new got
     pub fresh : standing_on on.lang on.events ≡ []
     pub reads : ReadsTarget on.lang left rest target
     pub answered : IsAnsweredBy target on.lang (terms_with on.plan budget) (standing_on on.lang on.later) got
 
   abbrev pub PlaysOn : ℕ → (left written left' written' : Option (List ℕ)) → D → D → Result Ending Put → Type 0
   PlaysOn budget left written left' written' old new got =
-      StaysClosed content may_leave moment left_since left written left' written' old new got
+      StaysClosed disk left written left' written' old new got
       ⊎ (IsNotFresh left written left' written' old new got ⊎ (IsUntargeted left written left' written' old new got ⊎ IsPlayed budget left written left' written' old new got))
 
 -- ---- Exactly when it refuses

@@ -1,11 +1,12 @@
 -- What a run over a journal has done, and `run`.
 use Rattle.std.specs.Prelude.{◌≡◌, ◌⊎◌, ℕ, List, [], ◌∷◌, ◌++◌, Option, Result, Ok, IfOk, OnErr}
 use Rattle.std.specs.Option.{ForSome}
+use Rattle.disk_model.specs.declared.disk.Disk.{Ghosts as DiskOf}
 use Rattle.acq_io.specs.declared.streams.Put.{Put}
 use Rattle.assign.specs.Assignment.{Assignment}
 use Rattle.assign.specs.declared.events.Event.{Event}
 use Rattle.assign.specs.declared.events.Plan.{Plan}
-use Rattle.disk_model.specs.Disk.{LeavesOnly}
+use Rattle.disk_model.specs.Moments.{LeavesOnly}
 use Rattle.language.specs.Language.{Language}
 use Rattle.session_store.specs.Left.{OpensWith, OpensWithin, SaysSession, LeavesNow}
 use Rattle.session_store.specs.Replay.{HavePlaces}
@@ -27,7 +28,7 @@ abbrev pub any_answer : Language → Assignment → Told → Type 0
 any_answer l q told = Unit {0}
 
 -- the meanings of a disk
-module _ {D : Type 0} (content : D → Option (List ℕ)) (may_leave : D → List ℕ → Type 0) (moment : D → ℕ) (left_since : D → ℕ → List ℕ → Type 0) where
+module _ {D : Type 0} (disk : DiskOf D) where
   -- The run of these turns goes on from some events, which are those of the journal where the disk tells its bytes, and adds some. Where it
   -- tells them, a crash at any moment leaves what it might have left before, or those events and a front of the added ones. A
   -- crash at the end leaves all of them, and where the disk failed the event too whose adding failed, or not.
@@ -35,7 +36,7 @@ module _ {D : Type 0} (content : D → Option (List ℕ)) (may_leave : D → Lis
     pub plan : Plan
     pub voc : List ℕ
     pub events : List Event
-    pub says : ForSome (content old) (λ bytes. SaysSession bytes plan voc events)
+    pub says : ForSome (disk.content old) (λ bytes. SaysSession bytes plan voc events)
     pub lang : Language
     pub read : IsVocabulary voc lang
     pub places : HavePlaces lang plan events
@@ -50,8 +51,8 @@ module _ {D : Type 0} (content : D → Option (List ℕ)) (may_leave : D → Lis
         × Loses turns lang (terms_with plan budget) (point_of events left written) (point_of later left' written') lost
     -- each event has its place, and so has the lost one
     pub all_places : HavePlaces lang plan (later ++ last)
-    pub any_moment : ForSome (content old) (λ _. LeavesOnly moment left_since old new (λ c. may_leave old c ⊎ OpensWithin plan voc events (later ++ last) c))
-    pub now : ForSome (content old) (λ _. LeavesNow content may_leave (λ c. OpensWith plan voc later c ⊎ OpensWith plan voc (later ++ last) c) new)
+    pub any_moment : ForSome (disk.content old) (λ _. LeavesOnly disk old new (λ c. disk.may_leave old c ⊎ OpensWithin plan voc events (later ++ last) c))
+    pub now : ForSome (disk.content old) (λ _. LeavesNow disk (λ c. OpensWith plan voc later c ⊎ OpensWith plan voc (later ++ last) c) new)
 
   abbrev pub RunsOn : ℕ → (left written left' written' : Option (List ℕ)) → D → D → Result Ending Put → Type 0
-  RunsOn budget left written left' written' old new got = StaysClosed content may_leave moment left_since left written left' written' old new got ⊎ GoesOn line_turn any_answer budget left written left' written' old new got
+  RunsOn budget left written left' written' old new got = StaysClosed disk left written left' written' old new got ⊎ GoesOn line_turn any_answer budget left written left' written' old new got

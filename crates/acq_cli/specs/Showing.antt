@@ -1,10 +1,11 @@
 -- What `show` has done.
 use Rattle.std.specs.Prelude.{◌≡◌, ◌⊎◌, ℕ, List, Option, Result}
 use Rattle.std.specs.Option.{ForSome}
+use Rattle.disk_model.specs.declared.disk.Disk.{Ghosts as DiskOf}
 use Rattle.acq_io.specs.declared.streams.Put.{Put}
 use Rattle.assign.specs.declared.events.Event.{Event}
 use Rattle.assign.specs.declared.events.Plan.{Plan}
-use Rattle.disk_model.specs.Disk.{LeavesOnly}
+use Rattle.disk_model.specs.Moments.{LeavesOnly}
 use Rattle.language.specs.Language.{Language}
 use Rattle.language.specs.Answers.{standing_on}
 use Rattle.session_store.specs.Left.{SaysSession}
@@ -22,19 +23,19 @@ abbrev pub shown_text : Language → Plan → List Event → List ℕ
 shown_text l plan events = show_text l plan (standing_on l events) (take_backs events) (learned_in (state_after l plan (standing_on l events)))
 
 -- the meanings of a disk
-module _ {D : Type 0} (content : D → Option (List ℕ)) (may_leave : D → List ℕ → Type 0) (moment : D → ℕ) (left_since : D → ℕ → List ℕ → Type 0) where
+module _ {D : Type 0} (disk : DiskOf D) where
   -- A session is shown, which is that of the journal where the disk tells its bytes. The disk holds what it held.
   pub record IsShown (written written' : Option (List ℕ)) (old new : D) (got : Result Ending Put) : Type 0 where
     pub plan : Plan
     pub voc : List ℕ
     pub events : List Event
-    pub says : ForSome (content old) (λ bytes. SaysSession bytes plan voc events)
+    pub says : ForSome (disk.content old) (λ bytes. SaysSession bytes plan voc events)
     pub lang : Language
     pub read : IsVocabulary voc lang
     pub places : HavePlaces lang plan events
     pub tells : EndsWith ending.Done (shown_text lang plan events) written written' got
-    pub same : content new ≡ content old
-    pub any_moment : LeavesOnly moment left_since old new (may_leave old)
+    pub same : disk.content new ≡ disk.content old
+    pub any_moment : LeavesOnly disk old new (disk.may_leave old)
 
   abbrev pub Shows : (left written written' : Option (List ℕ)) → D → D → Result Ending Put → Type 0
-  Shows left written written' old new got = StaysClosed content may_leave moment left_since left written left written' old new got ⊎ IsShown written written' old new got
+  Shows left written written' old new got = StaysClosed disk left written left written' old new got ⊎ IsShown written written' old new got

@@ -1,6 +1,7 @@
 -- What `model` has done.
 use Rattle.std.specs.Prelude.{◌≡◌, ◌⊎◌, ◌↔◌, ℕ, List, Option, Result, Ok, Err}
 use Rattle.std.specs.Option.{ForSome}
+use Rattle.disk_model.specs.declared.disk.Disk.{Ghosts as DiskOf}
 use Rattle.acq_io.specs.Whole.{Gives, all_of}
 use Rattle.acq_io.specs.declared.streams.Put.{Put}
 use Rattle.acq_io.specs.declared.streams.Put.TheVariants as put
@@ -8,7 +9,7 @@ use Rattle.acq_io.specs.declared.whole.AllFault.TheVariants as all
 use Rattle.assign.specs.Assignment.{Assignment}
 use Rattle.assign.specs.declared.events.Event.{Event}
 use Rattle.assign.specs.declared.events.Plan.{Plan}
-use Rattle.disk_model.specs.Disk.{LeavesOnly}
+use Rattle.disk_model.specs.Moments.{LeavesOnly}
 use Rattle.language.specs.declared.candidates.Candidate.{Candidate}
 use Rattle.language.specs.Language.{Language}
 use Rattle.net_cnf.specs.Models.{IsModel, model_of}
@@ -49,24 +50,24 @@ SolvesTo l network left written left' written' got = IsModelRead l network left 
 -- ---- The command
 
 -- the meanings of a disk
-module _ {D : Type 0} (content : D → Option (List ℕ)) (may_leave : D → List ℕ → Type 0) (moment : D → ℕ) (left_since : D → ℕ → List ℕ → Type 0) where
+module _ {D : Type 0} (disk : DiskOf D) where
   -- A model was read for the network of a session, which is that of the journal where the disk tells its bytes. The disk holds
   -- what it held.
   pub record IsSolved (left written left' written' : Option (List ℕ)) (old new : D) (got : Result Ending Put) : Type 0 where
     pub plan : Plan
     pub voc : List ℕ
     pub events : List Event
-    pub says : ForSome (content old) (λ bytes. SaysSession bytes plan voc events)
+    pub says : ForSome (disk.content old) (λ bytes. SaysSession bytes plan voc events)
     pub lang : Language
     pub read : IsVocabulary voc lang
     pub places : HavePlaces lang plan events
     pub solves : SolvesTo lang (network_after lang plan events) left written left' written' got
-    pub same : content new ≡ content old
-    pub any_moment : LeavesOnly moment left_since old new (may_leave old)
+    pub same : disk.content new ≡ disk.content old
+    pub any_moment : LeavesOnly disk old new (disk.may_leave old)
 
   -- a journal that isn't opened leaves the input unread
   abbrev pub Solves : (left written left' written' : Option (List ℕ)) → D → D → Result Ending Put → Type 0
-  Solves left written left' written' old new got = StaysClosed content may_leave moment left_since left written left' written' old new got ⊎ IsSolved left written left' written' old new got
+  Solves left written left' written' old new got = StaysClosed disk left written left' written' old new got ⊎ IsSolved left written left' written' old new got
 
 -- ---- Exactly when
 

@@ -2,12 +2,13 @@
 use Rattle.std.specs.Prelude.{◌≡◌, ◌⊎◌, ◌↔◌, ◌<◌, ◌≤◌, ◌+◌, ℕ, List, [], ◌∷◌, ◌++◌, length, Option, Result, Ok, Err, codes}
 use Rattle.std.specs.Fmt.{decimal}
 use Rattle.std.specs.Option.{ForSome}
+use Rattle.disk_model.specs.declared.disk.Disk.{Ghosts as DiskOf}
 use Rattle.acq_io.specs.declared.streams.Put.{Put}
 use Rattle.acq_io.specs.declared.streams.Put.TheVariants as put
 use Rattle.assign.specs.declared.events.Event.{Event}
 use Rattle.assign.specs.declared.events.Event.TheVariants as event
 use Rattle.assign.specs.declared.events.Plan.{Plan}
-use Rattle.disk_model.specs.Disk.{LeavesOnly}
+use Rattle.disk_model.specs.Moments.{LeavesOnly}
 use Rattle.language.specs.Language.{Language}
 use Rattle.language.specs.Answers.{standing_on}
 use Rattle.session_store.specs.Left.{LeavesNow, OpensWith, OpensWithin, OpensWithOrWithout, SaysSession}
@@ -39,27 +40,27 @@ EndsBack m events later written written' got =
     ⊎ ((later ≡ events) × (written' ≡ written) × ((got ≡ Err put.Memory) ⊎ (got ≡ Ok ending.DiskFault)))
 
 -- the meanings of a disk
-module _ {D : Type 0} (content : D → Option (List ℕ)) (may_leave : D → List ℕ → Type 0) (moment : D → ℕ) (left_since : D → ℕ → List ℕ → Type 0) where
+module _ {D : Type 0} (disk : DiskOf D) where
   -- From when the journal was opened on, where the disk tells its bytes, a crash at any moment leaves what it might have left before, or
   -- the events with the take-back or without. At the end it leaves those that are there, and where the disk failed the
   -- take-back too, or not.
   pub record LeavesBack (plan : Plan) (voc : List ℕ) (events later : List Event) (old new : D) (got : Result Ending Put) : Type 0 where
-    pub any_moment : ForSome (content old) (λ _. LeavesOnly moment left_since old new (λ c. may_leave old c ⊎ OpensWithin plan voc events (events ++ event.Back ∷ []) c))
-    pub now : (got ≡ Ok ending.DiskFault → ⊥) → ForSome (content old) (λ _. LeavesNow content may_leave (OpensWith plan voc later) new)
-    pub failed : got ≡ Ok ending.DiskFault → ForSome (content old) (λ _. LeavesNow content may_leave (OpensWithOrWithout plan voc events event.Back) new)
+    pub any_moment : ForSome (disk.content old) (λ _. LeavesOnly disk old new (λ c. disk.may_leave old c ⊎ OpensWithin plan voc events (events ++ event.Back ∷ []) c))
+    pub now : (got ≡ Ok ending.DiskFault → ⊥) → ForSome (disk.content old) (λ _. LeavesNow disk (OpensWith plan voc later) new)
+    pub failed : got ≡ Ok ending.DiskFault → ForSome (disk.content old) (λ _. LeavesNow disk (OpensWithOrWithout plan voc events event.Back) new)
 
 -- ---- The command
 
-module _ {D : Type 0} (content : D → Option (List ℕ)) (may_leave : D → List ℕ → Type 0) (moment : D → ℕ) (left_since : D → ℕ → List ℕ → Type 0) where
+module _ {D : Type 0} (disk : DiskOf D) where
   -- no answer stands, which is told
   pub record HasNothingBack (written written' : Option (List ℕ)) (old new : D) (got : Result Ending Put) : Type 0 where
-    pub opened : IsOpened content may_leave moment left_since old new
+    pub opened : IsOpened disk old new
     pub none : standing_on opened.lang opened.events ≡ []
     pub tells : EndsWith ending.NothingBack nothing_text written written' got
 
   -- an answer stands, and no record is left for the take-back, which is told
   pub record HasNoRecord (written written' : Option (List ℕ)) (old new : D) (got : Result Ending Put) : Type 0 where
-    pub opened : IsOpened content may_leave moment left_since old new
+    pub opened : IsOpened disk old new
     pub some : 1 ≤ length (standing_on opened.lang opened.events)
     pub full : length opened.events + 1 ≡ 1000000
     pub tells : EndsWith ending.JournalFull full_text written written' got
@@ -70,7 +71,7 @@ module _ {D : Type 0} (content : D → Option (List ℕ)) (may_leave : D → Lis
     pub plan : Plan
     pub voc : List ℕ
     pub events : List Event
-    pub says : ForSome (content old) (λ bytes. SaysSession bytes plan voc events)
+    pub says : ForSome (disk.content old) (λ bytes. SaysSession bytes plan voc events)
     pub lang : Language
     pub read : IsVocabulary voc lang
     pub places : HavePlaces lang plan events
@@ -79,11 +80,11 @@ module _ {D : Type 0} (content : D → Option (List ℕ)) (may_leave : D → Lis
     pub later : List Event
     pub ends : EndsBack (length (standing_on lang events)) events later written written' got
     pub all_places : HavePlaces lang plan (events ++ event.Back ∷ [])
-    pub leaves : LeavesBack content may_leave moment left_since plan voc events later old new got
+    pub leaves : LeavesBack disk plan voc events later old new got
 
   abbrev pub TakesBack : (left written written' : Option (List ℕ)) → D → D → Result Ending Put → Type 0
   TakesBack left written written' old new got =
-      StaysClosed content may_leave moment left_since left written left written' old new got
+      StaysClosed disk left written left written' old new got
       ⊎ (HasNothingBack written written' old new got ⊎ (HasNoRecord written written' old new got ⊎ HasTakenBack written written' old new got))
 
 -- ---- Exactly when

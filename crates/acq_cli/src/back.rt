@@ -6,14 +6,13 @@ ghost use Rattle.assign.specs.Events.{standing};
 ghost use Rattle.assign.specs.declared.events.Event.{Event};
 ghost use Rattle.disk_model.specs.Disk.{Rose as DiskRose};
 ghost use Rattle.language.specs.Answers.{standing_on};
-ghost use Rattle.session_store.specs.Keeping.{Keeps};
+ghost use Rattle.session_store.specs.Keeps.{Keeps, IsKeeping};
 ghost use Rattle.acq_cli.specs.Journals.{EndsWith};
-ghost use Rattle.acq_cli.specs.Loop.{IsKeeping};
 ghost use Rattle.acq_cli.specs.TakingBack.{EndsBack, TakesBack, nothing_text, taken_text};
 ghost use Rattle.acq_cli.specs.Texts.{full_text};
 
 use crate::commands::refuse_journal;
-use crate::driving::{Drove, keep_back};
+use crate::driving::{Drove, Entry, keep_event};
 use crate::ending::Ending;
 use acq_io::{Put, Sink};
 use disk_model::Disk;
@@ -58,17 +57,17 @@ fn take_last<K: Sink, D: Disk, P: Keep<D>>(
     out: &mut K,
     disk: &mut D,
 ) -> Result<Ending, Put>
-    requires keeper { IsKeeping P.sound P.live P.sits keep.old disk.old }
+    requires keeper { IsKeeping P.Keep keep.old disk.old }
     requires room { length (P.record_of keep.old) + 1 < 1000000 }
     requires stands { standing (P.record_of keep.old) ≢ [] }
     ensures ends { EndsBack m (P.record_of keep.old) (P.record_of keep.new) (K.written out.old) (K.written out.new) result }
-    ensures keeps { Keeps D.content D.may_leave D.moment D.left_since P.plan P.voc P.record_of P.question P.writes P.live P.sits D.faults (result ≡ Ok Ending.DiskFault)
+    ensures keeps { Keeps P.Keep D.Disk (result ≡ Ok Ending.DiskFault)
         (λ lost. lost ≡ Event.Back) keep.old keep.new disk.old disk.new }
     ensures no_fault { IfOk result (λ ending. ending ≢ Ending.WriteFault) }
     ensures no_read { IfOk result (λ ending. ending ≢ Ending.ReadFault) }
     ensures failed { result ≡ Err Put.Failed → Rose (K.faults out.old) (K.faults out.new) }
 {
-    match keep_back::<D, P>(keep, disk) {
+    match keep_event::<D, P>(keep, disk, Entry::Back) {
         None => say_taken(alloc, m, out),
         Some(end) => {
             if end == Drove::Memory {
@@ -106,7 +105,7 @@ pub fn back_journal<K: Sink, D: Disk>(
     out: &mut K,
     disk: &mut D,
 ) -> Result<Ending, Put>
-    ensures backs { (left : Option (List ℕ)) → TakesBack D.content D.may_leave D.moment D.left_since left (K.written out.old) (K.written out.new) disk.old disk.new result }
+    ensures backs { (left : Option (List ℕ)) → TakesBack D.Disk left (K.written out.old) (K.written out.new) disk.old disk.new result }
     ensures no_fault { IfOk result (λ ending. ending ≢ Ending.WriteFault) }
     ensures no_read { IfOk result (λ ending. ending ≢ Ending.ReadFault) }
     ensures failed { result ≡ Err Put.Failed → Rose (K.faults out.old) (K.faults out.new) }

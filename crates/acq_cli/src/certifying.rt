@@ -5,7 +5,8 @@ ghost use Rattle.acq_io.specs.Streams.{Rose};
 ghost use Rattle.acq_words.specs.Request.{IsBudget};
 ghost use Rattle.cert_check.specs.Making.{made};
 ghost use Rattle.cert_check.specs.Texts.{make_fault_line};
-ghost use Rattle.disk_model.specs.Disk.{LeavesOnly, Rose as DiskRose};
+ghost use Rattle.disk_model.specs.Disk.{Rose as DiskRose};
+ghost use Rattle.disk_model.specs.Moments.{LeavesOnly};
 ghost use Rattle.language.specs.Answers.{IsCovered, IsNetwork, standing_on};
 ghost use Rattle.language.specs.Language.{IsQuestion, variable_count};
 ghost use Rattle.session_core.specs.Settled.{IsSettled};
@@ -19,8 +20,8 @@ ghost use Rattle.acq_cli.specs.Points.{terms_with};
 ghost use Rattle.acq_cli.specs.Reducing.{network_after};
 
 use crate::commands::refuse_journal;
-use crate::driving::{Upcoming, next_of};
 use crate::ending::Ending;
+use crate::next::{Upcoming, next_of};
 use crate::printing::tell;
 use acq_io::{Put, Sink};
 use assign::Event;
@@ -220,9 +221,9 @@ pub fn certify_journal<R: Threads + Sync, K: Sink, D: Disk, G: Gate>(
     gate: &G,
 ) -> Result<Ending, Put>
     requires { IsBudget budget }
-    ensures certifies { (left : Option (List ℕ)) → Certifies D.content D.may_leave D.moment D.left_since budget left (K.written out.old) (K.written out.new) disk.old disk.new result }
+    ensures certifies { (left : Option (List ℕ)) → Certifies D.Disk budget left (K.written out.old) (K.written out.new) disk.old disk.new result }
     ensures same { D.content disk.new ≡ D.content disk.old }
-    ensures any_moment { LeavesOnly D.moment D.left_since disk.old disk.new (D.may_leave disk.old) }
+    ensures any_moment { LeavesOnly D.Disk disk.old disk.new (D.may_leave disk.old) }
     ensures no_fault { IfOk result (λ ending. ending ≢ Ending.WriteFault) }
     ensures no_read { IfOk result (λ ending. ending ≢ Ending.ReadFault) }
     ensures failed { result ≡ Err Put.Failed → Rose (K.faults out.old) (K.faults out.new) }

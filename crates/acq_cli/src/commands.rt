@@ -4,7 +4,8 @@ ghost use Rattle.std.specs.Prelude.{◌≡◌, ◌≢◌, ◌≤◌, ℕ, List, 
 ghost use Rattle.std.specs.String.{string_bytes};
 ghost use Rattle.acq_io.specs.Streams.{Adds, AddsFront, HasStopped, Rose, TakesSome};
 ghost use Rattle.acq_words.specs.Request.{IsBudget};
-ghost use Rattle.disk_model.specs.Disk.{LeavesOnly, Rose as DiskRose};
+ghost use Rattle.disk_model.specs.Disk.{Rose as DiskRose};
+ghost use Rattle.disk_model.specs.Moments.{LeavesOnly};
 ghost use Rattle.language.specs.Answers.{standing_on};
 ghost use Rattle.session_core.specs.Settled.{IsSettled};
 ghost use Rattle.acq_cli.specs.Journals.{journal_text, store_text, untold, EndsWith, Refuses};
@@ -115,7 +116,7 @@ pub fn run_journal<R: Threads + Sync, S: Source, K: Sink, D: Disk, G: Gate>(
     gate: &G,
 ) -> Result<Ending, Put>
     requires { IsBudget budget }
-    ensures runs { RunsOn D.content D.may_leave D.moment D.left_since budget (S.left input.old) (K.written out.old) (S.left input.new) (K.written out.new) disk.old disk.new result }
+    ensures runs { RunsOn D.Disk budget (S.left input.old) (K.written out.old) (S.left input.new) (K.written out.new) disk.old disk.new result }
     ensures takes { TakesSome (S.left input.old) (S.left input.new) }
     ensures read { HasStopped (S.faults input.old) (S.faults input.new) (S.late input.old) (S.late input.new) (result ≡ Ok Ending.ReadFault) }
     ensures no_fault { IfOk result (λ ending. ending ≢ Ending.WriteFault) }
@@ -192,7 +193,7 @@ pub fn make_journal<K: Sink, D: Disk>(
     out: &mut K,
     disk: &mut D,
 ) -> Result<Ending, Put>
-    ensures makes { Makes D.content D.may_leave D.moment D.left_since plan voc.now (K.written out.old) (K.written out.new) disk.old disk.new result }
+    ensures makes { Makes D.Disk plan voc.now (K.written out.old) (K.written out.new) disk.old disk.new result }
     ensures no_fault { IfOk result (λ ending. ending ≢ Ending.WriteFault) }
     ensures no_read { IfOk result (λ ending. ending ≢ Ending.ReadFault) }
     ensures failed { result ≡ Err Put.Failed → Rose (K.faults out.old) (K.faults out.new) }
@@ -215,7 +216,7 @@ pub fn new_journal<S: Source, K: Sink, D: Disk>(
     out: &mut K,
     disk: &mut D,
 ) -> Result<Ending, Put>
-    ensures news { News D.content D.may_leave D.moment D.left_since plan (S.left input.old) (K.written out.old) (S.left input.new) (K.written out.new) disk.old disk.new result }
+    ensures news { News D.Disk plan (S.left input.old) (K.written out.old) (S.left input.new) (K.written out.new) disk.old disk.new result }
     ensures takes { TakesSome (S.left input.old) (S.left input.new) }
     ensures read { HasStopped (S.faults input.old) (S.faults input.new) (S.late input.old) (S.late input.new) (result ≡ Ok Ending.ReadFault) }
     ensures no_fault { IfOk result (λ ending. ending ≢ Ending.WriteFault) }
@@ -253,9 +254,9 @@ pub fn show_journal<K: Sink, D: Disk>(
     out: &mut K,
     disk: &mut D,
 ) -> Result<Ending, Put>
-    ensures shows { (left : Option (List ℕ)) → Shows D.content D.may_leave D.moment D.left_since left (K.written out.old) (K.written out.new) disk.old disk.new result }
+    ensures shows { (left : Option (List ℕ)) → Shows D.Disk left (K.written out.old) (K.written out.new) disk.old disk.new result }
     ensures same { D.content disk.new ≡ D.content disk.old }
-    ensures any_moment { LeavesOnly D.moment D.left_since disk.old disk.new (D.may_leave disk.old) }
+    ensures any_moment { LeavesOnly D.Disk disk.old disk.new (D.may_leave disk.old) }
     ensures no_fault { IfOk result (λ ending. ending ≢ Ending.WriteFault) }
     ensures no_read { IfOk result (λ ending. ending ≢ Ending.ReadFault) }
     ensures failed { result ≡ Err Put.Failed → Rose (K.faults out.old) (K.faults out.new) }

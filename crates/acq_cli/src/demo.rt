@@ -8,7 +8,7 @@ ghost use Rattle.language.specs.Language.{IsLanguage};
 ghost use Rattle.language.specs.Answers.{IsNetwork, agrees, standing_on};
 ghost use Rattle.session_store.specs.Loose.{lang_of as lang_in, plan_of, events_of, question_of, IsSound};
 ghost use Rattle.acq_cli.specs.Demoing.{Demos, HasDriven, IsQuietEnd, SumsUp, demo_text};
-ghost use Rattle.acq_cli.specs.Loop.{IsSameSession};
+ghost use Rattle.session_store.specs.Keeps.{IsSameSession};
 ghost use Rattle.acq_cli.specs.Points.{terms_with};
 ghost use Rattle.acq_cli.specs.Texts.{learned_after};
 

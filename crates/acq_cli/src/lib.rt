@@ -9,6 +9,7 @@ mod demo;
 mod driving;
 mod ending;
 pub mod laws;
+mod next;
 mod opens;
 mod playing;
 mod printing;

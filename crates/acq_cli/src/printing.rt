@@ -2,7 +2,8 @@
 
 ghost use Rattle.std.specs.Prelude.{◌≡◌, ◌≢◌, ℕ, List, Option, IfOk, Ok, Err};
 ghost use Rattle.acq_io.specs.Streams.{Rose};
-ghost use Rattle.disk_model.specs.Disk.{LeavesOnly, Rose as DiskRose};
+ghost use Rattle.disk_model.specs.Disk.{Rose as DiskRose};
+ghost use Rattle.disk_model.specs.Moments.{LeavesOnly};
 ghost use Rattle.acq_cli.specs.Journals.{EndsWith};
 ghost use Rattle.acq_cli.specs.Printing.{Prints, PrintsTo, too_large_text};
 ghost use Rattle.acq_cli.specs.Reducing.{network_after};
@@ -62,9 +63,9 @@ pub fn print_journal<K: Sink, D: Disk>(
     out: &mut K,
     disk: &mut D,
 ) -> Result<Ending, Put>
-    ensures prints { (left : Option (List ℕ)) → Prints D.content D.may_leave D.moment D.left_since left (K.written out.old) (K.written out.new) disk.old disk.new result }
+    ensures prints { (left : Option (List ℕ)) → Prints D.Disk left (K.written out.old) (K.written out.new) disk.old disk.new result }
     ensures same { D.content disk.new ≡ D.content disk.old }
-    ensures any_moment { LeavesOnly D.moment D.left_since disk.old disk.new (D.may_leave disk.old) }
+    ensures any_moment { LeavesOnly D.Disk disk.old disk.new (D.may_leave disk.old) }
     ensures no_fault { IfOk result (λ ending. ending ≢ Ending.WriteFault) }
     ensures no_read { IfOk result (λ ending. ending ≢ Ending.ReadFault) }
     ensures failed { result ≡ Err Put.Failed → Rose (K.faults out.old) (K.faults out.new) }

@@ -3,7 +3,8 @@
 ghost use Rattle.std.specs.Prelude.{◌≡◌, ◌≢◌, ℕ, List, Option, length, IfOk, Ok, Err};
 ghost use Rattle.acq_io.specs.Streams.{Rose};
 ghost use Rattle.acq_words.specs.Request.{IsBudget};
-ghost use Rattle.disk_model.specs.Disk.{LeavesOnly, Rose as DiskRose};
+ghost use Rattle.disk_model.specs.Disk.{Rose as DiskRose};
+ghost use Rattle.disk_model.specs.Moments.{LeavesOnly};
 ghost use Rattle.language.specs.Answers.{IsNetwork, standing_on};
 ghost use Rattle.net_reduce.specs.Texts.{reduced_text, spent_text};
 ghost use Rattle.acq_cli.specs.Journals.{EndsWith};
@@ -94,9 +95,9 @@ pub fn reduce_journal<K: Sink, D: Disk>(
     disk: &mut D,
 ) -> Result<Ending, Put>
     requires { IsBudget budget }
-    ensures reduces { (left : Option (List ℕ)) → Reduces D.content D.may_leave D.moment D.left_since budget left (K.written out.old) (K.written out.new) disk.old disk.new result }
+    ensures reduces { (left : Option (List ℕ)) → Reduces D.Disk budget left (K.written out.old) (K.written out.new) disk.old disk.new result }
     ensures same { D.content disk.new ≡ D.content disk.old }
-    ensures any_moment { LeavesOnly D.moment D.left_since disk.old disk.new (D.may_leave disk.old) }
+    ensures any_moment { LeavesOnly D.Disk disk.old disk.new (D.may_leave disk.old) }
     ensures no_fault { IfOk result (λ ending. ending ≢ Ending.WriteFault) }
     ensures no_read { IfOk result (λ ending. ending ≢ Ending.ReadFault) }
     ensures failed { result ≡ Err Put.Failed → Rose (K.faults out.old) (K.faults out.new) }

@@ -2,7 +2,8 @@
 
 ghost use Rattle.std.specs.Prelude.{◌≡◌, ◌≢◌, ◌⊎◌, IfOk, Ok, Err};
 ghost use Rattle.acq_io.specs.Streams.{HasStopped, Rose, TakesSome};
-ghost use Rattle.disk_model.specs.Disk.{LeavesOnly, Rose as DiskRose};
+ghost use Rattle.disk_model.specs.Disk.{Rose as DiskRose};
+ghost use Rattle.disk_model.specs.Moments.{LeavesOnly};
 ghost use Rattle.language.specs.Answers.{IsNetwork};
 ghost use Rattle.net_cnf.specs.Models.{model_of};
 ghost use Rattle.net_cnf.specs.ModelTexts.{model_fault_line, solution_line};
@@ -100,11 +101,11 @@ pub fn solve_journal<S: Source, K: Sink, D: Disk>(
     out: &mut K,
     disk: &mut D,
 ) -> Result<Ending, Put>
-    ensures solves { Solves D.content D.may_leave D.moment D.left_since (S.left input.old) (K.written out.old) (S.left input.new) (K.written out.new) disk.old disk.new result }
+    ensures solves { Solves D.Disk (S.left input.old) (K.written out.old) (S.left input.new) (K.written out.new) disk.old disk.new result }
     ensures takes { TakesSome (S.left input.old) (S.left input.new) }
     ensures read { HasStopped (S.faults input.old) (S.faults input.new) (S.late input.old) (S.late input.new) (result ≡ Ok Ending.ReadFault) }
     ensures same { D.content disk.new ≡ D.content disk.old }
-    ensures any_moment { LeavesOnly D.moment D.left_since disk.old disk.new (D.may_leave disk.old) }
+    ensures any_moment { LeavesOnly D.Disk disk.old disk.new (D.may_leave disk.old) }
     ensures no_fault { IfOk result (λ ending. ending ≢ Ending.WriteFault) }
     ensures failed { result ≡ Err Put.Failed → Rose (K.faults out.old) (K.faults out.new) }
     ensures lost { result ≡ Ok Ending.DiskFault → DiskRose (D.faults disk.old) (D.faults disk.new) }

@@ -9,12 +9,12 @@ ghost use Rattle.language.specs.Answers.{IsNetwork, standing_on};
 ghost use Rattle.query_gen.specs.Marks.{IsMadeFor, is_open};
 ghost use Rattle.session_core.specs.Settled.{IsSettled};
 ghost use Rattle.session_core.specs.Standing.{Stands, knowledge_of};
-ghost use Rattle.session_store.specs.Keeping.{Keeps};
+ghost use Rattle.session_store.specs.Keeps.{Keeps, IsKeeping, IsSameSession};
 ghost use Rattle.target_oracle.specs.Lines.{line_turn};
 ghost use Rattle.acq_cli.specs.Driven.{HasEnded, Loses, TellsOpen};
 ghost use Rattle.acq_cli.specs.Added.{IsTaught, MayEnd};
 ghost use Rattle.acq_cli.specs.Points.{point_of, terms_with};
-ghost use Rattle.acq_cli.specs.Loop.{CountsFaults, IsKeeping, IsSameSession};
+ghost use Rattle.acq_cli.specs.Loop.{CountsFaults};
 ghost use Rattle.acq_cli.specs.Breaks.{BreaksRun};
 ghost use Rattle.acq_cli.specs.Trying.{Acquires, BreaksOff};
 ghost use Rattle.acq_cli.specs.Endings.{HasAsked, Says, SaysPart, Tries};
@@ -208,7 +208,7 @@ pub(crate) fn ask_on<
     keep: &mut P,
     gate: &G,
 ) -> Result<Ending, Put>
-    requires keeper { IsKeeping P.sound P.live P.sits keep.old disk.old }
+    requires keeper { IsKeeping P.Keep keep.old disk.old }
     requires fits { T.fits teacher.old (P.lang keep.old) }
     requires settled { IsSettled (P.lang keep.old) (P.plan keep.old) (standing_on (P.lang keep.old) (P.record_of keep.old)) (P.question keep.old) }
     requires budget { IsBudget budget }
@@ -220,12 +220,12 @@ pub(crate) fn ask_on<
     ensures failed { CountsFaults (K.faults out.old) (K.faults out.new) (result ≡ Err Put.Failed) }
     ensures taught { IsTaught (P.lang keep.old) (P.plan keep.old) (T.may_say teacher.old (P.lang keep.old)) (P.record_of keep.old) (P.record_of keep.new)
         (MayEnd (T.may_say teacher.old (P.lang keep.old)) result) }
-    ensures keeps { Keeps D.content D.may_leave D.moment D.left_since P.plan P.voc P.record_of P.question P.writes P.live P.sits D.faults (result ≡ Ok Ending.DiskFault)
+    ensures keeps { Keeps P.Keep D.Disk (result ≡ Ok Ending.DiskFault)
         (Loses (T.turn teacher.old) (P.lang keep.old) (terms_with (P.plan keep.old) budget)
         (point_of (P.record_of keep.old) (S.left input.old) (K.written out.old))
         (point_of (P.record_of keep.new) (S.left input.new) (K.written out.new)))
         keep.old keep.new disk.old disk.new }
-    ensures same { IsSameSession P.lang P.plan P.sound keep.old keep.new }
+    ensures same { IsSameSession P.Keep keep.old keep.new }
     ensures lawful { IsLanguage (P.lang keep.old) }
 {
     let start = keep.session();
@@ -376,7 +376,7 @@ fn perform<R: Threads + Sync, S: Source, K: Sink, D: Disk, G: Gate>(
     disk: &mut D,
     gate: &G,
 ) -> Result<Ending, Put>
-    ensures does { Does D.content D.may_leave D.moment D.left_since (command_asked (map string_bytes words.now)) (S.left input.old) (K.written out.old) (S.left input.new) (K.written out.new) disk.old disk.new result }
+    ensures does { Does D.Disk (command_asked (map string_bytes words.now)) (S.left input.old) (K.written out.old) (S.left input.new) (K.written out.new) disk.old disk.new result }
     ensures spares { Spares (command_asked (map string_bytes words.now)) (S.left input.old) (S.left input.new) disk.old disk.new }
     ensures read { HasStopped (S.faults input.old) (S.faults input.new) (S.late input.old) (S.late input.new) (result ≡ Ok Ending.ReadFault) }
     ensures causes { IfOk result (TellsCauses (S.faults input.old) (S.faults input.new) (S.late input.old) (S.late input.new) (K.faults out.old) (K.faults out.new) (D.faults disk.old) (D.faults disk.new)) }
@@ -423,7 +423,7 @@ pub fn acquire<R: Threads + Sync, S: Source, K: Sink, D: Disk, G: Gate>(
     gate: &G,
 ) -> Ending
     ensures does { (got : _) × (result ≡ ended_as got)
-        × Does D.content D.may_leave D.moment D.left_since (command_asked (map string_bytes words.now)) (S.left input.old) (K.written out.old) (S.left input.new) (K.written out.new) disk.old disk.new got }
+        × Does D.Disk (command_asked (map string_bytes words.now)) (S.left input.old) (K.written out.old) (S.left input.new) (K.written out.new) disk.old disk.new got }
     ensures spares { Spares (command_asked (map string_bytes words.now)) (S.left input.old) (S.left input.new) disk.old disk.new }
     ensures refuses { TellsUsage (command_asked (map string_bytes words.now)) (K.written out.old) (K.written out.new) result }
     ensures causes { TellsCauses (S.faults input.old) (S.faults input.new) (S.late input.old) (S.late input.new) (K.faults out.old) (K.faults out.new) (D.faults disk.old) (D.faults disk.new) result }

@@ -2,10 +2,10 @@
 
 ghost use Rattle.std.specs.Prelude.{◌≡◌, ◌≢◌, ◌<◌, ◌≤◌, ◌+◌, ◌^◌, ◌⊎◌, List, [], ◌∷◌, ◌++◌, ℕ, Some, None, IsTrue, IsFalse, IfOk, IfErr, IsErr, IsErrOf, IsSome, OnOk, length};
 ghost use Rattle.std.specs.Option.{ForSome, ForNone};
-ghost use Rattle.disk_model.specs.Disk.{Only, LeavesOnly, Rose, HasCause};
+ghost use Rattle.disk_model.specs.Disk.{Only, Rose, HasCause};
+ghost use Rattle.disk_model.specs.Moments.{LeavesOnly, IsOnDisk, IsOnlyRead};
 ghost use Rattle.answer_journal.specs.Format.{MAGIC, plan_byte, session_tail};
 ghost use Rattle.answer_journal.specs.Journal.{IsClosedAfter, HasNoSession};
-ghost use Rattle.answer_journal.specs.Steps.{IsOnDisk, IsOnlyRead};
 ghost use Rattle.answer_journal.specs.End.{Sits};
 ghost use Rattle.answer_journal.specs.Heads.{IsHead};
 ghost use Rattle.answer_journal.specs.Making.{StartsWith, IsCreating, CreateRefused};
@@ -29,7 +29,7 @@ pub fn create<D: Disk>(
     voc: &[u8],
 ) -> Result<Journal, JFault>
     requires short { length voc.now ≤ 4194304 }
-    ensures created { ForSome (D.content disk.old) (λ _. OnOk result (IsOnDisk (D.content disk.new) (D.may_leave disk.new) (StartsWith plan voc.now))) }
+    ensures created { ForSome (D.content disk.old) (λ _. OnOk result (IsOnDisk D.Disk disk.new (StartsWith plan voc.now))) }
     ensures sits { ForSome (D.content disk.new) (λ bytes. IfOk result (λ j. Sits j bytes)) }
     ensures durable { ForSome (D.content disk.new) (λ bytes. OnOk result (Only bytes (D.may_leave disk.new))) }
     ensures live { IfOk result (λ j. IsTrue j.live) }
@@ -50,11 +50,11 @@ pub fn create<D: Disk>(
 
     // Where the disk didn't fail, a refusal leaves the file and each content of a crash as they were. Where the file holds a
     // session or is no journal, it leaves them so whatever failed.
-    ensures untouched { IfErr result (λ e. (e ≡ JFault.DiskFault) ⊎ IsOnlyRead D.content D.may_leave D.moment D.left_since disk.old disk.new) }
-    ensures spared { ForSome (D.content disk.old) (λ bytes. HasNoSession bytes ⊎ IsOnlyRead D.content D.may_leave D.moment D.left_since disk.old disk.new) }
+    ensures untouched { IfErr result (λ e. (e ≡ JFault.DiskFault) ⊎ IsOnlyRead D.Disk disk.old disk.new) }
+    ensures spared { ForSome (D.content disk.old) (λ bytes. HasNoSession bytes ⊎ IsOnlyRead D.Disk disk.old disk.new) }
 
     // A crash at any moment leaves what it might have left before, or no session, or the new one with no event.
-    ensures any_moment { ForSome (D.content disk.old) (λ _. LeavesOnly D.moment D.left_since disk.old disk.new (IsCreating (D.may_leave disk.old) plan voc.now)) }
+    ensures any_moment { ForSome (D.content disk.old) (λ _. LeavesOnly D.Disk disk.old disk.new (IsCreating (D.may_leave disk.old) plan voc.now)) }
 {
     let (head, _) = head_of(disk)?;
     match head {
@@ -73,8 +73,8 @@ fn empty<D: Disk>(disk: &mut D, head: Head) -> Result<(), Failed>
     requires head { ForSome (D.content disk.old) (λ bytes. IsHead bytes head) }
     requires free { (head ≡ Head.Short) ⊎ (head ≡ Head.Closed) }
     requires durable { ForSome (D.content disk.old) (λ bytes. Only bytes (D.may_leave disk.old)) }
-    ensures emptied { ForSome (D.content disk.old) (λ _. OnOk result (IsOnDisk (D.content disk.new) (D.may_leave disk.new) (IsClosedAfter MAGIC))) }
-    ensures any_moment { ForSome (D.content disk.old) (λ _. LeavesOnly D.moment D.left_since disk.old disk.new HasNoSession) }
+    ensures emptied { ForSome (D.content disk.old) (λ _. OnOk result (IsOnDisk D.Disk disk.new (IsClosedAfter MAGIC))) }
+    ensures any_moment { ForSome (D.content disk.old) (λ _. LeavesOnly D.Disk disk.old disk.new HasNoSession) }
     ensures silent { ForNone (D.content disk.old) (D.content disk.new ≡ None) }
     ensures told { ForSome (D.content disk.old) (λ _. IsSome (D.content disk.new)) }
     ensures cause { HasCause (D.faults disk.old) (D.faults disk.new) result }

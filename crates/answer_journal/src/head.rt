@@ -3,7 +3,7 @@
 ghost use Rattle.std.specs.Prelude.{◌≡◌, ◌<◌, ◌≤◌, ◌^◌, ◌↔◌, length, take, List, ℕ, Some, None, IsTrue, OnOk, IfOk};
 ghost use Rattle.std.specs.Option.{ForSome, ForNone};
 ghost use Rattle.disk_model.specs.Disk.{Only, HasCause};
-ghost use Rattle.answer_journal.specs.Steps.{IsOnlyRead};
+ghost use Rattle.disk_model.specs.Moments.{IsOnlyRead};
 ghost use Rattle.answer_journal.specs.Heads.{IsFirst, IsHead};
 
 use disk_model::{Disk, Failed};
@@ -29,7 +29,7 @@ pub(crate) fn head_of<D: Disk>(disk: &mut D) -> Result<(Head, u64), Failed>
     ensures head { ForSome (D.content disk.old) (λ bytes. IfOk result (λ found. IsHead bytes found.0)) }
     ensures size { ForSome (D.content disk.old) (λ bytes. IfOk result (λ found. found.1 ≡ length bytes)) }
     ensures durable { ForSome (D.content disk.old) (λ bytes. OnOk result (Only bytes (D.may_leave disk.new))) }
-    ensures only_read { IsOnlyRead D.content D.may_leave D.moment D.left_since disk.old disk.new }
+    ensures only_read { IsOnlyRead D.Disk disk.old disk.new }
     ensures cause { HasCause (D.faults disk.old) (D.faults disk.new) result }
 {
     disk.sync()?;

@@ -2,9 +2,9 @@
 
 ghost use Rattle.std.specs.Prelude.{◌≡◌, ◌<◌, ◌≤◌, ◌+◌, ◌*◌, ◌⊎◌, ◌↔◌, List, ℕ, Some, None, IsTrue, IsFalse, IsErr, IfErr, IsErrOf, IsSome, OnOk, length};
 ghost use Rattle.std.specs.Option.{ForSome, ForNone};
-ghost use Rattle.disk_model.specs.Disk.{Only, LeavesOnly, AreCalls, Rose, HasCause};
+ghost use Rattle.disk_model.specs.Disk.{Only, AreCalls, Rose, HasCause};
+ghost use Rattle.disk_model.specs.Moments.{LeavesOnly, IsOnDisk};
 ghost use Rattle.answer_journal.specs.Storable.{IsStorableEvent};
-ghost use Rattle.answer_journal.specs.Steps.{IsOnDisk};
 
 use crate::JFault;
 use crate::encode::encode;
@@ -92,7 +92,7 @@ impl Journal {
         requires sits { ForSome (D.content disk.old) (Sits self.old) }
         requires durable { ForSome (D.content disk.old) (λ bytes. Only bytes (D.may_leave disk.old)) }
 
-        ensures added { ForSome (D.content disk.old) (λ old. OnOk result (IsOnDisk (D.content disk.new) (D.may_leave disk.new) (HasNew old event.now))) }
+        ensures added { ForSome (D.content disk.old) (λ old. OnOk result (IsOnDisk D.Disk disk.new (HasNew old event.now))) }
         ensures sits { ForSome (D.content disk.new) (λ bytes. OnOk result (Sits self.new bytes)) }
         ensures durable { ForSome (D.content disk.new) (λ bytes. OnOk result (Only bytes (D.may_leave disk.new))) }
         ensures counted { OnOk result (self.new.records ≡ self.old.records + 1) }
@@ -104,7 +104,7 @@ impl Journal {
         ensures told { ForSome (D.content disk.old) (λ _. IsSome (D.content disk.new)) }
 
         // A crash at any moment leaves the events from before the call, with the new one or without.
-        ensures any_moment { ForSome (D.content disk.old) (λ old. LeavesOnly D.moment D.left_since disk.old disk.new (IsOldOrNew old event.now)) }
+        ensures any_moment { ForSome (D.content disk.old) (λ old. LeavesOnly D.Disk disk.old disk.new (IsOldOrNew old event.now)) }
 
         // It doesn't give up by itself.
         ensures faults { IfErr result (λ e. (e ≡ JFault.Full) ⊎ (e ≡ JFault.DiskFault)) }
@@ -134,7 +134,7 @@ impl Journal {
         requires sits { ForSome (D.content disk.old) (Sits self.old) }
         requires durable { ForSome (D.content disk.old) (λ bytes. Only bytes (D.may_leave disk.old)) }
 
-        ensures same { ForSome (D.content disk.old) (λ old. OnOk result (IsOnDisk (D.content disk.new) (D.may_leave disk.new) (IsSame old))) }
+        ensures same { ForSome (D.content disk.old) (λ old. OnOk result (IsOnDisk D.Disk disk.new (IsSame old))) }
         ensures sits { ForSome (D.content disk.new) (λ bytes. OnOk result (Sits self.new bytes)) }
         ensures durable { ForSome (D.content disk.new) (λ bytes. OnOk result (Only bytes (D.may_leave disk.new))) }
         ensures counted { self.new.records ≡ self.old.records }
@@ -146,7 +146,7 @@ impl Journal {
         ensures told { ForSome (D.content disk.old) (λ _. IsSome (D.content disk.new)) }
 
         // A crash at any moment leaves the events from before the call.
-        ensures any_moment { ForSome (D.content disk.old) (λ old. LeavesOnly D.moment D.left_since disk.old disk.new (IsSame old)) }
+        ensures any_moment { ForSome (D.content disk.old) (λ old. LeavesOnly D.Disk disk.old disk.new (IsSame old)) }
 
         // It doesn't give up by itself.
         ensures faults { IfErr result (λ e. e ≡ JFault.DiskFault) }
@@ -170,7 +170,7 @@ impl Journal {
         requires sits { ForSome (D.content disk.old) (Sits self.old) }
         requires durable { ForSome (D.content disk.old) (λ bytes. Only bytes (D.may_leave disk.old)) }
 
-        ensures added { ForSome (D.content disk.old) (λ old. OnOk result (IsOnDisk (D.content disk.new) (D.may_leave disk.new) (HasAdded old next.now))) }
+        ensures added { ForSome (D.content disk.old) (λ old. OnOk result (IsOnDisk D.Disk disk.new (HasAdded old next.now))) }
         ensures sits { ForSome (D.content disk.new) (λ bytes. OnOk result (Sits self.new bytes)) }
         ensures durable { ForSome (D.content disk.new) (λ bytes. OnOk result (Only bytes (D.may_leave disk.new))) }
         ensures counted { OnOk result (self.new.records ≡ counted_with self.old.records next.now) }
@@ -178,7 +178,7 @@ impl Journal {
         ensures live { OnOk result (IsTrue self.new.live) }
         ensures silent { ForNone (D.content disk.old) (D.content disk.new ≡ None) }
         ensures told { ForSome (D.content disk.old) (λ _. IsSome (D.content disk.new)) }
-        ensures any_moment { ForSome (D.content disk.old) (λ old. LeavesOnly D.moment D.left_since disk.old disk.new (IsOldOrAdded old next.now)) }
+        ensures any_moment { ForSome (D.content disk.old) (λ old. LeavesOnly D.Disk disk.old disk.new (IsOldOrAdded old next.now)) }
         ensures cause { HasCause (D.faults disk.old) (D.faults disk.new) result }
         ensures stays { IsErr result → (self.new.at ≡ self.old.at) × (self.new.records ≡ self.old.records) × (self.new.raised ≡ self.old.raised) × IsFalse self.new.live }
         ensures calls { OnOk result (AreCalls 4 (D.calls disk.old) (D.calls disk.new)) }

@@ -2,7 +2,8 @@
 
 ghost use Rattle.std.specs.Prelude.{◌≡◌, ◌<◌, ◌≤◌, ◌+◌, ◌^◌, ◌⊎◌, List, ℕ, Some, None, IsTrue, IfOk, IfErr, IsErrOf, OnOk, All, length};
 ghost use Rattle.std.specs.Option.{ForSome, ForNone};
-ghost use Rattle.disk_model.specs.Disk.{Only, LeavesOnly, Rose};
+ghost use Rattle.disk_model.specs.Disk.{Only, Rose};
+ghost use Rattle.disk_model.specs.Moments.{LeavesOnly};
 ghost use Rattle.answer_journal.specs.Storable.{IsStorableEvent};
 ghost use Rattle.answer_journal.specs.Journal.{ReadsAs, Session};
 ghost use Rattle.answer_journal.specs.End.{Sits};
@@ -55,7 +56,7 @@ pub fn open<D: Disk>(alloc: Global, disk: &mut D) -> Result<Opened, JFault>
 
     // It writes nothing.
     ensures same { D.content disk.new ≡ D.content disk.old }
-    ensures any_moment { LeavesOnly D.moment D.left_since disk.old disk.new (D.may_leave disk.old) }
+    ensures any_moment { LeavesOnly D.Disk disk.old disk.new (D.may_leave disk.old) }
 {
     let (head, size) = head_of(disk)?;
     match head {

@@ -3,7 +3,7 @@
 ghost use Rattle.std.specs.Prelude.{◌≡◌, ◌<◌, ◌≤◌, ◌+◌, ◌^◌, ◌++◌, ◌⊎◌, [], List, ℕ, Some, None, IsTrue, IsFalse, IsErrOf, length, drop, flat_map, All, IfOk, IfErr, OnOk, MatchResult};
 ghost use Rattle.std.specs.Option.{ForSome};
 ghost use Rattle.disk_model.specs.Disk.{Rose};
-ghost use Rattle.answer_journal.specs.Steps.{IsOnlyRead};
+ghost use Rattle.disk_model.specs.Moments.{IsOnlyRead};
 ghost use Rattle.answer_journal.specs.Records.{with_record, is_raised_by};
 ghost use Rattle.answer_journal.specs.Found.{IsRead, WereRead, HasEvents, BeginsWith, EventsRefused, gate_reached, IsReached, IsProgress};
 
@@ -41,7 +41,7 @@ pub(crate) fn events_of<D: Disk>(
     ensures read { IfOk result (λ found. WereRead start found.2 found.0.items found.1) }
     ensures failed { IsErrOf result JFault.DiskFault → Rose (D.faults disk.old) (D.faults disk.new) }
     ensures later { D.faults disk.old ≤ D.faults disk.new }
-    ensures only_read { IsOnlyRead D.content D.may_leave D.moment D.left_since disk.old disk.new }
+    ensures only_read { IsOnlyRead D.Disk disk.old disk.new }
 {
     let mut events = Vec::new(alloc);
     let mut raised = false;

@@ -7,3 +7,4 @@ pub mod Placing
 pub mod Vocabularies
 pub mod Stores
 pub mod Openings
+pub mod Keepers

@@ -3,10 +3,9 @@ use Rattle.std.proofs.Common.{◌≡◌, ◌<◌, ◌⊎◌, ℕ, length, List, 
 use Rattle.std.specs.Option.{ForNone}
 use Rattle.assign.specs.declared.events.Event.{Event}
 use Rattle.assign.specs.declared.events.Plan.{Plan}
-use Rattle.disk_model.specs.Disk.{Only, LeavesOnly}
-use Rattle.disk_model.specs.Moments.{started, joined, weaker}
+use Rattle.disk_model.specs.Disk.{Only}
+use Rattle.disk_model.specs.Moments.{IsOnDisk, LeavesOnly, started, joined, weaker}
 use Rattle.answer_journal.specs.End.{End, Sits, HasNew, IsOldOrNew, IsSame}
-use Rattle.answer_journal.specs.Steps.{IsOnDisk}
 use Rattle.answer_journal.specs.Making.{StartsWith, CreateRefused}
 use Rattle.answer_journal.specs.Found.{Refused}
 use Rattle.answer_journal.specs.declared.fault.JFault.{JFault}
@@ -18,6 +17,7 @@ use Rattle.voc_read.specs.Vocabulary.{IsVocabulary, refusal_of_vocabulary}
 use Rattle.voc_read.specs.declared.fault.VocFault.{VocFault}
 use Rattle.session_store.specs.Faults.{of_journal}
 use Rattle.std.specs.Prelude.{All, OnOk}
+use Rattle.disk_model.specs.declared.disk.Disk.{Ghosts as DiskOf}
 use Rattle.session_store.specs.Held.{lang_in, plan_in, StandsIn, events_held, IsHeld, IsWide}
 use Rattle.session_store.specs.Opening.{NoLanguage, NotMade, NotOpened}
 use Rattle.session_store.specs.Replay.{replay, HavePlaces, NamesStray}
@@ -50,30 +50,30 @@ sits_as old new content may_leave journal voc plan events sits live bytes told =
     there_as new.journal (plan_of old) (plan_of new) (voc_of new) (events_of old) (events_of new) may_leave bytes plan events
     (subst Two voc (subst One journal (sits (subst Placed (sym journal) live) bytes told)))
 
-module _ {D : Type 0} (content : D → Option (List ℕ)) (may_leave : D → List ℕ → Type 0) (moment : D → ℕ) (left_since : D → ℕ → List ℕ → Type 0)
-    (only_now : (disk : D) (c : List ℕ) → left_since disk (moment disk) c → may_leave disk c) where
+module _ {D : Type 0} (disk : DiskOf D)
+    (only_now : (d : D) (c : List ℕ) → disk.left_since d (disk.moment d) c → disk.may_leave d c) where
   -- nothing was done
-  pub nothing_left : (place : End) (plan : Plan) (voc : List ℕ) (events : List Event) (e : Event) (disk : D) (bytes : List ℕ) → IsThere place plan voc events (may_leave disk) bytes →
-      LeavesOnly moment left_since disk disk (OpensWithOrWithout plan voc events e)
-  nothing_left place plan voc events e disk bytes there =
-      started moment left_since disk (OpensWithOrWithout plan voc events e) (λ c left. inl (opens_there place plan voc events (may_leave disk) bytes c there (only_now disk c left)))
+  pub nothing_left : (place : End) (plan : Plan) (voc : List ℕ) (events : List Event) (e : Event) (d : D) (bytes : List ℕ) → IsThere place plan voc events (disk.may_leave d) bytes →
+      LeavesOnly disk d d (OpensWithOrWithout plan voc events e)
+  nothing_left place plan voc events e d bytes there =
+      started disk d (OpensWithOrWithout plan voc events e) (λ c left. inl (opens_there place plan voc events (disk.may_leave d) bytes c there (only_now d c left)))
 
   -- what the append said, of this plan and these events
-  pub left_by_append : (place : End) (plan : Plan) (voc : List ℕ) (events : List Event) (e : Event) (old new : D) (bytes : List ℕ) → IsThere place plan voc events (may_leave old) bytes →
-      LeavesOnly moment left_since old new (IsOldOrNew bytes e) → LeavesOnly moment left_since old new (OpensWithOrWithout plan voc events e)
+  pub left_by_append : (place : End) (plan : Plan) (voc : List ℕ) (events : List Event) (e : Event) (old new : D) (bytes : List ℕ) → IsThere place plan voc events (disk.may_leave old) bytes →
+      LeavesOnly disk old new (IsOldOrNew bytes e) → LeavesOnly disk old new (OpensWithOrWithout plan voc events e)
   left_by_append place plan voc events e old new bytes there any =
-      weaker moment left_since old new (IsOldOrNew bytes e) (OpensWithOrWithout plan voc events e) any (λ c either. either plan voc events there.opens)
+      weaker disk old new (IsOldOrNew bytes e) (OpensWithOrWithout plan voc events e) any (λ c either. either plan voc events there.opens)
 
   -- nothing was done to a disk that tells
-  pub same_now : (disk : D) (bytes : List ℕ) → content disk ≡ Some bytes → Only bytes (may_leave disk) → IsOnDisk (content disk) (may_leave disk) (IsSame bytes)
-  same_now disk bytes told durable = record { now = bytes; tells = told; durable = durable; holds = λ plan voc events spelled. spelled }
+  pub same_now : (d : D) (bytes : List ℕ) → disk.content d ≡ Some bytes → Only bytes (disk.may_leave d) → IsOnDisk disk d (IsSame bytes)
+  same_now d bytes told durable = record { now = bytes; tells = told; durable = durable; holds = λ plan voc events spelled. spelled }
 
-  pub same_left : (disk : D) (bytes : List ℕ) → Only bytes (may_leave disk) → LeavesOnly moment left_since disk disk (IsSame bytes)
-  same_left disk bytes durable =
-      started moment left_since disk (IsSame bytes) (λ c left. subst (IsSame bytes) (sym (durable c (only_now disk c left))) (λ plan voc events spelled. spelled))
+  pub same_left : (d : D) (bytes : List ℕ) → Only bytes (disk.may_leave d) → LeavesOnly disk d d (IsSame bytes)
+  same_left d bytes durable =
+      started disk d (IsSame bytes) (λ c left. subst (IsSame bytes) (sym (durable c (only_now d c left))) (λ plan voc events spelled. spelled))
 
   -- first a journal was raised, and then an event was added
-  pub added_after : (bytes here : List ℕ) (e : Event) (new : D) → IsSame bytes here → IsOnDisk (content new) (may_leave new) (HasNew here e) → IsOnDisk (content new) (may_leave new) (HasNew bytes e)
+  pub added_after : (bytes here : List ℕ) (e : Event) (new : D) → IsSame bytes here → IsOnDisk disk new (HasNew here e) → IsOnDisk disk new (HasNew bytes e)
   added_after bytes here e new same added = record {
     now = added.now;
     tells = added.tells;
@@ -82,17 +82,17 @@ module _ {D : Type 0} (content : D → Option (List ℕ)) (may_leave : D → Lis
   }
 
   -- where the raising failed, and where the adding behind it did
-  pub left_by_raising : (bytes : List ℕ) (e : Event) (old new : D) → LeavesOnly moment left_since old new (IsSame bytes) → LeavesOnly moment left_since old new (IsOldOrNew bytes e)
-  left_by_raising bytes e old new any = weaker moment left_since old new (IsSame bytes) (IsOldOrNew bytes e) any (λ c same plan voc events spelled. inl (same plan voc events spelled))
+  pub left_by_raising : (bytes : List ℕ) (e : Event) (old new : D) → LeavesOnly disk old new (IsSame bytes) → LeavesOnly disk old new (IsOldOrNew bytes e)
+  left_by_raising bytes e old new any = weaker disk old new (IsSame bytes) (IsOldOrNew bytes e) any (λ c same plan voc events spelled. inl (same plan voc events spelled))
 
-  pub left_after : (bytes here : List ℕ) (e : Event) (old mid new : D) → IsSame bytes here → LeavesOnly moment left_since old mid (IsSame bytes) → LeavesOnly moment left_since mid new (IsOldOrNew here e) →
-      LeavesOnly moment left_since old new (IsOldOrNew bytes e)
+  pub left_after : (bytes here : List ℕ) (e : Event) (old mid new : D) → IsSame bytes here → LeavesOnly disk old mid (IsSame bytes) → LeavesOnly disk mid new (IsOldOrNew here e) →
+      LeavesOnly disk old new (IsOldOrNew bytes e)
   left_after bytes here e old mid new same first second =
-      joined moment left_since old mid new (IsSame bytes) (IsOldOrNew here e) (IsOldOrNew bytes e) first second
+      joined disk old mid new (IsSame bytes) (IsOldOrNew here e) (IsOldOrNew bytes e) first second
       (λ c kept plan voc events spelled. inl (kept plan voc events spelled)) (λ c either plan voc events spelled. either plan voc events (same plan voc events spelled))
 
-  pub now_by_append : (place : End) (plan : Plan) (voc : List ℕ) (events : List Event) (e : Event) (old new : D) (bytes : List ℕ) → IsThere place plan voc events (may_leave old) bytes →
-      IsOnDisk (content new) (may_leave new) (HasNew bytes e) → LeavesNow content may_leave (OpensWith plan voc (events ++ e ∷ [])) new
+  pub now_by_append : (place : End) (plan : Plan) (voc : List ℕ) (events : List Event) (e : Event) (old new : D) (bytes : List ℕ) → IsThere place plan voc events (disk.may_leave old) bytes →
+      IsOnDisk disk new (HasNew bytes e) → LeavesNow disk (OpensWith plan voc (events ++ e ∷ [])) new
   now_by_append place plan voc events e old new bytes there settled =
       let opens : OpensWith plan voc (events ++ e ∷ []) settled.now = settled.holds plan voc events there.opens in
       record { bytes = settled.now; tells = settled.tells; each = λ c left. subst (OpensWith plan voc (events ++ e ∷ [])) (sym (settled.durable c left)) opens }
@@ -119,10 +119,10 @@ held_as old new session events held =
     }
 
 -- a new store, whose journal was just made
-pub there_made : (place : End) (plan asked : Plan) (voc given : List ℕ) (events : List Event) (content : Option (List ℕ)) (may_leave : List ℕ → Type 0) (bytes : List ℕ) → content ≡ Some bytes → asked ≡ plan → given ≡ voc → events ≡ [] →
-    Sits place bytes → Only bytes may_leave → IsOnDisk content may_leave (StartsWith asked given) → IsThere place plan voc events may_leave bytes
-there_made place plan asked voc given events content may_leave bytes told planned same none sits only settled =
-    let here : settled.now ≡ bytes = some_once content settled.now bytes settled.tells told in
+pub there_made : {D : Type 0} (disk : DiskOf D) (new : D) (place : End) (plan asked : Plan) (voc given : List ℕ) (events : List Event) (bytes : List ℕ) → disk.content new ≡ Some bytes → asked ≡ plan → given ≡ voc → events ≡ [] →
+    Sits place bytes → Only bytes (disk.may_leave new) → IsOnDisk disk new (StartsWith asked given) → IsThere place plan voc events (disk.may_leave new) bytes
+there_made disk new place plan asked voc given events bytes told planned same none sits only settled =
+    let here : settled.now ≡ bytes = some_once (disk.content new) settled.now bytes settled.tells told in
     let A : Plan → Type 0 = λ p. OpensWith p given [] bytes in
     let B : List ℕ → Type 0 = λ v. OpensWith plan v [] bytes in
     let C : List Event → Type 0 = λ e. OpensWith plan voc e bytes in

@@ -2,6 +2,7 @@
 use Rattle.std.specs.Prelude.{ℕ, ◌≡◌, ◌⊎◌, List, [], ◌∷◌, ◌++◌, Option, Some, None, IsSome, IsTrue, false, refl}
 use Rattle.assign.specs.declared.events.Plan.{Plan}
 use Rattle.assign.specs.declared.events.Event.{Event}
+use Rattle.disk_model.specs.declared.disk.Disk.{Ghosts as DiskOf}
 use Rattle.answer_journal.specs.Journal.{Spells, ReadsAs, Session}
 
 -- the content opens with this plan, these bytes of a vocabulary and these events
@@ -24,10 +25,10 @@ pub record OpensWithin (plan : Plan) (voc : List ℕ) (before after : List Event
   pub opens : OpensWith plan voc (before ++ some) content
 
 -- The disk tells what a read gives, and each content that a crash may leave now has P.
-pub record LeavesNow {D : Type 0} (content : D → Option (List ℕ)) (may_leave : D → List ℕ → Type 0) (P : List ℕ → Type 0) (disk : D) : Type 0 where
+pub record LeavesNow {D : Type 0} (disk : DiskOf D) (P : List ℕ → Type 0) (new : D) : Type 0 where
   pub bytes : List ℕ
-  pub tells : content disk ≡ Some bytes
-  pub each : (c : List ℕ) → may_leave disk c → P c
+  pub tells : disk.content new ≡ Some bytes
+  pub each : (c : List ℕ) → disk.may_leave new c → P c
 
 -- for keepers that write nothing
 pub false_is_not_true : IsTrue false → ⊥

@@ -1,6 +1,7 @@
 pub mod Kept
 pub mod Left
 pub mod Keeping
+pub mod Keeps
 pub mod Held
 pub mod Replay
 pub mod Laws

@@ -6,10 +6,11 @@ ghost use Rattle.assign.specs.declared.events.Event.{Event};
 ghost use Rattle.assign.specs.declared.events.Plan.{Plan};
 ghost use Rattle.language.specs.Language.{Language};
 ghost use Rattle.language.specs.Answers.{standing_on};
-ghost use Rattle.disk_model.specs.Disk.{LeavesOnly, Rose};
+ghost use Rattle.disk_model.specs.Disk.{Rose};
+ghost use Rattle.disk_model.specs.Moments.{LeavesOnly, GoesOn};
 ghost use Rattle.session_core.specs.Standing.{Stands, knowledge_of, open_in};
 ghost use Rattle.session_store.specs.Held.{IsWide};
-ghost use Rattle.session_store.specs.Keeping.{HasKept, IsUnmoved, HasSameTerms, GoesOn};
+ghost use Rattle.session_store.specs.Keeping.{HasKept, IsUnmoved, HasSameTerms};
 ghost use Rattle.session_store.specs.Kept.{IsLawfulAfter, answer_event};
 ghost use Rattle.session_store.specs.Replay.{HavePlaces};
 ghost use Rattle.session_store.specs.Left.{OpensWith, OpensWithOrWithout, LeavesNow};
@@ -101,13 +102,13 @@ pub trait Keep<D: Disk> {
         ensures faults { IfErr result (λ e. (e ≡ SFault.Memory) ⊎ (e ≡ SFault.Journal JFault.DiskFault)) }
         ensures memory { IsErrOf result SFault.Memory → (live self.new ≡ live self.old) × (disk.new ≡ disk.old) }
         ensures failed { IsErrOf result (SFault.Journal JFault.DiskFault) → IsTrue (writes self.old) × IsFalse (live self.new) × Rose (D.faults disk.old) (D.faults disk.new) }
-        ensures disk { GoesOn D.content D.faults disk.old disk.new }
+        ensures disk { GoesOn D.Disk disk.old disk.new }
 
         // Where nothing is written, the disk isn't touched. Else a crash at any moment leaves the events from before the call,
         // with the new one or without, and after `Ok` with it.
         ensures unwritten { IsFalse (writes self.old) → disk.new ≡ disk.old }
-        ensures written { IsTrue (writes self.old) → ForSome (D.content disk.old) (λ _. OnOk result (LeavesNow D.content D.may_leave (OpensWith (plan self.old) (voc self.old) (record_of self.new)) disk.new)) }
-        ensures any_moment { IsTrue (writes self.old) → ForSome (D.content disk.old) (λ _. ForSome (question self.old) (λ q. LeavesOnly D.moment D.left_since disk.old disk.new (OpensWithOrWithout (plan self.old) (voc self.old) (record_of self.old) (answer_event q «yes»)))) };
+        ensures written { IsTrue (writes self.old) → ForSome (D.content disk.old) (λ _. OnOk result (LeavesNow D.Disk (OpensWith (plan self.old) (voc self.old) (record_of self.new)) disk.new)) }
+        ensures any_moment { IsTrue (writes self.old) → ForSome (D.content disk.old) (λ _. ForSome (question self.old) (λ q. LeavesOnly D.Disk disk.old disk.new (OpensWithOrWithout (plan self.old) (voc self.old) (record_of self.old) (answer_event q «yes»)))) };
 
     /// Keeps that the last answer that stands is taken back, and then leads the session from its beginning through those that
     /// are left. A question that was put is dropped: what is open then is what these answers lead to. All memory is taken
@@ -128,13 +129,13 @@ pub trait Keep<D: Disk> {
         ensures faults { IfErr result (λ e. (e ≡ SFault.Memory) ⊎ (e ≡ SFault.Journal JFault.DiskFault)) }
         ensures memory { IsErrOf result SFault.Memory → (live self.new ≡ live self.old) × (disk.new ≡ disk.old) }
         ensures failed { IsErrOf result (SFault.Journal JFault.DiskFault) → IsTrue (writes self.old) × IsFalse (live self.new) × Rose (D.faults disk.old) (D.faults disk.new) }
-        ensures disk { GoesOn D.content D.faults disk.old disk.new }
+        ensures disk { GoesOn D.Disk disk.old disk.new }
 
         // Where nothing is written, the disk isn't touched. Else a crash at any moment leaves the events from before the call,
         // with the take-back or without, and after `Ok` with it.
         ensures unwritten { IsFalse (writes self.old) → disk.new ≡ disk.old }
-        ensures written { IsTrue (writes self.old) → ForSome (D.content disk.old) (λ _. OnOk result (LeavesNow D.content D.may_leave (OpensWith (plan self.old) (voc self.old) (record_of self.new)) disk.new)) }
-        ensures any_moment { IsTrue (writes self.old) → ForSome (D.content disk.old) (λ _. LeavesOnly D.moment D.left_since disk.old disk.new (OpensWithOrWithout (plan self.old) (voc self.old) (record_of self.old) Event.Back)) };
+        ensures written { IsTrue (writes self.old) → ForSome (D.content disk.old) (λ _. OnOk result (LeavesNow D.Disk (OpensWith (plan self.old) (voc self.old) (record_of self.new)) disk.new)) }
+        ensures any_moment { IsTrue (writes self.old) → ForSome (D.content disk.old) (λ _. LeavesOnly D.Disk disk.old disk.new (OpensWithOrWithout (plan self.old) (voc self.old) (record_of self.old) Event.Back)) };
 
     /// There are never more records than a journal takes.
     ghost few: { (keep : Self) → sound keep → length (record_of keep) < 1000000 };

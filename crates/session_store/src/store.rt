@@ -1,14 +1,13 @@
 ghost use Rattle.std.specs.Prelude.{◌≡◌, ◌≤◌, ◌<◌, ◌+◌, ◌⊎◌, [], List, ℕ, IfOk, IfErr, IsErrOf, IsSome, OnOk, IsTrue, IsFalse, Some, None, true, length};
 ghost use Rattle.std.specs.Option.{ForSome, ForNone};
 ghost use Rattle.language.specs.Answers.{standing_on};
-ghost use Rattle.disk_model.specs.Disk.{LeavesOnly, Only, Rose};
+ghost use Rattle.disk_model.specs.Disk.{Only, Rose};
+ghost use Rattle.disk_model.specs.Moments.{LeavesOnly, IsOnlyRead, IsOnDisk, GoesOn};
 ghost use Rattle.answer_journal.specs.End.{Sits, HasNew, IsOldOrNew, IsSame};
 ghost use Rattle.answer_journal.specs.Journal.{HasNoSession};
 ghost use Rattle.answer_journal.specs.Making.{IsCreating};
-ghost use Rattle.answer_journal.specs.Steps.{IsOnlyRead, IsOnDisk};
 ghost use Rattle.voc_read.specs.Vocabulary.{IsVocabulary, refusal_of_vocabulary};
 ghost use Rattle.session_core.specs.Settled.{IsSettled};
-ghost use Rattle.session_store.specs.Keeping.{GoesOn};
 ghost use Rattle.session_store.specs.Left.{SaysSession};
 ghost use Rattle.session_store.specs.Replay.{HavePlaces};
 ghost use Rattle.session_store.specs.Opening.{NoLanguage, NotMade, NotOpened};
@@ -84,11 +83,11 @@ impl Store {
 
         // Where the disk didn't fail, a refusal leaves the file and each content of a crash as they were. Where the file holds
         // a session or is no journal, it leaves them so whatever failed.
-        ensures untouched { IfErr result (λ e. (e ≡ SFault.Journal JFault.DiskFault) ⊎ IsOnlyRead D.content D.may_leave D.moment D.left_since disk.old disk.new) }
-        ensures spared { ForSome (D.content disk.old) (λ bytes. HasNoSession bytes ⊎ IsOnlyRead D.content D.may_leave D.moment D.left_since disk.old disk.new) }
+        ensures untouched { IfErr result (λ e. (e ≡ SFault.Journal JFault.DiskFault) ⊎ IsOnlyRead D.Disk disk.old disk.new) }
+        ensures spared { ForSome (D.content disk.old) (λ bytes. HasNoSession bytes ⊎ IsOnlyRead D.Disk disk.old disk.new) }
 
         // A crash at any moment leaves what it might have left before, or no session, or the new one with no event.
-        ensures any_moment { ForSome (D.content disk.old) (λ _. LeavesOnly D.moment D.left_since disk.old disk.new (IsCreating (D.may_leave disk.old) plan voc.now)) }
+        ensures any_moment { ForSome (D.content disk.old) (λ _. LeavesOnly D.Disk disk.old disk.new (IsCreating (D.may_leave disk.old) plan voc.now)) }
     {
         let lang = language_of(alloc, voc)?;
         let bytes = voc.to_vec(alloc)?;
@@ -122,7 +121,7 @@ impl Store {
 
         // It writes nothing.
         ensures same { D.content disk.new ≡ D.content disk.old }
-        ensures any_moment { LeavesOnly D.moment D.left_since disk.old disk.new (D.may_leave disk.old) }
+        ensures any_moment { LeavesOnly D.Disk disk.old disk.new (D.may_leave disk.old) }
     {
         let Opened {
             journal,
@@ -154,14 +153,14 @@ fn raised<D: Disk>(journal: &mut Journal, disk: &mut D) -> Result<(), JFault>
     requires live { IsTrue journal.old.live }
     requires sits { ForSome (D.content disk.old) (Sits journal.old) }
     requires durable { ForSome (D.content disk.old) (λ bytes. Only bytes (D.may_leave disk.old)) }
-    ensures same { ForSome (D.content disk.old) (λ old. OnOk result (IsOnDisk (D.content disk.new) (D.may_leave disk.new) (IsSame old))) }
+    ensures same { ForSome (D.content disk.old) (λ old. OnOk result (IsOnDisk D.Disk disk.new (IsSame old))) }
     ensures sits { ForSome (D.content disk.new) (λ bytes. OnOk result (Sits journal.new bytes)) }
     ensures durable { ForSome (D.content disk.new) (λ bytes. OnOk result (Only bytes (D.may_leave disk.new))) }
     ensures counted { journal.new.records ≡ journal.old.records }
     ensures raised { OnOk result (IsTrue journal.new.raised) }
     ensures live { OnOk result (IsTrue journal.new.live) }
-    ensures disk { GoesOn D.content D.faults disk.old disk.new }
-    ensures any_moment { ForSome (D.content disk.old) (λ old. LeavesOnly D.moment D.left_since disk.old disk.new (IsSame old)) }
+    ensures disk { GoesOn D.Disk disk.old disk.new }
+    ensures any_moment { ForSome (D.content disk.old) (λ old. LeavesOnly D.Disk disk.old disk.new (IsSame old)) }
     // the disk alone makes it give up
     ensures failed { IfErr result (λ _. Rose (D.faults disk.old) (D.faults disk.new) × IsFalse journal.new.live) }
 {
@@ -177,13 +176,13 @@ fn append_back<D: Disk>(journal: &mut Journal, disk: &mut D) -> Result<(), JFaul
     requires room { journal.old.records < 1000000 }
     requires sits { ForSome (D.content disk.old) (Sits journal.old) }
     requires durable { ForSome (D.content disk.old) (λ bytes. Only bytes (D.may_leave disk.old)) }
-    ensures added { ForSome (D.content disk.old) (λ old. OnOk result (IsOnDisk (D.content disk.new) (D.may_leave disk.new) (HasNew old Event.Back))) }
+    ensures added { ForSome (D.content disk.old) (λ old. OnOk result (IsOnDisk D.Disk disk.new (HasNew old Event.Back))) }
     ensures sits { ForSome (D.content disk.new) (λ bytes. OnOk result (Sits journal.new bytes)) }
     ensures durable { ForSome (D.content disk.new) (λ bytes. OnOk result (Only bytes (D.may_leave disk.new))) }
     ensures counted { OnOk result (journal.new.records ≡ journal.old.records + 1) }
     ensures live { OnOk result (IsTrue journal.new.live) }
-    ensures disk { GoesOn D.content D.faults disk.old disk.new }
-    ensures any_moment { ForSome (D.content disk.old) (λ old. LeavesOnly D.moment D.left_since disk.old disk.new (IsOldOrNew old Event.Back)) }
+    ensures disk { GoesOn D.Disk disk.old disk.new }
+    ensures any_moment { ForSome (D.content disk.old) (λ old. LeavesOnly D.Disk disk.old disk.new (IsOldOrNew old Event.Back)) }
     // the disk alone makes it give up
     ensures failed { IfErr result (λ _. Rose (D.faults disk.old) (D.faults disk.new) × IsFalse journal.new.live) }
 {

@@ -1,5 +1,5 @@
 use Rattle.std.proofs.Common.{ℕ, length, refl, ap, subst, inl, inr, Result, Err, arith}
-use Rattle.session_store.specs.Keeping.{rose_later}
+use Rattle.session_store.proofs.Keepers.{rose_later}
 use Rattle.session_store.specs.Store.{lang_of, plan_of, voc_of, events_of, question_of}
 use Rattle.session_store.specs.declared.fault.SFault.{SFault}
 use Rattle.session_store.specs.declared.store.Store.{Store}
@@ -88,7 +88,7 @@ returns-clause-backs g c left =
       later = events_of after;
       ends = subst Ends number.0 c.take_last.ensures.ends;
       all_places = back_has_place (lang_of store) (plan_of store) events c.in-Ok.ensures.places (some_there (lang_of store) events c.in-Some.m number.0 number.1);
-      leaves = leaves_back D.content D.may_leave D.moment D.left_since (plan_of store) (voc_of store) c.in-Some.m events (events_of after) written written' (question_of after)
+      leaves = leaves_back D (plan_of store) (voc_of store) c.in-Some.m events (events_of after) written written' (question_of after)
           c.args.disk.now c.open.new.disk c.take_last.new.disk c.take_last.result c.open.ensures.same c.open.ensures.any_moment c.take_last.ensures.ends c.take_last.ensures.keeps.told
           (λ no bytes told. c.take_last.ensures.keeps.persists refl bytes told no) (λ is. c.take_last.ensures.keeps.fails is);
     })))

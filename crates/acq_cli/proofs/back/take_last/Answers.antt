@@ -1,7 +1,7 @@
 use Rattle.std.proofs.Common.{arith, ◌≡◌, ap, refl, Some, None, inl, ⊎_elim}
 use Rattle.assign.specs.declared.events.Event.{Event}
 use Rattle.assign.specs.declared.events.Event.TheVariants as event
-use Rattle.session_store.specs.Keeping.{keeps_as}
+use Rattle.session_store.proofs.Keepers.{keeps_as}
 use Rattle.acq_cli.specs.TakingBack.{taken_text}
 use Rattle.acq_cli.specs.declared.driving.Drove.{Drove}
 use Rattle.acq_cli.specs.declared.driving.Drove.TheVariants as drove
@@ -39,5 +39,5 @@ returns-else-eq-clause-keeps g c =
     let Failed : Type 0 = Some end ≡ Some drove.DiskFault in
     let Ended : Type 0 = okay ending.DiskFault ≡ okay ending.DiskFault in
     let Lost : Event → Type 0 = λ lost. lost ≡ event.Back in
-    keeps_as D.content D.may_leave D.moment D.left_since g.met.D.Disk.counts_now g.met.D.Disk.only_now P.plan P.voc P.record_of P.question P.writes P.live P.sits D.faults Failed Ended Lost Lost c.args.keep.now c.keep_back.new.keep
-    c.args.disk.now c.keep_back.new.disk (λ e. ap (λ (d : Drove). Some d) is) (λ e. refl) (λ failed e lost. lost) c.in-Some.ensures.keeps
+    keeps_as D g.met.D.Disk.counts_now g.met.D.Disk.only_now P Failed Ended Lost Lost c.args.keep.now c.keep_event.new.keep
+    c.args.disk.now c.keep_event.new.disk (λ e. ap (λ (d : Drove). Some d) is) (λ e. refl) (λ failed e lost. lost) c.in-Some.ensures.keeps

@@ -29,7 +29,7 @@ returns-in_err-say_created-in-Ok-clause-makes g c =
           (said_badly ending.Done (created_text c.lang_of.result.now) (g.K.Sink.written c.args.out.now) (g.K.Sink.written c.say_created.new.out) c.in_err-say_created-in-Ok.field-0.0 c.in_err-say_created-in-Ok.ensures.part c.in_err-say_created-in-Ok.ensures.memory);
       now = λ bytes told.
           let t = bytes_told (g.D.Disk.content c.create.new.disk) (ok.told bytes told) in
-          made_now g.D.Disk.content g.D.Disk.may_leave c.create.new.disk store c.args.plan c.args.voc.now t.0 t.1 ok.plan ok.voc ok.events (ok.sits ok.live t.0 t.1);
+          made_now g.D.Disk c.create.new.disk store c.args.plan c.args.voc.now t.0 t.1 ok.plan ok.voc ok.events (ok.sits ok.live t.0 t.1);
       any_moment = ok.any_moment;
     })
 
@@ -46,7 +46,7 @@ returns-in_ok-say_created-in-Ok-clause-makes g c =
       tells = (refl, c.in_ok-say_created-in-Ok.ensures.ok);
       now = λ bytes told.
           let t = bytes_told (g.D.Disk.content c.create.new.disk) (ok.told bytes told) in
-          made_now g.D.Disk.content g.D.Disk.may_leave c.create.new.disk store c.args.plan c.args.voc.now t.0 t.1 ok.plan ok.voc ok.events (ok.sits ok.live t.0 t.1);
+          made_now g.D.Disk c.create.new.disk store c.args.plan c.args.voc.now t.0 t.1 ok.plan ok.voc ok.events (ok.sits ok.live t.0 t.1);
       any_moment = ok.any_moment;
     })
 

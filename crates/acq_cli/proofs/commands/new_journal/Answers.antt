@@ -31,5 +31,5 @@ returns-in-Err-Memory-clause-news g c = inl (record { why = inr (inr refl, refl)
 pub returns-in-Ok-clause-news : goal.returns-in-Ok-clause-news
 returns-in-Ok-clause-news g c =
     let D = g.D.Disk in
-    let Made : List ℕ → Type 0 = λ v. Makes D.content D.may_leave D.moment D.left_since c.args.plan v (g.K.Sink.written c.args.out.now) (g.K.Sink.written c.make_journal.new.out) c.args.disk.now c.make_journal.new.disk c.make_journal.result in
+    let Made : List ℕ → Type 0 = λ v. Makes D c.args.plan v (g.K.Sink.written c.args.out.now) (g.K.Sink.written c.make_journal.new.out) c.args.disk.now c.make_journal.new.disk c.make_journal.result in
     inr (record { voc = c.in-Ok.voc.items; gives = c.in-Ok.ensures.all; makes = subst Made c.deref.ensures.value c.make_journal.ensures.makes })

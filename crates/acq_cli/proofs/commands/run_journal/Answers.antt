@@ -1,5 +1,5 @@
 use Rattle.std.proofs.Common.{refl, ap, inl, inr, Result, Err}
-use Rattle.session_store.specs.Keeping.{rose_later}
+use Rattle.session_store.proofs.Keepers.{rose_later}
 use Rattle.session_store.specs.Store.{lang_of, plan_of, voc_of, events_of, question_of}
 use Rattle.session_store.specs.declared.fault.SFault.{SFault}
 use Rattle.session_store.specs.declared.store.Store.{Store}
@@ -16,7 +16,7 @@ returns-in-Ok-clause-runs g c =
     let D = g.D.Disk in
     let store = c.in-Ok.store in
     let after = c.ask_on.new.keep in
-    inr (goes_on D.content D.may_leave D.moment D.left_since line_turn any_answer c.args.budget (g.S.Source.left c.args.input.now) (g.K.Sink.written c.args.out.now) (g.S.Source.left c.ask_on.new.input) (g.K.Sink.written c.ask_on.new.out)
+    inr (goes_on D line_turn any_answer c.args.budget (g.S.Source.left c.args.input.now) (g.K.Sink.written c.args.out.now) (g.S.Source.left c.ask_on.new.input) (g.K.Sink.written c.ask_on.new.out)
     c.args.disk.now c.open.new.disk c.ask_on.new.disk c.ask_on.result (plan_of store) (voc_of store) (events_of store) (events_of after) (question_of after) (lang_of store)
     c.in-Ok.ensures.opened c.in-Ok.ensures.sound.read c.in-Ok.ensures.places c.open.ensures.same c.open.ensures.any_moment c.ask_on.ensures.lawful c.ask_on.ensures.taught.added c.ask_on.ensures.keeps.told
     (λ no bytes told. c.ask_on.ensures.keeps.persists refl bytes told no) (λ is. c.ask_on.ensures.keeps.fails is)

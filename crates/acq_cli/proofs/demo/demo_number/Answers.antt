@@ -6,7 +6,7 @@ use Rattle.assign.specs.declared.events.Plan.TheVariants.{Quacq}
 use Rattle.language.specs.declared.candidates.Candidate.{Candidate}
 use Rattle.language.specs.Language.{Language}
 use Rattle.language.specs.Answers.{IsNetwork, agrees, standing_on}
-use Rattle.session_store.specs.Keeping.{both_as}
+use Rattle.session_store.proofs.Keepers.{both_as}
 use Rattle.session_store.specs.Loose.{lang_of, plan_of, events_of}
 use Rattle.target_oracle.specs.Generator.{target_of}
 use Rattle.acq_cli.specs.Demoing.{HasDriven}

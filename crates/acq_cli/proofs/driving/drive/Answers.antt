@@ -15,7 +15,7 @@ use Rattle.acq_cli.specs.Due.{IsOneMore}
 use Rattle.acq_cli.specs.Loop.{TellsCandidates}
 use Rattle.acq_cli.specs.declared.driving.Drove.{Drove}
 use Rattle.acq_cli.specs.declared.driving.Drove.TheVariants as drove
-use Rattle.session_store.specs.Keeping.{keeps_still, keeps_then, keeps_as, rose_later}
+use Rattle.session_store.proofs.Keepers.{keeps_still, keeps_then, keeps_as, rose_later}
 use Rattle.acq_cli.specs.Points.{point_of, terms_with}
 use Rattle.query_gen.proofs.Marking.{no_marks_hold}
 use Rattle.acq_cli.proofs.Standings.{carried}
@@ -66,7 +66,7 @@ loop-turn-init g c =
       added = added_none l (g.P.Keep.plan c.args.keep.now) (g.T.Teacher.may_say c.args.teacher.now l) (g.P.Keep.record_of c.args.keep.now) (g.P.Keep.record_of c.args.keep.now) refl;
       keeps =
           let D = g.D.Disk in let P = g.P.Keep in
-          keeps_still D.content D.may_leave D.moment D.left_since g.met.D.Disk.counts_now g.met.D.Disk.only_now P.plan P.voc P.record_of P.question P.writes P.live P.sits D.faults ⊥ (λ e. ⊥) c.args.keep.now c.args.keep.now c.args.disk.now (λ e. e) refl refl refl refl refl c.requires.keeper.live c.requires.keeper.sits
+          keeps_still D g.met.D.Disk.counts_now g.met.D.Disk.only_now P ⊥ (λ e. ⊥) c.args.keep.now c.args.keep.now c.args.disk.now (λ e. e) refl refl refl refl refl c.requires.keeper.live c.requires.keeper.sits
           (λ w bytes told f left. g.met.P.Keep.lasts c.args.keep.now c.args.disk.now w c.requires.keeper.live c.requires.keeper.sits bytes told f left);
       more = omega arith;
     }
@@ -168,8 +168,8 @@ loop-turn-preserved g c =
       keeps =
           let D = g.D.Disk in let P = g.P.Keep in
           let Failed : Type 0 = c.take_turn.result ≡ Some drove.DiskFault in
-          keeps_then D.content D.may_leave D.moment D.left_since g.met.D.Disk.counts_now g.met.D.Disk.only_now P.plan P.voc P.record_of P.question P.writes P.live P.sits D.faults ⊥ (λ e. ⊥) (λ e. ⊥) c.args.keep.now c.loop-turn.keep c.take_turn.new.keep c.args.disk.now c.loop-turn.disk c.take_turn.new.disk c.loop-turn.invariant.plan (λ e lost. lost) c.loop-turn.invariant.keeps
-          (keeps_as D.content D.may_leave D.moment D.left_since g.met.D.Disk.counts_now g.met.D.Disk.only_now P.plan P.voc P.record_of P.question P.writes P.live P.sits D.faults Failed ⊥ _ (λ e. ⊥) c.loop-turn.keep c.take_turn.new.keep c.loop-turn.disk c.take_turn.new.disk (λ e. absurd e) (λ e. not_failed (sym c.in_default.is ∙ e)) (λ bad e lost. bad) c.take_turn.ensures.keeps);
+          keeps_then D g.met.D.Disk.counts_now g.met.D.Disk.only_now P ⊥ (λ e. ⊥) (λ e. ⊥) c.args.keep.now c.loop-turn.keep c.take_turn.new.keep c.args.disk.now c.loop-turn.disk c.take_turn.new.disk c.loop-turn.invariant.plan (λ e lost. lost) c.loop-turn.invariant.keeps
+          (keeps_as D g.met.D.Disk.counts_now g.met.D.Disk.only_now P Failed ⊥ _ (λ e. ⊥) c.loop-turn.keep c.take_turn.new.keep c.loop-turn.disk c.take_turn.new.disk (λ e. absurd e) (λ e. not_failed (sym c.in_default.is ∙ e)) (λ bad e lost. bad) c.take_turn.ensures.keeps);
       more = omega (arith, one, c.loop-turn.invariant.more);
     }
 
@@ -202,14 +202,14 @@ returns-in-Some-clause-keeps g c =
     let Told : Type 0 = Some c.in-Some.drove ≡ Some drove.DiskFault in
     let Turned : Event → Type 0 = Loses (g.T.Teacher.turn c.loop-turn.teacher) old (terms_with (P.plan c.loop-turn.keep) c.args.budget) b d in
     let Lost : Event → Type 0 = Loses turns l (terms_with p c.args.budget) a d in
-    keeps_then D.content D.may_leave D.moment D.left_since g.met.D.Disk.counts_now g.met.D.Disk.only_now P.plan P.voc P.record_of P.question P.writes P.live P.sits D.faults Failed Turned Lost c.args.keep.now c.loop-turn.keep c.take_turn.new.keep c.args.disk.now c.loop-turn.disk c.take_turn.new.disk c.loop-turn.invariant.plan
+    keeps_then D g.met.D.Disk.counts_now g.met.D.Disk.only_now P Failed Turned Lost c.args.keep.now c.loop-turn.keep c.take_turn.new.keep c.args.disk.now c.loop-turn.disk c.take_turn.new.disk c.loop-turn.invariant.plan
     (λ e lost.
     let Taught : Turns → Type 0 = λ t. Loses t old (terms_with (P.plan c.loop-turn.keep) c.args.budget) b d e in
     let Spoken : Language → Plan → Type 0 = λ m q. Loses turns m (terms_with q c.args.budget) b d e in
     steps_loses turns l (terms_with p c.args.budget) a b d e c.loop-turn.invariant.steps
     (carried Spoken old l (P.plan c.loop-turn.keep) p c.loop-turn.invariant.lang c.loop-turn.invariant.plan (subst Taught c.loop-turn.invariant.turn lost)))
     c.loop-turn.invariant.keeps
-    (keeps_as D.content D.may_leave D.moment D.left_since g.met.D.Disk.counts_now g.met.D.Disk.only_now P.plan P.voc P.record_of P.question P.writes P.live P.sits D.faults Told Failed Turned Turned c.loop-turn.keep c.take_turn.new.keep c.loop-turn.disk c.take_turn.new.disk
+    (keeps_as D g.met.D.Disk.counts_now g.met.D.Disk.only_now P Told Failed Turned Turned c.loop-turn.keep c.take_turn.new.keep c.loop-turn.disk c.take_turn.new.disk
     (λ e. ap (λ (d : Drove). Some d) e) (λ (e : Told). some_same c.in-Some.drove e) (λ failed e lost. lost) c.in-Some.ensures.keeps)
 
 pub take_turn-requires-clause-keeper : goal.take_turn-requires-clause-keeper

@@ -7,7 +7,7 @@ use Rattle.target_oracle.specs.declared.teacher.Told.{Told}
 use Rattle.query_gen.specs.Marks.{IsMadeFor}
 use Rattle.par_screen.specs.Eighths.{AreMadeFor}
 use Rattle.session_core.specs.Settled.{IsSettled}
-use Rattle.session_store.specs.Keeping.{Keeps}
+use Rattle.session_store.specs.Keeps.{Keeps}
 use Rattle.acq_cli.specs.Added.{IsAdded}
 use Rattle.acq_cli.specs.Driven.{Remembers, StepsTo}
 use Rattle.acq_cli.specs.Points.{point_of, terms_with}
@@ -35,7 +35,7 @@ invariant-loop-turn g l =
       later_sink : g.K.Sink.faults l.initial.sink ≤ g.K.Sink.faults l.sink;
       no_more : (m : Language) (q : Assignment) (told : Told) → g.T.Teacher.may_say l.teacher m q told → g.T.Teacher.may_say l.initial.teacher m q told;
       added : IsAdded (g.P.Keep.lang l.initial.keep) (g.P.Keep.plan l.initial.keep) (g.T.Teacher.may_say l.initial.teacher (g.P.Keep.lang l.initial.keep)) (entries l.initial.keep) (entries l.keep);
-      keeps : Keeps g.D.Disk.content g.D.Disk.may_leave g.D.Disk.moment g.D.Disk.left_since g.P.Keep.plan g.P.Keep.voc g.P.Keep.record_of g.P.Keep.question g.P.Keep.writes g.P.Keep.live g.P.Keep.sits g.D.Disk.faults ⊥ (λ e. ⊥)
+      keeps : Keeps g.P.Keep g.D.Disk ⊥ (λ e. ⊥)
           l.initial.keep l.keep l.initial.disk l.disk;
       more : l._turn ≤ length (entries l.keep);
     }

@@ -16,7 +16,7 @@ use Rattle.acq_cli.specs.Loop.{EndsAs, HasTurned, IsStillReady}
 use Rattle.acq_cli.specs.declared.driving.Drove.TheVariants as drove
 use Rattle.acq_cli.specs.Due.{IsDue}
 use Rattle.acq_cli.specs.Points.{point_of, terms_with}
-use Rattle.session_store.specs.Keeping.{keeps_still, keeps_then}
+use Rattle.session_store.proofs.Keepers.{keeps_still, keeps_then}
 use Rattle.acq_cli.proofs.Running.{next_ends, next_full}
 use Rattle.acq_cli.proofs.Standings.{carried, room_unless}
 use Rattle.acq_cli.proofs.Nexts.{put_due, put_is}
@@ -214,28 +214,28 @@ returns-else-is_full-clause-taught g c =
 pub returns-then-is_full-clause-keeps : goal.returns-then-is_full-clause-keeps
 returns-then-is_full-clause-keeps g c =
     let D = g.D.Disk in let P = g.P.Keep in
-    keeps_still D.content D.may_leave D.moment D.left_since g.met.D.Disk.counts_now g.met.D.Disk.only_now P.plan P.voc P.record_of P.question P.writes P.live P.sits D.faults _ _ c.args.keep.now c.put_next.new.keep c.args.disk.now (λ (e : _). cc) c.put_next.ensures.keeper.plan c.put_next.ensures.keeper.voc c.put_next.ensures.keeper.events c.put_next.ensures.keeper.writes c.put_next.ensures.keeper.live
+    keeps_still D g.met.D.Disk.counts_now g.met.D.Disk.only_now P _ _ c.args.keep.now c.put_next.new.keep c.args.disk.now (λ (e : _). cc) c.put_next.ensures.keeper.plan c.put_next.ensures.keeper.voc c.put_next.ensures.keeper.events c.put_next.ensures.keeper.writes c.put_next.ensures.keeper.live
     c.requires.keeper.live (c.put_next.ensures.keeper.sits c.args.disk.now c.requires.keeper.sits)
     (λ w bytes told f left. g.met.P.Keep.lasts c.args.keep.now c.args.disk.now w c.requires.keeper.live c.requires.keeper.sits bytes told f left)
 
 pub returns-in-Converged-clause-keeps : goal.returns-in-Converged-clause-keeps
 returns-in-Converged-clause-keeps g c =
     let D = g.D.Disk in let P = g.P.Keep in
-    keeps_still D.content D.may_leave D.moment D.left_since g.met.D.Disk.counts_now g.met.D.Disk.only_now P.plan P.voc P.record_of P.question P.writes P.live P.sits D.faults _ _ c.args.keep.now c.put_next.new.keep c.args.disk.now (λ (e : _). cc) c.put_next.ensures.keeper.plan c.put_next.ensures.keeper.voc c.put_next.ensures.keeper.events c.put_next.ensures.keeper.writes c.put_next.ensures.keeper.live
+    keeps_still D g.met.D.Disk.counts_now g.met.D.Disk.only_now P _ _ c.args.keep.now c.put_next.new.keep c.args.disk.now (λ (e : _). cc) c.put_next.ensures.keeper.plan c.put_next.ensures.keeper.voc c.put_next.ensures.keeper.events c.put_next.ensures.keeper.writes c.put_next.ensures.keeper.live
     c.requires.keeper.live (c.put_next.ensures.keeper.sits c.args.disk.now c.requires.keeper.sits)
     (λ w bytes told f left. g.met.P.Keep.lasts c.args.keep.now c.args.disk.now w c.requires.keeper.live c.requires.keeper.sits bytes told f left)
 
 pub returns-in-Collapsed-clause-keeps : goal.returns-in-Collapsed-clause-keeps
 returns-in-Collapsed-clause-keeps g c =
     let D = g.D.Disk in let P = g.P.Keep in
-    keeps_still D.content D.may_leave D.moment D.left_since g.met.D.Disk.counts_now g.met.D.Disk.only_now P.plan P.voc P.record_of P.question P.writes P.live P.sits D.faults _ _ c.args.keep.now c.put_next.new.keep c.args.disk.now (λ (e : _). cc) c.put_next.ensures.keeper.plan c.put_next.ensures.keeper.voc c.put_next.ensures.keeper.events c.put_next.ensures.keeper.writes c.put_next.ensures.keeper.live
+    keeps_still D g.met.D.Disk.counts_now g.met.D.Disk.only_now P _ _ c.args.keep.now c.put_next.new.keep c.args.disk.now (λ (e : _). cc) c.put_next.ensures.keeper.plan c.put_next.ensures.keeper.voc c.put_next.ensures.keeper.events c.put_next.ensures.keeper.writes c.put_next.ensures.keeper.live
     c.requires.keeper.live (c.put_next.ensures.keeper.sits c.args.disk.now c.requires.keeper.sits)
     (λ w bytes told f left. g.met.P.Keep.lasts c.args.keep.now c.args.disk.now w c.requires.keeper.live c.requires.keeper.sits bytes told f left)
 
 pub returns-in-Undecided-clause-keeps : goal.returns-in-Undecided-clause-keeps
 returns-in-Undecided-clause-keeps g c =
     let D = g.D.Disk in let P = g.P.Keep in
-    keeps_still D.content D.may_leave D.moment D.left_since g.met.D.Disk.counts_now g.met.D.Disk.only_now P.plan P.voc P.record_of P.question P.writes P.live P.sits D.faults _ _ c.args.keep.now c.put_next.new.keep c.args.disk.now (λ (e : _). cc) c.put_next.ensures.keeper.plan c.put_next.ensures.keeper.voc c.put_next.ensures.keeper.events c.put_next.ensures.keeper.writes c.put_next.ensures.keeper.live
+    keeps_still D g.met.D.Disk.counts_now g.met.D.Disk.only_now P _ _ c.args.keep.now c.put_next.new.keep c.args.disk.now (λ (e : _). cc) c.put_next.ensures.keeper.plan c.put_next.ensures.keeper.voc c.put_next.ensures.keeper.events c.put_next.ensures.keeper.writes c.put_next.ensures.keeper.live
     c.requires.keeper.live (c.put_next.ensures.keeper.sits c.args.disk.now c.requires.keeper.sits)
     (λ w bytes told f left. g.met.P.Keep.lasts c.args.keep.now c.args.disk.now w c.requires.keeper.live c.requires.keeper.sits bytes told f left)
 
@@ -255,11 +255,11 @@ returns-else-is_full-clause-keeps g c =
     let written' : Option (List ℕ) = g.K.Sink.written c.hear_answer.new.sink in
     let due = put_due l terms t (P.question two) c.put_next.result c.in-Open.question c.put_next.ensures.put c.in-Open.is in
     let Lost : Event → Type 0 = Loses turns l terms (point_of (P.record_of one) left written) (point_of (P.record_of three) left' written') in
-    keeps_then D.content D.may_leave D.moment D.left_since g.met.D.Disk.counts_now g.met.D.Disk.only_now P.plan P.voc P.record_of P.question P.writes P.live P.sits D.faults _ _ Lost one two three c.args.disk.now c.args.disk.now c.hear_answer.new.disk c.put_next.ensures.keeper.plan
+    keeps_then D g.met.D.Disk.counts_now g.met.D.Disk.only_now P _ _ Lost one two three c.args.disk.now c.args.disk.now c.hear_answer.new.disk c.put_next.ensures.keeper.plan
     (λ e lost.
     loses_as turns l (P.lang two) (P.plan one) (P.plan two) c.args.budget (P.record_of one) (P.record_of two) (P.record_of three) left written left' written' c.in-Open.question e
     c.put_next.ensures.keeper.lang c.put_next.ensures.keeper.plan c.put_next.ensures.keeper.events lost due)
-    (keeps_still D.content D.may_leave D.moment D.left_since g.met.D.Disk.counts_now g.met.D.Disk.only_now P.plan P.voc P.record_of P.question P.writes P.live P.sits D.faults ⊥ (λ e. ⊥) one two c.args.disk.now (λ e. e) c.put_next.ensures.keeper.plan c.put_next.ensures.keeper.voc c.put_next.ensures.keeper.events c.put_next.ensures.keeper.writes c.put_next.ensures.keeper.live
+    (keeps_still D g.met.D.Disk.counts_now g.met.D.Disk.only_now P ⊥ (λ e. ⊥) one two c.args.disk.now (λ e. e) c.put_next.ensures.keeper.plan c.put_next.ensures.keeper.voc c.put_next.ensures.keeper.events c.put_next.ensures.keeper.writes c.put_next.ensures.keeper.live
     c.requires.keeper.live (c.put_next.ensures.keeper.sits c.args.disk.now c.requires.keeper.sits)
     (λ w bytes told f left. g.met.P.Keep.lasts one c.args.disk.now w c.requires.keeper.live c.requires.keeper.sits bytes told f left))
     c.hear_answer.ensures.keeps

@@ -82,12 +82,12 @@ returns-in-Ok-read_target-clause-plays g c =
     let Tried : Bool → Type 0 = λ quiet. IfOk c.ask_on.result (Tries (net_turn target quiet) l terms (events_of store) (events_of after) rest written left' written') in
     let Part : Bool → Type 0 = λ quiet. OnErr c.ask_on.result (BreaksRun (net_turn target quiet) l terms (events_of store) (events_of after) rest written left' written') in
     let Lost : Bool → Type 0 = λ quiet.
-    IsDisk c.ask_on.result → FailsWith D.content D.may_leave D.moment D.left_since (plan_of store) (voc_of store) (events_of store) (events_of after) (question_of after)
+    IsDisk c.ask_on.result → FailsWith D (plan_of store) (voc_of store) (events_of store) (events_of after) (question_of after)
     (Loses (net_turn target quiet) l terms (point_of (events_of store) rest written) (point_of (events_of after) left' written')) c.open.new.disk c.ask_on.new.disk in
     let tries = subst Tried c.new-teacher.ensures.quiet c.ask_on.ensures.asked.tries in
     let Holds : Language → Plan → List Event → List Event → Type 0 = λ m plan before later.
     (standing_on m before ≡ []) × ReadsTarget m left rest target × IsAnsweredBy target m (terms_with plan c.args.budget) (standing_on m later) c.ask_on.result in
-    let on = goes_on_with D.content D.may_leave D.moment D.left_since Holds (net_turn target false) (net_may_say target) c.args.budget rest written left' written'
+    let on = goes_on_with D Holds (net_turn target false) (net_may_say target) c.args.budget rest written left' written'
     c.args.disk.now c.open.new.disk c.ask_on.new.disk c.ask_on.result (plan_of store) (voc_of store) (events_of store) (events_of after) (question_of after) l
     c.in-Ok.ensures.opened c.in-Ok.ensures.sound.read c.in-Ok.ensures.places c.open.ensures.same c.open.ensures.any_moment c.ask_on.ensures.lawful c.ask_on.ensures.taught.added c.ask_on.ensures.keeps.told
     (λ no bytes told. c.ask_on.ensures.keeps.persists refl bytes told no) (subst Lost c.new-teacher.ensures.quiet (λ is. c.ask_on.ensures.keeps.fails is))

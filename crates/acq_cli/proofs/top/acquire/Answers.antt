@@ -20,7 +20,7 @@ pub returns-in-Err-Failed-clause-does : goal.returns-in-Err-Failed-clause-does
 returns-in-Err-Failed-clause-does g c =
     let D = g.D.Disk in
     let Done : Put → Type 0 = λ e.
-    Does D.content D.may_leave D.moment D.left_since (command_asked (map string_bytes c.args.words.now)) (g.S.Source.left c.args.input.now) (g.K.Sink.written c.args.out.now) (g.S.Source.left c.perform.new.input) (g.K.Sink.written c.perform.new.out)
+    Does D (command_asked (map string_bytes c.args.words.now)) (g.S.Source.left c.args.input.now) (g.K.Sink.written c.args.out.now) (g.S.Source.left c.perform.new.input) (g.K.Sink.written c.perform.new.out)
     c.args.disk.now c.perform.new.disk (failed e) in
     (failed put.Failed, refl, subst Done c.in-Err-Failed.field-0-is c.in-Err-Failed.ensures.does)
 
@@ -28,7 +28,7 @@ pub returns-in-Err-Memory-clause-does : goal.returns-in-Err-Memory-clause-does
 returns-in-Err-Memory-clause-does g c =
     let D = g.D.Disk in
     let Done : Put → Type 0 = λ e.
-    Does D.content D.may_leave D.moment D.left_since (command_asked (map string_bytes c.args.words.now)) (g.S.Source.left c.args.input.now) (g.K.Sink.written c.args.out.now) (g.S.Source.left c.perform.new.input) (g.K.Sink.written c.perform.new.out)
+    Does D (command_asked (map string_bytes c.args.words.now)) (g.S.Source.left c.args.input.now) (g.K.Sink.written c.args.out.now) (g.S.Source.left c.perform.new.input) (g.K.Sink.written c.perform.new.out)
     c.args.disk.now c.perform.new.disk (failed e) in
     (failed put.Memory, refl, subst Done c.in-Err-Memory.field-0-is c.in-Err-Memory.ensures.does)
 
@@ -37,11 +37,11 @@ returns-in-Ok-clause-refuses g c =
     let D = g.D.Disk in
     let asked : Result Command UsageFault = command_asked (map string_bytes c.args.words.now) in
     let Done : Result Command UsageFault → Type 0 = λ a.
-    Does D.content D.may_leave D.moment D.left_since a (g.S.Source.left c.args.input.now) (g.K.Sink.written c.args.out.now) (g.S.Source.left c.perform.new.input) (g.K.Sink.written c.perform.new.out)
+    Does D a (g.S.Source.left c.args.input.now) (g.K.Sink.written c.args.out.now) (g.S.Source.left c.perform.new.input) (g.K.Sink.written c.perform.new.out)
     c.args.disk.now c.perform.new.disk (okay c.in-Ok.ending) in
     record {
       told = λ fault is. (okay c.in-Ok.ending, refl, subst Done is c.in-Ok.ensures.does);
-      only = usage_is D.content D.may_leave D.moment D.left_since (g.S.Source.left c.args.input.now) (g.K.Sink.written c.args.out.now) (g.S.Source.left c.perform.new.input) (g.K.Sink.written c.perform.new.out)
+      only = usage_is D (g.S.Source.left c.args.input.now) (g.K.Sink.written c.args.out.now) (g.S.Source.left c.perform.new.input) (g.K.Sink.written c.perform.new.out)
           c.args.disk.now c.perform.new.disk asked c.in-Ok.ending c.in-Ok.ensures.does;
     }
 
@@ -50,7 +50,7 @@ unfolding returns-in-Err-Failed-clause-does
 returns-in-Err-Failed-clause-refuses g c =
     let D = g.D.Disk in
     let Done : Result Command UsageFault → Type 0 = λ a.
-    Does D.content D.may_leave D.moment D.left_since a (g.S.Source.left c.args.input.now) (g.K.Sink.written c.args.out.now) (g.S.Source.left c.perform.new.input) (g.K.Sink.written c.perform.new.out)
+    Does D a (g.S.Source.left c.args.input.now) (g.K.Sink.written c.args.out.now) (g.S.Source.left c.perform.new.input) (g.K.Sink.written c.perform.new.out)
     c.args.disk.now c.perform.new.disk (failed put.Failed) in
     let does = returns-in-Err-Failed-clause-does g c in
     record {
@@ -63,7 +63,7 @@ unfolding returns-in-Err-Memory-clause-does
 returns-in-Err-Memory-clause-refuses g c =
     let D = g.D.Disk in
     let Done : Result Command UsageFault → Type 0 = λ a.
-    Does D.content D.may_leave D.moment D.left_since a (g.S.Source.left c.args.input.now) (g.K.Sink.written c.args.out.now) (g.S.Source.left c.perform.new.input) (g.K.Sink.written c.perform.new.out)
+    Does D a (g.S.Source.left c.args.input.now) (g.K.Sink.written c.args.out.now) (g.S.Source.left c.perform.new.input) (g.K.Sink.written c.perform.new.out)
     c.args.disk.now c.perform.new.disk (failed put.Memory) in
     let does = returns-in-Err-Memory-clause-does g c in
     record {
@@ -74,7 +74,7 @@ returns-in-Err-Memory-clause-refuses g c =
 pub returns-in-Ok-clause-exactly : goal.returns-in-Ok-clause-exactly
 returns-in-Ok-clause-exactly g c =
     let D = g.D.Disk in
-    ends_exactly D.content D.may_leave D.moment D.left_since c.no_two_readings.ensures (command_asked (map string_bytes c.args.words.now)) (g.S.Source.left c.args.input.now) (g.K.Sink.written c.args.out.now) (g.S.Source.left c.perform.new.input) (g.K.Sink.written c.perform.new.out)
+    ends_exactly D c.no_two_readings.ensures (command_asked (map string_bytes c.args.words.now)) (g.S.Source.left c.args.input.now) (g.K.Sink.written c.args.out.now) (g.S.Source.left c.perform.new.input) (g.K.Sink.written c.perform.new.out)
     c.args.disk.now c.perform.new.disk (okay c.in-Ok.ending) c.in-Ok.ensures.does
 
 pub returns-in-Err-Failed-clause-exactly : goal.returns-in-Err-Failed-clause-exactly
@@ -86,7 +86,7 @@ returns-in-Err-Memory-clause-exactly g c = broken_exactly (command_asked (map st
 pub returns-in-Ok-clause-completes : goal.returns-in-Ok-clause-completes
 returns-in-Ok-clause-completes g c none =
     let D = g.D.Disk in
-    completes D.content D.may_leave D.moment D.left_since (g.S.Source.left c.args.input.now) (g.K.Sink.written c.args.out.now) (g.S.Source.left c.perform.new.input) (g.K.Sink.written c.perform.new.out)
+    completes D (g.S.Source.left c.args.input.now) (g.K.Sink.written c.args.out.now) (g.S.Source.left c.perform.new.input) (g.K.Sink.written c.perform.new.out)
     c.args.disk.now c.perform.new.disk c.in-Ok.ending (record { read = λ e. none.read (c.in-Ok.ensures.causes.read e); write = c.in-Ok.ensures.no_fault; kept = λ e. none.kept (c.in-Ok.ensures.causes.lost e) })
     (command_asked (map string_bytes c.args.words.now)) c.in-Ok.ensures.does (returns-in-Ok-clause-exactly g c)
 

@@ -6,7 +6,7 @@ use Rattle.language.specs.Language.{Language, IsLanguage}
 use Rattle.language.specs.Answers.{standing_on}
 use Rattle.query_gen.specs.Marks.{IsMadeFor}
 use Rattle.session_core.specs.Standing.{Stands, knowledge_of}
-use Rattle.session_store.specs.Keeping.{keeps_still, keeps_as}
+use Rattle.session_store.proofs.Keepers.{keeps_still, keeps_as}
 use Rattle.acq_cli.specs.Driven.{Loses}
 use Rattle.acq_cli.specs.Points.{point_of, terms_with}
 use Rattle.acq_cli.specs.declared.driving.Drove.TheVariants as drove
@@ -115,7 +115,7 @@ returns-clause-keeps g c =
     disk_of (g.T.Teacher.turn c.args.teacher.now) l k.lang p k.plan c.args.budget start later left written left' middle written' c.drive-drove.new.screen c.drive-drove.result c.say.result same again c.drive-drove.ensures.walked c.drive-drove.ensures.ends.ends c.drive-drove.ensures.ends.full c.drive-drove.ensures.ends.tells.undecided says parts in
     let Lost : Event → Type 0 = Loses (g.T.Teacher.turn c.args.teacher.now) l terms (point_of start left written) (point_of later left' middle) in
     let Then : Event → Type 0 = Loses (g.T.Teacher.turn c.args.teacher.now) l terms (point_of start left written) (point_of later left' written') in
-    keeps_as D.content D.may_leave D.moment D.left_since g.met.D.Disk.counts_now g.met.D.Disk.only_now P.plan P.voc P.record_of P.question P.writes P.live P.sits D.faults Failed Ended Lost Then old new c.args.disk.now c.drive-drove.new.disk
+    keeps_as D g.met.D.Disk.counts_now g.met.D.Disk.only_now P Failed Ended Lost Then old new c.args.disk.now c.drive-drove.new.disk
     was
     (disk_told (g.T.Teacher.turn c.args.teacher.now) l k.lang p k.plan c.args.budget start later left written left' middle written' c.drive-drove.new.screen c.drive-drove.result c.say.result same again c.drive-drove.ensures.walked c.drive-drove.ensures.ends.ends c.drive-drove.ensures.ends.full c.drive-drove.ensures.ends.tells.undecided says parts)
     (λ ended e lost.
@@ -165,7 +165,7 @@ returns-in_default-clause-asked g c =
 pub returns-in_default-clause-keeps : goal.returns-in_default-clause-keeps
 returns-in_default-clause-keeps g c =
     let D = g.D.Disk in let P = g.P.Keep in
-    keeps_still D.content D.may_leave D.moment D.left_since g.met.D.Disk.counts_now g.met.D.Disk.only_now P.plan P.voc P.record_of P.question P.writes P.live P.sits D.faults _ _ c.args.keep.now c.args.keep.now c.args.disk.now not_okay refl refl refl refl refl c.requires.keeper.live c.requires.keeper.sits
+    keeps_still D g.met.D.Disk.counts_now g.met.D.Disk.only_now P _ _ c.args.keep.now c.args.keep.now c.args.disk.now not_okay refl refl refl refl refl c.requires.keeper.live c.requires.keeper.sits
     (λ w bytes told f left. g.met.P.Keep.lasts c.args.keep.now c.args.disk.now w c.requires.keeper.live c.requires.keeper.sits bytes told f left)
 
 pub returns-in_default-new-clause-asked : goal.returns-in_default-new-clause-asked
@@ -185,5 +185,5 @@ returns-in_default-new-clause-asked g c =
 pub returns-in_default-new-clause-keeps : goal.returns-in_default-new-clause-keeps
 returns-in_default-new-clause-keeps g c =
     let D = g.D.Disk in let P = g.P.Keep in
-    keeps_still D.content D.may_leave D.moment D.left_since g.met.D.Disk.counts_now g.met.D.Disk.only_now P.plan P.voc P.record_of P.question P.writes P.live P.sits D.faults _ _ c.args.keep.now c.args.keep.now c.args.disk.now not_okay refl refl refl refl refl c.requires.keeper.live c.requires.keeper.sits
+    keeps_still D g.met.D.Disk.counts_now g.met.D.Disk.only_now P _ _ c.args.keep.now c.args.keep.now c.args.disk.now not_okay refl refl refl refl refl c.requires.keeper.live c.requires.keeper.sits
     (λ w bytes told f left. g.met.P.Keep.lasts c.args.keep.now c.args.disk.now w c.requires.keeper.live c.requires.keeper.sits bytes told f left)

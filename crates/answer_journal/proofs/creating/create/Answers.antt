@@ -1,6 +1,6 @@
 use Rattle.std.proofs.Common.{◌≡◌, ◌+◌, ◌∷◌, ◌++◌, ◌∙◌, [], ℕ, Some, length, take, ap, subst, List, inl, inr, arith, length-append}
-use Rattle.disk_model.specs.Disk.{Only, LeavesOnly}
-use Rattle.disk_model.specs.Moments.{joined}
+use Rattle.disk_model.specs.Disk.{Only}
+use Rattle.disk_model.specs.Moments.{LeavesOnly, joined}
 use Rattle.answer_journal.specs.Format.{session_tail}
 use Rattle.answer_journal.specs.Journal.{HasNoSession}
 use Rattle.answer_journal.specs.Steps.{IsWithOrWithout}
@@ -19,9 +19,9 @@ returns-in_err-add_record-clause-any_moment g c old told =
     let P = IsCreating before c.args.plan c.args.voc.now in
     let s = c.in_ok-empty.ensures.emptied old told_mid in
     let rest_is : c.deref.result.now ≡ session_tail c.args.plan c.args.voc.now ++ 0 ∷ [] = c.deref.ensures.value ∙ c.in_ok-rest.ensures in
-    let first : LeavesOnly g.D.Disk.moment g.D.Disk.left_since c.args.disk.now c.empty.new.disk P =
-    joined g.D.Disk.moment g.D.Disk.left_since c.args.disk.now c.head_of.new.disk c.empty.new.disk before HasNoSession P c.head_of.ensures.only_read.any_moment (c.empty.ensures.any_moment old told_mid) (λ f was. inl was) (λ f none. inr (inl none)) in
-    joined g.D.Disk.moment g.D.Disk.left_since c.args.disk.now c.empty.new.disk c.add_record.new.disk P (IsWithOrWithout (take 8 s.now) c.deref.result.now) P first (c.add_record.ensures.any_moment s.now s.tells)
+    let first : LeavesOnly g.D.Disk c.args.disk.now c.empty.new.disk P =
+    joined g.D.Disk c.args.disk.now c.head_of.new.disk c.empty.new.disk before HasNoSession P c.head_of.ensures.only_read.any_moment (c.empty.ensures.any_moment old told_mid) (λ f was. inl was) (λ f none. inr (inl none)) in
+    joined g.D.Disk c.args.disk.now c.empty.new.disk c.add_record.new.disk P (IsWithOrWithout (take 8 s.now) c.deref.result.now) P first (c.add_record.ensures.any_moment s.now s.tells)
     (λ f was. was) (λ f w. creating before s.now f c.args.plan c.args.voc.now c.deref.result.now (record { short = c.requires.short }) s.holds rest_is w)
 
 pub at-requires-clause-near : goal.at-requires-clause-near
@@ -62,9 +62,9 @@ returns-clause-any_moment g c old told =
     let P = IsCreating before c.args.plan c.args.voc.now in
     let s = c.in_ok-empty.ensures.emptied old told_mid in
     let rest_is : c.deref.result.now ≡ session_tail c.args.plan c.args.voc.now ++ 0 ∷ [] = c.deref.ensures.value ∙ c.in_ok-rest.ensures in
-    let first : LeavesOnly g.D.Disk.moment g.D.Disk.left_since c.args.disk.now c.empty.new.disk P =
-    joined g.D.Disk.moment g.D.Disk.left_since c.args.disk.now c.head_of.new.disk c.empty.new.disk before HasNoSession P c.head_of.ensures.only_read.any_moment (c.empty.ensures.any_moment old told_mid) (λ f was. inl was) (λ f none. inr (inl none)) in
-    joined g.D.Disk.moment g.D.Disk.left_since c.args.disk.now c.empty.new.disk c.add_record.new.disk P (IsWithOrWithout (take 8 s.now) c.deref.result.now) P first (c.add_record.ensures.any_moment s.now s.tells)
+    let first : LeavesOnly g.D.Disk c.args.disk.now c.empty.new.disk P =
+    joined g.D.Disk c.args.disk.now c.head_of.new.disk c.empty.new.disk before HasNoSession P c.head_of.ensures.only_read.any_moment (c.empty.ensures.any_moment old told_mid) (λ f was. inl was) (λ f none. inr (inl none)) in
+    joined g.D.Disk c.args.disk.now c.empty.new.disk c.add_record.new.disk P (IsWithOrWithout (take 8 s.now) c.deref.result.now) P first (c.add_record.ensures.any_moment s.now s.tells)
     (λ f was. was) (λ f w. creating before s.now f c.args.plan c.args.voc.now c.deref.result.now (record { short = c.requires.short }) s.holds rest_is w)
 
 pub returns-in-Foreign-clause-some_refusal : goal.returns-in-Foreign-clause-some_refusal

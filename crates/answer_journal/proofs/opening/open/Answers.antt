@@ -49,8 +49,8 @@ returns-in_err-events-clause-refused g c x told =
 pub returns-in_err-events-clause-any_moment : goal.returns-in_err-events-clause-any_moment
 returns-in_err-events-clause-any_moment g c =
     let D = g.D.Disk in
-    let first = read_more D.content D.may_leave D.moment D.left_since c.args.disk.now c.head_of.new.disk c.read.new.self c.head_of.ensures.only_read c.read.ensures.same c.read.ensures.crash c.read.ensures.time in
-    (then_read D.content D.may_leave D.moment D.left_since c.args.disk.now c.read.new.self c.events_of.new.disk first c.events_of.ensures.only_read).any_moment
+    let first = read_more D c.args.disk.now c.head_of.new.disk c.read.new.self c.head_of.ensures.only_read c.read.ensures.same c.read.ensures.crash c.read.ensures.time in
+    (then_read D c.args.disk.now c.read.new.self c.events_of.new.disk first c.events_of.ensures.only_read).any_moment
 
 pub at-requires-clause-near : goal.at-requires-clause-near
 at-requires-clause-near g c =
@@ -107,8 +107,8 @@ returns-clause-storable g c = let read = c.in_ok-events.ensures.read in subst (A
 pub returns-clause-any_moment : goal.returns-clause-any_moment
 returns-clause-any_moment g c =
     let D = g.D.Disk in
-    let first = read_more D.content D.may_leave D.moment D.left_since c.args.disk.now c.head_of.new.disk c.read.new.self c.head_of.ensures.only_read c.read.ensures.same c.read.ensures.crash c.read.ensures.time in
-    (then_read D.content D.may_leave D.moment D.left_since c.args.disk.now c.read.new.self c.events_of.new.disk first c.events_of.ensures.only_read).any_moment
+    let first = read_more D c.args.disk.now c.head_of.new.disk c.read.new.self c.head_of.ensures.only_read c.read.ensures.same c.read.ensures.crash c.read.ensures.time in
+    (then_read D c.args.disk.now c.read.new.self c.events_of.new.disk first c.events_of.ensures.only_read).any_moment
 
 pub returns-in-Foreign-clause-some_refusal : goal.returns-in-Foreign-clause-some_refusal
 returns-in-Foreign-clause-some_refusal g c = inr foreign_somewhere

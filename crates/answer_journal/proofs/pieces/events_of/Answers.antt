@@ -71,6 +71,6 @@ pieces-preserved g c =
           (c.in_ok-place.ensures.read (drop c.args.start x) (drop c.in_ok-count.count (drop c.pieces.at x)) c.args.start h.records h.read
           (subst (λ (l : List ℕ). BeginsWith (drop c.args.start x) h.records l) (sym (piece_more x c.pieces.buffer c.read.new.buf c.pieces.at c.in_ok-count.count t.0 t.1)) (h.begins x told))
           (λ short. last_is x c.pieces.buffer c.read.new.buf c.pieces.at c.in_ok-count.count t.0 t.1 (omega (arith, ltb-true _ _ short, c.read.auto.buf)))));
-      only_read = read_more D.content D.may_leave D.moment D.left_since c.args.disk.now c.pieces.disk c.read.new.self c.pieces.invariant.only_read c.read.ensures.same c.read.ensures.crash c.read.ensures.time;
+      only_read = read_more D c.args.disk.now c.pieces.disk c.read.new.self c.pieces.invariant.only_read c.read.ensures.same c.read.ensures.crash c.read.ensures.time;
       later = omega (arith, c.read.ensures.cause.later, c.pieces.invariant.later);
     }

@@ -1,13 +1,13 @@
 use Rattle.std.proofs.Common.{◌≤◌, ◌+◌, ◌-◌, ◌*◌}
 use Rattle.answer_journal.specs.Format.{MOST_RECORDS}
-use Rattle.answer_journal.specs.Steps.{IsOnlyRead}
+use Rattle.disk_model.specs.Moments.{IsOnlyRead}
 use Rattle.answer_journal.proofs.RecordLoop.{HasRead}
 use Rattle.answer_journal.proofs.pieces.events_of.Given as goal
 
 abbrev pub invariant-pieces : goal.invariant-pieces
 invariant-pieces g l = record {
   read : HasRead l.start l.at l.events.items l.raised (g.D.Disk.content l.initial.disk);
-  only_read : IsOnlyRead g.D.Disk.content g.D.Disk.may_leave g.D.Disk.moment g.D.Disk.left_since l.initial.disk l.disk;
+  only_read : IsOnlyRead g.D.Disk l.initial.disk l.disk;
   later : g.D.Disk.faults l.initial.disk ≤ g.D.Disk.faults l.disk;
 }
 

@@ -69,7 +69,7 @@ returns-in-Ok-clause-any_moment g c old told =
     let rest_is : c.as_slice.result.now ≡ record_tail next ++ 0 ∷ [] = c.as_slice.ensures.value ∙ c.encode-rest.ensures in
     let same : (f : List ℕ) → IsWithOrWithout (take c.self.inside.at old) c.as_slice.result.now f → IsWithOrWithout (take place.at old) (record_tail next ++ 0 ∷ []) f =
     λ f r. subst (λ (l : List ℕ). IsWithOrWithout (take place.at old) l f) rest_is (subst (λ (n : ℕ). IsWithOrWithout (take n old) c.as_slice.result.now f) at_is r) in
-    weaker g.D.Disk.moment g.D.Disk.left_since c.args.disk.now c.add_record.new.disk (IsWithOrWithout (take c.self.inside.at old) c.as_slice.result.now) (IsOldOrAdded old next)
+    weaker g.D.Disk c.args.disk.now c.add_record.new.disk (IsWithOrWithout (take c.self.inside.at old) c.as_slice.result.now) (IsOldOrAdded old next)
     (c.add_record.ensures.any_moment old told) (λ f w. old_or_added place old (c.requires.sits old told) next c.requires.fits f (same f w))
 
 pub returns-in-Err-clause-any_moment : goal.returns-in-Err-clause-any_moment
@@ -80,5 +80,5 @@ returns-in-Err-clause-any_moment g c old told =
     let rest_is : c.as_slice.result.now ≡ record_tail next ++ 0 ∷ [] = c.as_slice.ensures.value ∙ c.encode-rest.ensures in
     let same : (f : List ℕ) → IsWithOrWithout (take c.self.inside.at old) c.as_slice.result.now f → IsWithOrWithout (take place.at old) (record_tail next ++ 0 ∷ []) f =
     λ f r. subst (λ (l : List ℕ). IsWithOrWithout (take place.at old) l f) rest_is (subst (λ (n : ℕ). IsWithOrWithout (take n old) c.as_slice.result.now f) at_is r) in
-    weaker g.D.Disk.moment g.D.Disk.left_since c.args.disk.now c.add_record.new.disk (IsWithOrWithout (take c.self.inside.at old) c.as_slice.result.now) (IsOldOrAdded old next)
+    weaker g.D.Disk c.args.disk.now c.add_record.new.disk (IsWithOrWithout (take c.self.inside.at old) c.as_slice.result.now) (IsOldOrAdded old next)
     (c.add_record.ensures.any_moment old told) (λ f w. old_or_added place old (c.requires.sits old told) next c.requires.fits f (same f w))

@@ -9,22 +9,22 @@ use Rattle.session_store.proofs.Stores.{not_made, no_voc, one_fault, unless_fail
 use Rattle.session_store.proofs.store.Store.create.Goals as goal
 
 pub returns-in_err-lang-clause-untouched : goal.returns-in_err-lang-clause-untouched
-returns-in_err-lang-clause-untouched g c = of_each_error c.from_residual.result (unread g.D.Disk.content g.D.Disk.may_leave g.D.Disk.moment g.D.Disk.left_since c.args.disk.now (g.met.D.Disk.only_now c.args.disk.now))
+returns-in_err-lang-clause-untouched g c = of_each_error c.from_residual.result (unread g.D.Disk c.args.disk.now (g.met.D.Disk.only_now c.args.disk.now))
 
 pub returns-in_err-lang-clause-spared : goal.returns-in_err-lang-clause-spared
-returns-in_err-lang-clause-spared g c bytes told = inr (unread g.D.Disk.content g.D.Disk.may_leave g.D.Disk.moment g.D.Disk.left_since c.args.disk.now (g.met.D.Disk.only_now c.args.disk.now))
+returns-in_err-lang-clause-spared g c bytes told = inr (unread g.D.Disk c.args.disk.now (g.met.D.Disk.only_now c.args.disk.now))
 
 pub returns-in_err-bytes-clause-untouched : goal.returns-in_err-bytes-clause-untouched
-returns-in_err-bytes-clause-untouched g c = of_each_error c.from_residual-in_err-bytes.result (unread g.D.Disk.content g.D.Disk.may_leave g.D.Disk.moment g.D.Disk.left_since c.args.disk.now (g.met.D.Disk.only_now c.args.disk.now))
+returns-in_err-bytes-clause-untouched g c = of_each_error c.from_residual-in_err-bytes.result (unread g.D.Disk c.args.disk.now (g.met.D.Disk.only_now c.args.disk.now))
 
 pub returns-in_err-bytes-clause-spared : goal.returns-in_err-bytes-clause-spared
-returns-in_err-bytes-clause-spared g c bytes told = inr (unread g.D.Disk.content g.D.Disk.may_leave g.D.Disk.moment g.D.Disk.left_since c.args.disk.now (g.met.D.Disk.only_now c.args.disk.now))
+returns-in_err-bytes-clause-spared g c bytes told = inr (unread g.D.Disk c.args.disk.now (g.met.D.Disk.only_now c.args.disk.now))
 
 pub returns-in_err-begin-clause-untouched : goal.returns-in_err-begin-clause-untouched
-returns-in_err-begin-clause-untouched g c = of_each_error c.from_residual-in_err-begin.result (unread g.D.Disk.content g.D.Disk.may_leave g.D.Disk.moment g.D.Disk.left_since c.args.disk.now (g.met.D.Disk.only_now c.args.disk.now))
+returns-in_err-begin-clause-untouched g c = of_each_error c.from_residual-in_err-begin.result (unread g.D.Disk c.args.disk.now (g.met.D.Disk.only_now c.args.disk.now))
 
 pub returns-in_err-begin-clause-spared : goal.returns-in_err-begin-clause-spared
-returns-in_err-begin-clause-spared g c bytes told = inr (unread g.D.Disk.content g.D.Disk.may_leave g.D.Disk.moment g.D.Disk.left_since c.args.disk.now (g.met.D.Disk.only_now c.args.disk.now))
+returns-in_err-begin-clause-spared g c bytes told = inr (unread g.D.Disk c.args.disk.now (g.met.D.Disk.only_now c.args.disk.now))
 
 pub returns-in_err-journal-clause-refused : goal.returns-in_err-journal-clause-refused
 returns-in_err-journal-clause-refused g c bytes told =
@@ -45,7 +45,7 @@ pub returns-clause-sits : goal.returns-clause-sits
 returns-clause-sits g c live bytes told =
     let was = told_before _ _ c.create.ensures.silent bytes told in
     let same : c.in_ok-bytes.bytes.items ≡ c.args.voc.now = search rules in
-    there_made c.in_ok-journal.journal (plan_held c.new-held.result) c.args.plan c.in_ok-bytes.bytes.items c.args.voc.now (events_held c.new-held.result) (g.D.Disk.content c.create.new.disk) (g.D.Disk.may_leave c.create.new.disk) bytes told
+    there_made g.D.Disk c.create.new.disk c.in_ok-journal.journal (plan_held c.new-held.result) c.args.plan c.in_ok-bytes.bytes.items c.args.voc.now (events_held c.new-held.result) bytes told
     (sym (ap plan_in c.new-held.ensures.session ∙ c.in_ok-begin.ensures.plan)) (sym same) (c.new-held.ensures.events ∙ c.new.ensures.items) (c.in_ok-journal.ensures.sits bytes told) (c.in_ok-journal.ensures.durable bytes told) (c.in_ok-journal.ensures.created was.0 was.1)
 
 pub returns-in_err-journal-clause-some_refusal : goal.returns-in_err-journal-clause-some_refusal

@@ -5,7 +5,7 @@ use Rattle.assign.specs.declared.events.Event.{Event}
 use Rattle.language.specs.Language.{Language}
 use Rattle.voc_read.specs.Vocabulary.{IsVocabulary}
 use Rattle.session_store.specs.Held.{lang_in, plan_in}
-use Rattle.disk_model.specs.Disk.{LeavesOnly}
+use Rattle.disk_model.specs.Moments.{LeavesOnly}
 use Rattle.session_store.specs.Left.{OpensWith, OpensWithOrWithout, LeavesNow}
 use Rattle.session_store.specs.Store.{plan_of, voc_of, events_of, question_of}
 use Rattle.session_store.specs.Kept.{answer_event}
@@ -24,7 +24,7 @@ returns-in_err-make_room-clause-sits g c =
 pub returns-in_err-make_room-clause-any_moment : goal.returns-in_err-make_room-clause-any_moment
 returns-in_err-make_room-clause-any_moment g c w bytes told q put =
     let s = c.args.self.now in
-    nothing_left g.D.Disk.content g.D.Disk.may_leave g.D.Disk.moment g.D.Disk.left_since g.met.D.Disk.only_now s.journal (plan_of s) (voc_of s) (events_of s) (answer_event q c.args.yes) c.args.disk.now bytes
+    nothing_left g.D.Disk g.met.D.Disk.only_now s.journal (plan_of s) (voc_of s) (events_of s) (answer_event q c.args.yes) c.args.disk.now bytes
     (c.requires.sits c.requires.live bytes told)
 
 pub append-requires-clause-durable : goal.append-requires-clause-durable
@@ -46,9 +46,9 @@ returns-in-Ok-clause-sits g c live bytes told =
 pub returns-in-Ok-clause-written : goal.returns-in-Ok-clause-written
 returns-in-Ok-clause-written g c w bytes told =
     let s = c.args.self.now in
-    let now = now_by_append g.D.Disk.content g.D.Disk.may_leave g.D.Disk.moment g.D.Disk.left_since g.met.D.Disk.only_now s.journal (plan_of s) (voc_of s) (events_of s) c.event-event.result c.args.disk.now c.append.new.disk bytes
+    let now = now_by_append g.D.Disk g.met.D.Disk.only_now s.journal (plan_of s) (voc_of s) (events_of s) c.event-event.result c.args.disk.now c.append.new.disk bytes
     (c.requires.sits c.requires.live bytes told) (c.in-Ok.ensures.added bytes told) in
-    let As : List Event → Type 0 = λ l. LeavesNow g.D.Disk.content g.D.Disk.may_leave (OpensWith (plan_of s) (voc_of s) l) c.append.new.disk in
+    let As : List Event → Type 0 = λ l. LeavesNow g.D.Disk (OpensWith (plan_of s) (voc_of s) l) c.append.new.disk in
     subst As (ap (λ (l : List Event). l ++ c.event-event.result ∷ []) (sym c.make_room.ensures.events) ∙ sym c.add.ensures.events) now
 
 pub returns-in-Err-clause-sound : goal.returns-in-Err-clause-sound
@@ -69,15 +69,15 @@ append-requires-clause-has_place g c = answer_has_room c.args.self.now.journal.r
 pub returns-in-Ok-clause-any_moment : goal.returns-in-Ok-clause-any_moment
 returns-in-Ok-clause-any_moment g c w bytes told q put =
     let s = c.args.self.now in
-    let Leaves : Event → Type 0 = λ e. LeavesOnly g.D.Disk.moment g.D.Disk.left_since c.args.disk.now c.append.new.disk (OpensWithOrWithout (plan_of s) (voc_of s) (events_of s) e) in
+    let Leaves : Event → Type 0 = λ e. LeavesOnly g.D.Disk c.args.disk.now c.append.new.disk (OpensWithOrWithout (plan_of s) (voc_of s) (events_of s) e) in
     subst Leaves (c.event-event.ensures.is q put)
-    (left_by_append g.D.Disk.content g.D.Disk.may_leave g.D.Disk.moment g.D.Disk.left_since g.met.D.Disk.only_now s.journal (plan_of s) (voc_of s) (events_of s) c.event-event.result c.args.disk.now c.append.new.disk bytes
+    (left_by_append g.D.Disk g.met.D.Disk.only_now s.journal (plan_of s) (voc_of s) (events_of s) c.event-event.result c.args.disk.now c.append.new.disk bytes
     (c.requires.sits c.requires.live bytes told) (c.append.ensures.any_moment bytes told))
 
 pub returns-in-Err-clause-any_moment : goal.returns-in-Err-clause-any_moment
 returns-in-Err-clause-any_moment g c w bytes told q put =
     let s = c.args.self.now in
-    let Leaves : Event → Type 0 = λ e. LeavesOnly g.D.Disk.moment g.D.Disk.left_since c.args.disk.now c.append.new.disk (OpensWithOrWithout (plan_of s) (voc_of s) (events_of s) e) in
+    let Leaves : Event → Type 0 = λ e. LeavesOnly g.D.Disk c.args.disk.now c.append.new.disk (OpensWithOrWithout (plan_of s) (voc_of s) (events_of s) e) in
     subst Leaves (c.event-event.ensures.is q put)
-    (left_by_append g.D.Disk.content g.D.Disk.may_leave g.D.Disk.moment g.D.Disk.left_since g.met.D.Disk.only_now s.journal (plan_of s) (voc_of s) (events_of s) c.event-event.result c.args.disk.now c.append.new.disk bytes
+    (left_by_append g.D.Disk g.met.D.Disk.only_now s.journal (plan_of s) (voc_of s) (events_of s) c.event-event.result c.args.disk.now c.append.new.disk bytes
     (c.requires.sits c.requires.live bytes told) (c.append.ensures.any_moment bytes told))

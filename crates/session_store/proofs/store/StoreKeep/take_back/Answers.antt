@@ -15,7 +15,7 @@ returns-in_err-records-clause-sits g c =
 pub returns-in_err-records-clause-any_moment : goal.returns-in_err-records-clause-any_moment
 returns-in_err-records-clause-any_moment g c w bytes told =
     let s = c.args.self.now in
-    nothing_left g.D.Disk.content g.D.Disk.may_leave g.D.Disk.moment g.D.Disk.left_since g.met.D.Disk.only_now s.journal (plan_of s) (voc_of s) (events_of s) Back c.args.disk.now bytes (c.requires.sits c.requires.live bytes told)
+    nothing_left g.D.Disk g.met.D.Disk.only_now s.journal (plan_of s) (voc_of s) (events_of s) Back c.args.disk.now bytes (c.requires.sits c.requires.live bytes told)
 
 pub append_back-requires-clause-durable : goal.append_back-requires-clause-durable
 append_back-requires-clause-durable g c bytes told = (c.requires.sits c.requires.live bytes told).durable
@@ -36,19 +36,19 @@ returns-in-Ok-clause-sits g c live bytes told =
 pub returns-in-Ok-clause-written : goal.returns-in-Ok-clause-written
 returns-in-Ok-clause-written g c w bytes told =
     let s = c.args.self.now in
-    let now = now_by_append g.D.Disk.content g.D.Disk.may_leave g.D.Disk.moment g.D.Disk.left_since g.met.D.Disk.only_now s.journal (plan_of s) (voc_of s) (events_of s) Back c.args.disk.now c.append_back.new.disk bytes
+    let now = now_by_append g.D.Disk g.met.D.Disk.only_now s.journal (plan_of s) (voc_of s) (events_of s) Back c.args.disk.now c.append_back.new.disk bytes
     (c.requires.sits c.requires.live bytes told) (c.in-Ok.ensures.added bytes told) in
-    let As : List Event → Type 0 = λ l. LeavesNow g.D.Disk.content g.D.Disk.may_leave (OpensWith (plan_of s) (voc_of s) l) c.append_back.new.disk in
+    let As : List Event → Type 0 = λ l. LeavesNow g.D.Disk (OpensWith (plan_of s) (voc_of s) l) c.append_back.new.disk in
     subst As (ap (λ (l : List Event). l ++ Back ∷ []) (sym c.ready_back.ensures.events) ∙ sym c.add_back.ensures.events) now
 
 pub returns-in-Ok-clause-any_moment : goal.returns-in-Ok-clause-any_moment
 returns-in-Ok-clause-any_moment g c w bytes told =
     let s = c.args.self.now in
-    left_by_append g.D.Disk.content g.D.Disk.may_leave g.D.Disk.moment g.D.Disk.left_since g.met.D.Disk.only_now s.journal (plan_of s) (voc_of s) (events_of s) Back c.args.disk.now c.append_back.new.disk bytes
+    left_by_append g.D.Disk g.met.D.Disk.only_now s.journal (plan_of s) (voc_of s) (events_of s) Back c.args.disk.now c.append_back.new.disk bytes
     (c.requires.sits c.requires.live bytes told) (c.append_back.ensures.any_moment bytes told)
 
 pub returns-clause-any_moment : goal.returns-clause-any_moment
 returns-clause-any_moment g c w bytes told =
     let s = c.args.self.now in
-    left_by_append g.D.Disk.content g.D.Disk.may_leave g.D.Disk.moment g.D.Disk.left_since g.met.D.Disk.only_now s.journal (plan_of s) (voc_of s) (events_of s) Back c.args.disk.now c.append_back.new.disk bytes
+    left_by_append g.D.Disk g.met.D.Disk.only_now s.journal (plan_of s) (voc_of s) (events_of s) Back c.args.disk.now c.append_back.new.disk bytes
     (c.requires.sits c.requires.live bytes told) (c.append_back.ensures.any_moment bytes told)

@@ -1,7 +1,7 @@
 use Rattle.std.proofs.Common.{sym, subst}
 use Rattle.language.specs.Language.{IsLanguage}
 use Rattle.acq_cli.proofs.Nexts.{OverAt, over_at}
-use Rattle.acq_cli.proofs.driving.next_of.Goals as goal
+use Rattle.acq_cli.proofs.next.next_of.Goals as goal
 
 pub returns-in-Over-clause-next : goal.returns-in-Over-clause-next
 returns-in-Over-clause-next g c t stands settled =

@@ -4,7 +4,7 @@ use Rattle.query_gen.specs.declared.query.Query.TheVariants.{Ask, AllImplied, Un
 use Rattle.query_gen.specs.Questions.{next_query}
 use Rattle.session_core.specs.declared.knowledge.Knowledge.{Knowledge}
 use Rattle.acq_cli.proofs.Nexts.{searched_new, searched_done, searched_open}
-use Rattle.acq_cli.proofs.driving.searched_next.Goals as goal
+use Rattle.acq_cli.proofs.next.searched_next.Goals as goal
 
 pub returns-in-Ask-clause-next : goal.returns-in-Ask-clause-next
 returns-in-Ask-clause-next g c t stands =

@@ -1,7 +1,7 @@
 use Rattle.std.proofs.Common.{◌∙◌, sym, subst, refl}
 use Rattle.language.specs.Language.{IsLanguage}
 use Rattle.acq_cli.proofs.Nexts.{scoped_new, scoped_done}
-use Rattle.acq_cli.proofs.driving.scoped_next.Goals as goal
+use Rattle.acq_cli.proofs.next.scoped_next.Goals as goal
 
 pub returns-in-Some-clause-next : goal.returns-in-Some-clause-next
 returns-in-Some-clause-next c t budget stands =

@@ -1,0 +1,207 @@
+-- Calls of a keeper, one after another.
+use Rattle.std.proofs.Common.{◌≡◌, ◌≤◌, ℕ, IsTrue, List, [], ◌∷◌, ◌++◌, Option, Some, is_some, refl, sym, ◌∙◌, ap, subst, inl, inr, arith, append_assoc}
+use Rattle.std.specs.Option.{ForSome}
+use Rattle.std.proofs.lemmas.List.{append-nil}
+use Rattle.std.proofs.lemmas.List.Elements.{All-nil, All-cons, All-append}
+use Rattle.assign.specs.Assignment.{Assignment}
+use Rattle.assign.specs.declared.events.Event.{Event}
+use Rattle.assign.specs.declared.events.Plan.{Plan}
+use Rattle.disk_model.specs.declared.disk.Disk.{Ghosts as DiskOf}
+use Rattle.disk_model.specs.Disk.{Rose}
+use Rattle.disk_model.specs.Moments.{LeavesOnly, started, joined, weaker}
+use Rattle.session_store.specs.Kept.{IsAddable, IsTried}
+use Rattle.session_store.specs.Left.{OpensWith, OpensWithOrWithout, OpensWithin, LeavesNow, bytes_told}
+use Rattle.session_store.specs.Keeping.{IsGrown, Persists, FailsWith}
+use Rattle.session_store.specs.Keeps.{Keeps}
+use Rattle.session_store.specs.declared.keep.Keep.{Ghosts as KeepOf}
+
+-- ---- events
+
+pub grown_none : (before after : List Event) → after ≡ before → IsGrown before after
+grown_none before after same = record { more = []; is = same ∙ sym (append-nil before); each = All-nil IsAddable }
+
+pub grown_one : (before after : List Event) (e : Event) → IsAddable e → after ≡ before ++ e ∷ [] → IsGrown before after
+grown_one before after e addable is = record { more = e ∷ []; is = is; each = All-cons IsAddable e [] addable (All-nil IsAddable) }
+
+pub grown_then : (one two three : List Event) → IsGrown one two → IsGrown two three → IsGrown one three
+grown_then one two three first second = record {
+  more = first.more ++ second.more;
+  is = second.is ∙ ap (λ (l : List Event). l ++ second.more) first.is ∙ append_assoc one first.more second.more;
+  each = All-append IsAddable first.more second.more first.each second.each;
+}
+
+-- ---- contents
+
+pub within_more : (plan : Plan) (voc : List ℕ) (before mid after more : List Event) (c : List ℕ) → after ≡ mid ++ more → OpensWithin plan voc before mid c → OpensWithin plan voc before after c
+within_more plan voc before mid after more c grown w = record {
+  some = w.some;
+  rest = w.rest ++ more;
+  is = grown ∙ ap (λ (l : List Event). l ++ more) w.is ∙ append_assoc before (w.some ++ w.rest) more ∙ ap (λ (l : List Event). before ++ l) (append_assoc w.some w.rest more);
+  opens = w.opens;
+}
+
+pub within_from : (plan : Plan) (voc : List ℕ) (before mid after more : List Event) (c : List ℕ) → mid ≡ before ++ more → OpensWithin plan voc mid after c → OpensWithin plan voc before after c
+within_from plan voc before mid after more c grown w = record {
+  some = more ++ w.some;
+  rest = w.rest;
+  is = w.is ∙ ap (λ (l : List Event). l ++ (w.some ++ w.rest)) grown ∙ append_assoc before more (w.some ++ w.rest) ∙ ap (λ (l : List Event). before ++ l) (sym (append_assoc more w.some w.rest));
+  opens = subst (λ (l : List Event). OpensWith plan voc l c) (ap (λ (l : List Event). l ++ w.some) grown ∙ append_assoc before more w.some) w.opens;
+}
+
+pub within_none : (plan : Plan) (voc : List ℕ) (events : List Event) (c : List ℕ) → OpensWith plan voc events c → OpensWithin plan voc events events c
+within_none plan voc events c opens = record {
+  some = [];
+  rest = [];
+  is = sym (append-nil events);
+  opens = subst (λ (l : List Event). OpensWith plan voc l c) (sym (append-nil events)) opens;
+}
+
+pub within_one : (plan : Plan) (voc : List ℕ) (events : List Event) (e : Event) (c : List ℕ) → OpensWithOrWithout plan voc events e c → OpensWithin plan voc events (events ++ e ∷ []) c
+within_one plan voc events e c (inl opens) = within_more plan voc events events (events ++ e ∷ []) (e ∷ []) c refl (within_none plan voc events c opens)
+within_one plan voc events e c (inr opens) = record { some = e ∷ []; rest = []; is = ap (λ (l : List Event). events ++ l) (sym (append-nil (e ∷ []))); opens = opens }
+
+pub rose_later : (a b c : ℕ) → a ≤ b → Rose b c → Rose a c
+rose_later a b c le rose = omega arith
+
+pub both_as : {A B : Type 0} (P : A → B → Type 0) (a b : A) (v w : B) → a ≡ b → v ≡ w → P a v → P b w
+both_as {A} {B} P a b v w e f p = let One : A → Type 0 = λ x. P x v in let Two : B → Type 0 = λ y. P b y in subst Two f (subst One e p)
+
+-- ---- calls
+
+module _ {D : Type 0} (disk : DiskOf D)
+    (counts_now : (d : D) (t : ℕ) (c : List ℕ) → t ≤ disk.moment d → disk.may_leave d c → disk.left_since d t c) (only_now : (d : D) (c : List ℕ) → disk.left_since d (disk.moment d) c → disk.may_leave d c) where
+  -- before the first call
+  pub persists_none : (plan : Plan) (voc : List ℕ) (events : List Event) (d : D) (bytes : List ℕ) → disk.content d ≡ Some bytes → ((c : List ℕ) → disk.may_leave d c → OpensWith plan voc events c) →
+      Persists disk plan voc events events d d
+  persists_none plan voc events d bytes told opens = record {
+    now = record { bytes = bytes; tells = told; each = opens };
+    any_moment = started disk d (OpensWithin plan voc events events) (λ c left. within_none plan voc events c (opens c (only_now d c left)));
+  }
+
+  -- one run after another
+  pub persists_then : (plan : Plan) (voc : List ℕ) (one two three : List Event) (old mid new : D) → IsGrown one two → IsGrown two three →
+      Persists disk plan voc one two old mid → Persists disk plan voc two three mid new →
+      Persists disk plan voc one three old new
+  persists_then plan voc one two three old mid new grown longer first second = record {
+    now = second.now;
+    any_moment = joined disk old mid new (OpensWithin plan voc one two) (OpensWithin plan voc two three) (OpensWithin plan voc one three) first.any_moment second.any_moment
+        (λ c w. within_more plan voc one two three longer.more c longer.is w) (λ c w. within_from plan voc one two three grown.more c grown.is w);
+  }
+
+  pub fails_then : (plan : Plan) (voc : List ℕ) (one two three : List Event) (put : Option Assignment) (is_lost is_then : Event → Type 0) (old mid new : D) → IsGrown one two → IsGrown two three →
+      ((e : Event) → is_lost e → is_then e) →
+      ForSome (disk.content old) (λ _. Persists disk plan voc one two old mid) → FailsWith disk plan voc two three put is_lost mid new →
+      FailsWith disk plan voc one three put is_then old new
+  fails_then plan voc one two three put is_lost is_then old mid new grown longer known first second =
+      let last : List Event = second.event ∷ [] in
+      let added : three ++ last ≡ two ++ (longer.more ++ last) = ap (λ (l : List Event). l ++ last) longer.is ∙ append_assoc two longer.more last in
+      record {
+        event = second.event;
+        tried = second.tried;
+        lost = known second.event second.lost;
+        now = λ bytes told. let f = first bytes told in second.now f.now.bytes f.now.tells;
+        any_moment = λ bytes told.
+            let f = first bytes told in
+            joined disk old mid new (OpensWithin plan voc one two) (OpensWithin plan voc two (three ++ last)) (OpensWithin plan voc one (three ++ last)) f.any_moment (second.any_moment f.now.bytes f.now.tells)
+            (λ c w. within_more plan voc one two (three ++ last) (longer.more ++ last) c added w) (λ c w. within_from plan voc one two (three ++ last) grown.more c grown.is w);
+      }
+
+  -- an event that was added
+  pub persists_one : (plan : Plan) (voc : List ℕ) (events after : List Event) (e : Event) (old new : D) → after ≡ events ++ e ∷ [] →
+      LeavesNow disk (OpensWith plan voc after) new → LeavesOnly disk old new (OpensWithOrWithout plan voc events e) →
+      Persists disk plan voc events after old new
+  persists_one plan voc events after e old new added now any = record {
+    now = now;
+    any_moment = weaker disk old new (OpensWithOrWithout plan voc events e) (OpensWithin plan voc events after) any
+        (λ c w. subst (λ (l : List Event). OpensWithin plan voc events l c) (sym added) (within_one plan voc events e c w));
+  }
+
+  -- an event whose adding failed
+  pub fails_one : (plan : Plan) (voc : List ℕ) (events after : List Event) (e : Event) (put : Option Assignment) (is_lost : Event → Type 0) (old new : D) → after ≡ events → IsTried put e → is_lost e →
+      ForSome (disk.content old) (λ _. LeavesOnly disk old new (OpensWithOrWithout plan voc events e)) →
+      FailsWith disk plan voc events after put is_lost old new
+  fails_one plan voc events after e put is_lost old new same tried lost any =
+      let as_after : List Event → Type 0 = λ l. (c : List ℕ) → disk.may_leave new c → OpensWithOrWithout plan voc l e c in
+      let within_after : List Event → Type 0 = λ l. LeavesOnly disk old new (OpensWithin plan voc events (l ++ e ∷ [])) in
+      record {
+        event = e;
+        tried = tried;
+        lost = lost;
+        now = λ bytes told. let run = any bytes told in subst as_after (sym same) (λ c left. run.each c (counts_now new (disk.moment old) c run.later left));
+        any_moment = λ bytes told.
+            subst within_after (sym same) (weaker disk old new (OpensWithOrWithout plan voc events e) (OpensWithin plan voc events (events ++ e ∷ [])) (any bytes told)
+            (λ c w. within_one plan voc events e c w));
+      }
+
+  module _ {K : Type 0} (keep : KeepOf K D) where
+    -- A keeper that was asked to put a question, or wasn't called, and a disk that wasn't touched.
+    pub keeps_still : (has_failed : Type 0) (is_lost : Event → Type 0) (old new : K) (d : D) → (has_failed → ⊥) → keep.plan new ≡ keep.plan old → keep.voc new ≡ keep.voc old → keep.record_of new ≡ keep.record_of old → keep.writes new ≡ keep.writes old → keep.live new ≡ keep.live old →
+        IsTrue (keep.live old) → keep.sits new d → (IsTrue (keep.writes old) → ForSome (disk.content d) (λ _. (c : List ℕ) → disk.may_leave d c → OpensWith (keep.plan old) (keep.voc old) (keep.record_of old) c)) →
+        Keeps keep disk has_failed is_lost old new d d
+    keeps_still has_failed is_lost old new d well same_plan same_voc same_record same_writes same_live is_live belongs lasts = record {
+      same_voc = same_voc;
+      same_writes = same_writes;
+      belongs = belongs;
+      later = omega arith;
+      is_live = λ no. same_live ∙ is_live;
+      not_live = λ failed. absurd (well failed);
+      told = λ bytes is. ap is_some is;
+      cause = λ failed. absurd (well failed);
+      grown = grown_none (keep.record_of old) (keep.record_of new) same_record;
+      unwritten = λ no. refl;
+      persists = λ w bytes told no.
+          let As : List Event → Type 0 = λ l. Persists disk (keep.plan old) (keep.voc old) (keep.record_of old) l d d in
+          subst As (sym same_record) (persists_none (keep.plan old) (keep.voc old) (keep.record_of old) d bytes told (lasts w bytes told));
+      fails = λ failed. absurd (well failed);
+    }
+
+    -- calls one after another
+    pub keeps_then : (has_failed : Type 0) (is_lost is_then : Event → Type 0) (one two three : K) (x y z : D) → keep.plan two ≡ keep.plan one →
+        ((e : Event) → is_lost e → is_then e) →
+        Keeps keep disk ⊥ (λ e. ⊥) one two x y →
+        Keeps keep disk has_failed is_lost two three y z →
+        Keeps keep disk has_failed is_then one three x z
+    keeps_then has_failed is_lost is_then one two three x y z same_plan known first second = record {
+      same_voc = second.same_voc ∙ first.same_voc;
+      same_writes = second.same_writes ∙ first.same_writes;
+      belongs = second.belongs;
+      later = omega (arith, first.later, second.later);
+      is_live = second.is_live;
+      not_live = second.not_live;
+      told = λ bytes is. let mid = bytes_told (disk.content y) (first.told bytes is) in second.told mid.0 mid.1;
+      cause = λ failed. (sym first.same_writes ∙ (second.cause failed).0, rose_later (disk.faults x) (disk.faults y) (disk.faults z) first.later (second.cause failed).1);
+      grown = grown_then (keep.record_of one) (keep.record_of two) (keep.record_of three) first.grown second.grown;
+      unwritten = λ no. second.unwritten (first.same_writes ∙ no) ∙ first.unwritten no;
+      persists = λ w bytes told no.
+          let f = first.persists w bytes told (λ bad. bad) in
+          let s = second.persists (first.same_writes ∙ w) f.now.bytes f.now.tells no in
+          let As : Plan → List ℕ → Type 0 = λ p v. Persists disk p v (keep.record_of two) (keep.record_of three) y z in
+          persists_then (keep.plan one) (keep.voc one) (keep.record_of one) (keep.record_of two) (keep.record_of three) x y z first.grown second.grown f (both_as As (keep.plan two) (keep.plan one) (keep.voc two) (keep.voc one) same_plan first.same_voc s);
+      fails = λ failed.
+          let w : IsTrue (keep.writes one) = sym first.same_writes ∙ (second.cause failed).0 in
+          let As : Plan → List ℕ → Type 0 = λ p v. FailsWith disk p v (keep.record_of two) (keep.record_of three) (keep.question three) is_lost y z in
+          fails_then (keep.plan one) (keep.voc one) (keep.record_of one) (keep.record_of two) (keep.record_of three) (keep.question three) is_lost is_then x y z first.grown second.grown known
+          (λ bytes told. first.persists w bytes told (λ bad. bad)) (both_as As (keep.plan two) (keep.plan one) (keep.voc two) (keep.voc one) same_plan first.same_voc (second.fails failed));
+    }
+
+    -- by another word for the failure
+    pub keeps_as : (bad worse : Type 0) (is_lost is_then : Event → Type 0) (old new : K) (x y : D) → (worse → bad) → (bad → worse) →
+        (worse → (e : Event) → is_lost e → is_then e) →
+        Keeps keep disk bad is_lost old new x y →
+        Keeps keep disk worse is_then old new x y
+    keeps_as bad worse is_lost is_then old new x y to fro known keeps = record {
+      same_voc = keeps.same_voc;
+      same_writes = keeps.same_writes;
+      belongs = keeps.belongs;
+      later = keeps.later;
+      is_live = λ no. keeps.is_live (λ b. no (fro b));
+      not_live = λ failed. keeps.not_live (to failed);
+      told = keeps.told;
+      cause = λ failed. keeps.cause (to failed);
+      grown = keeps.grown;
+      unwritten = keeps.unwritten;
+      persists = λ w bytes told no. keeps.persists w bytes told (λ b. no (fro b));
+      fails = λ failed.
+          let f = keeps.fails (to failed) in
+          record { event = f.event; tried = f.tried; lost = known failed f.event f.lost; now = f.now; any_moment = f.any_moment };
+    }
