@@ -1,6 +1,7 @@
 //! The program as one call: the words, the vocabulary and the answers in, the questions and the network out.
 #![tactic(auto)]
 
+mod ask;
 mod back;
 mod certifying;
 mod commands;
@@ -10,9 +11,11 @@ mod driving;
 mod ending;
 pub mod laws;
 mod opens;
+mod over;
 mod playing;
 mod printing;
 mod reducing;
+mod said;
 mod shows;
 mod solving;
 mod terms;
