@@ -1,5 +1,5 @@
 -- What was done about the words.
-use Rattle.std.proofs.Common.{◌≡◌, ◌∙◌, ℕ, List, [], Option, Result, Ok, Err, refl, sym, ap, subst, inl, inr, ⊎_elim, arith}
+use Rattle.std.proofs.Common.{◌≡◌, ◌⊎◌, ◌∙◌, ℕ, true, false, List, [], Option, Result, Ok, Err, refl, sym, ap, subst, inl, inr, ⊎_elim, arith}
 use Rattle.disk_model.specs.declared.disk.Disk.{Ghosts as DiskOf}
 use Rattle.acq_io.specs.declared.streams.Put.{Put}
 use Rattle.acq_io.specs.declared.streams.Put.TheVariants as put
@@ -11,33 +11,44 @@ use Rattle.acq_words.specs.declared.request.UsageFault.{UsageFault}
 use Rattle.acq_words.specs.declared.request.WordsFault.{WordsFault}
 use Rattle.acq_words.specs.declared.request.WordsFault.TheVariants.{Usage, Memory}
 use Rattle.answer_journal.specs.declared.fault.JFault.TheVariants as journal
+use Rattle.assign.specs.Assignment.{Assignment}
+use Rattle.assign.specs.declared.events.Event.{Event}
 use Rattle.assign.specs.declared.events.Plan.{Plan}
+use Rattle.assign.specs.declared.events.Plan.TheVariants.{Quacq}
+use Rattle.cert_check.specs.Certificate.{Certificate}
+use Rattle.cert_check.specs.Checking.{verdict}
+use Rattle.cert_check.specs.declared.verdict.Verdict.{Verdict}
+use Rattle.cert_check.specs.declared.verdict.Verdict.TheVariants.{Yes, No}
+use Rattle.language.specs.Language.{Language}
+use Rattle.net_cnf.specs.Models.{model_of}
+use Rattle.net_cnf.specs.declared.model_fault.ModelFault.{ModelFault}
+use Rattle.target_oracle.specs.Lines.{line_turn}
+use Rattle.target_oracle.specs.NetTurns.{net_turn}
+use Rattle.target_oracle.specs.Turns.{Turns}
 use Rattle.disk_model.specs.Moments.{started}
 use Rattle.session_store.specs.declared.fault.SFault.{SFault}
 use Rattle.session_store.specs.declared.fault.SFault.TheVariants as store
-use Rattle.acq_cli.specs.Journals.{EndsWith, Refuses, StaysClosed}
+use Rattle.acq_cli.specs.Journals.{StaysClosed}
 use Rattle.acq_cli.specs.Making.{News, RefusesMaking}
 use Rattle.acq_cli.specs.Running.{RunsOn}
 use Rattle.acq_cli.specs.Playing.{EndsWithout, PlaysOn}
 use Rattle.acq_cli.specs.declared.playing.NoTarget.{NoTarget}
 use Rattle.acq_cli.specs.declared.playing.NoTarget.TheVariants as without
-use Rattle.acq_cli.specs.Showing.{Shows}
-use Rattle.acq_cli.specs.Demoing.{Demos}
-use Rattle.acq_cli.specs.Certifying.{Certifies}
-use Rattle.acq_cli.specs.Confirming.{Confirms}
-use Rattle.acq_cli.specs.Printing.{Prints}
-use Rattle.acq_cli.specs.Reducing.{Reduces}
-use Rattle.acq_cli.specs.Solving.{Solves}
-use Rattle.acq_cli.proofs.Certified.{certifies_no_usage}
-use Rattle.acq_cli.proofs.Confirmed.{confirms_no_usage}
-use Rattle.acq_cli.proofs.Printed.{prints_no_usage}
-use Rattle.acq_cli.proofs.Solved.{solves_no_usage}
+use Rattle.acq_cli.specs.Demoing.{Demos, Tells}
+use Rattle.acq_cli.specs.Endings.{Tries}
+use Rattle.acq_cli.specs.Reducing.{network_after}
+use Rattle.acq_cli.specs.declared.terms.Terms.{Terms}
+use Rattle.acq_cli.specs.Confirming.{Confirms, SaysVerdict}
+use Rattle.acq_cli.specs.Solving.{Solves, TellsSolution}
+use Rattle.acq_cli.proofs.SaidOver.{is_own, not_own, refuses_own, said_own}
 use Rattle.acq_cli.specs.TakingBack.{TakesBack}
-use Rattle.acq_cli.specs.Doing.{Does}
+use Rattle.acq_cli.specs.Doing.{Asks, Does}
+use Rattle.acq_cli.specs.declared.ask.Ask.{Ask}
+use Rattle.acq_cli.specs.declared.ask.Ask.TheVariants as ask
 use Rattle.acq_cli.specs.Points.{terms_with}
 use Rattle.acq_cli.specs.Trying.{Acquires}
 use Rattle.acq_cli.specs.Words.{IsAsked, command_asked, command_in}
-use Rattle.acq_cli.proofs.Closings.{not_loops}
+use Rattle.acq_cli.proofs.Closings.{err_ok, failed, not_loops, okay, same_ok}
 use Rattle.acq_cli.proofs.Parts.{unbegun}
 use Rattle.acq_io.proofs.TakenLemmas.{takes_none}
 use Rattle.acq_cli.specs.declared.ending.Ending.{Ending}
@@ -71,119 +82,137 @@ module _ {D : Type 0} (disk : DiskOf D) where
       any_moment = started disk d (disk.may_leave d) (only_now d);
     }
 
+    asks_nothing : (a : Ask) → Asks disk a written written d d wanting
+    asks_nothing a = record {
+      opening = Err store.Memory;
+      opens = λ bytes told. tt;
+      session = tt;
+      tells = (refl, refl);
+      so = tt;
+      same = refl;
+      any_moment = started disk d (disk.may_leave d) (only_now d);
+    }
+
     pub does_nothing : (asked : Result Command UsageFault) → Does disk asked left written left written d d wanting
     does_nothing (Ok (command.New plan)) = inl (record { why = inr (inr refl, refl); same = refl })
     does_nothing (Ok (command.Run budget)) = inl stays
     does_nothing (Ok (command.Try plan budget)) = unbegun (terms_with plan budget) left left written (inl ([], omega arith, λ k d low. absurd (omega (arith, low)), takes_none left))
     does_nothing (Ok (command.Play budget)) = inl stays
-    does_nothing (Ok command.Show) = inl stays
+    does_nothing (Ok command.Show) = asks_nothing ask.Show
     does_nothing (Ok command.Back) = inl stays
     does_nothing (Ok (command.Demo number budget)) = inl (refl, refl)
-    does_nothing (Ok (command.Reduce budget)) = inl stays
-    does_nothing (Ok command.Cnf) = inl stays
+    does_nothing (Ok (command.Reduce budget)) = asks_nothing (ask.Reduce budget)
+    does_nothing (Ok command.Cnf) = asks_nothing ask.Cnf
     does_nothing (Ok command.Model) = inl stays
-    does_nothing (Ok (command.Certify budget)) = inl stays
+    does_nothing (Ok (command.Certify budget)) = asks_nothing (ask.Certify budget)
     does_nothing (Ok command.Check) = inr (inr (inr refl, refl))
     does_nothing (Err fault) = refl
 
--- ---- A usage line is told for refused words alone
+-- ---- How the commands without the loop end
 
-abbrev using_so : UsageFault → Result Ending Put
-using_so fault = Ok (ending.Usage fault)
+-- it is no ending of another kind
+err_own : (e : Put) (end : Ending) (P : Type 0) → okay end ≡ failed e → P
+err_own e end P is = absurd (err_ok e end (sym is))
 
-refuses_usage : (fault : SFault) (usage : UsageFault) (written written' : Option (List ℕ)) → Refuses fault written written' (using_so usage) → ⊥
-refuses_usage (store.Journal journal.SessionThere) usage written written' (is, told) = cc
-refuses_usage (store.Journal journal.NoSession) usage written written' (is, told) = cc
-refuses_usage (store.Journal journal.NotAJournal) usage written written' (is, told) = cc
-refuses_usage (store.Journal (journal.Damaged at)) usage written written' (is, told) = cc
-refuses_usage (store.Journal journal.TooManyRecords) usage written written' (is, told) = cc
-refuses_usage (store.Journal journal.Full) usage written written' (is, told) = cc
-refuses_usage (store.Journal journal.DiskFault) usage written written' (is, told) = cc
-refuses_usage (store.Journal journal.Memory) usage written written' (is, told) = cc
-refuses_usage (store.Voc fault) usage written written' (is, told) = cc
-refuses_usage (store.Stray i) usage written written' (is, told) = cc
-refuses_usage store.Memory usage written written' (is, told) = cc
+making_own : (fault : SFault) (end : Ending) (written written' : Option (List ℕ)) → RefusesMaking fault written written' (okay end) → is_own end ≡ true
+making_own (store.Journal fault) end written written' refuses = refuses_own written written' end (store.Journal fault) refuses
+making_own (store.Voc fault) end written written' (is, told) = ap is_own is
+making_own (store.Stray i) end written written' refuses = refuses_own written written' end (store.Stray i) refuses
+making_own store.Memory end written written' refuses = refuses_own written written' end store.Memory refuses
 
-making_usage : (fault : SFault) (usage : UsageFault) (written written' : Option (List ℕ)) → RefusesMaking fault written written' (using_so usage) → ⊥
-making_usage (store.Journal fault) usage written written' refuses = refuses_usage (store.Journal fault) usage written written' refuses
-making_usage (store.Voc fault) usage written written' (is, told) = cc
-making_usage (store.Stray i) usage written written' refuses = refuses_usage (store.Stray i) usage written written' refuses
-making_usage store.Memory usage written written' refuses = refuses_usage store.Memory usage written written' refuses
+pub without_own : (why : NoTarget) (end : Ending) (written written' : Option (List ℕ)) → EndsWithout why written written' (okay end) → is_own end ≡ true
+without_own (without.Refused fault) end written written' (is, told) = ap is_own is
+without_own without.ReadFault end written written' (is, told) = ap is_own (same_ok end ending.ReadFault is)
+without_own without.Memory end written written' (is, told) = err_own put.Memory end (is_own end ≡ true) is
 
-without_usage : (why : NoTarget) (usage : UsageFault) (written written' : Option (List ℕ)) → EndsWithout why written written' (using_so usage) → ⊥
-without_usage (without.Refused fault) usage written written' (is, told) = cc
-without_usage without.ReadFault usage written written' (is, told) = cc
-without_usage without.Memory usage written written' (is, told) = cc
+solution_own : (l : Language) (r : Result Assignment ModelFault) (end : Ending) (written written' : Option (List ℕ)) → TellsSolution l r written written' (okay end) → is_own end ≡ true
+solution_own l (Ok e) end written written' tells = ap is_own tells.0
+solution_own l (Err fault) end written written' tells = ap is_own tells.0
 
-ends_usage : (end : Ending) (usage : UsageFault) (text : List ℕ) (written written' : Option (List ℕ)) → (ending.Usage usage ≡ end → ⊥) → EndsWith end text written written' (using_so usage) → ⊥
-ends_usage end usage text written written' other (is, told) = other is
+verdict_own : (cert : Certificate) (v : Verdict) (end : Ending) (written written' : Option (List ℕ)) → SaysVerdict cert v written written' (okay end) → is_own end ≡ true
+verdict_own cert Yes end written written' says = ap is_own says.0
+verdict_own cert (No flaw) end written written' says = ap is_own says.0
 
-module _ {D : Type 0} (disk : DiskOf D) (left written left' written' : Option (List ℕ)) (old new : D) where
-  new_usage : (plan : Plan) (usage : UsageFault) → News disk plan left written left' written' old new (using_so usage) → ⊥
-  new_usage plan usage news =
-      ⊎_elim
-      (λ none. ⊎_elim (λ long. let is : ending.Usage usage ≡ _ = long.1.0 in cc) (λ other. ⊎_elim (λ e. cc) (λ e. cc) other.0) none.why)
-      (λ read. ⊎_elim (λ made. let is : ending.Usage usage ≡ ending.Done = made.tells.0 in cc) (λ not_made. making_usage not_made.fault usage written written' not_made.refuses) read.makes)
+-- the input failed, or memory was wanting
+unread_own : (end : Ending) → ((okay end ≡ okay ending.ReadFault) ⊎ (okay end ≡ wanting)) → is_own end ≡ true
+unread_own end why = ⊎_elim (λ read. ap is_own (same_ok end ending.ReadFault read)) (λ none. err_own put.Memory end (is_own end ≡ true) none) why
+
+module _ {D : Type 0} (disk : DiskOf D) (left written left' written' : Option (List ℕ)) (old new : D) (end : Ending) where
+  pub new_own : (plan : Plan) → News disk plan left written left' written' old new (okay end) → is_own end ≡ true
+  new_own plan news =
+      ⊎_elim (λ none. ⊎_elim (λ long. ap is_own long.1.0) (λ other. unread_own end other.0) none.why)
+      (λ read. ⊎_elim (λ made. ap is_own made.tells.0) (λ not_made. making_own not_made.fault end written written' not_made.refuses) read.makes)
       news
 
-  run_usage : (budget : ℕ) (usage : UsageFault) → RunsOn disk budget left written left' written' old new (using_so usage) → ⊥
-  run_usage budget usage runs = ⊎_elim (λ closed. refuses_usage closed.fault usage written written' closed.refuses) (λ goes_on. not_loops goes_on.tries.how (ending.Usage usage) goes_on.tries.is refl) runs
+  pub ask_own : (a : Ask) → Asks disk a written written' old new (okay end) → is_own end ≡ true
+  ask_own a asks = said_own a written written' end asks.opening asks.tells
 
-  play_usage : (budget : ℕ) (usage : UsageFault) → PlaysOn disk budget left written left' written' old new (using_so usage) → ⊥
-  play_usage budget usage plays =
-      ⊎_elim (λ closed. refuses_usage closed.fault usage written written' closed.refuses)
-      (λ rest. ⊎_elim (λ stale. let is : ending.Usage usage ≡ ending.NotFresh stale.number = stale.tells.0 in cc)
-      (λ more. ⊎_elim (λ none. without_usage none.why usage written written' none.ends) (λ played. not_loops played.on.tries.how (ending.Usage usage) played.on.tries.is refl) more) rest)
-      plays
+  pub solve_own : Solves disk left written left' written' old new (okay end) → is_own end ≡ true
+  solve_own solves =
+      ⊎_elim (λ closed. refuses_own written written' end closed.fault closed.refuses)
+      (λ solved. ⊎_elim
+      (λ read. ⊎_elim (λ tells. solution_own solved.lang (model_of solved.lang (network_after solved.lang solved.plan solved.events) read.bytes) end written written' tells) (λ none. err_own put.Memory end (is_own end ≡ true) none.0) read.tells)
+      (λ none. ⊎_elim (λ long. ap is_own long.1.0) (λ other. unread_own end other.0) none)
+      solved.solves)
+      solves
 
-  show_usage : (usage : UsageFault) → Shows disk left written written' old new (using_so usage) → ⊥
-  show_usage usage shows =
-      ⊎_elim (λ closed. refuses_usage closed.fault usage written written' closed.refuses) (λ shown. let is : ending.Usage usage ≡ ending.Done = shown.tells.0 in cc) shows
+  pub confirm_own : Confirms left written left' written' (okay end) → is_own end ≡ true
+  confirm_own confirms =
+      ⊎_elim
+      (λ read. ⊎_elim (λ checked. verdict_own checked.cert (verdict checked.cert) end written written' checked.says)
+      (λ rest. ⊎_elim (λ unread. ap is_own unread.says.0) (λ none. err_own put.Memory end (is_own end ≡ true) none.0) rest) read.confirms)
+      (λ none. ⊎_elim (λ long. ap is_own long.1.0) (λ other. unread_own end other.0) none)
+      confirms
 
-  demo_usage : (number budget : ℕ) (usage : UsageFault) → Demos number budget written written' (using_so usage) → ⊥
-  demo_usage number budget usage demos = ⊎_elim (λ none. let is : using_so usage ≡ wanting = none.0 in cc) (λ demo. demo.ends) demos
-
-  reduce_usage : (budget : ℕ) (usage : UsageFault) → Reduces disk budget left written written' old new (using_so usage) → ⊥
-  reduce_usage budget usage reduces =
-      ⊎_elim (λ closed. refuses_usage closed.fault usage written written' closed.refuses)
-      (λ reduced. ⊎_elim (λ part. let is : ending.Usage usage ≡ ending.Done = part.tells.0 in cc)
-      (λ rest. ⊎_elim (λ spent. let is : ending.Usage usage ≡ ending.ReduceSpent spent.number = spent.tells.0 in cc) (λ none. let is : using_so usage ≡ wanting = none.0 in cc) rest) reduced.reduces)
-      reduces
-
-  print_usage : (usage : UsageFault) → Prints disk left written written' old new (using_so usage) → ⊥
-  print_usage usage prints = ⊎_elim (λ closed. refuses_usage closed.fault usage written written' closed.refuses) (λ printed. prints_no_usage printed.lang _ written written' usage printed.prints) prints
-
-  solve_usage : (usage : UsageFault) → Solves disk left written left' written' old new (using_so usage) → ⊥
-  solve_usage usage solves = ⊎_elim (λ closed. refuses_usage closed.fault usage written written' closed.refuses) (λ solved. solves_no_usage solved.lang _ left written left' written' usage solved.solves) solves
-
-  certify_usage : (budget : ℕ) (usage : UsageFault) → Certifies disk budget left written written' old new (using_so usage) → ⊥
-  certify_usage budget usage certifies =
-      ⊎_elim (λ closed. refuses_usage closed.fault usage written written' closed.refuses)
-      (λ told. certifies_no_usage told.lang told.plan told.voc told.events budget written written' usage told.certifies) certifies
-
-  back_usage : (usage : UsageFault) → TakesBack disk left written written' old new (using_so usage) → ⊥
-  back_usage usage backs =
-      ⊎_elim (λ closed. refuses_usage closed.fault usage written written' closed.refuses)
-      (λ rest. ⊎_elim (λ nothing. let is : ending.Usage usage ≡ ending.NothingBack = nothing.tells.0 in cc)
-      (λ more. ⊎_elim (λ full. let is : ending.Usage usage ≡ ending.JournalFull = full.tells.0 in cc)
-      (λ taken. ⊎_elim (λ done. let is : ending.Usage usage ≡ ending.Done = done.1.0 in cc)
-      (λ other. ⊎_elim (λ none. let is : using_so usage ≡ wanting = none in cc) (λ failed. let is : using_so usage ≡ Ok ending.DiskFault = failed in cc) other.2) taken.ends) more) rest)
+  pub back_own : TakesBack disk left written written' old new (okay end) → is_own end ≡ true
+  back_own backs =
+      ⊎_elim (λ closed. refuses_own written written' end closed.fault closed.refuses)
+      (λ rest. ⊎_elim (λ nothing. ap is_own nothing.tells.0)
+      (λ more. ⊎_elim (λ full. ap is_own full.tells.0)
+      (λ taken. ⊎_elim (λ done. ap is_own done.1.0)
+      (λ other. ⊎_elim (λ none. err_own put.Memory end (is_own end ≡ true) none) (λ lost. ap is_own (same_ok end ending.DiskFault lost)) other.2) taken.ends) more) rest)
       backs
 
-  pub usage_is : (asked : Result Command UsageFault) (end : Ending) → Does disk asked left written left' written' old new (Ok end) → (usage : UsageFault) → end ≡ ending.Usage usage → asked ≡ Err usage
-  usage_is (Err fault) end does usage is = ap (λ (f : UsageFault). let r : Result Command UsageFault = Err f in r) (same (sym does.0 ∙ is))
+  -- ---- A usage line is told for refused words alone
+
+  no_usage : (usage : UsageFault) → is_own end ≡ true → end ≡ ending.Usage usage → ⊥
+  no_usage usage own is = not_own end (ending.Usage usage) refl own is
+
+  no_loop : (turns : Turns) (l : Language) (terms : Terms) (start events : List Event) (rest : Option (List ℕ)) (usage : UsageFault) → Tries turns l terms start events rest written left' written' end → end ≡ ending.Usage usage → ⊥
+  no_loop turns l terms start events rest usage tries is = not_loops tries.how (ending.Usage usage) (tries.is ∙ ap okay is) refl
+
+  run_usage : (budget : ℕ) (usage : UsageFault) → RunsOn disk budget left written left' written' old new (okay end) → end ≡ ending.Usage usage → ⊥
+  run_usage budget usage runs is =
+      ⊎_elim (λ closed. no_usage usage (refuses_own written written' end closed.fault closed.refuses) is)
+      (λ on. no_loop line_turn on.lang (terms_with on.plan budget) on.events on.later left usage on.tries is) runs
+
+  play_usage : (budget : ℕ) (usage : UsageFault) → PlaysOn disk budget left written left' written' old new (okay end) → end ≡ ending.Usage usage → ⊥
+  play_usage budget usage plays is =
+      ⊎_elim (λ closed. no_usage usage (refuses_own written written' end closed.fault closed.refuses) is)
+      (λ rest. ⊎_elim (λ stale. no_usage usage (ap is_own stale.tells.0) is)
+      (λ more. ⊎_elim (λ none. no_usage usage (without_own none.why end written written' none.ends) is)
+      (λ played. let on = played.on in no_loop (net_turn played.target false) on.lang (terms_with on.plan budget) on.events on.later played.rest usage on.tries is) more) rest)
+      plays
+
+  demo_usage : (number budget : ℕ) (usage : UsageFault) → Demos number budget written written' (okay end) → end ≡ ending.Usage usage → ⊥
+  demo_usage number budget usage demos is =
+      ⊎_elim (λ none. err_own put.Memory end ⊥ none.0)
+      (λ demo. let P : Ending → Type 0 = λ x. Tells number demo.lang (terms_with Quacq budget) demo.events written written' x in subst P is demo.ends) demos
+
+  pub usage_is : (asked : Result Command UsageFault) → Does disk asked left written left' written' old new (okay end) → (usage : UsageFault) → end ≡ ending.Usage usage → asked ≡ Err usage
+  usage_is (Err fault) does usage is = ap (λ (f : UsageFault). let r : Result Command UsageFault = Err f in r) (same (sym does.0 ∙ is))
     where
       same : ending.Usage fault ≡ ending.Usage usage → fault ≡ usage
       same e = cc
-  usage_is (Ok (command.New plan)) end does usage is = let P : Ending → Type 0 = λ x. News disk plan left written left' written' old new (Ok x) in absurd (new_usage plan usage (subst P is does))
-  usage_is (Ok (command.Run budget)) end does usage is = let P : Ending → Type 0 = λ x. RunsOn disk budget left written left' written' old new (Ok x) in absurd (run_usage budget usage (subst P is does))
-  usage_is (Ok (command.Try plan budget)) end does usage is = let P : Ending → Type 0 = λ x. Acquires (terms_with plan budget) left written left' written' x in absurd (subst P is does)
-  usage_is (Ok command.Show) end does usage is = let P : Ending → Type 0 = λ x. Shows disk left written written' old new (Ok x) in absurd (show_usage usage (subst P is does))
-  usage_is (Ok command.Back) end does usage is = let P : Ending → Type 0 = λ x. TakesBack disk left written written' old new (Ok x) in absurd (back_usage usage (subst P is does))
-  usage_is (Ok (command.Play budget)) end does usage is = let P : Ending → Type 0 = λ x. PlaysOn disk budget left written left' written' old new (Ok x) in absurd (play_usage budget usage (subst P is does))
-  usage_is (Ok (command.Demo number budget)) end does usage is = let P : Ending → Type 0 = λ x. Demos number budget written written' (Ok x) in absurd (demo_usage number budget usage (subst P is does))
-  usage_is (Ok (command.Reduce budget)) end does usage is = let P : Ending → Type 0 = λ x. Reduces disk budget left written written' old new (Ok x) in absurd (reduce_usage budget usage (subst P is does))
-  usage_is (Ok command.Cnf) end does usage is = let P : Ending → Type 0 = λ x. Prints disk left written written' old new (Ok x) in absurd (print_usage usage (subst P is does))
-  usage_is (Ok command.Model) end does usage is = let P : Ending → Type 0 = λ x. Solves disk left written left' written' old new (Ok x) in absurd (solve_usage usage (subst P is does))
-  usage_is (Ok (command.Certify budget)) end does usage is = let P : Ending → Type 0 = λ x. Certifies disk budget left written written' old new (Ok x) in absurd (certify_usage budget usage (subst P is does))
-  usage_is (Ok command.Check) end does usage is = let P : Ending → Type 0 = λ x. Confirms left written left' written' (Ok x) in absurd (confirms_no_usage left written left' written' usage (subst P is does))
+  usage_is (Ok (command.New plan)) does usage is = absurd (no_usage usage (new_own plan does) is)
+  usage_is (Ok (command.Run budget)) does usage is = absurd (run_usage budget usage does is)
+  usage_is (Ok (command.Try plan budget)) does usage is = let P : Ending → Type 0 = λ x. Acquires (terms_with plan budget) left written left' written' x in absurd (subst P is does)
+  usage_is (Ok command.Show) does usage is = absurd (no_usage usage (ask_own ask.Show does) is)
+  usage_is (Ok command.Back) does usage is = absurd (no_usage usage (back_own does) is)
+  usage_is (Ok (command.Play budget)) does usage is = absurd (play_usage budget usage does is)
+  usage_is (Ok (command.Demo number budget)) does usage is = absurd (demo_usage number budget usage does is)
+  usage_is (Ok (command.Reduce budget)) does usage is = absurd (no_usage usage (ask_own (ask.Reduce budget) does) is)
+  usage_is (Ok command.Cnf) does usage is = absurd (no_usage usage (ask_own ask.Cnf does) is)
+  usage_is (Ok command.Model) does usage is = absurd (no_usage usage (solve_own does) is)
+  usage_is (Ok (command.Certify budget)) does usage is = absurd (no_usage usage (ask_own (ask.Certify budget) does) is)
+  usage_is (Ok command.Check) does usage is = absurd (no_usage usage (confirm_own does) is)

@@ -27,7 +27,6 @@ use Rattle.session_laws.specs.Session.{Idle}
 use Rattle.session_laws.proofs.Limits.{answers_fit}
 use Rattle.session_store.specs.Left.{bytes_told}
 use Rattle.session_store.specs.Replay.{HavePlaces, replay_on}
-use Rattle.session_store.specs.declared.fault.SFault.{SFault}
 use Rattle.session_store.proofs.Fronts.{replay_is_state}
 use Rattle.target_oracle.specs.Generator.{IsGenerated}
 use Rattle.target_oracle.specs.Lines.{line_turn}
@@ -37,24 +36,25 @@ use Rattle.voc_read.specs.Vocabulary.{IsVocabulary, refusal_of_vocabulary}
 use Rattle.voc_read.specs.declared.fault.VocFault.{VocFault}
 use Rattle.acq_cli.specs.Closings.{closing_of, ending_of}
 use Rattle.acq_cli.specs.Commands.{EndsExactly}
-use Rattle.acq_cli.specs.Completing.{HasRoom, IsAffordable, IsEnough, TryHasEnough, RunHasEnough, HasTarget, PlayHasEnough, IsDoneWith, Converges, ConvergesOrCollapses, Completes}
+use Rattle.acq_cli.specs.Completing.{HasRoom, IsAffordable, IsEnough, TryHasEnough, RunHasEnough, HasTarget, PlayHasEnough, IsDoneWith, SaysItsOwn, Converges, ConvergesOrCollapses, Completes}
 use Rattle.acq_cli.specs.Demoing.{Demos, Tells}
 use Rattle.acq_cli.specs.Driven.{HasEnded, IsLeftOpen}
 use Rattle.acq_cli.specs.Endings.{Closes, Tries}
-use Rattle.acq_cli.specs.Exactly.{IsBrokenOff, HasVocabulary, RefusesOpening, NewEnds, ShowEnds}
+use Rattle.acq_cli.specs.Exactly.{IsBrokenOff, HasVocabulary, NewEnds}
 use Rattle.acq_cli.specs.Journals.{untold}
 use Rattle.acq_cli.specs.Playing.{EndsWithout, MayLack, PlaysOn, ReadsTarget}
 use Rattle.acq_cli.specs.Points.{terms_with}
 use Rattle.acq_cli.specs.Run.{Closing, Undecided, Suspended, LineTooLong, Unreadable, JournalFull}
-use Rattle.acq_cli.specs.Printing.{HoldsPrintable, PrintEnds}
-use Rattle.acq_cli.specs.Reducing.{HoldsDecided, ReduceEnds}
-use Rattle.acq_cli.specs.Certifying.{CertifyEnds, HoldsCertified}
+use Rattle.acq_cli.specs.Asks.{asked_said}
+use Rattle.acq_cli.specs.Over.{SaidEnds}
 use Rattle.acq_cli.specs.Confirming.{ConfirmEnds, IsConfirmed}
 use Rattle.acq_cli.specs.Solving.{HoldsModel, SolveEnds}
 use Rattle.acq_cli.specs.Running.{RunsOn}
 use Rattle.acq_cli.specs.TakingBack.{BackEnds, HoldsLast}
 use Rattle.acq_cli.specs.Doing.{Does}
 use Rattle.acq_cli.specs.Trying.{Acquires, IsRefusal, ReadsVocabulary}
+use Rattle.acq_cli.specs.declared.ask.Ask.{Ask}
+use Rattle.acq_cli.specs.declared.ask.Ask.TheVariants as ask
 use Rattle.acq_cli.specs.declared.driving.Drove.{Drove}
 use Rattle.acq_cli.specs.declared.driving.Drove.TheVariants as drove
 use Rattle.acq_cli.specs.declared.ending.Ending.{Ending}
@@ -320,24 +320,15 @@ module _ {D : Type 0} (disk : DiskOf D) (left written left' written' : Option (L
   new_completes : (content' : Option (List ℕ)) → NewEnds left content' end → (bytes file : List ℕ) → left ≡ Some bytes → content' ≡ Some file → HasVocabulary bytes → HasNoSession file → IsDoneWith end
   new_completes content' ends bytes file from told voc free = ⊎_elim (λ broken. inr (broken_memory end broken calm)) (λ exactly. inl (exactly.done.1 (voc, free))) (ends bytes from file told)
 
-  show_completes : (content' : Option (List ℕ)) → ShowEnds content' end → (file : List ℕ) → content' ≡ Some file → ((f : SFault) → RefusesOpening file f → ⊥) → IsDoneWith end
-  show_completes content' ends file told none = ⊎_elim (λ broken. inr (broken_memory end broken calm)) (λ exactly. inl (exactly.else_done none)) (ends file told)
+  ask_completes : (a : Ask) (content' : Option (List ℕ)) → SaidEnds (asked_said a) content' end → SaysItsOwn a content' end
+  ask_completes a content' ends = λ file told. ⊎_elim (λ broken. inr (broken_memory end broken calm)) (λ said. inl said) (ends file told)
 
   demo_completes : (number budget : ℕ) → Demos number budget written written' (okay end) → 88573 ≤ budget → Converges end
   demo_completes number budget (inl none) enough = absurd (err_ok put.Memory end (sym none.0))
   demo_completes number budget (inr demo) enough = told_end number demo.lang (terms_with Quacq budget) demo.events written written' end demo.generated enough demo.ends
 
-  reduce_completes : (budget : ℕ) (content' : Option (List ℕ)) → ReduceEnds budget content' end → (file : List ℕ) → content' ≡ Some file → HoldsDecided file budget → IsDoneWith end
-  reduce_completes budget content' ends file told held = ⊎_elim (λ broken. inr (broken_memory end broken calm)) (λ exactly. inl (exactly.done.1 held)) (ends file told)
-
-  print_completes : (content' : Option (List ℕ)) → PrintEnds content' end → (file : List ℕ) → content' ≡ Some file → HoldsPrintable file → IsDoneWith end
-  print_completes content' ends file told held = ⊎_elim (λ broken. inr (broken_memory end broken calm)) (λ exactly. inl (exactly.done.1 held)) (ends file told)
-
   solve_completes : (content' : Option (List ℕ)) → SolveEnds left content' end → (bytes file : List ℕ) → left ≡ Some bytes → content' ≡ Some file → HoldsModel bytes file → IsDoneWith end
   solve_completes content' ends bytes file from told held = ⊎_elim (λ broken. inr (broken_memory end broken calm)) (λ exactly. inl (exactly.done.1 held)) (ends bytes from file told)
-
-  certify_completes : (budget : ℕ) (content' : Option (List ℕ)) → CertifyEnds budget content' end → (file : List ℕ) → content' ≡ Some file → HoldsCertified file budget → IsDoneWith end
-  certify_completes budget content' ends file told held = ⊎_elim (λ broken. inr (broken_memory end broken calm)) (λ exactly. inl (exactly.done.1 held)) (ends file told)
 
   check_completes : ConfirmEnds left end → (bytes : List ℕ) → left ≡ Some bytes → IsConfirmed bytes → IsDoneWith end
   check_completes ends bytes from held = ⊎_elim (λ broken. inr (broken_memory end broken calm)) (λ exactly. inl (exactly.done.1 held)) (ends bytes from)
@@ -349,14 +340,14 @@ module _ {D : Type 0} (disk : DiskOf D) (left written left' written' : Option (L
   completes (Ok (command.New plan)) does ends = λ bytes from file told. new_completes (disk.content old) ends bytes file from told
   completes (Ok (command.Run budget)) does ends = λ bytes from file told. run_completes budget does bytes file from told
   completes (Ok (command.Play budget)) does ends = λ bytes from file told. play_completes budget does bytes file from told
-  completes (Ok command.Show) does ends = λ file told. show_completes (disk.content old) ends file told
+  completes (Ok command.Show) does ends = ask_completes ask.Show (disk.content old) ends
   completes (Ok command.Back) does ends = λ file told. back_completes (disk.content old) ends file told
   completes (Ok (command.Try plan budget)) does ends = λ bytes from tells has. try_completes (terms_with plan budget) left written left' written' bytes from tells has end calm does
   completes (Ok (command.Demo number budget)) does ends = λ enough. demo_completes number budget does enough
-  completes (Ok (command.Reduce budget)) does ends = λ file told. reduce_completes budget (disk.content old) ends file told
-  completes (Ok command.Cnf) does ends = λ file told. print_completes (disk.content old) ends file told
+  completes (Ok (command.Reduce budget)) does ends = ask_completes (ask.Reduce budget) (disk.content old) ends
+  completes (Ok command.Cnf) does ends = ask_completes ask.Cnf (disk.content old) ends
   completes (Ok command.Model) does ends = λ bytes from file told. solve_completes (disk.content old) ends bytes file from told
-  completes (Ok (command.Certify budget)) does ends = λ file told. certify_completes budget (disk.content old) ends file told
+  completes (Ok (command.Certify budget)) does ends = ask_completes (ask.Certify budget) (disk.content old) ends
   completes (Ok command.Check) does ends = λ bytes from. check_completes ends bytes from
   completes (Err fault) does ends = tt
 
@@ -365,13 +356,13 @@ pub memory_completes : (asked : Result Command UsageFault) (left written content
 memory_completes (Ok (command.New plan)) left written content = λ bytes from file told voc free. inr refl
 memory_completes (Ok (command.Run budget)) left written content = λ bytes from file told tells has. inr (inr refl)
 memory_completes (Ok (command.Play budget)) left written content = λ bytes from file told tells has. inr refl
-memory_completes (Ok command.Show) left written content = λ file told none. inr refl
+memory_completes (Ok command.Show) left written content = λ file told. inr refl
 memory_completes (Ok command.Back) left written content = λ file told held. inr refl
 memory_completes (Ok (command.Try plan budget)) left written content = λ bytes from tells has. inr (inr refl)
 memory_completes (Ok (command.Demo number budget)) left written content = λ enough. inr refl
-memory_completes (Ok (command.Reduce budget)) left written content = λ file told held. inr refl
-memory_completes (Ok command.Cnf) left written content = λ file told held. inr refl
+memory_completes (Ok (command.Reduce budget)) left written content = λ file told. inr refl
+memory_completes (Ok command.Cnf) left written content = λ file told. inr refl
 memory_completes (Ok command.Model) left written content = λ bytes from file told held. inr refl
-memory_completes (Ok (command.Certify budget)) left written content = λ file told held. inr refl
+memory_completes (Ok (command.Certify budget)) left written content = λ file told. inr refl
 memory_completes (Ok command.Check) left written content = λ bytes from held. inr refl
 memory_completes (Err fault) left written content = tt

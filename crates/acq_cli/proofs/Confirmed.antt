@@ -7,7 +7,6 @@ use Rattle.acq_io.specs.declared.streams.Put.{Put}
 use Rattle.acq_io.specs.declared.streams.Put.TheVariants as put
 use Rattle.acq_io.specs.declared.whole.AllFault.{AllFault}
 use Rattle.acq_io.specs.declared.whole.AllFault.TheVariants as all
-use Rattle.acq_words.specs.declared.request.UsageFault.{UsageFault}
 use Rattle.cert_check.specs.Certificate.{Certificate}
 use Rattle.cert_check.specs.Checking.{verdict}
 use Rattle.cert_check.specs.Good.{IsGood}
@@ -168,10 +167,6 @@ confirms_only left written left' written' got other done flawed unread read (inl
 confirms_only left written left' written' got other done flawed unread read (inr (inl long)) = ends_only (ending.CertUnread form.TooLong) other (cert_fault_line form.TooLong) written written' got (unread form.TooLong) long.1
 confirms_only left written left' written' got other done flawed unread read (inr (inr (inl failed, same))) = subst (λ (r : Result Ending Put). IfOk r (λ e. e ≢ other)) (sym failed) read
 confirms_only left written left' written' got other done flawed unread read (inr (inr (inr none, same))) = subst (λ (r : Result Ending Put). IfOk r (λ e. e ≢ other)) (sym none) tt
-
-pub confirms_no_usage : (left written left' written' : Option (List ℕ)) (usage : UsageFault) → Confirms left written left' written' (Ok (ending.Usage usage)) → ⊥
-confirms_no_usage left written left' written' usage confirms =
-    confirms_only left written left' written' (Ok (ending.Usage usage)) (ending.Usage usage) (λ e. cc) (λ flaw e. cc) (λ fault e. cc) (λ e. cc) confirms refl
 
 -- ---- exactly when
 

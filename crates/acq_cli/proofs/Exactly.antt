@@ -1,5 +1,5 @@
 -- Exactly when a command over a journal is done or refused, of what it has done.
-use Rattle.std.proofs.Common.{◌≡◌, ◌⊎◌, ℕ, List, get_or, take, Option, Some, None, Result, Ok, Err, refl, sym, ◌∙◌, ap, subst, inl, inr, ⊎_elim, arith}
+use Rattle.std.proofs.Common.{◌≡◌, ◌⊎◌, ℕ, List, get_or, take, true, Option, Some, None, Result, Ok, Err, refl, sym, ◌∙◌, ap, subst, inl, inr, ⊎_elim, arith}
 use Rattle.std.specs.Option.{option_map}
 use Rattle.disk_model.specs.declared.disk.Disk.{Ghosts as DiskOf}
 use Rattle.acq_io.specs.Whole.{Gathered, gathered, Gives, all_of}
@@ -9,27 +9,21 @@ use Rattle.acq_io.specs.declared.whole.AllFault.{AllFault}
 use Rattle.acq_io.specs.declared.whole.AllFault.TheVariants as long
 use Rattle.answer_journal.specs.declared.fault.JFault.{JFault}
 use Rattle.answer_journal.specs.declared.fault.JFault.TheVariants as journal
-use Rattle.answer_journal.specs.Journal.{Reading, ReadsAs, Session, NoSession, NotAJournal, TooManyRecords, Damaged, HasNoSession}
+use Rattle.answer_journal.specs.Journal.{ReadsAs, NotAJournal, HasNoSession}
 use Rattle.answer_journal.specs.Making.{CreateRefused}
-use Rattle.answer_journal.specs.Unique.{spells_once}
-use Rattle.assign.specs.declared.events.Event.{Event}
 use Rattle.assign.specs.declared.events.Plan.{Plan}
-use Rattle.language.specs.Language.{Language}
-use Rattle.session_laws.specs.Session.{State, At, Stray}
-use Rattle.session_store.specs.Left.{SaysSession}
-use Rattle.session_store.specs.Opening.{JournalNotOpened, NotMade}
-use Rattle.session_store.specs.Replay.{replay}
+use Rattle.session_store.specs.Opened.{Opened, Holds, RefusesOpening as RefusesBytes, is_of_bytes, opened_as}
+use Rattle.session_store.specs.Opening.{NotMade}
+use Rattle.session_store.proofs.Openings.{ReadOnce, holds_none as bytes_hold_none, only_reason as bytes_only_reason, same_session}
 use Rattle.session_store.specs.declared.fault.SFault.{SFault}
 use Rattle.session_store.specs.declared.fault.SFault.TheVariants as store
-use Rattle.voc_read.specs.Vocabulary.{IsVocabulary, refusal_of_vocabulary}
+use Rattle.voc_read.specs.Vocabulary.{refusal_of_vocabulary}
 use Rattle.voc_read.specs.declared.fault.VocFault.{VocFault}
-use Rattle.voc_read.proofs.OneReading.{one_language}
 use Rattle.voc_read.proofs.Refused.{not_refused}
-use Rattle.acq_cli.specs.Exactly.{IsBrokenOff, HasVocabulary, IsInTheWay, RefusesNew, MakesExactly, NewEnds, RefusesOpening, OpensExactly, HoldsSession, RunEnds, ShowEnds}
+use Rattle.acq_cli.specs.Exactly.{IsBrokenOff, HasVocabulary, IsInTheWay, RefusesNew, MakesExactly, NewEnds, RefusesOpening, OpensExactly, HoldsSession, RunEnds}
 use Rattle.acq_cli.specs.Journals.{EndsUntold, untold}
 use Rattle.acq_cli.specs.Making.{RefusesMaking, News}
 use Rattle.acq_cli.specs.Running.{RunsOn}
-use Rattle.acq_cli.specs.Showing.{Shows}
 use Rattle.acq_cli.specs.Program.{ended_as}
 use Rattle.acq_cli.proofs.Closings.{okay, same_ok, err_ok, not_loops}
 use Rattle.acq_cli.proofs.Journals.{untold_ends}
@@ -192,110 +186,41 @@ module _ {D : Type 0} (disk : DiskOf D) where
 
 -- ---- opening one
 
--- no bytes have two readings
-abbrev pub ReadOnce : Type 0
-ReadOnce = (bytes : List ℕ) (r s : Reading) → ReadsAs bytes r → ReadsAs bytes s → r ≡ s
+-- a fault that is told is one of the bytes
+pub told_of_bytes : (f : SFault) → untold f ≡ None → is_of_bytes f ≡ true
+told_of_bytes (store.Journal journal.SessionThere) is = refl
+told_of_bytes (store.Journal journal.NoSession) is = refl
+told_of_bytes (store.Journal journal.NotAJournal) is = refl
+told_of_bytes (store.Journal (journal.Damaged at)) is = refl
+told_of_bytes (store.Journal journal.TooManyRecords) is = refl
+told_of_bytes (store.Journal journal.Full) is = refl
+told_of_bytes (store.Journal journal.DiskFault) is = absurd (let no : ⊥ = cc in no)
+told_of_bytes (store.Journal journal.Memory) is = absurd (let no : ⊥ = cc in no)
+told_of_bytes (store.Voc fault) is = refl
+told_of_bytes (store.Stray i) is = refl
+told_of_bytes store.Memory is = absurd (let no : ⊥ = cc in no)
 
--- how a fault of the bytes is told
-abbrev fault_of : Reading → JFault
-fault_of (Session plan voc events) = journal.Full
-fault_of NoSession = journal.NoSession
-fault_of NotAJournal = journal.NotAJournal
-fault_of TooManyRecords = journal.TooManyRecords
-fault_of (Damaged at) = journal.Damaged at
+of_bytes : (file : List ℕ) (f : SFault) → RefusesOpening file f → RefusesBytes file f
+of_bytes file f why = (told_of_bytes f why.0, why.1)
 
--- what the bytes of a file that isn't opened are read as
-record ReadBadly (file : List ℕ) (f : JFault) : Type 0 where
-  pub reading : Reading
-  pub is : f ≡ fault_of reading
-  pub reads : ReadsAs file reading
+-- what a file holds, as one value
+abbrev pub opened_in : (file : List ℕ) → HoldsSession file → Opened
+opened_in file h = opened_as h.plan h.voc h.events h.lang
 
-read_badly : (file : List ℕ) (f : JFault) → untold (store.Journal f) ≡ None → JournalNotOpened file f → ReadBadly file f
-read_badly file journal.NoSession told why = record { reading = NoSession; is = refl; reads = why }
-read_badly file journal.NotAJournal told why = record { reading = NotAJournal; is = refl; reads = why }
-read_badly file journal.TooManyRecords told why = record { reading = TooManyRecords; is = refl; reads = why }
-read_badly file (journal.Damaged at) told why = record { reading = Damaged at; is = refl; reads = why }
-read_badly file journal.DiskFault told why = absurd (let no : ⊥ = cc in no)
-read_badly file journal.SessionThere told why = absurd why
-read_badly file journal.Full told why = absurd why
-read_badly file journal.Memory told why = absurd why
+pub holds_in : (file : List ℕ) (h : HoldsSession file) → Holds file (opened_in file h)
+holds_in file h = record { says = h.says; session = record { read = h.read; places = h.places } }
 
--- such a file says no session
-says_none : ReadOnce → (file : List ℕ) (f : JFault) (plan : Plan) (voc : List ℕ) (events : List Event) → untold (store.Journal f) ≡ None → JournalNotOpened file f → SaysSession file plan voc events → ⊥
-says_none once file f plan voc events told why says =
-    let bad = read_badly file f told why in
-    subst (JournalNotOpened file) (bad.is ∙ ap fault_of (once file bad.reading (Session plan voc events) bad.reads says)) why
-
-same_journal : ReadOnce → (file : List ℕ) (f n : JFault) → untold (store.Journal f) ≡ None → JournalNotOpened file f → untold (store.Journal n) ≡ None → JournalNotOpened file n → f ≡ n
-same_journal once file f n told why again here =
-    let one = read_badly file f told why in
-    let two = read_badly file n again here in
-    one.is ∙ ap fault_of (once file one.reading two.reading one.reads two.reads) ∙ sym two.is
-
-taken_as : (file : List ℕ) (p q : Plan) (v w : List ℕ) (es fs : List Event) (f : VocFault) → SaysSession file p v es → SaysSession file q w fs → refusal_of_vocabulary v ≡ None → refusal_of_vocabulary w ≡ Some f → ⊥
-taken_as file p q v w es fs f one two taken refused =
-    taken_refused v f taken (ap refusal_of_vocabulary (spells_once file p v es q w fs one.1 two.1).1 ∙ refused)
-
-at_stray : (state : State) (i : ℕ) → At state ≡ Stray i → ⊥
-at_stray state i e = cc
-
-same_stray : (i j : ℕ) → Stray i ≡ Stray j → i ≡ j
-same_stray i j e = cc
-
--- where its events lead is one thing
-replayed_as : (file : List ℕ) (p q : Plan) (v w : List ℕ) (es fs : List Event) (lang : Language) → SaysSession file p v es → SaysSession file q w fs → replay lang p es ≡ replay lang q fs
-replayed_as file p q v w es fs lang one two = let same = spells_once file p v es q w fs one.1 two.1 in λ i. replay lang (same.0 i) (same.2 i)
-
-pub vocabulary_as : (file : List ℕ) (p q : Plan) (v w : List ℕ) (es fs : List Event) (lang : Language) → SaysSession file p v es → SaysSession file q w fs → IsVocabulary v lang → IsVocabulary w lang
-vocabulary_as file p q v w es fs lang one two read =
-    let P : List ℕ → Type 0 = λ x. IsVocabulary x lang in subst P (spells_once file p v es q w fs one.1 two.1).1 read
-
-never_told : untold store.Memory ≡ None → ⊥
-never_told e = cc
-
--- one language is read, and so the events lead to one thing
-pub lang_is : (file : List ℕ) (p q : Plan) (v w : List ℕ) (es fs : List Event) (l m : Language) → SaysSession file p v es → SaysSession file q w fs → IsVocabulary v l → IsVocabulary w m → l ≡ m
-lang_is file p q v w es fs l m one two read again = one_language w l m (vocabulary_as file p q v w es fs l one two read) again
-
-replay_is : (file : List ℕ) (p q : Plan) (v w : List ℕ) (es fs : List Event) (l m : Language) → SaysSession file p v es → SaysSession file q w fs → IsVocabulary v l → IsVocabulary w m → replay l p es ≡ replay m q fs
-replay_is file p q v w es fs l m one two read again =
-    replayed_as file p q v w es fs l one two ∙ ap (λ (x : Language). replay x q fs) (lang_is file p q v w es fs l m one two read again)
+-- two readings of it are one
+pub same_in : (file : List ℕ) (a b : HoldsSession file) → opened_in file a ≡ opened_in file b
+same_in file a b = same_session file (opened_in file a) (opened_in file b) (holds_in file a) (holds_in file b)
 
 -- a file that is refused holds no session
 pub holds_none : ReadOnce → (file : List ℕ) (f : SFault) → RefusesOpening file f → HoldsSession file → ⊥
-holds_none once file (store.Journal f) why h = says_none once file f h.plan h.voc h.events why.0 why.1 h.says
-holds_none once file (store.Voc f) why h = let w = why.1 in taken_as file h.plan w.plan h.voc w.voc h.events w.events f h.says w.reads (not_refused h.voc h.lang h.read) w.refused
-holds_none once file (store.Stray i) why h =
-    let w = why.1 in
-    at_stray h.places.0 i (sym h.places.1 ∙ replay_is file h.plan w.plan h.voc w.voc h.events w.events h.lang w.lang h.says w.reads h.read w.vocabulary ∙ w.stray)
-holds_none once file store.Memory why h = never_told why.0
+holds_none once file f why h = bytes_hold_none once file f (opened_in file h) (of_bytes file f why) (holds_in file h)
 
 -- it is refused for one reason
 only_reason : ReadOnce → (file : List ℕ) (f n : SFault) → RefusesOpening file f → RefusesOpening file n → n ≡ f
-only_reason once file (store.Journal f) (store.Journal n) one two = ap (λ (x : JFault). store.Journal x) (sym (same_journal once file f n one.0 one.1 two.0 two.1))
-only_reason once file (store.Journal f) (store.Voc n) one two = absurd (says_none once file f two.1.plan two.1.voc two.1.events one.0 one.1 two.1.reads)
-only_reason once file (store.Journal f) (store.Stray j) one two = absurd (says_none once file f two.1.plan two.1.voc two.1.events one.0 one.1 two.1.reads)
-only_reason once file (store.Voc f) (store.Journal n) one two = absurd (says_none once file n one.1.plan one.1.voc one.1.events two.0 two.1 one.1.reads)
-only_reason once file (store.Voc f) (store.Voc n) one two =
-    let a = one.1 in let b = two.1 in
-    let same = spells_once file a.plan a.voc a.events b.plan b.voc b.events a.reads.1 b.reads.1 in
-    let told : Some f ≡ Some n = sym a.refused ∙ ap refusal_of_vocabulary same.1 ∙ b.refused in
-    let is : n ≡ f = cc in
-    ap (λ (x : VocFault). store.Voc x) is
-only_reason once file (store.Voc f) (store.Stray j) one two =
-    let a = one.1 in let b = two.1 in
-    absurd (taken_as file b.plan a.plan b.voc a.voc b.events a.events f b.reads a.reads (not_refused b.voc b.lang b.vocabulary) a.refused)
-only_reason once file (store.Stray i) (store.Journal n) one two = absurd (says_none once file n one.1.plan one.1.voc one.1.events two.0 two.1 one.1.reads)
-only_reason once file (store.Stray i) (store.Voc n) one two =
-    let a = one.1 in let b = two.1 in
-    absurd (taken_as file a.plan b.plan a.voc b.voc a.events b.events n a.reads b.reads (not_refused a.voc a.lang a.vocabulary) b.refused)
-only_reason once file (store.Stray i) (store.Stray j) one two =
-    let a = one.1 in let b = two.1 in
-    ap (λ (x : ℕ). store.Stray x) (same_stray j i (sym b.stray ∙ replay_is file b.plan a.plan b.voc a.voc b.events a.events b.lang a.lang b.reads a.reads b.vocabulary a.vocabulary ∙ a.stray))
-only_reason once file (store.Journal f) store.Memory one two = absurd (never_told two.0)
-only_reason once file (store.Voc f) store.Memory one two = absurd (never_told two.0)
-only_reason once file (store.Stray i) store.Memory one two = absurd (never_told two.0)
-only_reason once file store.Memory n one two = absurd (never_told one.0)
+only_reason once file f n one two = sym (bytes_only_reason once file f n (of_bytes file f one) (of_bytes file n two))
 
 -- a command that didn't open a file broke off, or refuses it
 pub closed_end : (written written' : Option (List ℕ)) (end : Ending) (f : SFault) (o : Option (Result Ending Put)) → untold f ≡ o → EndsUntold o f written written' (okay end) → IsBrokenOff end ⊎ ((untold f ≡ None) × (end ≡ ending.JournalRefused f))
@@ -317,22 +242,3 @@ module _ {D : Type 0} (disk : DiskOf D) where
   run_ends once budget left written left' written' old new (Ok end) (inr on) = λ file told.
       let held : HoldsSession file = record { plan = on.plan; voc = on.voc; events = on.events; says = on.says file told; lang = on.lang; read = on.read; places = on.places } in
       inr (record { refused = λ f. (λ e. absurd (not_loops on.tries.how (ending.JournalRefused f) (on.tries.is ∙ ap okay e) refl), λ why. absurd (holds_none once file f why held)) })
-
-  pub show_ends : ReadOnce → (left written written' : Option (List ℕ)) (old new : D) (got : Result Ending Put) → Shows disk left written written' old new got → ShowEnds (disk.content old) (ended_as got)
-  show_ends once left written written' old new (Err put.Failed) shows = λ file told. inl (inr (inl refl))
-  show_ends once left written written' old new (Err put.Memory) shows = λ file told. inl (inr (inr (inr refl)))
-  show_ends once left written written' old new (Ok end) (inl closed) = λ file told.
-      ⊎_elim (λ broken. inl broken)
-      (λ is. inr (record {
-        opens = closed_exactly once file end closed.fault (is.0, closed.why file told) is.1;
-        done = (λ e. absurd (done_refused end closed.fault e is.1), λ held. absurd (holds_none once file closed.fault (is.0, closed.why file told) held));
-        else_done = λ none. absurd (none closed.fault (is.0, closed.why file told));
-      }))
-      (closed_end written written' end closed.fault (untold closed.fault) refl closed.refuses)
-  show_ends once left written written' old new (Ok end) (inr shown) = λ file told.
-      let held : HoldsSession file = record { plan = shown.plan; voc = shown.voc; events = shown.events; says = shown.says file told; lang = shown.lang; read = shown.read; places = shown.places } in
-      inr (record {
-        opens = record { refused = λ f. (λ e. absurd (done_refused end f shown.tells.0 e), λ why. absurd (holds_none once file f why held)) };
-        done = (λ e. held, λ holds. shown.tells.0);
-        else_done = λ none. shown.tells.0;
-      })

@@ -31,6 +31,8 @@ pub mod Enough
 pub mod Room
 pub mod OneRun
 pub mod Reduced
+pub mod SaidOver
+pub mod Headline
 pub mod Printed
 pub mod Solved
 pub mod StandingQuestions

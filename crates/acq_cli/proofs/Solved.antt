@@ -8,7 +8,6 @@ use Rattle.acq_io.specs.declared.streams.Put.{Put}
 use Rattle.acq_io.specs.declared.streams.Put.TheVariants as put
 use Rattle.acq_io.specs.declared.whole.AllFault.{AllFault}
 use Rattle.acq_io.specs.declared.whole.AllFault.TheVariants as all
-use Rattle.acq_words.specs.declared.request.UsageFault.{UsageFault}
 use Rattle.assign.specs.Assignment.{Assignment}
 use Rattle.language.specs.declared.candidates.Candidate.{Candidate}
 use Rattle.language.specs.Language.{Language}
@@ -24,7 +23,8 @@ use Rattle.acq_cli.specs.Program.{ended_as}
 use Rattle.acq_cli.specs.Reducing.{network_after}
 use Rattle.acq_cli.specs.Solving.{SolveEnds, Solves, SolvesExactly, SolvesTo, TellsSolution}
 use Rattle.acq_cli.proofs.Closings.{okay, err_ok, same_ok}
-use Rattle.acq_cli.proofs.Exactly.{ReadOnce, closed_end, closed_exactly, done_refused, fine, gives_got, holds_none}
+use Rattle.session_store.proofs.Openings.{ReadOnce}
+use Rattle.acq_cli.proofs.Exactly.{closed_end, closed_exactly, done_refused, fine, gives_got, holds_none}
 use Rattle.acq_cli.proofs.Journals.{ends_only}
 use Rattle.acq_cli.proofs.Reduced.{one_network}
 use Rattle.acq_cli.specs.declared.ending.Ending.{Ending}
@@ -83,10 +83,6 @@ solves_only l network left written left' written' got other done refused read (i
 solves_only l network left written left' written' got other done refused read (inr (inl long)) = ends_only (ending.ModelRefused model.TooLong) other (model_fault_line model.TooLong) written written' got (refused model.TooLong) long.1
 solves_only l network left written left' written' got other done refused read (inr (inr (inl failed, same))) = subst (λ (r : Result Ending Put). IfOk r (λ e. e ≢ other)) (sym failed) read
 solves_only l network left written left' written' got other done refused read (inr (inr (inr none, same))) = subst (λ (r : Result Ending Put). IfOk r (λ e. e ≢ other)) (sym none) tt
-
-pub solves_no_usage : (l : Language) (network : List Candidate) (left written left' written' : Option (List ℕ)) (usage : UsageFault) → SolvesTo l network left written left' written' (Ok (ending.Usage usage)) → ⊥
-solves_no_usage l network left written left' written' usage solves =
-    solves_only l network left written left' written' (Ok (ending.Usage usage)) (ending.Usage usage) (λ e. cc) (λ fault e. cc) (λ e. cc) solves refl
 
 -- ---- exactly when
 

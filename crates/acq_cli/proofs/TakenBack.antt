@@ -5,7 +5,6 @@ use Rattle.std.specs.Option.{ForSome}
 use Rattle.disk_model.specs.declared.disk.Disk.{Ghosts as DiskOf}
 use Rattle.acq_io.specs.declared.streams.Put.{Put}
 use Rattle.acq_io.specs.declared.streams.Put.TheVariants as put
-use Rattle.answer_journal.specs.Unique.{spells_once}
 use Rattle.assign.specs.Assignment.{Assignment}
 use Rattle.assign.specs.Events.{standing}
 use Rattle.assign.specs.declared.events.Event.{Event}
@@ -16,6 +15,7 @@ use Rattle.language.specs.Answers.{standing_on}
 use Rattle.session_store.specs.Keeping.{Persists, FailsWith}
 use Rattle.session_store.proofs.Keepers.{both_as, within_more}
 use Rattle.session_store.specs.Left.{OpensWithin, OpensWithOrWithout, bytes_told}
+use Rattle.session_store.specs.Opened.{Opened}
 use Rattle.session_store.specs.declared.fault.SFault.{SFault}
 use Rattle.acq_cli.specs.Exactly.{HoldsSession, IsBrokenOff, OpensExactly, RefusesOpening}
 use Rattle.acq_cli.specs.Journals.{EndsWith, untold}
@@ -23,7 +23,8 @@ use Rattle.acq_cli.specs.Playing.{IsOpened}
 use Rattle.acq_cli.specs.Program.{ended_as}
 use Rattle.acq_cli.specs.TakingBack.{BackEnds, BacksExactly, EndsBack, LeavesBack, TakesBack, taken_text}
 use Rattle.acq_cli.proofs.Closings.{okay, same_ok, err_ok}
-use Rattle.acq_cli.proofs.Exactly.{ReadOnce, closed_end, closed_exactly, done_refused, holds_none}
+use Rattle.session_store.proofs.Openings.{ReadOnce}
+use Rattle.acq_cli.proofs.Exactly.{closed_end, closed_exactly, done_refused, holds_none, same_in}
 use Rattle.acq_cli.proofs.Journals.{disk_failed, ends_only}
 use Rattle.acq_cli.proofs.Reached.{standing_size}
 use Rattle.acq_cli.specs.declared.ending.Ending.{Ending}
@@ -111,7 +112,7 @@ module _ {D : Type 0} (disk : DiskOf D) where
 -- ---- what a file holds
 
 same_events : (file : List ℕ) (a b : HoldsSession file) → a.events ≡ b.events
-same_events file a b = (spells_once file a.plan a.voc a.events b.plan b.voc b.events a.says.1 b.says.1).2
+same_events file a b = ap (λ (o : Opened). o.events) (same_in file a b)
 
 same_count : (file : List ℕ) (a b : HoldsSession file) → length (standing_on a.lang a.events) ≡ length (standing_on b.lang b.events)
 same_count file a b = standing_size a.lang a.events ∙ ap (λ (es : List Event). length (standing es)) (same_events file a b) ∙ sym (standing_size b.lang b.events)

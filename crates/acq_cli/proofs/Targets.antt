@@ -13,7 +13,6 @@ use Rattle.acq_io.specs.declared.whole.AllFault.TheVariants as long
 use Rattle.acq_words.specs.declared.request.Command.{Command}
 use Rattle.acq_words.specs.declared.request.Command.TheVariants as command
 use Rattle.acq_words.specs.declared.request.UsageFault.{UsageFault}
-use Rattle.answer_journal.specs.Unique.{spells_once}
 use Rattle.assign.specs.Assignment.{Assignment}
 use Rattle.assign.specs.Events.{Answer, standing}
 use Rattle.assign.specs.declared.events.Event.{Event}
@@ -28,10 +27,13 @@ use Rattle.std.specs.Option.{ok_or}
 use Rattle.disk_model.specs.declared.disk.Disk.{Ghosts as DiskOf}
 use Rattle.network.specs.declared.fault.NetFault.{NetFault}
 use Rattle.network.specs.declared.fault.NetFault.TheVariants as net
+use Rattle.session_store.specs.Opened.{Opened}
 use Rattle.session_store.specs.declared.fault.SFault.{SFault}
+use Rattle.session_store.proofs.Openings.{ReadOnce, opens_once}
 use Rattle.target_oracle.specs.NetTurns.{net_may_say, told_of_answer}
 use Rattle.target_oracle.specs.Turns.{Turns}
 use Rattle.acq_cli.specs.Added.{MayAdd, IsAdded, MayEnd}
+use Rattle.acq_cli.specs.Asks.{AsksTruly, asked_said}
 use Rattle.acq_cli.specs.Commands.{EndsExactly}
 use Rattle.acq_cli.specs.Driven.{HasEnded, TellsFull}
 use Rattle.acq_cli.specs.Endings.{Tries}
@@ -40,13 +42,12 @@ use Rattle.acq_cli.specs.Doing.{Does}
 use Rattle.acq_cli.specs.Playing.{IsAnsweredBy, IsNoNetwork, IsUnstopped, HoldsAnswers, HoldsNoTarget, IsOpened, MayLack, PlayEnds, PlaysExactly, PlaysOn, RefusesTarget, EndsWithout}
 use Rattle.acq_cli.specs.Program.{ended_as}
 use Rattle.acq_cli.specs.Run.{answer}
-use Rattle.acq_cli.proofs.Certified.{certify_ends}
 use Rattle.acq_cli.proofs.Confirmed.{confirm_ends}
-use Rattle.acq_cli.proofs.Printed.{print_ends}
-use Rattle.acq_cli.proofs.Reduced.{reduce_ends}
+use Rattle.acq_cli.proofs.SaidOver.{over_ends}
 use Rattle.acq_cli.proofs.Solved.{solve_ends}
 use Rattle.acq_cli.proofs.TakenBack.{back_ends}
 use Rattle.acq_cli.specs.Texts.{learned_in, learned_after}
+use Rattle.acq_cli.specs.declared.ask.Ask.TheVariants as ask
 use Rattle.acq_cli.specs.declared.driving.Drove.{Drove}
 use Rattle.acq_cli.specs.declared.driving.Drove.TheVariants as drove
 use Rattle.acq_cli.specs.declared.ending.Ending.{Ending}
@@ -57,7 +58,7 @@ use Rattle.acq_cli.specs.declared.playing.NoTarget.{NoTarget}
 use Rattle.acq_cli.specs.declared.playing.NoTarget.TheVariants as without
 use Rattle.acq_cli.proofs.Closings.{okay, same_ok, err_ok, loops_by, not_loops}
 use Rattle.acq_cli.proofs.Standings.{few_answers, due_reached}
-use Rattle.acq_cli.proofs.Exactly.{ReadOnce, fine, gives_got, holds_none, lang_is, closed_end, closed_exactly, new_ends, run_ends, show_ends}
+use Rattle.acq_cli.proofs.Exactly.{fine, gives_got, holds_none, same_in, closed_end, closed_exactly, new_ends, run_ends}
 
 -- ---- what its target said
 
@@ -268,7 +269,7 @@ count_is l events = length-map (standing events) _
 same_count : (file : List ℕ) (a b : HoldsSession file) → length (standing_on a.lang a.events) ≡ length (standing_on b.lang b.events)
 same_count file a b =
     count_is a.lang a.events
-    ∙ ap (λ (es : List Event). length (standing es)) (spells_once file a.plan a.voc a.events b.plan b.voc b.events a.says.1 b.says.1).2
+    ∙ ap (λ (es : List Event). length (standing es)) (ap (λ (o : Opened). o.events) (same_in file a b))
     ∙ sym (count_is b.lang b.events)
 
 no_count : (t : List Answer) → t ≡ [] → length t ≡ 0
@@ -336,7 +337,7 @@ play_stale once bytes file end held n number some is = record {
 must_be : (bytes file : List ℕ) (held : HoldsSession file) (f : NetFault) → HoldsNoTarget file bytes f → network_of held.lang bytes ≡ refusing f
 must_be bytes file held f holds =
     let s = holds.session in
-    ap (λ (l : Language). network_of l bytes) (lang_is file held.plan s.plan held.voc s.voc held.events s.events held.lang s.lang held.says s.says held.read s.read) ∙ holds.refused
+    ap (λ (o : Opened). network_of o.lang bytes) (same_in file held s) ∙ holds.refused
 
 play_lacks : ReadOnce → (bytes file : List ℕ) (end : Ending) (held : HoldsSession file) (f : NetFault) → standing_on held.lang held.events ≡ [] → network_of held.lang bytes ≡ refusing f → end ≡ ending.TargetRefused f → PlaysExactly bytes file end
 play_lacks once bytes file end held f fresh none is = record {
@@ -389,12 +390,12 @@ module _ {D : Type 0} (disk : DiskOf D) where
   ends_exactly once (Ok (command.New plan)) left written left' written' old new got does = new_ends disk plan left written left' written' old new got does
   ends_exactly once (Ok (command.Run budget)) left written left' written' old new got does = run_ends disk once budget left written left' written' old new got does
   ends_exactly once (Ok (command.Play budget)) left written left' written' old new got does = play_ends once budget left written left' written' old new got does
-  ends_exactly once (Ok command.Show) left written left' written' old new got does = show_ends disk once left written written' old new got does
+  ends_exactly once (Ok command.Show) left written left' written' old new got does = over_ends disk (opens_once once) (asked_said ask.Show) (AsksTruly ask.Show) written written' old new got does
   ends_exactly once (Ok command.Back) left written left' written' old new got does = back_ends disk once left written written' old new got does
-  ends_exactly once (Ok (command.Reduce budget)) left written left' written' old new got does = reduce_ends disk once budget left written written' old new got does
-  ends_exactly once (Ok command.Cnf) left written left' written' old new got does = print_ends disk once left written written' old new got does
+  ends_exactly once (Ok (command.Reduce budget)) left written left' written' old new got does = over_ends disk (opens_once once) (asked_said (ask.Reduce budget)) (AsksTruly (ask.Reduce budget)) written written' old new got does
+  ends_exactly once (Ok command.Cnf) left written left' written' old new got does = over_ends disk (opens_once once) (asked_said ask.Cnf) (AsksTruly ask.Cnf) written written' old new got does
   ends_exactly once (Ok command.Model) left written left' written' old new got does = solve_ends disk once left written left' written' old new got does
-  ends_exactly once (Ok (command.Certify budget)) left written left' written' old new got does = certify_ends disk once budget left written written' old new got does
+  ends_exactly once (Ok (command.Certify budget)) left written left' written' old new got does = over_ends disk (opens_once once) (asked_said (ask.Certify budget)) (AsksTruly (ask.Certify budget)) written written' old new got does
   ends_exactly once (Ok command.Check) left written left' written' old new got does = confirm_ends left written left' written' got does
   ends_exactly once (Ok (command.Try plan budget)) left written left' written' old new got does = tt
   ends_exactly once (Ok (command.Demo number budget)) left written left' written' old new got does = tt

@@ -29,15 +29,16 @@ use Rattle.target_oracle.specs.NetTurns.{net_turn}
 use Rattle.target_oracle.specs.Turns.{Turns, Said}
 use Rattle.target_oracle.specs.Words.{trimmed, reply_of}
 use Rattle.voc_read.specs.Vocabulary.{IsVocabulary, refusal_of_vocabulary}
-use Rattle.acq_cli.specs.Certifying.{HoldsCertified}
+use Rattle.acq_cli.specs.Asks.{asked_said}
 use Rattle.acq_cli.specs.Confirming.{IsConfirmed}
-use Rattle.acq_cli.specs.Printing.{HoldsPrintable}
-use Rattle.acq_cli.specs.Reducing.{HoldsDecided}
+use Rattle.acq_cli.specs.Over.{EndsAsSaid}
 use Rattle.acq_cli.specs.Solving.{HoldsModel}
 use Rattle.acq_cli.specs.Exactly.{HasVocabulary, RefusesOpening}
 use Rattle.acq_cli.specs.Points.{terms_with}
 use Rattle.acq_cli.specs.Run.{Ran, Runs}
 use Rattle.acq_cli.specs.TakingBack.{HoldsLast}
+use Rattle.acq_cli.specs.declared.ask.Ask.{Ask}
+use Rattle.acq_cli.specs.declared.ask.Ask.TheVariants as ask
 use Rattle.acq_cli.specs.declared.ending.Ending.{Ending}
 use Rattle.acq_cli.specs.declared.ending.Ending.TheVariants as ending
 use Rattle.acq_cli.specs.declared.terms.Terms.{Terms}
@@ -125,6 +126,10 @@ pub record NoneRose (input input' output output' disk disk' : ℕ) : Type 0 wher
 abbrev pub IsDoneWith : Ending → Type 0
 IsDoneWith end = (end ≡ ending.Done) ⊎ (end ≡ ending.Memory)
 
+-- it ends as is said of what the file opens with, or memory was wanting
+abbrev pub SaysItsOwn : Ask → (content : Option (List ℕ)) → Ending → Type 0
+SaysItsOwn a content end = ForSome content (λ file. EndsAsSaid (asked_said a) file end ⊎ (end ≡ ending.Memory))
+
 -- the answers converge, or memory was wanting
 abbrev pub Converges : Ending → Type 0
 Converges end = ((m : ℕ) × (end ≡ ending.Converged m)) ⊎ (end ≡ ending.Memory)
@@ -143,12 +148,12 @@ Completes (Ok (command.Play budget)) left written content end =
     ForSome left (λ bytes. ForSome content (λ file. IsSome written → PlayHasEnough budget bytes file → Converges end))
 Completes (Ok (command.New plan)) left written content end =
     ForSome left (λ bytes. ForSome content (λ file. HasVocabulary bytes → HasNoSession file → IsDoneWith end))
-Completes (Ok command.Show) left written content end = ForSome content (λ file. ((f : SFault) → RefusesOpening file f → ⊥) → IsDoneWith end)
+Completes (Ok command.Show) left written content end = SaysItsOwn ask.Show content end
 Completes (Ok command.Back) left written content end = ForSome content (λ file. HoldsLast file → IsDoneWith end)
 Completes (Ok (command.Demo number budget)) left written content end = 88573 ≤ budget → Converges end
-Completes (Ok (command.Reduce budget)) left written content end = ForSome content (λ file. HoldsDecided file budget → IsDoneWith end)
-Completes (Ok command.Cnf) left written content end = ForSome content (λ file. HoldsPrintable file → IsDoneWith end)
+Completes (Ok (command.Reduce budget)) left written content end = SaysItsOwn (ask.Reduce budget) content end
+Completes (Ok command.Cnf) left written content end = SaysItsOwn ask.Cnf content end
 Completes (Ok command.Model) left written content end = ForSome left (λ bytes. ForSome content (λ file. HoldsModel bytes file → IsDoneWith end))
-Completes (Ok (command.Certify budget)) left written content end = ForSome content (λ file. HoldsCertified file budget → IsDoneWith end)
+Completes (Ok (command.Certify budget)) left written content end = SaysItsOwn (ask.Certify budget) content end
 Completes (Ok command.Check) left written content end = ForSome left (λ bytes. IsConfirmed bytes → IsDoneWith end)
 Completes asked left written content end = Unit {0}

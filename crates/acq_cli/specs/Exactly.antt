@@ -1,4 +1,4 @@
--- Exactly when `new` and `show` are done, and a journal is refused.
+-- Exactly when `new` is done, and a journal is refused.
 use Rattle.std.specs.Prelude.{◌≡◌, ◌⊎◌, ◌↔◌, ℕ, List, Option, None, Ok}
 use Rattle.std.specs.Option.{ForSome}
 use Rattle.acq_io.specs.Whole.{all_of}
@@ -78,15 +78,6 @@ pub record HoldsSession (file : List ℕ) : Type 0 where
   pub read : IsVocabulary voc lang
   pub places : HavePlaces lang plan events
 
--- `show` is done exactly over a session, which is wherever nothing refuses the file
-pub record ShowsExactly (file : List ℕ) (end : Ending) : Type 0 where
-  pub opens : OpensExactly file end
-  pub done : (end ≡ ending.Done) ↔ HoldsSession file
-  pub else_done : ((f : SFault) → RefusesOpening file f → ⊥) → end ≡ ending.Done
-
 -- where the disk tells its bytes
 abbrev pub RunEnds : (content : Option (List ℕ)) → Ending → Type 0
 RunEnds content end = ForSome content (λ file. IsBrokenOff end ⊎ OpensExactly file end)
-
-abbrev pub ShowEnds : (content : Option (List ℕ)) → Ending → Type 0
-ShowEnds content end = ForSome content (λ file. IsBrokenOff end ⊎ ShowsExactly file end)

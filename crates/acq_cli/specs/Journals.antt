@@ -10,6 +10,7 @@ use Rattle.disk_model.specs.Moments.{LeavesOnly}
 use Rattle.session_store.specs.Opening.{NotOpened}
 use Rattle.session_store.specs.declared.fault.SFault.{SFault}
 use Rattle.voc_read.specs.FaultTexts.{fault_text}
+use Rattle.acq_cli.specs.Saying.{Saying, saying}
 use Rattle.acq_cli.specs.declared.ending.Ending.{Ending}
 use Rattle.acq_io.specs.declared.streams.Put.TheVariants as put
 use Rattle.answer_journal.specs.declared.fault.JFault.TheVariants as journal
@@ -37,6 +38,10 @@ store_text store.Memory = codes "memory"
 
 abbrev pub journal_refusal_text : SFault → List ℕ
 journal_refusal_text fault = codes "refused journal " ++ (store_text fault ++ 10 ∷ [])
+
+-- what is said of it
+abbrev pub refused_said : SFault → Saying
+refused_said fault = saying (journal_refusal_text fault) (ending.JournalRefused fault)
 
 -- ---- What was said
 

@@ -13,7 +13,10 @@ pub mod Endings
 pub mod Program
 pub mod Words
 pub mod Shows
+pub mod Saying
 pub mod Journals
+pub mod Said
+pub mod Over
 pub mod Usage
 pub mod Trying
 pub mod Making
@@ -27,8 +30,10 @@ pub mod Printing
 pub mod Solving
 pub mod Certifying
 pub mod Confirming
+pub mod Asks
 pub mod TakingBack
 pub mod Doing
+pub mod Headline
 pub mod Commands
 pub mod Completing
 pub mod Laws

@@ -1,100 +1,78 @@
--- What `reduce` has done.
-use Rattle.std.specs.Prelude.{◌≡◌, ◌⊎◌, ◌↔◌, ℕ, IsTrue, List, [], length, Option, Result, Err}
-use Rattle.std.specs.Option.{ForSome}
-use Rattle.disk_model.specs.declared.disk.Disk.{Ghosts as DiskOf}
-use Rattle.acq_io.specs.declared.streams.Put.{Put}
-use Rattle.acq_io.specs.declared.streams.Put.TheVariants as put
-use Rattle.assign.specs.Events.{Answer}
+-- What `reduce` says of a session.
+use Rattle.std.specs.Prelude.{◌≡◌, ◌⊎◌, ℕ, zero, suc, IsTrue, List, [], length, Option, Some, None}
 use Rattle.assign.specs.declared.events.Event.{Event}
 use Rattle.assign.specs.declared.events.Plan.{Plan}
-use Rattle.disk_model.specs.Moments.{LeavesOnly}
+use Rattle.fd_solver.specs.declared.outcome.Outcome.{Outcome}
+use Rattle.fd_solver.specs.declared.outcome.Outcome.TheVariants.{Found, Absent, Spent}
 use Rattle.language.specs.declared.candidates.Candidate.{Candidate}
 use Rattle.language.specs.Language.{Language, HasSameSolutions}
 use Rattle.language.specs.Answers.{IsConverged, IsNetwork, agrees, standing_on}
 use Rattle.net_reduce.specs.Reduction.{IsReduction, Sifts}
-use Rattle.net_reduce.specs.Searched.{AreDecided, IsSearched, IsSpentAt}
+use Rattle.net_reduce.specs.Searched.{IsSearched, IsSpentAt, left_at, outcome_at}
 use Rattle.net_reduce.specs.Texts.{reduced_text, spent_text}
 use Rattle.net_reduce.specs.declared.fault.ReduceFault.{ReduceFault}
 use Rattle.net_reduce.specs.declared.fault.ReduceFault.TheVariants as unreduced
 use Rattle.session_laws.specs.Session.{state_after}
-use Rattle.session_store.specs.Left.{SaysSession}
-use Rattle.session_store.specs.Replay.{HavePlaces}
-use Rattle.voc_read.specs.Vocabulary.{IsVocabulary}
-use Rattle.acq_cli.specs.Exactly.{HoldsSession, IsBrokenOff, OpensExactly}
-use Rattle.acq_cli.specs.Journals.{EndsWith, StaysClosed}
+use Rattle.session_store.specs.Opened.{Opened}
+use Rattle.acq_cli.specs.Saying.{Saying, saying}
 use Rattle.acq_cli.specs.Texts.{learned_in}
-use Rattle.acq_cli.specs.declared.ending.Ending.{Ending}
 use Rattle.acq_cli.specs.declared.ending.Ending.TheVariants as ending
 
 -- the network to which the answers of events lead
 abbrev pub network_after : Language → Plan → List Event → List Candidate
 network_after l plan events = learned_in (state_after l plan (standing_on l events))
 
+abbrev pub network_of : Opened → List Candidate
+network_of o = network_after o.lang o.plan o.events
+
 -- ---- What is said of a network
 
+-- the number of an item, where its search was spent, unless there is one already
+abbrev pub spent_first : Option ℕ → Outcome → ℕ → Option ℕ
+spent_first (Some i) outcome number = Some i
+spent_first None Spent number = Some number
+spent_first None (Found e) number = None
+spent_first None Absent number = None
+
+-- the first item whose search is spent, of so many
+abbrev pub first_spent : Language → List Candidate → ℕ → ℕ → Option ℕ
+first_spent l network budget zero = None
+first_spent l network budget (suc i) = spent_first (first_spent l network budget i) (outcome_at l network budget i) i
+
+-- the items that remain, or the first whose search is spent
+abbrev pub sifted_said : Language → List Candidate → ℕ → Option ℕ → Saying
+sifted_said l network budget None = saying (reduced_text l (left_at l network budget (length network)) (length network)) ending.Done
+sifted_said l network budget (Some i) = saying (spent_text i) (ending.ReduceSpent i)
+
+-- why there are none; where memory is wanting, nothing is said
+abbrev pub unreduced_said : ReduceFault → Saying
+unreduced_said (unreduced.Spent i) = saying (spent_text i) (ending.ReduceSpent i)
+unreduced_said unreduced.Memory = saying [] ending.Memory
+
+abbrev pub network_said : ℕ → Language → List Candidate → Saying
+network_said budget l network = sifted_said l network budget (first_spent l network budget (length network))
+
+abbrev pub reduced_said : ℕ → Opened → Saying
+reduced_said budget o = network_said budget o.lang (network_of o)
+
+-- ---- What is true of it
+
 -- No search is spent, and the part that remains was said: the sifted network, which is a reduction.
-pub record SaysReduced (l : Language) (network : List Candidate) (t : List Answer) (budget : ℕ) (written written' : Option (List ℕ)) (got : Result Ending Put) : Type 0 where
+pub record IsReduced (budget : ℕ) (o : Opened) : Type 0 where
   pub part : List Candidate
-  pub searched : IsSearched l network budget part
-  pub sifted : Sifts l [] network part
-  pub reduction : IsReduction l network part
+  pub searched : IsSearched o.lang (network_of o) budget part
+  pub sifted : Sifts o.lang [] (network_of o) part
+  pub reduction : IsReduction o.lang (network_of o) part
   -- where the answers have converged, it has the solutions of each network that agrees with them
-  pub targets : (target : List Candidate) → IsConverged l network t → IsNetwork l target → IsTrue (agrees l target t) → HasSameSolutions l part target
-  pub tells : EndsWith ending.Done (reduced_text l part (length network)) written written' got
+  pub targets : (target : List Candidate) → IsConverged o.lang (network_of o) (standing_on o.lang o.events) → IsNetwork o.lang target →
+      IsTrue (agrees o.lang target (standing_on o.lang o.events)) → HasSameSolutions o.lang part target
+  pub said : reduced_said budget o ≡ saying (reduced_text o.lang part (length (network_of o))) ending.Done
 
 -- the first item whose search is spent was said
-pub record SaysSpent (l : Language) (network : List Candidate) (budget : ℕ) (written written' : Option (List ℕ)) (got : Result Ending Put) : Type 0 where
+pub record IsSpent (budget : ℕ) (o : Opened) : Type 0 where
   pub number : ℕ
-  pub at : IsSpentAt l network budget number
-  pub tells : EndsWith (ending.ReduceSpent number) (spent_text number) written written' got
+  pub at : IsSpentAt o.lang (network_of o) budget number
+  pub said : reduced_said budget o ≡ saying (spent_text number) (ending.ReduceSpent number)
 
--- the item whose search is spent is said; where memory was wanting, not a word
-abbrev pub EndsUnreduced : ReduceFault → (written written' : Option (List ℕ)) → Result Ending Put → Type 0
-EndsUnreduced (unreduced.Spent number) written written' got = EndsWith (ending.ReduceSpent number) (spent_text number) written written' got
-EndsUnreduced unreduced.Memory written written' got = (got ≡ Err put.Memory) × (written' ≡ written)
-
--- one of these, or memory was wanting, and nothing was said
-abbrev pub ReducesTo : Language → List Candidate → List Answer → ℕ → (written written' : Option (List ℕ)) → Result Ending Put → Type 0
-ReducesTo l network t budget written written' got =
-    SaysReduced l network t budget written written' got ⊎ SaysSpent l network budget written written' got ⊎ ((got ≡ Err put.Memory) × (written' ≡ written))
-
--- ---- The command
-
--- the meanings of a disk
-module _ {D : Type 0} (disk : DiskOf D) where
-  -- The network of a session is reduced, which is that of the journal where the disk tells its bytes. The disk holds what it held.
-  pub record IsReduced (budget : ℕ) (written written' : Option (List ℕ)) (old new : D) (got : Result Ending Put) : Type 0 where
-    pub plan : Plan
-    pub voc : List ℕ
-    pub events : List Event
-    pub says : ForSome (disk.content old) (λ bytes. SaysSession bytes plan voc events)
-    pub lang : Language
-    pub read : IsVocabulary voc lang
-    pub places : HavePlaces lang plan events
-    pub reduces : ReducesTo lang (network_after lang plan events) (standing_on lang events) budget written written' got
-    pub same : disk.content new ≡ disk.content old
-    pub any_moment : LeavesOnly disk old new (disk.may_leave old)
-
-  abbrev pub Reduces : ℕ → (left written written' : Option (List ℕ)) → D → D → Result Ending Put → Type 0
-  Reduces budget left written written' old new got = StaysClosed disk left written left written' old new got ⊎ IsReduced budget written written' old new got
-
--- ---- Exactly when
-
--- the file holds a session, and this item of its network is the first whose search is spent
-pub record HoldsSpent (file : List ℕ) (budget i : ℕ) : Type 0 where
-  pub session : HoldsSession file
-  pub at : IsSpentAt session.lang (network_after session.lang session.plan session.events) budget i
-
--- the file holds a session, and no search of an item of its network is spent
-pub record HoldsDecided (file : List ℕ) (budget : ℕ) : Type 0 where
-  pub session : HoldsSession file
-  pub decided : AreDecided session.lang (network_after session.lang session.plan session.events) budget (length (network_after session.lang session.plan session.events))
-
-pub record ReducesExactly (budget : ℕ) (file : List ℕ) (end : Ending) : Type 0 where
-  pub opens : OpensExactly file end
-  pub done : (end ≡ ending.Done) ↔ HoldsDecided file budget
-  pub spent : (i : ℕ) → (end ≡ ending.ReduceSpent i) ↔ HoldsSpent file budget i
-
--- where the disk tells its bytes
-abbrev pub ReduceEnds : ℕ → (content : Option (List ℕ)) → Ending → Type 0
-ReduceEnds budget content end = ForSome content (λ file. IsBrokenOff end ⊎ ReducesExactly budget file end)
+abbrev pub ReducesTruly : ℕ → Opened → Type 0
+ReducesTruly budget o = IsReduced budget o ⊎ IsSpent budget o

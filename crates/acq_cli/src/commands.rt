@@ -1,26 +1,22 @@
 //! The commands over a journal.
 
-ghost use Rattle.std.specs.Prelude.{◌≡◌, ◌≢◌, ◌≤◌, ℕ, List, Option, IfOk, OnOk, OnErr, Ok, Err};
+ghost use Rattle.std.specs.Prelude.{◌≡◌, ◌≢◌, ◌≤◌, IfOk, OnOk, OnErr, Ok, Err};
 ghost use Rattle.std.specs.String.{string_bytes};
 ghost use Rattle.acq_io.specs.Streams.{Adds, AddsFront, HasStopped, Rose, TakesSome};
 ghost use Rattle.acq_words.specs.Request.{IsBudget};
 ghost use Rattle.disk_model.specs.Disk.{Rose as DiskRose};
-ghost use Rattle.disk_model.specs.Moments.{LeavesOnly};
-ghost use Rattle.language.specs.Answers.{standing_on};
-ghost use Rattle.session_core.specs.Settled.{IsSettled};
-ghost use Rattle.acq_cli.specs.Journals.{journal_text, store_text, untold, EndsWith, Refuses};
+ghost use Rattle.acq_cli.specs.Journals.{journal_text, store_text, refused_said, untold, Refuses};
 ghost use Rattle.acq_cli.specs.Making.{created_text, RefusesMaking, Makes, News};
 ghost use Rattle.acq_cli.specs.Running.{RunsOn};
-ghost use Rattle.acq_cli.specs.Showing.{Shows, shown_text};
 
 use crate::ending::Ending;
-use crate::shows::show;
+use crate::said::{Said, put};
 use crate::top::{ask_on, refuse};
 use acq_io::{AllFault, Put, Sink, Source, read_all};
 use answer_journal::JFault;
 use assign::Plan;
 use disk_model::Disk;
-use language::Language;
+use language::{Language, Memory};
 use par_screen::Gate;
 use session_store::{Keep, SFault, Store};
 use std::alloc::{AllocError, Global};
@@ -78,6 +74,15 @@ fn untold(fault: SFault) -> Option<Result<Ending, Put>>
     }
 }
 
+/// Says why there is no session, where the bytes of the file are to blame.
+fn refused(alloc: Global, fault: SFault) -> Result<Said, Memory>
+    ensures { IfOk result (λ said. said ≡ refused_said fault) }
+{
+    let reason = store_text(alloc, fault)?;
+    let text = format!(in alloc; "refused journal {reason}\n")?;
+    Ok(Said::new(text, Ending::JournalRefused(fault)))
+}
+
 /// Says why there is no session, but for a fault of the disk and want of memory.
 pub(crate) fn refuse_journal<K: Sink>(
     alloc: Global,
@@ -91,17 +96,10 @@ pub(crate) fn refuse_journal<K: Sink>(
     ensures later_sink { K.faults out.old ≤ K.faults out.new }
     ensures lost { result ≡ Ok Ending.DiskFault → fault ≡ SFault.Journal JFault.DiskFault }
 {
-    if let Some(end) = untold(fault) {
-        return end;
+    match untold(fault) {
+        Some(end) => end,
+        None => put(refused(alloc, fault), out),
     }
-    let Ok(reason) = store_text(alloc, fault) else {
-        return Err(Put::Memory);
-    };
-    let Ok(text) = format!(in alloc; "refused journal {reason}\n") else {
-        return Err(Put::Memory);
-    };
-    out.write(text.as_bytes())?;
-    Ok(Ending::JournalRefused(fault))
 }
 
 /// Opens a journal, and asks on from where its session stands.
@@ -228,42 +226,5 @@ pub fn new_journal<S: Source, K: Sink, D: Disk>(
         Err(AllFault::TooLong) => refuse(alloc, VocFault::TooLong, out),
         Err(AllFault::Fault) => Ok(Ending::ReadFault),
         Err(AllFault::Memory) => Err(Put::Memory),
-    }
-}
-
-/// Shows the session of a keeper. None of its questions is new.
-fn show_kept<K: Sink, D: Disk, P: Keep<D>>(
-    alloc: Global,
-    keep: &P,
-    out: &mut K,
-) -> Result<Ending, Put>
-    requires sound { P.sound keep.now }
-    requires settled { IsSettled (P.lang keep.now) (P.plan keep.now) (standing_on (P.lang keep.now) (P.record_of keep.now)) (P.question keep.now) }
-    ensures tells { EndsWith Ending.Done (shown_text (P.lang keep.now) (P.plan keep.now) (P.record_of keep.now)) (K.written out.old) (K.written out.new) result }
-    ensures failed { result ≡ Err Put.Failed → Rose (K.faults out.old) (K.faults out.new) }
-{
-    let session = keep.session();
-    let events = keep.events();
-    show(alloc, session, events, out)?;
-    Ok(Ending::Done)
-}
-
-/// Opens a journal, and shows its session.
-pub fn show_journal<K: Sink, D: Disk>(
-    alloc: Global,
-    out: &mut K,
-    disk: &mut D,
-) -> Result<Ending, Put>
-    ensures shows { (left : Option (List ℕ)) → Shows D.Disk left (K.written out.old) (K.written out.new) disk.old disk.new result }
-    ensures same { D.content disk.new ≡ D.content disk.old }
-    ensures any_moment { LeavesOnly D.Disk disk.old disk.new (D.may_leave disk.old) }
-    ensures no_fault { IfOk result (λ ending. ending ≢ Ending.WriteFault) }
-    ensures no_read { IfOk result (λ ending. ending ≢ Ending.ReadFault) }
-    ensures failed { result ≡ Err Put.Failed → Rose (K.faults out.old) (K.faults out.new) }
-    ensures lost { result ≡ Ok Ending.DiskFault → DiskRose (D.faults disk.old) (D.faults disk.new) }
-{
-    match Store::open(alloc, disk) {
-        Ok(store) => show_kept::<K, D, Store>(alloc, &store, out),
-        Err(fault) => refuse_journal(alloc, fault, out),
     }
 }

@@ -1,6 +1,7 @@
 //! The program as one call: the words, the vocabulary and the answers in, the questions and the network out.
 #![tactic(auto)]
 
+mod ask;
 mod back;
 mod certifying;
 mod commands;
@@ -11,9 +12,11 @@ mod ending;
 pub mod laws;
 mod next;
 mod opens;
+mod over;
 mod playing;
 mod printing;
 mod reducing;
+mod said;
 mod shows;
 mod solving;
 mod terms;

@@ -1,20 +1,20 @@
-//! The command that prints a journal's network for a SAT solver.
+//! What `cnf` says: a session's network for a SAT solver.
 
-ghost use Rattle.std.specs.Prelude.{◌≡◌, ◌≢◌, ℕ, List, Option, IfOk, Ok, Err};
+ghost use Rattle.std.specs.Prelude.{◌≡◌, IfOk, Err};
 ghost use Rattle.acq_io.specs.Streams.{Rose};
-ghost use Rattle.disk_model.specs.Disk.{Rose as DiskRose};
-ghost use Rattle.disk_model.specs.Moments.{LeavesOnly};
+ghost use Rattle.session_store.specs.Opened.{opened_as};
 ghost use Rattle.acq_cli.specs.Journals.{EndsWith};
-ghost use Rattle.acq_cli.specs.Printing.{Prints, PrintsTo, too_large_text};
-ghost use Rattle.acq_cli.specs.Reducing.{network_after};
+ghost use Rattle.acq_cli.specs.Printing.{PrintsTruly, printed_said, too_large_text};
+ghost use Rattle.acq_cli.specs.Saying.{saying};
 
-use crate::commands::refuse_journal;
 use crate::ending::Ending;
+use crate::said::Said;
 use acq_io::{Put, Sink};
 use disk_model::Disk;
+use language::Memory;
 use net_cnf::laws::clauses_encode;
 use net_cnf::{CnfFault, cnf_text, too_large_text};
-use session_store::{Keep, Store};
+use session_store::Keep;
 use std::alloc::Global;
 
 /// Says a text, and ends so.
@@ -27,52 +27,25 @@ pub(crate) fn tell<K: Sink>(text: &str, end: Ending, out: &mut K) -> Result<Endi
 }
 
 /// Says that the text of the clauses is too large.
-fn say_too_large<K: Sink>(alloc: Global, out: &mut K) -> Result<Ending, Put>
-    ensures tells { EndsWith Ending.CnfTooLarge too_large_text (K.written out.old) (K.written out.new) result }
-    ensures failed { result ≡ Err Put.Failed → Rose (K.faults out.old) (K.faults out.new) }
+fn said_too_large(alloc: Global) -> Result<Said, Memory>
+    ensures { IfOk result (λ said. said ≡ saying too_large_text Ending.CnfTooLarge) }
 {
-    let Ok(text) = too_large_text(alloc) else {
-        return Err(Put::Memory);
-    };
-    tell(text.as_str(), Ending::CnfTooLarge, out)
+    let text = too_large_text(alloc)?;
+    Ok(Said::new(text, Ending::CnfTooLarge))
 }
 
-/// Prints the network of a keeper's session, in whatever state it is.
-fn print_kept<K: Sink, D: Disk, P: Keep<D>>(
-    alloc: Global,
-    keep: &P,
-    out: &mut K,
-) -> Result<Ending, Put>
+/// What `cnf` says of a keeper's session, in whatever state it is.
+pub(crate) fn printed<D: Disk, P: Keep<D>>(alloc: Global, keep: &P) -> Result<Said, Memory>
     requires { P.sound keep.now }
-    ensures prints { PrintsTo (P.lang keep.now) (network_after (P.lang keep.now) (P.plan keep.now) (P.record_of keep.now)) (K.written out.old) (K.written out.new) result }
-    ensures failed { result ≡ Err Put.Failed → Rose (K.faults out.old) (K.faults out.new) }
+    ensures says { IfOk result (λ said. said ≡ printed_said (opened_as (P.plan keep.now) (P.voc keep.now) (P.record_of keep.now) (P.lang keep.now))) }
+    ensures so { IfOk result (λ _. PrintsTruly (opened_as (P.plan keep.now) (P.voc keep.now) (P.record_of keep.now) (P.lang keep.now))) }
 {
     // a law: the models of the clauses are the solutions
     clauses_encode();
     let session = keep.session();
     match cnf_text(alloc, session.lang(), session.network()) {
-        Ok(text) => tell(text.as_str(), Ending::Done, out),
-        Err(CnfFault::TooLarge) => say_too_large(alloc, out),
-        Err(CnfFault::Memory) => Err(Put::Memory),
-    }
-}
-
-/// Opens a journal, and prints its network for a SAT solver. Nothing is written to it.
-pub fn print_journal<K: Sink, D: Disk>(
-    alloc: Global,
-    out: &mut K,
-    disk: &mut D,
-) -> Result<Ending, Put>
-    ensures prints { (left : Option (List ℕ)) → Prints D.Disk left (K.written out.old) (K.written out.new) disk.old disk.new result }
-    ensures same { D.content disk.new ≡ D.content disk.old }
-    ensures any_moment { LeavesOnly D.Disk disk.old disk.new (D.may_leave disk.old) }
-    ensures no_fault { IfOk result (λ ending. ending ≢ Ending.WriteFault) }
-    ensures no_read { IfOk result (λ ending. ending ≢ Ending.ReadFault) }
-    ensures failed { result ≡ Err Put.Failed → Rose (K.faults out.old) (K.faults out.new) }
-    ensures lost { result ≡ Ok Ending.DiskFault → DiskRose (D.faults disk.old) (D.faults disk.new) }
-{
-    match Store::open(alloc, disk) {
-        Ok(store) => print_kept::<K, D, Store>(alloc, &store, out),
-        Err(fault) => refuse_journal(alloc, fault, out),
+        Ok(text) => Ok(Said::new(text, Ending::Done)),
+        Err(CnfFault::TooLarge) => said_too_large(alloc),
+        Err(CnfFault::Memory) => Err(Memory),
     }
 }

@@ -1,110 +1,69 @@
-//! The command that reduces a journal's network.
+//! What `reduce` says: a session's network without the items that follow from the others.
 
-ghost use Rattle.std.specs.Prelude.{◌≡◌, ◌≢◌, ℕ, List, Option, length, IfOk, Ok, Err};
-ghost use Rattle.acq_io.specs.Streams.{Rose};
+ghost use Rattle.std.specs.Prelude.{◌≡◌, IfOk, IsErr};
 ghost use Rattle.acq_words.specs.Request.{IsBudget};
-ghost use Rattle.disk_model.specs.Disk.{Rose as DiskRose};
-ghost use Rattle.disk_model.specs.Moments.{LeavesOnly};
-ghost use Rattle.language.specs.Answers.{IsNetwork, standing_on};
+ghost use Rattle.language.specs.Answers.{IsNetwork};
 ghost use Rattle.net_reduce.specs.Texts.{reduced_text, spent_text};
-ghost use Rattle.acq_cli.specs.Journals.{EndsWith};
-ghost use Rattle.acq_cli.specs.Reducing.{EndsUnreduced, Reduces, ReducesTo, network_after};
+ghost use Rattle.session_store.specs.Opened.{opened_as};
+ghost use Rattle.acq_cli.specs.Reducing.{ReducesTruly, reduced_said, unreduced_said};
+ghost use Rattle.acq_cli.specs.Saying.{saying};
 
-use crate::commands::refuse_journal;
 use crate::ending::Ending;
-use acq_io::{Put, Sink};
+use crate::said::Said;
 use disk_model::Disk;
 use fd_solver::Work;
-use language::{Candidate, Language};
+use language::{Candidate, Language, Memory};
 use net_reduce::{ReduceFault, reduce, reduced_text, spent_text};
-use session_store::{Keep, Store};
+use session_store::Keep;
 use std::alloc::Global;
 
 /// Says what remains of a network of so many items.
-fn say_reduced<K: Sink>(
-    alloc: Global,
-    lang: &Language,
-    part: &[Candidate],
-    of: u32,
-    out: &mut K,
-) -> Result<Ending, Put>
+fn said_part(alloc: Global, lang: &Language, part: &[Candidate], of: u32) -> Result<Said, Memory>
     requires { IsNetwork lang.now part.now }
-    ensures tells { EndsWith Ending.Done (reduced_text lang.now part.now of) (K.written out.old) (K.written out.new) result }
-    ensures failed { result ≡ Err Put.Failed → Rose (K.faults out.old) (K.faults out.new) }
+    ensures { IfOk result (λ said. said ≡ saying (reduced_text lang.now part.now of) Ending.Done) }
 {
-    let Ok(text) = reduced_text(alloc, lang, part, of) else {
-        return Err(Put::Memory);
-    };
-    out.write(text.as_bytes())?;
-    Ok(Ending::Done)
+    let text = reduced_text(alloc, lang, part, of)?;
+    Ok(Said::new(text, Ending::Done))
 }
 
 /// Says which item's search was spent.
-fn say_spent<K: Sink>(alloc: Global, number: u32, out: &mut K) -> Result<Ending, Put>
-    ensures tells { EndsWith (Ending.ReduceSpent number) (spent_text number) (K.written out.old) (K.written out.new) result }
-    ensures failed { result ≡ Err Put.Failed → Rose (K.faults out.old) (K.faults out.new) }
+fn said_spent(alloc: Global, number: u32) -> Result<Said, Memory>
+    ensures { IfOk result (λ said. said ≡ saying (spent_text number) (Ending.ReduceSpent number)) }
 {
-    let Ok(text) = spent_text(alloc, number) else {
-        return Err(Put::Memory);
-    };
-    out.write(text.as_bytes())?;
-    Ok(Ending::ReduceSpent(number))
+    let text = spent_text(alloc, number)?;
+    Ok(Said::new(text, Ending::ReduceSpent(number)))
 }
 
-/// Says why a network isn't reduced. Want of memory is told by the status alone.
-fn say_unreduced<K: Sink>(alloc: Global, fault: ReduceFault, out: &mut K) -> Result<Ending, Put>
-    ensures ends { EndsUnreduced fault (K.written out.old) (K.written out.new) result }
-    ensures failed { result ≡ Err Put.Failed → Rose (K.faults out.old) (K.faults out.new) }
+/// Says why a network isn't reduced.
+fn said_unreduced(alloc: Global, fault: ReduceFault) -> Result<Said, Memory>
+    ensures says { IfOk result (λ said. said ≡ unreduced_said fault) }
+    ensures silent { fault ≡ ReduceFault.Memory → IsErr result }
 {
     match fault {
-        ReduceFault::Spent(number) => say_spent(alloc, number, out),
-        ReduceFault::Memory => Err(Put::Memory),
+        ReduceFault::Spent(number) => said_spent(alloc, number),
+        ReduceFault::Memory => Err(Memory),
     }
 }
 
-/// Reduces the network of a keeper's session, in whatever state it is.
-fn reduce_kept<K: Sink, D: Disk, P: Keep<D>>(
+/// What `reduce` says of a keeper's session, in whatever state it is.
+pub(crate) fn reduced<D: Disk, P: Keep<D>>(
     alloc: Global,
     keep: &P,
     budget: u32,
-    out: &mut K,
-) -> Result<Ending, Put>
+) -> Result<Said, Memory>
     requires sound { P.sound keep.now }
     requires budget { IsBudget budget }
-    ensures reduces { ReducesTo (P.lang keep.now) (network_after (P.lang keep.now) (P.plan keep.now) (P.record_of keep.now)) (standing_on (P.lang keep.now) (P.record_of keep.now)) budget
-        (K.written out.old) (K.written out.new) result }
-    ensures failed { result ≡ Err Put.Failed → Rose (K.faults out.old) (K.faults out.new) }
+    ensures says { IfOk result (λ said. said ≡ reduced_said budget (opened_as (P.plan keep.now) (P.voc keep.now) (P.record_of keep.now) (P.lang keep.now))) }
+    ensures so { IfOk result (λ _. ReducesTruly budget (opened_as (P.plan keep.now) (P.voc keep.now) (P.record_of keep.now) (P.lang keep.now))) }
 {
     let session = keep.session();
     let lang = session.lang();
     let network = session.network();
     let Ok(mut work) = Work::new(alloc, lang) else {
-        return Err(Put::Memory);
+        return Err(Memory);
     };
     match reduce(alloc, &mut work, lang, network, budget) {
-        Ok(part) => say_reduced(alloc, lang, &part, network.len(), out),
-        Err(fault) => say_unreduced(alloc, fault, out),
-    }
-}
-
-/// Opens a journal, and says its network without the items that follow from the others. Nothing is written to it.
-pub fn reduce_journal<K: Sink, D: Disk>(
-    alloc: Global,
-    budget: u32,
-    out: &mut K,
-    disk: &mut D,
-) -> Result<Ending, Put>
-    requires { IsBudget budget }
-    ensures reduces { (left : Option (List ℕ)) → Reduces D.Disk budget left (K.written out.old) (K.written out.new) disk.old disk.new result }
-    ensures same { D.content disk.new ≡ D.content disk.old }
-    ensures any_moment { LeavesOnly D.Disk disk.old disk.new (D.may_leave disk.old) }
-    ensures no_fault { IfOk result (λ ending. ending ≢ Ending.WriteFault) }
-    ensures no_read { IfOk result (λ ending. ending ≢ Ending.ReadFault) }
-    ensures failed { result ≡ Err Put.Failed → Rose (K.faults out.old) (K.faults out.new) }
-    ensures lost { result ≡ Ok Ending.DiskFault → DiskRose (D.faults disk.old) (D.faults disk.new) }
-{
-    match Store::open(alloc, disk) {
-        Ok(store) => reduce_kept::<K, D, Store>(alloc, &store, budget, out),
-        Err(fault) => refuse_journal(alloc, fault, out),
+        Ok(part) => said_part(alloc, lang, &part, network.len()),
+        Err(fault) => said_unreduced(alloc, fault),
     }
 }

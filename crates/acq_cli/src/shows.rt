@@ -1,8 +1,7 @@
 //! What is shown of a session.
 
-ghost use Rattle.std.specs.Prelude.{◌≡◌, ◌++◌, ◌<◌, ◌≤◌, List, All, length, IfOk, OnOk, OnErr, Err};
+ghost use Rattle.std.specs.Prelude.{◌≡◌, ◌++◌, ◌<◌, List, All, length, IfOk, OnOk};
 ghost use Rattle.std.specs.String.{string_bytes};
-ghost use Rattle.acq_io.specs.Streams.{Adds, AddsFront, Rose};
 ghost use Rattle.assign.specs.Events.{Answer};
 ghost use Rattle.language.specs.Language.{variable_count};
 ghost use Rattle.language.specs.Answers.{standing_on};
@@ -10,15 +9,19 @@ ghost use Rattle.session_core.specs.Settled.{IsSettled};
 ghost use Rattle.session_core.specs.Standing.{Stands, knowledge_of, open_in};
 ghost use Rattle.session_laws.specs.Session.{state_after};
 ghost use Rattle.session_store.specs.Held.{IsWide};
+ghost use Rattle.session_store.specs.Opened.{opened_as};
 ghost use Rattle.session_store.specs.Replay.{IsAnswer, seen, answer_in, answer_to, standing_numbers};
+ghost use Rattle.acq_cli.specs.Showing.{shown_said};
 ghost use Rattle.acq_cli.specs.Shows.{plan_text, said_text, answer_line, answer_lines, back_line, is_back, take_backs, reading_text, show_text};
 
-use acq_io::{Put, Sink};
+use crate::ending::Ending;
+use crate::said::Said;
 use assign::{Event, Partial, Plan};
+use disk_model::Disk;
 use language::{Language, Memory};
 use network::network_text;
 use session_core::Session;
-use session_store::standing_records;
+use session_store::{Keep, standing_records};
 use std::alloc::{AllocError, Global};
 
 fn plan_word(plan: Plan) -> &'static str
@@ -133,50 +136,53 @@ fn back_line(alloc: Global, backs: usize) -> Result<String, AllocError>
     format!(in alloc; "taken back {backs}\n")
 }
 
-/// Writes what is shown of a session and the events that led to it.
-pub(crate) fn show<K: Sink>(
-    alloc: Global,
-    session: &Session,
-    events: &[Event],
-    out: &mut K,
-) -> Result<(), Put>
+/// What is shown of a session and the events that led to it.
+fn show_text(alloc: Global, session: &Session, events: &[Event]) -> Result<String, Memory>
     requires stands { Stands session.now (standing_on (knowledge_of session.now).lang events.now) }
     requires settled { IsSettled (knowledge_of session.now).lang (knowledge_of session.now).plan (standing_on (knowledge_of session.now).lang events.now) (open_in session.now) }
     requires wide { All IsWide events.now }
     requires few { length events.now < 1000000 }
-    ensures ok { let k = knowledge_of session.now in OnOk result (Adds (K.written out.old) (K.written out.new) (show_text k.lang k.plan (standing_on k.lang events.now) (take_backs events.now) k.network.list)) }
-    ensures part { let k = knowledge_of session.now in OnErr result (AddsFront (K.written out.old) (K.written out.new) (show_text k.lang k.plan (standing_on k.lang events.now) (take_backs events.now) k.network.list)) }
-    ensures memory { result ≡ Err Put.Memory → K.written out.new ≡ K.written out.old }
-    ensures failed { result ≡ Err Put.Failed → Rose (K.faults out.old) (K.faults out.new) }
-    ensures later_sink { K.faults out.old ≤ K.faults out.new }
+    ensures { let k = knowledge_of session.now in IfOk result (λ text. string_bytes text ≡ show_text k.lang k.plan (standing_on k.lang events.now) (take_backs events.now) k.network.list) }
 {
     let lang = session.lang();
     let plan = plan_word(session.plan());
     // each take-back has found an answer, so nothing but memory was wanting
     let Ok(records) = standing_records(alloc, events) else {
-        return Err(Put::Memory);
+        return Err(Memory);
     };
     let Ok(lines) = event_lines(alloc, lang, events, &records) else {
-        return Err(Put::Memory);
+        return Err(Memory);
     };
     let Ok(backs) = back_line(alloc, take_backs(events)) else {
-        return Err(Put::Memory);
+        return Err(Memory);
     };
     let answers = session.answers();
     let learned = session.network();
     let count = learned.len();
     let Ok(network) = network_text(alloc, lang, learned) else {
-        return Err(Put::Memory);
+        return Err(Memory);
     };
     let state = state_word(session);
     let Ok(said) = format!(in alloc; "plan {plan}\n{lines}answers {answers}\n{backs}") else {
-        return Err(Put::Memory);
+        return Err(Memory);
     };
     let Ok(known) = format!(in alloc; "learned {count}\n{network}state {state}\n") else {
-        return Err(Put::Memory);
+        return Err(Memory);
     };
     let Ok(text) = format!(in alloc; "{said}{known}") else {
-        return Err(Put::Memory);
+        return Err(Memory);
     };
-    out.write(text.as_bytes())
+    Ok(text)
+}
+
+/// What `show` says of a keeper's session. None of its questions is new.
+pub(crate) fn shown<D: Disk, P: Keep<D>>(alloc: Global, keep: &P) -> Result<Said, Memory>
+    requires sound { P.sound keep.now }
+    requires settled { IsSettled (P.lang keep.now) (P.plan keep.now) (standing_on (P.lang keep.now) (P.record_of keep.now)) (P.question keep.now) }
+    ensures { IfOk result (λ said. said ≡ shown_said (opened_as (P.plan keep.now) (P.voc keep.now) (P.record_of keep.now) (P.lang keep.now))) }
+{
+    let session = keep.session();
+    let events = keep.events();
+    let text = show_text(alloc, session, events)?;
+    Ok(Said::new(text, Ending::Done))
 }

@@ -24,22 +24,22 @@ ghost use Rattle.acq_words.specs.Request.{IsBudget, IsWithin};
 ghost use Rattle.acq_cli.specs.Journals.{EndsWith};
 ghost use Rattle.acq_cli.specs.Commands.{EndsExactly};
 ghost use Rattle.acq_cli.specs.Doing.{Does};
+ghost use Rattle.acq_cli.specs.Headline.{FindsNetwork, FindsNone};
 ghost use Rattle.acq_cli.specs.Usage.{TellsUsage};
 ghost use Rattle.acq_cli.specs.Completing.{Completes, NoneRose};
 ghost use Rattle.acq_cli.specs.Words.{IsAsked, Spares, command_asked};
 ghost use Rattle.acq_cli.specs.Texts.{collapsed_text, converged_text, refusal_text, suspended_text, undecided_text, usage_text};
 
+use crate::ask::Ask;
 use crate::back::back_journal;
-use crate::certifying::certify_journal;
-use crate::commands::{new_journal, run_journal, show_journal};
+use crate::commands::{new_journal, run_journal};
 use crate::confirming::check_input;
 use crate::demo::demo_number;
 use crate::driving::{Drove, drive};
 use crate::ending::Ending;
 use crate::opens::open_lines;
+use crate::over::say_over;
 use crate::playing::play_journal;
-use crate::printing::print_journal;
-use crate::reducing::reduce_journal;
 use crate::solving::solve_journal;
 use crate::terms::Terms;
 use acq_io::{AllFault, Put, Sink, Source, read_first_line};
@@ -399,14 +399,14 @@ fn perform<R: Threads + Sync, S: Source, K: Sink, D: Disk, G: Gate>(
             out,
             gate,
         ),
-        Command::Show => show_journal(alloc, out, disk),
+        Command::Show => say_over(rt, alloc, Ask::Show, out, disk, gate),
         Command::Back => back_journal(alloc, out, disk),
         Command::Play(budget) => play_journal(rt, alloc, budget, input, out, disk, gate),
         Command::Demo(number, budget) => demo_number(rt, alloc, number, budget, out, gate),
-        Command::Reduce(budget) => reduce_journal(alloc, budget, out, disk),
-        Command::Cnf => print_journal(alloc, out, disk),
+        Command::Reduce(budget) => say_over(rt, alloc, Ask::Reduce(budget), out, disk, gate),
+        Command::Cnf => say_over(rt, alloc, Ask::Cnf, out, disk, gate),
         Command::Model => solve_journal(alloc, input, out, disk),
-        Command::Certify(budget) => certify_journal(rt, alloc, budget, out, disk, gate),
+        Command::Certify(budget) => say_over(rt, alloc, Ask::Certify(budget), out, disk, gate),
         Command::Check => check_input(rt, alloc, input, out),
     }
 }
@@ -422,6 +422,10 @@ pub fn acquire<R: Threads + Sync, S: Source, K: Sink, D: Disk, G: Gate>(
     disk: &mut D,
     gate: &G,
 ) -> Ending
+    // where it converges, the learned network agrees with each answer and has the solutions of every network that does; where it
+    // collapses, none agrees
+    ensures converged { (m : ℕ) → result ≡ Ending.Converged m → FindsNetwork (command_asked (map string_bytes words.now)) (S.left input.old) (D.content disk.old) (K.written out.new) m }
+    ensures collapsed { (m : ℕ) → result ≡ Ending.Collapsed m → FindsNone (command_asked (map string_bytes words.now)) (S.left input.old) (D.content disk.old) m }
     ensures does { (got : _) × (result ≡ ended_as got)
         × Does D.Disk (command_asked (map string_bytes words.now)) (S.left input.old) (K.written out.old) (S.left input.new) (K.written out.new) disk.old disk.new got }
     ensures spares { Spares (command_asked (map string_bytes words.now)) (S.left input.old) (S.left input.new) disk.old disk.new }

@@ -1,15 +1,17 @@
-use Rattle.std.proofs.Common.{◌∙◌, sym, subst, ap, List}
+use Rattle.std.proofs.Common.{◌≡◌, ◌∙◌, sym, subst, ap, List}
+use Rattle.std.specs.Prelude.{IfOk}
 use Rattle.language.specs.declared.candidates.Candidate.{Candidate}
 use Rattle.language.specs.Language.{Language}
 use Rattle.language.specs.Answers.{IsNetwork, standing_on}
 use Rattle.network.specs.Learned.{Learned}
 use Rattle.voc_read.specs.Vocabulary.{IsVocabulary}
-use Rattle.acq_cli.proofs.Certified.{covered_so, few_so, questions_so, reached_so, tells_so}
+use Rattle.acq_cli.specs.Saying.{Saying}
+use Rattle.acq_cli.proofs.Certified.{certificate_so, covered_so, few_so, questions_so, reached_so}
 use Rattle.acq_cli.proofs.Reduced.{learned_as}
 use Rattle.acq_cli.proofs.certifying.certify_converged.Goals as goal
 
-pub say_certificate-requires-clause-covered : goal.say_certificate-requires-clause-covered
-say_certificate-requires-clause-covered g c =
+pub certificate-requires-clause-covered : goal.certificate-requires-clause-covered
+certificate-requires-clause-covered g c =
     let P = g.P.Keep in
     let keep = c.args.keep.now in
     let session = c.session-session in
@@ -17,13 +19,13 @@ say_certificate-requires-clause-covered g c =
     covered_so (P.lang keep) (P.plan keep) (P.record_of keep) c.args.budget c.lang.result.now c.list.result.now c.deref.result.now (c.lang.ensures.is ∙ session.ensures.lang)
     (c.list.ensures ∙ ap (λ (n : Learned). n.list) c.network-network.ensures.is ∙ learned) (c.deref.ensures.value ∙ c.in-Ok.ensures) c.requires.done
 
-pub say_certificate-requires-clause-network : goal.say_certificate-requires-clause-network
-say_certificate-requires-clause-network g c =
+pub certificate-requires-clause-network : goal.certificate-requires-clause-network
+certificate-requires-clause-network g c =
     let Legal : Language → List Candidate → Type 0 = λ l list. IsNetwork l list in
     subst (Legal c.lang.result.now) (sym c.list.ensures) (subst (λ (l : Language). Legal l c.network-network.result.now.list) (sym c.lang.ensures.is) c.network-network.ensures.lawful)
 
-pub say_certificate-requires-clause-questions : goal.say_certificate-requires-clause-questions
-say_certificate-requires-clause-questions g c =
+pub certificate-requires-clause-questions : goal.certificate-requires-clause-questions
+certificate-requires-clause-questions g c =
     let P = g.P.Keep in
     let keep = c.args.keep.now in
     let session = c.session-session in
@@ -32,8 +34,8 @@ say_certificate-requires-clause-questions g c =
     (c.list.ensures ∙ ap (λ (n : Learned). n.list) c.network-network.ensures.is ∙ learned) (c.deref.ensures.value ∙ c.in-Ok.ensures) c.lang.ensures.lawful
     (reached_so session.result.now (P.lang keep) (P.plan keep) (standing_on (P.lang keep) (P.record_of keep)) session.ensures.lang session.ensures.plan session.ensures.stands)
 
-pub say_certificate-requires-clause-few : goal.say_certificate-requires-clause-few
-say_certificate-requires-clause-few g c =
+pub certificate-requires-clause-few : goal.certificate-requires-clause-few
+certificate-requires-clause-few g c =
     let P = g.P.Keep in
     let keep = c.args.keep.now in
     let session = c.session-session in
@@ -42,15 +44,16 @@ say_certificate-requires-clause-few g c =
     (c.list.ensures ∙ ap (λ (n : Learned). n.list) c.network-network.ensures.is ∙ learned) (c.deref.ensures.value ∙ c.in-Ok.ensures) c.lang.ensures.lawful
     (reached_so session.result.now (P.lang keep) (P.plan keep) (standing_on (P.lang keep) (P.record_of keep)) session.ensures.lang session.ensures.plan session.ensures.stands)
 
-pub say_certificate-requires-clause-read : goal.say_certificate-requires-clause-read
-say_certificate-requires-clause-read g c = subst (λ (l : Language). IsVocabulary c.args.voc.now l) (sym (c.lang.ensures.is ∙ c.session-session.ensures.lang)) c.requires.read
+pub certificate-requires-clause-read : goal.certificate-requires-clause-read
+certificate-requires-clause-read g c = subst (λ (l : Language). IsVocabulary c.args.voc.now l) (sym (c.lang.ensures.is ∙ c.session-session.ensures.lang)) c.requires.read
 
-pub returns-clause-tells : goal.returns-clause-tells
-returns-clause-tells g c =
+pub returns : goal.returns
+returns g c =
     let P = g.P.Keep in
     let keep = c.args.keep.now in
     let session = c.session-session in
     let learned = learned_as session.result.now (P.lang keep) (P.plan keep) (P.record_of keep) session.ensures.lang session.ensures.plan session.ensures.stands in
-    tells_so (P.lang keep) (P.plan keep) (P.record_of keep) c.args.budget c.lang.result.now c.list.result.now c.deref.result.now (c.lang.ensures.is ∙ session.ensures.lang)
-    (c.list.ensures ∙ ap (λ (n : Learned). n.list) c.network-network.ensures.is ∙ learned) (c.deref.ensures.value ∙ c.in-Ok.ensures)
-    c.args.voc.now (g.K.Sink.written c.args.out.now) (g.K.Sink.written c.say_certificate.new.out) c.say_certificate.result c.say_certificate.ensures.tells
+    subst (λ (what : Saying). IfOk c.certificate.result (λ said. said ≡ what))
+    (certificate_so (P.lang keep) (P.plan keep) (P.record_of keep) c.args.budget c.lang.result.now c.list.result.now c.deref.result.now (c.lang.ensures.is ∙ session.ensures.lang)
+    (c.list.ensures ∙ ap (λ (n : Learned). n.list) c.network-network.ensures.is ∙ learned) (c.deref.ensures.value ∙ c.in-Ok.ensures) c.args.voc.now)
+    c.certificate.ensures

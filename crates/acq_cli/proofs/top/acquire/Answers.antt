@@ -6,10 +6,12 @@ use Rattle.acq_words.specs.declared.request.Command.{Command}
 use Rattle.acq_words.specs.declared.request.UsageFault.{UsageFault}
 use Rattle.acq_cli.specs.Doing.{Does}
 use Rattle.acq_cli.specs.Words.{command_asked}
+use Rattle.acq_cli.specs.declared.ending.Ending.{Ending}
 use Rattle.acq_cli.specs.declared.ending.Ending.TheVariants as ending
 use Rattle.acq_cli.proofs.Asked.{usage_is}
 use Rattle.acq_cli.proofs.Closings.{failed, okay}
 use Rattle.acq_cli.proofs.Completing.{completes, memory_completes}
+use Rattle.acq_cli.proofs.Headline.{finds_network, finds_none}
 use Rattle.acq_cli.proofs.Targets.{ends_exactly, broken_exactly}
 use Rattle.acq_cli.proofs.top.acquire.Goals as goal
 
@@ -42,7 +44,7 @@ returns-in-Ok-clause-refuses g c =
     record {
       told = λ fault is. (okay c.in-Ok.ending, refl, subst Done is c.in-Ok.ensures.does);
       only = usage_is D (g.S.Source.left c.args.input.now) (g.K.Sink.written c.args.out.now) (g.S.Source.left c.perform.new.input) (g.K.Sink.written c.perform.new.out)
-          c.args.disk.now c.perform.new.disk asked c.in-Ok.ending c.in-Ok.ensures.does;
+          c.args.disk.now c.perform.new.disk c.in-Ok.ending asked c.in-Ok.ensures.does;
     }
 
 pub returns-in-Err-Failed-clause-refuses : goal.returns-in-Err-Failed-clause-refuses
@@ -95,3 +97,35 @@ returns-in-Err-Failed-clause-completes g c none = absurd (none.write (c.in-Err-F
 
 pub returns-in-Err-Memory-clause-completes : goal.returns-in-Err-Memory-clause-completes
 returns-in-Err-Memory-clause-completes g c none = memory_completes (command_asked (map string_bytes c.args.words.now)) (g.S.Source.left c.args.input.now) (g.K.Sink.written c.args.out.now) (g.D.Disk.content c.args.disk.now)
+
+pub returns-in-Ok-clause-converged : goal.returns-in-Ok-clause-converged
+returns-in-Ok-clause-converged g c m is =
+    let D = g.D.Disk in
+    let asked : Result Command UsageFault = command_asked (map string_bytes c.args.words.now) in
+    let Done : Ending → Type 0 = λ end.
+    Does D asked (g.S.Source.left c.args.input.now) (g.K.Sink.written c.args.out.now) (g.S.Source.left c.perform.new.input) (g.K.Sink.written c.perform.new.out)
+    c.args.disk.now c.perform.new.disk (okay end) in
+    finds_network D (g.S.Source.left c.args.input.now) (g.K.Sink.written c.args.out.now) (g.S.Source.left c.perform.new.input) (g.K.Sink.written c.perform.new.out)
+    c.args.disk.now c.perform.new.disk m asked (subst Done is c.in-Ok.ensures.does)
+
+pub returns-in-Err-Failed-clause-converged : goal.returns-in-Err-Failed-clause-converged
+returns-in-Err-Failed-clause-converged g c m is = absurd (let bad : ending.WriteFault ≡ ending.Converged m = is in let no : ⊥ = cc in no)
+
+pub returns-in-Err-Memory-clause-converged : goal.returns-in-Err-Memory-clause-converged
+returns-in-Err-Memory-clause-converged g c m is = absurd (let bad : ending.Memory ≡ ending.Converged m = is in let no : ⊥ = cc in no)
+
+pub returns-in-Ok-clause-collapsed : goal.returns-in-Ok-clause-collapsed
+returns-in-Ok-clause-collapsed g c m is =
+    let D = g.D.Disk in
+    let asked : Result Command UsageFault = command_asked (map string_bytes c.args.words.now) in
+    let Done : Ending → Type 0 = λ end.
+    Does D asked (g.S.Source.left c.args.input.now) (g.K.Sink.written c.args.out.now) (g.S.Source.left c.perform.new.input) (g.K.Sink.written c.perform.new.out)
+    c.args.disk.now c.perform.new.disk (okay end) in
+    finds_none D (g.S.Source.left c.args.input.now) (g.K.Sink.written c.args.out.now) (g.S.Source.left c.perform.new.input) (g.K.Sink.written c.perform.new.out)
+    c.args.disk.now c.perform.new.disk m asked (subst Done is c.in-Ok.ensures.does)
+
+pub returns-in-Err-Failed-clause-collapsed : goal.returns-in-Err-Failed-clause-collapsed
+returns-in-Err-Failed-clause-collapsed g c m is = absurd (let bad : ending.WriteFault ≡ ending.Collapsed m = is in let no : ⊥ = cc in no)
+
+pub returns-in-Err-Memory-clause-collapsed : goal.returns-in-Err-Memory-clause-collapsed
+returns-in-Err-Memory-clause-collapsed g c m is = absurd (let bad : ending.Memory ≡ ending.Collapsed m = is in let no : ⊥ = cc in no)

@@ -42,8 +42,8 @@ pub returns-in-Show-clause-does : goal.returns-in-Show-clause-does
 returns-in-Show-clause-does g c =
     let D = g.D.Disk in
     let Done : Result Command UsageFault → Type 0 = λ asked.
-    Does D asked (g.S.Source.left c.args.input.now) (g.K.Sink.written c.args.out.now) (g.S.Source.left c.args.input.now) (g.K.Sink.written c.show_journal.new.out) c.args.disk.now c.show_journal.new.disk c.show_journal.result in
-    subst Done (sym (c.in-Ok.ensures.is ∙ ap asked_for c.in-Show.is)) (c.show_journal.ensures.shows (g.S.Source.left c.args.input.now))
+    Does D asked (g.S.Source.left c.args.input.now) (g.K.Sink.written c.args.out.now) (g.S.Source.left c.args.input.now) (g.K.Sink.written c.say_over.new.out) c.args.disk.now c.say_over.new.disk c.say_over.result in
+    subst Done (sym (c.in-Ok.ensures.is ∙ ap asked_for c.in-Show.is)) c.say_over.ensures.says
 
 pub returns-in-Back-clause-does : goal.returns-in-Back-clause-does
 returns-in-Back-clause-does g c =
@@ -70,15 +70,15 @@ pub returns-in-Reduce-clause-does : goal.returns-in-Reduce-clause-does
 returns-in-Reduce-clause-does g c =
     let D = g.D.Disk in
     let Done : Result Command UsageFault → Type 0 = λ asked.
-    Does D asked (g.S.Source.left c.args.input.now) (g.K.Sink.written c.args.out.now) (g.S.Source.left c.args.input.now) (g.K.Sink.written c.reduce_journal.new.out) c.args.disk.now c.reduce_journal.new.disk c.reduce_journal.result in
-    subst Done (sym (c.in-Ok.ensures.is ∙ ap asked_for c.in-Reduce.is)) (c.reduce_journal.ensures.reduces (g.S.Source.left c.args.input.now))
+    Does D asked (g.S.Source.left c.args.input.now) (g.K.Sink.written c.args.out.now) (g.S.Source.left c.args.input.now) (g.K.Sink.written c.say_over-in-Reduce.new.out) c.args.disk.now c.say_over-in-Reduce.new.disk c.say_over-in-Reduce.result in
+    subst Done (sym (c.in-Ok.ensures.is ∙ ap asked_for c.in-Reduce.is)) c.say_over-in-Reduce.ensures.says
 
 pub returns-in-Cnf-clause-does : goal.returns-in-Cnf-clause-does
 returns-in-Cnf-clause-does g c =
     let D = g.D.Disk in
     let Done : Result Command UsageFault → Type 0 = λ asked.
-    Does D asked (g.S.Source.left c.args.input.now) (g.K.Sink.written c.args.out.now) (g.S.Source.left c.args.input.now) (g.K.Sink.written c.print_journal.new.out) c.args.disk.now c.print_journal.new.disk c.print_journal.result in
-    subst Done (sym (c.in-Ok.ensures.is ∙ ap asked_for c.in-Cnf.is)) (c.print_journal.ensures.prints (g.S.Source.left c.args.input.now))
+    Does D asked (g.S.Source.left c.args.input.now) (g.K.Sink.written c.args.out.now) (g.S.Source.left c.args.input.now) (g.K.Sink.written c.say_over-in-Cnf.new.out) c.args.disk.now c.say_over-in-Cnf.new.disk c.say_over-in-Cnf.result in
+    subst Done (sym (c.in-Ok.ensures.is ∙ ap asked_for c.in-Cnf.is)) c.say_over-in-Cnf.ensures.says
 
 pub returns-in-Model-clause-does : goal.returns-in-Model-clause-does
 returns-in-Model-clause-does g c =
@@ -91,8 +91,8 @@ pub returns-in-Certify-clause-does : goal.returns-in-Certify-clause-does
 returns-in-Certify-clause-does g c =
     let D = g.D.Disk in
     let Done : Result Command UsageFault → Type 0 = λ asked.
-    Does D asked (g.S.Source.left c.args.input.now) (g.K.Sink.written c.args.out.now) (g.S.Source.left c.args.input.now) (g.K.Sink.written c.certify_journal.new.out) c.args.disk.now c.certify_journal.new.disk c.certify_journal.result in
-    subst Done (sym (c.in-Ok.ensures.is ∙ ap asked_for c.in-Certify.is)) (c.certify_journal.ensures.certifies (g.S.Source.left c.args.input.now))
+    Does D asked (g.S.Source.left c.args.input.now) (g.K.Sink.written c.args.out.now) (g.S.Source.left c.args.input.now) (g.K.Sink.written c.say_over-in-Certify.new.out) c.args.disk.now c.say_over-in-Certify.new.disk c.say_over-in-Certify.result in
+    subst Done (sym (c.in-Ok.ensures.is ∙ ap asked_for c.in-Certify.is)) c.say_over-in-Certify.ensures.says
 
 pub returns-in-Check-clause-does : goal.returns-in-Check-clause-does
 returns-in-Check-clause-does g c =
