@@ -2,7 +2,7 @@
 
 ghost use Rattle.std.specs.Prelude.{◌≡◌, true, IfOk, IsErr, Err};
 ghost use Rattle.std.specs.String.{string_bytes};
-ghost use Rattle.acq_cli.specs.Said.{Says};
+ghost use Rattle.acq_cli.specs.Said.{IsSaid};
 ghost use Rattle.acq_cli.specs.Saying.{Saying, is_told, saying};
 
 use crate::ending::Ending;
@@ -40,7 +40,7 @@ impl Said {
 
 /// Writes what is said, and ends as it says. Nothing is written where there was no memory for it.
 pub(crate) fn put<K: Sink>(said: Result<Said, Memory>, out: &mut K) -> Result<Ending, Put>
-    ensures says { (what : Saying) → IfOk said (λ s. s ≡ what) → Says K.Sink what out.old out.new result }
+    ensures says { (what : Saying) → IfOk said (λ s. s ≡ what) → IsSaid K.Sink what out.old out.new result }
     ensures silent { IsErr said → result ≡ Err Put.Memory }
 {
     match said {
