@@ -11,5 +11,6 @@ module _ {T : Type 0} (turns_of : T → Turns) (fits_of : T → Language → Typ
   pub record TeachesOn (old new : T) : Type 0 where
     pub turn : turns_of new ≡ turns_of old
     pub fits : (l : Language) → fits_of old l → fits_of new l
+    pub fitted : (l : Language) → fits_of new l → fits_of old l
     -- what it may say now it might have said before
     pub no_more : (l : Language) (q : Assignment) (told : Told) → may_of new l q told → may_of old l q told

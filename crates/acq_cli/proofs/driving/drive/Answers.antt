@@ -57,6 +57,7 @@ loop-turn-init g c =
       lang = refl;
       fits = c.requires.fits;
       fits_on = λ m fits. fits;
+      fitted = λ m fits. fits;
       turn = refl;
       steps = steps_none (g.T.Teacher.turn c.args.teacher.now) l (terms_with (g.P.Keep.plan c.args.keep.now) c.args.budget) a;
       takes = takes_same (g.S.Source.left c.args.source.now);
@@ -103,6 +104,7 @@ pub returns-in-Some-clause-teacher : goal.returns-in-Some-clause-teacher
 returns-in-Some-clause-teacher g c = record {
   turn = c.take_turn.ensures.teacher.turn ∙ c.loop-turn.invariant.turn;
   fits = λ m fits. c.take_turn.ensures.teacher.fits m (c.loop-turn.invariant.fits_on m fits);
+  fitted = λ m fits. c.loop-turn.invariant.fitted m (c.take_turn.ensures.teacher.fitted m fits);
   no_more = λ m q told may. c.loop-turn.invariant.no_more m q told (c.take_turn.ensures.teacher.no_more m q told may);
 }
 
@@ -154,6 +156,7 @@ loop-turn-preserved g c =
       lang = c.take_turn.ensures.same.lang ∙ c.loop-turn.invariant.lang;
       fits = subst Fits (sym c.take_turn.ensures.same.lang) (c.take_turn.ensures.teacher.fits old c.loop-turn.invariant.fits);
       fits_on = λ m fits. c.take_turn.ensures.teacher.fits m (c.loop-turn.invariant.fits_on m fits);
+      fitted = λ m fits. c.loop-turn.invariant.fitted m (c.take_turn.ensures.teacher.fitted m fits);
       turn = c.take_turn.ensures.teacher.turn ∙ c.loop-turn.invariant.turn;
       steps = steps_on turns l (terms_with p c.args.budget) a b d c.loop-turn.invariant.steps
           (carried Spoken old l before p c.loop-turn.invariant.lang c.loop-turn.invariant.plan (subst Turned c.loop-turn.invariant.turn (c.take_turn.ensures.again c.in_default.is).steps));

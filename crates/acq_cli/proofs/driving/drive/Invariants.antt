@@ -26,6 +26,7 @@ invariant-loop-turn g l =
       lang : g.P.Keep.lang l.keep ≡ g.P.Keep.lang l.initial.keep;
       fits : g.T.Teacher.fits l.teacher (g.P.Keep.lang l.keep);
       fits_on : (m : Language) → g.T.Teacher.fits l.initial.teacher m → g.T.Teacher.fits l.teacher m;
+      fitted : (m : Language) → g.T.Teacher.fits l.teacher m → g.T.Teacher.fits l.initial.teacher m;
       turn : g.T.Teacher.turn l.teacher ≡ g.T.Teacher.turn l.initial.teacher;
       steps : StepsTo (g.T.Teacher.turn l.initial.teacher) (g.P.Keep.lang l.initial.keep) (terms_with (g.P.Keep.plan l.initial.keep) l.fn.budget)
           (point_of (entries l.initial.keep) (left l.initial.source) (written l.initial.sink))
