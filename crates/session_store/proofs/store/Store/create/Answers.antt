@@ -20,6 +20,11 @@ returns-in_err-bytes-clause-untouched g c = of_each_error c.from_residual-in_err
 pub returns-in_err-bytes-clause-spared : goal.returns-in_err-bytes-clause-spared
 returns-in_err-bytes-clause-spared g c bytes told = inr (unread g.D.Disk c.args.disk.now (g.met.D.Disk.only_now c.args.disk.now))
 
+pub returns-in_err-bytes-clause-refused : goal.returns-in_err-bytes-clause-refused
+returns-in_err-bytes-clause-refused g c bytes told =
+    let p = err_from_is_err_and c.from_residual-in_err-bytes.result c.from_residual-in_err-bytes.ensures.1 in
+    rw (p.1, p.2) tt
+
 pub returns-in_err-begin-clause-untouched : goal.returns-in_err-begin-clause-untouched
 returns-in_err-begin-clause-untouched g c = of_each_error c.from_residual-in_err-begin.result (unread g.D.Disk c.args.disk.now (g.met.D.Disk.only_now c.args.disk.now))
 
