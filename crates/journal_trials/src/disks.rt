@@ -1,148 +1,143 @@
 //! Disks in memory: calls that must fail, and what a crash leaves.
 
-ghost use Rattle.std.specs.Prelude.{◌≡◌, IfOk, length};
-ghost use Rattle.disk_model.specs.MemDisk.{content_of};
+ghost use Rattle.std.specs.Prelude.{◌≤◌, length};
+ghost use Rattle.std.specs.Option.{ForSome};
 
-use disk_model::{Disk, FuseDisk, MemDisk, Memory, Room};
+use disk_model::{Disk, FuseDisk, MemDisk, Room};
+use rows::{bytes_in, number, push_bytes};
 use std::alloc::Global;
-use std::test::Fail;
+use std::str::SplitWhitespace;
 
 #[derive(Clone, Copy)]
 enum Call<'a> {
     Len,
+    /// Of two bytes.
     Read,
-    Write(u64, &'a [u8]),
+    Write(&'a [u8]),
     Sync,
 }
 
-/// Calls on a disk with the bytes `abc`, which of them pass, and the bytes behind them.
-#[derive(Clone, Copy)]
-struct Row {
-    fails: &'static [u32],
-    calls: &'static [(Call<'static>, bool)],
-    content: &'static [u8],
+/// `len`, `read`, `sync`, or a write `PLACE=BYTES`: its place and the call.
+fn call_in(word: &str) -> Option<(u64, Call<'_>)> {
+    match word {
+        "len" => Some((0, Call::Len)),
+        "read" => Some((0, Call::Read)),
+        "sync" => Some((0, Call::Sync)),
+        _ => {
+            let (at, bytes) = word.split_once('=')?;
+            Some((at.parse().ok()?, Call::Write(bytes.as_bytes())))
+        }
+    }
 }
 
-const ROOM: Room = Room { bytes: 6, calls: 3 };
-
-fn disk_of_three(alloc: Global, fails: &[u32]) -> Result<MemDisk, Memory>
-    ensures { IfOk result (λ disk. length (content_of disk) ≡ 3) }
+fn does_pass<D: Disk>(disk: &mut D, at: u64, call: Call<'_>) -> bool
+    requires { ForSome (D.content disk.old) (λ old. at ≤ length old) }
 {
-    let content = b"abc".to_vec(alloc)?;
-    let fails = fails.to_vec(alloc)?;
-    MemDisk::new(alloc, content, fails, ROOM)
-}
-
-fn does_pass(disk: &mut MemDisk, call: Call<'_>) -> bool {
     let mut buf = [0; 2];
     match call {
         Call::Len => disk.len().is_ok(),
-        Call::Read => disk.read(1, &mut buf).is_ok(),
-        Call::Write(at, bytes) => {
-            at <= disk.content().len() as u64 && disk.write_at(at, bytes).is_ok()
-        }
+        Call::Read => disk.read(at, &mut buf).is_ok(),
+        Call::Write(bytes) => disk.write_at(at, bytes).is_ok(),
         Call::Sync => disk.sync().is_ok(),
     }
 }
 
-static ROWS: [Row; 3] = [
-    // The numbers of the calls.
-    Row {
-        fails: &[0, 2, 5],
-        calls: &[
-            (Call::Len, false),
-            (Call::Len, true),
-            (Call::Read, false),
-            (Call::Read, true),
-            (Call::Write(3, b"d"), true),
-            (Call::Write(4, b"e"), false),
-            (Call::Write(4, b"f"), true),
-            (Call::Sync, true),
-        ],
-        content: b"abcdf",
-    },
-    Row {
-        fails: &[1],
-        calls: &[
-            (Call::Write(0, b"x"), true),
-            (Call::Sync, false),
-            (Call::Sync, true),
-        ],
-        content: b"xbc",
-    },
-    // No room for the file, for all bytes that are written, and for a fourth write or sync.
-    Row {
-        fails: &[],
-        calls: &[
-            (Call::Write(3, b"defg"), false),
-            (Call::Write(3, b"def"), true),
-            (Call::Write(6, b"g"), false),
-            (Call::Write(0, b"vwxy"), false),
-            (Call::Write(0, b"xyz"), true),
-            (Call::Write(0, b"a"), false),
-            (Call::Write(0, b""), true),
-            (Call::Write(0, b""), false),
-            (Call::Sync, false),
-            (Call::Len, true),
-            (Call::Read, true),
-        ],
-        content: b"xyzdef",
-    },
-];
-
-#[test]
-fn a_call_fails_exactly_where_it_must(rt: HostRuntime) -> Result<(), Fail> {
-    for row in &ROWS {
-        let mut disk = disk_of_three(rt.alloc(), row.fails)?;
-        for (call, passes) in row.calls {
-            assert_eq!(rt; does_pass(&mut disk, *call), *passes);
-        }
-        assert_eq!(rt; disk.content(), row.content);
-    }
-    Ok(())
+fn push_said(text: &mut String, passes: bool) -> Option<()> {
+    text.push_str(if passes { "yes " } else { "no " }).ok()
 }
 
-#[test]
-fn a_fuse_passes_so_many_calls(rt: HostRuntime) -> Result<(), Fail> {
-    for passes in 0..6u32 {
-        let mut disk = FuseDisk::new(disk_of_three(rt.alloc(), &[])?, passes);
-        let mut buf = [0; 2];
-        assert_eq!(rt; disk.len().is_ok(), passes >= 1);
-        assert_eq!(rt; disk.write_at(3, b"d").is_ok(), passes >= 2);
-        assert_eq!(rt; disk.sync().is_ok(), passes >= 3);
-        assert_eq!(rt; disk.read(2, &mut buf).is_ok(), passes >= 4);
-        let inner = disk.into_inner();
-        assert_eq!(rt; inner.content().len() == 4, passes >= 2);
-        assert_eq!(rt; inner.moments() == 2, passes >= 3);
+/// Makes these calls, and says of each whether it passes.
+fn push_calls(text: &mut String, disk: &mut MemDisk, calls: &str) -> Option<()> {
+    for word in calls.split_whitespace() {
+        let (at, call) = call_in(word)?;
+        if at > disk.content().len() as u64 {
+            return None;
+        }
+        push_said(text, does_pass(disk, at, call))?;
     }
-    Ok(())
+    Some(())
 }
 
-// Two writes with no sync between them, the second behind the old end, and a sync. Garbage is `#`.
-#[test]
-fn a_crash_leaves_these(rt: HostRuntime) -> Result<(), Fail> {
-    let alloc = rt.alloc();
-    let mut disk = disk_of_three(alloc, &[])?;
-    for call in [Call::Write(2, b"CD"), Call::Write(4, b"E"), Call::Sync] {
-        assert!(rt; does_pass(&mut disk, call));
-    }
-    let wanted: [&[&[u8]]; 4] = [
-        &[b"abc"],
-        &[b"abc", b"ab##", b"abC", b"abC#", b"abCD"],
-        &[
-            b"abc", b"ab##", b"ab###", b"ab##E", b"abC", b"abC#", b"abC##", b"abC#E", b"abCD",
-            b"abCD#", b"abCDE",
-        ],
-        &[b"abCDE"],
-    ];
-    assert_eq!(rt; disk.moments(), 3);
-    for (moment, contents) in wanted.iter().enumerate() {
-        assert!(rt; moment <= disk.moments());
-        let images = disk.images_at(alloc, moment, b'#')?;
-        assert_eq!(rt; images.len(), contents.len(), "at moment {moment}");
-        for (image, content) in images.iter().zip(*contents) {
-            assert_eq!(rt; image.as_slice(), *content, "at moment {moment}");
+/// The same, where a write is one from the first byte on.
+fn push_fused(text: &mut String, disk: &mut FuseDisk, calls: &str) -> Option<()> {
+    for word in calls.split_whitespace() {
+        let (at, call) = call_in(word)?;
+        if at > 0 {
+            return None;
         }
+        push_said(text, does_pass(disk, 0, call))?;
     }
-    Ok(())
+    Some(())
+}
+
+/// What is on a disk, and how many moments there were.
+fn push_disk(text: &mut String, disk: &MemDisk) -> Option<()> {
+    push_bytes(text, disk.content())?;
+    let moments = disk.moments();
+    write!(text, " {moments} moments").ok()
+}
+
+fn numbers(alloc: Global, words: SplitWhitespace<'_>) -> Option<Vec<u32>> {
+    let mut numbers = Vec::new(alloc);
+    for word in words {
+        numbers.push(word.parse().ok()?).ok()?;
+    }
+    Some(numbers)
+}
+
+/// A disk of these bytes: its room, in bytes and in writes and syncs, and the numbers of the calls that fail.
+fn disk_of(alloc: Global, content: &str, front: &str) -> Option<MemDisk> {
+    let mut words = front.split_whitespace();
+    let bytes = number::<u32>(&mut words)?;
+    let calls = number(&mut words)?;
+    let fails = numbers(alloc, words)?;
+    let content = bytes_in(alloc, content)?;
+    if content.len() > bytes as usize {
+        return None;
+    }
+    MemDisk::new(alloc, content, fails, Room { bytes, calls }).ok()
+}
+
+/// What calls come to, and what is on the disk behind them.
+pub(crate) fn disk(alloc: Global, over: &str, arguments: &str) -> Option<String> {
+    let (front, calls) = arguments.split_once(" of ")?;
+    let mut disk = disk_of(alloc, over, front)?;
+    let mut text = String::new(alloc);
+    push_calls(&mut text, &mut disk, calls)?;
+    push_disk(&mut text, &disk)?;
+    Some(text)
+}
+
+/// The same over a disk that passes so many calls.
+pub(crate) fn fuse(alloc: Global, over: &str, arguments: &str) -> Option<String> {
+    let (passes, rest) = arguments.split_once(' ')?;
+    let passes = passes.parse().ok()?;
+    let (front, calls) = rest.split_once(" of ")?;
+    let mut fuse = FuseDisk::new(disk_of(alloc, over, front)?, passes);
+    let mut text = String::new(alloc);
+    push_fused(&mut text, &mut fuse, calls)?;
+    push_disk(&mut text, &fuse.into_inner())?;
+    Some(text)
+}
+
+/// What a crash may leave at each moment, with `#` for garbage.
+fn images_text(alloc: Global, disk: &MemDisk) -> Option<String> {
+    let mut text = String::new(alloc);
+    for moment in 0..=disk.moments() {
+        write!(text, "{moment}").ok()?;
+        for image in &disk.images_at(alloc, moment, b'#').ok()? {
+            text.push(' ').ok()?;
+            push_bytes(&mut text, image)?;
+        }
+        text.push('\n').ok()?;
+    }
+    Some(text)
+}
+
+/// What a crash may leave, after none of the calls that write and sync, after the first, and so on.
+pub(crate) fn left(alloc: Global, over: &str, arguments: &str) -> Option<String> {
+    let (front, calls) = arguments.split_once(" of ")?;
+    let mut disk = disk_of(alloc, over, front)?;
+    push_calls(&mut String::new(alloc), &mut disk, calls)?;
+    images_text(alloc, &disk)
 }

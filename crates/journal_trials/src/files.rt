@@ -1,69 +1,143 @@
-//! A journal's file that was written out by hand.
+//! Files as they open.
 
-ghost use Rattle.std.specs.Prelude.{◌≡◌, IfOk};
-ghost use Rattle.disk_model.specs.MemDisk.{content_of};
-
-use disk_model::{MemDisk, Memory, Room};
-use std::alloc::{AllocError, Global};
-use std::process::Abort;
-
-/// 168 bytes.
-pub(crate) const VOCABULARY: &[u8] =
-    br#"{"variables":["a","b"],"domain":[1,2],"relations":[{"name":"eq","arity":2,"formula":["=","$0","$1"]},{"name":"ne","arity":2,"formula":["!=","$0","$1"]}],"scopes":"all"}"#;
-
-/// What stands before the vocabulary where the plan is `Quacq`.
-const FRONT: &[u8] = b"QUACQJ1\n\x01S\x00\x00\x00\xa9\x02";
-
-/// The record of the answer yes to `a=1 b=2`, from its gate on.
-pub(crate) const ANSWER: &[u8] = &[1, 0x41, 0, 0, 0, 6, 1, 2, 0, 0, 1, 1];
-
-/// The record that raises a journal, and that of a take-back.
-pub(crate) const RAISING: &[u8] = &[1, 0x55, 0, 0, 0, 1, 2];
-
-pub(crate) const BACK: &[u8] = &[1, 0x42, 0, 0, 0, 0];
+use answer_journal::{JFault, Opened, open};
+use assign::{Event, Partial, Plan};
+use disk_model::{MemDisk, Room};
+use rows::{bytes_in, push_bytes};
+use std::alloc::Global;
 
 const ROOM: Room = Room {
     bytes: 1000,
     calls: 40,
 };
 
-/// A disk of these bytes, whose calls of these numbers fail.
-pub(crate) fn disk_failing(
-    rt: &impl Abort,
-    alloc: Global,
-    content: &[u8],
-    fails: &[u32],
-) -> Result<MemDisk, Memory>
-    ensures { IfOk result (λ disk. content_of disk ≡ content.now) }
-{
-    assert!(rt; content.len() <= 1000);
-    MemDisk::new(alloc, content.to_vec(alloc)?, fails.to_vec(alloc)?, ROOM)
-}
-
 /// A disk of these bytes.
-pub(crate) fn disk_with(rt: &impl Abort, alloc: Global, content: &[u8]) -> Result<MemDisk, Memory>
-    ensures { IfOk result (λ disk. content_of disk ≡ content.now) }
-{
-    disk_failing(rt, alloc, content, &[])
-}
-
-/// A journal with the worked vocabulary, of so many of the worked answers, and a closed gate.
-pub(crate) fn worked_file(alloc: Global, answers: u32) -> Result<Vec<u8>, AllocError> {
-    let mut bytes = FRONT.to_vec(alloc)?;
-    bytes.extend_from_slice(VOCABULARY)?;
-    for _ in 0..answers {
-        bytes.extend_from_slice(ANSWER)?;
+pub(crate) fn disk_with(alloc: Global, content: &[u8]) -> Option<MemDisk> {
+    if content.len() > 1000 {
+        return None;
     }
-    bytes.push(0)?;
-    Ok(bytes)
+    MemDisk::new(alloc, content.to_vec(alloc).ok()?, Vec::new(alloc), ROOM).ok()
 }
 
-/// The worked journal with one answer, raised, with the answer taken back.
-pub(crate) fn raised_file(alloc: Global) -> Result<Vec<u8>, AllocError> {
-    let mut bytes = worked_file(alloc, 1)?;
-    bytes.pop();
-    bytes.extend_from_slice(RAISING)?;
-    bytes.extend_from_slice(BACK)?;
-    bytes.push(0)?;
-    Ok(bytes)
+pub(crate) fn fault_text(alloc: Global, fault: JFault) -> Option<String> {
+    format!(in alloc; "{fault}").ok()
+}
+
+/// How many events a journal has, and whether it is raised.
+pub(crate) fn count_text(alloc: Global, opened: &Opened) -> Option<String> {
+    let raised = if opened.journal.is_raised() {
+        "raised, "
+    } else {
+        ""
+    };
+    format!(in alloc; "{raised}{} events", opened.events.len()).ok()
+}
+
+/// How a file opens: how many events it has, or why it is refused.
+pub(crate) fn read_from(alloc: Global, disk: &mut MemDisk) -> Option<String> {
+    match open(alloc, disk) {
+        Ok(opened) => count_text(alloc, &opened),
+        Err(fault) => fault_text(alloc, fault),
+    }
+}
+
+pub(crate) fn read_of(alloc: Global, bytes: &[u8]) -> Option<String> {
+    read_from(alloc, &mut disk_with(alloc, bytes)?)
+}
+
+fn push_question(text: &mut String, question: &Partial) -> Option<()> {
+    for v in 0..question.len() {
+        if let Some(value) = question.get(v) {
+            write!(text, " {v}={value}").ok()?;
+        }
+    }
+    Some(())
+}
+
+fn push_event(text: &mut String, event: &Event) -> Option<()> {
+    match event {
+        Event::Answer { question, yes } => {
+            text.push_str(if *yes { "\nyes" } else { "\nno" }).ok()?;
+            push_question(text, question)
+        }
+        Event::Back => text.push_str("\nback").ok(),
+    }
+}
+
+fn plan_word(plan: Plan) -> &'static str {
+    match plan {
+        Plan::Scopes => "scopes",
+        Plan::Quacq => "quacq",
+        Plan::Multi => "multi",
+    }
+}
+
+/// All that a journal says.
+fn whole_text(alloc: Global, opened: &Opened) -> Option<String> {
+    let records = opened.journal.records();
+    let plan = plan_word(opened.plan);
+    let mut text = format!(in alloc; "{records} records\n{plan}\n").ok()?;
+    push_bytes(&mut text, &opened.voc)?;
+    if opened.journal.is_raised() {
+        text.push_str("\nraised").ok()?;
+    }
+    for event in &opened.events {
+        push_event(&mut text, event)?;
+    }
+    Some(text)
+}
+
+/// Bytes: what a file says that has them behind those of `over`.
+pub(crate) fn opens(alloc: Global, over: &str, arguments: &str) -> Option<String> {
+    let mut bytes = bytes_in(alloc, over)?;
+    bytes.extend_from_slice(&bytes_in(alloc, arguments)?).ok()?;
+    let mut disk = disk_with(alloc, &bytes)?;
+    match open(alloc, &mut disk) {
+        Ok(opened) => whole_text(alloc, &opened),
+        Err(fault) => fault_text(alloc, fault),
+    }
+}
+
+/// A file with a record so many times behind its front, and a closed gate.
+fn with_record(alloc: Global, front: &[u8], record: &[u8], times: u8) -> Option<Vec<u8>> {
+    let mut bytes = front.to_vec(alloc).ok()?;
+    for _ in 0..times {
+        bytes.extend_from_slice(record).ok()?;
+    }
+    bytes.push(0).ok()?;
+    Some(bytes)
+}
+
+/// Adds the last answer of a journal once more.
+fn repeat_last(alloc: Global, disk: &mut MemDisk) -> Option<()> {
+    let mut opened = match open(alloc, disk) {
+        Ok(opened) => opened,
+        Err(_) => return None,
+    };
+    let Event::Answer { question, yes } = opened.events.pop()? else {
+        return None;
+    };
+    let event = Event::Answer { question, yes };
+    opened.journal.append(disk, &event).ok()
+}
+
+/// Holds a file against these bytes, and says how it opens.
+fn read_beside(alloc: Global, disk: &mut MemDisk, wanted: &[u8]) -> Option<String> {
+    if disk.content() == wanted {
+        read_from(alloc, disk)
+    } else {
+        String::from_str(alloc, "other bytes").ok()
+    }
+}
+
+/// Adds the answer of a record once more, and says how the file then opens.
+fn repeated(alloc: Global, front: &[u8], record: &[u8]) -> Option<String> {
+    let mut disk = disk_with(alloc, &with_record(alloc, front, record, 1)?)?;
+    repeat_last(alloc, &mut disk)?;
+    read_beside(alloc, &mut disk, &with_record(alloc, front, record, 2)?)
+}
+
+/// A record of an answer: a file that has it gets the answer again, and has to have the same bytes twice.
+pub(crate) fn again(alloc: Global, over: &str, arguments: &str) -> Option<String> {
+    repeated(alloc, &bytes_in(alloc, over)?, &bytes_in(alloc, arguments)?)
 }

@@ -12,9 +12,11 @@
 
 mod bytes;
 mod running;
+mod runs;
 mod texts;
 mod words;
 
 pub use bytes::{bytes_in, push_bytes};
 pub use running::{Calls, run};
+pub use runs::{Distinct, Runs};
 pub use words::{end, number};

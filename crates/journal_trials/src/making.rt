@@ -1,0 +1,170 @@
+//! Journals that are made and added to: their bytes, calls that fail in turn, and crashes.
+
+ghost use Rattle.std.specs.Prelude.{IfOk, IsTrue, OnOk};
+ghost use Rattle.std.specs.Option.{ForSome};
+ghost use Rattle.disk_model.specs.Disk.{Only};
+ghost use Rattle.answer_journal.specs.End.{Sits};
+
+use crate::files::{disk_with, fault_text, read_from, read_of};
+use crate::questions::question_in;
+use answer_journal::{JFault, Journal, create};
+use assign::{Event, Plan};
+use disk_model::{Disk, FuseDisk, MemDisk};
+use rows::{Distinct, Runs, bytes_in, push_bytes};
+use std::alloc::Global;
+
+/// Why no journal is made of a row.
+#[derive(Clone, Copy)]
+enum Stop {
+    /// The row is malformed.
+    Row,
+    Fault(JFault),
+}
+
+impl From<JFault> for Stop {
+    fn from(fault: JFault) -> Self {
+        Stop::Fault(fault)
+    }
+}
+
+fn plan_in(word: &str) -> Result<Plan, Stop> {
+    match word {
+        "scopes" => Ok(Plan::Scopes),
+        "quacq" => Ok(Plan::Quacq),
+        "multi" => Ok(Plan::Multi),
+        _ => Err(Stop::Row),
+    }
+}
+
+/// Adds an answer, `yes` or `no` and its question.
+fn add_answer<D: Disk>(disk: &mut D, journal: &mut Journal, text: &str) -> Result<(), Stop>
+    requires live { IsTrue journal.old.live }
+    requires sits { ForSome (D.content disk.old) (Sits journal.old) }
+    requires durable { ForSome (D.content disk.old) (λ bytes. Only bytes (D.may_leave disk.old)) }
+    ensures live { OnOk result (IsTrue journal.new.live) }
+    ensures sits { ForSome (D.content disk.new) (λ bytes. OnOk result (Sits journal.new bytes)) }
+    ensures durable { ForSome (D.content disk.new) (λ bytes. OnOk result (Only bytes (D.may_leave disk.new))) }
+{
+    let (said, pairs) = text.split_once(' ').unwrap_or((text, ""));
+    let Some(question) = question_in(pairs) else {
+        return Err(Stop::Row);
+    };
+    let yes = said == "yes";
+    if !yes && said != "no" {
+        return Err(Stop::Row);
+    }
+    journal.append(disk, &Event::Answer { question, yes })?;
+    Ok(())
+}
+
+/// Adds an answer, raises the journal, or takes back.
+fn add<D: Disk>(disk: &mut D, journal: &mut Journal, text: &str) -> Result<(), Stop>
+    requires live { IsTrue journal.old.live }
+    requires sits { ForSome (D.content disk.old) (Sits journal.old) }
+    requires durable { ForSome (D.content disk.old) (λ bytes. Only bytes (D.may_leave disk.old)) }
+    ensures live { OnOk result (IsTrue journal.new.live) }
+    ensures sits { ForSome (D.content disk.new) (λ bytes. OnOk result (Sits journal.new bytes)) }
+    ensures durable { ForSome (D.content disk.new) (λ bytes. OnOk result (Only bytes (D.may_leave disk.new))) }
+{
+    match text {
+        "raise" if !journal.is_raised() => Ok(journal.raise(disk)?),
+        "back" if journal.is_raised() => Ok(journal.append(disk, &Event::Back)?),
+        _ => add_answer(disk, journal, text),
+    }
+}
+
+/// Makes a journal of a plan and a vocabulary, and adds to it: `PLAN EVENT, EVENT, ..`.
+fn make<D: Disk>(alloc: Global, disk: &mut D, voc: &str, script: &str) -> Result<(), Stop> {
+    let (plan, events) = script.split_once(' ').unwrap_or((script, ""));
+    if voc.len() > 1000 {
+        return Err(Stop::Row);
+    }
+    let mut journal = create(alloc, disk, plan_in(plan)?, voc.as_bytes())?;
+    for text in events.split_terminator(", ") {
+        add(disk, &mut journal, text)?;
+    }
+    Ok(())
+}
+
+/// The bytes of a journal that is made.
+pub(crate) fn makes(alloc: Global, over: &str, arguments: &str) -> Option<String> {
+    let mut disk = disk_with(alloc, &[])?;
+    make(alloc, &mut disk, over, arguments).ok()?;
+    let mut text = format!(in alloc; "{} bytes\n", disk.content().len()).ok()?;
+    push_bytes(&mut text, disk.content())?;
+    Some(text)
+}
+
+/// Whether a journal is made over a disk that passes so many calls, and how the file then opens.
+fn stopped(alloc: Global, voc: &str, script: &str, passes: u32) -> Option<String> {
+    let mut fuse = FuseDisk::new(disk_with(alloc, &[])?, passes);
+    let made = match make(alloc, &mut fuse, voc, script) {
+        Ok(()) => "made",
+        Err(Stop::Fault(_)) => "stopped",
+        Err(Stop::Row) => return None,
+    };
+    let read = read_from(alloc, &mut fuse.into_inner())?;
+    format!(in alloc; "{made}, {read}").ok()
+}
+
+/// The same for each number of calls, up to the one in front.
+pub(crate) fn stops(alloc: Global, over: &str, arguments: &str) -> Option<String> {
+    let (last, script) = arguments.split_once(' ')?;
+    let last = last.parse::<u32>().ok()?;
+    let mut runs = Runs::new(alloc);
+    for passes in 0..=last {
+        let said = stopped(alloc, over, script, passes)?;
+        runs.add(&format!(in alloc; "{passes}").ok()?, said)?;
+    }
+    Some(runs.text())
+}
+
+/// How the contents open that a crash may leave at a moment.
+fn left_at(alloc: Global, disk: &MemDisk, moment: usize) -> Option<String> {
+    if moment > disk.moments() {
+        return None;
+    }
+    let mut found = Distinct::new(alloc);
+    for garbage in [0, 1] {
+        for image in &disk.images_at(alloc, moment, garbage).ok()? {
+            found.add(read_of(alloc, image)?)?;
+        }
+    }
+    found.text(alloc)
+}
+
+/// The same at each moment while a journal is made, and how many moments there are.
+pub(crate) fn crashes(alloc: Global, over: &str, arguments: &str) -> Option<String> {
+    let mut disk = disk_with(alloc, &[])?;
+    make(alloc, &mut disk, over, arguments).ok()?;
+    let mut runs = Runs::new(alloc);
+    for moment in 0..=disk.moments() {
+        let said = left_at(alloc, &disk, moment)?;
+        runs.add(&format!(in alloc; "{moment}").ok()?, said)?;
+    }
+    let mut text = runs.text();
+    write!(text, "{} moments", disk.moments()).ok()?;
+    Some(text)
+}
+
+/// What comes of making a journal on a file.
+fn created(alloc: Global, disk: &mut MemDisk, voc: &str) -> Option<String> {
+    if voc.len() > 1000 {
+        return None;
+    }
+    match create(alloc, disk, Plan::Quacq, voc.as_bytes()) {
+        Ok(_) => String::from_str(alloc, "made").ok(),
+        Err(fault) => fault_text(alloc, fault),
+    }
+}
+
+/// The bytes of a file: whether a journal is made on it, the bytes that stand there then, and how they open.
+pub(crate) fn replaces(alloc: Global, over: &str, arguments: &str) -> Option<String> {
+    let mut disk = disk_with(alloc, &bytes_in(alloc, arguments)?)?;
+    let mut text = created(alloc, &mut disk, over)?;
+    text.push('\n').ok()?;
+    push_bytes(&mut text, disk.content())?;
+    let read = read_from(alloc, &mut disk)?;
+    write!(text, "\n{read}").ok()?;
+    Some(text)
+}
