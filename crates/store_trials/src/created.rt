@@ -1,333 +1,172 @@
-//! Stores that are made: over which files, and what a failing call or a crash leaves of an answer.
+//! Stores that are made: over which files, and what a failing call or a crash leaves of an event.
 
-ghost use Rattle.std.specs.Prelude.{◌≡◌, IfOk, Some};
+ghost use Rattle.std.specs.Prelude.{Some};
 ghost use Rattle.disk_model.specs.MemDisk.{content_of, images_of};
+ghost use Rattle.disk_model.specs.FuseDisk.{inner_of};
 ghost use Rattle.session_store.specs.Store.{IsSound, SitsOn};
 
-use crate::files::{THREE, TWO, Told, disk_with, file_of, question_of};
-use crate::steps::{
-    Stand, answer, events_of, is_live, plan_of, put, stand_of, standing_count, take_back,
-};
-use answer_journal::JFault;
-use assign::{Event, Plan};
+use crate::files::{disk_with, file_of, plan_in};
+use crate::opened::{fault_text, kept};
+use crate::steps::{add, is_live, keep_text};
+use assign::Plan;
 use disk_model::{FuseDisk, MemDisk};
+use rows::{Distinct, Runs, bytes_in};
 use session_store::{SFault, Store};
 use std::alloc::Global;
-use std::process::Abort;
-use std::test::Fail;
-use voc_read::VocFault;
 
-/// What is there before.
-#[derive(Clone, Copy, Debug)]
-enum Before {
-    Bytes(&'static [u8]),
-    /// A session of plan Multi with two answers, whose gate has this byte.
-    Session(u8),
-}
-
-/// What is there before, a vocabulary, and why no store is made of it.
-static MAKINGS: [(Before, &str, Option<SFault>); 12] = [
-    (Before::Bytes(b""), TWO, None),
-    (Before::Bytes(b"123456789"), TWO, None),
-    (Before::Bytes(b"QUACQJ1\n\x01"), TWO, None),
-    (Before::Bytes(b"QUACQJ1\n\x00\x01"), TWO, None),
-    (Before::Session(2), TWO, None),
-    (
-        Before::Session(1),
-        TWO,
-        Some(SFault::Journal(JFault::SessionThere)),
-    ),
-    (
-        Before::Bytes(b"QUACQJ1\n\x01S"),
-        TWO,
-        Some(SFault::Journal(JFault::SessionThere)),
-    ),
-    (
-        Before::Bytes(b"QUACQJ2\n\x00\x01"),
-        TWO,
-        Some(SFault::Journal(JFault::NotAJournal)),
-    ),
-    (
-        Before::Bytes(b"1234567890"),
-        TWO,
-        Some(SFault::Journal(JFault::NotAJournal)),
-    ),
-    (
-        Before::Bytes(b""),
-        "voc",
-        Some(SFault::Voc(VocFault::NotJson)),
-    ),
-    // The vocabulary is told before the file.
-    (
-        Before::Session(1),
-        "voc",
-        Some(SFault::Voc(VocFault::NotJson)),
-    ),
-    (
-        Before::Bytes(b"1234567890"),
-        "voc",
-        Some(SFault::Voc(VocFault::NotJson)),
-    ),
-];
-
-fn bytes_before(alloc: Global, before: Before) -> Result<Vec<u8>, Fail> {
-    match before {
-        Before::Bytes(bytes) => Ok(bytes.to_vec(alloc)?),
-        Before::Session(gate) => {
-            let told: [Told<'_>; 2] = [(&[(0, 0), (1, 1)], true), (&[(0, 0), (1, 0)], false)];
-            let mut bytes = file_of(alloc, 3, TWO, &told)?;
-            if let Some(byte) = bytes.get_mut(8) {
-                *byte = gate;
-            }
-            Ok(bytes)
-        }
+/// What is said of a call.
+fn call_text(alloc: Global, made: Result<(), SFault>) -> Option<String> {
+    match made {
+        Ok(()) => String::from_str(alloc, "kept").ok(),
+        Err(fault) => fault_text(alloc, fault),
     }
 }
 
-/// The new session, and then what stood there behind it.
-fn bytes_made(alloc: Global, plan: u8, voc: &str, before: &[u8]) -> Result<Vec<u8>, Fail> {
-    let mut bytes = file_of(alloc, plan, voc, &[])?;
+/// The file of a session without events, and behind it what stood there before.
+fn bytes_made(alloc: Global, plan: u8, voc: &str, before: &[u8]) -> Option<Vec<u8>> {
+    let mut bytes = file_of(alloc, plan, voc, "")?;
     if let Some(rest) = before.get(bytes.len()..) {
-        bytes.extend_from_slice(rest)?;
+        bytes.extend_from_slice(rest).ok()?;
     }
-    Ok(bytes)
+    Some(bytes)
 }
 
-#[test]
-fn where_a_store_is_made(rt: HostRuntime) -> Result<(), Fail> {
-    let alloc = rt.alloc();
-    for (byte, plan) in [(1, Plan::Scopes), (2, Plan::Quacq), (3, Plan::Multi)] {
-        for (before, voc, fault) in &MAKINGS {
-            let old = bytes_before(alloc, *before)?;
-            let mut disk = disk_with(&rt, alloc, &old)?;
-            let made = Store::create(alloc, &mut disk, plan, voc.as_bytes());
-            let wanted = match fault {
-                None => bytes_made(alloc, byte, voc, &old)?,
-                Some(_) => old,
-            };
-            assert_eq!(rt; made.err(), *fault, "{before:?} {voc}");
-            assert_eq!(rt; disk.content(), wanted.as_slice(), "{before:?} {voc}");
+/// What comes of a store, and whether the file then has the bytes that it has to have.
+fn made(alloc: Global, plan: Plan, byte: u8, voc: &str, before: &[u8]) -> Option<String> {
+    let mut disk = disk_with(alloc, before)?;
+    match Store::create(alloc, &mut disk, plan, voc.as_bytes()) {
+        Ok(_) => beside(
+            alloc,
+            "made",
+            disk.content(),
+            &bytes_made(alloc, byte, voc, before)?,
+        ),
+        Err(fault) => beside(
+            alloc,
+            fault_text(alloc, fault)?.as_str(),
+            disk.content(),
+            before,
+        ),
+    }
+}
+
+/// What is said, where the bytes are as wanted.
+fn beside(alloc: Global, said: &str, found: &[u8], wanted: &[u8]) -> Option<String> {
+    String::from_str(alloc, if found == wanted { said } else { "other bytes" }).ok()
+}
+
+/// The bytes of a file: what comes of a store of each plan that is made on it.
+pub(crate) fn makes(alloc: Global, over: &str, arguments: &str) -> Option<String> {
+    let before = bytes_in(alloc, arguments)?;
+    let mut found = Distinct::new(alloc);
+    for (plan, byte) in [(Plan::Scopes, 1), (Plan::Quacq, 2), (Plan::Multi, 3)] {
+        found.add(made(alloc, plan, byte, over, &before)?)?;
+    }
+    found.text(alloc)
+}
+
+/// What contents keep that a crash may leave at a moment.
+fn left_at(alloc: Global, disk: &MemDisk, voc: &str, moment: usize) -> Option<String> {
+    if moment > disk.moments() {
+        return None;
+    }
+    let mut found = Distinct::new(alloc);
+    for garbage in [0, 1] {
+        for image in &disk.images_at(alloc, moment, garbage).ok()? {
+            found.add(kept(alloc, &mut disk_with(alloc, image)?, voc)?)?;
         }
     }
-    Ok(())
+    found.text(alloc)
 }
 
-/// Answers that have places, one after the other.
-static TOLD: [Told<'static>; 3] = [
-    (&[(0, 0), (1, 0), (2, 0)], false),
-    (&[(0, 0), (1, 0)], true),
-    (&[(1, 0), (2, 0)], false),
-];
-
-/// Opens a store, and adds an answer.
-fn add(rt: &impl Abort, alloc: Global, disk: &mut MemDisk, told: Told<'_>) -> Result<(), SFault> {
-    let (pairs, yes) = told;
-    let mut store = Store::open(alloc, disk)?;
-    put(&mut store, disk, question_of(pairs, 3));
-    answer(rt, &mut store, disk, yes)
+/// The same at each moment of a disk, and how many there are.
+fn left(alloc: Global, disk: &MemDisk, voc: &str) -> Option<String> {
+    let mut runs = Runs::new(alloc);
+    for moment in 0..=disk.moments() {
+        let said = left_at(alloc, disk, voc, moment)?;
+        runs.add(&format!(in alloc; "{moment}").ok()?, said)?;
+    }
+    let mut text = runs.text();
+    write!(text, "{} moments", disk.moments()).ok()?;
+    Some(text)
 }
 
-/// A file with the first so many of these answers, on a disk that is new.
-fn disk_after(rt: &impl Abort, alloc: Global, count: usize) -> Result<MemDisk, Fail> {
-    let bytes = file_of(alloc, 2, THREE, &TOLD[..count.min(3)])?;
-    Ok(disk_with(rt, alloc, &bytes)?)
-}
-
-/// How many of these answers a file has. None where it has no session.
-fn answers_in(rt: &impl Abort, alloc: Global, mut disk: MemDisk) -> Result<Option<usize>, Fail> {
-    let store = match Store::open(alloc, &mut disk) {
-        Ok(store) => store,
-        Err(SFault::Journal(JFault::NoSession)) => return Ok(None),
-        Err(fault) => return Err(Fail::from(fault)),
+/// A plan: what a crash leaves while a store is made on an empty file.
+pub(crate) fn making_crashes(alloc: Global, over: &str, arguments: &str) -> Option<String> {
+    let (plan, _) = plan_in(arguments)?;
+    let mut disk = disk_with(alloc, &[])?;
+    let Ok(_) = Store::create(alloc, &mut disk, plan, over.as_bytes()) else {
+        return None;
     };
-    assert_eq!(rt; store.vocabulary(), THREE.as_bytes());
-    assert_eq!(rt; plan_of::<MemDisk, Store>(&store), Plan::Quacq);
-    let events = events_of::<MemDisk, Store>(&store);
-    assert!(rt; events.len() <= TOLD.len());
-    for (event, (pairs, yes)) in events.iter().zip(&TOLD) {
-        let question = question_of(pairs, 128);
-        assert_eq!(rt;
-            *event,
-            Event::Answer {
-                question,
-                yes: *yes
-            }
-        );
-    }
-    Ok(Some(events.len()))
+    left(alloc, &disk, over)
 }
 
-/// What is there after an answer.
-#[derive(Drop)]
-struct After {
-    added: Result<(), SFault>,
-    answers: usize,
-    stand: Stand,
-    is_live: bool,
-    disk: MemDisk,
+/// `PLAN EVENT, EVENT, ..`: a disk that has all events but the last, and the last.
+fn disk_before<'a>(alloc: Global, voc: &str, arguments: &'a str) -> Option<(MemDisk, &'a str)> {
+    let (plan, events) = arguments.split_once(' ')?;
+    let (_, byte) = plan_in(plan)?;
+    let (front, last) = events.rsplit_once(", ").unwrap_or(("", events));
+    Some((disk_with(alloc, &file_of(alloc, byte, voc, front)?)?, last))
 }
 
-/// Opens a store, and adds an answer with so many calls to the disk that pass.
-fn answered(
-    rt: &impl Abort,
-    alloc: Global,
-    mut disk: MemDisk,
-    told: Told<'_>,
-    passes: u32,
-) -> Result<After, Fail> {
-    let (pairs, yes) = told;
-    let mut store = Store::open(alloc, &mut disk)?;
+/// Opens a store, and adds an event.
+fn added(alloc: Global, disk: &mut MemDisk, text: &str) -> Option<Result<(), SFault>> {
+    let Ok(mut store) = Store::open(alloc, disk) else {
+        return None;
+    };
+    add(&mut store, disk, text)
+}
+
+/// What a crash leaves while the last event is added.
+pub(crate) fn crashes(alloc: Global, over: &str, arguments: &str) -> Option<String> {
+    let (mut disk, last) = disk_before(alloc, over, arguments)?;
+    let Ok(()) = added(alloc, &mut disk, last)? else {
+        return None;
+    };
+    left(alloc, &disk, over)
+}
+
+/// Adds an event over a disk that passes so many calls: what comes of it, and the disk.
+fn fused(alloc: Global, mut disk: MemDisk, text: &str, passes: u32) -> Option<(String, MemDisk)> {
+    let Ok(mut store) = Store::open(alloc, &mut disk) else {
+        return None;
+    };
     let mut fuse = FuseDisk::new(disk, passes);
-    put(&mut store, &fuse, question_of(pairs, 3));
-    let added = answer(rt, &mut store, &mut fuse, yes);
-    Ok(After {
-        added,
-        answers: events_of::<FuseDisk, Store>(&store).len(),
-        stand: stand_of::<FuseDisk, Store>(&store),
-        is_live: is_live::<FuseDisk, Store>(&store),
-        disk: fuse.into_inner(),
-    })
+    let said = fused_text(alloc, &mut store, &mut fuse, text)?;
+    Some((said, fuse.into_inner()))
 }
 
-/// An answer takes four calls, and has written its gate with the third.
-fn check_failing(
-    rt: &impl Abort,
-    alloc: Global,
-    count: usize,
-    told: Told<'_>,
-    passes: u32,
-) -> Result<(), Fail> {
-    let disk = disk_after(rt, alloc, count)?;
-    let After {
-        added,
-        answers,
-        stand,
-        is_live,
-        disk,
-    } = answered(rt, alloc, disk, told, passes)?;
-    assert_eq!(rt; is_live, passes >= 4);
-    if passes >= 4 {
-        assert_eq!(rt; added, Ok(()));
-        assert_eq!(rt; answers, count.saturating_add(1));
+/// What comes of an event, whether more may be kept, and where the session stands.
+fn fused_text(alloc: Global, store: &mut Store, fuse: &mut FuseDisk, text: &str) -> Option<String>
+    requires sound { IsSound store.old }
+    requires sits { SitsOn store.old (Some (content_of (inner_of fuse.old))) (images_of (inner_of fuse.old)) }
+{
+    let said = call_text(alloc, add(store, fuse, text)?)?;
+    let live = if is_live::<FuseDisk, Store>(store) {
+        "live"
     } else {
-        assert_eq!(rt; added, Err(SFault::Journal(JFault::DiskFault)));
-        assert_eq!(rt; answers, count);
-        assert_eq!(rt; stand, Stand::Asking(question_of(told.0, 3)));
-    }
-    let more = usize::from(passes >= 3);
-    assert_eq!(rt;
-        answers_in(rt, alloc, disk)?,
-        Some(count.saturating_add(more))
-    );
-    Ok(())
+        "not live"
+    };
+    let stand = keep_text::<FuseDisk, Store>(alloc, store)?;
+    format!(in alloc; "{said}, {live}, {stand}").ok()
 }
 
-#[test]
-fn each_failing_call_of_an_answer(rt: HostRuntime) -> Result<(), Fail> {
-    for (count, told) in TOLD.iter().enumerate() {
-        for passes in 0..6u32 {
-            check_failing(&rt, rt.alloc(), count, *told, passes)?;
-        }
-    }
-    Ok(())
+/// What comes of the last event over a disk that passes so many calls, and what the file then keeps.
+fn stopped(alloc: Global, voc: &str, arguments: &str, passes: u32) -> Option<String> {
+    let (disk, last) = disk_before(alloc, voc, arguments)?;
+    let (said, mut disk) = fused(alloc, disk, last, passes)?;
+    let file = kept(alloc, &mut disk, voc)?;
+    format!(in alloc; "{said}, file: {file}").ok()
 }
 
-/// Opens a store with two answers, and takes the last one back with so many calls to the disk that pass.
-fn taken_back(rt: &impl Abort, alloc: Global, passes: u32) -> Result<(bool, MemDisk), Fail> {
-    let mut disk = disk_after(rt, alloc, 2)?;
-    let mut store = Store::open(alloc, &mut disk)?;
-    let mut fuse = FuseDisk::new(disk, passes);
-    let got = take_back(rt, &mut store, &mut fuse);
-    let more = if got.is_ok() { (3, 1) } else { (2, 2) };
-    assert_eq!(rt; is_live::<FuseDisk, Store>(&store), got.is_ok());
-    assert_eq!(rt; standing_count::<FuseDisk, Store>(&store), more.1);
-    assert_eq!(rt; events_of::<FuseDisk, Store>(&store).len(), more.0);
-    Ok((got.is_ok(), fuse.into_inner()))
-}
-
-/// The first take-back raises the journal with four calls, and takes four more. It has written its gate with the seventh.
-#[test]
-fn each_failing_call_of_a_take_back(rt: HostRuntime) -> Result<(), Fail> {
-    let alloc = rt.alloc();
-    for passes in 0..10u32 {
-        let (took, mut disk) = taken_back(&rt, alloc, passes)?;
-        assert_eq!(rt; took, passes >= 8);
-        let store = Store::open(alloc, &mut disk)?;
-        let events = events_of::<MemDisk, Store>(&store).len();
-        let standing = standing_count::<MemDisk, Store>(&store);
-        let wanted = if passes >= 7 { (3, 1) } else { (2, 2) };
-        assert_eq!(rt; (events, standing), wanted, "{passes}");
+/// The same for each number of calls, up to the one in front.
+pub(crate) fn stops(alloc: Global, over: &str, arguments: &str) -> Option<String> {
+    let (most, rest) = arguments.split_once(' ')?;
+    let most = most.parse::<u32>().ok()?;
+    let mut runs = Runs::new(alloc);
+    for passes in 0..=most {
+        let said = stopped(alloc, over, rest, passes)?;
+        runs.add(&format!(in alloc; "{passes}").ok()?, said)?;
     }
-    Ok(())
-}
-
-/// What crashes leave: from the first to the last of these moments one of these, and each of them is left by some.
-type Left = (usize, usize, &'static [Option<usize>]);
-
-fn check_crashes(
-    rt: &impl Abort,
-    alloc: Global,
-    disk: &MemDisk,
-    wanted: &[Left],
-) -> Result<(), Fail> {
-    for (first, last, answers) in wanted {
-        for moment in *first..=*last {
-            let mut found = Vec::new(alloc);
-            for garbage in [0, 1] {
-                assert!(rt; moment <= disk.moments());
-                for image in &disk.images_at(alloc, moment, garbage)? {
-                    let left = answers_in(rt, alloc, disk_with(rt, alloc, image)?)?;
-                    assert!(rt; answers.contains(&left), "{left:?} at {moment}");
-                    found.push(left)?;
-                }
-            }
-            assert!(rt;
-                answers.iter().all(|left| found.contains(left)),
-                "at {moment}"
-            );
-        }
-    }
-    Ok(())
-}
-
-/// Making a store, on an empty file.
-static MADE: [Left; 3] = [
-    (0, 5, &[None]),
-    (6, 6, &[None, Some(0)]),
-    (7, 7, &[Some(0)]),
-];
-
-/// Each of the answers above, once its store is opened.
-static ADDED: [[Left; 3]; 3] = [
-    [
-        (0, 3, &[Some(0)]),
-        (4, 4, &[Some(0), Some(1)]),
-        (5, 5, &[Some(1)]),
-    ],
-    [
-        (0, 3, &[Some(1)]),
-        (4, 4, &[Some(1), Some(2)]),
-        (5, 5, &[Some(2)]),
-    ],
-    [
-        (0, 3, &[Some(2)]),
-        (4, 4, &[Some(2), Some(3)]),
-        (5, 5, &[Some(3)]),
-    ],
-];
-
-#[test]
-fn each_crash(rt: HostRuntime) -> Result<(), Fail> {
-    let alloc = rt.alloc();
-    let mut disk = disk_with(&rt, alloc, &[])?;
-    Store::create(alloc, &mut disk, Plan::Quacq, THREE.as_bytes())?;
-    assert_eq!(rt; disk.moments(), 7);
-    check_crashes(&rt, alloc, &disk, &MADE)?;
-    for (count, (told, wanted)) in TOLD.iter().zip(&ADDED).enumerate() {
-        let mut disk = disk_after(&rt, alloc, count)?;
-        add(&rt, alloc, &mut disk, *told)?;
-        assert_eq!(rt; disk.moments(), 5);
-        check_crashes(&rt, alloc, &disk, wanted)?;
-    }
-    Ok(())
+    Some(runs.text())
 }

@@ -1,123 +1,104 @@
 //! Journals that are written out by hand, and disks that hold them.
 
-use assign::Partial;
-use disk_model::{MemDisk, Memory, Room};
-use std::alloc::{AllocError, Global};
-use std::process::Abort;
-
-/// Two variables, two values, and whether both are the same. 168 bytes.
-pub(crate) const TWO: &str =
-    r#"{"variables":["a","b"],"domain":[1,2],"relations":[{"name":"eq","arity":2,"formula":["=","$0","$1"]},{"name":"ne","arity":2,"formula":["!=","$0","$1"]}],"scopes":"all"}"#;
-
-/// The same where the first variable has the value 1 alone.
-pub(crate) const WITHIN: &str =
-    r#"{"variables":["a","b"],"domain":[1,2],"ranges":[["a",1,1]],"relations":[{"name":"eq","arity":2,"formula":["=","$0","$1"]},{"name":"ne","arity":2,"formula":["!=","$0","$1"]}],"scopes":"all"}"#;
-
-/// Three variables in a row.
-pub(crate) const THREE: &str =
-    r#"{"variables":["a","b","c"],"domain":[1,2],"relations":[{"name":"eq","arity":2,"formula":["=","$0","$1"]},{"name":"ne","arity":2,"formula":["!=","$0","$1"]}],"scopes":[["a","b"],["b","c"]]}"#;
+use assign::Plan;
+use disk_model::{MemDisk, Room};
+use std::alloc::Global;
 
 const ROOM: Room = Room {
-    bytes: 4000,
+    bytes: 6000,
     calls: 400,
 };
 
 /// A disk of these bytes.
-pub(crate) fn disk_with(rt: &impl Abort, alloc: Global, content: &[u8]) -> Result<MemDisk, Memory> {
-    assert!(rt; content.len() <= 4000);
-    MemDisk::new(alloc, content.to_vec(alloc)?, Vec::new(alloc), ROOM)
+pub(crate) fn disk_with(alloc: Global, content: &[u8]) -> Option<MemDisk> {
+    if content.len() > 6000 {
+        return None;
+    }
+    MemDisk::new(alloc, content.to_vec(alloc).ok()?, Vec::new(alloc), ROOM).ok()
 }
 
 /// A record: its gate, its kind, and its payload behind its length.
-fn push_record(bytes: &mut Vec<u8>, kind: u8, payload: &[u8]) -> Result<(), AllocError> {
-    let size = u32::try_from(payload.len()).unwrap_or(u32::MAX);
-    bytes.push(1)?;
-    bytes.push(kind)?;
-    bytes.extend_from_slice(&size.to_be_bytes())?;
-    bytes.extend_from_slice(payload)?;
-    Ok(())
+fn push_record(bytes: &mut Vec<u8>, kind: u8, payload: &[u8]) -> Option<()> {
+    let size = u32::try_from(payload.len()).ok()?.to_be_bytes();
+    bytes.extend_from_slice(&[1, kind]).ok()?;
+    bytes.extend_from_slice(&size).ok()?;
+    bytes.extend_from_slice(payload).ok()
 }
 
-/// An answer by hand: variables and places of values, and whether it is yes.
-pub(crate) type Told<'a> = (&'a [(u8, u8)], bool);
+/// A pair `VARIABLE=VALUE`: a variable's number and its value's place, from 0.
+pub(crate) fn pair_in(word: &str) -> Option<(u8, u8)> {
+    let (variable, value) = word.split_once('=')?;
+    Some((variable.parse().ok()?, value.parse().ok()?))
+}
 
-/// A journal of this plan byte and vocabulary, before its closed gate.
-fn begun(alloc: Global, plan: u8, voc: &str) -> Result<Vec<u8>, AllocError> {
-    let mut bytes = b"QUACQJ1\n".to_vec(alloc)?;
-    let mut payload = vec![in alloc; plan]?;
-    payload.extend_from_slice(voc.as_bytes())?;
+/// The payload of an answer, and then its pairs.
+fn push_pairs(payload: &mut Vec<u8>, pairs: &str) -> Option<()> {
+    let count = pairs.split_whitespace().count();
+    payload.push(u8::try_from(count).ok()?).ok()?;
+    for word in pairs.split_whitespace() {
+        let (variable, value) = pair_in(word)?;
+        payload.extend_from_slice(&[variable, value]).ok()?;
+    }
+    Some(())
+}
+
+/// An answer, `yes` or `no` with its pairs.
+pub(crate) fn answer_in(text: &str) -> Option<(bool, &str)> {
+    let (said, pairs) = text.split_once(' ')?;
+    match said {
+        "yes" => Some((true, pairs)),
+        "no" => Some((false, pairs)),
+        _ => None,
+    }
+}
+
+/// Adds an answer, what raises a journal, or a take-back.
+fn push_event(alloc: Global, bytes: &mut Vec<u8>, text: &str) -> Option<()> {
+    match text {
+        "raise" => push_record(bytes, b'U', &[2]),
+        "back" => push_record(bytes, b'B', &[]),
+        _ => {
+            let (yes, pairs) = answer_in(text)?;
+            let mut payload = vec![in alloc; u8::from(yes)].ok()?;
+            push_pairs(&mut payload, pairs)?;
+            push_record(bytes, b'A', &payload)
+        }
+    }
+}
+
+/// A plan, and its byte in a journal.
+pub(crate) fn plan_in(word: &str) -> Option<(Plan, u8)> {
+    match word {
+        "scopes" => Some((Plan::Scopes, 1)),
+        "quacq" => Some((Plan::Quacq, 2)),
+        "multi" => Some((Plan::Multi, 3)),
+        _ => None,
+    }
+}
+
+/// The word of a plan.
+pub(crate) fn plan_word(plan: Plan) -> &'static str {
+    match plan {
+        Plan::Scopes => "scopes",
+        Plan::Quacq => "quacq",
+        Plan::Multi => "multi",
+    }
+}
+
+/// A journal of this plan byte, vocabulary and events, and a closed gate.
+pub(crate) fn file_of(alloc: Global, plan: u8, voc: &str, events: &str) -> Option<Vec<u8>> {
+    let mut payload = vec![in alloc; plan].ok()?;
+    payload.extend_from_slice(voc.as_bytes()).ok()?;
+    let mut bytes = b"QUACQJ1\n".to_vec(alloc).ok()?;
     push_record(&mut bytes, b'S', &payload)?;
-    Ok(bytes)
+    push_events(alloc, &mut bytes, events)?;
+    Some(bytes)
 }
 
-fn push_answer(alloc: Global, bytes: &mut Vec<u8>, told: Told<'_>) -> Result<(), AllocError> {
-    let (pairs, yes) = told;
-    let count = u8::try_from(pairs.len()).unwrap_or(0);
-    let mut payload = vec![in alloc; u8::from(yes), count]?;
-    for (variable, value) in pairs {
-        payload.push(*variable)?;
-        payload.push(*value)?;
+/// Adds events, and a closed gate.
+fn push_events(alloc: Global, bytes: &mut Vec<u8>, events: &str) -> Option<()> {
+    for text in events.split_terminator(", ") {
+        push_event(alloc, bytes, text)?;
     }
-    push_record(bytes, b'A', &payload)
-}
-
-/// A journal of this plan byte, vocabulary and answers, and a closed gate.
-pub(crate) fn file_of(
-    alloc: Global,
-    plan: u8,
-    voc: &str,
-    told: &[Told<'_>],
-) -> Result<Vec<u8>, AllocError> {
-    let mut bytes = begun(alloc, plan, voc)?;
-    for answer in told {
-        push_answer(alloc, &mut bytes, *answer)?;
-    }
-    bytes.push(0)?;
-    Ok(bytes)
-}
-
-/// A journal of this plan byte and vocabulary that is raised and has these answers, where None takes the last one back.
-pub(crate) fn raised_file_of(
-    alloc: Global,
-    plan: u8,
-    voc: &str,
-    told: &[Option<Told<'_>>],
-) -> Result<Vec<u8>, AllocError> {
-    let mut bytes = begun(alloc, plan, voc)?;
-    push_record(&mut bytes, b'U', &[2])?;
-    for entry in told {
-        match entry {
-            Some(answer) => push_answer(alloc, &mut bytes, *answer)?,
-            None => push_record(&mut bytes, b'B', &[])?,
-        }
-    }
-    bytes.push(0)?;
-    Ok(bytes)
-}
-
-/// The question of an answer by hand, to n variables.
-pub(crate) fn question_of(pairs: &[(u8, u8)], n: u8) -> Partial {
-    let mut question = Partial::blank(n.clamp(1, 128));
-    for (variable, value) in pairs {
-        if *variable < question.len() {
-            question.set(*variable, *value);
-        }
-    }
-    question
-}
-
-/// A vocabulary of n variables, of which the last two may have to be the same or to differ.
-pub(crate) fn wide(alloc: Global, n: u8) -> Result<String, AllocError> {
-    let mut text = String::from_str(
-        alloc,
-        r#"{"domain":[1,2],"relations":[{"name":"eq","arity":2,"formula":["=","$0","$1"]},{"name":"ne","arity":2,"formula":["!=","$0","$1"]}],"variables":["#,
-    )?;
-    for v in 0..n {
-        let comma = if v == 0 { "" } else { "," };
-        text.push_str(&format!(in alloc; "{comma}\"v{v}\"")?)?;
-    }
-    let last = n.saturating_sub(1);
-    let other = n.saturating_sub(2);
-    text.push_str(&format!(in alloc; "],\"scopes\":[[\"v{other}\",\"v{last}\"]]}}")?)?;
-    Ok(text)
+    bytes.push(0).ok()
 }

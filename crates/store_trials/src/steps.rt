@@ -1,4 +1,4 @@
-//! Steps of any keeper of a session.
+//! Steps of any keeper of a session, and what is told of it.
 
 ghost use Rattle.std.specs.Prelude.{◌≡◌, ◌≢◌, [], List, None, IsTrue, IsSome, length};
 ghost use Rattle.assign.specs.Events.{Answer, standing};
@@ -6,40 +6,17 @@ ghost use Rattle.language.specs.Answers.{standing_on};
 ghost use Rattle.session_core.specs.Standing.{Stands, knowledge_of, open_in};
 ghost use Rattle.session_store.specs.Kept.{IsLawfulAfter};
 
-use assign::{Event, Partial, Plan};
+use crate::files::{answer_in, pair_in, plan_word};
+use assign::{Event, Partial};
 use disk_model::Disk;
 use session_core::Session;
 use session_store::{Keep, SFault};
-use std::process::Abort;
-
-/// Where a session stands.
-#[derive(Clone, Copy, Debug, PartialEq, Eq)]
-pub(crate) enum Stand {
-    Idle,
-    Asking(Partial),
-    Over,
-}
-
-pub(crate) fn stand_of<D: Disk, P: Keep<D>>(keep: &P) -> Stand
-    requires { P.sound keep.now }
-{
-    match keep.session() {
-        Session::Idle(_) => Stand::Idle,
-        Session::Asking(asking) => Stand::Asking(asking.question()),
-        Session::Over(_) => Stand::Over,
-    }
-}
+use std::alloc::Global;
 
 pub(crate) fn session_of<D: Disk, P: Keep<D>>(keep: &P) -> &Session
     requires { P.sound keep.now }
 {
     keep.session()
-}
-
-pub(crate) fn plan_of<D: Disk, P: Keep<D>>(keep: &P) -> Plan
-    requires { P.sound keep.now }
-{
-    keep.session().plan()
 }
 
 pub(crate) fn events_of<D: Disk, P: Keep<D>>(keep: &P) -> &[Event] {
@@ -48,6 +25,48 @@ pub(crate) fn events_of<D: Disk, P: Keep<D>>(keep: &P) -> &[Event] {
 
 pub(crate) fn is_live<D: Disk, P: Keep<D>>(keep: &P) -> bool {
     keep.is_live()
+}
+
+/// How many answers stand.
+pub(crate) fn standing_count<D: Disk, P: Keep<D>>(keep: &P) -> u32
+    requires { P.sound keep.now }
+    ensures { result ≡ length (standing_on (P.lang keep.now) (P.record_of keep.now)) }
+{
+    keep.session().answers()
+}
+
+/// The pairs of a question.
+pub(crate) fn push_question(text: &mut String, question: &Partial) -> Option<()> {
+    for v in 0..question.len() {
+        if let Some(value) = question.get(v) {
+            write!(text, " {v}={value}").ok()?;
+        }
+    }
+    Some(())
+}
+
+/// Where a session stands.
+fn push_stand(text: &mut String, session: &Session) -> Option<()> {
+    match session {
+        Session::Idle(_) => text.push_str(", idle").ok(),
+        Session::Over(_) => text.push_str(", over").ok(),
+        Session::Asking(asking) => {
+            text.push_str(", asking").ok()?;
+            push_question(text, &asking.question())
+        }
+    }
+}
+
+/// The plan, how many events there are, how many answers stand, and where they lead.
+pub(crate) fn keep_text<D: Disk, P: Keep<D>>(alloc: Global, keep: &P) -> Option<String>
+    requires { P.sound keep.now }
+{
+    let session = keep.session();
+    let plan = plan_word(session.plan());
+    let (events, standing) = (keep.events().len(), session.answers());
+    let mut text = format!(in alloc; "{plan}, {events} events, {standing} standing").ok()?;
+    push_stand(&mut text, session)?;
+    Some(text)
 }
 
 /// Whether nothing is open and the question may be put.
@@ -82,30 +101,21 @@ fn is_asking(session: &Session) -> bool
     }
 }
 
-/// Answers the question that is put.
-pub(crate) fn answer<R: Abort, D: Disk, P: Keep<D>>(
-    rt: &R,
+/// Answers the question that is put. None where none is, or where nothing more is kept.
+pub(crate) fn answer<D: Disk, P: Keep<D>>(
     keep: &mut P,
     disk: &mut D,
     yes: bool,
-) -> Result<(), SFault>
+) -> Option<Result<(), SFault>>
     requires sound { P.sound keep.old }
     requires sits { P.sits keep.old disk.old }
     ensures sound { P.sound keep.new }
     ensures sits { P.sits keep.new disk.new }
 {
-    assert!(rt; is_asking(keep.session()));
-    assert!(rt; keep.events().len() < 1000);
-    assert!(rt; keep.is_live());
-    keep.answer(disk, yes)
-}
-
-/// How many answers stand.
-pub(crate) fn standing_count<D: Disk, P: Keep<D>>(keep: &P) -> u32
-    requires { P.sound keep.now }
-    ensures { result ≡ length (standing_on (P.lang keep.now) (P.record_of keep.now)) }
-{
-    keep.session().answers()
+    if !is_asking(keep.session()) || keep.events().len() >= 1000 || !keep.is_live() {
+        return None;
+    }
+    Some(keep.answer(disk, yes))
 }
 
 pub(crate) fn has_answers<D: Disk, P: Keep<D>>(keep: &P) -> bool
@@ -115,19 +125,51 @@ pub(crate) fn has_answers<D: Disk, P: Keep<D>>(keep: &P) -> bool
     standing_count::<D, P>(keep) > 0
 }
 
-/// Takes back the last answer that stands.
-pub(crate) fn take_back<R: Abort, D: Disk, P: Keep<D>>(
-    rt: &R,
+/// Takes back the last answer that stands. None where none does, or where nothing more is kept.
+pub(crate) fn take_back<D: Disk, P: Keep<D>>(
     keep: &mut P,
     disk: &mut D,
-) -> Result<(), SFault>
+) -> Option<Result<(), SFault>>
     requires sound { P.sound keep.old }
     requires sits { P.sits keep.old disk.old }
     ensures sound { P.sound keep.new }
     ensures sits { P.sits keep.new disk.new }
 {
-    assert!(rt; has_answers::<D, P>(keep));
-    assert!(rt; keep.events().len() < 1000);
-    assert!(rt; keep.is_live());
-    keep.take_back(disk)
+    if !has_answers::<D, P>(keep) || keep.events().len() >= 1000 || !keep.is_live() {
+        return None;
+    }
+    Some(keep.take_back(disk))
+}
+
+/// The question of these pairs to n variables.
+fn question_in(pairs: &str, n: u8) -> Option<Partial> {
+    let mut question = Partial::blank(n.clamp(1, 128));
+    for word in pairs.split_whitespace() {
+        let (variable, value) = pair_in(word)?;
+        if variable >= question.len() {
+            return None;
+        }
+        question.set(variable, value);
+    }
+    Some(question)
+}
+
+/// Puts a question, where none is put, and answers; or takes back.
+pub(crate) fn add<D: Disk, P: Keep<D>>(
+    keep: &mut P,
+    disk: &mut D,
+    text: &str,
+) -> Option<Result<(), SFault>>
+    requires sound { P.sound keep.old }
+    requires sits { P.sits keep.old disk.old }
+    ensures sound { P.sound keep.new }
+    ensures sits { P.sits keep.new disk.new }
+{
+    if text == "back" {
+        return take_back(keep, disk);
+    }
+    let (yes, pairs) = answer_in(text)?;
+    let question = question_in(pairs, keep.session().lang().n())?;
+    put(keep, disk, question);
+    answer(keep, disk, yes)
 }
