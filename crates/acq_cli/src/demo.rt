@@ -63,7 +63,7 @@ fn drive_quietly<R: Threads + Sync, G: Gate>(
     requires target { IsNetwork (lang_in keep.old) target.list }
     ensures driven { HasDriven target.list (lang_in keep.old) (terms_with (plan_of keep.old) budget) (events_of keep.new) result }
     ensures agreeing { IsTrue (agrees (lang_in keep.old) target.list (standing_on (lang_in keep.old) (events_of keep.new))) }
-    ensures same { IsSameSession lang_in plan_of IsSound keep.old keep.new }
+    ensures same { IsSameSession ⟦<Loose as Keep<MemDisk>>⟧ keep.old keep.new }
 {
     let lang = lang_of::<MemDisk, Loose>(keep);
     // for the law that no session about a language takes as many answers as there are records

@@ -10,7 +10,7 @@ pub reduced-requires-clause-budget : goal.reduced-requires-clause-budget
 reduced-requires-clause-budget g c = subst IsAskable c.in-Reduce.is c.requires.budget
 
 pub certified-requires-clause-budget : goal.certified-requires-clause-budget
-certified-requires-clause-budget g c = subst IsAskable c.in-Certify.is c.requires.budget
+certified-requires-clause-budget g c κs within = subst IsAskable c.in-Certify.is c.requires.budget
 
 pub returns-in-Show-clause-says : goal.returns-in-Show-clause-says
 returns-in-Show-clause-says g c =

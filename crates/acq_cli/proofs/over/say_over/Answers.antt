@@ -7,7 +7,7 @@ use Rattle.acq_cli.proofs.SaidOver.{none_unless, told_never, told_not, true_unle
 use Rattle.acq_cli.proofs.over.say_over.Goals as goal
 
 pub asked-requires-clause-read : goal.asked-requires-clause-read
-asked-requires-clause-read g c = c.vocabulary.ensures.read c.in-Ok.ensures.sound
+asked-requires-clause-read g c κs within = c.vocabulary.ensures.read c.in-Ok.ensures.sound
 
 pub returns-in-Ok-clause-says : goal.returns-in-Ok-clause-says
 returns-in-Ok-clause-says g c =
