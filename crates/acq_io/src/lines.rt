@@ -26,6 +26,7 @@ impl Model for Line {
 }
 
 impl Line {
+    /// A line of no bytes.
     pub fn empty() -> Line
         ensures { result ≡ [] }
     {
@@ -35,6 +36,7 @@ impl Line {
         }
     }
 
+    /// The line's bytes, without the newline: at most 256.
     pub fn bytes(&self) -> &[u8]
         ensures bytes { result.now ≡ self.now }
         ensures short { length self.now ≤ 256 }

@@ -22,6 +22,7 @@ impl Model for PlainSource {
 }
 
 impl PlainSource {
+    /// A source of these bytes, of which none is taken yet.
     pub fn new(bytes: Vec<u8>) -> PlainSource
         ensures tells { ⟦<PlainSource as Source>⟧.left result ≡ Some bytes.items }
         ensures no_faults { ⟦<PlainSource as Source>⟧.faults result ≡ 0 }
@@ -82,6 +83,7 @@ impl Model for PlainSink {
 }
 
 impl PlainSink {
+    /// A sink to which nothing was written.
     pub fn new(alloc: Global) -> PlainSink
         ensures tells { ⟦<PlainSink as Sink>⟧.written result ≡ Some [] }
         ensures no_faults { ⟦<PlainSink as Sink>⟧.faults result ≡ 0 }

@@ -23,6 +23,7 @@ impl<R> Model for StdSource<R> {
 }
 
 impl<R: Read> StdSource<R> {
+    /// A source that reads from `inner`. It doesn't tell what is left.
     pub fn new(inner: R) -> StdSource<R>
         ensures no_faults { ⟦<StdSource<R> as Source>⟧.faults result ≡ 0 }
     {
@@ -95,6 +96,7 @@ impl<W> Model for StdSink<W> {
 }
 
 impl<W: Write> StdSink<W> {
+    /// A sink that writes to `inner`. It doesn't tell what was written.
     pub fn new(inner: W) -> StdSink<W>
         ensures no_faults { ⟦<StdSink<W> as Sink>⟧.faults result ≡ 0 }
     {

@@ -24,6 +24,7 @@ pub struct FileDisk<'a, R: Files<File = File>> {
 }
 
 impl<'a, R: Files<File = File>> FileDisk<'a, R> {
+    /// The file of this name, which isn't looked for yet.
     pub fn new(rt: &'a R, name: &'a str) -> Self
         ensures no_faults { ⟦<FileDisk<'a, R> as Disk>⟧.faults result ≡ 0 }
     {

@@ -11,6 +11,7 @@ pub struct Buffered<R> {
 }
 
 impl<R: BufRead> Buffered<R> {
+    /// The bytes of `inner`, of which none is read yet.
     pub fn new(inner: R) -> Buffered<R> {
         Buffered { inner }
     }

@@ -119,6 +119,7 @@ impl JournalFile {
         }
     }
 
+    /// Waits until all that was written is on the device, or fails.
     pub fn sync(&self) -> Result<(), Failed> {
         match self.file.sync_all() {
             Ok(()) => Ok(()),

@@ -36,6 +36,7 @@ impl Listed {
         self.candidate
     }
 
+    /// The tokens of the refutation, in preorder.
     pub fn tokens(&self) -> &[Token]
         ensures { result.now ≡ self.now.tokens }
     {
@@ -83,6 +84,7 @@ impl Cert {
         }
     }
 
+    /// The language of the vocabulary that stands in the certificate.
     pub fn lang(&self) -> &Language
         ensures is { result.now ≡ self.now.language }
         ensures sound { IsSound self.now }
@@ -97,6 +99,7 @@ impl Cert {
         &self.network
     }
 
+    /// The answers, in the order in which they were given.
     pub fn answers(&self) -> &[Entry]
         ensures { result.now ≡ self.now.answers }
     {

@@ -21,6 +21,7 @@ impl FuseDisk {
     ghost use Rattle.disk_model.specs.FuseDisk.{inner_of, passes_of, calls_of, faults_of, IsBurnt};
     ghost use Rattle.disk_model.specs.MemDisk.{calls_of as mem_calls, faults_of as mem_faults};
 
+    /// The disk within behind a fuse that passes so many calls.
     pub fn new(inner: MemDisk, passes: u32) -> FuseDisk
         ensures inner { inner_of result ≡ inner }
         ensures passes { passes_of result ≡ passes }

@@ -53,12 +53,14 @@ fn row_of(lang: &Language, s: ScopeId, r: u8, whole: bool, place: u32) -> u64
 }
 
 impl Choices {
+    /// The choices of a mask of relations, bit r for relation r, and that of none where `free`.
     pub fn new(relations: u64, free: bool) -> Choices
         ensures { result ≡ choices_of relations free }
     {
         Choices { relations, free }
     }
 
+    /// Whether no choice is left.
     pub fn is_empty(&self) -> bool
         ensures { IsTrue result ↔ (self.now ≡ []) }
     {

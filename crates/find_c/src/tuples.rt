@@ -37,6 +37,7 @@ impl Tuple {
         }
     }
 
+    /// The tuple's values, in the order of its scope: at most four.
     pub fn values(&self) -> &[u8]
         ensures { result.now ≡ self.now }
     {

@@ -34,6 +34,7 @@ impl Model for Frames {
 }
 
 impl Frames {
+    /// No frame.
     pub fn none() -> Frames
         ensures { result ≡ [] }
     {
@@ -45,6 +46,7 @@ impl Frames {
         }
     }
 
+    /// Puts a frame on top of fewer than eight.
     pub fn push(&mut self, frame: Frame)
         requires { length self.old < 8 }
         ensures { self.new ≡ frame ∷ self.old }
@@ -53,6 +55,7 @@ impl Frames {
         self.count += 1;
     }
 
+    /// Takes the frame off the top; `None` where there is none.
     pub fn pop(&mut self) -> Option<Frame>
         ensures top { IfSome result (λ frame. self.old ≡ frame ∷ self.new) }
         ensures empty { IfNone result (self.old ≡ []) }

@@ -41,12 +41,14 @@ impl Stack {
         Ok(Stack { sets })
     }
 
+    /// Whether no set waits.
     pub fn is_empty(&self) -> bool
         ensures { IsTrue result ↔ (self.now ≡ []) }
     {
         self.sets.is_empty()
     }
 
+    /// Takes all sets away. The room stays.
     pub fn clear(&mut self)
         ensures { self.new ≡ [] }
     {

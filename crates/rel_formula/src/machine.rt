@@ -57,6 +57,7 @@ fn push_fitting(stack: &mut Stack<i64>, number: Option<i64>) -> bool
 }
 
 impl Stacks {
+    /// No number and no truth value.
     pub fn empty() -> Stacks {
         Stacks {
             numbers: ArrayVec::new(),

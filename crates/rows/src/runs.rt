@@ -8,6 +8,7 @@ pub struct Runs {
 }
 
 impl Runs {
+    /// No line yet.
     pub fn new(alloc: Global) -> Runs {
         Runs {
             text: String::new(alloc),
@@ -38,12 +39,14 @@ pub struct Distinct {
 }
 
 impl Distinct {
+    /// No text yet.
     pub fn new(alloc: Global) -> Distinct {
         Distinct {
             list: Vec::new(alloc),
         }
     }
 
+    /// Lists a text, unless it is listed already.
     pub fn add(&mut self, text: String) -> Option<()> {
         if self
             .list

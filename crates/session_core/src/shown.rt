@@ -39,6 +39,7 @@ impl Knowledge {
 }
 
 impl Session {
+    /// The language of the session.
     pub fn lang(&self) -> &Language
         ensures is { result.now ≡ (knowledge_of self.now).lang }
         ensures lawful { IsLanguage result.now }
@@ -46,6 +47,7 @@ impl Session {
         self.knowledge().lang()
     }
 
+    /// The plan by which the session looks for questions.
     pub fn plan(&self) -> Plan
         ensures { result ≡ (knowledge_of self.now).plan }
     {
@@ -87,6 +89,7 @@ impl Session {
 }
 
 impl Idle {
+    /// The language of the session.
     pub fn lang(&self) -> &Language
         ensures is { result.now ≡ (knowledge_of (Session.Idle self.now)).lang }
         ensures lawful { IsLanguage result.now }
@@ -94,6 +97,7 @@ impl Idle {
         self.knowledge.lang()
     }
 
+    /// The plan by which the session looks for questions.
     pub fn plan(&self) -> Plan
         ensures { result ≡ (knowledge_of (Session.Idle self.now)).plan }
     {
@@ -125,6 +129,7 @@ impl Idle {
 }
 
 impl Asking {
+    /// The language of the session.
     pub fn lang(&self) -> &Language
         ensures is { result.now ≡ (knowledge_of (Session.Asking self.now)).lang }
         ensures lawful { IsLanguage result.now }
@@ -132,6 +137,7 @@ impl Asking {
         self.knowledge.lang()
     }
 
+    /// The plan by which the session looks for questions.
     pub fn plan(&self) -> Plan
         ensures { result ≡ (knowledge_of (Session.Asking self.now)).plan }
     {
@@ -163,6 +169,7 @@ impl Asking {
 }
 
 impl Collapsed {
+    /// The language of the session.
     pub fn lang(&self) -> &Language
         ensures is { result.now ≡ (knowledge_of (Session.Over self.now)).lang }
         ensures lawful { IsLanguage result.now }
@@ -170,6 +177,7 @@ impl Collapsed {
         self.knowledge.lang()
     }
 
+    /// The plan by which the session looks for questions.
     pub fn plan(&self) -> Plan
         ensures { result ≡ (knowledge_of (Session.Over self.now)).plan }
     {

@@ -21,6 +21,7 @@ use std::alloc::{AllocError, Global};
 pub struct LineTeacher;
 
 impl LineTeacher {
+    /// A person who has been asked nothing yet.
     pub fn new() -> LineTeacher {
         LineTeacher
     }

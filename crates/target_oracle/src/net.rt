@@ -34,6 +34,7 @@ impl Model for NetTeacher {
 }
 
 impl NetTeacher {
+    /// This network in place of a person, which writes nothing where it is quiet.
     pub fn new(network: Network, quiet: bool) -> NetTeacher
         ensures network { result.network ≡ network.list }
         ensures quiet { result.quiet ≡ quiet }
