@@ -17,3 +17,8 @@ pub mod Refused
 pub mod NumberSteps
 pub mod LanguageMade
 pub mod OneReading
+pub mod ClosingsMade
+pub mod Buildable
+pub mod Readings
+pub mod Faults
+pub mod EachText
