@@ -1,5 +1,5 @@
 -- Each list of bytes is the text of a language, or is refused.
-use Rattle.std.proofs.Common.{◌≡◌, ◌≢◌, ℕ, ◌≤◌, ◌==◌, Bool, true, false, cond, ◌&&◌, nat_lt, List, [], ◌∷◌, length, get_or, Option, Some, None, ℤ, pos, negsuc, Result, Ok, Err, refl, ap, ◌∙◌, subst, arith, ◌⊎◌, inl, inr}
+use Rattle.std.proofs.Common.{◌≡◌, ℕ, ◌≤◌, ◌==◌, Bool, true, false, cond, ◌&&◌, nat_lt, List, [], ◌∷◌, length, get_or, Option, Some, None, ℤ, pos, negsuc, Result, Ok, Err, refl, ap, ◌∙◌, subst, arith, ◌⊎◌, inl, inr}
 use Rattle.std.specs.Prelude.{All, int_le, ◌≤ℤ◌, ◌<ℤ◌, ◌+ℤ◌, ◌-ℤ◌, unsigned_abs}
 use Rattle.std.specs.Bool.{passes}
 use Rattle.std.specs.List.{range_with_len}
@@ -18,7 +18,7 @@ use Rattle.language.specs.declared.parts.LangFault.TheVariants.{TooManyVariables
 use Rattle.language.proofs.Arities.{each_arity}
 use Rattle.language.proofs.Lawful.{are_scopes, known_in, taken}
 use Rattle.voc_read.specs.declared.fault.VocFault.{VocFault}
-use Rattle.voc_read.specs.declared.fault.VocFault.TheVariants.{TooLong, NotJson, Lang, Memory}
+use Rattle.voc_read.specs.declared.fault.VocFault.TheVariants.{TooLong, NotJson, Lang}
 use Rattle.voc_read.specs.Answers.{then_on, unless}
 use Rattle.voc_read.specs.Laws.{EachIsReadOrRefused}
 use Rattle.voc_read.specs.Names.{names_refusal}
@@ -27,8 +27,9 @@ use Rattle.voc_read.specs.Ranges.{VariableRange, values_for, ranges_of, IsKnown}
 use Rattle.voc_read.specs.Relations.{given_of}
 use Rattle.voc_read.specs.Scopes.{scopes_from, scopes_of}
 use Rattle.voc_read.specs.Vocabulary.{Parts, outline_refusal, parts_from, parts_in, parts_of, json_of, frame_of, MOST_VOCABULARY, refusal_after, refusal_of_vocabulary, IsLanguageOf}
+use Rattle.voc_read.specs.Want.{lang_wants, wants_memory}
 use Rattle.voc_read.proofs.Buildable.{IsBuildable, built}
-use Rattle.voc_read.proofs.Faults.{real, OfErr}
+use Rattle.voc_read.proofs.Faults.{NoWant, OfErr, real, build_read}
 use Rattle.voc_read.proofs.KnownRanges.{are_known}
 use Rattle.voc_read.proofs.KnownScopes.{known}
 use Rattle.voc_read.proofs.NameForms.{AreNames-accepted}
@@ -236,17 +237,17 @@ buildable parts read h =
 -- ---- The whole
 
 abbrev IsTold : Result Parts VocFault → Type 0
-IsTold stated = ((l : Language) × IsLanguageOf stated l) ⊎ ((fault : VocFault) × (fault ≢ Memory) × (refusal_after stated ≡ Some fault))
+IsTold stated = ((l : Language) × IsLanguageOf stated l) ⊎ ((fault : VocFault) × (wants_memory fault ≡ false) × (refusal_after stated ≡ Some fault))
 
 when_parts : (stated : Result Parts VocFault) (parts : Parts) → stated ≡ Ok parts → AreParts parts → (fault : Option LangFault) → build_refusal (length parts.names) parts.given parts.listed ≡ fault → IsTold stated
-when_parts stated parts is read (Some fault) refused = inr (Lang fault, (λ e. cc), ap refusal_after is ∙ ap (λ f. option_map Lang f) refused)
+when_parts stated parts is read (Some fault) refused = inr (Lang fault, subst (NoWant lang_wants) refused (build_read (length parts.names) parts.given parts.listed), ap refusal_after is ∙ ap (λ f. option_map Lang f) refused)
 when_parts stated parts is read None unrefused =
     let language = built (frame_of parts) parts.given parts.listed (buildable parts read unrefused) in
     inl (language.0, record { parts = parts; read = is; framed = read.framed; buildable = unrefused; built = language.1 })
 
 told : (stated answer : Result Parts VocFault) → stated ≡ answer → OfErr answer → ((parts : Parts) → stated ≡ Ok parts → AreParts parts) → IsTold stated
-told stated (Err fault) is real read = inr (fault, real, ap refusal_after is)
-told stated (Ok parts) is real read = when_parts stated parts is (read parts is) (build_refusal (length parts.names) parts.given parts.listed) refl
+told stated (Err fault) is own read = inr (fault, own, ap refusal_after is)
+told stated (Ok parts) is own read = when_parts stated parts is (read parts is) (build_refusal (length parts.names) parts.given parts.listed) refl
 
 pub each_text : EachIsReadOrRefused
 unfolding refusal_of_vocabulary

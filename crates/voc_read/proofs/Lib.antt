@@ -20,5 +20,6 @@ pub mod OneReading
 pub mod ClosingsMade
 pub mod Buildable
 pub mod Readings
+pub mod FormulaFaults
 pub mod Faults
 pub mod EachText
