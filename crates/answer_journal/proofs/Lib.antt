@@ -12,3 +12,5 @@ mod PieceLemmas
 mod Readings
 mod FirstPiece
 pub mod SomeBytes
+mod EachRecord
+mod EachFile

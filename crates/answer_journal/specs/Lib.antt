@@ -9,3 +9,4 @@ pub mod Pairs
 pub mod Found
 pub mod Heads
 pub mod Making
+pub mod Laws

@@ -4,6 +4,7 @@ ghost use Rattle.std.specs.Prelude.{◌≡◌, ℕ, List};
 ghost use Rattle.assign.specs.declared.events.Plan.{Plan};
 ghost use Rattle.assign.specs.declared.events.Event.{Event};
 ghost use Rattle.answer_journal.specs.Journal.{Reading, ReadsAs, Spells};
+ghost use Rattle.answer_journal.specs.Laws.{EachHasAReading, EachIsFreeOrRefused};
 
 /// No bytes spell two sessions.
 pub fn no_two_sessions()
@@ -13,4 +14,14 @@ pub fn no_two_sessions()
 /// No bytes have two readings: `open` gives the only one, and a damaged file is damaged at one place.
 pub fn no_two_readings()
     ensures { (bytes : List ℕ) (r s : Reading) → ReadsAs bytes r → ReadsAs bytes s → r ≡ s }
+{}
+
+/// Each list of bytes has a reading, and by the law above no other.
+pub fn each_has_a_reading()
+    ensures { EachHasAReading }
+{}
+
+/// Over each list of bytes a journal is made, or it is refused: a session is there, or it is no journal.
+pub fn each_is_free_or_refused()
+    ensures { EachIsFreeOrRefused }
 {}

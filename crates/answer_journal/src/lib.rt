@@ -25,5 +25,5 @@ mod steps;
 pub use creating::create;
 pub use fault::JFault;
 pub use journal::{Journal, MOST_RECORDS};
-pub use laws::{no_two_readings, no_two_sessions};
+pub use laws::{each_has_a_reading, each_is_free_or_refused, no_two_readings, no_two_sessions};
 pub use opening::{Opened, open};

@@ -12,3 +12,4 @@ pub mod Marking
 pub mod Valuing
 pub mod Taking
 pub mod Modelled
+pub mod EachText

@@ -1,5 +1,5 @@
 -- Laws over the definitions alone.
-use Rattle.std.specs.Prelude.{◌≡◌, ◌↔◌, ℕ, ◌<◌, ◌≤◌, ◌^◌, Bool, IsTrue, List, length, Some, Ok, Err}
+use Rattle.std.specs.Prelude.{◌≡◌, ◌≢◌, ◌↔◌, ◌⊎◌, ℕ, ◌<◌, ◌≤◌, ◌^◌, Bool, IsTrue, List, length, Some, Ok, Err}
 use Rattle.assign.specs.Assignment.{Assignment, is_complete}
 use Rattle.language.specs.declared.candidates.Candidate.{Candidate}
 use Rattle.language.specs.Language.{Language, IsLanguage, IsQuestion, accepts}
@@ -11,6 +11,7 @@ use Rattle.net_cnf.specs.Texts.{literal_text}
 use Rattle.net_cnf.specs.Tokens.{literal_in}
 use Rattle.net_cnf.specs.declared.literal.Literal.{Literal}
 use Rattle.net_cnf.specs.declared.model_fault.ModelFault.{ModelFault}
+use Rattle.net_cnf.specs.declared.model_fault.ModelFault.TheVariants as model
 
 -- a complete assignment with these truth values of the Booleans, and the only one
 pub record IsOnly (l : Language) (truths : List Bool) (e : Assignment) : Type 0 where
@@ -44,3 +45,9 @@ ReadsModels = (l : Language) (network : List Candidate) (bytes : List ℕ) (e : 
 -- no bytes are a model and are refused
 abbrev pub ReadIsNotRefused : Type 0
 ReadIsNotRefused = (l : Language) (network : List Candidate) (bytes : List ℕ) (e : Assignment) (fault : ModelFault) → IsModel l network bytes e → model_of l network bytes ≡ Err fault → ⊥
+
+-- each list of bytes is a model of a solution, or is refused, and not for want of memory
+abbrev pub EachIsReadOrRefused : Type 0
+EachIsReadOrRefused =
+    (l : Language) (network : List Candidate) (bytes : List ℕ) →
+    ((e : Assignment) × IsModel l network bytes e) ⊎ ((fault : ModelFault) × (fault ≢ model.Memory) × (model_of l network bytes ≡ Err fault))

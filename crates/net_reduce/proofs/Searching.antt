@@ -140,7 +140,7 @@ module _ (l : Language) (network : List Candidate) (budget : ℕ) where
   outcome_is i others c o same item is =
       sym (is ∙ ap (λ (list : List Candidate). outcome_of_candidate l list c budget) same ∙ ap (λ (d : Candidate). outcome_of_candidate l (others_at l network budget i) d budget) item)
 
-  decided_on : (i : ℕ) → AreDecided l network budget i → outcome_at l network budget i ≢ Spent → AreDecided l network budget (suc i)
+  pub decided_on : (i : ℕ) → AreDecided l network budget i → outcome_at l network budget i ≢ Spent → AreDecided l network budget (suc i)
   decided_on i before here k low = go (cases_lt k i)
     where
       go : (k < i) ⊎ (i ≤ k) → outcome_at l network budget k ≢ Spent

@@ -1,6 +1,6 @@
 //! Laws of sifting, as contracts of functions that do nothing.
 
-ghost use Rattle.net_reduce.specs.Laws.{ReducedIsTarget, SiftedIsOne, SiftedIsReduction};
+ghost use Rattle.net_reduce.specs.Laws.{EachIsSearchedOrSpent, ReducedIsTarget, SiftedIsOne, SiftedIsReduction};
 
 /// What sifting leaves of a network is a reduction of it.
 pub fn sifted_is_reduction()
@@ -15,4 +15,9 @@ pub fn sifted_is_one()
 /// After convergence a reduction has the solutions of each network that agrees with the answers.
 pub fn reduced_is_target()
     ensures { ReducedIsTarget }
+{}
+
+/// Of each network the searches are decided, or a first one is spent.
+pub fn each_is_searched_or_spent()
+    ensures { EachIsSearchedOrSpent }
 {}

@@ -17,3 +17,9 @@ pub mod Refused
 pub mod NumberSteps
 pub mod LanguageMade
 pub mod OneReading
+pub mod ClosingsMade
+pub mod Buildable
+pub mod Readings
+pub mod FormulaFaults
+pub mod Faults
+pub mod EachText

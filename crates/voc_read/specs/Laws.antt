@@ -1,7 +1,9 @@
 -- Laws over the definitions alone.
-use Rattle.std.specs.Prelude.{◌≡◌, ℕ, List, None}
+use Rattle.std.specs.Prelude.{◌≡◌, ◌⊎◌, ℕ, false, List, Some, None}
 use Rattle.language.specs.Language.{Language}
+use Rattle.voc_read.specs.declared.fault.VocFault.{VocFault}
 use Rattle.voc_read.specs.Vocabulary.{IsVocabulary, refusal_of_vocabulary}
+use Rattle.voc_read.specs.Want.{wants_memory}
 
 -- what describes a language isn't refused
 abbrev pub ReadIsNotRefused : Type 0
@@ -10,3 +12,7 @@ ReadIsNotRefused = (bytes : List ℕ) (l : Language) → IsVocabulary bytes l �
 -- no bytes describe two languages
 abbrev pub NoTwoLanguages : Type 0
 NoTwoLanguages = (bytes : List ℕ) (l other : Language) → IsVocabulary bytes l → IsVocabulary bytes other → l ≡ other
+
+-- each list of bytes describes a language, or is refused, and not for want of memory, its own or that of a part
+abbrev pub EachIsReadOrRefused : Type 0
+EachIsReadOrRefused = (bytes : List ℕ) → ((l : Language) × IsVocabulary bytes l) ⊎ ((fault : VocFault) × (wants_memory fault ≡ false) × (refusal_of_vocabulary bytes ≡ Some fault))

@@ -11,4 +11,5 @@ pub mod Ranges
 pub mod Widest
 pub mod Vocabulary
 pub mod FaultTexts
+pub mod Want
 pub mod Laws

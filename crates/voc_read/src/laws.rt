@@ -1,6 +1,6 @@
 //! Laws of the definitions, as contracts of functions that do nothing.
 
-ghost use Rattle.voc_read.specs.Laws.{NoTwoLanguages, ReadIsNotRefused};
+ghost use Rattle.voc_read.specs.Laws.{EachIsReadOrRefused, NoTwoLanguages, ReadIsNotRefused};
 
 /// What describes a language isn't refused.
 pub fn read_is_not_refused()
@@ -10,4 +10,9 @@ pub fn read_is_not_refused()
 /// No bytes describe two languages.
 pub fn no_two_languages()
     ensures { NoTwoLanguages }
+{}
+
+/// Each list of bytes describes a language, or is refused, and not for want of memory.
+pub fn each_is_read_or_refused()
+    ensures { EachIsReadOrRefused }
 {}

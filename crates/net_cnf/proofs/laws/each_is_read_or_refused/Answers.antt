@@ -1,0 +1,5 @@
+use Rattle.net_cnf.proofs.EachText.{each_text}
+use Rattle.net_cnf.proofs.laws.each_is_read_or_refused.Goals as goal
+
+pub returns : goal.returns
+returns c = each_text
