@@ -1,6 +1,8 @@
 -- Laws of reading the text of a certificate, over the definitions alone.
-use Rattle.std.specs.Prelude.{ℕ, ◌≡◌, List}
+use Rattle.std.specs.Prelude.{ℕ, ◌≡◌, ◌⊎◌, Bool, true, false, List}
+use Rattle.voc_read.specs.Want.{wants_memory as voc_wants}
 use Rattle.cert_check.specs.declared.fault.CertFault.{CertFault}
+use Rattle.cert_check.specs.declared.fault.CertFault.TheVariants.{Voc, Memory}
 use Rattle.cert_check.specs.Certificate.{Certificate}
 use Rattle.cert_check.specs.Reading.{IsRead, IsUnreadable}
 
@@ -15,3 +17,13 @@ NoTwoCertificates = (bytes : List ℕ) (cert other : Certificate) → IsRead byt
 -- no bytes are refused for two faults
 abbrev pub NoTwoFaults : Type 0
 NoTwoFaults = (bytes : List ℕ) (fault other : CertFault) → IsUnreadable bytes fault → IsUnreadable bytes other → fault ≡ other
+
+-- want of memory, its own or its vocabulary's
+abbrev pub wants_memory : CertFault → Bool
+wants_memory Memory = true
+wants_memory (Voc fault) = voc_wants fault
+wants_memory other = false
+
+-- each list of bytes is read, or refused, and not for want of memory
+abbrev pub EachIsReadOrRefused : Type 0
+EachIsReadOrRefused = (bytes : List ℕ) → ((cert : Certificate) × IsRead bytes cert) ⊎ ((fault : CertFault) × (wants_memory fault ≡ false) × IsUnreadable bytes fault)

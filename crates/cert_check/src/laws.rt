@@ -1,7 +1,7 @@
 //! Laws of the definitions, as contracts of functions that do nothing.
 
 ghost use Rattle.cert_check.specs.Laws.{GoodIsConverged, GoodIsCovered, MadeIsGood, RefutedIsImplied};
-ghost use Rattle.cert_check.specs.ReadingLaws.{NoTwoCertificates, NoTwoFaults, ReadIsNotRefused};
+ghost use Rattle.cert_check.specs.ReadingLaws.{EachIsReadOrRefused, NoTwoCertificates, NoTwoFaults, ReadIsNotRefused};
 
 /// A candidate that tokens refute is implied by the network.
 pub fn refuted_is_implied()
@@ -36,4 +36,9 @@ pub fn no_two_certificates()
 /// No bytes are refused for two faults.
 pub fn no_two_faults()
     ensures { NoTwoFaults }
+{}
+
+/// Each list of bytes is read as a certificate, or is refused, and not for want of memory.
+pub fn each_is_read_or_refused()
+    ensures { EachIsReadOrRefused }
 {}

@@ -1,0 +1,5 @@
+use Rattle.cert_check.proofs.EachText.{each_text}
+use Rattle.cert_check.proofs.laws.each_is_read_or_refused.Goals as goal
+
+pub returns : goal.returns
+returns c = each_text
