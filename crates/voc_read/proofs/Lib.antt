@@ -15,5 +15,6 @@ pub mod RangesSet
 pub mod KnownScopes
 pub mod Refused
 pub mod NumberSteps
+pub mod EachSteps
 pub mod LanguageMade
 pub mod OneReading
