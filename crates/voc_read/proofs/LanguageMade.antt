@@ -1,8 +1,9 @@
 -- The language that is built of what was read, or the fault that is met.
-use Rattle.std.proofs.Common.{◌≡◌, ℕ, ℤ, List, length, Option, Some, None, Ok, option_map, refl, ap, ◌∙◌, subst}
+use Rattle.std.proofs.Common.{◌≡◌, ℕ, ℤ, List, length, Option, Some, None, Result, Ok, Err, option_map, refl, ap, ◌∙◌, subst}
 use Rattle.language.specs.Language.{Language, Given}
 use Rattle.language.specs.Building as build
 use Rattle.language.specs.declared.parts.LangFault.{LangFault}
+use Rattle.voc_read.specs.declared.fault.VocFault.{VocFault}
 use Rattle.voc_read.specs.declared.fault.VocFault.TheVariants.{Lang}
 use Rattle.voc_read.specs.Names.{names_refusal}
 use Rattle.voc_read.specs.Outline.{OutlineData}
@@ -75,3 +76,35 @@ module _ (o : OutlineData) (frame set : build.Frame) (least_value : ℤ) (value_
   is_refused fault refused =
       let stated : build.build_refusal (length o.names) given listed ≡ Some fault = subst (λ names. build.build_refusal (length names) given listed ≡ Some fault) same_names refused in
       ap refusal_after are_parts ∙ ap (λ f. option_map Lang f) stated
+
+-- ---- why nothing was built
+
+pub names_refused : (o : OutlineData) (fault : VocFault) → names_refusal o.names ≡ Some fault → refusal_after (parts_from o) ≡ Some fault
+names_refused o fault refused = rw refused refl
+
+pub outline_refused : (o : OutlineData) (fault : VocFault) → names_refusal o.names ≡ None → outline_refusal o ≡ Some fault → refusal_after (parts_from o) ≡ Some fault
+outline_refused o fault named refused = rw (named, refused) refl
+
+module _ (o : OutlineData) (frame : build.Frame) (least_value : ℤ) (value_count : ℕ) (fault : VocFault)
+    (named : names_refusal o.names ≡ None) (outlined : outline_refusal o ≡ None) (framed : IsFrameOf o frame) (least : least_value ≡ frame.least_value) (count : value_count ≡ frame.value_count) where
+  same_values : {A : Type 0} (f : ℤ → ℕ → Result A VocFault) (r : Result A VocFault) → f least_value value_count ≡ r → f o.least_value (build.values_between o.least_value o.greatest_value) ≡ r
+  same_values f r is =
+      subst (λ n. f o.least_value n ≡ r) (count ∙ framed.value_count) (subst (λ x. f x value_count ≡ r) (least ∙ framed.least_value) is)
+
+  pub ranges_refused : ranges_of least_value value_count o.names o.ranges ≡ Err fault → refusal_after (parts_from o) ≡ Some fault
+  ranges_refused refused =
+      let here = same_values (λ x n. ranges_of x n o.names o.ranges) (Err fault) refused in
+      rw (named, outlined, here) refl
+
+  pub relations_refused : (found : List VariableRange) → ranges_of least_value value_count o.names o.ranges ≡ Ok found → given_of least_value value_count o.relations ≡ Err fault → refusal_after (parts_from o) ≡ Some fault
+  relations_refused found ranges refused =
+      let before = same_values (λ x n. ranges_of x n o.names o.ranges) (Ok found) ranges in
+      let here = same_values (λ x n. given_of x n o.relations) (Err fault) refused in
+      rw (named, outlined, before, here) refl
+
+  pub scopes_refused : (found : List VariableRange) (given : List Given) → ranges_of least_value value_count o.names o.ranges ≡ Ok found → given_of least_value value_count o.relations ≡ Ok given →
+      scopes_of o.names o.listed ≡ Err fault → refusal_after (parts_from o) ≡ Some fault
+  scopes_refused found given ranges relations refused =
+      let before = same_values (λ x n. ranges_of x n o.names o.ranges) (Ok found) ranges in
+      let between = same_values (λ x n. given_of x n o.relations) (Ok given) relations in
+      rw (named, outlined, before, between, refused) refl

@@ -15,6 +15,7 @@ pub mod RangesSet
 pub mod KnownScopes
 pub mod Refused
 pub mod NumberSteps
+pub mod EachSteps
 pub mod LanguageMade
 pub mod OneReading
 pub mod ClosingsMade

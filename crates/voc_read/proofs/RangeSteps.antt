@@ -1,7 +1,7 @@
 -- What an array states as a range, and one range more that is read.
-use Rattle.std.proofs.Common.{◌≡◌, ◌≢◌, ℕ, ℤ, suc, ◌+◌, ◌<◌, ◌++◌, List, [], ◌∷◌, length, drop, get_or, map, None, Result, Ok, Err, refl, sym, ap, ◌∙◌, append_assoc, arith}
+use Rattle.std.proofs.Common.{◌≡◌, ◌≢◌, ℕ, ℤ, suc, ◌+◌, ◌<◌, ◌≤◌, ◌++◌, List, [], ◌∷◌, length, drop, get_or, map, None, Result, Ok, Err, refl, sym, ap, ◌∙◌, append_assoc, arith}
 use Rattle.std.proofs.Math.Seq.{drop-cons}
-use Rattle.std.proofs.lemmas.List.{map-append}
+use Rattle.std.proofs.lemmas.List.{append-nil, at_drop_all, map-append}
 use Rattle.serde_json.specs.View.{view, items_view}
 use Rattle.serde_json.specs.declared.value.Value.{Value}
 use Rattle.voc_read.specs.declared.fault.VocFault.{VocFault}
@@ -38,3 +38,22 @@ reads_one_more i lo count names list value before range whole within is read so_
     ap (λ vs. ranges_from i lo count names (items_view vs)) from_here ∙ ap (λ r. then_on r (λ g. then_on rest (λ more. Ok (g ∷ more)))) read in
     let behind : map named_range (before ++ range ∷ []) ≡ map named_range before ++ named_range range ∷ [] = map-append named_range before (range ∷ []) in
     ap (λ done. then_on rest (λ more. Ok (done ++ more))) behind ∙ sym (put_behind rest (map named_range before) (named_range range)) ∙ sym (ap (λ r. then_on r (λ more. Ok (map named_range before ++ more))) first) ∙ so_far
+
+-- a range that isn't read ends the reading
+pub reads_no_more : (i : ℕ) (lo : ℤ) (count : ℕ) (names : List (List ℕ)) (list : List Value) (value : Value) (before : List NamedRange) (fault : VocFault) (whole : Result (List VariableRange) VocFault)
+    → i < length list → value ≡ get_or list i value → range_of i lo count names (view value) ≡ Err fault
+    → then_on (ranges_from i lo count names (items_view (drop i list))) (λ more. Ok (map named_range before ++ more)) ≡ whole → whole ≡ Err fault
+reads_no_more i lo count names list value before fault whole within is refused so_far =
+    let next : i + 1 ≡ suc i = omega arith in
+    let rest = ranges_from (i + 1) lo count names (items_view (drop (i + 1) list)) in
+    let from_here : drop i list ≡ value ∷ drop (i + 1) list = rw next (drop-cons list i value within ∙ ap (λ v. v ∷ drop (suc i) list) (sym is)) in
+    let first : ranges_from i lo count names (items_view (drop i list)) ≡ Err fault =
+    ap (λ vs. ranges_from i lo count names (items_view vs)) from_here ∙ ap (λ r. then_on r (λ g. then_on rest (λ more. Ok (g ∷ more)))) refused in
+    sym so_far ∙ ap (λ r. then_on r (λ more. Ok (map named_range before ++ more))) first
+
+-- all are read
+pub reads_all : (i : ℕ) (lo : ℤ) (count : ℕ) (names : List (List ℕ)) (list : List Value) (before : List NamedRange) (whole : Result (List VariableRange) VocFault)
+    → length list ≤ i → then_on (ranges_from i lo count names (items_view (drop i list))) (λ more. Ok (map named_range before ++ more)) ≡ whole → whole ≡ Ok (map named_range before)
+reads_all i lo count names list before whole done so_far =
+    sym so_far ∙ at_drop_all (λ vs. then_on (ranges_from i lo count names (items_view vs)) (λ more. Ok (map named_range before ++ more))) list i done
+    ∙ ap Ok (append-nil (map named_range before))

@@ -1,7 +1,7 @@
 -- One relation more is read.
-use Rattle.std.proofs.Common.{◌≡◌, ℕ, ℤ, suc, ◌+◌, ◌<◌, ◌++◌, List, [], ◌∷◌, length, drop, get_or, map, Result, Ok, Err, refl, sym, ap, ◌∙◌, append_assoc, arith}
+use Rattle.std.proofs.Common.{◌≡◌, ℕ, ℤ, suc, ◌+◌, ◌<◌, ◌≤◌, ◌++◌, List, [], ◌∷◌, length, drop, get_or, map, Result, Ok, Err, refl, sym, ap, ◌∙◌, append_assoc, arith}
 use Rattle.std.proofs.Math.Seq.{drop-cons}
-use Rattle.std.proofs.lemmas.List.{map-append}
+use Rattle.std.proofs.lemmas.List.{append-nil, at_drop_all, map-append}
 use Rattle.serde_json.specs.View.{view, items_view}
 use Rattle.serde_json.specs.declared.value.Value.{Value}
 use Rattle.language.specs.Language.{Given}
@@ -29,3 +29,22 @@ reads_one_more i lo count list value before relation whole within is read so_far
     ap (λ vs. relations_from i lo count (items_view vs)) from_here ∙ ap (λ r. then_on r (λ g. then_on rest (λ more. Ok (g ∷ more)))) read in
     let behind : map given_by (before ++ relation ∷ []) ≡ map given_by before ++ given_by relation ∷ [] = map-append given_by before (relation ∷ []) in
     ap (λ done. then_on rest (λ more. Ok (done ++ more))) behind ∙ sym (put_behind rest (map given_by before) (given_by relation)) ∙ sym (ap (λ r. then_on r (λ more. Ok (map given_by before ++ more))) first) ∙ so_far
+
+-- a relation that isn't read ends the reading
+pub reads_no_more : (i : ℕ) (lo : ℤ) (count : ℕ) (list : List Value) (value : Value) (before : List RelPart) (fault : VocFault) (whole : Result (List Given) VocFault)
+    → i < length list → value ≡ get_or list i value → relation_of i lo count (view value) ≡ Err fault
+    → then_on (relations_from i lo count (items_view (drop i list))) (λ more. Ok (map given_by before ++ more)) ≡ whole → whole ≡ Err fault
+reads_no_more i lo count list value before fault whole within is refused so_far =
+    let next : i + 1 ≡ suc i = omega arith in
+    let rest = relations_from (i + 1) lo count (items_view (drop (i + 1) list)) in
+    let from_here : drop i list ≡ value ∷ drop (i + 1) list = rw next (drop-cons list i value within ∙ ap (λ v. v ∷ drop (suc i) list) (sym is)) in
+    let first : relations_from i lo count (items_view (drop i list)) ≡ Err fault =
+    ap (λ vs. relations_from i lo count (items_view vs)) from_here ∙ ap (λ r. then_on r (λ g. then_on rest (λ more. Ok (g ∷ more)))) refused in
+    sym so_far ∙ ap (λ r. then_on r (λ more. Ok (map given_by before ++ more))) first
+
+-- all are read
+pub reads_all : (i : ℕ) (lo : ℤ) (count : ℕ) (list : List Value) (before : List RelPart) (whole : Result (List Given) VocFault)
+    → length list ≤ i → then_on (relations_from i lo count (items_view (drop i list))) (λ more. Ok (map given_by before ++ more)) ≡ whole → whole ≡ Ok (map given_by before)
+reads_all i lo count list before whole done so_far =
+    sym so_far ∙ at_drop_all (λ vs. then_on (relations_from i lo count (items_view vs)) (λ more. Ok (map given_by before ++ more))) list i done
+    ∙ ap Ok (append-nil (map given_by before))

@@ -1,7 +1,7 @@
 -- One scope more is read.
-use Rattle.std.proofs.Common.{◌≡◌, ℕ, suc, ◌+◌, ◌<◌, ◌++◌, List, [], ◌∷◌, length, drop, get_or, map, Result, Ok, Err, refl, sym, ap, ◌∙◌, append_assoc, arith}
+use Rattle.std.proofs.Common.{◌≡◌, ℕ, suc, ◌+◌, ◌<◌, ◌≤◌, ◌++◌, List, [], ◌∷◌, length, drop, get_or, map, Result, Ok, Err, refl, sym, ap, ◌∙◌, append_assoc, arith}
 use Rattle.std.proofs.Math.Seq.{drop-cons}
-use Rattle.std.proofs.lemmas.List.{map-append}
+use Rattle.std.proofs.lemmas.List.{append-nil, at_drop_all, map-append}
 use Rattle.smallvec.specs.SmallVec.{SmallVec}
 use Rattle.serde_json.specs.View.{view, items_view}
 use Rattle.serde_json.specs.declared.value.Value.{Value}
@@ -33,3 +33,22 @@ reads_one_more i names list value before scope whole within is read so_far =
     ap (λ vs. scopes_from i names (items_view vs)) from_here ∙ ap (λ r. then_on r (λ s. then_on rest (λ more. Ok (s ∷ more)))) read in
     let behind : variables (before ++ scope ∷ []) ≡ variables before ++ scope.items ∷ [] = map-append (λ (s : Listed). s.items) before (scope ∷ []) in
     ap (λ done. then_on rest (λ more. Ok (done ++ more))) behind ∙ sym (put_behind rest (variables before) scope.items) ∙ sym (ap (λ r. then_on r (λ more. Ok (variables before ++ more))) first) ∙ so_far
+
+-- a scope that isn't read ends the reading
+pub reads_no_more : (i : ℕ) (names : List (List ℕ)) (list : List Value) (value : Value) (before : List Listed) (fault : VocFault) (whole : Result (List (List ℕ)) VocFault)
+    → i < length list → value ≡ get_or list i value → scope_of i names (view value) ≡ Err fault
+    → then_on (scopes_from i names (items_view (drop i list))) (λ more. Ok (variables before ++ more)) ≡ whole → whole ≡ Err fault
+reads_no_more i names list value before fault whole within is refused so_far =
+    let next : i + 1 ≡ suc i = omega arith in
+    let rest = scopes_from (i + 1) names (items_view (drop (i + 1) list)) in
+    let from_here : drop i list ≡ value ∷ drop (i + 1) list = rw next (drop-cons list i value within ∙ ap (λ v. v ∷ drop (suc i) list) (sym is)) in
+    let first : scopes_from i names (items_view (drop i list)) ≡ Err fault =
+    ap (λ vs. scopes_from i names (items_view vs)) from_here ∙ ap (λ r. then_on r (λ s. then_on rest (λ more. Ok (s ∷ more)))) refused in
+    sym so_far ∙ ap (λ r. then_on r (λ more. Ok (variables before ++ more))) first
+
+-- all are read
+pub reads_all : (i : ℕ) (names : List (List ℕ)) (list : List Value) (before : List Listed) (whole : Result (List (List ℕ)) VocFault)
+    → length list ≤ i → then_on (scopes_from i names (items_view (drop i list))) (λ more. Ok (variables before ++ more)) ≡ whole → whole ≡ Ok (variables before)
+reads_all i names list before whole done so_far =
+    sym so_far ∙ at_drop_all (λ vs. then_on (scopes_from i names (items_view vs)) (λ more. Ok (variables before ++ more))) list i done
+    ∙ ap Ok (append-nil (variables before))

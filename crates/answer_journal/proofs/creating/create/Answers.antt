@@ -1,6 +1,6 @@
 use Rattle.std.proofs.Common.{◌≡◌, ◌+◌, ◌∷◌, ◌++◌, ◌∙◌, [], ℕ, Some, length, take, ap, subst, List, inl, inr, arith, length-append}
 use Rattle.disk_model.specs.Disk.{Only}
-use Rattle.disk_model.specs.Moments.{LeavesOnly, joined}
+use Rattle.disk_model.specs.Moments.{LeavesOnly, joined, weaker}
 use Rattle.answer_journal.specs.Format.{session_tail}
 use Rattle.answer_journal.specs.Journal.{HasNoSession}
 use Rattle.answer_journal.specs.Steps.{IsWithOrWithout}
@@ -78,3 +78,30 @@ returns-in_err-add_record-clause-spared g c old told = inl (head_free old c.in_o
 
 pub returns-clause-spared : goal.returns-clause-spared
 returns-clause-spared g c old told = inl (head_free old c.in_ok-head.head (c.in_ok-head.ensures.head old told) c.in-Short.is)
+
+pub returns-in_err-head-clause-any_moment : goal.returns-in_err-head-clause-any_moment
+returns-in_err-head-clause-any_moment g c old told =
+    let before = g.D.Disk.may_leave c.args.disk.now in
+    weaker g.D.Disk c.args.disk.now c.head_of.new.disk before (IsCreating before c.args.plan c.args.voc.now) c.head_of.ensures.only_read.any_moment (λ f was. inl was)
+
+pub returns-in-Foreign-clause-any_moment : goal.returns-in-Foreign-clause-any_moment
+returns-in-Foreign-clause-any_moment g c old told =
+    let before = g.D.Disk.may_leave c.args.disk.now in
+    weaker g.D.Disk c.args.disk.now c.head_of.new.disk before (IsCreating before c.args.plan c.args.voc.now) c.head_of.ensures.only_read.any_moment (λ f was. inl was)
+
+pub returns-in-Open-clause-any_moment : goal.returns-in-Open-clause-any_moment
+returns-in-Open-clause-any_moment g c old told =
+    let before = g.D.Disk.may_leave c.args.disk.now in
+    weaker g.D.Disk c.args.disk.now c.head_of.new.disk before (IsCreating before c.args.plan c.args.voc.now) c.head_of.ensures.only_read.any_moment (λ f was. inl was)
+
+pub returns-in_err-rest-clause-any_moment : goal.returns-in_err-rest-clause-any_moment
+returns-in_err-rest-clause-any_moment g c old told =
+    let before = g.D.Disk.may_leave c.args.disk.now in
+    weaker g.D.Disk c.args.disk.now c.head_of.new.disk before (IsCreating before c.args.plan c.args.voc.now) c.head_of.ensures.only_read.any_moment (λ f was. inl was)
+
+pub returns-in_err-empty-clause-any_moment : goal.returns-in_err-empty-clause-any_moment
+returns-in_err-empty-clause-any_moment g c old told =
+    let told_mid : g.D.Disk.content c.head_of.new.disk ≡ Some old = c.head_of.ensures.only_read.same ∙ told in
+    let before = g.D.Disk.may_leave c.args.disk.now in
+    let P = IsCreating before c.args.plan c.args.voc.now in
+    joined g.D.Disk c.args.disk.now c.head_of.new.disk c.empty.new.disk before HasNoSession P c.head_of.ensures.only_read.any_moment (c.empty.ensures.any_moment old told_mid) (λ f was. inl was) (λ f none. inr (inl none))

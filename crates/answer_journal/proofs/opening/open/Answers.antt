@@ -134,3 +134,15 @@ returns-clause-some_session g c =
     let voc_is = c.in_ok-voc.ensures.items_if_clones_equal (λ a b same. same) in
     let Spelled : List ℕ → Type 0 = λ l. (bytes : List ℕ) × ReadsAs bytes (Session c.in-Some.plan l events) in
     subst Spelled (sym voc_is) (session_somewhere c.in-Some.plan c.in-Some.voc.now _ c.in_ok-events.at events c.in_ok-events.raised c.in-Some.ensures.found.0 c.in_ok-events.ensures.read)
+
+pub returns-in_err-count-clause-any_moment : goal.returns-in_err-count-clause-any_moment
+returns-in_err-count-clause-any_moment g c =
+    (read_more g.D.Disk c.args.disk.now c.head_of.new.disk c.read.new.self c.head_of.ensures.only_read c.read.ensures.same c.read.ensures.crash c.read.ensures.time).any_moment
+
+pub returns-in_default-clause-any_moment : goal.returns-in_default-clause-any_moment
+returns-in_default-clause-any_moment g c =
+    (read_more g.D.Disk c.args.disk.now c.head_of.new.disk c.read.new.self c.head_of.ensures.only_read c.read.ensures.same c.read.ensures.crash c.read.ensures.time).any_moment
+
+pub returns-in_err-voc-clause-any_moment : goal.returns-in_err-voc-clause-any_moment
+returns-in_err-voc-clause-any_moment g c =
+    (read_more g.D.Disk c.args.disk.now c.head_of.new.disk c.read.new.self c.head_of.ensures.only_read c.read.ensures.same c.read.ensures.crash c.read.ensures.time).any_moment

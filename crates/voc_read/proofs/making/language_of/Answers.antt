@@ -1,15 +1,16 @@
-use Rattle.std.proofs.Common.{◌≡◌, ◌≢◌, None, Ok, map, subst, sym, ap, ◌∙◌}
+use Rattle.std.proofs.Common.{◌≡◌, ◌≢◌, None, Ok, Err, map, subst, sym, ap, ◌∙◌}
 use Rattle.std.specs.Prelude.{Some}
+use Rattle.std.proofs.lemmas.Result.{err_from_is_err_and}
 use Rattle.serde_json.specs.View.{items_view}
 use Rattle.language.specs.Building.{listed_in}
 use Rattle.language.specs.declared.parts.LangFault.TheVariants as lang
 use Rattle.voc_read.specs.Names.{names_refusal}
-use Rattle.voc_read.specs.Outline.{listed_items}
+use Rattle.voc_read.specs.Outline.{listed_items, outline_data}
 use Rattle.voc_read.specs.Ranges.{named_range, ranges_of, with_ranges, AreApart}
 use Rattle.voc_read.specs.Scopes.{scopes_of}
 use Rattle.voc_read.specs.Texts.{texts_of}
 use Rattle.voc_read.proofs.KnownRanges.{are_known, known_as}
-use Rattle.voc_read.proofs.LanguageMade.{is_language, is_refused}
+use Rattle.voc_read.proofs.LanguageMade.{is_language, is_refused, names_refused, outline_refused, ranges_refused, relations_refused, scopes_refused}
 use Rattle.voc_read.proofs.making.language_of.Goals as goal
 
 pub set_ranges-requires-clause-known : goal.set_ranges-requires-clause-known
@@ -49,3 +50,36 @@ returns-clause-refused c =
       scopes = subst (λ names. scopes_of (texts_of names) (listed_items c.args.outline.now.listed) ≡ Ok (listed_in c.in_ok-scopes.scopes)) c.deref-4.ensures.value c.in_ok-scopes.ensures.is;
       sets = c.set_ranges.ensures ∙ ap (λ rs. with_ranges c.in_ok-frame.frame (map named_range rs)) c.deref-3.ensures.value;
     } c.in-Err.fault (c.in-Err.ensures.refused other) ∙ ap Some (sym (c.lang_fault.ensures.other other))
+
+pub returns-in_err-check_names-clause-refused : goal.returns-in_err-check_names-clause-refused
+returns-in_err-check_names-clause-refused c =
+    let p = err_from_is_err_and c.from_residual.result c.from_residual.ensures.1 in
+    rw (p.1, p.2) (λ real. names_refused (outline_data c.args.outline.now) _ (subst (λ names. names_refusal (texts_of names) ≡ Some c.in_err-check_names.field-0.0) c.deref.ensures.value (c.in_err-check_names.ensures.refused real)))
+
+pub returns-in_err-frame-clause-refused : goal.returns-in_err-frame-clause-refused
+returns-in_err-frame-clause-refused c =
+    let p = err_from_is_err_and c.from_residual-in_err-frame.result c.from_residual-in_err-frame.ensures.1 in
+    rw (p.1, p.2) (λ real. outline_refused (outline_data c.args.outline.now) _
+    (subst (λ names. names_refusal (texts_of names) ≡ None) c.deref.ensures.value c.in_ok-check_names.ensures.refused) (c.in_err-frame.ensures.refused real))
+
+pub returns-in_err-ranges-clause-refused : goal.returns-in_err-ranges-clause-refused
+returns-in_err-ranges-clause-refused c =
+    let p = err_from_is_err_and c.from_residual-in_err-ranges.result c.from_residual-in_err-ranges.ensures.1 in
+    rw (p.1, p.2) (λ real. ranges_refused (outline_data c.args.outline.now) c.in_ok-frame.frame c.domain_of-domain.result.least_value c.domain_of-domain.result.value_count _
+    (subst (λ names. names_refusal (texts_of names) ≡ None) c.deref.ensures.value c.in_ok-check_names.ensures.refused) c.in_ok-frame.ensures.refused c.in_ok-frame.ensures.frame c.domain_of-domain.ensures.least c.domain_of-domain.ensures.count
+    (subst (λ names. ranges_of c.domain_of-domain.result.least_value c.domain_of-domain.result.value_count (texts_of names) (items_view c.args.outline.now.ranges.now) ≡ Err c.in_err-ranges.field-0.0) c.deref-2.ensures.value (c.in_err-ranges.ensures real)))
+
+pub returns-in_err-given-clause-refused : goal.returns-in_err-given-clause-refused
+returns-in_err-given-clause-refused c =
+    let p = err_from_is_err_and c.from_residual-in_err-given.result c.from_residual-in_err-given.ensures.1 in
+    rw (p.1, p.2) (λ real. relations_refused (outline_data c.args.outline.now) c.in_ok-frame.frame c.domain_of-domain.result.least_value c.domain_of-domain.result.value_count _
+    (subst (λ names. names_refusal (texts_of names) ≡ None) c.deref.ensures.value c.in_ok-check_names.ensures.refused) c.in_ok-frame.ensures.refused c.in_ok-frame.ensures.frame c.domain_of-domain.ensures.least c.domain_of-domain.ensures.count
+    _ (subst (λ names. ranges_of c.domain_of-domain.result.least_value c.domain_of-domain.result.value_count (texts_of names) (items_view c.args.outline.now.ranges.now) ≡ Ok (map named_range c.in_ok-ranges.ranges.items)) c.deref-2.ensures.value c.in_ok-ranges.ensures) (c.in_err-given.ensures.is real))
+
+pub returns-in_err-scopes-clause-refused : goal.returns-in_err-scopes-clause-refused
+returns-in_err-scopes-clause-refused c =
+    let p = err_from_is_err_and c.from_residual-in_err-scopes.result c.from_residual-in_err-scopes.ensures.1 in
+    rw (p.1, p.2) (λ real. scopes_refused (outline_data c.args.outline.now) c.in_ok-frame.frame c.domain_of-domain.result.least_value c.domain_of-domain.result.value_count _
+    (subst (λ names. names_refusal (texts_of names) ≡ None) c.deref.ensures.value c.in_ok-check_names.ensures.refused) c.in_ok-frame.ensures.refused c.in_ok-frame.ensures.frame c.domain_of-domain.ensures.least c.domain_of-domain.ensures.count
+    _ _ (subst (λ names. ranges_of c.domain_of-domain.result.least_value c.domain_of-domain.result.value_count (texts_of names) (items_view c.args.outline.now.ranges.now) ≡ Ok (map named_range c.in_ok-ranges.ranges.items)) c.deref-2.ensures.value c.in_ok-ranges.ensures) c.in_ok-given.ensures.is
+    (subst (λ names. scopes_of (texts_of names) (listed_items c.args.outline.now.listed) ≡ Err c.in_err-scopes.field-0.0) c.deref-4.ensures.value (c.in_err-scopes.ensures.is real)))

@@ -1,5 +1,6 @@
 use Rattle.std.proofs.Common.{◌≤◌, arith, length-append, sym, subst}
 use Rattle.std.proofs.lemmas.List.Elements.{All-push}
+use Rattle.std.proofs.lemmas.Result.{err_from_is_err_and}
 use Rattle.serde_json.specs.View.{view, items_view}
 use Rattle.serde_json.specs.declared.value.Value.{Value}
 use Rattle.language.specs.declared.parts.RelPart.{RelPart}
@@ -7,7 +8,7 @@ use Rattle.language.specs.Building.{IsOver}
 use Rattle.voc_read.specs.Relations.{IsNamed}
 use Rattle.voc_read.specs.Widest.{widest, items_widest}
 use Rattle.voc_read.proofs.Widths.{widest-get_or}
-use Rattle.voc_read.proofs.RelationSteps.{reads_one_more}
+use Rattle.voc_read.proofs.RelationSteps.{reads_one_more, reads_no_more, reads_all}
 use Rattle.voc_read.proofs.relations.relations_of.Goals as goal
 
 pub relation_of-requires : goal.relation_of-requires
@@ -23,3 +24,11 @@ loop-i-preserved c = rw c.in_ok-push.ensures.items record {
   named = All-push IsNamed _ _ c.loop-i.invariant.named c.in_ok-relation.ensures.named;
   rest = reads_one_more _ _ _ _ _ _ _ _ c.loop-i-test.true c.index-list-i.is c.in_ok-relation.ensures.is c.loop-i.invariant.rest;
 }
+
+pub returns-in_err-relation-clause-is : goal.returns-in_err-relation-clause-is
+returns-in_err-relation-clause-is c =
+    let p = err_from_is_err_and c.from_residual.result c.from_residual.ensures.1 in
+    rw (p.1, p.2) (λ real. reads_no_more _ _ _ _ _ _ _ _ c.loop-i-test.true c.index-list-i.is (c.in_err-relation.ensures.is real) c.loop-i.invariant.rest)
+
+pub returns-clause-is : goal.returns-clause-is
+returns-clause-is c = reads_all _ _ _ _ _ _ c.loop-i-test.false c.loop-i.invariant.rest

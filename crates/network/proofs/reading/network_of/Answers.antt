@@ -1,0 +1,17 @@
+use Rattle.std.proofs.Common.{sym, ◌∙◌}
+use Rattle.std.proofs.lemmas.List.{at_drop_all}
+use Rattle.std.proofs.lemmas.Result.{err_from_is_err_and}
+use Rattle.serde_json.specs.View.{items_view}
+use Rattle.network.specs.Target.{network_from}
+use Rattle.network.proofs.Items.{refused_here}
+use Rattle.network.proofs.reading.network_of.Goals as goal
+
+pub returns-in_err-c-clause-is : goal.returns-in_err-c-clause-is
+returns-in_err-c-clause-is c =
+    let p = err_from_is_err_and c.from_residual-in_err-c.result c.from_residual-in_err-c.ensures.1 in
+    rw (p.1, p.2) (λ real. refused_here c.args.lang.now c.loop-item.net.list c.args.items.now c.loop-item.item-index _ _ _ c.loop-item-test.true
+    c.item-item.is (c.in_err-c.ensures.is real) c.loop-item.invariant.rest)
+
+pub returns-clause-is : goal.returns-clause-is
+returns-clause-is c =
+    sym c.loop-item.invariant.rest ∙ at_drop_all (λ vs. network_from c.args.lang.now c.loop-item.net.list (items_view vs)) c.args.items.now c.loop-item.item-index c.loop-item-test.false

@@ -1,0 +1,16 @@
+use Rattle.std.proofs.Common.{◌≡◌, ◌∷◌, [], replicate, vec_len, List}
+use Rattle.std.proofs.lemmas.List.Elements.{All-append}
+use Rattle.query_gen.specs.declared.place.Place.{Place}
+use Rattle.query_gen.specs.declared.query.Query.TheVariants.{AllImplied}
+use Rattle.query_gen.specs.Parts.{part_size}
+use Rattle.par_screen.proofs.places.four_places.Goals as goal
+
+pub returns-clause-made : goal.returns-clause-made
+returns-clause-made c =
+    All-append (λ (p : Place). vec_len p.marks ≡ part_size c.args.lang.now) (c.in_ok-first.first ∷ c.in_ok-first.second ∷ []) (c.in_ok-third.third ∷ c.in_ok-third.fourth ∷ [])
+    c.in_ok-first.ensures.made c.in_ok-third.ensures.made
+
+pub returns-clause-new : goal.returns-clause-new
+returns-clause-new c =
+    All-append (λ (p : Place). (p.marks.items ≡ replicate (part_size c.args.lang.now) 0) × (p.answer ≡ AllImplied)) (c.in_ok-first.first ∷ c.in_ok-first.second ∷ []) (c.in_ok-third.third ∷ c.in_ok-third.fourth ∷ [])
+    c.in_ok-first.ensures.new c.in_ok-third.ensures.new

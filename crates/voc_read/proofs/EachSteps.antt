@@ -1,0 +1,32 @@
+-- The values of a list are read, or one of them isn't.
+use Rattle.std.proofs.Common.{◌≡◌, ℕ, suc, ◌<◌, ◌≤◌, ◌++◌, List, ◌∷◌, length, drop, get_or, Option, Some, None, option_map, option_and_then, refl, sym, ap, ◌∙◌}
+use Rattle.std.proofs.Math.Seq.{drop-cons}
+use Rattle.std.proofs.lemmas.List.{append-nil, at_drop_all}
+use Rattle.std.specs.Option.{ok_or}
+use Rattle.std.specs.Prelude.{Err}
+use Rattle.serde_json.specs.Data.{Data}
+use Rattle.serde_json.specs.View.{view, items_view}
+use Rattle.serde_json.specs.declared.value.Value.{Value}
+use Rattle.voc_read.specs.declared.fault.VocFault.{VocFault}
+use Rattle.voc_read.specs.Values.{each_of}
+
+module _ {A : Type 0} (read : Data → Option A) where
+  -- one that isn't read ends the reading
+  pub reads_no_more : (list : List Value) (j : ℕ) (value : Value) (before : List A) (whole : Option (List A)) → j < length list → value ≡ get_or list j value
+      → read (view value) ≡ None → option_map (λ more. before ++ more) (each_of read (items_view (drop j list))) ≡ whole → whole ≡ None
+  reads_no_more list j value before whole within is none so_far =
+      let rest = each_of read (items_view (drop (suc j) list)) in
+      let from_here : drop j list ≡ value ∷ drop (suc j) list = drop-cons list j value within ∙ ap (λ v. v ∷ drop (suc j) list) (sym is) in
+      sym so_far ∙ ap (λ vs. option_map (λ more. before ++ more) (each_of read (items_view vs))) from_here
+      ∙ ap (λ o. option_map (λ more. before ++ more) (option_and_then (λ x. option_map (λ xs. x ∷ xs) rest) o)) none
+
+  -- all are read
+  pub reads_all : (list : List Value) (j : ℕ) (before : List A) (whole : Option (List A)) → length list ≤ j
+      → option_map (λ more. before ++ more) (each_of read (items_view (drop j list))) ≡ whole → whole ≡ Some before
+  reads_all list j before whole done so_far =
+      sym so_far ∙ at_drop_all (λ vs. option_map (λ more. before ++ more) (each_of read (items_view vs))) list j done ∙ ap Some (append-nil before)
+
+-- what isn't read of one is read of none
+pub refuses : {A B : Type 0} (o : Option A) (whole : Option B) (e fault : VocFault) → ok_or o e ≡ Err fault → (o ≡ None → whole ≡ None) → ok_or whole e ≡ Err fault
+refuses None whole e fault is then = let same : e ≡ fault = cc in ap (λ w. ok_or w e) (then refl) ∙ ap (λ f. Err f) same
+refuses (Some x) whole e fault is then = absurd (cc)

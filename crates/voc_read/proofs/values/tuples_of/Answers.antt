@@ -1,0 +1,18 @@
+use Rattle.std.proofs.Common.{ap}
+use Rattle.std.specs.Option.{ok_or}
+use Rattle.std.proofs.lemmas.Result.{err_from_is_err_and}
+use Rattle.rel_table.specs.Made.{lists}
+use Rattle.voc_read.specs.declared.fault.VocFault.TheVariants.{WrongKind}
+use Rattle.voc_read.specs.Values.{number_list}
+use Rattle.voc_read.proofs.EachSteps.{reads_no_more, reads_all, refuses}
+use Rattle.voc_read.proofs.values.tuples_of.Goals as goal
+
+pub returns-in_err-tuple-clause-is : goal.returns-in_err-tuple-clause-is
+returns-in_err-tuple-clause-is c =
+    let p = err_from_is_err_and c.from_residual.result c.from_residual.ensures.1 in
+    rw (p.1, p.2) (λ real. refuses _ _ _ _ (c.in_err-tuple.ensures real)
+    (λ none. reads_no_more number_list c.args.list.now c.loop-value.value-index _ (lists c.loop-value.tuples.items) _ c.loop-value-test.true c.value-item.is none c.loop-value.invariant.rest))
+
+pub returns-clause-is : goal.returns-clause-is
+returns-clause-is c =
+    ap (λ o. ok_or o (WrongKind c.args.spot)) (reads_all number_list c.args.list.now c.loop-value.value-index (lists c.loop-value.tuples.items) _ c.loop-value-test.false c.loop-value.invariant.rest)
