@@ -17,3 +17,4 @@ pub mod Numerals
 pub mod InTurn
 pub mod Faults
 pub mod OneText
+pub mod ByScope
