@@ -18,3 +18,4 @@ pub mod InTurn
 pub mod Faults
 pub mod OneText
 pub mod EachText
+pub mod ByScope

@@ -45,13 +45,13 @@ same_answer true false h = cc
 same_answer false true h = cc
 same_answer false false h = refl
 
-same_list : (xs ys : List ℕ) → is_same xs ys ≡ true → xs ≡ ys
+pub same_list : (xs ys : List ℕ) → is_same xs ys ≡ true → xs ≡ ys
 same_list [] [] h = refl
 same_list [] (y ∷ ys) h = absurd (let no : ⊥ = cc in no)
 same_list (x ∷ xs) [] h = absurd (let no : ⊥ = cc in no)
 same_list (x ∷ xs) (y ∷ ys) h = let both = and_parts (x == y) (is_same xs ys) h in (λ i. eqb-true x y both.0 i ∷ same_list xs ys both.1 i)
 
-same_itself : (xs : List ℕ) → is_same xs xs ≡ true
+pub same_itself : (xs : List ℕ) → is_same xs xs ≡ true
 same_itself [] = refl
 same_itself (x ∷ xs) = and_from (x == x) (is_same xs xs) (eq-eqb x x refl) (same_itself xs)
 

@@ -2,6 +2,7 @@ pub mod Certificate
 pub mod Refuting
 pub mod Good
 pub mod Checking
+pub mod Told
 pub mod Sound
 pub mod Inside
 pub mod Walking

@@ -1,13 +1,18 @@
-ghost use Rattle.std.specs.Prelude.{◌≡◌, ◌≢◌, ◌<◌, ◌^◌, ◌↔◌, All, IfOk, Some, None, length, position};
+ghost use Rattle.std.specs.Prelude.{◌≡◌, ◌≢◌, ◌<◌, ◌^◌, ◌↔◌, All, IfOk, Some, None, List, length, position};
 ghost use Rattle.language.specs.Language.{IsLanguage, IsQuestion, candidates};
 ghost use Rattle.language.specs.Answers.{IsConverged, IsNetwork};
 ghost use Rattle.cert_check.specs.declared.verdict.Verdict.TheVariants.{Yes};
-ghost use Rattle.cert_check.specs.Checking.{flaw_before_list, is_unearned, verdict};
+ghost use Rattle.cert_check.specs.Checking.{flaw_before_list, is_other, is_unearned, verdict};
+ghost use Rattle.cert_check.specs.Told.{IsTold, flaw_told};
+ghost use Rattle.assign.specs.Events.{Answer};
 ghost use Rattle.cert_check.specs.Good.{IsGood, is_earned};
 
 use crate::cert::{Cert, Listed};
 use crate::entry::Entry;
-use crate::telling::{first_other, first_repeated, first_rival, first_uncovered, first_without_no};
+use crate::telling::{
+    first_other, first_repeated, first_rival, first_uncovered, first_without_no, scopes_of,
+};
+use crate::told::Told;
 use crate::verdict::{Flaw, Verdict};
 use crate::walk::refutes;
 use language::{Candidate, Language, Memory};
@@ -18,33 +23,62 @@ use std::thread::Threads;
 /// In how many chunks the list is cut at most.
 const CHUNKS: usize = 8;
 
+/// The first answer that the network doesn't give.
+fn first_answer(
+    alloc: Global,
+    lang: &Language,
+    net: &[Candidate],
+    answers: &[Entry],
+) -> Result<Option<u32>, Memory>
+    requires lawful { IsLanguage lang.now }
+    requires network { IsNetwork lang.now net.now }
+    requires questions { All (λ a. IsQuestion lang.now a.question) answers.now }
+    requires few_answers { length answers.now < 2 ^ 32 }
+    ensures { IfOk result (λ first. first ≡ position (is_other lang.now net.now) answers.now) }
+{
+    let sets = scopes_of(alloc, lang, net)?;
+    Ok(first_other(lang, net, &sets, answers))
+}
+
+/// The first flaw of a kind that what the answers tell shows.
+fn flaw_told(lang: &Language, net: &[Candidate], told: &Told, items: &[Listed]) -> Option<Flaw>
+    requires network { IsNetwork lang.now net.now }
+    requires few_items { length net.now < 2 ^ 32 }
+    ensures { (t : List Answer) → IsTold lang.now t told.now → result ≡ flaw_told lang.now net.now t items.now }
+{
+    if let Some(i) = first_without_no(lang, net, told) {
+        return Some(Flaw::NoOwnNo(i));
+    }
+    if let Some(number) = first_rival(lang, net, told) {
+        return Some(Flaw::Rival(number));
+    }
+    let number = first_uncovered(lang, net, told, items)?;
+    Some(Flaw::Uncovered(number))
+}
+
 /// The first flaw of a kind that comes before the list's tokens.
 fn flaw_before_list(
+    alloc: Global,
     lang: &Language,
     net: &[Candidate],
     answers: &[Entry],
     items: &[Listed],
-) -> Option<Flaw>
+) -> Result<Option<Flaw>, Memory>
+    requires lawful { IsLanguage lang.now }
     requires network { IsNetwork lang.now net.now }
     requires questions { All (λ a. IsQuestion lang.now a.question) answers.now }
     requires few_items { length net.now < 2 ^ 32 }
     requires few_answers { length answers.now < 2 ^ 32 }
-    ensures { result ≡ flaw_before_list lang.now net.now answers.now items.now }
+    ensures { IfOk result (λ flaw. flaw ≡ flaw_before_list lang.now net.now answers.now items.now) }
 {
-    if let Some(i) = first_other(lang, net, answers) {
-        return Some(Flaw::Answer(i));
+    if let Some(i) = first_answer(alloc, lang, net, answers)? {
+        return Ok(Some(Flaw::Answer(i)));
     }
     if let Some(i) = first_repeated(net) {
-        return Some(Flaw::ScopeTwice(i));
+        return Ok(Some(Flaw::ScopeTwice(i)));
     }
-    if let Some(i) = first_without_no(lang, net, answers) {
-        return Some(Flaw::NoOwnNo(i));
-    }
-    if let Some(number) = first_rival(lang, net, answers) {
-        return Some(Flaw::Rival(number));
-    }
-    let number = first_uncovered(lang, net, answers, items)?;
-    Some(Flaw::Uncovered(number))
+    let told = Told::of(alloc, lang, answers)?;
+    Ok(flaw_told(lang, net, &told, items))
 }
 
 /// Whether the tokens refute the candidate.
@@ -112,7 +146,7 @@ pub fn check<R: Threads + Sync>(rt: &R, alloc: Global, cert: &Cert) -> Result<Ve
     let lang = cert.lang();
     let net = cert.net();
     let items = cert.items();
-    if let Some(flaw) = flaw_before_list(lang, net, cert.answers(), items) {
+    if let Some(flaw) = flaw_before_list(alloc, lang, net, cert.answers(), items)? {
         return Ok(Verdict::No(flaw));
     }
     match first_unearned_forked(rt, alloc, lang, net, items)? {

@@ -19,6 +19,7 @@ mod sheet;
 mod telling;
 mod text;
 mod token;
+mod told;
 mod tree;
 mod unread;
 mod verdict;

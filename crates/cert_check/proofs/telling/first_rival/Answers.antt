@@ -5,20 +5,20 @@ use Rattle.cert_check.proofs.Finding.{candidate_read, fails_more, found_read, no
 use Rattle.cert_check.proofs.telling.first_rival.Goals as goal
 
 pub loop-number-preserved : goal.loop-number-preserved
-loop-number-preserved c =
+loop-number-preserved c = λ t told.
     let low : c.loop-number.number < length (candidates c.args.lang.now) = (let e = c.candidates-number-end.ensures.is in let h = c.loop-number-test.true in omega (arith, e, h)) in
-    fails_more (is_rival c.args.lang.now c.args.net.now c.args.answers.now) (candidates c.args.lang.now) c.loop-number.number c.candidate.result low
+    fails_more (is_rival c.args.lang.now c.args.net.now t) (candidates c.args.lang.now) c.loop-number.number c.candidate.result low
     (candidate_read c.args.lang.now c.candidate.result c.loop-number.number c.candidate.ensures.candidate c.candidate.ensures.number)
-    (sym c.is_rival.ensures ∙ c.if-is_rival.false) c.loop-number.invariant
+    (sym (c.is_rival.ensures c.args.lang.now t told c.candidate.ensures.candidate) ∙ c.if-is_rival.false) (c.loop-number.invariant t told)
 
 pub returns-then-is_rival : goal.returns-then-is_rival
-returns-then-is_rival c =
+returns-then-is_rival c = λ t told.
     let low : c.loop-number.number < length (candidates c.args.lang.now) = (let e = c.candidates-number-end.ensures.is in let h = c.loop-number-test.true in omega (arith, e, h)) in
-    sym (found_read (is_rival c.args.lang.now c.args.net.now c.args.answers.now) (candidates c.args.lang.now) c.loop-number.number c.candidate.result low
+    sym (found_read (is_rival c.args.lang.now c.args.net.now t) (candidates c.args.lang.now) c.loop-number.number c.candidate.result low
     (candidate_read c.args.lang.now c.candidate.result c.loop-number.number c.candidate.ensures.candidate c.candidate.ensures.number)
-    (sym c.is_rival.ensures ∙ c.if-is_rival.true) c.loop-number.invariant)
+    (sym (c.is_rival.ensures c.args.lang.now t told c.candidate.ensures.candidate) ∙ c.if-is_rival.true) (c.loop-number.invariant t told))
 
 pub returns : goal.returns
-returns c =
+returns c = λ t told.
     let all : length (candidates c.args.lang.now) ≤ c.loop-number.number = (let e = c.candidates-number-end.ensures.is in let h = c.loop-number-test.false in omega (arith, e, h)) in
-    sym (none_through (is_rival c.args.lang.now c.args.net.now c.args.answers.now) (candidates c.args.lang.now) c.loop-number.number all c.loop-number.invariant)
+    sym (none_through (is_rival c.args.lang.now c.args.net.now t) (candidates c.args.lang.now) c.loop-number.number all (c.loop-number.invariant t told))

@@ -1,0 +1,6 @@
+use Rattle.std.proofs.Common.{take}
+use Rattle.cert_check.specs.Told.{AreSpared}
+use Rattle.cert_check.proofs.told.spared.Given as goal
+
+abbrev pub invariant-loop-entry : goal.invariant-loop-entry
+invariant-loop-entry l = AreSpared l.fn.lang (take l.entry-index l.answers) l.list.items
