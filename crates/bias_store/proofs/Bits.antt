@@ -1,15 +1,14 @@
 -- The mask of the relations that accept the tuple at a place, and what a mask has without them.
-use Rattle.std.proofs.Common.{◌≡◌, ℕ, ◌+◌, ◌*◌, ◌%◌, ◌^◌, ◌<◌, ◌≤◌, Bool, true, false, ◌&&◌, ◌||◌, not, List, [], length, get_or, Some, refl, sym, ◌∙◌, ap, subst, arith, inl, inr, ◌⊎◌}
-use Rattle.std.specs.Prelude.{◌==◌, ◌≢◌, bit_or, bit_and}
-use Rattle.std.specs.Int.{from_bool, bit_not, w64}
+use Rattle.std.proofs.Common.{◌≡◌, ℕ, ◌^◌, ◌<◌, ◌≤◌, Bool, true, false, ◌&&◌, not, List, [], length, get_or, Some, refl, sym, ◌∙◌, ap, arith, inl, inr, ◌⊎◌}
+use Rattle.std.specs.Prelude.{◌==◌, bit_and}
+use Rattle.std.specs.Int.{bit_not, w64}
 use Rattle.std.specs.List.{filter}
-use Rattle.std.proofs.lemmas.Bool.{cases_eq, cases_lt, eq-eqb, ne_eqb}
-use Rattle.std.proofs.lemmas.Nat.{one_shl}
-use Rattle.std.proofs.lemmas.Nat.Bits.{bit_at-zero, bit_at_above}
+use Rattle.std.proofs.lemmas.Bool.{cases_lt, eq-eqb}
+use Rattle.std.proofs.lemmas.Nat.Bits.{bit_at_above}
 use Rattle.std.proofs.Math.ListN.{get_or-eq_default}
 use Rattle.assign.specs.Assignment.{Assignment}
 use Rattle.assign.specs.Sets.{numbers, has}
-use Rattle.assign.specs.SetLemmas.{is_one, is_one-or, is_one-pow}
+use Rattle.assign.specs.SetLemmas.{is_one}
 use Rattle.rel_table.specs.Relation.{Relation}
 use Rattle.language.specs.Language.{Language, relations_on, place_on, violates}
 use Rattle.language.proofs.Members.{any_number}
@@ -24,41 +23,6 @@ pub record IsMaskOf (relations : List Relation) (place r mask : ℕ) : Type 0 wh
   pub low : (k : ℕ) → k < r → is_one mask k ≡ get_or (get_or relations k []) place false
   pub high : (k : ℕ) → r ≤ k → is_one mask k ≡ false
 
-pub no_mask : (relations : List Relation) (place : ℕ) → IsMaskOf relations place 0 0
-no_mask relations place = record { low = λ k h. absurd (omega arith); high = λ k h. ap (λ x. x == 1) (bit_at-zero k) }
-
-shifted_bit : (b : Bool) (r k : ℕ) → r < 64 → is_one (from_bool b * 2 ^ r % 2 ^ 64) k ≡ (b && (r == k))
-shifted_bit true r k h = ap (λ m. is_one m k) (one_shl r 64 h) ∙ is_one-pow r k
-shifted_bit false r k h = ap (λ m. is_one m k) (let e : 0 * 2 ^ r % 2 ^ 64 ≡ 0 = omega arith in e) ∙ ap (λ x. x == 1) (bit_at-zero k)
-
-one_more : (mask r k : ℕ) (b : Bool) → r < 64 → is_one (bit_or mask (from_bool b * 2 ^ r % 2 ^ 64)) k ≡ (is_one mask k || (b && (r == k)))
-one_more mask r k b h = is_one-or mask (from_bool b * 2 ^ r % 2 ^ 64) k ∙ ap (λ c. is_one mask k || c) (shifted_bit b r k h)
-
-and_true : (b : Bool) → (b && true) ≡ b
-and_true true = refl
-and_true false = refl
-
-and_false : (b : Bool) → (b && false) ≡ false
-and_false true = refl
-and_false false = refl
-
-or_none : (a b : Bool) → (a || (b && false)) ≡ a
-or_none true b = refl
-or_none false true = refl
-or_none false false = refl
-
-pub mask_more : (relations : List Relation) (place r mask bit : ℕ) (b : Bool) → r < 64 → bit ≡ from_bool b → b ≡ get_or (get_or relations r []) place false → IsMaskOf relations place r mask →
-    IsMaskOf relations place (r + 1) (bit_or mask (bit * 2 ^ r % 2 ^ 64))
-mask_more relations place r mask bit b small is_bit at is = subst (λ (x : ℕ). IsMaskOf relations place (r + 1) (bit_or mask (x * 2 ^ r % 2 ^ 64))) (sym is_bit) (record {
-  low = λ k h. one_more mask r k b small ∙ here k h (cases_eq r k);
-  high = λ k h. one_more mask r k b small ∙ ap (λ c. is_one mask k || (b && c)) (ne_eqb r k (λ e. omega arith)) ∙ or_none (is_one mask k) b ∙ is.high k (omega arith);
-})
-  where
-    here : (k : ℕ) → k < r + 1 → (r ≡ k) ⊎ (r ≢ k) → (is_one mask k || (b && (r == k))) ≡ get_or (get_or relations k []) place false
-    here k h (inl same) =
-        (λ i. is.high k (omega arith) i || (b && eq-eqb r k same i)) ∙ and_true b ∙ at ∙ ap (λ j. get_or (get_or relations j []) place false) same
-    here k h (inr other) = ap (λ c. is_one mask k || (b && c)) (ne_eqb r k other) ∙ or_none (is_one mask k) b ∙ is.low k (omega arith)
-
 -- all relations on a scope were looked at
 pub mask_all : (l : Language) (s place r mask : ℕ) → r ≡ length (relations_on l s) → r ≤ 64 → IsMaskOf (relations_on l s) place r mask → ones_of mask ≡ accepting_on l s place
 mask_all l s place r mask end few is =
@@ -67,8 +31,12 @@ mask_all l s place r mask end few is =
 
 -- ---- the bits of such a mask
 
+and_false : (b : Bool) → (b && false) ≡ false
+and_false true = refl
+and_false false = refl
+
 -- no relation past the last one accepts a tuple
-none_accepts : (relations : List Relation) (place r : ℕ) → length relations ≤ r → get_or (get_or relations r []) place false ≡ false
+pub none_accepts : (relations : List Relation) (place r : ℕ) → length relations ≤ r → get_or (get_or relations r []) place false ≡ false
 none_accepts relations place r past = ap (λ t. get_or t place false) (get_or-eq_default relations [] {n = r} past)
 
 -- a relation is among those that accept

@@ -30,7 +30,7 @@ const NO_TABLE: u32 = u32::MAX;
 /// For each scope and each place of its tuples the relations that accept the tuple there, and an index by variables.
 ///
 /// The scopes whose variables have all values share a table with those that have as many variables: 8 bytes for each tuple, at
-/// most 512 KB. The other ones have no table: there each relation is asked. Each scope takes 8 bytes beside it.
+/// most 512 KB. The other ones have no table: there the language is asked. Each scope takes 8 bytes beside it.
 #[derive(Drop)]
 pub(crate) struct Tables {
     /// For each scope where its table begins, or `NO_TABLE`.
@@ -53,17 +53,12 @@ impl Model for Tables {
 }
 
 /// The relations on a scope that accept the tuple at a place.
-#[inline(never)]
 fn accepting_at(lang: &Language, s: ScopeId, place: u32) -> u64
     requires scope { s < length lang.now.scopes }
     requires place { place < places_on lang.now s }
     ensures { ones_of result ≡ accepting_on lang.now s place }
 {
-    let mut relations = 0;
-    for r in 0..lang.relations_on(s) {
-        relations |= u64::from(lang.holds(s, r, place)) << r;
-    }
-    relations
+    lang.accepting(s, place)
 }
 
 /// The table of a scope, behind other ones.

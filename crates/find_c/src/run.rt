@@ -129,7 +129,7 @@ impl RelRun {
         settle(
             lang,
             scope,
-            choices.agreeing(accepting(lang, scope, place), yes),
+            choices.agreeing(lang.accepting(scope, place), yes),
         )
     }
 }
@@ -226,17 +226,4 @@ fn first_row(lang: &Language, s: ScopeId, choices: &Choices, places: u32) -> u32
         place += row;
     }
     place
-}
-
-/// The relations on a scope that accept the tuple at a place: bit r is 1 exactly where relation r does.
-fn accepting(lang: &Language, s: ScopeId, place: u32) -> u64
-    requires scope { s < length lang.now.scopes }
-    requires place { place < lang.now.value_count ^ length (scope_at lang.now s) }
-    ensures { (c : Choice) → is_accepting result c ≡ allows_at (scene_of lang.now s) place c }
-{
-    let mut relations = 0;
-    for r in 0..lang.relations_on(s) {
-        relations |= u64::from(lang.holds(s, r, place)) << r;
-    }
-    relations
 }

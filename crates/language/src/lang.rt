@@ -1,4 +1,4 @@
-ghost use Rattle.std.specs.Prelude.{◌≡◌, ◌<◌, ◌≤◌, ◌+◌, ◌^◌, ◌==◌, ℕ, IsTrue, length, slice_index_or, [], IfSome, IfOk, string_bytes, false};
+ghost use Rattle.std.specs.Prelude.{◌≡◌, ◌<◌, ◌≤◌, ◌+◌, ◌^◌, ◌==◌, ℕ, IsTrue, length, slice_index_or, [], IfSome, IfOk, string_bytes, false, not};
 ghost use Rattle.std.specs.Int.{bit_at};
 ghost use Rattle.assign.specs.Sets.{is_same, least_of};
 ghost use Rattle.language.specs.Texts.{question_text, candidate_text};
@@ -183,6 +183,7 @@ impl Language {
 
     /// A table that agrees with relation r on a scope at each tuple within the ranges; outside them the relation holds. Where
     /// each variable of the scope has all values it is the relation's.
+    #[inline]
     pub fn table_on(&self, s: ScopeId, r: u8) -> &Table
         requires scope { s < length self.now.scopes }
         requires rel { r < length (relations_on self.now s) }
@@ -206,6 +207,36 @@ impl Language {
         ensures { result ≡ slice_index_or (slice_index_or (relations_on self.now s) r []) place false }
     {
         self.table_on(s, r).at(place) || !self.is_inside(s, place)
+    }
+
+    /// Whether relation r on a scope accepts the tuple at a place, of which it is known whether it is outside the ranges.
+    #[inline]
+    fn holds_at(&self, s: ScopeId, r: u8, place: u32, outside: bool) -> bool
+        requires scope { s < length self.now.scopes }
+        requires rel { r < length (relations_on self.now s) }
+        requires place { place < self.now.value_count ^ length (scope_at self.now s) }
+        requires outside { outside ≡ not (are_in self.now.ranges (scope_at self.now s) (tuple_at self.now.value_count (length (scope_at self.now s)) place)) }
+        ensures { result ≡ slice_index_or (slice_index_or (relations_on self.now s) r []) place false }
+    {
+        let table = self.table_on(s, r);
+        outside || table.at(place)
+    }
+
+    /// The relations on a scope that accept the tuple at a place: bit r is 1 exactly where relation r does. Whether the tuple is
+    /// within the ranges is looked at once for all.
+    pub fn accepting(&self, s: ScopeId, place: u32) -> u64
+        requires scope { s < length self.now.scopes }
+        requires place { place < self.now.value_count ^ length (scope_at self.now s) }
+        ensures is { (r : ℕ) → (bit_at result r == 1) ≡ slice_index_or (slice_index_or (relations_on self.now s) r []) place false }
+        ensures lawful { IsLanguage self.now }
+    {
+        let outside = !self.is_inside(s, place);
+        let mut relations = 0;
+        for r in 0..self.relations_on(s) {
+            let held = self.holds_at(s, r, place, outside);
+            relations |= u64::from(held) << r;
+        }
+        relations
     }
 
     /// The truth values of relation r on a scope from a place on, one for each value of the last variable: bit y is 1 where

@@ -1,17 +1,11 @@
-use Rattle.std.proofs.Common.{arith}
+use Rattle.std.proofs.Common.{length, refl, ◌∙◌}
 use Rattle.language.specs.Language.{relations_on}
-use Rattle.bias_store.proofs.Bits.{no_mask, mask_more, mask_all}
+use Rattle.bias_store.proofs.Bits.{mask_all, none_accepts}
 use Rattle.bias_store.proofs.tables.accepting_at.Goals as goal
-
-pub loop-r-init : goal.loop-r-init
-loop-r-init c = no_mask (relations_on c.args.lang.now c.args.s) c.args.place
-
-pub loop-r-preserved : goal.loop-r-preserved
-loop-r-preserved c =
-    mask_more (relations_on c.args.lang.now c.args.s) c.args.place c.loop-r.r c.loop-r.relations c.from.result c.holds.result
-    (let few = c.relations_on-r-end.ensures.few in omega arith) c.from.ensures c.holds.ensures c.loop-r.invariant
 
 pub returns : goal.returns
 returns c =
-    mask_all c.args.lang.now c.args.s c.args.place c.loop-r.r c.loop-r.relations
-    (let is = c.relations_on-r-end.ensures.is in omega arith) (let few = c.relations_on-r-end.ensures.few in omega arith) c.loop-r.invariant
+    mask_all c.args.lang.now c.args.s c.args.place (length (relations_on c.args.lang.now c.args.s)) c.accepting.result refl (c.accepting.ensures.lawful.few_relations c.args.s c.requires.scope) (record {
+      low = λ k h. c.accepting.ensures.is k;
+      high = λ k h. c.accepting.ensures.is k ∙ none_accepts (relations_on c.args.lang.now c.args.s) c.args.place k h;
+    })

@@ -10,6 +10,7 @@ use Rattle.find_c.specs.Choices.{is_accepting, allows_at}
 use Rattle.find_c.specs.Run.{Run, IsRun, IsChoiceOn}
 use Rattle.find_c.specs.Standing.{LeavesChoices, StandsFor}
 use Rattle.find_c.specs.declared.run.RelRun.TheInside.{Inside}
+use Rattle.find_c.proofs.Accepting.{told_by}
 use Rattle.find_c.proofs.Splitting.{agreeing_is}
 use Rattle.find_c.proofs.Replies.{run_tuple, run_places, run_leaves_some, known_after, stands_after}
 use Rattle.find_c.proofs.run.RelRun.reply.Goals as goal
@@ -50,23 +51,27 @@ accepting-requires-clause-place c =
 
 pub settle-requires-clause-known : goal.settle-requires-clause-known
 settle-requires-clause-known c =
-    let is = left c.args.lang.now c.self.inside _ _ _ _ _ c.args.yes c.d.ensures.is c.values.ensures c.place_of-place.ensures.is c.accepting.ensures c.agreeing.ensures in
+    let is = left c.args.lang.now c.self.inside _ _ _ _ _ c.args.yes c.d.ensures.is c.values.ensures c.place_of-place.ensures.is
+    (told_by (scene_of c.args.lang.now c.self.inside.scope) c.place_of-place.result c.accepting.result c.accepting.ensures.is) c.agreeing.ensures in
     subst (λ cs. All (IsChoiceOn c.args.lang.now c.self.inside.scope) cs) (sym is) (known_after c.args.lang.now _ (sound _ c.self.inside _ c.self.view_is c.requires) c.args.yes)
 
 pub returns-clause-settled : goal.returns-clause-settled
 returns-clause-settled c =
-    let is = left c.args.lang.now c.self.inside _ _ _ _ _ c.args.yes c.d.ensures.is c.values.ensures c.place_of-place.ensures.is c.accepting.ensures c.agreeing.ensures in
+    let is = left c.args.lang.now c.self.inside _ _ _ _ _ c.args.yes c.d.ensures.is c.values.ensures c.place_of-place.ensures.is
+    (told_by (scene_of c.args.lang.now c.self.inside.scope) c.place_of-place.result c.accepting.result c.accepting.ensures.is) c.agreeing.ensures in
     subst (λ (run : Run). LeavesChoices c.args.lang.now run.scope (after_reply (scene_of c.args.lang.now run.scope) run.tuple c.args.yes run.choices) c.settle.result) c.self.view_is
     (subst (λ cs. LeavesChoices c.args.lang.now c.self.inside.scope cs c.settle.result) is c.settle.ensures.settled)
 
 pub returns-clause-stands : goal.returns-clause-stands
 returns-clause-stands c =
-    let is = left c.args.lang.now c.self.inside _ _ _ _ _ c.args.yes c.d.ensures.is c.values.ensures c.place_of-place.ensures.is c.accepting.ensures c.agreeing.ensures in
+    let is = left c.args.lang.now c.self.inside _ _ _ _ _ c.args.yes c.d.ensures.is c.values.ensures c.place_of-place.ensures.is
+    (told_by (scene_of c.args.lang.now c.self.inside.scope) c.place_of-place.result c.accepting.result c.accepting.ensures.is) c.agreeing.ensures in
     stands_after c.args.lang.now c.args.self c.requires c.self.inside.scope c.settle.result c.args.yes (ap (λ (run : Run). run.scope) c.self.view_is)
     (subst (λ (run : Run). StandsFor c.settle.result c.args.lang.now c.self.inside.scope (after_reply (scene_of c.args.lang.now run.scope) run.tuple c.args.yes run.choices) []) c.self.view_is
     (subst (λ cs. StandsFor c.settle.result c.args.lang.now c.self.inside.scope cs []) is c.settle.ensures.stands))
 
 pub returns-clause-some : goal.returns-clause-some
 returns-clause-some c = λ nothing.
-    let is = left c.args.lang.now c.self.inside _ _ _ _ _ c.args.yes c.d.ensures.is c.values.ensures c.place_of-place.ensures.is c.accepting.ensures c.agreeing.ensures in
+    let is = left c.args.lang.now c.self.inside _ _ _ _ _ c.args.yes c.d.ensures.is c.values.ensures c.place_of-place.ensures.is
+    (told_by (scene_of c.args.lang.now c.self.inside.scope) c.place_of-place.result c.accepting.result c.accepting.ensures.is) c.agreeing.ensures in
     run_leaves_some c.args.lang.now _ (sound _ c.self.inside _ c.self.view_is c.requires) c.args.yes (sym is ∙ c.settle.ensures.nothing.0 nothing)
