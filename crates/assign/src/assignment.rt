@@ -148,31 +148,3 @@ impl Partial {
         Partial { n, cells }
     }
 }
-
-#[cfg(test)]
-mod tests {
-    use super::*;
-
-    #[test]
-    fn keeps_what_is_asked_about(rt: HostRuntime) {
-        // a=1 b=2 c=1 of three variables, as value indices
-        let mut example = Partial::blank(3);
-        example.set(0, 0);
-        example.set(1, 1);
-        example.set(2, 0);
-        assert!(rt; example.is_complete());
-        let asked = example.restrict(VarSet::all(128).without(0));
-        assert_eq!(rt;
-            [asked.get(0), asked.get(1), asked.get(2), asked.get(3)],
-            [None, Some(1), Some(0), None]
-        );
-        assert_eq!(rt; asked.vars(), VarSet::empty().with(1).with(2));
-        assert!(rt; !asked.is_complete());
-        let recorded = asked.widened();
-        assert_eq!(rt; recorded.len(), 128);
-        assert!(rt; recorded.cut_to(3).equals(&asked));
-        assert!(rt; !recorded.equals(&asked));
-        example.clear(1);
-        assert_eq!(rt; [example.get(0), example.get(1)], [Some(0), None]);
-    }
-}
