@@ -8,3 +8,4 @@ pub mod Vocabularies
 pub mod Stores
 pub mod Openings
 pub mod Keepers
+pub mod EachFile

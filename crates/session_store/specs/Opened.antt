@@ -1,10 +1,11 @@
 -- What a file opens with: a session, or the reason why there is none.
-use Rattle.std.specs.Prelude.{◌≡◌, ℕ, Bool, true, false, List, Result, Ok, Err}
+use Rattle.std.specs.Prelude.{◌≡◌, IfErr, ℕ, Bool, true, false, List, Result, Ok, Err}
 use Rattle.assign.specs.declared.events.Event.{Event}
 use Rattle.assign.specs.declared.events.Plan.{Plan}
 use Rattle.language.specs.Language.{Language}
 use Rattle.answer_journal.specs.declared.fault.JFault.TheVariants as journal
 use Rattle.voc_read.specs.Vocabulary.{IsVocabulary}
+use Rattle.voc_read.specs.Want.{wants_memory as voc_wants}
 use Rattle.session_store.specs.Left.{SaysSession}
 use Rattle.session_store.specs.Opening.{NotOpened}
 use Rattle.session_store.specs.Replay.{HavePlaces}
@@ -57,3 +58,14 @@ Opens bytes (Err fault) = RefusesOpening bytes fault
 -- no bytes open in two ways
 abbrev pub OpensOnce : Type 0
 OpensOnce = (bytes : List ℕ) (one other : Result Opened SFault) → Opens bytes one → Opens bytes other → one ≡ other
+
+-- want of memory, its own or its vocabulary's
+abbrev pub wants_memory : SFault → Bool
+wants_memory store.Memory = true
+wants_memory (store.Journal journal.Memory) = true
+wants_memory (store.Voc fault) = voc_wants fault
+wants_memory other = false
+
+-- each list of bytes opens with a session, or is refused, and not for want of memory
+abbrev pub OpensAlways : Type 0
+OpensAlways = (bytes : List ℕ) → (answer : Result Opened SFault) × Opens bytes answer × IfErr answer (λ fault. wants_memory fault ≡ false)

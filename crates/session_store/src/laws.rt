@@ -1,9 +1,9 @@
 //! What holds of every list of events and of every file. These functions do nothing.
 
 ghost use Rattle.session_store.specs.Laws.{RecordsAreAnswers, ReplayIsState, FrontsHavePlaces, StrayIsFirst};
-ghost use Rattle.session_store.specs.Opened.{OpensOnce};
+ghost use Rattle.session_store.specs.Opened.{OpensAlways, OpensOnce};
 
-use answer_journal::no_two_readings;
+use answer_journal::{each_has_a_reading, no_two_readings};
 
 /// What is replayed are the answers that stand, each with the number of the record that holds it.
 pub fn records_are_answers()
@@ -32,4 +32,12 @@ pub fn no_two_openings()
 {
     // a law: no bytes have two readings
     no_two_readings();
+}
+
+/// Each list of bytes opens with a session, or is refused for what it says, and not for want of memory.
+pub fn each_opens_or_is_refused()
+    ensures { OpensAlways }
+{
+    // a law: each list of bytes has a reading
+    each_has_a_reading();
 }
