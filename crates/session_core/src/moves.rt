@@ -1,9 +1,11 @@
 //! How a session moves: a question is put, an answer is given.
 
-ghost use Rattle.std.specs.Prelude.{◌≡◌, ◌≢◌, ◌++◌, ◌∷◌, [], List, IfOk, IfSome, IsTrue, Some, None};
+ghost use Rattle.std.specs.Prelude.{◌≡◌, ◌≢◌, ◌++◌, ◌∷◌, [], List, IfOk, IfSome, IsTrue, Some, None, length};
 ghost use Rattle.assign.specs.Events.{Answer};
 ghost use Rattle.assign.specs.declared.events.Plan.{Plan};
-ghost use Rattle.language.specs.Language.{IsLanguage, IsQuestion};
+ghost use Rattle.language.specs.Language.{candidates, IsLanguage, IsQuestion};
+ghost use Rattle.bias_store.specs.KeptSet.{IsMadeFor};
+ghost use Rattle.multi_tree.specs.Stage.{walk_in};
 ghost use Rattle.session_laws.specs.Walk.{Ended};
 ghost use Rattle.session_laws.specs.Session.{is_lawful, scope_question, walk_end};
 ghost use Rattle.session_laws.specs.Laws.{IsWalked};
@@ -27,6 +29,20 @@ use multi_tree::Tree;
 use network::Network;
 use std::alloc::Global;
 
+/// The candidates, the network and the walk of a session without answers.
+fn empty_parts(alloc: Global, lang: &Language) -> Result<(Kept, Network, Tree), Memory>
+    ensures all { IfOk result (λ parts. parts.0.members ≡ candidates lang.now) }
+    ensures made { IfOk result (λ parts. IsMadeFor lang.now parts.0) }
+    ensures empty { IfOk result (λ parts. parts.1.list ≡ []) }
+    ensures scopes { IfOk result (λ parts. parts.1.scopes ≡ length lang.now.scopes) }
+    ensures resting { IfOk result (λ parts. walk_in parts.2 ≡ None) }
+{
+    let kept = Kept::of(alloc, lang)?;
+    let network = Network::new(alloc, lang)?;
+    let tree = Tree::make(alloc)?;
+    Ok((kept, network, tree))
+}
+
 /// A new session of this language and plan, without answers. `Memory` drops the language.
 pub fn begin(alloc: Global, lang: Language, plan: Plan) -> Result<Session, Memory>
     ensures stands { IfOk result (λ session. Stands session []) }
@@ -34,9 +50,7 @@ pub fn begin(alloc: Global, lang: Language, plan: Plan) -> Result<Session, Memor
     ensures lang { IfOk result (λ session. (knowledge_of session).lang ≡ lang) }
     ensures plan { IfOk result (λ session. (knowledge_of session).plan ≡ plan) }
 {
-    let kept = Kept::of(alloc, &lang)?;
-    let network = Network::new(alloc, &lang)?;
-    let tree = Tree::make(alloc)?;
+    let (kept, network, tree) = empty_parts(alloc, &lang)?;
     let knowledge = Knowledge {
         lang,
         plan,

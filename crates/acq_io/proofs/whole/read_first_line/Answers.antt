@@ -1,4 +1,7 @@
-use Rattle.std.proofs.Common.{ap, arith, Ok, Option, Result, ℕ, ◌++◌}
+use Rattle.std.proofs.Common.{ap, arith, Ok, Option, Result, ℕ, ◌++◌, ◌∷◌, [], ◌≢◌}
+use Rattle.std.proofs.lemmas.List.{length-append}
+use Rattle.std.proofs.lemmas.List.Elements.{All-push}
+use Rattle.acq_io.specs.Lines.{newline}
 use Rattle.std.specs.Option.{option_to_list}
 use Rattle.acq_io.specs.declared.streams.Failed.{Failed}
 use Rattle.acq_io.proofs.TakenLemmas.{takes_on}
@@ -28,3 +31,12 @@ returns-then-len-most-clause-takes g c = let got = c.in-Ok-Some in
 pub returns-then-is_err-clause-takes : goal.returns-then-is_err-clause-takes
 returns-then-is_err-clause-takes g c = let got = c.in-Ok-Some in
     (c.loop-line.line.items ++ option_to_list got.field-0, takes_on _ _ _ _ (option_to_list got.field-0) c.loop-line.invariant.taken got.ensures.bytes)
+
+pub returns-then-is_err-clause-stopped : goal.returns-then-is_err-clause-stopped
+returns-then-is_err-clause-stopped g c _ = let kept = c.loop-line.invariant in let got = c.in-Ok-Some in
+    let longer = length-append c.loop-line.line.items (got.byte ∷ []) in (
+      c.loop-line.line.items ++ got.byte ∷ [],
+      omega (arith, longer, kept.few),
+      All-push (λ b. b ≢ newline) c.loop-line.line.items got.byte kept.one_line got.byte-test.1,
+      takes_on _ _ _ _ (got.byte ∷ []) kept.taken (rw got.field-0-is at got.ensures.bytes),
+    )

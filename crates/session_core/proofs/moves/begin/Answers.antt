@@ -12,7 +12,7 @@ pub returns-clause-stands : goal.returns-clause-stands
 returns-clause-stands c =
     let k : Knowledge = c.in-Ok.knowledge.value in
     let made = c.in-Ok.ensures.ok in
-    let empty = sym (ap (λ (x : Knowledge). x.network.list) made ∙ c.in_ok-network.ensures.empty) in
+    let empty = sym (ap (λ (x : Knowledge). x.network.list) made ∙ c.in_ok-kept.ensures.empty) in
     let all = ap (λ (x : Knowledge). x.kept.members) made ∙ c.in_ok-kept.ensures.all ∙ ap (λ (x : Knowledge). candidates x.lang) (sym made) in
     record {
       after = record { end = None; idle = state_nil k.lang k.plan ∙ ap (λ (network : List Candidate). At (Idle network None)) empty };
@@ -28,4 +28,4 @@ at_rest l (Asked set walk) none = absurd (let bad : ⊥ = cc in bad)
 at_rest l (Done end) none = tt
 
 pub invariant_of-knowledge-clause-walks : goal.invariant_of-knowledge-clause-walks
-invariant_of-knowledge-clause-walks c = at_rest c.args.lang c.in_ok-tree.tree c.in_ok-tree.ensures
+invariant_of-knowledge-clause-walks c = at_rest c.args.lang c.in_ok-kept.tree c.in_ok-kept.ensures.resting

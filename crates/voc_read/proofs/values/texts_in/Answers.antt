@@ -1,10 +1,18 @@
-use Rattle.std.proofs.Common.{ap}
-use Rattle.std.specs.Option.{ok_or}
+use Rattle.std.proofs.Common.{Bor, List, ℕ, ap, sym, ◌∙◌}
+use Rattle.std.specs.Option.{ok_or, option_map}
+use Rattle.std.proofs.lemmas.Result.{err_from_is_err_and}
 use Rattle.serde_json.specs.Find.{as_str}
 use Rattle.voc_read.specs.declared.fault.VocFault.TheVariants.{WrongKind}
 use Rattle.voc_read.specs.Texts.{texts_of}
-use Rattle.voc_read.proofs.EachSteps.{reads_all}
+use Rattle.voc_read.proofs.EachSteps.{reads_no_more, reads_all, refuses}
 use Rattle.voc_read.proofs.values.texts_in.Goals as goal
+
+pub returns-in_err-text-clause-is : goal.returns-in_err-text-clause-is
+returns-in_err-text-clause-is c =
+    let p = err_from_is_err_and c.from_residual.result c.from_residual.ensures.1 in
+    rw (p.1, p.2) (λ real. refuses c.as_str.result _ _ _ (sym c.ok_or.ensures.value ∙ c.in_err-text.was)
+    (λ none. reads_no_more as_str c.args.list.now c.loop-value.value-index c.value-item.result (texts_of c.loop-value.texts.items) _ c.loop-value-test.true c.value-item.is
+    (sym c.as_str.ensures ∙ ap (option_map (λ (s : Bor (List ℕ)). s.now)) none) c.loop-value.invariant.rest))
 
 pub returns-clause-is : goal.returns-clause-is
 returns-clause-is c =
