@@ -1,8 +1,9 @@
 -- What was done about the words.
-use Rattle.std.proofs.Common.{◌≡◌, ◌⊎◌, ◌∙◌, ℕ, true, false, List, [], Option, Result, Ok, Err, refl, sym, ap, subst, inl, inr, ⊎_elim, arith}
+use Rattle.std.proofs.Common.{◌≡◌, ◌⊎◌, ◌∙◌, ℕ, true, false, List, [], Option, Result, Ok, Err, refl, sym, ap, subst, inl, ⊎_elim, arith}
 use Rattle.disk_model.specs.declared.disk.Disk.{Ghosts as DiskOf}
 use Rattle.acq_io.specs.declared.streams.Put.{Put}
 use Rattle.acq_io.specs.declared.streams.Put.TheVariants as put
+use Rattle.acq_io.specs.declared.whole.AllFault.TheVariants as all
 use Rattle.acq_words.specs.Request.{IsAnswer, answer_to, contents_of}
 use Rattle.acq_words.specs.declared.request.Command.{Command}
 use Rattle.acq_words.specs.declared.request.Command.TheVariants as command
@@ -10,39 +11,35 @@ use Rattle.acq_words.specs.declared.request.Request.{Request}
 use Rattle.acq_words.specs.declared.request.UsageFault.{UsageFault}
 use Rattle.acq_words.specs.declared.request.WordsFault.{WordsFault}
 use Rattle.acq_words.specs.declared.request.WordsFault.TheVariants.{Usage, Memory}
-use Rattle.answer_journal.specs.declared.fault.JFault.TheVariants as journal
-use Rattle.assign.specs.Assignment.{Assignment}
 use Rattle.assign.specs.declared.events.Event.{Event}
-use Rattle.assign.specs.declared.events.Plan.{Plan}
 use Rattle.assign.specs.declared.events.Plan.TheVariants.{Quacq}
-use Rattle.cert_check.specs.Certificate.{Certificate}
-use Rattle.cert_check.specs.Checking.{verdict}
-use Rattle.cert_check.specs.declared.verdict.Verdict.{Verdict}
-use Rattle.cert_check.specs.declared.verdict.Verdict.TheVariants.{Yes, No}
 use Rattle.language.specs.Language.{Language}
-use Rattle.net_cnf.specs.Models.{model_of}
-use Rattle.net_cnf.specs.declared.model_fault.ModelFault.{ModelFault}
 use Rattle.target_oracle.specs.Lines.{line_turn}
 use Rattle.target_oracle.specs.NetTurns.{net_turn}
 use Rattle.target_oracle.specs.Turns.{Turns}
 use Rattle.disk_model.specs.Moments.{started}
+use Rattle.session_store.specs.Opened.{Opened}
 use Rattle.session_store.specs.declared.fault.SFault.{SFault}
 use Rattle.session_store.specs.declared.fault.SFault.TheVariants as store
 use Rattle.acq_cli.specs.Journals.{StaysClosed}
-use Rattle.acq_cli.specs.Making.{News, RefusesMaking}
 use Rattle.acq_cli.specs.Running.{RunsOn}
 use Rattle.acq_cli.specs.Playing.{EndsWithout, PlaysOn}
 use Rattle.acq_cli.specs.declared.playing.NoTarget.{NoTarget}
 use Rattle.acq_cli.specs.declared.playing.NoTarget.TheVariants as without
 use Rattle.acq_cli.specs.Demoing.{Demos, Tells}
 use Rattle.acq_cli.specs.Endings.{Tries}
-use Rattle.acq_cli.specs.Reducing.{network_after}
 use Rattle.acq_cli.specs.declared.terms.Terms.{Terms}
-use Rattle.acq_cli.specs.Confirming.{Confirms, SaysVerdict}
-use Rattle.acq_cli.specs.Solving.{Solves, TellsSolution}
-use Rattle.acq_cli.proofs.SaidOver.{is_own, not_own, refuses_own, said_own}
-use Rattle.acq_cli.specs.TakingBack.{TakesBack}
-use Rattle.acq_cli.specs.Doing.{Asks, Does}
+use Rattle.acq_cli.specs.Solving.{Solves}
+use Rattle.acq_cli.specs.Asks.{AsksTruly, asked_said}
+use Rattle.acq_cli.specs.Over.{SaysOpening, SaysOver}
+use Rattle.acq_cli.specs.Said.{SaysSo}
+use Rattle.acq_cli.specs.Saying.{Saying}
+use Rattle.acq_cli.specs.declared.said.Unsaid.{Unsaid}
+use Rattle.acq_cli.specs.declared.said.Unsaid.TheVariants as unsaid
+use Rattle.acq_cli.proofs.SaidOver.{is_own, not_own, refuses_own}
+use Rattle.acq_cli.proofs.Speaking.{speaks_own}
+use Rattle.acq_cli.specs.TakingBack.{TakesNone}
+use Rattle.acq_cli.specs.Doing.{Asks, Does, Speaks}
 use Rattle.acq_cli.specs.declared.ask.Ask.{Ask}
 use Rattle.acq_cli.specs.declared.ask.Ask.TheVariants as ask
 use Rattle.acq_cli.specs.Points.{terms_with}
@@ -70,43 +67,67 @@ is_refused words Memory is = tt
 abbrev wanting : Result Ending Put
 wanting = Err put.Memory
 
+abbrev silence : Result Saying Unsaid
+silence = Err unsaid.Memory
+
 module _ {D : Type 0} (disk : DiskOf D) where
   module _ (only_now : (d : D) (c : List ℕ) → disk.left_since d (disk.moment d) c → disk.may_leave d c) (left written : Option (List ℕ)) (d : D) where
     stays : StaysClosed disk left written left written d d wanting
     stays = record {
       fault = store.Memory;
       why = λ bytes told. tt;
-      refuses = (refl, refl);
+      refuses = (silence, refl, (refl, refl));
       unread = refl;
       same = refl;
       any_moment = started disk d (disk.may_leave d) (only_now d);
     }
 
-    asks_nothing : (a : Ask) → Asks disk a written written d d wanting
-    asks_nothing a = record {
+    -- not a word was said
+    over_nothing : (Says : Result Opened SFault → Result Saying Unsaid → Type 0) (IsTrueOf : Opened → Type 0) → Says (Err store.Memory) silence → SaysOver disk Says IsTrueOf d d silence
+    over_nothing Says IsTrueOf says = record {
       opening = Err store.Memory;
       opens = λ bytes told. tt;
       session = tt;
-      tells = (refl, refl);
+      says = says;
       so = tt;
       same = refl;
       any_moment = started disk d (disk.may_leave d) (only_now d);
     }
 
+    asks_nothing : (a : Ask) → SaysSo (Asks disk a d d) written written wanting
+    asks_nothing a = (silence, over_nothing (SaysOpening (asked_said a)) (AsksTruly a) refl, (refl, refl))
+
     pub does_nothing : (asked : Result Command UsageFault) → Does disk asked left written left written d d wanting
-    does_nothing (Ok (command.New plan)) = inl (record { why = inr (inr refl, refl); same = refl })
+    does_nothing (Ok (command.New plan)) = (silence, record { read = Err all.Memory; says = refl; untouched = λ none. refl }, (refl, refl))
     does_nothing (Ok (command.Run budget)) = inl stays
     does_nothing (Ok (command.Try plan budget)) = unbegun (terms_with plan budget) left left written (inl ([], omega arith, λ k d low. absurd (omega (arith, low)), takes_none left))
     does_nothing (Ok (command.Play budget)) = inl stays
     does_nothing (Ok command.Show) = asks_nothing ask.Show
-    does_nothing (Ok command.Back) = inl stays
+    does_nothing (Ok command.Back) = (silence, inl (over_nothing TakesNone (λ o. Unit {0}) refl), (refl, refl))
     does_nothing (Ok (command.Demo number budget)) = inl (refl, refl)
     does_nothing (Ok (command.Reduce budget)) = asks_nothing (ask.Reduce budget)
     does_nothing (Ok command.Cnf) = asks_nothing ask.Cnf
-    does_nothing (Ok command.Model) = inl stays
+    does_nothing (Ok command.Model) = (silence, over_nothing (Solves left left) (λ o. Unit {0}) (refl, refl), (refl, refl))
     does_nothing (Ok (command.Certify budget)) = asks_nothing (ask.Certify budget)
-    does_nothing (Ok command.Check) = inr (inr (inr refl, refl))
+    does_nothing (Ok command.Check) = (silence, (Err all.Memory, refl), (refl, refl))
     does_nothing (Err fault) = refl
+
+-- ---- A command that only says something
+
+module _ {D : Type 0} (disk : DiskOf D) (left written left' written' : Option (List ℕ)) (old new : D) (got : Result Ending Put) where
+  pub does_speak : (c : Command) → Speaks disk c left written left' written' old new got → Does disk (Ok c) left written left' written' old new got
+  does_speak command.Show speaks = speaks
+  does_speak (command.Reduce budget) speaks = speaks
+  does_speak command.Cnf speaks = speaks
+  does_speak command.Model speaks = speaks
+  does_speak (command.Certify budget) speaks = speaks
+  does_speak command.Check speaks = speaks
+  does_speak (command.New plan) speaks = speaks
+  does_speak (command.Run budget) speaks = absurd speaks.1
+  does_speak (command.Try plan budget) speaks = absurd speaks.1
+  does_speak (command.Play budget) speaks = absurd speaks.1
+  does_speak command.Back speaks = speaks
+  does_speak (command.Demo number budget) speaks = absurd speaks.1
 
 -- ---- How the commands without the loop end
 
@@ -114,65 +135,12 @@ module _ {D : Type 0} (disk : DiskOf D) where
 err_own : (e : Put) (end : Ending) (P : Type 0) → okay end ≡ failed e → P
 err_own e end P is = absurd (err_ok e end (sym is))
 
-making_own : (fault : SFault) (end : Ending) (written written' : Option (List ℕ)) → RefusesMaking fault written written' (okay end) → is_own end ≡ true
-making_own (store.Journal fault) end written written' refuses = refuses_own written written' end (store.Journal fault) refuses
-making_own (store.Voc fault) end written written' (is, told) = ap is_own is
-making_own (store.Stray i) end written written' refuses = refuses_own written written' end (store.Stray i) refuses
-making_own store.Memory end written written' refuses = refuses_own written written' end store.Memory refuses
-
 pub without_own : (why : NoTarget) (end : Ending) (written written' : Option (List ℕ)) → EndsWithout why written written' (okay end) → is_own end ≡ true
 without_own (without.Refused fault) end written written' (is, told) = ap is_own is
 without_own without.ReadFault end written written' (is, told) = ap is_own (same_ok end ending.ReadFault is)
 without_own without.Memory end written written' (is, told) = err_own put.Memory end (is_own end ≡ true) is
 
-solution_own : (l : Language) (r : Result Assignment ModelFault) (end : Ending) (written written' : Option (List ℕ)) → TellsSolution l r written written' (okay end) → is_own end ≡ true
-solution_own l (Ok e) end written written' tells = ap is_own tells.0
-solution_own l (Err fault) end written written' tells = ap is_own tells.0
-
-verdict_own : (cert : Certificate) (v : Verdict) (end : Ending) (written written' : Option (List ℕ)) → SaysVerdict cert v written written' (okay end) → is_own end ≡ true
-verdict_own cert Yes end written written' says = ap is_own says.0
-verdict_own cert (No flaw) end written written' says = ap is_own says.0
-
--- the input failed, or memory was wanting
-unread_own : (end : Ending) → ((okay end ≡ okay ending.ReadFault) ⊎ (okay end ≡ wanting)) → is_own end ≡ true
-unread_own end why = ⊎_elim (λ read. ap is_own (same_ok end ending.ReadFault read)) (λ none. err_own put.Memory end (is_own end ≡ true) none) why
-
 module _ {D : Type 0} (disk : DiskOf D) (left written left' written' : Option (List ℕ)) (old new : D) (end : Ending) where
-  pub new_own : (plan : Plan) → News disk plan left written left' written' old new (okay end) → is_own end ≡ true
-  new_own plan news =
-      ⊎_elim (λ none. ⊎_elim (λ long. ap is_own long.1.0) (λ other. unread_own end other.0) none.why)
-      (λ read. ⊎_elim (λ made. ap is_own made.tells.0) (λ not_made. making_own not_made.fault end written written' not_made.refuses) read.makes)
-      news
-
-  pub ask_own : (a : Ask) → Asks disk a written written' old new (okay end) → is_own end ≡ true
-  ask_own a asks = said_own a written written' end asks.opening asks.tells
-
-  pub solve_own : Solves disk left written left' written' old new (okay end) → is_own end ≡ true
-  solve_own solves =
-      ⊎_elim (λ closed. refuses_own written written' end closed.fault closed.refuses)
-      (λ solved. ⊎_elim
-      (λ read. ⊎_elim (λ tells. solution_own solved.lang (model_of solved.lang (network_after solved.lang solved.plan solved.events) read.bytes) end written written' tells) (λ none. err_own put.Memory end (is_own end ≡ true) none.0) read.tells)
-      (λ none. ⊎_elim (λ long. ap is_own long.1.0) (λ other. unread_own end other.0) none)
-      solved.solves)
-      solves
-
-  pub confirm_own : Confirms left written left' written' (okay end) → is_own end ≡ true
-  confirm_own confirms =
-      ⊎_elim
-      (λ read. ⊎_elim (λ checked. verdict_own checked.cert (verdict checked.cert) end written written' checked.says)
-      (λ rest. ⊎_elim (λ unread. ap is_own unread.says.0) (λ none. err_own put.Memory end (is_own end ≡ true) none.0) rest) read.confirms)
-      (λ none. ⊎_elim (λ long. ap is_own long.1.0) (λ other. unread_own end other.0) none)
-      confirms
-
-  pub back_own : TakesBack disk left written written' old new (okay end) → is_own end ≡ true
-  back_own backs =
-      ⊎_elim (λ closed. refuses_own written written' end closed.fault closed.refuses)
-      (λ rest. ⊎_elim (λ nothing. ap is_own nothing.tells.0)
-      (λ more. ⊎_elim (λ full. ap is_own full.tells.0)
-      (λ taken. ⊎_elim (λ done. ap is_own done.1.0)
-      (λ other. ⊎_elim (λ none. err_own put.Memory end (is_own end ≡ true) none) (λ lost. ap is_own (same_ok end ending.DiskFault lost)) other.2) taken.ends) more) rest)
-      backs
-
   -- ---- A usage line is told for refused words alone
 
   no_usage : (usage : UsageFault) → is_own end ≡ true → end ≡ ending.Usage usage → ⊥
@@ -204,15 +172,15 @@ module _ {D : Type 0} (disk : DiskOf D) (left written left' written' : Option (L
     where
       same : ending.Usage fault ≡ ending.Usage usage → fault ≡ usage
       same e = cc
-  usage_is (Ok (command.New plan)) does usage is = absurd (no_usage usage (new_own plan does) is)
+  usage_is (Ok (command.New plan)) does usage is = absurd (no_usage usage (speaks_own disk left written left' written' old new end (command.New plan) does) is)
   usage_is (Ok (command.Run budget)) does usage is = absurd (run_usage budget usage does is)
   usage_is (Ok (command.Try plan budget)) does usage is = let P : Ending → Type 0 = λ x. Acquires (terms_with plan budget) left written left' written' x in absurd (subst P is does)
-  usage_is (Ok command.Show) does usage is = absurd (no_usage usage (ask_own ask.Show does) is)
-  usage_is (Ok command.Back) does usage is = absurd (no_usage usage (back_own does) is)
+  usage_is (Ok command.Show) does usage is = absurd (no_usage usage (speaks_own disk left written left' written' old new end command.Show does) is)
+  usage_is (Ok command.Back) does usage is = absurd (no_usage usage (speaks_own disk left written left' written' old new end command.Back does) is)
   usage_is (Ok (command.Play budget)) does usage is = absurd (play_usage budget usage does is)
   usage_is (Ok (command.Demo number budget)) does usage is = absurd (demo_usage number budget usage does is)
-  usage_is (Ok (command.Reduce budget)) does usage is = absurd (no_usage usage (ask_own (ask.Reduce budget) does) is)
-  usage_is (Ok command.Cnf) does usage is = absurd (no_usage usage (ask_own ask.Cnf does) is)
-  usage_is (Ok command.Model) does usage is = absurd (no_usage usage (solve_own does) is)
-  usage_is (Ok (command.Certify budget)) does usage is = absurd (no_usage usage (ask_own (ask.Certify budget) does) is)
-  usage_is (Ok command.Check) does usage is = absurd (no_usage usage (confirm_own does) is)
+  usage_is (Ok (command.Reduce budget)) does usage is = absurd (no_usage usage (speaks_own disk left written left' written' old new end (command.Reduce budget) does) is)
+  usage_is (Ok command.Cnf) does usage is = absurd (no_usage usage (speaks_own disk left written left' written' old new end command.Cnf does) is)
+  usage_is (Ok command.Model) does usage is = absurd (no_usage usage (speaks_own disk left written left' written' old new end command.Model does) is)
+  usage_is (Ok (command.Certify budget)) does usage is = absurd (no_usage usage (speaks_own disk left written left' written' old new end (command.Certify budget) does) is)
+  usage_is (Ok command.Check) does usage is = absurd (no_usage usage (speaks_own disk left written left' written' old new end command.Check does) is)

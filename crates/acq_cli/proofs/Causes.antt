@@ -36,6 +36,19 @@ never_told (Err e) other never is = broken is
 pub stopped_idle : (input late : ℕ) (got : Result Ending Put) → IfOk got (λ end. end ≢ ending.ReadFault) → HasStopped input input late late (got ≡ okay ending.ReadFault)
 stopped_idle input late got never = stopped_not input late (got ≡ okay ending.ReadFault) (never_told got ending.ReadFault never)
 
+-- where no fault of it is told, it isn't called
+pub stopped_unless : (input late : ℕ) (told : Type 0) → (told → ⊥) → HasStopped input input late late told
+stopped_unless input late told never = stopped_not input late told never
+
+-- where it isn't the one, it never comes
+pub never_ends : (got : Result Ending Put) (other : Ending) → (got ≡ okay other → ⊥) → IfOk got (λ end. end ≢ other)
+never_ends (Ok end) other never = λ is. never (ap okay is)
+never_ends (Err e) other never = tt
+
+-- the input stands so where less is told
+pub stopped_as : (f g l m : ℕ) (told said : Type 0) → (said → told) → HasStopped f g l m told → HasStopped f g l m said
+stopped_as f g l m told said fro stopped = record { later = stopped.later; rose = λ is. stopped.rose (fro is); stopped = stopped.stopped }
+
 -- where no fault of the disk is told
 pub no_disk_fault : (got : Result Ending Put) → (got ≡ okay ending.DiskFault → ⊥) → IfOk got (λ end. end ≢ ending.DiskFault)
 no_disk_fault (Ok end) never = λ is. never (ap okay is)

@@ -7,11 +7,9 @@ use Rattle.disk_model.specs.declared.disk.Disk.{Ghosts as DiskOf}
 use Rattle.acq_io.specs.Whole.{Gathered, gathered, Gives, first_line_of, all_of}
 use Rattle.acq_io.specs.declared.streams.Put.TheVariants as put
 use Rattle.acq_io.specs.declared.whole.AllFault.{AllFault}
-use Rattle.acq_io.specs.declared.whole.AllFault.TheVariants.{TooLong}
 use Rattle.acq_words.specs.declared.request.Command.{Command}
 use Rattle.acq_words.specs.declared.request.Command.TheVariants as command
 use Rattle.acq_words.specs.declared.request.UsageFault.{UsageFault}
-use Rattle.answer_journal.specs.Journal.{HasNoSession}
 use Rattle.assign.specs.Events.{Answer}
 use Rattle.assign.specs.declared.events.Event.{Event}
 use Rattle.assign.specs.declared.events.Plan.{Plan}
@@ -26,6 +24,7 @@ use Rattle.session_laws.specs.Bound.{most_answers}
 use Rattle.session_laws.specs.Session.{Idle}
 use Rattle.session_laws.proofs.Limits.{answers_fit}
 use Rattle.session_store.specs.Left.{bytes_told}
+use Rattle.session_store.specs.Opened.{Opened}
 use Rattle.session_store.specs.Replay.{HavePlaces, replay_on}
 use Rattle.session_store.proofs.Fronts.{replay_is_state}
 use Rattle.target_oracle.specs.Generator.{IsGenerated}
@@ -36,24 +35,22 @@ use Rattle.voc_read.specs.Vocabulary.{IsVocabulary, refusal_of_vocabulary}
 use Rattle.voc_read.specs.declared.fault.VocFault.{VocFault}
 use Rattle.acq_cli.specs.Closings.{closing_of, ending_of}
 use Rattle.acq_cli.specs.Commands.{EndsExactly}
-use Rattle.acq_cli.specs.Completing.{HasRoom, IsAffordable, IsEnough, TryHasEnough, RunHasEnough, HasTarget, PlayHasEnough, IsDoneWith, SaysItsOwn, Converges, ConvergesOrCollapses, Completes}
+use Rattle.acq_cli.specs.Completing.{HasRoom, IsAffordable, IsEnough, TryHasEnough, RunHasEnough, HasTarget, PlayHasEnough, SaysItsOwn, Converges, ConvergesOrCollapses, Completes}
 use Rattle.acq_cli.specs.Demoing.{Demos, Tells}
 use Rattle.acq_cli.specs.Driven.{HasEnded, IsLeftOpen}
 use Rattle.acq_cli.specs.Endings.{Closes, Tries}
-use Rattle.acq_cli.specs.Exactly.{IsBrokenOff, HasVocabulary, NewEnds}
-use Rattle.acq_cli.specs.Journals.{untold}
+use Rattle.acq_cli.specs.Exactly.{IsBrokenOff}
 use Rattle.acq_cli.specs.Playing.{EndsWithout, MayLack, PlaysOn, ReadsTarget}
 use Rattle.acq_cli.specs.Points.{terms_with}
 use Rattle.acq_cli.specs.Run.{Closing, Undecided, Suspended, LineTooLong, Unreadable, JournalFull}
 use Rattle.acq_cli.specs.Asks.{asked_said}
 use Rattle.acq_cli.specs.Over.{SaidEnds}
-use Rattle.acq_cli.specs.Confirming.{ConfirmEnds, IsConfirmed}
-use Rattle.acq_cli.specs.Solving.{HoldsModel, SolveEnds}
+use Rattle.acq_cli.specs.Saying.{Saying}
+use Rattle.acq_cli.specs.Solving.{solved_said}
 use Rattle.acq_cli.specs.Running.{RunsOn}
-use Rattle.acq_cli.specs.TakingBack.{BackEnds, HoldsLast}
+use Rattle.acq_cli.specs.TakingBack.{back_said}
 use Rattle.acq_cli.specs.Doing.{Does}
 use Rattle.acq_cli.specs.Trying.{Acquires, IsRefusal, ReadsVocabulary}
-use Rattle.acq_cli.specs.declared.ask.Ask.{Ask}
 use Rattle.acq_cli.specs.declared.ask.Ask.TheVariants as ask
 use Rattle.acq_cli.specs.declared.driving.Drove.{Drove}
 use Rattle.acq_cli.specs.declared.driving.Drove.TheVariants as drove
@@ -65,7 +62,7 @@ use Rattle.acq_cli.specs.declared.terms.Terms.{Terms}
 use Rattle.acq_cli.proofs.Answering.{AnswersEach, EndsItself, HasLines, AsMany, ends_itself, lines_answer, network_answers}
 use Rattle.acq_cli.proofs.Closings.{okay, same_ok, err_ok}
 use Rattle.acq_cli.proofs.Enough.{generated_is_settled}
-use Rattle.acq_cli.proofs.Exactly.{fine, gives_got, closed_end}
+use Rattle.acq_cli.proofs.Spoken.{closed_end, fine, fine_long, gives_got, long_one, whole_of}
 use Rattle.acq_cli.proofs.Reached.{IsReached}
 use Rattle.acq_cli.proofs.Targets.{none_of}
 
@@ -216,21 +213,14 @@ module _ (terms : Terms) (left written left' written' : Option (List ℕ)) (byte
 
 -- ---- the commands over a journal
 
--- what was read to the end is the whole, and nothing is left of it
-record IsWhole (bytes got : List ℕ) : Type 0 where
-  is : bytes ≡ got
-  none : (all_of 4194304 bytes).rest ≡ []
-
-abbrev long_one : Result (List ℕ) AllFault
-long_one = Err TooLong
-
-whole_read : (bytes got : List ℕ) → (all_of 4194304 bytes).got ≡ fine got → IsWhole bytes got
+-- nothing is left of what was read to the end
+none_left : (bytes got : List ℕ) → (all_of 4194304 bytes).got ≡ fine got → (all_of 4194304 bytes).rest ≡ []
 unfolding all_of
-whole_read bytes got is = go (nat_le (length bytes) 4194304) refl is
+none_left bytes got is = go (nat_le (length bytes) 4194304) is
   where
-    go : (b : Bool) → nat_le (length bytes) 4194304 ≡ b → (cond b (gathered (fine bytes) []) (gathered long_one (drop (4194304 + 1) bytes))).got ≡ fine got → IsWhole bytes got
-    go true which e = record { is = one_line bytes got e; none = ap (λ b. (cond b (gathered (fine bytes) []) (gathered long_one (drop (4194304 + 1) bytes))).rest) which }
-    go false which e = absurd (fine_err got TooLong (sym e))
+    go : (b : Bool) → (cond b (gathered (fine bytes) []) (gathered long_one (drop (4194304 + 1) bytes))).got ≡ fine got → (cond b (gathered (fine bytes) []) (gathered long_one (drop (4194304 + 1) bytes))).rest ≡ []
+    go true e = refl
+    go false e = absurd (fine_long got (sym e))
 
 none_stale : (t : List Answer) (n : ℕ) → t ≡ [] → n ≡ length t → 1 ≤ n → ⊥
 none_stale t n none number some = let few : length t ≡ 0 = ap length none in omega (arith, few, number, some)
@@ -256,9 +246,10 @@ target_end : (l : Language) (terms : Terms) (start later : List Event) (left res
     HasTarget l terms start bytes → ReadsTarget l left rest target → ((m : ℕ) → end ≡ ending.Collapsed m → ⊥) → NoFault end → Tries (net_turn target false) l terms start later rest written left' written' end → Converges end
 target_end l terms start later left rest written left' written' end bytes target lawful reached from tells has reads agreed calm tries =
     let before = bytes_told written tells in
-    let whole = whole_read bytes reads.bytes (gives_got (all_of 4194304) left rest (fine reads.bytes) bytes reads.gives from) in
-    let nothing : rest ≡ Some [] = gives_rest (all_of 4194304) left rest (fine reads.bytes) bytes reads.gives from ∙ ap (λ (x : List ℕ). let o : Option (List ℕ) = Some x in o) whole.none in
-    let same : has.target ≡ target = same_target has.target target (sym has.is ∙ ap (network_of l) whole.is ∙ reads.is) in
+    let got = gives_got (all_of 4194304) left rest (fine reads.bytes) bytes reads.gives from in
+    let whole : bytes ≡ reads.bytes = whole_of 4194304 bytes reads.bytes got in
+    let nothing : rest ≡ Some [] = gives_rest (all_of 4194304) left rest (fine reads.bytes) bytes reads.gives from ∙ ap (λ (x : List ℕ). let o : Option (List ℕ) = Some x in o) (none_left bytes reads.bytes got) in
+    let same : has.target ≡ target = same_target has.target target (sym has.is ∙ ap (network_of l) whole ∙ reads.is) in
     let Afforded : List Candidate → Type 0 = λ x. IsAffordable (net_turn x false) l terms start [] in
     ⊎_elim (λ converged. inl converged) (λ collapsed. absurd (agreed collapsed.0 collapsed.1))
     (own_end (net_turn target false) AsMany (network_answers target false) l lawful terms (most_answers l) start later rest written left' written' end [] before.0 nothing before.1 reached (omega arith) tt has.room (subst Afforded same has.affordable) tries calm.read calm.kept)
@@ -296,14 +287,14 @@ told_end number l terms events written written' (ending.CertUnread fault) made e
 module _ {D : Type 0} (disk : DiskOf D) (left written left' written' : Option (List ℕ)) (old new : D) (end : Ending) (calm : NoFault end) where
   run_completes : (budget : ℕ) → RunsOn disk budget left written left' written' old new (okay end) → (bytes file : List ℕ) → left ≡ Some bytes → disk.content old ≡ Some file → IsSome written → RunHasEnough budget bytes file → ConvergesOrCollapses end
   run_completes budget (inl closed) bytes file from told tells has =
-      ⊎_elim (λ broken. inr (inr (broken_memory end broken calm))) (λ is. absurd (has.opens closed.fault (is.0, closed.why file told))) (closed_end written written' end closed.fault (untold closed.fault) refl closed.refuses)
+      ⊎_elim (λ broken. inr (inr (broken_memory end broken calm))) (λ is. absurd (has.opens closed.fault (is.0, closed.why file told))) (closed_end written written' end closed.fault closed.refuses)
   run_completes budget (inr on) bytes file from told tells has =
       lines_end on.lang (terms_with on.plan budget) on.events on.later left written left' written' end bytes on.read.built.lawful (places_reached on.lang on.plan on.events on.places) from tells
       (has.room on.plan on.voc on.events on.lang (on.says file told) on.read) (has.enough on.plan on.voc on.events on.lang (on.says file told) on.read) calm on.tries
 
   play_completes : (budget : ℕ) → PlaysOn disk budget left written left' written' old new (okay end) → (bytes file : List ℕ) → left ≡ Some bytes → disk.content old ≡ Some file → IsSome written → PlayHasEnough budget bytes file → Converges end
   play_completes budget (inl closed) bytes file from told tells has =
-      ⊎_elim (λ broken. inr (broken_memory end broken calm)) (λ is. absurd (has.opens closed.fault (is.0, closed.why file told))) (closed_end written written' end closed.fault (untold closed.fault) refl closed.refuses)
+      ⊎_elim (λ broken. inr (broken_memory end broken calm)) (λ is. absurd (has.opens closed.fault (is.0, closed.why file told))) (closed_end written written' end closed.fault closed.refuses)
   play_completes budget (inr (inl stale)) bytes file from told tells has =
       let o = stale.opened in
       let given = has.enough o.plan o.voc o.events o.lang (o.says file told) o.read in
@@ -317,52 +308,40 @@ module _ {D : Type 0} (disk : DiskOf D) (left written left' written' : Option (L
       target_end on.lang (terms_with on.plan budget) on.events on.later left played.rest written left' written' end bytes played.target on.read.built.lawful (places_reached on.lang on.plan on.events on.places) from tells
       (has.enough on.plan on.voc on.events on.lang (on.says file told) on.read) played.reads (λ m is. played.answered.no_collapse m (ap okay is)) calm on.tries
 
-  new_completes : (content' : Option (List ℕ)) → NewEnds left content' end → (bytes file : List ℕ) → left ≡ Some bytes → content' ≡ Some file → HasVocabulary bytes → HasNoSession file → IsDoneWith end
-  new_completes content' ends bytes file from told voc free = ⊎_elim (λ broken. inr (broken_memory end broken calm)) (λ exactly. inl (exactly.done.1 (voc, free))) (ends bytes from file told)
-
-  ask_completes : (a : Ask) (content' : Option (List ℕ)) → SaidEnds (asked_said a) content' end → SaysItsOwn a content' end
-  ask_completes a content' ends = λ file told. ⊎_elim (λ broken. inr (broken_memory end broken calm)) (λ said. inl said) (ends file told)
+  says_its_own : (says : Opened → Saying) (content' : Option (List ℕ)) → SaidEnds says content' end → SaysItsOwn says content' end
+  says_its_own says content' ends = λ file told. ⊎_elim (λ broken. inr (broken_memory end broken calm)) (λ said. inl said) (ends file told)
 
   demo_completes : (number budget : ℕ) → Demos number budget written written' (okay end) → 88573 ≤ budget → Converges end
   demo_completes number budget (inl none) enough = absurd (err_ok put.Memory end (sym none.0))
   demo_completes number budget (inr demo) enough = told_end number demo.lang (terms_with Quacq budget) demo.events written written' end demo.generated enough demo.ends
 
-  solve_completes : (content' : Option (List ℕ)) → SolveEnds left content' end → (bytes file : List ℕ) → left ≡ Some bytes → content' ≡ Some file → HoldsModel bytes file → IsDoneWith end
-  solve_completes content' ends bytes file from told held = ⊎_elim (λ broken. inr (broken_memory end broken calm)) (λ exactly. inl (exactly.done.1 held)) (ends bytes from file told)
-
-  check_completes : ConfirmEnds left end → (bytes : List ℕ) → left ≡ Some bytes → IsConfirmed bytes → IsDoneWith end
-  check_completes ends bytes from held = ⊎_elim (λ broken. inr (broken_memory end broken calm)) (λ exactly. inl (exactly.done.1 held)) (ends bytes from)
-
-  back_completes : (content' : Option (List ℕ)) → BackEnds content' end → (file : List ℕ) → content' ≡ Some file → HoldsLast file → IsDoneWith end
-  back_completes content' ends file told held = ⊎_elim (λ broken. inr (broken_memory end broken calm)) (λ exactly. inl (exactly.done.1 held)) (ends file told)
-
   pub completes : (asked : Result Command UsageFault) → Does disk asked left written left' written' old new (okay end) → EndsExactly asked left (disk.content old) end → Completes asked left written (disk.content old) end
-  completes (Ok (command.New plan)) does ends = λ bytes from file told. new_completes (disk.content old) ends bytes file from told
+  completes (Ok (command.New plan)) does ends = λ bytes from file told. ⊎_elim (λ broken. inr (broken_memory end broken calm)) (λ made. inl made) (ends bytes from file told)
   completes (Ok (command.Run budget)) does ends = λ bytes from file told. run_completes budget does bytes file from told
   completes (Ok (command.Play budget)) does ends = λ bytes from file told. play_completes budget does bytes file from told
-  completes (Ok command.Show) does ends = ask_completes ask.Show (disk.content old) ends
-  completes (Ok command.Back) does ends = λ file told. back_completes (disk.content old) ends file told
+  completes (Ok command.Show) does ends = says_its_own (asked_said ask.Show) (disk.content old) ends
+  completes (Ok command.Back) does ends = says_its_own back_said (disk.content old) ends
   completes (Ok (command.Try plan budget)) does ends = λ bytes from tells has. try_completes (terms_with plan budget) left written left' written' bytes from tells has end calm does
   completes (Ok (command.Demo number budget)) does ends = λ enough. demo_completes number budget does enough
-  completes (Ok (command.Reduce budget)) does ends = ask_completes (ask.Reduce budget) (disk.content old) ends
-  completes (Ok command.Cnf) does ends = ask_completes ask.Cnf (disk.content old) ends
-  completes (Ok command.Model) does ends = λ bytes from file told. solve_completes (disk.content old) ends bytes file from told
-  completes (Ok (command.Certify budget)) does ends = ask_completes (ask.Certify budget) (disk.content old) ends
-  completes (Ok command.Check) does ends = λ bytes from. check_completes ends bytes from
+  completes (Ok (command.Reduce budget)) does ends = says_its_own (asked_said (ask.Reduce budget)) (disk.content old) ends
+  completes (Ok command.Cnf) does ends = says_its_own (asked_said ask.Cnf) (disk.content old) ends
+  completes (Ok command.Model) does ends = λ bytes from. says_its_own (solved_said (all_of 4194304 bytes).got) (disk.content old) (ends bytes from)
+  completes (Ok (command.Certify budget)) does ends = says_its_own (asked_said (ask.Certify budget)) (disk.content old) ends
+  completes (Ok command.Check) does ends = λ bytes from. ⊎_elim (λ broken. inr (broken_memory end broken calm)) (λ exactly. inl exactly) (ends bytes from)
   completes (Err fault) does ends = tt
 
 -- want of memory is always an answer
 pub memory_completes : (asked : Result Command UsageFault) (left written content : Option (List ℕ)) → Completes asked left written content ending.Memory
-memory_completes (Ok (command.New plan)) left written content = λ bytes from file told voc free. inr refl
+memory_completes (Ok (command.New plan)) left written content = λ bytes from file told. inr refl
 memory_completes (Ok (command.Run budget)) left written content = λ bytes from file told tells has. inr (inr refl)
 memory_completes (Ok (command.Play budget)) left written content = λ bytes from file told tells has. inr refl
 memory_completes (Ok command.Show) left written content = λ file told. inr refl
-memory_completes (Ok command.Back) left written content = λ file told held. inr refl
+memory_completes (Ok command.Back) left written content = λ file told. inr refl
 memory_completes (Ok (command.Try plan budget)) left written content = λ bytes from tells has. inr (inr refl)
 memory_completes (Ok (command.Demo number budget)) left written content = λ enough. inr refl
 memory_completes (Ok (command.Reduce budget)) left written content = λ file told. inr refl
 memory_completes (Ok command.Cnf) left written content = λ file told. inr refl
-memory_completes (Ok command.Model) left written content = λ bytes from file told held. inr refl
+memory_completes (Ok command.Model) left written content = λ bytes from file told. inr refl
 memory_completes (Ok (command.Certify budget)) left written content = λ file told. inr refl
-memory_completes (Ok command.Check) left written content = λ bytes from held. inr refl
+memory_completes (Ok command.Check) left written content = λ bytes from. inr refl
 memory_completes (Err fault) left written content = tt

@@ -22,7 +22,7 @@ use Rattle.acq_cli.specs.Added.{MayEnd}
 use Rattle.acq_cli.specs.Closings.{closing_of, ending_of}
 use Rattle.acq_cli.specs.Demoing.{ClosesQuietly, Demos, HasDriven, IsQuietEnd, SumsUp, Tells, TellsFront, demo_text, summary_text, whole_demo}
 use Rattle.acq_cli.specs.Driven.{Drives, IsOwned}
-use Rattle.acq_cli.specs.Journals.{EndsWith}
+use Rattle.acq_cli.specs.Said.{EndsWith}
 use Rattle.acq_cli.specs.Playing.{IsAnsweredBy, IsUnstopped}
 use Rattle.acq_cli.specs.Points.{point_of, terms_with}
 use Rattle.acq_cli.specs.Run.{Closing, Converged, Undecided}

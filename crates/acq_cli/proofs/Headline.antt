@@ -24,14 +24,14 @@ use Rattle.acq_cli.specs.Endings.{Closes, Tries}
 use Rattle.acq_cli.specs.Headline.{FindsNetwork, FindsNone}
 use Rattle.acq_cli.specs.Points.{terms_with}
 use Rattle.acq_cli.specs.Texts.{converged_text, learned_after, learned_in}
-use Rattle.acq_cli.specs.declared.ask.Ask.TheVariants as ask
 use Rattle.acq_cli.specs.declared.driving.Drove.{Drove}
 use Rattle.acq_cli.specs.declared.driving.Drove.TheVariants as drove
 use Rattle.acq_cli.specs.declared.ending.Ending.TheVariants as ending
 use Rattle.acq_cli.specs.declared.terms.Terms.{Terms}
-use Rattle.acq_cli.proofs.Asked.{ask_own, back_own, confirm_own, new_own, solve_own, without_own}
+use Rattle.acq_cli.proofs.Asked.{without_own}
 use Rattle.acq_cli.proofs.Closings.{err_ok, loops_by, okay}
 use Rattle.acq_cli.proofs.SaidOver.{is_own, refuses_own}
+use Rattle.acq_cli.proofs.Speaking.{speaks_own}
 use Rattle.acq_cli.proofs.Targets.{found_by}
 
 -- ---- what a run has found
@@ -85,7 +85,7 @@ module _ {D : Type 0} (disk : DiskOf D) (left written left' written' : Option (L
   apart_none own = absurd (let bad : false ≡ true = own in let no : ⊥ = cc in no)
 
   pub finds_network : (asked : Result Command UsageFault) → Does disk asked left written left' written' old new (okay (ending.Converged m)) → FindsNetwork asked left (disk.content old) written' m
-  finds_network (Ok (command.New plan)) does = apart (new_own disk left written left' written' old new (ending.Converged m) plan does)
+  finds_network (Ok (command.New plan)) does = apart (speaks_own disk left written left' written' old new (ending.Converged m) (command.New plan) does)
   finds_network (Ok (command.Run budget)) (inl closed) = apart (refuses_own written written' (ending.Converged m) closed.fault closed.refuses)
   finds_network (Ok (command.Run budget)) (inr on) =
       let has = converged_run line_turn on.lang (terms_with on.plan budget) on.events on.later left written left' written' m on.tries in
@@ -136,17 +136,17 @@ module _ {D : Type 0} (disk : DiskOf D) (left written left' written' : Option (L
         converged = learned_converges demo.lang (terms_with Quacq budget) (standing_on demo.lang demo.events) closes.found;
         prints = tt;
       }
-  finds_network (Ok command.Show) does = apart (ask_own disk left written left' written' old new (ending.Converged m) ask.Show does)
-  finds_network (Ok command.Back) does = apart (back_own disk left written left' written' old new (ending.Converged m) does)
-  finds_network (Ok (command.Reduce budget)) does = apart (ask_own disk left written left' written' old new (ending.Converged m) (ask.Reduce budget) does)
-  finds_network (Ok command.Cnf) does = apart (ask_own disk left written left' written' old new (ending.Converged m) ask.Cnf does)
-  finds_network (Ok command.Model) does = apart (solve_own disk left written left' written' old new (ending.Converged m) does)
-  finds_network (Ok (command.Certify budget)) does = apart (ask_own disk left written left' written' old new (ending.Converged m) (ask.Certify budget) does)
-  finds_network (Ok command.Check) does = apart (confirm_own disk left written left' written' old new (ending.Converged m) does)
+  finds_network (Ok command.Show) does = apart (speaks_own disk left written left' written' old new (ending.Converged m) command.Show does)
+  finds_network (Ok command.Back) does = apart (speaks_own disk left written left' written' old new (ending.Converged m) command.Back does)
+  finds_network (Ok (command.Reduce budget)) does = apart (speaks_own disk left written left' written' old new (ending.Converged m) (command.Reduce budget) does)
+  finds_network (Ok command.Cnf) does = apart (speaks_own disk left written left' written' old new (ending.Converged m) command.Cnf does)
+  finds_network (Ok command.Model) does = apart (speaks_own disk left written left' written' old new (ending.Converged m) command.Model does)
+  finds_network (Ok (command.Certify budget)) does = apart (speaks_own disk left written left' written' old new (ending.Converged m) (command.Certify budget) does)
+  finds_network (Ok command.Check) does = apart (speaks_own disk left written left' written' old new (ending.Converged m) command.Check does)
   finds_network (Err fault) does = absurd (let bad : ending.Converged m ≡ ending.Usage fault = does.0 in let no : ⊥ = cc in no)
 
   pub finds_none : (asked : Result Command UsageFault) → Does disk asked left written left' written' old new (okay (ending.Collapsed m)) → FindsNone asked left (disk.content old) m
-  finds_none (Ok (command.New plan)) does = apart_none (new_own disk left written left' written' old new (ending.Collapsed m) plan does)
+  finds_none (Ok (command.New plan)) does = apart_none (speaks_own disk left written left' written' old new (ending.Collapsed m) (command.New plan) does)
   finds_none (Ok (command.Run budget)) (inl closed) = apart_none (refuses_own written written' (ending.Collapsed m) closed.fault closed.refuses)
   finds_none (Ok (command.Run budget)) (inr on) =
       let has = collapsed_run line_turn on.lang (terms_with on.plan budget) on.events on.later left written left' written' m on.tries in
@@ -174,11 +174,11 @@ module _ {D : Type 0} (disk : DiskOf D) (left written left' written' : Option (L
   finds_none (Ok (command.Play budget)) (inr (inr (inr played))) = absurd (played.answered.no_collapse m refl)
   finds_none (Ok (command.Demo number budget)) (inl none) = absurd (err_ok put.Memory (ending.Collapsed m) (sym none.0))
   finds_none (Ok (command.Demo number budget)) (inr demo) = absurd demo.ends
-  finds_none (Ok command.Show) does = apart_none (ask_own disk left written left' written' old new (ending.Collapsed m) ask.Show does)
-  finds_none (Ok command.Back) does = apart_none (back_own disk left written left' written' old new (ending.Collapsed m) does)
-  finds_none (Ok (command.Reduce budget)) does = apart_none (ask_own disk left written left' written' old new (ending.Collapsed m) (ask.Reduce budget) does)
-  finds_none (Ok command.Cnf) does = apart_none (ask_own disk left written left' written' old new (ending.Collapsed m) ask.Cnf does)
-  finds_none (Ok command.Model) does = apart_none (solve_own disk left written left' written' old new (ending.Collapsed m) does)
-  finds_none (Ok (command.Certify budget)) does = apart_none (ask_own disk left written left' written' old new (ending.Collapsed m) (ask.Certify budget) does)
-  finds_none (Ok command.Check) does = apart_none (confirm_own disk left written left' written' old new (ending.Collapsed m) does)
+  finds_none (Ok command.Show) does = apart_none (speaks_own disk left written left' written' old new (ending.Collapsed m) command.Show does)
+  finds_none (Ok command.Back) does = apart_none (speaks_own disk left written left' written' old new (ending.Collapsed m) command.Back does)
+  finds_none (Ok (command.Reduce budget)) does = apart_none (speaks_own disk left written left' written' old new (ending.Collapsed m) (command.Reduce budget) does)
+  finds_none (Ok command.Cnf) does = apart_none (speaks_own disk left written left' written' old new (ending.Collapsed m) command.Cnf does)
+  finds_none (Ok command.Model) does = apart_none (speaks_own disk left written left' written' old new (ending.Collapsed m) command.Model does)
+  finds_none (Ok (command.Certify budget)) does = apart_none (speaks_own disk left written left' written' old new (ending.Collapsed m) (command.Certify budget) does)
+  finds_none (Ok command.Check) does = apart_none (speaks_own disk left written left' written' old new (ending.Collapsed m) command.Check does)
   finds_none (Err fault) does = absurd (let bad : ending.Collapsed m ≡ ending.Usage fault = does.0 in let no : ⊥ = cc in no)

@@ -4,7 +4,7 @@ use Rattle.std.specs.Prelude.{◌≢◌, IfOk, OnErr, IsSome}
 use Rattle.std.specs.Option.{ForSome}
 use Rattle.std.proofs.lemmas.List.{append-nil}
 use Rattle.disk_model.specs.declared.disk.Disk.{Ghosts as DiskOf}
-use Rattle.acq_io.specs.Streams.{Adds, AddsFront}
+use Rattle.acq_io.specs.Streams.{AddsFront}
 use Rattle.acq_io.specs.declared.streams.Put.{Put}
 use Rattle.acq_io.specs.declared.streams.Put.TheVariants as put
 use Rattle.answer_journal.specs.declared.fault.JFault.TheVariants as journal
@@ -31,11 +31,14 @@ use Rattle.acq_cli.specs.Driven.{Loses}
 use Rattle.acq_cli.specs.Points.{point_of, terms_with}
 use Rattle.acq_cli.specs.Endings.{Tries}
 use Rattle.acq_cli.specs.Running.{GoesOn}
-use Rattle.acq_cli.specs.Journals.{EndsWith, untold}
+use Rattle.acq_cli.specs.Said.{EndsWith}
 use Rattle.acq_cli.proofs.Closings.{okay, same_ok, err_ok}
 use Rattle.acq_cli.proofs.Parts.{written_badly}
 use Rattle.acq_cli.specs.declared.ending.Ending.{Ending}
 use Rattle.acq_cli.specs.declared.ending.Ending.TheVariants as ending
+use Rattle.acq_cli.specs.Journals.{untold}
+use Rattle.acq_cli.specs.declared.said.Unsaid.{Unsaid}
+use Rattle.acq_cli.specs.declared.said.Unsaid.TheVariants as unsaid
 
 abbrev pub IsDisk : Result Ending Put → Type 0
 IsDisk got = got ≡ Ok ending.DiskFault
@@ -153,66 +156,36 @@ module _ {D : Type 0} (disk : DiskOf D) where
 
 -- ---- what was said
 
--- where nothing is written for want of memory
-pub ends_with : (end : Ending) (text : List ℕ) (old new : Option (List ℕ)) (got : Result Ending Put) → IfOk got (λ (e : Ending). (e ≡ end) × Adds old new text) → OnErr got (AddsFront old new text) → (got ≡ Err put.Memory → new ≡ old) →
-    EndsWith end text old new got
-ends_with end text old new (Ok e) told part memory = told
-ends_with end text old new (Err put.Failed) told part memory = part
-ends_with end text old new (Err put.Memory) told part memory = memory refl
-
--- it ends in no other way
-pub ends_only : (end other : Ending) (text : List ℕ) (old new : Option (List ℕ)) (got : Result Ending Put) → (end ≡ other → ⊥) → EndsWith end text old new got → IfOk got (λ (e : Ending). e ≢ other)
-ends_only end other text old new (Ok e) apart (is, said) = λ same. apart (sym is ∙ same)
-ends_only end other text old new (Err e) apart told = tt
-
 -- where a text couldn't be written
 pub ends_badly : (end : Ending) (text bytes : List ℕ) (old new : Option (List ℕ)) (e : Put) → bytes ≡ text → (written_badly e ≡ Err put.Failed → AddsFront old new bytes) → (written_badly e ≡ Err put.Memory → new ≡ old) →
     EndsWith end text old new (Err e)
 ends_badly end text bytes old new put.Failed is failed memory = subst (AddsFront old new) is (failed refl)
 ends_badly end text bytes old new put.Memory is failed memory = memory refl
 
--- where a part of it wasn't
-pub said_badly : (end : Ending) (text : List ℕ) (old new : Option (List ℕ)) (e : Put) → AddsFront old new text → (written_badly e ≡ Err put.Memory → new ≡ old) → EndsWith end text old new (Err e)
-said_badly end text old new put.Failed part memory = part
-said_badly end text old new put.Memory part memory = memory refl
-
 -- ---- faults that aren't told
 
-abbrev wanting : Result Ending Put
-wanting = Err put.Memory
+abbrev unspoken : Option Unsaid → Unsaid → Type 0
+unspoken o why = o ≡ Some why
 
--- the disk failed, or memory was wanted
-pub untold_ends : (fault : SFault) (end : Result Ending Put) → untold fault ≡ Some end → ((fault ≡ store.Journal journal.DiskFault) × (end ≡ okay ending.DiskFault)) ⊎ (end ≡ wanting)
-untold_ends (store.Journal journal.SessionThere) end is = absurd (let no : ⊥ = cc in no)
-untold_ends (store.Journal journal.NoSession) end is = absurd (let no : ⊥ = cc in no)
-untold_ends (store.Journal journal.NotAJournal) end is = absurd (let no : ⊥ = cc in no)
-untold_ends (store.Journal (journal.Damaged at)) end is = absurd (let no : ⊥ = cc in no)
-untold_ends (store.Journal journal.TooManyRecords) end is = absurd (let no : ⊥ = cc in no)
-untold_ends (store.Journal journal.Full) end is = absurd (let no : ⊥ = cc in no)
-untold_ends (store.Journal journal.DiskFault) end is = inl (refl, let same : end ≡ okay ending.DiskFault = cc in same)
-untold_ends (store.Journal journal.Memory) end is = inr (let same : end ≡ wanting = cc in same)
-untold_ends (store.Voc fault) end is = absurd (let no : ⊥ = cc in no)
-untold_ends (store.Stray i) end is = absurd (let no : ⊥ = cc in no)
-untold_ends store.Memory end is = inr (let same : end ≡ wanting = cc in same)
+-- the disk failed, or memory was wanting
+pub untold_is : (fault : SFault) (why : Unsaid) → unspoken (untold fault) why → ((fault ≡ store.Journal journal.DiskFault) × (why ≡ unsaid.DiskFault)) ⊎ (why ≡ unsaid.Memory)
+untold_is (store.Journal journal.SessionThere) why is = absurd (let no : ⊥ = cc in no)
+untold_is (store.Journal journal.NoSession) why is = absurd (let no : ⊥ = cc in no)
+untold_is (store.Journal journal.NotAJournal) why is = absurd (let no : ⊥ = cc in no)
+untold_is (store.Journal (journal.Damaged at)) why is = absurd (let no : ⊥ = cc in no)
+untold_is (store.Journal journal.TooManyRecords) why is = absurd (let no : ⊥ = cc in no)
+untold_is (store.Journal journal.Full) why is = absurd (let no : ⊥ = cc in no)
+untold_is (store.Journal journal.DiskFault) why is = inl (refl, let same : why ≡ unsaid.DiskFault = cc in same)
+untold_is (store.Journal journal.Memory) why is = inr (let same : why ≡ unsaid.Memory = cc in same)
+untold_is (store.Voc fault) why is = absurd (let no : ⊥ = cc in no)
+untold_is (store.Stray i) why is = absurd (let no : ⊥ = cc in no)
+untold_is store.Memory why is = inr (let same : why ≡ unsaid.Memory = cc in same)
 
--- what holds of both holds of the ending
-pub untold_has : (P : Result Ending Put → Type 0) (fault : SFault) (end : Result Ending Put) → untold fault ≡ Some end → P (okay ending.DiskFault) → P wanting → P end
-untold_has P fault end is disk memory = ⊎_elim (λ failed. subst P (sym failed.1) disk) (λ want. subst P (sym want) memory) (untold_ends fault end is)
+pub untold_read : (fault : SFault) (why : Unsaid) → unspoken (untold fault) why → why ≡ unsaid.ReadFault → ⊥
+untold_read fault why is read = ⊎_elim (λ failed. let no : unsaid.ReadFault ≡ unsaid.DiskFault = sym read ∙ failed.1 in cc) (λ want. let no : unsaid.ReadFault ≡ unsaid.Memory = sym read ∙ want in cc) (untold_is fault why is)
 
-wanting_okay : wanting ≡ okay ending.DiskFault → ⊥
-wanting_okay e = cc
-
-pub untold_disk : (fault : SFault) (end : Result Ending Put) → untold fault ≡ Some end → end ≡ okay ending.DiskFault → fault ≡ store.Journal journal.DiskFault
-untold_disk fault end is ended = ⊎_elim (λ failed. failed.0) (λ want. absurd (wanting_okay (sym want ∙ ended))) (untold_ends fault end is)
-
-pub untold_writes : (fault : SFault) (end : Result Ending Put) → untold fault ≡ Some end → IfOk end (λ e. e ≢ ending.WriteFault)
-untold_writes fault end is = untold_has (λ r. IfOk r (λ e. e ≢ ending.WriteFault)) fault end is (λ e. cc) tt
-
-pub untold_reads : (fault : SFault) (end : Result Ending Put) → untold fault ≡ Some end → IfOk end (λ e. e ≢ ending.ReadFault)
-untold_reads fault end is = untold_has (λ r. IfOk r (λ e. e ≢ ending.ReadFault)) fault end is (λ e. cc) tt
-
-pub untold_failed : (P : Type 0) (fault : SFault) (end : Result Ending Put) → untold fault ≡ Some end → end ≡ Err put.Failed → P
-untold_failed P fault end is = untold_has (λ r. r ≡ Err put.Failed → P) fault end is (λ e. absurd (let no : ⊥ = cc in no)) (λ e. absurd (let no : ⊥ = cc in no))
+pub untold_disk : (fault : SFault) (why : Unsaid) → unspoken (untold fault) why → why ≡ unsaid.DiskFault → fault ≡ store.Journal journal.DiskFault
+untold_disk fault why is disk = ⊎_elim (λ failed. failed.0) (λ want. let no : unsaid.DiskFault ≡ unsaid.Memory = sym disk ∙ want in absurd (let bad : ⊥ = cc in bad)) (untold_is fault why is)
 
 -- ---- making a journal
 

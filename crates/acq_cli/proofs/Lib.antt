@@ -14,6 +14,7 @@ pub mod OpenCandidates
 pub mod OpenLines
 pub mod Sayings
 pub mod Closings
+pub mod Spoken
 pub mod Owners
 pub mod Walked
 pub mod Parts
@@ -38,4 +39,6 @@ pub mod Solved
 pub mod StandingQuestions
 pub mod Certified
 pub mod Confirmed
+pub mod Made
 pub mod TakenBack
+pub mod Speaking

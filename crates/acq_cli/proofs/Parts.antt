@@ -3,7 +3,8 @@ use Rattle.std.proofs.Common.{◌≡◌, ◌⊎◌, ℕ, List, [], ◌++◌, ap,
 use Rattle.std.proofs.lemmas.List.{append-nil}
 use Rattle.std.specs.Prelude.{IfOk, OnErr}
 use Rattle.std.specs.Option.{option_map}
-use Rattle.acq_io.specs.Streams.{AddsFront, TakesSome}
+use Rattle.acq_io.specs.Streams.{Adds, AddsFront, TakesSome}
+use Rattle.acq_cli.specs.Said.{EndsWith}
 use Rattle.acq_io.specs.Whole.{Gathered, gathered, Gives, TakesOfLine, first_line_of}
 use Rattle.acq_io.specs.declared.streams.Put.{Put}
 use Rattle.acq_io.specs.declared.streams.Put.TheVariants.{Failed, Memory}
@@ -55,16 +56,20 @@ wrote_part (Err Memory) old new text failed memory =
 abbrev pub written_badly : Put → Result (Unit {0}) Put
 written_badly e = Err e
 
+-- what was said whole, and what was written where it wasn't
+pub ends_ok : (end : Ending) (text : List ℕ) (old new : Option (List ℕ)) (got : Result Ending Put) → EndsWith end text old new got → IfOk got (λ e. (e ≡ end) × Adds old new text)
+ends_ok end text old new (Ok e) told = told
+ends_ok end text old new (Err e) told = tt
+
+pub ends_part : (end : Ending) (text : List ℕ) (old new : Option (List ℕ)) (got : Result Ending Put) → EndsWith end text old new got → OnErr got (AddsFront old new text)
+ends_part end text old new (Ok e) told = tt
+ends_part end text old new (Err Failed) told = told
+ends_part end text old new (Err Memory) told = let P : Option (List ℕ) → Type 0 = λ w. AddsFront old w text in subst P (sym told) (adds_nothing old text)
+
 -- what is told in place of the value
 pub on_err : {A : Type 0} (got : Result A Put) {P : Type 0} → P → OnErr got P
 on_err (Ok done) part = tt
 on_err (Err e) part = part
-
-pub done_writes : ending.Done ≡ ending.WriteFault → ⊥
-done_writes e = cc
-
-pub done_reads : ending.Done ≡ ending.ReadFault → ⊥
-done_reads e = cc
 
 -- ---- the text of a run
 

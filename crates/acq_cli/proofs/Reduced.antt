@@ -20,12 +20,10 @@ use Rattle.session_core.specs.Standing.{Stands, knowledge_of}
 use Rattle.session_core.specs.declared.session.Session.{Session}
 use Rattle.session_laws.specs.Session.{state_after}
 use Rattle.session_store.specs.Opened.{Opened}
-use Rattle.acq_cli.specs.Exactly.{HoldsSession}
 use Rattle.acq_cli.specs.Reducing.{IsReduced, IsSpent, ReducesTruly, first_spent, network_after, network_of, network_said, sifted_said, spent_first, unreduced_said}
 use Rattle.acq_cli.specs.Saying.{Saying, saying}
 use Rattle.acq_cli.specs.Texts.{learned_in}
-use Rattle.acq_cli.proofs.Exactly.{same_in}
-use Rattle.acq_cli.proofs.SaidOver.{ok_any}
+use Rattle.acq_cli.proofs.Spoken.{ok_any}
 use Rattle.acq_cli.proofs.Standings.{stands_at}
 use Rattle.acq_cli.specs.declared.ending.Ending.TheVariants as ending
 
@@ -37,10 +35,6 @@ pub learned_as : (session : Session) (l : Language) (plan : Plan) (events : List
 learned_as session l plan events lang planned stands =
     let there = stands_at session (standing_on l events) stands in
     sym (ap learned_in (sym (λ i. state_after (lang i) (planned i) (standing_on l events)) ∙ there.at) ∙ there.network)
-
--- two readings of a file lead to one network
-pub one_network : (file : List ℕ) (P : Language → List Candidate → Type 0) (a b : HoldsSession file) → P a.lang (network_after a.lang a.plan a.events) → P b.lang (network_after b.lang b.plan b.events)
-one_network file P a b holds = subst (λ (o : Opened). P o.lang (network_of o)) (same_in file a b) holds
 
 -- ---- the first item whose search is spent
 

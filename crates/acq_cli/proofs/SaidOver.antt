@@ -1,74 +1,79 @@
--- What a command that only says something of a journal's session has done.
-use Rattle.std.proofs.Common.{◌≡◌, ◌∙◌, ◌⊎◌, ℕ, Bool, true, false, List, length, Option, Some, None, Result, Ok, Err, refl, sym, ap, subst, inl, inr, ⊎_elim}
-use Rattle.std.specs.Prelude.{◌≢◌, IfOk, IsErr}
+-- What a command that only says something has done, and by which endings.
+use Rattle.std.proofs.Common.{◌≡◌, ◌∙◌, ◌⊎◌, ℕ, Bool, true, false, List, length, Option, Some, None, Result, Ok, Err, refl, sym, ap, inl, inr, ⊎_elim}
 use Rattle.disk_model.specs.declared.disk.Disk.{Ghosts as DiskOf}
+use Rattle.acq_io.specs.Whole.{all_of}
 use Rattle.acq_io.specs.declared.streams.Put.{Put}
 use Rattle.acq_io.specs.declared.streams.Put.TheVariants as put
+use Rattle.acq_io.specs.declared.whole.AllFault.{AllFault}
+use Rattle.acq_io.specs.declared.whole.AllFault.TheVariants as all
+use Rattle.assign.specs.Assignment.{Assignment}
+use Rattle.cert_check.specs.Certificate.{Certificate}
+use Rattle.cert_check.specs.Checking.{verdict}
 use Rattle.cert_check.specs.Making.{made}
+use Rattle.cert_check.specs.declared.fault.CertFault.{CertFault}
 use Rattle.cert_check.specs.declared.fault.MakeFault.{MakeFault}
+use Rattle.cert_check.specs.declared.verdict.Verdict.{Verdict}
+use Rattle.cert_check.specs.declared.verdict.Verdict.TheVariants.{Yes, No}
 use Rattle.language.specs.declared.candidates.Candidate.{Candidate}
 use Rattle.language.specs.Language.{Language}
 use Rattle.language.specs.Answers.{standing_on}
+use Rattle.net_cnf.specs.Models.{model_of}
 use Rattle.net_cnf.specs.Texts.{cnf_of}
 use Rattle.net_cnf.specs.declared.fault.CnfFault.{CnfFault}
+use Rattle.net_cnf.specs.declared.model_fault.ModelFault.{ModelFault}
 use Rattle.session_store.specs.Opened.{Opened, OpensOnce, RefusesOpening}
 use Rattle.session_store.specs.declared.fault.SFault.{SFault}
 use Rattle.acq_cli.specs.Asks.{asked_said}
 use Rattle.acq_cli.specs.Certifying.{certificate_said, if_at_end, unconverged_said}
+use Rattle.acq_cli.specs.Confirming.{IsCheckOf, checked_said, verdict_said}
 use Rattle.acq_cli.specs.Exactly.{IsBrokenOff}
-use Rattle.acq_cli.specs.Journals.{Refuses, untold}
-use Rattle.acq_cli.specs.Over.{EndsAsSaid, OpensAs, SaidEnds, SaysOver, TellsOpening, UnlessMemory}
+use Rattle.acq_cli.specs.Inputs.{SaysOfRead}
+use Rattle.acq_cli.specs.Journals.{Refuses}
+use Rattle.acq_cli.specs.Over.{EndsAsOpened, OpensAs, SaidEnds, SaysOpening, SaysOver}
 use Rattle.acq_cli.specs.Points.{terms_with}
 use Rattle.acq_cli.specs.Printing.{clauses_said}
 use Rattle.acq_cli.specs.Program.{ended_as}
 use Rattle.acq_cli.specs.Reducing.{first_spent, network_of, sifted_said}
 use Rattle.acq_cli.specs.Run.{Next, Puts, Ends, Converged, Collapsed, Undecided, Suspended, LineTooLong, Unreadable, JournalFull, next_after}
-use Rattle.acq_cli.specs.Saying.{Saying, is_told}
+use Rattle.acq_cli.specs.Said.{HasWritten, IsSaid, SaidSo, SaysSo}
+use Rattle.acq_cli.specs.Saying.{Saying}
+use Rattle.acq_cli.specs.Solving.{SolveEnds, Solves, solution_said, solved_said}
 use Rattle.acq_cli.specs.declared.ask.Ask.{Ask}
 use Rattle.acq_cli.specs.declared.ask.Ask.TheVariants as ask
 use Rattle.acq_cli.specs.declared.ending.Ending.{Ending}
 use Rattle.acq_cli.specs.declared.ending.Ending.TheVariants as ending
-use Rattle.acq_cli.proofs.Closings.{err_ok, okay, same_ok}
-use Rattle.acq_cli.proofs.Exactly.{closed_end, told_of_bytes}
-
--- ---- what was said
-
--- an ending that isn't told with a text isn't that of what was said
-pub told_not : (got : Result Ending Put) (other : Ending) → is_told other ≡ false → IfOk got (λ e. is_told e ≡ true) → IfOk got (λ e. e ≢ other)
-told_not (Ok end) other not told = λ is. let bad : true ≡ false = sym told ∙ (ap is_told is ∙ not) in let no : ⊥ = cc in no
-told_not (Err e) other not told = tt
-
-pub told_never : (got : Result Ending Put) (other : Ending) → is_told other ≡ false → IfOk got (λ e. is_told e ≡ true) → got ≡ okay other → ⊥
-told_never (Ok end) other not told is = let bad : true ≡ false = sym told ∙ (ap is_told (same_ok end other is) ∙ not) in let no : ⊥ = cc in no
-told_never (Err e) other not told is = err_ok e other is
-
--- what is true of what is said is true wherever something was
-pub true_unless : {A E : Type 0} (said : Result A E) (fact : Type 0) (got : Result Ending Put) → IfOk said (λ _. fact) → (IsErr said → got ≡ Err put.Memory) → UnlessMemory fact got
-true_unless (Ok s) fact (Ok end) holds silent = holds
-true_unless (Ok s) fact (Err put.Failed) holds silent = holds
-true_unless (Ok s) fact (Err put.Memory) holds silent = tt
-true_unless (Err e) fact got holds silent = subst (UnlessMemory fact) (sym (silent refl)) tt
-
-pub none_unless : (fact : Type 0) (got : Result Ending Put) → fact → UnlessMemory fact got
-none_unless fact (Ok end) holds = holds
-none_unless fact (Err put.Failed) holds = holds
-none_unless fact (Err put.Memory) holds = tt
+use Rattle.acq_cli.specs.declared.said.Unsaid.{Unsaid}
+use Rattle.acq_cli.specs.declared.said.Unsaid.TheVariants as unsaid
+use Rattle.acq_cli.proofs.Closings.{okay}
+use Rattle.acq_cli.proofs.Exactly.{told_of_bytes}
+use Rattle.acq_cli.proofs.Spoken.{closed_end, ends_said, input_end, refuses_end, silently}
 
 -- ---- exactly when
 
-said_end : OpensOnce → (says : Opened → Saying) (file : List ℕ) (written written' : Option (List ℕ)) (end : Ending) (opening : Result Opened SFault) → OpensAs file opening → TellsOpening says opening written written' (okay end) → IsBrokenOff end ⊎ EndsAsSaid says file end
-said_end once says file written written' end (Ok o) opens tells =
-    inr (record { opening = Ok o; opens = opens; only = λ other holds. once file other (Ok o) holds opens; is = tells.0 })
-said_end once says file written written' end (Err f) opens tells =
+pub said_end : OpensOnce → (says : Opened → Saying) (file : List ℕ) (said : Result Saying Unsaid) (written written' : Option (List ℕ)) (end : Ending) (opening : Result Opened SFault) → OpensAs file opening → SaysOpening says opening said → HasWritten said written written' (okay end) → IsBrokenOff end ⊎ EndsAsOpened says file end
+said_end once says file said written written' end (Ok o) opens is has =
+    inr (record { what = Ok o; there = opens; only = λ other holds. once file other (Ok o) holds opens; is = ends_said (says o) said written written' end is has })
+said_end once says file said written written' end (Err f) opens is has =
     ⊎_elim (λ broken. inl broken)
-    (λ is. let why : RefusesOpening file f = (told_of_bytes f is.0, opens) in inr (record { opening = Err f; opens = why; only = λ other holds. once file other (Err f) holds why; is = is.1 }))
-    (closed_end written written' end f (untold f) refl tells)
+    (λ refused. let why : RefusesOpening file f = (told_of_bytes f refused.0, opens) in inr (record { what = Err f; there = why; only = λ other holds. once file other (Err f) holds why; is = refused.1 }))
+    (refuses_end f said written written' end is has)
 
 module _ {D : Type 0} (disk : DiskOf D) where
-  pub over_ends : OpensOnce → (says : Opened → Saying) (IsTrueOf : Opened → Type 0) (written written' : Option (List ℕ)) (old new : D) (got : Result Ending Put) → SaysOver disk says IsTrueOf written written' old new got → SaidEnds says (disk.content old) (ended_as got)
+  pub over_ends : OpensOnce → (says : Opened → Saying) (IsTrueOf : Opened → Type 0) (written written' : Option (List ℕ)) (old new : D) (got : Result Ending Put) → SaysSo (SaysOver disk (SaysOpening says) IsTrueOf old new) written written' got → SaidEnds says (disk.content old) (ended_as got)
   over_ends once says IsTrueOf written written' old new (Err put.Failed) over = λ file told. inl (inr (inl refl))
   over_ends once says IsTrueOf written written' old new (Err put.Memory) over = λ file told. inl (inr (inr (inr refl)))
-  over_ends once says IsTrueOf written written' old new (Ok end) over = λ file told. said_end once says file written written' end over.opening (over.opens file told) over.tells
+  over_ends once says IsTrueOf written written' old new (Ok end) (said, over, has) = λ file told. said_end once says file said written written' end over.opening (over.opens file told) over.says has
+
+  pub solve_ends : OpensOnce → (left written left' written' : Option (List ℕ)) (old new : D) (got : Result Ending Put) → SaysSo (SaysOver disk (Solves left left') (λ o. Unit {0}) old new) written written' got → SolveEnds left (disk.content old) (ended_as got)
+  solve_ends once left written left' written' old new (Err put.Failed) over = λ bytes from file told. inl (inr (inl refl))
+  solve_ends once left written left' written' old new (Err put.Memory) over = λ bytes from file told. inl (inr (inr (inr refl)))
+  solve_ends once left written left' written' old new (Ok end) (said, over, has) = λ bytes from file told. go bytes from file over.opening (over.opens file told) over.says
+    where
+      go : (bytes : List ℕ) → left ≡ Some bytes → (file : List ℕ) (opening : Result Opened SFault) → OpensAs file opening → Solves left left' opening said → IsBrokenOff end ⊎ EndsAsOpened (solved_said (all_of 4194304 bytes).got) file end
+      go bytes from file (Ok o) opens says =
+          ⊎_elim (λ broken. inl broken) (λ is. said_end once (solved_said (all_of 4194304 bytes).got) file said written written' end (Ok o) opens is has)
+          (input_end 4194304 (λ read. IsSaid (solved_said read o)) left left' written written' said end bytes from says has)
+      go bytes from file (Err f) opens says = said_end once (solved_said (all_of 4194304 bytes).got) file said written written' end (Err f) opens says.0 has
 
 -- ---- of which endings
 
@@ -90,8 +95,8 @@ not_own end other not own is = let bad : true ≡ false = sym own ∙ (ap is_own
 pub broken_own : (end : Ending) → IsBrokenOff end → is_own end ≡ true
 broken_own end broken = ⊎_elim (λ e. ap is_own e) (λ b. ⊎_elim (λ e. ap is_own e) (λ c. ⊎_elim (λ e. ap is_own e) (λ e. ap is_own e) c) b) broken
 
-pub refuses_own : (written written' : Option (List ℕ)) (end : Ending) (f : SFault) → Refuses f written written' (okay end) → is_own end ≡ true
-refuses_own written written' end f refuses = ⊎_elim (broken_own end) (λ is. ap is_own is.1) (closed_end written written' end f (untold f) refl refuses)
+pub refuses_own : (written written' : Option (List ℕ)) (end : Ending) (f : SFault) → SaysSo (Refuses f) written written' (okay end) → is_own end ≡ true
+refuses_own written written' end f refuses = ⊎_elim (broken_own end) (λ is. ap is_own is.1) (closed_end written written' end f refuses)
 
 sifted_own : (l : Language) (network : List Candidate) (budget : ℕ) (o : Option ℕ) → is_own (sifted_said l network budget o).ending ≡ true
 sifted_own l network budget None = refl
@@ -123,13 +128,46 @@ asked_own ask.Cnf o = clauses_own (cnf_of o.lang (network_of o))
 asked_own (ask.Certify budget) o =
     end_own (next_after o.lang (terms_with o.plan budget) (standing_on o.lang o.events)) (made o.voc o.lang (network_of o) (standing_on o.lang o.events) budget) (length (standing_on o.lang o.events))
 
-pub said_own : (a : Ask) (written written' : Option (List ℕ)) (end : Ending) (opening : Result Opened SFault) → TellsOpening (asked_said a) opening written written' (okay end) → is_own end ≡ true
-said_own a written written' end (Ok o) tells = ap is_own tells.0 ∙ asked_own a o
-said_own a written written' end (Err f) tells = refuses_own written written' end f tells
+solution_own : (l : Language) (r : Result Assignment ModelFault) → is_own (solution_said l r).ending ≡ true
+solution_own l (Ok e) = refl
+solution_own l (Err fault) = refl
 
--- ---- whatever was said
+solved_own : (read : Result (List ℕ) AllFault) (o : Opened) → is_own (solved_said read o).ending ≡ true
+solved_own (Ok bytes) o = solution_own o.lang (model_of o.lang (network_of o) bytes)
+solved_own (Err e) o = refl
 
--- a fact holds of it, whether or not there was memory
-pub ok_any : {A E : Type 0} (said : Result A E) {fact : Type 0} → fact → IfOk said (λ _. fact)
-ok_any (Ok s) holds = holds
-ok_any (Err e) holds = tt
+verdict_own : (cert : Certificate) (v : Verdict) → is_own (verdict_said cert v).ending ≡ true
+verdict_own cert Yes = refl
+verdict_own cert (No flaw) = refl
+
+checked_own : (reading : Result Certificate CertFault) → is_own (checked_said reading).ending ≡ true
+checked_own (Ok cert) = verdict_own cert (verdict cert)
+checked_own (Err fault) = refl
+
+pub check_own : (read : Result (List ℕ) AllFault) (what : Saying) → IsCheckOf read what → is_own what.ending ≡ true
+check_own (Ok bytes) what check = ap (λ (s : Saying). is_own s.ending) check.is ∙ checked_own check.reading
+check_own (Err e) what is = ap (λ (s : Saying). is_own s.ending) is
+
+-- by what was said
+pub own_said : (what : Saying) (said : Result Saying Unsaid) (written written' : Option (List ℕ)) (end : Ending) → is_own what.ending ≡ true → IsSaid what said → HasWritten said written written' (okay end) → is_own end ≡ true
+own_said what said written written' end own is has = ap is_own (ends_said what said written written' end is has) ∙ own
+
+pub opening_own : (says : Opened → Saying) → ((o : Opened) → is_own (says o).ending ≡ true) → (opening : Result Opened SFault) (said : Result Saying Unsaid) (written written' : Option (List ℕ)) (end : Ending) → SaysOpening says opening said → HasWritten said written written' (okay end) → is_own end ≡ true
+opening_own says own (Ok o) said written written' end is has = own_said (says o) said written written' end (own o) is has
+opening_own says own (Err f) said written written' end is has = refuses_own written written' end f (said, is, has)
+
+module _ (left left' : Option (List ℕ)) (said : Result Saying Unsaid) (written written' : Option (List ℕ)) (end : Ending) (has : HasWritten said written written' (okay end)) where
+  -- by what was read of the input
+  pub read_own : (most : ℕ) (Says : Result (List ℕ) AllFault → Result Saying Unsaid → Type 0) → ((read : Result (List ℕ) AllFault) → Says read said → is_own end ≡ true) → (read : Result (List ℕ) AllFault) → SaysOfRead most Says left left' said read → is_own end ≡ true
+  read_own most Says own (Ok bytes) says = own (Ok bytes) says.1
+  read_own most Says own (Err all.TooLong) says = own (Err all.TooLong) says.1
+  read_own most Says own (Err all.Fault) says = broken_own end (silently unsaid.ReadFault said written written' end says has)
+  read_own most Says own (Err all.Memory) says = broken_own end (silently unsaid.Memory said written written' end says has)
+
+  pub solves_own : (opening : Result Opened SFault) → Solves left left' opening said → is_own end ≡ true
+  solves_own (Ok o) (read, says) = read_own 4194304 (λ r. IsSaid (solved_said r o)) (λ r is. own_said (solved_said r o) said written written' end (solved_own r o) is has) read says
+  solves_own (Err f) says = refuses_own written written' end f (said, says.0, has)
+
+pub so_own : (IsTrue : Saying → Type 0) → ((what : Saying) → IsTrue what → is_own what.ending ≡ true) → (said : Result Saying Unsaid) (written written' : Option (List ℕ)) (end : Ending) → SaidSo IsTrue said → HasWritten said written written' (okay end) → is_own end ≡ true
+so_own IsTrue own (Ok what) written written' end is has = ap is_own has.0 ∙ own what is
+so_own IsTrue own (Err why) written written' end is has = broken_own end (silently why (Err why) written written' end refl has)

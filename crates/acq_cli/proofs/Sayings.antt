@@ -1,9 +1,8 @@
 -- What is said of a session at its end.
-use Rattle.std.proofs.Common.{◌≡◌, ℕ, List, refl, ap, sym, subst, ◌∙◌, Option}
-use Rattle.std.specs.Prelude.{filter}
-use Rattle.acq_io.specs.Streams.{Adds, AddsFront}
+use Rattle.std.proofs.Common.{◌≡◌, ◌∙◌, ℕ, List, Option, Some, None, Result, Ok, Err, sym, ap, subst, refl}
+use Rattle.std.specs.Prelude.{filter, IfOk, OnErr, IsErr}
+use Rattle.acq_io.specs.declared.streams.Put.{Put}
 use Rattle.assign.specs.Events.{Answer}
-use Rattle.assign.specs.declared.events.Plan.{Plan}
 use Rattle.language.specs.declared.candidates.Candidate.{Candidate}
 use Rattle.language.specs.Language.{Language, candidates}
 use Rattle.query_gen.specs.Marks.{Remembered, is_open}
@@ -11,81 +10,82 @@ use Rattle.session_laws.specs.Walk.{WalkEnd}
 use Rattle.session_laws.specs.Session.{Idle, At, state_after}
 use Rattle.session_core.specs.declared.session.Session.{Session}
 use Rattle.session_core.specs.Standing.{Stands, knowledge_of}
+use Rattle.acq_cli.specs.Closings.{closing_of, ending_of}
 use Rattle.acq_cli.specs.Driven.{HasEnded, TellsOpen}
+use Rattle.acq_cli.specs.Endings.{AddsLast, AddsLastFront, Says, SaysEnd, SaysEndBy, SaysPart}
 use Rattle.acq_cli.specs.Points.{terms_with}
+use Rattle.acq_cli.specs.Run.{Closing, Converged, Undecided}
+use Rattle.acq_cli.specs.Said.{EndsWith, HasWritten, silent_end}
+use Rattle.acq_cli.specs.Saying.{Saying, saying}
+use Rattle.acq_cli.specs.Texts.{closing_text, converged_text, undecided_text, open_candidates, learned_in, learned_after}
 use Rattle.acq_cli.specs.declared.driving.Drove.{Drove}
 use Rattle.acq_cli.specs.declared.driving.Drove.TheVariants as drove
-use Rattle.acq_cli.specs.declared.ending.Ending.TheVariants as ending
-use Rattle.acq_cli.specs.Endings.{Says, SaysPart}
-use Rattle.acq_cli.specs.Texts.{collapsed_text, converged_text, undecided_text, open_candidates, learned_in, learned_after}
+use Rattle.acq_cli.specs.declared.ending.Ending.{Ending}
+use Rattle.acq_cli.specs.declared.said.Unsaid.{Unsaid}
+use Rattle.acq_cli.specs.declared.terms.Terms.{Terms}
+use Rattle.acq_cli.proofs.Closings.{okay}
 use Rattle.acq_cli.proofs.Nexts.{learned_is}
 use Rattle.acq_cli.proofs.OpenCandidates.{opens_are}
+use Rattle.acq_cli.proofs.Parts.{ends_part}
+use Rattle.acq_cli.proofs.Spoken.{ends_as}
 
-pub says_collapsed : (l : Language) (plan : Plan) (budget : ℕ) (t : List Answer) (written written' : Option (List ℕ)) (m : ℕ) (end : Drove) → end ≡ drove.Collapsed m → HasEnded l (terms_with plan budget) t end → Adds written written' (collapsed_text m) → Says l (terms_with plan budget) t written written' end (ending.Collapsed m)
-says_collapsed l plan budget t written written' m end is ended adds = subst SaysOf (sym is) (told (subst (HasEnded l (terms_with plan budget) t) is ended))
-  where
-    SaysOf : Drove → Type 0
-    SaysOf e = Says l (terms_with plan budget) t written written' e (ending.Collapsed m)
+-- ---- the text
 
-    told : HasEnded l (terms_with plan budget) t (drove.Collapsed m) → SaysOf (drove.Collapsed m)
-    told done = (refl, subst (Adds written written') (ap collapsed_text done.number) adds)
+module _ (session : Session) (budget : ℕ) (t : List Answer) (stands : Stands session t) where
+  abbrev l : Language
+  l = (knowledge_of session).lang
 
-module _ (session : Session) (l : Language) (plan : Plan) (budget : ℕ) (t : List Answer) (written written' : Option (List ℕ)) (m : ℕ) (end : Drove) where
-  -- the network that the answers lead to is the session's
-  same_network : Stands session t → (knowledge_of session).lang ≡ l → (knowledge_of session).plan ≡ plan → (network : List Candidate) (ended : Option WalkEnd) → state_after l plan t ≡ At (Idle network ended) → (knowledge_of session).network.list ≡ network
-  same_network stands lang planned network ended at =
-      learned_is session t network ended stands (ap (λ x. state_after x (knowledge_of session).plan t) lang ∙ ap (λ p. state_after l p t) planned ∙ at)
+  abbrev terms : Terms
+  terms = terms_with (knowledge_of session).plan budget
 
   -- the session's network is the one that the answers lead to
-  learned : Stands session t → (knowledge_of session).lang ≡ l → (knowledge_of session).plan ≡ plan → (network : List Candidate) (ended : Option WalkEnd) → state_after l plan t ≡ At (Idle network ended) → (knowledge_of session).network.list ≡ learned_after l (terms_with plan budget) t
-  learned stands lang planned network ended at = same_network stands lang planned network ended at ∙ sym (ap learned_in at)
+  learned : (network : List Candidate) (ended : Option WalkEnd) → state_after l (knowledge_of session).plan t ≡ At (Idle network ended) → (knowledge_of session).network.list ≡ learned_after l terms t
+  learned network ended at = learned_is session t network ended stands at ∙ sym (ap learned_in at)
 
-  pub says_converged : end ≡ drove.Converged m → HasEnded l (terms_with plan budget) t end → Stands session t → (knowledge_of session).lang ≡ l → (knowledge_of session).plan ≡ plan →
-      Adds written written' (converged_text (knowledge_of session).lang (knowledge_of session).network.list m) →
-      Says l (terms_with plan budget) t written written' end (ending.Converged m)
-  says_converged is ended stands lang planned adds =
-      let P : Drove → Type 0 = λ e. Says l (terms_with plan budget) t written written' e (ending.Converged m) in
-      let done = subst (HasEnded l (terms_with plan budget) t) is ended in
-      let net = learned stands lang planned done.found.network done.found.end done.found.idle in
-      subst P (sym is) (refl, subst (Adds written written') (λ i. converged_text (lang i) (net i) (done.number i)) adds)
+  pub converged_so : (m : ℕ) → HasEnded l terms t (drove.Converged m) → converged_text l (knowledge_of session).network.list m ≡ closing_text l terms t Converged
+  converged_so m done = let net = learned done.found.network done.found.end done.found.idle in (λ i. converged_text l (net i) (done.number i))
 
-  pub says_undecided : (screen : Remembered) → end ≡ drove.Undecided m → HasEnded l (terms_with plan budget) t end → TellsOpen l (terms_with plan budget) t screen →
-      Stands session t → (knowledge_of session).lang ≡ l → (knowledge_of session).plan ≡ plan →
-      Adds written written' (undecided_text (knowledge_of session).lang (knowledge_of session).network.list (filter (is_open (knowledge_of session).lang screen) (candidates (knowledge_of session).lang)) m) →
-      Says l (terms_with plan budget) t written written' end (ending.Undecided m)
-  says_undecided screen is ended tells stands lang planned adds =
-      let P : Drove → Type 0 = λ e. Says l (terms_with plan budget) t written written' e (ending.Undecided m) in
-      let done = subst (HasEnded l (terms_with plan budget) t) is ended in
-      let net = learned stands lang planned done.found.network done.found.end done.found.idle in
-      let opens : filter (is_open l screen) (candidates l) ≡ open_candidates l (terms_with plan budget) t (learned_after l (terms_with plan budget) t) =
-      opens_are l (terms_with plan budget) t done.found.network done.found.end screen done.found.idle tells ∙ ap (open_candidates l (terms_with plan budget) t) (sym (ap learned_in done.found.idle)) in
-      subst P (sym is) (
-        refl,
-        subst (Adds written written')
-            (ap (λ x. undecided_text x (knowledge_of session).network.list (filter (is_open x screen) (candidates x)) m) lang
-            ∙ (λ i. undecided_text l (net i) (opens i) (done.number i))) adds,
-      )
+  pub undecided_so : (screen : Remembered) (m : ℕ) → HasEnded l terms t (drove.Undecided m) → TellsOpen l terms t screen →
+      undecided_text l (knowledge_of session).network.list (filter (is_open l screen) (candidates l)) m ≡ closing_text l terms t Undecided
+  undecided_so screen m done tells =
+      let net = learned done.found.network done.found.end done.found.idle in
+      let opens : filter (is_open l screen) (candidates l) ≡ open_candidates l terms t (learned_after l terms t) =
+      opens_are l terms t done.found.network done.found.end screen done.found.idle tells ∙ ap (open_candidates l terms t) (sym (ap learned_in done.found.idle)) in
+      (λ i. undecided_text l (net i) (opens i) (done.number i))
 
-  pub part_converged : end ≡ drove.Converged m → HasEnded l (terms_with plan budget) t end → Stands session t → (knowledge_of session).lang ≡ l → (knowledge_of session).plan ≡ plan →
-      AddsFront written written' (converged_text (knowledge_of session).lang (knowledge_of session).network.list m) →
-      SaysPart l (terms_with plan budget) t written written' end
-  part_converged is ended stands lang planned adds =
-      let P : Drove → Type 0 = SaysPart l (terms_with plan budget) t written written' in
-      let done = subst (HasEnded l (terms_with plan budget) t) is ended in
-      let net = learned stands lang planned done.found.network done.found.end done.found.idle in
-      subst P (sym is) (subst (AddsFront written written') (λ i. converged_text (lang i) (net i) (done.number i)) adds)
+-- ---- what was written of it
 
-  pub part_undecided : (screen : Remembered) → end ≡ drove.Undecided m → HasEnded l (terms_with plan budget) t end → TellsOpen l (terms_with plan budget) t screen →
-      Stands session t → (knowledge_of session).lang ≡ l → (knowledge_of session).plan ≡ plan →
-      AddsFront written written' (undecided_text (knowledge_of session).lang (knowledge_of session).network.list (filter (is_open (knowledge_of session).lang screen) (candidates (knowledge_of session).lang)) m) →
-      SaysPart l (terms_with plan budget) t written written' end
-  part_undecided screen is ended tells stands lang planned adds =
-      let P : Drove → Type 0 = SaysPart l (terms_with plan budget) t written written' in
-      let done = subst (HasEnded l (terms_with plan budget) t) is ended in
-      let net = learned stands lang planned done.found.network done.found.end done.found.idle in
-      let opens : filter (is_open l screen) (candidates l) ≡ open_candidates l (terms_with plan budget) t (learned_after l (terms_with plan budget) t) =
-      opens_are l (terms_with plan budget) t done.found.network done.found.end screen done.found.idle tells ∙ ap (open_candidates l (terms_with plan budget) t) (sym (ap learned_in done.found.idle)) in
-      subst P (sym is)
-      (subst (AddsFront written written')
-      (ap (λ x. undecided_text x (knowledge_of session).network.list (filter (is_open x screen) (candidates x)) m) lang
-      ∙ (λ i. undecided_text l (net i) (opens i) (done.number i))) adds)
+module _ (l : Language) (terms : Terms) (t : List Answer) (said : Result Saying Unsaid) (written written' : Option (List ℕ)) where
+  whole : (closing : Closing) (end : Ending) (got : Result Ending Put) → EndsWith end (closing_text l terms t closing) written written' got → IfOk got (λ e. (okay end ≡ okay e) × AddsLast l terms t written written' (Some closing))
+  whole closing end (Ok e) ends = (ap okay (sym ends.0), ends.1)
+  whole closing end (Err e) ends = tt
+
+  silently : (why : Unsaid) (end got : Result Ending Put) → end ≡ silent_end why → got ≡ silent_end why → written' ≡ written → IfOk got (λ e. (end ≡ Ok e) × AddsLast l terms t written written' None)
+  silently why end (Ok e) is so same = (is ∙ sym so, same)
+  silently why end (Err e) is so same = tt
+
+  failing : (why : Unsaid) (end got : Result Ending Put) → end ≡ silent_end why → got ≡ silent_end why → written' ≡ written → OnErr got (AddsLastFront l terms t written written' end None)
+  failing why end (Ok e) is so same = tt
+  failing why end (Err e) is so same = (same, subst IsErr (so ∙ sym is) refl)
+
+  says_by : (o : Option Closing) (end got : Result Ending Put) → SaysEndBy l terms t o end said → HasWritten said written written' got → IfOk got (λ e. (end ≡ Ok e) × AddsLast l terms t written written' o)
+  says_by (Some closing) (Ok end) got says has = whole closing end got (ends_as (saying (closing_text l terms t closing) end) said written written' got says has)
+  says_by (Some closing) (Err e) got says has = absurd says
+  says_by None end got (why, is, so) has =
+      let Written : Result Saying Unsaid → Type 0 = λ s. HasWritten s written written' got in
+      let silent = subst Written is has in
+      silently why end got so silent.0 silent.1
+
+  part_by : (o : Option Closing) (end got : Result Ending Put) → SaysEndBy l terms t o end said → HasWritten said written written' got → OnErr got (AddsLastFront l terms t written written' end o)
+  part_by (Some closing) (Ok end) got says has = ends_part end (closing_text l terms t closing) written written' got (ends_as (saying (closing_text l terms t closing) end) said written written' got says has)
+  part_by (Some closing) (Err e) got says has = absurd says
+  part_by None end got (why, is, so) has =
+      let Written : Result Saying Unsaid → Type 0 = λ s. HasWritten s written written' got in
+      let silent = subst Written is has in
+      failing why end got so silent.0 silent.1
+
+  pub says_so : (how : Drove) (got : Result Ending Put) → SaysEnd l terms t how said → HasWritten said written written' got → IfOk got (Says l terms t written written' how)
+  says_so how got says has = says_by (closing_of how) (ending_of how) got says has
+
+  pub part_so : (how : Drove) (got : Result Ending Put) → SaysEnd l terms t how said → HasWritten said written written' got → OnErr got (SaysPart l terms t written written' how)
+  part_so how got says has = part_by (closing_of how) (ending_of how) got says has

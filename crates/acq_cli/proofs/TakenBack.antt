@@ -1,89 +1,86 @@
--- What `back` tells of a file, exactly.
-use Rattle.std.proofs.Common.{◌≡◌, ◌⊎◌, ◌∙◌, ℕ, ◌+◌, ◌<◌, ◌≤◌, List, [], ◌∷◌, ◌++◌, length, Option, Some, Result, Ok, Err, refl, sym, ap, subst, inl, inr, ⊎_elim, arith}
-use Rattle.std.specs.Prelude.{◌≢◌, IfOk, IsSome}
+-- What `back` says of a session, and leaves of it.
+use Rattle.std.proofs.Common.{◌≡◌, ◌⊎◌, ◌∙◌, ℕ, zero, suc, ◌≤◌, Bool, true, false, List, [], ◌∷◌, ◌++◌, Option, Some, Result, Ok, Err, refl, sym, ap, subst, inl, inr, ⊎_elim, arith}
+use Rattle.std.specs.Prelude.{IsSome}
 use Rattle.std.specs.Option.{ForSome}
 use Rattle.disk_model.specs.declared.disk.Disk.{Ghosts as DiskOf}
 use Rattle.acq_io.specs.declared.streams.Put.{Put}
 use Rattle.acq_io.specs.declared.streams.Put.TheVariants as put
 use Rattle.assign.specs.Assignment.{Assignment}
-use Rattle.assign.specs.Events.{standing}
 use Rattle.assign.specs.declared.events.Event.{Event}
 use Rattle.assign.specs.declared.events.Event.TheVariants as event
 use Rattle.assign.specs.declared.events.Plan.{Plan}
 use Rattle.disk_model.specs.Moments.{LeavesOnly, joined, weaker}
-use Rattle.language.specs.Answers.{standing_on}
 use Rattle.session_store.specs.Keeping.{Persists, FailsWith}
 use Rattle.session_store.proofs.Keepers.{both_as, within_more}
 use Rattle.session_store.specs.Left.{OpensWithin, OpensWithOrWithout, bytes_told}
-use Rattle.session_store.specs.Opened.{Opened}
+use Rattle.session_store.specs.Opened.{Opened, OpensOnce}
 use Rattle.session_store.specs.declared.fault.SFault.{SFault}
-use Rattle.acq_cli.specs.Exactly.{HoldsSession, IsBrokenOff, OpensExactly, RefusesOpening}
-use Rattle.acq_cli.specs.Journals.{EndsWith, untold}
-use Rattle.acq_cli.specs.Playing.{IsOpened}
+use Rattle.acq_cli.specs.Exactly.{IsBrokenOff}
+use Rattle.acq_cli.specs.Over.{EndsAsOpened, SaidEnds, SaysOpening}
 use Rattle.acq_cli.specs.Program.{ended_as}
-use Rattle.acq_cli.specs.TakingBack.{BackEnds, BacksExactly, EndsBack, LeavesBack, TakesBack, taken_text}
-use Rattle.acq_cli.proofs.Closings.{okay, same_ok, err_ok}
-use Rattle.session_store.proofs.Openings.{ReadOnce}
-use Rattle.acq_cli.proofs.Exactly.{closed_end, closed_exactly, done_refused, holds_none, same_in}
-use Rattle.acq_cli.proofs.Journals.{disk_failed, ends_only}
-use Rattle.acq_cli.proofs.Reached.{standing_size}
+use Rattle.acq_cli.specs.Said.{HasWritten, SaysSo}
+use Rattle.acq_cli.specs.Saying.{Saying, saying}
+use Rattle.acq_cli.specs.TakingBack.{EndsBack, LeavesBack, TakesBack, TakesNone, back_on, back_said, nothing_text, taken_text, takes_on}
+use Rattle.acq_cli.specs.Texts.{full_text}
 use Rattle.acq_cli.specs.declared.ending.Ending.{Ending}
 use Rattle.acq_cli.specs.declared.ending.Ending.TheVariants as ending
+use Rattle.acq_cli.specs.declared.said.Unsaid.{Unsaid}
+use Rattle.acq_cli.specs.declared.said.Unsaid.TheVariants as unsaid
+use Rattle.acq_cli.proofs.Closings.{okay}
+use Rattle.acq_cli.proofs.SaidOver.{broken_own, is_own, opening_own, own_said, said_end}
+use Rattle.acq_cli.proofs.Spoken.{said_silent, same_why, silent, silently, so_not}
 
--- ---- endings
+-- ---- what is said
 
-nothing_refused : (end : Ending) (f : SFault) → end ≡ ending.NothingBack → end ≡ ending.JournalRefused f → ⊥
-nothing_refused end f a b = let bad : ending.NothingBack ≡ ending.JournalRefused f = sym a ∙ b in cc
+pub none_back : (n : ℕ) (full : Bool) → n ≡ 0 → (takes_on n full ≡ false) × (saying nothing_text ending.NothingBack ≡ back_on n full)
+none_back zero full is = (refl, refl)
+none_back (suc n) full is = absurd (omega (arith, is))
 
-full_refused : (end : Ending) (f : SFault) → end ≡ ending.JournalFull → end ≡ ending.JournalRefused f → ⊥
-full_refused end f a b = let bad : ending.JournalFull ≡ ending.JournalRefused f = sym a ∙ b in cc
+pub full_back : (n : ℕ) (full : Bool) → 1 ≤ n → full ≡ true → (takes_on n full ≡ false) × (saying full_text ending.JournalFull ≡ back_on n full)
+full_back zero full some is = absurd (omega (arith, some))
+full_back (suc n) true some is = (refl, refl)
+full_back (suc n) false some is = absurd (let no : ⊥ = cc in no)
 
-nothing_full : (end : Ending) → end ≡ ending.NothingBack → end ≡ ending.JournalFull → ⊥
-nothing_full end a b = let bad : ending.NothingBack ≡ ending.JournalFull = sym a ∙ b in cc
+pub one_back : (n : ℕ) (full : Bool) → 1 ≤ n → full ≡ false → (takes_on n full ≡ true) × (saying (taken_text n) ending.Done ≡ back_on n full)
+one_back zero full some is = absurd (omega (arith, some))
+one_back (suc n) true some is = absurd (let no : ⊥ = cc in no)
+one_back (suc n) false some is = (refl, refl)
 
-nothing_done : (end : Ending) → end ≡ ending.NothingBack → end ≡ ending.Done → ⊥
-nothing_done end a b = let bad : ending.NothingBack ≡ ending.Done = sym a ∙ b in cc
+back_own_on : (n : ℕ) (full : Bool) → is_own (back_on n full).ending ≡ true
+back_own_on zero full = refl
+back_own_on (suc n) true = refl
+back_own_on (suc n) false = refl
 
-full_done : (end : Ending) → end ≡ ending.JournalFull → end ≡ ending.Done → ⊥
-full_done end a b = let bad : ending.JournalFull ≡ ending.Done = sym a ∙ b in cc
+-- ---- what is left
 
-abbrev pub wanting : Result Ending Put
-wanting = Err put.Memory
+abbrev IsLost : Result Saying Unsaid → Type 0
+IsLost said = said ≡ silent unsaid.DiskFault
 
-memory_ends : (other : Ending) (got : Result Ending Put) → got ≡ wanting → IfOk got (λ e. e ≢ other)
-memory_ends other (Ok end) is = absurd (err_ok put.Memory end (sym is))
-memory_ends other (Err e) is = tt
-
-disk_ends : (other : Ending) (got : Result Ending Put) → (ending.DiskFault ≡ other → ⊥) → got ≡ okay ending.DiskFault → IfOk got (λ e. e ≢ other)
-disk_ends other (Ok end) apart is = λ same. apart (sym (same_ok end ending.DiskFault is) ∙ same)
-disk_ends other (Err e) apart is = tt
-
--- a take-back ends in no other way
-pub back_only : (m : ℕ) (events later : List Event) (written written' : Option (List ℕ)) (got : Result Ending Put) (other : Ending) → (ending.Done ≡ other → ⊥) → (ending.DiskFault ≡ other → ⊥) →
-    EndsBack m events later written written' got → IfOk got (λ e. e ≢ other)
-back_only m events later written written' got other done disk (inl (is, tells)) = ends_only ending.Done other (taken_text m) written written' got done tells
-back_only m events later written written' got other done disk (inr (same, silent, inl none)) = memory_ends other got none
-back_only m events later written written' got other done disk (inr (same, silent, inr failed)) = disk_ends other got disk failed
-
--- a take-back that is told isn't one that failed
-pub done_kept : (text : List ℕ) (written written' : Option (List ℕ)) (got : Result Ending Put) → EndsWith ending.Done text written written' got → got ≡ okay ending.DiskFault → ⊥
-done_kept text written written' got tells failed =
-    let P : Result Ending Put → Type 0 = λ r. EndsWith ending.Done text written written' r in
-    let bad : ending.DiskFault ≡ ending.Done = (subst P failed tells).0 in let no : ⊥ = cc in no
+pub disk_lost : (said : Result Saying Unsaid) → IsLost said ⊎ (IsLost said → ⊥)
+disk_lost (Ok what) = inr (said_silent what unsaid.DiskFault)
+disk_lost (Err unsaid.ReadFault) = inr (λ e. let no : unsaid.ReadFault ≡ unsaid.DiskFault = same_why unsaid.ReadFault unsaid.DiskFault e in cc)
+disk_lost (Err unsaid.DiskFault) = inl refl
+disk_lost (Err unsaid.Memory) = inr (λ e. let no : unsaid.Memory ≡ unsaid.DiskFault = same_why unsaid.Memory unsaid.DiskFault e in cc)
 
 -- where the disk failed no event was added
-back_same : (m : ℕ) (events later : List Event) (written written' : Option (List ℕ)) (got : Result Ending Put) → EndsBack m events later written written' got → got ≡ okay ending.DiskFault → later ≡ events
-back_same m events later written written' got (inl (is, tells)) failed = absurd (done_kept (taken_text m) written written' got tells failed)
-back_same m events later written written' got (inr (same, silent, rest)) failed = same
+back_same : (what : Saying) (events later : List Event) (said : Result Saying Unsaid) → EndsBack what events later said → IsLost said → later ≡ events
+back_same what events later said (inl (is, told)) failed = absurd (so_not (λ s. s ≡ what) said unsaid.DiskFault (λ e. cc) told failed)
+back_same what events later said (inr (same, rest)) failed = same
+
+-- the input isn't read
+pub back_reads : (what : Saying) (events later : List Event) (said : Result Saying Unsaid) → EndsBack what events later said → said ≡ silent unsaid.ReadFault → ⊥
+back_reads what events later said (inl (is, told)) so = so_not (λ s. s ≡ what) said unsaid.ReadFault (λ e. cc) told so
+back_reads what events later said (inr (same, inl none)) so = let no : unsaid.Memory ≡ unsaid.ReadFault = same_why unsaid.Memory unsaid.ReadFault (sym none ∙ so) in cc
+back_reads what events later said (inr (same, inr failed)) so = let no : unsaid.DiskFault ≡ unsaid.ReadFault = same_why unsaid.DiskFault unsaid.ReadFault (sym failed ∙ so) in cc
 
 module _ {D : Type 0} (disk : DiskOf D) where
   -- what a crash leaves of a take-back, of what the keeper's call left
-  pub leaves_back : (plan : Plan) (voc : List ℕ) (m : ℕ) (events later : List Event) (written written' : Option (List ℕ)) (put : Option Assignment) (first old new : D) (got : Result Ending Put) →
-      disk.content old ≡ disk.content first → LeavesOnly disk first old (disk.may_leave first) → EndsBack m events later written written' got → ForSome (disk.content old) (λ _. IsSome (disk.content new)) →
-      ((got ≡ okay ending.DiskFault → ⊥) → ForSome (disk.content old) (λ _. Persists disk plan voc events later old new)) →
-      (got ≡ okay ending.DiskFault → FailsWith disk plan voc events later put (λ lost. lost ≡ event.Back) old new) →
-      LeavesBack disk plan voc events later first new got
-  leaves_back plan voc m events later written written' put first old new got still opening ends on persists fails =
+  pub leaves_back : (plan : Plan) (voc : List ℕ) (what : Saying) (events later : List Event) (put : Option Assignment) (first old new : D) (said : Result Saying Unsaid) →
+      disk.content old ≡ disk.content first → LeavesOnly disk first old (disk.may_leave first) → EndsBack what events later said → ForSome (disk.content old) (λ _. IsSome (disk.content new)) →
+      ((IsLost said → ⊥) → ForSome (disk.content old) (λ _. Persists disk plan voc events later old new)) →
+      (IsLost said → FailsWith disk plan voc events later put (λ lost. lost ≡ event.Back) old new) →
+      LeavesBack disk plan voc events later first new said
+  leaves_back plan voc what events later put first old new said still opening ends on persists fails =
       let more : List Event = events ++ event.Back ∷ [] in
       let Within : List ℕ → Type 0 = OpensWithin plan voc events more in
       let joins : (bytes : List ℕ) → disk.content first ≡ Some bytes → LeavesOnly disk old new Within → LeavesOnly disk first new (λ c. disk.may_leave first c ⊎ Within c) =
@@ -94,88 +91,47 @@ module _ {D : Type 0} (disk : DiskOf D) where
             (λ is.
             let f = fails is in
             let As : List Event → Event → Type 0 = λ es e. LeavesOnly disk old new (OpensWithin plan voc events (es ++ e ∷ [])) in
-            joins bytes told (both_as As later events f.event event.Back (back_same m events later written written' got ends is) f.lost (f.any_moment bytes (still ∙ told))))
+            joins bytes told (both_as As later events f.event event.Back (back_same what events later said ends is) f.lost (f.any_moment bytes (still ∙ told))))
             (λ no. joins bytes told (weaker disk old new (OpensWithin plan voc events later) Within (persists no bytes (still ∙ told)).any_moment (λ c w. grows ends c w)))
-            (disk_failed got);
+            (disk_lost said);
         now = λ no bytes told. (persists no bytes (still ∙ told)).now;
         failed = λ is bytes told.
             let f = fails is in
             let t = bytes_told (disk.content new) (on bytes (still ∙ told)) in
             let As : List Event → Event → Type 0 = λ es e. (c : List ℕ) → disk.may_leave new c → OpensWithOrWithout plan voc es e c in
-            record { bytes = t.0; tells = t.1; each = both_as As later events f.event event.Back (back_same m events later written written' got ends is) f.lost (f.now bytes (still ∙ told)) };
+            record { bytes = t.0; tells = t.1; each = both_as As later events f.event event.Back (back_same what events later said ends is) f.lost (f.now bytes (still ∙ told)) };
       }
     where
-      grows : EndsBack m events later written written' got → (c : List ℕ) → OpensWithin plan voc events later c → OpensWithin plan voc events (events ++ event.Back ∷ []) c
-      grows (inl (is, tells)) c w = let P : List Event → Type 0 = λ es. OpensWithin plan voc events es c in subst P is w
-      grows (inr (same, silent, rest)) c w = within_more plan voc events later (events ++ event.Back ∷ []) (event.Back ∷ []) c (ap (λ (es : List Event). es ++ event.Back ∷ []) (sym same)) w
+      grows : EndsBack what events later said → (c : List ℕ) → OpensWithin plan voc events later c → OpensWithin plan voc events (events ++ event.Back ∷ []) c
+      grows (inl (is, told)) c w = let P : List Event → Type 0 = λ es. OpensWithin plan voc events es c in subst P is w
+      grows (inr (same, rest)) c w = within_more plan voc events later (events ++ event.Back ∷ []) (event.Back ∷ []) c (ap (λ (es : List Event). es ++ event.Back ∷ []) (sym same)) w
 
--- ---- what a file holds
+-- ---- how it ends
 
-same_events : (file : List ℕ) (a b : HoldsSession file) → a.events ≡ b.events
-same_events file a b = ap (λ (o : Opened). o.events) (same_in file a b)
+none_says : (opening : Result Opened SFault) (said : Result Saying Unsaid) → TakesNone opening said → SaysOpening back_said opening said
+none_says (Ok o) said none = none.1
+none_says (Err f) said none = none
 
-same_count : (file : List ℕ) (a b : HoldsSession file) → length (standing_on a.lang a.events) ≡ length (standing_on b.lang b.events)
-same_count file a b = standing_size a.lang a.events ∙ ap (λ (es : List Event). length (standing es)) (same_events file a b) ∙ sym (standing_size b.lang b.events)
-
-same_size : (file : List ℕ) (a b : HoldsSession file) → length a.events ≡ length b.events
-same_size file a b = ap (λ (es : List Event). length es) (same_events file a b)
-
--- ---- exactly when
-
-back_closed : ReadOnce → (file : List ℕ) (end : Ending) (f : SFault) → RefusesOpening file f → end ≡ ending.JournalRefused f → BacksExactly file end
-back_closed once file end f why is = record {
-  opens = closed_exactly once file end f why is;
-  nothing = (λ e. absurd (nothing_refused end f e is), λ held. absurd (holds_none once file f why held.session));
-  full = (λ e. absurd (full_refused end f e is), λ held. absurd (holds_none once file f why held.session));
-  done = (λ e. absurd (done_refused end f e is), λ held. absurd (holds_none once file f why held.session));
-}
-
-opens_so : ReadOnce → (file : List ℕ) (end : Ending) → HoldsSession file → ((f : SFault) → end ≡ ending.JournalRefused f → ⊥) → OpensExactly file end
-opens_so once file end held other = record { refused = λ f. (λ e. absurd (other f e), λ why. absurd (holds_none once file f why held)) }
-
-back_nothing : ReadOnce → (file : List ℕ) (end : Ending) (held : HoldsSession file) → length (standing_on held.lang held.events) ≡ 0 → end ≡ ending.NothingBack → BacksExactly file end
-back_nothing once file end held none is = record {
-  opens = opens_so once file end held (λ f e. nothing_refused end f is e);
-  nothing = (λ e. record { session = held; number = sym none }, λ other. is);
-  full = (λ e. absurd (nothing_full end is e), λ other. absurd (let some = other.some in omega (arith, some, none, same_count file held other.session)));
-  done = (λ e. absurd (nothing_done end is e), λ other. absurd (let some = other.some in omega (arith, some, none, same_count file held other.session)));
-}
-
-back_full : ReadOnce → (file : List ℕ) (end : Ending) (held : HoldsSession file) → 1 ≤ length (standing_on held.lang held.events) → length held.events + 1 ≡ 1000000 → end ≡ ending.JournalFull → BacksExactly file end
-back_full once file end held some full is = record {
-  opens = opens_so once file end held (λ f e. full_refused end f is e);
-  nothing = (λ e. absurd (nothing_full end e is), λ other. absurd (let none = other.number in omega (arith, some, none, same_count file held other.session)));
-  full = (λ e. record { session = held; some = some; full = full }, λ other. is);
-  done = (λ e. absurd (full_done end is e), λ other. absurd (let room = other.room in omega (arith, room, full, same_size file held other.session)));
-}
-
-back_done : ReadOnce → (file : List ℕ) (end : Ending) (held : HoldsSession file) → 1 ≤ length (standing_on held.lang held.events) → length held.events + 1 < 1000000 → end ≡ ending.Done → BacksExactly file end
-back_done once file end held some room is = record {
-  opens = opens_so once file end held (λ f e. done_refused end f is e);
-  nothing = (λ e. absurd (nothing_done end e is), λ other. absurd (let none = other.number in omega (arith, some, none, same_count file held other.session)));
-  full = (λ e. absurd (full_done end e is), λ other. absurd (let full = other.full in omega (arith, room, full, same_size file held other.session)));
-  done = (λ e. record { session = held; some = some; room = room }, λ other. is);
-}
-
-module _ {D : Type 0} (disk : DiskOf D) where
-  held_by : (old new : D) (file : List ℕ) → IsOpened disk old new → disk.content old ≡ Some file → HoldsSession file
-  held_by old new file opened told = record { plan = opened.plan; voc = opened.voc; events = opened.events; says = opened.says file told; lang = opened.lang; read = opened.read; places = opened.places }
-
-  pub back_ends : ReadOnce → (left written written' : Option (List ℕ)) (old new : D) (got : Result Ending Put) → TakesBack disk left written written' old new got → BackEnds (disk.content old) (ended_as got)
-  unfolding held_by
-  back_ends once left written written' old new (Err put.Failed) backs = λ file told. inl (inr (inl refl))
-  back_ends once left written written' old new (Err put.Memory) backs = λ file told. inl (inr (inr (inr refl)))
-  back_ends once left written written' old new (Ok end) (inl closed) = λ file told.
-      ⊎_elim (λ broken. inl broken) (λ is. inr (back_closed once file end closed.fault (is.0, closed.why file told) is.1)) (closed_end written written' end closed.fault (untold closed.fault) refl closed.refuses)
-  back_ends once left written written' old new (Ok end) (inr (inl nothing)) = λ file told.
-      inr (back_nothing once file end (held_by old new file nothing.opened told) (ap (λ t. length t) nothing.none) nothing.tells.0)
-  back_ends once left written written' old new (Ok end) (inr (inr (inl full))) = λ file told.
-      inr (back_full once file end (held_by old new file full.opened told) full.some full.full full.tells.0)
-  back_ends once left written written' old new (Ok end) (inr (inr (inr taken))) = λ file told. go file told taken.ends
+module _ {D : Type 0} (disk : DiskOf D) (written written' : Option (List ℕ)) (old new : D) where
+  pub back_ends : OpensOnce → (got : Result Ending Put) → SaysSo (TakesBack disk old new) written written' got → SaidEnds back_said (disk.content old) (ended_as got)
+  back_ends once (Err put.Failed) backs = λ file told. inl (inr (inl refl))
+  back_ends once (Err put.Memory) backs = λ file told. inl (inr (inr (inr refl)))
+  back_ends once (Ok end) (said, inl none, has) = λ file told. said_end once back_said file said written written' end none.opening (none.opens file told) (none_says none.opening said none.says) has
+  back_ends once (Ok end) (said, inr taken, has) = λ file told. go file told taken.ends
     where
-      go : (file : List ℕ) → disk.content old ≡ Some file → EndsBack (length (standing_on taken.lang taken.events)) taken.events taken.later written written' (okay end) → IsBrokenOff end ⊎ BacksExactly file end
-      go file told (inl (is, tells)) =
-          let held : HoldsSession file = record { plan = taken.plan; voc = taken.voc; events = taken.events; says = taken.says file told; lang = taken.lang; read = taken.read; places = taken.places } in
-          inr (back_done once file end held taken.some taken.room tells.0)
-      go file told (inr (same, silent, inl none)) = absurd (err_ok put.Memory end (sym none))
-      go file told (inr (same, silent, inr failed)) = inl (inr (inr (inl (same_ok end ending.DiskFault failed))))
+      go : (file : List ℕ) → disk.content old ≡ Some file → EndsBack (back_said taken.of) taken.of.events taken.later said → IsBrokenOff end ⊎ EndsAsOpened back_said file end
+      go file told (inl (is, says)) = said_end once back_said file said written written' end (Ok taken.of) (taken.opens file told) says has
+      go file told (inr (same, inl none)) = inl (silently unsaid.Memory said written written' end none has)
+      go file told (inr (same, inr failed)) = inl (silently unsaid.DiskFault said written written' end failed has)
+
+  pub back_own : (end : Ending) (said : Result Saying Unsaid) → TakesBack disk old new said → HasWritten said written written' (okay end) → is_own end ≡ true
+  back_own end said (inl none) has = opening_own back_said own none.opening said written written' end (none_says none.opening said none.says) has
+    where
+      own : (o : Opened) → is_own (back_said o).ending ≡ true
+      own o = back_own_on _ _
+  back_own end said (inr taken) has = go taken.ends
+    where
+      go : EndsBack (back_said taken.of) taken.of.events taken.later said → is_own end ≡ true
+      go (inl (is, says)) = own_said (back_said taken.of) said written written' end (back_own_on _ _) says has
+      go (inr (same, inl none)) = broken_own end (silently unsaid.Memory said written written' end none has)
+      go (inr (same, inr failed)) = broken_own end (silently unsaid.DiskFault said written written' end failed has)

@@ -1,11 +1,11 @@
 -- What `play` has done, of what its target said, and exactly when it refuses.
-use Rattle.std.proofs.Common.{◌≡◌, ◌≤◌, ◌⊎◌, ◌∙◌, ℕ, suc, Bool, true, false, List, [], ◌∷◌, ◌++◌, length, ◌&&◌, ◌+◌, cond, drop, Option, Some, Result, Ok, Err, refl, sym, ap, subst, inl, inr, ⊎_elim, arith, append_assoc}
-use Rattle.std.specs.Prelude.{IfOk, All, nat_le}
+use Rattle.std.proofs.Common.{◌≡◌, ◌≤◌, ◌⊎◌, ◌∙◌, ℕ, suc, Bool, true, false, List, [], ◌∷◌, ◌++◌, length, ◌&&◌, ◌+◌, cond, Option, Some, Result, Ok, Err, refl, sym, ap, subst, inl, inr, ⊎_elim, arith, append_assoc}
+use Rattle.std.specs.Prelude.{IfOk, All}
 use Rattle.std.specs.Bool.{beq}
 use Rattle.std.proofs.lemmas.List.Elements.{All-nil, All-cons, All-head, All-tail}
 use Rattle.std.proofs.lemmas.List.{append-nil, length-map}
-use Rattle.std.proofs.lemmas.Bool.{leb-false, lt-ltb}
-use Rattle.acq_io.specs.Whole.{all_of, gathered}
+use Rattle.std.proofs.lemmas.Bool.{lt-ltb}
+use Rattle.acq_io.specs.Whole.{all_of}
 use Rattle.acq_io.specs.declared.streams.Put.{Put}
 use Rattle.acq_io.specs.declared.streams.Put.TheVariants as put
 use Rattle.acq_io.specs.declared.whole.AllFault.{AllFault}
@@ -43,8 +43,7 @@ use Rattle.acq_cli.specs.Playing.{IsAnsweredBy, IsNoNetwork, IsUnstopped, HoldsA
 use Rattle.acq_cli.specs.Program.{ended_as}
 use Rattle.acq_cli.specs.Run.{answer}
 use Rattle.acq_cli.proofs.Confirmed.{confirm_ends}
-use Rattle.acq_cli.proofs.SaidOver.{over_ends}
-use Rattle.acq_cli.proofs.Solved.{solve_ends}
+use Rattle.acq_cli.proofs.SaidOver.{over_ends, solve_ends}
 use Rattle.acq_cli.proofs.TakenBack.{back_ends}
 use Rattle.acq_cli.specs.Texts.{learned_in, learned_after}
 use Rattle.acq_cli.specs.declared.ask.Ask.TheVariants as ask
@@ -53,12 +52,13 @@ use Rattle.acq_cli.specs.declared.driving.Drove.TheVariants as drove
 use Rattle.acq_cli.specs.declared.ending.Ending.{Ending}
 use Rattle.acq_cli.specs.declared.ending.Ending.TheVariants as ending
 use Rattle.acq_cli.specs.declared.terms.Terms.{Terms}
-use Rattle.acq_cli.specs.Journals.{untold}
 use Rattle.acq_cli.specs.declared.playing.NoTarget.{NoTarget}
 use Rattle.acq_cli.specs.declared.playing.NoTarget.TheVariants as without
 use Rattle.acq_cli.proofs.Closings.{okay, same_ok, err_ok, loops_by, not_loops}
 use Rattle.acq_cli.proofs.Standings.{few_answers, due_reached}
-use Rattle.acq_cli.proofs.Exactly.{fine, gives_got, holds_none, same_in, closed_end, closed_exactly, new_ends, run_ends}
+use Rattle.acq_cli.proofs.Exactly.{holds_none, same_in, closed_exactly, run_ends}
+use Rattle.acq_cli.proofs.Made.{new_ends}
+use Rattle.acq_cli.proofs.Spoken.{closed_end, fine, gives_got, long_one, too_many, whole_of}
 
 -- ---- what its target said
 
@@ -222,39 +222,17 @@ broken_exactly (Err fault) left content end broken = tt
 
 -- ---- what the input is
 
-abbrev long_one : Result (List ℕ) AllFault
-long_one = Err long.TooLong
-
-fine_long : (voc : List ℕ) → fine voc ≡ long_one → ⊥
-fine_long voc e = cc
-
-same_fine : (a b : List ℕ) → fine a ≡ fine b → a ≡ b
-same_fine a b e = cc
-
--- what was read to the end is the whole
-whole_of : (bytes got : List ℕ) → (all_of 4194304 bytes).got ≡ fine got → bytes ≡ got
-unfolding all_of
-whole_of bytes got is = go (nat_le (length bytes) 4194304) is
-  where
-    go : (b : Bool) → (cond b (gathered (fine bytes) []) (gathered long_one (drop (4194304 + 1) bytes))).got ≡ fine got → bytes ≡ got
-    go true e = same_fine bytes got e
-    go false e = absurd (fine_long got (sym e))
-
 -- too many bytes are no network
 long_is_none : (l : Language) (bytes : List ℕ) → (all_of 4194304 bytes).got ≡ long_one → network_of l bytes ≡ Err net.TooLong
-unfolding all_of network_of
-long_is_none l bytes is = go (nat_le (length bytes) 4194304) refl is
-  where
-    go : (b : Bool) → nat_le (length bytes) 4194304 ≡ b → (cond b (gathered (fine bytes) []) (gathered long_one (drop (4194304 + 1) bytes))).got ≡ long_one → network_of l bytes ≡ Err net.TooLong
-    go true which e = absurd (fine_long bytes e)
-    go false which e = ap (λ b. cond b (Err net.TooLong) (then_on (ok_or (json_of bytes) net.NotJson) (network_in l))) (lt-ltb 4194304 (length bytes) (leb-false (length bytes) 4194304 which))
+unfolding network_of
+long_is_none l bytes is = ap (λ b. cond b (Err net.TooLong) (then_on (ok_or (json_of bytes) net.NotJson) (network_in l))) (lt-ltb 4194304 (length bytes) (too_many 4194304 bytes long.TooLong is))
 
 -- a refused target is none of the bytes of the whole input
 pub none_of : (l : Language) (left left' : Option (List ℕ)) (bytes : List ℕ) (fault : NetFault) → RefusesTarget l left left' fault → left ≡ Some bytes → network_of l bytes ≡ Err fault
 none_of l left left' bytes fault refuses from = go refuses.got (gives_got (all_of 4194304) left left' refuses.got bytes refuses.gives from) refuses.refused
   where
     go : (got : Result (List ℕ) AllFault) → (all_of 4194304 bytes).got ≡ got → IsNoNetwork l fault got → network_of l bytes ≡ Err fault
-    go (Ok read) is refused = ap (network_of l) (whole_of bytes read is) ∙ refused
+    go (Ok read) is refused = ap (network_of l) (whole_of 4194304 bytes read is) ∙ refused
     go (Err e) is (much, same) =
         let As : AllFault → Type 0 = λ x. (all_of 4194304 bytes).got ≡ Err x in
         let Told : NetFault → Type 0 = λ x. network_of l bytes ≡ Err x in
@@ -371,7 +349,7 @@ module _ {D : Type 0} (disk : DiskOf D) where
   play_ends once budget left written left' written' old new (Err put.Failed) plays = λ bytes from file told. inl (inr (inl refl))
   play_ends once budget left written left' written' old new (Err put.Memory) plays = λ bytes from file told. inl (inr (inr (inr refl)))
   play_ends once budget left written left' written' old new (Ok end) (inl closed) = λ bytes from file told.
-      ⊎_elim (λ broken. inl broken) (λ is. inr (play_closed once bytes file end closed.fault (is.0, closed.why file told) is.1)) (closed_end written written' end closed.fault (untold closed.fault) refl closed.refuses)
+      ⊎_elim (λ broken. inl broken) (λ is. inr (play_closed once bytes file end closed.fault (is.0, closed.why file told) is.1)) (closed_end written written' end closed.fault closed.refuses)
   play_ends once budget left written left' written' old new (Ok end) (inr (inl stale)) = λ bytes from file told.
       inr (play_stale once bytes file end (held_by old new file stale.opened told) stale.number stale.is stale.some stale.tells.0)
   play_ends once budget left written left' written' old new (Ok end) (inr (inr (inl lacks))) = λ bytes from file told.
@@ -379,7 +357,7 @@ module _ {D : Type 0} (disk : DiskOf D) where
   play_ends once budget left written left' written' old new (Ok end) (inr (inr (inr played))) = λ bytes from file told.
       let on = played.on in
       let held : HoldsSession file = record { plan = on.plan; voc = on.voc; events = on.events; says = on.says file told; lang = on.lang; read = on.read; places = on.places } in
-      let whole : bytes ≡ played.reads.bytes = whole_of bytes played.reads.bytes (gives_got (all_of 4194304) left played.rest (fine played.reads.bytes) bytes played.reads.gives from) in
+      let whole : bytes ≡ played.reads.bytes = whole_of 4194304 bytes played.reads.bytes (gives_got (all_of 4194304) left played.rest (fine played.reads.bytes) bytes played.reads.gives from) in
       inr (play_on once bytes file end held played.target played.fresh (ap (network_of on.lang) whole ∙ played.reads.is)
       (λ f e. not_loops on.tries.how (ending.JournalRefused f) (on.tries.is ∙ ap okay e) refl)
       (λ m e. not_loops on.tries.how (ending.NotFresh m) (on.tries.is ∙ ap okay e) refl)
@@ -391,10 +369,10 @@ module _ {D : Type 0} (disk : DiskOf D) where
   ends_exactly once (Ok (command.Run budget)) left written left' written' old new got does = run_ends disk once budget left written left' written' old new got does
   ends_exactly once (Ok (command.Play budget)) left written left' written' old new got does = play_ends once budget left written left' written' old new got does
   ends_exactly once (Ok command.Show) left written left' written' old new got does = over_ends disk (opens_once once) (asked_said ask.Show) (AsksTruly ask.Show) written written' old new got does
-  ends_exactly once (Ok command.Back) left written left' written' old new got does = back_ends disk once left written written' old new got does
+  ends_exactly once (Ok command.Back) left written left' written' old new got does = back_ends disk written written' old new (opens_once once) got does
   ends_exactly once (Ok (command.Reduce budget)) left written left' written' old new got does = over_ends disk (opens_once once) (asked_said (ask.Reduce budget)) (AsksTruly (ask.Reduce budget)) written written' old new got does
   ends_exactly once (Ok command.Cnf) left written left' written' old new got does = over_ends disk (opens_once once) (asked_said ask.Cnf) (AsksTruly ask.Cnf) written written' old new got does
-  ends_exactly once (Ok command.Model) left written left' written' old new got does = solve_ends disk once left written left' written' old new got does
+  ends_exactly once (Ok command.Model) left written left' written' old new got does = solve_ends disk (opens_once once) left written left' written' old new got does
   ends_exactly once (Ok (command.Certify budget)) left written left' written' old new got does = over_ends disk (opens_once once) (asked_said (ask.Certify budget)) (AsksTruly (ask.Certify budget)) written written' old new got does
   ends_exactly once (Ok command.Check) left written left' written' old new got does = confirm_ends left written left' written' got does
   ends_exactly once (Ok (command.Try plan budget)) left written left' written' old new got does = tt

@@ -4,11 +4,10 @@ use Rattle.std.specs.List.{flat_map}
 use Rattle.std.specs.Option.{ForSome}
 use Rattle.acq_io.specs.Lines.{LacksNewline, newline}
 use Rattle.acq_io.specs.Streams.{Rose}
-use Rattle.acq_io.specs.Whole.{first_line_of}
+use Rattle.acq_io.specs.Whole.{all_of, first_line_of}
 use Rattle.acq_words.specs.declared.request.Command.{Command}
 use Rattle.acq_words.specs.declared.request.Command.TheVariants as command
 use Rattle.acq_words.specs.declared.request.UsageFault.{UsageFault}
-use Rattle.answer_journal.specs.Journal.{HasNoSession}
 use Rattle.assign.specs.Events.{Answer}
 use Rattle.assign.specs.declared.events.Event.{Event}
 use Rattle.assign.specs.declared.events.Plan.{Plan}
@@ -23,6 +22,7 @@ use Rattle.session_laws.specs.Bound.{most_answers}
 use Rattle.session_laws.specs.Session.{Idle, At, state_after}
 use Rattle.session_laws.specs.Walk.{WalkEnd}
 use Rattle.session_store.specs.Left.{SaysSession}
+use Rattle.session_store.specs.Opened.{Opened}
 use Rattle.session_store.specs.declared.fault.SFault.{SFault}
 use Rattle.target_oracle.specs.Lines.{line_turn}
 use Rattle.target_oracle.specs.NetTurns.{net_turn}
@@ -30,14 +30,15 @@ use Rattle.target_oracle.specs.Turns.{Turns, Said}
 use Rattle.target_oracle.specs.Words.{trimmed, reply_of}
 use Rattle.voc_read.specs.Vocabulary.{IsVocabulary, refusal_of_vocabulary}
 use Rattle.acq_cli.specs.Asks.{asked_said}
-use Rattle.acq_cli.specs.Confirming.{IsConfirmed}
-use Rattle.acq_cli.specs.Over.{EndsAsSaid}
-use Rattle.acq_cli.specs.Solving.{HoldsModel}
-use Rattle.acq_cli.specs.Exactly.{HasVocabulary, RefusesOpening}
+use Rattle.acq_cli.specs.Confirming.{ConfirmsExactly}
+use Rattle.acq_cli.specs.Over.{EndsAsOpened}
+use Rattle.acq_cli.specs.Solving.{solved_said}
+use Rattle.acq_cli.specs.Exactly.{RefusesOpening}
+use Rattle.acq_cli.specs.Making.{EndsAsMade}
 use Rattle.acq_cli.specs.Points.{terms_with}
 use Rattle.acq_cli.specs.Run.{Ran, Runs}
-use Rattle.acq_cli.specs.TakingBack.{HoldsLast}
-use Rattle.acq_cli.specs.declared.ask.Ask.{Ask}
+use Rattle.acq_cli.specs.Saying.{Saying}
+use Rattle.acq_cli.specs.TakingBack.{back_said}
 use Rattle.acq_cli.specs.declared.ask.Ask.TheVariants as ask
 use Rattle.acq_cli.specs.declared.ending.Ending.{Ending}
 use Rattle.acq_cli.specs.declared.ending.Ending.TheVariants as ending
@@ -122,13 +123,9 @@ pub record NoneRose (input input' output output' disk disk' : ℕ) : Type 0 wher
   pub write : Rose output output' → ⊥
   pub kept : DiskRose disk disk' → ⊥
 
--- the command is done, or memory was wanting
-abbrev pub IsDoneWith : Ending → Type 0
-IsDoneWith end = (end ≡ ending.Done) ⊎ (end ≡ ending.Memory)
-
 -- it ends as is said of what the file opens with, or memory was wanting
-abbrev pub SaysItsOwn : Ask → (content : Option (List ℕ)) → Ending → Type 0
-SaysItsOwn a content end = ForSome content (λ file. EndsAsSaid (asked_said a) file end ⊎ (end ≡ ending.Memory))
+abbrev pub SaysItsOwn : (Opened → Saying) → (content : Option (List ℕ)) → Ending → Type 0
+SaysItsOwn says content end = ForSome content (λ file. EndsAsOpened says file end ⊎ (end ≡ ending.Memory))
 
 -- the answers converge, or memory was wanting
 abbrev pub Converges : Ending → Type 0
@@ -147,13 +144,13 @@ Completes (Ok (command.Run budget)) left written content end =
 Completes (Ok (command.Play budget)) left written content end =
     ForSome left (λ bytes. ForSome content (λ file. IsSome written → PlayHasEnough budget bytes file → Converges end))
 Completes (Ok (command.New plan)) left written content end =
-    ForSome left (λ bytes. ForSome content (λ file. HasVocabulary bytes → HasNoSession file → IsDoneWith end))
-Completes (Ok command.Show) left written content end = SaysItsOwn ask.Show content end
-Completes (Ok command.Back) left written content end = ForSome content (λ file. HoldsLast file → IsDoneWith end)
+    ForSome left (λ bytes. ForSome content (λ file. EndsAsMade bytes file end ⊎ (end ≡ ending.Memory)))
+Completes (Ok command.Show) left written content end = SaysItsOwn (asked_said ask.Show) content end
+Completes (Ok command.Back) left written content end = SaysItsOwn back_said content end
 Completes (Ok (command.Demo number budget)) left written content end = 88573 ≤ budget → Converges end
-Completes (Ok (command.Reduce budget)) left written content end = SaysItsOwn (ask.Reduce budget) content end
-Completes (Ok command.Cnf) left written content end = SaysItsOwn ask.Cnf content end
-Completes (Ok command.Model) left written content end = ForSome left (λ bytes. ForSome content (λ file. HoldsModel bytes file → IsDoneWith end))
-Completes (Ok (command.Certify budget)) left written content end = SaysItsOwn (ask.Certify budget) content end
-Completes (Ok command.Check) left written content end = ForSome left (λ bytes. IsConfirmed bytes → IsDoneWith end)
+Completes (Ok (command.Reduce budget)) left written content end = SaysItsOwn (asked_said (ask.Reduce budget)) content end
+Completes (Ok command.Cnf) left written content end = SaysItsOwn (asked_said ask.Cnf) content end
+Completes (Ok command.Model) left written content end = ForSome left (λ bytes. SaysItsOwn (solved_said (all_of 4194304 bytes).got) content end)
+Completes (Ok (command.Certify budget)) left written content end = SaysItsOwn (asked_said (ask.Certify budget)) content end
+Completes (Ok command.Check) left written content end = ForSome left (λ bytes. ConfirmsExactly bytes end ⊎ (end ≡ ending.Memory))
 Completes asked left written content end = Unit {0}

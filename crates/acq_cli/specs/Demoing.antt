@@ -12,7 +12,7 @@ use Rattle.language.specs.Answers.{standing_on}
 use Rattle.target_oracle.specs.Generator.{IsGenerated, target_of}
 use Rattle.target_oracle.specs.NetTurns.{net_turn}
 use Rattle.acq_cli.specs.Driven.{HasFound}
-use Rattle.acq_cli.specs.Journals.{EndsWith}
+use Rattle.acq_cli.specs.Said.{EndsWith}
 use Rattle.acq_cli.specs.Playing.{IsAnsweredBy}
 use Rattle.acq_cli.specs.Points.{terms_with}
 use Rattle.acq_cli.specs.Run.{Closing, Converged, Collapsed, Undecided, Suspended, LineTooLong, Unreadable, JournalFull, Ran, Runs}

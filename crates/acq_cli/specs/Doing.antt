@@ -8,9 +8,10 @@ use Rattle.acq_words.specs.declared.request.UsageFault.{UsageFault}
 use Rattle.acq_cli.specs.Asks.{AsksTruly, asked_said}
 use Rattle.acq_cli.specs.Confirming.{Confirms}
 use Rattle.acq_cli.specs.Demoing.{Demos}
-use Rattle.acq_cli.specs.Journals.{EndsWith}
+use Rattle.acq_cli.specs.Said.{EndsWith, SaysSo}
+use Rattle.acq_cli.specs.Saying.{Saying}
 use Rattle.acq_cli.specs.Making.{News}
-use Rattle.acq_cli.specs.Over.{SaysOver}
+use Rattle.acq_cli.specs.Over.{SaysOpening, SaysOver}
 use Rattle.acq_cli.specs.Playing.{PlaysOn}
 use Rattle.acq_cli.specs.Points.{terms_with}
 use Rattle.acq_cli.specs.Program.{ended_as}
@@ -23,25 +24,42 @@ use Rattle.acq_cli.specs.declared.ask.Ask.{Ask}
 use Rattle.acq_cli.specs.declared.ask.Ask.TheVariants as ask
 use Rattle.acq_cli.specs.declared.ending.Ending.{Ending}
 use Rattle.acq_cli.specs.declared.ending.Ending.TheVariants as ending
+use Rattle.acq_cli.specs.declared.said.Unsaid.{Unsaid}
 
 -- the meanings of a disk
 module _ {D : Type 0} (disk : DiskOf D) where
-  -- a command that only says something of a session says it
-  abbrev pub Asks : Ask → (written written' : Option (List ℕ)) → (old new : D) → Result Ending Put → Type 0
-  Asks a written written' old new got = SaysOver disk (asked_said a) (AsksTruly a) written written' old new got
+  -- a command that only says something of a session
+  abbrev pub Asks : Ask → (old new : D) → Result Saying Unsaid → Type 0
+  Asks a old new said = SaysOver disk (SaysOpening (asked_said a)) (AsksTruly a) old new said
+
+  -- What a command has done that asks nothing, and what it says. The others don't say so.
+  abbrev pub Spoke : Command → (left left' : Option (List ℕ)) → (old new : D) → Result Saying Unsaid → Type 0
+  Spoke (command.New plan) left left' old new said = News disk plan left left' old new said
+  Spoke command.Show left left' old new said = Asks ask.Show old new said
+  Spoke command.Back left left' old new said = TakesBack disk old new said
+  Spoke (command.Reduce budget) left left' old new said = Asks (ask.Reduce budget) old new said
+  Spoke command.Cnf left left' old new said = Asks ask.Cnf old new said
+  Spoke command.Model left left' old new said = SaysOver disk (Solves left left') (λ o. Unit {0}) old new said
+  Spoke (command.Certify budget) left left' old new said = Asks (ask.Certify budget) old new said
+  Spoke command.Check left left' old new said = Confirms left left' said
+  Spoke c left left' old new said = ⊥
+
+  -- it did, and wrote what it says
+  abbrev pub Speaks : Command → (left written left' written' : Option (List ℕ)) → (old new : D) → Result Ending Put → Type 0
+  Speaks c left written left' written' old new got = SaysSo (Spoke c left left' old new) written written' got
 
   -- each other command has what it does in a file of its own; refused words are told by the usage line
   abbrev pub Does : Result Command UsageFault → (left written left' written' : Option (List ℕ)) → (old new : D) → Result Ending Put → Type 0
-  Does (Ok (command.New plan)) left written left' written' old new got = News disk plan left written left' written' old new got
+  Does (Ok (command.New plan)) left written left' written' old new got = Speaks (command.New plan) left written left' written' old new got
   Does (Ok (command.Run budget)) left written left' written' old new got = RunsOn disk budget left written left' written' old new got
   Does (Ok (command.Try plan budget)) left written left' written' old new got = Acquires (terms_with plan budget) left written left' written' (ended_as got)
   Does (Ok (command.Play budget)) left written left' written' old new got = PlaysOn disk budget left written left' written' old new got
-  Does (Ok command.Show) left written left' written' old new got = Asks ask.Show written written' old new got
-  Does (Ok command.Back) left written left' written' old new got = TakesBack disk left written written' old new got
+  Does (Ok command.Show) left written left' written' old new got = Speaks command.Show left written left' written' old new got
+  Does (Ok command.Back) left written left' written' old new got = Speaks command.Back left written left' written' old new got
   Does (Ok (command.Demo number budget)) left written left' written' old new got = Demos number budget written written' got
-  Does (Ok (command.Reduce budget)) left written left' written' old new got = Asks (ask.Reduce budget) written written' old new got
-  Does (Ok command.Cnf) left written left' written' old new got = Asks ask.Cnf written written' old new got
-  Does (Ok command.Model) left written left' written' old new got = Solves disk left written left' written' old new got
-  Does (Ok (command.Certify budget)) left written left' written' old new got = Asks (ask.Certify budget) written written' old new got
-  Does (Ok command.Check) left written left' written' old new got = Confirms left written left' written' got
+  Does (Ok (command.Reduce budget)) left written left' written' old new got = Speaks (command.Reduce budget) left written left' written' old new got
+  Does (Ok command.Cnf) left written left' written' old new got = Speaks command.Cnf left written left' written' old new got
+  Does (Ok command.Model) left written left' written' old new got = Speaks command.Model left written left' written' old new got
+  Does (Ok (command.Certify budget)) left written left' written' old new got = Speaks (command.Certify budget) left written left' written' old new got
+  Does (Ok command.Check) left written left' written' old new got = Speaks command.Check left written left' written' old new got
   Does (Err fault) left written left' written' old new got = EndsWith (ending.Usage fault) usage_text written written' got

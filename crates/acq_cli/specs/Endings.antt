@@ -1,5 +1,5 @@
 -- What was said of a session at its end, and what was done about a language.
-use Rattle.std.specs.Prelude.{◌≡◌, ℕ, List, Option, Some, None, Result, Ok, IsErr, IfSome, IfOk, OnErr}
+use Rattle.std.specs.Prelude.{◌≡◌, ℕ, List, Option, Some, None, Result, Ok, Err, IsErr, IfSome, IfOk, OnErr}
 use Rattle.acq_io.specs.Streams.{Adds, AddsFront}
 use Rattle.acq_io.specs.declared.streams.Put.{Put}
 use Rattle.assign.specs.Events.{Answer}
@@ -12,6 +12,9 @@ use Rattle.acq_cli.specs.Breaks.{BreaksRun}
 use Rattle.acq_cli.specs.Closings.{closing_of, ending_of}
 use Rattle.acq_cli.specs.Driven.{CutOff, HasEnded, LeavesNothing, RanTo, TellsFull, UnkeptTo}
 use Rattle.acq_cli.specs.Points.{point_of}
+use Rattle.acq_cli.specs.Said.{IsSaid, silent_end}
+use Rattle.acq_cli.specs.Saying.{Saying, saying}
+use Rattle.acq_cli.specs.declared.said.Unsaid.{Unsaid}
 use Rattle.acq_cli.specs.Texts.{closing_text}
 use Rattle.acq_cli.specs.declared.terms.Terms.{Terms}
 use Rattle.acq_cli.specs.declared.driving.Drove.{Drove}
@@ -43,6 +46,15 @@ AddsLastFront l terms t written written' end None = (written' ≡ written) × Is
 -- what was written where it could not be said whole
 abbrev pub SaysPart : Language → Terms → List Answer → (written written' : Option (List ℕ)) → Drove → Type 0
 SaysPart l terms t written written' how = AddsLastFront l terms t written written' (ending_of how) (closing_of how)
+
+-- the last lines of a session are said, by how it ended; where there are none, nothing is
+abbrev pub SaysEndBy : Language → Terms → List Answer → Option Closing → Result Ending Put → Result Saying Unsaid → Type 0
+SaysEndBy l terms t (Some closing) (Ok end) said = IsSaid (saying (closing_text l terms t closing) end) said
+SaysEndBy l terms t (Some closing) (Err e) said = ⊥
+SaysEndBy l terms t None end said = (why : Unsaid) × (said ≡ Err why) × (end ≡ silent_end why)
+
+abbrev pub SaysEnd : Language → Terms → List Answer → Drove → Result Saying Unsaid → Type 0
+SaysEnd l terms t how said = SaysEndBy l terms t (closing_of how) (ending_of how) said
 
 -- What was done about a language, from the events at first to those at last: the loop ended in some way, and the program as
 -- that way has it.

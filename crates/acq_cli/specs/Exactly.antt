@@ -1,10 +1,9 @@
--- Exactly when `new` is done, and a journal is refused.
+-- Exactly when a journal is refused.
 use Rattle.std.specs.Prelude.{◌≡◌, ◌⊎◌, ◌↔◌, ℕ, List, Option, None, Ok}
 use Rattle.std.specs.Option.{ForSome}
 use Rattle.acq_io.specs.Whole.{all_of}
 use Rattle.answer_journal.specs.declared.fault.JFault.{JFault}
 use Rattle.answer_journal.specs.declared.fault.JFault.TheVariants as journal
-use Rattle.answer_journal.specs.Journal.{HasNoSession}
 use Rattle.answer_journal.specs.Making.{CreateRefused}
 use Rattle.assign.specs.declared.events.Event.{Event}
 use Rattle.assign.specs.declared.events.Plan.{Plan}
@@ -13,7 +12,6 @@ use Rattle.session_store.specs.Left.{SaysSession}
 use Rattle.session_store.specs.Opening.{NotOpened}
 use Rattle.session_store.specs.Replay.{HavePlaces}
 use Rattle.session_store.specs.declared.fault.SFault.{SFault}
-use Rattle.session_store.specs.declared.fault.SFault.TheVariants as store
 use Rattle.voc_read.specs.Vocabulary.{IsVocabulary, refusal_of_vocabulary}
 use Rattle.acq_cli.specs.Journals.{untold}
 use Rattle.acq_cli.specs.declared.ending.Ending.{Ending}
@@ -41,22 +39,6 @@ IsInTheWay file journal.TooManyRecords = ⊥
 IsInTheWay file journal.Full = ⊥
 IsInTheWay file journal.DiskFault = ⊥
 IsInTheWay file journal.Memory = ⊥
-
--- why no journal is made over this file
-abbrev pub RefusesNew : List ℕ → SFault → Type 0
-RefusesNew file (store.Journal f) = IsInTheWay file f
-RefusesNew file (store.Voc f) = ⊥
-RefusesNew file (store.Stray i) = ⊥
-RefusesNew file store.Memory = ⊥
-
--- `new` is done exactly over a file without a session, and refused exactly over another one. Both come behind a vocabulary.
-pub record MakesExactly (bytes file : List ℕ) (end : Ending) : Type 0 where
-  pub done : (end ≡ ending.Done) ↔ (HasVocabulary bytes × HasNoSession file)
-  pub refused : (f : SFault) → (end ≡ ending.JournalRefused f) ↔ (HasVocabulary bytes × RefusesNew file f)
-
--- where input and disk tell their bytes
-abbrev pub NewEnds : (left content : Option (List ℕ)) → Ending → Type 0
-NewEnds left content end = ForSome left (λ bytes. ForSome content (λ file. IsBrokenOff end ⊎ MakesExactly bytes file end))
 
 -- ---- Opening one
 

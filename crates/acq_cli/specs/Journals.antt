@@ -1,18 +1,19 @@
 -- What a command over a journal says, and does about a journal that isn't opened.
-use Rattle.std.specs.Prelude.{◌≡◌, ℕ, List, [], ◌∷◌, ◌++◌, Option, Some, None, Result, Ok, Err, codes}
+use Rattle.std.specs.Prelude.{◌≡◌, ℕ, List, [], ◌∷◌, ◌++◌, Option, Some, None, Result, Err, codes}
 use Rattle.std.specs.Fmt.{decimal}
 use Rattle.std.specs.Option.{ForSome}
 use Rattle.disk_model.specs.declared.disk.Disk.{Ghosts as DiskOf}
-use Rattle.acq_io.specs.Streams.{Adds, AddsFront}
 use Rattle.acq_io.specs.declared.streams.Put.{Put}
 use Rattle.answer_journal.specs.declared.fault.JFault.{JFault}
 use Rattle.disk_model.specs.Moments.{LeavesOnly}
 use Rattle.session_store.specs.Opening.{NotOpened}
 use Rattle.session_store.specs.declared.fault.SFault.{SFault}
 use Rattle.voc_read.specs.FaultTexts.{fault_text}
+use Rattle.acq_cli.specs.Said.{IsSaid, SaysSo}
 use Rattle.acq_cli.specs.Saying.{Saying, saying}
+use Rattle.acq_cli.specs.declared.said.Unsaid.{Unsaid}
+use Rattle.acq_cli.specs.declared.said.Unsaid.TheVariants as unsaid
 use Rattle.acq_cli.specs.declared.ending.Ending.{Ending}
-use Rattle.acq_io.specs.declared.streams.Put.TheVariants as put
 use Rattle.answer_journal.specs.declared.fault.JFault.TheVariants as journal
 use Rattle.session_store.specs.declared.fault.SFault.TheVariants as store
 use Rattle.acq_cli.specs.declared.ending.Ending.TheVariants as ending
@@ -43,39 +44,30 @@ journal_refusal_text fault = codes "refused journal " ++ (store_text fault ++ 10
 abbrev pub refused_said : SFault → Saying
 refused_said fault = saying (journal_refusal_text fault) (ending.JournalRefused fault)
 
--- ---- What was said
-
--- The command ended so and wrote this text. Or the output failed, and a front of it was written; or there was no memory
--- for it, and nothing was.
-abbrev pub EndsWith : Ending → List ℕ → (written written' : Option (List ℕ)) → Result Ending Put → Type 0
-EndsWith end text written written' (Ok e) = (e ≡ end) × Adds written written' text
-EndsWith end text written written' (Err put.Failed) = AddsFront written written' text
-EndsWith end text written written' (Err put.Memory) = written' ≡ written
-
 -- ---- Refusals
 
--- how a command ends where its fault isn't told: for want of memory, and where the disk failed
-abbrev pub untold : SFault → Option (Result Ending Put)
+-- why nothing is said of a fault: memory was wanting, or the disk failed
+abbrev pub untold : SFault → Option Unsaid
 untold (store.Journal journal.SessionThere) = None
 untold (store.Journal journal.NoSession) = None
 untold (store.Journal journal.NotAJournal) = None
 untold (store.Journal (journal.Damaged at)) = None
 untold (store.Journal journal.TooManyRecords) = None
 untold (store.Journal journal.Full) = None
-untold (store.Journal journal.DiskFault) = Some (Ok ending.DiskFault)
-untold (store.Journal journal.Memory) = Some (Err put.Memory)
+untold (store.Journal journal.DiskFault) = Some unsaid.DiskFault
+untold (store.Journal journal.Memory) = Some unsaid.Memory
 untold (store.Voc fault) = None
 untold (store.Stray i) = None
-untold store.Memory = Some (Err put.Memory)
+untold store.Memory = Some unsaid.Memory
 
--- it ends so without a word, or the fault is told
-abbrev pub EndsUntold : Option (Result Ending Put) → SFault → (written written' : Option (List ℕ)) → Result Ending Put → Type 0
-EndsUntold (Some end) fault written written' got = (got ≡ end) × (written' ≡ written)
-EndsUntold None fault written written' got = EndsWith (ending.JournalRefused fault) (journal_refusal_text fault) written written' got
+-- nothing is said of it, or which fault it is
+abbrev pub RefusesBy : Option Unsaid → SFault → Result Saying Unsaid → Type 0
+RefusesBy (Some why) fault said = said ≡ Err why
+RefusesBy None fault said = IsSaid (refused_said fault) said
 
--- what a command without a session does about its fault
-abbrev pub Refuses : SFault → (written written' : Option (List ℕ)) → Result Ending Put → Type 0
-Refuses fault written written' got = EndsUntold (untold fault) fault written written' got
+-- what a command without a session says of its fault
+abbrev pub Refuses : SFault → Result Saying Unsaid → Type 0
+Refuses fault said = RefusesBy (untold fault) fault said
 
 -- ---- A journal that isn't opened
 
@@ -85,7 +77,7 @@ module _ {D : Type 0} (disk : DiskOf D) where
   pub record StaysClosed (left written left' written' : Option (List ℕ)) (old new : D) (got : Result Ending Put) : Type 0 where
     pub fault : SFault
     pub why : ForSome (disk.content old) (λ bytes. NotOpened bytes fault)
-    pub refuses : Refuses fault written written' got
+    pub refuses : SaysSo (Refuses fault) written written' got
     pub unread : left' ≡ left
     pub same : disk.content new ≡ disk.content old
     pub any_moment : LeavesOnly disk old new (disk.may_leave old)

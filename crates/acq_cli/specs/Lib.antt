@@ -9,13 +9,14 @@ pub mod Points
 pub mod Loop
 pub mod Texts
 pub mod Breaks
+pub mod Saying
+pub mod Said
 pub mod Endings
 pub mod Program
 pub mod Words
 pub mod Shows
-pub mod Saying
 pub mod Journals
-pub mod Said
+pub mod Inputs
 pub mod Over
 pub mod Usage
 pub mod Trying

@@ -2,16 +2,16 @@
 use Rattle.std.specs.Prelude.{◌≡◌, ◌⊎◌, ℕ, List, Option, Result, Ok, Err, IfOk}
 use Rattle.std.specs.Option.{ForSome}
 use Rattle.disk_model.specs.declared.disk.Disk.{Ghosts as DiskOf}
-use Rattle.acq_io.specs.declared.streams.Put.{Put}
-use Rattle.acq_io.specs.declared.streams.Put.TheVariants as put
 use Rattle.disk_model.specs.Moments.{LeavesOnly}
 use Rattle.session_store.specs.Opened.{Opened, Holds, IsSession, Opens}
 use Rattle.session_store.specs.Opening.{NotOpened}
 use Rattle.session_store.specs.declared.fault.SFault.{SFault}
 use Rattle.acq_cli.specs.Exactly.{IsBrokenOff}
-use Rattle.acq_cli.specs.Journals.{EndsWith, Refuses, refused_said}
+use Rattle.acq_cli.specs.Journals.{Refuses, refused_said}
+use Rattle.acq_cli.specs.Said.{IsSaid}
 use Rattle.acq_cli.specs.Saying.{Saying}
 use Rattle.acq_cli.specs.declared.ending.Ending.{Ending}
+use Rattle.acq_cli.specs.declared.said.Unsaid.{Unsaid}
 
 -- ---- What is said
 
@@ -21,15 +21,9 @@ said_of says (Ok o) = says o
 said_of says (Err fault) = refused_said fault
 
 -- the same, where the disk may have failed, or memory was wanting: then not a word is said
-abbrev pub TellsOpening : (Opened → Saying) → Result Opened SFault → (written written' : Option (List ℕ)) → Result Ending Put → Type 0
-TellsOpening says (Ok o) written written' got = EndsWith (says o).ending (says o).text written written' got
-TellsOpening says (Err fault) written written' got = Refuses fault written written' got
-
--- what holds wherever something was said, in whole or in part
-abbrev pub UnlessMemory : Type 0 → Result Ending Put → Type 0
-UnlessMemory fact (Ok end) = fact
-UnlessMemory fact (Err put.Failed) = fact
-UnlessMemory fact (Err put.Memory) = Unit {0}
+abbrev pub SaysOpening : (Opened → Saying) → Result Opened SFault → Result Saying Unsaid → Type 0
+SaysOpening says (Ok o) said = IsSaid (says o) said
+SaysOpening says (Err fault) said = Refuses fault said
 
 -- ---- The command
 
@@ -40,26 +34,30 @@ OpensAs bytes (Err fault) = NotOpened bytes fault
 
 -- the meanings of a disk
 module _ {D : Type 0} (disk : DiskOf D) where
-  -- A session was opened, or none, which is what the journal opens with where the disk tells its bytes, and that was said which the
-  -- command says of it. What is true of the session is true of this one. The disk holds what it held.
-  pub record SaysOver (says : Opened → Saying) (IsTrueOf : Opened → Type 0) (written written' : Option (List ℕ)) (old new : D) (got : Result Ending Put) : Type 0 where
+  -- A session was opened, or none, which is what the journal opens with where the disk tells its bytes, and so it was said of this.
+  -- Where something was said of a session, what is true of it then is. The disk holds what it held.
+  pub record SaysOver (Says : Result Opened SFault → Result Saying Unsaid → Type 0) (IsTrueOf : Opened → Type 0) (old new : D) (said : Result Saying Unsaid) : Type 0 where
     pub opening : Result Opened SFault
     pub opens : ForSome (disk.content old) (λ bytes. OpensAs bytes opening)
     pub session : IfOk opening IsSession
-    pub tells : TellsOpening says opening written written' got
-    pub so : UnlessMemory (IfOk opening IsTrueOf) got
+    pub says : Says opening said
+    pub so : IfOk said (λ _. IfOk opening IsTrueOf)
     pub same : disk.content new ≡ disk.content old
     pub any_moment : LeavesOnly disk old new (disk.may_leave old)
 
 -- ---- Exactly when
 
--- It ends as is said of what the file opens with, and the file opens in no other way.
-pub record EndsAsSaid (says : Opened → Saying) (file : List ℕ) (end : Ending) : Type 0 where
-  pub opening : Result Opened SFault
-  pub opens : Opens file opening
-  pub only : (other : Result Opened SFault) → Opens file other → other ≡ opening
-  pub is : end ≡ (said_of says opening).ending
+-- It ends as is said of what there is, which is nothing else.
+pub record EndsAsSaid {A : Type 0} (IsThere : A → Type 0) (says : A → Saying) (end : Ending) : Type 0 where
+  pub what : A
+  pub there : IsThere what
+  pub only : (other : A) → IsThere other → other ≡ what
+  pub is : end ≡ (says what).ending
+
+-- of what the file opens with
+abbrev pub EndsAsOpened : (Opened → Saying) → (file : List ℕ) → Ending → Type 0
+EndsAsOpened says file end = EndsAsSaid (Opens file) (said_of says) end
 
 -- where the disk tells its bytes
 abbrev pub SaidEnds : (Opened → Saying) → (content : Option (List ℕ)) → Ending → Type 0
-SaidEnds says content end = ForSome content (λ file. IsBrokenOff end ⊎ EndsAsSaid says file end)
+SaidEnds says content end = ForSome content (λ file. IsBrokenOff end ⊎ EndsAsOpened says file end)

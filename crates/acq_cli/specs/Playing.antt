@@ -19,7 +19,8 @@ use Rattle.session_store.specs.Replay.{HavePlaces}
 use Rattle.target_oracle.specs.NetTurns.{net_turn, net_may_say}
 use Rattle.voc_read.specs.Vocabulary.{IsVocabulary}
 use Rattle.acq_cli.specs.Exactly.{HoldsSession, IsBrokenOff, OpensExactly}
-use Rattle.acq_cli.specs.Journals.{EndsWith, StaysClosed}
+use Rattle.acq_cli.specs.Journals.{StaysClosed}
+use Rattle.acq_cli.specs.Said.{EndsWith}
 use Rattle.acq_cli.specs.Points.{terms_with}
 use Rattle.acq_cli.specs.Running.{GoesOn}
 use Rattle.acq_cli.specs.Texts.{learned_after, not_fresh_text, target_refusal_text}

@@ -3,7 +3,7 @@ use Rattle.std.specs.Prelude.{◌≡◌, ℕ, List, Option, Result, Err}
 use Rattle.acq_io.specs.declared.streams.Put.{Put}
 use Rattle.acq_words.specs.declared.request.Command.{Command}
 use Rattle.acq_words.specs.declared.request.UsageFault.{UsageFault}
-use Rattle.acq_cli.specs.Journals.{EndsWith}
+use Rattle.acq_cli.specs.Said.{EndsWith}
 use Rattle.acq_cli.specs.Program.{ended_as}
 use Rattle.acq_cli.specs.Texts.{usage_text}
 use Rattle.acq_cli.specs.declared.ending.Ending.{Ending}

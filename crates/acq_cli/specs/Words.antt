@@ -29,6 +29,18 @@ is_over_journal (Ok command.Model) = true
 is_over_journal (Ok (command.Certify budget)) = true
 is_over_journal _ = false
 
+-- whether it only says something, and asks nothing
+abbrev pub is_speaking : Command → Bool
+is_speaking (command.New plan) = true
+is_speaking command.Show = true
+is_speaking command.Back = true
+is_speaking (command.Reduce budget) = true
+is_speaking command.Cnf = true
+is_speaking command.Model = true
+is_speaking (command.Certify budget) = true
+is_speaking command.Check = true
+is_speaking c = false
+
 -- whether it reads the input
 abbrev pub is_reading : Result Command UsageFault → Bool
 is_reading (Ok command.Show) = false

@@ -1,79 +1,52 @@
 //! The command that takes the last answer back.
 
-ghost use Rattle.std.specs.Prelude.{◌≡◌, ◌≢◌, ◌↔◌, ◌<◌, ◌≤◌, ◌+◌, [], ℕ, List, Option, length, IfSome, IfNone, IfOk, IsTrue, Ok, Err};
-ghost use Rattle.acq_io.specs.Streams.{Rose};
+ghost use Rattle.std.specs.Prelude.{◌≡◌, ◌≢◌, ◌↔◌, ◌<◌, ◌≤◌, ◌+◌, [], length, IfSome, IfNone, IfOk, IsTrue, Err};
 ghost use Rattle.assign.specs.Events.{standing};
 ghost use Rattle.assign.specs.declared.events.Event.{Event};
 ghost use Rattle.disk_model.specs.Disk.{Rose as DiskRose};
 ghost use Rattle.language.specs.Answers.{standing_on};
 ghost use Rattle.session_store.specs.Keeps.{Keeps, IsKeeping};
-ghost use Rattle.acq_cli.specs.Journals.{EndsWith};
-ghost use Rattle.acq_cli.specs.TakingBack.{EndsBack, TakesBack, nothing_text, taken_text};
-ghost use Rattle.acq_cli.specs.Texts.{full_text};
+ghost use Rattle.acq_cli.specs.Saying.{saying};
+ghost use Rattle.acq_cli.specs.TakingBack.{EndsBack, TakesBack, taken_text};
 
-use crate::commands::refuse_journal;
+use crate::commands::refused;
 use crate::driving::{Drove, Entry, keep_event};
 use crate::ending::Ending;
-use acq_io::{Put, Sink};
+use crate::said::{Said, Unsaid, fixed, or_silent};
 use disk_model::Disk;
+use language::Memory;
 use session_store::{Keep, Store};
 use std::alloc::Global;
 
-/// Says that no answer stands.
-fn refuse_nothing<K: Sink>(out: &mut K) -> Result<Ending, Put>
-    ensures tells { EndsWith Ending.NothingBack nothing_text (K.written out.old) (K.written out.new) result }
-    ensures failed { result ≡ Err Put.Failed → Rose (K.faults out.old) (K.faults out.new) }
-{
-    out.write(b"refused nothing to take back\n")?;
-    Ok(Ending::NothingBack)
-}
-
-/// Says that no record is left.
-fn refuse_full<K: Sink>(out: &mut K) -> Result<Ending, Put>
-    ensures tells { EndsWith Ending.JournalFull full_text (K.written out.old) (K.written out.new) result }
-    ensures failed { result ≡ Err Put.Failed → Rose (K.faults out.old) (K.faults out.new) }
-{
-    out.write(b"refused journal full\n")?;
-    Ok(Ending::JournalFull)
-}
-
 /// Says which answer was taken back.
-fn say_taken<K: Sink>(alloc: Global, m: u32, out: &mut K) -> Result<Ending, Put>
-    ensures tells { EndsWith Ending.Done (taken_text m) (K.written out.old) (K.written out.new) result }
-    ensures failed { result ≡ Err Put.Failed → Rose (K.faults out.old) (K.faults out.new) }
+fn taken(alloc: Global, m: u32) -> Result<Said, Memory>
+    ensures { IfOk result (λ said. said ≡ saying (taken_text m) Ending.Done) }
 {
-    let Ok(text) = format!(in alloc; "took back answer {m}\n") else {
-        return Err(Put::Memory);
-    };
-    out.write(text.as_bytes())?;
-    Ok(Ending::Done)
+    let text = format!(in alloc; "took back answer {m}\n")?;
+    Ok(Said::new(text, Ending::Done))
 }
 
-/// Takes back the last of `m` answers, and says so. Where the disk fails or memory is wanting, not a word is said.
-fn take_last<K: Sink, D: Disk, P: Keep<D>>(
+/// Takes back the last of `m` answers, and says so.
+fn take_last<D: Disk, P: Keep<D>>(
     alloc: Global,
     m: u32,
     keep: &mut P,
-    out: &mut K,
     disk: &mut D,
-) -> Result<Ending, Put>
+) -> Result<Said, Unsaid>
     requires keeper { IsKeeping P.Keep keep.old disk.old }
     requires room { length (P.record_of keep.old) + 1 < 1000000 }
     requires stands { standing (P.record_of keep.old) ≢ [] }
-    ensures ends { EndsBack m (P.record_of keep.old) (P.record_of keep.new) (K.written out.old) (K.written out.new) result }
-    ensures keeps { Keeps P.Keep D.Disk (result ≡ Ok Ending.DiskFault)
+    ensures ends { EndsBack (saying (taken_text m) Ending.Done) (P.record_of keep.old) (P.record_of keep.new) result }
+    ensures keeps { Keeps P.Keep D.Disk (result ≡ Err Unsaid.DiskFault)
         (λ lost. lost ≡ Event.Back) keep.old keep.new disk.old disk.new }
-    ensures no_fault { IfOk result (λ ending. ending ≢ Ending.WriteFault) }
-    ensures no_read { IfOk result (λ ending. ending ≢ Ending.ReadFault) }
-    ensures failed { result ≡ Err Put.Failed → Rose (K.faults out.old) (K.faults out.new) }
 {
     match keep_event::<D, P>(keep, disk, Entry::Back) {
-        None => say_taken(alloc, m, out),
+        None => or_silent(taken(alloc, m)),
         Some(end) => {
             if end == Drove::Memory {
-                Err(Put::Memory)
+                Err(Unsaid::Memory)
             } else {
-                Ok(Ending::DiskFault)
+                Err(Unsaid::DiskFault)
             }
         }
     }
@@ -99,27 +72,26 @@ fn is_full<D: Disk, P: Keep<D>>(keep: &P) -> bool
     keep.is_full()
 }
 
-/// Opens a journal, and takes the last answer back, where one stands and a record is left.
-pub fn back_journal<K: Sink, D: Disk>(
-    alloc: Global,
-    out: &mut K,
-    disk: &mut D,
-) -> Result<Ending, Put>
-    ensures backs { (left : Option (List ℕ)) → TakesBack D.Disk left (K.written out.old) (K.written out.new) disk.old disk.new result }
-    ensures no_fault { IfOk result (λ ending. ending ≢ Ending.WriteFault) }
-    ensures no_read { IfOk result (λ ending. ending ≢ Ending.ReadFault) }
-    ensures failed { result ≡ Err Put.Failed → Rose (K.faults out.old) (K.faults out.new) }
-    ensures lost { result ≡ Ok Ending.DiskFault → DiskRose (D.faults disk.old) (D.faults disk.new) }
+/// Opens a journal, and takes the last answer back, where one stands and a record is left. Where the disk fails or memory is wanting,
+/// not a word is said.
+pub(crate) fn back_journal<D: Disk>(alloc: Global, disk: &mut D) -> Result<Said, Unsaid>
+    ensures backs { TakesBack D.Disk disk.old disk.new result }
+    ensures no_read { result ≢ Err Unsaid.ReadFault }
+    ensures lost { result ≡ Err Unsaid.DiskFault → DiskRose (D.faults disk.old) (D.faults disk.new) }
 {
     let mut store = match Store::open(alloc, disk) {
         Ok(store) => store,
-        Err(fault) => return refuse_journal(alloc, fault, out),
+        Err(fault) => return refused(alloc, fault),
     };
     let Some(m) = last_answer::<D, Store>(&store) else {
-        return refuse_nothing(out);
+        return or_silent(fixed(
+            alloc,
+            "refused nothing to take back\n",
+            Ending::NothingBack,
+        ));
     };
     if is_full::<D, Store>(&store) {
-        return refuse_full(out);
+        return or_silent(fixed(alloc, "refused journal full\n", Ending::JournalFull));
     }
-    take_last::<K, D, Store>(alloc, m, &mut store, out, disk)
+    take_last::<D, Store>(alloc, m, &mut store, disk)
 }

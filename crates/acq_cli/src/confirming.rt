@@ -1,17 +1,18 @@
-//! The command that checks a certificate. It touches no journal, and nothing of a session runs.
+//! What `check` says of a certificate. It touches no journal, and nothing of a session runs.
 
-ghost use Rattle.std.specs.Prelude.{◌≡◌, ◌≢◌, IfOk, Ok, Err};
-ghost use Rattle.acq_io.specs.Streams.{HasStopped, Rose, TakesSome};
+ghost use Rattle.std.specs.Prelude.{◌≡◌, ◌≢◌, IfOk, Err};
+ghost use Rattle.acq_io.specs.Streams.{HasStopped, TakesSome};
 ghost use Rattle.cert_check.specs.Texts.{cert_fault_line, confirmed_text, flaw_line};
-ghost use Rattle.acq_cli.specs.Confirming.{Confirms, ConfirmsBytes, SaysVerdict};
-ghost use Rattle.acq_cli.specs.Journals.{EndsWith};
+ghost use Rattle.acq_cli.specs.Confirming.{Confirms, IsCheck, verdict_said};
+ghost use Rattle.acq_cli.specs.Saying.{saying};
 
 use crate::ending::Ending;
-use crate::printing::tell;
-use acq_io::{AllFault, Put, Sink, Source, read_all};
+use crate::said::{Said, Unsaid, or_silent};
+use acq_io::{AllFault, Source, read_all};
 use cert_check::{
     Cert, CertFault, Flaw, Verdict, cert_fault_text, check, confirmed_text, flaw_text, read_cert,
 };
+use language::Memory;
 use std::alloc::Global;
 use std::thread::Threads;
 
@@ -19,93 +20,69 @@ use std::thread::Threads;
 const MOST_CERTIFICATE: u32 = 67_108_864;
 
 /// Says that a certificate shows what it says.
-fn say_confirmed<K: Sink>(alloc: Global, cert: &Cert, out: &mut K) -> Result<Ending, Put>
-    ensures tells { EndsWith Ending.Done (confirmed_text cert.now) (K.written out.old) (K.written out.new) result }
-    ensures failed { result ≡ Err Put.Failed → Rose (K.faults out.old) (K.faults out.new) }
+fn confirmed(alloc: Global, cert: &Cert) -> Result<Said, Memory>
+    ensures { IfOk result (λ said. said ≡ saying (confirmed_text cert.now) Ending.Done) }
 {
-    let Ok(text) = confirmed_text(alloc, cert) else {
-        return Err(Put::Memory);
-    };
-    tell(text.as_str(), Ending::Done, out)
+    let text = confirmed_text(alloc, cert)?;
+    Ok(Said::new(text, Ending::Done))
 }
 
 /// Says the flaw of a certificate.
-fn refuse_flawed<K: Sink>(alloc: Global, flaw: Flaw, out: &mut K) -> Result<Ending, Put>
-    ensures tells { EndsWith (Ending.Flawed flaw) (flaw_line flaw) (K.written out.old) (K.written out.new) result }
-    ensures failed { result ≡ Err Put.Failed → Rose (K.faults out.old) (K.faults out.new) }
+fn flawed(alloc: Global, flaw: Flaw) -> Result<Said, Memory>
+    ensures { IfOk result (λ said. said ≡ saying (flaw_line flaw) (Ending.Flawed flaw)) }
 {
-    let Ok(text) = flaw_text(alloc, &flaw) else {
-        return Err(Put::Memory);
-    };
-    tell(text.as_str(), Ending::Flawed(flaw), out)
+    let text = flaw_text(alloc, &flaw)?;
+    Ok(Said::new(text, Ending::Flawed(flaw)))
 }
 
 /// Says why the input is no certificate.
-fn refuse_unread<K: Sink>(alloc: Global, fault: CertFault, out: &mut K) -> Result<Ending, Put>
-    ensures tells { EndsWith (Ending.CertUnread fault) (cert_fault_line fault) (K.written out.old) (K.written out.new) result }
-    ensures failed { result ≡ Err Put.Failed → Rose (K.faults out.old) (K.faults out.new) }
+fn unread(alloc: Global, fault: CertFault) -> Result<Said, Memory>
+    ensures { IfOk result (λ said. said ≡ saying (cert_fault_line fault) (Ending.CertUnread fault)) }
 {
-    let Ok(text) = cert_fault_text(alloc, &fault) else {
-        return Err(Put::Memory);
-    };
-    tell(text.as_str(), Ending::CertUnread(fault), out)
+    let text = cert_fault_text(alloc, &fault)?;
+    Ok(Said::new(text, Ending::CertUnread(fault)))
 }
 
 /// Says what a check has found of a certificate.
-fn say_verdict<K: Sink>(
-    alloc: Global,
-    cert: &Cert,
-    verdict: Verdict,
-    out: &mut K,
-) -> Result<Ending, Put>
-    ensures tells { SaysVerdict cert.now verdict (K.written out.old) (K.written out.new) result }
-    ensures failed { result ≡ Err Put.Failed → Rose (K.faults out.old) (K.faults out.new) }
+fn judged(alloc: Global, cert: &Cert, verdict: Verdict) -> Result<Said, Memory>
+    ensures { IfOk result (λ said. said ≡ verdict_said cert.now verdict) }
 {
     match verdict {
-        Verdict::Yes => say_confirmed(alloc, cert, out),
-        Verdict::No(flaw) => refuse_flawed(alloc, flaw, out),
+        Verdict::Yes => confirmed(alloc, cert),
+        Verdict::No(flaw) => flawed(alloc, flaw),
     }
 }
 
 /// Reads a certificate, checks it, and says what was found.
-fn check_bytes<R: Threads + Sync, K: Sink>(
-    rt: &R,
-    alloc: Global,
-    bytes: &[u8],
-    out: &mut K,
-) -> Result<Ending, Put>
-    ensures confirms { ConfirmsBytes bytes.now (K.written out.old) (K.written out.new) result }
-    ensures failed { result ≡ Err Put.Failed → Rose (K.faults out.old) (K.faults out.new) }
+fn checked<R: Threads + Sync>(rt: &R, alloc: Global, bytes: &[u8]) -> Result<Said, Memory>
+    ensures { IfOk result (IsCheck bytes.now) }
 {
     let cert = match read_cert(alloc, bytes) {
         Ok(cert) => cert,
-        Err(CertFault::Memory) => return Err(Put::Memory),
-        Err(fault) => return refuse_unread(alloc, fault, out),
+        Err(CertFault::Memory) => return Err(Memory),
+        Err(fault) => return unread(alloc, fault),
     };
     match check(rt, alloc, &cert) {
-        Ok(verdict) => say_verdict(alloc, &cert, verdict, out),
-        Err(_) => Err(Put::Memory),
+        Ok(verdict) => judged(alloc, &cert, verdict),
+        Err(_) => Err(Memory),
     }
 }
 
 /// Reads a certificate to the end of the input, and says whether it shows that its answers converge on its network.
-pub fn check_input<R: Threads + Sync, S: Source, K: Sink>(
+pub(crate) fn check_input<R: Threads + Sync, S: Source>(
     rt: &R,
     alloc: Global,
     input: &mut S,
-    out: &mut K,
-) -> Result<Ending, Put>
-    ensures confirms { Confirms (S.left input.old) (K.written out.old) (S.left input.new) (K.written out.new) result }
+) -> Result<Said, Unsaid>
+    ensures confirms { Confirms (S.left input.old) (S.left input.new) result }
     ensures takes { TakesSome (S.left input.old) (S.left input.new) }
-    ensures read { HasStopped (S.faults input.old) (S.faults input.new) (S.late input.old) (S.late input.new) (result ≡ Ok Ending.ReadFault) }
-    ensures no_fault { IfOk result (λ ending. ending ≢ Ending.WriteFault) }
-    ensures no_disk { IfOk result (λ ending. ending ≢ Ending.DiskFault) }
-    ensures failed { result ≡ Err Put.Failed → Rose (K.faults out.old) (K.faults out.new) }
+    ensures read { HasStopped (S.faults input.old) (S.faults input.new) (S.late input.old) (S.late input.new) (result ≡ Err Unsaid.ReadFault) }
+    ensures no_disk { result ≢ Err Unsaid.DiskFault }
 {
     match read_all(alloc, input, MOST_CERTIFICATE) {
-        Ok(bytes) => check_bytes(rt, alloc, &bytes, out),
-        Err(AllFault::TooLong) => refuse_unread(alloc, CertFault::TooLong, out),
-        Err(AllFault::Fault) => Ok(Ending::ReadFault),
-        Err(AllFault::Memory) => Err(Put::Memory),
+        Ok(bytes) => or_silent(checked(rt, alloc, &bytes)),
+        Err(AllFault::TooLong) => or_silent(unread(alloc, CertFault::TooLong)),
+        Err(AllFault::Fault) => Err(Unsaid::ReadFault),
+        Err(AllFault::Memory) => Err(Unsaid::Memory),
     }
 }

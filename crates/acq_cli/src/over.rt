@@ -1,25 +1,21 @@
 //! The commands that only say something of a journal's session.
 
-ghost use Rattle.std.specs.Prelude.{◌≡◌, ◌≢◌, ℕ, List, Option, IfOk, Ok, Err};
-ghost use Rattle.acq_io.specs.Streams.{Rose};
+ghost use Rattle.std.specs.Prelude.{◌≡◌, ◌≢◌, IfOk, Err};
 ghost use Rattle.disk_model.specs.Disk.{Rose as DiskRose};
-ghost use Rattle.disk_model.specs.Moments.{LeavesOnly};
 ghost use Rattle.language.specs.Answers.{standing_on};
 ghost use Rattle.session_core.specs.Settled.{IsSettled};
 ghost use Rattle.session_store.specs.Opened.{opened_as};
 ghost use Rattle.voc_read.specs.Vocabulary.{IsVocabulary};
 ghost use Rattle.acq_cli.specs.Asks.{AsksTruly, IsAskable, asked_said};
-ghost use Rattle.acq_cli.specs.Over.{SaysOver};
+ghost use Rattle.acq_cli.specs.Over.{SaysOpening, SaysOver};
 
 use crate::ask::Ask;
 use crate::certifying::certified;
-use crate::commands::refuse_journal;
-use crate::ending::Ending;
+use crate::commands::refused;
 use crate::printing::printed;
 use crate::reducing::reduced;
-use crate::said::{Said, put};
+use crate::said::{Said, Unsaid, or_silent};
 use crate::shows::shown;
-use acq_io::{Put, Sink};
 use disk_model::Disk;
 use language::Memory;
 use par_screen::Gate;
@@ -53,26 +49,27 @@ fn asked<R: Threads + Sync, D: Disk, P: Keep<D>, G: Gate>(
 }
 
 /// Opens a journal, and says what is asked of its session. Nothing is written to it.
-pub(crate) fn say_over<R: Threads + Sync, K: Sink, D: Disk, G: Gate>(
+pub(crate) fn say_over<R: Threads + Sync, D: Disk, G: Gate>(
     rt: &R,
     alloc: Global,
     ask: Ask,
-    out: &mut K,
     disk: &mut D,
     gate: &G,
-) -> Result<Ending, Put>
+) -> Result<Said, Unsaid>
     requires { IsAskable ask }
-    ensures says { SaysOver D.Disk (asked_said ask) (AsksTruly ask) (K.written out.old) (K.written out.new) disk.old disk.new result }
-    ensures no_fault { IfOk result (λ ending. ending ≢ Ending.WriteFault) }
-    ensures no_read { IfOk result (λ ending. ending ≢ Ending.ReadFault) }
-    ensures failed { result ≡ Err Put.Failed → Rose (K.faults out.old) (K.faults out.new) }
-    ensures lost { result ≡ Ok Ending.DiskFault → DiskRose (D.faults disk.old) (D.faults disk.new) }
+    ensures says { SaysOver D.Disk (SaysOpening (asked_said ask)) (AsksTruly ask) disk.old disk.new result }
+    ensures no_read { result ≢ Err Unsaid.ReadFault }
+    ensures lost { result ≡ Err Unsaid.DiskFault → DiskRose (D.faults disk.old) (D.faults disk.new) }
 {
     match Store::open(alloc, disk) {
-        Ok(store) => put(
-            asked::<R, D, Store, G>(rt, alloc, ask, store.vocabulary(), &store, gate),
-            out,
-        ),
-        Err(fault) => refuse_journal(alloc, fault, out),
+        Ok(store) => or_silent(asked::<R, D, Store, G>(
+            rt,
+            alloc,
+            ask,
+            store.vocabulary(),
+            &store,
+            gate,
+        )),
+        Err(fault) => refused(alloc, fault),
     }
 }

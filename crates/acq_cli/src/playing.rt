@@ -6,7 +6,7 @@ ghost use Rattle.acq_words.specs.Request.{IsBudget};
 ghost use Rattle.disk_model.specs.Disk.{Rose as DiskRose};
 ghost use Rattle.language.specs.Answers.{standing_on};
 ghost use Rattle.network.specs.Learned.{Learned};
-ghost use Rattle.acq_cli.specs.Journals.{EndsWith};
+ghost use Rattle.acq_cli.specs.Said.{EndsWith};
 ghost use Rattle.acq_cli.specs.Playing.{EndsWithout, MayLack, PlaysOn, ReadsTarget};
 ghost use Rattle.acq_cli.specs.Texts.{not_fresh_text, target_refusal_text};
 

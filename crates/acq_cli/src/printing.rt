@@ -1,30 +1,18 @@
 //! What `cnf` says: a session's network for a SAT solver.
 
-ghost use Rattle.std.specs.Prelude.{◌≡◌, IfOk, Err};
-ghost use Rattle.acq_io.specs.Streams.{Rose};
+ghost use Rattle.std.specs.Prelude.{◌≡◌, IfOk};
 ghost use Rattle.session_store.specs.Opened.{opened_as};
-ghost use Rattle.acq_cli.specs.Journals.{EndsWith};
 ghost use Rattle.acq_cli.specs.Printing.{PrintsTruly, printed_said, too_large_text};
 ghost use Rattle.acq_cli.specs.Saying.{saying};
 
 use crate::ending::Ending;
 use crate::said::Said;
-use acq_io::{Put, Sink};
 use disk_model::Disk;
 use language::Memory;
 use net_cnf::laws::clauses_encode;
 use net_cnf::{CnfFault, cnf_text, too_large_text};
 use session_store::Keep;
 use std::alloc::Global;
-
-/// Says a text, and ends so.
-pub(crate) fn tell<K: Sink>(text: &str, end: Ending, out: &mut K) -> Result<Ending, Put>
-    ensures tells { EndsWith end text.now (K.written out.old) (K.written out.new) result }
-    ensures failed { result ≡ Err Put.Failed → Rose (K.faults out.old) (K.faults out.new) }
-{
-    out.write(text.as_bytes())?;
-    Ok(end)
-}
 
 /// Says that the text of the clauses is too large.
 fn said_too_large(alloc: Global) -> Result<Said, Memory>

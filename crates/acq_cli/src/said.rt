@@ -1,13 +1,15 @@
 //! What a command says, and the one call that writes it.
 
-ghost use Rattle.std.specs.Prelude.{◌≡◌, true, IfOk, IsErr, Err};
+ghost use Rattle.std.specs.Prelude.{◌≡◌, ◌≢◌, ◌≤◌, true, IfOk, Ok, Err};
 ghost use Rattle.std.specs.String.{string_bytes};
-ghost use Rattle.acq_cli.specs.Said.{IsSaid};
+ghost use Rattle.acq_io.specs.Streams.{Rose};
+ghost use Rattle.acq_cli.specs.Said.{HasWritten, or_silent};
 ghost use Rattle.acq_cli.specs.Saying.{Saying, is_told, saying};
 
 use crate::ending::Ending;
 use acq_io::{Put, Sink};
 use language::Memory;
+use std::alloc::Global;
 use std::marker::Model;
 
 /// A text, and how the command ends where the output takes it. The ending is no fault, and no want of memory.
@@ -38,16 +40,51 @@ impl Said {
     }
 }
 
-/// Writes what is said, and ends as it says. Nothing is written where there was no memory for it.
-pub(crate) fn put<K: Sink>(said: Result<Said, Memory>, out: &mut K) -> Result<Ending, Put>
-    ensures says { (what : Saying) → IfOk said (λ s. s ≡ what) → IsSaid K.Sink what out.old out.new result }
-    ensures silent { IsErr said → result ≡ Err Put.Memory }
+/// Why a command ends without a word.
+#[derive(Clone, Copy, Debug, PartialEq, Eq)]
+pub(crate) enum Unsaid {
+    /// The input failed.
+    ReadFault,
+    /// The disk failed.
+    DiskFault,
+    Memory,
+}
+
+/// Says a text that is always the same.
+pub(crate) fn fixed(alloc: Global, text: &str, ending: Ending) -> Result<Said, Memory>
+    requires { is_told ending ≡ true }
+    ensures { IfOk result (λ said. said ≡ saying text.now ending) }
+{
+    let text = String::from_str(alloc, text)?;
+    Ok(Said::new(text, ending))
+}
+
+/// What is said, where there was memory for it.
+pub(crate) fn or_silent(said: Result<Said, Memory>) -> Result<Said, Unsaid>
+    ensures { result ≡ or_silent said }
+{
+    match said {
+        Ok(said) => Ok(said),
+        Err(_) => Err(Unsaid::Memory),
+    }
+}
+
+/// Writes what a command says, and ends as it says. Where it says nothing, nothing is written.
+pub(crate) fn put<K: Sink>(said: Result<Said, Unsaid>, out: &mut K) -> Result<Ending, Put>
+    ensures writes { HasWritten said (K.written out.old) (K.written out.new) result }
+    ensures no_fault { IfOk result (λ ending. ending ≢ Ending.WriteFault) }
+    ensures read { result ≡ Ok Ending.ReadFault → said ≡ Err Unsaid.ReadFault }
+    ensures lost { result ≡ Ok Ending.DiskFault → said ≡ Err Unsaid.DiskFault }
+    ensures failed { result ≡ Err Put.Failed → Rose (K.faults out.old) (K.faults out.new) }
+    ensures later { K.faults out.old ≤ K.faults out.new }
 {
     match said {
         Ok(said) => {
             out.write(said.text.as_bytes())?;
             Ok(said.ending)
         }
-        Err(_) => Err(Put::Memory),
+        Err(Unsaid::ReadFault) => Ok(Ending::ReadFault),
+        Err(Unsaid::DiskFault) => Ok(Ending::DiskFault),
+        Err(Unsaid::Memory) => Err(Put::Memory),
     }
 }

@@ -1,117 +1,93 @@
-//! The command that reads a SAT solver's model back as a solution of a journal's network.
+//! What `model` says: the solution of a journal's network that a SAT solver's model gives.
 
-ghost use Rattle.std.specs.Prelude.{◌≡◌, ◌≢◌, ◌⊎◌, IfOk, Ok, Err};
-ghost use Rattle.acq_io.specs.Streams.{HasStopped, Rose, TakesSome};
+ghost use Rattle.std.specs.Prelude.{◌≡◌, ◌≢◌, IfOk, Err};
+ghost use Rattle.acq_io.specs.Streams.{HasStopped, TakesSome};
 ghost use Rattle.disk_model.specs.Disk.{Rose as DiskRose};
-ghost use Rattle.disk_model.specs.Moments.{LeavesOnly};
 ghost use Rattle.language.specs.Answers.{IsNetwork};
 ghost use Rattle.net_cnf.specs.Models.{model_of};
 ghost use Rattle.net_cnf.specs.ModelTexts.{model_fault_line, solution_line};
-ghost use Rattle.acq_cli.specs.Journals.{EndsWith};
-ghost use Rattle.acq_cli.specs.Reducing.{network_after};
-ghost use Rattle.acq_cli.specs.Solving.{Solves, SolvesTo, TellsSolution};
+ghost use Rattle.session_store.specs.Opened.{opened_as};
+ghost use Rattle.acq_cli.specs.Inputs.{SaysOfInput};
+ghost use Rattle.acq_cli.specs.Over.{SaysOver};
+ghost use Rattle.acq_cli.specs.Said.{IsSaid};
+ghost use Rattle.acq_cli.specs.Saying.{saying};
+ghost use Rattle.acq_cli.specs.Solving.{Solves, solution_said, solved_said};
 
-use crate::commands::refuse_journal;
+use crate::commands::refused;
 use crate::ending::Ending;
-use crate::printing::tell;
-use acq_io::{AllFault, Put, Sink, Source, read_all};
+use crate::said::{Said, Unsaid, or_silent};
+use acq_io::{AllFault, Source, read_all};
 use assign::Partial;
 use disk_model::Disk;
-use language::Language;
+use language::{Language, Memory};
 use net_cnf::{MOST_MODEL, ModelFault, model_fault_text, read_model, solution_text};
 use network::Network;
 use session_store::{Keep, Store};
 use std::alloc::Global;
 
 /// Says a solution.
-fn say_solution<K: Sink>(
-    alloc: Global,
-    lang: &Language,
-    e: &Partial,
-    out: &mut K,
-) -> Result<Ending, Put>
-    ensures tells { EndsWith Ending.Done (solution_line lang.now e.now) (K.written out.old) (K.written out.new) result }
-    ensures failed { result ≡ Err Put.Failed → Rose (K.faults out.old) (K.faults out.new) }
+fn solution(alloc: Global, lang: &Language, e: &Partial) -> Result<Said, Memory>
+    ensures { IfOk result (λ said. said ≡ saying (solution_line lang.now e.now) Ending.Done) }
 {
-    let Ok(text) = solution_text(alloc, lang, e) else {
-        return Err(Put::Memory);
-    };
-    tell(text.as_str(), Ending::Done, out)
+    let text = solution_text(alloc, lang, e)?;
+    Ok(Said::new(text, Ending::Done))
 }
 
 /// Says why a model is refused.
-fn refuse_model<K: Sink>(alloc: Global, fault: ModelFault, out: &mut K) -> Result<Ending, Put>
-    ensures tells { EndsWith (Ending.ModelRefused fault) (model_fault_line fault) (K.written out.old) (K.written out.new) result }
-    ensures failed { result ≡ Err Put.Failed → Rose (K.faults out.old) (K.faults out.new) }
+fn refused_model(alloc: Global, fault: ModelFault) -> Result<Said, Memory>
+    ensures { IfOk result (λ said. said ≡ saying (model_fault_line fault) (Ending.ModelRefused fault)) }
 {
-    let Ok(text) = model_fault_text(alloc, &fault) else {
-        return Err(Put::Memory);
-    };
-    tell(text.as_str(), Ending::ModelRefused(fault), out)
+    let text = model_fault_text(alloc, &fault)?;
+    Ok(Said::new(text, Ending::ModelRefused(fault)))
 }
 
 /// Says the solution that a model's bytes give, or why they give none.
-fn say_model<K: Sink>(
-    alloc: Global,
-    lang: &Language,
-    net: &Network,
-    bytes: &[u8],
-    out: &mut K,
-) -> Result<Ending, Put>
+fn modelled(alloc: Global, lang: &Language, net: &Network, bytes: &[u8]) -> Result<Said, Memory>
     requires { IsNetwork lang.now net.now.list }
-    ensures tells { TellsSolution lang.now (model_of lang.now net.now.list bytes.now) (K.written out.old) (K.written out.new) result
-        ⊎ ((result ≡ Err Put.Memory) × (K.written out.new ≡ K.written out.old)) }
-    ensures failed { result ≡ Err Put.Failed → Rose (K.faults out.old) (K.faults out.new) }
+    ensures { IfOk result (λ said. said ≡ solution_said lang.now (model_of lang.now net.now.list bytes.now)) }
 {
     match read_model(alloc, lang, net, bytes) {
-        Ok(e) => say_solution(alloc, lang, &e, out),
-        Err(ModelFault::Memory) => Err(Put::Memory),
-        Err(fault) => refuse_model(alloc, fault, out),
+        Ok(e) => solution(alloc, lang, &e),
+        Err(ModelFault::Memory) => Err(Memory),
+        Err(fault) => refused_model(alloc, fault),
     }
 }
 
 /// Reads a model to the end of the input, and says what it gives for the network of a keeper's session.
-fn solve_kept<S: Source, K: Sink, D: Disk, P: Keep<D>>(
+fn solved<S: Source, D: Disk, P: Keep<D>>(
     alloc: Global,
     keep: &P,
     input: &mut S,
-    out: &mut K,
-) -> Result<Ending, Put>
+) -> Result<Said, Unsaid>
     requires { P.sound keep.now }
-    ensures solves { SolvesTo (P.lang keep.now) (network_after (P.lang keep.now) (P.plan keep.now) (P.record_of keep.now)) (S.left input.old) (K.written out.old) (S.left input.new) (K.written out.new) result }
+    ensures says { SaysOfInput 4194304 (λ read. IsSaid (solved_said read (opened_as (P.plan keep.now) (P.voc keep.now) (P.record_of keep.now) (P.lang keep.now)))) (S.left input.old) (S.left input.new) result }
     ensures takes { TakesSome (S.left input.old) (S.left input.new) }
-    ensures read { HasStopped (S.faults input.old) (S.faults input.new) (S.late input.old) (S.late input.new) (result ≡ Ok Ending.ReadFault) }
-    ensures failed { result ≡ Err Put.Failed → Rose (K.faults out.old) (K.faults out.new) }
+    ensures read { HasStopped (S.faults input.old) (S.faults input.new) (S.late input.old) (S.late input.new) (result ≡ Err Unsaid.ReadFault) }
+    ensures no_disk { result ≢ Err Unsaid.DiskFault }
 {
     let session = keep.session();
     match read_all(alloc, input, MOST_MODEL) {
-        Ok(bytes) => say_model(alloc, session.lang(), session.network(), &bytes, out),
-        Err(AllFault::TooLong) => refuse_model(alloc, ModelFault::TooLong, out),
-        Err(AllFault::Fault) => Ok(Ending::ReadFault),
-        Err(AllFault::Memory) => Err(Put::Memory),
+        Ok(bytes) => or_silent(modelled(alloc, session.lang(), session.network(), &bytes)),
+        Err(AllFault::TooLong) => or_silent(refused_model(alloc, ModelFault::TooLong)),
+        Err(AllFault::Fault) => Err(Unsaid::ReadFault),
+        Err(AllFault::Memory) => Err(Unsaid::Memory),
     }
 }
 
 /// Opens a journal, reads a model to the end of the input, and says the solution of the journal's network that it gives. Nothing
 /// is written to the journal.
-#[tactic(auto, using(crate::proofs::Taking::takes_same, crate::proofs::Causes::stopped_idle))]
-pub fn solve_journal<S: Source, K: Sink, D: Disk>(
+pub(crate) fn solve_journal<S: Source, D: Disk>(
     alloc: Global,
     input: &mut S,
-    out: &mut K,
     disk: &mut D,
-) -> Result<Ending, Put>
-    ensures solves { Solves D.Disk (S.left input.old) (K.written out.old) (S.left input.new) (K.written out.new) disk.old disk.new result }
+) -> Result<Said, Unsaid>
+    ensures says { SaysOver D.Disk (Solves (S.left input.old) (S.left input.new)) (λ o. Unit {0}) disk.old disk.new result }
     ensures takes { TakesSome (S.left input.old) (S.left input.new) }
-    ensures read { HasStopped (S.faults input.old) (S.faults input.new) (S.late input.old) (S.late input.new) (result ≡ Ok Ending.ReadFault) }
-    ensures same { D.content disk.new ≡ D.content disk.old }
-    ensures any_moment { LeavesOnly D.Disk disk.old disk.new (D.may_leave disk.old) }
-    ensures no_fault { IfOk result (λ ending. ending ≢ Ending.WriteFault) }
-    ensures failed { result ≡ Err Put.Failed → Rose (K.faults out.old) (K.faults out.new) }
-    ensures lost { result ≡ Ok Ending.DiskFault → DiskRose (D.faults disk.old) (D.faults disk.new) }
+    ensures read { HasStopped (S.faults input.old) (S.faults input.new) (S.late input.old) (S.late input.new) (result ≡ Err Unsaid.ReadFault) }
+    ensures lost { result ≡ Err Unsaid.DiskFault → DiskRose (D.faults disk.old) (D.faults disk.new) }
 {
     match Store::open(alloc, disk) {
-        Ok(store) => solve_kept::<S, K, D, Store>(alloc, &store, input, out),
-        Err(fault) => refuse_journal(alloc, fault, out),
+        Ok(store) => solved::<S, D, Store>(alloc, &store, input),
+        Err(fault) => refused(alloc, fault),
     }
 }

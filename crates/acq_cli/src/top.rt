@@ -1,12 +1,11 @@
-ghost use Rattle.std.specs.Prelude.{◌≡◌, ◌≤◌, ◌≢◌, ℕ, List, [], map, filter, false, IsTrue, IfOk, OnOk, OnErr, Ok, Err};
+ghost use Rattle.std.specs.Prelude.{◌≡◌, ◌≤◌, ◌≢◌, ℕ, List, [], map, IfOk, OnErr, Ok, Err};
 ghost use Rattle.assign.specs.declared.events.Event.{Event};
-ghost use Rattle.assign.specs.declared.events.Plan.{Plan};
 ghost use Rattle.std.specs.String.{string_bytes};
 ghost use Rattle.acq_io.specs.Streams.{Adds, AddsFront, HasStopped, Rose, TakesSome};
 ghost use Rattle.assign.specs.Events.{Answer};
-ghost use Rattle.language.specs.Language.{IsLanguage, candidates};
-ghost use Rattle.language.specs.Answers.{IsNetwork, standing_on};
-ghost use Rattle.query_gen.specs.Marks.{IsMadeFor, is_open};
+ghost use Rattle.language.specs.Language.{IsLanguage};
+ghost use Rattle.language.specs.Answers.{standing_on};
+ghost use Rattle.query_gen.specs.Marks.{IsMadeFor};
 ghost use Rattle.session_core.specs.Settled.{IsSettled};
 ghost use Rattle.session_core.specs.Standing.{Stands, knowledge_of};
 ghost use Rattle.session_store.specs.Keeps.{Keeps, IsKeeping, IsSameSession};
@@ -19,35 +18,31 @@ ghost use Rattle.acq_cli.specs.Breaks.{BreaksRun};
 ghost use Rattle.acq_cli.specs.Trying.{Acquires, BreaksOff};
 ghost use Rattle.acq_cli.specs.Endings.{HasAsked, Says, SaysPart, Tries};
 ghost use Rattle.acq_cli.specs.Program.{TellsCauses, ended_as};
-ghost use Rattle.disk_model.specs.Disk.{Rose as DiskRose};
 ghost use Rattle.acq_words.specs.Request.{IsBudget, IsWithin};
-ghost use Rattle.acq_cli.specs.Journals.{EndsWith};
+ghost use Rattle.acq_cli.specs.Said.{EndsWith};
 ghost use Rattle.acq_cli.specs.Commands.{EndsExactly};
 ghost use Rattle.acq_cli.specs.Doing.{Does};
 ghost use Rattle.acq_cli.specs.Headline.{FindsNetwork, FindsNone};
 ghost use Rattle.acq_cli.specs.Usage.{TellsUsage};
 ghost use Rattle.acq_cli.specs.Completing.{Completes, NoneRose};
 ghost use Rattle.acq_cli.specs.Words.{IsAsked, Spares, command_asked};
-ghost use Rattle.acq_cli.specs.Texts.{collapsed_text, converged_text, refusal_text, suspended_text, undecided_text, usage_text};
+ghost use Rattle.acq_cli.specs.Texts.{refusal_text, usage_text};
 
-use crate::ask::Ask;
-use crate::back::back_journal;
-use crate::commands::{new_journal, run_journal};
-use crate::confirming::check_input;
+use crate::closing::closing;
+use crate::commands::run_journal;
 use crate::demo::demo_number;
 use crate::driving::{Drove, drive};
 use crate::ending::Ending;
-use crate::opens::open_lines;
-use crate::over::say_over;
+use crate::making::refused_voc;
 use crate::playing::play_journal;
-use crate::solving::solve_journal;
+use crate::said::{or_silent, put};
+use crate::saying::speak;
 use crate::terms::Terms;
 use acq_io::{AllFault, Put, Sink, Source, read_first_line};
 use acq_words::{Command, UsageFault, WordsFault, read_words};
 use answer_journal::no_two_readings;
 use disk_model::{Disk, MemDisk, Room};
 use language::Language;
-use network::network_text;
 use par_screen::{Gate, places_for};
 use query_gen::Screen;
 use session_core::Session;
@@ -55,81 +50,9 @@ use session_store::{Keep, Loose};
 use std::alloc::Global;
 use std::thread::Threads;
 use target_oracle::{LineTeacher, Teacher};
-use voc_read::{MOST_VOCABULARY, VocFault, read_vocabulary, voc_text};
+use voc_read::{MOST_VOCABULARY, VocFault, read_vocabulary};
 
 const USAGE: &[u8] = b"usage: acquire JOURNAL COMMAND [--plan P] [--budget N] [--number N]\n";
-
-/// Writes the last lines of a session that has converged.
-fn say_converged<K: Sink>(alloc: Global, session: &Session, m: u32, out: &mut K) -> Result<(), Put>
-    requires { IsNetwork (knowledge_of session.now).lang (knowledge_of session.now).network.list }
-    ensures ok { OnOk result (Adds (K.written out.old) (K.written out.new) (converged_text (knowledge_of session.now).lang (knowledge_of session.now).network.list m)) }
-    ensures part { OnErr result (AddsFront (K.written out.old) (K.written out.new) (converged_text (knowledge_of session.now).lang (knowledge_of session.now).network.list m)) }
-    ensures failed { result ≡ Err Put.Failed → Rose (K.faults out.old) (K.faults out.new) }
-    ensures later_sink { K.faults out.old ≤ K.faults out.new }
-{
-    let Ok(network) = network_text(alloc, session.lang(), session.network()) else {
-        return Err(Put::Memory);
-    };
-    let Ok(text) = format!(in alloc; "converged {m}\n{network}") else {
-        return Err(Put::Memory);
-    };
-    out.write(text.as_bytes())
-}
-
-/// Writes the last line of a session that no network agrees with.
-fn say_collapsed<K: Sink>(alloc: Global, m: u32, out: &mut K) -> Result<(), Put>
-    ensures ok { OnOk result (Adds (K.written out.old) (K.written out.new) (collapsed_text m)) }
-    ensures part { OnErr result (AddsFront (K.written out.old) (K.written out.new) (collapsed_text m)) }
-    ensures failed { result ≡ Err Put.Failed → Rose (K.faults out.old) (K.faults out.new) }
-    ensures later_sink { K.faults out.old ≤ K.faults out.new }
-{
-    let Ok(text) = format!(in alloc; "collapsed {m}\n") else {
-        return Err(Put::Memory);
-    };
-    out.write(text.as_bytes())
-}
-
-/// Writes the last lines of a session whose budget was too small: what was learned, and the candidates that are open.
-fn say_undecided<K: Sink>(
-    alloc: Global,
-    session: &Session,
-    screen: &Screen,
-    m: u32,
-    out: &mut K,
-) -> Result<(), Put>
-    requires network { IsNetwork (knowledge_of session.now).lang (knowledge_of session.now).network.list }
-    requires made { IsMadeFor (knowledge_of session.now).lang screen.now }
-    ensures ok { let l = (knowledge_of session.now).lang in OnOk result (Adds (K.written out.old) (K.written out.new)
-        (undecided_text l (knowledge_of session.now).network.list (filter (is_open l screen.now) (candidates l)) m)) }
-    ensures part { let l = (knowledge_of session.now).lang in OnErr result (AddsFront (K.written out.old) (K.written out.new)
-        (undecided_text l (knowledge_of session.now).network.list (filter (is_open l screen.now) (candidates l)) m)) }
-    ensures failed { result ≡ Err Put.Failed → Rose (K.faults out.old) (K.faults out.new) }
-    ensures later_sink { K.faults out.old ≤ K.faults out.new }
-{
-    let Ok(network) = network_text(alloc, session.lang(), session.network()) else {
-        return Err(Put::Memory);
-    };
-    let Ok(opens) = open_lines(alloc, session.lang(), screen) else {
-        return Err(Put::Memory);
-    };
-    let Ok(text) = format!(in alloc; "undecided {m}\n{network}{opens}") else {
-        return Err(Put::Memory);
-    };
-    out.write(text.as_bytes())
-}
-
-/// Writes the last line of a session that goes on another time.
-fn say_suspended<K: Sink>(alloc: Global, m: u32, out: &mut K) -> Result<(), Put>
-    ensures ok { OnOk result (Adds (K.written out.old) (K.written out.new) (suspended_text m)) }
-    ensures part { OnErr result (AddsFront (K.written out.old) (K.written out.new) (suspended_text m)) }
-    ensures failed { result ≡ Err Put.Failed → Rose (K.faults out.old) (K.faults out.new) }
-    ensures later_sink { K.faults out.old ≤ K.faults out.new }
-{
-    let Ok(text) = format!(in alloc; "suspended {m}\n") else {
-        return Err(Put::Memory);
-    };
-    out.write(text.as_bytes())
-}
 
 /// Says how the loop ended.
 pub(crate) fn say<K: Sink>(
@@ -149,40 +72,9 @@ pub(crate) fn say<K: Sink>(
     ensures failed { result ≡ Err Put.Failed → drove ≢ Drove.WriteFault → Rose (K.faults out.old) (K.faults out.new) }
     ensures later_sink { K.faults out.old ≤ K.faults out.new }
 {
-    let _network = session.network();
     match drove {
-        Drove::Converged(m) => {
-            say_converged(alloc, session, m, out)?;
-            Ok(Ending::Converged(m))
-        }
-        Drove::Collapsed(m) => {
-            say_collapsed(alloc, m, out)?;
-            Ok(Ending::Collapsed(m))
-        }
-        Drove::Undecided(m) => {
-            say_undecided(alloc, session, screen, m, out)?;
-            Ok(Ending::Undecided(m))
-        }
-        Drove::Suspended(m) => {
-            say_suspended(alloc, m, out)?;
-            Ok(Ending::Suspended(m))
-        }
-        Drove::LineTooLong => {
-            out.write(b"refused line too long\n")?;
-            Ok(Ending::LineTooLong)
-        }
-        Drove::Unreadable => {
-            out.write(b"refused lines\n")?;
-            Ok(Ending::Unreadable)
-        }
-        Drove::JournalFull => {
-            out.write(b"refused journal full\n")?;
-            Ok(Ending::JournalFull)
-        }
-        Drove::ReadFault => Ok(Ending::ReadFault),
-        Drove::DiskFault => Ok(Ending::DiskFault),
         Drove::WriteFault => Err(Put::Failed),
-        Drove::Memory => Err(Put::Memory),
+        _ => put(closing(alloc, session, screen, drove), out),
     }
 }
 
@@ -297,21 +189,12 @@ fn try_language<R: Threads + Sync, S: Source, K: Sink, G: Gate>(
 }
 
 /// Refuses the vocabulary.
-pub(crate) fn refuse<K: Sink>(alloc: Global, fault: VocFault, out: &mut K) -> Result<Ending, Put>
+fn refuse<K: Sink>(alloc: Global, fault: VocFault, out: &mut K) -> Result<Ending, Put>
     ensures ok { IfOk result (λ ending. (ending ≡ Ending.VocRefused fault) × Adds (K.written out.old) (K.written out.new) (refusal_text fault)) }
     ensures part { OnErr result (AddsFront (K.written out.old) (K.written out.new) (refusal_text fault)) }
-    ensures memory { result ≡ Err Put.Memory → K.written out.new ≡ K.written out.old }
     ensures failed { result ≡ Err Put.Failed → Rose (K.faults out.old) (K.faults out.new) }
-    ensures later_sink { K.faults out.old ≤ K.faults out.new }
 {
-    let Ok(reason) = voc_text(alloc, fault) else {
-        return Err(Put::Memory);
-    };
-    let Ok(text) = format!(in alloc; "refused vocabulary {reason}\n") else {
-        return Err(Put::Memory);
-    };
-    out.write(text.as_bytes())?;
-    Ok(Ending::VocRefused(fault))
+    put(or_silent(refused_voc(alloc, fault)), out)
 }
 
 /// Reads a vocabulary's line, and asks about it.
@@ -389,7 +272,6 @@ fn perform<R: Threads + Sync, S: Source, K: Sink, D: Disk, G: Gate>(
         Err(WordsFault::Memory) => return Err(Put::Memory),
     };
     match command {
-        Command::New(plan) => new_journal(alloc, plan, input, out, disk),
         Command::Run(budget) => run_journal(rt, alloc, budget, input, out, disk, gate),
         Command::Try(plan, budget) => try_input(
             rt,
@@ -399,15 +281,16 @@ fn perform<R: Threads + Sync, S: Source, K: Sink, D: Disk, G: Gate>(
             out,
             gate,
         ),
-        Command::Show => say_over(rt, alloc, Ask::Show, out, disk, gate),
-        Command::Back => back_journal(alloc, out, disk),
         Command::Play(budget) => play_journal(rt, alloc, budget, input, out, disk, gate),
         Command::Demo(number, budget) => demo_number(rt, alloc, number, budget, out, gate),
-        Command::Reduce(budget) => say_over(rt, alloc, Ask::Reduce(budget), out, disk, gate),
-        Command::Cnf => say_over(rt, alloc, Ask::Cnf, out, disk, gate),
-        Command::Model => solve_journal(alloc, input, out, disk),
-        Command::Certify(budget) => say_over(rt, alloc, Ask::Certify(budget), out, disk, gate),
-        Command::Check => check_input(rt, alloc, input, out),
+        Command::New(_)
+        | Command::Show
+        | Command::Back
+        | Command::Reduce(_)
+        | Command::Cnf
+        | Command::Model
+        | Command::Certify(_)
+        | Command::Check => put(speak(rt, alloc, command, input, disk, gate), out),
     }
 }
 

@@ -8,7 +8,7 @@ use Rattle.acq_cli.specs.Reducing.{network_after}
 use Rattle.acq_cli.specs.Run.{next_after}
 use Rattle.acq_cli.specs.Saying.{Saying}
 use Rattle.acq_cli.proofs.Certified.{end_said, more_said, told_done, told_more}
-use Rattle.acq_cli.proofs.SaidOver.{ok_any}
+use Rattle.acq_cli.proofs.Spoken.{ok_any}
 use Rattle.acq_cli.proofs.certifying.certified.Goals as goal
 
 pub returns-in-Ok-true-clause-says : goal.returns-in-Ok-true-clause-says

@@ -3,7 +3,7 @@ use Rattle.std.specs.Prelude.{IfOk}
 use Rattle.session_store.specs.Opened.{opened_as}
 use Rattle.acq_cli.specs.Asks.{AsksTruly, IsAskable, asked_said}
 use Rattle.acq_cli.specs.declared.ask.Ask.{Ask}
-use Rattle.acq_cli.proofs.SaidOver.{ok_any}
+use Rattle.acq_cli.proofs.Spoken.{ok_any}
 use Rattle.acq_cli.proofs.over.asked.Goals as goal
 
 pub reduced-requires-clause-budget : goal.reduced-requires-clause-budget

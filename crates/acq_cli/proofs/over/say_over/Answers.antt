@@ -1,10 +1,19 @@
-use Rattle.std.proofs.Common.{refl, Ok, Err}
+use Rattle.std.proofs.Common.{◌≡◌, ap, sym, subst, Result, Ok, Err}
+use Rattle.std.specs.Prelude.{IfOk}
 use Rattle.session_store.specs.Opened.{Opened, opened_as}
 use Rattle.session_store.specs.Store.{lang_of, plan_of, voc_of, events_of}
+use Rattle.session_store.specs.declared.fault.SFault.{SFault}
+use Rattle.session_store.specs.declared.store.Store.{Store}
 use Rattle.acq_cli.specs.Asks.{AsksTruly, asked_said}
-use Rattle.acq_cli.specs.declared.ending.Ending.TheVariants as ending
-use Rattle.acq_cli.proofs.SaidOver.{none_unless, told_never, told_not, true_unless}
+use Rattle.acq_cli.specs.Said.{IsSaid}
+use Rattle.acq_cli.specs.Saying.{Saying}
+use Rattle.acq_cli.specs.declared.said.Unsaid.{Unsaid}
+use Rattle.acq_cli.specs.declared.said.Unsaid.TheVariants as unsaid
+use Rattle.acq_cli.proofs.Spoken.{ok_any, said_so, silent_not, so_said}
 use Rattle.acq_cli.proofs.over.say_over.Goals as goal
+
+abbrev not_opened : SFault → Result Store SFault
+not_opened e = Err e
 
 pub asked-requires-clause-read : goal.asked-requires-clause-read
 asked-requires-clause-read g c κs within = c.vocabulary.ensures.read c.in-Ok.ensures.sound
@@ -13,12 +22,14 @@ pub returns-in-Ok-clause-says : goal.returns-in-Ok-clause-says
 returns-in-Ok-clause-says g c =
     let store = c.in-Ok.store in
     let o : Opened = opened_as (plan_of store) (voc_of store) (events_of store) (lang_of store) in
+    let what : Saying = asked_said c.args.ask o in
+    let So : Result Saying Unsaid → Type 0 = λ r. IfOk r (λ _. AsksTruly c.args.ask o) in
     record {
       opening = Ok o;
       opens = λ bytes told. record { says = c.in-Ok.ensures.opened bytes told; session = record { read = c.in-Ok.ensures.sound.read; places = c.in-Ok.ensures.places } };
       session = record { read = c.in-Ok.ensures.sound.read; places = c.in-Ok.ensures.places };
-      tells = (c.put.ensures.says (asked_said c.args.ask o) c.asked.ensures.says).tells;
-      so = true_unless c.asked.result (AsksTruly c.args.ask o) c.put.result c.asked.ensures.so c.put.ensures.silent;
+      says = subst (IsSaid what) (sym c.or_silent.ensures) (said_so c.asked.result (λ s. s ≡ what) c.asked.ensures.says);
+      so = subst So (sym c.or_silent.ensures) (so_said c.asked.result (AsksTruly c.args.ask o) c.asked.ensures.so);
       same = c.open.ensures.same;
       any_moment = c.open.ensures.any_moment;
     }
@@ -28,28 +39,17 @@ returns-in-Err-clause-says g c = record {
   opening = Err c.in-Err.fault;
   opens = c.in-Err.ensures.refused;
   session = tt;
-  tells = c.refuse_journal.ensures.refuses;
-  so = none_unless (Unit {0}) c.refuse_journal.result tt;
+  says = c.refused.ensures.refuses;
+  so = ok_any c.refused.result tt;
   same = c.open.ensures.same;
   any_moment = c.open.ensures.any_moment;
 }
 
-pub returns-in-Ok-clause-no_fault : goal.returns-in-Ok-clause-no_fault
-returns-in-Ok-clause-no_fault g c =
-    let store = c.in-Ok.store in
-    told_not c.put.result ending.WriteFault refl (c.put.ensures.says (asked_said c.args.ask (opened_as (plan_of store) (voc_of store) (events_of store) (lang_of store))) c.asked.ensures.says).told
-
 pub returns-in-Ok-clause-no_read : goal.returns-in-Ok-clause-no_read
-returns-in-Ok-clause-no_read g c =
-    let store = c.in-Ok.store in
-    told_not c.put.result ending.ReadFault refl (c.put.ensures.says (asked_said c.args.ask (opened_as (plan_of store) (voc_of store) (events_of store) (lang_of store))) c.asked.ensures.says).told
-
-pub returns-in-Ok-clause-failed : goal.returns-in-Ok-clause-failed
-returns-in-Ok-clause-failed g c is =
-    let store = c.in-Ok.store in
-    (c.put.ensures.says (asked_said c.args.ask (opened_as (plan_of store) (voc_of store) (events_of store) (lang_of store))) c.asked.ensures.says).failed is
+returns-in-Ok-clause-no_read g c is = silent_not c.asked.result c.or_silent.result unsaid.ReadFault (λ e. cc) c.or_silent.ensures is
 
 pub returns-in-Ok-clause-lost : goal.returns-in-Ok-clause-lost
-returns-in-Ok-clause-lost g c is =
-    let store = c.in-Ok.store in
-    absurd (told_never c.put.result ending.DiskFault refl (c.put.ensures.says (asked_said c.args.ask (opened_as (plan_of store) (voc_of store) (events_of store) (lang_of store))) c.asked.ensures.says).told is)
+returns-in-Ok-clause-lost g c is = absurd (silent_not c.asked.result c.or_silent.result unsaid.DiskFault (λ e. cc) c.or_silent.ensures is)
+
+pub returns-in-Err-clause-lost : goal.returns-in-Err-clause-lost
+returns-in-Err-clause-lost g c is = c.in-Err.ensures.failed (ap not_opened (c.refused.ensures.lost is))

@@ -6,7 +6,7 @@ use Rattle.language.specs.Answers.{IsNetwork}
 use Rattle.network.specs.Learned.{Learned}
 use Rattle.acq_cli.specs.Reducing.{network_after}
 use Rattle.acq_cli.specs.Saying.{Saying}
-use Rattle.acq_cli.proofs.SaidOver.{ok_any}
+use Rattle.acq_cli.proofs.Spoken.{ok_any}
 use Rattle.acq_cli.proofs.Printed.{clauses_so, encoded_so, large_so}
 use Rattle.acq_cli.proofs.Reduced.{learned_as}
 use Rattle.acq_cli.proofs.printing.printed.Goals as goal

@@ -1,12 +1,11 @@
-use Rattle.std.proofs.Common.{◌≡◌, ◌∙◌, sym, subst, ap, inl, List}
+use Rattle.std.proofs.Common.{◌≡◌, ◌∙◌, sym, subst, ap, inl}
 use Rattle.std.specs.Prelude.{IfOk}
-use Rattle.language.specs.declared.candidates.Candidate.{Candidate}
 use Rattle.language.specs.Language.{Language}
 use Rattle.language.specs.Answers.{IsNetwork}
 use Rattle.network.specs.Learned.{Learned}
 use Rattle.session_store.specs.Opened.{opened_as}
 use Rattle.acq_cli.specs.Saying.{Saying}
-use Rattle.acq_cli.proofs.SaidOver.{ok_any}
+use Rattle.acq_cli.proofs.Spoken.{ok_any}
 use Rattle.acq_cli.proofs.Reduced.{learned_as, part_said, reduced_truly, unreduced_so, unreduced_truly}
 use Rattle.acq_cli.proofs.reducing.reduced.Goals as goal
 

@@ -1,21 +1,15 @@
-use Rattle.std.proofs.Common.{◌≡◌, ◌∙◌, refl, ap, subst, ℕ, List, [], ◌∷◌, ◌++◌, Option}
-use Rattle.std.specs.Prelude.{codes}
-use Rattle.acq_io.specs.Streams.{Adds, AddsFront}
-use Rattle.acq_cli.specs.Texts.{refusal_text}
-use Rattle.acq_cli.proofs.Parts.{on_err, wrote_part, written_badly}
+use Rattle.std.proofs.Common.{refl}
+use Rattle.acq_cli.specs.Making.{voc_refused}
+use Rattle.acq_cli.proofs.Parts.{ends_ok, ends_part}
+use Rattle.acq_cli.proofs.Spoken.{ends_as, said_as}
 use Rattle.acq_cli.proofs.top.refuse.Goals as goal
 
 pub returns-clause-ok : goal.returns-clause-ok
 returns-clause-ok g c =
-    let text : c.as_bytes.result.now ≡ refusal_text c.args.fault =
-    c.as_bytes.ensures.value ∙ c.in-Ok-format.ensures.ok ∙ ap (λ (r : List ℕ). codes "refused vocabulary " ++ (r ++ 10 ∷ [])) c.in-Ok.ensures in
-    let P : List ℕ → Type 0 = λ bytes. Adds (g.K.Sink.written c.args.out.now) (g.K.Sink.written c.write.new.self) bytes in
-    (refl, subst P text c.in_ok-write.ensures.ok)
+    let what = voc_refused c.args.fault in
+    ends_ok what.ending what.text _ _ c.put.result (ends_as what c.or_silent.result _ _ c.put.result (said_as c.refused_voc.result c.or_silent.result what what c.or_silent.ensures refl c.refused_voc.ensures) c.put.ensures.writes)
 
-pub returns-in_err-write-clause-part : goal.returns-in_err-write-clause-part
-returns-in_err-write-clause-part g c =
-    let text : c.as_bytes.result.now ≡ refusal_text c.args.fault =
-    c.as_bytes.ensures.value ∙ c.in-Ok-format.ensures.ok ∙ ap (λ (r : List ℕ). codes "refused vocabulary " ++ (r ++ 10 ∷ [])) c.in-Ok.ensures in
-    let old : Option (List ℕ) = g.K.Sink.written c.args.out.now in
-    let new : Option (List ℕ) = g.K.Sink.written c.write.new.self in
-    on_err c.from_residual.result (subst (AddsFront old new) text (wrote_part (written_badly c.in_err-write.field-0.0) old new c.as_bytes.result.now c.in_err-write.ensures.failed c.in_err-write.ensures.memory))
+pub returns-clause-part : goal.returns-clause-part
+returns-clause-part g c =
+    let what = voc_refused c.args.fault in
+    ends_part what.ending what.text _ _ c.put.result (ends_as what c.or_silent.result _ _ c.put.result (said_as c.refused_voc.result c.or_silent.result what what c.or_silent.ensures refl c.refused_voc.ensures) c.put.ensures.writes)
