@@ -251,3 +251,12 @@ open_holds l lawful c is q apart = false_from_ne_true _ (λ bad. both_ways _ apa
   where
     small : All (λ v. v < 128) (scope_of l c)
     small k d h = (let low = (lawful.scopes c.scope [] is.scope).known k d h in let most = lawful.few_variables in omega arith)
+
+-- ---- the candidates that are kept
+
+pub kept_is : (l : Language) (t : List Answer) (c : Candidate) (members : List Candidate) (b x : Bool) → members ≡ unstruck l t → IsCandidate l c → (b ≡ true ↔ Contains members c) → (b && not x) ≡ (not (is_struck l t c) && not x)
+kept_is l t c members b x all is kept = ap (λ y. y && not x) (twice b ∙ ap not (struck_is l t c members b all is kept))
+  where
+    twice : (b : Bool) → b ≡ not (not b)
+    twice true = refl
+    twice false = refl

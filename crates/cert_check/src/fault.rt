@@ -1,3 +1,4 @@
+use language::Memory;
 use std::alloc::{AllocError, AllocFailed};
 use thiserror::Error;
 use voc_read::VocFault;
@@ -22,6 +23,17 @@ impl From<AllocError> for MakeFault {
     ghost from_gives = { λ _ e. e ≡ Memory };
 
     fn from(_refused: AllocError) -> MakeFault {
+        MakeFault::Memory
+    }
+}
+
+impl From<Memory> for MakeFault {
+    ghost use Rattle.std.specs.Prelude.{◌≡◌};
+    ghost use Rattle.cert_check.specs.declared.fault.MakeFault.TheVariants.{Memory as OutOfMemory};
+
+    ghost from_gives = { λ _ e. e ≡ OutOfMemory };
+
+    fn from(_refused: Memory) -> MakeFault {
         MakeFault::Memory
     }
 }

@@ -1,34 +1,36 @@
 //! Making the certificate of a network that the answers cover.
 
-ghost use Rattle.std.specs.Prelude.{◌≡◌, ◌≢◌, ◌≤◌, ◌<◌, ◌^◌, ◌&&◌, ◌++◌, [], ◌∷◌, false, not, None, All, length, map, find, string_bytes, IfErr, IfOk, OnOk};
+ghost use Rattle.std.specs.Prelude.{◌≡◌, ◌≢◌, ◌≤◌, ◌<◌, ◌^◌, ◌&&◌, ◌++◌, [], ◌∷◌, false, not, None, List, All, length, map, find, string_bytes, IfErr, IfOk, OnOk};
 ghost use Rattle.std.specs.Str.{IsUtf8};
 ghost use Rattle.assign.specs.Assignment.{value_of};
-ghost use Rattle.language.specs.Language.{IsCandidate, IsImplied, IsQuestion};
+ghost use Rattle.assign.specs.Events.{Answer};
+ghost use Rattle.language.specs.Language.{IsCandidate, IsImplied, IsQuestion, Language as Lang};
 ghost use Rattle.language.specs.Answers.{IsCovered, IsNetwork, has_scope, is_struck, kept};
 ghost use Rattle.voc_read.specs.Vocabulary.{IsVocabulary};
 ghost use Rattle.cert_check.specs.Making.{IsFirstLong, Makes, is_long, made, refutation_of};
 ghost use Rattle.cert_check.specs.Reading.{MOST_ANSWERS};
 ghost use Rattle.cert_check.specs.Sheets.{Adds};
+ghost use Rattle.cert_check.specs.Told.{unstruck};
 ghost use Rattle.cert_check.specs.Written.{answers_section, count_line, entry_line, implied_section, item_line, listed_line, network_section, numbered_value, numbered_values, reply_text, vocabulary_section};
 
 use crate::entry::Entry;
 use crate::fault::MakeFault;
 use crate::sheet::Sheet;
-use crate::telling::{has_scope, is_struck};
+use crate::telling::has_scope;
+use crate::told::unstruck;
 use crate::tree::add_tree;
 use assign::Partial;
-use language::{Candidate, Language};
+use bias_store::Kept;
+use language::{Candidate, Language, Memory};
 use std::alloc::{AllocError, Global};
 
 // ---- What is listed
 
 /// Whether no yes excludes the candidate and nothing is learned on its scope.
-fn is_kept(lang: &Language, answers: &[Entry], net: &[Candidate], c: Candidate) -> bool
-    requires candidate { IsCandidate lang.now c }
-    requires questions { All (λ a. IsQuestion lang.now a.question) answers.now }
-    ensures { result ≡ (not (is_struck lang.now answers.now c) && not (has_scope net.now c.scope)) }
+fn is_kept(left: &Kept, net: &[Candidate], c: Candidate) -> bool
+    ensures { (l : Lang) (t : List Answer) → left.now.members ≡ unstruck l t → IsCandidate l c → result ≡ (not (is_struck l t c) && not (has_scope net.now c.scope)) }
 {
-    !has_scope(net, c.scope) && !is_struck(lang, answers, c)
+    left.is_kept(c) && !has_scope(net, c.scope)
 }
 
 /// Those candidates, in the order of their numbers. The network implies each of them.
@@ -37,17 +39,18 @@ fn kept(
     lang: &Language,
     answers: &[Entry],
     net: &[Candidate],
-) -> Result<Vec<Candidate>, AllocError>
+) -> Result<Vec<Candidate>, Memory>
     requires covered { IsCovered lang.now net.now answers.now }
     requires questions { All (λ a. IsQuestion lang.now a.question) answers.now }
     ensures is { IfOk result (λ list. list.items ≡ kept lang.now answers.now net.now) }
     ensures known { IfOk result (λ list. All (IsCandidate lang.now) list.items) }
     ensures implied { IfOk result (λ list. All (IsImplied lang.now net.now) list.items) }
 {
+    let left = unstruck(alloc, lang, answers)?;
     let mut list = Vec::new(alloc);
     for number in 0..lang.candidates() {
         let c = lang.candidate(number);
-        if is_kept(lang, answers, net, c) {
+        if is_kept(&left, net, c) {
             list.push(c)?;
         }
     }

@@ -5,7 +5,7 @@ ghost use Rattle.assign.specs.Sets.{numbers};
 ghost use Rattle.assign.specs.Assignment.{variables_of};
 ghost use Rattle.assign.specs.Events.{Answer};
 ghost use Rattle.language.specs.Language.{IsCandidate, IsLanguage, IsQuestion, accepts, candidates, scope_of, violates, Language as Lang};
-ghost use Rattle.language.specs.Answers.{IsNetwork, has_scope, is_struck};
+ghost use Rattle.language.specs.Answers.{IsNetwork, has_scope};
 ghost use Rattle.cert_check.specs.Checking.{has_other, has_own_no, is_other, is_rival, is_uncovered, repeats_scope};
 ghost use Rattle.cert_check.specs.Good.{has_refutation};
 ghost use Rattle.cert_check.specs.Told.{IsTold};
@@ -80,20 +80,6 @@ pub(crate) fn has_scope(net: &[Candidate], s: ScopeId) -> bool
     ensures { result ≡ has_scope net.now s }
 {
     net.iter().any(|c| c.scope == s)
-}
-
-/// Whether a yes violates the candidate.
-pub(crate) fn is_struck(lang: &Language, answers: &[Entry], c: Candidate) -> bool
-    requires candidate { IsCandidate lang.now c }
-    requires questions { All (λ a. IsQuestion lang.now a.question) answers.now }
-    ensures { result ≡ is_struck lang.now answers.now c }
-{
-    for entry in answers {
-        if entry.yes && lang.candidate_violated(c, &entry.question) {
-            return true;
-        }
-    }
-    false
 }
 
 /// Whether there is another item on the candidate's scope.

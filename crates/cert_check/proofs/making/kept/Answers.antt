@@ -15,7 +15,7 @@ loop-number-preserved c =
     elim c.if-is_kept.branch [
       | then-is_kept+in_ok-push w ↦
           let put : c.if-is_kept.list.items ≡ c.loop-number.list.items ++ c.candidate-c.result ∷ [] = ap (λ (v : Vec Candidate Global). v.items) w.list-is ∙ w.in_ok-push.ensures.items in
-          let passes : is_kept c.args.lang.now c.args.answers.now c.args.net.now c.candidate-c.result ≡ true = sym c.is_kept.ensures ∙ w.if-is_kept.true in
+          let passes : is_kept c.args.lang.now c.args.answers.now c.args.net.now c.candidate-c.result ≡ true = sym (c.is_kept.ensures c.args.lang.now c.args.answers.now c.in_ok-left.ensures.is c.candidate-c.ensures.candidate) ∙ w.if-is_kept.true in
           record {
             same = kept_more (is_kept c.args.lang.now c.args.answers.now c.args.net.now) (candidates c.args.lang.now) c.loop-number.list.items c.if-is_kept.list.items c.loop-number.number c.candidate-c.result true low read passes put c.loop-number.invariant.same;
             known = subst (All (IsCandidate c.args.lang.now)) (sym put) (All-push (IsCandidate c.args.lang.now) c.loop-number.list.items c.candidate-c.result c.loop-number.invariant.known c.candidate-c.ensures.candidate);
@@ -25,7 +25,7 @@ loop-number-preserved c =
       | else-is_kept w ↦
           let put : c.if-is_kept.list.items ≡ c.loop-number.list.items = ap (λ (v : Vec Candidate Global). v.items) w.list-is in
           record {
-            same = kept_more (is_kept c.args.lang.now c.args.answers.now c.args.net.now) (candidates c.args.lang.now) c.loop-number.list.items c.if-is_kept.list.items c.loop-number.number c.candidate-c.result false low read (sym c.is_kept.ensures ∙ w.if-is_kept.false) put c.loop-number.invariant.same;
+            same = kept_more (is_kept c.args.lang.now c.args.answers.now c.args.net.now) (candidates c.args.lang.now) c.loop-number.list.items c.if-is_kept.list.items c.loop-number.number c.candidate-c.result false low read (sym (c.is_kept.ensures c.args.lang.now c.args.answers.now c.in_ok-left.ensures.is c.candidate-c.ensures.candidate) ∙ w.if-is_kept.false) put c.loop-number.invariant.same;
             known = subst (All (IsCandidate c.args.lang.now)) (sym put) c.loop-number.invariant.known;
             implied = subst (All (IsImplied c.args.lang.now c.args.net.now)) (sym put) c.loop-number.invariant.implied;
           }
