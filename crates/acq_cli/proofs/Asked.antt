@@ -23,7 +23,7 @@ use Rattle.session_store.specs.declared.fault.SFault.{SFault}
 use Rattle.session_store.specs.declared.fault.SFault.TheVariants as store
 use Rattle.acq_cli.specs.Journals.{StaysClosed}
 use Rattle.acq_cli.specs.Running.{RunsOn}
-use Rattle.acq_cli.specs.Playing.{EndsWithout, PlaysOn}
+use Rattle.acq_cli.specs.Playing.{PlaysOn, SaysWithout, stale_said, target_refused}
 use Rattle.acq_cli.specs.declared.playing.NoTarget.{NoTarget}
 use Rattle.acq_cli.specs.declared.playing.NoTarget.TheVariants as without
 use Rattle.acq_cli.specs.Demoing.{Demos, Tells}
@@ -32,11 +32,12 @@ use Rattle.acq_cli.specs.declared.terms.Terms.{Terms}
 use Rattle.acq_cli.specs.Solving.{Solves}
 use Rattle.acq_cli.specs.Asks.{AsksTruly, asked_said}
 use Rattle.acq_cli.specs.Over.{SaysOpening, SaysOver}
-use Rattle.acq_cli.specs.Said.{SaysSo}
+use Rattle.acq_cli.specs.Said.{IsSaid, SaysSo}
 use Rattle.acq_cli.specs.Saying.{Saying}
 use Rattle.acq_cli.specs.declared.said.Unsaid.{Unsaid}
 use Rattle.acq_cli.specs.declared.said.Unsaid.TheVariants as unsaid
-use Rattle.acq_cli.proofs.SaidOver.{is_own, not_own, refuses_own}
+use Rattle.acq_cli.proofs.SaidOver.{broken_own, is_own, not_own, own_said, refuses_own}
+use Rattle.acq_cli.proofs.Spoken.{silently}
 use Rattle.acq_cli.proofs.Speaking.{speaks_own}
 use Rattle.acq_cli.specs.TakingBack.{TakesNone}
 use Rattle.acq_cli.specs.Doing.{Asks, Does, Speaks}
@@ -45,7 +46,7 @@ use Rattle.acq_cli.specs.declared.ask.Ask.TheVariants as ask
 use Rattle.acq_cli.specs.Points.{terms_with}
 use Rattle.acq_cli.specs.Trying.{Acquires}
 use Rattle.acq_cli.specs.Words.{IsAsked, command_asked, command_in}
-use Rattle.acq_cli.proofs.Closings.{err_ok, failed, not_loops, okay, same_ok}
+use Rattle.acq_cli.proofs.Closings.{err_ok, failed, not_loops, okay}
 use Rattle.acq_cli.proofs.Parts.{unbegun}
 use Rattle.acq_io.proofs.TakenLemmas.{takes_none}
 use Rattle.acq_cli.specs.declared.ending.Ending.{Ending}
@@ -135,10 +136,13 @@ module _ {D : Type 0} (disk : DiskOf D) (left written left' written' : Option (L
 err_own : (e : Put) (end : Ending) (P : Type 0) → okay end ≡ failed e → P
 err_own e end P is = absurd (err_ok e end (sym is))
 
-pub without_own : (why : NoTarget) (end : Ending) (written written' : Option (List ℕ)) → EndsWithout why written written' (okay end) → is_own end ≡ true
-without_own (without.Refused fault) end written written' (is, told) = ap is_own is
-without_own without.ReadFault end written written' (is, told) = ap is_own (same_ok end ending.ReadFault is)
-without_own without.Memory end written written' (is, told) = err_own put.Memory end (is_own end ≡ true) is
+pub without_own : (why : NoTarget) (end : Ending) (written written' : Option (List ℕ)) → SaysSo (SaysWithout why) written written' (okay end) → is_own end ≡ true
+without_own (without.Refused fault) end written written' (said, is, has) = own_said (target_refused fault) said written written' end refl is has
+without_own without.ReadFault end written written' (said, is, has) = broken_own end (silently unsaid.ReadFault said written written' end is has)
+without_own without.Memory end written written' (said, is, has) = broken_own end (silently unsaid.Memory said written written' end is has)
+
+pub stale_own : (m : ℕ) (end : Ending) (written written' : Option (List ℕ)) → SaysSo (IsSaid (stale_said m)) written written' (okay end) → is_own end ≡ true
+stale_own m end written written' (said, is, has) = own_said (stale_said m) said written written' end refl is has
 
 module _ {D : Type 0} (disk : DiskOf D) (left written left' written' : Option (List ℕ)) (old new : D) (end : Ending) where
   -- ---- A usage line is told for refused words alone
@@ -157,7 +161,7 @@ module _ {D : Type 0} (disk : DiskOf D) (left written left' written' : Option (L
   play_usage : (budget : ℕ) (usage : UsageFault) → PlaysOn disk budget left written left' written' old new (okay end) → end ≡ ending.Usage usage → ⊥
   play_usage budget usage plays is =
       ⊎_elim (λ closed. no_usage usage (refuses_own written written' end closed.fault closed.refuses) is)
-      (λ rest. ⊎_elim (λ stale. no_usage usage (ap is_own stale.tells.0) is)
+      (λ rest. ⊎_elim (λ stale. no_usage usage (stale_own stale.number end written written' stale.tells) is)
       (λ more. ⊎_elim (λ none. no_usage usage (without_own none.why end written written' none.ends) is)
       (λ played. let on = played.on in no_loop (net_turn played.target false) on.lang (terms_with on.plan budget) on.events on.later played.rest usage on.tries is) more) rest)
       plays

@@ -40,12 +40,14 @@ use Rattle.acq_cli.specs.Demoing.{Demos, Tells}
 use Rattle.acq_cli.specs.Driven.{HasEnded, IsLeftOpen}
 use Rattle.acq_cli.specs.Endings.{Closes, Tries}
 use Rattle.acq_cli.specs.Exactly.{IsBrokenOff}
-use Rattle.acq_cli.specs.Playing.{EndsWithout, MayLack, PlaysOn, ReadsTarget}
+use Rattle.acq_cli.specs.Playing.{MayLack, PlaysOn, ReadsTarget, SaysWithout}
 use Rattle.acq_cli.specs.Points.{terms_with}
 use Rattle.acq_cli.specs.Run.{Closing, Undecided, Suspended, LineTooLong, Unreadable, JournalFull}
 use Rattle.acq_cli.specs.Asks.{asked_said}
 use Rattle.acq_cli.specs.Over.{SaidEnds}
+use Rattle.acq_cli.specs.Said.{SaysSo}
 use Rattle.acq_cli.specs.Saying.{Saying}
+use Rattle.acq_cli.specs.declared.said.Unsaid.TheVariants as unsaid
 use Rattle.acq_cli.specs.Solving.{solved_said}
 use Rattle.acq_cli.specs.Running.{RunsOn}
 use Rattle.acq_cli.specs.TakingBack.{back_said}
@@ -62,7 +64,7 @@ use Rattle.acq_cli.specs.declared.terms.Terms.{Terms}
 use Rattle.acq_cli.proofs.Answering.{AnswersEach, EndsItself, HasLines, AsMany, ends_itself, lines_answer, network_answers}
 use Rattle.acq_cli.proofs.Closings.{okay, same_ok, err_ok}
 use Rattle.acq_cli.proofs.Enough.{generated_is_settled}
-use Rattle.acq_cli.proofs.Spoken.{closed_end, fine, fine_long, gives_got, long_one, whole_of}
+use Rattle.acq_cli.proofs.Spoken.{silent_ends, closed_end, fine, fine_long, gives_got, long_one, whole_of}
 use Rattle.acq_cli.proofs.Reached.{IsReached}
 use Rattle.acq_cli.proofs.Targets.{none_of}
 
@@ -236,10 +238,10 @@ not_target target f e = cc
 
 -- a session with a target lacks none
 lacks_none : (l : Language) (terms : Terms) (events : List Event) (left left' written written' : Option (List ℕ)) (bytes : List ℕ) (end : Ending) → HasTarget l terms events bytes → left ≡ Some bytes → NoFault end →
-    (why : NoTarget) → MayLack l left left' why → EndsWithout why written written' (okay end) → ⊥
+    (why : NoTarget) → MayLack l left left' why → SaysSo (SaysWithout why) written written' (okay end) → ⊥
 lacks_none l terms events left left' written written' bytes end has from calm (without.Refused f) lacks ends = not_target has.target f (sym has.is ∙ none_of l left left' bytes f lacks from)
-lacks_none l terms events left left' written written' bytes end has from calm without.ReadFault lacks ends = calm.read (same_ok end ending.ReadFault ends.0)
-lacks_none l terms events left left' written written' bytes end has from calm without.Memory lacks ends = err_ok put.Memory end (sym ends.0)
+lacks_none l terms events left left' written written' bytes end has from calm without.ReadFault lacks (said, is, wrote) = calm.read (same_ok end ending.ReadFault (silent_ends unsaid.ReadFault said written written' end is wrote))
+lacks_none l terms events left left' written written' bytes end has from calm without.Memory lacks (said, is, wrote) = err_ok put.Memory end (sym (silent_ends unsaid.Memory said written written' end is wrote))
 
 -- with a target and a budget that is enough
 target_end : (l : Language) (terms : Terms) (start later : List Event) (left rest written left' written' : Option (List ℕ)) (end : Ending) (bytes : List ℕ) (target : List Candidate) → IsLanguage l → IsReached l terms.plan (standing_on l start) → left ≡ Some bytes → IsSome written →

@@ -28,7 +28,7 @@ use Rattle.acq_cli.specs.declared.driving.Drove.{Drove}
 use Rattle.acq_cli.specs.declared.driving.Drove.TheVariants as drove
 use Rattle.acq_cli.specs.declared.ending.Ending.TheVariants as ending
 use Rattle.acq_cli.specs.declared.terms.Terms.{Terms}
-use Rattle.acq_cli.proofs.Asked.{without_own}
+use Rattle.acq_cli.proofs.Asked.{stale_own, without_own}
 use Rattle.acq_cli.proofs.Closings.{err_ok, loops_by, okay}
 use Rattle.acq_cli.proofs.SaidOver.{is_own, refuses_own}
 use Rattle.acq_cli.proofs.Speaking.{speaks_own}
@@ -110,7 +110,7 @@ module _ {D : Type 0} (disk : DiskOf D) (left written left' written' : Option (L
         prints = has.prints;
       }
   finds_network (Ok (command.Play budget)) (inl closed) = apart (refuses_own written written' (ending.Converged m) closed.fault closed.refuses)
-  finds_network (Ok (command.Play budget)) (inr (inl stale)) = apart (ap is_own stale.tells.0)
+  finds_network (Ok (command.Play budget)) (inr (inl stale)) = apart (stale_own stale.number (ending.Converged m) written written' stale.tells)
   finds_network (Ok (command.Play budget)) (inr (inr (inl none))) = apart (without_own none.why (ending.Converged m) written written' none.ends)
   finds_network (Ok (command.Play budget)) (inr (inr (inr played))) =
       let on = played.on in
@@ -169,7 +169,7 @@ module _ {D : Type 0} (disk : DiskOf D) (left written left' written' : Option (L
         none = has.1;
       }
   finds_none (Ok (command.Play budget)) (inl closed) = apart_none (refuses_own written written' (ending.Collapsed m) closed.fault closed.refuses)
-  finds_none (Ok (command.Play budget)) (inr (inl stale)) = apart_none (ap is_own stale.tells.0)
+  finds_none (Ok (command.Play budget)) (inr (inl stale)) = apart_none (stale_own stale.number (ending.Collapsed m) written written' stale.tells)
   finds_none (Ok (command.Play budget)) (inr (inr (inl none))) = apart_none (without_own none.why (ending.Collapsed m) written written' none.ends)
   finds_none (Ok (command.Play budget)) (inr (inr (inr played))) = absurd (played.answered.no_collapse m refl)
   finds_none (Ok (command.Demo number budget)) (inl none) = absurd (err_ok put.Memory (ending.Collapsed m) (sym none.0))

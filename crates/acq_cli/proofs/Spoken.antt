@@ -80,8 +80,11 @@ pub ends_said : (what : Saying) (said : Result Saying Unsaid) (written written' 
 ends_said what (Ok s) written written' end is has = has.0 ∙ ap (λ (x : Saying). x.ending) is
 ends_said what (Err why) written written' end is has = absurd (err_ok put.Memory end (sym (has.0 ∙ ap silent_end is)))
 
+pub silent_ends : (why : Unsaid) (said : Result Saying Unsaid) (written written' : Option (List ℕ)) (end : Ending) → said ≡ silent why → HasWritten said written written' (okay end) → okay end ≡ silent_end why
+silent_ends why said written written' end is has = let Written : Result Saying Unsaid → Type 0 = λ s. HasWritten s written written' (okay end) in (subst Written is has).0
+
 pub silently : (why : Unsaid) (said : Result Saying Unsaid) (written written' : Option (List ℕ)) (end : Ending) → said ≡ silent why → HasWritten said written written' (okay end) → IsBrokenOff end
-silently why said written written' end is has = let Written : Result Saying Unsaid → Type 0 = λ s. HasWritten s written written' (okay end) in silent_broken why end (subst Written is has).0
+silently why said written written' end is has = silent_broken why end (silent_ends why said written written' end is has)
 
 -- of a fault: it broke off, or refuses the journal
 refuses_by : (f : SFault) (o : Option Unsaid) (said : Result Saying Unsaid) (written written' : Option (List ℕ)) (end : Ending) → untold f ≡ o → RefusesBy o f said → HasWritten said written written' (okay end) → IsBrokenOff end ⊎ ((untold f ≡ None) × (end ≡ ending.JournalRefused f))

@@ -39,9 +39,11 @@ use Rattle.acq_cli.specs.Driven.{HasEnded, TellsFull}
 use Rattle.acq_cli.specs.Endings.{Tries}
 use Rattle.acq_cli.specs.Exactly.{HoldsSession, IsBrokenOff, OpensExactly, RefusesOpening}
 use Rattle.acq_cli.specs.Doing.{Does}
-use Rattle.acq_cli.specs.Playing.{IsAnsweredBy, IsNoNetwork, IsUnstopped, HoldsAnswers, HoldsNoTarget, IsOpened, MayLack, PlayEnds, PlaysExactly, PlaysOn, RefusesTarget, EndsWithout}
+use Rattle.acq_cli.specs.Playing.{IsAnsweredBy, IsNoNetwork, IsUnstopped, HoldsAnswers, HoldsNoTarget, IsOpened, MayLack, PlayEnds, PlaysExactly, PlaysOn, RefusesTarget, SaysWithout, stale_said, target_refused}
 use Rattle.acq_cli.specs.Program.{ended_as}
 use Rattle.acq_cli.specs.Run.{answer}
+use Rattle.acq_cli.specs.Said.{IsSaid, SaysSo}
+use Rattle.acq_cli.specs.declared.said.Unsaid.TheVariants as unsaid
 use Rattle.acq_cli.proofs.Confirmed.{confirm_ends}
 use Rattle.acq_cli.proofs.SaidOver.{over_ends, solve_ends}
 use Rattle.acq_cli.proofs.TakenBack.{back_ends}
@@ -54,11 +56,11 @@ use Rattle.acq_cli.specs.declared.ending.Ending.TheVariants as ending
 use Rattle.acq_cli.specs.declared.terms.Terms.{Terms}
 use Rattle.acq_cli.specs.declared.playing.NoTarget.{NoTarget}
 use Rattle.acq_cli.specs.declared.playing.NoTarget.TheVariants as without
-use Rattle.acq_cli.proofs.Closings.{okay, same_ok, err_ok, loops_by, not_loops}
+use Rattle.acq_cli.proofs.Closings.{okay, err_ok, loops_by, not_loops}
 use Rattle.acq_cli.proofs.Standings.{few_answers, due_reached}
 use Rattle.acq_cli.proofs.Exactly.{holds_none, same_in, closed_exactly, run_ends}
 use Rattle.acq_cli.proofs.Made.{new_ends}
-use Rattle.acq_cli.proofs.Spoken.{closed_end, fine, gives_got, long_one, too_many, whole_of}
+use Rattle.acq_cli.proofs.Spoken.{ends_said, silently, closed_end, fine, gives_got, long_one, too_many, whole_of}
 
 -- ---- what its target said
 
@@ -286,6 +288,9 @@ same_refusing f g e = cc
 okay_refusing : (target : List Candidate) (f : NetFault) → (let r : Result (List Candidate) NetFault = Ok target in r) ≡ refusing f → ⊥
 okay_refusing target f e = cc
 
+stale_ends : (m : ℕ) (written written' : Option (List ℕ)) (end : Ending) → SaysSo (IsSaid (stale_said m)) written written' (okay end) → end ≡ ending.NotFresh m
+stale_ends m written written' end (said, is, has) = ends_said (stale_said m) said written written' end is has
+
 -- the file isn't opened
 play_closed : ReadOnce → (bytes file : List ℕ) (end : Ending) (f : SFault) → RefusesOpening file f → end ≡ ending.JournalRefused f → PlaysExactly bytes file end
 play_closed once bytes file end f why is = record {
@@ -340,10 +345,10 @@ module _ {D : Type 0} (disk : DiskOf D) where
   held_by old new file opened told = record { plan = opened.plan; voc = opened.voc; events = opened.events; says = opened.says file told; lang = opened.lang; read = opened.read; places = opened.places }
 
   lacks_so : ReadOnce → (left written left' written' : Option (List ℕ)) (bytes file : List ℕ) (end : Ending) (held : HoldsSession file) → standing_on held.lang held.events ≡ [] → left ≡ Some bytes →
-      (why : NoTarget) → MayLack held.lang left left' why → EndsWithout why written written' (okay end) → IsBrokenOff end ⊎ PlaysExactly bytes file end
-  lacks_so once left written left' written' bytes file end held fresh from (without.Refused f) lacks ends = inr (play_lacks once bytes file end held f fresh (none_of held.lang left left' bytes f lacks from) ends.0)
-  lacks_so once left written left' written' bytes file end held fresh from without.ReadFault lacks ends = inl (inl (same_ok end ending.ReadFault ends.0))
-  lacks_so once left written left' written' bytes file end held fresh from without.Memory lacks ends = absurd (err_ok put.Memory end (sym ends.0))
+      (why : NoTarget) → MayLack held.lang left left' why → SaysSo (SaysWithout why) written written' (okay end) → IsBrokenOff end ⊎ PlaysExactly bytes file end
+  lacks_so once left written left' written' bytes file end held fresh from (without.Refused f) lacks (said, is, has) = inr (play_lacks once bytes file end held f fresh (none_of held.lang left left' bytes f lacks from) (ends_said (target_refused f) said written written' end is has))
+  lacks_so once left written left' written' bytes file end held fresh from without.ReadFault lacks (said, is, has) = inl (silently unsaid.ReadFault said written written' end is has)
+  lacks_so once left written left' written' bytes file end held fresh from without.Memory lacks (said, is, has) = inl (silently unsaid.Memory said written written' end is has)
 
   pub play_ends : ReadOnce → (budget : ℕ) (left written left' written' : Option (List ℕ)) (old new : D) (got : Result Ending Put) → PlaysOn disk budget left written left' written' old new got → PlayEnds left (disk.content old) (ended_as got)
   play_ends once budget left written left' written' old new (Err put.Failed) plays = λ bytes from file told. inl (inr (inl refl))
@@ -351,7 +356,7 @@ module _ {D : Type 0} (disk : DiskOf D) where
   play_ends once budget left written left' written' old new (Ok end) (inl closed) = λ bytes from file told.
       ⊎_elim (λ broken. inl broken) (λ is. inr (play_closed once bytes file end closed.fault (is.0, closed.why file told) is.1)) (closed_end written written' end closed.fault closed.refuses)
   play_ends once budget left written left' written' old new (Ok end) (inr (inl stale)) = λ bytes from file told.
-      inr (play_stale once bytes file end (held_by old new file stale.opened told) stale.number stale.is stale.some stale.tells.0)
+      inr (play_stale once bytes file end (held_by old new file stale.opened told) stale.number stale.is stale.some (stale_ends stale.number written written' end stale.tells))
   play_ends once budget left written left' written' old new (Ok end) (inr (inr (inl lacks))) = λ bytes from file told.
       lacks_so once left written left' written' bytes file end (held_by old new file lacks.opened told) lacks.fresh from lacks.why lacks.lacks lacks.ends
   play_ends once budget left written left' written' old new (Ok end) (inr (inr (inr played))) = λ bytes from file told.

@@ -20,14 +20,16 @@ use Rattle.target_oracle.specs.NetTurns.{net_turn, net_may_say}
 use Rattle.voc_read.specs.Vocabulary.{IsVocabulary}
 use Rattle.acq_cli.specs.Exactly.{HoldsSession, IsBrokenOff, OpensExactly}
 use Rattle.acq_cli.specs.Journals.{StaysClosed}
-use Rattle.acq_cli.specs.Said.{EndsWith}
+use Rattle.acq_cli.specs.Said.{IsSaid, SaysSo}
+use Rattle.acq_cli.specs.Saying.{Saying, saying}
+use Rattle.acq_cli.specs.declared.said.Unsaid.{Unsaid}
+use Rattle.acq_cli.specs.declared.said.Unsaid.TheVariants as unsaid
 use Rattle.acq_cli.specs.Points.{terms_with}
 use Rattle.acq_cli.specs.Running.{GoesOn}
 use Rattle.acq_cli.specs.Texts.{learned_after, not_fresh_text, target_refusal_text}
 use Rattle.acq_cli.specs.declared.ending.Ending.{Ending}
 use Rattle.acq_cli.specs.declared.playing.NoTarget.{NoTarget}
 use Rattle.acq_cli.specs.declared.terms.Terms.{Terms}
-use Rattle.acq_io.specs.declared.streams.Put.TheVariants as put
 use Rattle.acq_io.specs.declared.whole.AllFault.TheVariants as long
 use Rattle.network.specs.declared.fault.NetFault.TheVariants as net
 use Rattle.acq_cli.specs.declared.ending.Ending.TheVariants as ending
@@ -59,11 +61,19 @@ MayLack l left left' (without.Refused fault) = RefusesTarget l left left' fault
 MayLack l left left' without.ReadFault = Unit {0}
 MayLack l left left' without.Memory = Unit {0}
 
--- a refused target is told; where the input or memory failed, not a word was written
-abbrev pub EndsWithout : NoTarget → (written written' : Option (List ℕ)) → Result Ending Put → Type 0
-EndsWithout (without.Refused fault) written written' got = EndsWith (ending.TargetRefused fault) (target_refusal_text fault) written written' got
-EndsWithout without.ReadFault written written' got = (got ≡ Ok ending.ReadFault) × (written' ≡ written)
-EndsWithout without.Memory written written' got = (got ≡ Err put.Memory) × (written' ≡ written)
+-- what is said of answers that stand
+abbrev pub stale_said : ℕ → Saying
+stale_said m = saying (not_fresh_text m) (ending.NotFresh m)
+
+-- what is said of a refused target
+abbrev pub target_refused : NetFault → Saying
+target_refused fault = saying (target_refusal_text fault) (ending.TargetRefused fault)
+
+-- a refused target is told; where the input failed or memory was wanting, not a word is said
+abbrev pub SaysWithout : NoTarget → Result Saying Unsaid → Type 0
+SaysWithout (without.Refused fault) said = IsSaid (target_refused fault) said
+SaysWithout without.ReadFault said = said ≡ Err unsaid.ReadFault
+SaysWithout without.Memory said = said ≡ Err unsaid.Memory
 
 -- ---- Its answers
 
@@ -105,7 +115,7 @@ module _ {D : Type 0} (disk : DiskOf D) where
     pub number : ℕ
     pub is : number ≡ length (standing_on opened.lang opened.events)
     pub some : 1 ≤ number
-    pub tells : EndsWith (ending.NotFresh number) (not_fresh_text number) written written' got
+    pub tells : SaysSo (IsSaid (stale_said number)) written written' got
     pub unread : left' ≡ left
 
   -- no answer stands, and there is no target
@@ -114,7 +124,7 @@ module _ {D : Type 0} (disk : DiskOf D) where
     pub fresh : standing_on opened.lang opened.events ≡ []
     pub why : NoTarget
     pub lacks : MayLack opened.lang left left' why
-    pub ends : EndsWithout why written written' got
+    pub ends : SaysSo (SaysWithout why) written written' got
 
   -- no answer stood, and the run goes on by the answers of the target
   pub record IsPlayed (budget : ℕ) (left written left' written' : Option (List ℕ)) (old new : D) (got : Result Ending Put) : Type 0 where

@@ -6,16 +6,15 @@ ghost use Rattle.acq_words.specs.Request.{IsBudget};
 ghost use Rattle.disk_model.specs.Disk.{Rose as DiskRose};
 ghost use Rattle.language.specs.Answers.{standing_on};
 ghost use Rattle.network.specs.Learned.{Learned};
-ghost use Rattle.acq_cli.specs.Said.{EndsWith};
-ghost use Rattle.acq_cli.specs.Playing.{EndsWithout, MayLack, PlaysOn, ReadsTarget};
-ghost use Rattle.acq_cli.specs.Texts.{not_fresh_text, target_refusal_text};
+ghost use Rattle.acq_cli.specs.Playing.{MayLack, PlaysOn, ReadsTarget, SaysWithout, stale_said, target_refused};
 
 use crate::commands::{lang_of, refuse_journal};
 use crate::ending::Ending;
+use crate::said::{Said, Unsaid, or_silent, put};
 use crate::top::ask_on;
 use acq_io::{AllFault, Put, Sink, Source, read_all};
 use disk_model::Disk;
-use language::Language;
+use language::{Language, Memory};
 use network::{NetFault, Network, net_text, read_network};
 use par_screen::Gate;
 use session_store::{Keep, Store};
@@ -44,44 +43,32 @@ fn answers_of<D: Disk, P: Keep<D>>(keep: &P) -> u32
 }
 
 /// Says that some answers stand.
-fn refuse_answers<K: Sink>(alloc: Global, m: u32, out: &mut K) -> Result<Ending, Put>
-    ensures tells { EndsWith (Ending.NotFresh m) (not_fresh_text m) (K.written out.old) (K.written out.new) result }
-    ensures no_fault { IfOk result (λ ending. ending ≢ Ending.WriteFault) }
-    ensures failed { result ≡ Err Put.Failed → Rose (K.faults out.old) (K.faults out.new) }
+fn stale(alloc: Global, m: u32) -> Result<Said, Memory>
+    ensures { IfOk result (λ said. said ≡ stale_said m) }
 {
-    let Ok(text) = format!(in alloc; "refused not fresh {m}\n") else {
-        return Err(Put::Memory);
-    };
-    out.write(text.as_bytes())?;
-    Ok(Ending::NotFresh(m))
+    let text = format!(in alloc; "refused not fresh {m}\n")?;
+    Ok(Said::new(text, Ending::NotFresh(m)))
 }
 
-/// Refuses the target.
-fn refuse_network<K: Sink>(alloc: Global, fault: NetFault, out: &mut K) -> Result<Ending, Put>
-    ensures tells { EndsWith (Ending.TargetRefused fault) (target_refusal_text fault) (K.written out.old) (K.written out.new) result }
-    ensures failed { result ≡ Err Put.Failed → Rose (K.faults out.old) (K.faults out.new) }
+/// Says why the target is refused.
+fn refused_target(alloc: Global, fault: NetFault) -> Result<Said, Memory>
+    ensures { IfOk result (λ said. said ≡ target_refused fault) }
 {
-    let Ok(reason) = net_text(alloc, fault) else {
-        return Err(Put::Memory);
-    };
-    let Ok(text) = format!(in alloc; "refused target {reason}\n") else {
-        return Err(Put::Memory);
-    };
-    out.write(text.as_bytes())?;
-    Ok(Ending::TargetRefused(fault))
+    let reason = net_text(alloc, fault)?;
+    let text = format!(in alloc; "refused target {reason}\n")?;
+    Ok(Said::new(text, Ending::TargetRefused(fault)))
 }
 
 /// Says why there is no target, but for a fault of the input and want of memory.
-fn refuse_target<K: Sink>(alloc: Global, why: NoTarget, out: &mut K) -> Result<Ending, Put>
-    ensures ends { EndsWithout why (K.written out.old) (K.written out.new) result }
-    ensures no_fault { IfOk result (λ ending. ending ≢ Ending.WriteFault) }
-    ensures read { result ≡ Ok Ending.ReadFault → why ≡ NoTarget.ReadFault }
-    ensures failed { result ≡ Err Put.Failed → Rose (K.faults out.old) (K.faults out.new) }
+fn untargeted(alloc: Global, why: NoTarget) -> Result<Said, Unsaid>
+    ensures says { SaysWithout why result }
+    ensures read { result ≡ Err Unsaid.ReadFault → why ≡ NoTarget.ReadFault }
+    ensures no_disk { result ≢ Err Unsaid.DiskFault }
 {
     match why {
-        NoTarget::Refused(fault) => refuse_network(alloc, fault, out),
-        NoTarget::ReadFault => Ok(Ending::ReadFault),
-        NoTarget::Memory => Err(Put::Memory),
+        NoTarget::Refused(fault) => or_silent(refused_target(alloc, fault)),
+        NoTarget::ReadFault => Err(Unsaid::ReadFault),
+        NoTarget::Memory => Err(Unsaid::Memory),
     }
 }
 
@@ -134,7 +121,7 @@ pub fn play_journal<R: Threads + Sync, S: Source, K: Sink, D: Disk, G: Gate>(
     };
     let count = answers_of::<D, Store>(&store);
     if count >= 1 {
-        return refuse_answers(alloc, count, out);
+        return put(or_silent(stale(alloc, count)), out);
     }
     match read_target(alloc, lang_of::<D, Store>(&store), input) {
         Ok(target) => {
@@ -151,6 +138,6 @@ pub fn play_journal<R: Threads + Sync, S: Source, K: Sink, D: Disk, G: Gate>(
                 gate,
             )
         }
-        Err(why) => refuse_target(alloc, why, out),
+        Err(why) => put(untargeted(alloc, why), out),
     }
 }

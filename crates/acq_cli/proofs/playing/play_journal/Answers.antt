@@ -1,4 +1,4 @@
-use Rattle.std.proofs.Common.{◌≡◌, Bool, false, List, [], refl, sym, subst, arith, inl, inr}
+use Rattle.std.proofs.Common.{◌≡◌, Bool, false, List, [], refl, sym, subst, arith, inl, inr, ◌∙◌, ap, Result, Err}
 use Rattle.std.specs.Prelude.{IfOk, OnErr}
 use Rattle.assign.specs.declared.events.Event.{Event}
 use Rattle.assign.specs.declared.events.Plan.{Plan}
@@ -11,12 +11,21 @@ use Rattle.target_oracle.specs.NetTurns.{net_turn, net_may_say}
 use Rattle.acq_cli.specs.Breaks.{BreaksRun}
 use Rattle.acq_cli.specs.Driven.{Loses}
 use Rattle.acq_cli.specs.Endings.{Tries}
-use Rattle.acq_cli.specs.Playing.{IsAnsweredBy, MayLack, ReadsTarget}
+use Rattle.acq_cli.specs.Playing.{IsAnsweredBy, MayLack, ReadsTarget, stale_said}
 use Rattle.acq_cli.specs.Points.{point_of, terms_with}
 use Rattle.acq_cli.proofs.Journals.{goes_on_with, IsDisk}
 use Rattle.acq_cli.proofs.Targets.{answered, none_at_all}
+use Rattle.acq_cli.proofs.Causes.{stopped_unless}
+use Rattle.acq_cli.proofs.Spoken.{said_as, silent_not}
+use Rattle.acq_cli.specs.declared.playing.NoTarget.{NoTarget}
+use Rattle.acq_cli.specs.declared.said.Unsaid.TheVariants as unsaid
+use Rattle.acq_io.proofs.CallLemmas.{stopped_by}
+use Rattle.network.specs.Learned.{Learned}
 use Rattle.acq_cli.proofs.Taking.{takes_then}
 use Rattle.acq_cli.proofs.playing.play_journal.Goals as goal
+
+abbrev untaken : NoTarget → Result Learned NoTarget
+untaken why = Err why
 
 pub returns-then-count-ge1-clause-plays : goal.returns-then-count-ge1-clause-plays
 returns-then-count-ge1-clause-plays g c =
@@ -36,7 +45,7 @@ returns-then-count-ge1-clause-plays g c =
       number = c.answers_of-count.result;
       is = c.answers_of-count.ensures.is;
       some = omega (arith, c.if-count-ge1.true);
-      tells = c.refuse_answers.ensures.tells;
+      tells = (c.or_silent.result, said_as c.stale.result c.or_silent.result (stale_said c.answers_of-count.result) (stale_said c.answers_of-count.result) c.or_silent.ensures refl c.stale.ensures, c.put.ensures.writes);
       unread = refl;
     }))
 
@@ -59,7 +68,7 @@ returns-clause-plays g c =
       fresh = none_at_all (standing_on (lang_of store) (events_of store)) (let few = c.if-count-ge1.false in let is = c.answers_of-count.ensures.is in omega (arith, few, is));
       why = c.in-Err-read_target.why;
       lacks = subst Lacks c.lang_of.ensures.is c.in-Err-read_target.ensures.lacks;
-      ends = c.refuse_target.ensures.ends;
+      ends = (c.untargeted.result, c.untargeted.ensures.says, c.put-in-Err-read_target.ensures.writes);
     })))
 
 pub returns-in-Ok-read_target-clause-plays : goal.returns-in-Ok-read_target-clause-plays
@@ -97,3 +106,15 @@ returns-in-Ok-read_target-clause-plays g c =
 
 pub returns-in-Ok-read_target-clause-takes : goal.returns-in-Ok-read_target-clause-takes
 returns-in-Ok-read_target-clause-takes g c = takes_then _ _ _ c.read_target.ensures.takes c.ask_on.ensures.takes
+
+pub returns-then-count-ge1-clause-read : goal.returns-then-count-ge1-clause-read
+returns-then-count-ge1-clause-read g c = stopped_unless _ _ _ (λ is. silent_not c.stale.result c.or_silent.result unsaid.ReadFault (λ e. cc) c.or_silent.ensures (c.put.ensures.read is))
+
+pub returns-then-count-ge1-clause-lost : goal.returns-then-count-ge1-clause-lost
+returns-then-count-ge1-clause-lost g c is = absurd (silent_not c.stale.result c.or_silent.result unsaid.DiskFault (λ e. cc) c.or_silent.ensures (c.put.ensures.lost is))
+
+pub returns-clause-read : goal.returns-clause-read
+returns-clause-read g c = stopped_by _ _ _ _ _ _ (λ is. c.in-Err-read_target.is ∙ ap untaken (c.untargeted.ensures.read (c.put-in-Err-read_target.ensures.read is))) c.read_target.ensures.called
+
+pub returns-clause-lost : goal.returns-clause-lost
+returns-clause-lost g c is = absurd (c.untargeted.ensures.no_disk (c.put-in-Err-read_target.ensures.lost is))
