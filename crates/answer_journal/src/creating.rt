@@ -96,13 +96,9 @@ fn session_bytes(alloc: Global, plan: Plan, voc: &[u8]) -> Result<Vec<u8>, Alloc
     ensures { IfOk result (λ v. v.items ≡ session_tail plan voc.now ++ 0 ∷ []) }
 {
     let size = (1 + voc.len() as u32).to_be_bytes();
+    let front = [b'S', size[0], size[1], size[2], size[3], byte_of(plan)];
     let mut out = Vec::with_capacity(alloc, voc.len() + 7)?;
-    out.push(b'S')?;
-    out.push(size[0])?;
-    out.push(size[1])?;
-    out.push(size[2])?;
-    out.push(size[3])?;
-    out.push(byte_of(plan))?;
+    out.extend_from_slice(&front)?;
     out.extend_from_slice(voc)?;
     out.push(0)?;
     Ok(out)

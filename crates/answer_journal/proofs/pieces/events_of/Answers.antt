@@ -74,3 +74,15 @@ pieces-preserved g c =
       only_read = read_more D c.args.disk.now c.pieces.disk c.read.new.self c.pieces.invariant.only_read c.read.ensures.same c.read.ensures.crash c.read.ensures.time;
       later = omega (arith, c.read.ensures.cause.later, c.pieces.invariant.later);
     }
+
+pub returns-in_err-count-clause-only_read : goal.returns-in_err-count-clause-only_read
+returns-in_err-count-clause-only_read g c =
+    read_more g.D.Disk c.args.disk.now c.pieces.disk c.read.new.self c.pieces.invariant.only_read c.read.ensures.same c.read.ensures.crash c.read.ensures.time
+
+pub returns-in_err-place-clause-only_read : goal.returns-in_err-place-clause-only_read
+returns-in_err-place-clause-only_read g c =
+    read_more g.D.Disk c.args.disk.now c.pieces.disk c.read.new.self c.pieces.invariant.only_read c.read.ensures.same c.read.ensures.crash c.read.ensures.time
+
+pub returns-in-Closed-clause-only_read : goal.returns-in-Closed-clause-only_read
+returns-in-Closed-clause-only_read g c =
+    read_more g.D.Disk c.args.disk.now c.pieces.disk c.read.new.self c.pieces.invariant.only_read c.read.ensures.same c.read.ensures.crash c.read.ensures.time

@@ -14,3 +14,15 @@ returns-clause-question c = is_question c.args.number c.in_ok-lang.lang c.in_ok-
 pub returns-clause-solved : goal.returns-clause-solved
 returns-clause-solved c =
     subst (λ (list : List Candidate). accepts c.in_ok-lang.lang list (hidden c.args.number) ≡ true) (sym c.in_ok-net.ensures.is) (is_solution c.args.number c.in_ok-lang.lang)
+
+pub returns-clause-language : goal.returns-clause-language
+returns-clause-language c = c.in_ok-lang.ensures
+
+pub returns-clause-target : goal.returns-clause-target
+returns-clause-target c = c.in_ok-net.ensures.is
+
+pub returns-clause-network : goal.returns-clause-network
+returns-clause-network c = c.in_ok-net.ensures.network
+
+pub returns-clause-scopes : goal.returns-clause-scopes
+returns-clause-scopes c = c.in_ok-net.ensures.scopes
