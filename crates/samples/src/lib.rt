@@ -8,7 +8,9 @@
 mod languages;
 mod numbers;
 mod questions;
+mod written;
 
 pub use languages::{Relation, language, language_within, places, some_ranges};
 pub use numbers::Numbers;
 pub use questions::{assigned, is_candidate, is_within, question};
+pub use written::{push_question, question_in};
