@@ -1,7 +1,7 @@
 use Rattle.std.proofs.Common.{ap, sym, subst, ◌∙◌}
 use Rattle.std.specs.Prelude.{replicate, None}
 use Rattle.language.specs.Language.{IsQuestion}
-use Rattle.samples.proofs.Ranged.{blank, one_more}
+use Rattle.samples.proofs.Ranged.{blank}
 use Rattle.samples.proofs.written.question_in.Goals as goal
 
 pub loop-word-init : goal.loop-word-init
