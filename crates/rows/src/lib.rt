@@ -1,4 +1,5 @@
-//! Tables of trials: rows are read from standard input, and for each a line says that it holds, or what came instead.
+//! Tables of trials: rows are read from standard input, and for each a line says that it holds, or what came instead. The last
+//! line says how many rows there were, and how many of them were refused.
 //!
 //! A line of a table is a comment behind `#`, or empty, or a row:
 //!
@@ -11,12 +12,14 @@
 #![tactic(auto)]
 
 mod bytes;
+mod escapes;
 mod running;
 mod runs;
 mod texts;
 mod words;
 
 pub use bytes::{bytes_in, push_bytes};
+pub use escapes::{push_text, text_in};
 pub use running::{Calls, run};
 pub use runs::{Distinct, Runs};
 pub use words::{end, number};
