@@ -12,12 +12,14 @@
 #![tactic(auto)]
 
 mod bytes;
+mod escapes;
 mod running;
 mod runs;
 mod texts;
 mod words;
 
 pub use bytes::{bytes_in, push_bytes};
+pub use escapes::{push_text, text_in};
 pub use running::{Calls, run};
 pub use runs::{Distinct, Runs};
 pub use words::{end, number};
