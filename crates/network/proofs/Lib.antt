@@ -6,3 +6,4 @@ pub mod Telling
 pub mod TextsRead
 pub mod Joined
 pub mod Items
+pub mod EachText
