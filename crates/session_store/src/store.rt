@@ -71,12 +71,7 @@ fn new_session(alloc: Global, plan: Plan, voc: &[u8]) -> Result<(Held, Vec<u8>),
 }
 
 /// The session to which events lead, of this plan and vocabulary.
-fn led_session(
-    alloc: Global,
-    plan: Plan,
-    voc: &[u8],
-    events: &[Event],
-) -> Result<Session, SFault>
+fn led_session(alloc: Global, plan: Plan, voc: &[u8], events: &[Event]) -> Result<Session, SFault>
     requires storable { All IsStorableEvent events.now }
     requires few { length events.now ≤ 1000000 }
     ensures read { IfOk result (λ session. IsVocabulary voc.now (knowledge_of session).lang) }
