@@ -42,7 +42,5 @@ pub fn places_for(alloc: Global, lang: &Language) -> Result<[Place; 8], Memory>
 {
     let (first, second, third, fourth) = four_places(alloc, lang)?;
     let (fifth, sixth, seventh, eighth) = four_places(alloc, lang)?;
-    Ok([
-        first, second, third, fourth, fifth, sixth, seventh, eighth,
-    ])
+    Ok([first, second, third, fourth, fifth, sixth, seventh, eighth])
 }

@@ -19,7 +19,7 @@ use Rattle.session_store.specs.Faults.{of_journal}
 use Rattle.std.specs.Prelude.{All, OnOk}
 use Rattle.disk_model.specs.declared.disk.Disk.{Ghosts as DiskOf}
 use Rattle.session_store.specs.Held.{lang_in, plan_in, StandsIn, events_held, IsHeld, IsWide}
-use Rattle.session_store.specs.Opening.{NoLanguage, NotMade, NotOpened}
+use Rattle.session_store.specs.Opening.{NoLanguage, NotLed, NotMade, NotOpened}
 use Rattle.session_store.specs.Replay.{replay, HavePlaces, NamesStray}
 use Rattle.session_store.specs.declared.fault.SFault.{SFault}
 use Rattle.session_store.specs.declared.fault.SFault.TheVariants as store
@@ -182,17 +182,25 @@ not_opened bytes journal.DiskFault either = tt
 not_opened bytes journal.Memory either = tt
 
 -- why its vocabulary is no language
-pub no_language : (bytes : List ℕ) (plan : Plan) (voc : List ℕ) (events : List Event) (fault : SFault) → SaysSession bytes plan voc events → NoLanguage voc fault → NotOpened bytes fault
-no_language bytes plan voc events (store.Journal f) says none = absurd none
-no_language bytes plan voc events (store.Voc f) says refused = record { plan = plan; voc = voc; events = events; reads = says; refused = refused }
-no_language bytes plan voc events (store.Stray i) says none = absurd none
-no_language bytes plan voc events store.Memory says refused = tt
+pub no_language : (plan : Plan) (voc : List ℕ) (events : List Event) (fault : SFault) → NoLanguage voc fault → NotLed plan voc events fault
+no_language plan voc events (store.Journal f) none = absurd none
+no_language plan voc events (store.Voc f) refused = refused
+no_language plan voc events (store.Stray i) none = absurd none
+no_language plan voc events store.Memory refused = tt
 
 -- which record has no place
-pub has_stray : (bytes : List ℕ) (plan asked : Plan) (voc : List ℕ) (events : List Event) (l m : Language) (fault : SFault) → SaysSession bytes plan voc events → IsVocabulary voc l → m ≡ l → asked ≡ plan → NamesStray m asked events fault → NotOpened bytes fault
-has_stray bytes plan asked voc events l m (store.Stray i) says vocabulary same planned stray =
+pub strays : (plan asked : Plan) (voc : List ℕ) (events : List Event) (l m : Language) (fault : SFault) → IsVocabulary voc l → m ≡ l → asked ≡ plan → NamesStray m asked events fault → NotLed plan voc events fault
+strays plan asked voc events l m (store.Stray i) vocabulary same planned stray =
     let Strays : Language → Plan → Type 0 = λ x p. replay x p events ≡ Stray i in
-    record { plan = plan; voc = voc; events = events; reads = says; lang = l; vocabulary = vocabulary; stray = both_same Strays m l asked plan same planned stray }
-has_stray bytes plan asked voc events l m store.Memory says vocabulary same planned stray = tt
-has_stray bytes plan asked voc events l m (store.Journal f) says vocabulary same planned stray = absurd stray
-has_stray bytes plan asked voc events l m (store.Voc f) says vocabulary same planned stray = absurd stray
+    record { lang = l; vocabulary = vocabulary; stray = both_same Strays m l asked plan same planned stray }
+strays plan asked voc events l m store.Memory vocabulary same planned stray = tt
+strays plan asked voc events l m (store.Journal f) vocabulary same planned stray = absurd stray
+strays plan asked voc events l m (store.Voc f) vocabulary same planned stray = absurd stray
+
+-- why the session that the bytes say is led nowhere
+pub not_led : (bytes : List ℕ) (plan : Plan) (voc : List ℕ) (events : List Event) (fault : SFault) → SaysSession bytes plan voc events → NotLed plan voc events fault → NotOpened bytes fault
+not_led bytes plan voc events (store.Journal f) says none = absurd none
+not_led bytes plan voc events (store.Voc f) says refused = record { plan = plan; voc = voc; events = events; reads = says; refused = refused }
+not_led bytes plan voc events (store.Stray i) says led =
+    record { plan = plan; voc = voc; events = events; reads = says; lang = led.lang; vocabulary = led.vocabulary; stray = led.stray }
+not_led bytes plan voc events store.Memory says refused = tt

@@ -75,3 +75,16 @@ NoLanguage voc (store.Journal f) = ⊥
 NoLanguage voc (store.Voc f) = refusal_of_vocabulary voc ≡ Some f
 NoLanguage voc (store.Stray i) = ⊥
 NoLanguage voc store.Memory = Unit {0}
+
+-- an event has no place in a session of this plan and vocabulary
+pub record StraysFrom (plan : Plan) (voc : List ℕ) (events : List Event) (i : ℕ) : Type 0 where
+  pub lang : Language
+  pub vocabulary : IsVocabulary voc lang
+  pub stray : replay lang plan events ≡ Stray i
+
+-- why events lead to no session of this plan and vocabulary
+abbrev pub NotLed : Plan → List ℕ → List Event → SFault → Type 0
+NotLed plan voc events (store.Journal f) = ⊥
+NotLed plan voc events (store.Voc f) = refusal_of_vocabulary voc ≡ Some f
+NotLed plan voc events (store.Stray i) = StraysFrom plan voc events i
+NotLed plan voc events store.Memory = Unit {0}

@@ -1,4 +1,4 @@
-ghost use Rattle.std.specs.Prelude.{◌≡◌, ◌≤◌, ◌<◌, ◌+◌, ◌⊎◌, [], List, ℕ, IfOk, IfErr, IsErrOf, IsSome, OnOk, IsTrue, IsFalse, Some, None, true, length};
+ghost use Rattle.std.specs.Prelude.{◌≡◌, ◌≤◌, ◌<◌, ◌+◌, ◌⊎◌, [], List, ℕ, IfOk, IfErr, IsErrOf, IsSome, OnOk, IsTrue, IsFalse, All, Some, None, true, length};
 ghost use Rattle.std.specs.Option.{ForSome, ForNone};
 ghost use Rattle.language.specs.Answers.{standing_on};
 ghost use Rattle.disk_model.specs.Disk.{Only, Rose};
@@ -6,11 +6,14 @@ ghost use Rattle.disk_model.specs.Moments.{LeavesOnly, IsOnlyRead, IsOnDisk, Goe
 ghost use Rattle.answer_journal.specs.End.{Sits, HasNew, IsOldOrNew, IsSame};
 ghost use Rattle.answer_journal.specs.Journal.{HasNoSession};
 ghost use Rattle.answer_journal.specs.Making.{IsCreating};
+ghost use Rattle.answer_journal.specs.Storable.{IsStorableEvent};
 ghost use Rattle.voc_read.specs.Vocabulary.{IsVocabulary, refusal_of_vocabulary};
 ghost use Rattle.session_core.specs.Settled.{IsSettled};
+ghost use Rattle.session_core.specs.Standing.{Stands, knowledge_of, open_in};
+ghost use Rattle.session_store.specs.Held.{lang_held, plan_held, question_held, events_held, IsHeld};
 ghost use Rattle.session_store.specs.Left.{SaysSession};
 ghost use Rattle.session_store.specs.Replay.{HavePlaces};
-ghost use Rattle.session_store.specs.Opening.{NoLanguage, NotMade, NotOpened};
+ghost use Rattle.session_store.specs.Opening.{NoLanguage, NotLed, NotMade, NotOpened};
 ghost use Rattle.session_store.specs.Store.{lang_of, plan_of, question_of, events_of, voc_of, is_live_in, IsSound, SitsOn};
 
 use crate::SFault;
@@ -47,6 +50,40 @@ fn language_of(alloc: Global, voc: &[u8]) -> Result<Language, SFault>
         Err(VocFault::Memory) => Err(SFault::Memory),
         Err(fault) => Err(SFault::Voc(fault)),
     }
+}
+
+/// A session of this plan and vocabulary without events, and a copy of the vocabulary's bytes.
+fn new_session(alloc: Global, plan: Plan, voc: &[u8]) -> Result<(Held, Vec<u8>), SFault>
+    ensures sound { IfOk result (λ made. IsHeld made.0) }
+    ensures read { IfOk result (λ made. IsVocabulary voc.now (lang_held made.0)) }
+    ensures plan { IfOk result (λ made. plan_held made.0 ≡ plan) }
+    ensures events { IfOk result (λ made. events_held made.0 ≡ []) }
+    ensures idle { IfOk result (λ made. question_held made.0 ≡ None) }
+    ensures voc { IfOk result (λ made. made.1.items ≡ voc.now) }
+    ensures taken { OnOk result (refusal_of_vocabulary voc.now ≡ None) }
+    ensures short { OnOk result (length voc.now ≤ 4194304) }
+    ensures refused { IfErr result (NoLanguage voc.now) }
+{
+    let lang = language_of(alloc, voc)?;
+    let bytes = voc.to_vec(alloc)?;
+    let session = begin(alloc, lang, plan)?;
+    Ok((Held::new(session, Vec::new(alloc)), bytes))
+}
+
+/// The session to which events lead, of this plan and vocabulary.
+fn led_session(alloc: Global, plan: Plan, voc: &[u8], events: &[Event]) -> Result<Session, SFault>
+    requires storable { All IsStorableEvent events.now }
+    requires few { length events.now ≤ 1000000 }
+    ensures read { IfOk result (λ session. IsVocabulary voc.now (knowledge_of session).lang) }
+    ensures plan { IfOk result (λ session. (knowledge_of session).plan ≡ plan) }
+    ensures stands { IfOk result (λ session. Stands session (standing_on (knowledge_of session).lang events.now)) }
+    ensures settled { IfOk result (λ session. IsSettled (knowledge_of session).lang plan (standing_on (knowledge_of session).lang events.now) (open_in session)) }
+    ensures places { IfOk result (λ session. HavePlaces (knowledge_of session).lang plan events.now) }
+    ensures refused { IfErr result (NotLed plan voc.now events.now) }
+{
+    let lang = language_of(alloc, voc)?;
+    let start = begin(alloc, lang, plan)?;
+    replay(alloc, start, events)
 }
 
 impl Store {
@@ -89,9 +126,7 @@ impl Store {
         // A crash at any moment leaves what it might have left before, or no session, or the new one with no event.
         ensures any_moment { ForSome (D.content disk.old) (λ _. LeavesOnly D.Disk disk.old disk.new (IsCreating (D.may_leave disk.old) plan voc.now)) }
     {
-        let lang = language_of(alloc, voc)?;
-        let bytes = voc.to_vec(alloc)?;
-        let held = Held::new(begin(alloc, lang, plan)?, Vec::new(alloc));
+        let (held, bytes) = new_session(alloc, plan, voc)?;
         let journal = answer_journal::create(alloc, disk, plan, voc)?;
         Ok(Store {
             held,
@@ -129,9 +164,7 @@ impl Store {
             voc,
             events,
         } = answer_journal::open(alloc, disk)?;
-        let lang = language_of(alloc, &voc)?;
-        let start = begin(alloc, lang, plan)?;
-        let session = replay(alloc, start, &events)?;
+        let session = led_session(alloc, plan, &voc, &events)?;
         Ok(Store {
             held: Held::new(session, events),
             journal,

@@ -1,4 +1,4 @@
-use Rattle.std.proofs.Common.{◌≡◌, ◌∷◌, [], replicate, vec_len, List}
+use Rattle.std.proofs.Common.{◌≡◌, ◌∷◌, [], replicate, vec_len}
 use Rattle.std.proofs.lemmas.List.Elements.{All-append}
 use Rattle.query_gen.specs.declared.place.Place.{Place}
 use Rattle.query_gen.specs.declared.query.Query.TheVariants.{AllImplied}

@@ -1,6 +1,6 @@
 use Rattle.std.proofs.Common.{◌+◌, ℕ, List, ◌∙◌, sym, subst}
 use Rattle.session_store.specs.Replay.{IsCounted}
-use Rattle.session_store.proofs.Recording.{popped_one, answer_counted, back_counted}
+use Rattle.session_store.proofs.Recording.{popped_one, answer_counted, back_counted, all_counted}
 use Rattle.session_store.proofs.replay.standing_records.Goals.{in-Answer+in_ok-push-in-Answer, in-Back+else-is_none}
 use Rattle.session_store.proofs.replay.standing_records.Goals as goal
 
@@ -17,3 +17,9 @@ loop-i-preserved c =
           let popped = popped_one c.loop-i.records.items w.pop.new.self.items w.pop.result w.pop.ensures.items w.if-is_none.ensures in
           rw w.records-is (back_counted events i c.loop-i.records.items w.pop.new.self.items popped.0 c.index-events-i.result c.loop-i-test.true (sym c.index-events-i.is ∙ w.in-Back.is) popped.1 c.loop-i.invariant)
     ]
+
+pub returns-clause-records : goal.returns-clause-records
+returns-clause-records c = (all_counted c.args.events.now c.loop-i.i c.loop-i.records.items c.loop-i-test.false c.loop-i.invariant).0
+
+pub returns-clause-found : goal.returns-clause-found
+returns-clause-found c = (all_counted c.args.events.now c.loop-i.i c.loop-i.records.items c.loop-i-test.false c.loop-i.invariant).1

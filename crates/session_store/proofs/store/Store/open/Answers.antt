@@ -1,57 +1,40 @@
-use Rattle.std.proofs.Common.{◌∙◌, sym, ap, subst, List, ℕ}
+use Rattle.std.proofs.Common.{◌∙◌, sym, ap, List, ℕ}
 use Rattle.std.proofs.lemmas.Result.{err_from_is_err_and}
 use Rattle.assign.specs.declared.events.Event.{Event}
 use Rattle.assign.specs.declared.events.Plan.{Plan}
-use Rattle.session_core.specs.Standing.{knowledge_of}
 use Rattle.session_store.specs.Held.{plan_in, plan_held, events_held}
 use Rattle.session_store.specs.Left.{SaysSession}
-use Rattle.session_store.specs.Opening.{NoLanguage}
-use Rattle.session_store.specs.Replay.{NamesStray}
-use Rattle.voc_read.specs.Vocabulary.{IsVocabulary}
+use Rattle.session_store.specs.Opening.{NotLed}
 use Rattle.session_store.proofs.Replaying.{both_same}
-use Rattle.session_store.proofs.Stores.{no_language, has_stray, there_as}
+use Rattle.session_store.proofs.Stores.{not_led, there_as}
 use Rattle.session_store.proofs.store.Store.open.Goals as goal
-
-pub returns-in_err-lang-clause-refused : goal.returns-in_err-lang-clause-refused
-returns-in_err-lang-clause-refused g c bytes told =
-    let o = c.in_ok-journal.field-0 in
-    let p = err_from_is_err_and c.from_residual-in_err-lang.result c.from_residual-in_err-lang.ensures.1 in
-    let fault = c.in_err-lang.field-0.0 in
-    let No : List ℕ → Type 0 = λ v. NoLanguage v fault in
-    rw (p.1, p.2) (no_language bytes o.plan o.voc.items o.events.items fault (c.in_ok-journal.ensures.opened bytes told) (subst No c.deref.ensures.value c.in_err-lang.ensures.refused))
 
 pub returns-in_err-session-clause-refused : goal.returns-in_err-session-clause-refused
 returns-in_err-session-clause-refused g c bytes told =
     let o = c.in_ok-journal.field-0 in
     let p = err_from_is_err_and c.from_residual-in_err-session.result c.from_residual-in_err-session.ensures.1 in
-    let k = knowledge_of c.in_ok-start.start in
     let fault = c.in_err-session.field-0.0 in
-    let Read : List ℕ → Type 0 = λ v. IsVocabulary v c.in_ok-lang.lang in
-    let Strays : List Event → Type 0 = λ e. NamesStray k.lang k.plan e fault in
-    rw (p.1, p.2) (has_stray bytes o.plan k.plan o.voc.items o.events.items c.in_ok-lang.lang k.lang fault (c.in_ok-journal.ensures.opened bytes told) (subst Read c.deref.ensures.value c.in_ok-lang.ensures.read)
-    c.in_ok-start.ensures.lang c.in_ok-start.ensures.plan (subst Strays c.deref-2.ensures.value c.in_err-session.ensures.stray))
+    let No : List ℕ → List Event → Type 0 = λ v e. NotLed o.plan v e fault in
+    rw (p.1, p.2) (not_led bytes o.plan o.voc.items o.events.items fault (c.in_ok-journal.ensures.opened bytes told) (both_same No _ _ _ _ c.deref.ensures.value c.deref-2.ensures.value c.in_err-session.ensures.refused))
 
 pub returns-clause-sits : goal.returns-clause-sits
 returns-clause-sits g c live bytes told =
     let o = c.in_ok-journal.field-0 in
     let was = sym c.open.ensures.same ∙ told in
     there_as o.journal o.plan (plan_held c.new.result) o.voc.items o.events.items (events_held c.new.result) (g.D.Disk.may_leave c.open.new.disk) bytes
-    (sym (ap plan_in c.new.ensures.session ∙ c.in_ok-session.ensures.plan ∙ c.in_ok-start.ensures.plan)) (sym c.new.ensures.events)
+    (sym (ap plan_in c.new.ensures.session ∙ c.in_ok-session.ensures.plan)) (sym c.new.ensures.events)
     (record { behind = c.in_ok-journal.ensures.sits bytes was; opens = (c.in_ok-journal.ensures.opened bytes was).1; durable = c.in_ok-journal.ensures.durable bytes was })
 
 pub returns-in_err-session-clause-some_refusal : goal.returns-in_err-session-clause-some_refusal
 returns-in_err-session-clause-some_refusal g c =
     let o = c.in_ok-journal.field-0 in
     let p = err_from_is_err_and c.from_residual-in_err-session.result c.from_residual-in_err-session.ensures.1 in
-    let k = knowledge_of c.in_ok-start.start in
     let fault = c.in_err-session.field-0.0 in
-    let Read : List ℕ → Type 0 = λ v. IsVocabulary v c.in_ok-lang.lang in
-    let Strays : List Event → Type 0 = λ e. NamesStray k.lang k.plan e fault in
+    let No : List ℕ → List Event → Type 0 = λ v e. NotLed o.plan v e fault in
     let some = c.in_ok-journal.ensures.some_session in
     rw (p.1, p.2) (
       some.0,
-      has_stray some.0 o.plan k.plan o.voc.items o.events.items c.in_ok-lang.lang k.lang fault some.1 (subst Read c.deref.ensures.value c.in_ok-lang.ensures.read)
-          c.in_ok-start.ensures.lang c.in_ok-start.ensures.plan (subst Strays c.deref-2.ensures.value c.in_err-session.ensures.stray),
+      not_led some.0 o.plan o.voc.items o.events.items fault some.1 (both_same No _ _ _ _ c.deref.ensures.value c.deref-2.ensures.value c.in_err-session.ensures.refused),
     )
 
 pub returns-clause-some_session : goal.returns-clause-some_session
@@ -61,5 +44,5 @@ returns-clause-some_session g c =
     let Says : Plan → List Event → Type 0 = λ p e. SaysSession some.0 p o.voc.items e in (
       some.0,
       both_same Says o.plan (plan_held c.new.result) o.events.items (events_held c.new.result)
-          (sym (ap plan_in c.new.ensures.session ∙ c.in_ok-session.ensures.plan ∙ c.in_ok-start.ensures.plan)) (sym c.new.ensures.events) some.1,
+          (sym (ap plan_in c.new.ensures.session ∙ c.in_ok-session.ensures.plan)) (sym c.new.ensures.events) some.1,
     )
