@@ -1,19 +1,28 @@
 //! A halving and the plain recursion side by side.
 
-use crate::sets::set_of;
+ghost use Rattle.std.specs.Prelude.{◌≤◌};
+
+use crate::sets::{push_reply, push_set, reply_in, set_in};
 use assign::VarSet;
 use find_scope::plain::{Halved, halve};
 use find_scope::{ScopeNext, ScopeRun};
 use std::alloc::Global;
-use std::process::Abort;
-use std::test::Fail;
 
 /// The most replies that are tried: 128 variables take at most 254.
 const MOST_REPLIES: usize = 255;
 
-fn start(rt: &impl Abort, all: VarSet) -> ScopeNext {
-    assert!(rt; all.len() > 0);
-    ScopeRun::start(all)
+/// The set that is wanted, or else the one that was found.
+#[derive(Clone, Copy, PartialEq, Eq)]
+enum Stand {
+    Asks(VarSet),
+    Found(VarSet),
+}
+
+fn start(all: VarSet) -> Option<ScopeNext> {
+    if all.len() == 0 {
+        return None;
+    }
+    Some(ScopeRun::start(all))
 }
 
 fn reply(next: ScopeNext, yes: bool) -> ScopeNext {
@@ -23,116 +32,138 @@ fn reply(next: ScopeNext, yes: bool) -> ScopeNext {
     }
 }
 
-/// The set that is wanted, or else the one that was found.
-fn stands(next: &ScopeNext) -> Result<VarSet, VarSet> {
+fn stand_of(next: &ScopeNext) -> Stand {
     match next {
-        ScopeNext::Wants(run) => Ok(run.wants()),
-        ScopeNext::Found(found) => Err(*found),
+        ScopeNext::Wants(run) => Stand::Asks(run.wants()),
+        ScopeNext::Found(found) => Stand::Found(*found),
     }
 }
 
-/// The same of the recursion, which has to read each reply.
-fn stands_after(rt: &impl Abort, all: VarSet, replies: &[bool]) -> Result<VarSet, VarSet> {
+/// The same of the recursion. None where it leaves a reply.
+fn stand_after(all: VarSet, replies: &[bool]) -> Option<Stand> {
     match halve(all, replies) {
-        Halved::Wants(wanted) => Ok(wanted),
+        Halved::Wants(wanted) => Some(Stand::Asks(wanted)),
         Halved::Got(found, left) => {
-            assert!(rt; left.is_empty());
-            Err(found)
+            if left.is_empty() {
+                Some(Stand::Found(found))
+            } else {
+                None
+            }
         }
     }
 }
 
-#[test]
-fn worked_rows(rt: HostRuntime) {
-    let rows: [(&[u8], &[bool], &[&[u8]], &[u8]); 4] = [
-        (
-            &[0, 1, 2, 3],
-            &[true, false, true, false],
-            &[&[0, 1], &[0, 1, 2], &[2], &[0, 2]],
-            &[0, 2],
-        ),
-        (&[5], &[], &[], &[5]),
-        (&[0, 1], &[true, true], &[&[0], &[1]], &[0, 1]),
-        (&[0, 1], &[false], &[&[0]], &[0]),
-    ];
-    for (members, replies, wanted, found) in rows {
-        let all = set_of(&rt, members);
-        let mut next = start(&rt, all);
-        assert_eq!(rt; wanted.len(), replies.len());
-        for (i, yes) in replies.iter().enumerate() {
-            let asked = Ok(set_of(&rt, wanted[i]));
-            assert_eq!(rt; stands(&next), asked, "reply {i} of {members:?}");
-            assert_eq!(rt;
-                stands_after(&rt, all, &replies[..i]),
-                asked,
-                "reply {i} of {members:?}"
-            );
-            next = reply(next, *yes);
-        }
-        let got = Err(set_of(&rt, found));
-        assert_eq!(rt; stands(&next), got, "of {members:?}");
-        assert_eq!(rt; stands_after(&rt, all, replies), got, "of {members:?}");
+/// Adds where a halving stands, and whether the recursion stands elsewhere.
+fn push_stand(text: &mut String, stand: Stand, recursion: Option<Stand>) -> Option<()> {
+    let (word, set) = match stand {
+        Stand::Asks(set) => ("asks", set),
+        Stand::Found(set) => ("found", set),
+    };
+    text.push_str(word).ok()?;
+    push_set(text, set)?;
+    if recursion != Some(stand) {
+        text.push_str(", unlike the recursion").ok()?;
     }
+    Some(())
 }
 
-/// Halves by both, where a set is answered no exactly where the violated one lies within it. Gives what was found.
-fn found_by_both(
-    rt: &impl Abort,
-    alloc: Global,
-    all: VarSet,
-    violated: VarSet,
-) -> Result<VarSet, Fail> {
+/// Adds where a halving stands after each reply.
+fn push_halving(text: &mut String, all: VarSet, replies: &[bool]) -> Option<()> {
+    let mut next = start(all)?;
+    for (at, yes) in replies.iter().enumerate() {
+        push_stand(text, stand_of(&next), stand_after(all, replies.get(..at)?))?;
+        push_reply(text, *yes)?;
+        next = reply(next, *yes);
+    }
+    push_stand(text, stand_of(&next), stand_after(all, replies))
+}
+
+fn replies_in(alloc: Global, text: &str) -> Option<Vec<bool>> {
+    let mut replies = Vec::new(alloc);
+    for word in text.split_whitespace() {
+        replies.push(reply_in(word)?).ok()?;
+    }
+    Some(replies)
+}
+
+/// `VARIABLES by REPLIES`: what the halving of the set asks, and where it stands after the replies.
+pub(crate) fn halves(alloc: Global, arguments: &str) -> Option<String> {
+    let (all, replies) = arguments.split_once("by")?;
+    let all = set_in(all)?;
+    let replies = replies_in(alloc, replies)?;
+    let mut text = String::new(alloc);
+    push_halving(&mut text, all, &replies)?;
+    Some(text)
+}
+
+/// What is found, where a set is answered no exactly where the violated one lies within it. None where the recursion stands
+/// elsewhere, or where there is no end.
+fn found_by_both(alloc: Global, all: VarSet, violated: VarSet) -> Option<VarSet> {
     let mut replies: Vec<bool> = Vec::new(alloc);
-    let mut next = start(rt, all);
-    for _turn in 0..MOST_REPLIES {
-        let stand = stands(&next);
-        assert_eq!(rt; stands_after(rt, all, &replies), stand, "after {replies:?}");
-        match stand {
-            Ok(asked) => {
+    let mut next = start(all)?;
+    for _ in 0..MOST_REPLIES {
+        if stand_after(all, &replies) != Some(stand_of(&next)) {
+            return None;
+        }
+        match stand_of(&next) {
+            Stand::Asks(asked) => {
                 let yes = !violated.within(asked);
-                replies.push(yes)?;
+                replies.push(yes).ok()?;
                 next = reply(next, yes);
             }
-            Err(found) => return Ok(found),
+            Stand::Found(found) => return Some(found),
         }
     }
-    Err(Fail::from("it doesn't end"))
+    None
 }
 
-#[test]
-fn each_violated_set_of_seven(rt: HostRuntime) -> Result<(), Fail> {
-    let mut tried = Vec::new(rt.alloc());
-    for n in 1..8 {
-        let all = VarSet::all(n);
-        for mask in 1..1u16 << n {
-            let mut violated = VarSet::empty();
-            for v in 0..n {
-                if (mask >> v) & 1 == 1 {
-                    violated = violated.with(v);
-                }
-            }
-            let found = found_by_both(&rt, rt.alloc(), all, violated)?;
-            assert_eq!(rt; found, violated, "of {n}");
-            tried.push(found)?;
+/// `VIOLATED of COUNT`: what is found of so many variables.
+pub(crate) fn finds(alloc: Global, arguments: &str) -> Option<String> {
+    let (violated, count) = arguments.split_once("of ")?;
+    let count = count.parse::<u8>().ok()?;
+    if count > 128 {
+        return None;
+    }
+    let found = found_by_both(alloc, VarSet::all(count), set_in(violated)?)?;
+    let mut text = String::from_str(alloc, "found").ok()?;
+    push_set(&mut text, found)?;
+    Some(text)
+}
+
+/// The variables below 16 whose bits are one.
+fn set_of(mask: u32) -> VarSet {
+    let mut set = VarSet::empty();
+    for v in 0..16 {
+        if (mask >> v) & 1 == 1 {
+            set = set.with(v);
         }
     }
-    assert_eq!(rt; tried.len(), 247);
-    Ok(())
+    set
 }
 
-#[test]
-fn violated_sets_of_the_most(rt: HostRuntime) -> Result<(), Fail> {
-    let all = VarSet::all(128);
-    let rows: [VarSet; 5] = [
-        set_of(&rt, &[0]),
-        set_of(&rt, &[127]),
-        set_of(&rt, &[63, 64]),
-        set_of(&rt, &[0, 31, 64, 127]),
-        all,
-    ];
-    for violated in rows {
-        let found = found_by_both(&rt, rt.alloc(), all, violated)?;
-        assert_eq!(rt; found, violated);
+/// How many of the violated sets of so many variables are found.
+fn count_found(alloc: Global, count: u8) -> u32
+    requires { count ≤ 16 }
+{
+    let mut found = 0u32;
+    for mask in 1..1u32 << count {
+        let violated = set_of(mask);
+        if found_by_both(alloc, VarSet::all(count), violated) == Some(violated) {
+            found = found.saturating_add(1);
+        }
     }
-    Ok(())
+    found
+}
+
+/// How many variables: how many sets are found of those of so many, and of fewer.
+pub(crate) fn finds_each(alloc: Global, arguments: &str) -> Option<String> {
+    let most = arguments.parse::<u8>().ok()?;
+    if most > 16 {
+        return None;
+    }
+    let mut found = 0u32;
+    for count in 1..=most {
+        found = found.saturating_add(count_found(alloc, count));
+    }
+    format!(in alloc; "{found} found").ok()
 }

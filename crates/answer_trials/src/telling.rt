@@ -1,104 +1,89 @@
-//! Runs over two variables of the values 1 and 2, with the relations equal, unequal and never.
+//! Relations on a scope that are told apart.
 
 ghost use Rattle.std.specs.Prelude.{◌<◌, length};
 ghost use Rattle.bias_store.specs.KeptSet.{IsMadeFor};
 ghost use Rattle.find_c.specs.Run.{IsRun};
 
+use crate::sets::{push_reply, reply_in};
 use bias_store::Kept;
 use find_c::{RelNext, RelRun};
-use language::{Candidate, Language};
-use samples::{Relation, assigned};
-use std::process::Abort;
-use std::test::Fail;
+use language::Language;
+use samples::{push_question, question_in};
+use std::alloc::Global;
 
-/// What a run ends with.
-#[derive(Clone, Copy, Debug, PartialEq, Eq)]
-enum End {
-    Nothing,
-    Found(Candidate),
-    Free,
-    /// It isn't at its end.
-    Waits,
+/// Adds what a run asks about, and on which scope.
+fn push_asked(text: &mut String, lang: &Language, run: &RelRun) -> Option<()>
+    requires { IsRun lang.now run.now }
+{
+    text.push_str("asks").ok()?;
+    push_question(text, &run.wants(lang))?;
+    write!(text, " on {}", run.scope()).ok()
 }
 
-fn end_of(next: RelNext) -> End {
-    match next {
-        RelNext::Nothing => End::Nothing,
-        RelNext::Found(c) => End::Found(c),
-        RelNext::Free => End::Free,
-        RelNext::Wants(_) => End::Waits,
+/// Adds what a run ends with.
+fn push_end(text: &mut String, end: RelNext) -> Option<()> {
+    match end {
+        RelNext::Nothing => text.push_str("no choice").ok(),
+        RelNext::Found(c) => write!(text, "found {}.{}", c.scope, c.rel).ok(),
+        RelNext::Free => text.push_str("free").ok(),
+        RelNext::Wants(_) => None,
     }
 }
 
-/// The values of both variables that are asked about, and the reply.
-type Asked = (u8, u8, bool);
-
-/// What the replies lead to, each to the question that it stands beside.
-fn end_after(rt: &impl Abort, lang: &Language, begun: RelRun, replies: &[Asked]) -> End
+/// Adds what a run asks, with the replies, and what it then asks or ends with.
+fn push_run(text: &mut String, lang: &Language, begun: RelRun, replies: &str) -> Option<()>
     requires { IsRun lang.now begun }
 {
     let mut run = begun;
-    let mut taken = 0usize;
-    for (a, b, yes) in replies {
-        let question = run.wants(lang);
-        assert_eq!(rt; (question.get(0), question.get(1)), (Some(*a), Some(*b)));
-        assert_eq!(rt; run.scope(), 0);
-        taken = taken.wrapping_add(1);
-        match run.reply(lang, *yes) {
+    for word in replies.split_whitespace() {
+        let yes = reply_in(word)?;
+        push_asked(text, lang, &run)?;
+        push_reply(text, yes)?;
+        match run.reply(lang, yes) {
             RelNext::Wants(next) => run = next,
-            end => {
-                assert_eq!(rt; taken, replies.len());
-                return end_of(end);
-            }
+            end => return push_end(text, end),
         }
     }
-    End::Waits
+    push_asked(text, lang, &run)
 }
 
-/// What a run ends with that begins with an example, or with all relations and none of them.
-fn end_from(
-    rt: &impl Abort,
+/// The same of a run that begins with an example, or with all relations and none of them.
+fn push_telling(
+    text: &mut String,
     lang: &Language,
     kept: &Kept,
-    example: Option<&[u8]>,
-    replies: &[Asked],
-) -> End
+    scope: u16,
+    example: &str,
+    replies: &str,
+) -> Option<()>
     requires made { IsMadeFor lang.now kept.now }
-    requires scope { 0 < length lang.now.scopes }
+    requires scope { scope < length lang.now.scopes }
 {
-    let Some(values) = example else {
-        return match RelRun::start_free(lang, kept, 0) {
-            RelNext::Wants(run) => end_after(rt, lang, run, replies),
-            end => end_of(end),
+    if example == "free" {
+        return match RelRun::start_free(lang, kept, scope) {
+            RelNext::Wants(run) => push_run(text, lang, run, replies),
+            end => push_end(text, end),
         };
-    };
-    let example = assigned(lang, &[0, 1], values);
-    match RelRun::start(lang, kept, 0, &example) {
-        RelNext::Wants(run) => end_after(rt, lang, run, replies),
-        end => end_of(end),
+    }
+    let e = question_in(lang, example)?;
+    match RelRun::start(lang, kept, scope, &e) {
+        RelNext::Wants(run) => push_run(text, lang, run, replies),
+        end => push_end(text, end),
     }
 }
 
-#[test]
-fn relations_are_told_apart(rt: HostRuntime) -> Result<(), Fail> {
-    let relations = [("eq", 0b1001), ("ne", 0b0110), ("no", 0)].map(|(name, accepted)| Relation {
-        name,
-        arity: 2,
-        accepted,
-    });
-    let lang = samples::language(rt.alloc(), 2, 2, &relations, None)?;
-    assert_eq!(rt; lang.scopes(), 1);
-    let kept = Kept::of(rt.alloc(), &lang)?;
-    let found = |rel| End::Found(Candidate { scope: 0, rel });
-    let rows: [(Option<&[u8]>, &[Asked], End); 4] = [
-        (None, &[(0, 0, false), (0, 1, true)], found(1)),
-        (None, &[(0, 0, true), (0, 1, true)], End::Free),
-        (Some(&[0, 1]), &[(0, 0, false)], found(2)),
-        (Some(&[]), &[], End::Nothing),
-    ];
-    for (example, replies, end) in rows {
-        let is = end_from(&rt, &lang, &kept, example, replies);
-        assert_eq!(rt; is, end, "of {example:?} {replies:?}");
+/// `SCOPE free by REPLIES` or `SCOPE VALUES by REPLIES`: what is asked, and what the replies lead to.
+pub(crate) fn tells(alloc: Global, lang: &Language, arguments: &str) -> Option<String> {
+    let (begun, replies) = arguments.split_once("by")?;
+    let (scope, example) = begun.split_once(' ')?;
+    let scope = scope.parse::<u16>().ok()?;
+    if u32::from(scope) >= lang.scopes() {
+        return None;
     }
-    Ok(())
+    let Ok(kept) = Kept::of(alloc, lang) else {
+        return None;
+    };
+    let mut text = String::new(alloc);
+    push_telling(&mut text, lang, &kept, scope, example.trim(), replies)?;
+    Some(text)
 }

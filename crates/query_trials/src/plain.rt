@@ -1,7 +1,7 @@
 //! The outcome of a search by plain lists of all prefixes and of all families of sets of values.
 
 ghost use Rattle.std.specs.Prelude.{◌≤◌};
-ghost use Rattle.language.specs.Language.{IsQuestion, IsCandidate};
+ghost use Rattle.language.specs.Language.{IsQuestion};
 
 use assign::Partial;
 use fd_solver::Outcome;
@@ -9,85 +9,87 @@ use language::{Candidate, Language};
 use propagators::Constraints;
 use samples::{Numbers, Relation, assigned, is_candidate, is_within, language_within, some_ranges};
 use std::alloc::Global;
-use std::process::Abort;
-use std::test::Fail;
 
-/// The language of two relations, and of what they have in common, over n variables of d values, of which the first have
-/// these ranges: the tuple of values x and y is in a relation where its bit d x + y is one.
-pub(crate) fn language(
-    alloc: Global,
-    n: u8,
-    d: u8,
-    ranges: &[(u8, u8)],
-    first: u64,
-    second: u64,
-) -> Result<Language, Fail> {
-    let rows = [
-        ("first", first),
-        ("second", second),
-        ("both", first & second),
-    ];
-    let relations = rows.map(|(name, accepted)| Relation {
+/// The relation of two places that has the tuple of values x and y, of d values, where the bit d x + y is one.
+fn relation(name: &str, accepted: u64) -> Relation<'_> {
+    Relation {
         name,
         arity: 2,
         accepted: u128::from(accepted),
-    });
-    Ok(language_within(alloc, n, d, ranges, &relations, None)?)
+    }
 }
 
-/// Some language of two or three variables and one to three values.
-pub(crate) fn some_language(alloc: Global, numbers: &mut Numbers) -> Result<Language, Fail> {
+/// Some language of two or three variables and one to three values, with two relations and what they have in common.
+pub(crate) fn some_language(alloc: Global, numbers: &mut Numbers) -> Option<Language> {
     let n = 2 + numbers.byte_below(2);
     let d = 1 + numbers.byte_below(3);
-    let ranges = some_ranges(alloc, numbers, n, d)?;
-    language(alloc, n, d, &ranges, numbers.below(512), numbers.below(512))
+    let ranges = some_ranges(alloc, numbers, n, d).ok()?;
+    let first = numbers.below(512);
+    let second = numbers.below(512);
+    let relations = [
+        relation("first", first),
+        relation("second", second),
+        relation("both", first & second),
+    ];
+    language_within(alloc, n, d, &ranges, &relations, None).ok()
 }
 
-/// Whether a variable has a value.
-fn has_value(lang: &Language, v: u8, value: u8) -> bool {
-    v < lang.n() && is_within(lang, v, value)
-}
-
-/// Whether a question gives each variable of the candidate a value and doesn't violate it.
-fn is_satisfied(lang: &Language, c: Candidate, e: &Partial) -> bool
-    requires candidate { IsCandidate lang.now c }
-    requires question { IsQuestion lang.now e.now }
+/// Whether a question violates one that is a candidate.
+fn is_violated(lang: &Language, c: Candidate, e: &Partial) -> bool
+    requires { IsQuestion lang.now e.now }
 {
-    lang.scope(c.scope).iter().all(|v| e.get(*v).is_some()) && !lang.candidate_violated(c, e)
+    is_candidate(lang, c) && lang.candidate_violated(c, e)
+}
+
+/// Whether a question gives each variable of a candidate a value and doesn't violate it.
+fn is_satisfied(lang: &Language, c: Candidate, e: &Partial) -> bool
+    requires { IsQuestion lang.now e.now }
+{
+    is_candidate(lang, c)
+        && !lang.candidate_violated(c, e)
+        && lang.scope(c.scope).iter().all(|v| e.get(*v).is_some())
 }
 
 /// Whether a question violates a candidate of the list or satisfies the one against it.
-fn breaks(rt: &impl Abort, cons: &Constraints, e: &Partial) -> bool
-    requires question { IsQuestion cons.now.lang.now e.now }
+fn breaks(cons: &Constraints, e: &Partial) -> bool
+    requires { IsQuestion cons.now.lang.now e.now }
 {
     for c in cons.list {
-        assert!(rt; is_candidate(cons.lang, *c));
-        if cons.lang.candidate_violated(*c, e) {
+        if is_violated(cons.lang, *c, e) {
             return true;
         }
     }
-    let Some(c) = cons.against else {
-        return false;
-    };
-    assert!(rt; is_candidate(cons.lang, c));
-    is_satisfied(cons.lang, c, e)
+    match cons.against {
+        Some(c) => is_satisfied(cons.lang, c, e),
+        None => false,
+    }
+}
+
+/// A value, and then those of a list.
+fn with_front(alloc: Global, x: u8, rest: &[u8]) -> Option<Vec<u8>> {
+    let mut prefix = vec![in alloc; x].ok()?;
+    prefix.extend_from_slice(rest).ok()?;
+    Some(prefix)
+}
+
+/// The empty list, and then each value below d before each of these lists.
+fn longer(alloc: Global, list: &[Vec<u8>], d: u8) -> Option<Vec<Vec<u8>>> {
+    let mut longer = vec![in alloc; Vec::new(alloc)].ok()?;
+    for x in 0..d {
+        for rest in list {
+            longer.push(with_front(alloc, x, rest)?).ok()?;
+        }
+    }
+    Some(longer)
 }
 
 /// All lists of at most n values below d, each before its extensions, values rising.
-pub(crate) fn prefixes(alloc: Global, n: u8, d: u8) -> Result<Vec<Vec<u8>>, Fail> {
-    let mut list = vec![in alloc; Vec::new(alloc)]?;
+pub(crate) fn prefixes(alloc: Global, n: u8, d: u8) -> Option<Vec<Vec<u8>>> {
+    let mut list = vec![in alloc; Vec::new(alloc)].ok()?;
     for _ in 0..n {
-        let mut longer = vec![in alloc; Vec::new(alloc)]?;
-        for x in 0..d {
-            for rest in &list {
-                let mut prefix = vec![in alloc; x]?;
-                prefix.extend_from_slice(rest)?;
-                longer.push(prefix)?;
-            }
-        }
-        list = longer;
+        list = longer(alloc, &list, d)?;
     }
-    Ok(list)
+    Some(list)
 }
 
 /// How many nonempty sets of values there are, of one, two or three values.
@@ -140,9 +142,10 @@ fn is_supported(
     holding: bool,
     family: &[u8; 4],
     from_first: bool,
-) -> bool
-    requires candidate { IsCandidate lang.now c }
-{
+) -> bool {
+    if !is_candidate(lang, c) {
+        return false;
+    }
     let scope = lang.scope(c.scope);
     let (Some(u), Some(v)) = (scope.first(), scope.last()) else {
         return false;
@@ -164,22 +167,22 @@ fn is_supported(
     true
 }
 
+/// Whether the sets of a candidate's variables support each other.
+fn is_arc_consistent(lang: &Language, c: Candidate, holding: bool, family: &[u8; 4]) -> bool {
+    is_supported(lang, c, holding, family, true) && is_supported(lang, c, holding, family, false)
+}
+
 /// Whether a family is arc consistent.
-fn is_consistent(rt: &impl Abort, cons: &Constraints, family: &[u8; 4]) -> bool {
+fn is_consistent(cons: &Constraints, family: &[u8; 4]) -> bool {
     for c in cons.list {
-        assert!(rt; is_candidate(cons.lang, *c));
-        if !is_supported(cons.lang, *c, true, family, true)
-            || !is_supported(cons.lang, *c, true, family, false)
-        {
+        if !is_arc_consistent(cons.lang, *c, true, family) {
             return false;
         }
     }
-    let Some(c) = cons.against else {
-        return true;
-    };
-    assert!(rt; is_candidate(cons.lang, c));
-    is_supported(cons.lang, c, false, family, true)
-        && is_supported(cons.lang, c, false, family, false)
+    match cons.against {
+        Some(c) => is_arc_consistent(cons.lang, c, false, family),
+        None => true,
+    }
 }
 
 /// Whether a family has values of the variables alone, and where a question gives a value that one alone.
@@ -187,7 +190,7 @@ fn is_left(lang: &Language, family: &[u8; 4], e: &Partial) -> bool {
     for v in 0..lang.n() {
         let set = set_of(family, v);
         for x in 0..8 {
-            if has(set, x) && !has_value(lang, v, x) {
+            if has(set, x) && !is_within(lang, v, x) {
                 return false;
             }
         }
@@ -201,46 +204,50 @@ fn is_left(lang: &Language, family: &[u8; 4], e: &Partial) -> bool {
 }
 
 /// Whether some arc-consistent family lies within what a question leaves, by the plain list of all families.
-fn leaves_family(rt: &impl Abort, cons: &Constraints, e: &Partial) -> bool {
+fn leaves_family(cons: &Constraints, e: &Partial) -> bool {
     let d = cons.lang.d();
     for number in 0..families(cons.lang.n(), d) {
         let family = family(number, d);
-        if is_left(cons.lang, &family, e) && is_consistent(rt, cons, &family) {
+        if is_left(cons.lang, &family, e) && is_consistent(cons, &family) {
             return true;
         }
     }
     false
 }
 
-/// The outcome by the plain list of all prefixes.
+/// The same. None where that can't be: an arc-consistent family leaves nothing that breaks the constraints, and a complete
+/// question that leaves none breaks them.
+fn is_alive(cons: &Constraints, e: &Partial) -> Option<bool>
+    requires { IsQuestion cons.now.lang.now e.now }
+{
+    let alive = leaves_family(cons, e);
+    let broken = breaks(cons, e);
+    if alive == broken && (alive || e.is_complete()) {
+        return None;
+    }
+    Some(alive)
+}
+
+/// The outcome by the plain list of all prefixes. None where the list is at odds with itself.
 pub(crate) fn outcome_by_list(
-    rt: &impl Abort,
     cons: &Constraints,
     order: &[u8],
     all: &[Vec<u8>],
     budget: u32,
-) -> Outcome {
+) -> Option<Outcome> {
     let mut left = budget;
     for prefix in all {
-        let mut values = order.iter().zip(prefix.iter());
-        if !values.all(|(v, x)| has_value(cons.lang, *v, *x)) {
-            continue;
-        }
         let e = assigned(cons.lang, order, prefix);
-        // an arc-consistent family leaves nothing that breaks the constraints
-        let is_alive = leaves_family(rt, cons, &e);
-        assert!(rt; !is_alive || !breaks(rt, cons, &e));
-        if is_alive {
+        // a value outside its variable's range is left out
+        if usize::from(e.vars().len()) == prefix.len() && is_alive(cons, &e)? {
             if left == 0 {
-                return Outcome::Spent;
+                return Some(Outcome::Spent);
             }
             left -= 1;
-            if prefix.len() == cons.lang.n() as usize {
-                return Outcome::Found(e);
+            if e.is_complete() {
+                return Some(Outcome::Found(e));
             }
-        } else if prefix.len() == cons.lang.n() as usize {
-            assert!(rt; breaks(rt, cons, &e));
         }
     }
-    Outcome::Absent
+    Some(Outcome::Absent)
 }

@@ -1,44 +1,53 @@
-//! What is still possible beside a plain list.
+//! What is still possible, beside a plain list.
 
 ghost use Rattle.language.specs.Language.{IsQuestion};
 ghost use Rattle.bias_store.specs.KeptSet.{IsMadeFor};
 
+use crate::tally::Tally;
 use assign::Partial;
 use bias_store::Kept;
 use language::{Candidate, Language};
-use samples::{Numbers, Relation, question};
+use rows::number;
+use samples::{Numbers, question, question_in};
 use std::alloc::Global;
-use std::process::Abort;
-use std::test::Fail;
+use std::str::SplitWhitespace;
 
-/// Relations of two values, as they stand on a scope, and which of the tuples 22, 21, 12 and 11 each accepts.
-const RELATIONS: [(&str, u8); 7] = [
-    ("le", 0b1011),
-    ("ge", 0b1101),
-    ("eq", 0b1001),
-    ("ne", 0b0110),
-    ("lt", 0b0010),
-    ("gt", 0b0100),
-    ("none", 0b0000),
-];
-
-/// The language of these relations over n variables.
-fn language(alloc: Global, n: u8) -> Result<Language, Fail> {
-    let relations = RELATIONS.map(|(name, accepted)| Relation {
-        name,
-        arity: 2,
-        accepted: u128::from(accepted),
-    });
-    Ok(samples::language(alloc, n, 2, &relations, None)?)
+/// Strikes a question, and adds whether it strikes any, how many, and how many candidates are left.
+fn push_strike(text: &mut String, lang: &Language, kept: &mut Kept, q: &Partial) -> Option<()>
+    requires made { IsMadeFor lang.now kept.old }
+    requires question { IsQuestion lang.now q.now }
+    ensures { IsMadeFor lang.now kept.new }
+{
+    let some = if kept.strikes_any(lang, q) {
+        "some"
+    } else {
+        "none"
+    };
+    let struck = kept.strike(lang, q);
+    write!(text, "\n{some}, {struck} struck, {} possible", kept.len()).ok()
 }
 
-/// A candidate of the plain list, with the variables of its scope.
-#[derive(Clone, Copy, Debug)]
+/// Values of the variables: what they strike of all candidates, and then once more.
+pub(crate) fn strikes(alloc: Global, lang: &Language, arguments: &str) -> Option<String> {
+    let q = question_in(lang, arguments)?;
+    let Ok(mut kept) = Kept::of(alloc, lang) else {
+        return None;
+    };
+    let mut text = format!(in alloc; "{} possible", kept.len()).ok()?;
+    push_strike(&mut text, lang, &mut kept, &q)?;
+    push_strike(&mut text, lang, &mut kept, &q)?;
+    Some(text)
+}
+
+/// A candidate of the plain list, of two variables with two values: the bits of `accepted` are one for the tuples that it
+/// accepts of 22, 21, 12 and 11.
+#[derive(Clone, Copy)]
 struct Plain {
     scope: u16,
+    rel: u8,
     first: u8,
     second: u8,
-    rel: u8,
+    accepted: u8,
 }
 
 impl Plain {
@@ -47,160 +56,168 @@ impl Plain {
             return false;
         };
         let place = u32::from(x) * 2 + u32::from(y);
-        match RELATIONS.get(usize::from(self.rel)) {
-            Some(relation) => place < 8 && (relation.1 >> place) & 1 == 0,
-            None => false,
-        }
+        place < 8 && (self.accepted >> place) & 1 == 0
     }
 }
 
-/// All candidates, by pairs of variables in lexicographic order and then by relation.
-fn all(alloc: Global, n: u8) -> Result<Vec<Plain>, Fail> {
+/// What each relation accepts, as the bits of `Plain`.
+fn truths_in(alloc: Global, words: SplitWhitespace<'_>) -> Option<Vec<u8>> {
+    let mut truths = Vec::new(alloc);
+    for word in words {
+        truths.push(u8::from_str_radix(word, 2).ok()?).ok()?;
+    }
+    Some(truths)
+}
+
+/// All candidates, by pairs of n variables in lexicographic order and then by relation.
+fn all(alloc: Global, n: u8, truths: &[u8]) -> Option<Vec<Plain>> {
     let mut list = Vec::new(alloc);
     let mut scope = 0u16;
     for first in 0..n {
         for second in first + 1..n {
-            for rel in 0..7 {
-                list.push(Plain {
-                    scope,
-                    first,
-                    second,
-                    rel,
-                })?;
-            }
+            push_scope(&mut list, scope, first, second, truths)?;
             scope = scope.wrapping_add(1);
         }
     }
-    Ok(list)
+    Some(list)
 }
 
-/// Holds the store against the list, at each candidate and past them.
-fn compare(rt: &impl Abort, lang: &Language, kept: &Kept, list: &[Plain], number: u64)
+/// Adds the candidates on a pair.
+fn push_scope(
+    list: &mut Vec<Plain>,
+    scope: u16,
+    first: u8,
+    second: u8,
+    truths: &[u8],
+) -> Option<()> {
+    let mut rel = 0u8;
+    for accepted in truths {
+        list.push(Plain {
+            scope,
+            rel,
+            first,
+            second,
+            accepted: *accepted,
+        })
+        .ok()?;
+        rel = rel.wrapping_add(1);
+    }
+    Some(())
+}
+
+/// Whether the candidates on a scope are those of the list.
+fn is_scope_listed(kept: &Kept, list: &[Plain], scope: u16) -> bool {
+    for rel in 0..64 {
+        let is_listed = list.iter().any(|c| c.scope == scope && c.rel == rel);
+        if kept.is_kept(Candidate { scope, rel }) != is_listed {
+            return false;
+        }
+    }
+    true
+}
+
+/// The mask of the relations that are listed on a scope.
+fn mask_of(list: &[Plain], scope: u16) -> u64 {
+    let mut mask = 0;
+    for c in list {
+        if c.scope == scope && c.rel < 64 {
+            mask |= 1u64 << c.rel;
+        }
+    }
+    mask
+}
+
+/// Whether the store has the candidates of the list and no other, and none past the last scope.
+fn is_listed(lang: &Language, kept: &Kept, list: &[Plain]) -> bool
     requires { IsMadeFor lang.now kept.now }
 {
-    assert_eq!(rt; kept.len() as usize, list.len(), "at {number}");
     for scope in 0..lang.scopes() as u16 {
-        let mut mask = 0;
-        for rel in 0..8 {
-            let is_kept = list.iter().any(|c| c.scope == scope && c.rel == rel);
-            assert_eq!(rt;
-                kept.is_kept(Candidate { scope, rel }),
-                is_kept,
-                "at {number}, {scope} {rel}"
-            );
-            if is_kept {
-                mask |= 1u64 << rel;
-            }
+        if !is_scope_listed(kept, list, scope) || kept.on_scope(scope) != mask_of(list, scope) {
+            return false;
         }
-        assert_eq!(rt; kept.on_scope(scope), mask, "at {number}, {scope}");
     }
-    let past = lang.scopes() as u16;
-    assert!(rt;
-        !kept.is_kept(Candidate {
-            scope: past,
-            rel: 0
-        })
-    );
+    let past = Candidate {
+        scope: lang.scopes() as u16,
+        rel: 0,
+    };
+    kept.len() as usize == list.len() && !kept.is_kept(past)
 }
 
-/// Strikes the question in both.
-fn strike(
-    rt: &impl Abort,
-    lang: &Language,
-    kept: &mut Kept,
-    list: &mut Vec<Plain>,
-    q: &Partial,
-    number: u64,
-)
+/// Strikes a question in both. Whether they then are the same.
+fn strike(lang: &Language, kept: &mut Kept, list: &mut Vec<Plain>, q: &Partial) -> bool
     requires made { IsMadeFor lang.now kept.old }
     requires question { IsQuestion lang.now q.now }
     ensures { IsMadeFor lang.now kept.new }
 {
     let violated = list.iter().filter(|c| c.is_violated(q)).count();
-    assert_eq!(rt; kept.strikes_any(lang, q), violated != 0, "at {number}");
-    assert_eq!(rt; kept.strike(lang, q) as usize, violated, "at {number}");
+    let strikes_any = kept.strikes_any(lang, q);
+    let struck = kept.strike(lang, q) as usize;
     list.retain(|c| !c.is_violated(q));
-    compare(rt, lang, kept, list, number);
+    strikes_any == (violated != 0) && struck == violated && is_listed(lang, kept, list)
 }
 
-/// Drops a scope in both.
-fn drop_scope(
-    rt: &impl Abort,
-    lang: &Language,
-    kept: &mut Kept,
-    list: &mut Vec<Plain>,
-    scope: u16,
-    number: u64,
-)
+/// Drops a scope in both. Whether they then are the same.
+fn drop_scope(lang: &Language, kept: &mut Kept, list: &mut Vec<Plain>, scope: u16) -> bool
     requires { IsMadeFor lang.now kept.old }
     ensures { IsMadeFor lang.now kept.new }
 {
-    assert!(rt; u32::from(scope) < lang.scopes());
+    if u32::from(scope) >= lang.scopes() {
+        return false;
+    }
     kept.drop_scope(scope);
     list.retain(|c| c.scope != scope);
-    compare(rt, lang, kept, list, number);
+    is_listed(lang, kept, list)
 }
 
-/// Some strikes of questions and drops of scopes.
+/// Strikes of some questions and drops of some scopes, from all candidates on.
 fn round(
-    rt: &impl Abort,
     lang: &Language,
     kept: &mut Kept,
     list: &mut Vec<Plain>,
     numbers: &mut Numbers,
-    number: u64,
+    tally: &mut Tally,
 )
     requires { IsMadeFor lang.now kept.old }
     ensures { IsMadeFor lang.now kept.new }
 {
+    kept.reset(lang);
+    tally.take(is_listed(lang, kept, list));
+    let questions = 1u64 << lang.n().min(31);
     'steps: for _ in 0..8 {
-        let asked = numbers.below(64);
-        let values = numbers.below(64);
+        let asked = numbers.below(questions);
+        let values = numbers.below(questions);
         let q = question(lang, u128::from(asked), u128::from(values));
-        strike(rt, lang, kept, list, &q, number);
-        let scope = u16::from(numbers.byte_below(15));
-        drop_scope(rt, lang, kept, list, scope, number);
+        tally.take(strike(lang, kept, list, &q));
+        let scope = numbers.below(u64::from(lang.scopes())) as u16;
+        tally.take(drop_scope(lang, kept, list, scope));
     }
 }
 
-/// Rounds that each begin with all candidates of six variables.
-fn rounds(rt: &impl Abort, alloc: Global, lang: &Language, kept: &mut Kept) -> Result<(), Fail>
+/// So many rounds.
+fn rounds(
+    alloc: Global,
+    lang: &Language,
+    kept: &mut Kept,
+    truths: &[u8],
+    numbers: &mut Numbers,
+    count: u32,
+) -> Option<Tally>
     requires { IsMadeFor lang.now kept.old }
 {
-    let mut numbers = Numbers::new(1);
-    for number in 0..40 {
-        kept.reset(lang);
-        let mut list = all(alloc, 6)?;
-        compare(rt, lang, kept, &list, number);
-        round(rt, lang, kept, &mut list, &mut numbers, number);
+    let mut tally = Tally::new();
+    for _ in 0..count {
+        let mut list = all(alloc, lang.n(), truths)?;
+        round(lang, kept, &mut list, numbers, &mut tally);
     }
-    Ok(())
+    Some(tally)
 }
 
-#[test]
-fn as_a_plain_list(rt: HostRuntime) -> Result<(), Fail> {
-    let lang = language(rt.alloc(), 6)?;
-    let mut kept = Kept::of(rt.alloc(), &lang)?;
-    rounds(&rt, rt.alloc(), &lang, &mut kept)
-}
-
-/// Strikes by the value 1 for each variable, which le, ge and eq accept, and then by the same again.
-fn strikes_of_the_most(rt: &impl Abort, lang: &Language, kept: &mut Kept)
-    requires { IsMadeFor lang.now kept.old }
-{
-    let q = question(lang, u128::MAX, 0);
-    for struck in [32_512, 0] {
-        assert_eq!(rt; kept.strikes_any(lang, &q), struck != 0);
-        assert_eq!(rt; kept.strike(lang, &q), struck);
-        assert_eq!(rt; kept.len(), 24_384);
-    }
-}
-
-#[test]
-fn all_candidates_of_128_variables(rt: HostRuntime) -> Result<(), Fail> {
-    let lang = language(rt.alloc(), 128)?;
-    let mut kept = Kept::of(rt.alloc(), &lang)?;
-    assert_eq!(rt; kept.len(), 56_896);
-    strikes_of_the_most(&rt, &lang, &mut kept);
-    Ok(())
+/// A first number, how many rounds, and what each relation accepts.
+pub(crate) fn random(alloc: Global, lang: &Language, arguments: &str) -> Option<String> {
+    let mut words = arguments.split_whitespace();
+    let mut numbers = Numbers::new(number(&mut words)?);
+    let count = number(&mut words)?;
+    let truths = truths_in(alloc, words)?;
+    let mut kept = Kept::of(alloc, lang).ok()?;
+    rounds(alloc, lang, &mut kept, &truths, &mut numbers, count)?.text(alloc)
 }

@@ -1,4 +1,4 @@
-//! Known questions, and next questions beside those that plain lists of all prefixes and of all families of sets of values give.
+//! The next question, and random ones beside those of the plain lists of all prefixes and of all families of sets of values.
 
 ghost use Rattle.std.specs.Prelude.{◌≡◌, ◌≤◌, length};
 ghost use Rattle.language.specs.Language.{IsQuestion};
@@ -6,7 +6,8 @@ ghost use Rattle.language.specs.Answers.{IsNetwork, has_scope};
 ghost use Rattle.bias_store.specs.KeptSet.{IsMadeFor as IsKeptOf};
 ghost use Rattle.query_gen.specs.Marks.{IsMadeFor, MarksHold};
 
-use crate::plain::{language, outcome_by_list, prefixes, some_language};
+use crate::plain::{outcome_by_list, prefixes, some_language};
+use crate::tally::Tally;
 use assign::Partial;
 use bias_store::Kept;
 use fd_solver::{Outcome, Work};
@@ -14,70 +15,99 @@ use language::{Candidate, Language};
 use network::Network;
 use propagators::Constraints;
 use query_gen::{Place, Query, Screen, next_query};
-use samples::{Numbers, assigned, is_candidate, is_within};
+use rows::{end, number};
+use samples::{Numbers, is_candidate, is_within, push_question};
 use std::alloc::Global;
-use std::process::Abort;
-use std::test::Fail;
+
+/// The variables of a scope, and then the others of n.
+fn order_from(alloc: Global, scope: &[u8], n: u8) -> Option<Vec<u8>> {
+    let mut order = scope.to_vec(alloc).ok()?;
+    for v in 0..n {
+        if !order.contains(&v) {
+            order.push(v).ok()?;
+        }
+    }
+    Some(order)
+}
 
 /// The outcome of a candidate by the plain list, where its scope comes first in the order.
 fn outcome_of(
-    rt: &impl Abort,
     alloc: Global,
     lang: &Language,
     learned: &[Candidate],
     c: Candidate,
     all: &[Vec<u8>],
     budget: u32,
-) -> Result<Outcome, Fail> {
-    assert!(rt; is_candidate(lang, c));
-    let mut order = Vec::new(alloc);
-    order.extend_from_slice(lang.scope(c.scope))?;
-    for v in 0..lang.n() {
-        if !order.contains(&v) {
-            order.push(v)?;
-        }
+) -> Option<Outcome> {
+    if !is_candidate(lang, c) {
+        return None;
     }
+    let order = order_from(alloc, lang.scope(c.scope), lang.n())?;
     let cons = Constraints {
         lang,
         list: learned,
         against: Some(c),
     };
-    Ok(outcome_by_list(rt, &cons, &order, all, budget))
+    outcome_by_list(&cons, &order, all, budget)
 }
 
-/// The next question by the plain list, beside the open candidates.
-fn query_by_list(
-    rt: &impl Abort,
+/// The outcomes of the possible candidates by the plain list, up to the first that is found.
+fn outcomes_by_list(
     alloc: Global,
     lang: &Language,
     kept: &Kept,
     learned: &[Candidate],
     all: &[Vec<u8>],
     budget: u32,
-) -> Result<(Query, Vec<Candidate>), Fail> {
-    let mut open = Vec::new(alloc);
+) -> Option<Vec<(Candidate, Outcome)>> {
+    let mut list = Vec::new(alloc);
     for scope in 0..lang.scopes() as u16 {
         for rel in 0..4 {
             let c = Candidate { scope, rel };
             if kept.is_kept(c) {
-                match outcome_of(rt, alloc, lang, learned, c, all, budget)? {
-                    Outcome::Found(e) => return Ok((Query::Ask(e), open)),
-                    Outcome::Absent => {}
-                    Outcome::Spent => open.push(c)?,
+                let outcome = outcome_of(alloc, lang, learned, c, all, budget)?;
+                let is_found = matches!(&outcome, Outcome::Found(_));
+                list.push((c, outcome)).ok()?;
+                if is_found {
+                    return Some(list);
                 }
             }
         }
     }
-    if open.is_empty() {
-        Ok((Query::AllImplied, open))
-    } else {
-        Ok((Query::Undecided, open))
-    }
+    Some(list)
 }
 
-/// Holds the next question, and what is open where there is none, against the plain list.
+/// The next question by these outcomes.
+fn query_by_list(listed: &[(Candidate, Outcome)]) -> Query {
+    let mut query = Query::AllImplied;
+    for (_, outcome) in listed {
+        match outcome {
+            Outcome::Found(e) => return Query::Ask(*e),
+            Outcome::Absent => {}
+            Outcome::Spent => query = Query::Undecided,
+        }
+    }
+    query
+}
+
+/// Whether the candidates are open whose search was spent by these outcomes, and no others.
+fn is_open_as_listed(lang: &Language, screen: &Screen, listed: &[(Candidate, Outcome)]) -> bool {
+    for scope in 0..lang.scopes() as u16 {
+        for rel in 0..4 {
+            let c = Candidate { scope, rel };
+            let is_spent = listed
+                .iter()
+                .any(|(d, outcome)| *d == c && *outcome == Outcome::Spent);
+            if is_candidate(lang, c) && screen.is_open(c) != is_spent {
+                return false;
+            }
+        }
+    }
+    true
+}
+
+/// The next question, and whether it, and what is open where nothing is decided, are those of the plain list.
 fn compare(
-    rt: &impl Abort,
     alloc: Global,
     work: &mut Work,
     screen: &mut Screen,
@@ -86,7 +116,7 @@ fn compare(
     net: &Network,
     budget: u32,
     all: &[Vec<u8>],
-) -> Result<Query, Fail>
+) -> Option<(Query, bool)>
     requires screen { IsMadeFor lang.now screen.old }
     requires marks { MarksHold lang.now net.now.list budget screen.old }
     requires kept { IsKeptOf lang.now kept.now }
@@ -97,19 +127,11 @@ fn compare(
     ensures marks { MarksHold lang.now net.now.list budget screen.new }
 {
     let query = next_query(work, screen, lang, kept, net, budget);
-    let (expected, open) = query_by_list(rt, alloc, lang, kept, net.list(), all, budget)?;
-    assert_eq!(rt; query, expected, "budget {budget}");
-    if query == Query::Undecided {
-        for scope in 0..lang.scopes() as u16 {
-            for rel in 0..4 {
-                let c = Candidate { scope, rel };
-                if is_candidate(lang, c) {
-                    assert_eq!(rt; screen.is_open(c), open.contains(&c), "{c:?}");
-                }
-            }
-        }
-    }
-    Ok(query)
+    let listed = outcomes_by_list(alloc, lang, kept, net.list(), all, budget)?;
+    let is_decided = query != Query::Undecided;
+    let is_same = query == query_by_list(&listed)
+        && (is_decided || is_open_as_listed(lang, screen, &listed));
+    Some((query, is_same))
 }
 
 /// Whether something is learned on a scope.
@@ -215,7 +237,6 @@ fn read(lang: &Language, e: &Partial) -> Partial
 
 /// A few questions with one screen, and what changes between them.
 fn turns(
-    rt: &impl Abort,
     alloc: Global,
     numbers: &mut Numbers,
     screen: &mut Screen,
@@ -224,7 +245,8 @@ fn turns(
     net: &mut Network,
     budget: u32,
     all: &[Vec<u8>],
-) -> Result<(), Fail>
+    tally: &mut Tally,
+) -> Option<()>
     requires screen { IsMadeFor lang.now screen.old }
     requires marks { MarksHold lang.now net.old.list budget screen.old }
     requires kept { IsKeptOf lang.now kept.old }
@@ -233,85 +255,131 @@ fn turns(
     requires some_budget { 1 ≤ budget }
     requires small_budget { budget ≤ 1000000000 }
 {
-    let mut work = Work::new(alloc, lang)?;
+    let mut work = Work::new(alloc, lang).ok()?;
     'turns: for _ in 0..6 {
-        let query = compare(rt, alloc, &mut work, screen, lang, kept, net, budget, all)?;
+        let (query, is_same) = compare(alloc, &mut work, screen, lang, kept, net, budget, all)?;
+        tally.take(is_same);
         change(numbers, screen, lang, kept, net, budget, query);
     }
-    Ok(())
+    Some(())
 }
 
-/// A few questions over some language.
-fn session(rt: &impl Abort, alloc: Global, numbers: &mut Numbers) -> Result<(), Fail> {
-    let lang = some_language(alloc, numbers)?;
-    let all = prefixes(alloc, lang.n(), lang.d())?;
-    let budget = 1 + numbers.below(8) as u32;
-    let mut screen = Screen::new(alloc, &lang)?;
-    let mut kept = Kept::of(alloc, &lang)?;
-    let mut net = Network::new(alloc, &lang)?;
-    turns(
-        rt,
-        alloc,
-        numbers,
-        &mut screen,
-        &lang,
-        &mut kept,
-        &mut net,
-        budget,
-        &all,
-    )
-}
-
-#[test]
-fn as_the_plain_list(rt: HostRuntime) -> Result<(), Fail> {
-    let mut numbers = Numbers::new(1);
-    for _ in 0..300 {
-        session(&rt, rt.alloc(), &mut numbers)?;
-    }
-    Ok(())
-}
-
-/// A row: with this budget v0=1 v1=2 is asked, or nothing is decided and all three candidates are open.
-fn has_first_question(
-    rt: &impl Abort,
+/// The same from all candidates on, with nothing learned or marked.
+fn begun(
     alloc: Global,
+    numbers: &mut Numbers,
     lang: &Language,
+    kept: &mut Kept,
     budget: u32,
-    is_asked: bool,
-) -> Result<(), Fail>
+    all: &[Vec<u8>],
+    tally: &mut Tally,
+) -> Option<()>
+    requires kept { IsKeptOf lang.now kept.old }
     requires some_budget { 1 ≤ budget }
     requires small_budget { budget ≤ 1000000000 }
 {
-    let mut work = Work::new(alloc, lang)?;
-    let mut screen = Screen::new(alloc, lang)?;
-    let kept = Kept::of(alloc, lang)?;
-    let net = Network::new(alloc, lang)?;
-    let query = next_query(&mut work, &mut screen, lang, &kept, &net, budget);
-    let expected = if is_asked {
-        Query::Ask(assigned(lang, &[0, 1], &[0, 1]))
-    } else {
-        Query::Undecided
-    };
-    assert_eq!(rt; query, expected, "budget {budget}");
-    for rel in 0..3 {
-        let is_open = screen.is_open(Candidate { scope: 0, rel });
-        assert_eq!(rt; is_open, !is_asked, "{rel} at {budget}");
-    }
-    assert!(rt; !screen.is_open(Candidate { scope: 1, rel: 0 }));
-    Ok(())
+    let mut screen = Screen::new(alloc, lang).ok()?;
+    let mut net = Network::new(alloc, lang).ok()?;
+    take_back(&mut screen, lang, kept, &mut net, budget);
+    turns(
+        alloc,
+        numbers,
+        &mut screen,
+        lang,
+        kept,
+        &mut net,
+        budget,
+        all,
+        tally,
+    )
 }
 
-#[test]
-fn first_questions(rt: HostRuntime) -> Result<(), Fail> {
-    let alloc = rt.alloc();
-    // eq accepts the places 0 and 3, ne the places 1 and 2
-    let lang = language(alloc, 2, 2, &[], 0b1001, 0b0110)?;
-    has_first_question(&rt, alloc, &lang, 1, false)?;
-    has_first_question(&rt, alloc, &lang, 2, false)?;
-    has_first_question(&rt, alloc, &lang, 3, true)?;
-    has_first_question(&rt, alloc, &lang, 1_000_000_000, true)?;
-    // a bit for each of three candidates
-    let place = Place::new(alloc, &lang)?;
-    assert_eq!(rt; place.marks.len(), 1);
-    Ok(())
+/// The same over some language.
+fn session(alloc: Global, numbers: &mut Numbers, tally: &mut Tally) -> Option<()> {
+    let lang = some_language(alloc, numbers)?;
+    let all = prefixes(alloc, lang.n(), lang.d())?;
+    let budget = 1 + numbers.below(8) as u32;
+    let Ok(mut kept) = Kept::of(alloc, &lang) else {
+        return None;
+    };
+    begun(alloc, numbers, &lang, &mut kept, budget, &all, tally)
+}
+
+/// A first number, and how many languages: so many questions beside the plain list.
+pub(crate) fn random(alloc: Global, arguments: &str) -> Option<String> {
+    let mut words = arguments.split_whitespace();
+    let mut numbers = Numbers::new(number(&mut words)?);
+    let count = number::<u32>(&mut words)?;
+    end(&mut words)?;
+    let mut tally = Tally::new();
+    for _ in 0..count {
+        session(alloc, &mut numbers, &mut tally)?;
+    }
+    tally.text(alloc)
+}
+
+/// Adds the open ones of the first relations on a scope.
+fn push_open(text: &mut String, screen: &Screen, scope: u16, relations: u8) -> Option<()> {
+    for rel in 0..relations {
+        if screen.is_open(Candidate { scope, rel }) {
+            write!(text, ", {scope}.{rel} open").ok()?;
+        }
+    }
+    Some(())
+}
+
+/// A question, and the candidates that are open, a scope past the last one included.
+fn push_query(text: &mut String, lang: &Language, screen: &Screen, query: &Query) -> Option<()> {
+    match query {
+        Query::Ask(e) => {
+            text.push_str("asks").ok()?;
+            push_question(text, e)?;
+        }
+        Query::AllImplied => text.push_str("all implied").ok()?,
+        Query::Undecided => text.push_str("undecided").ok()?,
+    }
+    for scope in 0..lang.scopes() as u16 {
+        push_open(text, screen, scope, lang.relations_on(scope))?;
+    }
+    push_open(text, screen, lang.scopes() as u16, 1)
+}
+
+/// The first question over all candidates.
+fn push_first(
+    alloc: Global,
+    text: &mut String,
+    work: &mut Work,
+    lang: &Language,
+    kept: &Kept,
+    budget: u32,
+) -> Option<()>
+    requires kept { IsKeptOf lang.now kept.now }
+    requires some_budget { 1 ≤ budget }
+    requires small_budget { budget ≤ 1000000000 }
+{
+    let mut screen = Screen::new(alloc, lang).ok()?;
+    let net = Network::new(alloc, lang).ok()?;
+    let query = next_query(work, &mut screen, lang, kept, &net, budget);
+    push_query(text, lang, &screen, &query)
+}
+
+/// A budget: the first question over all candidates.
+pub(crate) fn first(alloc: Global, lang: &Language, arguments: &str) -> Option<String> {
+    let budget = arguments.parse::<u32>().ok()?;
+    if budget == 0 || budget > 1_000_000_000 {
+        return None;
+    }
+    let mut work = Work::new(alloc, lang).ok()?;
+    let Ok(kept) = Kept::of(alloc, lang) else {
+        return None;
+    };
+    let mut text = String::new(alloc);
+    push_first(alloc, &mut text, &mut work, lang, &kept, budget)?;
+    Some(text)
+}
+
+/// How many marks a part of the candidates has.
+pub(crate) fn marks(alloc: Global, lang: &Language) -> Option<String> {
+    let place = Place::new(alloc, lang).ok()?;
+    format!(in alloc; "{}", place.marks.len()).ok()
 }

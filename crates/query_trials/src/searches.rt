@@ -1,17 +1,17 @@
-//! Known searches, and searches beside the plain lists of all prefixes and of all families of sets of values.
+//! Searches, and random ones beside the plain lists of all prefixes and of all families of sets of values.
 
 ghost use Rattle.std.specs.Prelude.{◌≡◌, ◌≢◌, true, AllPairs};
 ghost use Rattle.language.specs.Answers.{IsNetwork};
 ghost use Rattle.fd_solver.specs.Outcomes.{IsOrder};
 
-use crate::plain::{language, outcome_by_list, prefixes, some_language};
+use crate::plain::{outcome_by_list, prefixes, some_language};
+use crate::tally::Tally;
 use fd_solver::{Outcome, Work, search};
 use language::{Candidate, Language};
 use propagators::Constraints;
-use samples::{Numbers, assigned, is_candidate};
+use rows::{end, number};
+use samples::{Numbers, is_candidate, push_question};
 use std::alloc::Global;
-use std::process::Abort;
-use std::test::Fail;
 
 /// Whether these are candidates.
 fn is_network(lang: &Language, list: &[Candidate]) -> bool
@@ -47,21 +47,17 @@ fn is_order(n: u8, order: &[u8]) -> bool
     order.len() == n as usize && are_apart(order)
 }
 
-/// What a search ends with, where these are constraints and an order.
-fn outcome(
-    rt: &impl Abort,
-    work: &mut Work,
-    cons: &Constraints,
-    order: &[u8],
-    budget: u32,
-) -> Outcome {
-    assert!(rt; is_network(cons.lang, cons.list));
-    if let Some(c) = cons.against {
-        assert!(rt; is_candidate(cons.lang, c));
+/// What a search ends with. None where these are no constraints, no order or no budget.
+fn outcome(work: &mut Work, cons: &Constraints, order: &[u8], budget: u32) -> Option<Outcome> {
+    if !is_network(cons.lang, cons.list) || !is_order(cons.lang.n(), order) || budget == 0 {
+        return None;
     }
-    assert!(rt; is_order(cons.lang.n(), order));
-    assert!(rt; budget >= 1);
-    search(work, cons, order, budget)
+    if let Some(c) = cons.against
+        && !is_candidate(cons.lang, c)
+    {
+        return None;
+    }
+    Some(search(work, cons, order, budget))
 }
 
 /// Some candidate, where the language has the relation.
@@ -74,117 +70,154 @@ fn some_candidate(numbers: &mut Numbers, lang: &Language) -> Option<Candidate> {
 }
 
 /// Some candidates.
-fn some_network(
-    alloc: Global,
-    numbers: &mut Numbers,
-    lang: &Language,
-) -> Result<Vec<Candidate>, Fail> {
+fn some_network(alloc: Global, numbers: &mut Numbers, lang: &Language) -> Option<Vec<Candidate>> {
     let mut list = Vec::new(alloc);
     for _ in 0..numbers.below(6) {
         if let Some(c) = some_candidate(numbers, lang) {
-            list.push(c)?;
+            list.push(c).ok()?;
         }
     }
-    Ok(list)
+    Some(list)
 }
 
 /// Some order of n variables.
-fn some_order(alloc: Global, numbers: &mut Numbers, n: u8) -> Result<Vec<u8>, Fail> {
+fn some_order(alloc: Global, numbers: &mut Numbers, n: u8) -> Option<Vec<u8>> {
     let mut order = Vec::new(alloc);
     for v in 0..n {
         let at = numbers.below(u64::from(v) + 1) as usize;
         if at <= order.len() {
-            order.insert(at, v)?;
+            order.insert(at, v).ok()?;
         }
     }
-    Ok(order)
+    Some(order)
 }
 
-/// Searches of some constraints over some language, beside the plain list.
-fn round(rt: &impl Abort, alloc: Global, numbers: &mut Numbers, at: u32) -> Result<(), Fail> {
+/// A search of some constraints, beside the plain list.
+fn try_search(
+    alloc: Global,
+    numbers: &mut Numbers,
+    work: &mut Work,
+    lang: &Language,
+    order: &[u8],
+    all: &[Vec<u8>],
+    tally: &mut Tally,
+) -> Option<()> {
+    let list = some_network(alloc, numbers, lang)?;
+    let cons = Constraints {
+        lang,
+        list: &list,
+        against: some_candidate(numbers, lang),
+    };
+    let budget = 1 + numbers.below(12) as u32;
+    let found = outcome(work, &cons, order, budget);
+    let listed = outcome_by_list(&cons, order, all, budget);
+    tally.take(found.is_some() && found == listed);
+    Some(())
+}
+
+/// Four searches.
+fn try_searches(
+    alloc: Global,
+    numbers: &mut Numbers,
+    lang: &Language,
+    order: &[u8],
+    all: &[Vec<u8>],
+    tally: &mut Tally,
+) -> Option<()> {
+    let mut work = Work::new(alloc, lang).ok()?;
+    for _ in 0..4 {
+        try_search(alloc, numbers, &mut work, lang, order, all, tally)?;
+    }
+    Some(())
+}
+
+/// The same over some language.
+fn round(alloc: Global, numbers: &mut Numbers, tally: &mut Tally) -> Option<()> {
     let lang = some_language(alloc, numbers)?;
-    let mut work = Work::new(alloc, &lang)?;
     let all = prefixes(alloc, lang.n(), lang.d())?;
     let order = some_order(alloc, numbers, lang.n())?;
-    for _ in 0..4 {
-        let list = some_network(alloc, numbers, &lang)?;
-        let cons = Constraints {
-            lang: &lang,
-            list: &list,
-            against: some_candidate(numbers, &lang),
-        };
-        let budget = 1 + numbers.below(12) as u32;
-        assert_eq!(rt;
-            outcome(rt, &mut work, &cons, &order, budget),
-            outcome_by_list(rt, &cons, &order, &all, budget),
-            "round {at}"
-        );
-    }
-    Ok(())
+    try_searches(alloc, numbers, &lang, &order, &all, tally)
 }
 
-#[test]
-fn as_the_plain_list(rt: HostRuntime) -> Result<(), Fail> {
-    let mut numbers = Numbers::new(1);
-    for at in 0..300 {
-        round(&rt, rt.alloc(), &mut numbers, at)?;
+/// A first number, and how many languages: so many searches beside the plain list.
+pub(crate) fn random(alloc: Global, arguments: &str) -> Option<String> {
+    let mut words = arguments.split_whitespace();
+    let mut numbers = Numbers::new(number(&mut words)?);
+    let count = number::<u32>(&mut words)?;
+    end(&mut words)?;
+    let mut tally = Tally::new();
+    for _ in 0..count {
+        round(alloc, &mut numbers, &mut tally)?;
     }
-    Ok(())
+    tally.text(alloc)
 }
 
-/// What holds, what is against it, an order, a budget, and what the search ends with.
-type Row<'a> = (&'a [Candidate], Option<Candidate>, &'a [u8], u32, Outcome);
-
-/// The searches over a language end so.
-fn check_rows(rt: &impl Abort, alloc: Global, lang: &Language, rows: &[Row]) -> Result<(), Fail> {
-    for (list, against, order, budget, expected) in rows {
-        let mut work = Work::new(alloc, lang)?;
-        let cons = Constraints {
-            lang,
-            list,
-            against: *against,
-        };
-        let found = outcome(rt, &mut work, &cons, order, *budget);
-        assert_eq!(rt; found, *expected, "{list:?} {against:?} {budget}");
-    }
-    Ok(())
+/// The candidate `SCOPE.RELATION`, both by their numbers.
+fn candidate_in(word: &str) -> Option<Candidate> {
+    let (scope, rel) = word.split_once('.')?;
+    Some(Candidate {
+        scope: scope.parse().ok()?,
+        rel: rel.parse().ok()?,
+    })
 }
 
-#[test]
-fn known_searches(rt: HostRuntime) -> Result<(), Fail> {
-    let alloc = rt.alloc();
-    // eq accepts the places 0 and 3, ne the places 1 and 2
-    let [eq, ne, both] = [0, 1, 2];
-    let on = |scope, rel| Candidate { scope, rel };
+fn candidates_in(alloc: Global, text: &str) -> Option<Vec<Candidate>> {
+    let mut list = Vec::new(alloc);
+    for word in text.split_whitespace() {
+        list.push(candidate_in(word)?).ok()?;
+    }
+    Some(list)
+}
 
-    // with v0=1 v1=1, the third prefix, the candidate that accepts nothing isn't satisfied
-    let two = language(alloc, 2, 2, &[], 0b1001, 0b0110)?;
-    let first = assigned(&two, &[0, 1], &[0, 0]);
-    let rows: [Row; 2] = [
-        (&[], Some(on(0, both)), &[0, 1], 3, Outcome::Found(first)),
-        (&[], Some(on(0, both)), &[0, 1], 2, Outcome::Spent),
-    ];
-    check_rows(&rt, alloc, &two, &rows)?;
+fn order_in(alloc: Global, text: &str) -> Option<Vec<u8>> {
+    let mut order = Vec::new(alloc);
+    for word in text.split_whitespace() {
+        order.push(word.parse().ok()?).ok()?;
+    }
+    Some(order)
+}
 
-    // the scopes of v0, v1 and v2: 0 has v0 and v1, 1 has v0 and v2, 2 has v1 and v2
-    let three = language(alloc, 3, 2, &[], 0b1001, 0b0110)?;
-    let rows: [Row; 2] = [
-        // five prefixes are plain, and the empty one alone is alive
-        (
-            &[on(0, ne), on(2, ne)],
-            Some(on(1, eq)),
-            &[0, 2, 1],
-            1,
-            Outcome::Absent,
-        ),
-        // three that differ can't have two values, but each pair of sets is consistent
-        (
-            &[on(0, ne), on(1, ne), on(2, ne)],
-            None,
-            &[0, 1, 2],
-            1,
-            Outcome::Absent,
-        ),
-    ];
-    check_rows(&rt, alloc, &three, &rows)
+fn outcome_text(alloc: Global, outcome: &Outcome) -> Option<String> {
+    match outcome {
+        Outcome::Found(e) => {
+            let mut text = String::from_str(alloc, "found").ok()?;
+            push_question(&mut text, e)?;
+            Some(text)
+        }
+        Outcome::Absent => String::from_str(alloc, "absent").ok(),
+        Outcome::Spent => String::from_str(alloc, "spent").ok(),
+    }
+}
+
+/// What a search ends with.
+fn searched(
+    alloc: Global,
+    lang: &Language,
+    list: &[Candidate],
+    against: Option<Candidate>,
+    order: &[u8],
+    budget: u32,
+) -> Option<String> {
+    let mut work = Work::new(alloc, lang).ok()?;
+    let cons = Constraints {
+        lang,
+        list,
+        against,
+    };
+    outcome_text(alloc, &outcome(&mut work, &cons, order, budget)?)
+}
+
+/// `HOLDING not AGAINST order VARIABLES budget BUDGET`: what the search ends with.
+pub(crate) fn search_row(alloc: Global, lang: &Language, arguments: &str) -> Option<String> {
+    let (list, rest) = arguments.split_once("not")?;
+    let (against, rest) = rest.split_once("order")?;
+    let (order, budget) = rest.split_once("budget")?;
+    let budget = budget.trim().parse().ok()?;
+    let against = match against.trim() {
+        "" => None,
+        word => Some(candidate_in(word)?),
+    };
+    let list = candidates_in(alloc, list)?;
+    let order = order_in(alloc, order)?;
+    searched(alloc, lang, &list, against, &order, budget)
 }

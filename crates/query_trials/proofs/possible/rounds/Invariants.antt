@@ -1,5 +1,5 @@
 use Rattle.bias_store.specs.KeptSet.{IsMadeFor}
 use Rattle.query_trials.proofs.possible.rounds.Given as goal
 
-abbrev pub invariant-loop-number : goal.invariant-loop-number
-invariant-loop-number g l = IsMadeFor l.fn.lang l.kept
+abbrev pub invariant-loop : goal.invariant-loop
+invariant-loop l = IsMadeFor l.fn.lang l.kept

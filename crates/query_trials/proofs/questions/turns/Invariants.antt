@@ -5,7 +5,7 @@ use Rattle.query_gen.specs.Marks.{IsMadeFor, MarksHold}
 use Rattle.query_trials.proofs.questions.turns.Given as goal
 
 abbrev pub invariant-turns : goal.invariant-turns
-invariant-turns g l = record {
+invariant-turns l = record {
   screen : IsMadeFor l.fn.lang l.screen;
   marks : MarksHold l.fn.lang l.net.list l.fn.budget l.screen;
   kept : IsKeptOf l.fn.lang l.kept;
