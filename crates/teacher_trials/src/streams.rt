@@ -1,172 +1,131 @@
-//! Lines and whole readings; sources and sinks that fail.
+//! Lines and whole readings; sources and sinks in memory that fail.
 
+use crate::shown::{call_in, push_byte, push_named};
 use acq_io::{
-    AllFault, Failed, Line, LineGot, MemSink, MemSource, PlainSink, PlainSource, Put, Sink, Source,
-    StdSink, StdSource, read_all, read_byte, read_first_line, read_line,
+    AllFault, Line, LineGot, MemSink, MemSource, PlainSink, PlainSource, Sink, Source, read_all,
+    read_byte, read_first_line, read_line,
 };
-use std::alloc::{AllocError, Global};
-use std::io::{self, ErrorKind, Read, Write};
-use std::test::Fail;
+use rows::text_in;
+use std::alloc::Global;
 
-/// A source of so many bytes that are no newline, and then a text.
-fn source_of(alloc: Global, count: usize, end: &[u8]) -> Result<PlainSource, AllocError> {
-    let mut bytes = vec![in alloc; b'x'; count]?;
-    bytes.extend_from_slice(end)?;
-    Ok(PlainSource::new(bytes))
+/// A line from a source, and what came of it.
+fn line_from<S: Source>(alloc: Global, source: &mut S) -> Option<String> {
+    let mut line = Line::empty();
+    let got = match read_line(source, &mut line) {
+        LineGot::Line => "line",
+        LineGot::End => "end",
+        LineGot::TooLong => "too long",
+        LineGot::Fault => "failed",
+    };
+    let mut text = String::from_str(alloc, got).ok()?;
+    push_named(&mut text, ",", line.bytes())?;
+    Some(text)
 }
 
-/// Of so many bytes and a text: the answer, how many bytes the line has, and how many are left.
-#[test]
-fn lines(rt: HostRuntime) -> Result<(), Fail> {
-    let rows: [(usize, &[u8], LineGot, usize, usize); 4] = [
-        (0, b"", LineGot::End, 0, 0),
-        (256, b"", LineGot::End, 256, 0),
-        (256, b"\nno\n", LineGot::Line, 256, 3),
-        (257, b"\nno\n", LineGot::TooLong, 256, 4),
-    ];
-    for (count, end, got, len, left) in rows {
-        let mut source = source_of(rt.alloc(), count, end)?;
-        let mut line = Line::empty();
-        let found = read_line(&mut source, &mut line);
-        let sizes = (line.bytes().len(), source.left().len());
-        assert_eq!(rt; (found, sizes), (got, (len, left)));
-    }
-    Ok(())
+/// Bytes: the line that is read of them, and what is left.
+pub(crate) fn line(alloc: Global, arguments: &str) -> Option<String> {
+    let mut source = PlainSource::new(text_in(alloc, arguments)?.into_bytes());
+    let mut text = line_from(alloc, &mut source)?;
+    push_named(&mut text, "\nleft", source.left())?;
+    Some(text)
 }
 
-/// A source that fails at one of its calls.
-fn failing(alloc: Global, call: u32) -> Result<MemSource, AllocError> {
-    Ok(MemSource::new(b"no\nyes\n".to_vec(alloc)?, vec![in alloc; call]?))
+/// A source whose call of this number fails.
+fn source_of(alloc: Global, call: u32, bytes: Vec<u8>) -> Option<MemSource> {
+    Some(MemSource::new(bytes, vec![in alloc; call].ok()?))
 }
 
-/// The first three calls read the line, and the next one the byte that follows it.
-#[test]
-fn each_read_fails_in_turn(rt: HostRuntime) -> Result<(), Fail> {
-    for (call, got, left) in [
-        (0, LineGot::Fault, 7),
-        (1, LineGot::Fault, 6),
-        (2, LineGot::Fault, 5),
-        (3, LineGot::Line, 4),
-    ] {
-        let mut source = failing(rt.alloc(), call)?;
-        let mut line = Line::empty();
-        let found = read_line(&mut source, &mut line);
-        assert_eq!(rt; (found, source.left().len()), (got, left));
-        let next = (read_byte(&mut source), read_byte(&mut source));
-        if got == LineGot::Line {
-            assert_eq!(rt; next, (Err(Failed), Ok(Some(b'y'))));
-        }
-    }
-    Ok(())
+/// Adds the next byte of a source.
+fn push_next<S: Source>(text: &mut String, word: &str, source: &mut S) -> Option<()> {
+    text.push_str(word).ok()?;
+    push_byte(text, read_byte(source))
 }
 
-/// The length of what a reading gave, or its refusal.
-fn length(got: Result<Vec<u8>, AllFault>) -> Result<usize, AllFault> {
-    got.map(|bytes| bytes.len())
+/// The call that fails, and bytes: the line that is read of them, what is left, and the two bytes that are read next.
+pub(crate) fn failing_line(alloc: Global, arguments: &str) -> Option<String> {
+    let (call, written) = arguments.split_once(" of ")?;
+    let bytes = text_in(alloc, written)?.into_bytes();
+    let mut source = source_of(alloc, call_in(call)?, bytes)?;
+    let mut text = line_from(alloc, &mut source)?;
+    push_named(&mut text, "\nleft", source.left())?;
+    push_next(&mut text, "\n", &mut source)?;
+    push_next(&mut text, " ", &mut source)?;
+    Some(text)
 }
 
-/// Of a source that has seven bytes, three of them in its first line.
-#[test]
-fn whole_readings(rt: HostRuntime) -> Result<(), Fail> {
-    for (call, most, all, line) in [
-        (9, 7, Ok(7), Ok(2)),
-        (9, 6, Err(AllFault::TooLong), Ok(2)),
-        (9, 1, Err(AllFault::TooLong), Err(AllFault::TooLong)),
-        (0, 7, Err(AllFault::Fault), Err(AllFault::Fault)),
-    ] {
-        let mut one = failing(rt.alloc(), call)?;
-        let mut other = failing(rt.alloc(), call)?;
-        let found = (
-            length(read_all(rt.alloc(), &mut one, most)),
-            length(read_first_line(rt.alloc(), &mut other, most)),
-        );
-        assert_eq!(rt; found, (all, line));
-    }
-    // what a failed reading left is read by the next
-    let mut source = failing(rt.alloc(), 0)?;
-    let found = (
-        length(read_all(rt.alloc(), &mut source, 7)),
-        length(read_all(rt.alloc(), &mut source, 7)),
-    );
-    assert_eq!(rt; found, (Err(AllFault::Fault), Ok(7)));
-    Ok(())
-}
-
-/// Sinks in memory, one of which fails at its second call.
-#[test]
-fn sinks_in_memory(rt: HostRuntime) -> Result<(), Fail> {
-    let mut plain = PlainSink::new(rt.alloc());
-    let mut failing = MemSink::new(rt.alloc(), vec![in rt.alloc(); 1]?);
-    for want in [Ok(()), Err(Put::Failed), Ok(())] {
-        let found = (plain.write(b"q1"), failing.write(b"q1"));
-        assert_eq!(rt; found, (Ok(()), want));
-    }
-    assert_eq!(rt; (plain.bytes().len(), failing.bytes().len()), (6, 4));
-    Ok(())
-}
-
-#[test]
-fn a_reader_of_std(rt: HostRuntime) {
-    let mut source = StdSource::new(b"y".as_slice());
-    let found = (read_byte(&mut source), read_byte(&mut source));
-    assert_eq!(rt; found, (Ok(Some(b'y')), Ok(None)));
-}
-
-/// A reader that is interrupted, and then fails; a writer whose second flush fails, and that takes a byte at a time.
-#[derive(Drop)]
-struct Faulty {
-    calls: u8,
-    bytes: Vec<u8>,
-}
-
-impl Read for Faulty {
-    fn read(&mut self, _buf: &mut [u8]) -> io::Result<usize> {
-        self.calls = self.calls.saturating_add(1);
-        match self.calls {
-            1 => Err(ErrorKind::Interrupted.into()),
-            2 => Err(ErrorKind::BrokenPipe.into()),
-            _ => Ok(0),
-        }
+/// Adds what came of a reading.
+fn push_all(text: &mut String, word: &str, got: Result<Vec<u8>, AllFault>) -> Option<()> {
+    match got {
+        Ok(bytes) => push_named(text, word, &bytes),
+        Err(fault) => write!(text, "{word}: {fault}").ok(),
     }
 }
 
-impl Write for Faulty {
-    fn write(&mut self, buf: &[u8]) -> io::Result<usize> {
-        if buf.is_empty() {
-            return Ok(0);
-        }
-        self.bytes.push(buf[0])?;
-        Ok(1)
-    }
-
-    fn flush(&mut self) -> io::Result<()> {
-        self.calls = self.calls.saturating_add(1);
-        if self.calls == 2 {
-            return Err(ErrorKind::BrokenPipe.into());
-        }
-        Ok(())
-    }
+/// The call that fails, the most bytes, and bytes: what is read of them, and what is read then; and the first line.
+pub(crate) fn whole(alloc: Global, arguments: &str) -> Option<String> {
+    let (front, written) = arguments.split_once(" of ")?;
+    let (call, most) = front.split_once(' ')?;
+    let call = call_in(call)?;
+    let most = most.parse::<u32>().ok()?;
+    let mut text = String::new(alloc);
+    push_readings(alloc, &mut text, written, call, most)?;
+    Some(text)
 }
 
-fn make_faulty(alloc: Global) -> Faulty {
-    Faulty {
-        calls: 0,
-        bytes: Vec::new(alloc),
+/// Adds what comes of two readings, and of a first line.
+fn push_readings(
+    alloc: Global,
+    text: &mut String,
+    written: &str,
+    call: u32,
+    most: u32,
+) -> Option<()> {
+    let mut source = source_of(alloc, call, text_in(alloc, written)?.into_bytes())?;
+    push_all(text, "all", read_all(alloc, &mut source, most))?;
+    push_all(text, "\nthen", read_all(alloc, &mut source, most))?;
+    let mut source = source_of(alloc, call, text_in(alloc, written)?.into_bytes())?;
+    push_all(text, "\nline", read_first_line(alloc, &mut source, most))
+}
+
+/// Adds whether a sink takes each of some pieces.
+fn push_pieces<K: Sink>(
+    alloc: Global,
+    text: &mut String,
+    sink: &mut K,
+    pieces: &str,
+) -> Option<()> {
+    for word in pieces.split(' ') {
+        let piece = text_in(alloc, word)?;
+        let said = if sink.write(piece.as_bytes()).is_ok() {
+            "yes "
+        } else {
+            "no "
+        };
+        text.push_str(said).ok()?;
     }
+    Some(())
 }
 
-#[test]
-fn a_faulty_reader(rt: HostRuntime) {
-    let mut source = StdSource::new(make_faulty(rt.alloc()));
-    let found = (read_byte(&mut source), read_byte(&mut source));
-    assert_eq!(rt; found, (Err(Failed), Ok(None)));
+/// The call that fails, and pieces: whether a sink takes each of them, and what it holds then; and the same of a sink that doesn't
+/// fail.
+pub(crate) fn sinks(alloc: Global, arguments: &str) -> Option<String> {
+    let (call, pieces) = arguments.split_once(" of ")?;
+    let call = call_in(call)?;
+    let mut text = String::new(alloc);
+    push_failing(alloc, &mut text, call, pieces)?;
+    push_plain(alloc, &mut text, pieces)?;
+    Some(text)
 }
 
-#[test]
-fn a_faulty_writer(rt: HostRuntime) {
-    let mut writer = make_faulty(rt.alloc());
-    let mut sink = StdSink::new(&mut writer);
-    let found = (sink.write(b"q1\n"), sink.write(b"q2\n"));
-    assert_eq!(rt; found, (Ok(()), Err(Put::Failed)));
-    assert_eq!(rt; writer.bytes.as_slice(), b"q1\nq2\n".as_slice());
+fn push_failing(alloc: Global, text: &mut String, call: u32, pieces: &str) -> Option<()> {
+    let mut sink = MemSink::new(alloc, vec![in alloc; call].ok()?);
+    push_pieces(alloc, text, &mut sink, pieces)?;
+    push_named(text, "holds", sink.bytes())
+}
+
+fn push_plain(alloc: Global, text: &mut String, pieces: &str) -> Option<()> {
+    text.push('\n').ok()?;
+    let mut sink = PlainSink::new(alloc);
+    push_pieces(alloc, text, &mut sink, pieces)?;
+    push_named(text, "holds", sink.bytes())
 }
