@@ -1,7 +1,7 @@
 -- What is known of a list of candidates, and of one more condition.
-use Rattle.std.proofs.Common.{◌≡◌, ℕ, zero, suc, ◌+◌, ◌*◌, ◌/◌, ◌%◌, ◌<◌, ◌≤◌, Bool, true, false, ◌&&◌, ◌||◌, ◌-◌, List, [], ◌∷◌, ◌++◌, length, map, take, Option, Some, None, refl, sym, ◌∙◌, ap, subst, arith, inl, inr, ◌⊎◌}
-use Rattle.std.specs.Prelude.{◌≢◌, ◌==◌, slice_index_or, min}
-use Rattle.std.specs.List.{list_any, list_all}
+use Rattle.std.proofs.Common.{◌≡◌, ℕ, zero, suc, ◌+◌, ◌*◌, ◌/◌, ◌%◌, ◌<◌, ◌≤◌, Bool, true, false, ◌||◌, ◌-◌, List, [], ◌∷◌, ◌++◌, length, map, take, Option, Some, None, refl, sym, ◌∙◌, ap, subst, arith, inl, inr, ◌⊎◌}
+use Rattle.std.specs.Prelude.{◌==◌, slice_index_or, min}
+use Rattle.std.specs.List.{list_any}
 use Rattle.std.specs.Option.{option_map_or}
 use Rattle.std.proofs.lemmas.List.{append-nil, length-map, length-append, get_or-take, get_or_append_left, get_or-append_right, length-take-le, take_at, same_lists}
 use Rattle.std.proofs.lemmas.List.FromFn.{length-range_with_len}
@@ -14,10 +14,10 @@ use Rattle.language.specs.Language.{Language, IsLanguage, IsCandidate, variable_
 use Rattle.language.specs.Answers.{IsNetwork}
 use Rattle.propagators.specs.Allowed.{AreConstraints}
 use Rattle.propagators.specs.Values.{ones_of}
-use Rattle.propagators.specs.Families.{Family, Arc, arc_of, arcs_of, is_not_empty, is_consistent, is_arc_consistent, IsSubfamily, IsLargest, largest}
+use Rattle.propagators.specs.Families.{Family, Arc, arc_of, arcs_of, is_consistent, is_arc_consistent, largest}
 use Rattle.propagators.specs.Supports.{AreSettled}
-use Rattle.propagators.specs.Briefs.{IsBriefOf, AreBriefs, bound_at}
-use Rattle.propagators.specs.Plans.{AreNoted, AreLimits, AreTakenIn, AreNarrow, IsPlanOf}
+use Rattle.propagators.specs.Briefs.{IsBriefOf, bound_at}
+use Rattle.propagators.specs.Plans.{AreTakenIn, AreNarrow, IsPlanOf}
 use Rattle.propagators.specs.Propagated.{IsSettledBut, IsPropagated, RunsEmpty}
 use Rattle.propagators.specs.Indexes.{all_values, IsRoot, IsRootBefore}
 use Rattle.propagators.specs.declared.briefs.Brief.{Brief}
@@ -29,7 +29,6 @@ use Rattle.propagators.proofs.Replacing.{member_place}
 use Rattle.propagators.proofs.Conditions.{arcs_small}
 
 -- ---- the conditions of a list, and one more
-
 
 pub arcs_alone : (l : Language) (list : List Candidate) → arcs_of l list None ≡ map (λ c. arc_of l c true) list
 arcs_alone l list = append-nil (map (λ c. arc_of l c true) list)

@@ -1,4 +1,3 @@
-use Rattle.std.proofs.Common.{sym, ◌∙◌}
 use Rattle.propagators.specs.Families.{arcs_of}
 use Rattle.propagators.proofs.Indexed.{settled_more, root_dead, root_more}
 use Rattle.propagators.proofs.indexing.leave_more.Goals as goal

@@ -1,4 +1,4 @@
-use Rattle.std.proofs.Common.{◌≡◌, List, Some, None, Option, refl, sym, subst, ap, ◌∙◌}
+use Rattle.std.proofs.Common.{List, Some, None, Option, sym, subst}
 use Rattle.language.specs.declared.candidates.Candidate.{Candidate}
 use Rattle.propagators.specs.Families.{Family, arcs_of}
 use Rattle.propagators.specs.Indexes.{IsRoot, IsRootBefore}

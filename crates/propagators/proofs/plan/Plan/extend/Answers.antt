@@ -1,4 +1,4 @@
-use Rattle.std.proofs.Common.{◌≡◌, ◌<◌, ◌+◌, ◌*◌, ◌/◌, ◌∙◌, ℕ, List, length, ap, sym, arith}
+use Rattle.std.proofs.Common.{◌≡◌, ◌+◌, ◌*◌, ◌/◌, ◌∙◌, ℕ, List, length, ap, sym, arith}
 use Rattle.std.specs.Prelude.{min, slice_index_or}
 use Rattle.std.specs.Vec.{with_items}
 use Rattle.std.proofs.lemmas.List.{with_items_is}
@@ -26,8 +26,8 @@ returns-clause-plan c =
     let long : length c.take_in.new.briefs ≡ length c.args.self.now.briefs.items = c.take_in.auto.briefs ∙ ap length c.deref_mut-2.ensures.value in
     let room = c.requires.room in
     let all : AreTakenIn c.args.cons.now.lang.now (arcs_of c.args.cons.now.lang.now c.args.cons.now.list.now c.args.cons.now.against) (with_items c.args.self.now.briefs c.take_in.new.briefs).items
-        (with_items (with_items c.args.self.now.sets c.clear_sets.new.sets) c.take_in.new.sets).items (with_items c.args.self.now.limits c.take_in.new.limits).items
-        (min (length c.take_in.new.briefs) (length (arcs_of c.args.cons.now.lang.now c.args.cons.now.list.now c.args.cons.now.against))) =
+    (with_items (with_items c.args.self.now.sets c.clear_sets.new.sets) c.take_in.new.sets).items (with_items c.args.self.now.limits c.take_in.new.limits).items
+    (min (length c.take_in.new.briefs) (length (arcs_of c.args.cons.now.lang.now c.args.cons.now.list.now c.args.cons.now.against))) =
     taken_as c.args.cons.now.lang.now (arcs_of c.args.cons.now.lang.now c.args.cons.now.list.now c.args.cons.now.against) c.take_in.new.briefs _ c.take_in.new.sets _ c.take_in.new.limits _
     (min (length c.take_in.new.briefs) (length (arcs_of c.args.cons.now.lang.now c.args.cons.now.list.now c.args.cons.now.against))) briefs sets limits c.take_in.ensures in
     record {
