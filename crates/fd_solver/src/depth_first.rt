@@ -1,6 +1,7 @@
 ghost use Rattle.std.specs.Prelude.{◌≡◌, ◌≤◌, []};
 ghost use Rattle.language.specs.Language.{variable_count};
 ghost use Rattle.propagators.specs.Allowed.{AreConstraints};
+ghost use Rattle.propagators.specs.Indexes.{IsIndexOf};
 ghost use Rattle.fd_solver.specs.Outcomes.{IsOrder, search_outcome};
 ghost use Rattle.fd_solver.specs.Ready.{IsArranged};
 
@@ -8,7 +9,7 @@ use crate::outcome::Outcome;
 use crate::stack::Stack;
 use crate::work::Work;
 use assign::Partial;
-use propagators::Constraints;
+use propagators::{Constraints, Index};
 
 /// Looks at the first members of the walk, as many as the budget says, for a complete one.
 ///
@@ -22,6 +23,28 @@ pub fn search(work: &mut Work, cons: &Constraints, order: &[u8], budget: u32) ->
 {
     let n = cons.lang.n();
     if work.begin(cons) {
+        walk(work, cons, order, n, budget)
+    } else {
+        Outcome::Absent
+    }
+}
+
+/// `search`, which begins with what an index has, where that is the one of the list.
+pub fn search_with(
+    work: &mut Work,
+    index: &Index,
+    cons: &Constraints,
+    order: &[u8],
+    budget: u32,
+) -> Outcome
+    requires index { IsIndexOf cons.now.lang.now index.now }
+    requires constraints { AreConstraints cons.now.lang.now cons.now.list.now cons.now.against }
+    requires order { IsOrder (variable_count cons.now.lang.now) order.now }
+    requires budget { 1 ≤ budget }
+    ensures { result ≡ search_outcome cons.now.lang.now cons.now.list.now cons.now.against order.now budget }
+{
+    let n = cons.lang.n();
+    if work.begin_with(cons, index) {
         walk(work, cons, order, n, budget)
     } else {
         Outcome::Absent

@@ -15,7 +15,7 @@ mod outcome;
 mod stack;
 mod work;
 
-pub use depth_first::search;
+pub use depth_first::{search, search_with};
 pub use order::order_of;
 pub use outcome::Outcome;
 pub use work::Work;

@@ -4,6 +4,7 @@ ghost use Rattle.language.specs.Language.{IsLanguage, variable_count};
 ghost use Rattle.propagators.specs.Allowed.{AreConstraints};
 ghost use Rattle.propagators.specs.Families.{arcs_of, has_family, is_arc_consistent};
 ghost use Rattle.propagators.specs.Plans.{IsPlanOf};
+ghost use Rattle.propagators.specs.Indexes.{IsIndexOf};
 ghost use Rattle.propagators.specs.Propagated.{AreSome, IsPropagated, RunsEmpty};
 ghost use Rattle.fd_solver.specs.Outcomes.{IsOrder, is_alive_in};
 ghost use Rattle.fd_solver.specs.Ready.{IsReady, IsArranged, fixed, room_of};
@@ -11,7 +12,7 @@ ghost use Rattle.fd_solver.specs.Ready.{IsReady, IsArranged, fixed, room_of};
 use crate::stack::Stack;
 use assign::VarSet;
 use language::{Language, Memory};
-use propagators::{Alive, Constraints, Domains, Plan, propagate_after, propagate_all};
+use propagators::{Alive, Constraints, Domains, Index, Plan, propagate_after, propagate_all};
 use std::alloc::Global;
 use std::marker::Model;
 
@@ -96,6 +97,24 @@ impl Work {
                 true
             }
             Alive::No => false,
+        }
+    }
+
+    /// `begin`, with an index that may be that of the list.
+    pub(crate) fn begin_with(&mut self, cons: &Constraints, index: &Index) -> bool
+        requires lawful { IsLanguage cons.now.lang.now }
+        requires constraints { AreConstraints cons.now.lang.now cons.now.list.now cons.now.against }
+        requires index { IsIndexOf cons.now.lang.now index.now }
+        ensures plan { IsPlanOf cons.now.lang.now (arcs_of cons.now.lang.now cons.now.list.now cons.now.against) self.new.plan }
+        ensures ready { result ≡ true → IsReady cons.now.lang.now cons.now.list.now cons.now.against (replicate (variable_count cons.now.lang.now) None) (slice_index_or self.new.depths 0 []) }
+        ensures dead { result ≡ false → has_family cons.now.lang.now cons.now.list.now cons.now.against (replicate (variable_count cons.now.lang.now) None) ≡ false }
+    {
+        match index.begin(cons, &mut self.plan) {
+            Some(left) => {
+                self.depths[0] = left;
+                true
+            }
+            None => false,
         }
     }
 

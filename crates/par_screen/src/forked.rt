@@ -265,6 +265,7 @@ pub fn next_query_forked<R: Threads + Sync, G: Gate>(
     // exactly the kept candidates whose search was spent are open
     ensures open { result ≡ Query.Undecided → (c : Candidate) → IsCandidate lang.now c → is_open lang.now screen.new c ≡ (is_among kept.now.members c && is_spent (outcome_of_candidate lang.now net.now.list c budget)) }
 {
+    screen.follow(lang, net);
     let done = search_in_turn(places.as_mut_slice(), gate, screen, lang, kept, net, budget);
     let answer = answer_of(places.as_slice(), done, lang, kept, net, budget);
     if let Query::Ask(_) = answer {

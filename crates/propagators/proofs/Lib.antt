@@ -16,3 +16,4 @@ pub mod Lazy
 pub mod Chains
 pub mod ByMasks
 pub mod Standing
+pub mod Indexed

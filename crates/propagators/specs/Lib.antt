@@ -11,3 +11,4 @@ pub mod Pairs
 pub mod Briefs
 pub mod Plans
 pub mod Propagated
+pub mod Indexes

@@ -6,7 +6,7 @@ use Rattle.language.specs.Language.{Language}
 use Rattle.propagators.specs.Values.{ones_of}
 use Rattle.propagators.specs.Families.{Family, Arc, is_consistent, size_of}
 use Rattle.propagators.specs.Supports.{IsUnderway}
-use Rattle.propagators.specs.Briefs.{AreBriefs, bound_at}
+use Rattle.propagators.specs.Briefs.{IsBriefOf, AreBriefs, bound_at}
 use Rattle.propagators.specs.declared.briefs.Brief.{Brief}
 use Rattle.propagators.specs.declared.plan.Plan.{Plan}
 
@@ -19,6 +19,16 @@ AreNoted arcs words sets =
 abbrev pub AreLimits : List Arc → List Brief → List ℕ → Type 0
 AreLimits arcs briefs limits =
     (k j : ℕ) (a : Arc) (b : Brief) → k < length briefs → k < length arcs → j < length (slice_index_or arcs k a).scope → bound_at (slice_index_or briefs k b) j ≤ slice_index_or limits (slice_index_or (slice_index_or arcs k a).scope j 0) 0
+
+-- of the first conditions, so many, each has its brief and is noted with its variables, whose limits are at least its bounds
+pub record AreTakenIn (l : Language) (arcs : List Arc) (bs : List Brief) (sets ls : List ℕ) (i : ℕ) : Type 0 where
+  pub briefs : (k : ℕ) (a : Arc) (b : Brief) → k < i → IsBriefOf l (slice_index_or arcs k a) (slice_index_or bs k b)
+  pub limits : (k j : ℕ) (a : Arc) (b : Brief) → k < i → j < length (slice_index_or arcs k a).scope → bound_at (slice_index_or bs k b) j ≤ slice_index_or ls (slice_index_or (slice_index_or arcs k a).scope j 0) 0
+  pub noted : (k v : ℕ) (a : Arc) → k < i → has (slice_index_or arcs k a).scope v ≡ true → has (ones_of (slice_index_or sets (k / 64 * 128 + v) 0)) (k % 64) ≡ true
+
+-- each variable of a condition is below 128
+abbrev pub AreNarrow : List Arc → Type 0
+AreNarrow arcs = (k v : ℕ) (a : Arc) → k < length arcs → has (slice_index_or arcs k a).scope v ≡ true → v < 128
 
 -- a plan of these conditions
 pub record IsPlanOf (l : Language) (arcs : List Arc) (p : Plan) : Type 0 where

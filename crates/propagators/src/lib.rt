@@ -12,6 +12,8 @@
 mod briefs;
 mod constraints;
 mod domains;
+mod index;
+mod indexing;
 pub mod laws;
 mod pairs;
 mod plan;
@@ -22,6 +24,7 @@ mod visits;
 
 pub use constraints::Constraints;
 pub use domains::Domains;
+pub use index::Index;
 pub use plan::Plan;
 pub use revising::{Alive, propagate};
 pub use visits::{propagate_after, propagate_all};

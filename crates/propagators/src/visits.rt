@@ -1,10 +1,10 @@
 //! Propagation with a plan: only the conditions of a changed variable are looked at.
 
-ghost use Rattle.std.specs.Prelude.{◌≡◌, ◌<◌, ◌≤◌, ◌+◌, ◌*◌, ◌/◌, ◌%◌, ◌==◌, ℕ, List, [], true, false, All, IfSome, IfOk, None, length, slice_index_or};
+ghost use Rattle.std.specs.Prelude.{◌≡◌, ◌<◌, ◌≤◌, ◌+◌, ◌*◌, ◌/◌, ◌%◌, ◌==◌, ℕ, List, [], true, false, All, IfSome, IfOk, None, length, min, take, slice_index_or};
 ghost use Rattle.std.specs.Int.{bit_at};
 ghost use Rattle.std.specs.List.{list_all};
 ghost use Rattle.assign.specs.Sets.{has, without};
-ghost use Rattle.language.specs.Language.{IsLanguage, variable_count};
+ghost use Rattle.language.specs.Language.{Language, IsLanguage, variable_count};
 ghost use Rattle.propagators.specs.Allowed.{AreConstraints};
 ghost use Rattle.propagators.specs.Values.{ones_of};
 ghost use Rattle.propagators.specs.Families.{Arc, arcs_of, is_not_empty, is_wanted};
@@ -14,7 +14,7 @@ ghost use Rattle.propagators.specs.Pairs.{IsBeside};
 ghost use Rattle.propagators.specs.Briefs.{IsPairOf, AreBriefs, arc_by};
 ghost use Rattle.rel_table.specs.Relation.{Relation};
 ghost use Rattle.language.specs.Pairs.{ArePairTables, IsPairTable};
-ghost use Rattle.propagators.specs.Plans.{IsPlanOf, AreNoted, AreLimits, IsLooked};
+ghost use Rattle.propagators.specs.Plans.{IsPlanOf, AreNoted, AreLimits, AreTakenIn, AreNarrow, IsLooked};
 ghost use Rattle.propagators.specs.Propagated.{AreSome, IsSettledBut, IsPropagated, RunsEmpty, IsWholePlanOf, IsVisited};
 
 use crate::briefs::{Brief, Pair, brief_of, raise_all};
@@ -41,14 +41,16 @@ fn note(sets: &mut [u64], words: usize, scope: &[u8], i: usize)
     }
 }
 
-/// Clears the words of so many conditions and n variables, as far as there is room. The others are never read.
-fn clear_sets(sets: &mut [u64], words: usize, count: usize, n: u8)
+/// Clears the words of so many conditions and n variables, as far as there is room, but for those with a condition before one.
+/// The others are never read.
+fn clear_sets(sets: &mut [u64], words: usize, from: usize, count: usize, n: u8)
     requires long { length sets.old ≡ 128 * words }
     requires few { n ≤ 128 }
-    ensures { length sets.new ≡ length sets.old }
+    ensures long { length sets.new ≡ length sets.old }
+    ensures before { (k v : ℕ) → k < from → v < 128 → slice_index_or sets.new (k / 64 * 128 + v) 0 ≡ slice_index_or sets.old (k / 64 * 128 + v) 0 }
 {
     let used = count.div_ceil(64).min(words);
-    for w in 0..used {
+    for w in from.div_ceil(64)..used {
         sets[w * 128..w * 128 + usize::from(n)].fill(0);
     }
 }
@@ -64,6 +66,35 @@ fn note_rest(cons: &Constraints, sets: &mut [u64], words: usize, from: usize)
     for i in from..cons.count().min(words * 64) {
         let (c, _holding) = cons.condition(i);
         note(sets, words, cons.lang.scope(c.scope), i);
+    }
+}
+
+/// Takes in the conditions from one on, as many as there is room for: each has its brief, is noted with its variables, and raises
+/// their limits to its bounds.
+fn take_in(
+    cons: &Constraints,
+    briefs: &mut [Brief],
+    sets: &mut [u64],
+    words: usize,
+    limits: &mut [u8],
+    from: usize,
+)
+    requires lawful { IsLanguage cons.now.lang.now }
+    requires constraints { AreConstraints cons.now.lang.now cons.now.list.now cons.now.against }
+    requires long { length sets.old ≡ 128 * words }
+    requires room { length briefs.old ≤ words * 64 }
+    requires wide { length limits.old ≡ 128 }
+    requires front { AreTakenIn cons.now.lang.now (arcs_of cons.now.lang.now cons.now.list.now cons.now.against) briefs.old sets.old limits.old from }
+    ensures { AreTakenIn cons.now.lang.now (arcs_of cons.now.lang.now cons.now.list.now cons.now.against) briefs.new sets.new limits.new (min (length briefs.new) (length (arcs_of cons.now.lang.now cons.now.list.now cons.now.against))) }
+{
+    let end = briefs.len().min(cons.count());
+    for i in from..end {
+        let (c, holding) = cons.condition(i);
+        let scope = cons.lang.scope(c.scope);
+        note(sets, words, scope, i);
+        let brief = brief_of(cons.lang, c, scope, holding);
+        briefs[i] = brief;
+        raise_all(limits, scope, brief);
     }
 }
 
@@ -85,18 +116,20 @@ fn arrange_all(
     ensures limits { AreLimits (arcs_of cons.now.lang.now cons.now.list.now cons.now.against) briefs.new limits.new }
     ensures noted { AreNoted (arcs_of cons.now.lang.now cons.now.list.now cons.now.against) words sets.new }
 {
-    clear_sets(sets, words, cons.count(), cons.lang.n());
+    clear_sets(sets, words, 0, cons.count(), cons.lang.n());
     limits.fill(0);
+    take_in(cons, briefs, sets, words, limits, 0);
     let end = briefs.len().min(cons.count());
-    for i in 0..end {
-        let (c, holding) = cons.condition(i);
-        let scope = cons.lang.scope(c.scope);
-        note(sets, words, scope, i);
-        let brief = brief_of(cons.lang, c, scope, holding);
-        briefs[i] = brief;
-        raise_all(limits, scope, brief);
-    }
     note_rest(cons, sets, words, end);
+}
+
+/// Takes over the first items of another list, so many.
+pub(crate) fn copy_front<T: Copy>(to: &mut [T], from: &[T], count: usize)
+    requires room { count ≤ length to.old }
+    requires there { count ≤ length from.now }
+    ensures { (k : ℕ) (d : T) → k < count → slice_index_or to.new k d ≡ slice_index_or from.now k d }
+{
+    to[..count].copy_from_slice(&from[..count]);
 }
 
 impl Plan {
@@ -127,6 +160,68 @@ impl Plan {
             self.words,
             &mut self.limits,
         );
+    }
+}
+
+impl Plan {
+    /// Takes in the conditions from one on, where the plan is one of those before.
+    pub(crate) fn extend(&mut self, cons: &Constraints, from: usize)
+        requires lawful { IsLanguage cons.now.lang.now }
+        requires constraints { AreConstraints cons.now.lang.now cons.now.list.now cons.now.against }
+        requires front { IsPlanOf cons.now.lang.now (take from (arcs_of cons.now.lang.now cons.now.list.now cons.now.against)) self.old }
+        requires some { from ≤ length (arcs_of cons.now.lang.now cons.now.list.now cons.now.against) }
+        requires room { length (arcs_of cons.now.lang.now cons.now.list.now cons.now.against) ≤ length self.old.briefs.items }
+        ensures plan { IsPlanOf cons.now.lang.now (arcs_of cons.now.lang.now cons.now.list.now cons.now.against) self.new }
+        ensures room { length self.new.briefs.items ≡ length self.old.briefs.items }
+    {
+        clear_sets(
+            &mut self.sets,
+            self.words,
+            from,
+            cons.count(),
+            cons.lang.n(),
+        );
+        take_in(
+            cons,
+            &mut self.briefs,
+            &mut self.sets,
+            self.words,
+            &mut self.limits,
+            from,
+        );
+    }
+
+    /// Takes over what another plan with as many words says of the first conditions, so many.
+    fn copy_front(&mut self, other: &Plan, count: usize)
+        requires words { self.old.words ≡ other.now.words }
+        requires room { count ≤ length self.old.briefs.items }
+        requires there { count ≤ length other.now.briefs.items }
+        ensures plan { (l : Language) (arcs : List Arc) → length arcs ≤ count → AreNarrow arcs → IsPlanOf l arcs other.now → IsPlanOf l arcs self.new }
+        ensures room { length self.new.briefs.items ≡ length self.old.briefs.items }
+    {
+        let used = count.div_ceil(64).min(self.words);
+        copy_front(&mut self.briefs, &other.briefs, count);
+        copy_front(&mut self.sets, &other.sets, 128 * used);
+        copy_front(&mut self.limits, &other.limits, 128);
+    }
+
+    /// Makes the plan one of these conditions, where another one is one of those of the list.
+    pub(crate) fn arrange_beside(&mut self, cons: &Constraints, other: &Plan)
+        requires lawful { IsLanguage cons.now.lang.now }
+        requires constraints { AreConstraints cons.now.lang.now cons.now.list.now cons.now.against }
+        requires other { IsPlanOf cons.now.lang.now (arcs_of cons.now.lang.now cons.now.list.now None) other.now }
+        ensures { IsPlanOf cons.now.lang.now (arcs_of cons.now.lang.now cons.now.list.now cons.now.against) self.new }
+    {
+        let size = cons.list.len();
+        if self.words != other.words
+            || size > other.briefs.len()
+            || cons.count() > self.briefs.len()
+        {
+            self.arrange(cons);
+            return;
+        }
+        self.copy_front(other, size);
+        self.extend(cons, size);
     }
 }
 

@@ -86,7 +86,7 @@ module _ (l : Language) (network : List Candidate) (budget : ℕ) (s : Remembere
   pub goes_on_next : GoesOn l network budget s next
   goes_on_next = record {
     begun = record {
-      made = record { first = begun.made.first; marks = length-set s.marks (number_of l d) (mark_for (outcome_of_candidate l network d budget)) ∙ begun.made.marks };
+      made = record { first = begun.made.first; marks = length-set s.marks (number_of l d) (mark_for (outcome_of_candidate l network d budget)) ∙ begun.made.marks; index = begun.made.index };
       holds = holds_next;
       learned = begun.learned;
       budgeted = begun.budgeted;
@@ -143,7 +143,7 @@ module _ (l : Language) (kept : List Candidate) (old now : Remembered) (d : Cand
   -- it isn't
   blanked_next : is_among kept d ≡ false → IsBlankedBelow l kept old (with_mark now (number_of l d) Blank) (number_of l d + 1)
   blanked_next off = record {
-    made = record { first = is.made.first; marks = length-set now.marks (number_of l d) Blank ∙ is.made.marks };
+    made = record { first = is.made.first; marks = length-set now.marks (number_of l d) Blank ∙ is.made.marks; index = is.made.index };
     learned = is.learned;
     budgeted = is.budgeted;
     below = λ c of low. below c of low (cases_eq (number_of l c) (number_of l d));
@@ -194,7 +194,7 @@ module _ (l : Language) (network kept : List Candidate) (budget : ℕ) (old new 
 
 module _ (l : Language) (network : List Candidate) (budget : ℕ) (s : Remembered) (learned : ℕ) (made : IsMadeFor l s) (holds : MarksHold l network budget s) (is : learned ≡ length network) where
   abbrev forgotten : Remembered
-  forgotten = record { first = s.first; marks = map without_spent s.marks; learned = learned; budget = budget }
+  forgotten = record { first = s.first; marks = map without_spent s.marks; learned = learned; budget = budget; index = s.index }
 
   mark_forgotten : (c : Candidate) → IsCandidate l c → mark_of l forgotten c ≡ without_spent (mark_of l s c)
   mark_forgotten c known = let low = number_below l c known in let size = made.marks in get_or-map without_spent s.marks (number_of l c) Blank Blank (omega arith)
@@ -207,7 +207,7 @@ module _ (l : Language) (network : List Candidate) (budget : ℕ) (s : Remembere
   }
 
   forgotten_made : IsMadeFor l forgotten
-  forgotten_made = record { first = made.first; marks = length-map s.marks without_spent ∙ made.marks }
+  forgotten_made = record { first = made.first; marks = length-map s.marks without_spent ∙ made.marks; index = made.index }
 
   pub has_begun : IsBegun l network budget (begun s learned budget)
   has_begun = go ((s.learned == learned) && (s.budget == budget)) refl

@@ -10,6 +10,7 @@ use Rattle.assign.specs.Assignment.{Assignment}
 use Rattle.language.specs.declared.candidates.Candidate.{Candidate}
 use Rattle.language.specs.Language.{Language, IsCandidate, candidates, number_of}
 use Rattle.language.proofs.Counting.{numbered}
+use Rattle.propagators.specs.Indexes.{IsIndexOf}
 use Rattle.fd_solver.specs.declared.outcome.Outcome.{Outcome}
 use Rattle.fd_solver.specs.declared.outcome.Outcome.TheVariants as outcomes
 use Rattle.fd_solver.specs.Outcomes.{outcome_of_candidate}
@@ -285,8 +286,8 @@ taken_more bytes first i old now m low is before = record {
     inside n after below (inr other) = get_or-set_other now (first + i) n m Blank other ∙ before.inside n after (omega arith)
 
 -- a screen whose marks have taken the bytes over
-pub has_taken : (bytes : List ℕ) (first end : ℕ) (old new : Remembered) → new.first ≡ old.first → new.learned ≡ old.learned → new.budget ≡ old.budget → AreTaken bytes first end old.marks new.marks → HasTaken bytes first end old new
-has_taken bytes first end old new numbers learned budgeted taken = record { numbers = numbers; size = taken.size; learned = learned; budgeted = budgeted; inside = taken.inside; outside = taken.outside }
+pub has_taken : (bytes : List ℕ) (first end : ℕ) (old new : Remembered) → new.first ≡ old.first → new.learned ≡ old.learned → new.budget ≡ old.budget → new.index ≡ old.index → AreTaken bytes first end old.marks new.marks → HasTaken bytes first end old new
+has_taken bytes first end old new numbers learned budgeted index taken = record { numbers = numbers; size = taken.size; learned = learned; budgeted = budgeted; index = index; inside = taken.inside; outside = taken.outside }
 
 -- ---- What was taken over is true
 
@@ -332,7 +333,7 @@ pub record IsTakenTo (l : Language) (network kept : List Candidate) (budget numb
 
 module _ (l : Language) (network kept : List Candidate) (budget first end : ℕ) (bytes : List ℕ) (answer : Query) (old new : Remembered) (begun : IsBegun l network budget old) (taken : HasTaken bytes first end old new) where
   pub made_taken : IsMadeFor l new
-  made_taken = record { first = taken.numbers ∙ begun.made.first; marks = taken.size ∙ begun.made.marks }
+  made_taken = record { first = taken.numbers ∙ begun.made.first; marks = taken.size ∙ begun.made.marks; index = subst (IsIndexOf l) (sym taken.index) begun.made.index }
 
   module _ (part : IsSearched l network kept budget first end bytes answer) where
     abbrev inner : Candidate → Outcome
@@ -381,7 +382,7 @@ module _ (l : Language) (network kept : List Candidate) (budget first end : ℕ)
 -- a search under the same network and budget forgets nothing
 begun_same : (s : Remembered) (learned budget : ℕ) → s.learned ≡ learned → s.budget ≡ budget → begun s learned budget ≡ s
 begun_same s learned budget e f =
-    ap (λ b. cond b s (record { first = s.first; marks = map without_spent s.marks; learned = learned; budget = budget }))
+    ap (λ b. cond b s (record { first = s.first; marks = map without_spent s.marks; learned = learned; budget = budget; index = s.index }))
     (and_from (s.learned == learned) (s.budget == budget) (eq-eqb s.learned learned e) (eq-eqb s.budget budget f))
 
 pub taken_to_none : (l : Language) (network kept : List Candidate) (budget : ℕ) (s : Remembered) → IsMadeFor l s → MarksHold l network budget s → IsTakenTo l network kept budget 0 s
@@ -433,14 +434,21 @@ taken_further l network kept budget first end bytes answer old new rising before
 length-begun : (s : Remembered) (learned budget : ℕ) → length (begun s learned budget).marks ≡ length s.marks
 length-begun s learned budget = go ((s.learned == learned) && (s.budget == budget))
   where
-    go : (b : Bool) → length (Remembered.marks (cond b s (record { first = s.first; marks = map without_spent s.marks; learned = learned; budget = budget }))) ≡ length s.marks
+    go : (b : Bool) → length (Remembered.marks (cond b s (record { first = s.first; marks = map without_spent s.marks; learned = learned; budget = budget; index = s.index }))) ≡ length s.marks
     go true = refl
     go false = length-map s.marks without_spent
 
 first-begun : (s : Remembered) (learned budget : ℕ) → (begun s learned budget).first ≡ s.first
 first-begun s learned budget = go ((s.learned == learned) && (s.budget == budget))
   where
-    go : (b : Bool) → Remembered.first (cond b s (record { first = s.first; marks = map without_spent s.marks; learned = learned; budget = budget })) ≡ s.first
+    go : (b : Bool) → Remembered.first (cond b s (record { first = s.first; marks = map without_spent s.marks; learned = learned; budget = budget; index = s.index })) ≡ s.first
+    go true = refl
+    go false = refl
+
+index-begun : (s : Remembered) (learned budget : ℕ) → (begun s learned budget).index ≡ s.index
+index-begun s learned budget = go ((s.learned == learned) && (s.budget == budget))
+  where
+    go : (b : Bool) → Remembered.index (cond b s (record { first = s.first; marks = map without_spent s.marks; learned = learned; budget = budget; index = s.index })) ≡ s.index
     go true = refl
     go false = refl
 
@@ -452,6 +460,7 @@ pub made_over : (l : Language) (bytes : List ℕ) (first end learned budget : �
 made_over l bytes first end learned budget old new taken made = record {
   first = taken.numbers ∙ first-begun old learned budget ∙ made.first;
   marks = taken_room bytes first end learned budget old new taken ∙ made.marks;
+  index = subst (IsIndexOf l) (sym (taken.index ∙ index-begun old learned budget)) made.index;
 }
 
 pub holds_over : (l : Language) (network kept : List Candidate) (budget first end : ℕ) (bytes : List ℕ) (answer : Query) (old new : Remembered) → HasTaken bytes first end (begun old (length network) budget) new →

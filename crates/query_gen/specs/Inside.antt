@@ -14,7 +14,7 @@ use Rattle.query_gen.specs.Marks.{Remembered, IsMadeFor, MarksHold, mark_of}
 use Rattle.query_gen.specs.declared.screen.Screen.TheInside.{Inside}
 
 abbrev pub seen : Inside → Remembered
-seen a = record { first = a.first.items; marks = a.marks.items; learned = a.learned; budget = a.budget }
+seen a = record { first = a.first.items; marks = a.marks.items; learned = a.learned; budget = a.budget; index = a.index }
 
 -- a mark that doesn't say "spent" any more
 abbrev pub without_spent : Mark → Mark
@@ -26,11 +26,11 @@ without_spent Spent = Blank
 abbrev pub begun : Remembered → ℕ → ℕ → Remembered
 begun s learned budget =
     if (s.learned == learned) && (s.budget == budget) then s
-    else record { first = s.first; marks = map without_spent s.marks; learned = learned; budget = budget }
+    else record { first = s.first; marks = map without_spent s.marks; learned = learned; budget = budget; index = s.index }
 
 -- the same with another mark at a number
 abbrev pub with_mark : Remembered → ℕ → Mark → Remembered
-with_mark s number m = record { first = s.first; marks = slice_set s.marks number m; learned = s.learned; budget = s.budget }
+with_mark s number m = record { first = s.first; marks = slice_set s.marks number m; learned = s.learned; budget = s.budget; index = s.index }
 
 -- what an outcome leaves to remember
 abbrev pub mark_for : Outcome → Mark

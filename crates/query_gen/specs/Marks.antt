@@ -3,6 +3,8 @@ use Rattle.std.specs.Prelude.{ℕ, ◌≡◌, ◌≤◌, Bool, true, false, List
 use Rattle.assign.specs.Sets.{numbers}
 use Rattle.language.specs.declared.candidates.Candidate.{Candidate}
 use Rattle.language.specs.Language.{Language, IsCandidate, candidates, number_of}
+use Rattle.propagators.specs.declared.index.Index.{Index}
+use Rattle.propagators.specs.Indexes.{IsIndexOf}
 use Rattle.fd_solver.specs.declared.outcome.Outcome.TheVariants as outcomes
 use Rattle.fd_solver.specs.Outcomes.{outcome_of_candidate}
 use Rattle.query_gen.specs.declared.screen.Mark.{Mark}
@@ -16,11 +18,14 @@ pub record Remembered : Type 0 where
   -- how many candidates were learned when the marks "spent" were set, and their budget
   pub learned : ℕ
   pub budget : ℕ
+  -- what is known before searches against candidates
+  pub index : Index
 
--- the numbers of the language's candidates, and a mark for each of these
+-- the numbers of the language's candidates, a mark for each of these, and an index of such candidates
 pub record IsMadeFor (l : Language) (s : Remembered) : Type 0 where
   pub first : s.first ≡ map (λ scope. number_of l (record { scope = scope; rel = 0 })) (numbers (length l.scopes))
   pub marks : length s.marks ≡ length (candidates l)
+  pub index : IsIndexOf l s.index
 
 -- no candidate has a mark
 abbrev pub HasNoMarks : Remembered → Type 0

@@ -93,5 +93,6 @@ pub record HasTaken (bytes : List ℕ) (first end : ℕ) (old new : Remembered) 
   pub size : length new.marks ≡ length old.marks
   pub learned : new.learned ≡ old.learned
   pub budgeted : new.budget ≡ old.budget
+  pub index : new.index ≡ old.index
   pub inside : (n : ℕ) → first ≤ n → n < end → slice_index_or new.marks n Blank ≡ mark_taken (slice_index_or old.marks n Blank) (slice_index_or bytes (n - first) 0)
   pub outside : (n : ℕ) → (n < first) ⊎ (end ≤ n) → slice_index_or new.marks n Blank ≡ slice_index_or old.marks n Blank

@@ -207,7 +207,7 @@ impl Place {
         }
         let mark = screen.mark_under(number, net.len(), budget);
         self.searches = self.searches.saturating_add(u32::from(mark == Mark::Blank));
-        let outcome = outcome_of(&mut self.work, mark, lang, net, budget, c);
+        let outcome = outcome_of(&mut self.work, screen.index(), mark, lang, net, budget, c);
         self.marks[(number - first) as usize] = byte_for(&outcome);
         match outcome {
             Outcome::Found(e) => self.answer = Query::Ask(e),

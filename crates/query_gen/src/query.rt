@@ -4,6 +4,7 @@ ghost use Rattle.std.specs.Prelude.{◌≡◌, ◌<◌, ◌≤◌, ◌&&◌, tru
 ghost use Rattle.language.specs.Language.{IsCandidate};
 ghost use Rattle.language.specs.Answers.{IsNetwork};
 ghost use Rattle.bias_store.specs.KeptSet.{IsMadeFor as IsKeptOf};
+ghost use Rattle.propagators.specs.Indexes.{IsIndexOf};
 ghost use Rattle.fd_solver.specs.Outcomes.{outcome_of_candidate};
 ghost use Rattle.query_gen.specs.Questions.{is_among, is_spent, found_in, next_query};
 ghost use Rattle.query_gen.specs.Marks.{IsMadeFor, MarksHold, is_open};
@@ -12,10 +13,10 @@ ghost use Rattle.query_gen.specs.Inside.{mark_for, kept_on, outcome_among, IsBeg
 use crate::screen::{Mark, Screen};
 use assign::Partial;
 use bias_store::{Kept, split_first};
-use fd_solver::{Outcome, Work, order_of, search};
+use fd_solver::{Outcome, Work, order_of, search_with};
 use language::{Candidate, Language, ScopeId};
 use network::Network;
-use propagators::Constraints;
+use propagators::{Constraints, Index};
 
 /// What comes next in a session.
 #[derive(Clone, Copy, Debug, PartialEq, Eq)]
@@ -31,12 +32,14 @@ pub enum Query {
 /// The outcome of a candidate, searched for where its mark doesn't say it.
 pub(crate) fn outcome_of(
     work: &mut Work,
+    index: &Index,
     mark: Mark,
     lang: &Language,
     net: &Network,
     budget: u32,
     c: Candidate,
 ) -> Outcome
+    requires index { IsIndexOf lang.now index.now }
     requires candidate { IsCandidate lang.now c }
     requires network { IsNetwork lang.now net.now.list }
     requires implied { mark ≡ Mark.Implied → outcome_of_candidate lang.now net.now.list c budget ≡ Outcome.Absent }
@@ -53,7 +56,7 @@ pub(crate) fn outcome_of(
                 list: net.list(),
                 against: Some(c),
             };
-            search(work, &constraints, &order_of(lang, c), budget)
+            search_with(work, index, &constraints, &order_of(lang, c), budget)
         }
     }
 }
@@ -87,7 +90,7 @@ fn outcome_at(
     ensures marked { IsMarked lang.now net.now.list budget screen.new c }
 {
     let number = lang.number_of(c);
-    let outcome = outcome_of(work, screen.mark(number), lang, net, budget, c);
+    let outcome = outcome_of(work, screen.index(), screen.mark(number), lang, net, budget, c);
     screen.set_mark(number, mark_for(&outcome));
     outcome
 }
@@ -168,6 +171,7 @@ pub fn next_query(
     // exactly the kept candidates whose search was spent are open
     ensures open { result ≡ Query.Undecided → (c : Candidate) → IsCandidate lang.now c → is_open lang.now screen.new c ≡ (is_among kept.now.members c && is_spent (outcome_of_candidate lang.now net.now.list c budget)) }
 {
+    screen.follow(lang, net);
     screen.begin(net.len(), budget);
     let mut some_spent = false;
     for scope in 0..lang.scopes() as ScopeId {

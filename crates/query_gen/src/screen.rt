@@ -1,8 +1,9 @@
 //! What is remembered of searches.
 
-ghost use Rattle.std.specs.Prelude.{◌≡◌, ◌<◌, ◌≤◌, ◌+◌, ◌-◌, IfOk, List, length, map, slice_index_or, vec_len};
+ghost use Rattle.std.specs.Prelude.{◌≡◌, ◌<◌, ◌≤◌, ◌+◌, ◌-◌, ℕ, IfOk, List, length, map, slice_index_or, vec_len};
 ghost use Rattle.assign.specs.Sets.{numbers};
 ghost use Rattle.language.specs.Language.{Language, IsCandidate, number_of};
+ghost use Rattle.language.specs.Answers.{IsNetwork};
 ghost use Rattle.query_gen.specs.Marks.{IsMadeFor, HasNoMarks, MarksHold, is_mark_spent, is_open};
 ghost use Rattle.query_gen.specs.Inside.{begun, with_mark, without_spent};
 ghost use Rattle.query_gen.specs.Parts.{mark_taken, AreTaken, IsSearched, HasTaken};
@@ -10,6 +11,7 @@ ghost use Rattle.query_gen.specs.Parts.{mark_taken, AreTaken, IsSearched, HasTak
 use crate::place::{IMPLIED, Place, SPENT};
 use language::{Candidate, Language, Memory, ScopeId};
 use network::Network;
+use propagators::Index;
 use std::alloc::{AllocError, Global};
 use std::marker::Model;
 
@@ -64,6 +66,8 @@ pub struct Screen {
     learned: u32,
     /// The budget under which the marks "spent" were set: those of another one count for nothing.
     budget: u32,
+    /// What is known before searches, of the network that was followed last.
+    index: Index,
 }
 
 impl Model for Screen {
@@ -108,7 +112,7 @@ fn take_bytes(marks: &mut [Mark], first: usize, bytes: &[u8], count: usize)
 }
 
 impl Screen {
-    /// No marks, a byte for each candidate. `Memory` where there is none for them.
+    /// No marks, a byte for each candidate, and some 32 bytes for each scope. `Memory` where there is none for them.
     pub fn new(alloc: Global, lang: &Language) -> Result<Screen, Memory>
         ensures made { IfOk result (IsMadeFor lang.now) }
         ensures unmarked { IfOk result HasNoMarks }
@@ -116,12 +120,14 @@ impl Screen {
         let Ok(first) = first_numbers(alloc, lang) else {
             return Err(Memory);
         };
+        let index = Index::new(alloc, lang)?;
         match vec![in alloc; Mark::Blank; lang.candidates() as usize] {
             Ok(marks) => Ok(Screen {
                 first,
                 marks,
                 learned: 0,
                 budget: 0,
+                index,
             }),
             Err(_) => Err(Memory),
         }
@@ -145,6 +151,23 @@ impl Screen {
         }
         let number = self.first[scope] as usize + usize::from(c.rel);
         number < self.marks.len() && self.marks[number].is_spent()
+    }
+
+    /// Brings what is known before searches up to a network. Whether this was done tells nothing but how long a search takes.
+    pub fn follow(&mut self, lang: &Language, net: &Network)
+        requires made { IsMadeFor lang.now self.old }
+        requires network { IsNetwork lang.now net.now.list }
+        ensures made { IsMadeFor lang.now self.new }
+        ensures holds { (network : List Candidate) (budget : ℕ) → MarksHold lang.now network budget self.old → MarksHold lang.now network budget self.new }
+    {
+        self.index.follow(lang, net.list());
+    }
+
+    /// What is known before searches, of the last network that was followed.
+    pub(crate) fn index(&self) -> &Index
+        ensures { result.now ≡ self.now.index }
+    {
+        &self.index
     }
 
     /// Begins a search with so many learned candidates and this budget: marks "spent" of others go.

@@ -1,27 +1,16 @@
-use Rattle.std.proofs.Common.{◌∙◌, ap, sym, arith}
-use Rattle.propagators.specs.Families.{Arc, arc_of, arcs_of}
-use Rattle.propagators.proofs.Masking.{briefs_next}
-use Rattle.propagators.proofs.Lazy.{limits_next}
-use Rattle.propagators.proofs.Visiting.{noted_next}
+use Rattle.std.proofs.Common.{arith}
+use Rattle.propagators.specs.Families.{arcs_of}
+use Rattle.propagators.proofs.Indexed.{taken_none}
 use Rattle.propagators.proofs.visits.arrange_all.Goals as goal
 
-pub loop-i-preserved : goal.loop-i-preserved
-loop-i-preserved c = record {
-  briefs = briefs_next c.args.cons.now.lang.now (arcs_of c.args.cons.now.lang.now c.args.cons.now.list.now c.args.cons.now.against) c.loop-i.briefs c.loop-i.i c.brief_of-brief.result (arc_of c.args.cons.now.lang.now c.condition-holding.result.0 c.condition-holding.result.1)
-      (let end = c.min-end.ensures in let low = c.loop-i-test.true in let long = c.loop-i.auto.briefs in omega arith) c.condition-holding.ensures.is c.brief_of-brief.ensures.is c.loop-i.invariant.briefs;
-  limits = limits_next (arcs_of c.args.cons.now.lang.now c.args.cons.now.list.now c.args.cons.now.against) c.loop-i.briefs c.loop-i.limits c.raise_all.new.limits c.scope-scope.result.now c.loop-i.i c.brief_of-brief.result
-      (let end = c.min-end.ensures in let low = c.loop-i-test.true in let long = c.loop-i.auto.briefs in omega arith)
-      (λ a. ap (λ (b : Arc). b.scope) (c.condition-holding.ensures.is a) ∙ sym c.scope-scope.ensures.is) c.raise_all.ensures.there c.raise_all.ensures.grows c.loop-i.invariant.limits;
-  wide = (let same = c.raise_all.auto.limits in let wide = c.loop-i.invariant.wide in omega arith);
-  long = (let same = c.note.auto.sets in let long = c.loop-i.invariant.long in omega arith);
-  noted = noted_next (arcs_of c.args.cons.now.lang.now c.args.cons.now.list.now c.args.cons.now.against) c.args.words c.loop-i.i c.scope-scope.result.now c.loop-i.sets c.note.new.sets
-      (λ a. ap (λ (b : Arc). b.scope) (c.condition-holding.ensures.is a) ∙ sym c.scope-scope.ensures.is) c.note.ensures.grows c.note.ensures.there c.loop-i.invariant.noted;
-}
+pub take_in-requires-clause-front : goal.take_in-requires-clause-front
+take_in-requires-clause-front c = taken_none c.args.cons.now.lang.now (arcs_of c.args.cons.now.lang.now c.args.cons.now.list.now c.args.cons.now.against) _ _ _
+
+pub note_rest-requires-clause-first : goal.note_rest-requires-clause-first
+note_rest-requires-clause-first c = λ k v a low. c.take_in.ensures.noted k v a (let end = c.min-end.ensures in let count = c.count-2.ensures in omega arith)
 
 pub returns-clause-briefs : goal.returns-clause-briefs
-returns-clause-briefs c = λ k a b low below.
-    c.loop-i.invariant.briefs k a b (let end = c.min-end.ensures in let done = c.loop-i-test.false in let count = c.count-2.ensures in let long = c.loop-i.auto.briefs in omega arith)
+returns-clause-briefs c = λ k a b low below. c.take_in.ensures.briefs k a b (omega arith)
 
 pub returns-clause-limits : goal.returns-clause-limits
-returns-clause-limits c = λ k j a b low below l.
-    c.loop-i.invariant.limits k j a b (let end = c.min-end.ensures in let done = c.loop-i-test.false in let count = c.count-2.ensures in let long = c.loop-i.auto.briefs in omega arith) l
+returns-clause-limits c = λ k j a b low below l. c.take_in.ensures.limits k j a b (omega arith) l

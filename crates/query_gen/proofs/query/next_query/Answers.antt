@@ -12,7 +12,7 @@ use Rattle.query_gen.proofs.query.next_query.Goals.{in-Absent, in-Spent}
 pub loop-scope-init : goal.loop-scope-init
 loop-scope-init c = record {
   next = query_begin c.args.lang.now c.args.net.now.list c.args.kept.now.members c.args.budget;
-  screen = subst (IsBegun c.args.lang.now c.args.net.now.list c.args.budget) (sym c.begin.ensures) (has_begun c.args.lang.now c.args.net.now.list c.args.budget c.args.screen.now c.len.result c.requires.screen c.requires.marks c.len.ensures.is);
+  screen = subst (IsBegun c.args.lang.now c.args.net.now.list c.args.budget) (sym c.begin.ensures) (has_begun c.args.lang.now c.args.net.now.list c.args.budget c.follow.new.self c.len.result c.follow.ensures.made (c.follow.ensures.holds c.args.net.now.list c.args.budget c.requires.marks) c.len.ensures.is);
   marked = λ d known below. absurd (omega arith);
 }
 

@@ -1,0 +1,24 @@
+use Rattle.std.proofs.Common.{◌∙◌, [], ap, sym, subst}
+use Rattle.std.specs.Prelude.{slice_index_or}
+use Rattle.language.specs.Language.{variable_count}
+use Rattle.assign.specs.Assignment.{assigned}
+use Rattle.propagators.specs.Families.{has_family}
+use Rattle.fd_solver.specs.Outcomes.{is_alive_in}
+use Rattle.fd_solver.specs.Ready.{IsReady}
+use Rattle.language.proofs.Filling.{assigned_blank}
+use Rattle.fd_solver.proofs.Alive.{alive_fronts}
+use Rattle.fd_solver.proofs.Narrowing.{ready_first}
+use Rattle.fd_solver.proofs.Turning.{turn_dead}
+use Rattle.fd_solver.proofs.depth_first.search_with.Goals as goal
+
+pub walk-requires-clause-ready : goal.walk-requires-clause-ready
+walk-requires-clause-ready c = record {
+  depths = ready_first c.args.cons.now.lang.now c.args.cons.now.list.now c.args.cons.now.against c.args.order.now c.begin_with.new.self.depths
+      (subst (λ e. IsReady c.args.cons.now.lang.now c.args.cons.now.list.now c.args.cons.now.against e (slice_index_or c.begin_with.new.self.depths 0 [])) (assigned_blank (variable_count c.args.cons.now.lang.now) c.args.order.now c.requires.order) (c.begin_with.ensures.ready c.if-begin_with.true));
+  plan = c.begin_with.ensures.plan;
+}
+
+pub returns-else-begin_with : goal.returns-else-begin_with
+returns-else-begin_with c = sym (turn_dead c.args.cons.now.lang.now.value_count (variable_count c.args.cons.now.lang.now) (assigned (variable_count c.args.cons.now.lang.now) c.args.order.now)
+    (is_alive_in c.args.cons.now.lang.now c.args.cons.now.list.now c.args.cons.now.against c.args.order.now) c.args.budget (alive_fronts c.args.cons.now.lang.now c.args.cons.now.list.now c.args.cons.now.against c.args.order.now)
+    (ap (has_family c.args.cons.now.lang.now c.args.cons.now.list.now c.args.cons.now.against) (sym (assigned_blank (variable_count c.args.cons.now.lang.now) c.args.order.now c.requires.order)) ∙ c.begin_with.ensures.dead c.if-begin_with.false))
