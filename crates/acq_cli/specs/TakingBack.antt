@@ -81,6 +81,7 @@ module _ {D : Type 0} (disk : DiskOf D) where
     pub opens : ForSome (disk.content old) (λ bytes. Holds bytes of)
     pub session : IsSession of
     pub takes : takes_one of ≡ true
+    pub room : length of.events + 1 < 1000000
     pub later : List Event
     pub ends : EndsBack (back_said of) of.events later said
     pub all_places : HavePlaces of.lang of.plan (of.events ++ event.Back ∷ [])

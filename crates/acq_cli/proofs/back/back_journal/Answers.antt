@@ -86,6 +86,7 @@ returns-clause-backs g c =
       opens = λ bytes told. record { says = c.in-Ok.ensures.opened bytes told; session = record { read = c.in-Ok.ensures.sound.read; places = c.in-Ok.ensures.places } };
       session = record { read = c.in-Ok.ensures.sound.read; places = c.in-Ok.ensures.places };
       takes = one.0;
+      room = room;
       later = events_of after;
       ends = subst Ends (ap (λ (m : ℕ). saying (taken_text m) ending.Done) number.0 ∙ one.1) c.take_last.ensures.ends;
       all_places = back_has_place o.lang o.plan o.events c.in-Ok.ensures.places (some_there o.lang o.events c.in-Some.m number.0 number.1);
