@@ -1,6 +1,6 @@
 //! Sifting by an enumeration of all assignments.
 
-use std::alloc::{AllocError, Global};
+use std::alloc::Global;
 
 /// A relation on two variables: the tuple of values x and y, counted from 0, is in it where its bit d x + y is one.
 #[derive(Clone, Copy)]
@@ -71,15 +71,15 @@ pub(crate) fn remaining(
     ranges: &[(u8, u8)],
     assignments: u64,
     items: &[Item],
-) -> Result<Vec<usize>, AllocError> {
+) -> Option<Vec<usize>> {
     let mut kept = Vec::new(alloc);
     let mut places = Vec::new(alloc);
     for place in 0..items.len() {
         let item = items[place];
         if !is_implied(d, ranges, assignments, &kept, &items[place + 1..], &item) {
-            kept.push(item)?;
-            places.push(place)?;
+            kept.push(item).ok()?;
+            places.push(place).ok()?;
         }
     }
-    Ok(places)
+    Some(places)
 }
