@@ -90,7 +90,15 @@ fn outcome_at(
     ensures marked { IsMarked lang.now net.now.list budget screen.new c }
 {
     let number = lang.number_of(c);
-    let outcome = outcome_of(work, screen.index(), screen.mark(number), lang, net, budget, c);
+    let outcome = outcome_of(
+        work,
+        screen.index(),
+        screen.mark(number),
+        lang,
+        net,
+        budget,
+        c,
+    );
     screen.set_mark(number, mark_for(&outcome));
     outcome
 }
