@@ -92,6 +92,14 @@ def bounded_sums(count, scopes, number):
     return Task(f"{count} variables of arity 4", vocabulary(names, [0, 15], relations, [list(four) for four in listed]), network)
 
 
+def with_ranges(task):
+    """Every second variable lacks the least value of the domain, and every third the greatest."""
+    names, (first, last) = task.vocabulary["variables"], task.vocabulary["domain"]
+    bounds = [(name, first + (i % 2), last - (i % 3 == 0)) for i, name in enumerate(names)]
+    ranges = [[name, least, most] for name, least, most in bounds if (least, most) != (first, last)]
+    return Task(f"{task.name} with ranges", {**task.vocabulary, "ranges": ranges}, task.constraints)
+
+
 def milliseconds(seconds):
     return f"{seconds * 1000:,.0f}" if seconds >= 0.01 else f"{seconds * 1000:.1f}"
 
@@ -119,11 +127,15 @@ def cases():
     yield False, lambda: Case(mixed_network(50, 10, 122, 122))
     yield False, lambda: Case(exams(24, 10, 24))
     yield False, lambda: Case(exams(60, 15, 60))
+    yield False, lambda: Case(with_ranges(exams(60, 15, 60)))
+    yield False, lambda: Case(exams(60, 15, 60), "--plan", "multi")
     yield False, lambda: Case(golomb(7, 15))
     yield False, lambda: Case(queens(8))
     yield True, lambda: Case(drawn_network(128, 10, 300, 300, ORDERS))
     yield True, lambda: Case(mixed_network(128, 10, 300, 300))
+    yield True, lambda: Case(mixed_network(128, 10, 300, 300), "--plan", "multi")
     yield True, lambda: Case(exams(100, 20, 100))
+    yield True, lambda: Case(exams(128, 20, 128))
     yield True, lambda: Case(exams(100, 20, 100), "--plan", "scopes")
     yield True, lambda: Case(mixed_network(128, 10, 300, 300), "--plan", "scopes")
     yield True, lambda: Case(bounded_sums(60, 2380, 60), "--plan", "scopes")
