@@ -84,11 +84,7 @@ pub(crate) fn back_journal<D: Disk>(alloc: Global, disk: &mut D) -> Result<Said,
         Err(fault) => return refused(alloc, fault),
     };
     let Some(m) = last_answer::<D, Store>(&store) else {
-        return or_silent(fixed(
-            alloc,
-            "refused nothing to take back\n",
-            Ending::NothingBack,
-        ));
+        return or_silent(fixed(alloc, "refused nothing to take back\n", Ending::NothingBack));
     };
     if is_full::<D, Store>(&store) {
         return or_silent(fixed(alloc, "refused journal full\n", Ending::JournalFull));

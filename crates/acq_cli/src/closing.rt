@@ -96,7 +96,11 @@ pub(crate) fn closing(
             Ending::LineTooLong,
         )),
         Drove::Unreadable => or_silent(fixed(alloc, "refused lines\n", Ending::Unreadable)),
-        Drove::JournalFull => or_silent(fixed(alloc, "refused journal full\n", Ending::JournalFull)),
+        Drove::JournalFull => or_silent(fixed(
+            alloc,
+            "refused journal full\n",
+            Ending::JournalFull,
+        )),
         Drove::ReadFault => Err(Unsaid::ReadFault),
         Drove::DiskFault => Err(Unsaid::DiskFault),
         Drove::Memory => Err(Unsaid::Memory),

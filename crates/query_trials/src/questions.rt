@@ -278,7 +278,9 @@ fn begun(
     requires some_budget { 1 ≤ budget }
     requires small_budget { budget ≤ 1000000000 }
 {
-    let mut screen = Screen::new(alloc, lang).ok()?;
+    let Ok(mut screen) = Screen::new(alloc, lang) else {
+        return None;
+    };
     let mut net = Network::new(alloc, lang).ok()?;
     take_back(&mut screen, lang, kept, &mut net, budget);
     turns(
@@ -357,7 +359,9 @@ fn push_first(
     requires some_budget { 1 ≤ budget }
     requires small_budget { budget ≤ 1000000000 }
 {
-    let mut screen = Screen::new(alloc, lang).ok()?;
+    let Ok(mut screen) = Screen::new(alloc, lang) else {
+        return None;
+    };
     let net = Network::new(alloc, lang).ok()?;
     let query = next_query(work, &mut screen, lang, kept, &net, budget);
     push_query(text, lang, &screen, &query)
