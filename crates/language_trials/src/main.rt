@@ -2,6 +2,7 @@
 //! worked out by hand. `stdin` is their table.
 #![tactic(auto)]
 
+mod frames;
 mod languages;
 mod networks;
 mod vocabularies;
@@ -24,7 +25,7 @@ fn answer_over(alloc: Global, lang: &Language, call: &str, arguments: &str) -> O
         "scope-of" => languages::scope_of(alloc, lang, arguments),
         "learned" => networks::learned(alloc, lang, arguments),
         "accepts" => networks::accepts(alloc, lang, arguments),
-        "forgets" => networks::forgets(alloc, lang, arguments),
+        "items" => networks::items(alloc, lang, arguments),
         "network" => networks::read(alloc, lang, arguments),
         _ => None,
     }
@@ -35,6 +36,7 @@ struct Trials;
 impl Calls for Trials {
     fn answer(&self, alloc: Global, over: &str, call: &str, arguments: &str) -> Option<String> {
         match call {
+            "frame" => frames::frame(alloc, arguments),
             "reads" => vocabularies::told(alloc, arguments.as_bytes()),
             "bytes" => vocabularies::of_bytes(alloc, arguments),
             "fronts" => vocabularies::fronts(alloc, arguments),

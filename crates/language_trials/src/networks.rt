@@ -55,6 +55,21 @@ fn learn_all(lang: &Language, net: &mut Network, list: &str) -> Option<()>
     Some(())
 }
 
+/// The network that learns candidates, and where others stand behind ` then`, forgets them all and learns the others.
+fn network_in(alloc: Global, lang: &Language, text: &str) -> Option<Network>
+    ensures { IfSome result (λ net. IsNetwork lang.now net.list) }
+{
+    let mut net = Network::new(alloc, lang).ok()?;
+    let Some((list, others)) = text.split_once(" then") else {
+        learn_all(lang, &mut net, text)?;
+        return Some(net);
+    };
+    learn_all(lang, &mut net, list)?;
+    net.clear();
+    learn_all(lang, &mut net, others)?;
+    Some(net)
+}
+
 /// The text of a network, and how many candidates it has.
 fn text_of(alloc: Global, lang: &Language, net: &Network) -> Option<String>
     requires { IsNetwork lang.now net.now.list }
@@ -66,8 +81,7 @@ fn text_of(alloc: Global, lang: &Language, net: &Network) -> Option<String>
 
 /// Candidates `SCOPE.RELATION`: the network that has learned them in this order.
 pub(crate) fn learned(alloc: Global, lang: &Language, arguments: &str) -> Option<String> {
-    let mut net = Network::new(alloc, lang).ok()?;
-    learn_all(lang, &mut net, arguments)?;
+    let net = network_in(alloc, lang, arguments)?;
     text_of(alloc, lang, &net)
 }
 
@@ -75,20 +89,30 @@ pub(crate) fn learned(alloc: Global, lang: &Language, arguments: &str) -> Option
 pub(crate) fn accepts(alloc: Global, lang: &Language, arguments: &str) -> Option<String> {
     let (list, asked) = arguments.split_once(" at")?;
     let q = question_in(alloc, lang, &mut asked.split_whitespace())?;
-    let mut net = Network::new(alloc, lang).ok()?;
-    learn_all(lang, &mut net, list)?;
+    let net = network_in(alloc, lang, list)?;
     let said = if net.accepts(lang, &q) { "yes" } else { "no" };
     String::from_str(alloc, said).ok()
 }
 
-/// Candidates that are learned and forgotten, and others that are learned after them.
-pub(crate) fn forgets(alloc: Global, lang: &Language, arguments: &str) -> Option<String> {
-    let (list, others) = arguments.split_once(" then")?;
-    let mut net = Network::new(alloc, lang).ok()?;
-    learn_all(lang, &mut net, list)?;
-    net.clear();
-    learn_all(lang, &mut net, others)?;
-    text_of(alloc, lang, &net)
+/// Adds each candidate of a network, by its number from 0.
+fn push_items(text: &mut String, net: &Network) -> Option<()> {
+    for i in 0..net.len() {
+        let c = net.item(i);
+        if net.list().get(i as usize) != Some(&c) {
+            return None;
+        }
+        let (scope, rel) = (c.scope, c.rel);
+        writeln!(text, "{scope}.{rel}").ok()?;
+    }
+    Some(())
+}
+
+/// Candidates: the network's candidates by their numbers.
+pub(crate) fn items(alloc: Global, lang: &Language, arguments: &str) -> Option<String> {
+    let net = network_in(alloc, lang, arguments)?;
+    let mut text = String::new(alloc);
+    push_items(&mut text, &net)?;
+    Some(text)
 }
 
 /// A network in JSON: its text, or that of the refusal.

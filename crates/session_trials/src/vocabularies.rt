@@ -7,7 +7,6 @@ use crate::plain::{Lists, MOST_RELATIONS, Scope};
 use language::Language;
 use samples::{Numbers, Relation, language_within, places, some_ranges};
 use std::alloc::Global;
-use std::test::Fail;
 
 /// What a random language is made of.
 #[derive(Clone, Copy)]
@@ -61,20 +60,18 @@ fn relation(random: &mut Numbers, name: &'static str, arity: u8, values: u8) -> 
 }
 
 /// One to three random relations of the shape.
-fn relations(
-    alloc: Global,
-    random: &mut Numbers,
-    shape: &Shape,
-) -> Result<Vec<Relation<'static>>, Fail> {
+fn relations(alloc: Global, random: &mut Numbers, shape: &Shape) -> Option<Vec<Relation<'static>>> {
     let [first, second, third] = shape.arities;
     let rows = [("first", first), ("second", second), ("third", third)];
     let mut relations = Vec::new(alloc);
     for (name, arity) in rows {
         if relations.len() < usize::from(shape.relations) {
-            relations.push(relation(random, name, arity, shape.values))?;
+            relations
+                .push(relation(random, name, arity, shape.values))
+                .ok()?;
         }
     }
-    Ok(relations)
+    Some(relations)
 }
 
 /// Whether some relation has so many places.
@@ -83,7 +80,7 @@ fn has_arity(shape: &Shape, size: u32) -> bool {
 }
 
 /// Random sets of variables for which there are relations, none of them within another.
-fn sets(alloc: Global, random: &mut Numbers, shape: &Shape) -> Result<Vec<u128>, Fail> {
+fn sets(alloc: Global, random: &mut Numbers, shape: &Shape) -> Option<Vec<u128>> {
     let mut sets = Vec::new(alloc);
     for _ in 0..20u8 {
         let set = u128::from(random.byte_below(32));
@@ -91,15 +88,15 @@ fn sets(alloc: Global, random: &mut Numbers, shape: &Shape) -> Result<Vec<u128>,
             .iter()
             .all(|other| *other & set != *other && *other & set != set);
         if set >> (shape.variables.min(5)) == 0 && has_arity(shape, set.count_ones()) && is_apart {
-            sets.push(set)?;
+            sets.push(set).ok()?;
         }
     }
-    Ok(sets)
+    Some(sets)
 }
 
 /// A random language: two to five variables with one to three values, or some of these alone, one to three relations of one to four places, and
 /// their intersections.
-pub(crate) fn language(alloc: Global, random: &mut Numbers) -> Result<Language, Fail> {
+pub(crate) fn language(alloc: Global, random: &mut Numbers) -> Option<Language> {
     let shape = random_shape(random);
     let sets = sets(alloc, random, &shape)?;
     let relations = relations(alloc, random, &shape)?;
@@ -109,58 +106,58 @@ pub(crate) fn language(alloc: Global, random: &mut Numbers) -> Result<Language, 
         Some(sets.as_slice())
     };
     let (n, d) = (shape.variables, shape.values);
-    let ranges = some_ranges(alloc, random, n, d)?;
-    Ok(language_within(alloc, n, d, &ranges, &relations, scopes)?)
+    let ranges = some_ranges(alloc, random, n, d).ok()?;
+    language_within(alloc, n, d, &ranges, &relations, scopes).ok()
 }
 
 /// The truth of relation r on a scope at each tuple.
-fn truths(alloc: Global, lang: &Language, s: u16, r: u8) -> Result<Vec<bool>, Fail>
+fn truths(alloc: Global, lang: &Language, s: u16, r: u8) -> Option<Vec<bool>>
     requires scope { s < length lang.now.scopes }
     requires relation { r < length (relations_on lang.now s) }
 {
     let mut truths = Vec::new(alloc);
     for place in 0..lang.table_on(s, r).size() {
-        truths.push(lang.holds(s, r, place))?;
+        truths.push(lang.holds(s, r, place)).ok()?;
     }
-    Ok(truths)
+    Some(truths)
 }
 
 /// The relations on a scope.
-fn relations_on(alloc: Global, lang: &Language, s: u16) -> Result<Vec<Vec<bool>>, Fail>
+fn relations_on(alloc: Global, lang: &Language, s: u16) -> Option<Vec<Vec<bool>>>
     requires { s < length lang.now.scopes }
 {
     let mut relations = Vec::new(alloc);
     for r in 0..lang.relations_on(s) {
-        relations.push(truths(alloc, lang, s, r)?)?;
+        relations.push(truths(alloc, lang, s, r)?).ok()?;
     }
     if relations.len() > MOST_RELATIONS {
-        return Err(Fail::from("too many relations"));
+        return None;
     }
-    Ok(relations)
+    Some(relations)
 }
 
-fn scope(alloc: Global, lang: &Language, s: u16) -> Result<Scope, Fail>
+fn scope(alloc: Global, lang: &Language, s: u16) -> Option<Scope>
     requires { s < length lang.now.scopes }
 {
     let mut variables = Vec::new(alloc);
-    variables.extend_from_slice(lang.scope(s))?;
-    Ok(Scope {
+    variables.extend_from_slice(lang.scope(s)).ok()?;
+    Some(Scope {
         variables,
         relations: relations_on(alloc, lang, s)?,
     })
 }
 
 /// A language as lists.
-pub(crate) fn lists_of(alloc: Global, lang: &Language) -> Result<Lists, Fail> {
+pub(crate) fn lists_of(alloc: Global, lang: &Language) -> Option<Lists> {
     let mut scopes = Vec::new(alloc);
     for s in 0..lang.scopes() as u16 {
-        scopes.push(scope(alloc, lang, s)?)?;
+        scopes.push(scope(alloc, lang, s)?).ok()?;
     }
     let mut ranges = Vec::new(alloc);
     for v in 0..lang.n() {
-        ranges.push(lang.range(v))?;
+        ranges.push(lang.range(v)).ok()?;
     }
-    Ok(Lists {
+    Some(Lists {
         variables: lang.n(),
         values: lang.d(),
         ranges,

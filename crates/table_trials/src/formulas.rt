@@ -36,7 +36,7 @@ pub(crate) fn formula(alloc: Global, arguments: &str) -> Option<String> {
 }
 
 /// A digit for each tuple.
-fn digits(alloc: Global, table: &Table) -> Option<String> {
+pub(crate) fn digits(alloc: Global, table: &Table) -> Option<String> {
     let mut digits = String::new(alloc);
     for place in 0..table.size() {
         digits.push(if table.at(place) { '1' } else { '0' }).ok()?;

@@ -3,6 +3,7 @@
 ghost use Rattle.std.specs.Prelude.{◌≡◌, ◌≤◌, All, IfSome};
 ghost use Rattle.rel_table.specs.Table.{TruthTable};
 
+use crate::formulas::digits;
 use crate::tables::relation;
 use rel_table::{Closed, Table, close};
 use rows::{end, number};
@@ -196,23 +197,13 @@ fn chain(alloc: Global, arguments: &str) -> Option<Vec<Table>>
     Some(file)
 }
 
-/// How many relations of one place there are, and how many values the first and the last of them accept.
+/// How many relations of one place there are, and the truth of the first and of the last of them at each value.
 fn chained(alloc: Global, closed: &Closed) -> Option<String> {
     let list = closed.list(1);
-    let first = list.first()?;
-    let last = list.last()?;
     let count = list.len();
-    let most = accepted(first);
-    let least = accepted(last);
-    format!(in alloc; "{count} relations, of {most} to {least} values").ok()
-}
-
-fn accepted(table: &Table) -> u32 {
-    let mut count = 0u32;
-    for place in 0..table.size() {
-        count = count.saturating_add(u32::from(table.at(place)));
-    }
-    count
+    let first = digits(alloc, list.first()?)?;
+    let last = digits(alloc, list.last()?)?;
+    format!(in alloc; "{count} relations\n{first}\n{last}").ok()
 }
 
 /// The least count and the end of the counts of a chain.

@@ -5,20 +5,16 @@ use crate::plain::{Lists, Values, value_of};
 use crate::vocabularies::{language, lists_of};
 use assign::{Partial, Plan};
 use language::{Candidate, Language};
+use rows::{end, number};
 use samples::Numbers;
 use session_core::{Asking, Idle, Session, begin};
 use std::alloc::Global;
-use std::process::Abort;
-use std::test::Fail;
 
 /// More answers than a session of these languages takes.
 const MOST_ANSWERS: u16 = 2000;
 
 /// How many examples are judged where nothing is open.
 const TRIED: u8 = 4;
-
-/// How many languages there are.
-const LANGUAGES: u64 = 20_000;
 
 /// A session's user and the fold of the answers.
 #[derive(Drop)]
@@ -30,7 +26,7 @@ struct Trial {
     target: Option<Vec<(usize, usize)>>,
 }
 
-/// What came of some trials.
+/// How many answers there were, how many candidates were learned, and how many sessions collapsed.
 #[derive(Clone, Copy)]
 struct Tally {
     answers: u32,
@@ -183,15 +179,15 @@ fn lawful_example(lists: &Lists, fold: &Fold, random: &mut Numbers) -> Option<Va
 }
 
 /// A random network: at each scope a relation or none.
-fn target(alloc: Global, random: &mut Numbers, lists: &Lists) -> Result<Vec<(usize, usize)>, Fail> {
+fn target(alloc: Global, random: &mut Numbers, lists: &Lists) -> Option<Vec<(usize, usize)>> {
     let mut network = Vec::new(alloc);
     for s in 0..lists.scopes.len() {
         let r = random.byte_below(8) as usize;
         if r < lists.relations(s) {
-            network.push((s, r))?;
+            network.push((s, r)).ok()?;
         }
     }
-    Ok(network)
+    Some(network)
 }
 
 impl Trial {
@@ -235,16 +231,19 @@ impl Trial {
     }
 }
 
+/// Why a session isn't as the fold says.
+type Fault = &'static str;
+
 /// Puts a question, where none is open.
-fn put(session: Session, q: Partial) -> Result<Asking, Fail> {
+fn put(session: Session, q: Partial) -> Result<Asking, Fault> {
     match session {
         Session::Asking(asking) => Ok(asking),
-        Session::Over(_) => Err(Fail::from("the session is over")),
+        Session::Over(_) => Err("the session is over"),
         Session::Idle(idle) => {
             if idle.is_lawful(&q) {
                 Ok(idle.ask(q))
             } else {
-                Err(Fail::from("a question isn't lawful"))
+                Err("a question isn't lawful")
             }
         }
     }
@@ -252,31 +251,36 @@ fn put(session: Session, q: Partial) -> Result<Asking, Fail> {
 
 /// Answers a question in the session and in the fold.
 fn answered(
-    rt: &impl Abort,
     alloc: Global,
     session: Session,
     trial: &mut Trial,
     question: Values,
-) -> Result<Session, Fail> {
+) -> Result<Session, Fault> {
     let variables = trial.lists.variables;
     let asking = put(session, partial_of(variables, &question))?;
-    assert!(rt; has_values(&asking.question(), variables, &question));
+    if !has_values(&asking.question(), variables, &question) {
+        return Err("another question is open");
+    }
     let yes = trial.reply(&question);
-    trial.fold.answer(alloc, &trial.lists, question, yes)?;
-    Ok(asking.answer(yes))
+    match trial.fold.answer(alloc, &trial.lists, question, yes) {
+        Ok(()) => Ok(asking.answer(yes)),
+        Err(_) => Err("memory"),
+    }
 }
 
 /// One session beside the fold, to its end.
-fn run(rt: &impl Abort, alloc: Global, begun: Session, trial: &mut Trial) -> Result<Session, Fail> {
+fn run(alloc: Global, begun: Session, trial: &mut Trial) -> Result<Session, Fault> {
     let mut session = begun;
     for _ in 0..MOST_ANSWERS {
-        assert!(rt; trial.agrees(&session));
+        if !trial.agrees(&session) {
+            return Err("the session stands elsewhere");
+        }
         let Some(question) = trial.question(&session) else {
             return Ok(session);
         };
-        session = answered(rt, alloc, session, trial, question)?;
+        session = answered(alloc, session, trial, question)?;
     }
-    Err(Fail::from("a session has too many questions"))
+    Err("the session has too many questions")
 }
 
 /// A trial of this language.
@@ -286,10 +290,10 @@ fn begun_trial(
     mut random: Numbers,
     plan: Plan,
     is_true: bool,
-) -> Result<Trial, Fail> {
+) -> Option<Trial> {
     let lists = lists_of(alloc, lang)?;
     let network = target(alloc, &mut random, &lists)?;
-    Ok(Trial {
+    Some(Trial {
         lists,
         fold: Fold::new(alloc, plan),
         random,
@@ -297,77 +301,113 @@ fn begun_trial(
     })
 }
 
-/// Counts a session that ended.
-fn counted(tally: Tally, session: &Session) -> Tally {
-    Tally {
-        answers: tally.answers.saturating_add(session.answers()),
-        learned: tally.learned.saturating_add(session.network().len()),
-        collapsed: tally
-            .collapsed
-            .saturating_add(u32::from(matches!(session, Session::Over(_)))),
-    }
-}
-
-/// One language's session to its end, and then without answers.
-fn session(
-    rt: &impl Abort,
-    alloc: Global,
-    seed: u64,
-    plan: Plan,
-    is_true: bool,
-    tally: Tally,
-) -> Result<Tally, Fail> {
-    let mut random = Numbers::new(seed);
-    let lang = language(alloc, &mut random)?;
-    let mut trial = begun_trial(alloc, &lang, random, plan, is_true)?;
-    let begun = begin(alloc, lang, plan)?;
-    let session = run(rt, alloc, begun, &mut trial)?;
-    let tally = counted(tally, &session);
-    trial.fold = Fold::new(alloc, plan);
-    assert!(rt; trial.agrees(&session.restart()));
-    Ok(tally)
-}
-
-/// So many sessions, each of a language of its own.
-fn sessions(rt: &impl Abort, alloc: Global, plan: Plan, is_true: bool) -> Result<Tally, Fail> {
-    let mut tally = Tally {
-        answers: 0,
-        learned: 0,
-        collapsed: 0,
+/// One session to its end, and then without answers.
+fn played(alloc: Global, begun: Session, trial: &mut Trial) -> Result<Tally, Fault> {
+    let session = run(alloc, begun, trial)?;
+    let tally = Tally {
+        answers: session.answers(),
+        learned: session.network().len(),
+        collapsed: u32::from(matches!(session, Session::Over(_))),
     };
-    for seed in 1..=LANGUAGES {
-        tally = session(rt, alloc, seed, plan, is_true, tally)?;
+    trial.fold = Fold::new(alloc, trial.fold.plan);
+    if trial.agrees(&session.restart()) {
+        Ok(tally)
+    } else {
+        Err("the session stands elsewhere without its answers")
     }
-    Ok(tally)
 }
 
-/// In each plan, and with true answers and untrue ones. Untrue ones are no network's in some session of a plan with examples
-/// alone.
-#[test]
-fn as_the_plain_fold(rt: HostRuntime) -> Result<(), Fail> {
-    let rows = [
-        (Plan::Scopes, true),
-        (Plan::Scopes, false),
-        (Plan::Quacq, true),
-        (Plan::Quacq, false),
-        (Plan::Multi, true),
-        (Plan::Multi, false),
-    ];
-    for (plan, is_true) in rows {
-        let tally = sessions(&rt, rt.alloc(), plan, is_true)?;
-        let Tally {
-            answers,
-            learned,
-            collapsed,
-        } = tally;
-        assert!(rt;
-            answers > 20_000 && learned > 4_000,
-            "{plan:?} {is_true} {answers} {learned}"
-        );
-        assert!(rt;
-            (collapsed > 0) == (plan != Plan::Scopes && !is_true),
-            "{plan:?} {is_true} {collapsed}"
-        );
+/// One session of the language of a seed.
+fn session(alloc: Global, seed: u64, plan: Plan, is_true: bool) -> Result<Tally, Fault> {
+    let mut random = Numbers::new(seed);
+    let Some(lang) = language(alloc, &mut random) else {
+        return Err("no language");
+    };
+    let Some(mut trial) = begun_trial(alloc, &lang, random, plan, is_true) else {
+        return Err("no lists of the language");
+    };
+    match begin(alloc, lang, plan) {
+        Ok(begun) => played(alloc, begun, &mut trial),
+        Err(_) => Err("memory"),
     }
-    Ok(())
+}
+
+/// What came of the sessions of a row.
+#[derive(Drop)]
+struct Log {
+    tally: Tally,
+    odd: u32,
+    lines: String,
+}
+
+impl Log {
+    /// Takes what came of the session of a seed.
+    fn take(&mut self, seed: u64, came: Result<Tally, Fault>) -> Option<()> {
+        match came {
+            Ok(tally) => {
+                self.tally.answers = self.tally.answers.saturating_add(tally.answers);
+                self.tally.learned = self.tally.learned.saturating_add(tally.learned);
+                self.tally.collapsed = self.tally.collapsed.saturating_add(tally.collapsed);
+                Some(())
+            }
+            Err(fault) => {
+                self.odd = self.odd.saturating_add(1);
+                writeln!(self.lines, "seed {seed}: {fault}").ok()
+            }
+        }
+    }
+}
+
+/// What came of the sessions of these seeds.
+fn played_all(alloc: Global, plan: Plan, is_true: bool, first: u64, last: u64) -> Option<String> {
+    let mut log = Log {
+        tally: Tally {
+            answers: 0,
+            learned: 0,
+            collapsed: 0,
+        },
+        odd: 0,
+        lines: String::new(alloc),
+    };
+    for seed in first..=last {
+        log.take(seed, session(alloc, seed, plan, is_true))?;
+    }
+    let Log { tally, odd, lines } = log;
+    let Tally {
+        answers,
+        learned,
+        collapsed,
+    } = tally;
+    format!(in alloc;
+        "{answers} answers\n{learned} learned\n{collapsed} collapsed\n{odd} odd\n{lines}"
+    ).ok()
+}
+
+fn plan_in(word: &str) -> Option<Plan> {
+    match word {
+        "scopes" => Some(Plan::Scopes),
+        "quacq" => Some(Plan::Quacq),
+        "multi" => Some(Plan::Multi),
+        _ => None,
+    }
+}
+
+/// Whether answers are those of a network.
+fn is_true_in(word: &str) -> Option<bool> {
+    match word {
+        "true" => Some(true),
+        "untrue" => Some(false),
+        _ => None,
+    }
+}
+
+/// A plan, which answers, and the first and the last seed: what came of a session of each seed's language.
+pub(crate) fn sessions(alloc: Global, arguments: &str) -> Option<String> {
+    let mut words = arguments.split_whitespace();
+    let plan = plan_in(words.next()?)?;
+    let is_true = is_true_in(words.next()?)?;
+    let first = number(&mut words)?;
+    let last = number(&mut words)?;
+    end(&mut words)?;
+    played_all(alloc, plan, is_true, first, last)
 }

@@ -1,0 +1,7 @@
+use Rattle.std.proofs.Common.{◌≢◌, take}
+use Rattle.std.specs.Prelude.{All, String, string_bytes}
+use Rattle.std.specs.declared.alloc.Global.{Global}
+use Rattle.language_trials.proofs.frames.with_name.Given as goal
+
+abbrev pub invariant-loop-other : goal.invariant-loop-other
+invariant-loop-other l = All (λ (s : String Global). string_bytes s ≢ string_bytes l.name) (take l.other-index l.other-items)
