@@ -17,3 +17,4 @@ pub mod Chains
 pub mod ByMasks
 pub mod Standing
 pub mod Indexed
+pub mod Single

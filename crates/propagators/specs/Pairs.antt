@@ -39,6 +39,11 @@ pub record IsOnly (xs : List ℕ) (x : ℕ) : Type 0 where
   pub there : has xs x ≡ true
   pub alone : (y : ℕ) → has xs y ≡ true → y ≡ x
 
+-- this is the one value of a variable of the family
+pub record IsValueOf (f : Family) (v x : ℕ) : Type 0 where
+  pub known : v < length f
+  pub only : IsOnly (slice_index_or f v []) x
+
 -- of the condition's two variables one is v, and the other has one value, with which the values of v go that pass
 pub record IsBeside (d : ℕ) (a : Arc) (f : Family) (v : ℕ) (pass : ℕ → Bool) : Type 0 where
   pub other : ℕ

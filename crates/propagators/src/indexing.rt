@@ -20,13 +20,6 @@ use assign::VarSet;
 use language::{Candidate, Language, Memory};
 use std::alloc::Global;
 
-/// Whether two candidates are one.
-fn is_same(one: Candidate, other: Candidate) -> bool
-    ensures { result ≡ true → one ≡ other }
-{
-    one.scope == other.scope && one.rel == other.rel
-}
-
 /// Whether a list begins with another one.
 fn begins_with(list: &[Candidate], front: &[Candidate]) -> bool
     ensures { result ≡ true → take (length front.now) list.now ≡ front.now }
@@ -35,7 +28,7 @@ fn begins_with(list: &[Candidate], front: &[Candidate]) -> bool
         return false;
     }
     for i in 0..front.len() {
-        if !is_same(list[i], front[i]) {
+        if list[i] != front[i] {
             return false;
         }
     }

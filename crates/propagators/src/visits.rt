@@ -1,16 +1,16 @@
 //! Propagation with a plan: only the conditions of a changed variable are looked at.
 
-ghost use Rattle.std.specs.Prelude.{◌≡◌, ◌<◌, ◌≤◌, ◌+◌, ◌*◌, ◌/◌, ◌%◌, ◌==◌, ℕ, List, [], true, false, All, IfSome, IfOk, None, length, min, take, slice_index_or};
+ghost use Rattle.std.specs.Prelude.{◌≡◌, ◌<◌, ◌≤◌, ◌+◌, ◌*◌, ◌/◌, ◌%◌, ◌==◌, ◌⊎◌, ℕ, List, [], true, false, All, IfSome, IfOk, None, length, min, take, slice_index_or};
 ghost use Rattle.std.specs.Int.{bit_at};
 ghost use Rattle.std.specs.List.{list_all};
 ghost use Rattle.assign.specs.Sets.{has, without};
 ghost use Rattle.language.specs.Language.{Language, IsLanguage, variable_count};
 ghost use Rattle.propagators.specs.Allowed.{AreConstraints};
 ghost use Rattle.propagators.specs.Values.{ones_of};
-ghost use Rattle.propagators.specs.Families.{Arc, arcs_of, is_not_empty, is_wanted};
+ghost use Rattle.propagators.specs.Families.{Family, Arc, arcs_of, is_not_empty, is_wanted};
 ghost use Rattle.propagators.specs.Supports.{AreBelow, IsFamilyOf};
 ghost use Rattle.propagators.specs.Loose.{HasTwo, HasMore};
-ghost use Rattle.propagators.specs.Pairs.{IsBeside};
+ghost use Rattle.propagators.specs.Pairs.{IsOnly, IsValueOf, IsBeside};
 ghost use Rattle.propagators.specs.Briefs.{IsPairOf, AreBriefs, arc_by};
 ghost use Rattle.rel_table.specs.Relation.{Relation};
 ghost use Rattle.language.specs.Pairs.{ArePairTables, IsPairTable};
@@ -225,17 +225,48 @@ impl Plan {
     }
 }
 
-/// The variable of a pair whose other variable has one value alone, and the mask of its values that go with that one.
-fn beside(lang: &Language, pair: Pair, doms: &Domains) -> Option<(u8, u64)>
+/// Beside a variable that has one value alone the other one of a pair, and the mask of its values that go with that one.
+#[inline]
+fn beside_value(lang: &Language, pair: Pair, v: u8, x: u8) -> Option<(u8, u64)>
+    requires table { IsPairTable lang.now pair.table }
+    requires small { x < 64 }
+    ensures beside { IfSome result (λ r. (f : Family) (pairs : List Relation) → ArePairTables lang.now pairs → IsOnly (slice_index_or f v []) x → x < lang.now.value_count → IsBeside lang.now.value_count (arc_by lang.now pairs pair) f r.0 (λ y. is_wanted pair.holding (bit_at r.1 y == 1))) }
+    ensures known { IfSome result (λ r. (r.0 ≡ pair.first) ⊎ (r.0 ≡ pair.second)) }
+{
+    if pair.first == v {
+        return Some((pair.second, lang.pair_rows(pair.table)[usize::from(x)]));
+    }
+    if pair.second == v {
+        return Some((pair.first, lang.pair_columns(pair.table)[usize::from(x)]));
+    }
+    None
+}
+
+/// The variable of a pair whose other variable has one value alone, and the mask of its values that go with that one. Where v has
+/// one, it is known already.
+#[inline]
+fn beside(
+    lang: &Language,
+    pair: Pair,
+    doms: &Domains,
+    v: u8,
+    value: Option<u8>,
+) -> Option<(u8, u64)>
     requires table { IsPairTable lang.now pair.table }
     requires first { pair.first < length doms.now }
     requires second { pair.second < length doms.now }
+    requires value { IfSome value (IsValueOf doms.now v) }
     requires small { (v : ℕ) → AreBelow 64 (slice_index_or doms.now v []) }
     requires full { list_all is_not_empty doms.now ≡ true }
     ensures beside { IfSome result (λ r. (pairs : List Relation) → ArePairTables lang.now pairs → ((v : ℕ) → AreBelow lang.now.value_count (slice_index_or doms.now v [])) → IsBeside lang.now.value_count (arc_by lang.now pairs pair) doms.now r.0 (λ x. is_wanted pair.holding (bit_at r.1 x == 1))) }
     ensures known { IfSome result (λ r. r.0 < length doms.now) }
     ensures two { result ≡ None → HasTwo (slice_index_or doms.now pair.first []) × HasTwo (slice_index_or doms.now pair.second []) }
 {
+    if let Some(x) = value {
+        if let Some(found) = beside_value(lang, pair, v, x) {
+            return Some(found);
+        }
+    }
     if let Some(x) = doms.only(pair.first) {
         return Some((pair.second, lang.pair_rows(pair.table)[usize::from(x)]));
     }
@@ -304,11 +335,14 @@ fn look_at_pair(
     plan: &Plan,
     pair: Pair,
     i: usize,
+    v: u8,
+    value: Option<u8>,
     doms: &mut Domains,
     waiting: &mut VarSet,
 ) -> Alive
     requires lawful { IsLanguage cons.now.lang.now }
     requires constraints { AreConstraints cons.now.lang.now cons.now.list.now cons.now.against }
+    requires value { IfSome value (IsValueOf doms.old v) }
     requires plan { IsWholePlanOf cons.now.lang.now (arcs_of cons.now.lang.now cons.now.list.now cons.now.against) plan.now }
     requires pair { (a : Arc) → IsPairOf cons.now.lang.now (slice_index_or (arcs_of cons.now.lang.now cons.now.list.now cons.now.against) i a) pair }
     requires low { i < length (arcs_of cons.now.lang.now cons.now.list.now cons.now.against) }
@@ -316,7 +350,7 @@ fn look_at_pair(
     ensures looked { result ≡ Alive.Yes → IsLooked (arcs_of cons.now.lang.now cons.now.list.now cons.now.against) i waiting.old waiting.new doms.old doms.new }
     ensures dead { result ≡ Alive.No → RunsEmpty (arcs_of cons.now.lang.now cons.now.list.now cons.now.against) doms.old }
 {
-    let Some((v, row)) = beside(cons.lang, pair, doms) else {
+    let Some((u, row)) = beside(cons.lang, pair, doms, v, value) else {
         // More values of each are left than one of the other rejects.
         if doms.has_more(pair.first, pair.bounds.first)
             && doms.has_more(pair.second, pair.bounds.second)
@@ -325,14 +359,14 @@ fn look_at_pair(
         }
         return look_at_both(cons, pair, i, doms, waiting);
     };
-    match doms.keep(v, row, pair.holding) {
+    match doms.keep(u, row, pair.holding) {
         Left::Nothing => Alive::No,
         Left::Fewer => {
             // Its conditions stay consistent while it has more values than its limit.
-            if doms.has_more(v, plan.limits[usize::from(v)]) {
+            if doms.has_more(u, plan.limits[usize::from(u)]) {
                 return Alive::Yes;
             }
-            *waiting = waiting.with(v);
+            *waiting = waiting.with(u);
             Alive::Yes
         }
         Left::Same => Alive::Yes,
@@ -346,11 +380,14 @@ fn look_at(
     plan: &Plan,
     count: usize,
     i: usize,
+    v: u8,
+    value: Option<u8>,
     doms: &mut Domains,
     waiting: &mut VarSet,
 ) -> Alive
     requires lawful { IsLanguage cons.now.lang.now }
     requires constraints { AreConstraints cons.now.lang.now cons.now.list.now cons.now.against }
+    requires value { IfSome value (IsValueOf doms.old v) }
     requires plan { IsWholePlanOf cons.now.lang.now (arcs_of cons.now.lang.now cons.now.list.now cons.now.against) plan.now }
     requires count { count ≡ length (arcs_of cons.now.lang.now cons.now.list.now cons.now.against) }
     requires doms { AreSome cons.now.lang.now doms.old }
@@ -361,9 +398,17 @@ fn look_at(
         return Alive::Yes;
     }
     match plan.briefs[i] {
-        Brief::Two(pair) => look_at_pair(cons, plan, pair, i, doms, waiting),
+        Brief::Two(pair) => look_at_pair(cons, plan, pair, i, v, value, doms, waiting),
         Brief::Other => look_at_other(cons, i, doms, waiting),
     }
+}
+
+/// The value of a variable, where it has one alone.
+fn value_of(lang: &Language, doms: &Domains, v: u8) -> Option<u8>
+    requires { length doms.now ≡ variable_count lang.now }
+    ensures { IfSome result (IsValueOf doms.now v) }
+{
+    if v < lang.n() { doms.only(v) } else { None }
 }
 
 /// Looks at the conditions of a changed variable. Says which variables are waiting then; `None` where some variable has no
@@ -385,6 +430,7 @@ fn visit(
 {
     let mut waiting = changed.without(v);
     let count = cons.count();
+    let value = value_of(cons.lang, doms, v);
     for w in 0..count.div_ceil(64) {
         let mut rest = plan.sets[w * 128 + usize::from(v)];
         while rest != 0 {
@@ -395,6 +441,8 @@ fn visit(
                 plan,
                 count,
                 w * 64 + usize::from(b),
+                v,
+                value,
                 doms,
                 &mut waiting,
             ) {

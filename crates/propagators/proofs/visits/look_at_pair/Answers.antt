@@ -57,7 +57,7 @@ pub returns-in-Nothing-clause-dead : goal.returns-in-Nothing-clause-dead
 returns-in-Nothing-clause-dead c = λ e.
     dead_here (arcs_of c.args.cons.now.lang.now c.args.cons.now.list.now c.args.cons.now.against) c.args.doms.now c.args.i none c.requires.low
     (stood_dead c.args.cons.now.lang.now (slice_index_or (arcs_of c.args.cons.now.lang.now c.args.cons.now.list.now c.args.cons.now.against) c.args.i none) c.args.pair c.args.doms.now (c.requires.pair none) c.requires.doms.family
-    (beside_dead c.args.cons.now.lang.now.value_count (arc_by c.args.cons.now.lang.now (c.requires.pair none).pairs c.args.pair) c.args.doms.now c.in-Some.v (λ x. is_wanted c.args.pair.holding (bit_at c.in-Some.row x == 1))
+    (beside_dead c.args.cons.now.lang.now.value_count (arc_by c.args.cons.now.lang.now (c.requires.pair none).pairs c.args.pair) c.args.doms.now c.in-Some.u (λ x. is_wanted c.args.pair.holding (bit_at c.in-Some.row x == 1))
     (different_in c.args.cons.now.lang.now (slice_index_or (arcs_of c.args.cons.now.lang.now c.args.cons.now.list.now c.args.cons.now.against) c.args.i none) c.args.pair (c.requires.pair none) (arcs_different c.args.cons.now.lang.now c.args.cons.now.list.now c.args.cons.now.against c.requires.lawful c.requires.constraints c.args.i none c.requires.low))
     (known_in c.args.cons.now.lang.now (slice_index_or (arcs_of c.args.cons.now.lang.now c.args.cons.now.list.now c.args.cons.now.against) c.args.i none) c.args.pair c.args.doms.now (c.requires.pair none) (arcs_within c.args.cons.now.lang.now c.args.cons.now.list.now c.args.cons.now.against c.requires.lawful c.requires.constraints c.args.doms.now c.requires.doms.family c.args.i none c.requires.low))
     c.requires.doms.family.values (c.in-Some.ensures.beside (c.requires.pair none).pairs (c.requires.pair none).are c.requires.doms.family.values) c.in-Nothing.ensures))
@@ -65,10 +65,10 @@ returns-in-Nothing-clause-dead c = λ e.
 pub returns-else-has_more-3-clause-looked : goal.returns-else-has_more-3-clause-looked
 returns-else-has_more-3-clause-looked c = λ e.
     subst (λ (next : List ℕ). IsLooked (arcs_of c.args.cons.now.lang.now c.args.cons.now.list.now c.args.cons.now.against) c.args.i c.args.waiting.now next c.args.doms.now c.keep.new.self) (sym c.with.ensures)
-    (beside_fewer (arcs_of c.args.cons.now.lang.now c.args.cons.now.list.now c.args.cons.now.against) c.args.i c.args.waiting.now c.args.doms.now c.keep.new.self c.in-Some.v (λ x. is_wanted c.args.pair.holding (bit_at c.in-Some.row x == 1))
+    (beside_fewer (arcs_of c.args.cons.now.lang.now c.args.cons.now.list.now c.args.cons.now.against) c.args.i c.args.waiting.now c.args.doms.now c.keep.new.self c.in-Some.u (λ x. is_wanted c.args.pair.holding (bit_at c.in-Some.row x == 1))
     (arcs_small c.args.cons.now.lang.now c.args.cons.now.list.now c.args.cons.now.against c.requires.lawful c.requires.constraints) c.requires.low c.requires.doms.full
     (λ a. stood_revised c.args.cons.now.lang.now (slice_index_or (arcs_of c.args.cons.now.lang.now c.args.cons.now.list.now c.args.cons.now.against) c.args.i a) c.args.pair c.args.doms.now (c.requires.pair a) c.requires.doms.family c.keep.new.self
-    (beside_revised c.args.cons.now.lang.now.value_count (arc_by c.args.cons.now.lang.now (c.requires.pair a).pairs c.args.pair) c.args.doms.now c.in-Some.v (λ x. is_wanted c.args.pair.holding (bit_at c.in-Some.row x == 1))
+    (beside_revised c.args.cons.now.lang.now.value_count (arc_by c.args.cons.now.lang.now (c.requires.pair a).pairs c.args.pair) c.args.doms.now c.in-Some.u (λ x. is_wanted c.args.pair.holding (bit_at c.in-Some.row x == 1))
     (different_in c.args.cons.now.lang.now (slice_index_or (arcs_of c.args.cons.now.lang.now c.args.cons.now.list.now c.args.cons.now.against) c.args.i a) c.args.pair (c.requires.pair a) (arcs_different c.args.cons.now.lang.now c.args.cons.now.list.now c.args.cons.now.against c.requires.lawful c.requires.constraints c.args.i a c.requires.low))
     (known_in c.args.cons.now.lang.now (slice_index_or (arcs_of c.args.cons.now.lang.now c.args.cons.now.list.now c.args.cons.now.against) c.args.i a) c.args.pair c.args.doms.now (c.requires.pair a) (arcs_within c.args.cons.now.lang.now c.args.cons.now.list.now c.args.cons.now.against c.requires.lawful c.requires.constraints c.args.doms.now c.requires.doms.family c.args.i a c.requires.low))
     c.requires.doms.family.values (c.in-Some.ensures.beside (c.requires.pair a).pairs (c.requires.pair a).are c.requires.doms.family.values) c.keep.new.self c.in-Fewer.ensures.0))
@@ -81,27 +81,27 @@ returns-then-has_more-3-clause-looked c = λ e.
     let few = c.requires.lawful.few_variables in
     let wide = c.args.plan.now.limits_long in
     let at = c.from.ensures in
-    let limit : c.index.result.now ≡ slice_index_or c.args.plan.now.limits.items c.in-Some.v 0 =
+    let limit : c.index.result.now ≡ slice_index_or c.args.plan.now.limits.items c.in-Some.u 0 =
     get_or_read c.args.plan.now.limits.items c.from.result c.index.result.now (omega arith) c.index.ensures 0 ∙ ap (λ (v : ℕ). slice_index_or c.args.plan.now.limits.items v 0) c.from.ensures in
-    let more : HasMore (slice_index_or c.args.plan.now.limits.items c.in-Some.v 0) (slice_index_or c.keep.new.self c.in-Some.v []) =
-    subst (λ (most : ℕ). HasMore most (slice_index_or c.keep.new.self c.in-Some.v [])) limit (c.if-has_more-3.ensures.more refl) in
-    beside_lazy c.args.cons.now.lang.now (arcs_of c.args.cons.now.lang.now c.args.cons.now.list.now c.args.cons.now.against) c.args.i c.args.waiting.now c.args.doms.now c.keep.new.self c.in-Some.v (λ x. is_wanted c.args.pair.holding (bit_at c.in-Some.row x == 1)) c.args.plan.now.limits.items (let few = c.requires.lawful.few_values in omega arith)
+    let more : HasMore (slice_index_or c.args.plan.now.limits.items c.in-Some.u 0) (slice_index_or c.keep.new.self c.in-Some.u []) =
+    subst (λ (most : ℕ). HasMore most (slice_index_or c.keep.new.self c.in-Some.u [])) limit (c.if-has_more-3.ensures.more refl) in
+    beside_lazy c.args.cons.now.lang.now (arcs_of c.args.cons.now.lang.now c.args.cons.now.list.now c.args.cons.now.against) c.args.i c.args.waiting.now c.args.doms.now c.keep.new.self c.in-Some.u (λ x. is_wanted c.args.pair.holding (bit_at c.in-Some.row x == 1)) c.args.plan.now.limits.items (let few = c.requires.lawful.few_values in omega arith)
     (arcs_small c.args.cons.now.lang.now c.args.cons.now.list.now c.args.cons.now.against c.requires.lawful c.requires.constraints)
     (arcs_different c.args.cons.now.lang.now c.args.cons.now.list.now c.args.cons.now.against c.requires.lawful c.requires.constraints) c.requires.low c.requires.doms.full
     (λ a. stood_revised c.args.cons.now.lang.now (slice_index_or (arcs_of c.args.cons.now.lang.now c.args.cons.now.list.now c.args.cons.now.against) c.args.i a) c.args.pair c.args.doms.now (c.requires.pair a) c.requires.doms.family c.keep.new.self
-    (beside_revised c.args.cons.now.lang.now.value_count (arc_by c.args.cons.now.lang.now (c.requires.pair a).pairs c.args.pair) c.args.doms.now c.in-Some.v (λ x. is_wanted c.args.pair.holding (bit_at c.in-Some.row x == 1))
+    (beside_revised c.args.cons.now.lang.now.value_count (arc_by c.args.cons.now.lang.now (c.requires.pair a).pairs c.args.pair) c.args.doms.now c.in-Some.u (λ x. is_wanted c.args.pair.holding (bit_at c.in-Some.row x == 1))
     (different_in c.args.cons.now.lang.now (slice_index_or (arcs_of c.args.cons.now.lang.now c.args.cons.now.list.now c.args.cons.now.against) c.args.i a) c.args.pair (c.requires.pair a) (arcs_different c.args.cons.now.lang.now c.args.cons.now.list.now c.args.cons.now.against c.requires.lawful c.requires.constraints c.args.i a c.requires.low))
     (known_in c.args.cons.now.lang.now (slice_index_or (arcs_of c.args.cons.now.lang.now c.args.cons.now.list.now c.args.cons.now.against) c.args.i a) c.args.pair c.args.doms.now (c.requires.pair a) (arcs_within c.args.cons.now.lang.now c.args.cons.now.list.now c.args.cons.now.against c.requires.lawful c.requires.constraints c.args.doms.now c.requires.doms.family c.args.i a c.requires.low))
     c.requires.doms.family.values (c.in-Some.ensures.beside (c.requires.pair a).pairs (c.requires.pair a).are c.requires.doms.family.values) c.keep.new.self c.in-Fewer.ensures.0))
     c.in-Fewer.ensures.0 c.in-Fewer.ensures.1 c.requires.doms.family more
-    (λ k a low there. capped c.args.cons.now.lang.now (arcs_of c.args.cons.now.lang.now c.args.cons.now.list.now c.args.cons.now.against) c.args.plan.now.briefs.items c.args.plan.now.limits.items c.requires.plan.plan.briefs c.requires.plan.plan.limits k c.in-Some.v a low (let room = c.requires.plan.room in omega arith) there more.low)
+    (λ k a low there. capped c.args.cons.now.lang.now (arcs_of c.args.cons.now.lang.now c.args.cons.now.list.now c.args.cons.now.against) c.args.plan.now.briefs.items c.args.plan.now.limits.items c.requires.plan.plan.briefs c.requires.plan.plan.limits k c.in-Some.u a low (let room = c.requires.plan.room in omega arith) there more.low)
 
 pub returns-in-Same-clause-looked : goal.returns-in-Same-clause-looked
 returns-in-Same-clause-looked c = λ e.
     beside_same (arcs_of c.args.cons.now.lang.now c.args.cons.now.list.now c.args.cons.now.against) c.args.i c.args.waiting.now c.args.doms.now c.keep.new.self
     (arcs_small c.args.cons.now.lang.now c.args.cons.now.list.now c.args.cons.now.against c.requires.lawful c.requires.constraints) c.requires.low c.requires.doms.full
     (λ a. stood_revised c.args.cons.now.lang.now (slice_index_or (arcs_of c.args.cons.now.lang.now c.args.cons.now.list.now c.args.cons.now.against) c.args.i a) c.args.pair c.args.doms.now (c.requires.pair a) c.requires.doms.family c.keep.new.self
-    (beside_revised c.args.cons.now.lang.now.value_count (arc_by c.args.cons.now.lang.now (c.requires.pair a).pairs c.args.pair) c.args.doms.now c.in-Some.v (λ x. is_wanted c.args.pair.holding (bit_at c.in-Some.row x == 1))
+    (beside_revised c.args.cons.now.lang.now.value_count (arc_by c.args.cons.now.lang.now (c.requires.pair a).pairs c.args.pair) c.args.doms.now c.in-Some.u (λ x. is_wanted c.args.pair.holding (bit_at c.in-Some.row x == 1))
     (different_in c.args.cons.now.lang.now (slice_index_or (arcs_of c.args.cons.now.lang.now c.args.cons.now.list.now c.args.cons.now.against) c.args.i a) c.args.pair (c.requires.pair a) (arcs_different c.args.cons.now.lang.now c.args.cons.now.list.now c.args.cons.now.against c.requires.lawful c.requires.constraints c.args.i a c.requires.low))
     (known_in c.args.cons.now.lang.now (slice_index_or (arcs_of c.args.cons.now.lang.now c.args.cons.now.list.now c.args.cons.now.against) c.args.i a) c.args.pair c.args.doms.now (c.requires.pair a) (arcs_within c.args.cons.now.lang.now c.args.cons.now.list.now c.args.cons.now.against c.requires.lawful c.requires.constraints c.args.doms.now c.requires.doms.family c.args.i a c.requires.low))
     c.requires.doms.family.values (c.in-Some.ensures.beside (c.requires.pair a).pairs (c.requires.pair a).are c.requires.doms.family.values) c.keep.new.self c.in-Same.ensures.0)) c.in-Same.ensures.1
