@@ -95,7 +95,8 @@ impl Work {
         }
     }
 
-    /// Makes the depths that a search over the language's variables has.
+    /// Makes the depths that a search over the language's variables has. Few searches make any, so this stands apart from them.
+    #[inline(never)]
     fn deepen(&mut self, lang: &Language)
         ensures deep { variable_count lang.now < length self.new.depths }
         ensures plan { self.new.plan ≡ self.old.plan }
