@@ -1,5 +1,5 @@
 -- Domains that are ready for the search below a prefix.
-use Rattle.std.specs.Prelude.{ℕ, ◌≤◌, ◌==◌, List, [], length, take, slice_index_or, slice_set, Option}
+use Rattle.std.specs.Prelude.{ℕ, ◌<◌, ◌≤◌, ◌==◌, List, [], length, take, slice_index_or, slice_set, Option}
 use Rattle.std.specs.List.{filter}
 use Rattle.assign.specs.Assignment.{Assignment, assigned}
 use Rattle.language.specs.declared.candidates.Candidate.{Candidate}
@@ -34,3 +34,5 @@ room_of w = length w.plan.briefs.items
 pub record IsArranged (l : Language) (list : List Candidate) (against : Option Candidate) (order : List ℕ) (p : List ℕ) (w : Room) : Type 0 where
   pub depths : AreReady l list against order p w.depths
   pub plan : IsPlanOf l (arcs_of l list against) w.plan
+  -- with a depth for no value and for each number of values
+  pub deep : variable_count l < length w.depths

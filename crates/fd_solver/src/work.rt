@@ -1,4 +1,4 @@
-ghost use Rattle.std.specs.Prelude.{◌≡◌, ◌<◌, ◌≤◌, ◌+◌, ◌++◌, IfOk, ◌∷◌, [], true, false, None, length, replicate, slice_index_or};
+ghost use Rattle.std.specs.Prelude.{◌≡◌, ◌<◌, ◌≤◌, ◌+◌, ◌++◌, IfOk, ◌∷◌, [], true, false, None, length, replicate, slice_index_or, vec_len, vec_capacity};
 ghost use Rattle.assign.specs.Sets.{has};
 ghost use Rattle.language.specs.Language.{IsLanguage, variable_count};
 ghost use Rattle.propagators.specs.Allowed.{AreConstraints};
@@ -22,7 +22,8 @@ const DEPTHS: usize = 129;
 /// The room of a search.
 #[derive(Drop)]
 pub struct Work {
-    /// For each depth the values that are left to the variables, where so many have one.
+    /// For each depth the values that are left to the variables, where so many have one. There are as many as the searches so far
+    /// had, and room for all: memory that no search comes to is never touched.
     depths: Vec<Domains>,
     /// What is known of the conditions.
     plan: Plan,
@@ -64,6 +65,19 @@ fn narrow(cons: &Constraints, plan: &Plan, doms: &mut Domains, v: u8, x: u8) -> 
     }
 }
 
+/// Puts the same values behind those of the depths that are there, up to the deepest.
+fn fill(depths: &mut Vec<Domains>, doms: Domains, deepest: usize)
+    requires few { deepest ≤ 128 }
+    requires room { 129 ≤ vec_capacity depths.old }
+    requires below { vec_len depths.old ≤ deepest }
+    ensures size { vec_len depths.new ≡ deepest + 1 }
+    ensures room { vec_capacity depths.new ≡ vec_capacity depths.old }
+{
+    for _depth in depths.len()..deepest + 1 {
+        depths.push_reserved(doms);
+    }
+}
+
 impl Work {
     /// Room for a search: some 130 KB for the values of each depth, and some 23 bytes for each of as many conditions as there are
     /// scopes, and one more. `Memory` where there is none.
@@ -72,7 +86,7 @@ impl Work {
     pub fn new(alloc: Global, lang: &Language) -> Result<Work, Memory>
         ensures { IfOk result (λ w. room_of w ≡ length lang.now.scopes + 1) }
     {
-        let Ok(depths) = vec![in alloc; Domains::full(lang); DEPTHS] else {
+        let Ok(depths) = Vec::with_capacity(alloc, DEPTHS) else {
             return Err(Memory);
         };
         match Plan::new(alloc, lang.scopes() as usize + 1) {
@@ -81,14 +95,29 @@ impl Work {
         }
     }
 
+    /// Makes the depths that a search over the language's variables has. Few searches make any, so this stands apart from them.
+    #[inline(never)]
+    fn deepen(&mut self, lang: &Language)
+        ensures deep { variable_count lang.now < length self.new.depths }
+        ensures plan { self.new.plan ≡ self.old.plan }
+    {
+        let deepest = usize::from(lang.n());
+        if self.depths.len() > deepest {
+            return;
+        }
+        fill(&mut self.depths, Domains::full(lang), deepest);
+    }
+
     /// Notes the conditions, and the values that are left where no variable has one. Says whether each has some.
     pub(crate) fn begin(&mut self, cons: &Constraints) -> bool
         requires lawful { IsLanguage cons.now.lang.now }
         requires constraints { AreConstraints cons.now.lang.now cons.now.list.now cons.now.against }
         ensures plan { IsPlanOf cons.now.lang.now (arcs_of cons.now.lang.now cons.now.list.now cons.now.against) self.new.plan }
+        ensures deep { variable_count cons.now.lang.now < length self.new.depths }
         ensures ready { result ≡ true → IsReady cons.now.lang.now cons.now.list.now cons.now.against (replicate (variable_count cons.now.lang.now) None) (slice_index_or self.new.depths 0 []) }
         ensures dead { result ≡ false → has_family cons.now.lang.now cons.now.list.now cons.now.against (replicate (variable_count cons.now.lang.now) None) ≡ false }
     {
+        self.deepen(cons.lang);
         self.plan.arrange(cons);
         let mut root = Domains::full(cons.lang);
         match propagate_all(cons, &self.plan, &mut root) {
@@ -106,9 +135,11 @@ impl Work {
         requires constraints { AreConstraints cons.now.lang.now cons.now.list.now cons.now.against }
         requires index { IsIndexOf cons.now.lang.now index.now }
         ensures plan { IsPlanOf cons.now.lang.now (arcs_of cons.now.lang.now cons.now.list.now cons.now.against) self.new.plan }
+        ensures deep { variable_count cons.now.lang.now < length self.new.depths }
         ensures ready { result ≡ true → IsReady cons.now.lang.now cons.now.list.now cons.now.against (replicate (variable_count cons.now.lang.now) None) (slice_index_or self.new.depths 0 []) }
         ensures dead { result ≡ false → has_family cons.now.lang.now cons.now.list.now cons.now.against (replicate (variable_count cons.now.lang.now) None) ≡ false }
     {
+        self.deepen(cons.lang);
         match index.begin(cons, &mut self.plan) {
             Some(left) => {
                 self.depths[0] = left;

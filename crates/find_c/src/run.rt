@@ -1,7 +1,7 @@
 //! Telling the choices on a scope apart, a reply at a time.
 
 ghost use Rattle.std.specs.Prelude.{ℕ, ◌≡◌, ◌≢◌, ◌↔◌, ◌⊎◌, ◌^◌, ◌<◌, Bool, true, false, List, [], ◌∷◌, ◌++◌, length, Some, None, slice_index_or, All};
-ghost use Rattle.rel_table.specs.Relation.{tuples};
+ghost use Rattle.rel_table.specs.Relation.{place, tuples};
 ghost use Rattle.language.specs.Language.{is_whole, scope_at, IsQuestion};
 ghost use Rattle.bias_store.specs.KeptSet.{IsMadeFor};
 ghost use Rattle.language.specs.TellingApart.{Choice, splitting_tuple, after_reply};
@@ -120,17 +120,47 @@ impl RelRun {
             StandsFor result lang.now self.scope choices (replies ++ yes ∷ []) }
         ensures some { result ≢ RelNext.Nothing }
     {
-        let RelRun {
-            scope,
-            choices,
-            tuple,
-        } = self;
-        let place = place_of(lang.d(), tuple.values()) as u32;
-        settle(
-            lang,
-            scope,
-            choices.agreeing(lang.accepting(scope, place), yes),
-        )
+        let place = self.place(lang);
+        let mask = lang.accepting(self.scope(), place);
+        self.told(lang, mask, yes)
+    }
+
+    /// `reply`, for which the tables beside the kept candidates tell at once which relations accept the tuple.
+    pub fn reply_beside(self, lang: &Language, kept: &Kept, yes: bool) -> RelNext
+        requires made { IsMadeFor lang.now kept.now }
+        requires run { IsRun lang.now self }
+        ensures settled { LeavesChoices lang.now self.scope (after_reply (scene_of lang.now self.scope) self.tuple «yes» self.choices) result }
+        ensures stands { (choices : List Choice) (replies : List Bool) →
+            StandsFor (RelNext.Wants self) lang.now self.scope choices replies →
+            StandsFor result lang.now self.scope choices (replies ++ yes ∷ []) }
+        ensures some { result ≢ RelNext.Nothing }
+    {
+        let place = self.place(lang);
+        let mask = kept.accepting(lang, self.scope(), place);
+        self.told(lang, mask, yes)
+    }
+
+    /// The place of the tuple that is asked about.
+    fn place(&self, lang: &Language) -> u32
+        requires { IsRun lang.now self.now }
+        ensures is { result ≡ place lang.now.value_count self.now.tuple }
+        ensures below { result < lang.now.value_count ^ length (scope_at lang.now self.now.scope) }
+    {
+        place_of(lang.d(), self.tuple.values()) as u32
+    }
+
+    /// Where the reply leads, given the relations that accept the tuple.
+    fn told(self, lang: &Language, accepting: u64, yes: bool) -> RelNext
+        requires run { IsRun lang.now self }
+        requires accepting { (c : Choice) → is_accepting accepting c ≡ allows_at (scene_of lang.now self.scope) (place lang.now.value_count self.tuple) c }
+        ensures settled { LeavesChoices lang.now self.scope (after_reply (scene_of lang.now self.scope) self.tuple «yes» self.choices) result }
+        ensures stands { (choices : List Choice) (replies : List Bool) →
+            StandsFor (RelNext.Wants self) lang.now self.scope choices replies →
+            StandsFor result lang.now self.scope choices (replies ++ yes ∷ []) }
+        ensures some { result ≢ RelNext.Nothing }
+    {
+        let RelRun { scope, choices, .. } = self;
+        settle(lang, scope, choices.agreeing(accepting, yes))
     }
 }
 

@@ -186,6 +186,6 @@ pub(crate) fn tuple_answered(
     ensures stands { let k = knowledge.value in
         StandsWhere k (λ t. settle_choices k.lang t run.scope (after_reply (scene_of k.lang run.scope) run.tuple «yes» run.choices) k.network.list (walk_in k.tree)) result }
 {
-    let next = run.reply(&knowledge.lang, yes);
+    let next = run.reply_beside(&knowledge.lang, &knowledge.kept, yes);
     tell_apart(knowledge, room, next)
 }

@@ -16,6 +16,7 @@ walk-requires-clause-ready c = record {
   depths = ready_first c.args.cons.now.lang.now c.args.cons.now.list.now c.args.cons.now.against c.args.order.now c.begin.new.self.depths
       (subst (λ e. IsReady c.args.cons.now.lang.now c.args.cons.now.list.now c.args.cons.now.against e (slice_index_or c.begin.new.self.depths 0 [])) (assigned_blank (variable_count c.args.cons.now.lang.now) c.args.order.now c.requires.order) (c.begin.ensures.ready c.if-begin.true));
   plan = c.begin.ensures.plan;
+  deep = c.begin.ensures.deep;
 }
 
 pub returns-else-begin : goal.returns-else-begin

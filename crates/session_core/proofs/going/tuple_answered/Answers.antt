@@ -12,7 +12,7 @@ tell_apart-requires-clause-choices c =
     record {
       scope = run.scope;
       choices = after_reply (scene_of k.lang run.scope) run.tuple c.args.yes run.choices;
-      settled = subst (λ (x : Knowledge). LeavesChoices x.lang run.scope (after_reply (scene_of x.lang run.scope) run.tuple c.args.yes run.choices) c.reply-next.result) c.deref.ensures c.reply-next.ensures.settled;
+      settled = subst (λ (x : Knowledge). LeavesChoices x.lang run.scope (after_reply (scene_of x.lang run.scope) run.tuple c.args.yes run.choices) c.reply_beside-next.result) c.deref.ensures c.reply_beside-next.ensures.settled;
       free = c.requires.free;
     }
 
@@ -21,4 +21,4 @@ returns-clause-stands c =
     let k : Knowledge = c.args.knowledge.value in
     let run = c.args.run in
     c.tell_apart.ensures.stands run.scope (after_reply (scene_of k.lang run.scope) run.tuple c.args.yes run.choices)
-    (subst (λ (x : Knowledge). LeavesChoices x.lang run.scope (after_reply (scene_of x.lang run.scope) run.tuple c.args.yes run.choices) c.reply-next.result) c.deref.ensures c.reply-next.ensures.settled)
+    (subst (λ (x : Knowledge). LeavesChoices x.lang run.scope (after_reply (scene_of x.lang run.scope) run.tuple c.args.yes run.choices) c.reply_beside-next.result) c.deref.ensures c.reply_beside-next.ensures.settled)

@@ -1,11 +1,20 @@
-use Rattle.std.proofs.Common.{refl, arith}
+use Rattle.std.proofs.Common.{refl, arith, ap, length}
+use Rattle.std.proofs.Math.ListN.{length-set}
+use Rattle.fd_solver.specs.Ready.{Room}
 use Rattle.fd_solver.proofs.Narrowing.{begun_ready, begun_dead}
 use Rattle.fd_solver.proofs.work.Work.begin.Goals as goal
 
 pub returns-in-Yes-clause-ready : goal.returns-in-Yes-clause-ready
 returns-in-Yes-clause-ready c = λ e.
     begun_ready c.args.cons.now.lang.now c.args.cons.now.list.now c.args.cons.now.against c.full-root.result c.propagate_all.new.doms c.self.inside.depths.items c.full-root.ensures.is
-    (let deep = c.self.invariant in omega arith) (c.in-Yes.ensures.alive refl)
+    (let deep = c.deepen.ensures.deep in let same = ap (λ (w : Room). length w.depths) c.self.view_is in omega arith) (c.in-Yes.ensures.alive refl)
 
 pub returns-in-No-clause-dead : goal.returns-in-No-clause-dead
 returns-in-No-clause-dead c = λ e. begun_dead c.args.cons.now.lang.now c.args.cons.now.list.now c.args.cons.now.against c.full-root.result c.full-root.ensures.is (c.in-No.ensures.dead refl)
+
+pub returns-in-Yes-clause-deep : goal.returns-in-Yes-clause-deep
+returns-in-Yes-clause-deep c =
+    let deep = c.deepen.ensures.deep in
+    let seen = ap (λ (w : Room). length w.depths) c.self.view_is in
+    let size = length-set c.self.inside.depths.items 0 c.propagate_all.new.doms in
+    omega arith

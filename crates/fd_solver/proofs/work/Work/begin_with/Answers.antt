@@ -1,12 +1,21 @@
-use Rattle.std.proofs.Common.{refl, arith}
+use Rattle.std.proofs.Common.{refl, arith, ap, length}
 use Rattle.propagators.specs.Indexes.{all_values}
+use Rattle.std.proofs.Math.ListN.{length-set}
+use Rattle.fd_solver.specs.Ready.{Room}
 use Rattle.fd_solver.proofs.Narrowing.{begun_ready, begun_dead}
 use Rattle.fd_solver.proofs.work.Work.begin_with.Goals as goal
 
 pub returns-in-Some-clause-ready : goal.returns-in-Some-clause-ready
 returns-in-Some-clause-ready c = λ e.
     begun_ready c.args.cons.now.lang.now c.args.cons.now.list.now c.args.cons.now.against (all_values c.args.cons.now.lang.now) c.in-Some.left c.self.inside.depths.items refl
-    (let deep = c.self.invariant in omega arith) c.in-Some.ensures.left
+    (let deep = c.deepen.ensures.deep in let same = ap (λ (w : Room). length w.depths) c.self.view_is in omega arith) c.in-Some.ensures.left
 
 pub returns-in-None-clause-dead : goal.returns-in-None-clause-dead
 returns-in-None-clause-dead c = λ e. begun_dead c.args.cons.now.lang.now c.args.cons.now.list.now c.args.cons.now.against (all_values c.args.cons.now.lang.now) refl (c.in-None.ensures.nothing refl)
+
+pub returns-in-Some-clause-deep : goal.returns-in-Some-clause-deep
+returns-in-Some-clause-deep c =
+    let deep = c.deepen.ensures.deep in
+    let seen = ap (λ (w : Room). length w.depths) c.self.view_is in
+    let size = length-set c.self.inside.depths.items 0 c.in-Some.left in
+    omega arith

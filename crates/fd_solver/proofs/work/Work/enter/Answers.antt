@@ -6,7 +6,7 @@ use Rattle.assign.specs.Sets.{has}
 use Rattle.propagators.specs.Families.{arcs_of}
 use Rattle.propagators.specs.Plans.{IsPlanOf}
 use Rattle.fd_solver.specs.Ready.{AreReady, Room}
-use Rattle.fd_solver.proofs.Narrowing.{deepest, below_lacking, entered, entered_ready, deeper_written}
+use Rattle.fd_solver.proofs.Narrowing.{deepest, below_lacking, entered, entered_ready, ready_written, deeper_written}
 use Rattle.fd_solver.proofs.work.Work.enter.Goals as goal
 
 pub returns-then-not-has-clause-is : goal.returns-then-not-has-clause-is
@@ -14,7 +14,7 @@ returns-then-not-has-clause-is c =
     let depths = c.self.inside.depths.items in
     let short = c.requires.short in
     let few = c.requires.lawful.few_variables in
-    let deep = c.self.invariant in
+    let deep = c.requires.ready.deep in let seen = ap (λ (w : Room). length w.depths) c.self.view_is in
     let at = c.len-at.ensures in
     let read : c.index.result.now ≡ (slice_index_or c.args.self.now.depths (length c.args.prefix.now) []) = get_or_read depths c.len-at.result c.index.result.now (omega arith) c.index.ensures [] ∙ (λ i. slice_index_or (c.self.view_is i).depths (c.len-at.ensures i) []) in
     sym (below_lacking c.args.cons.now.lang.now c.args.cons.now.list.now c.args.cons.now.against c.args.order.now c.requires.order c.requires.lawful c.requires.constraints c.args.prefix.now c.args.x (slice_index_or c.args.self.now.depths (length c.args.prefix.now) []) c.requires.short (deepest c.args.cons.now.lang.now c.args.cons.now.list.now c.args.cons.now.against c.args.order.now c.args.prefix.now c.args.self.now.depths c.requires.ready.depths)
@@ -25,7 +25,7 @@ returns-clause-is c =
     let depths = c.self.inside.depths.items in
     let short = c.requires.short in
     let few = c.requires.lawful.few_variables in
-    let deep = c.self.invariant in
+    let deep = c.requires.ready.deep in let seen = ap (λ (w : Room). length w.depths) c.self.view_is in
     let at = c.len-at.ensures in
     let room : c.len-at.result + 1 < length depths = omega arith in
     let read : c.index-2.result.now ≡ (slice_index_or c.args.self.now.depths (length c.args.prefix.now) []) = get_or_read depths c.len-at.result c.index-2.result.now (omega arith) c.index-2.ensures [] ∙ (λ i. slice_index_or (c.self.view_is i).depths (c.len-at.ensures i) []) in
@@ -40,7 +40,7 @@ returns-clause-deeper c = λ alive. record {
   depths = (let depths = c.self.inside.depths.items in
       let short = c.requires.short in
       let few = c.requires.lawful.few_variables in
-      let deep = c.self.invariant in
+      let deep = c.requires.ready.deep in let seen = ap (λ (w : Room). length w.depths) c.self.view_is in
       let at = c.len-at.ensures in
       let room : c.len-at.result + 1 < length depths = omega arith in
       let read : c.index-2.result.now ≡ (slice_index_or c.args.self.now.depths (length c.args.prefix.now) []) = get_or_read depths c.len-at.result c.index-2.result.now (omega arith) c.index-2.ensures [] ∙ (λ i. slice_index_or (c.self.view_is i).depths (c.len-at.ensures i) []) in
@@ -52,4 +52,21 @@ returns-clause-deeper c = λ alive. record {
       (entered_ready c.args.cons.now.lang.now c.args.cons.now.list.now c.args.cons.now.against c.args.order.now c.requires.order c.requires.lawful c.requires.constraints c.args.prefix.now c.args.x (slice_index_or c.args.self.now.depths (length c.args.prefix.now) []) c.requires.short (deepest c.args.cons.now.lang.now c.args.cons.now.list.now c.args.cons.now.against c.args.order.now c.args.prefix.now c.args.self.now.depths c.requires.ready.depths)
       c.len-at.result c.index_mut-2.result.now c.narrow.new.doms at same (c.narrow.ensures.alive alive)));
   plan = subst (IsPlanOf c.args.cons.now.lang.now (arcs_of c.args.cons.now.lang.now c.args.cons.now.list.now c.args.cons.now.against)) (sym (ap (λ (w : Room). w.plan) c.self.view_is)) c.requires.ready.plan;
+  deep = (let seen = ap (λ (w : Room). length w.depths) c.self.view_is in
+      let copied = length-set c.self.inside.depths.items (c.len-at.result + 1) c.index-2.result.now in
+      let narrowed = length-set (slice_set c.self.inside.depths.items (c.len-at.result + 1) c.index-2.result.now) (c.len-at.result + 1) c.narrow.new.doms in
+      let deep = c.requires.ready.deep in
+      omega arith);
+}
+
+pub returns-clause-ready : goal.returns-clause-ready
+returns-clause-ready c = record {
+  depths = ready_written c.args.cons.now.lang.now c.args.cons.now.list.now c.args.cons.now.against c.args.order.now c.args.prefix.now c.len-at.result c.self.inside.depths.items c.index-2.result.now c.narrow.new.doms c.len-at.ensures
+      (subst (AreReady c.args.cons.now.lang.now c.args.cons.now.list.now c.args.cons.now.against c.args.order.now c.args.prefix.now) (sym (ap (λ (w : Room). w.depths) c.self.view_is)) c.requires.ready.depths);
+  plan = subst (IsPlanOf c.args.cons.now.lang.now (arcs_of c.args.cons.now.lang.now c.args.cons.now.list.now c.args.cons.now.against)) (sym (ap (λ (w : Room). w.plan) c.self.view_is)) c.requires.ready.plan;
+  deep = (let seen = ap (λ (w : Room). length w.depths) c.self.view_is in
+      let copied = length-set c.self.inside.depths.items (c.len-at.result + 1) c.index-2.result.now in
+      let narrowed = length-set (slice_set c.self.inside.depths.items (c.len-at.result + 1) c.index-2.result.now) (c.len-at.result + 1) c.narrow.new.doms in
+      let deep = c.requires.ready.deep in
+      omega arith);
 }

@@ -1,0 +1,6 @@
+use Rattle.std.proofs.Common.{◌≡◌, vec_len}
+use Rattle.std.specs.Prelude.{vec_capacity}
+use Rattle.fd_solver.proofs.work.fill.Given as goal
+
+abbrev pub invariant-loop-depth : goal.invariant-loop-depth
+invariant-loop-depth l = record { size : vec_len l.depths ≡ l._depth; room : vec_capacity l.depths ≡ vec_capacity l.initial.depths }
