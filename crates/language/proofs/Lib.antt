@@ -40,3 +40,5 @@ pub mod InOrder
 pub mod Alike
 pub mod PairMasking
 pub mod Running
+pub mod Domains
+pub mod Filled

@@ -12,3 +12,4 @@ pub mod Falling
 pub mod Inserting
 pub mod Growing
 pub mod Rows
+pub mod Shown

@@ -1,4 +1,5 @@
-use Rattle.std.proofs.Common.{◌≡◌, ℕ, ◌+◌, ◌∷◌, [], ◌++◌, Vec, take, sym, subst, ◌∙◌, ap}
+use Rattle.std.proofs.Common.{◌≡◌, ℕ, List, ◌+◌, ◌∷◌, [], ◌++◌, Vec, take, sym, subst, ◌∙◌, ap}
+use Rattle.std.proofs.lemmas.List.{take_all}
 use Rattle.std.specs.Prelude.{All}
 use Rattle.std.specs.declared.alloc.Global.{Global}
 use Rattle.std.proofs.lemmas.Result.{err_from_is_err_and}
@@ -47,3 +48,21 @@ loop-table-preserved g c =
           } in
           subst (λ (v : Vec TruthTable Global). IsClosed c.args.arity g.d (take (i + 1) file) v.items) (sym w.closed-is) is)
     ]
+
+pub with_meets-requires-clause-size : goal.with_meets-requires-clause-size
+with_meets-requires-clause-size g c = c.arity.ensures.lawful.each
+
+pub with_meets-requires-clause-kinds : goal.with_meets-requires-clause-kinds
+with_meets-requires-clause-kinds g c =
+    let table : TruthTable = c.table-item.result in
+    let arity : table.arity ≡ c.args.arity = sym c.arity.ensures.is ∙ c.if-arity.true in
+    let values : table.value_count ≡ g.d = ap (λ (t : TruthTable). t.value_count) c.table-item.is ∙ c.requires c.loop-table.table-index table c.loop-table-test.true in
+    subst (λ (a : ℕ). All (IsOfKind a table.value_count) c.loop-table.closed.items) (sym arity)
+    (subst (λ (d : ℕ). All (IsOfKind c.args.arity d) c.loop-table.closed.items) (sym values) c.loop-table.invariant.kinds)
+
+pub with_meets-requires-clause-few : goal.with_meets-requires-clause-few
+with_meets-requires-clause-few g c = c.loop-table.invariant.few
+
+pub returns-clause-closed : goal.returns-clause-closed
+returns-clause-closed g c =
+    subst (λ (file : List TruthTable). IsClosed c.args.arity g.d file c.loop-table.closed.items) (take_all c.loop-table.table-index c.args.file.now c.loop-table-test.false) c.loop-table.invariant

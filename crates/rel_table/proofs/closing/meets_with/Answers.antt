@@ -1,12 +1,37 @@
-use Rattle.std.proofs.Common.{◌≡◌, [], ◌∷◌, ◌++◌, sym, subst, ◌∙◌, ap, length, Vec}
+use Rattle.std.proofs.Common.{◌≡◌, ℕ, List, [], ◌∷◌, ◌++◌, get_or, map, take, sym, subst, ◌∙◌, ap, length, Vec}
 use Rattle.std.specs.Prelude.{All}
 use Rattle.std.specs.declared.alloc.Global.{Global}
+use Rattle.std.proofs.lemmas.List.{map_more, map_push}
 use Rattle.std.proofs.lemmas.Result.{IfOk-weaker}
 use Rattle.std.proofs.lemmas.List.Elements.{All-push}
 use Rattle.rel_table.specs.Table.{TruthTable}
-use Rattle.rel_table.specs.Closing.{IsOfKind}
+use Rattle.rel_table.specs.Relation.{Relation, meet}
+use Rattle.rel_table.specs.Closing.{relations_in, IsOfKind}
+use Rattle.rel_table.proofs.Meets.{length-meet}
 use Rattle.rel_table.proofs.Inserting.{meets_done, meet_itself}
 use Rattle.rel_table.proofs.closing.meets_with.Goals as goal
+
+pub loop-other-preserved : goal.loop-other-preserved
+loop-other-preserved c =
+    let K : TruthTable → Type 0 = IsOfKind c.args.table.now.arity c.args.table.now.value_count in
+    let closed : List TruthTable = c.args.closed.now in
+    let i : ℕ = c.loop-other.other-index in
+    let other : TruthTable = c.other-item.result in
+    let table : Relation = c.args.table.now.truth in
+    let with_table : Relation → Relation = λ r. meet r table in
+    let kind : K other = subst K (sym c.other-item.is) (c.requires.kinds i other c.loop-other-test.true) in
+    let both : K c.in_ok-both.both = record {
+      long = c.in_ok-both.ensures.arity ∙ kind.long;
+      values = c.in_ok-both.ensures.values ∙ kind.values;
+      size = ap length c.in_ok-both.ensures.truth ∙ length-meet other.truth table (kind.size ∙ sym c.requires.size) ∙ kind.size;
+    } in
+    record {
+      meets = ap relations_in c.in_ok-meets.ensures
+          ∙ map_push (λ (t : TruthTable). t.truth) c.loop-other.meets.items c.in_ok-both.both
+          ∙ (λ k. c.loop-other.invariant.meets k ++ (c.in_ok-both.ensures.truth ∙ ap (λ (t : TruthTable). meet t.truth table) c.other-item.is) k ∷ [])
+          ∙ sym (ap (map with_table) (map_more (λ (t : TruthTable). t.truth) closed i other c.loop-other-test.true) ∙ map_push with_table (relations_in (take i closed)) (get_or closed i other).truth);
+      kinds = subst (All K) (sym c.in_ok-meets.ensures) (All-push K c.loop-other.meets.items c.in_ok-both.both c.loop-other.invariant.kinds both);
+    }
 
 pub returns-clause-meets : goal.returns-clause-meets
 returns-clause-meets c =

@@ -1,7 +1,10 @@
-use Rattle.std.proofs.Common.{◌≡◌, subst, length, arith}
-use Rattle.std.specs.Prelude.{Contains}
-use Rattle.rel_table.specs.Closing.{relations_in}
-use Rattle.rel_table.proofs.Inserting.{stays, put_in, one_too_many}
+use Rattle.std.proofs.Common.{◌≡◌, ◌≤◌, ◌∷◌, ◌∙◌, ap, subst, sym, take, drop, length, arith}
+use Rattle.std.specs.Prelude.{All, Contains}
+use Rattle.std.proofs.lemmas.List.Edits.{length-insert}
+use Rattle.std.proofs.lemmas.List.Elements.{All-append, All-cons, All-drop, All-take}
+use Rattle.rel_table.specs.Table.{TruthTable}
+use Rattle.rel_table.specs.Closing.{relations_in, IsOfKind}
+use Rattle.rel_table.proofs.Inserting.{meet_itself, stays, put_in, one_too_many}
 use Rattle.rel_table.proofs.closing.with_relation.Goals as goal
 
 pub returns-in_default-clause-order : goal.returns-in_default-clause-order
@@ -20,3 +23,23 @@ pub returns-clause-order : goal.returns-clause-order
 returns-clause-order c = λ relations order.
     put_in relations c.deref.result.now c.args.ordered.items c.insert.new.self.items c.args.table.now.truth c.in-Some.at c.in_ok-copy.copy c.deref.ensures.value order
     c.in_ok-insert.ensures.items c.in_ok-copy.ensures.truth c.in-Some.ensures.within c.in-Some.ensures.before c.in-Some.ensures.after
+
+pub returns-clause-kinds : goal.returns-clause-kinds
+returns-clause-kinds c =
+    let K : TruthTable → Type 0 = IsOfKind c.args.table.now.arity c.args.table.now.value_count in
+    let ordered = c.args.ordered.items in
+    let at = c.in-Some.at in
+    let copy : TruthTable = c.in_ok-copy.copy in
+    let kind : K copy = record {
+      long = c.in_ok-copy.ensures.arity;
+      values = c.in_ok-copy.ensures.values;
+      size = ap length (c.in_ok-copy.ensures.truth ∙ meet_itself c.args.table.now.truth) ∙ c.place_among.ensures.lawful.each;
+    } in
+    subst (All K) (sym c.in_ok-insert.ensures.items)
+    (All-append K (take at ordered) (copy ∷ drop at ordered) (All-take K at ordered c.requires.kinds) (All-cons K copy (drop at ordered) kind (All-drop K at ordered c.requires.kinds)))
+
+pub returns-clause-few : goal.returns-clause-few
+returns-clause-few c =
+    let ordered = c.args.ordered.items in
+    let within : c.in-Some.at ≤ length ordered = subst (λ xs. c.in-Some.at ≤ length xs) c.deref.ensures.value c.in-Some.ensures.within in
+    omega (arith, length-insert ordered c.in-Some.at c.in_ok-copy.copy within, ap length c.in_ok-insert.ensures.items)

@@ -7,7 +7,8 @@ use Rattle.std.proofs.lemmas.List.{length-set, length-map}
 use Rattle.std.proofs.lemmas.List.Elements.{All-set}
 use Rattle.language.specs.declared.ranges.ValueRange.{ValueRange}
 use Rattle.language.specs.Ranges.{IsRange}
-use Rattle.language.specs.Building.{Frame}
+use Rattle.language.specs.Building.{Frame, is_domain}
+use Rattle.language.proofs.Domains.{domain_within}
 use Rattle.language.proofs.Wording.{least_fits}
 use Rattle.language.proofs.frame.Frame.with_range.Goals as goal
 use Rattle.language.proofs.frame.Frame.with_range.Goals.{After-index_of-2}
@@ -41,6 +42,28 @@ is_range c =
     let order = c.requires.some in
     let high = c.requires.high in
     record { some = omega (arith, ints, first, last, order); known = omega (arith, ints, last, least, values, high) }
+
+pub index_of-requires : goal.index_of-requires
+index_of-requires c =
+    let kept = c.self.invariant in
+    let least : c.self.inside.least_value ≡ c.args.self.now.least_value = ap (λ (f : Frame). f.least_value) c.self.view_is in
+    let values : c.self.inside.value_count ≡ c.args.self.now.value_count = ap (λ (f : Frame). f.value_count) c.self.view_is in
+    let low = c.requires.low in
+    let order = c.requires.some in
+    let high = c.requires.high in
+    (λ i. is_domain (to_z-of_z w64 c.self.inside.least_value (least_fits c.self.inside.least_value c.self.inside.value_count kept.some_value kept.low kept.high) i) (to_z-of_z w64 c.args.first c.ranges.first i))
+    ∙ domain_within c.self.inside.least_value c.args.first c.self.inside.value_count kept.low kept.high kept.few_values (omega (arith, ints, least, low)) (omega (arith, ints, least, values, order, high))
+
+pub index_of-requires-2 : goal.index_of-requires-2
+index_of-requires-2 c =
+    let kept = c.self.invariant in
+    let least : c.self.inside.least_value ≡ c.args.self.now.least_value = ap (λ (f : Frame). f.least_value) c.self.view_is in
+    let values : c.self.inside.value_count ≡ c.args.self.now.value_count = ap (λ (f : Frame). f.value_count) c.self.view_is in
+    let low = c.requires.low in
+    let order = c.requires.some in
+    let high = c.requires.high in
+    (λ i. is_domain (to_z-of_z w64 c.self.inside.least_value (least_fits c.self.inside.least_value c.self.inside.value_count kept.some_value kept.low kept.high) i) (to_z-of_z w64 c.args.last c.ranges.last i))
+    ∙ domain_within c.self.inside.least_value c.args.last c.self.inside.value_count kept.low kept.high kept.few_values (omega (arith, ints, least, low, order)) (omega (arith, ints, least, values, high))
 
 pub invariant_of-self : goal.invariant_of-self
 invariant_of-self c =
