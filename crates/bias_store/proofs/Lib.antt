@@ -5,6 +5,7 @@ pub mod Struck
 pub mod Filled
 pub mod Contained
 pub mod Bits
+pub mod Likeness
 pub mod Tabled
 pub mod Runs
 pub mod Rows
