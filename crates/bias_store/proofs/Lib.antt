@@ -14,3 +14,4 @@ pub mod InRow
 pub mod Showing
 pub mod Violating
 pub mod Striking
+pub mod Within
