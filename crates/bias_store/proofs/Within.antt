@@ -11,14 +11,10 @@ use Rattle.language.specs.Language.{Language, scope_at, scope_of, violates}
 use Rattle.bias_store.specs.Masks.{ones_of}
 use Rattle.bias_store.specs.Inside.{members_from}
 use Rattle.bias_store.specs.KeptSet.{is_struck_within}
-use Rattle.bias_store.specs.Violated.{violated_on, AreNoneViolated, IsViolated}
+use Rattle.bias_store.specs.Violated.{violated_on, AreNoneViolated, IsViolated, IsHit, AreHitsListed}
 use Rattle.bias_store.specs.declared.tables.Violated.{Violated}
 use Rattle.bias_store.proofs.Members.{candidate_at, none_passes, one_passes}
 use Rattle.bias_store.proofs.Struck.{fails_of_filter, one_fails}
-
--- some relation of the scope is violated
-abbrev pub IsHit : Language → Assignment → List ℕ → ℕ → Type 0
-IsHit l q masks s = list_any (λ r. violates l (candidate_at s r) q) (ones_of (slice_index_or masks s 0)) ≡ true
 
 -- of the first scopes exactly those are listed that have a violated relation
 pub record AreHits (l : Language) (q : Assignment) (masks : List ℕ) (sets : List (List ℕ)) (count from : ℕ) : Type 0 where
@@ -68,6 +64,17 @@ hits_more l q masks sets count from v set is found low at = record {
             (old.0, (let early = old.1 in omega arith), get_or-set_other sets count old.0 set [] (let early = old.1 in omega arith) ∙ old.2)
         go (inr behind) = absurd (no_hit l q masks s (found.none s behind (omega arith)) hit)
 
+-- those that are listed, where there is room for no more, and where no more are found
+pub hits_some : (l : Language) (q : Assignment) (masks : List ℕ) (sets : List (List ℕ)) (count from : ℕ) → AreHits l q masks sets count from → AreHitsListed l q masks sets count false
+hits_some l q masks sets count from is = record { room = is.room; some = is.some; all = λ never. absurd (both_ways _ refl never) }
+
+pub hits_all : (l : Language) (q : Assignment) (masks : List ℕ) (sets : List (List ℕ)) (count from : ℕ) → AreHits l q masks sets count from → AreNoneViolated l q masks from (length l.scopes) → AreHitsListed l q masks sets count true
+hits_all l q masks sets count from is none = record { room = is.room; some = is.some; all = λ whole s low hit. go s low hit (cases_lt s from) }
+  where
+    go : (s : ℕ) → s < length l.scopes → IsHit l q masks s → (s < from) ⊎ (from ≤ s) → (j : ℕ) × (j < count) × (slice_index_or sets j [] ≡ scope_at l s)
+    go s low hit (inl before) = is.all s before hit
+    go s low hit (inr behind) = absurd (no_hit l q masks s (none s behind low) hit)
+
 -- ---- what is listed, and within a set
 
 found_in : (p : List ℕ → Bool) (sets : List (List ℕ)) (count : ℕ) → list_any p (take count sets) ≡ true → (j : ℕ) × (j < count) × (p (slice_index_or sets j []) ≡ true)
@@ -97,17 +104,17 @@ module _ (l : Language) (q : Assignment) (masks : List ℕ) (w : List ℕ) where
   on_scope s [] in_set = refl
   on_scope s (r ∷ xs) in_set = λ i. sym (ap (λ b. b && violates l (candidate_at s r) q) in_set) i || on_scope s xs in_set i
 
-  pub struck_some : (sets : List (List ℕ)) (count from : ℕ) → length masks ≡ length l.scopes → AreHits l q masks sets count from → list_any (λ set. is_within set w) (take count sets) ≡ true → is_struck_within l (members_from 0 masks) q w ≡ true
-  struck_some sets count from all is any =
+  pub struck_some : (sets : List (List ℕ)) (count : ℕ) (are_all : Bool) → length masks ≡ length l.scopes → AreHitsListed l q masks sets count are_all → list_any (λ set. is_within set w) (take count sets) ≡ true → is_struck_within l (members_from 0 masks) q w ≡ true
+  struck_some sets count are_all long is any =
       let found = found_in (λ set. is_within set w) sets count any in
       let hit = is.some found.0 found.1 in
       let low = hit.1 in
       let in_set : is_within (scope_at l hit.0) w ≡ true = ap (λ set. is_within set w) (sym hit.2) ∙ found.2 in
       one_passes (λ c. is_within (scope_of l c) w && violates l c q) masks hit.0 (omega arith) (sym (on_scope hit.0 (ones_of (slice_index_or masks hit.0 0)) in_set) ∙ hit.3)
 
-  pub struck_all_within : (sets : List (List ℕ)) (count from : ℕ) → length masks ≡ length l.scopes → AreHits l q masks sets count from → AreNoneViolated l q masks from (length l.scopes) →
+  pub struck_all_within : (sets : List (List ℕ)) (count : ℕ) (are_all : Bool) → length masks ≡ length l.scopes → AreHitsListed l q masks sets count are_all → are_all ≡ true →
       is_struck_within l (members_from 0 masks) q w ≡ true → list_any (λ set. is_within set w) (take count sets) ≡ true
-  struck_all_within sets count from all is none struck = true_from_ne_false (list_any (λ set. is_within set w) (take count sets)) (λ never.
+  struck_all_within sets count are_all long is whole struck = true_from_ne_false (list_any (λ set. is_within set w) (take count sets)) (λ never.
       both_ways _ (none_passes (λ c. is_within (scope_of l c) w && violates l c q) masks (λ k low. nothing never k (omega arith) (is_within (scope_at l k) w) refl)) struck)
     where
       away : (k : ℕ) (xs : List ℕ) → is_within (scope_at l k) w ≡ false → list_any (λ r. is_within (scope_at l k) w && violates l (candidate_at k r) q) xs ≡ false
@@ -121,10 +128,6 @@ module _ (l : Language) (q : Assignment) (masks : List ℕ) (w : List ℕ) where
         where
           quiet : (b : Bool) → list_any (λ r. violates l (candidate_at k r) q) (ones_of (slice_index_or masks k 0)) ≡ b → b ≡ false
           quiet false hit = refl
-          quiet true hit = absurd (go (cases_lt k from))
-            where
-              go : (k < from) ⊎ (from ≤ k) → ⊥
-              go (inl before) =
-                  let at = is.all k before hit in
-                  both_ways _ never (any_in (λ set. is_within set w) sets count at.0 at.1 is.room (ap (λ set. is_within set w) at.2 ∙ in_set))
-              go (inr behind) = no_hit l q masks k (none k behind low) hit
+          quiet true hit = absurd (
+              let at = is.all whole k low hit in
+              both_ways _ never (any_in (λ set. is_within set w) sets count at.0 at.1 is.room (ap (λ set. is_within set w) at.2 ∙ in_set)))

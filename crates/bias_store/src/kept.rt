@@ -114,21 +114,7 @@ impl Kept {
         ensures some { (w : List ℕ) → list_any (λ set. is_within set w) (take result.0 sets.new) ≡ true → is_struck_within lang.now self.now.members q.now w ≡ true }
         ensures all { result.1 ≡ true → (w : List ℕ) → is_struck_within lang.now self.now.members q.now w ≡ true → list_any (λ set. is_within set w) (take result.0 sets.new) ≡ true }
     {
-        let shown = Shown::of(q);
-        let mut count = 0;
-        let mut from = 0;
-        while let Some(found) = self
-            .tables
-            .next_violated(lang, q, &shown, &self.relations, from)
-        {
-            if count == sets.len() {
-                return (count, false);
-            }
-            sets[count] = lang.scope_set(found.scope);
-            count += 1;
-            from = found.scope + 1;
-        }
-        (count, true)
+        self.tables.list_violated(lang, q, &self.relations, sets)
     }
 
     /// Takes out the candidates that the question violates, and answers how many they were.

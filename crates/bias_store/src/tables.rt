@@ -7,10 +7,10 @@ ghost use Rattle.language.specs.Language.{scope_at, place_on, IsQuestion};
 ghost use Rattle.bias_store.specs.Masks.{ones_of};
 ghost use Rattle.bias_store.specs.Accepting.{accepting_on, places_on, AreRunsFrom, IsRow, AreRowsFrom, IsAcceptingOf, IsTabled, IsWholePair, HaveSameTables, IsLikePair, first_of};
 ghost use Rattle.bias_store.specs.Shown.{IsShown};
-ghost use Rattle.bias_store.specs.Violated.{violated_on, AreNoneViolated, IsViolated};
+ghost use Rattle.bias_store.specs.Violated.{violated_on, AreNoneViolated, IsViolated, AreHitsListed};
 
 use crate::shown::Shown;
-use assign::Partial;
+use assign::{Partial, VarSet};
 use language::{Language, Memory, ScopeId};
 use std::alloc::{AllocError, Global};
 use std::marker::Model;
@@ -338,6 +338,34 @@ impl Tables {
             }
         }
         None
+    }
+
+    /// Lists the variables of the scopes with relations, of these, that the question violates, in the order of scopes, as far as
+    /// there is room. Says how many sets these are, and whether they are all.
+    pub(crate) fn list_violated(
+        &self,
+        lang: &Language,
+        q: &Partial,
+        relations: &[u64],
+        sets: &mut [VarSet],
+    ) -> (usize, bool)
+        requires made { IsAcceptingOf lang.now self.now }
+        requires question { IsQuestion lang.now q.now }
+        requires relations { length relations.now ≡ length lang.now.scopes }
+        ensures { AreHitsListed lang.now q.now relations.now sets.new result.0 result.1 }
+    {
+        let shown = Shown::of(q);
+        let mut count = 0;
+        let mut from = 0;
+        while let Some(found) = self.next_violated(lang, q, &shown, relations, from) {
+            if count == sets.len() {
+                return (count, false);
+            }
+            sets[count] = lang.scope_set(found.scope);
+            count += 1;
+            from = found.scope + 1;
+        }
+        (count, true)
     }
 
     /// The relations on a scope that accept the tuple at a place: bit r is one exactly where relation r does.

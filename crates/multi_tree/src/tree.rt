@@ -1,6 +1,6 @@
 //! The walk of an example, a turn at a time.
 
-ghost use Rattle.std.specs.Prelude.{◌≡◌, ◌≢◌, ◌<◌, ◌≤◌, ◌++◌, ◌∷◌, ℕ, List, [], length, find, IfOk, IfSome, IsTrue, Some, None};
+ghost use Rattle.std.specs.Prelude.{◌≡◌, ◌≢◌, ◌<◌, ◌≤◌, ◌++◌, ◌∷◌, ℕ, List, [], length, take, find, IfOk, IfSome, IsTrue, Some, None};
 ghost use Rattle.std.specs.List.{list_any};
 ghost use Rattle.assign.specs.Sets.{is_within};
 ghost use Rattle.assign.specs.Assignment.{restrict};
@@ -224,11 +224,9 @@ fn take_sets(
                 if is_struck_within(lang, kept, struck, example, set) {
                     return TreeNext::Ask(set);
                 }
-                if count == 0 && !are_all {
-                    let found = kept.list_struck(lang, example, room);
-                    count = found.0;
-                    are_all = found.1;
-                }
+                let found = list_once(lang, kept, example, room, count, are_all);
+                count = found.0;
+                are_all = found.1;
             }
         }
     }
@@ -259,6 +257,28 @@ struct Struck<'a> {
     are_all: bool,
 }
 
+/// Lists such scopes, where none is listed yet. Says how many are, and whether these are all.
+fn list_once(
+    lang: &Language,
+    kept: &Kept,
+    example: &Partial,
+    room: &mut [VarSet],
+    count: usize,
+    are_all: bool,
+) -> (usize, bool)
+    requires question { IsQuestion lang.now example.now }
+    requires made { IsMadeFor lang.now kept.now }
+    requires before { AreStruck lang.now kept.now.members example.now (take count room.old) are_all }
+    requires few { count ≤ length room.old }
+    ensures struck { AreStruck lang.now kept.now.members example.now (take result.0 room.new) result.1 }
+    ensures few { result.0 ≤ length room.new }
+{
+    if count > 0 || are_all {
+        return (count, are_all);
+    }
+    kept.list_struck(lang, example, room)
+}
+
 /// Whether one of these sets lies within another one.
 fn some_within(sets: &[VarSet], set: VarSet) -> bool
     ensures { result ≡ list_any (λ u. is_within u set) sets.now }
@@ -283,7 +303,10 @@ fn is_struck_within(
     if some_within(struck.sets, set) {
         return true;
     }
-    !struck.are_all && kept.strikes_any(lang, &example.restrict(set))
+    if struck.are_all {
+        return false;
+    }
+    kept.strikes_any(lang, &example.restrict(set))
 }
 
 /// The first items of a network that an example violates. The example stays the same while a walk takes sets, and mostly

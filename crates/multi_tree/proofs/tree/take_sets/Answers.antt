@@ -1,8 +1,8 @@
-use Rattle.std.proofs.Common.{◌≡◌, ◌-◌, ◌<◌, true, false, List, length, sym, ◌∙◌, ap, subst, arith}
+use Rattle.std.proofs.Common.{◌≡◌, ◌-◌, ◌<◌, true, false, List, length, refl, sym, ◌∙◌, ap, subst, arith}
 use Rattle.language.specs.declared.candidates.Candidate.{Candidate}
 use Rattle.session_laws.specs.Walk.{next_turn}
 use Rattle.multi_tree.specs.Listed.{AreListed}
-use Rattle.multi_tree.proofs.Turning.{none_waits, cut_off, splits, asks, drops, taken, some_asked}
+use Rattle.multi_tree.proofs.Turning.{none_waits, cut_off, splits, asks, drops, taken, some_asked, nothing_struck}
 use Rattle.multi_tree.proofs.tree.take_sets.Goals as goal
 
 pub returns-in_default-clause-turn : goal.returns-in_default-clause-turn
@@ -20,8 +20,8 @@ loop-left-preserved-in-Some-listed_within c = record {
     ∙ sym (splits l network kept e (c.loop-left.left - 1) c.in-Some.set c.pop.new.self c.in-Some-listed_within.c (sym c.listed_within.ensures.is ∙ c.in-Some-listed_within.is))
     ∙ taken l network kept e c.loop-left.left c.in-Some.set c.pop.new.self c.loop-left.waiting c.loop-left-test.true c.in-Some.ensures.top
     ∙ c.loop-left.invariant.turn);
-  struck = ?;
-  few = ?;
+  struck = c.loop-left.invariant.struck;
+  few = c.loop-left.invariant.few;
 }
 
 pub listed_within-requires-clause-listed : goal.listed_within-requires-clause-listed
@@ -56,8 +56,8 @@ loop-left-preserved c = record {
     (sym c.is_struck_within.ensures ∙ c.if-is_struck_within.false))
     ∙ taken l network kept e c.loop-left.left c.in-Some.set c.pop.new.self c.loop-left.waiting c.loop-left-test.true c.in-Some.ensures.top
     ∙ c.loop-left.invariant.turn);
-  struck = ?;
-  few = ?;
+  struck = c.list_once-found.ensures.struck;
+  few = c.list_once-found.ensures.few;
 }
 
 pub returns-then-is_empty-clause-turn : goal.returns-then-is_empty-clause-turn
@@ -68,3 +68,13 @@ pub returns-else-is_empty-clause-turn : goal.returns-else-is_empty-clause-turn
 returns-else-is_empty-clause-turn c =
     cut_off c.args.lang.now c.args.net.now.list c.args.kept.now.members c.args.example.now c.loop-left.left c.loop-left.waiting (omega arith)
     (λ none. let some : true ≡ false = sym (c.is_empty.ensures.1 none) ∙ c.if-is_empty.false in absurd (let bad : ⊥ = cc in bad)) ∙ c.loop-left.invariant.turn
+
+pub loop-left-init : goal.loop-left-init
+loop-left-init c = record {
+  turn = refl;
+  struck = nothing_struck c.args.lang.now c.args.kept.now.members c.args.example.now;
+  few = omega arith;
+}
+
+pub is_struck_within-requires-clause-struck : goal.is_struck_within-requires-clause-struck
+is_struck_within-requires-clause-struck c = c.loop-left.invariant.struck
