@@ -12,14 +12,14 @@ returns-in_default-clause-turn c =
 pub loop-left-preserved-in-Some-listed_within : goal.loop-left-preserved-in-Some-listed_within
 loop-left-preserved-in-Some-listed_within c = record {
   turn = (
-    let l = c.args.lang.now in
-    let network = c.args.net.now.list in
-    let kept = c.args.kept.now.members in
-    let e = c.args.example.now in
-    ap (next_turn l network kept e (c.loop-left.left - 1)) c.split.ensures
-    ∙ sym (splits l network kept e (c.loop-left.left - 1) c.in-Some.set c.pop.new.self c.in-Some-listed_within.c (sym c.listed_within.ensures.is ∙ c.in-Some-listed_within.is))
-    ∙ taken l network kept e c.loop-left.left c.in-Some.set c.pop.new.self c.loop-left.waiting c.loop-left-test.true c.in-Some.ensures.top
-    ∙ c.loop-left.invariant.turn);
+      let l = c.args.lang.now in
+      let network = c.args.net.now.list in
+      let kept = c.args.kept.now.members in
+      let e = c.args.example.now in
+      ap (next_turn l network kept e (c.loop-left.left - 1)) c.split.ensures
+      ∙ sym (splits l network kept e (c.loop-left.left - 1) c.in-Some.set c.pop.new.self c.in-Some-listed_within.c (sym c.listed_within.ensures.is ∙ c.in-Some-listed_within.is))
+      ∙ taken l network kept e c.loop-left.left c.in-Some.set c.pop.new.self c.loop-left.waiting c.loop-left-test.true c.in-Some.ensures.top
+      ∙ c.loop-left.invariant.turn);
   struck = c.loop-left.invariant.struck;
   few = c.loop-left.invariant.few;
 }
@@ -48,14 +48,14 @@ returns-then-is_struck_within-clause-some c = λ set same.
 pub loop-left-preserved : goal.loop-left-preserved
 loop-left-preserved c = record {
   turn = (
-    let l = c.args.lang.now in
-    let network = c.args.net.now.list in
-    let kept = c.args.kept.now.members in
-    let e = c.args.example.now in
-    sym (drops l network kept e (c.loop-left.left - 1) c.in-Some.set c.pop.new.self (sym c.listed_within.ensures.is ∙ c.in-None.is)
-    (sym c.is_struck_within.ensures ∙ c.if-is_struck_within.false))
-    ∙ taken l network kept e c.loop-left.left c.in-Some.set c.pop.new.self c.loop-left.waiting c.loop-left-test.true c.in-Some.ensures.top
-    ∙ c.loop-left.invariant.turn);
+      let l = c.args.lang.now in
+      let network = c.args.net.now.list in
+      let kept = c.args.kept.now.members in
+      let e = c.args.example.now in
+      sym (drops l network kept e (c.loop-left.left - 1) c.in-Some.set c.pop.new.self (sym c.listed_within.ensures.is ∙ c.in-None.is)
+      (sym c.is_struck_within.ensures ∙ c.if-is_struck_within.false))
+      ∙ taken l network kept e c.loop-left.left c.in-Some.set c.pop.new.self c.loop-left.waiting c.loop-left-test.true c.in-Some.ensures.top
+      ∙ c.loop-left.invariant.turn);
   struck = c.list_once-found.ensures.struck;
   few = c.list_once-found.ensures.few;
 }
