@@ -5,6 +5,7 @@ pub mod Struck
 pub mod Filled
 pub mod Contained
 pub mod Bits
+pub mod Likeness
 pub mod Tabled
 pub mod Runs
 pub mod Rows
@@ -13,3 +14,4 @@ pub mod InRow
 pub mod Showing
 pub mod Violating
 pub mod Striking
+pub mod Within

@@ -8,7 +8,8 @@ use Rattle.assign.specs.Sets.{numbers}
 use Rattle.language.specs.Language.{Language, IsLanguage, scope_at, is_whole}
 use Rattle.language.proofs.Alike.{whole_alike}
 use Rattle.bias_store.specs.Masks.{ones_of}
-use Rattle.bias_store.specs.Accepting.{accepting_on, places_on, mask_in, AreRunsFrom, AreRowsFrom, IsAcceptingOf, IsTabled, IsTableOf}
+use Rattle.bias_store.specs.Accepting.{accepting_on, places_on, mask_in, AreRunsFrom, AreRowsFrom, IsAcceptingOf, IsTabled, IsTableOf, IsLikePair}
+use Rattle.bias_store.proofs.Likeness.{table_like}
 use Rattle.bias_store.specs.declared.tables.TheConstants.{NO_TABLE}
 
 pub table_none : (l : Language) (s : ℕ) (before : List ℕ) → IsTabled l s before before 0
@@ -29,7 +30,8 @@ table_more l s before masks place mask is new = let long = is.long in record {
 table_wider : (l : Language) (s begin : ℕ) (masks wider : List ℕ) → length masks ≤ length wider → ((i : ℕ) → i < length masks → get_or wider i 0 ≡ get_or masks i 0) → IsTableOf l s masks begin → IsTableOf l s wider begin
 table_wider l s begin masks wider longer same is = let inside = is.inside in record {
   inside = omega arith;
-  each = λ p low. (let inside = is.inside in ap ones_of (same (begin + p) (omega arith))) ∙ is.each p low;
+  each = λ q p fits low at. (let inside = is.inside in ap ones_of (same (begin + p) (omega arith))) ∙ is.each q p fits low at;
+  whole = λ all p low. (let inside = is.inside in ap ones_of (same (begin + p) (omega arith))) ∙ is.whole all p low;
 }
 
 -- that of a scope is that of each other one with as many variables, where these have all values
@@ -37,12 +39,16 @@ table_alike : (l : Language) → IsLanguage l → (s t begin : ℕ) (masks : Lis
     IsTableOf l s masks begin → IsTableOf l t masks begin
 table_alike l lawful s t begin masks low there whole other same is = record {
   inside = subst (λ n. begin + l.value_count ^ n ≤ length masks) same is.inside;
-  each = λ p below. is.each p (subst (λ n. p < l.value_count ^ n) (sym same) below) ∙ ap (λ rs. filter (λ r. get_or (get_or rs r []) p false) (numbers (length rs))) (whole_alike l lawful s t low there whole other same);
+  each = λ q p fits below at. alike p below;
+  whole = λ all. alike;
 }
+  where
+    alike : (p : ℕ) → p < places_on l t → ones_of (mask_in masks begin p) ≡ accepting_on l t p
+    alike p below = is.whole whole p (subst (λ n. p < l.value_count ^ n) (sym same) below) ∙ ap (λ rs. filter (λ r. get_or (get_or rs r []) p false) (numbers (length rs))) (whole_alike l lawful s t low there whole other same)
 
 -- one scope's masks, put behind other ones, are its table
 table_of : (l : Language) (s : ℕ) (masks wider : List ℕ) → IsTabled l s masks wider (places_on l s) → IsTableOf l s wider (length masks)
-table_of l s masks wider is = let long = is.long in record { inside = omega arith; each = is.here }
+table_of l s masks wider is = let long = is.long in record { inside = omega arith; each = λ q p fits low at. is.here p low; whole = λ all. is.here }
 
 -- the first scopes have tables that begin at these places, or none
 pub record AreTabled (l : Language) (first masks : List ℕ) (s : ℕ) : Type 0 where
@@ -124,9 +130,17 @@ pub made_at : (l : Language) (first begins masks first' begins' masks' : List �
 made_at l first begins masks first' begins' masks' s e f g is =
     subst (λ xs. AreMade l xs begins' masks' s) (sym e) (subst (λ xs. AreMade l first xs masks' s) (sym f) (subst (λ xs. AreMade l first begins xs s) (sym g) is))
 
--- not all its variables have all values: it has no table
-pub made_narrow : (l : Language) (first begins masks : List ℕ) (s : ℕ) → AreMade l first begins masks s → AreMade l (first ++ NO_TABLE ∷ []) begins masks (s + 1)
-made_narrow l first begins masks s is = record { tabled = tabled_more l first masks s NO_TABLE is.tabled (λ some. absurd (some refl)); begun = is.begun }
+-- not all its variables have all values: it has no table, or that of scopes of two variables
+pub made_narrow : (l : Language) → IsLanguage l → (first begins masks : List ℕ) (s begin two : ℕ) → s < length l.scopes → is_whole l s ≡ false → two ≡ get_or begins 2 0 → (begin ≢ NO_TABLE → IsLikePair l s two begin) →
+    AreMade l first begins masks s → AreMade l (first ++ begin ∷ []) begins masks (s + 1)
+made_narrow l lawful first begins masks s begin two low narrow read like is = record { tabled = tabled_more l first masks s begin is.tabled table; begun = is.begun }
+  where
+    table : begin ≢ NO_TABLE → IsTableOf l s masks begin
+    table some =
+        let by = like some in
+        let at : get_or begins (length (scope_at l by.pair)) 0 ≡ begin = ap (λ k. get_or begins k 0) by.is.two ∙ sym (by.begins ∙ read) in
+        table_like l lawful s by.pair begin masks low narrow by.two by.is by.same
+        (subst (λ b. b ≢ NO_TABLE → IsTableOf l by.pair masks b) at (is.begun.tables by.pair by.is.low by.is.whole) some)
 
 -- it has that of its number of variables
 pub made_like : (l : Language) (first begins masks : List ℕ) (s size begin : ℕ) → s < length l.scopes → is_whole l s ≡ true → size ≡ length (scope_at l s) → begin ≡ get_or begins size 0 → AreMade l first begins masks s →

@@ -70,7 +70,8 @@ module _ (l : Language) (q : Assignment) (a : Accepting) (masks : List ℕ) (s e
       get_or-slice_range a.masks begin (begin + l.value_count) y 0 (omega arith) ∙ ap (λ i. get_or a.masks i 0) (let e : begin + y ≡ get_or a.first (s + j) 0 + (value * l.value_count + y) = omega (arith, same, at) in e) in
       (λ i. filter (λ r. not (has (ones_of (read i)) r)) (ones_of (get_or-slice_range masks s end j 0 (omega arith) i)))
       ∙ without_those l (s + j) q (value * l.value_count + y) (get_or masks (s + j) 0) (mask_in a.masks (get_or a.first (s + j) 0) (value * l.value_count + y))
-      (pair_place l (s + j) q (first_of l s) (second_of l s + j) value y two is.first second) (table.each (value * l.value_count + y) place)
+      (pair_place l (s + j) q (first_of l s) (second_of l s + j) value y two is.first second) (table.each q (value * l.value_count + y) is.question place
+      (pair_place l (s + j) q (first_of l s) (second_of l s + j) value y two is.first second))
 
   -- and on one whose second one has none
   bare_there : (j : ℕ) → s + j < end → value_of q (second_of l s + j) ≡ None → violated_on l q (s + j) (get_or masks (s + j) 0) ≡ []

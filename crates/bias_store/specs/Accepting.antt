@@ -1,8 +1,10 @@
 -- Which relations on a scope accept a tuple.
-use Rattle.std.specs.Prelude.{ℕ, ◌≡◌, ◌≢◌, ◌+◌, ◌<◌, ◌≤◌, ◌^◌, false, List, [], ◌∷◌, length, slice_index_or}
+use Rattle.std.specs.Prelude.{ℕ, ◌≡◌, ◌≢◌, ◌+◌, ◌<◌, ◌≤◌, ◌^◌, true, false, Some, List, [], ◌∷◌, length, slice_index_or}
 use Rattle.std.specs.List.{filter}
 use Rattle.assign.specs.Sets.{numbers}
-use Rattle.language.specs.Language.{Language, scope_at, relations_on}
+use Rattle.assign.specs.Assignment.{Assignment}
+use Rattle.language.specs.Language.{Language, IsQuestion, scope_at, relations_on, place_on, is_whole}
+use Rattle.language.specs.Pairs.{IsPairTableOn}
 use Rattle.bias_store.specs.Masks.{ones_of}
 use Rattle.bias_store.specs.declared.tables.TheConstants.{NO_TABLE}
 
@@ -52,10 +54,31 @@ pub record AreRowsFrom (l : Language) (tables rows : List ℕ) (low : ℕ) : Typ
   pub within : (s : ℕ) → low ≤ s → s < length l.scopes → slice_index_or rows s 0 ≤ length l.scopes
   pub row : (s : ℕ) → low ≤ s → s < length l.scopes → IsRow l tables s (slice_index_or rows s 0)
 
--- the scope's table begins here: for each place the relations that accept the tuple there
+-- the scope's table begins here: for the place of each question's tuple, and for each place where the variables have all values, the relations that
+-- accept the tuple there
 pub record IsTableOf (l : Language) (s : ℕ) (masks : List ℕ) (begin : ℕ) : Type 0 where
   pub inside : begin + places_on l s ≤ length masks
-  pub each : (place : ℕ) → place < places_on l s → ones_of (mask_in masks begin place) ≡ accepting_on l s place
+  pub each : (q : Assignment) (place : ℕ) → IsQuestion l q → place < places_on l s → Some place ≡ place_on l s q → ones_of (mask_in masks begin place) ≡ accepting_on l s place
+  pub whole : is_whole l s ≡ true → (place : ℕ) → place < places_on l s → ones_of (mask_in masks begin place) ≡ accepting_on l s place
+
+-- a scope of two variables that have all values
+pub record IsWholePair (l : Language) (t : ℕ) : Type 0 where
+  pub low : t < length l.scopes
+  pub two : length (scope_at l t) ≡ 2
+  pub whole : is_whole l t ≡ true
+
+-- as many relations on one scope as on another one, and one after the other the same tables
+pub record HaveSameTables (l : Language) (s t : ℕ) : Type 0 where
+  pub count : length (relations_on l s) ≡ length (relations_on l t)
+  pub tables : (r : ℕ) → r < length (relations_on l s) → (n : ℕ) × IsPairTableOn l s r n × IsPairTableOn l t r n
+
+-- the scope's table begins where that of scopes of two variables does, with whose relations its own have the same tables
+pub record IsLikePair (l : Language) (s pair_begin begin : ℕ) : Type 0 where
+  pub pair : ℕ
+  pub is : IsWholePair l pair
+  pub two : length (scope_at l s) ≡ 2
+  pub same : HaveSameTables l s pair
+  pub begins : begin ≡ pair_begin
 
 -- each scope of the language has such a table, or none
 pub record IsAcceptingOf (l : Language) (a : Accepting) : Type 0 where

@@ -1,16 +1,17 @@
 //! The kept candidates.
 
-ghost use Rattle.std.specs.Prelude.{◌≡◌, ◌+◌, ◌<◌, ◌↔◌, ◌==◌, IsTrue, IfOk, Contains, length, filter, not};
+ghost use Rattle.std.specs.Prelude.{ℕ, ◌≡◌, ◌+◌, ◌<◌, ◌≤◌, ◌↔◌, ◌==◌, IsTrue, true, List, IfOk, Contains, length, take, filter, not};
 ghost use Rattle.std.specs.List.{list_any};
 ghost use Rattle.language.specs.Language.{Language, candidates, violates, IsQuestion};
+ghost use Rattle.assign.specs.Sets.{is_within};
 ghost use Rattle.bias_store.specs.Masks.{ones_of};
 ghost use Rattle.bias_store.specs.Accepting.{accepting_on, places_on};
-ghost use Rattle.bias_store.specs.KeptSet.{kept_relations, CoversOnly, IsMadeFor};
+ghost use Rattle.bias_store.specs.KeptSet.{kept_relations, is_struck_within, CoversOnly, IsMadeFor};
 
 use crate::masks::{first_relations, has_relation, relation_count};
 use crate::shown::Shown;
 use crate::tables::{Tables, violated_on};
-use assign::Partial;
+use assign::{Partial, VarSet};
 use language::{Candidate, Language, Memory, ScopeId};
 use std::alloc::Global;
 use std::marker::Model;
@@ -102,6 +103,18 @@ impl Kept {
             .tables
             .next_violated(lang, q, &shown, &self.relations, 0);
         found.is_some()
+    }
+
+    /// Lists the variables of the scopes with a kept candidate that the question violates, in the order of scopes, as far as there
+    /// is room. Says how many sets these are, and whether they are all.
+    pub fn list_struck(&self, lang: &Language, q: &Partial, sets: &mut [VarSet]) -> (usize, bool)
+        requires made { IsMadeFor lang.now self.now }
+        requires question { IsQuestion lang.now q.now }
+        ensures room { result.0 ≤ length sets.new }
+        ensures some { (w : List ℕ) → list_any (λ set. is_within set w) (take result.0 sets.new) ≡ true → is_struck_within lang.now self.now.members q.now w ≡ true }
+        ensures all { result.1 ≡ true → (w : List ℕ) → is_struck_within lang.now self.now.members q.now w ≡ true → list_any (λ set. is_within set w) (take result.0 sets.new) ≡ true }
+    {
+        self.tables.list_violated(lang, q, &self.relations, sets)
     }
 
     /// Takes out the candidates that the question violates, and answers how many they were.

@@ -1,16 +1,16 @@
 //! Which relations on a scope accept which tuples.
 
-ghost use Rattle.std.specs.Prelude.{◌≡◌, ◌+◌, ◌<◌, ◌≤◌, Some, length, slice_index_or, IfOk, IfSome, IfNone};
+ghost use Rattle.std.specs.Prelude.{◌≡◌, ◌≢◌, ◌+◌, ◌<◌, ◌≤◌, true, Some, length, slice_index_or, IfOk, IfSome, IfNone};
 ghost use Rattle.std.specs.Option.{ForSome};
 ghost use Rattle.assign.specs.Assignment.{Assignment, value_of};
-ghost use Rattle.language.specs.Language.{place_on, IsQuestion};
+ghost use Rattle.language.specs.Language.{scope_at, place_on, IsQuestion};
 ghost use Rattle.bias_store.specs.Masks.{ones_of};
-ghost use Rattle.bias_store.specs.Accepting.{accepting_on, places_on, AreRunsFrom, IsRow, AreRowsFrom, IsAcceptingOf, IsTabled, first_of};
+ghost use Rattle.bias_store.specs.Accepting.{accepting_on, places_on, AreRunsFrom, IsRow, AreRowsFrom, IsAcceptingOf, IsTabled, IsWholePair, HaveSameTables, IsLikePair, first_of};
 ghost use Rattle.bias_store.specs.Shown.{IsShown};
-ghost use Rattle.bias_store.specs.Violated.{violated_on, AreNoneViolated, IsViolated};
+ghost use Rattle.bias_store.specs.Violated.{violated_on, AreNoneViolated, IsViolated, AreHitsListed};
 
 use crate::shown::Shown;
-use assign::Partial;
+use assign::{Partial, VarSet};
 use language::{Language, Memory, ScopeId};
 use std::alloc::{AllocError, Global};
 use std::marker::Model;
@@ -30,7 +30,8 @@ const NO_TABLE: u32 = u32::MAX;
 /// For each scope and each place of its tuples the relations that accept the tuple there, and an index by variables.
 ///
 /// The scopes whose variables have all values share a table with those that have as many variables: 8 bytes for each tuple, at
-/// most 512 KB. The other ones have no table: there the language is asked. Each scope takes 8 bytes beside it.
+/// most 512 KB. A scope of two variables whose ranges leave its relations the same tables shares theirs, and goes by it within the
+/// ranges. The other ones have no table: there the language is asked. Each scope takes 8 bytes beside it.
 #[derive(Drop)]
 pub(crate) struct Tables {
     /// For each scope where its table begins, or `NO_TABLE`.
@@ -175,6 +176,51 @@ pub(crate) fn violated_on(
     violated_at(tables, lang, s, lang.place_on(s, q), relations)
 }
 
+/// The first scope of two variables that have all values, if there is one.
+fn first_pair(lang: &Language) -> Option<ScopeId>
+    ensures { IfSome result (IsWholePair lang.now) }
+{
+    for s in 0..lang.scopes() as ScopeId {
+        if lang.scope(s).len() == 2 && lang.is_whole(s) {
+            return Some(s);
+        }
+    }
+    None
+}
+
+/// Whether the relations on two scopes of two variables have the same tables.
+fn have_same_tables(lang: &Language, s: ScopeId, t: ScopeId) -> bool
+    requires scope { s < length lang.now.scopes }
+    requires other { t < length lang.now.scopes }
+    requires two { length (scope_at lang.now s) ≡ 2 }
+    requires other_two { length (scope_at lang.now t) ≡ 2 }
+    ensures { result ≡ true → HaveSameTables lang.now s t }
+{
+    let count = lang.relations_on(s);
+    if count != lang.relations_on(t) {
+        return false;
+    }
+    for r in 0..count {
+        if lang.pair_table(s, r) != lang.pair_table(t, r) {
+            return false;
+        }
+    }
+    true
+}
+
+/// Where the table begins of a scope whose variables haven't all values: where that of scopes of two variables does, if the
+/// relations have the same tables as on such a scope.
+fn narrow_begin(lang: &Language, s: ScopeId, pair: Option<ScopeId>, begin: u32) -> u32
+    requires scope { s < length lang.now.scopes }
+    requires pair { IfSome pair (IsWholePair lang.now) }
+    ensures { result ≢ NO_TABLE → IsLikePair lang.now s begin result }
+{
+    match pair {
+        Some(t) if lang.scope(s).len() == 2 && have_same_tables(lang, s, t) => begin,
+        _ => NO_TABLE,
+    }
+}
+
 impl Tables {
     /// The tables of a language. `Memory` where there is none for them.
     pub(crate) fn of(alloc: Global, lang: &Language) -> Result<Tables, Memory>
@@ -184,6 +230,7 @@ impl Tables {
         let mut masks = Vec::new(alloc);
         // For each number of variables where the table of the scopes with so many begins, once it was made.
         let mut begins = [NO_TABLE; 5];
+        let pair = first_pair(lang);
         for s in 0..lang.scopes() as ScopeId {
             let mut begin = NO_TABLE;
             if lang.is_whole(s) {
@@ -193,6 +240,8 @@ impl Tables {
                     masks = with_table(masks, lang, s)?;
                 }
                 begin = begins[size];
+            } else {
+                begin = narrow_begin(lang, s, pair, begins[2]);
             }
             let Ok(()) = first.push(begin) else {
                 return Err(Memory);
@@ -291,6 +340,34 @@ impl Tables {
         None
     }
 
+    /// Lists the variables of the scopes with relations, of these, that the question violates, in the order of scopes, as far as
+    /// there is room. Says how many sets these are, and whether they are all.
+    pub(crate) fn list_violated(
+        &self,
+        lang: &Language,
+        q: &Partial,
+        relations: &[u64],
+        sets: &mut [VarSet],
+    ) -> (usize, bool)
+        requires made { IsAcceptingOf lang.now self.now }
+        requires question { IsQuestion lang.now q.now }
+        requires relations { length relations.now ≡ length lang.now.scopes }
+        ensures { AreHitsListed lang.now q.now relations.now sets.new result.0 result.1 }
+    {
+        let shown = Shown::of(q);
+        let mut count = 0;
+        let mut from = 0;
+        while let Some(found) = self.next_violated(lang, q, &shown, relations, from) {
+            if count == sets.len() {
+                return (count, false);
+            }
+            sets[count] = lang.scope_set(found.scope);
+            count += 1;
+            from = found.scope + 1;
+        }
+        (count, true)
+    }
+
     /// The relations on a scope that accept the tuple at a place: bit r is one exactly where relation r does.
     pub(crate) fn accepting(&self, lang: &Language, s: ScopeId, place: u32) -> u64
         requires made { IsAcceptingOf lang.now self.now }
@@ -299,7 +376,7 @@ impl Tables {
         ensures { ones_of result ≡ accepting_on lang.now s place }
     {
         let first = self.first[usize::from(s)];
-        if first == NO_TABLE {
+        if first == NO_TABLE || !lang.is_whole(s) {
             return accepting_at(lang, s, place);
         }
         self.masks[first as usize + place as usize]

@@ -1,4 +1,4 @@
-use Rattle.std.proofs.Common.{ℕ, Vec, Global, ◌+◌, ◌*◌, ◌<◌, ◌≤◌, [], ◌∷◌, ◌++◌, length, refl, sym, ap, ◌∙◌, arith}
+use Rattle.std.proofs.Common.{ℕ, Vec, Global, ◌+◌, ◌*◌, ◌<◌, ◌≤◌, [], ◌∷◌, ◌++◌, length, get_or, refl, sym, ap, ◌∙◌, arith}
 use Rattle.bias_store.proofs.Tabled.{AreMade, begun_none, tabled_none, tabled_wider, made_at, made_narrow, made_like, made_new}
 use Rattle.bias_store.proofs.tables.Tables.of.Goals.{then-is_whole, then-begins-size+in_ok-masks, else-begins-size, else-is_whole}
 use Rattle.bias_store.proofs.tables.Tables.of.Goals as goal
@@ -40,7 +40,9 @@ loop-s-preserved c =
             few = omega (arith, made.1, ap (λ (v : Vec ℕ Global). length v.items) w.masks-is);
           }
       | else-is_whole w ↦ record {
-        made = made_at l _ _ _ _ _ _ (c.loop-s.s + 1) (c.in-Ok.ensures.items ∙ ap (λ b. first ++ b ∷ []) w.begin-is) w.begins-is (λ i. (w.masks-is i).items) (made_narrow l first c.loop-s.begins c.loop-s.masks.items c.loop-s.s c.loop-s.invariant.made);
+        made = made_at l _ _ _ _ _ _ (c.loop-s.s + 1) (c.in-Ok.ensures.items ∙ ap (λ b. first ++ b ∷ []) w.begin-is) w.begins-is (λ i. (w.masks-is i).items)
+            (made_narrow l c.scopes-s-end.ensures.lawful first c.loop-s.begins c.loop-s.masks.items c.loop-s.s w.narrow_begin-begin.result (get_or c.loop-s.begins 2 0)
+            (let is = c.scopes-s-end.ensures.is in omega arith) (sym c.is_whole.ensures ∙ w.if-is_whole.false) refl w.narrow_begin-begin.ensures c.loop-s.invariant.made);
         few = omega (arith, few, ap (λ (v : Vec ℕ Global). length v.items) w.masks-is);
       }
     ]
