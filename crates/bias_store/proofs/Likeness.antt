@@ -1,5 +1,5 @@
 -- A scope of two variables goes, within the ranges, by the table of one whose variables have all values, where the relations have the same tables.
-use Rattle.std.proofs.Common.{◌≡◌, ℕ, zero, suc, ◌+◌, ◌<◌, ◌≤◌, ◌^◌, Bool, true, false, cond, ◌&&◌, List, [], ◌∷◌, length, get_or, Option, Some, None, refl, sym, ◌∙◌, ap, subst, arith}
+use Rattle.std.proofs.Common.{◌≡◌, ℕ, ◌+◌, ◌<◌, ◌≤◌, ◌^◌, Bool, true, false, List, [], ◌∷◌, length, get_or, Option, Some, None, refl, sym, ◌∙◌, ap, subst, arith}
 use Rattle.std.specs.Prelude.{All, is_some, unwrap_or, if◌then◌else◌}
 use Rattle.std.specs.List.{filter}
 use Rattle.std.specs.Option.{option_map_or}
@@ -8,9 +8,8 @@ use Rattle.std.proofs.lemmas.List.Elements.{All-head, All-tail}
 use Rattle.assign.specs.Sets.{numbers}
 use Rattle.assign.specs.Assignment.{Assignment, value_of, covers, tuple_on}
 use Rattle.rel_table.specs.Relation.{Relation, place, holds}
-use Rattle.language.specs.Ranges.{is_in, range_in, are_in, IsWhole}
-use Rattle.language.specs.Language.{Language, IsLanguage, IsQuestion, variable_count, scope_at, relations_on, place_on, is_whole}
-use Rattle.language.specs.Pairs.{IsPairTableOn}
+use Rattle.language.specs.Ranges.{is_in, range_in, are_in}
+use Rattle.language.specs.Language.{Language, IsLanguage, IsQuestion, variable_count, scope_at, relations_on, is_whole}
 use Rattle.language.proofs.Beside.{tuple_fits}
 use Rattle.assign.specs.SetLemmas.{filter_agree_from}
 use Rattle.language.proofs.OneLanguage.{one_closing}

@@ -1,8 +1,8 @@
 -- The scopes with candidates that a question violates, listed one after another.
-use Rattle.std.proofs.Common.{◌≡◌, ℕ, ◌+◌, ◌<◌, ◌≤◌, Bool, true, false, ◌&&◌, ◌||◌, zero, suc, List, [], ◌∷◌, length, take, refl, sym, ◌∙◌, ap, subst, arith, inl, inr, ◌⊎◌, get_or-set_same, get_or-set_other}
+use Rattle.std.proofs.Common.{◌≡◌, ℕ, ◌+◌, ◌<◌, ◌≤◌, Bool, true, false, ◌&&◌, ◌||◌, zero, suc, List, [], ◌∷◌, length, take, refl, sym, ◌∙◌, ap, arith, inl, inr, ◌⊎◌, get_or-set_same, get_or-set_other}
 use Rattle.std.specs.Prelude.{slice_index_or, slice_set}
-use Rattle.std.specs.List.{filter, list_any}
-use Rattle.std.proofs.lemmas.Bool.{cases_eq, cases_lt, both_ways, and_parts, and_from, true_from_ne_false}
+use Rattle.std.specs.List.{list_any}
+use Rattle.std.proofs.lemmas.Bool.{cases_eq, cases_lt, both_ways, true_from_ne_false}
 use Rattle.std.proofs.lemmas.List.{length-set}
 use Rattle.assign.specs.Sets.{is_within}
 use Rattle.assign.specs.Assignment.{Assignment}
@@ -80,11 +80,12 @@ hits_all l q masks sets count from is none = record { room = is.room; some = is.
 found_in : (p : List ℕ → Bool) (sets : List (List ℕ)) (count : ℕ) → list_any p (take count sets) ≡ true → (j : ℕ) × (j < count) × (p (slice_index_or sets j []) ≡ true)
 found_in p sets zero h = absurd (both_ways _ refl h)
 found_in p [] (suc count) h = absurd (both_ways _ refl h)
-found_in p (x ∷ sets) (suc count) h = go (p x) refl h
+found_in p (x ∷ sets) (suc count) h = go (p x) refl h (found_in p sets count)
   where
-    go : (b : Bool) → p x ≡ b → (b || list_any p (take count sets)) ≡ true → (j : ℕ) × (j < suc count) × (p (slice_index_or (x ∷ sets) j []) ≡ true)
-    go true on any = (0, omega arith, on)
-    go false off any = let later = found_in p sets count any in (suc later.0, (let low = later.1 in omega arith), later.2)
+    go : (b : Bool) → p x ≡ b → (b || list_any p (take count sets)) ≡ true → (list_any p (take count sets) ≡ true → (j : ℕ) × (j < count) × (p (slice_index_or sets j []) ≡ true)) →
+        (j : ℕ) × (j < suc count) × (p (slice_index_or (x ∷ sets) j []) ≡ true)
+    go true on any rest = (0, omega arith, on)
+    go false off any rest = let later = rest any in (suc later.0, (let low = later.1 in omega arith), later.2)
 
 any_in : (p : List ℕ → Bool) (sets : List (List ℕ)) (count j : ℕ) → j < count → count ≤ length sets → p (slice_index_or sets j []) ≡ true → list_any p (take count sets) ≡ true
 any_in p sets zero j low room on = absurd (omega arith)

@@ -1,4 +1,4 @@
-use Rattle.std.proofs.Common.{◌≡◌, true, length, sym, ◌∙◌, ap, subst}
+use Rattle.std.proofs.Common.{◌≡◌, true, sym, ◌∙◌, ap, subst}
 use Rattle.std.specs.Prelude.{List, ℕ}
 use Rattle.bias_store.specs.KeptSet.{KeptSet, is_struck_within}
 use Rattle.bias_store.specs.Violated.{AreHitsListed}

@@ -16,8 +16,8 @@ loop-found-preserved c =
     let room = c.loop-found.invariant.room in
     hits_more c.args.lang.now c.args.q.now c.args.relations.now c.loop-found.sets c.loop-found.count c.loop-found.from c.in-Some.found c.scope_set.result c.loop-found.invariant c.in-Some.ensures.found (omega arith) c.scope_set.ensures
 
-pub returns-then-count-len : goal.returns-then-count-len
-returns-then-count-len c = hits_some c.args.lang.now c.args.q.now c.args.relations.now c.loop-found.sets c.loop-found.count c.loop-found.from c.loop-found.invariant
+pub returns-then-count-sets : goal.returns-then-count-sets
+returns-then-count-sets c = hits_some c.args.lang.now c.args.q.now c.args.relations.now c.loop-found.sets c.loop-found.count c.loop-found.from c.loop-found.invariant
 
 pub returns : goal.returns
 returns c = hits_all c.args.lang.now c.args.q.now c.args.relations.now c.loop-found.sets c.loop-found.count c.loop-found.from c.loop-found.invariant c.in_default.ensures.none
