@@ -9,6 +9,7 @@ mod Sizes
 mod Emptied
 pub mod OnlyRead
 mod PieceLemmas
+mod FewCalls
 mod Readings
 mod FirstPiece
 pub mod SomeBytes

@@ -1,5 +1,5 @@
 -- What is found in the bytes behind a session's record, and in a whole file.
-use Rattle.std.specs.Prelude.{ℕ, ◌+◌, ◌<◌, ◌≡◌, Bool, false, List, ◌∷◌, ◌++◌, length, flat_map}
+use Rattle.std.specs.Prelude.{ℕ, ◌+◌, ◌<◌, ◌≤◌, ◌≡◌, IsFalse, Bool, false, List, ◌∷◌, ◌++◌, length, flat_map}
 use Rattle.assign.specs.declared.events.Event.{Event}
 use Rattle.answer_journal.specs.declared.fault.JFault.{JFault}
 use Rattle.answer_journal.specs.declared.fault.JFault.TheVariants as faults
@@ -83,6 +83,11 @@ IsReached start events raised bytes (Further place) = GoesOn start place events 
 abbrev pub IsProgress : ℕ → Reached → Type 0
 IsProgress at (Closed place) = Unit {0}
 IsProgress at (Further place) = at < place
+
+-- a piece that isn't the last was read to its end, but for a record that may go on past it
+abbrev pub IsFar : (is_last : Bool) (at size : ℕ) → Reached → Type 0
+IsFar is_last at size (Closed place) = Unit {0}
+IsFar is_last at size (Further place) = IsFalse is_last × (at + size ≤ place + 264)
 
 -- why a file isn't opened
 abbrev pub Refused : List ℕ → JFault → Type 0

@@ -3,6 +3,8 @@ pub mod Storable
 pub mod Records
 pub mod Journal
 pub mod Steps
+pub mod Synced
+pub mod Calls
 pub mod Unique
 pub mod End
 pub mod Pairs

@@ -47,6 +47,7 @@ pub fn create<D: Disk>(
     ensures some_refusal { IfErr result (λ e. (bytes : List ℕ) × CreateRefused bytes e) }
     ensures failed { IsErrOf result JFault.DiskFault → Rose (D.faults disk.old) (D.faults disk.new) }
     ensures later { D.faults disk.old ≤ D.faults disk.new }
+    ensures few_calls { D.calls disk.new ≤ D.calls disk.old + 9 }
 
     // Where the disk didn't fail, a refusal leaves the file and each content of a crash as they were. Where the file holds a
     // session or is no journal, it leaves them so whatever failed.
@@ -77,6 +78,7 @@ fn empty<D: Disk>(disk: &mut D, head: Head) -> Result<(), Failed>
     ensures any_moment { ForSome (D.content disk.old) (λ _. LeavesOnly D.Disk disk.old disk.new HasNoSession) }
     ensures silent { ForNone (D.content disk.old) (D.content disk.new ≡ None) }
     ensures told { ForSome (D.content disk.old) (λ _. IsSome (D.content disk.new)) }
+    ensures few { D.calls disk.new ≤ D.calls disk.old + 2 }
     ensures cause { HasCause (D.faults disk.old) (D.faults disk.new) result }
 {
     match head {

@@ -8,6 +8,8 @@ ghost use Rattle.answer_journal.specs.Storable.{IsStorableEvent};
 ghost use Rattle.answer_journal.specs.Journal.{ReadsAs, Session};
 ghost use Rattle.answer_journal.specs.End.{Sits};
 ghost use Rattle.answer_journal.specs.Found.{Refused};
+ghost use Rattle.answer_journal.specs.Synced.{IsSynced};
+ghost use Rattle.answer_journal.specs.Calls.{AreReadingCalls};
 
 use crate::decode::session_of;
 use crate::encode::LONGEST;
@@ -53,6 +55,12 @@ pub fn open<D: Disk>(alloc: Global, disk: &mut D) -> Result<Opened, JFault>
     // Where the disk tells nothing, either is what some bytes say.
     ensures some_session { IfOk result (λ o. (bytes : List ℕ) × ReadsAs bytes (Session o.plan o.voc.items o.events.items)) }
     ensures some_refusal { IfErr result (λ e. (e ≡ JFault.DiskFault) ⊎ ((bytes : List ℕ) × Refused bytes e)) }
+
+    // It syncs first. A refusal leaves only what a read gives too, but where that sync is what failed.
+    ensures synced { ForSome (D.content disk.old) (λ bytes. IfErr result (λ e. IsSynced D.Disk (e ≡ JFault.DiskFault) disk.old disk.new bytes)) }
+
+    // It makes few calls to the disk: five, and one more for each 4,194,047 bytes of the file.
+    ensures few_calls { ForSome (D.content disk.old) (AreReadingCalls 5 (D.calls disk.old) (D.calls disk.new)) }
 
     // It writes nothing.
     ensures same { D.content disk.new ≡ D.content disk.old }

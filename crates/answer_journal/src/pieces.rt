@@ -5,7 +5,8 @@ ghost use Rattle.std.specs.Option.{ForSome};
 ghost use Rattle.disk_model.specs.Disk.{Rose};
 ghost use Rattle.disk_model.specs.Moments.{IsOnlyRead};
 ghost use Rattle.answer_journal.specs.Records.{with_record, is_raised_by};
-ghost use Rattle.answer_journal.specs.Found.{IsRead, WereRead, HasEvents, BeginsWith, EventsRefused, gate_reached, IsReached, IsProgress};
+ghost use Rattle.answer_journal.specs.Found.{IsRead, WereRead, HasEvents, BeginsWith, EventsRefused, gate_reached, IsReached, IsProgress, IsFar};
+ghost use Rattle.answer_journal.specs.Calls.{AreReadingCalls, TakesPieces};
 
 use crate::decode::record_of;
 use crate::encode::LONGEST;
@@ -33,6 +34,7 @@ pub(crate) fn events_of<D: Disk>(
     buffer: &mut [u8],
 ) -> Result<(Vec<Event>, bool, u64), JFault>
     requires wide { 264 < length buffer.old }
+    requires behind { 0 < start }
     requires near { start < 2 ^ 62 }
     requires within { ForSome (D.content disk.old) (λ bytes. start < length bytes) }
     ensures found { ForSome (D.content disk.old) (λ bytes. IfOk result (λ found. HasEvents start found.2 found.0.items found.1 (drop start bytes))) }
@@ -42,6 +44,7 @@ pub(crate) fn events_of<D: Disk>(
     ensures failed { IsErrOf result JFault.DiskFault → Rose (D.faults disk.old) (D.faults disk.new) }
     ensures later { D.faults disk.old ≤ D.faults disk.new }
     ensures only_read { IsOnlyRead D.Disk disk.old disk.new }
+    ensures few_calls { ForSome (D.content disk.old) (λ bytes. TakesPieces (length buffer.old) bytes → AreReadingCalls 1 (D.calls disk.old) (D.calls disk.new) bytes) }
 {
     let mut events = Vec::new(alloc);
     let mut raised = false;
@@ -71,6 +74,7 @@ fn events_in(
     ensures some_bytes { (start : ℕ) (records : List Record) → IsRead records start at events.old.items raised.old → MatchResult result (λ reached. WereRead start (gate_reached reached) events.new.items raised.new) (λ e. (bytes : List ℕ) × EventsRefused start bytes e) }
     ensures few { OnOk result (length events.new.items < 1000000) }
     ensures progress { (IsFalse is_last → 264 < length piece.now) → IfOk result (IsProgress at) }
+    ensures far { IfOk result (IsFar is_last at (length piece.now)) }
     ensures undisturbed { IfErr result (λ e. e ≡ JFault.DiskFault → ⊥) }
 {
     let mut rest = piece;

@@ -1,4 +1,4 @@
-ghost use Rattle.std.specs.Prelude.{◌≡◌, ◌≢◌, ◌<◌, All, ◌+◌, ◌⊎◌, ◌↔◌, [], ℕ, Bool, List, Option, Some, None, OnOk, OnErr, IfErr, IsErrOf, IsSome, IsTrue, IsFalse, length};
+ghost use Rattle.std.specs.Prelude.{◌≡◌, ◌≢◌, ◌<◌, ◌≤◌, All, ◌+◌, ◌⊎◌, ◌↔◌, [], ℕ, Bool, List, Option, Some, None, OnOk, OnErr, IfErr, IsErrOf, IsSome, IsTrue, IsFalse, length};
 ghost use Rattle.std.specs.Option.{ForSome};
 ghost use Rattle.assign.specs.Assignment.{Assignment};
 ghost use Rattle.assign.specs.Events.{standing};
@@ -103,6 +103,7 @@ pub trait Keep<D: Disk> {
         ensures memory { IsErrOf result SFault.Memory → (live self.new ≡ live self.old) × (disk.new ≡ disk.old) }
         ensures failed { IsErrOf result (SFault.Journal JFault.DiskFault) → IsTrue (writes self.old) × IsFalse (live self.new) × Rose (D.faults disk.old) (D.faults disk.new) }
         ensures disk { GoesOn D.Disk disk.old disk.new }
+        ensures few_calls { D.calls disk.new ≤ D.calls disk.old + 4 }
 
         // Where nothing is written, the disk isn't touched. Else a crash at any moment leaves the events from before the call,
         // with the new one or without, and after `Ok` with it.
@@ -130,6 +131,8 @@ pub trait Keep<D: Disk> {
         ensures memory { IsErrOf result SFault.Memory → (live self.new ≡ live self.old) × (disk.new ≡ disk.old) }
         ensures failed { IsErrOf result (SFault.Journal JFault.DiskFault) → IsTrue (writes self.old) × IsFalse (live self.new) × Rose (D.faults disk.old) (D.faults disk.new) }
         ensures disk { GoesOn D.Disk disk.old disk.new }
+        // a journal may have to be raised first
+        ensures few_calls { D.calls disk.new ≤ D.calls disk.old + 8 }
 
         // Where nothing is written, the disk isn't touched. Else a crash at any moment leaves the events from before the call,
         // with the take-back or without, and after `Ok` with it.

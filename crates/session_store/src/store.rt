@@ -7,6 +7,8 @@ ghost use Rattle.answer_journal.specs.End.{Sits, HasNew, IsOldOrNew, IsSame};
 ghost use Rattle.answer_journal.specs.Journal.{HasNoSession};
 ghost use Rattle.answer_journal.specs.Making.{IsCreating};
 ghost use Rattle.answer_journal.specs.Storable.{IsStorableEvent};
+ghost use Rattle.answer_journal.specs.Synced.{IsSynced};
+ghost use Rattle.answer_journal.specs.Calls.{AreReadingCalls};
 ghost use Rattle.voc_read.specs.Vocabulary.{IsVocabulary, refusal_of_vocabulary};
 ghost use Rattle.session_core.specs.Settled.{IsSettled};
 ghost use Rattle.session_core.specs.Standing.{Stands, knowledge_of, open_in};
@@ -117,6 +119,7 @@ impl Store {
         ensures unread { (f : VocFault) → IsErrOf result (SFault.Voc f) → (refusal_of_vocabulary voc.now ≡ Some f) × (disk.new ≡ disk.old) }
         ensures failed { IsErrOf result (SFault.Journal JFault.DiskFault) → Rose (D.faults disk.old) (D.faults disk.new) }
         ensures later { D.faults disk.old ≤ D.faults disk.new }
+        ensures few_calls { D.calls disk.new ≤ D.calls disk.old + 9 }
 
         // Where the disk didn't fail, a refusal leaves the file and each content of a crash as they were. Where the file holds
         // a session or is no journal, it leaves them so whatever failed.
@@ -153,6 +156,12 @@ impl Store {
         // Where the disk tells nothing, either is what some bytes say.
         ensures some_session { IfOk result (λ store. (bytes : List ℕ) × SaysSession bytes (plan_of store) (voc_of store) (events_of store)) }
         ensures some_refusal { IfErr result (λ e. (bytes : List ℕ) × NotOpened bytes e) }
+
+        // It makes few calls to the disk: five, and one more for each 4,194,047 bytes of the file.
+        ensures few_calls { ForSome (D.content disk.old) (AreReadingCalls 5 (D.calls disk.old) (D.calls disk.new)) }
+
+        // It syncs first. A refusal leaves only what a read gives too, but where that sync is what failed.
+        ensures synced { ForSome (D.content disk.old) (λ bytes. IfErr result (λ e. IsSynced D.Disk (e ≡ SFault.Journal JFault.DiskFault) disk.old disk.new bytes)) }
 
         // It writes nothing.
         ensures same { D.content disk.new ≡ D.content disk.old }
@@ -194,6 +203,7 @@ fn raised<D: Disk>(journal: &mut Journal, disk: &mut D) -> Result<(), JFault>
     ensures live { OnOk result (IsTrue journal.new.live) }
     ensures disk { GoesOn D.Disk disk.old disk.new }
     ensures any_moment { ForSome (D.content disk.old) (λ old. LeavesOnly D.Disk disk.old disk.new (IsSame old)) }
+    ensures few_calls { D.calls disk.new ≤ D.calls disk.old + 4 }
     // the disk alone makes it give up
     ensures failed { IfErr result (λ _. Rose (D.faults disk.old) (D.faults disk.new) × IsFalse journal.new.live) }
 {
@@ -216,6 +226,7 @@ fn append_back<D: Disk>(journal: &mut Journal, disk: &mut D) -> Result<(), JFaul
     ensures live { OnOk result (IsTrue journal.new.live) }
     ensures disk { GoesOn D.Disk disk.old disk.new }
     ensures any_moment { ForSome (D.content disk.old) (λ old. LeavesOnly D.Disk disk.old disk.new (IsOldOrNew old Event.Back)) }
+    ensures few_calls { D.calls disk.new ≤ D.calls disk.old + 8 }
     // the disk alone makes it give up
     ensures failed { IfErr result (λ _. Rose (D.faults disk.old) (D.faults disk.new) × IsFalse journal.new.live) }
 {

@@ -1,11 +1,13 @@
-use Rattle.std.proofs.Common.{◌<◌, ◌∙◌, ℕ, List, drop, inr, sym, subst, arith, length-take-le}
+use Rattle.std.proofs.Common.{ltb, ◌<◌, ◌∙◌, ℕ, List, drop, take, length, inr, sym, subst, arith, length-drop, length-take-le}
 use Rattle.std.proofs.lemmas.Bool.{ltb-false}
 use borrow.Author.Tests.{ltb-true}
 use Rattle.std.proofs.lemmas.Result.{err_from_is_err_and}
 use Rattle.answer_journal.specs.declared.pieces.Reached.{Reached}
-use Rattle.answer_journal.specs.Found.{WereRead, BeginsWith, gate_reached, IsReached, IsProgress}
+use Rattle.answer_journal.specs.declared.pieces.Reached.TheVariants.{Further}
+use Rattle.answer_journal.specs.Found.{WereRead, BeginsWith, gate_reached, IsReached, IsProgress, IsFar}
 use Rattle.answer_journal.proofs.Sizes.{read_size}
 use Rattle.answer_journal.proofs.RecordLoop.{has_read}
+use Rattle.answer_journal.proofs.FewCalls.{few_read, few_further}
 use Rattle.answer_journal.proofs.OnlyRead.{read_more}
 use Rattle.answer_journal.proofs.PieceLemmas.{piece_more, last_is}
 use Rattle.answer_journal.proofs.pieces.events_of.Goals as goal
@@ -72,6 +74,14 @@ pieces-preserved g c =
           (subst (λ (l : List ℕ). BeginsWith (drop c.args.start x) h.records l) (sym (piece_more x c.pieces.buffer c.read.new.buf c.pieces.at c.in_ok-count.count t.0 t.1)) (h.begins x told))
           (λ short. last_is x c.pieces.buffer c.read.new.buf c.pieces.at c.in_ok-count.count t.0 t.1 (omega (arith, ltb-true _ _ short, c.read.auto.buf)))));
       only_read = read_more D c.args.disk.now c.pieces.disk c.read.new.self c.pieces.invariant.only_read c.read.ensures.same c.read.ensures.crash c.read.ensures.time;
+      calls = λ x told pieced.
+          let t = c.in_ok-count.ensures.told x (c.pieces.invariant.only_read.same ∙ told) in
+          let Far : Reached → Type 0 = IsFar (ltb c.in_ok-count.count (length c.read.new.buf)) c.pieces.at (length (take c.in_ok-count.count c.read.new.buf)) in
+          let far : Far (Further c.in-Further.place) = subst Far c.in-Further.is c.in_ok-place.ensures.far in
+          few_further c.args.start c.pieces.at x (D.calls c.args.disk.now) (D.calls c.pieces.disk) (D.calls c.read.new.self) (c.pieces.invariant.calls x told pieced) c.read.ensures.one_call.at_most
+          (omega (arith, (h.begins x told).some, length-drop c.pieces.at x))
+          (length c.args.buffer.now) c.in_ok-count.count c.in-Further.place pieced c.requires.behind (omega (arith, h.read.place)) (omega (arith, t.0, c.pieces.auto.buffer)) (omega (arith, ltb-false _ _ far.0, c.read.auto.buf, c.pieces.auto.buffer))
+          (omega (arith, far.1, length-take-le c.in_ok-count.count c.read.new.buf (omega (arith, c.in_ok-count.ensures.fits, c.read.auto.buf))));
       later = omega (arith, c.read.ensures.cause.later, c.pieces.invariant.later);
     }
 
@@ -86,3 +96,24 @@ returns-in_err-place-clause-only_read g c =
 pub returns-in-Closed-clause-only_read : goal.returns-in-Closed-clause-only_read
 returns-in-Closed-clause-only_read g c =
     read_more g.D.Disk c.args.disk.now c.pieces.disk c.read.new.self c.pieces.invariant.only_read c.read.ensures.same c.read.ensures.crash c.read.ensures.time
+
+pub returns-in_err-count-clause-few_calls : goal.returns-in_err-count-clause-few_calls
+returns-in_err-count-clause-few_calls g c x told pieced =
+    let h = c.pieces.invariant in
+    let D = g.D.Disk in
+    few_read c.args.start c.pieces.at x (D.calls c.args.disk.now) (D.calls c.pieces.disk) (D.calls c.read.new.self) (h.calls x told pieced) c.read.ensures.one_call.at_most
+    (omega (arith, (h.read.begins x told).some, length-drop c.pieces.at x))
+
+pub returns-in_err-place-clause-few_calls : goal.returns-in_err-place-clause-few_calls
+returns-in_err-place-clause-few_calls g c x told pieced =
+    let h = c.pieces.invariant in
+    let D = g.D.Disk in
+    few_read c.args.start c.pieces.at x (D.calls c.args.disk.now) (D.calls c.pieces.disk) (D.calls c.read.new.self) (h.calls x told pieced) c.read.ensures.one_call.at_most
+    (omega (arith, (h.read.begins x told).some, length-drop c.pieces.at x))
+
+pub returns-in-Closed-clause-few_calls : goal.returns-in-Closed-clause-few_calls
+returns-in-Closed-clause-few_calls g c x told pieced =
+    let h = c.pieces.invariant in
+    let D = g.D.Disk in
+    few_read c.args.start c.pieces.at x (D.calls c.args.disk.now) (D.calls c.pieces.disk) (D.calls c.read.new.self) (h.calls x told pieced) c.read.ensures.one_call.at_most
+    (omega (arith, (h.read.begins x told).some, length-drop c.pieces.at x))

@@ -1,4 +1,5 @@
-use Rattle.std.proofs.Common.{◌≤◌, ◌+◌, ◌-◌, ◌*◌}
+use Rattle.std.proofs.Common.{◌≡◌, ◌≤◌, ◌+◌, ◌-◌, ◌*◌, ℕ, List, Some, length}
+use Rattle.answer_journal.specs.Calls.{TakesPieces}
 use Rattle.answer_journal.specs.Format.{MOST_RECORDS}
 use Rattle.disk_model.specs.Moments.{IsOnlyRead}
 use Rattle.answer_journal.proofs.RecordLoop.{HasRead}
@@ -8,6 +9,7 @@ abbrev pub invariant-pieces : goal.invariant-pieces
 invariant-pieces g l = record {
   read : HasRead l.start l.at l.events.items l.raised (g.D.Disk.content l.initial.disk);
   only_read : IsOnlyRead g.D.Disk l.initial.disk l.disk;
+  calls : (x : List ℕ) → g.D.Disk.content l.initial.disk ≡ Some x → TakesPieces (length l.initial.buffer) x → 4194047 * g.D.Disk.calls l.disk + l.start ≤ 4194047 * g.D.Disk.calls l.initial.disk + l.at;
   later : g.D.Disk.faults l.initial.disk ≤ g.D.Disk.faults l.disk;
 }
 

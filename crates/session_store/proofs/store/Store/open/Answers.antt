@@ -1,7 +1,8 @@
-use Rattle.std.proofs.Common.{◌∙◌, sym, ap, List, ℕ}
+use Rattle.std.proofs.Common.{◌∙◌, sym, ap, List, ℕ, inl, inr, ⊎_elim}
 use Rattle.std.proofs.lemmas.Result.{err_from_is_err_and}
 use Rattle.assign.specs.declared.events.Event.{Event}
 use Rattle.assign.specs.declared.events.Plan.{Plan}
+use Rattle.session_store.specs.Faults.{of_journal}
 use Rattle.session_store.specs.Held.{plan_in, plan_held, events_held}
 use Rattle.session_store.specs.Left.{SaysSession}
 use Rattle.session_store.specs.Opening.{NotLed}
@@ -46,3 +47,13 @@ returns-clause-some_session g c =
       both_same Says o.plan (plan_held c.new.result) o.events.items (events_held c.new.result)
           (sym (ap plan_in c.new.ensures.session ∙ c.in_ok-session.ensures.plan)) (sym c.new.ensures.events) some.1,
     )
+
+pub returns-in_err-journal-clause-synced : goal.returns-in_err-journal-clause-synced
+returns-in_err-journal-clause-synced g c bytes told =
+    let p = err_from_is_err_and c.from_residual.result c.from_residual.ensures.1 in
+    rw (p.1, p.2) (⊎_elim (λ only. inl only) (λ failed. inr (ap of_journal failed.0, failed.1)) (c.in_err-journal.ensures.synced bytes told))
+
+pub returns-in_err-session-clause-synced : goal.returns-in_err-session-clause-synced
+returns-in_err-session-clause-synced g c bytes told =
+    let p = err_from_is_err_and c.from_residual-in_err-session.result c.from_residual-in_err-session.ensures.1 in
+    rw (p.1, p.2) (inl (c.in_ok-journal.ensures.durable bytes told))
