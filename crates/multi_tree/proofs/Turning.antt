@@ -1,5 +1,5 @@
 -- What becomes of a set that is taken.
-use Rattle.std.proofs.Common.{◌≡◌, ℕ, zero, suc, ◌+◌, ◌-◌, ◌<◌, ◌≤◌, Bool, true, false, cond, ◌&&◌, List, [], ◌∷◌, ◌++◌, length, take, drop, set, get_or, Option, Some, None, refl, sym, ◌∙◌, ap, subst, arith}
+use Rattle.std.proofs.Common.{◌≡◌, ℕ, zero, suc, ◌+◌, ◌-◌, ◌<◌, ◌≤◌, Bool, true, false, cond, ◌&&◌, ◌||◌, List, [], ◌∷◌, ◌++◌, length, take, drop, set, get_or, Option, Some, None, refl, sym, ◌∙◌, ap, subst, arith}
 use Rattle.std.specs.Prelude.{All, IfSome, IsTrue}
 use Rattle.std.specs.Int.{from_bool}
 use Rattle.std.specs.List.{list_any, filter, find}
@@ -12,6 +12,8 @@ use Rattle.assign.specs.Assignment.{Assignment, restrict}
 use Rattle.language.specs.declared.candidates.Candidate.{Candidate}
 use Rattle.language.specs.Language.{Language, IsLanguage, IsCandidate, scope_of, violates}
 use Rattle.language.specs.Answers.{IsNetwork}
+use Rattle.bias_store.specs.KeptSet.{is_struck_within}
+use Rattle.multi_tree.specs.Listed.{AreStruck}
 use Rattle.session_laws.specs.Walk.{Ended, Capped, Asks, Ends, violates_some, learned_within, parts_without, take_set, next_turn}
 use Rattle.session_laws.proofs.Restrict.{violates_restrict}
 
@@ -116,6 +118,24 @@ module _ (l : Language) (network : List Candidate) (e : Assignment) (set : List 
   pub found_within : IsNetwork l network → (o : Option Candidate) → learned_within l network e set ≡ o → IfSome o (λ c. IsTrue (is_within (scope_of l c) set))
   found_within known None h = tt
   found_within known (Some c) h = (and_parts (bites c) (lies c) (find_passes (IsCandidate l) (λ x. bites x && lies x) network c known h).1).1
+
+-- ---- a kept candidate within a set
+
+pub struck_is : (l : Language) (kept : List Candidate) (e : Assignment) (set : List ℕ) → is_struck_within l kept e set ≡ violates_some l kept (restrict e set)
+struck_is l [] e set = refl
+struck_is l (c ∷ kept) e set = λ i. sym (violates_restrict l c e set) i || struck_is l kept e set i
+
+-- no set is listed, which says nothing
+pub nothing_struck : (l : Language) (kept : List Candidate) (e : Assignment) → AreStruck l kept e [] false
+nothing_struck l kept e = record { some = λ w any. absurd (both_ways _ refl any); all = λ never. absurd (both_ways _ refl never) }
+
+-- where all are listed, and none within a set, none is struck there
+pub none_struck : (l : Language) (kept : List Candidate) (e : Assignment) (sets : List (List ℕ)) (are_all : Bool) (set : List ℕ) → AreStruck l kept e sets are_all → are_all ≡ true → list_any (λ u. is_within u set) sets ≡ false → violates_some l kept (restrict e set) ≡ false
+none_struck l kept e sets are_all set is whole never = sym (struck_is l kept e set) ∙ go (is_struck_within l kept e set) refl
+  where
+    go : (b : Bool) → is_struck_within l kept e set ≡ b → b ≡ false
+    go false off = refl
+    go true on = absurd (both_ways _ never (is.all whole set on))
 
 -- ---- a turn
 

@@ -1,8 +1,11 @@
--- The items of a network that an example violates, listed once for all sets that are taken.
-use Rattle.std.specs.Prelude.{◌≡◌, ◌≤◌, List, length, take, filter}
+-- What an example violates, listed once for all sets that are taken.
+use Rattle.std.specs.Prelude.{ℕ, ◌≡◌, ◌≤◌, Bool, true, List, length, take, filter}
+use Rattle.std.specs.List.{list_any}
+use Rattle.assign.specs.Sets.{is_within}
 use Rattle.assign.specs.Assignment.{Assignment}
 use Rattle.language.specs.declared.candidates.Candidate.{Candidate}
 use Rattle.language.specs.Language.{Language, violates}
+use Rattle.bias_store.specs.KeptSet.{is_struck_within}
 use Rattle.multi_tree.specs.declared.tree.Listed.{Listed}
 
 -- the listed ones are those that e violates among the items that were looked at
@@ -11,3 +14,8 @@ pub record AreListed (l : Language) (network : List Candidate) (e : Assignment) 
   pub size : length listed.items ≡ 1024
   pub few : listed.count ≤ 1024
   pub within : listed.looked_at ≤ length network
+
+-- the sets are scopes of kept candidates that e violates, and all such ones where that is said
+pub record AreStruck (l : Language) (kept : List Candidate) (e : Assignment) (sets : List (List ℕ)) (are_all : Bool) : Type 0 where
+  pub some : (w : List ℕ) → list_any (λ set. is_within set w) sets ≡ true → is_struck_within l kept e w ≡ true
+  pub all : are_all ≡ true → (w : List ℕ) → is_struck_within l kept e w ≡ true → list_any (λ set. is_within set w) sets ≡ true

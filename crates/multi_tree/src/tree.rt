@@ -1,13 +1,15 @@
 //! The walk of an example, a turn at a time.
 
-ghost use Rattle.std.specs.Prelude.{◌≡◌, ◌≢◌, ◌<◌, ◌≤◌, ◌++◌, ◌∷◌, ℕ, List, [], length, find, IfOk, IfSome, IsTrue, Some, None};
+ghost use Rattle.std.specs.Prelude.{◌≡◌, ◌≢◌, ◌<◌, ◌≤◌, ◌++◌, ◌∷◌, ℕ, List, [], length, take, find, IfOk, IfSome, IsTrue, Some, None};
+ghost use Rattle.std.specs.List.{list_any};
 ghost use Rattle.assign.specs.Sets.{is_within};
+ghost use Rattle.assign.specs.Assignment.{restrict};
 ghost use Rattle.language.specs.Language.{scope_of, IsCandidate, IsQuestion};
 ghost use Rattle.language.specs.Answers.{IsNetwork};
 ghost use Rattle.bias_store.specs.KeptSet.{IsMadeFor};
-ghost use Rattle.session_laws.specs.Walk.{learned_within, next_turn, parts_without};
+ghost use Rattle.session_laws.specs.Walk.{learned_within, next_turn, parts_without, violates_some};
 ghost use Rattle.multi_tree.specs.Depth.{Fits};
-ghost use Rattle.multi_tree.specs.Listed.{AreListed};
+ghost use Rattle.multi_tree.specs.Listed.{AreListed, AreStruck};
 ghost use Rattle.multi_tree.specs.Stage.{walk_in, asked_in, example_in, begun, turn_at, stage_after, put_again, IsWalkOn};
 ghost use Rattle.multi_tree.specs.Standing.{answer_to, turn_told, Move, Turns, PutsAgain, StandsFor};
 
@@ -24,6 +26,9 @@ const MOST_SETS: u16 = 4096;
 
 /// How many items that an example violates are listed at most.
 const MOST_LISTED: usize = 1024;
+
+/// How many scopes with kept candidates that an example violates are listed at most.
+const MOST_STRUCK: usize = 1024;
 
 /// How far a walk has come.
 #[derive(Clone, Copy, Debug)]
@@ -49,6 +54,8 @@ pub struct Tree {
     /// The set that is asked about, while one is.
     asked: VarSet,
     phase: Phase,
+    /// Room for scopes that the example strikes. What it holds means nothing between turns.
+    room: Vec<VarSet>,
 }
 
 impl Model for Tree {
@@ -86,6 +93,7 @@ impl Tree {
             left: 0,
             asked: VarSet::empty(),
             phase: Phase::Ended,
+            room: vec![in alloc; VarSet::empty(); MOST_STRUCK]?,
         })
     }
 
@@ -163,6 +171,7 @@ impl Tree {
                     &self.example,
                     &mut self.waiting,
                     &mut self.left,
+                    &mut self.room,
                 );
                 match next {
                     TreeNext::Ask(set) => {
@@ -186,6 +195,7 @@ fn take_sets(
     example: &Partial,
     waiting: &mut Stack,
     left: &mut u16,
+    room: &mut [VarSet],
 ) -> TreeNext
     requires question { IsQuestion lang.now example.now }
     requires network { IsNetwork lang.now net.now.list }
@@ -196,6 +206,9 @@ fn take_sets(
 {
     let _variables = lang.n();
     let listed = listed_of(lang, net.list(), example);
+    // So many scopes that the example strikes stand in the room, once a set was dropped.
+    let mut count = 0;
+    let mut are_all = false;
     while *left > 0 {
         let Some(set) = waiting.pop() else {
             return TreeNext::End;
@@ -204,9 +217,12 @@ fn take_sets(
         match listed_within(lang, net, &listed, example, set) {
             Some(c) => split(lang, waiting, set, c),
             None => {
-                if kept.strikes_any(lang, &example.restrict(set)) {
+                if is_struck_within(lang, kept, &room[..count], are_all, example, set) {
                     return TreeNext::Ask(set);
                 }
+                let found = list_once(lang, kept, example, room, count, are_all);
+                count = found.0;
+                are_all = found.1;
             }
         }
     }
@@ -227,6 +243,60 @@ fn split(lang: &Language, waiting: &mut Stack, set: VarSet, c: Candidate)
     let _few = set.len();
     let _variables = lang.n();
     waiting.push_parts(set, lang.scope(c.scope));
+}
+
+/// Lists the variables of the scopes with kept candidates that an example violates, where none is listed yet. Says how many
+/// are, and whether these are all. They stay the same too while a walk takes sets.
+fn list_once(
+    lang: &Language,
+    kept: &Kept,
+    example: &Partial,
+    room: &mut [VarSet],
+    count: usize,
+    are_all: bool,
+) -> (usize, bool)
+    requires question { IsQuestion lang.now example.now }
+    requires made { IsMadeFor lang.now kept.now }
+    requires before { AreStruck lang.now kept.now.members example.now (take count room.old) are_all }
+    requires few { count ≤ length room.old }
+    ensures struck { AreStruck lang.now kept.now.members example.now (take result.0 room.new) result.1 }
+    ensures few { result.0 ≤ length room.new }
+{
+    if count > 0 || are_all {
+        return (count, are_all);
+    }
+    kept.list_struck(lang, example, room)
+}
+
+/// Whether one of these sets lies within another one.
+fn some_within(sets: &[VarSet], set: VarSet) -> bool
+    ensures { result ≡ list_any (λ u. is_within u set) sets.now }
+{
+    sets.iter().any(|inner| inner.within(set))
+}
+
+/// Whether the example violates a kept candidate whose scope lies within the set: on a listed scope, or, where they aren't all
+/// listed, on any.
+fn is_struck_within(
+    lang: &Language,
+    kept: &Kept,
+    sets: &[VarSet],
+    are_all: bool,
+    example: &Partial,
+    set: VarSet,
+) -> bool
+    requires question { IsQuestion lang.now example.now }
+    requires made { IsMadeFor lang.now kept.now }
+    requires struck { AreStruck lang.now kept.now.members example.now sets.now are_all }
+    ensures { result ≡ violates_some lang.now kept.now.members (restrict example.now set) }
+{
+    if some_within(sets, set) {
+        return true;
+    }
+    if are_all {
+        return false;
+    }
+    kept.strikes_any(lang, &example.restrict(set))
 }
 
 /// The first items of a network that an example violates. The example stays the same while a walk takes sets, and mostly

@@ -1,9 +1,14 @@
-use Rattle.std.proofs.Common.{◌≡◌}
+use Rattle.std.proofs.Common.{◌≡◌, ◌≤◌, length, take}
 use Rattle.session_laws.specs.Walk.{next_turn}
+use Rattle.multi_tree.specs.Listed.{AreStruck}
 use Rattle.multi_tree.proofs.tree.take_sets.Given as goal
 
 abbrev pub invariant-loop-left : goal.invariant-loop-left
-invariant-loop-left l = next_turn l.fn.lang l.fn.net.list l.fn.kept.members l.fn.example l.left l.waiting ≡ next_turn l.fn.lang l.fn.net.list l.fn.kept.members l.fn.example l.fn.left l.fn.waiting
+invariant-loop-left l = record {
+  turn : next_turn l.fn.lang l.fn.net.list l.fn.kept.members l.fn.example l.left l.waiting ≡ next_turn l.fn.lang l.fn.net.list l.fn.kept.members l.fn.example l.fn.left l.fn.waiting;
+  struck : AreStruck l.fn.lang l.fn.kept.members l.fn.example (take l.count l.room) l.are_all;
+  few : l.count ≤ length l.room;
+}
 
 abbrev pub decreases-loop-left : goal.decreases-loop-left
 decreases-loop-left l = l.left
