@@ -6,11 +6,10 @@ use Rattle.std.proofs.lemmas.List.Elements.{All-nil, All-cons, All-append}
 use Rattle.assign.specs.Assignment.{Assignment}
 use Rattle.assign.specs.declared.events.Event.{Event}
 use Rattle.assign.specs.declared.events.Plan.{Plan}
-use Rattle.language.specs.Language.{Language, IsLanguage}
+use Rattle.language.specs.Language.{Language, IsLanguage, IsQuestion}
 use Rattle.language.specs.Answers.{standing_on}
 use Rattle.session_laws.specs.Session.{At, state_after}
 use Rattle.session_core.specs.Standing.{IsAskedAfter}
-use Rattle.session_store.proofs.Keepers.{both_as}
 use Rattle.session_store.specs.Replay.{HavePlaces}
 use Rattle.session_store.proofs.Fronts.{replay_is_state}
 use Rattle.session_store.proofs.Placing.{answer_has_place, back_has_place}
@@ -19,8 +18,8 @@ use Rattle.target_oracle.specs.declared.teacher.Told.{Told}
 use Rattle.acq_cli.specs.Added.{MayAdd, IsAdded, IsTaught, MayEnd}
 use Rattle.acq_cli.specs.Closings.{ending_of}
 use Rattle.acq_cli.specs.Driven.{MayFollow}
-use Rattle.acq_cli.specs.Due.{IsDue, EventKept}
-use Rattle.acq_cli.specs.Run.{Puts, next_at, next_in}
+use Rattle.acq_cli.specs.Due.{EventKept}
+use Rattle.acq_cli.specs.Run.{Puts, next_after, next_at, next_in}
 use Rattle.acq_cli.specs.declared.driving.Drove.{Drove}
 use Rattle.acq_cli.specs.declared.ending.Ending.{Ending}
 use Rattle.acq_cli.specs.declared.ending.Ending.TheVariants as ending
@@ -31,17 +30,17 @@ use Rattle.acq_cli.proofs.Running.{RunLaws, asked_at}
 -- ---- places
 
 -- what is said to the question that comes next has a place behind events that have one
-pub placed_event : RunLaws → (l : Language) → IsLanguage l → (terms : Terms) (past : List Event) (q : Assignment) (e : Event) → IsDue l terms (standing_on l past) q → MayFollow past q e →
+pub placed_event : RunLaws → (l : Language) → IsLanguage l → (terms : Terms) (past : List Event) (q : Assignment) (e : Event) → next_after l terms (standing_on l past) ≡ Some (Puts q) → IsQuestion l q → MayFollow past q e →
     HavePlaces l terms.plan past → HavePlaces l terms.plan (past ++ e ∷ [])
-placed_event laws l lawful terms past q e due (inl (reply, is)) places =
+placed_event laws l lawful terms past q e due fits (inl (reply, is)) places =
     let t = standing_on l past in
     let at : state_after l terms.plan t ≡ At places.0 = replay_is_state l terms.plan past places.0 places.1 in
-    let is_next : Some (next_at l terms t places.0) ≡ Some (Puts q) = sym (ap (next_in l terms t) at) ∙ due.puts in
+    let is_next : Some (next_at l terms t places.0) ≡ Some (Puts q) = sym (ap (next_in l terms t) at) ∙ due in
     let puts : next_at l terms t places.0 ≡ Puts q = cc in
     let asked : IsAskedAfter l terms.plan t q = record { state = places.0; at = at; asked = asked_at laws l lawful terms t places.0 q at puts } in
     let Placed : Event → Type 0 = λ x. HavePlaces l terms.plan (past ++ x ∷ []) in
-    subst Placed (sym is) (answer_has_place l terms.plan past q reply due.fits.size places asked)
-placed_event laws l lawful terms past q e due (inr (is, some)) places =
+    subst Placed (sym is) (answer_has_place l terms.plan past q reply fits.size places asked)
+placed_event laws l lawful terms past q e due fits (inr (is, some)) places =
     let Placed : Event → Type 0 = λ x. HavePlaces l terms.plan (past ++ x ∷ []) in
     subst Placed (sym is) (back_has_place l terms.plan past places some)
 
@@ -56,14 +55,14 @@ added_none l plan may before after same = record {
 }
 
 pub added_one : RunLaws → (l : Language) → IsLanguage l → (terms : Terms) (may : Assignment → Told → Type 0) (before after : List Event) (q : Assignment) (e : Event) →
-    IsDue l terms (standing_on l before) q → MayFollow before q e → after ≡ before ++ e ∷ [] → MayAdd l may e → IsAdded l terms.plan may before after
-added_one laws l lawful terms may before after q e due follows is said = record {
+    next_after l terms (standing_on l before) ≡ Some (Puts q) → IsQuestion l q → MayFollow before q e → after ≡ before ++ e ∷ [] → MayAdd l may e → IsAdded l terms.plan may before after
+added_one laws l lawful terms may before after q e due fits follows is said = record {
   more = e ∷ [];
   is = is;
   each = All-cons (MayAdd l may) e [] said (All-nil (MayAdd l may));
   places =
       let Placed : List Event → Type 0 = λ x. HavePlaces l terms.plan x in
-      λ places. subst Placed (sym is) (placed_event laws l lawful terms before q e due follows places);
+      λ places. subst Placed (sym is) (placed_event laws l lawful terms before q e due fits follows places);
 }
 
 pub added_then : (l : Language) (plan : Plan) (may : Assignment → Told → Type 0) (one two three : List Event) → IsAdded l plan may one two → IsAdded l plan may two three → IsAdded l plan may one three
@@ -87,18 +86,11 @@ added_more l plan may more before after weaker added = record {
   places = added.places;
 }
 
--- by the language, plan and events that are the same
-pub added_as : (l m : Language) (p r : Plan) (may : Language → Assignment → Told → Type 0) (es fs later : List Event) → m ≡ l → r ≡ p → fs ≡ es → IsAdded m r (may m) fs later → IsAdded l p (may l) es later
-added_as l m p r may es fs later lang planned same added =
-    let Spoken : Language → Plan → Type 0 = λ x y. IsAdded x y (may x) fs later in
-    let Kept : List Event → Type 0 = λ z. IsAdded l p (may l) z later in
-    subst Kept same (both_as Spoken m l r p lang planned added)
-
 -- what was kept of an event
-pub adds : RunLaws → (l : Language) → IsLanguage l → (terms : Terms) (may : Assignment → Told → Type 0) (events after : List Event) (q : Assignment) (e : Event) (end : Option Drove) → IsDue l terms (standing_on l events) q → MayFollow events q e → EventKept e events after end → MayAdd l may e →
+pub adds : RunLaws → (l : Language) → IsLanguage l → (terms : Terms) (may : Assignment → Told → Type 0) (events after : List Event) (q : Assignment) (e : Event) (end : Option Drove) → next_after l terms (standing_on l events) ≡ Some (Puts q) → IsQuestion l q → MayFollow events q e → EventKept e events after end → MayAdd l may e →
     IsAdded l terms.plan may events after
-adds laws l lawful terms may events after q e None due follows kept said = added_one laws l lawful terms may events after q e due follows kept said
-adds laws l lawful terms may events after q e (Some end) due follows kept said = added_none l terms.plan may events after kept.1
+adds laws l lawful terms may events after q e None due fits follows kept said = added_one laws l lawful terms may events after q e due fits follows kept said
+adds laws l lawful terms may events after q e (Some end) due fits follows kept said = added_none l terms.plan may events after kept.1
 
 -- ---- how it ended
 

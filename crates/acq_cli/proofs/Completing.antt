@@ -37,11 +37,11 @@ use Rattle.acq_cli.specs.Closings.{closing_of, ending_of}
 use Rattle.acq_cli.specs.Commands.{EndsExactly}
 use Rattle.acq_cli.specs.Completing.{HasRoom, IsAffordable, IsEnough, TryHasEnough, RunHasEnough, HasTarget, PlayHasEnough, SaysItsOwn, Converges, ConvergesOrCollapses, Completes}
 use Rattle.acq_cli.specs.Demoing.{Demos, Tells}
-use Rattle.acq_cli.specs.Driven.{HasEnded, IsLeftOpen}
-use Rattle.acq_cli.specs.Endings.{Closes, Tries}
+use Rattle.acq_cli.specs.Driven.{HasEnded, IsLeftOpen, RanTo}
+use Rattle.acq_cli.specs.Endings.{Tries}
 use Rattle.acq_cli.specs.Exactly.{IsBrokenOff}
 use Rattle.acq_cli.specs.Playing.{MayLack, PlaysOn, ReadsTarget, SaysWithout}
-use Rattle.acq_cli.specs.Points.{terms_with}
+use Rattle.acq_cli.specs.Points.{point_of, terms_with}
 use Rattle.acq_cli.specs.Run.{Closing, Undecided, Suspended, LineTooLong, Unreadable, JournalFull}
 use Rattle.acq_cli.specs.Asks.{asked_said}
 use Rattle.acq_cli.specs.Over.{SaidEnds}
@@ -77,18 +77,18 @@ OwnEnd end = ((m : ℕ) × (end ≡ ending.Converged m)) ⊎ ((m : ℕ) × (end 
 module _ (turns : Turns) (Left : ℕ → List ℕ → Type 0) (each : AnswersEach turns Left) (l : Language) (lawful : IsLanguage l) (terms : Terms) (n : ℕ) (start later : List Event) (left written left' written' : Option (List ℕ)) (end : Ending)
     (bytes before : List ℕ) (from : left ≡ Some bytes) (to : written ≡ Some before)
     (reached : IsReached l terms.plan (standing_on l start)) (enough : most_answers l ≤ length (standing_on l start) + n) (has : Left n bytes) (room : HasRoom l start) (affordable : IsAffordable turns l terms start bytes) where
-  abbrev ClosesSo : Closing → Type 0
-  ClosesSo closing = Closes turns l terms start later left written left' written' closing
+  abbrev RanSo : Option (List ℕ) → Closing → Type 0
+  RanSo middle closing = RanTo turns l terms closing (point_of start left written) (point_of later left' middle)
 
-  closed_itself : (closing : Closing) → ClosesSo closing → EndsItself closing
-  closed_itself closing closes =
-      let ran = closes.ran bytes before from to in
+  closed_itself : (middle : Option (List ℕ)) (closing : Closing) → RanSo middle closing → EndsItself closing
+  closed_itself middle closing closed =
+      let ran = closed bytes before from to in
       subst EndsItself ran.closing (ends_itself turns Left each l lawful terms ran.runs.count n start bytes ran.run (reached, enough, has, room) ran.runs.is)
 
   -- a budget that is enough leaves nothing open
-  not_open : ClosesSo Undecided → IsLeftOpen l terms (standing_on l later) → ⊥
-  not_open closes undone =
-      let ran = closes.ran bytes before from to in
+  not_open : (middle : Option (List ℕ)) → RanSo middle Undecided → IsLeftOpen l terms (standing_on l later) → ⊥
+  not_open middle closed undone =
+      let ran = closed bytes before from to in
       let some = undone.undecided.some in
       ⊎_elim (λ scopes. undone.plan scopes)
       (λ affords.
@@ -97,21 +97,21 @@ module _ (turns : Turns) (Left : ℕ → List ℕ → Type 0) (each : AnswersEac
       omega (arith, fits, long))
       affordable
 
-  by_how : (how : Drove) → ending_of how ≡ okay end → HasEnded l terms (standing_on l later) how → IfSome (closing_of how) ClosesSo → (end ≡ ending.ReadFault → ⊥) → (end ≡ ending.DiskFault → ⊥) → OwnEnd end
-  by_how (drove.Converged m) is says closed read kept = inl (m, sym (same_ok (ending.Converged m) end is))
-  by_how (drove.Collapsed m) is says closed read kept = inr (m, sym (same_ok (ending.Collapsed m) end is))
-  by_how (drove.Undecided m) is says closed read kept = absurd (not_open closed says.found)
-  by_how (drove.Suspended m) is says closed read kept = absurd (closed_itself Suspended closed)
-  by_how drove.LineTooLong is says closed read kept = absurd (closed_itself LineTooLong closed)
-  by_how drove.Unreadable is says closed read kept = absurd (closed_itself Unreadable closed)
-  by_how drove.ReadFault is says closed read kept = absurd (read (sym (same_ok ending.ReadFault end is)))
-  by_how drove.WriteFault is says closed read kept = absurd (err_ok put.Failed end is)
-  by_how drove.DiskFault is says closed read kept = absurd (kept (sym (same_ok ending.DiskFault end is)))
-  by_how drove.JournalFull is says closed read kept = absurd (closed_itself JournalFull closed)
-  by_how drove.Memory is says closed read kept = absurd (err_ok put.Memory end is)
+  by_how : (middle : Option (List ℕ)) (how : Drove) → ending_of how ≡ okay end → HasEnded l terms (standing_on l later) how → IfSome (closing_of how) (RanSo middle) → (end ≡ ending.ReadFault → ⊥) → (end ≡ ending.DiskFault → ⊥) → OwnEnd end
+  by_how middle (drove.Converged m) is says closed read kept = inl (m, sym (same_ok (ending.Converged m) end is))
+  by_how middle (drove.Collapsed m) is says closed read kept = inr (m, sym (same_ok (ending.Collapsed m) end is))
+  by_how middle (drove.Undecided m) is says closed read kept = absurd (not_open middle closed says.found)
+  by_how middle (drove.Suspended m) is says closed read kept = absurd (closed_itself middle Suspended closed)
+  by_how middle drove.LineTooLong is says closed read kept = absurd (closed_itself middle LineTooLong closed)
+  by_how middle drove.Unreadable is says closed read kept = absurd (closed_itself middle Unreadable closed)
+  by_how middle drove.ReadFault is says closed read kept = absurd (read (sym (same_ok ending.ReadFault end is)))
+  by_how middle drove.WriteFault is says closed read kept = absurd (err_ok put.Failed end is)
+  by_how middle drove.DiskFault is says closed read kept = absurd (kept (sym (same_ok ending.DiskFault end is)))
+  by_how middle drove.JournalFull is says closed read kept = absurd (closed_itself middle JournalFull closed)
+  by_how middle drove.Memory is says closed read kept = absurd (err_ok put.Memory end is)
 
   pub own_end : Tries turns l terms start later left written left' written' end → (end ≡ ending.ReadFault → ⊥) → (end ≡ ending.DiskFault → ⊥) → OwnEnd end
-  own_end tries read kept = by_how tries.how tries.is tries.says tries.closed read kept
+  own_end tries read kept = by_how tries.middle tries.how tries.is tries.ended.says tries.ended.closed read kept
 
 -- it is no fault
 pub record NoFault (end : Ending) : Type 0 where

@@ -20,9 +20,11 @@ use Rattle.target_oracle.specs.Generator.{IsGenerated, target_of}
 use Rattle.target_oracle.specs.NetTurns.{net_turn, net_may_say}
 use Rattle.acq_cli.specs.Added.{MayEnd}
 use Rattle.acq_cli.specs.Closings.{closing_of, ending_of}
-use Rattle.acq_cli.specs.Demoing.{ClosesQuietly, Demos, HasDriven, IsQuietEnd, SumsUp, Tells, TellsFront, demo_text, summary_text, whole_demo}
+use Rattle.acq_cli.specs.Demoing.{ClosesQuietly, Demos, HasDriven, IsQuietEnd, SaysSum, Tells, TellsFront, demo_text, summary_text, whole_demo}
 use Rattle.acq_cli.specs.Driven.{Drives, IsOwned}
-use Rattle.acq_cli.specs.Said.{EndsWith}
+use Rattle.acq_cli.specs.Said.{EndsWith, HasWritten, or_silent}
+use Rattle.acq_cli.specs.Saying.{Saying, saying}
+use Rattle.acq_cli.specs.declared.said.Unsaid.{Unsaid}
 use Rattle.acq_cli.specs.Playing.{IsAnsweredBy, IsUnstopped}
 use Rattle.acq_cli.specs.Points.{point_of, terms_with}
 use Rattle.acq_cli.specs.Run.{Closing, Converged, Undecided}
@@ -35,6 +37,7 @@ use Rattle.acq_cli.specs.declared.terms.Terms.{Terms}
 use Rattle.acq_cli.proofs.Closings.{failed, same_ok, err_ok}
 use Rattle.acq_cli.proofs.Parts.{adds_nothing, begun}
 use Rattle.acq_cli.proofs.Running.{run_exists}
+use Rattle.acq_cli.proofs.Spoken.{ends_as, said_as}
 use Rattle.acq_cli.proofs.Standings.{run_laws, stands_at}
 use Rattle.acq_cli.proofs.Turning.{some_text}
 
@@ -114,6 +117,33 @@ quiet_end target l terms events drove.DiskFault driven = driven
 quiet_end target l terms events drove.JournalFull driven = driven
 
 -- ---- the command
+
+-- how it ends where the loop did so, of a network of so many candidates
+abbrev SumsUp : (learned : ℕ) → (written written' : Option (List ℕ)) → Result Ending Put → Drove → Type 0
+SumsUp learned written written' got (drove.Converged m) = EndsWith (ending.Converged m) (summary_text Converged m learned) written written' got
+SumsUp learned written written' got (drove.Undecided m) = EndsWith (ending.Undecided m) (summary_text Undecided m learned) written written' got
+SumsUp learned written written' got drove.Memory = (got ≡ Err put.Memory) × (written' ≡ written)
+SumsUp learned written written' got how = ⊥
+
+-- the first line was put
+pub line_put : {E : Type 0} (number : ℕ) (l : Language) (made : Result Saying E) (said : Result Saying Unsaid) (written written' : Option (List ℕ)) (got : Result Ending Put) → said ≡ or_silent made → IfOk made (λ s. s ≡ saying (demo_text number l) ending.Done) →
+    HasWritten said written written' got → EndsWith ending.Done (demo_text number l) written written' got
+line_put number l made said written written' got is so has =
+    let what = saying (demo_text number l) ending.Done in ends_as what said written written' got (said_as made said what what is refl so) has
+
+-- by what was said
+pub sums_up : (learned : ℕ) (said : Result Saying Unsaid) (written written' : Option (List ℕ)) (got : Result Ending Put) (how : Drove) → SaysSum learned how said → HasWritten said written written' got → SumsUp learned written written' got how
+sums_up learned said written written' got (drove.Converged m) says has = ends_as (saying (summary_text Converged m learned) (ending.Converged m)) said written written' got says has
+sums_up learned said written written' got (drove.Undecided m) says has = ends_as (saying (summary_text Undecided m learned) (ending.Undecided m)) said written written' got says has
+sums_up learned said written written' got drove.Memory says has = let Written : Result Saying Unsaid → Type 0 = λ s. HasWritten s written written' got in subst Written says has
+sums_up learned said written written' got (drove.Collapsed m) says has = says
+sums_up learned said written written' got (drove.Suspended m) says has = says
+sums_up learned said written written' got drove.LineTooLong says has = says
+sums_up learned said written written' got drove.Unreadable says has = says
+sums_up learned said written written' got drove.ReadFault says has = says
+sums_up learned said written written' got drove.WriteFault says has = says
+sums_up learned said written written' got drove.DiskFault says has = says
+sums_up learned said written written' got drove.JournalFull says has = says
 
 module _ (number : ℕ) (l : Language) (terms : Terms) (lawful : IsLanguage l) where
   -- there is a run, of whose text a front of the first line is one

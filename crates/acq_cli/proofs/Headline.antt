@@ -20,7 +20,7 @@ use Rattle.target_oracle.specs.Turns.{Turns}
 use Rattle.acq_cli.specs.Closings.{closing_of}
 use Rattle.acq_cli.specs.Doing.{Does}
 use Rattle.acq_cli.specs.Driven.{HasEnded, IsDone}
-use Rattle.acq_cli.specs.Endings.{Closes, Tries}
+use Rattle.acq_cli.specs.Endings.{AddsLast, Tries}
 use Rattle.acq_cli.specs.Headline.{FindsNetwork, FindsNone}
 use Rattle.acq_cli.specs.Points.{terms_with}
 use Rattle.acq_cli.specs.Texts.{converged_text, learned_after, learned_in}
@@ -57,21 +57,20 @@ module _ (turns : Turns) (l : Language) (terms : Terms) (start events : List Eve
   converged_run tries =
       let t : List Answer = standing_on l events in
       let how : tries.how ≡ drove.Converged m = loops_by tries.how (drove.Converged m) (ending.Converged m) tries.is refl in
-      let ended : HasEnded l terms t (drove.Converged m) = found_by l terms t tries.how (drove.Converged m) how tries.says in
-      let Closed : Drove → Type 0 = λ d. IfSome (closing_of d) (Closes turns l terms start events left written left' written') in
-      let closes = subst Closed how tries.closed in
+      let ended : HasEnded l terms t (drove.Converged m) = found_by l terms t tries.how (drove.Converged m) how tries.ended.says in
+      let Last : Drove → Type 0 = λ d. AddsLast l terms t tries.middle written' (closing_of d) in
       let Printed : ℕ → Type 0 = λ k. ForSome written' (λ text. (before : List ℕ) × (text ≡ before ++ converged_text l (learned_after l terms t) k)) in
       record {
         number = ended.number;
         converged = learned_converges l terms t ended.found;
-        prints = subst Printed (sym ended.number) (printed_last closes.middle written' (converged_text l (learned_after l terms t) (length t)) closes.adds);
+        prints = subst Printed (sym ended.number) (printed_last tries.middle written' (converged_text l (learned_after l terms t) (length t)) (subst Last how tries.adds));
       }
 
   collapsed_run : Tries turns l terms start events left written left' written' (ending.Collapsed m) → (m ≡ length (standing_on l events)) × NoneAgrees l (standing_on l events)
   collapsed_run tries =
       let t : List Answer = standing_on l events in
       let how : tries.how ≡ drove.Collapsed m = loops_by tries.how (drove.Collapsed m) (ending.Collapsed m) tries.is refl in
-      let ended : HasEnded l terms t (drove.Collapsed m) = found_by l terms t tries.how (drove.Collapsed m) how tries.says in
+      let ended : HasEnded l terms t (drove.Collapsed m) = found_by l terms t tries.how (drove.Collapsed m) how tries.ended.says in
       (ended.number, ended.found.none)
 
 -- ---- of which session

@@ -1,7 +1,6 @@
 -- A turn by what was heard of the teacher's word.
 use Rattle.std.proofs.Common.{◌≡◌, ◌∙◌, ◌+◌, ◌<◌, ℕ, List, [], ◌∷◌, ◌++◌, length, true, false, is_some, ap, sym, subst, refl, inl, inr, Option, Some, None}
 use Rattle.std.specs.Prelude.{◌≢◌, IfSome}
-use Rattle.acq_io.specs.Streams.{HasCalled}
 use Rattle.assign.specs.Assignment.{Assignment}
 use Rattle.assign.specs.declared.events.Event.{Event}
 use Rattle.assign.specs.declared.events.Event.TheVariants as event
@@ -18,8 +17,8 @@ use Rattle.target_oracle.specs.declared.teacher.Told.TheVariants as told
 use Rattle.acq_cli.specs.Added.{IsTaught, MayAdd, MayEnd}
 use Rattle.acq_cli.specs.Closings.{closing_of, ending_of}
 use Rattle.acq_cli.specs.Run.{Closing, Puts, Suspended, LineTooLong, Unreadable, answer, next_on, number_on, event_heard}
-use Rattle.acq_cli.specs.Driven.{Point, HasEnded, MayFollow, RanTo, Remembers}
-use Rattle.acq_cli.specs.Due.{IsDue, EventKept}
+use Rattle.acq_cli.specs.Driven.{Point, HasEnded, IsPending, MayFollow, RanTo, Remembers}
+use Rattle.acq_cli.specs.Due.{EventKept}
 use Rattle.acq_cli.specs.Heard.{heard_of, event_on, MayKeep, Forgets}
 use Rattle.acq_cli.specs.Loop.{EndsAs}
 use Rattle.acq_cli.specs.Points.{point_of, terms_with}
@@ -33,7 +32,7 @@ use Rattle.acq_cli.specs.declared.driving.Heard.TheVariants as heard
 use Rattle.acq_cli.proofs.Answered.{ends_closed, ends_failed, not_full_with}
 use Rattle.acq_cli.proofs.Reached.{IsReached, some_stand}
 use Rattle.acq_cli.proofs.Running.{EndsSo, next_put, room_not_full}
-use Rattle.acq_cli.proofs.Standings.{AtTurn, marks_after, run_laws, within}
+use Rattle.acq_cli.proofs.Standings.{AtQuestion, marks_after, run_laws, within}
 use Rattle.acq_cli.proofs.Turning.{AskedSo, ToldSo, FrontSo, asked_as, told_as, front_as, ran_closed, cut_turn}
 
 -- the reply of which an entry is kept
@@ -72,15 +71,10 @@ word_ended told.ReadFault count d P is stop end long unread read write memory = 
 word_ended told.WriteFault count d P is stop end long unread read write memory = let same : drove.WriteFault ≡ d = cc in subst (P told.WriteFault) same write
 word_ended told.Memory count d P is stop end long unread read write memory = let same : drove.Memory ≡ d = cc in subst (P told.Memory) same memory
 
--- the loop ends by a fault where the word says so, and not else
+-- the loop ends by a fault where the word says so
 pub word_read : (t : Told) (count : ℕ) (d : Drove) → heard_of t count ≡ heard.End d → Some d ≡ Some drove.ReadFault → t ≡ told.ReadFault
 word_read t count d is =
     word_ended t count d (λ w e. Some e ≡ Some drove.ReadFault → w ≡ told.ReadFault) is
-    (λ e. absurd cc) (λ e. absurd cc) (λ e. absurd cc) (λ e. absurd cc) (λ e. refl) (λ e. absurd cc) (λ e. absurd cc)
-
-pub read_ends : (t : Told) (count : ℕ) (d : Drove) → heard_of t count ≡ heard.End d → t ≡ told.ReadFault → Some d ≡ Some drove.ReadFault
-read_ends t count d is =
-    word_ended t count d (λ w e. w ≡ told.ReadFault → Some e ≡ Some drove.ReadFault) is
     (λ e. absurd cc) (λ e. absurd cc) (λ e. absurd cc) (λ e. absurd cc) (λ e. refl) (λ e. absurd cc) (λ e. absurd cc)
 
 pub word_write : (t : Told) (count : ℕ) (d : Drove) → heard_of t count ≡ heard.End d → Some d ≡ Some drove.WriteFault → t ≡ told.WriteFault
@@ -88,18 +82,11 @@ word_write t count d is =
     word_ended t count d (λ w e. Some e ≡ Some drove.WriteFault → w ≡ told.WriteFault) is
     (λ e. absurd cc) (λ e. absurd cc) (λ e. absurd cc) (λ e. absurd cc) (λ e. absurd cc) (λ e. refl) (λ e. absurd cc)
 
--- an entry is no fault of the input, and neither is its end
-pub read_kept : (t : Told) (count : ℕ) (e : Entry) → heard_of t count ≡ heard.Keep e → t ≡ told.ReadFault → ⊥
-read_kept t count e is = word_kept t count e (λ w n. w ≡ told.ReadFault → ⊥) is (λ e. cc) (λ e. cc) (λ e. cc)
-
+-- the end of an entry is no other fault
 pub kept_calm : (e : Event) (before after : List Event) (end : Option Drove) (d : Drove) → EventKept e before after end → d ≢ drove.Memory → d ≢ drove.DiskFault → end ≡ Some d → ⊥
 kept_calm e before after None d kept memory disk is = cc
 kept_calm e before after (Some end) d (inl same, _) memory disk is = memory (let so : d ≡ end = cc in so ∙ same)
 kept_calm e before after (Some end) d (inr same, _) memory disk is = disk (let so : d ≡ end = cc in so ∙ same)
-
--- by another word for the fault
-pub called_as : (faults faults' late late' : ℕ) (told then : Type 0) → (then → told) → (told → then) → HasCalled faults faults' late late' told → HasCalled faults faults' late late' then
-called_as faults faults' late late' told then to fro called = record { later = called.later; rose = λ so. called.rose (to so); well = λ none no. called.well none (λ so. no (fro so)); stopped = called.stopped }
 
 -- an end that isn't of the disk
 pub word_not_disk : (t : Told) (count : ℕ) (d : Drove) → heard_of t count ≡ heard.End d → Some d ≡ Some drove.DiskFault → ⊥
@@ -135,8 +122,7 @@ hold_after l terms events later q (entry.Answer reply) old new reached size is s
 hold_after l terms events later q entry.Back old new reached size is none remembers = λ state at. no_marks_hold l (network_in state) terms.budget new none
 
 -- ---- a turn at which this question is put, by what the teacher told of it
-module _ (l m : Language) (terms : Terms) (events : List Event) (count : ℕ) (at : AtTurn l terms.plan (standing_on l events) count m) (few : length events < 1000000) (room : length events + 1 < 1000000)
-    (turns : Turns) (q : Assignment) (left written left' written' : Option (List ℕ)) where
+module _ (l m : Language) (terms : Terms) (events : List Event) (count : ℕ) (q : Assignment) (asked : AtQuestion l terms events count m q) (turns : Turns) (left written left' written' : Option (List ℕ)) where
   abbrev here : Point
   here = point_of events left written
 
@@ -148,40 +134,43 @@ module _ (l m : Language) (terms : Terms) (events : List Event) (count : ℕ) (a
   Spoken t = (bytes before : List ℕ) → left ≡ Some bytes → written ≡ Some before → Tells (turns m (count + 1) q bytes) before left' written' t
 
   told_here : (reply : Reply) → ToldSo turns m (count + 1) q here there reply → ToldSo turns l (number_on l events) q here there reply
-  told_here reply = told_as turns m l (count + 1) (number_on l events) q here there reply at.language (ap (λ n. n + 1) at.number)
+  told_here reply = told_as turns m l (count + 1) (number_on l events) q here there reply asked.at.language (ap (λ n. n + 1) asked.at.number)
 
   pub word_told : (t : Told) (e : Entry) → heard_of t count ≡ heard.Keep e → Spoken t → ToldSo turns l (number_on l events) q here there (reply_of e)
   word_told t e is = word_kept t count e (λ w n. Spoken w → ToldSo turns l (number_on l events) q here there (reply_of n)) is (told_here (Said true)) (told_here (Said false)) (told_here TakenBack)
 
   pub word_asked : AskedSo turns m (count + 1) q here there → AskedSo turns l (number_on l events) q here there
-  word_asked = asked_as turns m l (count + 1) (number_on l events) q here there at.language (ap (λ n. n + 1) at.number)
+  word_asked = asked_as turns m l (count + 1) (number_on l events) q here there asked.at.language (ap (λ n. n + 1) asked.at.number)
 
   -- how the loop ends
-  pub word_ends : (t : Told) (d : Drove) (marks : Remembered) → IsMadeFor l marks → IsDue l terms (standing_on l events) q → heard_of t count ≡ heard.End d → AskedSo turns m (count + 1) q here there → Spoken t → EndsAs turns l terms here there marks d
-  word_ends t d marks made due is asked =
+  pub word_ends : (t : Told) (d : Drove) (marks : Remembered) → IsMadeFor l marks → heard_of t count ≡ heard.End d → AskedSo turns m (count + 1) q here there → Spoken t → EndsAs turns l terms here there marks d
+  word_ends t d marks made is first =
       word_ended t count d (λ w e. Spoken w → EndsAs turns l terms here there marks e) is (suspends Stopped (λ again rest. refl)) (suspends Ended (λ again rest. refl))
-      (λ told. closes drove.LineTooLong (λ m e. cc) (λ e. cc) (λ e. cc) (λ e. cc) (record { number = tt; found = tt }) (ran LineTooLong Overlong (λ again rest. refl) told))
-      (λ told. closes drove.Unreadable (λ m e. cc) (λ e. cc) (λ e. cc) (λ e. cc) (record { number = tt; found = tt }) (ran Unreadable Unread (λ again rest. refl) told))
+      (λ told. closes drove.LineTooLong (λ m e. cc) (λ e. cc) (λ e. cc) (λ e. cc) (record { number = tt; found = due }) (ran LineTooLong Overlong (λ again rest. refl) told))
+      (λ told. closes drove.Unreadable (λ m e. cc) (λ e. cc) (λ e. cc) (λ e. cc) (record { number = tt; found = due }) (ran Unreadable Unread (λ again rest. refl) told))
       (λ told. fails drove.ReadFault (λ m e. cc) (λ e. cc) (record { number = tt; found = tt }) tt (λ e. cc) told)
       (λ told. fails drove.WriteFault (λ m e. cc) (λ e. cc) (record { number = tt; found = tt }) tt (λ e. cc) told)
       (λ told. fails drove.Memory (λ m e. cc) (λ e. cc) (record { number = tt; found = tt }) tt (λ e. cc) told)
     where
+      due : IsPending l terms (standing_on l events)
+      due = (q, asked.puts)
+
       comes : next_on l terms events ≡ Some (Puts q)
-      comes = next_put l terms events q due.puts (room_not_full events room)
+      comes = next_put l terms events q asked.puts (room_not_full events asked.room)
 
       ran : (closing : Closing) (reply : Reply) → EndsSo reply closing events q → ToldSo turns m (count + 1) q here there reply → RanTo turns l terms closing here there
       ran closing reply ends told = ran_closed turns l terms q reply closing here there comes refl ends (told_here reply told)
 
       closes : (how : Drove) → ((n : ℕ) → how ≢ drove.Undecided n) → how ≢ drove.JournalFull → (closing_of how ≢ None) → how ≢ drove.DiskFault → HasEnded l terms (standing_on l events) how →
           IfSome (closing_of how) (λ c. RanTo turns l terms c here there) → EndsAs turns l terms here there marks how
-      closes how decided full some kept says run = ends_closed turns l terms here there marks made how decided (not_full_with l terms events how full room) some kept says run
+      closes how decided full some kept says run = ends_closed turns l terms here there marks made how decided (not_full_with l terms events how full asked.room) some kept says run
 
       suspends : (reply : Reply) → EndsSo reply Suspended events q → ToldSo turns m (count + 1) q here there reply → EndsAs turns l terms here there marks (drove.Suspended count)
-      suspends reply ends told = closes (drove.Suspended count) (λ n e. cc) (λ e. cc) (λ e. cc) (λ e. cc) (record { number = at.number; found = tt }) (ran Suspended reply ends told)
+      suspends reply ends told = closes (drove.Suspended count) (λ n e. cc) (λ e. cc) (λ e. cc) (λ e. cc) (record { number = asked.at.number; found = due }) (ran Suspended reply ends told)
 
       fails : (how : Drove) → ((n : ℕ) → how ≢ drove.Undecided n) → how ≢ drove.JournalFull → HasEnded l terms (standing_on l events) how → IfSome (closing_of how) (λ c. RanTo turns l terms c here there) → how ≢ drove.DiskFault →
           FrontSo turns m (count + 1) q here there → EndsAs turns l terms here there marks how
       fails how decided full says run other front =
-          ends_failed turns l terms here there marks made how decided (not_full_with l terms events how full room) says run (λ e. absurd (other e))
-          (cut_turn run_laws turns l terms at.lawful q here there (within l terms.plan m events count at few) comes refl
-          (front_as turns m l (count + 1) (number_on l events) q here there at.language (ap (λ n. n + 1) at.number) front) (word_asked asked))
+          ends_failed turns l terms here there marks made how decided (not_full_with l terms events how full asked.room) says run (λ e. absurd (other e)) due
+          (cut_turn run_laws turns l terms asked.at.lawful q here there (within l terms events count m q asked) comes refl
+          (front_as turns m l (count + 1) (number_on l events) q here there asked.at.language (ap (λ n. n + 1) asked.at.number) front) (word_asked first))

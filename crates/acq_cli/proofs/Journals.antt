@@ -33,7 +33,6 @@ use Rattle.acq_cli.specs.Endings.{Tries}
 use Rattle.acq_cli.specs.Running.{GoesOn}
 use Rattle.acq_cli.specs.Said.{EndsWith}
 use Rattle.acq_cli.proofs.Closings.{okay, same_ok, err_ok}
-use Rattle.acq_cli.proofs.Parts.{written_badly}
 use Rattle.acq_cli.specs.declared.ending.Ending.{Ending}
 use Rattle.acq_cli.specs.declared.ending.Ending.TheVariants as ending
 use Rattle.acq_cli.specs.Journals.{untold}
@@ -153,14 +152,6 @@ module _ {D : Type 0} (disk : DiskOf D) where
       GoesOn disk turns may budget left written left' written' first new got
   goes_on turns may budget left written left' written' first old new got plan voc events later open_then lang says read places still opening lawful added on persists fails tries part =
       (goes_on_with (λ l p es fs. Unit {0}) turns may budget left written left' written' first old new got plan voc events later open_then lang says read places still opening lawful added on persists fails tries part tt).0
-
--- ---- what was said
-
--- where a text couldn't be written
-pub ends_badly : (end : Ending) (text bytes : List ℕ) (old new : Option (List ℕ)) (e : Put) → bytes ≡ text → (written_badly e ≡ Err put.Failed → AddsFront old new bytes) → (written_badly e ≡ Err put.Memory → new ≡ old) →
-    EndsWith end text old new (Err e)
-ends_badly end text bytes old new put.Failed is failed memory = subst (AddsFront old new) is (failed refl)
-ends_badly end text bytes old new put.Memory is failed memory = memory refl
 
 -- ---- faults that aren't told
 

@@ -9,7 +9,7 @@ use Rattle.assign.specs.Events.{Answer}
 use Rattle.assign.specs.declared.events.Plan.{Plan}
 use Rattle.assign.specs.declared.events.Plan.TheVariants.{Scopes, Quacq, Multi}
 use Rattle.language.specs.declared.candidates.Candidate.{Candidate}
-use Rattle.language.specs.Language.{Language, IsLanguage, IsCandidate, IsQuestion}
+use Rattle.language.specs.Language.{Language, IsLanguage, IsCandidate}
 use Rattle.language.specs.Answers.{IsNetwork, IsCovered, has_scope, kept}
 use Rattle.language.proofs.Covered.{covered_converged}
 use Rattle.language.proofs.Members.{find_some}
@@ -27,22 +27,24 @@ use Rattle.session_laws.proofs.ScopeByScope.{scopes_are_covered, scopes_never_ov
 use Rattle.session_laws.proofs.States.{implied_is_covered, over_means_none, idle_is_in_step}
 use Rattle.session_core.specs.declared.knowledge.Knowledge.{Knowledge}
 use Rattle.session_core.specs.declared.session.Session.{Session}
+use Rattle.session_core.specs.declared.session.Asking as askings
 use Rattle.session_core.specs.declared.session.Collapsed as overs
 use Rattle.session_core.specs.declared.session.Session.TheVariants as sessions
-use Rattle.session_core.specs.Standing.{Stands, Knows, IsAskedIn, knowledge_of}
+use Rattle.session_core.specs.Standing.{Stands, Knows, IsAskedIn, knowledge_of, open_in, question_put}
+use Rattle.session_core.proofs.Opened.{open_asked}
 use Rattle.session_core.specs.Settled.{IsSettled}
 use Rattle.session_store.specs.Kept.{IsLawfulAfter}
 use Rattle.acq_cli.specs.declared.terms.Terms.{Terms}
 use Rattle.acq_cli.specs.Points.{terms_with}
 use Rattle.acq_cli.specs.Run.{Next, Puts, Ends, Converged, Collapsed, puts_or, searched, idle_next, next_at, next_in, next_after}
 use Rattle.acq_cli.specs.Driven.{IsDone, IsCollapsed, IsLeftOpen, TellsOpen}
-use Rattle.acq_cli.specs.Due.{IsDue, NextIs, PutIs}
+use Rattle.acq_cli.specs.Due.{NextIs}
 use Rattle.acq_cli.specs.declared.next.Upcoming.{Upcoming}
 use Rattle.acq_cli.specs.declared.next.Upcoming.TheVariants as nexts
 use Rattle.acq_cli.proofs.Questions.{IsLawfulExample, asked_is_example, all_are_implied, undecided_is_spent, kept_network, same_state}
 use Rattle.acq_cli.proofs.Few.{are_few}
 use Rattle.acq_cli.proofs.OpenCandidates.{some_open, each_open}
-use Rattle.acq_cli.proofs.Standings.{stands_at}
+use Rattle.acq_cli.proofs.Standings.{carried, stands_at}
 
 abbrev pub some_of : (q : Assignment) → Option Assignment
 some_of q = Some q
@@ -65,9 +67,9 @@ module _ (k : Knowledge) (t : List Answer) (budget : ℕ) (end : Option WalkEnd)
   lawful_after : (q : Assignment) → is_lawful k.lang k.plan live k.network.list q ≡ true → IsLawfulAfter k.lang k.plan t q
   lawful_after q lawful = record { network = k.network.list; end = end; idle = at; lawful = lawful }
 
-  pub scoped_new : k.plan ≡ Scopes → (q : Assignment) → some_of q ≡ scope_question k.lang k.kept.members k.network.list → IsQuestion k.lang q → IsDue k.lang terms t q × IsLawfulAfter k.lang k.plan t q
-  scoped_new plan q due fits = (
-    record { puts = scoped_is plan (Some q) due; fits = fits },
+  pub scoped_new : k.plan ≡ Scopes → (q : Assignment) → some_of q ≡ scope_question k.lang k.kept.members k.network.list → (next_after k.lang terms t ≡ Some (Puts q)) × IsLawfulAfter k.lang k.plan t q
+  scoped_new plan q due = (
+    scoped_is plan (Some q) due,
     lawful_after q (ap (λ p. is_lawful k.lang p live k.network.list q) plan
         ∙ ap (λ o. is_just o q) (sym (due ∙ ap (λ cs. scope_question k.lang cs k.network.list) knows.kept)) ∙ assignment_same q),
   )
@@ -131,12 +133,11 @@ module _ (k : Knowledge) (t : List Answer) (budget : ℕ) (end : Option WalkEnd)
   example_by Quacq other q lawful = lawful.quacq
   example_by Multi other q lawful = lawful.multi
 
-  pub searched_new : IsLanguage k.lang → k.plan ≢ Scopes → (q : Assignment) → next_query k.lang k.network.list k.kept.members budget ≡ query.Ask q → IsDue k.lang terms t q × IsLawfulAfter k.lang k.plan t q
-  searched_new lawful other q asks =
-      let example = asked_is_example k.lang k.plan budget t k.network.list end q lawful at (sym there ∙ asks) in (
-        record { puts = searched_is other ∙ ap (λ x. Some (searched x)) asks; fits = example.fits },
-        lawful_after q (example_by k.plan other q example),
-      )
+  pub searched_new : IsLanguage k.lang → k.plan ≢ Scopes → (q : Assignment) → next_query k.lang k.network.list k.kept.members budget ≡ query.Ask q → (next_after k.lang terms t ≡ Some (Puts q)) × IsLawfulAfter k.lang k.plan t q
+  searched_new lawful other q asks = (
+    searched_is other ∙ ap (λ x. Some (searched x)) asks,
+    lawful_after q (example_by k.plan other q (asked_is_example k.lang k.plan budget t k.network.list end q lawful at (sym there ∙ asks))),
+  )
 
   pub searched_done : IsLanguage k.lang → k.plan ≢ Scopes → next_query k.lang k.network.list k.kept.members budget ≡ query.AllImplied → IsDone k.lang terms t
   searched_done lawful other none =
@@ -185,18 +186,43 @@ asked_due l terms t q put (Choosing s choices network walk) at asked is settled 
 asked_due l terms t q put (Walking set walk network) at asked is settled = open_is l terms t q (Walking set walk network) at (open_question l (Walking set walk network)) asked refl
 asked_due l terms t q put (Over network) at asked is settled = absurd asked
 
+-- a session of this language and plan stands for these answers, with this question put
+pub record IsSession (l : Language) (p : Plan) (t : List Answer) (put : Option Assignment) (s : Session) : Type 0 where
+  pub stands : Stands s t
+  pub lang : (knowledge_of s).lang ≡ l
+  pub plan : (knowledge_of s).plan ≡ p
+  pub question : open_in s ≡ put
+
+-- what comes next in it
+pub next_there : (l : Language) (p : Plan) (budget : ℕ) (t : List Answer) (put : Option Assignment) (s : Session) (n : Upcoming) → IsSession l p t put s → IsSettled l p t put →
+    (Stands s t → IsSettled (knowledge_of s).lang (knowledge_of s).plan t (open_in s) → NextIs (knowledge_of s).lang (terms_with (knowledge_of s).plan budget) t (open_in s) n) → NextIs l (terms_with p budget) t put n
+next_there l p budget t put s n so settled says =
+    let k = knowledge_of s in
+    let Settled : Language → Plan → Type 0 = λ m r. IsSettled m r t (open_in s) in
+    let Quiet : Option Assignment → Type 0 = λ o. IsSettled l p t o in
+    let Comes : Language → Plan → Type 0 = λ m r. NextIs m (terms_with r budget) t (open_in s) n in
+    let Put : Option Assignment → Type 0 = λ o. NextIs l (terms_with p budget) t o n in
+    subst Put so.question (carried Comes k.lang l k.plan p so.lang so.plan (says so.stands (carried Settled l k.lang p k.plan (sym so.lang) (sym so.plan) (subst Quiet (sym so.question) settled))))
+
+-- the question of a session is the one that comes next
+pub asking_next : (l : Language) (p : Plan) (budget : ℕ) (t : List Answer) (put : Option Assignment) (asking : askings.Asking) → IsSession l p t put (sessions.Asking asking) → IsSettled l p t put → NextIs l (terms_with p budget) t put nexts.Open
+asking_next l p budget t put asking so settled =
+    next_there l p budget t put (sessions.Asking asking) nexts.Open so settled (λ stands quiet.
+    let k = asking.knowledge.value in
+    let q : Assignment = question_put k.lang asking.put.value in
+    let there = open_asked asking t stands in
+    record { question = q; is = refl; puts = asked_due k.lang (terms_with k.plan budget) t q (Some q) there.state there.at there.asked refl quiet })
+
 -- ---- where no network agrees
 
-pub collapsed : (l : Language) (terms : Terms) (t : List Answer) (network : List Candidate) → IsLanguage l → state_after l terms.plan t ≡ At (Over network) → IsCollapsed l terms t × (next_after l terms t ≡ Some (Ends Collapsed))
-collapsed l terms t network lawful at = (
-  record {
-    network = network;
-    over = at;
-    none = over_means_none l terms.plan t network lawful at;
-    plan = λ scopes. scopes_never_over l t network lawful (ap (λ p. state_after l p t) (sym scopes) ∙ at);
-  },
-  ap (next_in l terms t) at,
-)
+pub collapsed : (l : Language) (terms : Terms) (t : List Answer) (network : List Candidate) → IsLanguage l → state_after l terms.plan t ≡ At (Over network) → IsCollapsed l terms t
+collapsed l terms t network lawful at = record {
+  network = network;
+  over = at;
+  ends = ap (next_in l terms t) at;
+  none = over_means_none l terms.plan t network lawful at;
+  plan = λ scopes. scopes_never_over l t network lawful (ap (λ p. state_after l p t) (sym scopes) ∙ at);
+}
 
 -- what a session has learned is what the answers lead to
 pub learned_is : (session : Session) (t : List Answer) (network : List Candidate) (end : Option WalkEnd) → Stands session t →
@@ -205,26 +231,8 @@ learned_is session t network end stands at =
     let here = stands_at session t stands in sym here.network ∙ ap network_in (same_state _ _ (sym here.at ∙ at))
 
 -- where no network agrees, a session says so
-abbrev pub OverAt : ℕ → Session → Type 0
-OverAt budget s = IsLanguage (knowledge_of s).lang → (t : List Answer) → Stands s t →
-    IsCollapsed (knowledge_of s).lang (terms_with (knowledge_of s).plan budget) t × (next_after (knowledge_of s).lang (terms_with (knowledge_of s).plan budget) t ≡ Some (Ends Collapsed))
-
-pub over_at : (budget : ℕ) (over : overs.Collapsed) → OverAt budget (sessions.Over over)
-over_at budget over lawful t stands = collapsed over.knowledge.value.lang (terms_with over.knowledge.value.plan budget) t over.knowledge.value.network.list lawful stands.after
-
--- a question that is put is the next one
-pub put_due : (l : Language) (terms : Terms) (t : List Answer) (put : Option Assignment) (n : Upcoming) (q : Assignment) → PutIs l terms t put n → (n ≡ nexts.Open q) ⊎ (n ≡ nexts.New q) → IsDue l terms t q
-put_due l terms t put n q is (inl e) = (subst (PutIs l terms t put) e is).0
-put_due l terms t put n q is (inr e) = (subst (PutIs l terms t put) e is).0
-
-pub put_is : (l : Language) (terms : Terms) (t : List Answer) (put : Option Assignment) (n : Upcoming) (q : Assignment) → PutIs l terms t put n → (n ≡ nexts.Open q) ⊎ (n ≡ nexts.New q) → put ≡ Some q
-put_is l terms t put n q is (inl e) = (subst (PutIs l terms t put) e is).1
-put_is l terms t put n q is (inr e) = (subst (PutIs l terms t put) e is).1
-
--- where none is put anew, the question that is put stays
-pub put_as : (l : Language) (wish : Terms) (t : List Answer) (put : Option Assignment) (n : Upcoming) → ((q : Assignment) → n ≡ nexts.New q → ⊥) → NextIs l wish t put n → PutIs l wish t put n
-put_as l wish t put (nexts.Open q) other is = is
-put_as l wish t put (nexts.New q) other is = absurd (other q refl)
-put_as l wish t put nexts.Converged other is = is
-put_as l wish t put nexts.Collapsed other is = is
-put_as l wish t put nexts.Undecided other is = is
+pub over_next : (l : Language) (p : Plan) (budget : ℕ) (t : List Answer) (put : Option Assignment) (over : overs.Collapsed) → IsLanguage (knowledge_of (sessions.Over over)).lang → IsSession l p t put (sessions.Over over) → IsSettled l p t put →
+    NextIs l (terms_with p budget) t put nexts.Collapsed
+over_next l p budget t put over lawful so settled =
+    let k = over.knowledge.value in
+    next_there l p budget t put (sessions.Over over) nexts.Collapsed so settled (λ stands quiet. collapsed k.lang (terms_with k.plan budget) t k.network.list lawful stands.after)

@@ -33,6 +33,7 @@ use Rattle.acq_cli.proofs.Closings.{okay, not_loops, read_by}
 use Rattle.acq_cli.proofs.Running.{IsWithin, run_exists}
 use Rattle.acq_cli.proofs.Standings.{run_laws}
 use Rattle.acq_cli.proofs.Taking.{takes_same}
+use Rattle.acq_cli.proofs.Tries.{cut_off}
 use Rattle.acq_cli.proofs.Turning.{some_text}
 use Rattle.acq_cli.specs.Closings.{closing_of, ending_of}
 use Rattle.acq_cli.specs.declared.driving.Drove.{Drove}
@@ -45,16 +46,6 @@ use Rattle.acq_cli.specs.declared.ending.Ending.TheVariants as ending
 pub adds_nothing : (written : Option (List ℕ)) (text : List ℕ) → AddsFront written written text
 adds_nothing None text = ([], text, refl, refl)
 adds_nothing (Some before) text = ([], text, refl, some_text _ _ (sym (append-nil before)))
-
--- a text that a sink didn't take whole
-pub wrote_part : {A : Type 0} (got : Result A Put) (old new : Option (List ℕ)) (text : List ℕ) → (got ≡ Err Failed → AddsFront old new text) → (got ≡ Err Memory → new ≡ old) → OnErr got (AddsFront old new text)
-wrote_part (Ok done) old new text failed memory = tt
-wrote_part (Err Failed) old new text failed memory = failed refl
-wrote_part (Err Memory) old new text failed memory =
-    let P : Option (List ℕ) → Type 0 = λ w. AddsFront old w text in subst P (sym (memory refl)) (adds_nothing old text)
-
-abbrev pub written_badly : Put → Result (Unit {0}) Put
-written_badly e = Err e
 
 -- what was said whole, and what was written where it wasn't
 pub ends_ok : (end : Ending) (text : List ℕ) (old new : Option (List ℕ)) (got : Result Ending Put) → EndsWith end text old new got → IfOk got (λ e. (e ≡ end) × Adds old new text)
@@ -210,7 +201,7 @@ acquires_by terms left rest written left' written' line lang events end gives vo
     go ending.Done never tried = absurd (not_loops tried.how ending.Done tried.is refl)
     go (ending.JournalRefused fault) never tried = absurd (not_loops tried.how (ending.JournalRefused fault) tried.is refl)
     go ending.ReadFault never tried = record {
-      text = breaks_run terms left rest written written' (Ok line) gives line lang events left' refl vocabulary (inl (tried.broken (broken ending.ReadFault tried.how tried.is refl)));
+      text = breaks_run terms left rest written written' (Ok line) gives line lang events left' refl vocabulary (inl (cut_off line_turn lang terms [] events rest written left' written' ending.ReadFault tried (broken ending.ReadFault tried.how tried.is refl)));
       step = inr (reads ending.ReadFault tried);
     }
     go ending.WriteFault never tried = absurd (not_loops tried.how ending.WriteFault tried.is refl)

@@ -1,11 +1,11 @@
 -- Sessions that stand where answers lead, and what follows of them.
-use Rattle.std.proofs.Common.{Some, None, ⊎_elim, Bool, true, false, IsTrue, ◌≡◌, ℕ, ◌+◌, ◌≤◌, ◌<◌, ◌^◌, List, ◌∷◌, [], ◌++◌, refl, length, ap, sym, ◌∙◌, subst, arith}
+use Rattle.std.proofs.Common.{Option, Some, None, ⊎_elim, Bool, true, false, IsTrue, ◌≡◌, ℕ, ◌+◌, ◌≤◌, ◌<◌, ◌^◌, List, ◌∷◌, [], ◌++◌, refl, length, ap, sym, ◌∙◌, subst, arith}
 use Rattle.std.proofs.lemmas.Bool.{cases_lt}
 use Rattle.assign.specs.Assignment.{Assignment}
 use Rattle.assign.specs.Events.{Answer}
 use Rattle.assign.specs.declared.events.Plan.{Plan}
 use Rattle.language.specs.declared.candidates.Candidate.{Candidate}
-use Rattle.language.specs.Language.{Language, IsLanguage, variable_count}
+use Rattle.language.specs.Language.{Language, IsLanguage, IsQuestion, variable_count}
 use Rattle.query_gen.specs.Marks.{Remembered, MarksHold}
 use Rattle.session_laws.specs.Session.{State, Reading, Stray, At, state_after}
 use Rattle.session_laws.specs.Laws.{network_in, Extends}
@@ -20,13 +20,18 @@ use Rattle.session_core.specs.declared.session.Session.TheVariants as sessions
 use Rattle.session_core.specs.declared.knowledge.Knowledge.{Knowledge}
 use Rattle.session_core.specs.declared.put.Put.{Put}
 use Rattle.session_core.specs.declared.put.Put.TheVariants as puts
-use Rattle.session_core.specs.Standing.{Stands, PutAfter, knowledge_of}
+use Rattle.session_core.specs.Standing.{Stands, PutAfter, knowledge_of, open_in}
+use Rattle.session_store.specs.Keeps.{OnlyPuts}
+use Rattle.session_store.specs.declared.keep.Keep.{Ghosts as KeepOf}
+use Rattle.std.specs.Option.{ForSome}
+use Rattle.acq_cli.specs.Due.{IsDue}
+use Rattle.acq_cli.specs.Points.{terms_with}
 use Rattle.acq_cli.specs.declared.terms.Terms.{Terms}
 use Rattle.assign.specs.declared.events.Event.{Event}
 use Rattle.assign.proofs.EventLemmas.{cut_to-standing-push}
 use Rattle.language.specs.Answers.{standing_on}
 use Rattle.session_store.specs.Kept.{answer_event}
-use Rattle.acq_cli.specs.Run.{Next, next_in, next_after, answer}
+use Rattle.acq_cli.specs.Run.{Next, Puts, next_in, next_after, answer}
 use Rattle.acq_cli.specs.Driven.{Remembers}
 use Rattle.acq_cli.proofs.Questions.{asked_is_example, marks_stay, same_state}
 use Rattle.acq_cli.proofs.Reached.{IsReached}
@@ -82,6 +87,40 @@ at_turn session l m plan t count stands lang planned counted is lawful = record 
 pub next_fits : (l : Language) (plan : Plan) (m : Language) (t : List Answer) (count : ℕ) → AtTurn l plan t count m → count + 1 < 2 ^ 32
 next_fits l plan m t count at = let few = few_answers l plan t at.lawful at.reached in let is = at.number in omega arith
 
+-- that, and this question comes next, of which there is a record for what is said to it
+pub record AtQuestion (l : Language) (terms : Terms) (events : List Event) (count : ℕ) (m : Language) (q : Assignment) : Type 0 where
+  pub at : AtTurn l terms.plan (standing_on l events) count m
+  pub puts : next_after l terms (standing_on l events) ≡ Some (Puts q)
+  pub fits : IsQuestion l q
+  pub room : length events + 1 < 1000000
+
+-- the question that is open in a keeper's session, where nothing but that has changed
+pub record Asks {K D : Type 0} (keep : KeepOf K D) (old new : K) (budget : ℕ) (s : Session) : Type 0 where
+  pub question : Assignment
+  pub is_open : open_in s ≡ Some question
+  pub put : keep.question new ≡ Some question
+  pub asked : AtQuestion (keep.lang old) (terms_with (keep.plan old) budget) (keep.record_of old) (knowledge_of s).answers (knowledge_of s).lang question
+
+pub asks : {K D : Type 0} (keep : KeepOf K D) (old new : K) (budget : ℕ) (s : Session) → OnlyPuts keep old new → Stands s (standing_on (keep.lang new) (keep.record_of new)) →
+    (knowledge_of s).lang ≡ keep.lang new → (knowledge_of s).plan ≡ keep.plan new → open_in s ≡ keep.question new → IsLanguage (knowledge_of s).lang → ForSome (open_in s) (IsQuestion (knowledge_of s).lang) →
+    IsDue (keep.lang old) (terms_with (keep.plan old) budget) (standing_on (keep.lang old) (keep.record_of old)) (keep.question new) → length (keep.record_of new) + 1 < 1000000 → Asks keep old new budget s
+asks keep old new budget s only stands lang planned opened lawful fits due room =
+    let l : Language = keep.lang old in
+    let k = knowledge_of s in
+    let same : k.lang ≡ l = lang ∙ only.lang in
+    let there : standing_on (keep.lang new) (keep.record_of new) ≡ standing_on l (keep.record_of old) = (λ i. standing_on (only.lang i) (only.events i)) in
+    record {
+      question = due.question;
+      is_open = opened ∙ due.is;
+      put = due.is;
+      asked = record {
+        at = at_turn s l k.lang (keep.plan old) (standing_on l (keep.record_of old)) k.answers (subst (Stands s) there stands) same (planned ∙ only.plan) refl refl lawful;
+        puts = due.puts;
+        fits = let Fits : Language → Type 0 = λ m. IsQuestion m due.question in subst Fits same (fits due.question (opened ∙ due.is));
+        room = omega (arith, room, ap (λ (es : List Event). length es) only.events);
+      };
+    }
+
 -- ---- what a screen remembers
 
 -- true marks of a session's network are true of the network that the answers lead to, and the other way round
@@ -130,9 +169,9 @@ marks_after l terms events later q said screen reached size is remembers =
     let P : List Answer → Type 0 = λ ts. Remembers l terms ts screen in
     subst P (sym grown) (marks_on l terms (standing_on l events) (answer q said) screen reached remembers)
 
--- the events of a sound keeper, whose answers a session stands for
-pub within : (l : Language) (plan : Plan) (m : Language) (events : List Event) (count : ℕ) → AtTurn l plan (standing_on l events) count m → length events < 1000000 → IsWithin l plan events
-within l plan m events count at few = record { reached = at.reached; few = few }
+-- the events at which a question comes
+pub within : (l : Language) (terms : Terms) (events : List Event) (count : ℕ) (m : Language) (q : Assignment) → AtQuestion l terms events count m q → IsWithin l terms.plan events
+within l terms events count m q asked = record { reached = asked.at.reached; few = omega (arith, asked.room) }
 
 -- where a keeper isn't full, there is room for one more event
 pub room_unless : (n : ℕ) (full : Bool) → n < 1000000 → (n + 1 ≡ 1000000 → IsTrue full) → full ≡ false → n + 1 < 1000000

@@ -196,13 +196,13 @@ answered turns l terms target before after left written left' written' got lawfu
     collapsed (Err e) tried m is = err_ok e (ending.Collapsed m) is
     collapsed (Ok end) tried m is =
         never_collapses l terms (standing_on l after) target m lawful agreeing
-        (found_by l terms (standing_on l after) tried.how (drove.Collapsed m) (loops_by tried.how (drove.Collapsed m) (ending.Collapsed m) (tried.is ∙ is) refl) tried.says)
+        (found_by l terms (standing_on l after) tried.how (drove.Collapsed m) (loops_by tried.how (drove.Collapsed m) (ending.Collapsed m) (tried.is ∙ is) refl) tried.ended.says)
 
     converged : (r : Result Ending Put) → Tried r → (m : ℕ) → r ≡ Ok (ending.Converged m) → HasSameSolutions l target (learned_after l terms (standing_on l after))
     converged (Err e) tried m is = absurd (err_ok e (ending.Converged m) is)
     converged (Ok end) tried m is =
         has_same l terms (standing_on l after) target m lawful agreeing
-        (found_by l terms (standing_on l after) tried.how (drove.Converged m) (loops_by tried.how (drove.Converged m) (ending.Converged m) (tried.is ∙ is) refl) tried.says)
+        (found_by l terms (standing_on l after) tried.how (drove.Converged m) (loops_by tried.how (drove.Converged m) (ending.Converged m) (tried.is ∙ is) refl) tried.ended.says)
 
 -- ---- exactly when it refuses
 

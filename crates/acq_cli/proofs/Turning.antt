@@ -113,8 +113,10 @@ pub steps_end : (turns : Turns) (l : Language) (terms : Terms) (a b c : Point) (
 steps_end turns l terms a b c end steps e = record {
   says = e.says;
   closed = closed_after turns l terms a b c (closing_of end) steps e.closed;
+  pending = e.pending;
   broken = λ none. steps_cut turns l terms a b c steps (e.broken none);
   unkept = λ failed. let u = e.unkept failed in (u.0, steps_loses turns l terms a b c u.0 steps u.1);
+  full = e.full;
 }
 
 -- ---- one turn

@@ -12,7 +12,10 @@ use Rattle.language.specs.Answers.{standing_on}
 use Rattle.target_oracle.specs.Generator.{IsGenerated, target_of}
 use Rattle.target_oracle.specs.NetTurns.{net_turn}
 use Rattle.acq_cli.specs.Driven.{HasFound}
-use Rattle.acq_cli.specs.Said.{EndsWith}
+use Rattle.acq_cli.specs.Said.{IsSaid}
+use Rattle.acq_cli.specs.Saying.{Saying, saying}
+use Rattle.acq_cli.specs.declared.said.Unsaid.{Unsaid}
+use Rattle.acq_cli.specs.declared.said.Unsaid.TheVariants as unsaid
 use Rattle.acq_cli.specs.Playing.{IsAnsweredBy}
 use Rattle.acq_cli.specs.Points.{terms_with}
 use Rattle.acq_cli.specs.Run.{Closing, Converged, Collapsed, Undecided, Suspended, LineTooLong, Unreadable, JournalFull, Ran, Runs}
@@ -80,12 +83,12 @@ IsQuietEnd (drove.Undecided m) = Unit {0}
 IsQuietEnd drove.Memory = Unit {0}
 IsQuietEnd how = ⊥
 
--- how it ends where the loop did so, of a network of so many candidates
-abbrev pub SumsUp : (learned : ℕ) → (written written' : Option (List ℕ)) → Result Ending Put → Drove → Type 0
-SumsUp learned written written' got (drove.Converged m) = EndsWith (ending.Converged m) (summary_text Converged m learned) written written' got
-SumsUp learned written written' got (drove.Undecided m) = EndsWith (ending.Undecided m) (summary_text Undecided m learned) written written' got
-SumsUp learned written written' got drove.Memory = (got ≡ Err put.Memory) × (written' ≡ written)
-SumsUp learned written written' got how = ⊥
+-- what is said where the loop ended so, of a network of so many candidates
+abbrev pub SaysSum : (learned : ℕ) → Drove → Result Saying Unsaid → Type 0
+SaysSum learned (drove.Converged m) said = IsSaid (saying (summary_text Converged m learned) (ending.Converged m)) said
+SaysSum learned (drove.Undecided m) said = IsSaid (saying (summary_text Undecided m learned) (ending.Undecided m)) said
+SaysSum learned drove.Memory said = said ≡ Err unsaid.Memory
+SaysSum learned how said = ⊥
 
 -- It ends as the run did: converged or undecided.
 abbrev pub Tells : ℕ → Language → Terms → List Event → (written written' : Option (List ℕ)) → Ending → Type 0

@@ -138,6 +138,7 @@ pub record IsDone (l : Language) (terms : Terms) (t : List Answer) : Type 0 wher
 pub record IsCollapsed (l : Language) (terms : Terms) (t : List Answer) : Type 0 where
   pub network : List Candidate
   pub over : state_after l terms.plan t ≡ At (Over network)
+  pub ends : next_after l terms t ≡ Some (Ends Collapsed)
   pub none : NoneAgrees l t
   pub plan : terms.plan ≢ Scopes
 
@@ -157,12 +158,16 @@ pub record IsLeftOpen (l : Language) (terms : Terms) (t : List Answer) : Type 0 
   -- each other that is kept is implied
   pub rest : All (λ c. (outcome_of_candidate l network c terms.budget ≢ Spent) → IsImplied l network c) (kept l t network)
 
--- what a run that closes so has found of the answers that stand
+-- a question comes after these answers
+abbrev pub IsPending : Language → Terms → List Answer → Type 0
+IsPending l terms t = (q : Assignment) × (next_after l terms t ≡ Some (Puts q))
+
+-- What a run that closes so has found of the answers that stand. Where it stops else, a question was due.
 abbrev pub HasFound : Language → Terms → List Answer → Closing → Type 0
 HasFound l terms t Converged = IsDone l terms t
 HasFound l terms t Collapsed = IsCollapsed l terms t
 HasFound l terms t Undecided = IsLeftOpen l terms t
-HasFound l terms t closing = Unit {0}
+HasFound l terms t closing = IsPending l terms t
 
 -- The number that is told is that of the answers that stand, and what is said of these is true.
 pub record HasEnded (l : Language) (terms : Terms) (t : List Answer) (how : Drove) : Type 0 where
@@ -174,10 +179,13 @@ pub record Drives (turns : Turns) (l : Language) (terms : Terms) (old new : Poin
   pub says : HasEnded l terms (standing_on l new.events) how
   -- the run that is closed so is what was written and left
   pub closed : IfSome (closing_of how) (λ closing. RanTo turns l terms closing old new)
-  -- where something failed, a front of a run was written
+  -- where something failed, a question was due, and a front of a run was written
+  pub pending : closing_of how ≡ None → IsPending l terms (standing_on l new.events)
   pub broken : closing_of how ≡ None → CutOff turns l terms old new
   -- where the disk failed, what was written ends with the lines of the question whose reply wasn't kept
   pub unkept : how ≡ drove.DiskFault → UnkeptTo turns l terms old new
+  -- the journal is full exactly where a question is due and no record is left
+  pub full : TellsFull l terms new.events how
 
 -- what comes of it where this network gave each answer: no collapse, and what was learned has exactly its solutions
 abbrev pub IsOwned : Language → Terms → List Candidate → List Answer → Closing → Type 0

@@ -3,11 +3,11 @@ use Rattle.std.specs.Prelude.{◌≡◌, ◌⊎◌, List, [], ◌∷◌, ◌++�
 use Rattle.assign.specs.Assignment.{Assignment}
 use Rattle.assign.specs.Events.{Answer}
 use Rattle.assign.specs.declared.events.Event.{Event}
-use Rattle.language.specs.Language.{Language, IsQuestion}
+use Rattle.language.specs.Language.{Language}
 use Rattle.session_store.specs.Kept.{IsLawfulAfter}
 use Rattle.session_store.specs.declared.fault.SFault.{SFault}
 use Rattle.session_store.specs.declared.fault.SFault.TheVariants as store
-use Rattle.acq_cli.specs.Run.{Puts, Ends, Collapsed, next_after}
+use Rattle.acq_cli.specs.Run.{Puts, next_after}
 use Rattle.acq_cli.specs.Driven.{IsDone, IsCollapsed, IsLeftOpen}
 use Rattle.acq_cli.specs.declared.terms.Terms.{Terms}
 use Rattle.acq_cli.specs.declared.driving.Drove.{Drove}
@@ -15,34 +15,19 @@ use Rattle.acq_cli.specs.declared.driving.Drove.TheVariants as drove
 use Rattle.acq_cli.specs.declared.next.Upcoming.{Upcoming}
 use Rattle.acq_cli.specs.declared.next.Upcoming.TheVariants as next
 
--- this question comes next
-pub record IsDue (l : Language) (terms : Terms) (t : List Answer) (q : Assignment) : Type 0 where
-  pub puts : next_after l terms t ≡ Some (Puts q)
-  pub fits : IsQuestion l q
-
--- no question comes: the answers converge, or no network agrees with them, or the budget was too small
-abbrev pub NoneIsDue : Language → Terms → List Answer → Upcoming → Type 0
-NoneIsDue l terms t (next.Open q) = ⊥
-NoneIsDue l terms t (next.New q) = ⊥
-NoneIsDue l terms t next.Converged = IsDone l terms t
-NoneIsDue l terms t next.Collapsed = IsCollapsed l terms t × (next_after l terms t ≡ Some (Ends Collapsed))
-NoneIsDue l terms t next.Undecided = IsLeftOpen l terms t
+-- the question that is put is the one that comes next
+pub record IsDue (l : Language) (terms : Terms) (t : List Answer) (put : Option Assignment) : Type 0 where
+  pub question : Assignment
+  pub is : put ≡ Some question
+  pub puts : next_after l terms t ≡ Some (Puts question)
 
 -- what comes next after these answers, where this question is put or none is
 abbrev pub NextIs : Language → Terms → List Answer → Option Assignment → Upcoming → Type 0
-NextIs l terms t put (next.Open q) = IsDue l terms t q × (put ≡ Some q)
-NextIs l terms t put (next.New q) = IsDue l terms t q × (put ≡ None) × IsLawfulAfter l terms.plan t q
-NextIs l terms t put next.Converged = NoneIsDue l terms t next.Converged
-NextIs l terms t put next.Collapsed = NoneIsDue l terms t next.Collapsed
-NextIs l terms t put next.Undecided = NoneIsDue l terms t next.Undecided
-
--- the question that is put is the next one, or none is
-abbrev pub PutIs : Language → Terms → List Answer → Option Assignment → Upcoming → Type 0
-PutIs l terms t put (next.Open q) = IsDue l terms t q × (put ≡ Some q)
-PutIs l terms t put (next.New q) = IsDue l terms t q × (put ≡ Some q)
-PutIs l terms t put next.Converged = NoneIsDue l terms t next.Converged
-PutIs l terms t put next.Collapsed = NoneIsDue l terms t next.Collapsed
-PutIs l terms t put next.Undecided = NoneIsDue l terms t next.Undecided
+NextIs l terms t put next.Open = IsDue l terms t put
+NextIs l terms t put (next.New q) = (next_after l terms t ≡ Some (Puts q)) × (put ≡ None) × IsLawfulAfter l terms.plan t q
+NextIs l terms t put next.Converged = IsDone l terms t
+NextIs l terms t put next.Collapsed = IsCollapsed l terms t
+NextIs l terms t put next.Undecided = IsLeftOpen l terms t
 
 -- the same events and one more
 pub record IsOneMore (old new : List Event) : Type 0 where

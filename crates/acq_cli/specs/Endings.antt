@@ -1,5 +1,5 @@
 -- What was said of a session at its end, and what was done about a language.
-use Rattle.std.specs.Prelude.{◌≡◌, ℕ, List, Option, Some, None, Result, Ok, Err, IsErr, IfSome, IfOk, OnErr}
+use Rattle.std.specs.Prelude.{◌≡◌, ℕ, List, Option, Some, None, Result, Ok, Err, IsErr, IfOk, OnErr}
 use Rattle.acq_io.specs.Streams.{Adds, AddsFront}
 use Rattle.acq_io.specs.declared.streams.Put.{Put}
 use Rattle.assign.specs.Events.{Answer}
@@ -10,7 +10,7 @@ use Rattle.target_oracle.specs.Turns.{Turns}
 use Rattle.acq_cli.specs.Run.{Closing}
 use Rattle.acq_cli.specs.Breaks.{BreaksRun}
 use Rattle.acq_cli.specs.Closings.{closing_of, ending_of}
-use Rattle.acq_cli.specs.Driven.{CutOff, HasEnded, LeavesNothing, RanTo, TellsFull, UnkeptTo}
+use Rattle.acq_cli.specs.Driven.{Drives, LeavesNothing}
 use Rattle.acq_cli.specs.Points.{point_of}
 use Rattle.acq_cli.specs.Said.{IsSaid, silent_end}
 use Rattle.acq_cli.specs.Saying.{Saying, saying}
@@ -19,15 +19,6 @@ use Rattle.acq_cli.specs.Texts.{closing_text}
 use Rattle.acq_cli.specs.declared.terms.Terms.{Terms}
 use Rattle.acq_cli.specs.declared.driving.Drove.{Drove}
 use Rattle.acq_cli.specs.declared.ending.Ending.{Ending}
-use Rattle.acq_cli.specs.declared.driving.Drove.TheVariants as drove
-
--- the run after these events with this closing, and then its last lines
-pub record Closes (turns : Turns) (l : Language) (terms : Terms) (start events : List Event) (left written left' written' : Option (List ℕ)) (closing : Closing) : Type 0 where
-  pub middle : Option (List ℕ)
-  pub ran : RanTo turns l terms closing (point_of start left written) (point_of events left' middle)
-  pub adds : Adds middle written' (closing_text l terms (standing_on l events) closing)
-  -- an example whose walk has ended, and wasn't cut off, is used up
-  pub walked : LeavesNothing l terms.plan (standing_on l events)
 
 -- the last lines were written, where there are any
 abbrev pub AddsLast : Language → Terms → List Answer → (written written' : Option (List ℕ)) → Option Closing → Type 0
@@ -56,19 +47,16 @@ SaysEndBy l terms t None end said = (why : Unsaid) × (said ≡ Err why) × (end
 abbrev pub SaysEnd : Language → Terms → List Answer → Drove → Result Saying Unsaid → Type 0
 SaysEnd l terms t how said = SaysEndBy l terms t (closing_of how) (ending_of how) said
 
--- What was done about a language, from the events at first to those at last: the loop ended in some way, and the program as
--- that way has it.
+-- What was done about a language, from the events at first to those at last: the loop ended in some way, and the program as that way
+-- has it. Behind what the loop wrote stand the last lines, where there are any.
 pub record Tries (turns : Turns) (l : Language) (terms : Terms) (start events : List Event) (left written left' written' : Option (List ℕ)) (end : Ending) : Type 0 where
   pub how : Drove
   pub is : ending_of how ≡ Ok end
-  pub says : HasEnded l terms (standing_on l events) how
-  pub closed : IfSome (closing_of how) (Closes turns l terms start events left written left' written')
-  -- where something failed before the run was closed, none of its last lines was written
-  pub broken : closing_of how ≡ None → CutOff turns l terms (point_of start left written) (point_of events left' written')
-  -- where the disk failed, what was written ends with the lines of the question whose reply wasn't kept
-  pub unkept : how ≡ drove.DiskFault → UnkeptTo turns l terms (point_of start left written) (point_of events left' written')
-  -- the journal is full exactly where a question is due and no record is left
-  pub full : TellsFull l terms events how
+  pub middle : Option (List ℕ)
+  pub ended : Drives turns l terms (point_of start left written) (point_of events left' middle) how
+  pub adds : AddsLast l terms (standing_on l events) middle written' (closing_of how)
+  -- an example whose walk has ended, and wasn't cut off, is used up
+  pub walked : LeavesNothing l terms.plan (standing_on l events)
 
 -- what was done about it, said whole, or in part where something failed
 pub record HasAsked (turns : Turns) (l : Language) (terms : Terms) (start events : List Event) (left written left' written' : Option (List ℕ)) (got : Result Ending Put) : Type 0 where

@@ -1,12 +1,15 @@
 -- What is heard of a teacher's word to a question: what is to be kept of it, or how the loop ends.
-use Rattle.std.specs.Prelude.{◌≡◌, ◌≢◌, ℕ, List, [], true, false, Option, Some, None, IsSome, Result, Ok, Err}
+use Rattle.std.specs.Prelude.{◌≡◌, ◌≢◌, ◌<◌, ◌+◌, ℕ, List, [], true, false, Option, Some, None, IsSome, Result, Ok, Err}
 use Rattle.assign.specs.Assignment.{Assignment}
 use Rattle.assign.specs.Events.{standing}
 use Rattle.assign.specs.declared.events.Event.{Event}
 use Rattle.assign.specs.declared.events.Event.TheVariants as event
+use Rattle.language.specs.Language.{Language}
 use Rattle.query_gen.specs.Marks.{Remembered, HasNoMarks}
 use Rattle.session_store.specs.Kept.{answer_event}
 use Rattle.session_store.specs.declared.fault.SFault.{SFault}
+use Rattle.target_oracle.specs.Tells.{AsksFirst, Tells}
+use Rattle.target_oracle.specs.Turns.{Turns}
 use Rattle.target_oracle.specs.declared.teacher.Told.{Told}
 use Rattle.target_oracle.specs.declared.teacher.Told.TheVariants as told
 use Rattle.acq_cli.specs.Due.{ended_by}
@@ -29,6 +32,16 @@ heard_of told.Unreadable count = heard.End drove.Unreadable
 heard_of told.ReadFault count = heard.End drove.ReadFault
 heard_of told.WriteFault count = heard.End drove.WriteFault
 heard_of told.Memory count = heard.End drove.Memory
+
+-- This is heard of the teacher's word to this question, after so many answers.
+pub record Hears (turns : Turns) (may : Language → Assignment → Told → Type 0) (l : Language) (q : Assignment) (count : ℕ) (left written left' written' : Option (List ℕ)) (heard : Heard) : Type 0 where
+  pub word : Told
+  pub is : heard ≡ heard_of word count
+  -- where source and sink tell
+  pub tells : (bytes before : List ℕ) → left ≡ Some bytes → written ≡ Some before → Tells (turns l (count + 1) q bytes) before left' written' word
+  pub asks : AsksFirst left written left' written' (turns l (count + 1) q []).text
+  pub says : may l q word
+  pub back : word ≡ told.Back → 1 < count + 1
 
 -- the event of an entry, where this question is put; an answer is said to a question, so there is one
 abbrev pub event_on : Entry → Option Assignment → Event

@@ -1,11 +1,10 @@
 -- What a turn and the loop begin with, and how they go on and end.
-use Rattle.std.specs.Prelude.{◌≡◌, ◌≤◌, ◌<◌, ◌+◌, ℕ, IsTrue, Bool, List, length, Option, Some}
+use Rattle.std.specs.Prelude.{◌≡◌, ◌≤◌, ℕ, Bool, true, false, IsTrue, List, Option}
 use Rattle.acq_io.specs.Streams.{HasCalled, Rose, TakesSome}
 use Rattle.acq_words.specs.Request.{IsBudget}
 use Rattle.assign.specs.Assignment.{Assignment}
 use Rattle.assign.specs.Events.{Answer}
 use Rattle.assign.specs.declared.events.Event.{Event}
-use Rattle.assign.specs.declared.events.Plan.{Plan}
 use Rattle.language.specs.Language.{Language}
 use Rattle.language.specs.Answers.{standing_on}
 use Rattle.query_gen.specs.declared.place.Place.{Place}
@@ -13,9 +12,9 @@ use Rattle.query_gen.specs.Marks.{Remembered, IsMadeFor, HasNoMarks}
 use Rattle.par_screen.specs.Eighths.{AreMadeFor}
 use Rattle.session_core.specs.Settled.{IsSettled}
 use Rattle.target_oracle.specs.Turns.{Turns}
-use Rattle.acq_cli.specs.Driven.{Point, StepsTo, Drives, Remembers, TellsFull, TellsOpen}
-use Rattle.acq_cli.specs.Due.{IsDue, IsOneMore}
-use Rattle.acq_cli.specs.Points.{terms_with}
+use Rattle.acq_cli.specs.Driven.{Point, StepsTo, Drives, Remembers, TellsOpen}
+use Rattle.acq_cli.specs.Due.{IsOneMore}
+use Rattle.acq_cli.specs.Points.{point_of}
 use Rattle.acq_cli.specs.declared.terms.Terms.{Terms}
 use Rattle.acq_cli.specs.declared.driving.Drove.{Drove}
 use Rattle.acq_cli.specs.declared.driving.Drove.TheVariants as drove
@@ -54,21 +53,7 @@ pub record IsAtStart (l : Language) (terms : Terms) (t : List Answer) (put : Opt
   pub unmarked : HasNoMarks marks
   pub affordable : IsBudget terms.budget
 
--- this question is put, it comes next after these events, and there is a record for what is said to it
-pub record IsPutNext (l : Language) (plan : Plan) (events : List Event) (put : Option Assignment) (q : Assignment) : Type 0 where
-  pub is : put ≡ Some q
-  pub budget : ℕ
-  pub due : IsDue l (terms_with plan budget) (standing_on l events) q
-  pub room : length events + 1 < 1000000
-
 -- ---- how it goes on and ends
-
--- The screen of a loop that goes on, after these answers and with this question put: none is put where nothing is open, the screen is
--- made for the language, and its marks stay true.
-pub record IsStillReady (l : Language) (terms : Terms) (t : List Answer) (put : Option Assignment) (marks : Remembered) : Type 0 where
-  pub settled : IsSettled l terms.plan t put
-  pub made : IsMadeFor l marks
-  pub hold : Remembers l terms t marks
 
 -- A turn has gone on: its text and what it left begin each run from here, and there is one event more.
 pub record HasTurned (turns : Turns) (l : Language) (terms : Terms) (old new : Point) : Type 0 where
@@ -80,9 +65,19 @@ pub record TellsCandidates (l : Language) (terms : Terms) (t : List Answer) (mar
   pub made : IsMadeFor l marks
   pub undecided : (m : ℕ) → how ≡ drove.Undecided m → TellsOpen l terms t marks
 
--- The loop has ended so: what it says is true, and so is what the screen tells. The journal is full exactly where a question is
--- due and no record is left.
+-- The loop has ended so: what it says is true, and so is what the screen tells.
 pub record EndsAs (turns : Turns) (l : Language) (terms : Terms) (old new : Point) (marks : Remembered) (how : Drove) : Type 0 where
   pub ends : Drives turns l terms old new how
   pub tells : TellsCandidates l terms (standing_on l new.events) marks how
-  pub full : TellsFull l terms new.events how
+
+-- whether the loop ends so without a question
+abbrev pub is_unasked : Drove → Bool
+is_unasked (drove.Converged m) = true
+is_unasked (drove.Collapsed m) = true
+is_unasked (drove.Undecided m) = true
+is_unasked how = false
+
+-- After these events no question comes. So the loop ends, whatever source and sink tell.
+pub record EndsUnasked (l : Language) (terms : Terms) (events : List Event) (marks : Remembered) (how : Drove) : Type 0 where
+  pub ends : (turns : Turns) (left written : Option (List ℕ)) → EndsAs turns l terms (point_of events left written) (point_of events left written) marks how
+  pub unasked : IsTrue (is_unasked how)

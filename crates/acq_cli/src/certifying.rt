@@ -91,13 +91,12 @@ fn has_converged<R: Threads + Sync, D: Disk, P: Keep<D>, G: Gate>(
     requires budget { IsBudget budget }
     ensures { IfOk result (TellsEnd (P.lang keep.now) (terms_with (P.plan keep.now) budget) (standing_on (P.lang keep.now) (P.record_of keep.now))) }
 {
-    let session = keep.session();
-    let lang = session.lang();
+    let lang = keep.session().lang();
     let mut places = places_for(alloc, lang)?;
     let mut screen = Screen::new(alloc, lang)?;
-    match next_of(rt, session, &mut places, &mut screen, budget, gate) {
+    match next_of::<R, D, P, G>(rt, keep, &mut places, &mut screen, budget, gate) {
         Upcoming::Converged => Ok(true),
-        Upcoming::Open(_) | Upcoming::New(_) => Ok(false),
+        Upcoming::Open | Upcoming::New(_) => Ok(false),
         Upcoming::Collapsed | Upcoming::Undecided => Ok(false),
     }
 }

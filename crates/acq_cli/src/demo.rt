@@ -1,24 +1,26 @@
 //! The command that makes a language and a target of a number.
 
-ghost use Rattle.std.specs.Prelude.{◌≡◌, ◌≤◌, ◌∷◌, ◌++◌, [], length, IsTrue, OnOk, OnErr, None, Err, codes};
+ghost use Rattle.std.specs.Prelude.{◌≡◌, ◌∷◌, ◌++◌, [], length, true, IsTrue, IfOk, None, Err, codes};
 ghost use Rattle.std.specs.Fmt.{decimal};
-ghost use Rattle.acq_io.specs.Streams.{Adds, AddsFront, Rose};
+ghost use Rattle.acq_io.specs.Streams.{Rose};
 ghost use Rattle.acq_words.specs.Request.{IsBudget};
 ghost use Rattle.language.specs.Language.{IsLanguage};
 ghost use Rattle.language.specs.Answers.{IsNetwork, agrees, standing_on};
 ghost use Rattle.session_store.specs.Loose.{lang_of as lang_in, plan_of, events_of, question_of, IsSound};
-ghost use Rattle.acq_cli.specs.Demoing.{Demos, HasDriven, IsQuietEnd, SumsUp, demo_text};
+ghost use Rattle.acq_cli.specs.Demoing.{Demos, HasDriven, IsQuietEnd, SaysSum, demo_text};
 ghost use Rattle.session_store.specs.Keeps.{IsSameSession};
 ghost use Rattle.acq_cli.specs.Points.{terms_with};
+ghost use Rattle.acq_cli.specs.Saying.{is_told, saying};
 ghost use Rattle.acq_cli.specs.Texts.{learned_after};
 
 use crate::commands::lang_of;
 use crate::driving::{Drove, drive};
 use crate::ending::Ending;
+use crate::said::{Said, Unsaid, or_silent, put};
 use acq_io::{PlainSink, PlainSource, Put, Sink};
 use assign::Plan;
 use disk_model::{Disk, MemDisk, Room};
-use language::Language;
+use language::{Language, Memory};
 use network::Network;
 use par_screen::{Gate, places_for};
 use query_gen::Screen;
@@ -28,11 +30,8 @@ use std::thread::Threads;
 use target_oracle::{NetTeacher, generate};
 
 /// Says which language the number made.
-fn say_made<K: Sink>(alloc: Global, number: u32, lang: &Language, out: &mut K) -> Result<(), Put>
-    ensures ok { OnOk result (Adds (K.written out.old) (K.written out.new) (demo_text number lang.now)) }
-    ensures part { OnErr result (AddsFront (K.written out.old) (K.written out.new) (demo_text number lang.now)) }
-    ensures failed { result ≡ Err Put.Failed → Rose (K.faults out.old) (K.faults out.new) }
-    ensures later_sink { K.faults out.old ≤ K.faults out.new }
+fn made(alloc: Global, number: u32, lang: &Language) -> Result<Said, Memory>
+    ensures says { IfOk result (λ said. said ≡ saying (demo_text number lang.now) Ending.Done) }
     ensures lawful { IsLanguage lang.now }
 {
     let variables = lang.n();
@@ -41,9 +40,9 @@ fn say_made<K: Sink>(alloc: Global, number: u32, lang: &Language, out: &mut K) -
     let Ok(text) = format!(in alloc;
         "demo {number} variables {variables} scopes {scopes} candidates {candidates}\n"
     ) else {
-        return Err(Put::Memory);
+        return Err(Memory);
     };
-    out.write(text.as_bytes())
+    Ok(Said::new(text, Ending::Done))
 }
 
 /// Lets a network answer without a word. Nothing is read, written or kept on a disk, so what the loop is handed of these is
@@ -96,43 +95,36 @@ fn drive_quietly<R: Threads + Sync, G: Gate>(
     )
 }
 
-/// Writes the last two lines: how it ended after so many answers, and how many candidates were learned.
-fn say_summary<K: Sink>(
-    alloc: Global,
-    word: &str,
-    m: u32,
-    learned: u32,
-    out: &mut K,
-) -> Result<(), Put>
-    ensures ok { OnOk result (Adds (K.written out.old) (K.written out.new)
-        (word.now ++ (32 ∷ (decimal m ++ (10 ∷ (codes "learned " ++ (decimal learned ++ 10 ∷ []))))))) }
-    ensures part { OnErr result (AddsFront (K.written out.old) (K.written out.new)
-        (word.now ++ (32 ∷ (decimal m ++ (10 ∷ (codes "learned " ++ (decimal learned ++ 10 ∷ []))))))) }
-    ensures memory { result ≡ Err Put.Memory → K.written out.new ≡ K.written out.old }
-    ensures failed { result ≡ Err Put.Failed → Rose (K.faults out.old) (K.faults out.new) }
+/// Says how it ended after so many answers, and how many candidates were learned.
+fn summary(alloc: Global, word: &str, m: u32, learned: u32, ending: Ending) -> Result<Said, Memory>
+    requires { is_told ending ≡ true }
+    ensures { IfOk result (λ said. said ≡ saying (word.now ++ (32 ∷ (decimal m ++ (10 ∷ (codes "learned " ++ (decimal learned ++ 10 ∷ [])))))) ending) }
 {
-    let Ok(text) = format!(in alloc; "{word} {m}\nlearned {learned}\n") else {
-        return Err(Put::Memory);
-    };
-    out.write(text.as_bytes())
+    let text = format!(in alloc; "{word} {m}\nlearned {learned}\n")?;
+    Ok(Said::new(text, ending))
 }
 
-/// Says how the loop ended, with the number of answers and of learned candidates.
-fn sum_up<K: Sink>(alloc: Global, drove: Drove, learned: u32, out: &mut K) -> Result<Ending, Put>
+/// Says how the loop ended.
+fn summed(alloc: Global, drove: Drove, learned: u32) -> Result<Said, Unsaid>
     requires { IsQuietEnd drove }
-    ensures sums { SumsUp learned (K.written out.old) (K.written out.new) result drove }
-    ensures failed { result ≡ Err Put.Failed → Rose (K.faults out.old) (K.faults out.new) }
+    ensures { SaysSum learned drove result }
 {
     match drove {
-        Drove::Converged(m) => {
-            say_summary(alloc, "converged", m, learned, out)?;
-            Ok(Ending::Converged(m))
-        }
-        Drove::Undecided(m) => {
-            say_summary(alloc, "undecided", m, learned, out)?;
-            Ok(Ending::Undecided(m))
-        }
-        Drove::Memory => Err(Put::Memory),
+        Drove::Converged(m) => or_silent(summary(
+            alloc,
+            "converged",
+            m,
+            learned,
+            Ending::Converged(m),
+        )),
+        Drove::Undecided(m) => or_silent(summary(
+            alloc,
+            "undecided",
+            m,
+            learned,
+            Ending::Undecided(m),
+        )),
+        Drove::Memory => Err(Unsaid::Memory),
         _ => unreachable!(),
     }
 }
@@ -161,10 +153,11 @@ pub fn demo_number<R: Threads + Sync, K: Sink, G: Gate>(
     let Ok((lang, target)) = generate(alloc, number) else {
         return Err(Put::Memory);
     };
-    say_made(alloc, number, &lang, out)?;
+    put(or_silent(made(alloc, number, &lang)), out)?;
     let Ok(mut keep) = Loose::new(alloc, lang, Plan::Quacq) else {
         return Err(Put::Memory);
     };
     let drove = drive_quietly(rt, alloc, budget, target, &mut keep, gate);
-    sum_up(alloc, drove, learned_by::<MemDisk, Loose>(&keep), out)
+    let learned = learned_by::<MemDisk, Loose>(&keep);
+    put(summed(alloc, drove, learned), out)
 }

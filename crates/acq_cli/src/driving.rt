@@ -1,29 +1,31 @@
-ghost use Rattle.std.specs.Prelude.{◌≡◌, ◌≢◌, ◌+◌, ◌<◌, List, [], length, Some, None, IfSome, IsTrue};
+ghost use Rattle.std.specs.Prelude.{◌≡◌, ◌≢◌, ◌+◌, ◌<◌, List, [], length, Some, None, IfSome, IsSome, IsTrue};
+ghost use Rattle.std.specs.Option.{ForSome};
 ghost use Rattle.acq_io.specs.Streams.{Rose};
-ghost use Rattle.assign.specs.Events.{standing};
+ghost use Rattle.assign.specs.Events.{Answer, standing};
 ghost use Rattle.language.specs.declared.candidates.Candidate.{Candidate};
-ghost use Rattle.language.specs.Language.{Language};
+ghost use Rattle.language.specs.Language.{Language, IsLanguage, IsQuestion};
 ghost use Rattle.language.specs.Answers.{IsNetwork, agrees, standing_on};
 ghost use Rattle.query_gen.specs.Marks.{IsMadeFor};
 ghost use Rattle.par_screen.specs.Eighths.{AreMadeFor};
 ghost use Rattle.session_core.specs.Settled.{IsSettled};
+ghost use Rattle.session_core.specs.Standing.{Stands, knowledge_of, open_in};
 ghost use Rattle.session_store.specs.Keeps.{Keeps, IsKeeping, IsSameSession, OnlyPuts};
 ghost use Rattle.target_oracle.specs.Teaching.{TeachesOn};
 ghost use Rattle.acq_cli.specs.Closings.{closing_of, ending_of};
-ghost use Rattle.acq_cli.specs.Driven.{IsOwned, LeavesNothing, Loses, Remembers, TellsOpen};
+ghost use Rattle.acq_cli.specs.Driven.{IsOwned, LeavesNothing, Loses, Remembers};
 ghost use Rattle.acq_cli.specs.Added.{IsTaught, MayEnd};
-ghost use Rattle.acq_cli.specs.Due.{IsDue, PutIs, EventKept};
-ghost use Rattle.acq_cli.specs.Heard.{heard_of, event_on, MayKeep, Forgets, end_of};
+ghost use Rattle.acq_cli.specs.Due.{IsDue, EventKept};
+ghost use Rattle.acq_cli.specs.Heard.{heard_of, event_on, MayKeep, Forgets, Hears, end_of};
 ghost use Rattle.acq_cli.specs.Points.{point_of, terms_with};
-ghost use Rattle.acq_cli.specs.Loop.{EndsAs, HasReadAndWritten, HasTurned, IsAtStart, IsPutNext, IsReady, IsStillReady};
+ghost use Rattle.acq_cli.specs.Loop.{EndsAs, EndsUnasked, HasReadAndWritten, HasTurned, IsAtStart, IsReady};
 
 use crate::next::{Upcoming, next_of};
 use acq_io::{Sink, Source};
 use answer_journal::MOST_RECORDS;
-use assign::Partial;
 use disk_model::Disk;
 use par_screen::Gate;
 use query_gen::{Place, Screen};
+use session_core::Session;
 use session_store::{Keep, SFault};
 use std::alloc::Global;
 use std::thread::Threads;
@@ -54,7 +56,7 @@ pub enum Drove {
     Memory,
 }
 
-/// Puts the question that comes next, if one does.
+/// Puts the question that comes next. How the loop ends where none does.
 fn put_next<R: Threads + Sync, D: Disk, P: Keep<D>, G: Gate>(
     rt: &R,
     keep: &mut P,
@@ -62,21 +64,27 @@ fn put_next<R: Threads + Sync, D: Disk, P: Keep<D>, G: Gate>(
     screen: &mut Screen,
     budget: u32,
     gate: &G,
-) -> Upcoming
+) -> Option<Drove>
     requires sound { P.sound keep.old }
     requires ready { IsReady (P.lang keep.old) (terms_with (P.plan keep.old) budget) (standing_on (P.lang keep.old) (P.record_of keep.old)) (P.question keep.old) places.old screen.old }
-    ensures put { PutIs (P.lang keep.old) (terms_with (P.plan keep.old) budget) (standing_on (P.lang keep.old) (P.record_of keep.old)) (P.question keep.new) result }
+    ensures put { result ≡ None → IsDue (P.lang keep.old) (terms_with (P.plan keep.old) budget) (standing_on (P.lang keep.old) (P.record_of keep.old)) (P.question keep.new) }
+    ensures ends { IfSome result (EndsUnasked (P.lang keep.old) (terms_with (P.plan keep.old) budget) (P.record_of keep.old) screen.new) }
     ensures keeper { OnlyPuts P.Keep keep.old keep.new }
     ensures places { AreMadeFor (P.lang keep.old) places.new }
     ensures screen { IsMadeFor (P.lang keep.old) screen.new }
     ensures remembers { Remembers (P.lang keep.old) (terms_with (P.plan keep.old) budget) (standing_on (P.lang keep.old) (P.record_of keep.old)) screen.new }
-    ensures open { result ≡ Upcoming.Undecided → TellsOpen (P.lang keep.old) (terms_with (P.plan keep.old) budget) (standing_on (P.lang keep.old) (P.record_of keep.old)) screen.new }
 {
-    let next = next_of(rt, keep.session(), places, screen, budget, gate);
-    if let Upcoming::New(question) = next {
-        keep.ask(question);
+    let count = keep.session().answers();
+    match next_of::<R, D, P, G>(rt, keep, places, screen, budget, gate) {
+        Upcoming::Open => None,
+        Upcoming::New(question) => {
+            keep.ask(question);
+            None
+        }
+        Upcoming::Converged => Some(Drove::Converged(count)),
+        Upcoming::Collapsed => Some(Drove::Collapsed(count)),
+        Upcoming::Undecided => Some(Drove::Undecided(count)),
     }
-    next
 }
 
 /// What is said to a question and kept of it.
@@ -153,52 +161,32 @@ fn forget(screen: &mut Screen, entry: Entry)
     }
 }
 
-/// The rest of a turn, where its question is put. None where the loop goes on.
-fn hear_answer<S: Source, K: Sink, D: Disk, T: Teacher<S, K>, P: Keep<D>>(
+/// Asks the teacher the question that is open in a session.
+fn hear<S: Source, K: Sink, T: Teacher<S, K>>(
     alloc: Global,
     source: &mut S,
     sink: &mut K,
-    disk: &mut D,
     teacher: &mut T,
-    keep: &mut P,
-    screen: &mut Screen,
-    question: &Partial,
-) -> Option<Drove>
-    requires keeper { IsKeeping P.Keep keep.old disk.old }
-    requires fits { T.fits teacher.old (P.lang keep.old) }
-    requires made { IsMadeFor (P.lang keep.old) screen.old }
-    requires put { IsPutNext (P.lang keep.old) (P.plan keep.old) (P.record_of keep.old) (P.question keep.old) question.now }
-    ensures again { (budget : _) → IsDue (P.lang keep.old) (terms_with (P.plan keep.old) budget) (standing_on (P.lang keep.old) (P.record_of keep.old)) question.now
-        → result ≡ None → HasTurned (T.turn teacher.old) (P.lang keep.old) (terms_with (P.plan keep.old) budget)
-        (point_of (P.record_of keep.old) (S.left source.old) (K.written sink.old))
-        (point_of (P.record_of keep.new) (S.left source.new) (K.written sink.new)) }
-    ensures ready { (budget : _) → Remembers (P.lang keep.old) (terms_with (P.plan keep.old) budget) (standing_on (P.lang keep.old) (P.record_of keep.old)) screen.old
-        → result ≡ None → IsStillReady (P.lang keep.old) (terms_with (P.plan keep.old) budget) (standing_on (P.lang keep.old) (P.record_of keep.new)) (P.question keep.new) screen.new }
-    ensures ends { (budget : _) → IsDue (P.lang keep.old) (terms_with (P.plan keep.old) budget) (standing_on (P.lang keep.old) (P.record_of keep.old)) question.now
-        → IfSome result (EndsAs (T.turn teacher.old) (P.lang keep.old) (terms_with (P.plan keep.old) budget)
-        (point_of (P.record_of keep.old) (S.left source.old) (K.written sink.old))
-        (point_of (P.record_of keep.new) (S.left source.new) (K.written sink.new)) screen.new) }
+    session: &Session,
+) -> Heard
+    requires fits { T.fits teacher.old (knowledge_of session.now).lang }
+    requires open { IsSome (open_in session.now) }
+    requires stands { (t : List Answer) × Stands session.now t }
+    ensures lawful { IsLanguage (knowledge_of session.now).lang }
+    ensures fits { ForSome (open_in session.now) (IsQuestion (knowledge_of session.now).lang) }
+    ensures hears { ForSome (open_in session.now) (λ q. Hears (T.turn teacher.old) (T.may_say teacher.old) (knowledge_of session.now).lang q (knowledge_of session.now).answers
+        (S.left source.old) (K.written sink.old) (S.left source.new) (K.written sink.new) result) }
     ensures teacher { TeachesOn T.turn T.fits T.may_say teacher.old teacher.new }
-    ensures same { IsSameSession P.Keep keep.old keep.new }
-    ensures taught { IsTaught (P.lang keep.old) (P.plan keep.old) (T.may_say teacher.old (P.lang keep.old)) (P.record_of keep.old) (P.record_of keep.new)
-        (IfSome result (λ how. MayEnd (T.may_say teacher.old (P.lang keep.old)) (ending_of how))) }
-    ensures keeps { Keeps P.Keep D.Disk (result ≡ Some Drove.DiskFault)
-        (λ lost. (budget : _) → IsDue (P.lang keep.old) (terms_with (P.plan keep.old) budget) (standing_on (P.lang keep.old) (P.record_of keep.old)) question.now
-        → Loses (T.turn teacher.old) (P.lang keep.old) (terms_with (P.plan keep.old) budget)
-        (point_of (P.record_of keep.old) (S.left source.old) (K.written sink.old))
-        (point_of (P.record_of keep.new) (S.left source.new) (K.written sink.new)) lost)
-        keep.old keep.new disk.old disk.new }
-    ensures faults { HasReadAndWritten (S.left source.old) (S.left source.new) (S.faults source.old) (S.faults source.new) (S.late source.old) (S.late source.new) (K.faults sink.old) (K.faults sink.new) (result ≡ Some Drove.ReadFault) (result ≡ Some Drove.WriteFault) }
+    ensures faults { HasReadAndWritten (S.left source.old) (S.left source.new) (S.faults source.old) (S.faults source.new) (S.late source.old) (S.late source.new) (K.faults sink.old) (K.faults sink.new) (result ≡ Heard.End Drove.ReadFault) (result ≡ Heard.End Drove.WriteFault) }
 {
-    let session = keep.session();
     let count = session.answers();
-    let told = teacher.told(alloc, source, sink, session.lang(), count + 1, question);
-    match heard_of(told, count) {
-        Heard::Keep(entry) => {
-            forget(screen, entry);
-            keep_event::<D, P>(keep, disk, entry)
+    match session {
+        Session::Asking(asking) => {
+            let question = asking.question();
+            let told = teacher.told(alloc, source, sink, session.lang(), count + 1, &question);
+            heard_of(told, count)
         }
-        Heard::End(end) => Some(end),
+        Session::Idle(_) | Session::Over(_) => unreachable!(),
     }
 }
 
@@ -239,16 +227,18 @@ fn take_turn<R: Threads + Sync, S: Source, K: Sink, D: Disk, T: Teacher<S, K>, P
     ensures faults { HasReadAndWritten (S.left source.old) (S.left source.new) (S.faults source.old) (S.faults source.new) (S.late source.old) (S.late source.new) (K.faults sink.old) (K.faults sink.new) (result ≡ Some Drove.ReadFault) (result ≡ Some Drove.WriteFault) }
     ensures places { AreMadeFor (P.lang keep.old) places.new }
 {
-    match put_next::<R, D, P, G>(rt, keep, places, screen, budget, gate) {
-        Upcoming::Open(question) | Upcoming::New(question) => {
-            if keep.is_full() {
-                return Some(Drove::JournalFull);
-            }
-            hear_answer(alloc, source, sink, disk, teacher, keep, screen, &question)
+    if let Some(end) = put_next::<R, D, P, G>(rt, keep, places, screen, budget, gate) {
+        return Some(end);
+    }
+    if keep.is_full() {
+        return Some(Drove::JournalFull);
+    }
+    match hear(alloc, source, sink, teacher, keep.session()) {
+        Heard::Keep(entry) => {
+            forget(screen, entry);
+            keep_event::<D, P>(keep, disk, entry)
         }
-        Upcoming::Converged => Some(Drove::Converged(keep.session().answers())),
-        Upcoming::Collapsed => Some(Drove::Collapsed(keep.session().answers())),
-        Upcoming::Undecided => Some(Drove::Undecided(keep.session().answers())),
+        Heard::End(end) => Some(end),
     }
 }
 

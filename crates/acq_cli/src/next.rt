@@ -5,24 +5,27 @@ ghost use Rattle.assign.specs.Events.{Answer};
 ghost use Rattle.assign.specs.declared.events.Plan.TheVariants.{Scopes};
 ghost use Rattle.query_gen.specs.Marks.{IsMadeFor, MarksHold};
 ghost use Rattle.par_screen.specs.Eighths.{AreMadeFor};
-ghost use Rattle.session_core.specs.Standing.{Stands, knowledge_of, open_in};
-ghost use Rattle.session_core.specs.Settled.{IsSettled};
-ghost use Rattle.acq_cli.specs.Driven.{TellsOpen};
+ghost use Rattle.language.specs.Answers.{standing_on};
+ghost use Rattle.session_core.specs.Standing.{Stands, knowledge_of};
+ghost use Rattle.acq_cli.specs.Driven.{Remembers, TellsOpen};
 ghost use Rattle.acq_cli.specs.Due.{NextIs};
+ghost use Rattle.acq_cli.specs.Loop.{IsReady};
 ghost use Rattle.acq_cli.specs.Points.{terms_with};
 ghost use Rattle.acq_words.specs.Request.{IsBudget};
 
 use assign::{Partial, Plan};
+use disk_model::Disk;
 use par_screen::{Gate, next_query_forked};
 use query_gen::{Place, Query, Screen};
 use session_core::{Idle, Session};
+use session_store::Keep;
 use std::thread::Threads;
 
 /// What comes next in a session.
 #[derive(Clone, Copy, Debug, PartialEq, Eq)]
 pub(crate) enum Upcoming {
-    /// A question that is put already.
-    Open(Partial),
+    /// A question is put already.
+    Open,
     /// A question that may be put.
     New(Partial),
     /// Nothing is left to ask.
@@ -109,30 +112,28 @@ fn idle_next<R: Threads + Sync, G: Gate>(
     }
 }
 
-/// What comes next in a session.
-pub(crate) fn next_of<R: Threads + Sync, G: Gate>(
+/// What comes next in a keeper's session.
+pub(crate) fn next_of<R: Threads + Sync, D: Disk, P: Keep<D>, G: Gate>(
     rt: &R,
-    session: &Session,
+    keep: &P,
     places: &mut [Place; 8],
     screen: &mut Screen,
     budget: u32,
     gate: &G,
 ) -> Upcoming
-    requires places { AreMadeFor (knowledge_of session.now).lang places.old }
-    requires screen { IsMadeFor (knowledge_of session.now).lang screen.old }
-    requires marks { let k = knowledge_of session.now in MarksHold k.lang k.network.list budget screen.old }
-    requires budget { IsBudget budget }
-    ensures next { (t : List Answer) → let k = knowledge_of session.now in Stands session.now t → IsSettled k.lang k.plan t (open_in session.now)
-        → NextIs k.lang (terms_with k.plan budget) t (open_in session.now) result }
-    ensures places { AreMadeFor (knowledge_of session.now).lang places.new }
-    ensures screen { IsMadeFor (knowledge_of session.now).lang screen.new }
-    ensures marks { let k = knowledge_of session.now in MarksHold k.lang k.network.list budget screen.new }
-    ensures open { (t : List Answer) → let k = knowledge_of session.now in Stands session.now t → result ≡ Upcoming.Undecided → TellsOpen k.lang (terms_with k.plan budget) t screen.new }
+    requires sound { P.sound keep.now }
+    requires ready { IsReady (P.lang keep.now) (terms_with (P.plan keep.now) budget) (standing_on (P.lang keep.now) (P.record_of keep.now)) (P.question keep.now) places.old screen.old }
+    ensures next { NextIs (P.lang keep.now) (terms_with (P.plan keep.now) budget) (standing_on (P.lang keep.now) (P.record_of keep.now)) (P.question keep.now) result }
+    ensures places { AreMadeFor (P.lang keep.now) places.new }
+    ensures screen { IsMadeFor (P.lang keep.now) screen.new }
+    ensures remembers { Remembers (P.lang keep.now) (terms_with (P.plan keep.now) budget) (standing_on (P.lang keep.now) (P.record_of keep.now)) screen.new }
+    ensures open { result ≡ Upcoming.Undecided → TellsOpen (P.lang keep.now) (terms_with (P.plan keep.now) budget) (standing_on (P.lang keep.now) (P.record_of keep.now)) screen.new }
 {
+    let session = keep.session();
     let _lang = session.lang();
     match session {
         Session::Idle(idle) => idle_next(rt, idle, places, screen, budget, gate),
-        Session::Asking(asking) => Upcoming::Open(asking.question()),
+        Session::Asking(_) => Upcoming::Open,
         Session::Over(_) => Upcoming::Collapsed,
     }
 }

@@ -35,7 +35,7 @@ use crate::driving::{Drove, drive};
 use crate::ending::Ending;
 use crate::making::refused_voc;
 use crate::playing::play_journal;
-use crate::said::{or_silent, put};
+use crate::said::{fixed, or_silent, put};
 use crate::saying::speak;
 use crate::terms::Terms;
 use acq_io::{AllFault, Put, Sink, Source, read_first_line};
@@ -51,8 +51,6 @@ use std::alloc::Global;
 use std::thread::Threads;
 use target_oracle::{LineTeacher, Teacher};
 use voc_read::{MOST_VOCABULARY, VocFault, read_vocabulary};
-
-const USAGE: &[u8] = b"usage: acquire JOURNAL COMMAND [--plan P] [--budget N] [--number N]\n";
 
 /// Says how the loop ended.
 pub(crate) fn say<K: Sink>(
@@ -228,12 +226,12 @@ fn try_input<R: Threads + Sync, S: Source, K: Sink, G: Gate>(
 }
 
 /// Says how the program is used, where the words are refused.
-fn refuse_words<K: Sink>(fault: UsageFault, out: &mut K) -> Result<Ending, Put>
+fn refuse_words<K: Sink>(alloc: Global, fault: UsageFault, out: &mut K) -> Result<Ending, Put>
     ensures tells { EndsWith (Ending.Usage fault) usage_text (K.written out.old) (K.written out.new) result }
     ensures failed { result ≡ Err Put.Failed → Rose (K.faults out.old) (K.faults out.new) }
 {
-    out.write(USAGE)?;
-    Ok(Ending::Usage(fault))
+    let usage = "usage: acquire JOURNAL COMMAND [--plan P] [--budget N] [--number N]\n";
+    put(or_silent(fixed(alloc, usage, Ending::Usage(fault))), out)
 }
 
 /// The command that the words ask for.
@@ -268,7 +266,7 @@ fn perform<R: Threads + Sync, S: Source, K: Sink, D: Disk, G: Gate>(
 {
     let command = match command_asked(alloc, words) {
         Ok(command) => command,
-        Err(WordsFault::Usage(fault)) => return refuse_words(fault, out),
+        Err(WordsFault::Usage(fault)) => return refuse_words(alloc, fault, out),
         Err(WordsFault::Memory) => return Err(Put::Memory),
     };
     match command {

@@ -9,10 +9,12 @@ use Rattle.language.specs.Answers.{IsNetwork, agrees, standing_on}
 use Rattle.session_store.proofs.Keepers.{both_as}
 use Rattle.session_store.specs.Loose.{lang_of, plan_of, events_of}
 use Rattle.target_oracle.specs.Generator.{target_of}
-use Rattle.acq_cli.specs.Demoing.{HasDriven}
+use Rattle.acq_cli.specs.Demoing.{HasDriven, demo_text}
+use Rattle.acq_cli.specs.declared.ending.Ending.TheVariants as ending
 use Rattle.acq_cli.specs.Points.{terms_with}
 use Rattle.acq_cli.specs.Texts.{learned_after}
-use Rattle.acq_cli.proofs.Demoing.{demo_done, demo_stopped, front_of_first, front_of_line}
+use Rattle.acq_cli.proofs.Demoing.{demo_done, demo_stopped, front_of_first, front_of_line, line_put, sums_up}
+use Rattle.acq_cli.proofs.Parts.{ends_part}
 use Rattle.acq_cli.proofs.demo.demo_number.Goals as goal
 
 pub drive_quietly-drove-requires-clause-target : goal.drive_quietly-drove-requires-clause-target
@@ -20,25 +22,27 @@ drive_quietly-drove-requires-clause-target g c κs within =
     let Lawful : Language → Type 0 = λ m. IsNetwork m c.in-Ok.target.list in
     subst Lawful (sym c.in-Ok-new.ensures.lang) c.in-Ok.ensures.network
 
-pub returns-in_err-say_made-clause-demos : goal.returns-in_err-say_made-clause-demos
-returns-in_err-say_made-clause-demos g c =
+pub returns-in_err-put-clause-demos : goal.returns-in_err-put-clause-demos
+returns-in_err-put-clause-demos g c =
     let l : Language = c.in-Ok.lang in
     let old : Option (List ℕ) = g.K.Sink.written c.args.out.now in
-    let new : Option (List ℕ) = g.K.Sink.written c.say_made.new.out in
+    let new : Option (List ℕ) = g.K.Sink.written c.put.new.out in
     let lawful = subst (IsNetwork l) c.in-Ok.ensures.target c.in-Ok.ensures.network in
+    let line = line_put c.args.number l c.made.result c.or_silent.result old new _ c.or_silent.ensures c.made.ensures.says c.in_err-put.ensures.writes in
     let p = err_from_is_err_and c.from_residual.result c.from_residual.ensures.1 in
     rw (p.1, p.2)
-    (demo_stopped c.args.number c.args.budget l c.in-Ok.ensures.language c.say_made.ensures.lawful lawful old new c.in_err-say_made.field-0.0
-    (front_of_first c.args.number l (terms_with Quacq c.args.budget) c.say_made.ensures.lawful old new c.in_err-say_made.ensures.part))
+    (demo_stopped c.args.number c.args.budget l c.in-Ok.ensures.language c.made.ensures.lawful lawful old new c.in_err-put.field-0.0
+    (front_of_first c.args.number l (terms_with Quacq c.args.budget) c.made.ensures.lawful old new (ends_part ending.Done (demo_text c.args.number l) old new _ line)))
 
 pub returns-in_default-new-clause-demos : goal.returns-in_default-new-clause-demos
 returns-in_default-new-clause-demos g c =
     let l : Language = c.in-Ok.lang in
     let old : Option (List ℕ) = g.K.Sink.written c.args.out.now in
-    let new : Option (List ℕ) = g.K.Sink.written c.say_made.new.out in
+    let new : Option (List ℕ) = g.K.Sink.written c.put.new.out in
     let lawful = subst (IsNetwork l) c.in-Ok.ensures.target c.in-Ok.ensures.network in
-    demo_stopped c.args.number c.args.budget l c.in-Ok.ensures.language c.say_made.ensures.lawful lawful old new put.Memory
-    (front_of_line c.args.number l (terms_with Quacq c.args.budget) c.say_made.ensures.lawful old new c.in_ok-say_made.ensures.ok)
+    let line = line_put c.args.number l c.made.result c.or_silent.result old new _ c.or_silent.ensures c.made.ensures.says c.in_ok-put.ensures.writes in
+    demo_stopped c.args.number c.args.budget l c.in-Ok.ensures.language c.made.ensures.lawful lawful old new put.Memory
+    (front_of_line c.args.number l (terms_with Quacq c.args.budget) c.made.ensures.lawful old new line.1)
 
 pub returns-clause-demos : goal.returns-clause-demos
 returns-clause-demos g c =
@@ -53,10 +57,13 @@ returns-clause-demos g c =
     let Driven : Language → Plan → Type 0 = λ m plan. HasDriven target m (terms_with plan c.args.budget) events how in
     let Given : List Candidate → Type 0 = λ net. IsTrue (agrees (lang_of keep) net (standing_on (lang_of keep) events)) in
     let Agreeing : Language → Type 0 = λ m. IsTrue (agrees m target (standing_on m events)) in
-    let Learned : Language → Plan → Type 0 = λ m plan. c.learned_by.result ≡ length (learned_after m (terms_with plan c.args.budget) (standing_on m events)) in
-    demo_done c.args.number c.args.budget l c.in-Ok.ensures.language c.say_made.ensures.lawful lawful (g.K.Sink.written c.args.out.now) events (g.K.Sink.written c.say_made.new.out) (g.K.Sink.written c.sum_up.new.out) c.learned_by.result how c.sum_up.result
-    c.in_ok-say_made.ensures.ok
-    (both_as Learned (lang_of after) l (plan_of after) Quacq (c.drive_quietly-drove.ensures.same.lang ∙ c.in-Ok-new.ensures.lang) (c.drive_quietly-drove.ensures.same.plan ∙ c.in-Ok-new.ensures.plan) (c.learned_by.ensures.is c.args.budget))
+    let Learned : Language → Plan → Type 0 = λ m plan. c.learned_by-learned.result ≡ length (learned_after m (terms_with plan c.args.budget) (standing_on m events)) in
+    let old : Option (List ℕ) = g.K.Sink.written c.args.out.now in
+    let middle : Option (List ℕ) = g.K.Sink.written c.put.new.out in
+    let line = line_put c.args.number l c.made.result c.or_silent.result old middle _ c.or_silent.ensures c.made.ensures.says c.in_ok-put.ensures.writes in
+    demo_done c.args.number c.args.budget l c.in-Ok.ensures.language c.made.ensures.lawful lawful old events middle (g.K.Sink.written c.put-2.new.out) c.learned_by-learned.result how c.put-2.result
+    line.1
+    (both_as Learned (lang_of after) l (plan_of after) Quacq (c.drive_quietly-drove.ensures.same.lang ∙ c.in-Ok-new.ensures.lang) (c.drive_quietly-drove.ensures.same.plan ∙ c.in-Ok-new.ensures.plan) (c.learned_by-learned.ensures.is c.args.budget))
     (both_as Driven (lang_of keep) l (plan_of keep) Quacq c.in-Ok-new.ensures.lang c.in-Ok-new.ensures.plan (subst Own c.in-Ok.ensures.target c.drive_quietly-drove.ensures.driven))
-    c.sum_up.ensures.sums
+    (sums_up c.learned_by-learned.result c.summed.result middle (g.K.Sink.written c.put-2.new.out) c.put-2.result how c.summed.ensures c.put-2.ensures.writes)
     (subst Agreeing c.in-Ok-new.ensures.lang (subst Given c.in-Ok.ensures.target c.drive_quietly-drove.ensures.agreeing))

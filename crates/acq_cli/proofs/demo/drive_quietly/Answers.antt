@@ -37,4 +37,4 @@ returns-clause-driven g c =
     (not_collapsed l terms target (standing_on l after) how (c.drive.ensures.owner target c.requires.target (returns-clause-agreeing g c)))
     (λ is. let rose = c.drive.ensures.faults.write.rose is in omega (arith, rose))
     (λ is. false_is_not_true (c.drive.ensures.keeps.cause is).0)
-    (not_filled l terms target (events_of c.args.keep.now) after how (subst IsLanguage c.lang_of-lang.ensures.is c.n-variables.ensures.lawful) c.requires.fresh (subst Grown c.new-teacher.ensures.network c.drive.ensures.taught.added) c.drive.ensures.ends.full)
+    (not_filled l terms target (events_of c.args.keep.now) after how (subst IsLanguage c.lang_of-lang.ensures.is c.n-variables.ensures.lawful) c.requires.fresh (subst Grown c.new-teacher.ensures.network c.drive.ensures.taught.added) c.drive.ensures.ends.ends.full)

@@ -10,7 +10,7 @@ use Rattle.session_laws.specs.Laws.{network_in}
 use Rattle.session_core.specs.Settled.{IsSettled}
 use Rattle.target_oracle.specs.Turns.{Turns}
 use Rattle.acq_cli.specs.Closings.{closing_of, ending_of}
-use Rattle.acq_cli.specs.Driven.{Point, Drives, Loses, Remembers, StepsTo, TellsFull}
+use Rattle.acq_cli.specs.Driven.{Point, Drives, Loses, Remembers, StepsTo}
 use Rattle.acq_cli.specs.Due.{IsOneMore}
 use Rattle.acq_cli.specs.Loop.{TellsCandidates}
 use Rattle.acq_cli.specs.declared.driving.Drove.{Drove}
@@ -72,59 +72,70 @@ loop-turn-init g c =
       more = omega arith;
     }
 
-pub returns-in-Some-clause-ends : goal.returns-in-Some-clause-ends
-returns-in-Some-clause-ends g c =
-    let l : Language = g.P.Keep.lang c.args.keep.now in
-    let p : Plan = g.P.Keep.plan c.args.keep.now in
-    let turns : Turns = g.T.Teacher.turn c.args.teacher.now in
-    let a : Point = point_of (g.P.Keep.record_of c.args.keep.now) (g.S.Source.left c.args.source.now) (g.K.Sink.written c.args.sink.now) in
-    let b : Point = point_of (g.P.Keep.record_of c.loop-turn.keep) (g.S.Source.left c.loop-turn.source) (g.K.Sink.written c.loop-turn.sink) in
-    let d : Point = point_of (g.P.Keep.record_of c.take_turn.new.keep) (g.S.Source.left c.take_turn.new.source) (g.K.Sink.written c.take_turn.new.sink) in
-    let old : Language = g.P.Keep.lang c.loop-turn.keep in
-    let Turned : Turns → Type 0 = λ t. Drives t old (terms_with (g.P.Keep.plan c.loop-turn.keep) c.args.budget) b d c.in-Some.drove in
-    let Spoken : Language → Plan → Type 0 = λ m q. Drives turns m (terms_with q c.args.budget) b d c.in-Some.drove in
-    let Full : Language → Plan → Type 0 = λ n q. TellsFull n (terms_with q c.args.budget) (g.P.Keep.record_of c.take_turn.new.keep) c.in-Some.drove in
-    let Tells : Language → Plan → Type 0 = λ n q. TellsCandidates n (terms_with q c.args.budget) (standing_on n (g.P.Keep.record_of c.take_turn.new.keep)) c.take_turn.new.screen c.in-Some.drove in
+pub returns-in-Some : goal.returns-in-Some
+returns-in-Some g c =
+    let D = g.D.Disk in
+    let P = g.P.Keep in
+    let T = g.T.Teacher in
+    let one = c.args.keep.now in
+    let two = c.loop-turn.keep in
+    let three = c.take_turn.new.keep in
+    let l : Language = P.lang one in
+    let p : Plan = P.plan one in
+    let old : Language = P.lang two in
+    let still : Plan = P.plan two in
+    let later : List Event = P.record_of three in
+    let turns : Turns = T.turn c.args.teacher.now in
+    let a : Point = point_of (P.record_of one) (g.S.Source.left c.args.source.now) (g.K.Sink.written c.args.sink.now) in
+    let b : Point = point_of (P.record_of two) (g.S.Source.left c.loop-turn.source) (g.K.Sink.written c.loop-turn.sink) in
+    let d : Point = point_of later (g.S.Source.left c.take_turn.new.source) (g.K.Sink.written c.take_turn.new.sink) in
+    let how : Drove = c.in-Some.drove in
+    let before = c.loop-turn.invariant in
+    let turn = c.take_turn.ensures in
+    let ended = c.in-Some.ensures in
+    let Turned : Turns → Type 0 = λ t. Drives t old (terms_with still c.args.budget) b d how in
+    let Spoken : Language → Plan → Type 0 = λ m q. Drives turns m (terms_with q c.args.budget) b d how in
+    let Tells : Language → Plan → Type 0 = λ n q. TellsCandidates n (terms_with q c.args.budget) (standing_on n later) c.take_turn.new.screen how in
+    let Added : Language → Plan → Type 0 = λ m q. IsAdded m q (T.may_say c.loop-turn.teacher m) (P.record_of two) later in
+    let Ends : Option Drove → Type 0 = λ got. IfSome got (λ (x : Drove). MayEnd (T.may_say c.loop-turn.teacher old) (ending_of x)) in
+    let There : Language → Type 0 = λ m. MayEnd (T.may_say c.loop-turn.teacher m) (ending_of how) in
+    let Equipped : Language → Type 0 = λ m. AreMadeFor m c.take_turn.new.places in
+    let Failed : Type 0 = how ≡ drove.DiskFault in
+    let Told : Type 0 = Some how ≡ Some drove.DiskFault in
+    let Lost' : Event → Type 0 = Loses (T.turn c.loop-turn.teacher) old (terms_with still c.args.budget) b d in
+    let Lost : Event → Type 0 = Loses turns l (terms_with p c.args.budget) a d in
+    let drives : Drives turns l (terms_with p c.args.budget) a d how = steps_end turns l (terms_with p c.args.budget) a b d how before.steps (carried Spoken old l still p before.lang before.plan (subst Turned before.turn ended.ends.ends)) in
+    let more = added_more l p (T.may_say c.loop-turn.teacher l) (T.may_say c.args.teacher.now l) (P.record_of two) later (before.no_more l) (carried Added old l still p before.lang before.plan turn.taught.added) in
     record {
-      ends = steps_end turns l (terms_with p c.args.budget) a b d c.in-Some.drove c.loop-turn.invariant.steps
-          (carried Spoken old l (g.P.Keep.plan c.loop-turn.keep) p c.loop-turn.invariant.lang c.loop-turn.invariant.plan (subst Turned c.loop-turn.invariant.turn c.in-Some.ensures.ends.ends));
-      tells = carried Tells old l (g.P.Keep.plan c.loop-turn.keep) p c.loop-turn.invariant.lang c.loop-turn.invariant.plan c.in-Some.ensures.ends.tells;
-      full = carried Full old l (g.P.Keep.plan c.loop-turn.keep) p c.loop-turn.invariant.lang c.loop-turn.invariant.plan c.in-Some.ensures.ends.full;
+      ends = record { ends = drives; tells = carried Tells old l still p before.lang before.plan ended.ends.tells };
+      owner = λ owner lawful agreeing. owned l (terms_with p c.args.budget) (standing_on l later) (closing_of how) owner drives.says.found lawful agreeing;
+      walked = leaves_nothing l p (standing_on l later) (subst IsLanguage (c.lang.ensures.is ∙ c.session.ensures.lang) c.lang.ensures.lawful);
+      same = record { lang = turn.same.lang ∙ before.lang; plan = turn.same.plan ∙ before.plan; sound = turn.same.sound };
+      taught = record {
+        added = added_then l p (T.may_say c.args.teacher.now l) (P.record_of one) (P.record_of two) later before.added more;
+        said = ends_more (T.may_say c.loop-turn.teacher l) (T.may_say c.args.teacher.now l) (before.no_more l) (ending_of how) (subst There before.lang (subst Ends c.in-Some.is turn.taught.said));
+      };
+      keeps =
+          keeps_then D g.met.D.Disk.counts_now g.met.D.Disk.only_now P Failed Lost' Lost one two three c.args.disk.now c.loop-turn.disk c.take_turn.new.disk before.plan
+          (λ e lost.
+          let Taught : Turns → Type 0 = λ t. Loses t old (terms_with still c.args.budget) b d e in
+          let Spoke : Language → Plan → Type 0 = λ m q. Loses turns m (terms_with q c.args.budget) b d e in
+          steps_loses turns l (terms_with p c.args.budget) a b d e before.steps (carried Spoke old l still p before.lang before.plan (subst Taught before.turn lost)))
+          before.keeps
+          (keeps_as D g.met.D.Disk.counts_now g.met.D.Disk.only_now P Told Failed Lost' Lost' two three c.loop-turn.disk c.take_turn.new.disk
+          (λ e. ap (λ (x : Drove). Some x) e) (λ (e : Told). some_same how e) (λ failed e lost. lost) ended.keeps);
+      faults = record {
+        read = record { takes = takes_then _ _ _ before.takes turn.faults.read.takes; called = called_on _ _ _ _ _ _ _ before.called (called_as _ _ _ _ _ _ (λ is. some_read how (sym c.in-Some.is ∙ is)) (λ is. c.in-Some.is ∙ ap (λ (x : Drove). Some x) is) turn.faults.read.called) };
+        write = record { later = omega (arith, turn.faults.write.later, before.later_sink); rose = λ is. rose_later _ _ _ before.later_sink (turn.faults.write.rose (c.in-Some.is ∙ ap (λ (x : Drove). Some x) is)) };
+      };
+      places = subst Equipped before.lang turn.places;
+      teacher = record {
+        turn = turn.teacher.turn ∙ before.turn;
+        fits = λ m fits. turn.teacher.fits m (before.fits_on m fits);
+        fitted = λ m fits. before.fitted m (turn.teacher.fitted m fits);
+        no_more = λ m q told may. before.no_more m q told (turn.teacher.no_more m q told may);
+      };
     }
-
-pub returns-in-Some-clause-owner : goal.returns-in-Some-clause-owner
-returns-in-Some-clause-owner g c owner lawful agreeing =
-    let l : Language = g.P.Keep.lang c.args.keep.now in
-    owned l (terms_with (g.P.Keep.plan c.args.keep.now) c.args.budget) (standing_on l (g.P.Keep.record_of c.take_turn.new.keep)) (closing_of c.in-Some.drove) owner (returns-in-Some-clause-ends g c).ends.says.found lawful agreeing
-
-pub returns-in-Some-clause-places : goal.returns-in-Some-clause-places
-returns-in-Some-clause-places g c = let Equipped : Language → Type 0 = λ m. AreMadeFor m c.take_turn.new.places in subst Equipped c.loop-turn.invariant.lang c.take_turn.ensures.places
-
-pub returns-in-Some-clause-teacher : goal.returns-in-Some-clause-teacher
-returns-in-Some-clause-teacher g c = record {
-  turn = c.take_turn.ensures.teacher.turn ∙ c.loop-turn.invariant.turn;
-  fits = λ m fits. c.take_turn.ensures.teacher.fits m (c.loop-turn.invariant.fits_on m fits);
-  fitted = λ m fits. c.loop-turn.invariant.fitted m (c.take_turn.ensures.teacher.fitted m fits);
-  no_more = λ m q told may. c.loop-turn.invariant.no_more m q told (c.take_turn.ensures.teacher.no_more m q told may);
-}
-
-pub returns-in-Some-clause-faults : goal.returns-in-Some-clause-faults
-returns-in-Some-clause-faults g c = record {
-  read = record { takes = takes_then _ _ _ c.loop-turn.invariant.takes c.take_turn.ensures.faults.read.takes; called = called_on _ _ _ _ _ _ _ c.loop-turn.invariant.called (called_as _ _ _ _ _ _ (λ is. some_read c.in-Some.drove (sym c.in-Some.is ∙ is)) (λ is. c.in-Some.is ∙ ap (λ (d : Drove). Some d) is) c.take_turn.ensures.faults.read.called) };
-  write = record { later = omega (arith, c.take_turn.ensures.faults.write.later, c.loop-turn.invariant.later_sink); rose = λ is. rose_later _ _ _ c.loop-turn.invariant.later_sink (c.take_turn.ensures.faults.write.rose (c.in-Some.is ∙ ap (λ (d : Drove). Some d) is)) };
-}
-
-pub returns-in-Some-clause-same : goal.returns-in-Some-clause-same
-returns-in-Some-clause-same g c = record {
-  lang = c.take_turn.ensures.same.lang ∙ c.loop-turn.invariant.lang;
-  plan = c.take_turn.ensures.same.plan ∙ c.loop-turn.invariant.plan;
-  sound = c.take_turn.ensures.same.sound;
-}
-
-pub returns-in-Some-clause-walked : goal.returns-in-Some-clause-walked
-returns-in-Some-clause-walked g c =
-    let l : Language = g.P.Keep.lang c.args.keep.now in
-    leaves_nothing l (g.P.Keep.plan c.args.keep.now) (standing_on l (g.P.Keep.record_of c.take_turn.new.keep)) (subst IsLanguage (c.lang.ensures.is ∙ c.session.ensures.lang) c.lang.ensures.lawful)
 
 pub loop-turn-preserved : goal.loop-turn-preserved
 loop-turn-preserved g c =
@@ -175,45 +186,6 @@ loop-turn-preserved g c =
           (keeps_as D g.met.D.Disk.counts_now g.met.D.Disk.only_now P Failed ⊥ _ (λ e. ⊥) c.loop-turn.keep c.take_turn.new.keep c.loop-turn.disk c.take_turn.new.disk (λ e. absurd e) (λ e. not_failed (sym c.in_default.is ∙ e)) (λ bad e lost. bad) c.take_turn.ensures.keeps);
       more = omega (arith, one, c.loop-turn.invariant.more);
     }
-
-pub returns-in-Some-clause-taught : goal.returns-in-Some-clause-taught
-returns-in-Some-clause-taught g c =
-    let P = g.P.Keep in
-    let l : Language = P.lang c.args.keep.now in
-    let p : Plan = P.plan c.args.keep.now in
-    let Added : Language → Plan → Type 0 = λ m q. IsAdded m q (g.T.Teacher.may_say c.loop-turn.teacher m) (P.record_of c.loop-turn.keep) (P.record_of c.take_turn.new.keep) in
-    let Ends : Option Drove → Type 0 = λ got. IfSome got (λ (how : Drove). MayEnd (g.T.Teacher.may_say c.loop-turn.teacher (P.lang c.loop-turn.keep)) (ending_of how)) in
-    let There : Language → Type 0 = λ m. MayEnd (g.T.Teacher.may_say c.loop-turn.teacher m) (ending_of c.in-Some.drove) in
-    record {
-      added = added_then l p (g.T.Teacher.may_say c.args.teacher.now l) (P.record_of c.args.keep.now) (P.record_of c.loop-turn.keep) (P.record_of c.take_turn.new.keep) c.loop-turn.invariant.added
-          (added_more l p (g.T.Teacher.may_say c.loop-turn.teacher l) (g.T.Teacher.may_say c.args.teacher.now l) (P.record_of c.loop-turn.keep) (P.record_of c.take_turn.new.keep) (c.loop-turn.invariant.no_more l)
-          (carried Added (P.lang c.loop-turn.keep) l (P.plan c.loop-turn.keep) p c.loop-turn.invariant.lang c.loop-turn.invariant.plan c.take_turn.ensures.taught.added));
-      said = ends_more (g.T.Teacher.may_say c.loop-turn.teacher l) (g.T.Teacher.may_say c.args.teacher.now l) (c.loop-turn.invariant.no_more l) (ending_of c.in-Some.drove) (subst There c.loop-turn.invariant.lang (subst Ends c.in-Some.is c.take_turn.ensures.taught.said));
-    }
-
-pub returns-in-Some-clause-keeps : goal.returns-in-Some-clause-keeps
-returns-in-Some-clause-keeps g c =
-    let D = g.D.Disk in let P = g.P.Keep in
-    let l : Language = P.lang c.args.keep.now in
-    let p : Plan = P.plan c.args.keep.now in
-    let turns : Turns = g.T.Teacher.turn c.args.teacher.now in
-    let a : Point = point_of (P.record_of c.args.keep.now) (g.S.Source.left c.args.source.now) (g.K.Sink.written c.args.sink.now) in
-    let b : Point = point_of (P.record_of c.loop-turn.keep) (g.S.Source.left c.loop-turn.source) (g.K.Sink.written c.loop-turn.sink) in
-    let d : Point = point_of (P.record_of c.take_turn.new.keep) (g.S.Source.left c.take_turn.new.source) (g.K.Sink.written c.take_turn.new.sink) in
-    let old : Language = P.lang c.loop-turn.keep in
-    let Failed : Type 0 = c.in-Some.drove ≡ drove.DiskFault in
-    let Told : Type 0 = Some c.in-Some.drove ≡ Some drove.DiskFault in
-    let Turned : Event → Type 0 = Loses (g.T.Teacher.turn c.loop-turn.teacher) old (terms_with (P.plan c.loop-turn.keep) c.args.budget) b d in
-    let Lost : Event → Type 0 = Loses turns l (terms_with p c.args.budget) a d in
-    keeps_then D g.met.D.Disk.counts_now g.met.D.Disk.only_now P Failed Turned Lost c.args.keep.now c.loop-turn.keep c.take_turn.new.keep c.args.disk.now c.loop-turn.disk c.take_turn.new.disk c.loop-turn.invariant.plan
-    (λ e lost.
-    let Taught : Turns → Type 0 = λ t. Loses t old (terms_with (P.plan c.loop-turn.keep) c.args.budget) b d e in
-    let Spoken : Language → Plan → Type 0 = λ m q. Loses turns m (terms_with q c.args.budget) b d e in
-    steps_loses turns l (terms_with p c.args.budget) a b d e c.loop-turn.invariant.steps
-    (carried Spoken old l (P.plan c.loop-turn.keep) p c.loop-turn.invariant.lang c.loop-turn.invariant.plan (subst Taught c.loop-turn.invariant.turn lost)))
-    c.loop-turn.invariant.keeps
-    (keeps_as D g.met.D.Disk.counts_now g.met.D.Disk.only_now P Told Failed Turned Turned c.loop-turn.keep c.take_turn.new.keep c.loop-turn.disk c.take_turn.new.disk
-    (λ e. ap (λ (d : Drove). Some d) e) (λ (e : Told). some_same c.in-Some.drove e) (λ failed e lost. lost) c.in-Some.ensures.keeps)
 
 pub take_turn-requires-clause-keeper : goal.take_turn-requires-clause-keeper
 take_turn-requires-clause-keeper g c lives within = record {

@@ -1,292 +1,276 @@
-use Rattle.std.proofs.Common.{Some, ◌≡◌, ◌∙◌, ℕ, List, length, ap, sym, subst, refl, Option, None, ◌+◌}
+use Rattle.std.proofs.Common.{◌≡◌, ◌∙◌, ◌+◌, ◌<◌, ℕ, true, false, arith, List, length, is_some, ap, sym, subst, refl, Option, Some, None}
+use Rattle.acq_io.proofs.CallLemmas.{called_as, called_not}
+use Rattle.assign.specs.Assignment.{Assignment}
 use Rattle.assign.specs.declared.events.Event.{Event}
 use Rattle.assign.specs.declared.events.Plan.{Plan}
-use Rattle.std.specs.Prelude.{IfSome}
 use Rattle.language.specs.Language.{Language}
 use Rattle.language.specs.Answers.{standing_on}
+use Rattle.session_core.specs.Settled.{IsSettled}
+use Rattle.session_core.specs.Standing.{knowledge_of}
+use Rattle.session_store.proofs.Keepers.{both_as, keeps_as, keeps_still, keeps_then}
 use Rattle.target_oracle.specs.Turns.{Turns}
 use Rattle.acq_cli.specs.declared.terms.Terms.{Terms}
-use Rattle.acq_cli.specs.Run.{Converged, Collapsed, Undecided, JournalFull, Puts, next_after}
-use Rattle.query_gen.specs.Marks.{IsMadeFor}
-use Rattle.acq_cli.specs.Added.{MayEnd}
-use Rattle.acq_cli.specs.Closings.{ending_of}
-use Rattle.acq_cli.specs.declared.driving.Drove.{Drove}
-use Rattle.acq_cli.specs.Driven.{IsDone, IsCollapsed, IsLeftOpen, Loses, RanTo, Remembers, TellsFull, TellsOpen}
-use Rattle.acq_cli.specs.Loop.{EndsAs, HasTurned, IsStillReady}
-use Rattle.acq_cli.specs.declared.driving.Drove.TheVariants as drove
-use Rattle.acq_cli.specs.Due.{IsDue}
+use Rattle.acq_cli.specs.Driven.{Loses, MayFollow}
+use Rattle.acq_cli.specs.Due.{EventKept}
+use Rattle.acq_cli.specs.Heard.{heard_of, event_on}
+use Rattle.acq_cli.specs.Loop.{EndsAs, is_unasked}
 use Rattle.acq_cli.specs.Points.{point_of, terms_with}
-use Rattle.session_store.proofs.Keepers.{keeps_still, keeps_then}
-use Rattle.acq_cli.proofs.Running.{next_ends, next_full}
-use Rattle.acq_cli.proofs.Standings.{carried, room_unless}
-use Rattle.acq_cli.proofs.Nexts.{put_due, put_is}
-use Rattle.acq_cli.proofs.Added.{added_as, taught_none}
-use Rattle.acq_cli.proofs.Answered.{loses_as, ends_closed, not_full_ended}
+use Rattle.acq_cli.specs.Run.{JournalFull}
+use Rattle.acq_cli.specs.declared.driving.Drove.{Drove}
+use Rattle.acq_cli.specs.declared.driving.Drove.TheVariants as drove
+use Rattle.acq_cli.specs.declared.driving.Entry.{Entry}
+use Rattle.acq_cli.specs.declared.driving.Heard.TheVariants as heard
+use Rattle.acq_cli.proofs.Added.{adds, taught_kept, taught_none}
+use Rattle.acq_cli.proofs.Answered.{ends, ends_closed, kept_on, loses, turned, unasked_may}
+use Rattle.acq_cli.proofs.Hearing.{entry_gives, hold_after, kept_calm, may_keep, reply_of, word_asked, word_ends, word_follows, word_may_add, word_may_end, word_not_disk, word_told}
+use Rattle.acq_cli.proofs.Running.{next_full}
+use Rattle.acq_cli.proofs.Standings.{AtQuestion, asks, carried, room_unless, run_laws}
+use Rattle.acq_cli.proofs.Taking.{takes_same}
 use Rattle.acq_cli.proofs.Turning.{ran_end}
 use Rattle.acq_cli.proofs.driving.take_turn.Goals as goal
 
--- what holds of a language, a plan and events holds of the same ones
-same_there : (P : Language → Plan → List Event → Type 0) (l m : Language) (p q : Plan) (xs ys : List Event) → l ≡ m → p ≡ q → xs ≡ ys → P l p xs → P m q ys
-same_there P l m p q xs ys e f same h =
-    let Spoken : Language → Plan → Type 0 = λ x y. P x y xs in
-    let Kept : List Event → Type 0 = λ zs. P m q zs in
-    subst Kept same (carried Spoken l m p q e f h)
+-- an ending without a question is no fault
+no_fault : (how fault : Drove) → is_unasked how ≡ true → is_unasked fault ≡ false → Some how ≡ Some fault → ⊥
+no_fault how fault unasked asked is = let same : how ≡ fault = cc in let bad : true ≡ false = sym unasked ∙ ap is_unasked same ∙ asked in let no : ⊥ = cc in no
 
-pub returns-in-Converged-clause-ends : goal.returns-in-Converged-clause-ends
-returns-in-Converged-clause-ends g c =
+some_end : (a b : Drove) → heard.End a ≡ heard.End b → Some a ≡ Some b
+some_end a b e = let same : a ≡ b = cc in ap (λ d. Some d) same
+
+end_heard : (a b : Drove) → Some a ≡ Some b → heard.End a ≡ heard.End b
+end_heard a b e = let same : a ≡ b = cc in ap heard.End same
+
+-- ---- no question comes
+
+pub returns-in-Some : goal.returns-in-Some
+returns-in-Some g c =
     let P = g.P.Keep in
-    let l : Language = P.lang c.args.keep.now in
-    let terms : Terms = terms_with (P.plan c.args.keep.now) c.args.budget in
-    let events : List Event = P.record_of c.args.keep.now in
-    let after : List Event = P.record_of c.put_next.new.keep in
-    let same : after ≡ events = c.put_next.ensures.keeper.events in
+    let D = g.D.Disk in
+    let one = c.args.keep.now in
+    let two = c.put_next.new.keep in
+    let only = c.put_next.ensures.keeper in
+    let l : Language = P.lang one in
+    let terms : Terms = terms_with (P.plan one) c.args.budget in
     let turns : Turns = g.T.Teacher.turn c.args.teacher.now in
     let left : Option (List ℕ) = g.S.Source.left c.args.source.now in
     let written : Option (List ℕ) = g.K.Sink.written c.args.sink.now in
-    let Found : List Event → Type 0 = λ es. IsDone l terms (standing_on l es) in
-    let Ran : List Event → Type 0 = λ es. RanTo turns l terms Converged (point_of events left written) (point_of es left written) in
-    let Full : List Event → Type 0 = λ es. TellsFull l terms es (drove.Converged c.answers.result) in
-    ends_closed turns l terms (point_of events left written) (point_of after left written) c.put_next.new.screen c.put_next.ensures.screen (drove.Converged c.answers.result) (λ m e. cc) (subst Full (sym same) (not_full_ended l terms events (drove.Converged c.answers.result) Converged (λ e. cc) c.in-Converged.ensures.put.ends)) (λ e. cc) (λ e. cc)
-    (record {
-      number = c.answers.ensures ∙ c.session.ensures.stands.knows.count ∙ ap (λ m. length (standing_on m after)) c.put_next.ensures.keeper.lang;
-      found = subst Found (sym same) c.in-Converged.ensures.put;
-    })
-    (subst Ran (sym same) (ran_end turns l terms Converged (point_of events left written) (next_ends l terms events Converged c.in-Converged.ensures.put.ends)))
-
-pub returns-in-Collapsed-clause-ends : goal.returns-in-Collapsed-clause-ends
-returns-in-Collapsed-clause-ends g c =
-    let P = g.P.Keep in
-    let l : Language = P.lang c.args.keep.now in
-    let terms : Terms = terms_with (P.plan c.args.keep.now) c.args.budget in
-    let events : List Event = P.record_of c.args.keep.now in
-    let after : List Event = P.record_of c.put_next.new.keep in
-    let same : after ≡ events = c.put_next.ensures.keeper.events in
-    let turns : Turns = g.T.Teacher.turn c.args.teacher.now in
-    let left : Option (List ℕ) = g.S.Source.left c.args.source.now in
-    let written : Option (List ℕ) = g.K.Sink.written c.args.sink.now in
-    let Found : List Event → Type 0 = λ es. IsCollapsed l terms (standing_on l es) in
-    let Ran : List Event → Type 0 = λ es. RanTo turns l terms Collapsed (point_of events left written) (point_of es left written) in
-    let Full : List Event → Type 0 = λ es. TellsFull l terms es (drove.Collapsed c.answers-in-Collapsed.result) in
-    ends_closed turns l terms (point_of events left written) (point_of after left written) c.put_next.new.screen c.put_next.ensures.screen (drove.Collapsed c.answers-in-Collapsed.result) (λ m e. cc)
-    (subst Full (sym same) (not_full_ended l terms events (drove.Collapsed c.answers-in-Collapsed.result) Collapsed (λ e. cc) c.in-Collapsed.ensures.put.1)) (λ e. cc) (λ e. cc)
-    (record {
-      number = c.answers-in-Collapsed.ensures ∙ c.session-in-Collapsed.ensures.stands.knows.count ∙ ap (λ m. length (standing_on m after)) c.put_next.ensures.keeper.lang;
-      found = subst Found (sym same) c.in-Collapsed.ensures.put.0;
-    })
-    (subst Ran (sym same) (ran_end turns l terms Collapsed (point_of events left written) (next_ends l terms events Collapsed c.in-Collapsed.ensures.put.1)))
-
-pub returns-in-Undecided-clause-ends : goal.returns-in-Undecided-clause-ends
-returns-in-Undecided-clause-ends g c =
-    let P = g.P.Keep in
-    let l : Language = P.lang c.args.keep.now in
-    let terms : Terms = terms_with (P.plan c.args.keep.now) c.args.budget in
-    let events : List Event = P.record_of c.args.keep.now in
-    let after : List Event = P.record_of c.put_next.new.keep in
-    let same : after ≡ events = c.put_next.ensures.keeper.events in
-    let turns : Turns = g.T.Teacher.turn c.args.teacher.now in
-    let left : Option (List ℕ) = g.S.Source.left c.args.source.now in
-    let written : Option (List ℕ) = g.K.Sink.written c.args.sink.now in
-    let Found : List Event → Type 0 = λ es. IsLeftOpen l terms (standing_on l es) in
-    let Ran : List Event → Type 0 = λ es. RanTo turns l terms Undecided (point_of events left written) (point_of es left written) in
-    let Open : List Event → Type 0 = λ es. TellsOpen l terms (standing_on l es) c.put_next.new.screen in
-    let Full : List Event → Type 0 = λ es. TellsFull l terms es (drove.Undecided c.answers-in-Undecided.result) in
+    let how : Drove = c.in-Some.end in
+    let unasked = c.in-Some.ensures.ends in
+    let Ends : List Event → Type 0 = λ es. EndsAs turns l terms (point_of (P.record_of one) left written) (point_of es left written) c.put_next.new.screen how in
     record {
-      ends = record {
-        says = record {
-          number = c.answers-in-Undecided.ensures ∙ c.session-in-Undecided.ensures.stands.knows.count ∙ ap (λ m. length (standing_on m after)) c.put_next.ensures.keeper.lang;
-          found = subst Found (sym same) c.in-Undecided.ensures.put;
-        };
-        closed = subst Ran (sym same) (ran_end turns l terms Undecided (point_of events left written) (next_ends l terms events Undecided c.in-Undecided.ensures.put.ends));
-        broken = λ none. absurd (let no : ⊥ = cc in no);
-        unkept = λ failed. absurd (let no : ⊥ = cc in no);
+      again = λ none. absurd (let no : ⊥ = cc in no);
+      ready = λ none. absurd (let no : ⊥ = cc in no);
+      ends = subst Ends (sym only.events) (unasked.ends turns left written);
+      teacher = record { turn = refl; fits = λ m fits. fits; fitted = λ m fits. fits; no_more = λ m q told may. may };
+      same = record { lang = only.lang; plan = only.plan; sound = only.sound };
+      taught = taught_none l (P.plan one) (g.T.Teacher.may_say c.args.teacher.now l) (P.record_of one) (P.record_of two) only.events (unasked_may (g.T.Teacher.may_say c.args.teacher.now l) how unasked.unasked);
+      keeps =
+          keeps_still D g.met.D.Disk.counts_now g.met.D.Disk.only_now P _ _ one two c.args.disk.now (no_fault how drove.DiskFault unasked.unasked refl) only.plan only.voc only.events only.writes only.live c.requires.keeper.live (only.sits c.args.disk.now c.requires.keeper.sits)
+          (λ w bytes told f gone. g.met.P.Keep.lasts one c.args.disk.now w c.requires.keeper.live c.requires.keeper.sits bytes told f gone);
+      faults = record {
+        read = record { takes = takes_same left; called = called_not _ _ _ (no_fault how drove.ReadFault unasked.unasked refl) };
+        write = record { later = omega arith; rose = λ so. absurd (no_fault how drove.WriteFault unasked.unasked refl so) };
       };
-      tells = record { made = c.put_next.ensures.screen; undecided = λ m is. subst Open (sym same) (c.in-Undecided.ensures.open refl) };
-      full = subst Full (sym same) (not_full_ended l terms events (drove.Undecided c.answers-in-Undecided.result) Undecided (λ e. cc) c.in-Undecided.ensures.put.ends);
+      places = c.put_next.ensures.places;
     }
 
-pub returns-then-is_full-clause-ends : goal.returns-then-is_full-clause-ends
-returns-then-is_full-clause-ends g c =
-    let P = g.P.Keep in
-    let two = c.put_next.new.keep in
-    let l : Language = P.lang c.args.keep.now in
-    let terms : Terms = terms_with (P.plan c.args.keep.now) c.args.budget in
-    let events : List Event = P.record_of c.args.keep.now in
-    let after : List Event = P.record_of two in
-    let same : after ≡ events = c.put_next.ensures.keeper.events in
-    let turns : Turns = g.T.Teacher.turn c.args.teacher.now in
-    let left : Option (List ℕ) = g.S.Source.left c.args.source.now in
-    let written : Option (List ℕ) = g.K.Sink.written c.args.sink.now in
-    let due = put_due l terms (standing_on l events) (P.question two) c.put_next.result c.in-Open.question c.put_next.ensures.put c.in-Open.is in
-    let full : length after + 1 ≡ 1000000 = c.is_full.ensures.0 c.if-is_full.true in
-    let Puts' : List Event → Type 0 = λ es. next_after l terms (standing_on l es) ≡ Some (Puts c.in-Open.question) in
-    let Ran : List Event → Type 0 = λ es. RanTo turns l terms JournalFull (point_of events left written) (point_of es left written) in
-    ends_closed turns l terms (point_of events left written) (point_of after left written) c.put_next.new.screen c.put_next.ensures.screen drove.JournalFull (λ m e. cc)
-    (λ is. record { question = c.in-Open.question; puts = subst Puts' (sym same) due.puts; full = full }, λ f. refl) (λ e. cc) (λ e. cc)
-    (record { number = tt; found = tt })
-    (subst Ran (sym same) (ran_end turns l terms JournalFull (point_of events left written) (next_full l terms events c.in-Open.question due.puts (ap (λ (es : List Event). length es + 1) (sym same) ∙ full))))
+-- ---- one comes, and there is no record for it
 
-pub returns-then-is_full-clause-taught : goal.returns-then-is_full-clause-taught
-returns-then-is_full-clause-taught g c =
-    taught_none (g.P.Keep.lang c.args.keep.now) (g.P.Keep.plan c.args.keep.now) (g.T.Teacher.may_say c.args.teacher.now (g.P.Keep.lang c.args.keep.now)) (g.P.Keep.record_of c.args.keep.now) (g.P.Keep.record_of c.put_next.new.keep) c.put_next.ensures.keeper.events tt
-
-pub returns-else-is_full-clause-ready : goal.returns-else-is_full-clause-ready
-returns-else-is_full-clause-ready g c none =
+pub returns-then-is_full : goal.returns-then-is_full
+returns-then-is_full g c =
     let P = g.P.Keep in
-    let two = c.put_next.new.keep in
-    let three = c.hear_answer.new.keep in
-    let l : Language = P.lang c.args.keep.now in
-    let terms : Terms = terms_with (P.plan c.args.keep.now) c.args.budget in
-    let t = standing_on l (P.record_of c.args.keep.now) in
-    let due = put_due l terms t (P.question two) c.put_next.result c.in-Open.question c.put_next.ensures.put c.in-Open.is in
-    let Still : Language → Plan → List Event → Type 0 = λ m q es.
-    (budget : ℕ) → Remembers m (terms_with q budget) (standing_on m es) c.put_next.new.screen → c.hear_answer.result ≡ None →
-    IsStillReady m (terms_with q budget) (standing_on m (P.record_of three)) (P.question three) c.hear_answer.new.screen in
-    let still : IsStillReady l terms (standing_on l (P.record_of three)) (P.question three) c.hear_answer.new.screen =
-    same_there Still (P.lang two) l (P.plan two) (P.plan c.args.keep.now) (P.record_of two) (P.record_of c.args.keep.now) c.put_next.ensures.keeper.lang c.put_next.ensures.keeper.plan c.put_next.ensures.keeper.events c.hear_answer.ensures.ready
-    c.args.budget c.put_next.ensures.remembers none in
-    record {
-      settled = still.settled;
-      equipped = c.put_next.ensures.places;
-      made = still.made;
-      hold = still.hold;
-      affordable = c.requires.ready.affordable;
-    }
-
-pub returns-else-is_full-clause-ends : goal.returns-else-is_full-clause-ends
-returns-else-is_full-clause-ends g c =
-    let P = g.P.Keep in
+    let D = g.D.Disk in
     let one = c.args.keep.now in
     let two = c.put_next.new.keep in
-    let l : Language = P.lang one in
-    let turns : Turns = g.T.Teacher.turn c.args.teacher.now in
-    let left : Option (List ℕ) = g.S.Source.left c.args.source.now in
-    let written : Option (List ℕ) = g.K.Sink.written c.args.sink.now in
-    let left' : Option (List ℕ) = g.S.Source.left c.hear_answer.new.source in
-    let written' : Option (List ℕ) = g.K.Sink.written c.hear_answer.new.sink in
-    let due = put_due l (terms_with (P.plan one) c.args.budget) (standing_on l (P.record_of one)) (P.question two) c.put_next.result c.in-Open.question c.put_next.ensures.put c.in-Open.is in
-    let Ended : Language → Plan → List Event → Type 0 = λ m q es.
-    (budget : ℕ) → IsDue m (terms_with q budget) (standing_on m es) c.in-Open.question →
-    IfSome c.hear_answer.result (EndsAs turns m (terms_with q budget) (point_of es left written) (point_of (P.record_of c.hear_answer.new.keep) left' written') c.hear_answer.new.screen) in
-    same_there Ended (P.lang two) l (P.plan two) (P.plan one) (P.record_of two) (P.record_of one) c.put_next.ensures.keeper.lang c.put_next.ensures.keeper.plan c.put_next.ensures.keeper.events c.hear_answer.ensures.ends
-    c.args.budget due
-
-pub returns-else-is_full-clause-again : goal.returns-else-is_full-clause-again
-returns-else-is_full-clause-again g c =
-    let P = g.P.Keep in
-    let one = c.args.keep.now in
-    let two = c.put_next.new.keep in
-    let l : Language = P.lang one in
-    let turns : Turns = g.T.Teacher.turn c.args.teacher.now in
-    let left : Option (List ℕ) = g.S.Source.left c.args.source.now in
-    let written : Option (List ℕ) = g.K.Sink.written c.args.sink.now in
-    let left' : Option (List ℕ) = g.S.Source.left c.hear_answer.new.source in
-    let written' : Option (List ℕ) = g.K.Sink.written c.hear_answer.new.sink in
-    let due = put_due l (terms_with (P.plan one) c.args.budget) (standing_on l (P.record_of one)) (P.question two) c.put_next.result c.in-Open.question c.put_next.ensures.put c.in-Open.is in
-    let Turned : Language → Plan → List Event → Type 0 = λ m q es.
-    (budget : ℕ) → IsDue m (terms_with q budget) (standing_on m es) c.in-Open.question → c.hear_answer.result ≡ None →
-    HasTurned turns m (terms_with q budget) (point_of es left written) (point_of (P.record_of c.hear_answer.new.keep) left' written') in
-    same_there Turned (P.lang two) l (P.plan two) (P.plan one) (P.record_of two) (P.record_of one) c.put_next.ensures.keeper.lang c.put_next.ensures.keeper.plan c.put_next.ensures.keeper.events c.hear_answer.ensures.again
-    c.args.budget due
-
-pub returns-in-Converged-clause-taught : goal.returns-in-Converged-clause-taught
-returns-in-Converged-clause-taught g c =
-    taught_none (g.P.Keep.lang c.args.keep.now) (g.P.Keep.plan c.args.keep.now) (g.T.Teacher.may_say c.args.teacher.now (g.P.Keep.lang c.args.keep.now)) (g.P.Keep.record_of c.args.keep.now) (g.P.Keep.record_of c.put_next.new.keep) c.put_next.ensures.keeper.events tt
-
-pub returns-in-Collapsed-clause-taught : goal.returns-in-Collapsed-clause-taught
-returns-in-Collapsed-clause-taught g c =
-    taught_none (g.P.Keep.lang c.args.keep.now) (g.P.Keep.plan c.args.keep.now) (g.T.Teacher.may_say c.args.teacher.now (g.P.Keep.lang c.args.keep.now)) (g.P.Keep.record_of c.args.keep.now) (g.P.Keep.record_of c.put_next.new.keep) c.put_next.ensures.keeper.events tt
-
-pub returns-in-Undecided-clause-taught : goal.returns-in-Undecided-clause-taught
-returns-in-Undecided-clause-taught g c =
-    taught_none (g.P.Keep.lang c.args.keep.now) (g.P.Keep.plan c.args.keep.now) (g.T.Teacher.may_say c.args.teacher.now (g.P.Keep.lang c.args.keep.now)) (g.P.Keep.record_of c.args.keep.now) (g.P.Keep.record_of c.put_next.new.keep) c.put_next.ensures.keeper.events tt
-
-pub returns-else-is_full-clause-taught : goal.returns-else-is_full-clause-taught
-returns-else-is_full-clause-taught g c =
-    let P = g.P.Keep in
-    let one = c.args.keep.now in
-    let two = c.put_next.new.keep in
-    let Ends : Language → Type 0 = λ m. IfSome c.hear_answer.result (λ (how : Drove). MayEnd (g.T.Teacher.may_say c.args.teacher.now m) (ending_of how)) in
-    record {
-      added = added_as (P.lang one) (P.lang two) (P.plan one) (P.plan two) (g.T.Teacher.may_say c.args.teacher.now) (P.record_of one) (P.record_of two) (P.record_of c.hear_answer.new.keep) c.put_next.ensures.keeper.lang c.put_next.ensures.keeper.plan c.put_next.ensures.keeper.events c.hear_answer.ensures.taught.added;
-      said = subst Ends c.put_next.ensures.keeper.lang c.hear_answer.ensures.taught.said;
-    }
-
-pub returns-then-is_full-clause-keeps : goal.returns-then-is_full-clause-keeps
-returns-then-is_full-clause-keeps g c =
-    let D = g.D.Disk in let P = g.P.Keep in
-    keeps_still D g.met.D.Disk.counts_now g.met.D.Disk.only_now P _ _ c.args.keep.now c.put_next.new.keep c.args.disk.now (λ (e : _). cc) c.put_next.ensures.keeper.plan c.put_next.ensures.keeper.voc c.put_next.ensures.keeper.events c.put_next.ensures.keeper.writes c.put_next.ensures.keeper.live
-    c.requires.keeper.live (c.put_next.ensures.keeper.sits c.args.disk.now c.requires.keeper.sits)
-    (λ w bytes told f left. g.met.P.Keep.lasts c.args.keep.now c.args.disk.now w c.requires.keeper.live c.requires.keeper.sits bytes told f left)
-
-pub returns-in-Converged-clause-keeps : goal.returns-in-Converged-clause-keeps
-returns-in-Converged-clause-keeps g c =
-    let D = g.D.Disk in let P = g.P.Keep in
-    keeps_still D g.met.D.Disk.counts_now g.met.D.Disk.only_now P _ _ c.args.keep.now c.put_next.new.keep c.args.disk.now (λ (e : _). cc) c.put_next.ensures.keeper.plan c.put_next.ensures.keeper.voc c.put_next.ensures.keeper.events c.put_next.ensures.keeper.writes c.put_next.ensures.keeper.live
-    c.requires.keeper.live (c.put_next.ensures.keeper.sits c.args.disk.now c.requires.keeper.sits)
-    (λ w bytes told f left. g.met.P.Keep.lasts c.args.keep.now c.args.disk.now w c.requires.keeper.live c.requires.keeper.sits bytes told f left)
-
-pub returns-in-Collapsed-clause-keeps : goal.returns-in-Collapsed-clause-keeps
-returns-in-Collapsed-clause-keeps g c =
-    let D = g.D.Disk in let P = g.P.Keep in
-    keeps_still D g.met.D.Disk.counts_now g.met.D.Disk.only_now P _ _ c.args.keep.now c.put_next.new.keep c.args.disk.now (λ (e : _). cc) c.put_next.ensures.keeper.plan c.put_next.ensures.keeper.voc c.put_next.ensures.keeper.events c.put_next.ensures.keeper.writes c.put_next.ensures.keeper.live
-    c.requires.keeper.live (c.put_next.ensures.keeper.sits c.args.disk.now c.requires.keeper.sits)
-    (λ w bytes told f left. g.met.P.Keep.lasts c.args.keep.now c.args.disk.now w c.requires.keeper.live c.requires.keeper.sits bytes told f left)
-
-pub returns-in-Undecided-clause-keeps : goal.returns-in-Undecided-clause-keeps
-returns-in-Undecided-clause-keeps g c =
-    let D = g.D.Disk in let P = g.P.Keep in
-    keeps_still D g.met.D.Disk.counts_now g.met.D.Disk.only_now P _ _ c.args.keep.now c.put_next.new.keep c.args.disk.now (λ (e : _). cc) c.put_next.ensures.keeper.plan c.put_next.ensures.keeper.voc c.put_next.ensures.keeper.events c.put_next.ensures.keeper.writes c.put_next.ensures.keeper.live
-    c.requires.keeper.live (c.put_next.ensures.keeper.sits c.args.disk.now c.requires.keeper.sits)
-    (λ w bytes told f left. g.met.P.Keep.lasts c.args.keep.now c.args.disk.now w c.requires.keeper.live c.requires.keeper.sits bytes told f left)
-
-pub returns-else-is_full-clause-keeps : goal.returns-else-is_full-clause-keeps
-returns-else-is_full-clause-keeps g c =
-    let D = g.D.Disk in let P = g.P.Keep in
-    let one = c.args.keep.now in
-    let two = c.put_next.new.keep in
-    let three = c.hear_answer.new.keep in
+    let only = c.put_next.ensures.keeper in
     let l : Language = P.lang one in
     let terms : Terms = terms_with (P.plan one) c.args.budget in
-    let t = standing_on l (P.record_of one) in
+    let events : List Event = P.record_of one in
     let turns : Turns = g.T.Teacher.turn c.args.teacher.now in
     let left : Option (List ℕ) = g.S.Source.left c.args.source.now in
     let written : Option (List ℕ) = g.K.Sink.written c.args.sink.now in
-    let left' : Option (List ℕ) = g.S.Source.left c.hear_answer.new.source in
-    let written' : Option (List ℕ) = g.K.Sink.written c.hear_answer.new.sink in
-    let due = put_due l terms t (P.question two) c.put_next.result c.in-Open.question c.put_next.ensures.put c.in-Open.is in
-    let Lost : Event → Type 0 = Loses turns l terms (point_of (P.record_of one) left written) (point_of (P.record_of three) left' written') in
-    keeps_then D g.met.D.Disk.counts_now g.met.D.Disk.only_now P _ _ Lost one two three c.args.disk.now c.args.disk.now c.hear_answer.new.disk c.put_next.ensures.keeper.plan
-    (λ e lost.
-    loses_as turns l (P.lang two) (P.plan one) (P.plan two) c.args.budget (P.record_of one) (P.record_of two) (P.record_of three) left written left' written' c.in-Open.question e
-    c.put_next.ensures.keeper.lang c.put_next.ensures.keeper.plan c.put_next.ensures.keeper.events lost due)
-    (keeps_still D g.met.D.Disk.counts_now g.met.D.Disk.only_now P ⊥ (λ e. ⊥) one two c.args.disk.now (λ e. e) c.put_next.ensures.keeper.plan c.put_next.ensures.keeper.voc c.put_next.ensures.keeper.events c.put_next.ensures.keeper.writes c.put_next.ensures.keeper.live
-    c.requires.keeper.live (c.put_next.ensures.keeper.sits c.args.disk.now c.requires.keeper.sits)
-    (λ w bytes told f left. g.met.P.Keep.lasts one c.args.disk.now w c.requires.keeper.live c.requires.keeper.sits bytes told f left))
-    c.hear_answer.ensures.keeps
+    let due = c.put_next.ensures.put c.in_default.is in
+    let a = point_of events left written in
+    let full : length events + 1 ≡ 1000000 = ap (λ (es : List Event). length es + 1) (sym only.events) ∙ c.is_full.ensures.0 c.if-is_full.true in
+    let Ends : List Event → Type 0 = λ es. EndsAs turns l terms a (point_of es left written) c.put_next.new.screen drove.JournalFull in
+    record {
+      again = λ none. absurd (let no : ⊥ = cc in no);
+      ready = λ none. absurd (let no : ⊥ = cc in no);
+      ends = subst Ends (sym only.events) (ends_closed turns l terms a a c.put_next.new.screen c.put_next.ensures.screen drove.JournalFull (λ m e. cc)
+          (λ is. record { question = due.question; puts = due.puts; full = full }, λ f. refl) (λ e. cc) (λ e. cc) (record { number = tt; found = (due.question, due.puts) })
+          (ran_end turns l terms JournalFull a (next_full l terms events due.question due.puts full)));
+      teacher = record { turn = refl; fits = λ m fits. fits; fitted = λ m fits. fits; no_more = λ m q told may. may };
+      same = record { lang = only.lang; plan = only.plan; sound = only.sound };
+      taught = taught_none l (P.plan one) (g.T.Teacher.may_say c.args.teacher.now l) events (P.record_of two) only.events tt;
+      keeps =
+          keeps_still D g.met.D.Disk.counts_now g.met.D.Disk.only_now P _ _ one two c.args.disk.now (λ (e : _). cc) only.plan only.voc only.events only.writes only.live c.requires.keeper.live (only.sits c.args.disk.now c.requires.keeper.sits)
+          (λ w bytes told f gone. g.met.P.Keep.lasts one c.args.disk.now w c.requires.keeper.live c.requires.keeper.sits bytes told f gone);
+      faults = record {
+        read = record { takes = takes_same left; called = called_not _ _ _ (λ so. cc) };
+        write = record { later = omega arith; rose = λ so. absurd (let no : ⊥ = cc in no) };
+      };
+      places = c.put_next.ensures.places;
+    }
 
-pub hear_answer-requires-clause-keeper : goal.hear_answer-requires-clause-keeper
-hear_answer-requires-clause-keeper g c = record {
-  sound = c.put_next.ensures.keeper.sound;
-  live = c.put_next.ensures.keeper.live ∙ c.requires.keeper.live;
-  sits = c.put_next.ensures.keeper.sits c.args.disk.now c.requires.keeper.sits;
-}
+-- ---- it is asked
 
-pub hear_answer-requires-clause-made : goal.hear_answer-requires-clause-made
-hear_answer-requires-clause-made g c = let Made : Language → Type 0 = λ m. IsMadeFor m c.put_next.new.screen in subst Made (sym c.put_next.ensures.keeper.lang) c.put_next.ensures.screen
+pub hear-requires : goal.hear-requires
+hear-requires g c =
+    let Fits : Language → Type 0 = λ m. g.T.Teacher.fits c.args.teacher.now m in
+    record {
+      fits = subst Fits (sym (c.session.ensures.lang ∙ c.put_next.ensures.keeper.lang)) c.requires.fits;
+      «open» = ap is_some (c.session.ensures.question ∙ (c.put_next.ensures.put c.in_default.is).is);
+      stands = (_, c.session.ensures.stands);
+    }
 
-pub hear_answer-requires-clause-put : goal.hear_answer-requires-clause-put
-hear_answer-requires-clause-put g c =
+pub keep_event-requires : goal.keep_event-requires
+keep_event-requires g c =
     let P = g.P.Keep in
+    let D = g.D.Disk in
     let one = c.args.keep.now in
     let two = c.put_next.new.keep in
+    let only = c.put_next.ensures.keeper in
     let l : Language = P.lang one in
-    let terms : Terms = terms_with (P.plan one) c.args.budget in
-    let t = standing_on l (P.record_of one) in
-    let Due : Language → Plan → List Event → Type 0 = λ m q es. IsDue m (terms_with q c.args.budget) (standing_on m es) c.in-Open.question in
+    let plan : Plan = P.plan one in
+    let terms : Terms = terms_with plan c.args.budget in
+    let events : List Event = P.record_of one in
+    let s = c.session.result.now in
+    let k = knowledge_of s in
+    let room = room_unless (length (P.record_of two)) c.is_full.result (g.met.P.Keep.few two only.sound) c.is_full.ensures.1 c.if-is_full.false in
+    let asked = asks P one two c.args.budget s only c.session.ensures.stands c.session.ensures.lang c.session.ensures.plan c.session.ensures.question c.hear.ensures.lawful c.hear.ensures.fits (c.put_next.ensures.put c.in_default.is) room in
+    let q : Assignment = asked.question in
+    let at : AtQuestion l terms events k.answers k.lang q = asked.asked in
+    let turns : Turns = g.T.Teacher.turn c.args.teacher.now in
+    let may = g.T.Teacher.may_say c.args.teacher.now l in
+    let left : Option (List ℕ) = g.S.Source.left c.args.source.now in
+    let written : Option (List ℕ) = g.K.Sink.written c.args.sink.now in
+    let left' : Option (List ℕ) = g.S.Source.left c.hear.new.source in
+    let written' : Option (List ℕ) = g.K.Sink.written c.hear.new.sink in
+    let hears = c.in-Keep.ensures.hears q asked.is_open in
+    let Followed : List Event → Type 0 = λ es. MayFollow es q (event_on c.in-Keep.entry (Some q)) in
     record {
-      is = put_is l terms t (P.question two) c.put_next.result c.in-Open.question c.put_next.ensures.put c.in-Open.is;
-      budget = c.args.budget;
-      due = same_there Due l (P.lang two) (P.plan one) (P.plan two) (P.record_of one) (P.record_of two) (sym c.put_next.ensures.keeper.lang) (sym c.put_next.ensures.keeper.plan) (sym c.put_next.ensures.keeper.events)
-          (put_due l terms t (P.question two) c.put_next.result c.in-Open.question c.put_next.ensures.put c.in-Open.is);
-      room = room_unless (length (P.record_of two)) c.is_full.result (g.met.P.Keep.few two c.put_next.ensures.keeper.sound) c.is_full.ensures.1 c.if-is_full.false;
+      keeper = record { sound = only.sound; live = only.live ∙ c.requires.keeper.live; sits = only.sits c.args.disk.now c.requires.keeper.sits };
+      room = room;
+      may = may_keep (P.record_of two) q (P.question two) c.in-Keep.entry asked.put (subst Followed (sym only.events) (word_follows l events hears.word k.answers c.in-Keep.entry q (sym hears.is) at.at.number hears.back));
+    }
+
+pub returns-in-Keep : goal.returns-in-Keep
+returns-in-Keep g c =
+    let P = g.P.Keep in
+    let D = g.D.Disk in
+    let one = c.args.keep.now in
+    let two = c.put_next.new.keep in
+    let only = c.put_next.ensures.keeper in
+    let l : Language = P.lang one in
+    let plan : Plan = P.plan one in
+    let terms : Terms = terms_with plan c.args.budget in
+    let events : List Event = P.record_of one in
+    let s = c.session.result.now in
+    let k = knowledge_of s in
+    let room = room_unless (length (P.record_of two)) c.is_full.result (g.met.P.Keep.few two only.sound) c.is_full.ensures.1 c.if-is_full.false in
+    let asked = asks P one two c.args.budget s only c.session.ensures.stands c.session.ensures.lang c.session.ensures.plan c.session.ensures.question c.hear.ensures.lawful c.hear.ensures.fits (c.put_next.ensures.put c.in_default.is) room in
+    let q : Assignment = asked.question in
+    let at : AtQuestion l terms events k.answers k.lang q = asked.asked in
+    let turns : Turns = g.T.Teacher.turn c.args.teacher.now in
+    let may = g.T.Teacher.may_say c.args.teacher.now l in
+    let left : Option (List ℕ) = g.S.Source.left c.args.source.now in
+    let written : Option (List ℕ) = g.K.Sink.written c.args.sink.now in
+    let left' : Option (List ℕ) = g.S.Source.left c.hear.new.source in
+    let written' : Option (List ℕ) = g.K.Sink.written c.hear.new.sink in
+    let three = c.keep_event.new.keep in
+    let after : List Event = P.record_of three in
+    let entry : Entry = c.in-Keep.entry in
+    let e : Event = event_on entry (Some q) in
+    let end : Option Drove = c.keep_event.result in
+    let hears = c.in-Keep.ensures.hears q asked.is_open in
+    let word = hears.word in
+    let is : heard_of word k.answers ≡ heard.Keep entry = sym hears.is in
+    let May : Language → Type 0 = λ m. g.T.Teacher.may_say c.args.teacher.now m q word in
+    let Kept : Option Assignment → List Event → Type 0 = λ put es. EventKept (event_on entry put) es after end in
+    let kept : EventKept e events after end = both_as Kept (P.question two) (Some q) (P.record_of two) events asked.put only.events c.keep_event.ensures.kept in
+    let follows = word_follows l events word k.answers entry q is at.at.number hears.back in
+    let told = word_told l k.lang terms events k.answers q at turns left written left' written' word entry is hears.tells in
+    let made = c.forget.ensures.made l c.put_next.ensures.screen in
+    let Settled : Language → Plan → Type 0 = λ m p. IsSettled m p (standing_on m after) (P.question three) in
+    let Was : Event → Type 0 = λ lost. lost ≡ event_on entry (P.question two) in
+    let Lost : Event → Type 0 = Loses turns l terms (point_of events left written) (point_of after left' written') in
+    let Failed : Type 0 = end ≡ Some drove.DiskFault in
+    record {
+      again = λ none. turned l k.lang terms events k.answers q at turns after (reply_of entry) e (entry_gives q entry) left written left' written' end kept told none;
+      ready = λ none. record {
+        settled = carried Settled (P.lang two) l (P.plan two) plan only.lang only.plan (c.keep_event.ensures.settled none);
+        equipped = c.put_next.ensures.places;
+        made = made;
+        hold = hold_after l terms events after q entry c.put_next.new.screen c.forget.new.screen at.at.reached at.fits.size (kept_on e events after end kept none) c.forget.ensures.forgets c.put_next.ensures.remembers;
+        affordable = c.requires.ready.affordable;
+      };
+      ends = ends l k.lang terms events k.answers q at turns after (reply_of entry) e (entry_gives q entry) left written left' written' end c.forget.new.screen made follows kept told
+          (word_asked l k.lang terms events k.answers q at turns left written left' written' hears.asks);
+      teacher = c.hear.ensures.teacher;
+      same = record { lang = c.keep_event.ensures.same.lang ∙ only.lang; plan = c.keep_event.ensures.same.plan ∙ only.plan; sound = c.keep_event.ensures.same.sound };
+      taught = record {
+        added = adds run_laws l at.at.lawful terms may events after q e end at.puts at.fits follows kept (word_may_add l word k.answers entry may q is at.fits (subst May at.at.language hears.says));
+        said = taught_kept may e events after end kept;
+      };
+      keeps =
+          keeps_then D g.met.D.Disk.counts_now g.met.D.Disk.only_now P Failed Lost Lost one two three c.args.disk.now c.args.disk.now c.keep_event.new.disk only.plan (λ x lost. lost)
+          (keeps_still D g.met.D.Disk.counts_now g.met.D.Disk.only_now P ⊥ (λ x. ⊥) one two c.args.disk.now (λ x. x) only.plan only.voc only.events only.writes only.live c.requires.keeper.live (only.sits c.args.disk.now c.requires.keeper.sits)
+          (λ w bytes told f gone. g.met.P.Keep.lasts one c.args.disk.now w c.requires.keeper.live c.requires.keeper.sits bytes told f gone))
+          (keeps_as D g.met.D.Disk.counts_now g.met.D.Disk.only_now P Failed Failed Was Lost two three c.args.disk.now c.keep_event.new.disk (λ so. so) (λ so. so)
+          (λ failed lost was. loses l k.lang terms events k.answers q at turns after (reply_of entry) e (entry_gives q entry) left written left' written' end drove.DiskFault follows kept failed told lost
+          (was ∙ ap (λ (o : Option Assignment). event_on entry o) asked.put))
+          c.keep_event.ensures.keeps);
+      faults = record {
+        read = record {
+          takes = c.hear.ensures.faults.read.takes;
+          called = called_as _ _ _ _ _ _ (λ so. absurd (let no : ⊥ = cc in no)) (λ so. absurd (kept_calm e events after end drove.ReadFault kept (λ x. cc) (λ x. cc) so)) c.in-Keep.ensures.faults.read.called;
+        };
+        write = record { later = c.hear.ensures.faults.write.later; rose = λ so. absurd (kept_calm e events after end drove.WriteFault kept (λ x. cc) (λ x. cc) so) };
+      };
+      places = c.put_next.ensures.places;
+    }
+
+pub returns-in-End : goal.returns-in-End
+returns-in-End g c =
+    let P = g.P.Keep in
+    let D = g.D.Disk in
+    let one = c.args.keep.now in
+    let two = c.put_next.new.keep in
+    let only = c.put_next.ensures.keeper in
+    let l : Language = P.lang one in
+    let plan : Plan = P.plan one in
+    let terms : Terms = terms_with plan c.args.budget in
+    let events : List Event = P.record_of one in
+    let s = c.session.result.now in
+    let k = knowledge_of s in
+    let room = room_unless (length (P.record_of two)) c.is_full.result (g.met.P.Keep.few two only.sound) c.is_full.ensures.1 c.if-is_full.false in
+    let asked = asks P one two c.args.budget s only c.session.ensures.stands c.session.ensures.lang c.session.ensures.plan c.session.ensures.question c.hear.ensures.lawful c.hear.ensures.fits (c.put_next.ensures.put c.in_default.is) room in
+    let q : Assignment = asked.question in
+    let at : AtQuestion l terms events k.answers k.lang q = asked.asked in
+    let turns : Turns = g.T.Teacher.turn c.args.teacher.now in
+    let may = g.T.Teacher.may_say c.args.teacher.now l in
+    let left : Option (List ℕ) = g.S.Source.left c.args.source.now in
+    let written : Option (List ℕ) = g.K.Sink.written c.args.sink.now in
+    let left' : Option (List ℕ) = g.S.Source.left c.hear.new.source in
+    let written' : Option (List ℕ) = g.K.Sink.written c.hear.new.sink in
+    let end : Drove = c.in-End.end in
+    let hears = c.in-End.ensures.hears q asked.is_open in
+    let word = hears.word in
+    let is : heard_of word k.answers ≡ heard.End end = sym hears.is in
+    let May : Language → Type 0 = λ m. g.T.Teacher.may_say c.args.teacher.now m q word in
+    let Ends : List Event → Type 0 = λ es. EndsAs turns l terms (point_of events left written) (point_of es left' written') c.put_next.new.screen end in
+    record {
+      again = λ none. absurd (let no : ⊥ = cc in no);
+      ready = λ none. absurd (let no : ⊥ = cc in no);
+      ends = subst Ends (sym only.events) (word_ends l k.lang terms events k.answers q at turns left written left' written' word end c.put_next.new.screen c.put_next.ensures.screen is hears.asks hears.tells);
+      teacher = c.hear.ensures.teacher;
+      same = record { lang = only.lang; plan = only.plan; sound = only.sound };
+      taught = taught_none l plan may events (P.record_of two) only.events (word_may_end word k.answers end may q is (subst May at.at.language hears.says));
+      keeps =
+          keeps_still D g.met.D.Disk.counts_now g.met.D.Disk.only_now P _ _ one two c.args.disk.now (word_not_disk word k.answers end is) only.plan only.voc only.events only.writes only.live c.requires.keeper.live (only.sits c.args.disk.now c.requires.keeper.sits)
+          (λ w bytes told f gone. g.met.P.Keep.lasts one c.args.disk.now w c.requires.keeper.live c.requires.keeper.sits bytes told f gone);
+      faults = record {
+        read = record { takes = c.hear.ensures.faults.read.takes; called = called_as _ _ _ _ _ _ (some_end end drove.ReadFault) (end_heard end drove.ReadFault) c.in-End.ensures.faults.read.called };
+        write = record { later = c.hear.ensures.faults.write.later; rose = λ so. c.in-End.ensures.faults.write.rose (end_heard end drove.WriteFault so) };
+      };
+      places = c.put_next.ensures.places;
     }

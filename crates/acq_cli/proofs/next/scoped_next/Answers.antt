@@ -5,7 +5,7 @@ use Rattle.acq_cli.proofs.next.scoped_next.Goals as goal
 
 pub returns-in-Some-clause-next : goal.returns-in-Some-clause-next
 returns-in-Some-clause-next c t budget stands =
-    let new = scoped_new c.args.idle.now.knowledge.value t budget stands.after.end stands.after.idle stands.knows c.requires.plan c.in-Some.question (sym c.in-Some.is ∙ c.scope_question.ensures.is c.requires.plan) c.in-Some.ensures.fits in
+    let new = scoped_new c.args.idle.now.knowledge.value t budget stands.after.end stands.after.idle stands.knows c.requires.plan c.in-Some.question (sym c.in-Some.is ∙ c.scope_question.ensures.is c.requires.plan) in
     (new.0, refl, new.1)
 
 pub returns-in-None-clause-next : goal.returns-in-None-clause-next

@@ -16,8 +16,8 @@ use Rattle.acq_io.proofs.CallLemmas.{stopped_by}
 use Rattle.acq_cli.proofs.Added.{taught_none}
 use Rattle.acq_cli.proofs.Closings.{okay}
 use Rattle.acq_cli.proofs.Parts.{begun_part}
-use Rattle.acq_cli.proofs.Standings.{at_turn, within}
-use Rattle.acq_cli.proofs.Tries.{tried, broken, said, may_end, lost_then, read_of, disk_of, disk_told, no_fault}
+use Rattle.acq_cli.proofs.Standings.{at_turn}
+use Rattle.acq_cli.proofs.Tries.{said_of}
 use Rattle.acq_cli.proofs.top.ask_on.Goals as goal
 
 pub returns-clause-asked : goal.returns-clause-asked
@@ -25,37 +25,22 @@ returns-clause-asked g c =
     let P = g.P.Keep in
     let old = c.args.keep.now in
     let new = c.drive-drove.new.keep in
-    let k = knowledge_of c.session-session.result.now in
-    let later : List Event = P.record_of new in
-    let same : k.lang ≡ P.lang old = c.session-session.ensures.lang ∙ c.drive-drove.ensures.same.lang in
-    let again : k.plan ≡ P.plan old = c.session-session.ensures.plan ∙ c.drive-drove.ensures.same.plan in
-    let Here : Language → Type 0 = λ m. Stands c.session-session.result.now (standing_on m later) in
-    let stands : Here k.lang = subst Here (sym c.session-session.ensures.lang) c.session-session.ensures.stands in
-    record {
-      tries = tried (g.T.Teacher.turn c.args.teacher.now) (P.lang old) k.lang (P.plan old) k.plan c.args.budget (P.record_of old) later (g.S.Source.left c.args.input.now) (g.K.Sink.written c.args.out.now)
-          (g.S.Source.left c.drive-drove.new.source) (g.K.Sink.written c.drive-drove.new.sink) (g.K.Sink.written c.say.new.out) c.drive-drove.new.screen c.drive-drove.result c.say.result same again c.drive-drove.ensures.walked
-          c.drive-drove.ensures.ends.ends c.drive-drove.ensures.ends.full c.drive-drove.ensures.ends.tells.undecided (c.say.ensures.says c.args.budget (standing_on k.lang later) stands) (c.say.ensures.part c.args.budget (standing_on k.lang later) stands);
-      part = broken (g.T.Teacher.turn c.args.teacher.now) (P.lang old) k.lang (P.plan old) k.plan c.args.budget (P.record_of old) later (g.S.Source.left c.args.input.now) (g.K.Sink.written c.args.out.now)
-          (g.S.Source.left c.drive-drove.new.source) (g.K.Sink.written c.drive-drove.new.sink) (g.K.Sink.written c.say.new.out) c.drive-drove.new.screen c.drive-drove.result c.say.result same again c.drive-drove.ensures.walked
-          c.drive-drove.ensures.ends.ends c.drive-drove.ensures.ends.full c.drive-drove.ensures.ends.tells.undecided (c.say.ensures.says c.args.budget (standing_on k.lang later) stands) (c.say.ensures.part c.args.budget (standing_on k.lang later) stands);
-    }
+    let there = c.session-session.ensures in
+    let on = said_of P (g.T.Teacher.turn c.args.teacher.now) old new c.args.budget (g.S.Source.left c.args.input.now) (g.K.Sink.written c.args.out.now) (g.S.Source.left c.drive-drove.new.source) (g.K.Sink.written c.drive-drove.new.sink)
+    (g.K.Sink.written c.say.new.out) c.session-session.result.now c.drive-drove.new.screen c.drive-drove.result c.say.result (g.T.Teacher.may_say c.args.teacher.now (P.lang old)) c.drive-drove.ensures.same there.stands there.lang there.plan c.drive-drove.ensures.walked c.drive-drove.ensures.ends
+    (c.say.ensures.says c.args.budget) (c.say.ensures.part c.args.budget) in
+    on.asked
 
 pub returns-clause-read : goal.returns-clause-read
 returns-clause-read g c =
     let P = g.P.Keep in
     let old = c.args.keep.now in
     let new = c.drive-drove.new.keep in
-    let k = knowledge_of c.session-session.result.now in
-    let later : List Event = P.record_of new in
-    let same : k.lang ≡ P.lang old = c.session-session.ensures.lang ∙ c.drive-drove.ensures.same.lang in
-    let again : k.plan ≡ P.plan old = c.session-session.ensures.plan ∙ c.drive-drove.ensures.same.plan in
-    let Here : Language → Type 0 = λ m. Stands c.session-session.result.now (standing_on m later) in
-    let stands : Here k.lang = subst Here (sym c.session-session.ensures.lang) c.session-session.ensures.stands in
-    stopped_by _ _ _ _ (c.drive-drove.result ≡ drove.ReadFault) (c.say.result ≡ okay ending.ReadFault)
-    (λ is. read_of (g.T.Teacher.turn c.args.teacher.now) (P.lang old) k.lang (P.plan old) k.plan c.args.budget (P.record_of old) later (g.S.Source.left c.args.input.now) (g.K.Sink.written c.args.out.now)
-    (g.S.Source.left c.drive-drove.new.source) (g.K.Sink.written c.drive-drove.new.sink) (g.K.Sink.written c.say.new.out) c.drive-drove.new.screen c.drive-drove.result c.say.result same again c.drive-drove.ensures.walked
-    c.drive-drove.ensures.ends.ends c.drive-drove.ensures.ends.full c.drive-drove.ensures.ends.tells.undecided (c.say.ensures.says c.args.budget (standing_on k.lang later) stands) (c.say.ensures.part c.args.budget (standing_on k.lang later) stands) is)
-    c.drive-drove.ensures.faults.read.called
+    let there = c.session-session.ensures in
+    let on = said_of P (g.T.Teacher.turn c.args.teacher.now) old new c.args.budget (g.S.Source.left c.args.input.now) (g.K.Sink.written c.args.out.now) (g.S.Source.left c.drive-drove.new.source) (g.K.Sink.written c.drive-drove.new.sink)
+    (g.K.Sink.written c.say.new.out) c.session-session.result.now c.drive-drove.new.screen c.drive-drove.result c.say.result (g.T.Teacher.may_say c.args.teacher.now (P.lang old)) c.drive-drove.ensures.same there.stands there.lang there.plan c.drive-drove.ensures.walked c.drive-drove.ensures.ends
+    (c.say.ensures.says c.args.budget) (c.say.ensures.part c.args.budget) in
+    stopped_by _ _ _ _ (c.drive-drove.result ≡ drove.ReadFault) (c.say.result ≡ okay ending.ReadFault) on.read_of c.drive-drove.ensures.faults.read.called
 
 pub returns-clause-takes : goal.returns-clause-takes
 returns-clause-takes g c = c.drive-drove.ensures.faults.read.takes
@@ -65,63 +50,33 @@ returns-clause-taught g c =
     let P = g.P.Keep in
     let old = c.args.keep.now in
     let new = c.drive-drove.new.keep in
-    let k = knowledge_of c.session-session.result.now in
-    let later : List Event = P.record_of new in
-    let same : k.lang ≡ P.lang old = c.session-session.ensures.lang ∙ c.drive-drove.ensures.same.lang in
-    let again : k.plan ≡ P.plan old = c.session-session.ensures.plan ∙ c.drive-drove.ensures.same.plan in
-    let Here : Language → Type 0 = λ m. Stands c.session-session.result.now (standing_on m later) in
-    let stands : Here k.lang = subst Here (sym c.session-session.ensures.lang) c.session-session.ensures.stands in
-    record {
-      added = c.drive-drove.ensures.taught.added;
-      said = may_end (g.T.Teacher.turn c.args.teacher.now) (P.lang old) k.lang (P.plan old) k.plan c.args.budget (P.record_of old) later (g.S.Source.left c.args.input.now) (g.K.Sink.written c.args.out.now)
-          (g.S.Source.left c.drive-drove.new.source) (g.K.Sink.written c.drive-drove.new.sink) (g.K.Sink.written c.say.new.out) c.drive-drove.new.screen c.drive-drove.result c.say.result same again c.drive-drove.ensures.walked
-          c.drive-drove.ensures.ends.ends c.drive-drove.ensures.ends.full c.drive-drove.ensures.ends.tells.undecided (c.say.ensures.says c.args.budget (standing_on k.lang later) stands) (c.say.ensures.part c.args.budget (standing_on k.lang later) stands)
-          (g.T.Teacher.may_say c.args.teacher.now (P.lang old)) c.drive-drove.ensures.taught.said;
-    }
+    let there = c.session-session.ensures in
+    let on = said_of P (g.T.Teacher.turn c.args.teacher.now) old new c.args.budget (g.S.Source.left c.args.input.now) (g.K.Sink.written c.args.out.now) (g.S.Source.left c.drive-drove.new.source) (g.K.Sink.written c.drive-drove.new.sink)
+    (g.K.Sink.written c.say.new.out) c.session-session.result.now c.drive-drove.new.screen c.drive-drove.result c.say.result (g.T.Teacher.may_say c.args.teacher.now (P.lang old)) c.drive-drove.ensures.same there.stands there.lang there.plan c.drive-drove.ensures.walked c.drive-drove.ensures.ends
+    (c.say.ensures.says c.args.budget) (c.say.ensures.part c.args.budget) in
+    record { added = c.drive-drove.ensures.taught.added; said = on.may_end c.drive-drove.ensures.taught.said }
 
 pub returns-clause-no_fault : goal.returns-clause-no_fault
 returns-clause-no_fault g c =
     let P = g.P.Keep in
-    let l = P.lang c.args.keep.now in
-    no_fault (g.T.Teacher.turn c.args.teacher.now) l (terms_with (P.plan c.args.keep.now) c.args.budget) (P.record_of c.args.keep.now) (P.record_of c.drive-drove.new.keep) (g.S.Source.left c.args.input.now) (g.K.Sink.written c.args.out.now)
-    (g.S.Source.left c.drive-drove.new.source) (g.K.Sink.written c.say.new.out) c.say.result (returns-clause-asked g c).tries
+    let old = c.args.keep.now in
+    let new = c.drive-drove.new.keep in
+    let there = c.session-session.ensures in
+    let on = said_of P (g.T.Teacher.turn c.args.teacher.now) old new c.args.budget (g.S.Source.left c.args.input.now) (g.K.Sink.written c.args.out.now) (g.S.Source.left c.drive-drove.new.source) (g.K.Sink.written c.drive-drove.new.sink)
+    (g.K.Sink.written c.say.new.out) c.session-session.result.now c.drive-drove.new.screen c.drive-drove.result c.say.result (g.T.Teacher.may_say c.args.teacher.now (P.lang old)) c.drive-drove.ensures.same there.stands there.lang there.plan c.drive-drove.ensures.walked c.drive-drove.ensures.ends
+    (c.say.ensures.says c.args.budget) (c.say.ensures.part c.args.budget) in
+    on.no_fault
 
 pub returns-clause-keeps : goal.returns-clause-keeps
 returns-clause-keeps g c =
-    let D = g.D.Disk in
     let P = g.P.Keep in
     let old = c.args.keep.now in
     let new = c.drive-drove.new.keep in
-    let l = P.lang old in
-    let p = P.plan old in
-    let terms = terms_with p c.args.budget in
-    let k = knowledge_of c.session-session.result.now in
-    let later : List Event = P.record_of new in
-    let start = P.record_of old in
-    let left = g.S.Source.left c.args.input.now in
-    let written = g.K.Sink.written c.args.out.now in
-    let left' = g.S.Source.left c.drive-drove.new.source in
-    let middle = g.K.Sink.written c.drive-drove.new.sink in
-    let written' = g.K.Sink.written c.say.new.out in
-    let same : k.lang ≡ l = c.session-session.ensures.lang ∙ c.drive-drove.ensures.same.lang in
-    let again : k.plan ≡ p = c.session-session.ensures.plan ∙ c.drive-drove.ensures.same.plan in
-    let Here : Language → Type 0 = λ m. Stands c.session-session.result.now (standing_on m later) in
-    let stands : Here k.lang = subst Here (sym c.session-session.ensures.lang) c.session-session.ensures.stands in
-    let says = c.say.ensures.says c.args.budget (standing_on k.lang later) stands in
-    let parts = c.say.ensures.part c.args.budget (standing_on k.lang later) stands in
-    let Failed : Type 0 = c.drive-drove.result ≡ drove.DiskFault in
-    let Ended : Type 0 = c.say.result ≡ Ok ending.DiskFault in
-    let was : Ended → Failed =
-    disk_of (g.T.Teacher.turn c.args.teacher.now) l k.lang p k.plan c.args.budget start later left written left' middle written' c.drive-drove.new.screen c.drive-drove.result c.say.result same again c.drive-drove.ensures.walked c.drive-drove.ensures.ends.ends c.drive-drove.ensures.ends.full c.drive-drove.ensures.ends.tells.undecided says parts in
-    let Lost : Event → Type 0 = Loses (g.T.Teacher.turn c.args.teacher.now) l terms (point_of start left written) (point_of later left' middle) in
-    let Then : Event → Type 0 = Loses (g.T.Teacher.turn c.args.teacher.now) l terms (point_of start left written) (point_of later left' written') in
-    keeps_as D g.met.D.Disk.counts_now g.met.D.Disk.only_now P Failed Ended Lost Then old new c.args.disk.now c.drive-drove.new.disk
-    was
-    (disk_told (g.T.Teacher.turn c.args.teacher.now) l k.lang p k.plan c.args.budget start later left written left' middle written' c.drive-drove.new.screen c.drive-drove.result c.say.result same again c.drive-drove.ensures.walked c.drive-drove.ensures.ends.ends c.drive-drove.ensures.ends.full c.drive-drove.ensures.ends.tells.undecided says parts)
-    (λ ended e lost.
-    lost_then (g.T.Teacher.turn c.args.teacher.now) l terms (point_of start left written) later left' middle written' c.drive-drove.result c.say.result
-    (said (g.T.Teacher.turn c.args.teacher.now) l k.lang p k.plan c.args.budget start later left written left' middle written' c.drive-drove.new.screen c.drive-drove.result c.say.result same again c.drive-drove.ensures.walked c.drive-drove.ensures.ends.ends c.drive-drove.ensures.ends.full c.drive-drove.ensures.ends.tells.undecided says parts)
-    (was ended) ended e lost)
+    let there = c.session-session.ensures in
+    let on = said_of P (g.T.Teacher.turn c.args.teacher.now) old new c.args.budget (g.S.Source.left c.args.input.now) (g.K.Sink.written c.args.out.now) (g.S.Source.left c.drive-drove.new.source) (g.K.Sink.written c.drive-drove.new.sink)
+    (g.K.Sink.written c.say.new.out) c.session-session.result.now c.drive-drove.new.screen c.drive-drove.result c.say.result (g.T.Teacher.may_say c.args.teacher.now (P.lang old)) c.drive-drove.ensures.same there.stands there.lang there.plan c.drive-drove.ensures.walked c.drive-drove.ensures.ends
+    (c.say.ensures.says c.args.budget) (c.say.ensures.part c.args.budget) in
+    keeps_as g.D.Disk g.met.D.Disk.counts_now g.met.D.Disk.only_now P (c.drive-drove.result ≡ drove.DiskFault) (c.say.result ≡ Ok ending.DiskFault) _ _ old new c.args.disk.now c.drive-drove.new.disk on.disk_of on.disk_told on.loses
     c.drive-drove.ensures.keeps
 
 pub returns-in_default-clause-taught : goal.returns-in_default-clause-taught
@@ -159,7 +114,7 @@ returns-in_default-clause-asked g c =
     record {
       tries = tt;
       part = begun_part (g.T.Teacher.turn c.args.teacher.now) l (terms_with plan c.args.budget) (P.record_of c.args.keep.now) (g.S.Source.left c.args.input.now) (g.K.Sink.written c.args.out.now) at.lawful
-          (within l plan c.lang-lang.result.now (P.record_of c.args.keep.now) (knowledge_of s).answers at (g.met.P.Keep.few c.args.keep.now c.requires.keeper.sound));
+          (record { reached = at.reached; few = g.met.P.Keep.few c.args.keep.now c.requires.keeper.sound });
     }
 
 pub returns-in_default-clause-keeps : goal.returns-in_default-clause-keeps
@@ -179,7 +134,7 @@ returns-in_default-new-clause-asked g c =
     record {
       tries = tt;
       part = begun_part (g.T.Teacher.turn c.args.teacher.now) l (terms_with plan c.args.budget) (P.record_of c.args.keep.now) (g.S.Source.left c.args.input.now) (g.K.Sink.written c.args.out.now) at.lawful
-          (within l plan c.lang-lang.result.now (P.record_of c.args.keep.now) (knowledge_of s).answers at (g.met.P.Keep.few c.args.keep.now c.requires.keeper.sound));
+          (record { reached = at.reached; few = g.met.P.Keep.few c.args.keep.now c.requires.keeper.sound });
     }
 
 pub returns-in_default-new-clause-keeps : goal.returns-in_default-new-clause-keeps

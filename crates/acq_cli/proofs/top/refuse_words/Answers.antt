@@ -1,12 +1,11 @@
 use Rattle.std.proofs.Common.{refl}
-use Rattle.std.proofs.lemmas.Result.{err_from_is_err_and}
-use Rattle.acq_cli.specs.declared.ending.Ending.TheVariants as ending
+use Rattle.acq_cli.specs.Saying.{saying}
 use Rattle.acq_cli.specs.Texts.{usage_text}
-use Rattle.acq_cli.proofs.Journals.{ends_badly}
+use Rattle.acq_cli.specs.declared.ending.Ending.TheVariants as ending
+use Rattle.acq_cli.proofs.Spoken.{ends_as, said_as}
 use Rattle.acq_cli.proofs.top.refuse_words.Goals as goal
 
-pub returns-in_err-write-clause-tells : goal.returns-in_err-write-clause-tells
-returns-in_err-write-clause-tells g c =
-    let p = err_from_is_err_and c.from_residual.result c.from_residual.ensures.1 in
-    rw (p.1, p.2)
-    (ends_badly (ending.Usage c.args.fault) usage_text usage_text (g.K.Sink.written c.args.out.now) (g.K.Sink.written c.write.new.self) c.in_err-write.field-0.0 refl c.in_err-write.ensures.failed c.in_err-write.ensures.memory)
+pub returns-clause-tells : goal.returns-clause-tells
+returns-clause-tells g c =
+    let what = saying usage_text (ending.Usage c.args.fault) in
+    ends_as what c.or_silent.result _ _ c.put.result (said_as c.fixed.result c.or_silent.result what what c.or_silent.ensures refl c.fixed.ensures) c.put.ensures.writes
