@@ -1,5 +1,5 @@
 -- What was done about the words.
-use Rattle.std.proofs.Common.{◌≡◌, ◌⊎◌, ◌∙◌, ℕ, true, false, List, [], Option, Result, Ok, Err, refl, sym, ap, subst, inl, ⊎_elim, arith}
+use Rattle.std.proofs.Common.{◌≡◌, ◌⊎◌, ◌∙◌, ℕ, true, false, List, [], Option, Result, Ok, Err, refl, sym, ap, subst, inl, inr, ⊎_elim, arith}
 use Rattle.disk_model.specs.declared.disk.Disk.{Ghosts as DiskOf}
 use Rattle.acq_io.specs.declared.streams.Put.{Put}
 use Rattle.acq_io.specs.declared.streams.Put.TheVariants as put
@@ -77,10 +77,13 @@ module _ {D : Type 0} (disk : DiskOf D) where
     stays = record {
       fault = store.Memory;
       why = λ bytes told. tt;
+      some = ([], tt);
       refuses = (silence, refl, (refl, refl));
       unread = refl;
       same = refl;
       any_moment = started disk d (disk.may_leave d) (only_now d);
+      now = inr (refl, refl);
+      calls = λ bytes told. omega arith;
     }
 
     -- not a word was said
@@ -88,11 +91,14 @@ module _ {D : Type 0} (disk : DiskOf D) where
     over_nothing Says IsTrueOf says = record {
       opening = Err store.Memory;
       opens = λ bytes told. tt;
+      some = ([], tt);
       session = tt;
       says = says;
       so = tt;
       same = refl;
       any_moment = started disk d (disk.may_leave d) (only_now d);
+      now = inr (refl, refl);
+      calls = λ bytes told. omega arith;
     }
 
     asks_nothing : (a : Ask) → SaysSo (Asks disk a d d) written written wanting

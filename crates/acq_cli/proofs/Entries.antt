@@ -1,5 +1,5 @@
 -- An entry that a keeper was asked to keep.
-use Rattle.std.proofs.Common.{◌≡◌, ◌∙◌, ◌≤◌, ◌⊎◌, ◌++◌, ◌∷◌, [], ℕ, IsTrue, IsFalse, List, Option, Some, None, Result, Ok, Err, OnOk, OnErr, IfErr, IsErrOf, IsSome, ap, sym, subst, refl, inl, inr, ⊎_elim}
+use Rattle.std.proofs.Common.{◌≡◌, ◌∙◌, ◌≤◌, ◌⊎◌, ◌++◌, ◌∷◌, [], ℕ, IsTrue, IsFalse, List, Option, Some, None, Result, Ok, Err, OnOk, OnErr, IfErr, IsErrOf, IsSome, ap, sym, subst, refl, inl, inr, ⊎_elim, ◌+◌, arith}
 use Rattle.std.specs.Option.{ForSome}
 use Rattle.assign.specs.Assignment.{Assignment}
 use Rattle.assign.specs.declared.events.Event.{Event}
@@ -18,7 +18,7 @@ use Rattle.session_store.specs.Keeping.{HasKept, IsUnmoved, HasSameTerms}
 use Rattle.session_store.specs.Keeps.{Keeps, IsKeeping}
 use Rattle.session_store.specs.Kept.{IsAddable, IsTried}
 use Rattle.session_store.specs.Left.{OpensWith, OpensWithOrWithout, LeavesNow}
-use Rattle.session_store.proofs.Keepers.{grown_none, grown_one, keeps_still, persists_one, fails_one}
+use Rattle.session_store.proofs.Keepers.{grown_none, grown_one, one_added, keeps_still, persists_one, fails_one}
 use Rattle.acq_cli.specs.Due.{EventKept, ended_by}
 use Rattle.acq_cli.specs.Heard.{end_of}
 use Rattle.acq_cli.specs.declared.driving.Drove.{Drove}
@@ -70,11 +70,11 @@ module _ {K D : Type 0} (keep : KeepOf K D) (disk : DiskOf D)
       (IsTrue (keep.writes old) → ForSome (disk.content x) (λ _. (c : List ℕ) → disk.may_leave x c → OpensWith (keep.plan old) (keep.voc old) (keep.record_of old) c)) →
       OnOk r HasAdded → OnErr r IsLeft → HasSameTerms keep.lang keep.plan keep.voc keep.writes old new → keep.sits new y → GivesUp r →
       (IsErrOf r store.Memory → (keep.live new ≡ keep.live old) × (y ≡ x)) →
-      (IsErrOf r (store.Journal journal.DiskFault) → IsTrue (keep.writes old) × IsFalse (keep.live new) × Rose (disk.faults x) (disk.faults y)) → GoesOn disk x y → (IsFalse (keep.writes old) → y ≡ x) →
+      (IsErrOf r (store.Journal journal.DiskFault) → IsTrue (keep.writes old) × IsFalse (keep.live new) × Rose (disk.faults x) (disk.faults y)) → GoesOn disk x y → disk.calls y ≤ disk.calls x + 8 → (IsFalse (keep.writes old) → y ≡ x) →
       (IsTrue (keep.writes old) → ForSome (disk.content x) (λ _. OnOk r (LeavesNow disk (OpensWith (keep.plan old) (keep.voc old) (keep.record_of new)) y))) →
       (IsTrue (keep.writes old) → ForSome (disk.content x) (λ _. LeavesOnly disk x y (OpensWithOrWithout (keep.plan old) (keep.voc old) (keep.record_of old) e))) →
       Keeps keep disk (end_of r ≡ Some drove.DiskFault) (λ lost. lost ≡ e) old new x y
-  keeps_event (Ok done) keeper addable tried lasts added left same sits why memory failed on unwritten written any = record {
+  keeps_event (Ok done) keeper addable tried lasts added left same sits why memory failed on few unwritten written any = record {
     same_voc = same.same_voc;
     same_writes = same.same_writes;
     belongs = sits;
@@ -84,18 +84,21 @@ module _ {K D : Type 0} (keep : KeepOf K D) (disk : DiskOf D)
     told = on.told;
     cause = λ bad. absurd (not_failed bad);
     grown = grown_one (keep.record_of old) (keep.record_of new) e addable added.added;
+    calls =
+        let one = one_added (keep.record_of old) (keep.record_of new) e added.added (grown_one (keep.record_of old) (keep.record_of new) e addable added.added) in
+        record { each_kept = λ no. omega (arith, few, one); at_most = omega (arith, few) };
     unwritten = unwritten;
     persists = λ w bytes told no.
         persists_one disk counts_now only_now (keep.plan old) (keep.voc old) (keep.record_of old) (keep.record_of new) e x y added.added (written w bytes told) (any w bytes told);
     fails = λ bad. absurd (not_failed bad);
   }
-  keeps_event (Err f) keeper addable tried lasts added left same sits (inl is) memory failed on unwritten written any =
+  keeps_event (Err f) keeper addable tried lasts added left same sits (inl is) memory failed on few unwritten written any =
       let all = memory (ap lost is) in
       let Failed : Type 0 = end_of (lost f) ≡ Some drove.DiskFault in
       let As : D → Type 0 = λ d. Keeps keep disk Failed (λ lost. lost ≡ e) old new x d in
       subst As (sym all.1)
       (keeps_still disk counts_now only_now keep Failed (λ lost. lost ≡ e) old new x (not_memory f is) same.same_plan same.same_voc left.events same.same_writes all.0 keeper.live (subst (keep.sits new) all.1 sits) lasts)
-  keeps_event (Err f) keeper addable tried lasts added left same sits (inr is) memory failed on unwritten written any =
+  keeps_event (Err f) keeper addable tried lasts added left same sits (inr is) memory failed on few unwritten written any =
       let why = failed (ap lost is) in
       let bad : end_of (lost f) ≡ Some drove.DiskFault = ap (λ (x : SFault). end_of (lost x)) is in
       let Tried : Option Assignment → Type 0 = λ put. IsTried put e in
@@ -109,6 +112,7 @@ module _ {K D : Type 0} (keep : KeepOf K D) (disk : DiskOf D)
         told = on.told;
         cause = λ so. (why.0, why.2);
         grown = grown_none (keep.record_of old) (keep.record_of new) left.events;
+        calls = record { each_kept = λ no. absurd (no bad); at_most = omega (arith, few) };
         unwritten = unwritten;
         persists = λ w bytes told no. absurd (no bad);
         fails = λ so.

@@ -92,7 +92,7 @@ module _ {D : Type 0} (disk : DiskOf D) (left written left' written' : Option (L
         lang = on.lang;
         plan = on.plan;
         events = on.later;
-        session = record { start = on.events; more = on.added.more; begins = record { voc = on.voc; says = on.says; read = on.read; places = on.places }; goes_on = on.added.is };
+        session = record { start = on.events; more = on.added.more; begins = record { voc = on.voc; says = on.says; some = on.some; read = on.read; places = on.places }; goes_on = on.added.is };
         number = has.number;
         converged = has.converged;
         prints = has.prints;
@@ -118,7 +118,7 @@ module _ {D : Type 0} (disk : DiskOf D) (left written left' written' : Option (L
         lang = on.lang;
         plan = on.plan;
         events = on.later;
-        session = record { start = on.events; more = on.added.more; begins = record { voc = on.voc; says = on.says; read = on.read; places = on.places }; goes_on = on.added.is };
+        session = record { start = on.events; more = on.added.more; begins = record { voc = on.voc; says = on.says; some = on.some; read = on.read; places = on.places }; goes_on = on.added.is };
         number = has.number;
         converged = has.converged;
         prints = has.prints;
@@ -153,7 +153,7 @@ module _ {D : Type 0} (disk : DiskOf D) (left written left' written' : Option (L
         lang = on.lang;
         plan = on.plan;
         events = on.later;
-        session = record { start = on.events; more = on.added.more; begins = record { voc = on.voc; says = on.says; read = on.read; places = on.places }; goes_on = on.added.is };
+        session = record { start = on.events; more = on.added.more; begins = record { voc = on.voc; says = on.says; some = on.some; read = on.read; places = on.places }; goes_on = on.added.is };
         number = has.0;
         none = has.1;
       }

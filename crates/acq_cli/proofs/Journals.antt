@@ -1,5 +1,5 @@
 -- What a run over a journal has done, of its opening and its loop.
-use Rattle.std.proofs.Common.{◌≡◌, ◌⊎◌, ℕ, List, [], ◌∷◌, ◌++◌, Option, Some, Result, Ok, Err, refl, sym, ◌∙◌, ap, subst, inl, inr, ⊎_elim}
+use Rattle.std.proofs.Common.{◌≡◌, ◌⊎◌, ℕ, List, [], ◌∷◌, ◌++◌, Option, Some, Result, Ok, Err, refl, sym, ◌∙◌, ap, subst, inl, inr, ⊎_elim, length, arith, length-append}
 use Rattle.std.specs.Prelude.{◌≢◌, IfOk, OnErr, IsSome}
 use Rattle.std.specs.Option.{ForSome}
 use Rattle.std.proofs.lemmas.List.{append-nil}
@@ -7,6 +7,7 @@ use Rattle.disk_model.specs.declared.disk.Disk.{Ghosts as DiskOf}
 use Rattle.acq_io.specs.Streams.{AddsFront}
 use Rattle.acq_io.specs.declared.streams.Put.{Put}
 use Rattle.acq_io.specs.declared.streams.Put.TheVariants as put
+use Rattle.answer_journal.specs.Calls.{AreReadingCalls}
 use Rattle.answer_journal.specs.declared.fault.JFault.TheVariants as journal
 use Rattle.assign.specs.Assignment.{Assignment}
 use Rattle.assign.specs.declared.events.Event.{Event}
@@ -14,7 +15,7 @@ use Rattle.assign.specs.declared.events.Plan.{Plan}
 use Rattle.disk_model.specs.Moments.{LeavesOnly, joined}
 use Rattle.language.specs.Language.{Language, IsLanguage}
 use Rattle.session_store.specs.Left.{OpensWith, OpensWithin, SaysSession, LeavesNow, bytes_told}
-use Rattle.session_store.specs.Keeping.{Persists, FailsWith}
+use Rattle.session_store.specs.Keeping.{AreEventCalls, IsGrown, Persists, FailsWith}
 use Rattle.session_store.specs.Replay.{HavePlaces}
 use Rattle.session_store.specs.Store.{plan_of, voc_of, events_of, IsThere, opens_there}
 use Rattle.session_store.specs.declared.store.Store.{Store}
@@ -77,7 +78,8 @@ disk_failed (Ok end) = ⊎_elim (λ is. inl (ap okay is)) (λ other. inr (λ h. 
 module _ {D : Type 0} (disk : DiskOf D) where
   -- what holds of its language, plan and events holds of what it is about
   pub goes_on_with : (P : Language → Plan → List Event → List Event → Type 0) (turns : Turns) (may : Language → Assignment → Told → Type 0) (budget : ℕ) (left written left' written' : Option (List ℕ)) (first old new : D) (got : Result Ending Put) (plan : Plan) (voc : List ℕ) (events later : List Event) (open_then : Option Assignment) (lang : Language) →
-      ForSome (disk.content first) (λ bytes. SaysSession bytes plan voc events) → IsVocabulary voc lang → HavePlaces lang plan events → disk.content old ≡ disk.content first → LeavesOnly disk first old (disk.may_leave first) →
+      ForSome (disk.content first) (λ bytes. SaysSession bytes plan voc events) → ((bytes : List ℕ) × SaysSession bytes plan voc events) → IsVocabulary voc lang → HavePlaces lang plan events → disk.content old ≡ disk.content first → LeavesOnly disk first old (disk.may_leave first) → ForSome (disk.content first) (AreReadingCalls 5 (disk.calls first) (disk.calls old)) →
+      (grown : IsGrown events later) → AreEventCalls disk (IsDisk got) grown.more old new →
       IsLanguage lang → IsAdded lang plan (may lang) events later → ForSome (disk.content old) (λ _. IsSome (disk.content new)) → ((IsDisk got → ⊥) → ForSome (disk.content old) (λ _. Persists disk plan voc events later old new)) →
       (IsDisk got → FailsWith disk plan voc events later open_then
       (Loses turns lang (terms_with plan budget) (point_of events left written) (point_of later left' written')) old new) →
@@ -85,7 +87,7 @@ module _ {D : Type 0} (disk : DiskOf D) where
       OnErr got (BreaksRun turns lang (terms_with plan budget) events later left written left' written') →
       P lang plan events later →
       (on : GoesOn disk turns may budget left written left' written' first new got) × P on.lang on.plan on.events on.later
-  goes_on_with P turns may budget left written left' written' first old new got plan voc events later open_then lang says read places still opening lawful added on persists fails tries part has =
+  goes_on_with P turns may budget left written left' written' first old new got plan voc events later open_then lang says some read places still opening few grown calls lawful added on persists fails tries part has =
       ⊎_elim
       (λ is.
       let f = fails is in
@@ -95,6 +97,7 @@ module _ {D : Type 0} (disk : DiskOf D) where
           voc = voc;
           events = events;
           says = says;
+          some = some;
           lang = lang;
           read = read;
           places = places;
@@ -110,6 +113,7 @@ module _ {D : Type 0} (disk : DiskOf D) where
               joined disk first old new (disk.may_leave first) (OpensWithin plan voc events (later ++ last)) (λ c. disk.may_leave first c ⊎ OpensWithin plan voc events (later ++ last) c) opening (f.any_moment bytes (still ∙ told))
               (λ c was. inl was) (λ c opens. inr opens);
           now = λ bytes told. let t = bytes_told (disk.content new) (on bytes (still ∙ told)) in record { bytes = t.0; tells = t.1; each = f.now bytes (still ∙ told) };
+          calls = λ bytes told. omega (arith, few bytes told, calls.at_most, ap length grown.is, length-append events grown.more, length-append later last);
         },
         has,
       ))
@@ -122,6 +126,7 @@ module _ {D : Type 0} (disk : DiskOf D) where
           voc = voc;
           events = events;
           says = says;
+          some = some;
           lang = lang;
           read = read;
           places = places;
@@ -137,21 +142,23 @@ module _ {D : Type 0} (disk : DiskOf D) where
               joined disk first old new (disk.may_leave first) (OpensWithin plan voc events (later ++ [])) (λ c. disk.may_leave first c ⊎ OpensWithin plan voc events (later ++ []) c) opening
               (subst Within (sym same) (p bytes (still ∙ told)).any_moment) (λ c was. inl was) (λ c opens. inr opens);
           now = λ bytes told. let n = (p bytes (still ∙ told)).now in record { bytes = n.bytes; tells = n.tells; each = λ c left. inl (n.each c left) };
+          calls = λ bytes told. omega (arith, few bytes told, calls.each_kept no, ap length grown.is, length-append events grown.more, ap length same);
         },
         has,
       ))
       (disk_failed got)
 
   pub goes_on : (turns : Turns) (may : Language → Assignment → Told → Type 0) (budget : ℕ) (left written left' written' : Option (List ℕ)) (first old new : D) (got : Result Ending Put) (plan : Plan) (voc : List ℕ) (events later : List Event) (open_then : Option Assignment) (lang : Language) →
-      ForSome (disk.content first) (λ bytes. SaysSession bytes plan voc events) → IsVocabulary voc lang → HavePlaces lang plan events → disk.content old ≡ disk.content first → LeavesOnly disk first old (disk.may_leave first) →
+      ForSome (disk.content first) (λ bytes. SaysSession bytes plan voc events) → ((bytes : List ℕ) × SaysSession bytes plan voc events) → IsVocabulary voc lang → HavePlaces lang plan events → disk.content old ≡ disk.content first → LeavesOnly disk first old (disk.may_leave first) → ForSome (disk.content first) (AreReadingCalls 5 (disk.calls first) (disk.calls old)) →
+      (grown : IsGrown events later) → AreEventCalls disk (IsDisk got) grown.more old new →
       IsLanguage lang → IsAdded lang plan (may lang) events later → ForSome (disk.content old) (λ _. IsSome (disk.content new)) → ((IsDisk got → ⊥) → ForSome (disk.content old) (λ _. Persists disk plan voc events later old new)) →
       (IsDisk got → FailsWith disk plan voc events later open_then
       (Loses turns lang (terms_with plan budget) (point_of events left written) (point_of later left' written')) old new) →
       IfOk got (Tries turns lang (terms_with plan budget) events later left written left' written') →
       OnErr got (BreaksRun turns lang (terms_with plan budget) events later left written left' written') →
       GoesOn disk turns may budget left written left' written' first new got
-  goes_on turns may budget left written left' written' first old new got plan voc events later open_then lang says read places still opening lawful added on persists fails tries part =
-      (goes_on_with (λ l p es fs. Unit {0}) turns may budget left written left' written' first old new got plan voc events later open_then lang says read places still opening lawful added on persists fails tries part tt).0
+  goes_on turns may budget left written left' written' first old new got plan voc events later open_then lang says some read places still opening few grown calls lawful added on persists fails tries part =
+      (goes_on_with (λ l p es fs. Unit {0}) turns may budget left written left' written' first old new got plan voc events later open_then lang says some read places still opening few grown calls lawful added on persists fails tries part tt).0
 
 -- ---- faults that aren't told
 
@@ -191,4 +198,15 @@ made_now disk new made plan voc bytes told planned same none there = record {
       let B : List ℕ → Type 0 = λ v. OpensWith plan v (events_of made) c in
       let C : List Event → Type 0 = λ e. OpensWith plan voc e c in
       subst C none (subst B same (subst A planned (opens_there made.journal (plan_of made) (voc_of made) (events_of made) (disk.may_leave new) bytes c there left)));
+}
+
+-- ---- opening a journal
+
+-- what is left of a store that was just opened
+pub opened_now : {D : Type 0} (disk : DiskOf D) (new : D) (opened : Store) (bytes : List ℕ) → disk.content new ≡ Some bytes →
+    IsThere opened.journal (plan_of opened) (voc_of opened) (events_of opened) (disk.may_leave new) bytes → LeavesNow disk (OpensWith (plan_of opened) (voc_of opened) (events_of opened)) new
+opened_now disk new opened bytes told there = record {
+  bytes = bytes;
+  tells = told;
+  each = λ c left. opens_there opened.journal (plan_of opened) (voc_of opened) (events_of opened) (disk.may_leave new) bytes c there left;
 }

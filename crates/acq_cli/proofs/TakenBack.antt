@@ -1,8 +1,9 @@
 -- What `back` says of a session, and leaves of it.
-use Rattle.std.proofs.Common.{◌≡◌, ◌⊎◌, ◌∙◌, ℕ, zero, suc, ◌≤◌, Bool, true, false, List, [], ◌∷◌, ◌++◌, Option, Some, Result, Ok, Err, refl, sym, ap, subst, inl, inr, ⊎_elim, arith}
+use Rattle.std.proofs.Common.{◌≡◌, ◌⊎◌, ◌∙◌, ℕ, zero, suc, ◌≤◌, Bool, true, false, List, [], ◌∷◌, ◌++◌, Option, Some, Result, Ok, Err, refl, sym, ap, subst, inl, inr, ⊎_elim, length, arith, length-append}
 use Rattle.std.specs.Prelude.{IsSome}
 use Rattle.std.specs.Option.{ForSome}
 use Rattle.disk_model.specs.declared.disk.Disk.{Ghosts as DiskOf}
+use Rattle.answer_journal.specs.Calls.{AreReadingCalls}
 use Rattle.acq_io.specs.declared.streams.Put.{Put}
 use Rattle.acq_io.specs.declared.streams.Put.TheVariants as put
 use Rattle.assign.specs.Assignment.{Assignment}
@@ -10,7 +11,7 @@ use Rattle.assign.specs.declared.events.Event.{Event}
 use Rattle.assign.specs.declared.events.Event.TheVariants as event
 use Rattle.assign.specs.declared.events.Plan.{Plan}
 use Rattle.disk_model.specs.Moments.{LeavesOnly, joined, weaker}
-use Rattle.session_store.specs.Keeping.{Persists, FailsWith}
+use Rattle.session_store.specs.Keeping.{AreEventCalls, IsGrown, Persists, FailsWith}
 use Rattle.session_store.proofs.Keepers.{both_as, within_more}
 use Rattle.session_store.specs.Left.{OpensWithin, OpensWithOrWithout, bytes_told}
 use Rattle.session_store.specs.Opened.{Opened, OpensOnce}
@@ -105,6 +106,22 @@ module _ {D : Type 0} (disk : DiskOf D) where
       grows : EndsBack what events later said → (c : List ℕ) → OpensWithin plan voc events later c → OpensWithin plan voc events (events ++ event.Back ∷ []) c
       grows (inl (is, told)) c w = let P : List Event → Type 0 = λ es. OpensWithin plan voc events es c in subst P is w
       grows (inr (same, rest)) c w = within_more plan voc events later (events ++ event.Back ∷ []) (event.Back ∷ []) c (ap (λ (es : List Event). es ++ event.Back ∷ []) (sym same)) w
+
+-- ---- how often the disk was called
+
+-- at most one event was added, and none where the disk failed
+back_grown : (what : Saying) (events later : List Event) (said : Result Saying Unsaid) → EndsBack what events later said → (grown : IsGrown events later) → length grown.more ≤ 1
+back_grown what events later said (inl (is, told)) grown = omega (arith, ap length is, ap length grown.is, length-append events grown.more, length-append events (event.Back ∷ []))
+back_grown what events later said (inr (same, rest)) grown = omega (arith, ap length same, ap length grown.is, length-append events grown.more)
+
+module _ {D : Type 0} (disk : DiskOf D) where
+  pub back_calls : (events later : List Event) (what : Saying) (old new : D) (said : Result Saying Unsaid) → EndsBack what events later said → (grown : IsGrown events later) → AreEventCalls disk (IsLost said) grown.more old new →
+      (before : ℕ) (bytes : List ℕ) → AreReadingCalls 5 before (disk.calls old) bytes → AreReadingCalls 13 before (disk.calls new) bytes
+  back_calls events later what old new said ends grown calls before bytes few =
+      ⊎_elim
+      (λ is. omega (arith, few, calls.at_most, ap length (back_same what events later said ends is), ap length grown.is, length-append events grown.more))
+      (λ no. omega (arith, few, calls.each_kept no, back_grown what events later said ends grown))
+      (disk_lost said)
 
 -- ---- how it ends
 

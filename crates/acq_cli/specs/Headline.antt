@@ -27,10 +27,11 @@ pub record IsOfInput (left : Option (List ℕ)) (l : Language) : Type 0 where
   pub gives : Gives (first_line_of 4194304) left rest (Ok line)
   pub read : IsVocabulary line l
 
--- language, plan and events are those of the journal, where the disk tells its bytes
+-- language, plan and events are those of the journal, where the disk tells its bytes, and else those of some bytes
 pub record IsOfJournal (content : Option (List ℕ)) (l : Language) (plan : Plan) (events : List Event) : Type 0 where
   pub voc : List ℕ
   pub says : ForSome content (λ bytes. SaysSession bytes plan voc events)
+  pub some : (bytes : List ℕ) × SaysSession bytes plan voc events
   pub read : IsVocabulary voc l
   pub places : HavePlaces l plan events
 

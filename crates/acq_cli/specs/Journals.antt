@@ -1,9 +1,11 @@
 -- What a command over a journal says, and does about a journal that isn't opened.
-use Rattle.std.specs.Prelude.{◌≡◌, ℕ, List, [], ◌∷◌, ◌++◌, Option, Some, None, Result, Err, codes}
+use Rattle.std.specs.Prelude.{◌≡◌, ◌⊎◌, ℕ, List, [], ◌∷◌, ◌++◌, Option, Some, None, Result, Err, codes}
 use Rattle.std.specs.Fmt.{decimal}
 use Rattle.std.specs.Option.{ForSome}
 use Rattle.disk_model.specs.declared.disk.Disk.{Ghosts as DiskOf}
 use Rattle.acq_io.specs.declared.streams.Put.{Put}
+use Rattle.answer_journal.specs.Calls.{AreReadingCalls}
+use Rattle.answer_journal.specs.Synced.{IsSynced}
 use Rattle.answer_journal.specs.declared.fault.JFault.{JFault}
 use Rattle.disk_model.specs.Moments.{LeavesOnly}
 use Rattle.session_store.specs.Opening.{NotOpened}
@@ -73,11 +75,20 @@ Refuses fault said = RefusesBy (untold fault) fault said
 
 -- the meanings of a disk
 module _ {D : Type 0} (disk : DiskOf D) where
-  -- The journal wasn't opened, for what its bytes say where the disk tells them. The disk holds what it held.
+  -- A crash leaves only what a read gives, since a journal is synced before it is read. Or that sync failed, and no other call was
+  -- made; or memory was wanting before the first call.
+  abbrev pub LeavesClosed : SFault → (old new : D) → Type 0
+  LeavesClosed fault old new = ForSome (disk.content old) (IsSynced disk (fault ≡ store.Journal journal.DiskFault) old new) ⊎ ((fault ≡ store.Memory) × (new ≡ old))
+
+  -- The journal wasn't opened, for what its bytes say where the disk tells them, and else for what some bytes say. The disk holds what
+  -- it held.
   pub record StaysClosed (left written left' written' : Option (List ℕ)) (old new : D) (got : Result Ending Put) : Type 0 where
     pub fault : SFault
     pub why : ForSome (disk.content old) (λ bytes. NotOpened bytes fault)
+    pub some : (bytes : List ℕ) × NotOpened bytes fault
     pub refuses : SaysSo (Refuses fault) written written' got
     pub unread : left' ≡ left
     pub same : disk.content new ≡ disk.content old
     pub any_moment : LeavesOnly disk old new (disk.may_leave old)
+    pub now : LeavesClosed fault old new
+    pub calls : ForSome (disk.content old) (AreReadingCalls 5 (disk.calls old) (disk.calls new))

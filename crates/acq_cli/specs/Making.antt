@@ -1,5 +1,5 @@
 -- What `new` says and does.
-use Rattle.std.specs.Prelude.{◌≡◌, ◌⊎◌, ℕ, List, [], ◌∷◌, ◌++◌, length, Option, Some, Result, Ok, Err, IsErr, IsSome, codes}
+use Rattle.std.specs.Prelude.{◌≡◌, ◌⊎◌, ◌≤◌, ◌+◌, ℕ, List, [], ◌∷◌, ◌++◌, length, Option, Some, Result, Ok, Err, IsErr, IsSome, codes}
 use Rattle.std.specs.Fmt.{decimal}
 use Rattle.std.specs.Option.{ForSome}
 use Rattle.disk_model.specs.declared.disk.Disk.{Ghosts as DiskOf}
@@ -65,11 +65,14 @@ module _ {D : Type 0} (disk : DiskOf D) where
     pub says : IsSaid (made_said (Ok lang)) said
     pub now : ForSome (disk.content old) (λ _. LeavesNow disk (OpensWith plan voc []) new)
     pub any_moment : ForSome (disk.content old) (λ _. LeavesOnly disk old new (IsCreating (disk.may_leave old) plan voc))
+    pub calls : disk.calls new ≤ disk.calls old + 9
 
   -- It isn't, and why was said.
   pub record IsNotMade (plan : Plan) (voc : List ℕ) (old new : D) (said : Result Saying Unsaid) : Type 0 where
     pub fault : SFault
     pub why : ForSome (disk.content old) (λ bytes. NotMade voc bytes fault)
+    -- where the disk tells nothing, for what some bytes say
+    pub some : (bytes : List ℕ) × NotMade voc bytes fault
     -- a vocabulary is refused for what it says, before the disk is touched
     pub unread : (f : VocFault) → fault ≡ store.Voc f → (refusal_of_vocabulary voc ≡ Some f) × (new ≡ old)
     pub refuses : RefusesMaking fault said
@@ -78,6 +81,7 @@ module _ {D : Type 0} (disk : DiskOf D) where
     pub spared : ForSome (disk.content old) (λ bytes. HasNoSession bytes ⊎ IsOnlyRead disk old new)
     pub told : ForSome (disk.content old) (λ _. IsSome (disk.content new))
     pub any_moment : ForSome (disk.content old) (λ _. LeavesOnly disk old new (IsCreating (disk.may_leave old) plan voc))
+    pub calls : disk.calls new ≤ disk.calls old + 9
 
   abbrev pub Makes : Plan → List ℕ → D → D → Result Saying Unsaid → Type 0
   Makes plan voc old new said = IsMade plan voc old new said ⊎ IsNotMade plan voc old new said

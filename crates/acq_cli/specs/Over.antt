@@ -1,13 +1,15 @@
 -- What a command that only says something of a journal's session has done.
 use Rattle.std.specs.Prelude.{◌≡◌, ◌⊎◌, ℕ, List, Option, Result, Ok, Err, IfOk}
 use Rattle.std.specs.Option.{ForSome}
+use Rattle.answer_journal.specs.Calls.{AreReadingCalls}
 use Rattle.disk_model.specs.declared.disk.Disk.{Ghosts as DiskOf}
 use Rattle.disk_model.specs.Moments.{LeavesOnly}
+use Rattle.session_store.specs.Left.{LeavesNow, OpensWith}
 use Rattle.session_store.specs.Opened.{Opened, Holds, IsSession, Opens}
 use Rattle.session_store.specs.Opening.{NotOpened}
 use Rattle.session_store.specs.declared.fault.SFault.{SFault}
 use Rattle.acq_cli.specs.Exactly.{IsBrokenOff}
-use Rattle.acq_cli.specs.Journals.{Refuses, refused_said}
+use Rattle.acq_cli.specs.Journals.{LeavesClosed, Refuses, refused_said}
 use Rattle.acq_cli.specs.Said.{IsSaid}
 use Rattle.acq_cli.specs.Saying.{Saying}
 use Rattle.acq_cli.specs.declared.ending.Ending.{Ending}
@@ -34,16 +36,24 @@ OpensAs bytes (Err fault) = NotOpened bytes fault
 
 -- the meanings of a disk
 module _ {D : Type 0} (disk : DiskOf D) where
-  -- A session was opened, or none, which is what the journal opens with where the disk tells its bytes, and so it was said of this.
-  -- Where something was said of a session, what is true of it then is. The disk holds what it held.
+  -- a crash leaves only what opens with this session; where none was opened, only what a read gives
+  abbrev pub LeavesAsOpened : Result Opened SFault → (old new : D) → Type 0
+  LeavesAsOpened (Ok o) old new = ForSome (disk.content old) (λ _. LeavesNow disk (OpensWith o.plan o.voc o.events) new)
+  LeavesAsOpened (Err fault) old new = LeavesClosed disk fault old new
+
+  -- A session was opened, or none, which is what the journal opens with where the disk tells its bytes, and else what some bytes open
+  -- with; and so it was said of this. Where something was said of a session, what is true of it then is. The disk holds what it held.
   pub record SaysOver (Says : Result Opened SFault → Result Saying Unsaid → Type 0) (IsTrueOf : Opened → Type 0) (old new : D) (said : Result Saying Unsaid) : Type 0 where
     pub opening : Result Opened SFault
     pub opens : ForSome (disk.content old) (λ bytes. OpensAs bytes opening)
+    pub some : (bytes : List ℕ) × OpensAs bytes opening
     pub session : IfOk opening IsSession
     pub says : Says opening said
     pub so : IfOk said (λ _. IfOk opening IsTrueOf)
     pub same : disk.content new ≡ disk.content old
     pub any_moment : LeavesOnly disk old new (disk.may_leave old)
+    pub now : LeavesAsOpened opening old new
+    pub calls : ForSome (disk.content old) (AreReadingCalls 5 (disk.calls old) (disk.calls new))
 
 -- ---- Exactly when
 

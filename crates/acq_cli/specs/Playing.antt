@@ -1,6 +1,7 @@
 -- What `play` has done.
 use Rattle.std.specs.Prelude.{◌≡◌, ◌⊎◌, ◌↔◌, ◌≤◌, ℕ, false, IsTrue, List, [], length, Option, Result, Ok, Err, IfOk}
 use Rattle.std.specs.Option.{ForSome}
+use Rattle.answer_journal.specs.Calls.{AreReadingCalls}
 use Rattle.disk_model.specs.declared.disk.Disk.{Ghosts as DiskOf}
 use Rattle.acq_io.specs.Whole.{Gives, all_of}
 use Rattle.acq_io.specs.declared.streams.Put.{Put}
@@ -14,7 +15,7 @@ use Rattle.language.specs.Language.{Language, HasSameSolutions}
 use Rattle.language.specs.Answers.{IsNetwork, agrees, standing_on}
 use Rattle.network.specs.Target.{network_of}
 use Rattle.network.specs.declared.fault.NetFault.{NetFault}
-use Rattle.session_store.specs.Left.{SaysSession}
+use Rattle.session_store.specs.Left.{LeavesNow, OpensWith, SaysSession}
 use Rattle.session_store.specs.Replay.{HavePlaces}
 use Rattle.target_oracle.specs.NetTurns.{net_turn, net_may_say}
 use Rattle.voc_read.specs.Vocabulary.{IsVocabulary}
@@ -97,17 +98,21 @@ pub record IsAnsweredBy (target : List Candidate) (l : Language) (terms : Terms)
 
 -- the meanings of a disk
 module _ {D : Type 0} (disk : DiskOf D) where
-  -- A session was opened, which is that of the journal where the disk tells its bytes. The disk holds what it held.
+  -- A session was opened, which is that of the journal where the disk tells its bytes, and else that of some bytes. The disk holds
+  -- what it held, and where it tells its bytes, a crash leaves only what opens with the session and all its events.
   pub record IsOpened (old new : D) : Type 0 where
     pub plan : Plan
     pub voc : List ℕ
     pub events : List Event
     pub says : ForSome (disk.content old) (λ bytes. SaysSession bytes plan voc events)
+    pub some : (bytes : List ℕ) × SaysSession bytes plan voc events
     pub lang : Language
     pub read : IsVocabulary voc lang
     pub places : HavePlaces lang plan events
     pub same : disk.content new ≡ disk.content old
     pub any_moment : LeavesOnly disk old new (disk.may_leave old)
+    pub now : ForSome (disk.content old) (λ _. LeavesNow disk (OpensWith plan voc events) new)
+    pub calls : ForSome (disk.content old) (AreReadingCalls 5 (disk.calls old) (disk.calls new))
 
   -- some answers stand, which is told before anything is read
   pub record IsNotFresh (left written left' written' : Option (List ℕ)) (old new : D) (got : Result Ending Put) : Type 0 where

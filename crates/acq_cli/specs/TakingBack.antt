@@ -2,6 +2,7 @@
 use Rattle.std.specs.Prelude.{◌≡◌, ◌⊎◌, ◌<◌, ◌+◌, ℕ, zero, suc, Bool, true, false, List, [], ◌∷◌, ◌++◌, length, Result, Ok, Err, codes}
 use Rattle.std.specs.Fmt.{decimal}
 use Rattle.std.specs.Option.{ForSome}
+use Rattle.answer_journal.specs.Calls.{AreReadingCalls}
 use Rattle.disk_model.specs.declared.disk.Disk.{Ghosts as DiskOf}
 use Rattle.assign.specs.declared.events.Event.{Event}
 use Rattle.assign.specs.declared.events.Event.TheVariants as event
@@ -75,10 +76,11 @@ module _ {D : Type 0} (disk : DiskOf D) where
 
 module _ {D : Type 0} (disk : DiskOf D) where
   -- An answer of a session stood, and was taken back, or that failed. The session is that of the journal where the disk tells its
-  -- bytes.
+  -- bytes, and else that of some bytes.
   pub record HasTakenBack (old new : D) (said : Result Saying Unsaid) : Type 0 where
     pub of : Opened
     pub opens : ForSome (disk.content old) (λ bytes. Holds bytes of)
+    pub some : (bytes : List ℕ) × Holds bytes of
     pub session : IsSession of
     pub takes : takes_one of ≡ true
     pub room : length of.events + 1 < 1000000
@@ -86,6 +88,8 @@ module _ {D : Type 0} (disk : DiskOf D) where
     pub ends : EndsBack (back_said of) of.events later said
     pub all_places : HavePlaces of.lang of.plan (of.events ++ event.Back ∷ [])
     pub leaves : LeavesBack disk of.plan of.voc of.events later old new said
+    -- those of the opening, and at most eight
+    pub calls : ForSome (disk.content old) (AreReadingCalls 13 (disk.calls old) (disk.calls new))
 
   -- that, or nothing was taken back
   abbrev pub TakesBack : D → D → Result Saying Unsaid → Type 0

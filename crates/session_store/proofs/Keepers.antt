@@ -1,5 +1,5 @@
 -- Calls of a keeper, one after another.
-use Rattle.std.proofs.Common.{◌≡◌, ◌≤◌, ℕ, IsTrue, List, [], ◌∷◌, ◌++◌, Option, Some, is_some, refl, sym, ◌∙◌, ap, subst, inl, inr, arith, append_assoc}
+use Rattle.std.proofs.Common.{◌≡◌, ◌≤◌, ◌+◌, ℕ, length, IsTrue, List, [], ◌∷◌, ◌++◌, Option, Some, is_some, refl, sym, ◌∙◌, ap, subst, inl, inr, arith, append_assoc, length-append}
 use Rattle.std.specs.Option.{ForSome}
 use Rattle.std.proofs.lemmas.List.{append-nil}
 use Rattle.std.proofs.lemmas.List.Elements.{All-nil, All-cons, All-append}
@@ -29,6 +29,14 @@ grown_then one two three first second = record {
   is = second.is ∙ ap (λ (l : List Event). l ++ second.more) first.is ∙ append_assoc one first.more second.more;
   each = All-append IsAddable first.more second.more first.each second.each;
 }
+
+-- how many were added
+pub one_added : (before after : List Event) (e : Event) → after ≡ before ++ e ∷ [] → (grown : IsGrown before after) → length grown.more ≡ 1
+one_added before after e is grown = omega (arith, ap length is, ap length grown.is, length-append before (e ∷ []), length-append before grown.more)
+
+pub both_added : (one two three : List Event) (first : IsGrown one two) (second : IsGrown two three) (all : IsGrown one three) → length all.more ≡ length first.more + length second.more
+both_added one two three first second all =
+    omega (arith, ap length first.is, ap length second.is, ap length all.is, length-append one first.more, length-append two second.more, length-append one all.more)
 
 -- ---- contents
 
@@ -148,6 +156,7 @@ module _ {D : Type 0} (disk : DiskOf D)
       told = λ bytes is. ap is_some is;
       cause = λ failed. absurd (well failed);
       grown = grown_none (keep.record_of old) (keep.record_of new) same_record;
+      calls = record { each_kept = λ no. omega arith; at_most = omega arith };
       unwritten = λ no. refl;
       persists = λ w bytes told no.
           let As : List Event → Type 0 = λ l. Persists disk (keep.plan old) (keep.voc old) (keep.record_of old) l d d in
@@ -171,6 +180,13 @@ module _ {D : Type 0} (disk : DiskOf D)
       told = λ bytes is. let mid = bytes_told (disk.content y) (first.told bytes is) in second.told mid.0 mid.1;
       cause = λ failed. (sym first.same_writes ∙ (second.cause failed).0, rose_later (disk.faults x) (disk.faults y) (disk.faults z) first.later (second.cause failed).1);
       grown = grown_then (keep.record_of one) (keep.record_of two) (keep.record_of three) first.grown second.grown;
+      calls =
+          let grown = grown_then (keep.record_of one) (keep.record_of two) (keep.record_of three) first.grown second.grown in
+          let both = both_added (keep.record_of one) (keep.record_of two) (keep.record_of three) first.grown second.grown grown in
+          record {
+            each_kept = λ no. omega (arith, both, first.calls.each_kept (λ bad. bad), second.calls.each_kept no);
+            at_most = omega (arith, both, first.calls.each_kept (λ bad. bad), second.calls.at_most);
+          };
       unwritten = λ no. second.unwritten (first.same_writes ∙ no) ∙ first.unwritten no;
       persists = λ w bytes told no.
           let f = first.persists w bytes told (λ bad. bad) in
@@ -199,6 +215,7 @@ module _ {D : Type 0} (disk : DiskOf D)
       told = keeps.told;
       cause = λ failed. keeps.cause (to failed);
       grown = keeps.grown;
+      calls = record { each_kept = λ no. keeps.calls.each_kept (λ b. no (fro b)); at_most = keeps.calls.at_most };
       unwritten = keeps.unwritten;
       persists = λ w bytes told no. keeps.persists w bytes told (λ b. no (fro b));
       fails = λ failed.

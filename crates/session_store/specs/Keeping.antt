@@ -1,5 +1,5 @@
 -- What the calls of a keeper, one after another, have done to it and to its disk.
-use Rattle.std.specs.Prelude.{◌≡◌, ℕ, Bool, IsTrue, List, ◌∷◌, [], ◌++◌, Option, All}
+use Rattle.std.specs.Prelude.{◌≡◌, ◌≤◌, ◌+◌, ◌*◌, ℕ, Bool, IsTrue, List, ◌∷◌, [], ◌++◌, length, Option, All}
 use Rattle.std.specs.Option.{ForSome}
 use Rattle.assign.specs.Assignment.{Assignment}
 use Rattle.assign.specs.declared.events.Event.{Event}
@@ -47,6 +47,11 @@ module _ {D : Type 0} (disk : DiskOf D) where
   pub record Persists (plan : Plan) (voc : List ℕ) (before after : List Event) (old new : D) : Type 0 where
     pub now : LeavesNow disk (OpensWith plan voc after) new
     pub any_moment : LeavesOnly disk old new (OpensWithin plan voc before after)
+
+  -- At most eight calls were made for each of these events, which were added, and for one whose adding failed.
+  pub record AreEventCalls (has_failed : Type 0) (added : List Event) (old new : D) : Type 0 where
+    pub each_kept : (has_failed → ⊥) → disk.calls new ≤ disk.calls old + 8 * length added
+    pub at_most : disk.calls new ≤ disk.calls old + 8 * length added + 8
 
   -- The disk failed while an event was added, of which this is known: that of an answer to the question that is put, or a
   -- take-back. Where the disk told what it held, a crash leaves it as the last event, or leaves it out.

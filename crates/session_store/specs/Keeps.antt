@@ -4,7 +4,7 @@ use Rattle.std.specs.Option.{ForSome}
 use Rattle.assign.specs.declared.events.Event.{Event}
 use Rattle.disk_model.specs.Disk.{Rose}
 use Rattle.disk_model.specs.declared.disk.Disk.{Ghosts as DiskOf}
-use Rattle.session_store.specs.Keeping.{IsGrown, Persists, FailsWith}
+use Rattle.session_store.specs.Keeping.{AreEventCalls, IsGrown, Persists, FailsWith}
 use Rattle.session_store.specs.declared.keep.Keep.{Ghosts as KeepOf}
 
 -- What calls of a keeper have done, of which the last may have met a fault of the disk. This is then known of its event.
@@ -20,6 +20,8 @@ pub record Keeps {K D : Type 0} (keep : KeepOf K D) (disk : DiskOf D) (has_faile
   pub told : ForSome (disk.content disk_old) (λ _. IsSome (disk.content disk_new))
   pub cause : has_failed → IsTrue (keep.writes old) × Rose (disk.faults disk_old) (disk.faults disk_new)
   pub grown : IsGrown (keep.record_of old) (keep.record_of new)
+  -- between two events the disk isn't called
+  pub calls : AreEventCalls disk has_failed grown.more disk_old disk_new
   -- where nothing is written, the disk isn't touched
   pub unwritten : IsFalse (keep.writes old) → disk_new ≡ disk_old
   -- else events are added one after the other, where the disk tells

@@ -13,11 +13,12 @@ use Rattle.acq_cli.specs.TakingBack.{EndsBack, back_said, nothing_text, taken_te
 use Rattle.acq_cli.specs.Texts.{full_text}
 use Rattle.acq_cli.specs.declared.ending.Ending.TheVariants as ending
 use Rattle.acq_cli.specs.declared.said.Unsaid.TheVariants as unsaid
+use Rattle.acq_cli.proofs.Journals.{opened_now}
 use Rattle.acq_cli.proofs.Reached.{some_there}
 use Rattle.acq_cli.proofs.Running.{room_not_full}
 use Rattle.acq_cli.proofs.Spoken.{ok_any, said_as, silent_not}
 use Rattle.acq_cli.proofs.Standings.{room_unless}
-use Rattle.acq_cli.proofs.TakenBack.{back_reads, full_back, leaves_back, none_back, one_back}
+use Rattle.acq_cli.proofs.TakenBack.{back_calls, back_reads, full_back, leaves_back, none_back, one_back}
 use Rattle.acq_cli.proofs.back.back_journal.Goals as goal
 
 abbrev not_opened : SFault → Result Store SFault
@@ -32,11 +33,14 @@ returns-in-Err-clause-backs g c =
     inl (record {
       opening = Err c.in-Err.fault;
       opens = c.in-Err.ensures.refused;
+      some = c.in-Err.ensures.some_refusal;
       session = tt;
       says = c.refused.ensures.refuses;
       so = ok_any c.refused.result tt;
       same = c.open.ensures.same;
       any_moment = c.open.ensures.any_moment;
+      now = inl c.in-Err.ensures.synced;
+      calls = c.open.ensures.few_calls;
     })
 
 pub returns-in_default-clause-backs : goal.returns-in_default-clause-backs
@@ -47,11 +51,14 @@ returns-in_default-clause-backs g c =
     inl (record {
       opening = Ok o;
       opens = λ bytes told. record { says = c.in-Ok.ensures.opened bytes told; session = record { read = c.in-Ok.ensures.sound.read; places = c.in-Ok.ensures.places } };
+      some = let said = c.in-Ok.ensures.some_session in (said.0, record { says = said.1; session = record { read = c.in-Ok.ensures.sound.read; places = c.in-Ok.ensures.places } });
       session = record { read = c.in-Ok.ensures.sound.read; places = c.in-Ok.ensures.places };
       says = (none.0, said_as c.fixed.result c.or_silent.result (saying nothing_text ending.NothingBack) (back_said o) c.or_silent.ensures none.1 c.fixed.ensures);
       so = ok_any c.or_silent.result tt;
       same = c.open.ensures.same;
       any_moment = c.open.ensures.any_moment;
+      now = λ bytes told. let was = c.open.ensures.same ∙ told in opened_now g.D.Disk c.open.new.disk store bytes was (c.in-Ok.ensures.sits c.in-Ok.ensures.live bytes was);
+      calls = c.open.ensures.few_calls;
     })
 
 pub returns-then-is_full-clause-backs : goal.returns-then-is_full-clause-backs
@@ -63,11 +70,14 @@ returns-then-is_full-clause-backs g c =
     inl (record {
       opening = Ok o;
       opens = λ bytes told. record { says = c.in-Ok.ensures.opened bytes told; session = record { read = c.in-Ok.ensures.sound.read; places = c.in-Ok.ensures.places } };
+      some = let said = c.in-Ok.ensures.some_session in (said.0, record { says = said.1; session = record { read = c.in-Ok.ensures.sound.read; places = c.in-Ok.ensures.places } });
       session = record { read = c.in-Ok.ensures.sound.read; places = c.in-Ok.ensures.places };
       says = (full.0, said_as c.fixed-then-is_full.result c.or_silent-then-is_full.result (saying full_text ending.JournalFull) (back_said o) c.or_silent-then-is_full.ensures full.1 c.fixed-then-is_full.ensures);
       so = ok_any c.or_silent-then-is_full.result tt;
       same = c.open.ensures.same;
       any_moment = c.open.ensures.any_moment;
+      now = λ bytes told. let was = c.open.ensures.same ∙ told in opened_now g.D.Disk c.open.new.disk store bytes was (c.in-Ok.ensures.sits c.in-Ok.ensures.live bytes was);
+      calls = c.open.ensures.few_calls;
     })
 
 pub returns-clause-backs : goal.returns-clause-backs
@@ -84,6 +94,7 @@ returns-clause-backs g c =
     inr (record {
       of = o;
       opens = λ bytes told. record { says = c.in-Ok.ensures.opened bytes told; session = record { read = c.in-Ok.ensures.sound.read; places = c.in-Ok.ensures.places } };
+      some = let said = c.in-Ok.ensures.some_session in (said.0, record { says = said.1; session = record { read = c.in-Ok.ensures.sound.read; places = c.in-Ok.ensures.places } });
       session = record { read = c.in-Ok.ensures.sound.read; places = c.in-Ok.ensures.places };
       takes = one.0;
       room = room;
@@ -93,6 +104,8 @@ returns-clause-backs g c =
       leaves = leaves_back D o.plan o.voc taken o.events (events_of after) (question_of after)
           c.args.disk.now c.open.new.disk c.take_last.new.disk c.take_last.result c.open.ensures.same c.open.ensures.any_moment c.take_last.ensures.ends c.take_last.ensures.keeps.told
           (λ no bytes told. c.take_last.ensures.keeps.persists refl bytes told no) (λ is. c.take_last.ensures.keeps.fails is);
+      calls = λ bytes told. back_calls D o.events (events_of after) taken c.open.new.disk c.take_last.new.disk c.take_last.result c.take_last.ensures.ends
+          c.take_last.ensures.keeps.grown c.take_last.ensures.keeps.calls (D.calls c.args.disk.now) bytes (c.open.ensures.few_calls bytes told);
     })
 
 pub take_last-requires-clause-room : goal.take_last-requires-clause-room

@@ -1,4 +1,4 @@
-use Rattle.std.proofs.Common.{◌≡◌, ◌∙◌, is_some, true, ap, sym, subst, refl, List, Option, Some, None, inl, inr}
+use Rattle.std.proofs.Common.{◌≡◌, ◌∙◌, is_some, true, ap, sym, subst, refl, List, Option, Some, None, inl, inr, arith}
 use Rattle.std.proofs.lemmas.Result.{on_ok_weaker, on_err_weaker}
 use Rattle.assign.specs.Assignment.{Assignment}
 use Rattle.assign.specs.declared.events.Event.{Event}
@@ -52,7 +52,7 @@ returns-in-Answer g c =
       keeps =
           both_as Done (end_of r) c.end_of.result e (event_on c.args.entry (P.question old)) (sym c.end_of.ensures) is
           (keeps_event P D g.met.D.Disk.counts_now g.met.D.Disk.only_now old new x y e r keeper (inl (answer q yes, refl)) (inl (q, yes, asked.1, refl))
-          (λ w bytes told f left. g.met.P.Keep.lasts old x w keeper.live keeper.sits bytes told f left) ok c.answer.ensures.err same c.answer.ensures.sits c.answer.ensures.faults c.answer.ensures.memory c.answer.ensures.failed c.answer.ensures.disk c.answer.ensures.unwritten c.answer.ensures.written
+          (λ w bytes told f left. g.met.P.Keep.lasts old x w keeper.live keeper.sits bytes told f left) ok c.answer.ensures.err same c.answer.ensures.sits c.answer.ensures.faults c.answer.ensures.memory c.answer.ensures.failed c.answer.ensures.disk (omega (arith, c.answer.ensures.few_calls)) c.answer.ensures.unwritten c.answer.ensures.written
           (λ w bytes told. c.answer.ensures.any_moment w bytes told q asked.1));
     }
 
@@ -83,6 +83,6 @@ returns-in-Back g c =
       keeps =
           both_as Done (end_of r) c.end_of-in-Back.result e (event_on c.args.entry (P.question old)) (sym c.end_of-in-Back.ensures) is
           (keeps_event P D g.met.D.Disk.counts_now g.met.D.Disk.only_now old new x y e r keeper (inr refl) (inr refl)
-          (λ w bytes told f left. g.met.P.Keep.lasts old x w keeper.live keeper.sits bytes told f left) ok c.take_back.ensures.err same c.take_back.ensures.sits c.take_back.ensures.faults c.take_back.ensures.memory c.take_back.ensures.failed c.take_back.ensures.disk c.take_back.ensures.unwritten c.take_back.ensures.written
+          (λ w bytes told f left. g.met.P.Keep.lasts old x w keeper.live keeper.sits bytes told f left) ok c.take_back.ensures.err same c.take_back.ensures.sits c.take_back.ensures.faults c.take_back.ensures.memory c.take_back.ensures.failed c.take_back.ensures.disk c.take_back.ensures.few_calls c.take_back.ensures.unwritten c.take_back.ensures.written
           c.take_back.ensures.any_moment);
     }

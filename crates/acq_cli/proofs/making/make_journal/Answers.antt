@@ -31,6 +31,7 @@ returns-in-Ok-clause-makes g c =
           let t = bytes_told (g.D.Disk.content c.create.new.disk) (ok.told bytes told) in
           made_now g.D.Disk c.create.new.disk store c.args.plan c.args.voc.now t.0 t.1 ok.plan ok.voc ok.events (ok.sits ok.live t.0 t.1);
       any_moment = ok.any_moment;
+      calls = c.create.ensures.few_calls;
     })
 
 pub returns-in-Err-clause-makes : goal.returns-in-Err-clause-makes
@@ -38,12 +39,14 @@ returns-in-Err-clause-makes g c =
     inr (record {
       fault = c.in-Err.fault;
       why = c.in-Err.ensures.refused;
+      some = c.in-Err.ensures.some_refusal;
       unread = λ f is. c.in-Err.ensures.unread f (ap not_made is);
       refuses = c.unmade.ensures.refuses;
       untouched = c.in-Err.ensures.untouched;
       spared = c.in-Err.ensures.spared;
       told = c.in-Err.ensures.told;
       any_moment = c.create.ensures.any_moment;
+      calls = c.create.ensures.few_calls;
     })
 
 pub returns-in-Ok-clause-no_read : goal.returns-in-Ok-clause-no_read

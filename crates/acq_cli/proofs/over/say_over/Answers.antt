@@ -1,4 +1,4 @@
-use Rattle.std.proofs.Common.{◌≡◌, ap, sym, subst, Result, Ok, Err}
+use Rattle.std.proofs.Common.{◌≡◌, ◌∙◌, ap, sym, inl, subst, Result, Ok, Err}
 use Rattle.std.specs.Prelude.{IfOk}
 use Rattle.session_store.specs.Opened.{Opened, opened_as}
 use Rattle.session_store.specs.Store.{lang_of, plan_of, voc_of, events_of}
@@ -9,6 +9,7 @@ use Rattle.acq_cli.specs.Said.{IsSaid}
 use Rattle.acq_cli.specs.Saying.{Saying}
 use Rattle.acq_cli.specs.declared.said.Unsaid.{Unsaid}
 use Rattle.acq_cli.specs.declared.said.Unsaid.TheVariants as unsaid
+use Rattle.acq_cli.proofs.Journals.{opened_now}
 use Rattle.acq_cli.proofs.Spoken.{ok_any, said_so, silent_not, so_said}
 use Rattle.acq_cli.proofs.over.say_over.Goals as goal
 
@@ -27,22 +28,28 @@ returns-in-Ok-clause-says g c =
     record {
       opening = Ok o;
       opens = λ bytes told. record { says = c.in-Ok.ensures.opened bytes told; session = record { read = c.in-Ok.ensures.sound.read; places = c.in-Ok.ensures.places } };
+      some = let said = c.in-Ok.ensures.some_session in (said.0, record { says = said.1; session = record { read = c.in-Ok.ensures.sound.read; places = c.in-Ok.ensures.places } });
       session = record { read = c.in-Ok.ensures.sound.read; places = c.in-Ok.ensures.places };
       says = subst (IsSaid what) (sym c.or_silent.ensures) (said_so c.asked.result (λ s. s ≡ what) c.asked.ensures.says);
       so = subst So (sym c.or_silent.ensures) (so_said c.asked.result (AsksTruly c.args.ask o) c.asked.ensures.so);
       same = c.open.ensures.same;
       any_moment = c.open.ensures.any_moment;
+      now = λ bytes told. let was = c.open.ensures.same ∙ told in opened_now g.D.Disk c.open.new.disk store bytes was (c.in-Ok.ensures.sits c.in-Ok.ensures.live bytes was);
+      calls = c.open.ensures.few_calls;
     }
 
 pub returns-in-Err-clause-says : goal.returns-in-Err-clause-says
 returns-in-Err-clause-says g c = record {
   opening = Err c.in-Err.fault;
   opens = c.in-Err.ensures.refused;
+  some = c.in-Err.ensures.some_refusal;
   session = tt;
   says = c.refused.ensures.refuses;
   so = ok_any c.refused.result tt;
   same = c.open.ensures.same;
   any_moment = c.open.ensures.any_moment;
+  now = inl c.in-Err.ensures.synced;
+  calls = c.open.ensures.few_calls;
 }
 
 pub returns-in-Ok-clause-no_read : goal.returns-in-Ok-clause-no_read
