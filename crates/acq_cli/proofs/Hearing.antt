@@ -1,5 +1,5 @@
 -- A turn by what was heard of the teacher's word.
-use Rattle.std.proofs.Common.{◌≡◌, ◌∙◌, ◌+◌, ◌<◌, ℕ, List, [], ◌∷◌, ◌++◌, length, true, false, is_some, ap, sym, subst, refl, inl, inr, Option, Some, None}
+use Rattle.std.proofs.Common.{◌≡◌, ◌⊎◌, ◌∙◌, ◌+◌, ◌<◌, ℕ, List, [], ◌∷◌, ◌++◌, length, true, false, is_some, ap, sym, subst, refl, inl, inr, Option, Some, None}
 use Rattle.std.specs.Prelude.{◌≢◌, IfSome}
 use Rattle.assign.specs.Assignment.{Assignment}
 use Rattle.assign.specs.declared.events.Event.{Event}
@@ -11,17 +11,18 @@ use Rattle.query_gen.specs.Marks.{Remembered, IsMadeFor}
 use Rattle.query_gen.proofs.Marking.{no_marks_hold}
 use Rattle.session_laws.specs.Laws.{network_in}
 use Rattle.target_oracle.specs.Turns.{Turns, Reply, Said, TakenBack, Stopped, Ended, Overlong, Unread}
-use Rattle.target_oracle.specs.Tells.{Tells}
+use Rattle.target_oracle.specs.Tells.{Front, Tells}
 use Rattle.target_oracle.specs.declared.teacher.Told.{Told}
 use Rattle.target_oracle.specs.declared.teacher.Told.TheVariants as told
 use Rattle.acq_cli.specs.Added.{IsTaught, MayAdd, MayEnd}
 use Rattle.acq_cli.specs.Closings.{closing_of, ending_of}
-use Rattle.acq_cli.specs.Run.{Closing, Puts, Suspended, LineTooLong, Unreadable, answer, next_on, number_on, event_heard}
-use Rattle.acq_cli.specs.Driven.{Point, HasEnded, IsPending, MayFollow, RanTo, Remembers}
+use Rattle.acq_cli.specs.Run.{Closing, Next, Puts, Suspended, LineTooLong, Unreadable, answer, next_on, number_on, event_heard}
+use Rattle.acq_cli.specs.Driven.{Point, next_lines, HasEnded, IsPending, MayFollow, RanTo, Remembers}
 use Rattle.acq_cli.specs.Due.{EventKept}
 use Rattle.acq_cli.specs.Heard.{heard_of, event_on, MayKeep, Forgets}
 use Rattle.acq_cli.specs.Loop.{EndsAs}
 use Rattle.acq_cli.specs.Points.{point_of, terms_with}
+use Rattle.acq_cli.specs.Turn.{SaysNext}
 use Rattle.acq_cli.specs.declared.terms.Terms.{Terms}
 use Rattle.acq_cli.specs.declared.driving.Drove.{Drove}
 use Rattle.acq_cli.specs.declared.driving.Drove.TheVariants as drove
@@ -33,7 +34,7 @@ use Rattle.acq_cli.proofs.Answered.{ends_closed, ends_failed, not_full_with}
 use Rattle.acq_cli.proofs.Reached.{IsReached, some_stand}
 use Rattle.acq_cli.proofs.Running.{EndsSo, next_put, room_not_full}
 use Rattle.acq_cli.proofs.Standings.{AtQuestion, marks_after, run_laws, within}
-use Rattle.acq_cli.proofs.Turning.{AskedSo, ToldSo, FrontSo, asked_as, told_as, front_as, ran_closed, cut_turn}
+use Rattle.acq_cli.proofs.Turning.{AskedSo, ToldSo, FrontSo, asked_as, told_as, front_as, front_of_turn, ran_closed, cut_turn}
 
 -- the reply of which an entry is kept
 abbrev pub reply_of : Entry → Reply
@@ -83,6 +84,12 @@ word_write t count d is =
     (λ e. absurd cc) (λ e. absurd cc) (λ e. absurd cc) (λ e. absurd cc) (λ e. absurd cc) (λ e. refl) (λ e. absurd cc)
 
 -- the end of an entry is no other fault
+-- whether the disk failed
+pub disk_failed : (e : Event) (before after : List Event) (end : Option Drove) → EventKept e before after end → (end ≡ Some drove.DiskFault) ⊎ (end ≡ Some drove.DiskFault → ⊥)
+disk_failed e before after None kept = inr (λ is. cc)
+disk_failed e before after (Some end) (inl memory, _) = inr (λ is. let same : end ≡ drove.DiskFault = cc in let bad : ⊥ = cc in bad)
+disk_failed e before after (Some end) (inr failed, _) = inl (ap (λ (d : Drove). Some d) failed)
+
 pub kept_calm : (e : Event) (before after : List Event) (end : Option Drove) (d : Drove) → EventKept e before after end → d ≢ drove.Memory → d ≢ drove.DiskFault → end ≡ Some d → ⊥
 kept_calm e before after None d kept memory disk is = cc
 kept_calm e before after (Some end) d (inl same, _) memory disk is = memory (let so : d ≡ end = cc in so ∙ same)
@@ -139,8 +146,30 @@ module _ (l m : Language) (terms : Terms) (events : List Event) (count : ℕ) (q
   pub word_told : (t : Told) (e : Entry) → heard_of t count ≡ heard.Keep e → Spoken t → ToldSo turns l (number_on l events) q here there (reply_of e)
   word_told t e is = word_kept t count e (λ w n. Spoken w → ToldSo turns l (number_on l events) q here there (reply_of n)) is (told_here (Said true)) (told_here (Said false)) (told_here TakenBack)
 
+  front_here : FrontSo turns m (count + 1) q here there → FrontSo turns l (number_on l events) q here there
+  front_here = front_as turns m l (count + 1) (number_on l events) q here there asked.at.language (ap (λ n. n + 1) asked.at.number)
+
   pub word_asked : AskedSo turns m (count + 1) q here there → AskedSo turns l (number_on l events) q here there
   word_asked = asked_as turns m l (count + 1) (number_on l events) q here there asked.at.language (ap (λ n. n + 1) asked.at.number)
+
+  -- what was written goes no further than the question's lines, whatever was said
+  word_front : (t : Told) → Spoken t → FrontSo turns l (number_on l events) q here there
+  word_front told.Yes said = front_of_turn turns l (number_on l events) q here there (Said true) (told_here (Said true) said)
+  word_front told.No said = front_of_turn turns l (number_on l events) q here there (Said false) (told_here (Said false) said)
+  word_front told.Back said = front_of_turn turns l (number_on l events) q here there TakenBack (told_here TakenBack said)
+  word_front told.Stop said = front_of_turn turns l (number_on l events) q here there Stopped (told_here Stopped said)
+  word_front told.End said = front_of_turn turns l (number_on l events) q here there Ended (told_here Ended said)
+  word_front told.TooLong said = front_of_turn turns l (number_on l events) q here there Overlong (told_here Overlong said)
+  word_front told.Unreadable said = front_of_turn turns l (number_on l events) q here there Unread (told_here Unread said)
+  word_front told.ReadFault said = front_here said
+  word_front told.WriteFault said = front_here said
+  word_front told.Memory said = front_here said
+
+  pub word_says_next : (t : Told) → Spoken t → SaysNext turns l terms events left written written'
+  word_says_next t said bytes before is was =
+      let comes : next_on l terms events ≡ Some (Puts q) = next_put l terms events q asked.puts (room_not_full events asked.room) in
+      let Fronts : Option Next → Type 0 = λ next. Front (next_lines turns l events bytes next) before written' in
+      subst Fronts (sym comes) (word_front t said bytes before is was)
 
   -- how the loop ends
   pub word_ends : (t : Told) (d : Drove) (marks : Remembered) → IsMadeFor l marks → heard_of t count ≡ heard.End d → AskedSo turns m (count + 1) q here there → Spoken t → EndsAs turns l terms here there marks d

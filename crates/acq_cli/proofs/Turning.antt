@@ -10,6 +10,7 @@ use Rattle.target_oracle.specs.Turns.{Turns, Reply}
 use Rattle.target_oracle.specs.Tells.{AsksFirst, Turn, Front}
 use Rattle.acq_cli.specs.Closings.{closing_of}
 use Rattle.acq_cli.specs.Run.{Closing, Runs, Next, Puts, Ends, next_after, next_on, number_on, after_text, ended, event_heard}
+use Rattle.acq_cli.specs.Turn.{SaysNext}
 use Rattle.acq_cli.specs.declared.terms.Terms.{Terms}
 use Rattle.acq_cli.specs.Driven.{Point, StepsTo, RanTo, CutOff, StopsAt, next_lines, MayFollow, Loses, Drives}
 use Rattle.acq_cli.specs.declared.driving.Drove.{Drove}
@@ -144,6 +145,11 @@ pub front_of_turn : (turns : Turns) (l : Language) (k : ℕ) (q : Assignment) (a
 front_of_turn turns l k q a b reply told bytes before left written =
     let t = told bytes before left written in
     record { front = (turns l k q bytes).text; back = []; parts = sym (append-nil (turns l k q bytes).text); put = t.text }
+
+-- nothing was written
+pub says_nothing : (turns : Turns) (l : Language) (terms : Terms) (events : List Event) (left written : Option (List ℕ)) → SaysNext turns l terms events left written written
+says_nothing turns l terms events left written bytes before is was =
+    record { front = []; back = next_lines turns l events bytes (next_on l terms events); parts = refl; put = was ∙ some_text _ _ (sym (append-nil before)) }
 
 -- nothing is put
 pub ran_end : (turns : Turns) (l : Language) (terms : Terms) (closing : Closing) (a : Point) → next_on l terms a.events ≡ Some (Ends closing) → RanTo turns l terms closing a a

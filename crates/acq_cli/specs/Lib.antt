@@ -7,6 +7,7 @@ pub mod Due
 pub mod Heard
 pub mod Points
 pub mod Loop
+pub mod Turn
 pub mod Texts
 pub mod Breaks
 pub mod Saying

@@ -17,6 +17,7 @@ ghost use Rattle.acq_cli.specs.Added.{IsTaught, MayEnd};
 ghost use Rattle.acq_cli.specs.Due.{IsDue, EventKept};
 ghost use Rattle.acq_cli.specs.Heard.{heard_of, event_on, MayKeep, Forgets, Hears, end_of};
 ghost use Rattle.acq_cli.specs.Points.{point_of, terms_with};
+ghost use Rattle.acq_cli.specs.Turn.{ByTurns, IsTurn, ServesOn, between};
 ghost use Rattle.acq_cli.specs.Loop.{EndsAs, EndsUnasked, HasReadAndWritten, HasTurned, IsAtStart, IsReady};
 
 use crate::next::{Upcoming, next_of};
@@ -191,8 +192,11 @@ fn hear<S: Source, K: Sink, T: Teacher<S, K>>(
 }
 
 /// One turn: a question and its answer. None where the loop goes on.
+///
+/// A crash at any moment of it leaves every event that was there when it began, and it writes no more than the lines of the question
+/// that comes after those events. So an answer behind which a line is written outlives a crash: that line is of a later turn.
 #[tactic(auto, using(crate::proofs::Taking::takes_same))]
-fn take_turn<R: Threads + Sync, S: Source, K: Sink, D: Disk, T: Teacher<S, K>, P: Keep<D>, G: Gate>(
+pub fn take_turn<R: Threads + Sync, S: Source, K: Sink, D: Disk, T: Teacher<S, K>, P: Keep<D>, G: Gate>(
     rt: &R,
     alloc: Global,
     places: &mut [Place; 8],
@@ -215,7 +219,6 @@ fn take_turn<R: Threads + Sync, S: Source, K: Sink, D: Disk, T: Teacher<S, K>, P
     ensures ends { IfSome result (EndsAs (T.turn teacher.old) (P.lang keep.old) (terms_with (P.plan keep.old) budget)
         (point_of (P.record_of keep.old) (S.left source.old) (K.written sink.old))
         (point_of (P.record_of keep.new) (S.left source.new) (K.written sink.new)) screen.new) }
-    ensures teacher { TeachesOn T.turn T.fits T.may_say teacher.old teacher.new }
     ensures same { IsSameSession P.Keep keep.old keep.new }
     ensures taught { IsTaught (P.lang keep.old) (P.plan keep.old) (T.may_say teacher.old (P.lang keep.old)) (P.record_of keep.old) (P.record_of keep.new)
         (IfSome result (λ how. MayEnd (T.may_say teacher.old (P.lang keep.old)) (ending_of how))) }
@@ -225,7 +228,10 @@ fn take_turn<R: Threads + Sync, S: Source, K: Sink, D: Disk, T: Teacher<S, K>, P
         (point_of (P.record_of keep.new) (S.left source.new) (K.written sink.new)))
         keep.old keep.new disk.old disk.new }
     ensures faults { HasReadAndWritten (S.left source.old) (S.left source.new) (S.faults source.old) (S.faults source.new) (S.late source.old) (S.late source.new) (K.faults sink.old) (K.faults sink.new) (result ≡ Some Drove.ReadFault) (result ≡ Some Drove.WriteFault) }
-    ensures places { AreMadeFor (P.lang keep.old) places.new }
+    ensures serves { ServesOn T.turn T.fits T.may_say (P.lang keep.old) teacher.old teacher.new places.new }
+    // whatever comes of it
+    ensures turn { IsTurn P.Keep D.Disk (T.turn teacher.old) (P.lang keep.old) (terms_with (P.plan keep.old) budget)
+        (between keep.old disk.old (S.left source.old) (K.written sink.old)) (between keep.new disk.new (S.left source.new) (K.written sink.new)) }
 {
     if let Some(end) = put_next::<R, D, P, G>(rt, keep, places, screen, budget, gate) {
         return Some(end);
@@ -285,8 +291,10 @@ pub fn drive<R: Threads + Sync, S: Source, K: Sink, D: Disk, T: Teacher<S, K>, P
     // whatever the ending, the input has an end of what it had
     ensures faults { HasReadAndWritten (S.left source.old) (S.left source.new) (S.faults source.old) (S.faults source.new) (S.late source.old) (S.late source.new) (K.faults sink.old) (K.faults sink.new) (result ≡ Drove.ReadFault) (result ≡ Drove.WriteFault) }
     // however it ends, places and teacher serve another call
-    ensures places { AreMadeFor (P.lang keep.old) places.new }
-    ensures teacher { TeachesOn T.turn T.fits T.may_say teacher.old teacher.new }
+    ensures serves { ServesOn T.turn T.fits T.may_say (P.lang keep.old) teacher.old teacher.new places.new }
+    // no turn loses an event that was there when it began, or writes more than the lines of the question that came then
+    ensures by_turns { ByTurns P.Keep D.Disk (T.turn teacher.old) (P.lang keep.old) (terms_with (P.plan keep.old) budget)
+        (between keep.old disk.old (S.left source.old) (K.written sink.old)) (between keep.new disk.new (S.left source.new) (K.written sink.new)) }
 {
     let _variables = keep.session().lang().n();
     for _turn in 0..MOST_RECORDS {

@@ -1,5 +1,5 @@
 -- Calls of a keeper, one after another.
-use Rattle.std.proofs.Common.{◌≡◌, ◌≤◌, ◌+◌, ℕ, length, IsTrue, List, [], ◌∷◌, ◌++◌, Option, Some, is_some, refl, sym, ◌∙◌, ap, subst, inl, inr, arith, append_assoc, length-append}
+use Rattle.std.proofs.Common.{◌≡◌, ◌≤◌, ◌⊎◌, ⊎_elim, ◌+◌, ℕ, length, IsTrue, List, [], ◌∷◌, ◌++◌, Option, Some, is_some, refl, sym, ◌∙◌, ap, subst, inl, inr, arith, append_assoc, length-append}
 use Rattle.std.specs.Option.{ForSome}
 use Rattle.std.proofs.lemmas.List.{append-nil}
 use Rattle.std.proofs.lemmas.List.Elements.{All-nil, All-cons, All-append}
@@ -10,9 +10,9 @@ use Rattle.disk_model.specs.declared.disk.Disk.{Ghosts as DiskOf}
 use Rattle.disk_model.specs.Disk.{Rose}
 use Rattle.disk_model.specs.Moments.{LeavesOnly, started, joined, weaker}
 use Rattle.session_store.specs.Kept.{IsAddable, IsTried}
-use Rattle.session_store.specs.Left.{OpensWith, OpensWithOrWithout, OpensWithin, LeavesNow, bytes_told}
+use Rattle.session_store.specs.Left.{OpensWith, OpensWithOrWithout, OpensWithin, HoldsAtLeast, LeavesNow, bytes_told}
 use Rattle.session_store.specs.Keeping.{IsGrown, Persists, FailsWith}
-use Rattle.session_store.specs.Keeps.{Keeps}
+use Rattle.session_store.specs.Keeps.{Keeps, LosesNone, OnlyPuts}
 use Rattle.session_store.specs.declared.keep.Keep.{Ghosts as KeepOf}
 
 -- ---- events
@@ -67,6 +67,9 @@ within_none plan voc events c opens = record {
 pub within_one : (plan : Plan) (voc : List ℕ) (events : List Event) (e : Event) (c : List ℕ) → OpensWithOrWithout plan voc events e c → OpensWithin plan voc events (events ++ e ∷ []) c
 within_one plan voc events e c (inl opens) = within_more plan voc events events (events ++ e ∷ []) (e ∷ []) c refl (within_none plan voc events c opens)
 within_one plan voc events e c (inr opens) = record { some = e ∷ []; rest = []; is = ap (λ (l : List Event). events ++ l) (sym (append-nil (e ∷ []))); opens = opens }
+
+pub at_least : (plan : Plan) (voc : List ℕ) (before after : List Event) (c : List ℕ) → OpensWithin plan voc before after c → HoldsAtLeast plan voc before c
+at_least plan voc before after c w = record { more = w.some; opens = w.opens }
 
 pub rose_later : (a b c : ℕ) → a ≤ b → Rose b c → Rose a c
 rose_later a b c le rose = omega arith
@@ -222,3 +225,35 @@ module _ {D : Type 0} (disk : DiskOf D)
           let f = keeps.fails (to failed) in
           record { event = f.event; tried = f.tried; lost = known failed f.event f.lost; now = f.now; any_moment = f.any_moment };
     }
+
+    -- calls of which the last has failed or hasn't
+    pub loses_none : (has_failed : Type 0) (is_lost : Event → Type 0) (old new : K) (x y : D) → has_failed ⊎ (has_failed → ⊥) → Keeps keep disk has_failed is_lost old new x y →
+        LosesNone keep disk old x y
+    loses_none has_failed is_lost old new x y known keeps w bytes told =
+        let plan : Plan = keep.plan old in
+        let voc : List ℕ = keep.voc old in
+        let before : List Event = keep.record_of old in
+        let after : List Event = keep.record_of new in
+        let Left : Type 0 = LeavesOnly disk x y (HoldsAtLeast plan voc before) in
+        let failed : has_failed → Left = λ bad.
+            let f = keeps.fails bad in
+            weaker disk x y (OpensWithin plan voc before (after ++ f.event ∷ [])) (HoldsAtLeast plan voc before) (f.any_moment bytes told) (at_least plan voc before (after ++ f.event ∷ [])) in
+        let went_on : (has_failed → ⊥) → Left = λ well.
+            weaker disk x y (OpensWithin plan voc before after) (HoldsAtLeast plan voc before) (keeps.persists w bytes told well).any_moment (at_least plan voc before after) in
+        ⊎_elim failed went_on known
+
+    -- a disk that wasn't touched
+    pub loses_nothing : (old : K) (d : D) → (IsTrue (keep.writes old) → ForSome (disk.content d) (λ _. (c : List ℕ) → disk.may_leave d c → OpensWith (keep.plan old) (keep.voc old) (keep.record_of old) c)) →
+        LosesNone keep disk old d d
+    loses_nothing old d lasts w bytes told =
+        let plan : Plan = keep.plan old in
+        let voc : List ℕ = keep.voc old in
+        let events : List Event = keep.record_of old in
+        weaker disk d d (OpensWithin plan voc events events) (HoldsAtLeast plan voc events) (persists_none plan voc events d bytes told (lasts w bytes told)).any_moment (at_least plan voc events events)
+
+    -- of a keeper that was only asked to put a question
+    pub loses_none_as : (one two : K) (x y : D) → OnlyPuts keep one two → LosesNone keep disk two x y → LosesNone keep disk one x y
+    loses_none_as one two x y only none w bytes told =
+        let Spoken : Plan → List ℕ → Type 0 = λ p v. LeavesOnly disk x y (HoldsAtLeast p v (keep.record_of two)) in
+        let Left : List Event → Type 0 = λ es. LeavesOnly disk x y (HoldsAtLeast (keep.plan one) (keep.voc one) es) in
+        subst Left only.events (both_as Spoken (keep.plan two) (keep.plan one) (keep.voc two) (keep.voc one) only.plan only.voc (none (only.writes ∙ w) bytes told))

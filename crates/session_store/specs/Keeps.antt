@@ -3,7 +3,9 @@ use Rattle.std.specs.Prelude.{◌≡◌, ◌≤◌, IsTrue, IsFalse, IsSome}
 use Rattle.std.specs.Option.{ForSome}
 use Rattle.assign.specs.declared.events.Event.{Event}
 use Rattle.disk_model.specs.Disk.{Rose}
+use Rattle.disk_model.specs.Moments.{LeavesOnly}
 use Rattle.disk_model.specs.declared.disk.Disk.{Ghosts as DiskOf}
+use Rattle.session_store.specs.Left.{HoldsAtLeast}
 use Rattle.session_store.specs.Keeping.{AreEventCalls, IsGrown, Persists, FailsWith}
 use Rattle.session_store.specs.declared.keep.Keep.{Ghosts as KeepOf}
 
@@ -50,3 +52,8 @@ pub record IsSameSession {K D : Type 0} (keep : KeepOf K D) (old new : K) : Type
   pub lang : keep.lang new ≡ keep.lang old
   pub plan : keep.plan new ≡ keep.plan old
   pub sound : keep.sound new
+
+-- Where events are written and the disk tells: a crash at any moment since then leaves every event that was there.
+abbrev pub LosesNone : {K D : Type 0} → KeepOf K D → DiskOf D → K → D → D → Type 0
+LosesNone keep disk old disk_old disk_new =
+    IsTrue (keep.writes old) → ForSome (disk.content disk_old) (λ _. LeavesOnly disk disk_old disk_new (HoldsAtLeast (keep.plan old) (keep.voc old) (keep.record_of old)))

@@ -24,6 +24,11 @@ pub record OpensWithin (plan : Plan) (voc : List ℕ) (before after : List Event
   pub is : after ≡ before ++ (some ++ rest)
   pub opens : OpensWith plan voc (before ++ some) content
 
+-- It opens with these events, whatever comes behind them.
+pub record HoldsAtLeast (plan : Plan) (voc : List ℕ) (events : List Event) (content : List ℕ) : Type 0 where
+  pub more : List Event
+  pub opens : OpensWith plan voc (events ++ more) content
+
 -- The disk tells what a read gives, and each content that a crash may leave now has P.
 pub record LeavesNow {D : Type 0} (disk : DiskOf D) (P : List ℕ → Type 0) (new : D) : Type 0 where
   pub bytes : List ℕ

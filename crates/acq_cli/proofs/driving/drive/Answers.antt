@@ -1,4 +1,4 @@
-use Rattle.std.proofs.Common.{◌∷◌, [], length-append, Option, Some, None, ◌≡◌, ◌∙◌, ◌+◌, List, length, ap, sym, subst, arith, refl}
+use Rattle.std.proofs.Common.{ℕ, ◌∷◌, [], length-append, Option, Some, None, ◌≡◌, ◌∙◌, ◌+◌, List, length, ap, sym, subst, arith, refl}
 use Rattle.std.specs.Prelude.{IfSome}
 use Rattle.assign.specs.declared.events.Event.{Event}
 use Rattle.assign.specs.declared.events.Plan.{Plan}
@@ -26,6 +26,9 @@ use Rattle.acq_cli.proofs.Added.{added_none, added_then, added_more, ends_more}
 use Rattle.acq_cli.proofs.Owners.{owned}
 use Rattle.acq_cli.proofs.Walked.{leaves_nothing}
 use Rattle.acq_cli.proofs.Turning.{steps_on, steps_end, steps_loses, steps_none}
+use Rattle.disk_model.specs.declared.disk.Disk.{Ghosts as DiskOf}
+use Rattle.session_store.specs.declared.keep.Keep.{Ghosts as KeepOf}
+use Rattle.acq_cli.specs.Turn.{Between, IsTurn, between}
 use Rattle.acq_cli.proofs.driving.drive.Goals as goal
 
 more_by_one : (old new : List Event) → IsOneMore old new → length new ≡ length old + 1
@@ -42,6 +45,14 @@ some_read d e = cc
 
 some_same : (d : Drove) → Some d ≡ Some drove.DiskFault → d ≡ drove.DiskFault
 some_same d e = cc
+
+-- the turn, of the language, plan and teacher of the beginning
+turned_so : {K D : Type 0} (keep : KeepOf K D) (disk : DiskOf D) (turns then : Turns) (l m : Language) (p q : Plan) (budget : ℕ) (old new : Between K D) → then ≡ turns → m ≡ l → q ≡ p →
+    IsTurn keep disk then m (terms_with q budget) old new → IsTurn keep disk turns l (terms_with p budget) old new
+turned_so keep disk turns then l m p q budget old new taught same planned turn =
+    let Taught : Turns → Type 0 = λ t. IsTurn keep disk t m (terms_with q budget) old new in
+    let Spoken : Language → Plan → Type 0 = λ x y. IsTurn keep disk turns x (terms_with y budget) old new in
+    carried Spoken m l q p same planned (subst Taught taught turn)
 
 pub loop-turn-init : goal.loop-turn-init
 loop-turn-init g c =
@@ -69,6 +80,7 @@ loop-turn-init g c =
           let D = g.D.Disk in let P = g.P.Keep in
           keeps_still D g.met.D.Disk.counts_now g.met.D.Disk.only_now P ⊥ (λ e. ⊥) c.args.keep.now c.args.keep.now c.args.disk.now (λ e. e) refl refl refl refl refl c.requires.keeper.live c.requires.keeper.sits
           (λ w bytes told f left. g.met.P.Keep.lasts c.args.keep.now c.args.disk.now w c.requires.keeper.live c.requires.keeper.sits bytes told f left);
+      by_turns = ([], refl);
       more = omega arith;
     }
 
@@ -128,13 +140,19 @@ returns-in-Some g c =
         read = record { takes = takes_then _ _ _ before.takes turn.faults.read.takes; called = called_on _ _ _ _ _ _ _ before.called (called_as _ _ _ _ _ _ (λ is. some_read how (sym c.in-Some.is ∙ is)) (λ is. c.in-Some.is ∙ ap (λ (x : Drove). Some x) is) turn.faults.read.called) };
         write = record { later = omega (arith, turn.faults.write.later, before.later_sink); rose = λ is. rose_later _ _ _ before.later_sink (turn.faults.write.rose (c.in-Some.is ∙ ap (λ (x : Drove). Some x) is)) };
       };
-      places = subst Equipped before.lang turn.places;
-      teacher = record {
-        turn = turn.teacher.turn ∙ before.turn;
-        fits = λ m fits. turn.teacher.fits m (before.fits_on m fits);
-        fitted = λ m fits. before.fitted m (turn.teacher.fitted m fits);
-        no_more = λ m q told may. before.no_more m q told (turn.teacher.no_more m q told may);
+      serves = record {
+        teaches = record {
+          turn = turn.serves.teaches.turn ∙ before.turn;
+          fits = λ m fits. turn.serves.teaches.fits m (before.fits_on m fits);
+          fitted = λ m fits. before.fitted m (turn.serves.teaches.fitted m fits);
+          no_more = λ m q told may. before.no_more m q told (turn.serves.teaches.no_more m q told may);
+        };
+        equipped = subst Equipped before.lang turn.serves.equipped;
       };
+      by_turns =
+          let was = between two c.loop-turn.disk (g.S.Source.left c.loop-turn.source) (g.K.Sink.written c.loop-turn.sink) in
+          let is = between three c.take_turn.new.disk (g.S.Source.left c.take_turn.new.source) (g.K.Sink.written c.take_turn.new.sink) in
+          (was ∷ before.by_turns.0, (before.by_turns.1, turned_so P D turns (T.turn c.loop-turn.teacher) l old p still c.args.budget was is before.turn before.lang before.plan turn.turn));
     }
 
 pub loop-turn-preserved : goal.loop-turn-preserved
@@ -165,16 +183,16 @@ loop-turn-preserved g c =
       remembers = carried Remembered old new before after (sym c.take_turn.ensures.same.lang) (sym c.take_turn.ensures.same.plan) (c.take_turn.ensures.ready c.in_default.is).hold;
       plan = c.take_turn.ensures.same.plan ∙ c.loop-turn.invariant.plan;
       lang = c.take_turn.ensures.same.lang ∙ c.loop-turn.invariant.lang;
-      fits = subst Fits (sym c.take_turn.ensures.same.lang) (c.take_turn.ensures.teacher.fits old c.loop-turn.invariant.fits);
-      fits_on = λ m fits. c.take_turn.ensures.teacher.fits m (c.loop-turn.invariant.fits_on m fits);
-      fitted = λ m fits. c.loop-turn.invariant.fitted m (c.take_turn.ensures.teacher.fitted m fits);
-      turn = c.take_turn.ensures.teacher.turn ∙ c.loop-turn.invariant.turn;
+      fits = subst Fits (sym c.take_turn.ensures.same.lang) (c.take_turn.ensures.serves.teaches.fits old c.loop-turn.invariant.fits);
+      fits_on = λ m fits. c.take_turn.ensures.serves.teaches.fits m (c.loop-turn.invariant.fits_on m fits);
+      fitted = λ m fits. c.loop-turn.invariant.fitted m (c.take_turn.ensures.serves.teaches.fitted m fits);
+      turn = c.take_turn.ensures.serves.teaches.turn ∙ c.loop-turn.invariant.turn;
       steps = steps_on turns l (terms_with p c.args.budget) a b d c.loop-turn.invariant.steps
           (carried Spoken old l before p c.loop-turn.invariant.lang c.loop-turn.invariant.plan (subst Turned c.loop-turn.invariant.turn (c.take_turn.ensures.again c.in_default.is).steps));
       takes = takes_then _ _ _ c.loop-turn.invariant.takes c.take_turn.ensures.faults.read.takes;
       called = called_on _ _ _ _ _ _ _ c.loop-turn.invariant.called (called_as _ _ _ _ _ _ (λ is. not_read (sym c.in_default.is ∙ is)) (λ never. absurd never) c.take_turn.ensures.faults.read.called);
       later_sink = omega (arith, c.take_turn.ensures.faults.write.later, c.loop-turn.invariant.later_sink);
-      no_more = λ m q told may. c.loop-turn.invariant.no_more m q told (c.take_turn.ensures.teacher.no_more m q told may);
+      no_more = λ m q told may. c.loop-turn.invariant.no_more m q told (c.take_turn.ensures.serves.teaches.no_more m q told may);
       added = added_then l p (g.T.Teacher.may_say c.args.teacher.now l) (g.P.Keep.record_of c.args.keep.now) (g.P.Keep.record_of c.loop-turn.keep) (g.P.Keep.record_of c.take_turn.new.keep) c.loop-turn.invariant.added
           (let Added : Language → Plan → Type 0 = λ m q. IsAdded m q (g.T.Teacher.may_say c.loop-turn.teacher m) (g.P.Keep.record_of c.loop-turn.keep) (g.P.Keep.record_of c.take_turn.new.keep) in
           added_more l p (g.T.Teacher.may_say c.loop-turn.teacher l) (g.T.Teacher.may_say c.args.teacher.now l) (g.P.Keep.record_of c.loop-turn.keep) (g.P.Keep.record_of c.take_turn.new.keep) (c.loop-turn.invariant.no_more l)
@@ -184,6 +202,11 @@ loop-turn-preserved g c =
           let Failed : Type 0 = c.take_turn.result ≡ Some drove.DiskFault in
           keeps_then D g.met.D.Disk.counts_now g.met.D.Disk.only_now P ⊥ (λ e. ⊥) (λ e. ⊥) c.args.keep.now c.loop-turn.keep c.take_turn.new.keep c.args.disk.now c.loop-turn.disk c.take_turn.new.disk c.loop-turn.invariant.plan (λ e lost. lost) c.loop-turn.invariant.keeps
           (keeps_as D g.met.D.Disk.counts_now g.met.D.Disk.only_now P Failed ⊥ _ (λ e. ⊥) c.loop-turn.keep c.take_turn.new.keep c.loop-turn.disk c.take_turn.new.disk (λ e. absurd e) (λ e. not_failed (sym c.in_default.is ∙ e)) (λ bad e lost. bad) c.take_turn.ensures.keeps);
+      by_turns =
+          let P = g.P.Keep in
+          let was = between c.loop-turn.keep c.loop-turn.disk (g.S.Source.left c.loop-turn.source) (g.K.Sink.written c.loop-turn.sink) in
+          let is = between c.take_turn.new.keep c.take_turn.new.disk (g.S.Source.left c.take_turn.new.source) (g.K.Sink.written c.take_turn.new.sink) in
+          (was ∷ c.loop-turn.invariant.by_turns.0, (c.loop-turn.invariant.by_turns.1, turned_so P g.D.Disk turns (g.T.Teacher.turn c.loop-turn.teacher) l old p before c.args.budget was is c.loop-turn.invariant.turn c.loop-turn.invariant.lang c.loop-turn.invariant.plan c.take_turn.ensures.turn));
       more = omega (arith, one, c.loop-turn.invariant.more);
     }
 

@@ -11,6 +11,7 @@ use Rattle.session_store.specs.Keeps.{Keeps}
 use Rattle.acq_cli.specs.Added.{IsAdded}
 use Rattle.acq_cli.specs.Driven.{Remembers, StepsTo}
 use Rattle.acq_cli.specs.Points.{point_of, terms_with}
+use Rattle.acq_cli.specs.Turn.{ByTurns, between}
 use Rattle.acq_cli.proofs.driving.drive.Given as goal
 
 abbrev pub invariant-loop-turn : goal.invariant-loop-turn
@@ -38,5 +39,7 @@ invariant-loop-turn g l =
       added : IsAdded (g.P.Keep.lang l.initial.keep) (g.P.Keep.plan l.initial.keep) (g.T.Teacher.may_say l.initial.teacher (g.P.Keep.lang l.initial.keep)) (entries l.initial.keep) (entries l.keep);
       keeps : Keeps g.P.Keep g.D.Disk ⊥ (λ e. ⊥)
           l.initial.keep l.keep l.initial.disk l.disk;
+      by_turns : ByTurns g.P.Keep g.D.Disk (g.T.Teacher.turn l.initial.teacher) (g.P.Keep.lang l.initial.keep) (terms_with (g.P.Keep.plan l.initial.keep) l.fn.budget)
+          (between l.initial.keep l.initial.disk (left l.initial.source) (written l.initial.sink)) (between l.keep l.disk (left l.source) (written l.sink));
       more : l._turn ≤ length (entries l.keep);
     }

@@ -7,7 +7,7 @@ use Rattle.language.specs.Language.{Language}
 use Rattle.language.specs.Answers.{standing_on}
 use Rattle.session_core.specs.Settled.{IsSettled}
 use Rattle.session_core.specs.Standing.{knowledge_of}
-use Rattle.session_store.proofs.Keepers.{both_as, keeps_as, keeps_still, keeps_then}
+use Rattle.session_store.proofs.Keepers.{both_as, keeps_as, keeps_still, keeps_then, loses_none, loses_none_as, loses_nothing}
 use Rattle.target_oracle.specs.Turns.{Turns}
 use Rattle.acq_cli.specs.declared.terms.Terms.{Terms}
 use Rattle.acq_cli.specs.Driven.{Loses, MayFollow}
@@ -22,11 +22,11 @@ use Rattle.acq_cli.specs.declared.driving.Entry.{Entry}
 use Rattle.acq_cli.specs.declared.driving.Heard.TheVariants as heard
 use Rattle.acq_cli.proofs.Added.{adds, taught_kept, taught_none}
 use Rattle.acq_cli.proofs.Answered.{ends, ends_closed, kept_on, loses, turned, unasked_may}
-use Rattle.acq_cli.proofs.Hearing.{entry_gives, hold_after, kept_calm, may_keep, reply_of, word_asked, word_ends, word_follows, word_may_add, word_may_end, word_not_disk, word_told}
+use Rattle.acq_cli.proofs.Hearing.{disk_failed, entry_gives, hold_after, kept_calm, may_keep, reply_of, word_asked, word_ends, word_follows, word_may_add, word_may_end, word_not_disk, word_says_next, word_told}
 use Rattle.acq_cli.proofs.Running.{next_full}
 use Rattle.acq_cli.proofs.Standings.{AtQuestion, asks, carried, room_unless, run_laws}
 use Rattle.acq_cli.proofs.Taking.{takes_same}
-use Rattle.acq_cli.proofs.Turning.{ran_end}
+use Rattle.acq_cli.proofs.Turning.{ran_end, says_nothing}
 use Rattle.acq_cli.proofs.driving.take_turn.Goals as goal
 
 -- an ending without a question is no fault
@@ -60,7 +60,6 @@ returns-in-Some g c =
       again = λ none. absurd (let no : ⊥ = cc in no);
       ready = λ none. absurd (let no : ⊥ = cc in no);
       ends = subst Ends (sym only.events) (unasked.ends turns left written);
-      teacher = record { turn = refl; fits = λ m fits. fits; fitted = λ m fits. fits; no_more = λ m q told may. may };
       same = record { lang = only.lang; plan = only.plan; sound = only.sound };
       taught = taught_none l (P.plan one) (g.T.Teacher.may_say c.args.teacher.now l) (P.record_of one) (P.record_of two) only.events (unasked_may (g.T.Teacher.may_say c.args.teacher.now l) how unasked.unasked);
       keeps =
@@ -70,7 +69,11 @@ returns-in-Some g c =
         read = record { takes = takes_same left; called = called_not _ _ _ (no_fault how drove.ReadFault unasked.unasked refl) };
         write = record { later = omega arith; rose = λ so. absurd (no_fault how drove.WriteFault unasked.unasked refl so) };
       };
-      places = c.put_next.ensures.places;
+      serves = record { teaches = record { turn = refl; fits = λ m fits. fits; fitted = λ m fits. fits; no_more = λ m q told may. may }; equipped = c.put_next.ensures.places };
+      turn = record {
+        acknowledged = loses_nothing D g.met.D.Disk.counts_now g.met.D.Disk.only_now P one c.args.disk.now (λ w bytes told f gone. g.met.P.Keep.lasts one c.args.disk.now w c.requires.keeper.live c.requires.keeper.sits bytes told f gone);
+        says_next = says_nothing turns l terms (P.record_of one) left written;
+      };
     }
 
 -- ---- one comes, and there is no record for it
@@ -98,7 +101,6 @@ returns-then-is_full g c =
       ends = subst Ends (sym only.events) (ends_closed turns l terms a a c.put_next.new.screen c.put_next.ensures.screen drove.JournalFull (λ m e. cc)
           (λ is. record { question = due.question; puts = due.puts; full = full }, λ f. refl) (λ e. cc) (λ e. cc) (record { number = tt; found = (due.question, due.puts) })
           (ran_end turns l terms JournalFull a (next_full l terms events due.question due.puts full)));
-      teacher = record { turn = refl; fits = λ m fits. fits; fitted = λ m fits. fits; no_more = λ m q told may. may };
       same = record { lang = only.lang; plan = only.plan; sound = only.sound };
       taught = taught_none l (P.plan one) (g.T.Teacher.may_say c.args.teacher.now l) events (P.record_of two) only.events tt;
       keeps =
@@ -108,7 +110,11 @@ returns-then-is_full g c =
         read = record { takes = takes_same left; called = called_not _ _ _ (λ so. cc) };
         write = record { later = omega arith; rose = λ so. absurd (let no : ⊥ = cc in no) };
       };
-      places = c.put_next.ensures.places;
+      serves = record { teaches = record { turn = refl; fits = λ m fits. fits; fitted = λ m fits. fits; no_more = λ m q told may. may }; equipped = c.put_next.ensures.places };
+      turn = record {
+        acknowledged = loses_nothing D g.met.D.Disk.counts_now g.met.D.Disk.only_now P one c.args.disk.now (λ w bytes told f gone. g.met.P.Keep.lasts one c.args.disk.now w c.requires.keeper.live c.requires.keeper.sits bytes told f gone);
+        says_next = says_nothing turns l terms events left written;
+      };
     }
 
 -- ---- it is asked
@@ -205,7 +211,6 @@ returns-in-Keep g c =
       };
       ends = ends l k.lang terms events k.answers q at turns after (reply_of entry) e (entry_gives q entry) left written left' written' end c.forget.new.screen made follows kept told
           (word_asked l k.lang terms events k.answers q at turns left written left' written' hears.asks);
-      teacher = c.hear.ensures.teacher;
       same = record { lang = c.keep_event.ensures.same.lang ∙ only.lang; plan = c.keep_event.ensures.same.plan ∙ only.plan; sound = c.keep_event.ensures.same.sound };
       taught = record {
         added = adds run_laws l at.at.lawful terms may events after q e end at.puts at.fits follows kept (word_may_add l word k.answers entry may q is at.fits (subst May at.at.language hears.says));
@@ -226,7 +231,12 @@ returns-in-Keep g c =
         };
         write = record { later = c.hear.ensures.faults.write.later; rose = λ so. absurd (kept_calm e events after end drove.WriteFault kept (λ x. cc) (λ x. cc) so) };
       };
-      places = c.put_next.ensures.places;
+      serves = record { teaches = c.hear.ensures.teacher; equipped = c.put_next.ensures.places };
+      turn = record {
+        acknowledged = loses_none_as D g.met.D.Disk.counts_now g.met.D.Disk.only_now P one two c.args.disk.now c.keep_event.new.disk only
+            (loses_none D g.met.D.Disk.counts_now g.met.D.Disk.only_now P Failed Was two three c.args.disk.now c.keep_event.new.disk (disk_failed e events after end kept) c.keep_event.ensures.keeps);
+        says_next = word_says_next l k.lang terms events k.answers q at turns left written left' written' word hears.tells;
+      };
     }
 
 pub returns-in-End : goal.returns-in-End
@@ -262,7 +272,6 @@ returns-in-End g c =
       again = λ none. absurd (let no : ⊥ = cc in no);
       ready = λ none. absurd (let no : ⊥ = cc in no);
       ends = subst Ends (sym only.events) (word_ends l k.lang terms events k.answers q at turns left written left' written' word end c.put_next.new.screen c.put_next.ensures.screen is hears.asks hears.tells);
-      teacher = c.hear.ensures.teacher;
       same = record { lang = only.lang; plan = only.plan; sound = only.sound };
       taught = taught_none l plan may events (P.record_of two) only.events (word_may_end word k.answers end may q is (subst May at.at.language hears.says));
       keeps =
@@ -272,5 +281,9 @@ returns-in-End g c =
         read = record { takes = c.hear.ensures.faults.read.takes; called = called_as _ _ _ _ _ _ (some_end end drove.ReadFault) (end_heard end drove.ReadFault) c.in-End.ensures.faults.read.called };
         write = record { later = c.hear.ensures.faults.write.later; rose = λ so. c.in-End.ensures.faults.write.rose (end_heard end drove.WriteFault so) };
       };
-      places = c.put_next.ensures.places;
+      serves = record { teaches = c.hear.ensures.teacher; equipped = c.put_next.ensures.places };
+      turn = record {
+        acknowledged = loses_nothing D g.met.D.Disk.counts_now g.met.D.Disk.only_now P one c.args.disk.now (λ w bytes told f gone. g.met.P.Keep.lasts one c.args.disk.now w c.requires.keeper.live c.requires.keeper.sits bytes told f gone);
+        says_next = word_says_next l k.lang terms events k.answers q at turns left written left' written' word hears.tells;
+      };
     }
