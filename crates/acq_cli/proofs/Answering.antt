@@ -26,11 +26,11 @@ use Rattle.target_oracle.specs.Lines.{Spoken, spoken, spoken_in, no_answer_text,
 use Rattle.target_oracle.specs.NetTurns.{net_turn}
 use Rattle.target_oracle.specs.Turns.{Turns, Turned, turned_after, Said, Unread}
 use Rattle.acq_cli.specs.Completing.{IsAnswerLine, HasRoom}
-use Rattle.acq_cli.specs.Run.{Closing, Converged, Collapsed, Undecided, Suspended, LineTooLong, Unreadable, JournalFull, Next, Puts, Ends, puts_or, searched, idle_next, next_at, next_in, next_after, next_on, number_on, Ran, after_text, answer, ended, heard_on, turned_on, put_on, ran}
-use Rattle.acq_cli.specs.declared.terms.Terms.{Terms}
-use Rattle.acq_cli.proofs.Reached.{IsReached}
-use Rattle.acq_cli.proofs.Running.{next_ends, next_put, placed, puts_next, room_not_full, sized_at}
-use Rattle.acq_cli.proofs.Standings.{run_laws}
+use Rattle.acq_loop.specs.Run.{Closing, Converged, Collapsed, Undecided, Suspended, LineTooLong, Unreadable, JournalFull, Next, Puts, Ends, puts_or, searched, idle_next, next_at, next_in, next_after, next_on, number_on, Ran, after_text, answer, ended, heard_on, turned_on, put_on, ran}
+use Rattle.acq_loop.specs.declared.terms.Terms.{Terms}
+use Rattle.acq_loop.proofs.Reached.{IsReached}
+use Rattle.acq_loop.proofs.Running.{next_ends, next_put, placed, puts_next, room_not_full, sized_at}
+use Rattle.acq_loop.proofs.Standings.{run_laws}
 
 -- ---- how a run ends where nothing is put
 

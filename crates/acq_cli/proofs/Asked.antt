@@ -21,36 +21,36 @@ use Rattle.disk_model.specs.Moments.{started}
 use Rattle.session_store.specs.Opened.{Opened}
 use Rattle.session_store.specs.declared.fault.SFault.{SFault}
 use Rattle.session_store.specs.declared.fault.SFault.TheVariants as store
-use Rattle.acq_cli.specs.Journals.{StaysClosed}
-use Rattle.acq_cli.specs.Running.{RunsOn}
+use Rattle.acq_said.specs.Journals.{StaysClosed}
+use Rattle.acq_said.specs.Running.{RunsOn}
 use Rattle.acq_cli.specs.Playing.{PlaysOn, SaysWithout, stale_said, target_refused}
 use Rattle.acq_cli.specs.declared.playing.NoTarget.{NoTarget}
 use Rattle.acq_cli.specs.declared.playing.NoTarget.TheVariants as without
 use Rattle.acq_cli.specs.Demoing.{Demos, Tells}
-use Rattle.acq_cli.specs.Endings.{Tries}
-use Rattle.acq_cli.specs.declared.terms.Terms.{Terms}
-use Rattle.acq_cli.specs.Solving.{Solves}
-use Rattle.acq_cli.specs.Asks.{AsksTruly, asked_said}
-use Rattle.acq_cli.specs.Over.{SaysOpening, SaysOver}
-use Rattle.acq_cli.specs.Said.{IsSaid, SaysSo}
-use Rattle.acq_cli.specs.Saying.{Saying}
-use Rattle.acq_cli.specs.declared.said.Unsaid.{Unsaid}
-use Rattle.acq_cli.specs.declared.said.Unsaid.TheVariants as unsaid
-use Rattle.acq_cli.proofs.SaidOver.{broken_own, is_own, not_own, own_said, refuses_own}
-use Rattle.acq_cli.proofs.Spoken.{silently}
+use Rattle.acq_said.specs.Endings.{Tries}
+use Rattle.acq_loop.specs.declared.terms.Terms.{Terms}
+use Rattle.acq_said.specs.Solving.{Solves}
+use Rattle.acq_said.specs.Asks.{AsksTruly, asked_said}
+use Rattle.acq_said.specs.Over.{SaysOpening, SaysOver}
+use Rattle.acq_said.specs.Said.{IsSaid, SaysSo}
+use Rattle.acq_said.specs.Saying.{Saying}
+use Rattle.acq_said.specs.declared.said.Unsaid.{Unsaid}
+use Rattle.acq_said.specs.declared.said.Unsaid.TheVariants as unsaid
+use Rattle.acq_said.proofs.SaidOver.{broken_own, is_own, not_own, own_said, refuses_own}
+use Rattle.acq_said.proofs.Spoken.{silently}
 use Rattle.acq_cli.proofs.Speaking.{speaks_own}
-use Rattle.acq_cli.specs.TakingBack.{TakesNone}
+use Rattle.acq_said.specs.TakingBack.{TakesNone}
 use Rattle.acq_cli.specs.Doing.{Asks, Does, Speaks}
-use Rattle.acq_cli.specs.declared.ask.Ask.{Ask}
-use Rattle.acq_cli.specs.declared.ask.Ask.TheVariants as ask
-use Rattle.acq_cli.specs.Points.{terms_with}
-use Rattle.acq_cli.specs.Trying.{Acquires}
+use Rattle.acq_said.specs.declared.ask.Ask.{Ask}
+use Rattle.acq_said.specs.declared.ask.Ask.TheVariants as ask
+use Rattle.acq_loop.specs.Points.{terms_with}
+use Rattle.acq_said.specs.Trying.{Acquires}
 use Rattle.acq_cli.specs.Words.{IsAsked, command_asked, command_in}
-use Rattle.acq_cli.proofs.Closings.{err_ok, failed, not_loops, okay}
-use Rattle.acq_cli.proofs.Parts.{unbegun}
+use Rattle.acq_said.proofs.Closings.{err_ok, failed, not_loops, okay}
+use Rattle.acq_said.proofs.Parts.{unbegun}
 use Rattle.acq_io.proofs.TakenLemmas.{takes_none}
-use Rattle.acq_cli.specs.declared.ending.Ending.{Ending}
-use Rattle.acq_cli.specs.declared.ending.Ending.TheVariants as ending
+use Rattle.acq_loop.specs.declared.ending.Ending.{Ending}
+use Rattle.acq_loop.specs.declared.ending.Ending.TheVariants as ending
 
 -- ---- What is asked for
 

@@ -5,10 +5,10 @@ use Rattle.acq_io.specs.declared.streams.Put.{Put}
 use Rattle.acq_io.specs.Streams.{HasStopped}
 use Rattle.acq_io.proofs.CallLemmas.{stopped_not}
 use Rattle.disk_model.specs.Disk.{Rose as DiskRose}
-use Rattle.acq_cli.specs.Program.{TellsCauses}
-use Rattle.acq_cli.specs.declared.ending.Ending.{Ending}
-use Rattle.acq_cli.specs.declared.ending.Ending.TheVariants as ending
-use Rattle.acq_cli.proofs.Closings.{okay}
+use Rattle.acq_loop.specs.Program.{TellsCauses}
+use Rattle.acq_loop.specs.declared.ending.Ending.{Ending}
+use Rattle.acq_loop.specs.declared.ending.Ending.TheVariants as ending
+use Rattle.acq_said.proofs.Closings.{okay}
 
 -- where its result says each by itself
 pub ok_causes : (input input' late late' output output' disk disk' : ℕ) (got : Result Ending Put) → HasStopped input input' late late' (got ≡ okay ending.ReadFault) → IfOk got (λ end. end ≢ ending.WriteFault) → (got ≡ okay ending.DiskFault → DiskRose disk disk') →

@@ -33,39 +33,39 @@ use Rattle.target_oracle.specs.NetTurns.{net_turn}
 use Rattle.target_oracle.specs.Turns.{Turns}
 use Rattle.voc_read.specs.Vocabulary.{IsVocabulary, refusal_of_vocabulary}
 use Rattle.voc_read.specs.declared.fault.VocFault.{VocFault}
-use Rattle.acq_cli.specs.Closings.{closing_of, ending_of}
+use Rattle.acq_loop.specs.Closings.{closing_of, ending_of}
 use Rattle.acq_cli.specs.Commands.{EndsExactly}
 use Rattle.acq_cli.specs.Completing.{HasRoom, IsAffordable, IsEnough, TryHasEnough, RunHasEnough, HasTarget, PlayHasEnough, SaysItsOwn, Converges, ConvergesOrCollapses, Completes}
 use Rattle.acq_cli.specs.Demoing.{Demos, Tells}
-use Rattle.acq_cli.specs.Driven.{HasEnded, IsLeftOpen, RanTo}
-use Rattle.acq_cli.specs.Endings.{Tries}
-use Rattle.acq_cli.specs.Exactly.{IsBrokenOff}
+use Rattle.acq_loop.specs.Driven.{HasEnded, IsLeftOpen, RanTo}
+use Rattle.acq_said.specs.Endings.{Tries}
+use Rattle.acq_said.specs.Exactly.{IsBrokenOff}
 use Rattle.acq_cli.specs.Playing.{MayLack, PlaysOn, ReadsTarget, SaysWithout}
-use Rattle.acq_cli.specs.Points.{point_of, terms_with}
-use Rattle.acq_cli.specs.Run.{Closing, Undecided, Suspended, LineTooLong, Unreadable, JournalFull}
-use Rattle.acq_cli.specs.Asks.{asked_said}
-use Rattle.acq_cli.specs.Over.{SaidEnds}
-use Rattle.acq_cli.specs.Said.{SaysSo}
-use Rattle.acq_cli.specs.Saying.{Saying}
-use Rattle.acq_cli.specs.declared.said.Unsaid.TheVariants as unsaid
-use Rattle.acq_cli.specs.Solving.{solved_said}
-use Rattle.acq_cli.specs.Running.{RunsOn}
-use Rattle.acq_cli.specs.TakingBack.{back_said}
+use Rattle.acq_loop.specs.Points.{point_of, terms_with}
+use Rattle.acq_loop.specs.Run.{Closing, Undecided, Suspended, LineTooLong, Unreadable, JournalFull}
+use Rattle.acq_said.specs.Asks.{asked_said}
+use Rattle.acq_said.specs.Over.{SaidEnds}
+use Rattle.acq_said.specs.Said.{SaysSo}
+use Rattle.acq_said.specs.Saying.{Saying}
+use Rattle.acq_said.specs.declared.said.Unsaid.TheVariants as unsaid
+use Rattle.acq_said.specs.Solving.{solved_said}
+use Rattle.acq_said.specs.Running.{RunsOn}
+use Rattle.acq_said.specs.TakingBack.{back_said}
 use Rattle.acq_cli.specs.Doing.{Does}
-use Rattle.acq_cli.specs.Trying.{Acquires, IsRefusal, ReadsVocabulary}
-use Rattle.acq_cli.specs.declared.ask.Ask.TheVariants as ask
-use Rattle.acq_cli.specs.declared.driving.Drove.{Drove}
-use Rattle.acq_cli.specs.declared.driving.Drove.TheVariants as drove
-use Rattle.acq_cli.specs.declared.ending.Ending.{Ending}
-use Rattle.acq_cli.specs.declared.ending.Ending.TheVariants as ending
+use Rattle.acq_said.specs.Trying.{Acquires, IsRefusal, ReadsVocabulary}
+use Rattle.acq_said.specs.declared.ask.Ask.TheVariants as ask
+use Rattle.acq_loop.specs.declared.driving.Drove.{Drove}
+use Rattle.acq_loop.specs.declared.driving.Drove.TheVariants as drove
+use Rattle.acq_loop.specs.declared.ending.Ending.{Ending}
+use Rattle.acq_loop.specs.declared.ending.Ending.TheVariants as ending
 use Rattle.acq_cli.specs.declared.playing.NoTarget.{NoTarget}
 use Rattle.acq_cli.specs.declared.playing.NoTarget.TheVariants as without
-use Rattle.acq_cli.specs.declared.terms.Terms.{Terms}
+use Rattle.acq_loop.specs.declared.terms.Terms.{Terms}
 use Rattle.acq_cli.proofs.Answering.{AnswersEach, EndsItself, HasLines, AsMany, ends_itself, lines_answer, network_answers}
-use Rattle.acq_cli.proofs.Closings.{okay, same_ok, err_ok}
+use Rattle.acq_said.proofs.Closings.{okay, same_ok, err_ok}
 use Rattle.acq_cli.proofs.Enough.{generated_is_settled}
-use Rattle.acq_cli.proofs.Spoken.{silent_ends, closed_end, fine, fine_long, gives_got, long_one, whole_of}
-use Rattle.acq_cli.proofs.Reached.{IsReached}
+use Rattle.acq_said.proofs.Spoken.{silent_ends, closed_end, fine, fine_long, gives_got, long_one, whole_of}
+use Rattle.acq_loop.proofs.Reached.{IsReached}
 use Rattle.acq_cli.proofs.Targets.{none_of}
 
 -- ---- a run that ends by itself

@@ -15,15 +15,15 @@ use Rattle.cert_check.specs.declared.verdict.Verdict.{Verdict}
 use Rattle.cert_check.specs.declared.verdict.Verdict.TheVariants.{Yes}
 use Rattle.language.specs.Answers.{IsConverged}
 use Rattle.cert_check.proofs.OneText.{not_both, one_certificate, one_fault}
-use Rattle.acq_cli.specs.Confirming.{ConfirmEnds, Confirms, ConfirmsExactly, IsCheck, IsCheckOf, IsJudged, IsReading, checked_said, verdict_said}
-use Rattle.acq_cli.specs.Exactly.{IsBrokenOff}
-use Rattle.acq_cli.specs.Program.{ended_as}
-use Rattle.acq_cli.specs.Said.{HasWritten, SaidSo, SaysSo}
-use Rattle.acq_cli.specs.Saying.{Saying}
-use Rattle.acq_cli.specs.declared.ending.Ending.{Ending}
-use Rattle.acq_cli.specs.declared.said.Unsaid.{Unsaid}
-use Rattle.acq_cli.proofs.Closings.{okay}
-use Rattle.acq_cli.proofs.Spoken.{input_end, silently, too_many, whole_of}
+use Rattle.acq_said.specs.Confirming.{ConfirmEnds, Confirms, ConfirmsExactly, IsCheck, IsCheckOf, IsJudged, IsReading, checked_said, verdict_said}
+use Rattle.acq_said.specs.Exactly.{IsBrokenOff}
+use Rattle.acq_loop.specs.Program.{ended_as}
+use Rattle.acq_said.specs.Said.{HasWritten, SaidSo, SaysSo}
+use Rattle.acq_said.specs.Saying.{Saying}
+use Rattle.acq_loop.specs.declared.ending.Ending.{Ending}
+use Rattle.acq_said.specs.declared.said.Unsaid.{Unsaid}
+use Rattle.acq_said.proofs.Closings.{okay}
+use Rattle.acq_said.proofs.Spoken.{input_end, silently, too_many, whole_of}
 
 abbrev Readings : Type 0
 Readings = Result Certificate CertFault

@@ -18,28 +18,28 @@ use Rattle.session_core.specs.declared.session.Session.{Session}
 use Rattle.session_laws.specs.Session.{state_after}
 use Rattle.target_oracle.specs.Generator.{IsGenerated, target_of}
 use Rattle.target_oracle.specs.NetTurns.{net_turn, net_may_say}
-use Rattle.acq_cli.specs.Added.{MayEnd}
-use Rattle.acq_cli.specs.Closings.{closing_of, ending_of}
+use Rattle.acq_loop.specs.Added.{MayEnd}
+use Rattle.acq_loop.specs.Closings.{closing_of, ending_of}
 use Rattle.acq_cli.specs.Demoing.{ClosesQuietly, Demos, HasDriven, IsQuietEnd, SaysSum, Tells, TellsFront, demo_text, summary_text, whole_demo}
-use Rattle.acq_cli.specs.Driven.{Drives, IsOwned}
-use Rattle.acq_cli.specs.Said.{EndsWith, HasWritten, or_silent}
-use Rattle.acq_cli.specs.Saying.{Saying, saying}
-use Rattle.acq_cli.specs.declared.said.Unsaid.{Unsaid}
+use Rattle.acq_loop.specs.Driven.{Drives, IsOwned}
+use Rattle.acq_said.specs.Said.{EndsWith, HasWritten, or_silent}
+use Rattle.acq_said.specs.Saying.{Saying, saying}
+use Rattle.acq_said.specs.declared.said.Unsaid.{Unsaid}
 use Rattle.acq_cli.specs.Playing.{IsAnsweredBy, IsUnstopped}
-use Rattle.acq_cli.specs.Points.{point_of, terms_with}
-use Rattle.acq_cli.specs.Run.{Closing, Converged, Undecided}
-use Rattle.acq_cli.specs.Texts.{learned_in, learned_after}
-use Rattle.acq_cli.specs.declared.driving.Drove.{Drove}
-use Rattle.acq_cli.specs.declared.driving.Drove.TheVariants as drove
-use Rattle.acq_cli.specs.declared.ending.Ending.{Ending}
-use Rattle.acq_cli.specs.declared.ending.Ending.TheVariants as ending
-use Rattle.acq_cli.specs.declared.terms.Terms.{Terms}
-use Rattle.acq_cli.proofs.Closings.{failed, same_ok, err_ok}
-use Rattle.acq_cli.proofs.Parts.{adds_nothing, begun}
-use Rattle.acq_cli.proofs.Running.{run_exists}
-use Rattle.acq_cli.proofs.Spoken.{ends_as, said_as}
-use Rattle.acq_cli.proofs.Standings.{run_laws, stands_at}
-use Rattle.acq_cli.proofs.Turning.{some_text}
+use Rattle.acq_loop.specs.Points.{point_of, terms_with}
+use Rattle.acq_loop.specs.Run.{Closing, Converged, Undecided}
+use Rattle.acq_loop.specs.Texts.{learned_in, learned_after}
+use Rattle.acq_loop.specs.declared.driving.Drove.{Drove}
+use Rattle.acq_loop.specs.declared.driving.Drove.TheVariants as drove
+use Rattle.acq_loop.specs.declared.ending.Ending.{Ending}
+use Rattle.acq_loop.specs.declared.ending.Ending.TheVariants as ending
+use Rattle.acq_loop.specs.declared.terms.Terms.{Terms}
+use Rattle.acq_said.proofs.Closings.{failed, same_ok, err_ok}
+use Rattle.acq_said.proofs.Parts.{adds_nothing, begun}
+use Rattle.acq_loop.proofs.Running.{run_exists}
+use Rattle.acq_said.proofs.Spoken.{ends_as, said_as}
+use Rattle.acq_loop.proofs.Standings.{run_laws, stands_at}
+use Rattle.acq_loop.proofs.Turning.{some_text}
 
 -- ---- texts, one after the other
 

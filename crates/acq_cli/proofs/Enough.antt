@@ -15,9 +15,9 @@ use Rattle.fd_solver.proofs.Outcomes.{plain_is_less}
 use Rattle.target_oracle.specs.Generator.{IsGenerated, name_of}
 use Rattle.assign.specs.Events.{Answer}
 use Rattle.query_gen.specs.Questions.{is_among}
-use Rattle.acq_cli.specs.Driven.{IsLeftOpen}
-use Rattle.acq_cli.specs.Texts.{open_candidates}
-use Rattle.acq_cli.specs.declared.terms.Terms.{Terms}
+use Rattle.acq_loop.specs.Driven.{IsLeftOpen}
+use Rattle.acq_loop.specs.Texts.{open_candidates}
+use Rattle.acq_loop.specs.declared.terms.Terms.{Terms}
 use Rattle.acq_cli.specs.Laws.{BudgetIsEnough, GeneratedIsShort}
 
 pub budget_is_enough : BudgetIsEnough

@@ -17,20 +17,20 @@ use Rattle.language.specs.Answers.{IsConverged, NoneAgrees, standing_on}
 use Rattle.target_oracle.specs.Lines.{line_turn}
 use Rattle.target_oracle.specs.NetTurns.{net_turn}
 use Rattle.target_oracle.specs.Turns.{Turns}
-use Rattle.acq_cli.specs.Closings.{closing_of}
+use Rattle.acq_loop.specs.Closings.{closing_of}
 use Rattle.acq_cli.specs.Doing.{Does}
-use Rattle.acq_cli.specs.Driven.{HasEnded, IsDone}
-use Rattle.acq_cli.specs.Endings.{AddsLast, Tries}
+use Rattle.acq_loop.specs.Driven.{HasEnded, IsDone}
+use Rattle.acq_said.specs.Endings.{AddsLast, Tries}
 use Rattle.acq_cli.specs.Headline.{FindsNetwork, FindsNone}
-use Rattle.acq_cli.specs.Points.{terms_with}
-use Rattle.acq_cli.specs.Texts.{converged_text, learned_after, learned_in}
-use Rattle.acq_cli.specs.declared.driving.Drove.{Drove}
-use Rattle.acq_cli.specs.declared.driving.Drove.TheVariants as drove
-use Rattle.acq_cli.specs.declared.ending.Ending.TheVariants as ending
-use Rattle.acq_cli.specs.declared.terms.Terms.{Terms}
+use Rattle.acq_loop.specs.Points.{terms_with}
+use Rattle.acq_loop.specs.Texts.{converged_text, learned_after, learned_in}
+use Rattle.acq_loop.specs.declared.driving.Drove.{Drove}
+use Rattle.acq_loop.specs.declared.driving.Drove.TheVariants as drove
+use Rattle.acq_loop.specs.declared.ending.Ending.TheVariants as ending
+use Rattle.acq_loop.specs.declared.terms.Terms.{Terms}
 use Rattle.acq_cli.proofs.Asked.{stale_own, without_own}
-use Rattle.acq_cli.proofs.Closings.{err_ok, loops_by, okay}
-use Rattle.acq_cli.proofs.SaidOver.{is_own, refuses_own}
+use Rattle.acq_said.proofs.Closings.{err_ok, loops_by, okay}
+use Rattle.acq_said.proofs.SaidOver.{is_own, refuses_own}
 use Rattle.acq_cli.proofs.Speaking.{speaks_own}
 use Rattle.acq_cli.proofs.Targets.{found_by}
 

@@ -19,19 +19,19 @@ use Rattle.voc_read.specs.declared.fault.VocFault.{VocFault}
 use Rattle.voc_read.specs.declared.fault.VocFault.TheVariants as vocs
 use Rattle.voc_read.proofs.OneReading.{one_language}
 use Rattle.voc_read.proofs.Refused.{not_refused}
-use Rattle.acq_cli.specs.Exactly.{IsBrokenOff, IsInTheWay}
-use Rattle.acq_cli.specs.Journals.{refused_said}
-use Rattle.acq_cli.specs.Making.{EndsAsMade, HasLanguage, IsMaking, MakesOf, News, NewEnds, RefusesMaking, made_said, voc_refused}
-use Rattle.acq_cli.specs.Program.{ended_as}
-use Rattle.acq_cli.specs.Said.{HasWritten, SaysSo}
-use Rattle.acq_cli.specs.Saying.{Saying}
-use Rattle.acq_cli.specs.Trying.{IsRefusal}
-use Rattle.acq_cli.specs.declared.ending.Ending.{Ending}
-use Rattle.acq_cli.specs.declared.said.Unsaid.{Unsaid}
-use Rattle.acq_cli.specs.declared.said.Unsaid.TheVariants as unsaid
-use Rattle.acq_cli.proofs.Closings.{okay}
-use Rattle.acq_cli.proofs.SaidOver.{is_own, own_said, read_own, refuses_own}
-use Rattle.acq_cli.proofs.Spoken.{ends_said, fine, input_end, only_long, same_fine, silently}
+use Rattle.acq_said.specs.Exactly.{IsBrokenOff, IsInTheWay}
+use Rattle.acq_said.specs.Journals.{refused_said}
+use Rattle.acq_said.specs.Making.{EndsAsMade, HasLanguage, IsMaking, MakesOf, News, NewEnds, RefusesMaking, made_said, voc_refused}
+use Rattle.acq_loop.specs.Program.{ended_as}
+use Rattle.acq_said.specs.Said.{HasWritten, SaysSo}
+use Rattle.acq_said.specs.Saying.{Saying}
+use Rattle.acq_said.specs.Trying.{IsRefusal}
+use Rattle.acq_loop.specs.declared.ending.Ending.{Ending}
+use Rattle.acq_said.specs.declared.said.Unsaid.{Unsaid}
+use Rattle.acq_said.specs.declared.said.Unsaid.TheVariants as unsaid
+use Rattle.acq_said.proofs.Closings.{okay}
+use Rattle.acq_said.proofs.SaidOver.{is_own, own_said, read_own, refuses_own}
+use Rattle.acq_said.proofs.Spoken.{ends_said, fine, input_end, only_long, same_fine, silently}
 
 -- ---- one making
 

@@ -15,10 +15,10 @@ use Rattle.voc_read.specs.declared.fault.VocFault.{VocFault}
 use Rattle.voc_read.proofs.OneReading.{one_language}
 use Rattle.voc_read.proofs.Refused.{not_refused}
 use Rattle.acq_cli.specs.OneText.{RunIsOne, TextIsOne}
-use Rattle.acq_cli.specs.Run.{Closing, Next, Puts, Ends, next_on, number_on, Ran, Runs, after_text, ended, heard_on, turned_on, put_on, ran}
-use Rattle.acq_cli.specs.Texts.{refusal_text, whole_text}
-use Rattle.acq_cli.specs.Trying.{IsRefusal, IsTextOfRun}
-use Rattle.acq_cli.specs.declared.terms.Terms.{Terms}
+use Rattle.acq_loop.specs.Run.{Closing, Next, Puts, Ends, next_on, number_on, Ran, Runs, after_text, ended, heard_on, turned_on, put_on, ran}
+use Rattle.acq_loop.specs.Texts.{refusal_text, whole_text}
+use Rattle.acq_said.specs.Trying.{IsRefusal, IsTextOfRun}
+use Rattle.acq_loop.specs.declared.terms.Terms.{Terms}
 
 -- ---- one run
 

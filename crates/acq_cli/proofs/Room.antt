@@ -8,7 +8,7 @@ use Rattle.assign.specs.declared.events.Event.TheVariants as event
 use Rattle.session_laws.proofs.Limits.{answers_fit}
 use Rattle.session_store.specs.Replay.{IsAnswer}
 use Rattle.acq_cli.specs.Laws.{RoomIsLeft}
-use Rattle.acq_cli.proofs.Reached.{standing_size}
+use Rattle.acq_loop.proofs.Reached.{standing_size}
 
 -- where nothing was taken back each answer stands
 all_stand : (events : List Event) (before : List Answer) → All IsAnswer events → length (standing_from before events) ≡ length before + length events

@@ -32,35 +32,35 @@ use Rattle.session_store.specs.declared.fault.SFault.{SFault}
 use Rattle.session_store.proofs.Openings.{ReadOnce, opens_once}
 use Rattle.target_oracle.specs.NetTurns.{net_may_say, told_of_answer}
 use Rattle.target_oracle.specs.Turns.{Turns}
-use Rattle.acq_cli.specs.Added.{MayAdd, IsAdded, MayEnd}
-use Rattle.acq_cli.specs.Asks.{AsksTruly, asked_said}
+use Rattle.acq_loop.specs.Added.{MayAdd, IsAdded, MayEnd}
+use Rattle.acq_said.specs.Asks.{AsksTruly, asked_said}
 use Rattle.acq_cli.specs.Commands.{EndsExactly}
-use Rattle.acq_cli.specs.Driven.{HasEnded, TellsFull}
-use Rattle.acq_cli.specs.Endings.{Tries}
-use Rattle.acq_cli.specs.Exactly.{HoldsSession, IsBrokenOff, OpensExactly, RefusesOpening}
+use Rattle.acq_loop.specs.Driven.{HasEnded, TellsFull}
+use Rattle.acq_said.specs.Endings.{Tries}
+use Rattle.acq_said.specs.Exactly.{HoldsSession, IsBrokenOff, OpensExactly, RefusesOpening}
 use Rattle.acq_cli.specs.Doing.{Does}
 use Rattle.acq_cli.specs.Playing.{IsAnsweredBy, IsNoNetwork, IsUnstopped, HoldsAnswers, HoldsNoTarget, IsOpened, MayLack, PlayEnds, PlaysExactly, PlaysOn, RefusesTarget, SaysWithout, stale_said, target_refused}
-use Rattle.acq_cli.specs.Program.{ended_as}
-use Rattle.acq_cli.specs.Run.{answer}
-use Rattle.acq_cli.specs.Said.{IsSaid, SaysSo}
-use Rattle.acq_cli.specs.declared.said.Unsaid.TheVariants as unsaid
+use Rattle.acq_loop.specs.Program.{ended_as}
+use Rattle.acq_loop.specs.Run.{answer}
+use Rattle.acq_said.specs.Said.{IsSaid, SaysSo}
+use Rattle.acq_said.specs.declared.said.Unsaid.TheVariants as unsaid
 use Rattle.acq_cli.proofs.Confirmed.{confirm_ends}
-use Rattle.acq_cli.proofs.SaidOver.{over_ends, solve_ends}
-use Rattle.acq_cli.proofs.TakenBack.{back_ends}
-use Rattle.acq_cli.specs.Texts.{learned_in, learned_after}
-use Rattle.acq_cli.specs.declared.ask.Ask.TheVariants as ask
-use Rattle.acq_cli.specs.declared.driving.Drove.{Drove}
-use Rattle.acq_cli.specs.declared.driving.Drove.TheVariants as drove
-use Rattle.acq_cli.specs.declared.ending.Ending.{Ending}
-use Rattle.acq_cli.specs.declared.ending.Ending.TheVariants as ending
-use Rattle.acq_cli.specs.declared.terms.Terms.{Terms}
+use Rattle.acq_said.proofs.SaidOver.{over_ends, solve_ends}
+use Rattle.acq_said.proofs.TakenBack.{back_ends}
+use Rattle.acq_loop.specs.Texts.{learned_in, learned_after}
+use Rattle.acq_said.specs.declared.ask.Ask.TheVariants as ask
+use Rattle.acq_loop.specs.declared.driving.Drove.{Drove}
+use Rattle.acq_loop.specs.declared.driving.Drove.TheVariants as drove
+use Rattle.acq_loop.specs.declared.ending.Ending.{Ending}
+use Rattle.acq_loop.specs.declared.ending.Ending.TheVariants as ending
+use Rattle.acq_loop.specs.declared.terms.Terms.{Terms}
 use Rattle.acq_cli.specs.declared.playing.NoTarget.{NoTarget}
 use Rattle.acq_cli.specs.declared.playing.NoTarget.TheVariants as without
-use Rattle.acq_cli.proofs.Closings.{okay, err_ok, loops_by, not_loops}
-use Rattle.acq_cli.proofs.Standings.{few_answers, due_reached}
-use Rattle.acq_cli.proofs.Exactly.{holds_none, same_in, closed_exactly, run_ends}
+use Rattle.acq_said.proofs.Closings.{okay, err_ok, loops_by, not_loops}
+use Rattle.acq_loop.proofs.Standings.{few_answers, due_reached}
+use Rattle.acq_said.proofs.Exactly.{holds_none, same_in, closed_exactly, run_ends}
 use Rattle.acq_cli.proofs.Made.{new_ends}
-use Rattle.acq_cli.proofs.Spoken.{ends_said, silently, closed_end, fine, gives_got, long_one, too_many, whole_of}
+use Rattle.acq_said.proofs.Spoken.{ends_said, silently, closed_end, fine, gives_got, long_one, too_many, whole_of}
 
 -- ---- what its target said
 

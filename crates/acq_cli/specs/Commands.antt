@@ -3,16 +3,16 @@ use Rattle.std.specs.Prelude.{ℕ, List, Option, Result, Ok}
 use Rattle.acq_words.specs.declared.request.Command.{Command}
 use Rattle.acq_words.specs.declared.request.Command.TheVariants as command
 use Rattle.acq_words.specs.declared.request.UsageFault.{UsageFault}
-use Rattle.acq_cli.specs.Asks.{asked_said}
-use Rattle.acq_cli.specs.Confirming.{ConfirmEnds}
-use Rattle.acq_cli.specs.Exactly.{RunEnds}
-use Rattle.acq_cli.specs.Making.{NewEnds}
-use Rattle.acq_cli.specs.Over.{SaidEnds}
+use Rattle.acq_said.specs.Asks.{asked_said}
+use Rattle.acq_said.specs.Confirming.{ConfirmEnds}
+use Rattle.acq_said.specs.Exactly.{RunEnds}
+use Rattle.acq_said.specs.Making.{NewEnds}
+use Rattle.acq_said.specs.Over.{SaidEnds}
 use Rattle.acq_cli.specs.Playing.{PlayEnds}
-use Rattle.acq_cli.specs.Solving.{SolveEnds}
-use Rattle.acq_cli.specs.TakingBack.{back_said}
-use Rattle.acq_cli.specs.declared.ask.Ask.TheVariants as ask
-use Rattle.acq_cli.specs.declared.ending.Ending.{Ending}
+use Rattle.acq_said.specs.Solving.{SolveEnds}
+use Rattle.acq_said.specs.TakingBack.{back_said}
+use Rattle.acq_said.specs.declared.ask.Ask.TheVariants as ask
+use Rattle.acq_loop.specs.declared.ending.Ending.{Ending}
 
 -- A command that asks nothing ends as is said of what the bytes of the input and of the file are, where they are told. The others refuse a
 -- journal, or a target, exactly where these bytes say so.

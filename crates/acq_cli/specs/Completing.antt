@@ -29,20 +29,20 @@ use Rattle.target_oracle.specs.NetTurns.{net_turn}
 use Rattle.target_oracle.specs.Turns.{Turns, Said}
 use Rattle.target_oracle.specs.Words.{trimmed, reply_of}
 use Rattle.voc_read.specs.Vocabulary.{IsVocabulary, refusal_of_vocabulary}
-use Rattle.acq_cli.specs.Asks.{asked_said}
-use Rattle.acq_cli.specs.Confirming.{ConfirmsExactly}
-use Rattle.acq_cli.specs.Over.{EndsAsOpened}
-use Rattle.acq_cli.specs.Solving.{solved_said}
-use Rattle.acq_cli.specs.Exactly.{RefusesOpening}
-use Rattle.acq_cli.specs.Making.{EndsAsMade}
-use Rattle.acq_cli.specs.Points.{terms_with}
-use Rattle.acq_cli.specs.Run.{Ran, Runs}
-use Rattle.acq_cli.specs.Saying.{Saying}
-use Rattle.acq_cli.specs.TakingBack.{back_said}
-use Rattle.acq_cli.specs.declared.ask.Ask.TheVariants as ask
-use Rattle.acq_cli.specs.declared.ending.Ending.{Ending}
-use Rattle.acq_cli.specs.declared.ending.Ending.TheVariants as ending
-use Rattle.acq_cli.specs.declared.terms.Terms.{Terms}
+use Rattle.acq_said.specs.Asks.{asked_said}
+use Rattle.acq_said.specs.Confirming.{ConfirmsExactly}
+use Rattle.acq_said.specs.Over.{EndsAsOpened}
+use Rattle.acq_said.specs.Solving.{solved_said}
+use Rattle.acq_said.specs.Exactly.{RefusesOpening}
+use Rattle.acq_said.specs.Making.{EndsAsMade}
+use Rattle.acq_loop.specs.Points.{terms_with}
+use Rattle.acq_loop.specs.Run.{Ran, Runs}
+use Rattle.acq_said.specs.Saying.{Saying}
+use Rattle.acq_said.specs.TakingBack.{back_said}
+use Rattle.acq_said.specs.declared.ask.Ask.TheVariants as ask
+use Rattle.acq_loop.specs.declared.ending.Ending.{Ending}
+use Rattle.acq_loop.specs.declared.ending.Ending.TheVariants as ending
+use Rattle.acq_loop.specs.declared.terms.Terms.{Terms}
 
 -- ---- Enough answers
 

@@ -11,21 +11,21 @@ use Rattle.language.specs.Language.{Language, variable_count, candidates}
 use Rattle.language.specs.Answers.{standing_on}
 use Rattle.target_oracle.specs.Generator.{IsGenerated, target_of}
 use Rattle.target_oracle.specs.NetTurns.{net_turn}
-use Rattle.acq_cli.specs.Driven.{HasFound}
-use Rattle.acq_cli.specs.Said.{IsSaid}
-use Rattle.acq_cli.specs.Saying.{Saying, saying}
-use Rattle.acq_cli.specs.declared.said.Unsaid.{Unsaid}
-use Rattle.acq_cli.specs.declared.said.Unsaid.TheVariants as unsaid
+use Rattle.acq_loop.specs.Driven.{HasFound}
+use Rattle.acq_said.specs.Said.{IsSaid}
+use Rattle.acq_said.specs.Saying.{Saying, saying}
+use Rattle.acq_said.specs.declared.said.Unsaid.{Unsaid}
+use Rattle.acq_said.specs.declared.said.Unsaid.TheVariants as unsaid
 use Rattle.acq_cli.specs.Playing.{IsAnsweredBy}
-use Rattle.acq_cli.specs.Points.{terms_with}
-use Rattle.acq_cli.specs.Run.{Closing, Converged, Collapsed, Undecided, Suspended, LineTooLong, Unreadable, JournalFull, Ran, Runs}
-use Rattle.acq_cli.specs.Texts.{collapsed_text, full_text, learned_after, refused_text, suspended_text, too_long_text}
-use Rattle.acq_cli.specs.declared.terms.Terms.{Terms}
-use Rattle.acq_cli.specs.declared.driving.Drove.{Drove}
-use Rattle.acq_cli.specs.declared.ending.Ending.{Ending}
+use Rattle.acq_loop.specs.Points.{terms_with}
+use Rattle.acq_loop.specs.Run.{Closing, Converged, Collapsed, Undecided, Suspended, LineTooLong, Unreadable, JournalFull, Ran, Runs}
+use Rattle.acq_loop.specs.Texts.{collapsed_text, full_text, learned_after, refused_text, suspended_text, too_long_text}
+use Rattle.acq_loop.specs.declared.terms.Terms.{Terms}
+use Rattle.acq_loop.specs.declared.driving.Drove.{Drove}
+use Rattle.acq_loop.specs.declared.ending.Ending.{Ending}
 use Rattle.acq_io.specs.declared.streams.Put.TheVariants as put
-use Rattle.acq_cli.specs.declared.driving.Drove.TheVariants as drove
-use Rattle.acq_cli.specs.declared.ending.Ending.TheVariants as ending
+use Rattle.acq_loop.specs.declared.driving.Drove.TheVariants as drove
+use Rattle.acq_loop.specs.declared.ending.Ending.TheVariants as ending
 
 -- ---- Texts
 

@@ -5,26 +5,26 @@ use Rattle.acq_io.specs.declared.streams.Put.{Put}
 use Rattle.acq_words.specs.declared.request.Command.{Command}
 use Rattle.acq_words.specs.declared.request.Command.TheVariants as command
 use Rattle.acq_words.specs.declared.request.UsageFault.{UsageFault}
-use Rattle.acq_cli.specs.Asks.{AsksTruly, asked_said}
-use Rattle.acq_cli.specs.Confirming.{Confirms}
+use Rattle.acq_said.specs.Asks.{AsksTruly, asked_said}
+use Rattle.acq_said.specs.Confirming.{Confirms}
 use Rattle.acq_cli.specs.Demoing.{Demos}
-use Rattle.acq_cli.specs.Said.{EndsWith, SaysSo}
-use Rattle.acq_cli.specs.Saying.{Saying}
-use Rattle.acq_cli.specs.Making.{News}
-use Rattle.acq_cli.specs.Over.{SaysOpening, SaysOver}
+use Rattle.acq_said.specs.Said.{EndsWith, SaysSo}
+use Rattle.acq_said.specs.Saying.{Saying}
+use Rattle.acq_said.specs.Making.{News}
+use Rattle.acq_said.specs.Over.{SaysOpening, SaysOver}
 use Rattle.acq_cli.specs.Playing.{PlaysOn}
-use Rattle.acq_cli.specs.Points.{terms_with}
-use Rattle.acq_cli.specs.Program.{ended_as}
-use Rattle.acq_cli.specs.Running.{RunsOn}
-use Rattle.acq_cli.specs.Solving.{Solves}
-use Rattle.acq_cli.specs.TakingBack.{TakesBack}
-use Rattle.acq_cli.specs.Texts.{usage_text}
-use Rattle.acq_cli.specs.Trying.{Acquires}
-use Rattle.acq_cli.specs.declared.ask.Ask.{Ask}
-use Rattle.acq_cli.specs.declared.ask.Ask.TheVariants as ask
-use Rattle.acq_cli.specs.declared.ending.Ending.{Ending}
-use Rattle.acq_cli.specs.declared.ending.Ending.TheVariants as ending
-use Rattle.acq_cli.specs.declared.said.Unsaid.{Unsaid}
+use Rattle.acq_loop.specs.Points.{terms_with}
+use Rattle.acq_loop.specs.Program.{ended_as}
+use Rattle.acq_said.specs.Running.{RunsOn}
+use Rattle.acq_said.specs.Solving.{Solves}
+use Rattle.acq_said.specs.TakingBack.{TakesBack}
+use Rattle.acq_loop.specs.Texts.{usage_text}
+use Rattle.acq_said.specs.Trying.{Acquires}
+use Rattle.acq_said.specs.declared.ask.Ask.{Ask}
+use Rattle.acq_said.specs.declared.ask.Ask.TheVariants as ask
+use Rattle.acq_loop.specs.declared.ending.Ending.{Ending}
+use Rattle.acq_loop.specs.declared.ending.Ending.TheVariants as ending
+use Rattle.acq_said.specs.declared.said.Unsaid.{Unsaid}
 
 -- the meanings of a disk
 module _ {D : Type 0} (disk : DiskOf D) where

@@ -15,8 +15,8 @@ use Rattle.session_store.specs.Left.{SaysSession}
 use Rattle.session_store.specs.Replay.{HavePlaces}
 use Rattle.target_oracle.specs.Generator.{IsGenerated}
 use Rattle.voc_read.specs.Vocabulary.{IsVocabulary}
-use Rattle.acq_cli.specs.Reducing.{network_after}
-use Rattle.acq_cli.specs.Texts.{converged_text}
+use Rattle.acq_said.specs.Reducing.{network_after}
+use Rattle.acq_loop.specs.Texts.{converged_text}
 
 -- ---- The session that is spoken of
 

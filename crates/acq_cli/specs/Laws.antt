@@ -10,8 +10,8 @@ use Rattle.target_oracle.specs.Turns.{Turns}
 use Rattle.session_laws.specs.Bound.{most_answers}
 use Rattle.session_store.specs.Replay.{IsAnswer}
 use Rattle.acq_cli.specs.Completing.{HasRoom, IsAffordable}
-use Rattle.acq_cli.specs.Points.{terms_with}
-use Rattle.acq_cli.specs.declared.terms.Terms.{Terms}
+use Rattle.acq_loop.specs.Points.{terms_with}
+use Rattle.acq_loop.specs.declared.terms.Terms.{Terms}
 
 -- A budget that is enough for each candidate where nothing is learned is enough for every session.
 abbrev pub BudgetIsEnough : Type 0

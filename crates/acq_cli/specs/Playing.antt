@@ -19,21 +19,21 @@ use Rattle.session_store.specs.Left.{LeavesNow, OpensWith, SaysSession}
 use Rattle.session_store.specs.Replay.{HavePlaces}
 use Rattle.target_oracle.specs.NetTurns.{net_turn, net_may_say}
 use Rattle.voc_read.specs.Vocabulary.{IsVocabulary}
-use Rattle.acq_cli.specs.Exactly.{HoldsSession, IsBrokenOff, OpensExactly}
-use Rattle.acq_cli.specs.Journals.{StaysClosed}
-use Rattle.acq_cli.specs.Said.{IsSaid, SaysSo}
-use Rattle.acq_cli.specs.Saying.{Saying, saying}
-use Rattle.acq_cli.specs.declared.said.Unsaid.{Unsaid}
-use Rattle.acq_cli.specs.declared.said.Unsaid.TheVariants as unsaid
-use Rattle.acq_cli.specs.Points.{terms_with}
-use Rattle.acq_cli.specs.Running.{GoesOn}
-use Rattle.acq_cli.specs.Texts.{learned_after, not_fresh_text, target_refusal_text}
-use Rattle.acq_cli.specs.declared.ending.Ending.{Ending}
+use Rattle.acq_said.specs.Exactly.{HoldsSession, IsBrokenOff, OpensExactly}
+use Rattle.acq_said.specs.Journals.{StaysClosed}
+use Rattle.acq_said.specs.Said.{IsSaid, SaysSo}
+use Rattle.acq_said.specs.Saying.{Saying, saying}
+use Rattle.acq_said.specs.declared.said.Unsaid.{Unsaid}
+use Rattle.acq_said.specs.declared.said.Unsaid.TheVariants as unsaid
+use Rattle.acq_loop.specs.Points.{terms_with}
+use Rattle.acq_said.specs.Running.{GoesOn}
+use Rattle.acq_loop.specs.Texts.{learned_after, not_fresh_text, target_refusal_text}
+use Rattle.acq_loop.specs.declared.ending.Ending.{Ending}
 use Rattle.acq_cli.specs.declared.playing.NoTarget.{NoTarget}
-use Rattle.acq_cli.specs.declared.terms.Terms.{Terms}
+use Rattle.acq_loop.specs.declared.terms.Terms.{Terms}
 use Rattle.acq_io.specs.declared.whole.AllFault.TheVariants as long
 use Rattle.network.specs.declared.fault.NetFault.TheVariants as net
-use Rattle.acq_cli.specs.declared.ending.Ending.TheVariants as ending
+use Rattle.acq_loop.specs.declared.ending.Ending.TheVariants as ending
 use Rattle.acq_cli.specs.declared.playing.NoTarget.TheVariants as without
 
 -- ---- The target

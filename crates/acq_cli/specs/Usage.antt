@@ -3,11 +3,11 @@ use Rattle.std.specs.Prelude.{◌≡◌, ℕ, List, Option, Result, Err}
 use Rattle.acq_io.specs.declared.streams.Put.{Put}
 use Rattle.acq_words.specs.declared.request.Command.{Command}
 use Rattle.acq_words.specs.declared.request.UsageFault.{UsageFault}
-use Rattle.acq_cli.specs.Said.{EndsWith}
-use Rattle.acq_cli.specs.Program.{ended_as}
-use Rattle.acq_cli.specs.Texts.{usage_text}
-use Rattle.acq_cli.specs.declared.ending.Ending.{Ending}
-use Rattle.acq_cli.specs.declared.ending.Ending.TheVariants as ending
+use Rattle.acq_said.specs.Said.{EndsWith}
+use Rattle.acq_loop.specs.Program.{ended_as}
+use Rattle.acq_loop.specs.Texts.{usage_text}
+use Rattle.acq_loop.specs.declared.ending.Ending.{Ending}
+use Rattle.acq_loop.specs.declared.ending.Ending.TheVariants as ending
 
 -- Refused words are told by the usage line, and no others are.
 pub record TellsUsage (asked : Result Command UsageFault) (written written' : Option (List ℕ)) (end : Ending) : Type 0 where

@@ -8,11 +8,11 @@ ghost use Rattle.language.specs.Answers.{standing_on};
 ghost use Rattle.network.specs.Learned.{Learned};
 ghost use Rattle.acq_cli.specs.Playing.{MayLack, PlaysOn, ReadsTarget, SaysWithout, stale_said, target_refused};
 
-use crate::commands::{lang_of, refuse_journal};
-use crate::ending::Ending;
-use crate::said::{Said, Unsaid, or_silent, put};
+use crate::commands::refuse_journal;
 use crate::top::ask_on;
 use acq_io::{AllFault, Put, Sink, Source, read_all};
+use acq_loop::Ending;
+use acq_said::{Said, Unsaid, lang_of, or_silent, put};
 use disk_model::Disk;
 use language::{Language, Memory};
 use network::{NetFault, Network, net_text, read_network};
@@ -97,7 +97,7 @@ fn read_target<S: Source>(
 }
 
 /// Opens a journal without answers, reads a target, and lets it answer from there on.
-#[tactic(auto, using(crate::proofs::Taking::takes_same, crate::proofs::Causes::stopped_idle))]
+#[tactic(auto, using(acq_loop::proofs::Taking::takes_same, crate::proofs::Causes::stopped_idle))]
 pub fn play_journal<R: Threads + Sync, S: Source, K: Sink, D: Disk, G: Gate>(
     rt: &R,
     alloc: Global,

@@ -7,14 +7,10 @@ ghost use Rattle.disk_model.specs.Disk.{Rose as DiskRose};
 ghost use Rattle.acq_cli.specs.Doing.{Spoke};
 ghost use Rattle.acq_cli.specs.Words.{Spares, is_speaking};
 
-use crate::ask::Ask;
-use crate::back::back_journal;
-use crate::confirming::check_input;
-use crate::making::new_journal;
-use crate::over::say_over;
-use crate::said::{Said, Unsaid};
-use crate::solving::solve_journal;
 use acq_io::Source;
+use acq_said::{
+    Ask, Said, Unsaid, back_journal, check_input, new_journal, say_over, solve_journal,
+};
 use acq_words::Command;
 use disk_model::Disk;
 use par_screen::Gate;
@@ -22,7 +18,7 @@ use std::alloc::Global;
 use std::thread::Threads;
 
 /// Does what a command asks for that asks nothing itself, and says what is to be written.
-#[tactic(auto, using(crate::proofs::Taking::takes_same, crate::proofs::Causes::stopped_unless))]
+#[tactic(auto, using(acq_loop::proofs::Taking::takes_same, crate::proofs::Causes::stopped_unless))]
 pub(crate) fn speak<R: Threads + Sync, S: Source, D: Disk, G: Gate>(
     rt: &R,
     alloc: Global,

@@ -10,35 +10,31 @@ ghost use Rattle.session_core.specs.Settled.{IsSettled};
 ghost use Rattle.session_core.specs.Standing.{Stands, knowledge_of};
 ghost use Rattle.session_store.specs.Keeps.{Keeps, IsKeeping, IsSameSession};
 ghost use Rattle.target_oracle.specs.Lines.{line_turn};
-ghost use Rattle.acq_cli.specs.Driven.{HasEnded, Loses, TellsOpen};
-ghost use Rattle.acq_cli.specs.Added.{IsTaught, MayEnd};
-ghost use Rattle.acq_cli.specs.Points.{point_of, terms_with};
-ghost use Rattle.acq_cli.specs.Loop.{CountsFaults};
-ghost use Rattle.acq_cli.specs.Breaks.{BreaksRun};
-ghost use Rattle.acq_cli.specs.Trying.{Acquires, BreaksOff};
-ghost use Rattle.acq_cli.specs.Endings.{HasAsked, Says, SaysPart, Tries};
-ghost use Rattle.acq_cli.specs.Program.{TellsCauses, ended_as};
+ghost use Rattle.acq_loop.specs.Driven.{HasEnded, Loses, TellsOpen};
+ghost use Rattle.acq_loop.specs.Added.{IsTaught, MayEnd};
+ghost use Rattle.acq_loop.specs.Points.{point_of, terms_with};
+ghost use Rattle.acq_loop.specs.Loop.{CountsFaults};
+ghost use Rattle.acq_said.specs.Breaks.{BreaksRun};
+ghost use Rattle.acq_said.specs.Trying.{Acquires, BreaksOff};
+ghost use Rattle.acq_said.specs.Endings.{HasAsked, Says, SaysPart, Tries};
+ghost use Rattle.acq_loop.specs.Program.{TellsCauses, ended_as};
 ghost use Rattle.acq_words.specs.Request.{IsBudget, IsWithin};
-ghost use Rattle.acq_cli.specs.Said.{EndsWith};
+ghost use Rattle.acq_said.specs.Said.{EndsWith};
 ghost use Rattle.acq_cli.specs.Commands.{EndsExactly};
 ghost use Rattle.acq_cli.specs.Doing.{Does};
 ghost use Rattle.acq_cli.specs.Headline.{FindsNetwork, FindsNone};
 ghost use Rattle.acq_cli.specs.Usage.{TellsUsage};
 ghost use Rattle.acq_cli.specs.Completing.{Completes, NoneRose};
 ghost use Rattle.acq_cli.specs.Words.{IsAsked, Spares, command_asked};
-ghost use Rattle.acq_cli.specs.Texts.{refusal_text, usage_text};
+ghost use Rattle.acq_loop.specs.Texts.{refusal_text, usage_text};
 
-use crate::closing::closing;
 use crate::commands::run_journal;
 use crate::demo::demo_number;
-use crate::driving::{Drove, drive};
-use crate::ending::Ending;
-use crate::making::refused_voc;
 use crate::playing::play_journal;
-use crate::said::{fixed, or_silent, put};
 use crate::saying::speak;
-use crate::terms::Terms;
 use acq_io::{AllFault, Put, Sink, Source, read_first_line};
+use acq_loop::{Drove, Ending, Terms, drive};
+use acq_said::{closing, fixed, or_silent, put, refused_voc};
 use acq_words::{Command, UsageFault, WordsFault, read_words};
 use answer_journal::no_two_readings;
 use disk_model::{Disk, MemDisk, Room};
@@ -78,7 +74,7 @@ pub(crate) fn say<K: Sink>(
 
 /// Asks on from where a session stands until the answers converge, nothing more can be asked, or the teacher stops, and says
 /// how that ended.
-#[tactic(auto, using(crate::proofs::Taking::takes_same, crate::proofs::Causes::stopped_idle))]
+#[tactic(auto, using(acq_loop::proofs::Taking::takes_same, crate::proofs::Causes::stopped_idle))]
 pub(crate) fn ask_on<
     R: Threads + Sync,
     S: Source,
@@ -144,7 +140,7 @@ pub(crate) fn ask_on<
 }
 
 /// Asks about a language, with the answers in memory. No disk is touched.
-#[tactic(auto, using(crate::proofs::Taking::takes_same, crate::proofs::Causes::stopped_idle))]
+#[tactic(auto, using(acq_loop::proofs::Taking::takes_same, crate::proofs::Causes::stopped_idle))]
 fn try_language<R: Threads + Sync, S: Source, K: Sink, G: Gate>(
     rt: &R,
     alloc: Global,
@@ -247,7 +243,7 @@ fn command_asked(alloc: Global, words: &[String]) -> Result<Command, WordsFault>
 
 /// What the program does, and how it ends where the output takes all: a command over the journal on the disk, or one that
 /// touches no disk.
-#[tactic(auto, using(crate::proofs::Taking::takes_same, crate::proofs::Causes::ok_causes, crate::proofs::Causes::stopped_idle))]
+#[tactic(auto, using(acq_loop::proofs::Taking::takes_same, crate::proofs::Causes::ok_causes, crate::proofs::Causes::stopped_idle))]
 fn perform<R: Threads + Sync, S: Source, K: Sink, D: Disk, G: Gate>(
     rt: &R,
     alloc: Global,

@@ -1,4 +1,4 @@
-use Rattle.acq_cli.specs.declared.ending.Ending.TheVariants as ending
+use Rattle.acq_loop.specs.declared.ending.Ending.TheVariants as ending
 use Rattle.acq_cli.proofs.Causes.{never_ends}
 use Rattle.acq_cli.proofs.commands.refuse_journal.Goals as goal
 

@@ -4,8 +4,8 @@ use Rattle.session_store.specs.Store.{lang_of, plan_of, voc_of, events_of, quest
 use Rattle.session_store.specs.declared.fault.SFault.{SFault}
 use Rattle.session_store.specs.declared.store.Store.{Store}
 use Rattle.target_oracle.specs.Lines.{line_turn}
-use Rattle.acq_cli.specs.Running.{any_answer}
-use Rattle.acq_cli.proofs.Journals.{goes_on}
+use Rattle.acq_said.specs.Running.{any_answer}
+use Rattle.acq_said.proofs.Journals.{goes_on}
 use Rattle.acq_cli.proofs.commands.run_journal.Goals as goal
 
 abbrev not_opened : SFault → Result Store SFault

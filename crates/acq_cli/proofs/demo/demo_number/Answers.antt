@@ -10,11 +10,11 @@ use Rattle.session_store.proofs.Keepers.{both_as}
 use Rattle.session_store.specs.Loose.{lang_of, plan_of, events_of}
 use Rattle.target_oracle.specs.Generator.{target_of}
 use Rattle.acq_cli.specs.Demoing.{HasDriven, demo_text}
-use Rattle.acq_cli.specs.declared.ending.Ending.TheVariants as ending
-use Rattle.acq_cli.specs.Points.{terms_with}
-use Rattle.acq_cli.specs.Texts.{learned_after}
+use Rattle.acq_loop.specs.declared.ending.Ending.TheVariants as ending
+use Rattle.acq_loop.specs.Points.{terms_with}
+use Rattle.acq_loop.specs.Texts.{learned_after}
 use Rattle.acq_cli.proofs.Demoing.{demo_done, demo_stopped, front_of_first, front_of_line, line_put, sums_up}
-use Rattle.acq_cli.proofs.Parts.{ends_part}
+use Rattle.acq_said.proofs.Parts.{ends_part}
 use Rattle.acq_cli.proofs.demo.demo_number.Goals as goal
 
 pub drive_quietly-drove-requires-clause-target : goal.drive_quietly-drove-requires-clause-target

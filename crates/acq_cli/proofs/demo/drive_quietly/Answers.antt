@@ -5,12 +5,12 @@ use Rattle.language.specs.Answers.{standing_on}
 use Rattle.session_store.specs.Left.{false_is_not_true}
 use Rattle.session_store.specs.Loose.{lang_of, plan_of, events_of}
 use Rattle.target_oracle.specs.NetTurns.{net_may_say}
-use Rattle.acq_cli.specs.Added.{IsAdded, MayEnd}
-use Rattle.acq_cli.specs.Closings.{ending_of}
-use Rattle.acq_cli.specs.Points.{terms_with}
+use Rattle.acq_loop.specs.Added.{IsAdded, MayEnd}
+use Rattle.acq_loop.specs.Closings.{ending_of}
+use Rattle.acq_loop.specs.Points.{terms_with}
 use Rattle.acq_cli.proofs.Demoing.{driven_by, driven_from, not_collapsed}
 use Rattle.acq_cli.proofs.Targets.{agreeing_added, not_filled}
-use Rattle.acq_cli.proofs.Turning.{some_text}
+use Rattle.acq_loop.proofs.Turning.{some_text}
 use Rattle.acq_cli.proofs.demo.drive_quietly.Goals as goal
 
 pub returns-clause-agreeing : goal.returns-clause-agreeing

@@ -8,20 +8,20 @@ use Rattle.language.specs.Answers.{standing_on}
 use Rattle.session_store.specs.Keeping.{FailsWith}
 use Rattle.session_store.specs.Store.{lang_of, plan_of, voc_of, events_of, question_of}
 use Rattle.target_oracle.specs.NetTurns.{net_turn, net_may_say}
-use Rattle.acq_cli.specs.Breaks.{BreaksRun}
-use Rattle.acq_cli.specs.Driven.{Loses}
-use Rattle.acq_cli.specs.Endings.{Tries}
+use Rattle.acq_said.specs.Breaks.{BreaksRun}
+use Rattle.acq_loop.specs.Driven.{Loses}
+use Rattle.acq_said.specs.Endings.{Tries}
 use Rattle.acq_cli.specs.Playing.{IsAnsweredBy, MayLack, ReadsTarget, stale_said}
-use Rattle.acq_cli.specs.Points.{point_of, terms_with}
-use Rattle.acq_cli.proofs.Journals.{goes_on_with, opened_now, IsDisk}
+use Rattle.acq_loop.specs.Points.{point_of, terms_with}
+use Rattle.acq_said.proofs.Journals.{goes_on_with, opened_now, IsDisk}
 use Rattle.acq_cli.proofs.Targets.{answered, none_at_all}
 use Rattle.acq_cli.proofs.Causes.{stopped_unless}
-use Rattle.acq_cli.proofs.Spoken.{said_as, silent_not}
+use Rattle.acq_said.proofs.Spoken.{said_as, silent_not}
 use Rattle.acq_cli.specs.declared.playing.NoTarget.{NoTarget}
-use Rattle.acq_cli.specs.declared.said.Unsaid.TheVariants as unsaid
+use Rattle.acq_said.specs.declared.said.Unsaid.TheVariants as unsaid
 use Rattle.acq_io.proofs.CallLemmas.{stopped_by}
 use Rattle.network.specs.Learned.{Learned}
-use Rattle.acq_cli.proofs.Taking.{takes_then}
+use Rattle.acq_loop.proofs.Taking.{takes_then}
 use Rattle.acq_cli.proofs.playing.play_journal.Goals as goal
 
 abbrev untaken : NoTarget → Result Learned NoTarget

@@ -1,8 +1,8 @@
 use Rattle.std.proofs.Common.{◌≡◌, refl, sym, subst}
 use Rattle.acq_cli.specs.Playing.{SaysWithout, target_refused}
 use Rattle.acq_cli.specs.declared.playing.NoTarget.{NoTarget}
-use Rattle.acq_cli.specs.declared.said.Unsaid.TheVariants as unsaid
-use Rattle.acq_cli.proofs.Spoken.{said_as, silent_not}
+use Rattle.acq_said.specs.declared.said.Unsaid.TheVariants as unsaid
+use Rattle.acq_said.proofs.Spoken.{said_as, silent_not}
 use Rattle.acq_cli.proofs.playing.untargeted.Goals as goal
 
 pub returns-in-Refused-clause-says : goal.returns-in-Refused-clause-says

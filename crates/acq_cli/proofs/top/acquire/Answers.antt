@@ -6,10 +6,10 @@ use Rattle.acq_words.specs.declared.request.Command.{Command}
 use Rattle.acq_words.specs.declared.request.UsageFault.{UsageFault}
 use Rattle.acq_cli.specs.Doing.{Does}
 use Rattle.acq_cli.specs.Words.{command_asked}
-use Rattle.acq_cli.specs.declared.ending.Ending.{Ending}
-use Rattle.acq_cli.specs.declared.ending.Ending.TheVariants as ending
+use Rattle.acq_loop.specs.declared.ending.Ending.{Ending}
+use Rattle.acq_loop.specs.declared.ending.Ending.TheVariants as ending
 use Rattle.acq_cli.proofs.Asked.{usage_is}
-use Rattle.acq_cli.proofs.Closings.{failed, okay}
+use Rattle.acq_said.proofs.Closings.{failed, okay}
 use Rattle.acq_cli.proofs.Completing.{completes, memory_completes}
 use Rattle.acq_cli.proofs.Headline.{finds_network, finds_none}
 use Rattle.acq_cli.proofs.Targets.{ends_exactly, broken_exactly}

@@ -7,17 +7,17 @@ use Rattle.language.specs.Answers.{standing_on}
 use Rattle.query_gen.specs.Marks.{IsMadeFor}
 use Rattle.session_core.specs.Standing.{Stands, knowledge_of}
 use Rattle.session_store.proofs.Keepers.{keeps_still, keeps_as}
-use Rattle.acq_cli.specs.Driven.{Loses}
-use Rattle.acq_cli.specs.Points.{point_of, terms_with}
-use Rattle.acq_cli.specs.declared.driving.Drove.TheVariants as drove
-use Rattle.acq_cli.specs.declared.ending.Ending.{Ending}
-use Rattle.acq_cli.specs.declared.ending.Ending.TheVariants as ending
+use Rattle.acq_loop.specs.Driven.{Loses}
+use Rattle.acq_loop.specs.Points.{point_of, terms_with}
+use Rattle.acq_loop.specs.declared.driving.Drove.TheVariants as drove
+use Rattle.acq_loop.specs.declared.ending.Ending.{Ending}
+use Rattle.acq_loop.specs.declared.ending.Ending.TheVariants as ending
 use Rattle.acq_io.proofs.CallLemmas.{stopped_by}
-use Rattle.acq_cli.proofs.Added.{taught_none}
-use Rattle.acq_cli.proofs.Closings.{okay}
-use Rattle.acq_cli.proofs.Parts.{begun_part}
-use Rattle.acq_cli.proofs.Standings.{at_turn}
-use Rattle.acq_cli.proofs.Tries.{said_of}
+use Rattle.acq_loop.proofs.Added.{taught_none}
+use Rattle.acq_said.proofs.Closings.{okay}
+use Rattle.acq_said.proofs.Parts.{begun_part}
+use Rattle.acq_loop.proofs.Standings.{at_turn}
+use Rattle.acq_said.proofs.Tries.{said_of}
 use Rattle.acq_cli.proofs.top.ask_on.Goals as goal
 
 pub returns-clause-asked : goal.returns-clause-asked

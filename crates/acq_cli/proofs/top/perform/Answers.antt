@@ -3,9 +3,9 @@ use Rattle.std.specs.String.{string_bytes}
 use Rattle.acq_words.specs.declared.request.Command.{Command}
 use Rattle.acq_words.specs.declared.request.UsageFault.{UsageFault}
 use Rattle.acq_cli.specs.Doing.{Does}
-use Rattle.acq_cli.specs.Points.{terms_with}
+use Rattle.acq_loop.specs.Points.{terms_with}
 use Rattle.acq_cli.specs.Words.{Spares, command_asked}
-use Rattle.acq_cli.proofs.Parts.{acquires_as}
+use Rattle.acq_said.proofs.Parts.{acquires_as}
 use Rattle.acq_cli.proofs.Asked.{does_nothing, does_speak}
 use Rattle.acq_cli.proofs.Causes.{ok_causes, stopped_as}
 use Rattle.acq_cli.proofs.top.perform.Goals as goal

@@ -1,6 +1,6 @@
 use Rattle.session_core.specs.Standing.{knowledge_of}
-use Rattle.acq_cli.specs.Points.{terms_with}
-use Rattle.acq_cli.proofs.Sayings.{part_so, says_so}
+use Rattle.acq_loop.specs.Points.{terms_with}
+use Rattle.acq_said.proofs.Sayings.{part_so, says_so}
 use Rattle.acq_cli.proofs.top.say.Goals as goal
 
 pub returns-in_default-clause-says : goal.returns-in_default-clause-says

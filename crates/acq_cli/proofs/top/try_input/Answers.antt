@@ -2,8 +2,8 @@ use Rattle.std.proofs.Common.{rules, List, ℕ, Some, Result, refl, ap, sym, sub
 use Rattle.acq_io.specs.declared.whole.AllFault.{AllFault}
 use Rattle.acq_io.specs.declared.whole.AllFault.TheVariants.{TooLong}
 use Rattle.voc_read.specs.Vocabulary.{IsVocabulary, refusal_of_vocabulary}
-use Rattle.acq_cli.proofs.Parts.{acquires_in, breaks_in, breaks_refused}
-use Rattle.acq_cli.proofs.Taking.{takes_then}
+use Rattle.acq_said.proofs.Parts.{acquires_in, breaks_in, breaks_refused}
+use Rattle.acq_loop.proofs.Taking.{takes_then}
 use Rattle.acq_cli.proofs.top.try_input.Goals as goal
 
 abbrev fault_of : AllFault → Result (Vec ℕ Global) AllFault

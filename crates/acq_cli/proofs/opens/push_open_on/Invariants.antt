@@ -1,7 +1,0 @@
-use Rattle.std.proofs.Common.{◌≡◌, ◌++◌}
-use Rattle.std.specs.String.{string_bytes}
-use Rattle.acq_cli.proofs.OpenLines.{lines_before}
-use Rattle.acq_cli.proofs.opens.push_open_on.Given as goal
-
-abbrev pub invariant-loop-rel : goal.invariant-loop-rel
-invariant-loop-rel l = string_bytes l.text ≡ string_bytes l.initial.text ++ lines_before l.lang l.screen l.scope l.rel

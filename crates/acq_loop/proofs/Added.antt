@@ -1,0 +1,134 @@
+-- Events that were added, and their places.
+use Rattle.std.proofs.Common.{◌≡◌, List, [], ◌∷◌, ◌++◌, Option, Some, None, Result, Ok, Err, sym, ◌∙◌, ap, subst, inl, inr, append_assoc}
+use Rattle.std.specs.Prelude.{IfSome}
+use Rattle.std.proofs.lemmas.List.{append-nil}
+use Rattle.std.proofs.lemmas.List.Elements.{All-nil, All-cons, All-append}
+use Rattle.assign.specs.Assignment.{Assignment}
+use Rattle.assign.specs.declared.events.Event.{Event}
+use Rattle.assign.specs.declared.events.Plan.{Plan}
+use Rattle.language.specs.Language.{Language, IsLanguage, IsQuestion}
+use Rattle.language.specs.Answers.{standing_on}
+use Rattle.session_laws.specs.Session.{At, state_after}
+use Rattle.session_core.specs.Standing.{IsAskedAfter}
+use Rattle.session_store.specs.Replay.{HavePlaces}
+use Rattle.session_store.proofs.Fronts.{replay_is_state}
+use Rattle.session_store.proofs.Placing.{answer_has_place, back_has_place}
+use Rattle.target_oracle.specs.NetTurns.{told_of_answer}
+use Rattle.target_oracle.specs.declared.teacher.Told.{Told}
+use Rattle.acq_loop.specs.Added.{MayAdd, IsAdded, IsTaught, MayEnd}
+use Rattle.acq_loop.specs.Closings.{ending_of}
+use Rattle.acq_loop.specs.Driven.{MayFollow}
+use Rattle.acq_loop.specs.Due.{EventKept}
+use Rattle.acq_loop.specs.Run.{Puts, next_after, next_at, next_in}
+use Rattle.acq_loop.specs.declared.driving.Drove.{Drove}
+use Rattle.acq_loop.specs.declared.ending.Ending.{Ending}
+use Rattle.acq_loop.specs.declared.ending.Ending.TheVariants as ending
+use Rattle.acq_loop.specs.declared.terms.Terms.{Terms}
+use Rattle.acq_io.specs.declared.streams.Put.{Put}
+use Rattle.acq_loop.proofs.Running.{RunLaws, asked_at}
+
+-- ---- places
+
+-- what is said to the question that comes next has a place behind events that have one
+pub placed_event : RunLaws → (l : Language) → IsLanguage l → (terms : Terms) (past : List Event) (q : Assignment) (e : Event) → next_after l terms (standing_on l past) ≡ Some (Puts q) → IsQuestion l q → MayFollow past q e →
+    HavePlaces l terms.plan past → HavePlaces l terms.plan (past ++ e ∷ [])
+placed_event laws l lawful terms past q e due fits (inl (reply, is)) places =
+    let t = standing_on l past in
+    let at : state_after l terms.plan t ≡ At places.0 = replay_is_state l terms.plan past places.0 places.1 in
+    let is_next : Some (next_at l terms t places.0) ≡ Some (Puts q) = sym (ap (next_in l terms t) at) ∙ due in
+    let puts : next_at l terms t places.0 ≡ Puts q = cc in
+    let asked : IsAskedAfter l terms.plan t q = record { state = places.0; at = at; asked = asked_at laws l lawful terms t places.0 q at puts } in
+    let Placed : Event → Type 0 = λ x. HavePlaces l terms.plan (past ++ x ∷ []) in
+    subst Placed (sym is) (answer_has_place l terms.plan past q reply fits.size places asked)
+placed_event laws l lawful terms past q e due fits (inr (is, some)) places =
+    let Placed : Event → Type 0 = λ x. HavePlaces l terms.plan (past ++ x ∷ []) in
+    subst Placed (sym is) (back_has_place l terms.plan past places some)
+
+-- ---- what was added
+
+pub added_none : (l : Language) (plan : Plan) (may : Assignment → Told → Type 0) (before after : List Event) → after ≡ before → IsAdded l plan may before after
+added_none l plan may before after same = record {
+  more = [];
+  is = same ∙ sym (append-nil before);
+  each = All-nil (MayAdd l may);
+  places = let Placed : List Event → Type 0 = λ x. HavePlaces l plan x in λ places. subst Placed (sym same) places;
+}
+
+pub added_one : RunLaws → (l : Language) → IsLanguage l → (terms : Terms) (may : Assignment → Told → Type 0) (before after : List Event) (q : Assignment) (e : Event) →
+    next_after l terms (standing_on l before) ≡ Some (Puts q) → IsQuestion l q → MayFollow before q e → after ≡ before ++ e ∷ [] → MayAdd l may e → IsAdded l terms.plan may before after
+added_one laws l lawful terms may before after q e due fits follows is said = record {
+  more = e ∷ [];
+  is = is;
+  each = All-cons (MayAdd l may) e [] said (All-nil (MayAdd l may));
+  places =
+      let Placed : List Event → Type 0 = λ x. HavePlaces l terms.plan x in
+      λ places. subst Placed (sym is) (placed_event laws l lawful terms before q e due fits follows places);
+}
+
+pub added_then : (l : Language) (plan : Plan) (may : Assignment → Told → Type 0) (one two three : List Event) → IsAdded l plan may one two → IsAdded l plan may two three → IsAdded l plan may one three
+added_then l plan may one two three first second = record {
+  more = first.more ++ second.more;
+  is = second.is ∙ ap (λ (x : List Event). x ++ second.more) first.is ∙ append_assoc one first.more second.more;
+  each = All-append (MayAdd l may) first.more second.more first.each second.each;
+  places = λ places. second.places (first.places places);
+}
+
+may_more : (l : Language) (may more : Assignment → Told → Type 0) (e : Event) → ((q : Assignment) (told : Told) → may q told → more q told) → MayAdd l may e → MayAdd l more e
+may_more l may more e weaker (inl given) = inl (record { answer = given.answer; is = given.is; fits = given.fits; may_be = weaker given.answer.question (told_of_answer given.answer.yes) given.may_be })
+may_more l may more e weaker (inr back) = inr (record { question = back.question; is = back.is; may_be = weaker back.question _ back.may_be })
+
+-- what may be given by one may be given by another
+pub added_more : (l : Language) (plan : Plan) (may more : Assignment → Told → Type 0) (before after : List Event) → ((q : Assignment) (told : Told) → may q told → more q told) → IsAdded l plan may before after → IsAdded l plan more before after
+added_more l plan may more before after weaker added = record {
+  more = added.more;
+  is = added.is;
+  each = λ k d low. may_more l may more _ weaker (added.each k d low);
+  places = added.places;
+}
+
+-- what was kept of an event
+pub adds : RunLaws → (l : Language) → IsLanguage l → (terms : Terms) (may : Assignment → Told → Type 0) (events after : List Event) (q : Assignment) (e : Event) (end : Option Drove) → next_after l terms (standing_on l events) ≡ Some (Puts q) → IsQuestion l q → MayFollow events q e → EventKept e events after end → MayAdd l may e →
+    IsAdded l terms.plan may events after
+adds laws l lawful terms may events after q e None due fits follows kept said = added_one laws l lawful terms may events after q e due fits follows kept said
+adds laws l lawful terms may events after q e (Some end) due fits follows kept said = added_none l terms.plan may events after kept.1
+
+-- ---- how it ended
+
+-- an event that wasn't kept is no word of the teacher
+pub taught_kept : (may : Assignment → Told → Type 0) (e : Event) (old new : List Event) (got : Option Drove) → EventKept e old new got → IfSome got (λ (how : Drove). MayEnd may (ending_of how))
+taught_kept may e old new None kept = tt
+taught_kept may e old new (Some end) (inl is, same) = let P : Drove → Type 0 = λ how. MayEnd may (ending_of how) in subst P (sym is) tt
+taught_kept may e old new (Some end) (inr is, same) = let P : Drove → Type 0 = λ how. MayEnd may (ending_of how) in subst P (sym is) tt
+
+-- nothing was added, and it ended so
+pub taught_none : (l : Language) (plan : Plan) (may : Assignment → Told → Type 0) (before after : List Event) {ended : Type 0} → after ≡ before → ended → IsTaught l plan may before after ended
+taught_none l plan may before after same said = record { added = added_none l plan may before after same; said = said }
+
+pub ends_more : (may more : Assignment → Told → Type 0) → ((q : Assignment) (told : Told) → may q told → more q told) → (got : Result Ending Put) → MayEnd may got → MayEnd more got
+ends_more may more weaker (Ok (ending.Suspended m)) (q, inl said) = (q, inl (weaker q _ said))
+ends_more may more weaker (Ok (ending.Suspended m)) (q, inr said) = (q, inr (weaker q _ said))
+ends_more may more weaker (Ok ending.LineTooLong) (q, said) = (q, weaker q _ said)
+ends_more may more weaker (Ok ending.Unreadable) (q, said) = (q, weaker q _ said)
+ends_more may more weaker (Ok ending.ReadFault) (q, said) = (q, weaker q _ said)
+ends_more may more weaker (Ok (ending.Converged m)) said = tt
+ends_more may more weaker (Ok ending.Done) said = tt
+ends_more may more weaker (Ok (ending.Usage fault)) said = tt
+ends_more may more weaker (Ok (ending.VocRefused fault)) said = tt
+ends_more may more weaker (Ok (ending.JournalRefused fault)) said = tt
+ends_more may more weaker (Ok (ending.Collapsed m)) said = tt
+ends_more may more weaker (Ok (ending.Undecided m)) said = tt
+ends_more may more weaker (Ok ending.WriteFault) said = tt
+ends_more may more weaker (Ok ending.DiskFault) said = tt
+ends_more may more weaker (Ok ending.Memory) said = tt
+ends_more may more weaker (Ok ending.JournalFull) said = tt
+ends_more may more weaker (Ok (ending.NotFresh m)) said = tt
+ends_more may more weaker (Ok (ending.TargetRefused fault)) said = tt
+ends_more may more weaker (Ok ending.NothingBack) said = tt
+ends_more may more weaker (Ok (ending.ReduceSpent i)) said = tt
+ends_more may more weaker (Ok ending.CnfTooLarge) said = tt
+ends_more may more weaker (Ok (ending.ModelRefused fault)) said = tt
+ends_more may more weaker (Ok (ending.NotConverged m)) said = tt
+ends_more may more weaker (Ok (ending.CertRefused fault)) said = tt
+ends_more may more weaker (Ok (ending.Flawed flaw)) said = tt
+ends_more may more weaker (Ok (ending.CertUnread fault)) said = tt
+ends_more may more weaker (Err e) said = tt

@@ -1,0 +1,43 @@
+-- How few answers lead to convergence.
+use Rattle.std.proofs.Common.{◌≡◌, ◌∙◌, ℕ, ◌+◌, ◌*◌, ◌≤◌, true, List, length, Option, refl, arith}
+use Rattle.std.specs.Prelude.{◌==◌, ◌&&◌, IsTrue, All, slice_index_or}
+use Rattle.std.specs.List.{list_any}
+use Rattle.std.proofs.lemmas.Bool.{and_from, eq-eqb}
+use Rattle.std.proofs.lemmas.List.Folds.{list_any_at}
+use Rattle.std.proofs.lemmas.Nat.{mul-le}
+use Rattle.assign.specs.Events.{Answer}
+use Rattle.assign.specs.declared.events.Plan.{Plan}
+use Rattle.assign.specs.Sets.{numbers, has}
+use Rattle.find_scope.specs.Bound.{log_up}
+use Rattle.language.specs.declared.candidates.Candidate.{Candidate}
+use Rattle.language.specs.Language.{Language, IsLanguage, variable_count, candidates}
+use Rattle.language.specs.Answers.{IsNetwork, has_scope}
+use Rattle.language.proofs.Members.{any-filter, any_number}
+use Rattle.session_laws.specs.Bound.{greatest_arity}
+use Rattle.session_laws.specs.Session.{Idle, At, state_after}
+use Rattle.session_laws.specs.Walk.{WalkEnd}
+use Rattle.session_laws.proofs.Counted.{answers_are_few, learned_are_few}
+use Rattle.acq_loop.specs.Few.{AreFew, scopes_of_network}
+
+-- a greater cost a candidate makes a greater sum
+looser : (m c k arity lg : ℕ) → m ≤ c + k * (arity * lg + 1) → m ≤ c + k * (2 * arity * lg + 1)
+looser m c k arity lg low =
+    let one = mul-le arity lg (2 * arity) lg (omega arith) (omega arith) in
+    let two = mul-le k (arity * lg + 1) k (2 * arity * lg + 1) (omega arith) (omega arith) in
+    omega arith
+
+-- the scope of each candidate of a network is one of its scopes
+each_scope : (l : Language) (owner : List Candidate) → IsNetwork l owner → All (λ c. IsTrue (has (scopes_of_network l owner) c.scope)) owner
+each_scope l owner legal k d low =
+    let s : ℕ = (slice_index_or owner k d).scope in
+    let here : list_any (λ c. c.scope == s) owner ≡ true = list_any_at (λ c. c.scope == s) owner k d low (eq-eqb s s refl) in
+    any-filter (λ v. v == s) (has_scope owner) (numbers (length l.scopes)) ∙ any_number (λ v. has_scope owner v && (v == s)) (length l.scopes) s (legal k d low).scope (and_from _ _ here (eq-eqb s s refl))
+
+pub are_few : (l : Language) (plan : Plan) (t : List Answer) (network : List Candidate) (end : Option WalkEnd) → IsLanguage l → state_after l plan t ≡ At (Idle network end) → AreFew l network t
+are_few l plan t network end lawful at =
+    let low = answers_are_few l plan t network end lawful at in
+    record {
+      bounded = low;
+      loosely = looser (length t) (length (candidates l)) (length network) (greatest_arity l) (log_up (variable_count l)) low;
+      learned = λ owner legal agreeing. learned_are_few l plan t network end owner (scopes_of_network l owner) lawful at legal agreeing (each_scope l owner legal);
+    }

@@ -1,0 +1,205 @@
+-- A turn by what was heard of the teacher's word.
+use Rattle.std.proofs.Common.{◌≡◌, ◌⊎◌, ◌∙◌, ◌+◌, ◌<◌, ℕ, List, [], ◌∷◌, ◌++◌, length, true, false, is_some, ap, sym, subst, refl, inl, inr, Option, Some, None}
+use Rattle.std.specs.Prelude.{◌≢◌, IfSome}
+use Rattle.assign.specs.Assignment.{Assignment}
+use Rattle.assign.specs.declared.events.Event.{Event}
+use Rattle.assign.specs.declared.events.Event.TheVariants as event
+use Rattle.assign.specs.declared.events.Plan.{Plan}
+use Rattle.language.specs.Language.{Language, IsQuestion, variable_count}
+use Rattle.language.specs.Answers.{standing_on}
+use Rattle.query_gen.specs.Marks.{Remembered, IsMadeFor}
+use Rattle.query_gen.proofs.Marking.{no_marks_hold}
+use Rattle.session_laws.specs.Laws.{network_in}
+use Rattle.target_oracle.specs.Turns.{Turns, Reply, Said, TakenBack, Stopped, Ended, Overlong, Unread}
+use Rattle.target_oracle.specs.Tells.{Front, Tells}
+use Rattle.target_oracle.specs.declared.teacher.Told.{Told}
+use Rattle.target_oracle.specs.declared.teacher.Told.TheVariants as told
+use Rattle.acq_loop.specs.Added.{IsTaught, MayAdd, MayEnd}
+use Rattle.acq_loop.specs.Closings.{closing_of, ending_of}
+use Rattle.acq_loop.specs.Run.{Closing, Next, Puts, Suspended, LineTooLong, Unreadable, answer, next_on, number_on, event_heard}
+use Rattle.acq_loop.specs.Driven.{Point, next_lines, HasEnded, IsPending, MayFollow, RanTo, Remembers}
+use Rattle.acq_loop.specs.Due.{EventKept}
+use Rattle.acq_loop.specs.Heard.{heard_of, event_on, MayKeep, Forgets}
+use Rattle.acq_loop.specs.Loop.{EndsAs}
+use Rattle.acq_loop.specs.Points.{point_of, terms_with}
+use Rattle.acq_loop.specs.Turn.{SaysNext}
+use Rattle.acq_loop.specs.declared.terms.Terms.{Terms}
+use Rattle.acq_loop.specs.declared.driving.Drove.{Drove}
+use Rattle.acq_loop.specs.declared.driving.Drove.TheVariants as drove
+use Rattle.acq_loop.specs.declared.driving.Entry.{Entry}
+use Rattle.acq_loop.specs.declared.driving.Entry.TheVariants as entry
+use Rattle.acq_loop.specs.declared.driving.Heard.{Heard}
+use Rattle.acq_loop.specs.declared.driving.Heard.TheVariants as heard
+use Rattle.acq_loop.proofs.Answered.{ends_closed, ends_failed, not_full_with}
+use Rattle.acq_loop.proofs.Reached.{IsReached, some_stand}
+use Rattle.acq_loop.proofs.Running.{EndsSo, next_put, room_not_full}
+use Rattle.acq_loop.proofs.Standings.{AtQuestion, marks_after, run_laws, within}
+use Rattle.acq_loop.proofs.Turning.{AskedSo, ToldSo, FrontSo, asked_as, told_as, front_as, front_of_turn, ran_closed, cut_turn}
+
+-- the reply of which an entry is kept
+abbrev pub reply_of : Entry → Reply
+reply_of (entry.Answer reply) = Said reply
+reply_of entry.Back = TakenBack
+
+pub entry_gives : (q : Assignment) (e : Entry) → event_heard q (reply_of e) ≡ Some (event_on e (Some q))
+entry_gives q (entry.Answer reply) = refl
+entry_gives q entry.Back = refl
+
+-- an entry was heard in these words alone
+pub word_kept : (t : Told) (count : ℕ) (e : Entry) (P : Told → Entry → Type 0) → heard_of t count ≡ heard.Keep e → P told.Yes (entry.Answer true) → P told.No (entry.Answer false) → P told.Back entry.Back → P t e
+word_kept told.Yes count e P is given denied back = let same : entry.Answer true ≡ e = cc in subst (P told.Yes) same given
+word_kept told.No count e P is given denied back = let same : entry.Answer false ≡ e = cc in subst (P told.No) same denied
+word_kept told.Back count e P is given denied back = let same : entry.Back ≡ e = cc in subst (P told.Back) same back
+word_kept told.Stop count e P is given denied back = absurd (let bad : ⊥ = cc in bad)
+word_kept told.End count e P is given denied back = absurd (let bad : ⊥ = cc in bad)
+word_kept told.TooLong count e P is given denied back = absurd (let bad : ⊥ = cc in bad)
+word_kept told.Unreadable count e P is given denied back = absurd (let bad : ⊥ = cc in bad)
+word_kept told.ReadFault count e P is given denied back = absurd (let bad : ⊥ = cc in bad)
+word_kept told.WriteFault count e P is given denied back = absurd (let bad : ⊥ = cc in bad)
+word_kept told.Memory count e P is given denied back = absurd (let bad : ⊥ = cc in bad)
+
+-- and an end in these
+pub word_ended : (t : Told) (count : ℕ) (d : Drove) (P : Told → Drove → Type 0) → heard_of t count ≡ heard.End d → P told.Stop (drove.Suspended count) → P told.End (drove.Suspended count) → P told.TooLong drove.LineTooLong →
+    P told.Unreadable drove.Unreadable → P told.ReadFault drove.ReadFault → P told.WriteFault drove.WriteFault → P told.Memory drove.Memory → P t d
+word_ended told.Yes count d P is stop end long unread read write memory = absurd (let bad : ⊥ = cc in bad)
+word_ended told.No count d P is stop end long unread read write memory = absurd (let bad : ⊥ = cc in bad)
+word_ended told.Back count d P is stop end long unread read write memory = absurd (let bad : ⊥ = cc in bad)
+word_ended told.Stop count d P is stop end long unread read write memory = let same : drove.Suspended count ≡ d = cc in subst (P told.Stop) same stop
+word_ended told.End count d P is stop end long unread read write memory = let same : drove.Suspended count ≡ d = cc in subst (P told.End) same end
+word_ended told.TooLong count d P is stop end long unread read write memory = let same : drove.LineTooLong ≡ d = cc in subst (P told.TooLong) same long
+word_ended told.Unreadable count d P is stop end long unread read write memory = let same : drove.Unreadable ≡ d = cc in subst (P told.Unreadable) same unread
+word_ended told.ReadFault count d P is stop end long unread read write memory = let same : drove.ReadFault ≡ d = cc in subst (P told.ReadFault) same read
+word_ended told.WriteFault count d P is stop end long unread read write memory = let same : drove.WriteFault ≡ d = cc in subst (P told.WriteFault) same write
+word_ended told.Memory count d P is stop end long unread read write memory = let same : drove.Memory ≡ d = cc in subst (P told.Memory) same memory
+
+-- the loop ends by a fault where the word says so
+pub word_read : (t : Told) (count : ℕ) (d : Drove) → heard_of t count ≡ heard.End d → Some d ≡ Some drove.ReadFault → t ≡ told.ReadFault
+word_read t count d is =
+    word_ended t count d (λ w e. Some e ≡ Some drove.ReadFault → w ≡ told.ReadFault) is
+    (λ e. absurd cc) (λ e. absurd cc) (λ e. absurd cc) (λ e. absurd cc) (λ e. refl) (λ e. absurd cc) (λ e. absurd cc)
+
+pub word_write : (t : Told) (count : ℕ) (d : Drove) → heard_of t count ≡ heard.End d → Some d ≡ Some drove.WriteFault → t ≡ told.WriteFault
+word_write t count d is =
+    word_ended t count d (λ w e. Some e ≡ Some drove.WriteFault → w ≡ told.WriteFault) is
+    (λ e. absurd cc) (λ e. absurd cc) (λ e. absurd cc) (λ e. absurd cc) (λ e. absurd cc) (λ e. refl) (λ e. absurd cc)
+
+-- the end of an entry is no other fault
+-- whether the disk failed
+pub disk_failed : (e : Event) (before after : List Event) (end : Option Drove) → EventKept e before after end → (end ≡ Some drove.DiskFault) ⊎ (end ≡ Some drove.DiskFault → ⊥)
+disk_failed e before after None kept = inr (λ is. cc)
+disk_failed e before after (Some end) (inl memory, _) = inr (λ is. let same : end ≡ drove.DiskFault = cc in let bad : ⊥ = cc in bad)
+disk_failed e before after (Some end) (inr failed, _) = inl (ap (λ (d : Drove). Some d) failed)
+
+pub kept_calm : (e : Event) (before after : List Event) (end : Option Drove) (d : Drove) → EventKept e before after end → d ≢ drove.Memory → d ≢ drove.DiskFault → end ≡ Some d → ⊥
+kept_calm e before after None d kept memory disk is = cc
+kept_calm e before after (Some end) d (inl same, _) memory disk is = memory (let so : d ≡ end = cc in so ∙ same)
+kept_calm e before after (Some end) d (inr same, _) memory disk is = disk (let so : d ≡ end = cc in so ∙ same)
+
+-- an end that isn't of the disk
+pub word_not_disk : (t : Told) (count : ℕ) (d : Drove) → heard_of t count ≡ heard.End d → Some d ≡ Some drove.DiskFault → ⊥
+word_not_disk t count d is = word_ended t count d (λ w e. Some e ≡ Some drove.DiskFault → ⊥) is (λ e. cc) (λ e. cc) (λ e. cc) (λ e. cc) (λ e. cc) (λ e. cc) (λ e. cc)
+
+-- it may be said
+pub word_may_end : (t : Told) (count : ℕ) (d : Drove) (may : Assignment → Told → Type 0) (q : Assignment) → heard_of t count ≡ heard.End d → may q t → MayEnd may (ending_of d)
+word_may_end t count d may q is =
+    word_ended t count d (λ w e. may q w → MayEnd may (ending_of e)) is (λ m. (q, inl m)) (λ m. (q, inr m)) (λ m. (q, m)) (λ m. (q, m)) (λ m. (q, m)) (λ m. tt) (λ m. tt)
+
+pub word_may_add : (l : Language) (t : Told) (count : ℕ) (e : Entry) (may : Assignment → Told → Type 0) (q : Assignment) → heard_of t count ≡ heard.Keep e → IsQuestion l q → may q t → MayAdd l may (event_on e (Some q))
+word_may_add l t count e may q is fits =
+    word_kept t count e (λ w n. may q w → MayAdd l may (event_on n (Some q))) is
+    (λ m. inl (record { answer = answer q true; is = refl; fits = fits; may_be = m })) (λ m. inl (record { answer = answer q false; is = refl; fits = fits; may_be = m })) (λ m. inr (record { question = q; is = refl; may_be = m }))
+
+-- an answer is taken back where one stands
+pub word_follows : (l : Language) (events : List Event) (t : Told) (count : ℕ) (e : Entry) (q : Assignment) → heard_of t count ≡ heard.Keep e → count ≡ length (standing_on l events) → (t ≡ told.Back → 1 < count + 1) → MayFollow events q (event_on e (Some q))
+word_follows l events t count e q is number =
+    word_kept t count e (λ w n. (w ≡ told.Back → 1 < count + 1) → MayFollow events q (event_on n (Some q))) is
+    (λ back. inl (true, refl)) (λ back. inl (false, refl)) (λ back. inr (refl, some_stand l events (count + 1) (ap (λ n. n + 1) number) (back refl)))
+
+pub may_keep : (events : List Event) (q : Assignment) (put : Option Assignment) (e : Entry) → put ≡ Some q → MayFollow events q (event_on e (Some q)) → MayKeep events put e
+may_keep events q put (entry.Answer reply) is follows = ap is_some is
+may_keep events q put entry.Back is (inl (reply, other)) = absurd (let bad : ⊥ = cc in bad)
+may_keep events q put entry.Back is (inr stands) = stands.1
+
+-- the marks stay true, or there are none
+pub hold_after : (l : Language) (terms : Terms) (events later : List Event) (q : Assignment) (e : Entry) (old new : Remembered) → IsReached l terms.plan (standing_on l events) → length q ≡ variable_count l →
+    later ≡ events ++ event_on e (Some q) ∷ [] → Forgets e old new → Remembers l terms (standing_on l events) old → Remembers l terms (standing_on l later) new
+hold_after l terms events later q (entry.Answer reply) old new reached size is same remembers =
+    let Marked : Remembered → Type 0 = λ marks. Remembers l terms (standing_on l later) marks in
+    subst Marked (sym same) (marks_after l terms events later q reply old reached size is remembers)
+hold_after l terms events later q entry.Back old new reached size is none remembers = λ state at. no_marks_hold l (network_in state) terms.budget new none
+
+-- ---- a turn at which this question is put, by what the teacher told of it
+module _ (l m : Language) (terms : Terms) (events : List Event) (count : ℕ) (q : Assignment) (asked : AtQuestion l terms events count m q) (turns : Turns) (left written left' written' : Option (List ℕ)) where
+  abbrev here : Point
+  here = point_of events left written
+
+  abbrev there : Point
+  there = point_of events left' written'
+
+  -- what the teacher's call says of the word
+  abbrev pub Spoken : Told → Type 0
+  Spoken t = (bytes before : List ℕ) → left ≡ Some bytes → written ≡ Some before → Tells (turns m (count + 1) q bytes) before left' written' t
+
+  told_here : (reply : Reply) → ToldSo turns m (count + 1) q here there reply → ToldSo turns l (number_on l events) q here there reply
+  told_here reply = told_as turns m l (count + 1) (number_on l events) q here there reply asked.at.language (ap (λ n. n + 1) asked.at.number)
+
+  pub word_told : (t : Told) (e : Entry) → heard_of t count ≡ heard.Keep e → Spoken t → ToldSo turns l (number_on l events) q here there (reply_of e)
+  word_told t e is = word_kept t count e (λ w n. Spoken w → ToldSo turns l (number_on l events) q here there (reply_of n)) is (told_here (Said true)) (told_here (Said false)) (told_here TakenBack)
+
+  front_here : FrontSo turns m (count + 1) q here there → FrontSo turns l (number_on l events) q here there
+  front_here = front_as turns m l (count + 1) (number_on l events) q here there asked.at.language (ap (λ n. n + 1) asked.at.number)
+
+  pub word_asked : AskedSo turns m (count + 1) q here there → AskedSo turns l (number_on l events) q here there
+  word_asked = asked_as turns m l (count + 1) (number_on l events) q here there asked.at.language (ap (λ n. n + 1) asked.at.number)
+
+  -- what was written goes no further than the question's lines, whatever was said
+  word_front : (t : Told) → Spoken t → FrontSo turns l (number_on l events) q here there
+  word_front told.Yes said = front_of_turn turns l (number_on l events) q here there (Said true) (told_here (Said true) said)
+  word_front told.No said = front_of_turn turns l (number_on l events) q here there (Said false) (told_here (Said false) said)
+  word_front told.Back said = front_of_turn turns l (number_on l events) q here there TakenBack (told_here TakenBack said)
+  word_front told.Stop said = front_of_turn turns l (number_on l events) q here there Stopped (told_here Stopped said)
+  word_front told.End said = front_of_turn turns l (number_on l events) q here there Ended (told_here Ended said)
+  word_front told.TooLong said = front_of_turn turns l (number_on l events) q here there Overlong (told_here Overlong said)
+  word_front told.Unreadable said = front_of_turn turns l (number_on l events) q here there Unread (told_here Unread said)
+  word_front told.ReadFault said = front_here said
+  word_front told.WriteFault said = front_here said
+  word_front told.Memory said = front_here said
+
+  pub word_says_next : (t : Told) → Spoken t → SaysNext turns l terms events left written written'
+  word_says_next t said bytes before is was =
+      let comes : next_on l terms events ≡ Some (Puts q) = next_put l terms events q asked.puts (room_not_full events asked.room) in
+      let Fronts : Option Next → Type 0 = λ next. Front (next_lines turns l events bytes next) before written' in
+      subst Fronts (sym comes) (word_front t said bytes before is was)
+
+  -- how the loop ends
+  pub word_ends : (t : Told) (d : Drove) (marks : Remembered) → IsMadeFor l marks → heard_of t count ≡ heard.End d → AskedSo turns m (count + 1) q here there → Spoken t → EndsAs turns l terms here there marks d
+  word_ends t d marks made is first =
+      word_ended t count d (λ w e. Spoken w → EndsAs turns l terms here there marks e) is (suspends Stopped (λ again rest. refl)) (suspends Ended (λ again rest. refl))
+      (λ told. closes drove.LineTooLong (λ m e. cc) (λ e. cc) (λ e. cc) (λ e. cc) (record { number = tt; found = due }) (ran LineTooLong Overlong (λ again rest. refl) told))
+      (λ told. closes drove.Unreadable (λ m e. cc) (λ e. cc) (λ e. cc) (λ e. cc) (record { number = tt; found = due }) (ran Unreadable Unread (λ again rest. refl) told))
+      (λ told. fails drove.ReadFault (λ m e. cc) (λ e. cc) (record { number = tt; found = tt }) tt (λ e. cc) told)
+      (λ told. fails drove.WriteFault (λ m e. cc) (λ e. cc) (record { number = tt; found = tt }) tt (λ e. cc) told)
+      (λ told. fails drove.Memory (λ m e. cc) (λ e. cc) (record { number = tt; found = tt }) tt (λ e. cc) told)
+    where
+      due : IsPending l terms (standing_on l events)
+      due = (q, asked.puts)
+
+      comes : next_on l terms events ≡ Some (Puts q)
+      comes = next_put l terms events q asked.puts (room_not_full events asked.room)
+
+      ran : (closing : Closing) (reply : Reply) → EndsSo reply closing events q → ToldSo turns m (count + 1) q here there reply → RanTo turns l terms closing here there
+      ran closing reply ends told = ran_closed turns l terms q reply closing here there comes refl ends (told_here reply told)
+
+      closes : (how : Drove) → ((n : ℕ) → how ≢ drove.Undecided n) → how ≢ drove.JournalFull → (closing_of how ≢ None) → how ≢ drove.DiskFault → HasEnded l terms (standing_on l events) how →
+          IfSome (closing_of how) (λ c. RanTo turns l terms c here there) → EndsAs turns l terms here there marks how
+      closes how decided full some kept says run = ends_closed turns l terms here there marks made how decided (not_full_with l terms events how full asked.room) some kept says run
+
+      suspends : (reply : Reply) → EndsSo reply Suspended events q → ToldSo turns m (count + 1) q here there reply → EndsAs turns l terms here there marks (drove.Suspended count)
+      suspends reply ends told = closes (drove.Suspended count) (λ n e. cc) (λ e. cc) (λ e. cc) (λ e. cc) (record { number = asked.at.number; found = due }) (ran Suspended reply ends told)
+
+      fails : (how : Drove) → ((n : ℕ) → how ≢ drove.Undecided n) → how ≢ drove.JournalFull → HasEnded l terms (standing_on l events) how → IfSome (closing_of how) (λ c. RanTo turns l terms c here there) → how ≢ drove.DiskFault →
+          FrontSo turns m (count + 1) q here there → EndsAs turns l terms here there marks how
+      fails how decided full says run other front =
+          ends_failed turns l terms here there marks made how decided (not_full_with l terms events how full asked.room) says run (λ e. absurd (other e)) due
+          (cut_turn run_laws turns l terms asked.at.lawful q here there (within l terms events count m q asked) comes refl
+          (front_as turns m l (count + 1) (number_on l events) q here there asked.at.language (ap (λ n. n + 1) asked.at.number) front) (word_asked first))

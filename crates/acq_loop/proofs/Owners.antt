@@ -1,0 +1,23 @@
+-- What comes of it where one network gave each answer.
+use Rattle.std.proofs.Common.{List, Option, Some, None}
+use Rattle.std.specs.Prelude.{IfSome, IsTrue}
+use Rattle.assign.specs.Events.{Answer}
+use Rattle.language.specs.declared.candidates.Candidate.{Candidate}
+use Rattle.language.specs.Language.{Language}
+use Rattle.language.specs.Answers.{IsNetwork, agrees}
+use Rattle.acq_loop.specs.Run.{Closing, Converged, Collapsed, Undecided, Suspended, LineTooLong, Unreadable, JournalFull}
+use Rattle.acq_loop.specs.declared.terms.Terms.{Terms}
+use Rattle.acq_loop.specs.Driven.{HasFound, IsOwned}
+
+owned_at : (l : Language) (terms : Terms) (t : List Answer) (closing : Closing) (owner : List Candidate) → HasFound l terms t closing → IsNetwork l owner → IsTrue (agrees l owner t) → IsOwned l terms owner t closing
+owned_at l terms t Converged owner found lawful agreeing = (found.network, found.end, found.idle, found.converged.only owner lawful agreeing)
+owned_at l terms t Collapsed owner found lawful agreeing = found.none owner lawful agreeing
+owned_at l terms t Undecided owner found lawful agreeing = tt
+owned_at l terms t Suspended owner found lawful agreeing = tt
+owned_at l terms t LineTooLong owner found lawful agreeing = tt
+owned_at l terms t Unreadable owner found lawful agreeing = tt
+owned_at l terms t JournalFull owner found lawful agreeing = tt
+
+pub owned : (l : Language) (terms : Terms) (t : List Answer) (o : Option Closing) (owner : List Candidate) → IfSome o (HasFound l terms t) → IsNetwork l owner → IsTrue (agrees l owner t) → IfSome o (IsOwned l terms owner t)
+owned l terms t None owner found lawful agreeing = tt
+owned l terms t (Some closing) owner found lawful agreeing = owned_at l terms t closing owner found lawful agreeing

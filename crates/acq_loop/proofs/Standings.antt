@@ -1,0 +1,178 @@
+-- Sessions that stand where answers lead, and what follows of them.
+use Rattle.std.proofs.Common.{Option, Some, None, ⊎_elim, Bool, true, false, IsTrue, ◌≡◌, ℕ, ◌+◌, ◌≤◌, ◌<◌, ◌^◌, List, ◌∷◌, [], ◌++◌, refl, length, ap, sym, ◌∙◌, subst, arith}
+use Rattle.std.proofs.lemmas.Bool.{cases_lt}
+use Rattle.assign.specs.Assignment.{Assignment}
+use Rattle.assign.specs.Events.{Answer}
+use Rattle.assign.specs.declared.events.Plan.{Plan}
+use Rattle.language.specs.declared.candidates.Candidate.{Candidate}
+use Rattle.language.specs.Language.{Language, IsLanguage, IsQuestion, variable_count}
+use Rattle.query_gen.specs.Marks.{Remembered, MarksHold}
+use Rattle.session_laws.specs.Session.{State, Reading, Stray, At, state_after}
+use Rattle.session_laws.specs.Laws.{network_in, Extends}
+use Rattle.session_laws.proofs.Folds.{one_answer_more}
+use Rattle.session_laws.proofs.Places.{questions_have_places}
+use Rattle.session_laws.proofs.Counted.{answers_are_at_most}
+use Rattle.session_laws.proofs.Askable.{questions_have_values}
+use Rattle.session_laws.proofs.Growing.{network_grows}
+use Rattle.session_laws.proofs.Limits.{answers_fit}
+use Rattle.session_core.specs.declared.session.Session.{Session}
+use Rattle.session_core.specs.declared.session.Session.TheVariants as sessions
+use Rattle.session_core.specs.declared.knowledge.Knowledge.{Knowledge}
+use Rattle.session_core.specs.declared.put.Put.{Put}
+use Rattle.session_core.specs.declared.put.Put.TheVariants as puts
+use Rattle.session_core.specs.Standing.{Stands, PutAfter, knowledge_of, open_in}
+use Rattle.session_store.specs.Keeps.{OnlyPuts}
+use Rattle.session_store.specs.declared.keep.Keep.{Ghosts as KeepOf}
+use Rattle.std.specs.Option.{ForSome}
+use Rattle.acq_loop.specs.Due.{IsDue}
+use Rattle.acq_loop.specs.Points.{terms_with}
+use Rattle.acq_loop.specs.declared.terms.Terms.{Terms}
+use Rattle.assign.specs.declared.events.Event.{Event}
+use Rattle.assign.proofs.EventLemmas.{cut_to-standing-push}
+use Rattle.language.specs.Answers.{standing_on}
+use Rattle.session_store.specs.Kept.{answer_event}
+use Rattle.acq_loop.specs.Run.{Next, Puts, next_in, next_after, answer}
+use Rattle.acq_loop.specs.Driven.{Remembers}
+use Rattle.acq_loop.proofs.Questions.{asked_is_example, marks_stay, same_state}
+use Rattle.acq_loop.proofs.Reached.{IsReached}
+use Rattle.acq_loop.proofs.Running.{IsWithin, RunLaws}
+
+pub run_laws : RunLaws
+run_laws = record { places = questions_have_places; more = one_answer_more; values = questions_have_values; lawful = asked_is_example }
+
+-- ---- the state of a session, with its network
+
+pub record StandsIn (k : Knowledge) (t : List Answer) : Type 0 where
+  pub state : State
+  pub at : state_after k.lang k.plan t ≡ At state
+  pub network : network_in state ≡ k.network.list
+
+put_at : (k : Knowledge) (put : Put) (t : List Answer) → PutAfter k put t → StandsIn k t
+put_at k (puts.Example e) t after = record { state = _; at = after.idle; network = refl }
+put_at k (puts.OnWalk e set) t after = record { state = _; at = after.walking; network = refl }
+put_at k (puts.Part e set run) t after = record { state = _; at = after.halving; network = refl }
+put_at k (puts.FirstTuple run) t after = record { state = _; at = after.idle; network = refl }
+put_at k (puts.Tuple run) t after = record { state = _; at = after; network = refl }
+
+pub stands_at : (session : Session) (t : List Answer) → Stands session t → StandsIn (knowledge_of session) t
+stands_at (sessions.Idle idle) t h = record { state = _; at = h.after.idle; network = refl }
+stands_at (sessions.Asking asking) t h = put_at asking.knowledge.value asking.put.value t h.after
+stands_at (sessions.Over over) t h = record { state = _; at = h.after; network = refl }
+
+-- the answers that a session stands for have a place
+pub reached : (session : Session) (t : List Answer) → Stands session t → IsReached (knowledge_of session).lang (knowledge_of session).plan t
+reached session t h = let there = stands_at session t h in (there.state, there.at)
+
+-- there are few
+pub few_answers : (l : Language) (plan : Plan) (t : List Answer) → IsLanguage l → IsReached l plan t → length t ≤ 762753
+few_answers l plan t lawful (state, at) = let most = answers_are_at_most l plan t state lawful at in let fit = answers_fit l lawful in omega arith
+
+-- what a turn relies on: the language is lawful, the answers have a place, and the count is theirs
+pub record AtTurn (l : Language) (plan : Plan) (t : List Answer) (count : ℕ) (m : Language) : Type 0 where
+  pub lawful : IsLanguage l
+  pub reached : IsReached l plan t
+  pub number : count ≡ length t
+  pub language : m ≡ l
+
+pub at_turn : (session : Session) (l m : Language) (plan : Plan) (t : List Answer) (count : ℕ) → Stands session t → (knowledge_of session).lang ≡ l → (knowledge_of session).plan ≡ plan →
+    count ≡ (knowledge_of session).answers → m ≡ (knowledge_of session).lang → IsLanguage m → AtTurn l plan t count m
+at_turn session l m plan t count stands lang planned counted is lawful = record {
+  lawful = subst IsLanguage (is ∙ lang) lawful;
+  reached = let P : Language → Type 0 = λ x. IsReached x plan t in let Q : Plan → Type 0 = λ p. IsReached (knowledge_of session).lang p t in subst P lang (subst Q planned (reached session t stands));
+  number = counted ∙ stands.knows.count;
+  language = is ∙ lang;
+}
+
+-- the next question's number fits
+pub next_fits : (l : Language) (plan : Plan) (m : Language) (t : List Answer) (count : ℕ) → AtTurn l plan t count m → count + 1 < 2 ^ 32
+next_fits l plan m t count at = let few = few_answers l plan t at.lawful at.reached in let is = at.number in omega arith
+
+-- that, and this question comes next, of which there is a record for what is said to it
+pub record AtQuestion (l : Language) (terms : Terms) (events : List Event) (count : ℕ) (m : Language) (q : Assignment) : Type 0 where
+  pub at : AtTurn l terms.plan (standing_on l events) count m
+  pub puts : next_after l terms (standing_on l events) ≡ Some (Puts q)
+  pub fits : IsQuestion l q
+  pub room : length events + 1 < 1000000
+
+-- the question that is open in a keeper's session, where nothing but that has changed
+pub record Asks {K D : Type 0} (keep : KeepOf K D) (old new : K) (budget : ℕ) (s : Session) : Type 0 where
+  pub question : Assignment
+  pub is_open : open_in s ≡ Some question
+  pub put : keep.question new ≡ Some question
+  pub asked : AtQuestion (keep.lang old) (terms_with (keep.plan old) budget) (keep.record_of old) (knowledge_of s).answers (knowledge_of s).lang question
+
+pub asks : {K D : Type 0} (keep : KeepOf K D) (old new : K) (budget : ℕ) (s : Session) → OnlyPuts keep old new → Stands s (standing_on (keep.lang new) (keep.record_of new)) →
+    (knowledge_of s).lang ≡ keep.lang new → (knowledge_of s).plan ≡ keep.plan new → open_in s ≡ keep.question new → IsLanguage (knowledge_of s).lang → ForSome (open_in s) (IsQuestion (knowledge_of s).lang) →
+    IsDue (keep.lang old) (terms_with (keep.plan old) budget) (standing_on (keep.lang old) (keep.record_of old)) (keep.question new) → length (keep.record_of new) + 1 < 1000000 → Asks keep old new budget s
+asks keep old new budget s only stands lang planned opened lawful fits due room =
+    let l : Language = keep.lang old in
+    let k = knowledge_of s in
+    let same : k.lang ≡ l = lang ∙ only.lang in
+    let there : standing_on (keep.lang new) (keep.record_of new) ≡ standing_on l (keep.record_of old) = (λ i. standing_on (only.lang i) (only.events i)) in
+    record {
+      question = due.question;
+      is_open = opened ∙ due.is;
+      put = due.is;
+      asked = record {
+        at = at_turn s l k.lang (keep.plan old) (standing_on l (keep.record_of old)) k.answers (subst (Stands s) there stands) same (planned ∙ only.plan) refl refl lawful;
+        puts = due.puts;
+        fits = let Fits : Language → Type 0 = λ m. IsQuestion m due.question in subst Fits same (fits due.question (opened ∙ due.is));
+        room = omega (arith, room, ap (λ (es : List Event). length es) only.events);
+      };
+    }
+
+-- ---- what a screen remembers
+
+-- true marks of a session's network are true of the network that the answers lead to, and the other way round
+pub marks_there : (session : Session) (l : Language) (plan : Plan) (budget : ℕ) (t : List Answer) (screen : Remembered) → Stands session t → (knowledge_of session).lang ≡ l → (knowledge_of session).plan ≡ plan →
+    MarksHold (knowledge_of session).lang (knowledge_of session).network.list budget screen → Remembers l (record { plan = plan; budget = budget }) t screen
+marks_there session l plan budget t screen stands lang planned marks state at =
+    let there = stands_at session t stands in
+    let same : there.state ≡ state = same_state _ _ (sym there.at ∙ ap (λ x. state_after x (knowledge_of session).plan t) lang ∙ ap (λ p. state_after l p t) planned ∙ at) in
+    let P : Language → Type 0 = λ x. MarksHold x (knowledge_of session).network.list budget screen in
+    subst (λ (n : List Candidate). MarksHold l n budget screen) (sym there.network ∙ ap network_in same) (subst P lang marks)
+
+pub marks_here : (session : Session) (l : Language) (plan : Plan) (budget : ℕ) (t : List Answer) (screen : Remembered) → Stands session t → (knowledge_of session).lang ≡ l → (knowledge_of session).plan ≡ plan →
+    Remembers l (record { plan = plan; budget = budget }) t screen → MarksHold (knowledge_of session).lang (knowledge_of session).network.list budget screen
+marks_here session l plan budget t screen stands lang planned remembers =
+    let there = stands_at session t stands in
+    let marks = remembers there.state (sym (ap (λ x. state_after x (knowledge_of session).plan t) lang ∙ ap (λ p. state_after l p t) planned) ∙ there.at) in
+    let P : Language → Type 0 = λ x. MarksHold x (knowledge_of session).network.list budget screen in
+    subst P (sym lang) (subst (λ (n : List Candidate). MarksHold l n budget screen) there.network marks)
+
+-- they stay true when an answer is added
+pub marks_on : (l : Language) (terms : Terms) (t : List Answer) (a : Answer) (screen : Remembered) → IsReached l terms.plan t → Remembers l terms t screen → Remembers l terms (t ++ a ∷ []) screen
+marks_on l terms t a screen (state, at) remembers next then =
+    let on : Extends (network_in state) (network_in next) = network_grows l terms.plan t a state next at then in
+    subst (λ (n : List Candidate). MarksHold l n terms.budget screen) (sym on.is) (marks_stay l (network_in state) on.more terms.budget screen (remembers state at))
+
+-- what holds of a language and a plan holds of the same ones
+pub carried : (P : Language → Plan → Type 0) (l m : Language) (p q : Plan) → l ≡ m → p ≡ q → P l p → P m q
+carried P l m p q e f h = subst (λ (x : Language). P x q) e (subst (P l) f h)
+
+-- what comes next comes after answers that have a place
+pub due_reached : (l : Language) (terms : Terms) (t : List Answer) (n : Next) → next_after l terms t ≡ Some n → IsReached l terms.plan t
+due_reached l terms t n due = go (state_after l terms.plan t) refl
+  where
+    none_some : None ≡ Some n → ⊥
+    none_some e = cc
+
+    go : (r : Reading) → state_after l terms.plan t ≡ r → IsReached l terms.plan t
+    go (Stray number) at = absurd (none_some (sym (ap (next_in l terms t) at) ∙ due))
+    go (At state) at = (state, at)
+
+-- marks stay true over an answer
+pub marks_after : (l : Language) (terms : Terms) (events later : List Event) (q : Assignment) (said : Bool) (screen : Remembered) → IsReached l terms.plan (standing_on l events) → length q ≡ variable_count l →
+    later ≡ events ++ answer_event q said ∷ [] → Remembers l terms (standing_on l events) screen → Remembers l terms (standing_on l later) screen
+marks_after l terms events later q said screen reached size is remembers =
+    let grown : standing_on l later ≡ standing_on l events ++ answer q said ∷ [] = ap (standing_on l) is ∙ cut_to-standing-push (variable_count l) events q said size in
+    let P : List Answer → Type 0 = λ ts. Remembers l terms ts screen in
+    subst P (sym grown) (marks_on l terms (standing_on l events) (answer q said) screen reached remembers)
+
+-- the events at which a question comes
+pub within : (l : Language) (terms : Terms) (events : List Event) (count : ℕ) (m : Language) (q : Assignment) → AtQuestion l terms events count m q → IsWithin l terms.plan events
+within l terms events count m q asked = record { reached = asked.at.reached; few = omega (arith, asked.room) }
+
+-- where a keeper isn't full, there is room for one more event
+pub room_unless : (n : ℕ) (full : Bool) → n < 1000000 → (n + 1 ≡ 1000000 → IsTrue full) → full ≡ false → n + 1 < 1000000
+room_unless n full few tells room = ⊎_elim (λ less. less) (λ more. absurd (let bad : true ≡ false = sym (tells (omega (arith, few, more))) ∙ room in let no : ⊥ = cc in no)) (cases_lt (n + 1) 1000000)

@@ -1,0 +1,101 @@
+use Rattle.std.proofs.Common.{◌≡◌, ◌∙◌, List, Option, ap, sym, subst}
+use Rattle.assign.specs.Assignment.{Assignment}
+use Rattle.assign.specs.Events.{Answer}
+use Rattle.assign.specs.declared.events.Plan.{Plan}
+use Rattle.language.specs.Language.{Language, IsLanguage}
+use Rattle.language.specs.Answers.{standing_on}
+use Rattle.par_screen.specs.Eighths.{AreMadeFor}
+use Rattle.query_gen.specs.Marks.{IsMadeFor}
+use Rattle.session_core.specs.Standing.{knowledge_of}
+use Rattle.session_core.specs.declared.session.Session.{Session}
+use Rattle.session_core.specs.declared.session.Session.TheVariants as sessions
+use Rattle.acq_loop.specs.Driven.{TellsOpen}
+use Rattle.acq_loop.specs.Points.{terms_with}
+use Rattle.acq_loop.proofs.Nexts.{IsSession, asking_next, next_there, over_next}
+use Rattle.acq_loop.proofs.Standings.{carried, marks_here, marks_there}
+use Rattle.acq_loop.proofs.next.next_of.Goals as goal
+
+pub idle_next-requires-clause-places : goal.idle_next-requires-clause-places
+idle_next-requires-clause-places g c lives within =
+    let P = g.P.Keep in
+    let keep = c.args.keep.now in
+    let l : Language = P.lang keep in
+    let p : Plan = P.plan keep in
+    let t : List Answer = standing_on l (P.record_of keep) in
+    let told = c.session-session.ensures in
+    let Of : Session → Type 0 = IsSession l p t (P.question keep) in
+    let so = subst Of c.in-Idle.is (record { stands = told.stands; lang = told.lang; plan = told.plan; question = told.question }) in
+    let Equipped : Language → Type 0 = λ m. AreMadeFor m c.args.places.now in
+    subst Equipped (sym so.lang) c.requires.ready.equipped
+
+pub idle_next-requires-clause-screen : goal.idle_next-requires-clause-screen
+idle_next-requires-clause-screen g c lives within =
+    let P = g.P.Keep in
+    let keep = c.args.keep.now in
+    let l : Language = P.lang keep in
+    let p : Plan = P.plan keep in
+    let t : List Answer = standing_on l (P.record_of keep) in
+    let told = c.session-session.ensures in
+    let Of : Session → Type 0 = IsSession l p t (P.question keep) in
+    let so = subst Of c.in-Idle.is (record { stands = told.stands; lang = told.lang; plan = told.plan; question = told.question }) in
+    let Made : Language → Type 0 = λ m. IsMadeFor m c.args.screen.now in
+    subst Made (sym so.lang) c.requires.ready.made
+
+pub idle_next-requires-clause-marks : goal.idle_next-requires-clause-marks
+idle_next-requires-clause-marks g c lives within =
+    let P = g.P.Keep in
+    let keep = c.args.keep.now in
+    let l : Language = P.lang keep in
+    let p : Plan = P.plan keep in
+    let t : List Answer = standing_on l (P.record_of keep) in
+    let told = c.session-session.ensures in
+    let Of : Session → Type 0 = IsSession l p t (P.question keep) in
+    let so = subst Of c.in-Idle.is (record { stands = told.stands; lang = told.lang; plan = told.plan; question = told.question }) in
+    marks_here (sessions.Idle c.in-Idle.idle) l p c.args.budget t c.args.screen.now so.stands so.lang so.plan c.requires.ready.hold
+
+pub returns-in-Idle : goal.returns-in-Idle
+returns-in-Idle g c =
+    let P = g.P.Keep in
+    let keep = c.args.keep.now in
+    let l : Language = P.lang keep in
+    let p : Plan = P.plan keep in
+    let t : List Answer = standing_on l (P.record_of keep) in
+    let told = c.session-session.ensures in
+    let Of : Session → Type 0 = IsSession l p t (P.question keep) in
+    let so = subst Of c.in-Idle.is (record { stands = told.stands; lang = told.lang; plan = told.plan; question = told.question }) in
+    let k = knowledge_of (sessions.Idle c.in-Idle.idle) in
+    let Equipped : Language → Type 0 = λ m. AreMadeFor m c.idle_next.new.places in
+    let Made : Language → Type 0 = λ m. IsMadeFor m c.idle_next.new.screen in
+    let Open : Language → Plan → Type 0 = λ m q. TellsOpen m (terms_with q c.args.budget) t c.idle_next.new.screen in
+    record {
+      next = next_there l p c.args.budget t (P.question keep) (sessions.Idle c.in-Idle.idle) c.idle_next.result so c.requires.ready.settled (λ stands quiet. c.idle_next.ensures.next t stands);
+      places = subst Equipped so.lang c.idle_next.ensures.places;
+      screen = subst Made so.lang c.idle_next.ensures.screen;
+      remembers = marks_there (sessions.Idle c.in-Idle.idle) l p c.args.budget t c.idle_next.new.screen so.stands so.lang so.plan c.idle_next.ensures.marks;
+      «open» = λ is. carried Open k.lang l k.plan p so.lang so.plan (c.idle_next.ensures.«open» t so.stands is);
+    }
+
+pub returns-in-Asking-clause-next : goal.returns-in-Asking-clause-next
+returns-in-Asking-clause-next g c =
+    let P = g.P.Keep in
+    let keep = c.args.keep.now in
+    let l : Language = P.lang keep in
+    let p : Plan = P.plan keep in
+    let t : List Answer = standing_on l (P.record_of keep) in
+    let told = c.session-session.ensures in
+    let Of : Session → Type 0 = IsSession l p t (P.question keep) in
+    let so = subst Of c.in-Asking.is (record { stands = told.stands; lang = told.lang; plan = told.plan; question = told.question }) in
+    asking_next l p c.args.budget t (P.question keep) c.in-Asking.field-0 so c.requires.ready.settled
+
+pub returns-in-Over-clause-next : goal.returns-in-Over-clause-next
+returns-in-Over-clause-next g c =
+    let P = g.P.Keep in
+    let keep = c.args.keep.now in
+    let l : Language = P.lang keep in
+    let p : Plan = P.plan keep in
+    let t : List Answer = standing_on l (P.record_of keep) in
+    let told = c.session-session.ensures in
+    let Of : Session → Type 0 = IsSession l p t (P.question keep) in
+    let so = subst Of c.in-Over.is (record { stands = told.stands; lang = told.lang; plan = told.plan; question = told.question }) in
+    let Lawful : Session → Type 0 = λ s. IsLanguage (knowledge_of s).lang in
+    over_next l p c.args.budget t (P.question keep) c.in-Over.field-0 (subst Lawful c.in-Over.is (subst IsLanguage c.lang-lang.ensures.is c.lang-lang.ensures.lawful)) so c.requires.ready.settled

@@ -1,0 +1,216 @@
+-- What the loop has done, by how it ended.
+use Rattle.std.specs.Prelude.{◌≡◌, ◌≢◌, ◌⊎◌, ◌↔◌, ◌<◌, ◌+◌, ℕ, Bool, IsTrue, List, [], ◌++◌, length, All, ◌&&◌, Option, Some, None, IfSome}
+use Rattle.assign.specs.Assignment.{Assignment}
+use Rattle.assign.specs.Events.{Answer, standing}
+use Rattle.assign.specs.declared.events.Event.{Event}
+use Rattle.assign.specs.declared.events.Event.TheVariants as event
+use Rattle.assign.specs.declared.events.Plan.{Plan}
+use Rattle.assign.specs.declared.events.Plan.TheVariants.{Scopes, Quacq, Multi}
+use Rattle.language.specs.declared.candidates.Candidate.{Candidate}
+use Rattle.language.specs.Language.{Language, HasSameSolutions, IsCandidate, IsImplied, IsQuestion}
+use Rattle.language.specs.Answers.{IsNetwork, IsCovered, IsConverged, NoneAgrees, kept, standing_on}
+use Rattle.language.specs.Search.{plain_size}
+use Rattle.fd_solver.specs.declared.outcome.Outcome.TheVariants.{Spent}
+use Rattle.fd_solver.specs.Outcomes.{outcome_of_candidate}
+use Rattle.query_gen.specs.Questions.{is_among, is_spent}
+use Rattle.query_gen.specs.Marks.{Remembered, MarksHold, is_open}
+use Rattle.query_gen.specs.Laws.{IsUndecided}
+use Rattle.session_laws.specs.Session.{State, Idle, Over, At, state_after, walk_end}
+use Rattle.session_laws.specs.Walk.{WalkEnd, Ended}
+use Rattle.session_laws.specs.Laws.{IsWalked, network_in}
+use Rattle.session_store.specs.Kept.{answer_event}
+use Rattle.target_oracle.specs.Turns.{Turns}
+use Rattle.target_oracle.specs.Tells.{AsksFirst, Front}
+use Rattle.acq_loop.specs.Closings.{closing_of, number_of}
+use Rattle.acq_loop.specs.Few.{AreFew}
+use Rattle.acq_loop.specs.Run.{Closing, Converged, Collapsed, Undecided, Next, Puts, Ends, next_after, next_on, number_on, Ran, Runs, after_text, event_heard}
+use Rattle.acq_loop.specs.Texts.{open_candidates}
+use Rattle.acq_loop.specs.declared.terms.Terms.{Terms}
+use Rattle.acq_loop.specs.declared.driving.Drove.{Drove}
+use Rattle.acq_loop.specs.declared.driving.Drove.TheVariants as drove
+
+-- the events, what a source has left and what a sink has, where they tell
+pub record Point : Type 0 where
+  pub events : List Event
+  pub left : Option (List ℕ)
+  pub written : Option (List ℕ)
+
+-- what was written so far begins each run that goes on from there
+pub record IsBegun (turns : Turns) (l : Language) (terms : Terms) (bytes before : List ℕ) (old new : Point) : Type 0 where
+  pub rest : List ℕ
+  pub done : List ℕ
+  pub left : new.left ≡ Some rest
+  pub written : new.written ≡ Some (before ++ done)
+  pub begins : (run : Ran) → Runs turns l terms new.events rest run → Runs turns l terms old.events bytes (after_text done run)
+
+-- where source and sink tell
+abbrev pub StepsTo : Turns → Language → Terms → Point → Point → Type 0
+StepsTo turns l terms old new = (bytes before : List ℕ) → old.left ≡ Some bytes → old.written ≡ Some before → IsBegun turns l terms bytes before old new
+
+-- the run with this closing is what was written and left, and its events are there
+pub record IsRun (turns : Turns) (l : Language) (terms : Terms) (bytes before : List ℕ) (end : Closing) (old new : Point) : Type 0 where
+  pub run : Ran
+  pub runs : Runs turns l terms old.events bytes run
+  pub closing : run.closing ≡ end
+  pub events : run.events ≡ new.events
+  pub left : new.left ≡ Some run.rest
+  pub written : new.written ≡ Some (before ++ run.text)
+
+abbrev pub RanTo : Turns → Language → Terms → Closing → Point → Point → Type 0
+RanTo turns l terms closing old new = (bytes before : List ℕ) → old.left ≡ Some bytes → old.written ≡ Some before → IsRun turns l terms bytes before closing old new
+
+-- the lines of what comes next after these events, where that is a question
+abbrev pub next_lines : Turns → Language → List Event → List ℕ → Option Next → List ℕ
+next_lines turns l events bytes None = []
+next_lines turns l events bytes (Some (Ends closing)) = []
+next_lines turns l events bytes (Some (Puts q)) = (turns l (number_on l events) q bytes).text
+
+-- What was written goes no further than the lines of the question that comes after these events. So no event is missing behind
+-- whose lines something was written. Of the bytes that were there when the question came, the input has an end. Before any of
+-- them was taken, what the question's turn writes to no bytes stood there: its line.
+pub record StopsAt (turns : Turns) (l : Language) (terms : Terms) (start events : List Event) (bytes before : List ℕ) (left written : Option (List ℕ)) : Type 0 where
+  pub rest : List ℕ
+  pub done : List ℕ
+  pub begins : (run : Ran) → Runs turns l terms events rest run → Runs turns l terms start bytes (after_text done run)
+  pub text : Front (next_lines turns l events rest (next_on l terms events)) (before ++ done) written
+  pub asked : AsksFirst (Some rest) (Some (before ++ done)) left written (next_lines turns l events [] (next_on l terms events))
+
+-- What was written is a front of the run's text, and the events are a front of its events, with each behind whose lines
+-- something was written.
+pub record IsCut (turns : Turns) (l : Language) (terms : Terms) (bytes before : List ℕ) (old new : Point) : Type 0 where
+  pub run : Ran
+  pub runs : Runs turns l terms old.events bytes run
+  pub text : Front run.text before new.written
+  pub later : List Event
+  pub events : run.events ≡ new.events ++ later
+  pub stops : StopsAt turns l terms old.events new.events bytes before new.left new.written
+
+abbrev pub CutOff : Turns → Language → Terms → Point → Point → Type 0
+CutOff turns l terms old new = (bytes before : List ℕ) → old.left ≡ Some bytes → old.written ≡ Some before → IsCut turns l terms bytes before old new
+
+-- This question was put: its lines were written, and a reply was heard, whose event, which is this one, isn't there.
+pub record IsUnkept (turns : Turns) (l : Language) (terms : Terms) (question : Assignment) (lost : Event) (bytes before : List ℕ) (old new : Point) : Type 0 where
+  pub rest : List ℕ
+  pub done : List ℕ
+  pub begins : (run : Ran) → Runs turns l terms new.events rest run → Runs turns l terms old.events bytes (after_text done run)
+  pub heard : event_heard question (turns l (number_on l new.events) question rest).heard.reply ≡ Some lost
+  pub left : new.left ≡ Some (turns l (number_on l new.events) question rest).heard.rest
+  pub written : new.written ≡ Some (before ++ (done ++ (turns l (number_on l new.events) question rest).text))
+
+-- after these events a question may be answered so; an answer is taken back where one stands
+abbrev pub MayFollow : List Event → Assignment → Event → Type 0
+MayFollow events question e = ((reply : Bool) × (e ≡ answer_event question reply)) ⊎ ((e ≡ event.Back) × (standing events ≢ []))
+
+-- The event of a reply to the question that comes next was lost.
+pub record Loses (turns : Turns) (l : Language) (terms : Terms) (old new : Point) (lost : Event) : Type 0 where
+  pub question : Assignment
+  pub puts : next_after l terms (standing_on l new.events) ≡ Some (Puts question)
+  pub fits : IsQuestion l question
+  pub follows : MayFollow new.events question lost
+  -- where source and sink tell
+  pub told : (bytes before : List ℕ) → old.left ≡ Some bytes → old.written ≡ Some before → IsUnkept turns l terms question lost bytes before old new
+
+-- an event was lost
+abbrev pub UnkeptTo : Turns → Language → Terms → Point → Point → Type 0
+UnkeptTo turns l terms old new = (lost : Event) × Loses turns l terms old new lost
+
+-- a question is due after these events, and they are as many as a journal takes
+pub record IsFull (l : Language) (terms : Terms) (events : List Event) : Type 0 where
+  pub question : Assignment
+  pub puts : next_after l terms (standing_on l events) ≡ Some (Puts question)
+  pub full : length events + 1 ≡ 1000000
+
+-- the loop ends for want of a record exactly there
+abbrev pub TellsFull : Language → Terms → List Event → Drove → Type 0
+TellsFull l terms events how = (how ≡ drove.JournalFull) ↔ IsFull l terms events
+
+-- nothing is left to ask, and the few answers converge on what was learned
+pub record IsDone (l : Language) (terms : Terms) (t : List Answer) : Type 0 where
+  pub network : List Candidate
+  pub end : Option WalkEnd
+  pub idle : state_after l terms.plan t ≡ At (Idle network end)
+  pub ends : next_after l terms t ≡ Some (Ends Converged)
+  pub covered : IsCovered l network t
+  pub converged : IsConverged l network t
+  pub few : AreFew l network t
+
+-- no network agrees with the answers, which never comes scope by scope
+pub record IsCollapsed (l : Language) (terms : Terms) (t : List Answer) : Type 0 where
+  pub network : List Candidate
+  pub over : state_after l terms.plan t ≡ At (Over network)
+  pub ends : next_after l terms t ≡ Some (Ends Collapsed)
+  pub none : NoneAgrees l t
+  pub plan : terms.plan ≢ Scopes
+
+-- Nothing was found to ask. The budget was too small for the searches of some kept candidates, and each other one is implied.
+pub record IsLeftOpen (l : Language) (terms : Terms) (t : List Answer) : Type 0 where
+  pub network : List Candidate
+  pub end : Option WalkEnd
+  pub idle : state_after l terms.plan t ≡ At (Idle network end)
+  pub ends : next_after l terms t ≡ Some (Ends Undecided)
+  pub lawful : IsNetwork l network
+  pub undecided : IsUndecided l network (kept l t network) terms.budget
+  pub plan : terms.plan ≢ Scopes
+  -- some candidate is listed
+  pub some : open_candidates l terms t network ≢ []
+  -- each that is listed is kept, and its search has more steps than the budget
+  pub each : All (λ c. IsTrue (is_among (kept l t network) c) × (terms.budget < plain_size l network c)) (open_candidates l terms t network)
+  -- each other that is kept is implied
+  pub rest : All (λ c. (outcome_of_candidate l network c terms.budget ≢ Spent) → IsImplied l network c) (kept l t network)
+
+-- a question comes after these answers
+abbrev pub IsPending : Language → Terms → List Answer → Type 0
+IsPending l terms t = (q : Assignment) × (next_after l terms t ≡ Some (Puts q))
+
+-- What a run that closes so has found of the answers that stand. Where it stops else, a question was due.
+abbrev pub HasFound : Language → Terms → List Answer → Closing → Type 0
+HasFound l terms t Converged = IsDone l terms t
+HasFound l terms t Collapsed = IsCollapsed l terms t
+HasFound l terms t Undecided = IsLeftOpen l terms t
+HasFound l terms t closing = IsPending l terms t
+
+-- The number that is told is that of the answers that stand, and what is said of these is true.
+pub record HasEnded (l : Language) (terms : Terms) (t : List Answer) (how : Drove) : Type 0 where
+  pub number : IfSome (number_of how) (λ m. m ≡ length t)
+  pub found : IfSome (closing_of how) (HasFound l terms t)
+
+-- The loop ends so only in this way.
+pub record Drives (turns : Turns) (l : Language) (terms : Terms) (old new : Point) (how : Drove) : Type 0 where
+  pub says : HasEnded l terms (standing_on l new.events) how
+  -- the run that is closed so is what was written and left
+  pub closed : IfSome (closing_of how) (λ closing. RanTo turns l terms closing old new)
+  -- where something failed, a question was due, and a front of a run was written
+  pub pending : closing_of how ≡ None → IsPending l terms (standing_on l new.events)
+  pub broken : closing_of how ≡ None → CutOff turns l terms old new
+  -- where the disk failed, what was written ends with the lines of the question whose reply wasn't kept
+  pub unkept : how ≡ drove.DiskFault → UnkeptTo turns l terms old new
+  -- the journal is full exactly where a question is due and no record is left
+  pub full : TellsFull l terms new.events how
+
+-- what comes of it where this network gave each answer: no collapse, and what was learned has exactly its solutions
+abbrev pub IsOwned : Language → Terms → List Candidate → List Answer → Closing → Type 0
+IsOwned l terms owner t Converged = (network : List Candidate) × (end : Option WalkEnd) × (state_after l terms.plan t ≡ At (Idle network end)) × HasSameSolutions l owner network
+IsOwned l terms owner t Collapsed = ⊥
+IsOwned l terms owner t closing = Unit {0}
+
+-- how the walk of an example ended that the last answer ended; other plans walk none
+abbrev pub last_walk : Language → Plan → List Answer → Option WalkEnd
+last_walk l Multi t = walk_end l t
+last_walk l Quacq t = None
+last_walk l Scopes t = None
+
+-- Where the last answer has ended the walk of an example, which wasn't cut off, nothing is left to learn from the example.
+abbrev pub LeavesNothing : Language → Plan → List Answer → Type 0
+LeavesNothing l plan t = (e : Assignment) (state : State) → state_after l plan t ≡ At state → last_walk l plan t ≡ Some (Ended e) → IsWalked l t (network_in state) e
+
+-- ---- what a screen says of the candidates
+
+-- its marks are true of the network that the answers lead to
+abbrev pub Remembers : Language → Terms → List Answer → Remembered → Type 0
+Remembers l terms t screen = (state : State) → state_after l terms.plan t ≡ At state → MarksHold l (network_in state) terms.budget screen
+
+-- where nothing is open, it tells exactly the kept candidates whose searches the budget was too small for
+abbrev pub TellsOpen : Language → Terms → List Answer → Remembered → Type 0
+TellsOpen l terms t screen =
+    (network : List Candidate) (end : Option WalkEnd) → state_after l terms.plan t ≡ At (Idle network end) → (c : Candidate) → IsCandidate l c →
+    is_open l screen c ≡ (is_among (kept l t network) c && is_spent (outcome_of_candidate l network c terms.budget))

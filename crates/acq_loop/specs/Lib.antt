@@ -1,0 +1,12 @@
+pub mod Run
+pub mod Few
+pub mod Closings
+pub mod Driven
+pub mod Added
+pub mod Due
+pub mod Heard
+pub mod Points
+pub mod Loop
+pub mod Turn
+pub mod Texts
+pub mod Program

@@ -1,0 +1,59 @@
+-- One turn of the loop, and turns one after another.
+use Rattle.std.specs.Prelude.{◌≡◌, List, [], ◌∷◌, ℕ, Option, Some}
+use Rattle.assign.specs.Assignment.{Assignment}
+use Rattle.assign.specs.declared.events.Event.{Event}
+use Rattle.disk_model.specs.declared.disk.Disk.{Ghosts as DiskOf}
+use Rattle.language.specs.Language.{Language}
+use Rattle.par_screen.specs.Eighths.{AreMadeFor}
+use Rattle.query_gen.specs.declared.place.Place.{Place}
+use Rattle.session_store.specs.Keeps.{LosesNone}
+use Rattle.session_store.specs.declared.keep.Keep.{Ghosts as KeepOf}
+use Rattle.target_oracle.specs.Teaching.{TeachesOn}
+use Rattle.target_oracle.specs.Tells.{Front}
+use Rattle.target_oracle.specs.Turns.{Turns}
+use Rattle.target_oracle.specs.declared.teacher.Told.{Told}
+use Rattle.acq_loop.specs.Driven.{next_lines}
+use Rattle.acq_loop.specs.Run.{next_on}
+use Rattle.acq_loop.specs.declared.terms.Terms.{Terms}
+
+-- What was written, where source and sink tell, is a front of the lines of the question that comes after these events, and nothing
+-- where none comes.
+abbrev pub SaysNext : Turns → Language → Terms → List Event → (left written written' : Option (List ℕ)) → Type 0
+SaysNext turns l terms events left written written' =
+    (bytes before : List ℕ) → left ≡ Some bytes → written ≡ Some before → Front (next_lines turns l events bytes (next_on l terms events)) before written'
+
+-- the keeper, its disk, and what a source has left and a sink has, where they tell
+pub record Between (K D : Type 0) : Type 0 where
+  pub keeper : K
+  pub on : D
+  pub left : Option (List ℕ)
+  pub written : Option (List ℕ)
+
+abbrev pub between : {K D : Type 0} → K → D → (left written : Option (List ℕ)) → Between K D
+between keeper on left written = record { keeper = keeper; on = on; left = left; written = written }
+
+-- the meanings of a keeper and of a disk
+module _ {K D : Type 0} (keep : KeepOf K D) (disk : DiskOf D) where
+  -- One turn, whatever came of it. A crash at any moment of it leaves every event that was there when it began, and it wrote no more
+  -- than the lines of the question that comes after those events. So where a line is written behind an answer, no crash loses the
+  -- answer from the turn's beginning on.
+  pub record IsTurn (turns : Turns) (l : Language) (terms : Terms) (old new : Between K D) : Type 0 where
+    pub acknowledged : LosesNone keep disk old.keeper old.on new.on
+    pub says_next : SaysNext turns l terms (keep.record_of old.keeper) old.left old.written new.written
+
+  -- Turns one after another lead from the one to the other. What is between them is listed from the last to the first.
+  pub AreTurns : Turns → Language → Terms → Between K D → List (Between K D) → Between K D → Type 0
+  AreTurns turns l terms old [] new = new ≡ old
+  AreTurns turns l terms old (mid ∷ more) new = AreTurns turns l terms old more mid × IsTurn turns l terms mid new
+
+  abbrev pub ByTurns : Turns → Language → Terms → Between K D → Between K D → Type 0
+  ByTurns turns l terms old new = (middles : List (Between K D)) × AreTurns turns l terms old middles new
+
+-- ---- what serves another turn
+
+-- the meanings of a teacher
+module _ {T : Type 0} (turns_of : T → Turns) (fits_of : T → Language → Type 0) (may_of : T → Language → Assignment → Told → Type 0) where
+  -- The teacher teaches as before, and the places are made for the language.
+  pub record ServesOn (l : Language) (old new : T) (places : List Place) : Type 0 where
+    pub teaches : TeachesOn turns_of fits_of may_of old new
+    pub equipped : AreMadeFor l places

@@ -1,0 +1,212 @@
+-- What a run over a journal has done, of its opening and its loop.
+use Rattle.std.proofs.Common.{◌≡◌, ◌⊎◌, ℕ, List, [], ◌∷◌, ◌++◌, Option, Some, Result, Ok, Err, refl, sym, ◌∙◌, ap, subst, inl, inr, ⊎_elim, length, arith, length-append}
+use Rattle.std.specs.Prelude.{◌≢◌, IfOk, OnErr, IsSome}
+use Rattle.std.specs.Option.{ForSome}
+use Rattle.std.proofs.lemmas.List.{append-nil}
+use Rattle.disk_model.specs.declared.disk.Disk.{Ghosts as DiskOf}
+use Rattle.acq_io.specs.Streams.{AddsFront}
+use Rattle.acq_io.specs.declared.streams.Put.{Put}
+use Rattle.acq_io.specs.declared.streams.Put.TheVariants as put
+use Rattle.answer_journal.specs.Calls.{AreReadingCalls}
+use Rattle.answer_journal.specs.declared.fault.JFault.TheVariants as journal
+use Rattle.assign.specs.Assignment.{Assignment}
+use Rattle.assign.specs.declared.events.Event.{Event}
+use Rattle.assign.specs.declared.events.Plan.{Plan}
+use Rattle.disk_model.specs.Moments.{LeavesOnly, joined}
+use Rattle.language.specs.Language.{Language, IsLanguage}
+use Rattle.session_store.specs.Left.{OpensWith, OpensWithin, SaysSession, LeavesNow, bytes_told}
+use Rattle.session_store.specs.Keeping.{AreEventCalls, IsGrown, Persists, FailsWith}
+use Rattle.session_store.specs.Replay.{HavePlaces}
+use Rattle.session_store.specs.Store.{plan_of, voc_of, events_of, IsThere, opens_there}
+use Rattle.session_store.specs.declared.store.Store.{Store}
+use Rattle.session_store.specs.declared.fault.SFault.{SFault}
+use Rattle.session_store.specs.declared.fault.SFault.TheVariants as store
+use Rattle.voc_read.specs.Vocabulary.{IsVocabulary}
+use Rattle.acq_said.specs.Breaks.{BreaksRun}
+use Rattle.target_oracle.specs.Turns.{Turns}
+use Rattle.target_oracle.specs.declared.teacher.Told.{Told}
+use Rattle.acq_loop.specs.Added.{IsAdded}
+use Rattle.acq_loop.proofs.Added.{placed_event}
+use Rattle.acq_loop.proofs.Standings.{run_laws}
+use Rattle.acq_loop.specs.Driven.{Loses}
+use Rattle.acq_loop.specs.Points.{point_of, terms_with}
+use Rattle.acq_said.specs.Endings.{Tries}
+use Rattle.acq_said.specs.Running.{GoesOn}
+use Rattle.acq_said.specs.Said.{EndsWith}
+use Rattle.acq_said.proofs.Closings.{okay, same_ok, err_ok}
+use Rattle.acq_loop.specs.declared.ending.Ending.{Ending}
+use Rattle.acq_loop.specs.declared.ending.Ending.TheVariants as ending
+use Rattle.acq_said.specs.Journals.{untold}
+use Rattle.acq_said.specs.declared.said.Unsaid.{Unsaid}
+use Rattle.acq_said.specs.declared.said.Unsaid.TheVariants as unsaid
+
+abbrev pub IsDisk : Result Ending Put → Type 0
+IsDisk got = got ≡ Ok ending.DiskFault
+
+other_ending : (e : Ending) → (e ≡ ending.DiskFault) ⊎ (e ≡ ending.DiskFault → ⊥)
+other_ending (ending.Converged m) = inr (λ e. cc)
+other_ending ending.Done = inr (λ e. cc)
+other_ending (ending.Usage fault) = inr (λ e. cc)
+other_ending (ending.VocRefused fault) = inr (λ e. cc)
+other_ending (ending.JournalRefused fault) = inr (λ e. cc)
+other_ending (ending.Collapsed m) = inr (λ e. cc)
+other_ending (ending.Undecided m) = inr (λ e. cc)
+other_ending (ending.Suspended m) = inr (λ e. cc)
+other_ending ending.LineTooLong = inr (λ e. cc)
+other_ending ending.Unreadable = inr (λ e. cc)
+other_ending ending.ReadFault = inr (λ e. cc)
+other_ending ending.WriteFault = inr (λ e. cc)
+other_ending ending.DiskFault = inl refl
+other_ending ending.JournalFull = inr (λ e. cc)
+other_ending (ending.NotFresh m) = inr (λ e. cc)
+other_ending (ending.TargetRefused fault) = inr (λ e. cc)
+other_ending ending.NothingBack = inr (λ e. cc)
+other_ending (ending.ReduceSpent i) = inr (λ e. cc)
+other_ending ending.CnfTooLarge = inr (λ e. cc)
+other_ending (ending.ModelRefused fault) = inr (λ e. cc)
+other_ending (ending.NotConverged m) = inr (λ e. cc)
+other_ending (ending.CertRefused fault) = inr (λ e. cc)
+other_ending (ending.Flawed flaw) = inr (λ e. cc)
+other_ending (ending.CertUnread fault) = inr (λ e. cc)
+other_ending ending.Memory = inr (λ e. cc)
+
+-- whether the disk failed
+pub disk_failed : (got : Result Ending Put) → IsDisk got ⊎ (IsDisk got → ⊥)
+disk_failed (Err e) = inr (err_ok e ending.DiskFault)
+disk_failed (Ok end) = ⊎_elim (λ is. inl (ap okay is)) (λ other. inr (λ h. other (same_ok end ending.DiskFault h))) (other_ending end)
+
+module _ {D : Type 0} (disk : DiskOf D) where
+  -- what holds of its language, plan and events holds of what it is about
+  pub goes_on_with : (P : Language → Plan → List Event → List Event → Type 0) (turns : Turns) (may : Language → Assignment → Told → Type 0) (budget : ℕ) (left written left' written' : Option (List ℕ)) (first old new : D) (got : Result Ending Put) (plan : Plan) (voc : List ℕ) (events later : List Event) (open_then : Option Assignment) (lang : Language) →
+      ForSome (disk.content first) (λ bytes. SaysSession bytes plan voc events) → ((bytes : List ℕ) × SaysSession bytes plan voc events) → IsVocabulary voc lang → HavePlaces lang plan events → disk.content old ≡ disk.content first → LeavesOnly disk first old (disk.may_leave first) → ForSome (disk.content first) (AreReadingCalls 5 (disk.calls first) (disk.calls old)) →
+      (grown : IsGrown events later) → AreEventCalls disk (IsDisk got) grown.more old new →
+      IsLanguage lang → IsAdded lang plan (may lang) events later → ForSome (disk.content old) (λ _. IsSome (disk.content new)) → ((IsDisk got → ⊥) → ForSome (disk.content old) (λ _. Persists disk plan voc events later old new)) →
+      (IsDisk got → FailsWith disk plan voc events later open_then
+      (Loses turns lang (terms_with plan budget) (point_of events left written) (point_of later left' written')) old new) →
+      IfOk got (Tries turns lang (terms_with plan budget) events later left written left' written') →
+      OnErr got (BreaksRun turns lang (terms_with plan budget) events later left written left' written') →
+      P lang plan events later →
+      (on : GoesOn disk turns may budget left written left' written' first new got) × P on.lang on.plan on.events on.later
+  goes_on_with P turns may budget left written left' written' first old new got plan voc events later open_then lang says some read places still opening few grown calls lawful added on persists fails tries part has =
+      ⊎_elim
+      (λ is.
+      let f = fails is in
+      let last : List Event = f.event ∷ [] in (
+        record {
+          plan = plan;
+          voc = voc;
+          events = events;
+          says = says;
+          some = some;
+          lang = lang;
+          read = read;
+          places = places;
+          later = later;
+          added = added;
+          tries = tries;
+          part = part;
+          last = last;
+          none_lost = λ no. absurd (no is);
+          one_lost = λ so. (f.event, refl, f.lost);
+          all_places = placed_event run_laws lang lawful (terms_with plan budget) later f.lost.question f.event (record { puts = f.lost.puts; fits = f.lost.fits }) f.lost.follows (added.places places);
+          any_moment = λ bytes told.
+              joined disk first old new (disk.may_leave first) (OpensWithin plan voc events (later ++ last)) (λ c. disk.may_leave first c ⊎ OpensWithin plan voc events (later ++ last) c) opening (f.any_moment bytes (still ∙ told))
+              (λ c was. inl was) (λ c opens. inr opens);
+          now = λ bytes told. let t = bytes_told (disk.content new) (on bytes (still ∙ told)) in record { bytes = t.0; tells = t.1; each = f.now bytes (still ∙ told) };
+          calls = λ bytes told. omega (arith, few bytes told, calls.at_most, ap length grown.is, length-append events grown.more, length-append later last);
+        },
+        has,
+      ))
+      (λ no.
+      let p = persists no in
+      let same : later ++ [] ≡ later = append-nil later in
+      let Within : List Event → Type 0 = λ l. LeavesOnly disk old new (OpensWithin plan voc events l) in (
+        record {
+          plan = plan;
+          voc = voc;
+          events = events;
+          says = says;
+          some = some;
+          lang = lang;
+          read = read;
+          places = places;
+          later = later;
+          added = added;
+          tries = tries;
+          part = part;
+          last = [];
+          none_lost = λ so. refl;
+          one_lost = λ is. absurd (no is);
+          all_places = let Placed : List Event → Type 0 = λ x. HavePlaces lang plan x in subst Placed (sym same) (added.places places);
+          any_moment = λ bytes told.
+              joined disk first old new (disk.may_leave first) (OpensWithin plan voc events (later ++ [])) (λ c. disk.may_leave first c ⊎ OpensWithin plan voc events (later ++ []) c) opening
+              (subst Within (sym same) (p bytes (still ∙ told)).any_moment) (λ c was. inl was) (λ c opens. inr opens);
+          now = λ bytes told. let n = (p bytes (still ∙ told)).now in record { bytes = n.bytes; tells = n.tells; each = λ c left. inl (n.each c left) };
+          calls = λ bytes told. omega (arith, few bytes told, calls.each_kept no, ap length grown.is, length-append events grown.more, ap length same);
+        },
+        has,
+      ))
+      (disk_failed got)
+
+  pub goes_on : (turns : Turns) (may : Language → Assignment → Told → Type 0) (budget : ℕ) (left written left' written' : Option (List ℕ)) (first old new : D) (got : Result Ending Put) (plan : Plan) (voc : List ℕ) (events later : List Event) (open_then : Option Assignment) (lang : Language) →
+      ForSome (disk.content first) (λ bytes. SaysSession bytes plan voc events) → ((bytes : List ℕ) × SaysSession bytes plan voc events) → IsVocabulary voc lang → HavePlaces lang plan events → disk.content old ≡ disk.content first → LeavesOnly disk first old (disk.may_leave first) → ForSome (disk.content first) (AreReadingCalls 5 (disk.calls first) (disk.calls old)) →
+      (grown : IsGrown events later) → AreEventCalls disk (IsDisk got) grown.more old new →
+      IsLanguage lang → IsAdded lang plan (may lang) events later → ForSome (disk.content old) (λ _. IsSome (disk.content new)) → ((IsDisk got → ⊥) → ForSome (disk.content old) (λ _. Persists disk plan voc events later old new)) →
+      (IsDisk got → FailsWith disk plan voc events later open_then
+      (Loses turns lang (terms_with plan budget) (point_of events left written) (point_of later left' written')) old new) →
+      IfOk got (Tries turns lang (terms_with plan budget) events later left written left' written') →
+      OnErr got (BreaksRun turns lang (terms_with plan budget) events later left written left' written') →
+      GoesOn disk turns may budget left written left' written' first new got
+  goes_on turns may budget left written left' written' first old new got plan voc events later open_then lang says some read places still opening few grown calls lawful added on persists fails tries part =
+      (goes_on_with (λ l p es fs. Unit {0}) turns may budget left written left' written' first old new got plan voc events later open_then lang says some read places still opening few grown calls lawful added on persists fails tries part tt).0
+
+-- ---- faults that aren't told
+
+abbrev unspoken : Option Unsaid → Unsaid → Type 0
+unspoken o why = o ≡ Some why
+
+-- the disk failed, or memory was wanting
+pub untold_is : (fault : SFault) (why : Unsaid) → unspoken (untold fault) why → ((fault ≡ store.Journal journal.DiskFault) × (why ≡ unsaid.DiskFault)) ⊎ (why ≡ unsaid.Memory)
+untold_is (store.Journal journal.SessionThere) why is = absurd (let no : ⊥ = cc in no)
+untold_is (store.Journal journal.NoSession) why is = absurd (let no : ⊥ = cc in no)
+untold_is (store.Journal journal.NotAJournal) why is = absurd (let no : ⊥ = cc in no)
+untold_is (store.Journal (journal.Damaged at)) why is = absurd (let no : ⊥ = cc in no)
+untold_is (store.Journal journal.TooManyRecords) why is = absurd (let no : ⊥ = cc in no)
+untold_is (store.Journal journal.Full) why is = absurd (let no : ⊥ = cc in no)
+untold_is (store.Journal journal.DiskFault) why is = inl (refl, let same : why ≡ unsaid.DiskFault = cc in same)
+untold_is (store.Journal journal.Memory) why is = inr (let same : why ≡ unsaid.Memory = cc in same)
+untold_is (store.Voc fault) why is = absurd (let no : ⊥ = cc in no)
+untold_is (store.Stray i) why is = absurd (let no : ⊥ = cc in no)
+untold_is store.Memory why is = inr (let same : why ≡ unsaid.Memory = cc in same)
+
+pub untold_read : (fault : SFault) (why : Unsaid) → unspoken (untold fault) why → why ≡ unsaid.ReadFault → ⊥
+untold_read fault why is read = ⊎_elim (λ failed. let no : unsaid.ReadFault ≡ unsaid.DiskFault = sym read ∙ failed.1 in cc) (λ want. let no : unsaid.ReadFault ≡ unsaid.Memory = sym read ∙ want in cc) (untold_is fault why is)
+
+pub untold_disk : (fault : SFault) (why : Unsaid) → unspoken (untold fault) why → why ≡ unsaid.DiskFault → fault ≡ store.Journal journal.DiskFault
+untold_disk fault why is disk = ⊎_elim (λ failed. failed.0) (λ want. let no : unsaid.DiskFault ≡ unsaid.Memory = sym disk ∙ want in absurd (let bad : ⊥ = cc in bad)) (untold_is fault why is)
+
+-- ---- making a journal
+
+-- what is left of a store that was just made
+pub made_now : {D : Type 0} (disk : DiskOf D) (new : D) (made : Store) (plan : Plan) (voc : List ℕ) (bytes : List ℕ) → disk.content new ≡ Some bytes →
+    plan_of made ≡ plan → voc_of made ≡ voc → events_of made ≡ [] → IsThere made.journal (plan_of made) (voc_of made) (events_of made) (disk.may_leave new) bytes → LeavesNow disk (OpensWith plan voc []) new
+made_now disk new made plan voc bytes told planned same none there = record {
+  bytes = bytes;
+  tells = told;
+  each = λ c left.
+      let A : Plan → Type 0 = λ p. OpensWith p (voc_of made) (events_of made) c in
+      let B : List ℕ → Type 0 = λ v. OpensWith plan v (events_of made) c in
+      let C : List Event → Type 0 = λ e. OpensWith plan voc e c in
+      subst C none (subst B same (subst A planned (opens_there made.journal (plan_of made) (voc_of made) (events_of made) (disk.may_leave new) bytes c there left)));
+}
+
+-- ---- opening a journal
+
+-- what is left of a store that was just opened
+pub opened_now : {D : Type 0} (disk : DiskOf D) (new : D) (opened : Store) (bytes : List ℕ) → disk.content new ≡ Some bytes →
+    IsThere opened.journal (plan_of opened) (voc_of opened) (events_of opened) (disk.may_leave new) bytes → LeavesNow disk (OpensWith (plan_of opened) (voc_of opened) (events_of opened)) new
+opened_now disk new opened bytes told there = record {
+  bytes = bytes;
+  tells = told;
+  each = λ c left. opens_there opened.journal (plan_of opened) (voc_of opened) (events_of opened) (disk.may_leave new) bytes c there left;
+}

@@ -1,0 +1,16 @@
+pub mod OpenLines
+pub mod Sayings
+pub mod Closings
+pub mod Spoken
+pub mod Parts
+pub mod Tries
+pub mod Journals
+pub mod Exactly
+pub mod Showing
+pub mod Reduced
+pub mod SaidOver
+pub mod Printed
+pub mod Solved
+pub mod StandingQuestions
+pub mod Certified
+pub mod TakenBack

@@ -1,0 +1,256 @@
+-- What was written where it could not be written whole.
+use Rattle.std.proofs.Common.{◌≡◌, ◌⊎◌, ℕ, List, [], ◌++◌, ap, sym, subst, refl, ◌∙◌, Option, Some, None, Result, Ok, Err, inl, inr, arith, append_assoc}
+use Rattle.std.proofs.lemmas.List.{append-nil}
+use Rattle.std.specs.Prelude.{IfOk, OnErr}
+use Rattle.std.specs.Option.{option_map}
+use Rattle.acq_io.specs.Streams.{Adds, AddsFront, TakesSome}
+use Rattle.acq_said.specs.Said.{EndsWith}
+use Rattle.acq_io.specs.Whole.{Gathered, gathered, Gives, TakesOfLine, first_line_of}
+use Rattle.acq_io.specs.declared.streams.Put.{Put}
+use Rattle.acq_io.specs.declared.streams.Put.TheVariants.{Failed, Memory}
+use Rattle.acq_io.specs.declared.whole.AllFault.{AllFault}
+use Rattle.assign.specs.declared.events.Event.{Event}
+use Rattle.assign.specs.declared.events.Plan.{Plan}
+use Rattle.language.specs.Language.{Language, IsLanguage}
+use Rattle.language.specs.Answers.{standing_on}
+use Rattle.session_laws.specs.Session.{Idle, read_on}
+use Rattle.target_oracle.specs.Lines.{line_turn}
+use Rattle.target_oracle.specs.Turns.{Turns}
+use Rattle.target_oracle.specs.Tells.{Front}
+use Rattle.voc_read.specs.Vocabulary.{IsVocabulary}
+use Rattle.voc_read.specs.declared.fault.VocFault.{VocFault}
+use Rattle.acq_loop.specs.Run.{Ran, Runs, next_on}
+use Rattle.acq_loop.specs.Program.{ended_as}
+use Rattle.acq_said.specs.Trying.{Breaks, BreaksOff, IsRefusal, IsTextOfRefusal, IsTextOfRun}
+use Rattle.acq_said.specs.Breaks.{BreaksRun, ClosesInPart}
+use Rattle.acq_loop.specs.Driven.{CutOff, next_lines}
+use Rattle.acq_loop.specs.Points.{point_of}
+use Rattle.acq_said.specs.Trying.{Acquires, ReadsVocabulary}
+use Rattle.acq_said.specs.Endings.{Tries}
+use Rattle.acq_loop.specs.Texts.{closing_text, refusal_text, whole_text}
+use Rattle.acq_loop.specs.declared.terms.Terms.{Terms}
+use Rattle.acq_said.proofs.Closings.{okay, not_loops, read_by}
+use Rattle.acq_loop.proofs.Running.{IsWithin, run_exists}
+use Rattle.acq_loop.proofs.Standings.{run_laws}
+use Rattle.acq_loop.proofs.Taking.{takes_same}
+use Rattle.acq_said.proofs.Tries.{cut_off}
+use Rattle.acq_loop.proofs.Turning.{some_text}
+use Rattle.acq_loop.specs.Closings.{closing_of, ending_of}
+use Rattle.acq_loop.specs.declared.driving.Drove.{Drove}
+use Rattle.acq_loop.specs.declared.ending.Ending.{Ending}
+use Rattle.acq_loop.specs.declared.ending.Ending.TheVariants as ending
+
+-- ---- one text
+
+-- nothing was written
+pub adds_nothing : (written : Option (List ℕ)) (text : List ℕ) → AddsFront written written text
+adds_nothing None text = ([], text, refl, refl)
+adds_nothing (Some before) text = ([], text, refl, some_text _ _ (sym (append-nil before)))
+
+-- what was said whole, and what was written where it wasn't
+pub ends_ok : (end : Ending) (text : List ℕ) (old new : Option (List ℕ)) (got : Result Ending Put) → EndsWith end text old new got → IfOk got (λ e. (e ≡ end) × Adds old new text)
+ends_ok end text old new (Ok e) told = told
+ends_ok end text old new (Err e) told = tt
+
+pub ends_part : (end : Ending) (text : List ℕ) (old new : Option (List ℕ)) (got : Result Ending Put) → EndsWith end text old new got → OnErr got (AddsFront old new text)
+ends_part end text old new (Ok e) told = tt
+ends_part end text old new (Err Failed) told = told
+ends_part end text old new (Err Memory) told = let P : Option (List ℕ) → Type 0 = λ w. AddsFront old w text in subst P (sym told) (adds_nothing old text)
+
+-- what is told in place of the value
+pub on_err : {A : Type 0} (got : Result A Put) {P : Type 0} → P → OnErr got P
+on_err (Ok done) part = tt
+on_err (Err e) part = part
+
+-- ---- the text of a run
+
+-- events begin where nothing is open
+pub begun : (l : Language) (plan : Plan) → IsWithin l plan []
+unfolding read_on
+begun l plan = record { reached = (Idle [] None, refl); few = omega arith }
+
+-- nothing of it was written
+pub begun_part : (turns : Turns) (l : Language) (terms : Terms) (start : List Event) (left written : Option (List ℕ)) → IsLanguage l → IsWithin l terms.plan start → BreaksRun turns l terms start start left written left written
+begun_part turns l terms start left written lawful within = inl (λ bytes before from to.
+    let has = run_exists run_laws turns l terms lawful start bytes within in
+    record {
+      run = has.run;
+      runs = has.runs;
+      text = record { front = []; back = has.run.text; parts = refl; put = to ∙ some_text _ _ (sym (append-nil before)) };
+      later = has.later;
+      events = has.extends;
+      stops = record {
+        rest = bytes;
+        done = [];
+        begins = λ run runs. runs;
+        text = record { front = []; back = next_lines turns l start bytes (next_on l terms start); parts = refl; put = to ∙ some_text _ _ (sym (append-nil before) ∙ sym (append-nil (before ++ []))) };
+        asked = record { takes = (let Left : Option (List ℕ) → Type 0 = λ o. TakesSome o left in subst Left from (takes_same left)); first = inl from };
+      };
+    })
+
+-- a front of the whole text of a run of these bytes
+record IsPartOfRun (turns : Turns) (l : Language) (terms : Terms) (start : List Event) (bytes before : List ℕ) (written : Option (List ℕ)) : Type 0 where
+  pub run : Ran
+  pub runs : Runs turns l terms start bytes run
+  pub text : Front (whole_text l terms run) before written
+
+module _ (turns : Turns) (l : Language) (terms : Terms) (start events : List Event) (left written left' written' : Option (List ℕ)) where
+  -- not all the lines of its turns
+  cut_part : CutOff turns l terms (point_of start left written) (point_of events left' written') → (bytes before : List ℕ) → left ≡ Some bytes → written ≡ Some before → IsPartOfRun turns l terms start bytes before written'
+  cut_part cut bytes before from to =
+      let run = cut bytes before from to in
+      let last : List ℕ = closing_text l terms (standing_on l run.run.events) run.run.closing in
+      record {
+        run = run.run;
+        runs = run.runs;
+        text = record {
+          front = run.text.front;
+          back = run.text.back ++ last;
+          parts = ap (λ x. x ++ last) run.text.parts ∙ append_assoc run.text.front run.text.back last;
+          put = run.text.put;
+        };
+      }
+
+  -- these, and a front of the last ones
+  closed_part : ClosesInPart turns l terms start events left written left' written' → (bytes before : List ℕ) → left ≡ Some bytes → written ≡ Some before → IsPartOfRun turns l terms start bytes before written'
+  closed_part closes bytes before from to =
+      let run = closes.ran bytes before from to in
+      let front : List ℕ = closes.adds.0 in
+      let back : List ℕ = closes.adds.1 in
+      let last : closing_text l terms (standing_on l run.run.events) run.run.closing ≡ front ++ back =
+      (λ i. closing_text l terms (standing_on l (run.events i)) (run.closing i)) ∙ closes.adds.2 in
+      record {
+        run = run.run;
+        runs = run.runs;
+        text = record {
+          front = run.run.text ++ front;
+          back = back;
+          parts = ap (λ x. run.run.text ++ x) last ∙ sym (append_assoc run.run.text front back);
+          put = closes.adds.3 ∙ ap (option_map (λ w. w ++ front)) run.written ∙ some_text _ _ (append_assoc before run.run.text front);
+        };
+      }
+
+  part_of_run : BreaksRun turns l terms start events left written left' written' → (bytes before : List ℕ) → left ≡ Some bytes → written ≡ Some before → IsPartOfRun turns l terms start bytes before written'
+  part_of_run (inl cut) = cut_part cut
+  part_of_run (inr closes) = closed_part closes
+
+-- ---- the text of the program
+
+-- what is given of the bytes that are told
+record GivenOf (f : List ℕ → Gathered) (left' : Option (List ℕ)) (got : Result (List ℕ) AllFault) (bytes : List ℕ) : Type 0 where
+  pub rest : List ℕ
+  pub left : left' ≡ Some rest
+  pub gives : f bytes ≡ gathered got rest
+
+given_of : (f : List ℕ → Gathered) (left left' : Option (List ℕ)) (got : Result (List ℕ) AllFault) (bytes : List ℕ) → Gives f left left' got → left ≡ Some bytes → GivenOf f left' got bytes
+given_of f left left' got bytes gives told = go left' (sym (ap (option_map f) told) ∙ gives)
+  where
+    same : (a b : Gathered) → (let x : Option Gathered = Some a in x) ≡ Some b → a ≡ b
+    same a b e = cc
+
+    none : (a : Gathered) → (let x : Option Gathered = Some a in x) ≡ None → ⊥
+    none a e = cc
+
+    go : (now : Option (List ℕ)) → Some (f bytes) ≡ option_map (gathered got) now → GivenOf f now got bytes
+    go None e = absurd (none (f bytes) e)
+    go (Some rest) e = record { rest = rest; left = refl; gives = same (f bytes) (gathered got rest) e }
+
+-- a front of a text, where the output tells its bytes
+front_of : (text before : List ℕ) (written written' : Option (List ℕ)) → AddsFront written written' text → written ≡ Some before → Front text before written'
+front_of text before written written' (front, back, parts, adds) told = record { front = front; back = back; parts = parts; put = adds ∙ ap (option_map (λ w. w ++ front)) told }
+
+-- this is given of the first line
+module _ (terms : Terms) (left rest written written' : Option (List ℕ)) (got : Result (List ℕ) AllFault) (gives : Gives (first_line_of 4194304) left rest got) where
+  pub breaks_refusal : (fault : VocFault) → IsRefusal fault got → AddsFront written written' (refusal_text fault) → Breaks terms left written written'
+  breaks_refusal fault refused adds bytes before from to =
+      let given = given_of (first_line_of 4194304) left rest got bytes gives from in
+      let Q : Gathered → Type 0 = λ first. IsTextOfRefusal first (refusal_text fault) in
+      let is : Q (first_line_of 4194304 bytes) = subst Q (sym given.gives) (record { fault = fault; refused = refused; is = refl }) in
+      inr (record { whole = refusal_text fault; is = inl is; text = front_of (refusal_text fault) before written written' adds to })
+
+  pub breaks_run : (line : List ℕ) (lang : Language) (events : List Event) (left' : Option (List ℕ)) → got ≡ Ok line → IsVocabulary line lang → BreaksRun line_turn lang terms [] events rest written left' written' → Breaks terms left written written'
+  breaks_run line lang events left' is vocabulary broken bytes before from to =
+      let given = given_of (first_line_of 4194304) left rest got bytes gives from in
+      let part = part_of_run line_turn lang terms [] events rest written left' written' broken given.rest before given.left to in
+      let whole : List ℕ = whole_text lang terms part.run in
+      let Q : Gathered → Type 0 = λ first. IsTextOfRun terms first whole in
+      let run : Q (first_line_of 4194304 bytes) =
+      subst Q (sym given.gives) (record { line = line; got = is; lang = lang; vocabulary = vocabulary; run = part.run; runs = part.runs; is = refl }) in
+      inr (record { whole = whole; is = inr run; text = part.text })
+
+-- what was done about a vocabulary is what the program has done
+pub acquires_by : (terms : Terms) (left rest written left' written' : Option (List ℕ)) (line : List ℕ) (lang : Language) (events : List Event) (end : Ending) →
+    Gives (first_line_of 4194304) left rest (Ok line) → IsVocabulary line lang → (end ≡ ending.DiskFault → ⊥) → Tries line_turn lang terms [] events rest written left' written' end → Acquires terms left written left' written' end
+acquires_by terms left rest written left' written' line lang events end gives vocabulary never tries = go end never tries
+  where
+    reads : (e : Ending) → Tries line_turn lang terms [] events rest written left' written' e → ReadsVocabulary terms left written left' written' e
+    reads e tried = record { line = line; rest = rest; gives = gives; lang = lang; vocabulary = vocabulary; events = events; tries = tried }
+
+    broken : (e : Ending) (how : Drove) → ending_of how ≡ okay e → e ≡ ending.ReadFault → closing_of how ≡ None
+    broken e how so is = ap closing_of (read_by how e so is)
+
+    go : (e : Ending) → (e ≡ ending.DiskFault → ⊥) → Tries line_turn lang terms [] events rest written left' written' e → Acquires terms left written left' written' e
+    go (ending.Converged m) never tried = reads (ending.Converged m) tried
+    go (ending.Collapsed m) never tried = reads (ending.Collapsed m) tried
+    go (ending.Undecided m) never tried = reads (ending.Undecided m) tried
+    go (ending.Suspended m) never tried = reads (ending.Suspended m) tried
+    go ending.LineTooLong never tried = reads ending.LineTooLong tried
+    go ending.Unreadable never tried = reads ending.Unreadable tried
+    go (ending.Usage fault) never tried = absurd (not_loops tried.how (ending.Usage fault) tried.is refl)
+    go (ending.VocRefused fault) never tried = absurd (not_loops tried.how (ending.VocRefused fault) tried.is refl)
+    go ending.Done never tried = absurd (not_loops tried.how ending.Done tried.is refl)
+    go (ending.JournalRefused fault) never tried = absurd (not_loops tried.how (ending.JournalRefused fault) tried.is refl)
+    go ending.ReadFault never tried = record {
+      text = breaks_run terms left rest written written' (Ok line) gives line lang events left' refl vocabulary (inl (cut_off line_turn lang terms [] events rest written left' written' ending.ReadFault tried (broken ending.ReadFault tried.how tried.is refl)));
+      step = inr (reads ending.ReadFault tried);
+    }
+    go ending.WriteFault never tried = absurd (not_loops tried.how ending.WriteFault tried.is refl)
+    go ending.DiskFault never tried = absurd (never refl)
+    go ending.JournalFull never tried = reads ending.JournalFull tried
+    go ending.Memory never tried = absurd (not_loops tried.how ending.Memory tried.is refl)
+    go (ending.NotFresh m) never tried = absurd (not_loops tried.how (ending.NotFresh m) tried.is refl)
+    go (ending.TargetRefused fault) never tried = absurd (not_loops tried.how (ending.TargetRefused fault) tried.is refl)
+    go ending.NothingBack never tried = absurd (not_loops tried.how ending.NothingBack tried.is refl)
+    go (ending.ReduceSpent i) never tried = absurd (not_loops tried.how (ending.ReduceSpent i) tried.is refl)
+    go ending.CnfTooLarge never tried = absurd (not_loops tried.how ending.CnfTooLarge tried.is refl)
+    go (ending.ModelRefused fault) never tried = absurd (not_loops tried.how (ending.ModelRefused fault) tried.is refl)
+    go (ending.NotConverged m) never tried = absurd (not_loops tried.how (ending.NotConverged m) tried.is refl)
+    go (ending.CertRefused fault) never tried = absurd (not_loops tried.how (ending.CertRefused fault) tried.is refl)
+    go (ending.Flawed flaw) never tried = absurd (not_loops tried.how (ending.Flawed flaw) tried.is refl)
+    go (ending.CertUnread fault) never tried = absurd (not_loops tried.how (ending.CertUnread fault) tried.is refl)
+
+pub acquires_in : (terms : Terms) (left rest written left' written' : Option (List ℕ)) (line : List ℕ) (lang : Language) (got : Result Ending Put) →
+    Gives (first_line_of 4194304) left rest (Ok line) → IsVocabulary line lang → IfOk got (λ (e : Ending). e ≡ ending.DiskFault → ⊥) →
+    IfOk got (λ (e : Ending). (events : List Event) × Tries line_turn lang terms [] events rest written left' written' e) → IfOk got (Acquires terms left written left' written')
+acquires_in terms left rest written left' written' line lang (Ok end) gives vocabulary never (events, tries) =
+    acquires_by terms left rest written left' written' line lang events end gives vocabulary never tries
+acquires_in terms left rest written left' written' line lang (Err e) gives vocabulary never tries = tt
+
+pub breaks_in : (terms : Terms) (left rest written left' written' : Option (List ℕ)) (line : List ℕ) (lang : Language) (got : Result Ending Put) →
+    Gives (first_line_of 4194304) left rest (Ok line) → IsVocabulary line lang → OnErr got ((events : List Event) × BreaksRun line_turn lang terms [] events rest written left' written') → OnErr got (BreaksOff terms left written left' written')
+breaks_in terms left rest written left' written' line lang (Ok end) gives vocabulary broken = tt
+breaks_in terms left rest written left' written' line lang (Err e) gives vocabulary (events, broken) = record {
+  text = breaks_run terms left rest written written' (Ok line) gives line lang events left' refl vocabulary broken;
+  step = inr (inr (record { line = line; rest = rest; gives = gives; lang = lang; vocabulary = vocabulary; events = events; breaks = broken }));
+}
+
+pub breaks_refused : (terms : Terms) (left rest written written' : Option (List ℕ)) (first : Result (List ℕ) AllFault) (fault : VocFault) (got : Result Ending Put) →
+    Gives (first_line_of 4194304) left rest first → IsRefusal fault first → OnErr got (AddsFront written written' (refusal_text fault)) → OnErr got (BreaksOff terms left written rest written')
+breaks_refused terms left rest written written' first fault (Ok end) gives refused adds = tt
+breaks_refused terms left rest written written' first fault (Err e) gives refused adds = record {
+  text = breaks_refusal terms left rest written written' first gives fault refused adds;
+  step = inr (inl (record { fault = fault; refused = record { got = first; gives = gives; refused = refused }; adds = adds }));
+}
+
+-- nothing was written
+pub unbegun : (terms : Terms) (left left' written : Option (List ℕ)) → TakesOfLine 4194304 left left' ⊎ ((got : Result (List ℕ) AllFault) × Gives (first_line_of 4194304) left left' got) → BreaksOff terms left written left' written
+unbegun terms left left' written taken = record { text = λ bytes before from to. inl to; step = inl (record { silent = refl; taken = taken }) }
+
+pub unread : (terms : Terms) (left left' written : Option (List ℕ)) → TakesOfLine 4194304 left left' → Acquires terms left written left' written ending.ReadFault
+unread terms left left' written taken = record { text = λ bytes before from to. inl to; step = inl (record { silent = refl; taken = inl taken }) }
+
+-- the ending of the program, by what was answered
+pub acquires_as : (terms : Terms) (left written left' written' : Option (List ℕ)) (got : Result Ending Put) → IfOk got (Acquires terms left written left' written') → OnErr got (BreaksOff terms left written left' written') → Acquires terms left written left' written' (ended_as got)
+acquires_as terms left written left' written' (Ok end) done broken = done
+acquires_as terms left written left' written' (Err Failed) done broken = broken
+acquires_as terms left written left' written' (Err Memory) done broken = broken

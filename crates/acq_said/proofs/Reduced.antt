@@ -1,0 +1,111 @@
+-- What `reduce` says of a session's network.
+use Rattle.std.proofs.Common.{◌≡◌, ◌⊎◌, ◌∙◌, ℕ, zero, suc, ◌<◌, ◌≤◌, List, [], length, Some, None, Result, refl, sym, ap, subst, inl, inr, arith}
+use Rattle.std.specs.Prelude.{IfOk, IsErr}
+use Rattle.std.proofs.lemmas.Bool.{cases_lt}
+use Rattle.std.proofs.lemmas.Result.{IfOk-from_err}
+use Rattle.assign.specs.declared.events.Event.{Event}
+use Rattle.assign.specs.declared.events.Plan.{Plan}
+use Rattle.fd_solver.specs.declared.outcome.Outcome.{Outcome}
+use Rattle.fd_solver.specs.declared.outcome.Outcome.TheVariants.{Found, Absent, Spent}
+use Rattle.language.specs.declared.candidates.Candidate.{Candidate}
+use Rattle.language.specs.Language.{Language}
+use Rattle.language.specs.Answers.{standing_on}
+use Rattle.net_reduce.specs.Reduction.{IsReduction, Sifts}
+use Rattle.net_reduce.specs.Searched.{AreDecided, HasCause, IsSearched, IsSpentAt, outcome_at}
+use Rattle.net_reduce.specs.Texts.{reduced_text, spent_text}
+use Rattle.net_reduce.specs.declared.fault.ReduceFault.{ReduceFault}
+use Rattle.net_reduce.specs.declared.fault.ReduceFault.TheVariants as unreduced
+use Rattle.net_reduce.proofs.Sifting.{reduced_is_target}
+use Rattle.session_core.specs.Standing.{Stands, knowledge_of}
+use Rattle.session_core.specs.declared.session.Session.{Session}
+use Rattle.session_laws.specs.Session.{state_after}
+use Rattle.session_store.specs.Opened.{Opened}
+use Rattle.acq_said.specs.Reducing.{IsReduced, IsSpent, ReducesTruly, first_spent, network_after, network_of, network_said, sifted_said, spent_first, unreduced_said}
+use Rattle.acq_said.specs.Saying.{Saying, saying}
+use Rattle.acq_loop.specs.Texts.{learned_in}
+use Rattle.acq_said.proofs.Spoken.{ok_any}
+use Rattle.acq_loop.proofs.Standings.{stands_at}
+use Rattle.acq_loop.specs.declared.ending.Ending.TheVariants as ending
+
+-- ---- the network of a session
+
+-- what a session has learned is that to which its answers lead
+pub learned_as : (session : Session) (l : Language) (plan : Plan) (events : List Event) → (knowledge_of session).lang ≡ l → (knowledge_of session).plan ≡ plan → Stands session (standing_on l events) →
+    (knowledge_of session).network.list ≡ network_after l plan events
+learned_as session l plan events lang planned stands =
+    let there = stands_at session (standing_on l events) stands in
+    sym (ap learned_in (sym (λ i. state_after (lang i) (planned i) (standing_on l events)) ∙ there.at) ∙ there.network)
+
+-- ---- the first item whose search is spent
+
+module _ (l : Language) (network : List Candidate) (budget : ℕ) where
+  none_spent : (i : ℕ) → AreDecided l network budget i → first_spent l network budget i ≡ None
+  none_spent zero decided = refl
+  none_spent (suc i) decided =
+      ap (λ o. spent_first o (outcome_at l network budget i) i) (none_spent i (λ k low. decided k (omega (arith, low)))) ∙ by (outcome_at l network budget i) refl
+    where
+      by : (outcome : Outcome) → outcome_at l network budget i ≡ outcome → spent_first None outcome i ≡ None
+      by (Found e) is = refl
+      by Absent is = refl
+      by Spent is = absurd (decided i (omega arith) is)
+
+  spent_is : (i n : ℕ) → AreDecided l network budget i → outcome_at l network budget i ≡ Spent → i < n → first_spent l network budget n ≡ Some i
+  spent_is i zero decided spent low = absurd (omega (arith, low))
+  spent_is i (suc n) decided spent low = by (cases_lt i n) (λ less. spent_is i n decided spent less)
+    where
+      by : (i < n) ⊎ (n ≤ i) → (i < n → first_spent l network budget n ≡ Some i) → first_spent l network budget (suc n) ≡ Some i
+      by (inl less) before = ap (λ o. spent_first o (outcome_at l network budget n) n) (before less)
+      by (inr more) before =
+          let same : i ≡ n = omega (arith, low, more) in
+          subst (λ k. first_spent l network budget (suc k) ≡ Some i) same
+          (ap (λ o. spent_first o (outcome_at l network budget i) i) (none_spent i decided) ∙ ap (λ outcome. spent_first None outcome i) spent)
+
+  part_here : (part : List Candidate) → IsSearched l network budget part → saying (reduced_text l part (length network)) ending.Done ≡ network_said budget l network
+  part_here part searched =
+      (λ i. saying (reduced_text l (searched.remains i) (length network)) ending.Done) ∙ ap (sifted_said l network budget) (sym (none_spent (length network) searched.decided))
+
+  spent_here : (number : ℕ) → IsSpentAt l network budget number → saying (spent_text number) (ending.ReduceSpent number) ≡ network_said budget l network
+  spent_here number at = ap (sifted_said l network budget) (sym (spent_is number (length network) at.first at.spent at.known))
+
+-- ---- of a session
+
+-- its language and network are these
+module _ (budget : ℕ) (o : Opened) (m : Language) (list : List Candidate) (lang : m ≡ o.lang) (same : list ≡ network_of o) where
+  there : network_said budget m list ≡ network_said budget o.lang (network_of o)
+  there = λ i. network_said budget (lang i) (same i)
+
+  moved : (P : Language → List Candidate → Type 0) → P m list → P o.lang (network_of o)
+  moved P holds = subst (P o.lang) same (subst (λ (x : Language). P x list) lang holds)
+
+  pub part_said : (part slice : List Candidate) (of : ℕ) → slice ≡ part → of ≡ length list → IsSearched m list budget part → saying (reduced_text m slice of) ending.Done ≡ network_said budget o.lang (network_of o)
+  part_said part slice of sliced count searched = (λ i. saying (reduced_text m (sliced i) (count i)) ending.Done) ∙ (part_here m list budget part searched ∙ there)
+
+  spent_said : (number : ℕ) → IsSpentAt m list budget number → saying (spent_text number) (ending.ReduceSpent number) ≡ network_said budget o.lang (network_of o)
+  spent_said number at = spent_here m list budget number at ∙ there
+
+  pub reduced_truly : (part : List Candidate) → IsSearched m list budget part → Sifts m [] list part → IsReduction m list part → IsReduced budget o
+  reduced_truly part searched sifted reduction =
+      let slice = moved (λ l n. IsSearched l n budget part) searched in
+      let whole = moved (λ l n. IsReduction l n part) reduction in
+      record {
+        part = part;
+        searched = slice;
+        sifted = moved (λ l n. Sifts l [] n part) sifted;
+        reduction = whole;
+        targets = λ target converged legal agreeing. reduced_is_target o.lang (network_of o) part target (standing_on o.lang o.events) converged whole legal agreeing;
+        said = sym (part_here o.lang (network_of o) budget part slice);
+      }
+
+  spent_truly : (number : ℕ) → IsSpentAt m list budget number → IsSpent budget o
+  spent_truly number at =
+      let here = moved (λ l n. IsSpentAt l n budget number) at in
+      record { number = number; at = here; said = sym (spent_here o.lang (network_of o) budget number here) }
+
+  -- by the fault; where memory is wanting, nothing is said
+  pub unreduced_so : {E : Type 0} (r : Result Saying E) (f : ReduceFault) → HasCause m list budget f → IfOk r (λ said. said ≡ unreduced_said f) → (f ≡ unreduced.Memory → IsErr r) → IfOk r (λ said. said ≡ network_said budget o.lang (network_of o))
+  unreduced_so r (unreduced.Spent number) cause says silent = subst (λ (what : Saying). IfOk r (λ said. said ≡ what)) (spent_said number cause) says
+  unreduced_so r unreduced.Memory cause says silent = IfOk-from_err r (λ said. said ≡ network_said budget o.lang (network_of o)) (silent refl)
+
+  pub unreduced_truly : {E : Type 0} (r : Result Saying E) (f : ReduceFault) → HasCause m list budget f → (f ≡ unreduced.Memory → IsErr r) → IfOk r (λ _. ReducesTruly budget o)
+  unreduced_truly r (unreduced.Spent number) cause silent = ok_any r (inr (spent_truly number cause))
+  unreduced_truly r unreduced.Memory cause silent = IfOk-from_err r (λ _. ReducesTruly budget o) (silent refl)

@@ -1,0 +1,173 @@
+-- What a command that only says something has done, and by which endings.
+use Rattle.std.proofs.Common.{◌≡◌, ◌∙◌, ◌⊎◌, ℕ, Bool, true, false, List, length, Option, Some, None, Result, Ok, Err, refl, sym, ap, inl, inr, ⊎_elim}
+use Rattle.disk_model.specs.declared.disk.Disk.{Ghosts as DiskOf}
+use Rattle.acq_io.specs.Whole.{all_of}
+use Rattle.acq_io.specs.declared.streams.Put.{Put}
+use Rattle.acq_io.specs.declared.streams.Put.TheVariants as put
+use Rattle.acq_io.specs.declared.whole.AllFault.{AllFault}
+use Rattle.acq_io.specs.declared.whole.AllFault.TheVariants as all
+use Rattle.assign.specs.Assignment.{Assignment}
+use Rattle.cert_check.specs.Certificate.{Certificate}
+use Rattle.cert_check.specs.Checking.{verdict}
+use Rattle.cert_check.specs.Making.{made}
+use Rattle.cert_check.specs.declared.fault.CertFault.{CertFault}
+use Rattle.cert_check.specs.declared.fault.MakeFault.{MakeFault}
+use Rattle.cert_check.specs.declared.verdict.Verdict.{Verdict}
+use Rattle.cert_check.specs.declared.verdict.Verdict.TheVariants.{Yes, No}
+use Rattle.language.specs.declared.candidates.Candidate.{Candidate}
+use Rattle.language.specs.Language.{Language}
+use Rattle.language.specs.Answers.{standing_on}
+use Rattle.net_cnf.specs.Models.{model_of}
+use Rattle.net_cnf.specs.Texts.{cnf_of}
+use Rattle.net_cnf.specs.declared.fault.CnfFault.{CnfFault}
+use Rattle.net_cnf.specs.declared.model_fault.ModelFault.{ModelFault}
+use Rattle.session_store.specs.Opened.{Opened, OpensOnce, RefusesOpening}
+use Rattle.session_store.specs.declared.fault.SFault.{SFault}
+use Rattle.acq_said.specs.Asks.{asked_said}
+use Rattle.acq_said.specs.Certifying.{certificate_said, if_at_end, unconverged_said}
+use Rattle.acq_said.specs.Confirming.{IsCheckOf, checked_said, verdict_said}
+use Rattle.acq_said.specs.Exactly.{IsBrokenOff}
+use Rattle.acq_said.specs.Inputs.{SaysOfRead}
+use Rattle.acq_said.specs.Journals.{Refuses}
+use Rattle.acq_said.specs.Over.{EndsAsOpened, OpensAs, SaidEnds, SaysOpening, SaysOver}
+use Rattle.acq_loop.specs.Points.{terms_with}
+use Rattle.acq_said.specs.Printing.{clauses_said}
+use Rattle.acq_loop.specs.Program.{ended_as}
+use Rattle.acq_said.specs.Reducing.{first_spent, network_of, sifted_said}
+use Rattle.acq_loop.specs.Run.{Next, Puts, Ends, Converged, Collapsed, Undecided, Suspended, LineTooLong, Unreadable, JournalFull, next_after}
+use Rattle.acq_said.specs.Said.{HasWritten, IsSaid, SaidSo, SaysSo}
+use Rattle.acq_said.specs.Saying.{Saying}
+use Rattle.acq_said.specs.Solving.{SolveEnds, Solves, solution_said, solved_said}
+use Rattle.acq_said.specs.declared.ask.Ask.{Ask}
+use Rattle.acq_said.specs.declared.ask.Ask.TheVariants as ask
+use Rattle.acq_loop.specs.declared.ending.Ending.{Ending}
+use Rattle.acq_loop.specs.declared.ending.Ending.TheVariants as ending
+use Rattle.acq_said.specs.declared.said.Unsaid.{Unsaid}
+use Rattle.acq_said.specs.declared.said.Unsaid.TheVariants as unsaid
+use Rattle.acq_said.proofs.Closings.{okay}
+use Rattle.acq_said.proofs.Exactly.{told_of_bytes}
+use Rattle.acq_said.proofs.Spoken.{closed_end, ends_said, input_end, refuses_end, silently}
+
+-- ---- exactly when
+
+pub said_end : OpensOnce → (says : Opened → Saying) (file : List ℕ) (said : Result Saying Unsaid) (written written' : Option (List ℕ)) (end : Ending) (opening : Result Opened SFault) → OpensAs file opening → SaysOpening says opening said → HasWritten said written written' (okay end) → IsBrokenOff end ⊎ EndsAsOpened says file end
+said_end once says file said written written' end (Ok o) opens is has =
+    inr (record { what = Ok o; there = opens; only = λ other holds. once file other (Ok o) holds opens; is = ends_said (says o) said written written' end is has })
+said_end once says file said written written' end (Err f) opens is has =
+    ⊎_elim (λ broken. inl broken)
+    (λ refused. let why : RefusesOpening file f = (told_of_bytes f refused.0, opens) in inr (record { what = Err f; there = why; only = λ other holds. once file other (Err f) holds why; is = refused.1 }))
+    (refuses_end f said written written' end is has)
+
+module _ {D : Type 0} (disk : DiskOf D) where
+  pub over_ends : OpensOnce → (says : Opened → Saying) (IsTrueOf : Opened → Type 0) (written written' : Option (List ℕ)) (old new : D) (got : Result Ending Put) → SaysSo (SaysOver disk (SaysOpening says) IsTrueOf old new) written written' got → SaidEnds says (disk.content old) (ended_as got)
+  over_ends once says IsTrueOf written written' old new (Err put.Failed) over = λ file told. inl (inr (inl refl))
+  over_ends once says IsTrueOf written written' old new (Err put.Memory) over = λ file told. inl (inr (inr (inr refl)))
+  over_ends once says IsTrueOf written written' old new (Ok end) (said, over, has) = λ file told. said_end once says file said written written' end over.opening (over.opens file told) over.says has
+
+  pub solve_ends : OpensOnce → (left written left' written' : Option (List ℕ)) (old new : D) (got : Result Ending Put) → SaysSo (SaysOver disk (Solves left left') (λ o. Unit {0}) old new) written written' got → SolveEnds left (disk.content old) (ended_as got)
+  solve_ends once left written left' written' old new (Err put.Failed) over = λ bytes from file told. inl (inr (inl refl))
+  solve_ends once left written left' written' old new (Err put.Memory) over = λ bytes from file told. inl (inr (inr (inr refl)))
+  solve_ends once left written left' written' old new (Ok end) (said, over, has) = λ bytes from file told. go bytes from file over.opening (over.opens file told) over.says
+    where
+      go : (bytes : List ℕ) → left ≡ Some bytes → (file : List ℕ) (opening : Result Opened SFault) → OpensAs file opening → Solves left left' opening said → IsBrokenOff end ⊎ EndsAsOpened (solved_said (all_of 4194304 bytes).got) file end
+      go bytes from file (Ok o) opens says =
+          ⊎_elim (λ broken. inl broken) (λ is. said_end once (solved_said (all_of 4194304 bytes).got) file said written written' end (Ok o) opens is has)
+          (input_end 4194304 (λ read. IsSaid (solved_said read o)) left left' written written' said end bytes from says has)
+      go bytes from file (Err f) opens says = said_end once (solved_said (all_of 4194304 bytes).got) file said written written' end (Err f) opens says.0 has
+
+-- ---- of which endings
+
+-- the endings that are neither the loop's alone nor that of refused words
+abbrev pub is_own : Ending → Bool
+is_own (ending.Usage fault) = false
+is_own (ending.Converged m) = false
+is_own (ending.Collapsed m) = false
+is_own (ending.Undecided m) = false
+is_own (ending.Suspended m) = false
+is_own ending.LineTooLong = false
+is_own ending.Unreadable = false
+is_own end = true
+
+-- an ending that isn't
+pub not_own : (end other : Ending) → is_own other ≡ false → is_own end ≡ true → end ≡ other → ⊥
+not_own end other not own is = let bad : true ≡ false = sym own ∙ (ap is_own is ∙ not) in cc
+
+pub broken_own : (end : Ending) → IsBrokenOff end → is_own end ≡ true
+broken_own end broken = ⊎_elim (λ e. ap is_own e) (λ b. ⊎_elim (λ e. ap is_own e) (λ c. ⊎_elim (λ e. ap is_own e) (λ e. ap is_own e) c) b) broken
+
+pub refuses_own : (written written' : Option (List ℕ)) (end : Ending) (f : SFault) → SaysSo (Refuses f) written written' (okay end) → is_own end ≡ true
+refuses_own written written' end f refuses = ⊎_elim (broken_own end) (λ is. ap is_own is.1) (closed_end written written' end f refuses)
+
+sifted_own : (l : Language) (network : List Candidate) (budget : ℕ) (o : Option ℕ) → is_own (sifted_said l network budget o).ending ≡ true
+sifted_own l network budget None = refl
+sifted_own l network budget (Some i) = refl
+
+clauses_own : (r : Result (List ℕ) CnfFault) → is_own (clauses_said r).ending ≡ true
+clauses_own (Ok text) = refl
+clauses_own (Err fault) = refl
+
+certificate_own : (r : Result (List ℕ) MakeFault) → is_own (certificate_said r).ending ≡ true
+certificate_own (Ok text) = refl
+certificate_own (Err fault) = refl
+
+end_own : (next : Option Next) (r : Result (List ℕ) MakeFault) (m : ℕ) → is_own (if_at_end next (certificate_said r) (unconverged_said m)).ending ≡ true
+end_own None r m = refl
+end_own (Some (Puts q)) r m = refl
+end_own (Some (Ends Converged)) r m = certificate_own r
+end_own (Some (Ends Collapsed)) r m = refl
+end_own (Some (Ends Undecided)) r m = refl
+end_own (Some (Ends Suspended)) r m = refl
+end_own (Some (Ends LineTooLong)) r m = refl
+end_own (Some (Ends Unreadable)) r m = refl
+end_own (Some (Ends JournalFull)) r m = refl
+
+pub asked_own : (a : Ask) (o : Opened) → is_own (asked_said a o).ending ≡ true
+asked_own ask.Show o = refl
+asked_own (ask.Reduce budget) o = sifted_own o.lang (network_of o) budget (first_spent o.lang (network_of o) budget (length (network_of o)))
+asked_own ask.Cnf o = clauses_own (cnf_of o.lang (network_of o))
+asked_own (ask.Certify budget) o =
+    end_own (next_after o.lang (terms_with o.plan budget) (standing_on o.lang o.events)) (made o.voc o.lang (network_of o) (standing_on o.lang o.events) budget) (length (standing_on o.lang o.events))
+
+solution_own : (l : Language) (r : Result Assignment ModelFault) → is_own (solution_said l r).ending ≡ true
+solution_own l (Ok e) = refl
+solution_own l (Err fault) = refl
+
+solved_own : (read : Result (List ℕ) AllFault) (o : Opened) → is_own (solved_said read o).ending ≡ true
+solved_own (Ok bytes) o = solution_own o.lang (model_of o.lang (network_of o) bytes)
+solved_own (Err e) o = refl
+
+verdict_own : (cert : Certificate) (v : Verdict) → is_own (verdict_said cert v).ending ≡ true
+verdict_own cert Yes = refl
+verdict_own cert (No flaw) = refl
+
+checked_own : (reading : Result Certificate CertFault) → is_own (checked_said reading).ending ≡ true
+checked_own (Ok cert) = verdict_own cert (verdict cert)
+checked_own (Err fault) = refl
+
+pub check_own : (read : Result (List ℕ) AllFault) (what : Saying) → IsCheckOf read what → is_own what.ending ≡ true
+check_own (Ok bytes) what check = ap (λ (s : Saying). is_own s.ending) check.is ∙ checked_own check.reading
+check_own (Err e) what is = ap (λ (s : Saying). is_own s.ending) is
+
+-- by what was said
+pub own_said : (what : Saying) (said : Result Saying Unsaid) (written written' : Option (List ℕ)) (end : Ending) → is_own what.ending ≡ true → IsSaid what said → HasWritten said written written' (okay end) → is_own end ≡ true
+own_said what said written written' end own is has = ap is_own (ends_said what said written written' end is has) ∙ own
+
+pub opening_own : (says : Opened → Saying) → ((o : Opened) → is_own (says o).ending ≡ true) → (opening : Result Opened SFault) (said : Result Saying Unsaid) (written written' : Option (List ℕ)) (end : Ending) → SaysOpening says opening said → HasWritten said written written' (okay end) → is_own end ≡ true
+opening_own says own (Ok o) said written written' end is has = own_said (says o) said written written' end (own o) is has
+opening_own says own (Err f) said written written' end is has = refuses_own written written' end f (said, is, has)
+
+module _ (left left' : Option (List ℕ)) (said : Result Saying Unsaid) (written written' : Option (List ℕ)) (end : Ending) (has : HasWritten said written written' (okay end)) where
+  -- by what was read of the input
+  pub read_own : (most : ℕ) (Says : Result (List ℕ) AllFault → Result Saying Unsaid → Type 0) → ((read : Result (List ℕ) AllFault) → Says read said → is_own end ≡ true) → (read : Result (List ℕ) AllFault) → SaysOfRead most Says left left' said read → is_own end ≡ true
+  read_own most Says own (Ok bytes) says = own (Ok bytes) says.1
+  read_own most Says own (Err all.TooLong) says = own (Err all.TooLong) says.1
+  read_own most Says own (Err all.Fault) says = broken_own end (silently unsaid.ReadFault said written written' end says has)
+  read_own most Says own (Err all.Memory) says = broken_own end (silently unsaid.Memory said written written' end says has)
+
+  pub solves_own : (opening : Result Opened SFault) → Solves left left' opening said → is_own end ≡ true
+  solves_own (Ok o) (read, says) = read_own 4194304 (λ r. IsSaid (solved_said r o)) (λ r is. own_said (solved_said r o) said written written' end (solved_own r o) is has) read says
+  solves_own (Err f) says = refuses_own written written' end f (said, says.0, has)
+
+pub so_own : (IsTrue : Saying → Type 0) → ((what : Saying) → IsTrue what → is_own what.ending ≡ true) → (said : Result Saying Unsaid) (written written' : Option (List ℕ)) (end : Ending) → SaidSo IsTrue said → HasWritten said written written' (okay end) → is_own end ≡ true
+so_own IsTrue own (Ok what) written written' end is has = ap is_own has.0 ∙ own what is
+so_own IsTrue own (Err why) written written' end is has = broken_own end (silently why (Err why) written written' end refl has)

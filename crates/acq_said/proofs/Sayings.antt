@@ -1,0 +1,91 @@
+-- What is said of a session at its end.
+use Rattle.std.proofs.Common.{◌≡◌, ◌∙◌, ℕ, List, Option, Some, None, Result, Ok, Err, sym, ap, subst, refl}
+use Rattle.std.specs.Prelude.{filter, IfOk, OnErr, IsErr}
+use Rattle.acq_io.specs.declared.streams.Put.{Put}
+use Rattle.assign.specs.Events.{Answer}
+use Rattle.language.specs.declared.candidates.Candidate.{Candidate}
+use Rattle.language.specs.Language.{Language, candidates}
+use Rattle.query_gen.specs.Marks.{Remembered, is_open}
+use Rattle.session_laws.specs.Walk.{WalkEnd}
+use Rattle.session_laws.specs.Session.{Idle, At, state_after}
+use Rattle.session_core.specs.declared.session.Session.{Session}
+use Rattle.session_core.specs.Standing.{Stands, knowledge_of}
+use Rattle.acq_loop.specs.Closings.{closing_of, ending_of}
+use Rattle.acq_loop.specs.Driven.{HasEnded, TellsOpen}
+use Rattle.acq_said.specs.Endings.{AddsLast, AddsLastFront, Says, SaysEnd, SaysEndBy, SaysPart}
+use Rattle.acq_loop.specs.Points.{terms_with}
+use Rattle.acq_loop.specs.Run.{Closing, Converged, Undecided}
+use Rattle.acq_said.specs.Said.{EndsWith, HasWritten, silent_end}
+use Rattle.acq_said.specs.Saying.{Saying, saying}
+use Rattle.acq_loop.specs.Texts.{closing_text, converged_text, undecided_text, open_candidates, learned_in, learned_after}
+use Rattle.acq_loop.specs.declared.driving.Drove.{Drove}
+use Rattle.acq_loop.specs.declared.driving.Drove.TheVariants as drove
+use Rattle.acq_loop.specs.declared.ending.Ending.{Ending}
+use Rattle.acq_said.specs.declared.said.Unsaid.{Unsaid}
+use Rattle.acq_loop.specs.declared.terms.Terms.{Terms}
+use Rattle.acq_said.proofs.Closings.{okay}
+use Rattle.acq_loop.proofs.Nexts.{learned_is}
+use Rattle.acq_loop.proofs.OpenCandidates.{opens_are}
+use Rattle.acq_said.proofs.Parts.{ends_part}
+use Rattle.acq_said.proofs.Spoken.{ends_as}
+
+-- ---- the text
+
+module _ (session : Session) (budget : ℕ) (t : List Answer) (stands : Stands session t) where
+  abbrev l : Language
+  l = (knowledge_of session).lang
+
+  abbrev terms : Terms
+  terms = terms_with (knowledge_of session).plan budget
+
+  -- the session's network is the one that the answers lead to
+  learned : (network : List Candidate) (ended : Option WalkEnd) → state_after l (knowledge_of session).plan t ≡ At (Idle network ended) → (knowledge_of session).network.list ≡ learned_after l terms t
+  learned network ended at = learned_is session t network ended stands at ∙ sym (ap learned_in at)
+
+  pub converged_so : (m : ℕ) → HasEnded l terms t (drove.Converged m) → converged_text l (knowledge_of session).network.list m ≡ closing_text l terms t Converged
+  converged_so m done = let net = learned done.found.network done.found.end done.found.idle in (λ i. converged_text l (net i) (done.number i))
+
+  pub undecided_so : (screen : Remembered) (m : ℕ) → HasEnded l terms t (drove.Undecided m) → TellsOpen l terms t screen →
+      undecided_text l (knowledge_of session).network.list (filter (is_open l screen) (candidates l)) m ≡ closing_text l terms t Undecided
+  undecided_so screen m done tells =
+      let net = learned done.found.network done.found.end done.found.idle in
+      let opens : filter (is_open l screen) (candidates l) ≡ open_candidates l terms t (learned_after l terms t) =
+      opens_are l terms t done.found.network done.found.end screen done.found.idle tells ∙ ap (open_candidates l terms t) (sym (ap learned_in done.found.idle)) in
+      (λ i. undecided_text l (net i) (opens i) (done.number i))
+
+-- ---- what was written of it
+
+module _ (l : Language) (terms : Terms) (t : List Answer) (said : Result Saying Unsaid) (written written' : Option (List ℕ)) where
+  whole : (closing : Closing) (end : Ending) (got : Result Ending Put) → EndsWith end (closing_text l terms t closing) written written' got → IfOk got (λ e. (okay end ≡ okay e) × AddsLast l terms t written written' (Some closing))
+  whole closing end (Ok e) ends = (ap okay (sym ends.0), ends.1)
+  whole closing end (Err e) ends = tt
+
+  silently : (why : Unsaid) (end got : Result Ending Put) → end ≡ silent_end why → got ≡ silent_end why → written' ≡ written → IfOk got (λ e. (end ≡ Ok e) × AddsLast l terms t written written' None)
+  silently why end (Ok e) is so same = (is ∙ sym so, same)
+  silently why end (Err e) is so same = tt
+
+  failing : (why : Unsaid) (end got : Result Ending Put) → end ≡ silent_end why → got ≡ silent_end why → written' ≡ written → OnErr got (AddsLastFront l terms t written written' end None)
+  failing why end (Ok e) is so same = tt
+  failing why end (Err e) is so same = (same, subst IsErr (so ∙ sym is) refl)
+
+  says_by : (o : Option Closing) (end got : Result Ending Put) → SaysEndBy l terms t o end said → HasWritten said written written' got → IfOk got (λ e. (end ≡ Ok e) × AddsLast l terms t written written' o)
+  says_by (Some closing) (Ok end) got says has = whole closing end got (ends_as (saying (closing_text l terms t closing) end) said written written' got says has)
+  says_by (Some closing) (Err e) got says has = absurd says
+  says_by None end got (why, is, so) has =
+      let Written : Result Saying Unsaid → Type 0 = λ s. HasWritten s written written' got in
+      let silent = subst Written is has in
+      silently why end got so silent.0 silent.1
+
+  part_by : (o : Option Closing) (end got : Result Ending Put) → SaysEndBy l terms t o end said → HasWritten said written written' got → OnErr got (AddsLastFront l terms t written written' end o)
+  part_by (Some closing) (Ok end) got says has = ends_part end (closing_text l terms t closing) written written' got (ends_as (saying (closing_text l terms t closing) end) said written written' got says has)
+  part_by (Some closing) (Err e) got says has = absurd says
+  part_by None end got (why, is, so) has =
+      let Written : Result Saying Unsaid → Type 0 = λ s. HasWritten s written written' got in
+      let silent = subst Written is has in
+      failing why end got so silent.0 silent.1
+
+  pub says_so : (how : Drove) (got : Result Ending Put) → SaysEnd l terms t how said → HasWritten said written written' got → IfOk got (Says l terms t written written' how)
+  says_so how got says has = says_by (closing_of how) (ending_of how) got says has
+
+  pub part_so : (how : Drove) (got : Result Ending Put) → SaysEnd l terms t how said → HasWritten said written written' got → OnErr got (SaysPart l terms t written written' how)
+  part_so how got says has = part_by (closing_of how) (ending_of how) got says has

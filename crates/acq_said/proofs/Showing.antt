@@ -1,0 +1,74 @@
+-- The lines of answers, one more at a time.
+use Rattle.std.proofs.Common.{◌≡◌, ◌∙◌, ℕ, suc, ◌+◌, ◌-◌, ◌<◌, ◌≤◌, Bool, false, List, [], ◌∷◌, ◌++◌, length, take, get_or, refl, sym, ap, subst, arith, append_assoc, length-append, length-take-le}
+use Rattle.std.specs.Prelude.{codes}
+use Rattle.std.proofs.lemmas.List.{append-nil, length-map}
+use Rattle.assign.specs.Assignment.{Assignment}
+use Rattle.assign.specs.Events.{Answer}
+use Rattle.assign.specs.declared.events.Event.{Event}
+use Rattle.assign.specs.declared.events.Event.TheVariants as event
+use Rattle.assign.specs.declared.events.Plan.{Plan}
+use Rattle.language.specs.Language.{Language, variable_count}
+use Rattle.language.specs.Answers.{standing_on}
+use Rattle.session_core.specs.Standing.{IsAskedIn, Stands, knowledge_of}
+use Rattle.session_core.specs.declared.session.Session.{Session}
+use Rattle.acq_loop.specs.Texts.{learned_in}
+use Rattle.acq_said.specs.Showing.{shown_text}
+use Rattle.acq_loop.proofs.Standings.{stands_at}
+use Rattle.session_laws.specs.Session.{State, Idle, Halving, Choosing, Walking, Over, At, state_after}
+use Rattle.session_store.specs.Replay.{IsAnswer, Recorded, all_seen, answer_to, recorded_from, seen}
+use Rattle.session_store.proofs.Replaying.{seen_next, IsBusy}
+use Rattle.acq_said.specs.Shows.{answer_line, answer_lines, state_text, show_text, take_backs}
+
+lines_more : (l : Language) (k : ℕ) (t : List Answer) (a : Answer) → answer_lines l k (t ++ a ∷ []) ≡ answer_lines l k t ++ answer_line l (k + length t) a
+lines_more l k [] a = append-nil (answer_line l k a) ∙ ap (λ n. answer_line l n a) (let e : k ≡ k + 0 = omega arith in e)
+lines_more l k (b ∷ t) a =
+    ap (λ (x : List ℕ). answer_line l k b ++ x) (lines_more l (suc k) t a ∙ ap (λ n. answer_lines l (suc k) t ++ answer_line l n a) (let e : suc k + length t ≡ k + suc (length t) = omega arith in e))
+    ∙ sym (append_assoc (answer_line l k b) (answer_lines l (suc k) t) (answer_line l (k + suc (length t)) a))
+
+-- one answer more
+pub lines_next : (l : Language) (all : List Recorded) (i : ℕ) (d : Recorded) → i < length all →
+    answer_lines l 1 (all_seen (variable_count l) (take (i + 1) all)) ≡ answer_lines l 1 (all_seen (variable_count l) (take i all)) ++ answer_line l (i + 1) (seen (variable_count l) (get_or all i d).answer)
+lines_next l all i d low =
+    let n : ℕ = variable_count l in
+    let a : Answer = seen n (get_or all i d).answer in
+    let t : List Answer = all_seen n (take i all) in
+    let count : length t ≡ i = length-map (take i all) (λ (r : Recorded). seen n r.answer) ∙ length-take-le i all (omega arith) in
+    ap (answer_lines l 1) (seen_next n all i d low) ∙ lines_more l 1 t a
+    ∙ ap (λ k. answer_lines l 1 t ++ answer_line l k a) (let e : 1 + length t ≡ i + 1 = omega arith in e)
+
+abbrev pub no_record : Recorded
+no_record = record { answer = answer_to [] false; number = 0 }
+
+-- no more answers stand than there are events
+pub few_recorded : (before : List Recorded) (number : ℕ) (events : List Event) → length (recorded_from before number events) ≤ length before + length events
+few_recorded before number [] = omega arith
+few_recorded before number (event.Answer q reply ∷ more) =
+    let r : Recorded = record { answer = record { question = q; yes = reply }; number = number } in
+    omega (arith, few_recorded (before ++ r ∷ []) (number + 1) more, length-append before (r ∷ []))
+few_recorded before number (event.Back ∷ more) =
+    let rest : List Recorded = take (length before - 1) before in
+    let size : length rest ≡ length before - 1 = length-take-le (length before - 1) before (omega arith) in
+    omega (arith, few_recorded rest (number + 1) more, size)
+
+-- such an event is an answer
+pub is_answer : (e : Event) (q : Assignment) (reply : Bool) → e ≡ event.Answer q reply → IsAnswer e
+is_answer e q reply is = subst IsAnswer (sym is) tt
+
+-- where a question is open, it says so
+pub asking_text : (l : Language) (plan : Plan) (t : List Answer) (q : Assignment) (state : State) → IsBusy state → IsAskedIn l plan t q state → codes "asking" ≡ state_text state
+asking_text l plan t q (Idle network end) busy asked = absurd (busy network end refl)
+asking_text l plan t q (Halving e set replies network walk) busy asked = refl
+asking_text l plan t q (Choosing s choices network walk) busy asked = refl
+asking_text l plan t q (Walking set walk network) busy asked = refl
+asking_text l plan t q (Over network) busy asked = absurd asked
+
+-- what is shown of a session is what its answers lead to
+pub shown_as : (session : Session) (l : Language) (plan : Plan) (events given : List Event) → (knowledge_of session).lang ≡ l → (knowledge_of session).plan ≡ plan → given ≡ events → Stands session (standing_on l events) →
+    show_text (knowledge_of session).lang (knowledge_of session).plan (standing_on (knowledge_of session).lang given) (take_backs given) (knowledge_of session).network.list ≡ shown_text l plan events
+shown_as session l plan events given lang planned same stands =
+    let k = knowledge_of session in
+    let t : List Answer = standing_on l events in
+    let there = stands_at session t stands in
+    let at : state_after l plan t ≡ At there.state = sym (λ i. state_after (lang i) (planned i) t) ∙ there.at in
+    let learned : k.network.list ≡ learned_in (state_after l plan t) = sym (ap learned_in at ∙ there.network) in
+    (λ i. show_text (lang i) (planned i) (standing_on (lang i) (same i)) (take_backs (same i)) k.network.list) ∙ ap (show_text l plan t (take_backs events)) learned

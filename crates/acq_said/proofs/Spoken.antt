@@ -1,0 +1,173 @@
+-- How a command ends by what it says.
+use Rattle.std.proofs.Common.{◌≡◌, ◌∙◌, ◌⊎◌, ◌+◌, ◌<◌, ℕ, Bool, true, false, cond, List, [], length, drop, Option, Some, None, Result, Ok, Err, refl, sym, ap, subst, inl, inr, ⊎_elim}
+use Rattle.std.specs.Prelude.{IfOk, nat_le}
+use Rattle.std.specs.Option.{option_map}
+use Rattle.std.proofs.lemmas.Bool.{leb-false}
+use Rattle.acq_io.specs.Whole.{Gathered, gathered, Gives, all_of}
+use Rattle.acq_io.specs.declared.streams.Put.{Put}
+use Rattle.acq_io.specs.declared.streams.Put.TheVariants as put
+use Rattle.acq_io.specs.declared.whole.AllFault.{AllFault}
+use Rattle.acq_io.specs.declared.whole.AllFault.TheVariants as all
+use Rattle.session_store.specs.declared.fault.SFault.{SFault}
+use Rattle.acq_said.specs.Exactly.{IsBrokenOff}
+use Rattle.acq_said.specs.Inputs.{SaysOfInput}
+use Rattle.acq_said.specs.Journals.{RefusesBy, Refuses, refused_said, untold}
+use Rattle.acq_said.specs.Said.{EndsWith, HasWritten, IsSaid, SaidSo, SaysSo, or_silent, silent_end}
+use Rattle.acq_said.specs.Saying.{Saying}
+use Rattle.acq_loop.specs.declared.ending.Ending.{Ending}
+use Rattle.acq_loop.specs.declared.ending.Ending.TheVariants as ending
+use Rattle.acq_said.specs.declared.said.Unsaid.{Unsaid}
+use Rattle.acq_said.specs.declared.said.Unsaid.TheVariants as unsaid
+use Rattle.acq_said.proofs.Closings.{err_ok, okay, same_ok}
+
+-- ---- what was said
+
+abbrev pub silent : Unsaid → Result Saying Unsaid
+silent why = Err why
+
+pub same_why : (a b : Unsaid) → silent a ≡ silent b → a ≡ b
+same_why a b e = cc
+
+pub said_silent : (what : Saying) (why : Unsaid) → (let r : Result Saying Unsaid = Ok what in r) ≡ silent why → ⊥
+said_silent what why e = cc
+
+pub said_so : {E : Type 0} (r : Result Saying E) (P : Saying → Type 0) → IfOk r P → SaidSo P (or_silent r)
+said_so (Ok what) P holds = holds
+said_so (Err e) P holds = refl
+
+-- what was made in memory is said
+pub said_as : {E : Type 0} (r : Result Saying E) (said : Result Saying Unsaid) (what other : Saying) → said ≡ or_silent r → what ≡ other → IfOk r (λ s. s ≡ what) → IsSaid other said
+said_as r said what other is same holds = subst (λ w. IsSaid w said) same (subst (IsSaid what) (sym is) (said_so r (λ s. s ≡ what) holds))
+
+-- a fact that holds of it
+pub so_said : {E : Type 0} (r : Result Saying E) (fact : Type 0) → IfOk r (λ _. fact) → IfOk (or_silent r) (λ _. fact)
+so_said (Ok what) fact holds = holds
+so_said (Err e) fact holds = tt
+
+-- whether or not there was memory
+pub ok_any : {A E : Type 0} (said : Result A E) {fact : Type 0} → fact → IfOk said (λ _. fact)
+ok_any (Ok s) holds = holds
+ok_any (Err e) holds = tt
+
+-- memory alone may have been wanting
+pub so_not : (P : Saying → Type 0) (said : Result Saying Unsaid) (why : Unsaid) → (unsaid.Memory ≡ why → ⊥) → SaidSo P said → said ≡ silent why → ⊥
+so_not P (Ok what) why apart so is = said_silent what why is
+so_not P (Err w) why apart so is = apart (sym so ∙ same_why w why is)
+
+pub silent_not : {E : Type 0} (r : Result Saying E) (said : Result Saying Unsaid) (why : Unsaid) → (unsaid.Memory ≡ why → ⊥) → said ≡ or_silent r → said ≡ silent why → ⊥
+silent_not (Ok what) said why apart is so = said_silent what why (sym is ∙ so)
+silent_not (Err e) said why apart is so = apart (same_why unsaid.Memory why (sym is ∙ so))
+
+-- ---- what was written
+
+-- it is as if it were written at once
+pub ends_as : (what : Saying) (said : Result Saying Unsaid) (written written' : Option (List ℕ)) (got : Result Ending Put) → IsSaid what said → HasWritten said written written' got → EndsWith what.ending what.text written written' got
+ends_as what (Ok s) written written' got is has = let Ends : Saying → Type 0 = λ x. EndsWith x.ending x.text written written' got in subst Ends is has
+ends_as what (Err why) written written' got is has =
+    let Ends : Result Ending Put → Type 0 = λ r. EndsWith what.ending what.text written written' r in
+    subst Ends (sym (has.0 ∙ ap silent_end is)) has.1
+
+-- ---- of which endings
+
+-- a command that says nothing has broken off
+pub silent_broken : (why : Unsaid) (end : Ending) → okay end ≡ silent_end why → IsBrokenOff end
+silent_broken unsaid.ReadFault end is = inl (same_ok end ending.ReadFault is)
+silent_broken unsaid.DiskFault end is = inr (inr (inl (same_ok end ending.DiskFault is)))
+silent_broken unsaid.Memory end is = absurd (err_ok put.Memory end (sym is))
+
+-- it ends as is said
+pub ends_said : (what : Saying) (said : Result Saying Unsaid) (written written' : Option (List ℕ)) (end : Ending) → IsSaid what said → HasWritten said written written' (okay end) → end ≡ what.ending
+ends_said what (Ok s) written written' end is has = has.0 ∙ ap (λ (x : Saying). x.ending) is
+ends_said what (Err why) written written' end is has = absurd (err_ok put.Memory end (sym (has.0 ∙ ap silent_end is)))
+
+pub silent_ends : (why : Unsaid) (said : Result Saying Unsaid) (written written' : Option (List ℕ)) (end : Ending) → said ≡ silent why → HasWritten said written written' (okay end) → okay end ≡ silent_end why
+silent_ends why said written written' end is has = let Written : Result Saying Unsaid → Type 0 = λ s. HasWritten s written written' (okay end) in (subst Written is has).0
+
+pub silently : (why : Unsaid) (said : Result Saying Unsaid) (written written' : Option (List ℕ)) (end : Ending) → said ≡ silent why → HasWritten said written written' (okay end) → IsBrokenOff end
+silently why said written written' end is has = silent_broken why end (silent_ends why said written written' end is has)
+
+-- of a fault: it broke off, or refuses the journal
+refuses_by : (f : SFault) (o : Option Unsaid) (said : Result Saying Unsaid) (written written' : Option (List ℕ)) (end : Ending) → untold f ≡ o → RefusesBy o f said → HasWritten said written written' (okay end) → IsBrokenOff end ⊎ ((untold f ≡ None) × (end ≡ ending.JournalRefused f))
+refuses_by f None said written written' end is says has = inr (is, ends_said (refused_said f) said written written' end says has)
+refuses_by f (Some why) said written written' end is says has = inl (silently why said written written' end says has)
+
+pub refuses_end : (f : SFault) (said : Result Saying Unsaid) (written written' : Option (List ℕ)) (end : Ending) → Refuses f said → HasWritten said written written' (okay end) → IsBrokenOff end ⊎ ((untold f ≡ None) × (end ≡ ending.JournalRefused f))
+refuses_end f said written written' end says has = refuses_by f (untold f) said written written' end refl says has
+
+-- a command that didn't open a file
+pub closed_end : (written written' : Option (List ℕ)) (end : Ending) (f : SFault) → SaysSo (Refuses f) written written' (okay end) → IsBrokenOff end ⊎ ((untold f ≡ None) × (end ≡ ending.JournalRefused f))
+closed_end written written' end f (said, says, has) = refuses_end f said written written' end says has
+
+-- ---- the input
+
+-- what was read is what the bytes give
+pub gives_got : (f : List ℕ → Gathered) (left left' : Option (List ℕ)) (got : Result (List ℕ) AllFault) (bytes : List ℕ) → Gives f left left' got → left ≡ Some bytes → (f bytes).got ≡ got
+gives_got f left left' got bytes gives told = go left' (sym (ap (option_map f) told) ∙ gives)
+  where
+    same : (a b : Gathered) → (let x : Option Gathered = Some a in x) ≡ Some b → a ≡ b
+    same a b e = cc
+
+    none : (a : Gathered) → (let x : Option Gathered = Some a in x) ≡ None → ⊥
+    none a e = cc
+
+    go : (now : Option (List ℕ)) → Some (f bytes) ≡ option_map (gathered got) now → (f bytes).got ≡ got
+    go None e = absurd (none (f bytes) e)
+    go (Some rest) e = ap (λ (x : Gathered). x.got) (same (f bytes) (gathered got rest) e)
+
+-- it broke off, or something is said of what the bytes give
+pub input_end : (most : ℕ) (Says : Result (List ℕ) AllFault → Result Saying Unsaid → Type 0) (left left' written written' : Option (List ℕ)) (said : Result Saying Unsaid) (end : Ending) (bytes : List ℕ) →
+    left ≡ Some bytes → SaysOfInput most Says left left' said → HasWritten said written written' (okay end) → IsBrokenOff end ⊎ Says (all_of most bytes).got said
+input_end most Says left left' written written' said end bytes from (Ok read, says) has =
+    let Of : Result (List ℕ) AllFault → Type 0 = λ r. Says r said in inr (subst Of (sym (gives_got (all_of most) left left' (Ok read) bytes says.0 from)) says.1)
+input_end most Says left left' written written' said end bytes from (Err all.TooLong, says) has =
+    let Of : Result (List ℕ) AllFault → Type 0 = λ r. Says r said in inr (subst Of (sym (gives_got (all_of most) left left' (Err all.TooLong) bytes says.0 from)) says.1)
+input_end most Says left left' written written' said end bytes from (Err all.Fault, says) has = inl (silently unsaid.ReadFault said written written' end says has)
+input_end most Says left left' written written' said end bytes from (Err all.Memory, says) has = inl (silently unsaid.Memory said written written' end says has)
+
+abbrev pub fine : List ℕ → Result (List ℕ) AllFault
+fine bytes = Ok bytes
+
+abbrev pub long_one : Result (List ℕ) AllFault
+long_one = Err all.TooLong
+
+pub fine_long : (got : List ℕ) → fine got ≡ long_one → ⊥
+fine_long got e = cc
+
+pub same_fine : (a b : List ℕ) → fine a ≡ fine b → a ≡ b
+same_fine a b e = cc
+
+-- what was read to the end is the whole
+pub whole_of : (most : ℕ) (bytes got : List ℕ) → (all_of most bytes).got ≡ fine got → bytes ≡ got
+unfolding all_of
+whole_of most bytes got is = go (nat_le (length bytes) most) is
+  where
+    go : (b : Bool) → (cond b (gathered (fine bytes) []) (gathered long_one (drop (most + 1) bytes))).got ≡ fine got → bytes ≡ got
+    go true e = same_fine bytes got e
+    go false e = absurd (fine_long got (sym e))
+
+-- or there are too many bytes
+pub too_many : (most : ℕ) (bytes : List ℕ) (e : AllFault) → (all_of most bytes).got ≡ Err e → most < length bytes
+unfolding all_of
+too_many most bytes e is = go (nat_le (length bytes) most) refl is
+  where
+    fine_err : fine bytes ≡ Err e → ⊥
+    fine_err h = cc
+
+    go : (b : Bool) → nat_le (length bytes) most ≡ b → (cond b (gathered (fine bytes) []) (gathered long_one (drop (most + 1) bytes))).got ≡ Err e → most < length bytes
+    go true which h = absurd (fine_err h)
+    go false which h = leb-false (length bytes) most which
+
+-- and that is why there are none
+pub only_long : (most : ℕ) (bytes : List ℕ) (e : AllFault) → (all_of most bytes).got ≡ Err e → e ≡ all.TooLong
+unfolding all_of
+only_long most bytes e is = go (nat_le (length bytes) most) is
+  where
+    same_err : long_one ≡ Err e → e ≡ all.TooLong
+    same_err h = cc
+
+    fine_err : fine bytes ≡ Err e → ⊥
+    fine_err h = cc
+
+    go : (b : Bool) → (cond b (gathered (fine bytes) []) (gathered long_one (drop (most + 1) bytes))).got ≡ Err e → e ≡ all.TooLong
+    go true h = absurd (fine_err h)
+    go false h = same_err h

@@ -1,0 +1,154 @@
+-- What `back` says of a session, and leaves of it.
+use Rattle.std.proofs.Common.{◌≡◌, ◌⊎◌, ◌∙◌, ℕ, zero, suc, ◌≤◌, Bool, true, false, List, [], ◌∷◌, ◌++◌, Option, Some, Result, Ok, Err, refl, sym, ap, subst, inl, inr, ⊎_elim, length, arith, length-append}
+use Rattle.std.specs.Prelude.{IsSome}
+use Rattle.std.specs.Option.{ForSome}
+use Rattle.disk_model.specs.declared.disk.Disk.{Ghosts as DiskOf}
+use Rattle.answer_journal.specs.Calls.{AreReadingCalls}
+use Rattle.acq_io.specs.declared.streams.Put.{Put}
+use Rattle.acq_io.specs.declared.streams.Put.TheVariants as put
+use Rattle.assign.specs.Assignment.{Assignment}
+use Rattle.assign.specs.declared.events.Event.{Event}
+use Rattle.assign.specs.declared.events.Event.TheVariants as event
+use Rattle.assign.specs.declared.events.Plan.{Plan}
+use Rattle.disk_model.specs.Moments.{LeavesOnly, joined, weaker}
+use Rattle.session_store.specs.Keeping.{AreEventCalls, IsGrown, Persists, FailsWith}
+use Rattle.session_store.proofs.Keepers.{both_as, within_more}
+use Rattle.session_store.specs.Left.{OpensWithin, OpensWithOrWithout, bytes_told}
+use Rattle.session_store.specs.Opened.{Opened, OpensOnce}
+use Rattle.session_store.specs.declared.fault.SFault.{SFault}
+use Rattle.acq_said.specs.Exactly.{IsBrokenOff}
+use Rattle.acq_said.specs.Over.{EndsAsOpened, SaidEnds, SaysOpening}
+use Rattle.acq_loop.specs.Program.{ended_as}
+use Rattle.acq_said.specs.Said.{HasWritten, SaysSo}
+use Rattle.acq_said.specs.Saying.{Saying, saying}
+use Rattle.acq_said.specs.TakingBack.{EndsBack, LeavesBack, TakesBack, TakesNone, back_on, back_said, nothing_text, taken_text, takes_on}
+use Rattle.acq_loop.specs.Texts.{full_text}
+use Rattle.acq_loop.specs.declared.ending.Ending.{Ending}
+use Rattle.acq_loop.specs.declared.ending.Ending.TheVariants as ending
+use Rattle.acq_said.specs.declared.said.Unsaid.{Unsaid}
+use Rattle.acq_said.specs.declared.said.Unsaid.TheVariants as unsaid
+use Rattle.acq_said.proofs.Closings.{okay}
+use Rattle.acq_said.proofs.SaidOver.{broken_own, is_own, opening_own, own_said, said_end}
+use Rattle.acq_said.proofs.Spoken.{said_silent, same_why, silent, silently, so_not}
+
+-- ---- what is said
+
+pub none_back : (n : ℕ) (full : Bool) → n ≡ 0 → (takes_on n full ≡ false) × (saying nothing_text ending.NothingBack ≡ back_on n full)
+none_back zero full is = (refl, refl)
+none_back (suc n) full is = absurd (omega (arith, is))
+
+pub full_back : (n : ℕ) (full : Bool) → 1 ≤ n → full ≡ true → (takes_on n full ≡ false) × (saying full_text ending.JournalFull ≡ back_on n full)
+full_back zero full some is = absurd (omega (arith, some))
+full_back (suc n) true some is = (refl, refl)
+full_back (suc n) false some is = absurd (let no : ⊥ = cc in no)
+
+pub one_back : (n : ℕ) (full : Bool) → 1 ≤ n → full ≡ false → (takes_on n full ≡ true) × (saying (taken_text n) ending.Done ≡ back_on n full)
+one_back zero full some is = absurd (omega (arith, some))
+one_back (suc n) true some is = absurd (let no : ⊥ = cc in no)
+one_back (suc n) false some is = (refl, refl)
+
+back_own_on : (n : ℕ) (full : Bool) → is_own (back_on n full).ending ≡ true
+back_own_on zero full = refl
+back_own_on (suc n) true = refl
+back_own_on (suc n) false = refl
+
+-- ---- what is left
+
+abbrev IsLost : Result Saying Unsaid → Type 0
+IsLost said = said ≡ silent unsaid.DiskFault
+
+pub disk_lost : (said : Result Saying Unsaid) → IsLost said ⊎ (IsLost said → ⊥)
+disk_lost (Ok what) = inr (said_silent what unsaid.DiskFault)
+disk_lost (Err unsaid.ReadFault) = inr (λ e. let no : unsaid.ReadFault ≡ unsaid.DiskFault = same_why unsaid.ReadFault unsaid.DiskFault e in cc)
+disk_lost (Err unsaid.DiskFault) = inl refl
+disk_lost (Err unsaid.Memory) = inr (λ e. let no : unsaid.Memory ≡ unsaid.DiskFault = same_why unsaid.Memory unsaid.DiskFault e in cc)
+
+-- where the disk failed no event was added
+back_same : (what : Saying) (events later : List Event) (said : Result Saying Unsaid) → EndsBack what events later said → IsLost said → later ≡ events
+back_same what events later said (inl (is, told)) failed = absurd (so_not (λ s. s ≡ what) said unsaid.DiskFault (λ e. cc) told failed)
+back_same what events later said (inr (same, rest)) failed = same
+
+-- the input isn't read
+pub back_reads : (what : Saying) (events later : List Event) (said : Result Saying Unsaid) → EndsBack what events later said → said ≡ silent unsaid.ReadFault → ⊥
+back_reads what events later said (inl (is, told)) so = so_not (λ s. s ≡ what) said unsaid.ReadFault (λ e. cc) told so
+back_reads what events later said (inr (same, inl none)) so = let no : unsaid.Memory ≡ unsaid.ReadFault = same_why unsaid.Memory unsaid.ReadFault (sym none ∙ so) in cc
+back_reads what events later said (inr (same, inr failed)) so = let no : unsaid.DiskFault ≡ unsaid.ReadFault = same_why unsaid.DiskFault unsaid.ReadFault (sym failed ∙ so) in cc
+
+module _ {D : Type 0} (disk : DiskOf D) where
+  -- what a crash leaves of a take-back, of what the keeper's call left
+  pub leaves_back : (plan : Plan) (voc : List ℕ) (what : Saying) (events later : List Event) (put : Option Assignment) (first old new : D) (said : Result Saying Unsaid) →
+      disk.content old ≡ disk.content first → LeavesOnly disk first old (disk.may_leave first) → EndsBack what events later said → ForSome (disk.content old) (λ _. IsSome (disk.content new)) →
+      ((IsLost said → ⊥) → ForSome (disk.content old) (λ _. Persists disk plan voc events later old new)) →
+      (IsLost said → FailsWith disk plan voc events later put (λ lost. lost ≡ event.Back) old new) →
+      LeavesBack disk plan voc events later first new said
+  leaves_back plan voc what events later put first old new said still opening ends on persists fails =
+      let more : List Event = events ++ event.Back ∷ [] in
+      let Within : List ℕ → Type 0 = OpensWithin plan voc events more in
+      let joins : (bytes : List ℕ) → disk.content first ≡ Some bytes → LeavesOnly disk old new Within → LeavesOnly disk first new (λ c. disk.may_leave first c ⊎ Within c) =
+      λ bytes told any. joined disk first old new (disk.may_leave first) Within (λ c. disk.may_leave first c ⊎ Within c) opening any (λ c was. inl was) (λ c opens. inr opens) in
+      record {
+        any_moment = λ bytes told.
+            ⊎_elim
+            (λ is.
+            let f = fails is in
+            let As : List Event → Event → Type 0 = λ es e. LeavesOnly disk old new (OpensWithin plan voc events (es ++ e ∷ [])) in
+            joins bytes told (both_as As later events f.event event.Back (back_same what events later said ends is) f.lost (f.any_moment bytes (still ∙ told))))
+            (λ no. joins bytes told (weaker disk old new (OpensWithin plan voc events later) Within (persists no bytes (still ∙ told)).any_moment (λ c w. grows ends c w)))
+            (disk_lost said);
+        now = λ no bytes told. (persists no bytes (still ∙ told)).now;
+        failed = λ is bytes told.
+            let f = fails is in
+            let t = bytes_told (disk.content new) (on bytes (still ∙ told)) in
+            let As : List Event → Event → Type 0 = λ es e. (c : List ℕ) → disk.may_leave new c → OpensWithOrWithout plan voc es e c in
+            record { bytes = t.0; tells = t.1; each = both_as As later events f.event event.Back (back_same what events later said ends is) f.lost (f.now bytes (still ∙ told)) };
+      }
+    where
+      grows : EndsBack what events later said → (c : List ℕ) → OpensWithin plan voc events later c → OpensWithin plan voc events (events ++ event.Back ∷ []) c
+      grows (inl (is, told)) c w = let P : List Event → Type 0 = λ es. OpensWithin plan voc events es c in subst P is w
+      grows (inr (same, rest)) c w = within_more plan voc events later (events ++ event.Back ∷ []) (event.Back ∷ []) c (ap (λ (es : List Event). es ++ event.Back ∷ []) (sym same)) w
+
+-- ---- how often the disk was called
+
+-- at most one event was added, and none where the disk failed
+back_grown : (what : Saying) (events later : List Event) (said : Result Saying Unsaid) → EndsBack what events later said → (grown : IsGrown events later) → length grown.more ≤ 1
+back_grown what events later said (inl (is, told)) grown = omega (arith, ap length is, ap length grown.is, length-append events grown.more, length-append events (event.Back ∷ []))
+back_grown what events later said (inr (same, rest)) grown = omega (arith, ap length same, ap length grown.is, length-append events grown.more)
+
+module _ {D : Type 0} (disk : DiskOf D) where
+  pub back_calls : (events later : List Event) (what : Saying) (old new : D) (said : Result Saying Unsaid) → EndsBack what events later said → (grown : IsGrown events later) → AreEventCalls disk (IsLost said) grown.more old new →
+      (before : ℕ) (bytes : List ℕ) → AreReadingCalls 5 before (disk.calls old) bytes → AreReadingCalls 13 before (disk.calls new) bytes
+  back_calls events later what old new said ends grown calls before bytes few =
+      ⊎_elim
+      (λ is. omega (arith, few, calls.at_most, ap length (back_same what events later said ends is), ap length grown.is, length-append events grown.more))
+      (λ no. omega (arith, few, calls.each_kept no, back_grown what events later said ends grown))
+      (disk_lost said)
+
+-- ---- how it ends
+
+none_says : (opening : Result Opened SFault) (said : Result Saying Unsaid) → TakesNone opening said → SaysOpening back_said opening said
+none_says (Ok o) said none = none.1
+none_says (Err f) said none = none
+
+module _ {D : Type 0} (disk : DiskOf D) (written written' : Option (List ℕ)) (old new : D) where
+  pub back_ends : OpensOnce → (got : Result Ending Put) → SaysSo (TakesBack disk old new) written written' got → SaidEnds back_said (disk.content old) (ended_as got)
+  back_ends once (Err put.Failed) backs = λ file told. inl (inr (inl refl))
+  back_ends once (Err put.Memory) backs = λ file told. inl (inr (inr (inr refl)))
+  back_ends once (Ok end) (said, inl none, has) = λ file told. said_end once back_said file said written written' end none.opening (none.opens file told) (none_says none.opening said none.says) has
+  back_ends once (Ok end) (said, inr taken, has) = λ file told. go file told taken.ends
+    where
+      go : (file : List ℕ) → disk.content old ≡ Some file → EndsBack (back_said taken.of) taken.of.events taken.later said → IsBrokenOff end ⊎ EndsAsOpened back_said file end
+      go file told (inl (is, says)) = said_end once back_said file said written written' end (Ok taken.of) (taken.opens file told) says has
+      go file told (inr (same, inl none)) = inl (silently unsaid.Memory said written written' end none has)
+      go file told (inr (same, inr failed)) = inl (silently unsaid.DiskFault said written written' end failed has)
+
+  pub back_own : (end : Ending) (said : Result Saying Unsaid) → TakesBack disk old new said → HasWritten said written written' (okay end) → is_own end ≡ true
+  back_own end said (inl none) has = opening_own back_said own none.opening said written written' end (none_says none.opening said none.says) has
+    where
+      own : (o : Opened) → is_own (back_said o).ending ≡ true
+      own o = back_own_on _ _
+  back_own end said (inr taken) has = go taken.ends
+    where
+      go : EndsBack (back_said taken.of) taken.of.events taken.later said → is_own end ≡ true
+      go (inl (is, says)) = own_said (back_said taken.of) said written written' end (back_own_on _ _) says has
+      go (inr (same, inl none)) = broken_own end (silently unsaid.Memory said written written' end none has)
+      go (inr (same, inr failed)) = broken_own end (silently unsaid.DiskFault said written written' end failed has)

@@ -1,0 +1,53 @@
+use Rattle.std.proofs.Common.{◌≡◌, ◌∙◌, ap, subst, inl, inr, length, List, ℕ}
+use Rattle.std.specs.Prelude.{IfOk}
+use Rattle.cert_check.specs.Making.{made}
+use Rattle.language.specs.Answers.{standing_on}
+use Rattle.acq_said.specs.Certifying.{certificate_said, unconverged_said}
+use Rattle.acq_loop.specs.Points.{terms_with}
+use Rattle.acq_said.specs.Reducing.{network_after}
+use Rattle.acq_loop.specs.Run.{next_after}
+use Rattle.acq_said.specs.Saying.{Saying}
+use Rattle.acq_said.proofs.Certified.{end_said, more_said, told_done, told_more}
+use Rattle.acq_said.proofs.Spoken.{ok_any}
+use Rattle.acq_said.proofs.certifying.certified.Goals as goal
+
+pub returns-in-Ok-true-clause-says : goal.returns-in-Ok-true-clause-says
+returns-in-Ok-true-clause-says g c =
+    let P = g.P.Keep in
+    let keep = c.args.keep.now in
+    let l = P.lang keep in
+    let t = standing_on l (P.record_of keep) in
+    let terms = terms_with (P.plan keep) c.args.budget in
+    let network = network_after l (P.plan keep) (P.record_of keep) in
+    let done = told_done l terms t c.in-Ok-true.field-0 c.in-Ok-true.field-0-test c.in-Ok-true.ensures in
+    subst (λ (what : Saying). IfOk c.certify_converged.result (λ said. said ≡ what))
+    (ap (λ (v : List ℕ). certificate_said (made v l network t c.args.budget)) c.requires.voc
+    ∙ end_said (next_after l terms t) (certificate_said (made (P.voc keep) l network t c.args.budget)) (unconverged_said (length t)) done.ends)
+    c.certify_converged.ensures
+
+pub returns-in-Ok-true-clause-so : goal.returns-in-Ok-true-clause-so
+returns-in-Ok-true-clause-so g c =
+    let P = g.P.Keep in
+    let keep = c.args.keep.now in
+    ok_any c.certify_converged.result
+    (inl (told_done (P.lang keep) (terms_with (P.plan keep) c.args.budget) (standing_on (P.lang keep) (P.record_of keep)) c.in-Ok-true.field-0 c.in-Ok-true.field-0-test c.in-Ok-true.ensures))
+
+pub returns-in-Ok-false-clause-says : goal.returns-in-Ok-false-clause-says
+returns-in-Ok-false-clause-says g c =
+    let P = g.P.Keep in
+    let keep = c.args.keep.now in
+    let l = P.lang keep in
+    let t = standing_on l (P.record_of keep) in
+    let terms = terms_with (P.plan keep) c.args.budget in
+    let more = told_more l terms t c.in-Ok-false.field-0 c.in-Ok-false.field-0-test c.in-Ok-false.ensures in
+    subst (λ (what : Saying). IfOk c.unconverged.result (λ said. said ≡ what))
+    (ap unconverged_said (c.answers.ensures ∙ c.session.ensures.stands.knows.count)
+    ∙ more_said (next_after l terms t) (certificate_said (made (P.voc keep) l (network_after l (P.plan keep) (P.record_of keep)) t c.args.budget)) (unconverged_said (length t)) more)
+    c.unconverged.ensures
+
+pub returns-in-Ok-false-clause-so : goal.returns-in-Ok-false-clause-so
+returns-in-Ok-false-clause-so g c =
+    let P = g.P.Keep in
+    let keep = c.args.keep.now in
+    ok_any c.unconverged.result
+    (inr (told_more (P.lang keep) (terms_with (P.plan keep) c.args.budget) (standing_on (P.lang keep) (P.record_of keep)) c.in-Ok-false.field-0 c.in-Ok-false.field-0-test c.in-Ok-false.ensures))

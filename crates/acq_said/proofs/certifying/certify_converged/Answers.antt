@@ -1,0 +1,59 @@
+use Rattle.std.proofs.Common.{◌≡◌, ◌∙◌, sym, subst, ap, List}
+use Rattle.std.specs.Prelude.{IfOk}
+use Rattle.language.specs.declared.candidates.Candidate.{Candidate}
+use Rattle.language.specs.Language.{Language}
+use Rattle.language.specs.Answers.{IsNetwork, standing_on}
+use Rattle.network.specs.Learned.{Learned}
+use Rattle.voc_read.specs.Vocabulary.{IsVocabulary}
+use Rattle.acq_said.specs.Saying.{Saying}
+use Rattle.acq_said.proofs.Certified.{certificate_so, covered_so, few_so, questions_so, reached_so}
+use Rattle.acq_said.proofs.Reduced.{learned_as}
+use Rattle.acq_said.proofs.certifying.certify_converged.Goals as goal
+
+pub certificate-requires-clause-covered : goal.certificate-requires-clause-covered
+certificate-requires-clause-covered g c =
+    let P = g.P.Keep in
+    let keep = c.args.keep.now in
+    let session = c.session-session in
+    let learned = learned_as session.result.now (P.lang keep) (P.plan keep) (P.record_of keep) session.ensures.lang session.ensures.plan session.ensures.stands in
+    covered_so (P.lang keep) (P.plan keep) (P.record_of keep) c.args.budget c.lang.result.now c.list.result.now c.deref.result.now (c.lang.ensures.is ∙ session.ensures.lang)
+    (c.list.ensures ∙ ap (λ (n : Learned). n.list) c.network-network.ensures.is ∙ learned) (c.deref.ensures.value ∙ c.in-Ok.ensures) c.requires.done
+
+pub certificate-requires-clause-network : goal.certificate-requires-clause-network
+certificate-requires-clause-network g c =
+    let Legal : Language → List Candidate → Type 0 = λ l list. IsNetwork l list in
+    subst (Legal c.lang.result.now) (sym c.list.ensures) (subst (λ (l : Language). Legal l c.network-network.result.now.list) (sym c.lang.ensures.is) c.network-network.ensures.lawful)
+
+pub certificate-requires-clause-questions : goal.certificate-requires-clause-questions
+certificate-requires-clause-questions g c =
+    let P = g.P.Keep in
+    let keep = c.args.keep.now in
+    let session = c.session-session in
+    let learned = learned_as session.result.now (P.lang keep) (P.plan keep) (P.record_of keep) session.ensures.lang session.ensures.plan session.ensures.stands in
+    questions_so (P.lang keep) (P.plan keep) (P.record_of keep) c.args.budget c.lang.result.now c.list.result.now c.deref.result.now (c.lang.ensures.is ∙ session.ensures.lang)
+    (c.list.ensures ∙ ap (λ (n : Learned). n.list) c.network-network.ensures.is ∙ learned) (c.deref.ensures.value ∙ c.in-Ok.ensures) c.lang.ensures.lawful
+    (reached_so session.result.now (P.lang keep) (P.plan keep) (standing_on (P.lang keep) (P.record_of keep)) session.ensures.lang session.ensures.plan session.ensures.stands)
+
+pub certificate-requires-clause-few : goal.certificate-requires-clause-few
+certificate-requires-clause-few g c =
+    let P = g.P.Keep in
+    let keep = c.args.keep.now in
+    let session = c.session-session in
+    let learned = learned_as session.result.now (P.lang keep) (P.plan keep) (P.record_of keep) session.ensures.lang session.ensures.plan session.ensures.stands in
+    few_so (P.lang keep) (P.plan keep) (P.record_of keep) c.args.budget c.lang.result.now c.list.result.now c.deref.result.now (c.lang.ensures.is ∙ session.ensures.lang)
+    (c.list.ensures ∙ ap (λ (n : Learned). n.list) c.network-network.ensures.is ∙ learned) (c.deref.ensures.value ∙ c.in-Ok.ensures) c.lang.ensures.lawful
+    (reached_so session.result.now (P.lang keep) (P.plan keep) (standing_on (P.lang keep) (P.record_of keep)) session.ensures.lang session.ensures.plan session.ensures.stands)
+
+pub certificate-requires-clause-read : goal.certificate-requires-clause-read
+certificate-requires-clause-read g c = subst (λ (l : Language). IsVocabulary c.args.voc.now l) (sym (c.lang.ensures.is ∙ c.session-session.ensures.lang)) c.requires.read
+
+pub returns : goal.returns
+returns g c =
+    let P = g.P.Keep in
+    let keep = c.args.keep.now in
+    let session = c.session-session in
+    let learned = learned_as session.result.now (P.lang keep) (P.plan keep) (P.record_of keep) session.ensures.lang session.ensures.plan session.ensures.stands in
+    subst (λ (what : Saying). IfOk c.certificate.result (λ said. said ≡ what))
+    (certificate_so (P.lang keep) (P.plan keep) (P.record_of keep) c.args.budget c.lang.result.now c.list.result.now c.deref.result.now (c.lang.ensures.is ∙ session.ensures.lang)
+    (c.list.ensures ∙ ap (λ (n : Learned). n.list) c.network-network.ensures.is ∙ learned) (c.deref.ensures.value ∙ c.in-Ok.ensures) c.args.voc.now)
+    c.certificate.ensures

@@ -1,0 +1,59 @@
+use Rattle.std.proofs.Common.{◌≡◌, refl, sym, ap, subst, ℕ, List, Result, Ok, Err, inl, inr}
+use Rattle.language.specs.Language.{Language}
+use Rattle.voc_read.specs.Vocabulary.{IsVocabulary}
+use Rattle.session_store.specs.Left.{bytes_told}
+use Rattle.session_store.specs.Store.{lang_of}
+use Rattle.session_store.specs.declared.fault.SFault.{SFault}
+use Rattle.session_store.specs.declared.store.Store.{Store}
+use Rattle.acq_said.specs.Making.{made_said}
+use Rattle.acq_said.specs.Saying.{Saying}
+use Rattle.acq_said.specs.declared.said.Unsaid.TheVariants as unsaid
+use Rattle.acq_said.proofs.Journals.{made_now}
+use Rattle.acq_said.proofs.Spoken.{said_as, silent_not}
+use Rattle.acq_said.proofs.making.make_journal.Goals as goal
+
+abbrev not_made : SFault → Result Store SFault
+not_made e = Err e
+
+pub returns-in-Ok-clause-makes : goal.returns-in-Ok-clause-makes
+returns-in-Ok-clause-makes g c =
+    let ok = c.in-Ok.ensures in
+    let store = c.in-Ok.store in
+    let Read : Language → Type 0 = λ l. IsVocabulary c.args.voc.now l in
+    let Voc : List ℕ → Type 0 = λ v. IsVocabulary v (lang_of store) in
+    let what : Saying = made_said (Ok c.lang_of.result.now) in
+    inl (record {
+      free = ok.free;
+      lang = c.lang_of.result.now;
+      read = subst Read (sym c.lang_of.ensures.is) (subst Voc ok.voc ok.sound.read);
+      says = said_as c.created.result c.or_silent.result what what c.or_silent.ensures refl c.created.ensures;
+      now = λ bytes told.
+          let t = bytes_told (g.D.Disk.content c.create.new.disk) (ok.told bytes told) in
+          made_now g.D.Disk c.create.new.disk store c.args.plan c.args.voc.now t.0 t.1 ok.plan ok.voc ok.events (ok.sits ok.live t.0 t.1);
+      any_moment = ok.any_moment;
+      calls = c.create.ensures.few_calls;
+    })
+
+pub returns-in-Err-clause-makes : goal.returns-in-Err-clause-makes
+returns-in-Err-clause-makes g c =
+    inr (record {
+      fault = c.in-Err.fault;
+      why = c.in-Err.ensures.refused;
+      some = c.in-Err.ensures.some_refusal;
+      unread = λ f is. c.in-Err.ensures.unread f (ap not_made is);
+      refuses = c.unmade.ensures.refuses;
+      untouched = c.in-Err.ensures.untouched;
+      spared = c.in-Err.ensures.spared;
+      told = c.in-Err.ensures.told;
+      any_moment = c.create.ensures.any_moment;
+      calls = c.create.ensures.few_calls;
+    })
+
+pub returns-in-Ok-clause-no_read : goal.returns-in-Ok-clause-no_read
+returns-in-Ok-clause-no_read g c is = silent_not c.created.result c.or_silent.result unsaid.ReadFault (λ e. cc) c.or_silent.ensures is
+
+pub returns-in-Ok-clause-lost : goal.returns-in-Ok-clause-lost
+returns-in-Ok-clause-lost g c is = absurd (silent_not c.created.result c.or_silent.result unsaid.DiskFault (λ e. cc) c.or_silent.ensures is)
+
+pub returns-in-Err-clause-lost : goal.returns-in-Err-clause-lost
+returns-in-Err-clause-lost g c is = c.in-Err.ensures.failed (ap not_made (c.unmade.ensures.lost is))

@@ -1,0 +1,64 @@
+use Rattle.std.proofs.Common.{◌≡◌, ◌≤◌, ◌<◌, ◌∙◌, ◌+◌, ◌++◌, [], sym, ap, subst, List, ℕ, take, length, arith}
+use Rattle.std.proofs.lemmas.List.{length-map, take_all}
+use Rattle.std.proofs.lemmas.List.Elements.{All-get_or}
+use Rattle.assign.specs.declared.events.Event.{Event}
+use Rattle.assign.specs.declared.events.Event.TheVariants as event
+use Rattle.language.specs.Language.{variable_count}
+use Rattle.session_store.specs.Held.{IsWide}
+use Rattle.session_store.specs.Replay.{Recorded, all_seen, recorded, seen, answer_in, standing_numbers}
+use Rattle.session_store.proofs.Recording.{record_at, recorded_seen}
+use Rattle.acq_said.specs.Shows.{answer_line, answer_lines}
+use Rattle.acq_said.proofs.Showing.{few_recorded, is_answer, lines_next, no_record}
+use Rattle.acq_said.proofs.shows.event_lines.Goals as goal
+
+few_numbers : (events : List Event) (numbers : List ℕ) (i : ℕ) → numbers ≡ standing_numbers events → i < length numbers → length events < 1000000 → i < 1000000
+few_numbers events numbers i is low few =
+    let size : length numbers ≡ length (recorded events) = ap length is ∙ length-map (recorded events) (λ (r : Recorded). r.number) in
+    let most = few_recorded [] 1 events in
+    omega (arith, size, low, few, most)
+
+pub overflow_sub-event : goal.overflow_sub-event
+overflow_sub-event c = (record_at c.args.events.now c.args.records.now c.loop-i.i 0 event.Back no_record c.requires.records c.loop-i-test.true).low
+
+pub bounds-events-record : goal.bounds-events-record
+bounds-events-record c =
+    let at = record_at c.args.events.now c.args.records.now c.loop-i.i 0 event.Back no_record c.requires.records c.loop-i-test.true in
+    let low = at.low in
+    let high = at.high in
+    omega (arith, low, high)
+
+pub overflow_cast-i : goal.overflow_cast-i
+overflow_cast-i c = let few = few_numbers c.args.events.now c.args.records.now c.loop-i.i c.requires.records c.loop-i-test.true c.requires.few in omega (arith, few)
+
+pub overflow_add-i : goal.overflow_add-i
+overflow_add-i c = let few = few_numbers c.args.events.now c.args.records.now c.loop-i.i c.requires.records c.loop-i-test.true c.requires.few in omega (arith, few)
+
+pub push_event-requires-clause-wide : goal.push_event-requires-clause-wide
+push_event-requires-clause-wide c =
+    let at = record_at c.args.events.now c.args.records.now c.loop-i.i 0 event.Back no_record c.requires.records c.loop-i-test.true in
+    let low = at.low in
+    let high = at.high in
+    subst IsWide (sym c.index-events-record.is) (All-get_or IsWide c.args.events.now _ c.index-events-record.result (omega (arith, low, high)) c.requires.wide)
+
+pub push_event-requires-clause-answer : goal.push_event-requires-clause-answer
+push_event-requires-clause-answer c =
+    let at = record_at c.args.events.now c.args.records.now c.loop-i.i 0 c.index-events-record.result no_record c.requires.records c.loop-i-test.true in
+    is_answer c.index-events-record.result _ _ (c.index-events-record.is ∙ at.event)
+
+pub loop-i-preserved : goal.loop-i-preserved
+loop-i-preserved c =
+    let l = c.args.lang.now in
+    let events : List Event = c.args.events.now in
+    let line : Event → List ℕ = λ e. answer_line l (c.loop-i.i + 1) (seen (variable_count l) (answer_in e)) in
+    let at = record_at events c.args.records.now c.loop-i.i 0 c.index-events-record.result no_record c.requires.records c.loop-i-test.true in
+    c.in_ok-push_event.ensures ∙ ap (λ x. x ++ line c.index-events-record.result) c.loop-i.invariant
+    ∙ ap (λ e. answer_lines l 1 (all_seen (variable_count l) (take c.loop-i.i (recorded events))) ++ line e) (c.index-events-record.is ∙ at.event)
+    ∙ sym (lines_next l (recorded events) c.loop-i.i no_record at.few)
+
+pub returns : goal.returns
+returns c =
+    let l = c.args.lang.now in
+    let events : List Event = c.args.events.now in
+    let all : List Recorded = recorded events in
+    let whole : length all ≤ c.loop-i.i = (let end = c.loop-i-test.false in let size = ap (λ (ns : List ℕ). length ns) c.requires.records ∙ length-map all (λ (r : Recorded). r.number) in omega (arith, end, size)) in
+    c.loop-i.invariant ∙ ap (λ rs. answer_lines l 1 (all_seen (variable_count l) rs)) (take_all c.loop-i.i all whole) ∙ ap (answer_lines l 1) (recorded_seen l events)

@@ -1,0 +1,64 @@
+-- What was said of a session at its end, and what was done about a language.
+use Rattle.std.specs.Prelude.{◌≡◌, ℕ, List, Option, Some, None, Result, Ok, Err, IsErr, IfOk, OnErr}
+use Rattle.acq_io.specs.Streams.{Adds, AddsFront}
+use Rattle.acq_io.specs.declared.streams.Put.{Put}
+use Rattle.assign.specs.Events.{Answer}
+use Rattle.assign.specs.declared.events.Event.{Event}
+use Rattle.language.specs.Language.{Language}
+use Rattle.language.specs.Answers.{standing_on}
+use Rattle.target_oracle.specs.Turns.{Turns}
+use Rattle.acq_loop.specs.Run.{Closing}
+use Rattle.acq_said.specs.Breaks.{BreaksRun}
+use Rattle.acq_loop.specs.Closings.{closing_of, ending_of}
+use Rattle.acq_loop.specs.Driven.{Drives, LeavesNothing}
+use Rattle.acq_loop.specs.Points.{point_of}
+use Rattle.acq_said.specs.Said.{IsSaid, silent_end}
+use Rattle.acq_said.specs.Saying.{Saying, saying}
+use Rattle.acq_said.specs.declared.said.Unsaid.{Unsaid}
+use Rattle.acq_loop.specs.Texts.{closing_text}
+use Rattle.acq_loop.specs.declared.terms.Terms.{Terms}
+use Rattle.acq_loop.specs.declared.driving.Drove.{Drove}
+use Rattle.acq_loop.specs.declared.ending.Ending.{Ending}
+
+-- the last lines were written, where there are any
+abbrev pub AddsLast : Language → Terms → List Answer → (written written' : Option (List ℕ)) → Option Closing → Type 0
+AddsLast l terms t written written' (Some closing) = Adds written written' (closing_text l terms t closing)
+AddsLast l terms t written written' None = written' ≡ written
+
+-- the program ends as the loop did, and said so
+abbrev pub Says : Language → Terms → List Answer → (written written' : Option (List ℕ)) → Drove → Ending → Type 0
+Says l terms t written written' how end = (ending_of how ≡ Ok end) × AddsLast l terms t written written' (closing_of how)
+
+-- a front of the last lines was written; where there are none, the loop had failed so
+abbrev pub AddsLastFront : Language → Terms → List Answer → (written written' : Option (List ℕ)) → Result Ending Put → Option Closing → Type 0
+AddsLastFront l terms t written written' end (Some closing) = AddsFront written written' (closing_text l terms t closing)
+AddsLastFront l terms t written written' end None = (written' ≡ written) × IsErr end
+
+-- what was written where it could not be said whole
+abbrev pub SaysPart : Language → Terms → List Answer → (written written' : Option (List ℕ)) → Drove → Type 0
+SaysPart l terms t written written' how = AddsLastFront l terms t written written' (ending_of how) (closing_of how)
+
+-- the last lines of a session are said, by how it ended; where there are none, nothing is
+abbrev pub SaysEndBy : Language → Terms → List Answer → Option Closing → Result Ending Put → Result Saying Unsaid → Type 0
+SaysEndBy l terms t (Some closing) (Ok end) said = IsSaid (saying (closing_text l terms t closing) end) said
+SaysEndBy l terms t (Some closing) (Err e) said = ⊥
+SaysEndBy l terms t None end said = (why : Unsaid) × (said ≡ Err why) × (end ≡ silent_end why)
+
+abbrev pub SaysEnd : Language → Terms → List Answer → Drove → Result Saying Unsaid → Type 0
+SaysEnd l terms t how said = SaysEndBy l terms t (closing_of how) (ending_of how) said
+
+-- What was done about a language, from the events at first to those at last: the loop ended in some way, and the program as that way
+-- has it. Behind what the loop wrote stand the last lines, where there are any.
+pub record Tries (turns : Turns) (l : Language) (terms : Terms) (start events : List Event) (left written left' written' : Option (List ℕ)) (end : Ending) : Type 0 where
+  pub how : Drove
+  pub is : ending_of how ≡ Ok end
+  pub middle : Option (List ℕ)
+  pub ended : Drives turns l terms (point_of start left written) (point_of events left' middle) how
+  pub adds : AddsLast l terms (standing_on l events) middle written' (closing_of how)
+  -- an example whose walk has ended, and wasn't cut off, is used up
+  pub walked : LeavesNothing l terms.plan (standing_on l events)
+
+-- what was done about it, said whole, or in part where something failed
+pub record HasAsked (turns : Turns) (l : Language) (terms : Terms) (start events : List Event) (left written left' written' : Option (List ℕ)) (got : Result Ending Put) : Type 0 where
+  pub tries : IfOk got (Tries turns l terms start events left written left' written')
+  pub part : OnErr got (BreaksRun turns l terms start events left written left' written')
