@@ -1,4 +1,4 @@
-use Rattle.std.proofs.Common.{◌≡◌, ℕ, ◌+◌, ◌<◌, ◌≤◌, length, sym, ◌∙◌, ap, ap₂, arith}
+use Rattle.std.proofs.Common.{◌+◌, ◌<◌, ◌≤◌, length, sym, ◌∙◌, ap, ap₂, arith}
 use Rattle.language.specs.Language.{candidates, number_of}
 use Rattle.query_gen.specs.Parts.{query_then, is_ask}
 use Rattle.query_gen.proofs.Numbers.{number_below}
