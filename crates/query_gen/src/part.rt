@@ -1,13 +1,14 @@
 //! The search of a part of the candidates.
 
-ghost use Rattle.std.specs.Prelude.{ℕ, ◌≡◌, ◌+◌, ◌-◌, ◌<◌, ◌≤◌, [], length, true, false};
+ghost use Rattle.std.specs.Prelude.{ℕ, ◌≡◌, ◌+◌, ◌-◌, ◌<◌, ◌≤◌, [], ◌∷◌, length, true, false};
 ghost use Rattle.language.specs.Language.{IsCandidate, candidates, number_of};
 ghost use Rattle.language.specs.Answers.{IsNetwork};
 ghost use Rattle.bias_store.specs.KeptSet.{kept_relations, IsMadeFor as IsKeptOf};
 ghost use Rattle.propagators.specs.Indexes.{IsIndexOf};
 ghost use Rattle.fd_solver.specs.Outcomes.{outcome_of_candidate};
+ghost use Rattle.query_gen.specs.Questions.{query_of};
 ghost use Rattle.query_gen.specs.Marks.{IsMadeFor, MarksHold};
-ghost use Rattle.query_gen.specs.Parts.{byte_for, is_ask, IsScopeOf, IsSearched, IsSearchedBefore, IsSearchedTo};
+ghost use Rattle.query_gen.specs.Parts.{byte_for, is_ask, query_then, IsScopeOf, IsSearched, IsSearchedBefore, IsSearchedTo};
 
 use crate::query::Query;
 use crate::screen::{Mark, Screen};
@@ -23,22 +24,10 @@ pub(crate) const IMPLIED: u8 = 1;
 /// The byte of a candidate on which the budget was spent.
 pub(crate) const SPENT: u8 = 2;
 
-/// The byte for an outcome.
-fn byte_for(outcome: &Outcome) -> u8
-    ensures { result ≡ byte_for outcome.now }
-{
-    match outcome {
-        Outcome::Found(_) => 0,
-        Outcome::Absent => IMPLIED,
-        Outcome::Spent => SPENT,
-    }
-}
-
-/// The outcome of a candidate, searched for where its mark doesn't say it.
+/// The outcome of a candidate's search.
 fn outcome_of(
     work: &mut Work,
     index: &Index,
-    mark: Mark,
     lang: &Language,
     net: &Network,
     budget: u32,
@@ -47,22 +36,78 @@ fn outcome_of(
     requires index { IsIndexOf lang.now index.now }
     requires candidate { IsCandidate lang.now c }
     requires network { IsNetwork lang.now net.now.list }
-    requires implied { mark ≡ Mark.Implied → outcome_of_candidate lang.now net.now.list c budget ≡ Outcome.Absent }
-    requires spent { mark ≡ Mark.Spent → outcome_of_candidate lang.now net.now.list c budget ≡ Outcome.Spent }
     requires budget { 1 ≤ budget }
     ensures { result ≡ outcome_of_candidate lang.now net.now.list c budget }
 {
-    match mark {
-        Mark::Implied => Outcome::Absent,
-        Mark::Spent => Outcome::Spent,
-        Mark::Blank => {
-            let constraints = Constraints {
-                lang,
-                list: net.list(),
-                against: Some(c),
-            };
-            search_with(work, index, &constraints, &order_of(lang, c), budget)
+    let constraints = Constraints {
+        lang,
+        list: net.list(),
+        against: Some(c),
+    };
+    search_with(work, index, &constraints, &order_of(lang, c), budget)
+}
+
+/// Searches for a kept candidate, puts what it says behind what those before it say, and returns its byte.
+// Not inlined: the room of an outcome is cleared at each entry, and most candidates need no search.
+#[inline(never)]
+fn search_candidate(
+    work: &mut Work,
+    answer: &mut Query,
+    index: &Index,
+    lang: &Language,
+    net: &Network,
+    budget: u32,
+    c: Candidate,
+) -> u8
+    requires index { IsIndexOf lang.now index.now }
+    requires candidate { IsCandidate lang.now c }
+    requires network { IsNetwork lang.now net.now.list }
+    requires budget { 1 ≤ budget }
+    requires none { is_ask answer.old ≡ false }
+    ensures byte { result ≡ byte_for (outcome_of_candidate lang.now net.now.list c budget) }
+    ensures answer { answer.new ≡ query_then answer.old (query_of (outcome_of_candidate lang.now net.now.list c budget ∷ [])) }
+{
+    match outcome_of(work, index, lang, net, budget, c) {
+        Outcome::Found(e) => {
+            *answer = Query::Ask(e);
+            0
         }
+        Outcome::Absent => IMPLIED,
+        Outcome::Spent => {
+            *answer = Query::Undecided;
+            SPENT
+        }
+    }
+}
+
+/// The same, with a search only where the candidate's mark doesn't say the outcome.
+fn byte_of(
+    work: &mut Work,
+    answer: &mut Query,
+    index: &Index,
+    mark: Mark,
+    lang: &Language,
+    net: &Network,
+    budget: u32,
+    c: Candidate,
+) -> u8
+    requires index { IsIndexOf lang.now index.now }
+    requires candidate { IsCandidate lang.now c }
+    requires network { IsNetwork lang.now net.now.list }
+    requires implied { mark ≡ Mark.Implied → outcome_of_candidate lang.now net.now.list c budget ≡ Outcome.Absent }
+    requires spent { mark ≡ Mark.Spent → outcome_of_candidate lang.now net.now.list c budget ≡ Outcome.Spent }
+    requires budget { 1 ≤ budget }
+    requires none { is_ask answer.old ≡ false }
+    ensures byte { result ≡ byte_for (outcome_of_candidate lang.now net.now.list c budget) }
+    ensures answer { answer.new ≡ query_then answer.old (query_of (outcome_of_candidate lang.now net.now.list c budget ∷ [])) }
+{
+    match mark {
+        Mark::Implied => IMPLIED,
+        Mark::Spent => {
+            *answer = Query::Undecided;
+            SPENT
+        }
+        Mark::Blank => search_candidate(work, answer, index, lang, net, budget, c),
     }
 }
 
@@ -97,13 +142,8 @@ fn look_at(
         return;
     }
     let mark = screen.mark_under(number, net.len(), budget);
-    let outcome = outcome_of(work, screen.index(), mark, lang, net, budget, c);
-    marks[(number - first) as usize] = byte_for(&outcome);
-    match outcome {
-        Outcome::Found(e) => *answer = Query::Ask(e),
-        Outcome::Absent => {}
-        Outcome::Spent => *answer = Query::Undecided,
-    }
+    let byte = byte_of(work, answer, screen.index(), mark, lang, net, budget, c);
+    marks[(number - first) as usize] = byte;
 }
 
 /// Looks through the kept candidates on a scope, those of the part, up to the first whose search finds a question.
