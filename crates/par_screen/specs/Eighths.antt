@@ -18,8 +18,8 @@ AreMadeFor l places = All (λ (p : Place). vec_len p.marks ≡ part_size l) plac
 abbrev pub AreNew : Language → List Place → Type 0
 AreNew l places = All (λ (p : Place). (p.marks.items ≡ replicate (part_size l) 0) × (p.answer ≡ AllImplied)) places
 
--- each of the first places, so many, is as the search of its part left it
-abbrev pub AreSearched : Language → List Candidate → List Candidate → ℕ → ℕ → List Place → Type 0
-AreSearched l network kept budget done places =
-    (part : ℕ) (d : Place) → part < done →
+-- each place is as the search of its part left it
+abbrev pub AreSearched : Language → List Candidate → List Candidate → ℕ → List Place → Type 0
+AreSearched l network kept budget places =
+    (part : ℕ) (d : Place) → part < 8 →
     IsSearched l network kept budget (part_start l part) (part_start l (part + 1)) (slice_index_or places part d).marks.items (slice_index_or places part d).answer

@@ -5,7 +5,7 @@ ghost use Rattle.bias_store.specs.KeptSet.{IsMadeFor as IsKeptOf};
 ghost use Rattle.fd_solver.specs.Outcomes.{outcome_of_candidate};
 ghost use Rattle.query_gen.specs.Questions.{is_among, is_spent, next_query};
 ghost use Rattle.query_gen.specs.Marks.{IsMadeFor, MarksHold, is_open};
-ghost use Rattle.query_gen.specs.Parts.{part_size, query_in, query_then, is_ask, IsSearched};
+ghost use Rattle.query_gen.specs.Parts.{part_size, is_ask, IsSearched};
 ghost use Rattle.par_screen.specs.Eighths.{part_start, AreMadeFor, AreSearched};
 
 use crate::gate::Gate;
@@ -56,53 +56,10 @@ fn search_part<G: Gate>(
     gate.search(part, place, screen, lang, kept, net, budget, first, end);
 }
 
-/// Has the gate search parts in this thread, one after another, up to one that gives a question, or that gives none after new
-/// searches. Says how many these are: none while nothing is learned.
-fn search_in_turn<G: Gate>(
-    places: &mut [Place],
-    gate: &G,
-    screen: &Screen,
-    lang: &Language,
-    kept: &Kept,
-    net: &Network,
-    budget: u32,
-) -> u32
-    requires eight { length places.old ≡ 8 }
-    requires places { AreMadeFor lang.now places.old }
-    requires screen { IsMadeFor lang.now screen.now }
-    requires marks { MarksHold lang.now net.now.list budget screen.now }
-    requires kept { IsKeptOf lang.now kept.now }
-    requires network { IsNetwork lang.now net.now.list }
-    requires some_budget { 1 ≤ budget }
-    requires small_budget { budget ≤ 1000000000 }
-    ensures some { result ≤ 8 }
-    ensures searched { AreSearched lang.now net.now.list kept.now.members budget result places.new }
-    ensures places { AreMadeFor lang.now places.new }
-    ensures eight { length places.new ≡ 8 }
-{
-    if net.len() == 0 {
-        return 0;
-    }
-    for part in 0..PARTS {
-        let place = &mut places[part as usize];
-        search_part(gate, part, place, screen, lang, kept, net, budget);
-        if is_last_in_turn(part, place) {
-            return part + 1;
-        }
-    }
-    PARTS
-}
-
-/// Whether the parts behind this one aren't searched in turn.
-fn is_last_in_turn(part: u32, place: &Place) -> bool {
-    matches!(place.answer, Query::Ask(_)) || place.searches > 0 && part < PARTS - 2
-}
-
-/// Has the gate search the parts from this one on, by at most as many threads as there are parts.
-fn search_others<R: Threads + Sync, G: Gate>(
+/// Has the gate search each part once, by a thread of its own where one can be made.
+fn search_parts<R: Threads + Sync, G: Gate>(
     rt: &R,
     places: &mut [Place],
-    done: u32,
     gate: &G,
     screen: &Screen,
     lang: &Language,
@@ -112,35 +69,25 @@ fn search_others<R: Threads + Sync, G: Gate>(
 )
     requires eight { length places.old ≡ 8 }
     requires places { AreMadeFor lang.now places.old }
-    requires searched { AreSearched lang.now net.now.list kept.now.members budget done places.old }
     requires screen { IsMadeFor lang.now screen.now }
     requires marks { MarksHold lang.now net.now.list budget screen.now }
     requires kept { IsKeptOf lang.now kept.now }
     requires network { IsNetwork lang.now net.now.list }
     requires some_budget { 1 ≤ budget }
     requires small_budget { budget ≤ 1000000000 }
-    ensures searched { AreSearched lang.now net.now.list kept.now.members budget 8 places.new }
+    ensures searched { AreSearched lang.now net.now.list kept.now.members budget places.new }
     ensures places { AreMadeFor lang.now places.new }
     ensures eight { length places.new ≡ 8 }
 {
-    if done >= PARTS {
-        return;
-    }
     thread::for_each_mut(
         rt,
         places,
         PARTS as usize,
         &|part, place: &mut Place|
-            requires { (part < 8) × (part < done → IsSearched lang.now net.now.list kept.now.members budget (part_start lang.now part) (part_start lang.now (part + 1)) place.now.marks.items place.now.answer)
-                × (vec_len place.now.marks ≡ part_size lang.now) × IsMadeFor lang.now screen.now × MarksHold lang.now net.now.list budget screen.now × IsKeptOf lang.now kept.now × IsNetwork lang.now net.now.list × (1 ≤ budget) × (budget ≤ 1000000000) }
+            requires { (part < 8) × (vec_len place.now.marks ≡ part_size lang.now) × IsMadeFor lang.now screen.now × MarksHold lang.now net.now.list budget screen.now × IsKeptOf lang.now kept.now × IsNetwork lang.now net.now.list × (1 ≤ budget) × (budget ≤ 1000000000) }
             ensures searched { IsSearched lang.entry.now net.entry.now.list kept.entry.now.members budget (part_start lang.entry.now part) (part_start lang.entry.now (part + 1)) place.exit.now.marks.items place.exit.now.answer }
             ensures size { vec_len place.exit.now.marks ≡ vec_len place.entry.now.marks }
-        {
-            let part = part as u32;
-            if part >= done {
-                search_part(gate, part, place, screen, lang, kept, net, budget);
-            }
-        },
+        { search_part(gate, part as u32, place, screen, lang, kept, net, budget) },
     );
 }
 
@@ -157,7 +104,7 @@ fn take_parts(
     requires places { AreMadeFor lang.now places.now }
     requires screen { IsMadeFor lang.now screen.old }
     requires marks { MarksHold lang.now net.now.list budget screen.old }
-    requires searched { AreSearched lang.now net.now.list kept.now.members budget 8 places.now }
+    requires searched { AreSearched lang.now net.now.list kept.now.members budget places.now }
     ensures screen { IsMadeFor lang.now screen.new }
     ensures marks { MarksHold lang.now net.now.list budget screen.new }
     ensures open { is_ask (next_query lang.now net.now.list kept.now.members budget) ≡ false → (c : Candidate) → IsCandidate lang.now c → is_open lang.now screen.new c ≡ (is_among kept.now.members c && is_spent (outcome_of_candidate lang.now net.now.list c budget)) }
@@ -173,62 +120,15 @@ fn take_parts(
     }
 }
 
-/// Puts what the first parts found by new searches into the screen. It knows the rest.
-fn take_first_parts(
-    places: &[Place],
-    done: u32,
-    screen: &mut Screen,
-    lang: &Language,
-    kept: &Kept,
-    net: &Network,
-    budget: u32,
-)
+/// What the parts say, one after another.
+fn answer_of(places: &[Place], lang: &Language, kept: &Kept, net: &Network, budget: u32) -> Query
     requires eight { length places.now ≡ 8 }
-    requires some { done ≤ 8 }
-    requires places { AreMadeFor lang.now places.now }
-    requires screen { IsMadeFor lang.now screen.old }
-    requires marks { MarksHold lang.now net.now.list budget screen.old }
-    requires searched { AreSearched lang.now net.now.list kept.now.members budget done places.now }
-    ensures screen { IsMadeFor lang.now screen.new }
-    ensures marks { MarksHold lang.now net.now.list budget screen.new }
-{
-    for number in 0..done {
-        let place = &places[number as usize];
-        if place.searches > 0 {
-            let first = part_start(lang, number);
-            let end = part_start(lang, number + 1);
-            screen.take_marks(place, first, end, net, budget);
-        }
-    }
-}
-
-/// What two parts say, from what each says.
-fn joined(first: Query, next: Query) -> Query
-    ensures { result ≡ query_then first next }
-{
-    match (first, next) {
-        (Query::Ask(_), _) | (_, Query::AllImplied) => first,
-        _ => next,
-    }
-}
-
-/// What the first parts say.
-fn answer_of(
-    places: &[Place],
-    done: u32,
-    lang: &Language,
-    kept: &Kept,
-    net: &Network,
-    budget: u32,
-) -> Query
-    requires eight { length places.now ≡ 8 }
-    requires some { done ≤ 8 }
-    requires searched { AreSearched lang.now net.now.list kept.now.members budget done places.now }
-    ensures { result ≡ query_in lang.now net.now.list kept.now.members budget 0 (part_start lang.now done) }
+    requires searched { AreSearched lang.now net.now.list kept.now.members budget places.now }
+    ensures { result ≡ next_query lang.now net.now.list kept.now.members budget }
 {
     let mut answer = Query::AllImplied;
-    for number in 0..done {
-        answer = joined(answer, places[number as usize].answer);
+    for part in 0..PARTS {
+        answer = answer.then(places[part as usize].answer);
     }
     answer
 }
@@ -236,10 +136,9 @@ fn answer_of(
 /// The next question, as `next_query` answers it: that of the first kept candidate, in candidate order, whose search under the
 /// budget finds one.
 ///
-/// The candidates are cut into eight parts of equal size, of which the last ones may be shorter or empty. A part is searched by
-/// one call of the gate, in its place. While nothing is learned, all parts are searched, each by a thread of its own where one
-/// can be made. Later the first ones are searched in this thread: where one of them gives a question, the others aren't searched,
-/// and where one gives none after new searches, all others are searched by threads. The places are made for the language.
+/// The candidates are cut into eight parts of equal size, of which the last ones may be shorter or empty. Each part is searched
+/// by one call of the gate, in its place, by a thread of its own where one can be made. What the parts found is put into the
+/// screen when all have returned. The places are made for the language.
 pub fn next_query_forked<R: Threads + Sync, G: Gate>(
     rt: &R,
     places: &mut [Place; 8],
@@ -266,16 +165,9 @@ pub fn next_query_forked<R: Threads + Sync, G: Gate>(
     ensures open { result ≡ Query.Undecided → (c : Candidate) → IsCandidate lang.now c → is_open lang.now screen.new c ≡ (is_among kept.now.members c && is_spent (outcome_of_candidate lang.now net.now.list c budget)) }
 {
     screen.follow(lang, net);
-    let done = search_in_turn(places.as_mut_slice(), gate, screen, lang, kept, net, budget);
-    let answer = answer_of(places.as_slice(), done, lang, kept, net, budget);
-    if let Query::Ask(_) = answer {
-        take_first_parts(places.as_slice(), done, screen, lang, kept, net, budget);
-        return answer;
-    }
-    search_others(
+    search_parts(
         rt,
         places.as_mut_slice(),
-        done,
         gate,
         screen,
         lang,
@@ -284,5 +176,5 @@ pub fn next_query_forked<R: Threads + Sync, G: Gate>(
         budget,
     );
     take_parts(places.as_slice(), screen, lang, kept, net, budget);
-    answer_of(places.as_slice(), PARTS, lang, kept, net, budget)
+    answer_of(places.as_slice(), lang, kept, net, budget)
 }

@@ -1,7 +1,6 @@
 pub mod Numbers
 pub mod Among
 pub mod Marking
-pub mod OnScope
 pub mod Asking
 pub mod Told
 pub mod Parts

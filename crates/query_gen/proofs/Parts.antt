@@ -19,7 +19,7 @@ use Rattle.query_gen.specs.declared.query.Query.TheVariants.{Ask, AllImplied, Un
 use Rattle.query_gen.specs.declared.screen.Mark.{Mark}
 use Rattle.query_gen.specs.declared.screen.Mark.TheVariants.{Blank, Implied}
 use Rattle.query_gen.specs.declared.screen.Mark.TheVariants as marks
-use Rattle.query_gen.specs.Questions.{is_among, is_spent, found_in, query_from, query_of}
+use Rattle.query_gen.specs.Questions.{is_among, is_spent, found_in, query_from, query_of, next_query}
 use Rattle.query_gen.specs.Marks.{Remembered, IsMadeFor, MarksHold, mark_of, is_mark_spent, is_open}
 use Rattle.query_gen.specs.Inside.{begun, without_spent, IsBegun}
 use Rattle.query_gen.specs.Laws.{PartsAreJoined, WholeIsNext}
@@ -105,6 +105,12 @@ module _ (l : Language) (network kept : List Candidate) (budget : ℕ) where
 
   abbrev says : ℕ → ℕ → Query
   says first end = query_in l network kept budget first end
+
+  -- where the first candidates give a question, the others say nothing more
+  pub says_early : (end : ℕ) → end ≤ length (candidates l) → is_ask (says 0 end) ≡ true → says 0 end ≡ next_query l network kept budget
+  says_early end within asks =
+      sym (then_ask (says 0 end) (says end (length (candidates l))) asks)
+      ∙ sym (parts_are_joined l network kept budget 0 end (length (candidates l)) (omega arith) within) ∙ whole_is_next l network kept budget
 
   pub says_nothing : (at : ℕ) → says at at ≡ AllImplied
   says_nothing at = ap (λ cs. query_of (map of (filter (is_among kept) cs))) (range_none (candidates l) at)

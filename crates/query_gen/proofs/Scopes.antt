@@ -1,19 +1,21 @@
 -- A part's search, one scope after another.
-use Rattle.std.proofs.Common.{◌≡◌, ℕ, zero, suc, ◌+◌, ◌-◌, ◌<◌, ◌≤◌, false, List, [], length, get_or, replicate, refl, ◌∙◌, ap, subst, arith, inl, inr, ◌⊎◌}
-use Rattle.std.specs.Prelude.{◌≢◌}
+use Rattle.std.proofs.Common.{◌≡◌, ℕ, zero, suc, ◌+◌, ◌-◌, ◌<◌, ◌≤◌, false, List, [], length, get_or, replicate, refl, sym, ◌∙◌, ap, subst, arith, inl, inr, ◌⊎◌}
+use Rattle.std.specs.Prelude.{◌==◌, ◌≢◌}
+use Rattle.std.specs.List.{filter}
 use Rattle.std.proofs.lemmas.Bool.{cases_lt}
 use Rattle.std.proofs.lemmas.List.{get_or-replicate, length-replicate}
 use Rattle.std.proofs.Math.ListN.{get_or-eq_default}
 use Rattle.assign.specs.Sets.{has}
 use Rattle.language.specs.declared.candidates.Candidate.{Candidate}
 use Rattle.language.specs.Language.{Language, IsCandidate, relations_on, number_of}
+use Rattle.language.proofs.Members.{any-map, any-filter}
 use Rattle.language.proofs.Counting.{count, count_more, count_rises}
 use Rattle.bias_store.specs.KeptSet.{kept_relations}
+use Rattle.bias_store.proofs.Members.{candidate_at}
 use Rattle.query_gen.specs.declared.query.Query.{Query}
 use Rattle.query_gen.specs.declared.query.Query.TheVariants.{Ask, AllImplied, Undecided}
 use Rattle.query_gen.specs.Questions.{is_among}
 use Rattle.query_gen.specs.Parts.{is_ask, reach, start_of, IsScopeOf, IsSearchedTo, IsSearchedBefore}
-use Rattle.query_gen.proofs.OnScope.{among_has}
 use Rattle.query_gen.proofs.Parts.{next_other}
 
 -- ---- Where scopes begin
@@ -52,6 +54,9 @@ rising_scopes l first end a b s t at_s at_t at_a at_b is_a is_b some = go (cases
     go (inl down) = absurd (let here = from_start l a in let there = from_start l b in let rel = is_b.rel in let next = start_next l b.scope in let rises = start_rises l (b.scope + 1) a.scope (omega arith) in omega arith)
 
 -- ---- A scope that has no kept candidate
+
+among_has : (kept : List Candidate) (s r : ℕ) → is_among kept (candidate_at s r) ≡ has (kept_relations kept s) r
+among_has kept s r = sym (any-map (λ x. x == r) (λ (c : Candidate). c.rel) (filter (λ c. c.scope == s) kept) ∙ any-filter (λ (c : Candidate). c.rel == r) (λ c. c.scope == s) kept)
 
 passed : (l : Language) (network kept : List Candidate) (budget first s : ℕ) (bytes : List ℕ) (answer : Query) → s < length l.scopes → kept_relations kept s ≡ [] → (k n : ℕ) → first ≤ n → start_of l s ≤ n →
     n + k ≤ start_of l s + length (relations_on l s) → IsSearchedTo l network kept budget first n bytes answer → IsSearchedTo l network kept budget first (n + k) bytes answer

@@ -8,6 +8,7 @@
 #![tactic(auto)]
 
 pub mod laws;
+mod part;
 mod place;
 mod query;
 mod screen;

@@ -1,25 +1,20 @@
 //! Where one part of the candidates is searched.
 
-ghost use Rattle.std.specs.Prelude.{ℕ, ◌≡◌, ◌+◌, ◌-◌, ◌<◌, ◌≤◌, ◌/◌, [], IfOk, length, replicate, vec_len, true, false};
-ghost use Rattle.language.specs.Language.{IsCandidate, candidates, number_of};
+ghost use Rattle.std.specs.Prelude.{◌≡◌, ◌+◌, ◌-◌, ◌≤◌, ◌/◌, IfOk, length, replicate, vec_len};
+ghost use Rattle.language.specs.Language.{candidates};
 ghost use Rattle.language.specs.Answers.{IsNetwork};
-ghost use Rattle.bias_store.specs.KeptSet.{kept_relations, IsMadeFor as IsKeptOf};
+ghost use Rattle.bias_store.specs.KeptSet.{IsMadeFor as IsKeptOf};
 ghost use Rattle.query_gen.specs.Marks.{IsMadeFor, MarksHold};
-ghost use Rattle.query_gen.specs.Parts.{byte_for, is_ask, IsScopeOf, IsSearched, IsSearchedBefore, IsSearchedTo};
+ghost use Rattle.query_gen.specs.Parts.{IsSearched};
 
-use crate::query::{Query, outcome_of};
-use crate::screen::{Mark, Screen};
+use crate::part::search_part;
+use crate::query::Query;
+use crate::screen::Screen;
 use bias_store::Kept;
-use fd_solver::{Outcome, Work};
-use language::{Candidate, Language, Memory, ScopeId};
+use fd_solver::Work;
+use language::{Language, Memory};
 use network::Network;
 use std::alloc::Global;
-
-/// The byte of a candidate on which nothing is left to ask.
-pub(crate) const IMPLIED: u8 = 1;
-
-/// The byte of a candidate on which the budget was spent.
-pub(crate) const SPENT: u8 = 2;
 
 /// Where one part of the candidates is searched.
 #[derive(Drop)]
@@ -31,36 +26,6 @@ pub struct Place {
     pub marks: Vec<u8>,
     /// What the kept candidates of the part say.
     pub answer: Query,
-    /// How many of them were searched for, since no mark told their outcomes.
-    pub searches: u32,
-}
-
-/// The byte for an outcome.
-fn byte_for(outcome: &Outcome) -> u8
-    ensures { result ≡ byte_for outcome.now }
-{
-    match outcome {
-        Outcome::Found(_) => 0,
-        Outcome::Absent => IMPLIED,
-        Outcome::Spent => SPENT,
-    }
-}
-
-/// The first scope from one on that has a kept candidate, or the end where none has.
-fn kept_from(kept: &Kept, from: u32, end: u32) -> u32
-    requires rising { from ≤ end }
-    requires known { end ≤ kept.now.scopes }
-    requires numbers { end ≤ 65536 }
-    ensures from { from ≤ result }
-    ensures within { result ≤ end }
-    ensures none { (s : ℕ) → from ≤ s → s < result → kept_relations kept.now.members s ≡ [] }
-{
-    for scope in from..end {
-        if kept.on_scope(scope as ScopeId) != 0 {
-            return scope;
-        }
-    }
-    end
 }
 
 impl Place {
@@ -76,7 +41,6 @@ impl Place {
                 work,
                 marks,
                 answer: Query::AllImplied,
-                searches: 0,
             }),
             Err(_) => Err(Memory),
         }
@@ -111,109 +75,18 @@ impl Place {
         ensures is { IsSearched lang.now net.now.list kept.now.members budget first end self.new.marks.items self.new.answer }
         ensures size { vec_len self.new.marks ≡ vec_len self.old.marks }
     {
-        self.marks.fill(0);
-        self.answer = Query::AllImplied;
-        self.searches = 0;
-        if first == end {
-            return;
-        }
-        let start = u32::from(lang.candidate(first).scope);
-        let last = u32::from(lang.candidate(end - 1).scope);
-        let mut scope = kept_from(kept, start, last + 1);
-        while scope <= last {
-            self.search_scope(
-                screen,
-                lang,
-                kept,
-                net,
-                budget,
-                first,
-                end,
-                scope as ScopeId,
-            );
-            if let Query::Ask(_) = self.answer {
-                return;
-            }
-            scope = kept_from(kept, scope + 1, last + 1);
-        }
-    }
-
-    /// Looks through the kept candidates on a scope, those of the part, up to the first whose search finds a question.
-    fn search_scope(
-        &mut self,
-        screen: &Screen,
-        lang: &Language,
-        kept: &Kept,
-        net: &Network,
-        budget: u32,
-        first: u32,
-        end: u32,
-        scope: ScopeId,
-    )
-        requires screen { IsMadeFor lang.now screen.now }
-        requires marks { MarksHold lang.now net.now.list budget screen.now }
-        requires kept { IsKeptOf lang.now kept.now }
-        requires network { IsNetwork lang.now net.now.list }
-        requires budget { 1 ≤ budget }
-        requires scope { IsScopeOf lang.now first end scope }
-        requires part { (end ≤ length (candidates lang.now)) × (end - first ≤ vec_len self.old.marks) }
-        requires before { IsSearchedBefore lang.now net.now.list kept.now.members budget first end scope self.old.marks.items self.old.answer }
-        requires none { is_ask self.old.answer ≡ false }
-        ensures further { is_ask self.new.answer ≡ false → IsSearchedBefore lang.now net.now.list kept.now.members budget first end (scope + 1) self.new.marks.items self.new.answer }
-        ensures found { is_ask self.new.answer ≡ true → IsSearched lang.now net.now.list kept.now.members budget first end self.new.marks.items self.new.answer }
-        ensures size { vec_len self.new.marks ≡ vec_len self.old.marks }
-    {
-        let count = u32::from(lang.relations_on(scope));
-        let base = lang.number_of(Candidate { scope, rel: 0 });
-        for number in first.max(base)..end.min(base.saturating_add(count)) {
-            let c = Candidate {
-                scope,
-                rel: (number - base) as u8,
-            };
-            self.look_at(screen, lang, kept, net, budget, first, number, c);
-            if let Query::Ask(_) = self.answer {
-                return;
-            }
-        }
-    }
-
-    /// Looks at a candidate, if it is kept.
-    fn look_at(
-        &mut self,
-        screen: &Screen,
-        lang: &Language,
-        kept: &Kept,
-        net: &Network,
-        budget: u32,
-        first: u32,
-        number: u32,
-        c: Candidate,
-    )
-        requires screen { IsMadeFor lang.now screen.now }
-        requires marks { MarksHold lang.now net.now.list budget screen.now }
-        requires kept { IsKeptOf lang.now kept.now }
-        requires network { IsNetwork lang.now net.now.list }
-        requires budget { 1 ≤ budget }
-        requires candidate { IsCandidate lang.now c × (number_of lang.now c ≡ number) }
-        requires number { first ≤ number }
-        requires room { number - first < vec_len self.old.marks }
-        requires before { IsSearchedTo lang.now net.now.list kept.now.members budget first number self.old.marks.items self.old.answer }
-        requires none { is_ask self.old.answer ≡ false }
-        ensures is { IsSearchedTo lang.now net.now.list kept.now.members budget first (number + 1) self.new.marks.items self.new.answer }
-        ensures size { vec_len self.new.marks ≡ vec_len self.old.marks }
-    {
-        if !kept.is_kept(c) {
-            return;
-        }
-        let mark = screen.mark_under(number, net.len(), budget);
-        self.searches = self.searches.saturating_add(u32::from(mark == Mark::Blank));
-        let outcome = outcome_of(&mut self.work, screen.index(), mark, lang, net, budget, c);
-        self.marks[(number - first) as usize] = byte_for(&outcome);
-        match outcome {
-            Outcome::Found(e) => self.answer = Query::Ask(e),
-            Outcome::Absent => {}
-            Outcome::Spent => self.answer = Query::Undecided,
-        }
+        let marks = self.marks.as_mut_slice();
+        self.answer = search_part(
+            &mut self.work,
+            marks,
+            screen,
+            lang,
+            kept,
+            net,
+            budget,
+            first,
+            end,
+        );
     }
 }
 

@@ -5,10 +5,12 @@ ghost use Rattle.assign.specs.Sets.{numbers};
 ghost use Rattle.language.specs.Language.{Language, IsCandidate, number_of};
 ghost use Rattle.language.specs.Answers.{IsNetwork};
 ghost use Rattle.query_gen.specs.Marks.{IsMadeFor, HasNoMarks, MarksHold, is_mark_spent, is_open};
-ghost use Rattle.query_gen.specs.Inside.{begun, with_mark, without_spent};
+ghost use Rattle.query_gen.specs.Inside.{begun, without_spent};
 ghost use Rattle.query_gen.specs.Parts.{mark_taken, AreTaken, IsSearched, HasTaken};
 
-use crate::place::{IMPLIED, Place, SPENT};
+use crate::part::{IMPLIED, SPENT};
+use crate::place::Place;
+use crate::query::Query;
 use language::{Candidate, Language, Memory, ScopeId};
 use network::Network;
 use propagators::Index;
@@ -181,14 +183,6 @@ impl Screen {
         }
     }
 
-    /// The mark of the candidate of this number.
-    pub(crate) fn mark(&self, number: u32) -> Mark
-        requires { number < length self.now.marks }
-        ensures { result ≡ slice_index_or self.now.marks number result }
-    {
-        self.marks[number as usize]
-    }
-
     /// The mark of the candidate of this number, where a search with so many learned candidates and this budget begins:
     /// one that says "spent" counts only under these.
     pub(crate) fn mark_under(&self, number: u32, learned: u32, budget: u32) -> Mark
@@ -215,17 +209,27 @@ impl Screen {
         ensures made { (l : Language) → IsMadeFor l self.old → IsMadeFor l self.new }
         ensures holds { (l : Language) (kept : List Candidate) → IsMadeFor l self.old → MarksHold l net.now.list budget self.old → IsSearched l net.now.list kept budget first end place.now.marks.items place.now.answer → MarksHold l net.now.list budget self.new }
     {
-        self.begin(net.len(), budget);
-        let count = (end - first) as usize;
-        take_bytes(&mut self.marks, first as usize, &place.marks, count);
+        self.take_part(&place.marks, first, end, net, budget);
     }
 
-    /// Marks the candidate of this number.
-    pub(crate) fn set_mark(&mut self, number: u32, mark: Mark)
-        requires { number < length self.old.marks }
-        ensures { self.new ≡ with_mark self.old number mark }
+    /// Takes over the bytes that the search of these candidates set.
+    pub(crate) fn take_part(
+        &mut self,
+        bytes: &[u8],
+        first: u32,
+        end: u32,
+        net: &Network,
+        budget: u32,
+    )
+        requires part { (first ≤ end) × (end ≤ length self.old.marks) }
+        requires room { end - first ≤ length bytes.now }
+        ensures taken { HasTaken bytes.now first end (begun self.old (length net.now.list) budget) self.new }
+        ensures made { (l : Language) → IsMadeFor l self.old → IsMadeFor l self.new }
+        ensures holds { (l : Language) (kept : List Candidate) (answer : Query) → IsMadeFor l self.old → MarksHold l net.now.list budget self.old → IsSearched l net.now.list kept budget first end bytes.now answer → MarksHold l net.now.list budget self.new }
     {
-        self.marks[number as usize] = mark;
+        self.begin(net.len(), budget);
+        let count = (end - first) as usize;
+        take_bytes(&mut self.marks, first as usize, bytes, count);
     }
 }
 

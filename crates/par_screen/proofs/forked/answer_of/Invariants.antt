@@ -2,5 +2,5 @@ use Rattle.std.proofs.Common.{◌≡◌}
 use Rattle.par_screen.proofs.Eighths.{says}
 use Rattle.par_screen.proofs.forked.answer_of.Given as goal
 
-abbrev pub invariant-loop-number : goal.invariant-loop-number
-invariant-loop-number l = l.answer ≡ says l.lang l.net.list l.kept.members l.budget l.number
+abbrev pub invariant-loop-part : goal.invariant-loop-part
+invariant-loop-part l = l.answer ≡ says l.lang l.net.list l.kept.members l.budget l.part

@@ -1,14 +1,16 @@
-use Rattle.std.proofs.Common.{◌≡◌, ◌<◌, true}
-use Rattle.language.specs.declared.candidates.Candidate.{Candidate}
-use Rattle.language.specs.Language.{IsCandidate}
-use Rattle.query_gen.specs.Questions.{is_among, next_query}
-use Rattle.query_gen.specs.Inside.{IsBegun, IsMarked}
-use Rattle.query_gen.proofs.Asking.{query_on, outcomes_from}
+use Rattle.std.proofs.Common.{◌≡◌, ◌-◌, ◌≤◌, false, length}
+use Rattle.query_gen.specs.Parts.{query_in, is_ask}
+use Rattle.query_gen.proofs.Parts.{IsTakenTo}
 use Rattle.query_gen.proofs.query.next_query.Given as goal
 
-abbrev pub invariant-loop-scope : goal.invariant-loop-scope
-invariant-loop-scope l = record {
-  next : query_on l.some_spent (outcomes_from l.fn.lang l.fn.net.list l.fn.kept.members l.fn.budget l.scope) ≡ next_query l.fn.lang l.fn.net.list l.fn.kept.members l.fn.budget;
-  screen : IsBegun l.fn.lang l.fn.net.list l.fn.budget l.screen;
-  marked : (c : Candidate) → IsCandidate l.fn.lang c → c.scope < l.scope → is_among l.fn.kept.members c ≡ true → IsMarked l.fn.lang l.fn.net.list l.fn.budget l.screen c;
+abbrev pub invariant-loop-first : goal.invariant-loop-first
+invariant-loop-first l = record {
+  taken : IsTakenTo l.fn.lang l.fn.net.list l.fn.kept.members l.fn.budget l.first l.screen;
+  said : l.answer ≡ query_in l.fn.lang l.fn.net.list l.fn.kept.members l.fn.budget 0 l.first;
+  none : is_ask l.answer ≡ false;
+  within : l.first ≤ l.all;
+  room : length l.marks ≡ 1024;
 }
+
+abbrev pub decreases-loop-first : goal.decreases-loop-first
+decreases-loop-first l = l.all - l.first

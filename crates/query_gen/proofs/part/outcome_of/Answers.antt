@@ -1,14 +1,14 @@
 use Rattle.std.proofs.Common.{sym, ◌∙◌, ap, subst, Some}
 use Rattle.language.specs.Language.{variable_count}
 use Rattle.fd_solver.specs.Outcomes.{IsOrder, search_outcome}
-use Rattle.query_gen.proofs.query.outcome_of.Goals as goal
+use Rattle.query_gen.proofs.part.outcome_of.Goals as goal
 
 pub search_with-requires-clause-order : goal.search_with-requires-clause-order
 search_with-requires-clause-order c =
     subst (IsOrder (variable_count c.args.lang.now)) (sym c.deref.ensures.0) c.order_of.ensures.order
 
-pub returns-in-Blank : goal.returns-in-Blank
-returns-in-Blank c =
+pub returns : goal.returns
+returns c =
     c.search_with.ensures
     ∙ ap (λ list. search_outcome c.args.lang.now list (Some c.args.c) c.deref.result.now c.args.budget) c.list.ensures
     ∙ ap (λ order. search_outcome c.args.lang.now c.args.net.now.list (Some c.args.c) order c.args.budget) (c.deref.ensures.0 ∙ c.order_of.ensures.is)

@@ -2,7 +2,7 @@ use Rattle.std.proofs.Common.{sym, ◌∙◌, ap}
 use Rattle.bias_store.specs.Masks.{ones_of}
 use Rattle.bias_store.proofs.Ones.{ones_of-zero}
 use Rattle.query_gen.proofs.Scopes.{none_so_far}
-use Rattle.query_gen.proofs.place.kept_from.Goals as goal
+use Rattle.query_gen.proofs.part.kept_from.Goals as goal
 
 pub loop-scope-preserved : goal.loop-scope-preserved
 loop-scope-preserved c =

@@ -6,15 +6,14 @@ use Rattle.query_gen.specs.Marks.{Remembered}
 use Rattle.query_gen.specs.Inside.{begun, seen}
 use Rattle.query_gen.specs.Parts.{AreTaken, HasTaken}
 use Rattle.query_gen.proofs.Parts.{has_taken, holds_over}
-use Rattle.query_gen.proofs.screen.Screen.take_marks.Goals as goal
+use Rattle.query_gen.proofs.screen.Screen.take_part.Goals as goal
 
-marks_taken : (c : goal.After-self-1) → AreTaken c.args.place.now.marks.items c.args.first c.args.end c.self.inside.marks.items c.take_bytes.new.marks
+marks_taken : (c : goal.After-self-1) → AreTaken c.args.bytes.now c.args.first c.args.end c.self.inside.marks.items c.take_bytes.new.marks
 marks_taken c =
     let rising = c.requires.part.0 in
     let end : c.args.first + (c.args.end - c.args.first) ≡ c.args.end = omega arith in
-    subst (λ (n : ℕ). AreTaken c.args.place.now.marks.items c.args.first n c.self.inside.marks.items c.take_bytes.new.marks) end
-    (subst (λ (marks : List Mark). AreTaken c.args.place.now.marks.items c.args.first (c.args.first + (c.args.end - c.args.first)) marks c.take_bytes.new.marks) c.deref_mut.ensures.value
-    (subst (λ (bytes : List ℕ). AreTaken bytes c.args.first (c.args.first + (c.args.end - c.args.first)) c.deref_mut.result.now c.take_bytes.new.marks) c.deref.ensures.value c.take_bytes.ensures))
+    subst (λ (n : ℕ). AreTaken c.args.bytes.now c.args.first n c.self.inside.marks.items c.take_bytes.new.marks) end
+    (subst (λ (marks : List Mark). AreTaken c.args.bytes.now c.args.first (c.args.first + (c.args.end - c.args.first)) marks c.take_bytes.new.marks) c.deref_mut.ensures.value c.take_bytes.ensures)
 
 pub returns-clause-taken : goal.returns-clause-taken
 returns-clause-taken c =
@@ -22,10 +21,10 @@ returns-clause-taken c =
     let marks : (with_items c.self.inside.marks c.take_bytes.new.marks).items ≡ c.take_bytes.new.marks =
     with_items_is c.self.inside.marks c.take_bytes.new.marks (c.take_bytes.ensures.size ∙ ap length c.deref_mut.ensures.value ∙ sym c.self.inside.marks.ok.0) in
     let new : Remembered = record { first = c.self.inside.first.items; marks = (with_items c.self.inside.marks c.take_bytes.new.marks).items; learned = c.self.inside.learned; budget = c.self.inside.budget; index = c.self.inside.index } in
-    subst (λ (old : Remembered). HasTaken c.args.place.now.marks.items c.args.first c.args.end old new) state
-    (has_taken c.args.place.now.marks.items c.args.first c.args.end (seen c.self.inside) new refl refl refl refl
-    (subst (AreTaken c.args.place.now.marks.items c.args.first c.args.end c.self.inside.marks.items) (sym marks) (marks_taken c)))
+    subst (λ (old : Remembered). HasTaken c.args.bytes.now c.args.first c.args.end old new) state
+    (has_taken c.args.bytes.now c.args.first c.args.end (seen c.self.inside) new refl refl refl refl
+    (subst (AreTaken c.args.bytes.now c.args.first c.args.end c.self.inside.marks.items) (sym marks) (marks_taken c)))
 
 pub returns-clause-holds : goal.returns-clause-holds
-returns-clause-holds c = λ l kept made holds part.
-    holds_over l c.args.net.now.list kept c.args.budget c.args.first c.args.end c.args.place.now.marks.items c.args.place.now.answer c.args.self.now _ (returns-clause-taken c) made holds part
+returns-clause-holds c = λ l kept answer made holds part.
+    holds_over l c.args.net.now.list kept c.args.budget c.args.first c.args.end c.args.bytes.now answer c.args.self.now _ (returns-clause-taken c) made holds part

@@ -1,6 +1,6 @@
 use Rattle.std.proofs.Common.{◌≡◌, ℕ, ◌<◌, ◌≤◌, []}
 use Rattle.bias_store.specs.KeptSet.{kept_relations}
-use Rattle.query_gen.proofs.place.kept_from.Given as goal
+use Rattle.query_gen.proofs.part.kept_from.Given as goal
 
 abbrev pub invariant-loop-scope : goal.invariant-loop-scope
 invariant-loop-scope l = (s : ℕ) → l.from ≤ s → s < l.scope → kept_relations l.kept.members s ≡ []

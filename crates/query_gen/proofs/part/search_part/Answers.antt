@@ -2,7 +2,7 @@ use Rattle.std.proofs.Common.{◌+◌, refl, ap, arith}
 use Rattle.query_gen.specs.Parts.{reach, start_of}
 use Rattle.query_gen.proofs.Parts.{searched_none}
 use Rattle.query_gen.proofs.Scopes.{from_start, start_next, start_rises, no_ask, rising_scopes, scope_inside, scopes_passed, moved, blank}
-use Rattle.query_gen.proofs.place.Place.search.Goals as goal
+use Rattle.query_gen.proofs.part.search_part.Goals as goal
 
 pub kept_from-scope-requires-clause-rising : goal.kept_from-scope-requires-clause-rising
 kept_from-scope-requires-clause-rising c =
@@ -17,10 +17,10 @@ loop-scope-init c =
     let same = ap (start_of c.args.lang.now) c.from-start.ensures in
     let rising = c.requires.part.0 in
     let some = c.if-first-end.false in
-    let before = moved c.args.lang.now c.args.net.now.list c.args.kept.now.members c.args.budget c.args.first c.args.first (reach c.args.first c.args.end (start_of c.args.lang.now c.from-start.result)) c.fill.new.self.items _
-    (omega arith) (searched_none c.args.lang.now c.args.net.now.list c.args.kept.now.members c.args.budget c.args.first c.fill.new.self.items _ refl (blank c.fill.new.self.items _ (c.fill.ensures.items (λ y same. same)))) in
+    let before = moved c.args.lang.now c.args.net.now.list c.args.kept.now.members c.args.budget c.args.first c.args.first (reach c.args.first c.args.end (start_of c.args.lang.now c.from-start.result)) c.fill.new.self _
+    (omega arith) (searched_none c.args.lang.now c.args.net.now.list c.args.kept.now.members c.args.budget c.args.first c.fill.new.self _ refl (blank c.fill.new.self _ (c.fill.ensures.after (λ y same. same)))) in
     record {
-      searched = scopes_passed c.args.lang.now c.args.net.now.list c.args.kept.now.members c.args.budget c.args.first c.args.end c.from-start.result c.kept_from-scope.result c.fill.new.self.items _
+      searched = scopes_passed c.args.lang.now c.args.net.now.list c.args.kept.now.members c.args.budget c.args.first c.args.end c.from-start.result c.kept_from-scope.result c.fill.new.self _
           c.kept_from-scope.ensures.from
           (λ k from below.
           scope_inside c.args.lang.now c.args.first c.args.end k c.candidate.result c.candidate-2.result c.candidate.ensures.candidate c.candidate-2.ensures.candidate
@@ -39,10 +39,10 @@ search_scope-requires-clause-scope c =
 
 pub loop-scope-preserved : goal.loop-scope-preserved
 loop-scope-preserved c =
-    let none = no_ask c.search_scope.new.self.answer c.in_default.not-Ask in
+    let none = no_ask c.search_scope.new.answer c.in_default.not-Ask in
     record {
-      searched = scopes_passed c.args.lang.now c.args.net.now.list c.args.kept.now.members c.args.budget c.args.first c.args.end (c.loop-scope.scope + 1) c.kept_from-scope-in-loop-scope.result c.search_scope.new.self.marks.items
-          c.search_scope.new.self.answer c.kept_from-scope-in-loop-scope.ensures.from
+      searched = scopes_passed c.args.lang.now c.args.net.now.list c.args.kept.now.members c.args.budget c.args.first c.args.end (c.loop-scope.scope + 1) c.kept_from-scope-in-loop-scope.result c.search_scope.new.marks
+          c.search_scope.new.answer c.kept_from-scope-in-loop-scope.ensures.from
           (λ k from below.
           scope_inside c.args.lang.now c.args.first c.args.end k c.candidate.result c.candidate-2.result c.candidate.ensures.candidate c.candidate-2.ensures.candidate
           c.candidate.ensures.number c.candidate-2.ensures.number (let rising = c.requires.part.0 in let some = c.if-first-end.false in omega arith)
@@ -64,5 +64,5 @@ returns-clause-is c =
     let next = start_next c.args.lang.now c.candidate-2.result.scope in
     let rises = start_rises c.args.lang.now (c.candidate-2.result.scope + 1) c.loop-scope.scope (omega arith) in
     let rising = c.requires.part.0 in
-    (moved c.args.lang.now c.args.net.now.list c.args.kept.now.members c.args.budget c.args.first (reach c.args.first c.args.end (start_of c.args.lang.now c.loop-scope.scope)) c.args.end c.loop-scope.self.marks.items c.loop-scope.self.answer
+    (moved c.args.lang.now c.args.net.now.list c.args.kept.now.members c.args.budget c.args.first (reach c.args.first c.args.end (start_of c.args.lang.now c.loop-scope.scope)) c.args.end c.loop-scope.marks c.loop-scope.answer
     (let some = c.if-first-end.false in omega arith) c.loop-scope.invariant.searched).searched
