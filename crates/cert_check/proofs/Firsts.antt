@@ -5,7 +5,7 @@ use Rattle.std.specs.Option.{option_map_or}
 use Rattle.std.specs.List.{filter, range_with_len}
 use Rattle.std.proofs.lemmas.Bool.{both_ways, cases_eq, false_from_ne_true}
 use Rattle.std.proofs.lemmas.List.{get_or-take, length-take, map-append}
-use Rattle.std.proofs.lemmas.List.FromFn.{get_or-map-range_with_len, map-range_with_len_more}
+use Rattle.std.proofs.lemmas.List.FromFn.{get_or-map-range_with_len, length-map-range_with_len, map-range_with_len_more}
 use Rattle.std.proofs.lemmas.Option.{slice_get-get_or, slice_get_within, get_or_from_slice_get}
 use Rattle.assign.specs.Sets.{numbers}
 use Rattle.assign.specs.Assignment.{Assignment}
@@ -106,6 +106,9 @@ rows_more f rows new row v put is before =
 -- the row of a variable
 pub row_of : (l : Language) (network : List Candidate) (rows : List (List ℕ)) (row : List ℕ) (v : ℕ) → rows ≡ by_variable l network → v < variable_count l → row ≡ slice_index_or rows v [] → row ≡ items_on l network v
 row_of l network rows row v all low is = is ∙ ap (λ (rs : List (List ℕ)). slice_index_or rs v []) all ∙ get_or-map-range_with_len (items_on l network) 0 (variable_count l) v v [] low (let e : 0 + v ≡ v = omega arith in e)
+
+pub row_there : (l : Language) (network : List Candidate) (rows : List (List ℕ)) (v : ℕ) → rows ≡ by_variable l network → v < variable_count l → v < length rows
+row_there l network rows v all low = let long : length rows ≡ variable_count l = ap length all ∙ length-map-range_with_len (items_on l network) 0 (variable_count l) in omega (arith, low, long)
 
 pub first_in_row : (l : Language) (network : List Candidate) (e : Assignment) (v : ℕ) (row : List ℕ) → AreOnLast l network (Some v) e → row ≡ items_on l network v → find (violates_item l network e) row ≡ position (λ d. violates l d e) network
 first_in_row l network e v row on is =

@@ -116,7 +116,7 @@ module _ (l : Language) (network : List Candidate) (c : Candidate) where
         set = at ∙ sym (assigned_push (variable_count l) (order_of l c) (orders_are_known l c lawful is) front x room)
 
         go : (b : Bool) → has (scope_of l d) (next_of l c front) ≡ b → has (scope_of l d) (next_of l c front) ≡ true
-        go true in = in
+        go true has_it = has_it
         go false out = absurd (both_ways _ (ap (violates l d) set ∙ violates_beside l d (assignment_of l c front) (next_of l c front) (Some x) out ∙ before) bad)
 
     pub are_on_last : (order values : List ℕ) (e : Assignment) (k : ℕ) → order ≡ order_of l c → k ≡ length values → IsAt l c values e → IsClean l network c values → AreOnLast l network (last_of order k) e

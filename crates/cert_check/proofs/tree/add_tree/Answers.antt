@@ -63,3 +63,12 @@ returns-clause-long c = not_long c.args.lang.now c.args.net.now c.args.c c.n.ens
 
 pub returns-clause-added : goal.returns-clause-added
 returns-clause-added c = λ _. whole_added c.args.lang.now c.args.net.now c.args.c c.args.sheet.now c.loop-is_open.sheet c.loop-is_open.count c.loop-is_open.is_open c.loop-is_open.values.items c.loop-is_open-test.false c.loop-is_open.invariant.written
+
+pub last_variable-last-requires : goal.last_variable-last-requires
+last_variable-last-requires c = let order = c.deref.ensures in let size = c.order_of-order.ensures.order.size in let long = c.len in let at = c.loop-is_open.invariant.at.short in ?
+
+pub node-token-requires-clause-known : goal.node-token-requires-clause-known
+node-token-requires-clause-known c = let last = c.last_variable-last.ensures in ?
+
+pub node-token-requires-clause-last : goal.node-token-requires-clause-last
+node-token-requires-clause-last c = let clean = c.loop-is_open.invariant.clean in ?
