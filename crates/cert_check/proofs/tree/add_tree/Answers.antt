@@ -1,4 +1,8 @@
-use Rattle.std.proofs.Common.{◌+◌, sym, subst, arith}
+use Rattle.std.proofs.Common.{ℕ, ◌+◌, ◌<◌, length, sym, ◌∙◌, ap, subst, arith}
+use Rattle.std.specs.Prelude.{IfSome}
+use Rattle.language.specs.Language.{variable_count}
+use Rattle.language.specs.Search.{IsOrder}
+use Rattle.cert_check.specs.ByVariable.{AreOnLast}
 use Rattle.cert_check.specs.Walking.{ahead}
 use Rattle.cert_check.proofs.Walking.{at_blank, at_question}
 use Rattle.cert_check.proofs.Growing.{IsWritten, node_is, has_room, writing_begins, next_counts, goes_on, fewer_left, too_long, not_long, whole_added}
@@ -15,6 +19,29 @@ loop-is_open-init c = record {
 
 pub node-token-requires-clause-question : goal.node-token-requires-clause-question
 node-token-requires-clause-question c = at_question c.args.lang.now c.n.ensures.lawful c.args.c c.requires.candidate c.loop-is_open.values.items c.loop-is_open.e c.loop-is_open.invariant.at
+
+pub last_variable-last-requires : goal.last_variable-last-requires
+last_variable-last-requires c =
+    let same = ap length c.deref.ensures.0 in
+    let size = c.order_of-order.ensures.order.size in
+    let count = c.len.ensures.value in
+    let short = c.loop-is_open.invariant.at.short in
+    omega (arith, same, size, count, short)
+
+pub node-token-requires-clause-known : goal.node-token-requires-clause-known
+node-token-requires-clause-known c =
+    let n : ℕ = variable_count c.args.lang.now in
+    let count = c.len.ensures.value in
+    let short = c.loop-is_open.invariant.at.short in
+    subst (λ o. IfSome o (λ v. v < n)) (sym c.last_variable-last.ensures)
+    (last_known n c.deref.result.now c.len.result (subst (IsOrder n) (sym c.deref.ensures.0) c.order_of-order.ensures.order) (omega (arith, count, short)))
+
+pub node-token-requires-clause-last : goal.node-token-requires-clause-last
+node-token-requires-clause-last c =
+    subst (λ o. AreOnLast c.args.lang.now c.args.net.now o c.loop-is_open.e) (sym c.last_variable-last.ensures)
+    (are_on_last c.args.lang.now c.args.net.now c.args.c c.n.ensures.lawful c.requires.candidate c.requires.network c.deref.result.now c.loop-is_open.values.items c.loop-is_open.e c.len.result
+    (c.deref.ensures.0 ∙ c.order_of-order.ensures.is) c.len.ensures.value c.loop-is_open.invariant.at
+    (clean_here c.args.lang.now c.args.net.now c.args.c c.loop-is_open.is_open c.loop-is_open.values.items c.loop-is_open-test.true c.loop-is_open.invariant.clean))
 
 pub returns-then-count-budget-clause-long : goal.returns-then-count-budget-clause-long
 returns-then-count-budget-clause-long c =
@@ -63,12 +90,3 @@ returns-clause-long c = not_long c.args.lang.now c.args.net.now c.args.c c.n.ens
 
 pub returns-clause-added : goal.returns-clause-added
 returns-clause-added c = λ _. whole_added c.args.lang.now c.args.net.now c.args.c c.args.sheet.now c.loop-is_open.sheet c.loop-is_open.count c.loop-is_open.is_open c.loop-is_open.values.items c.loop-is_open-test.false c.loop-is_open.invariant.written
-
-pub last_variable-last-requires : goal.last_variable-last-requires
-last_variable-last-requires c = let order = c.deref.ensures in let size = c.order_of-order.ensures.order.size in let long = c.len in let at = c.loop-is_open.invariant.at.short in ?
-
-pub node-token-requires-clause-known : goal.node-token-requires-clause-known
-node-token-requires-clause-known c = let last = c.last_variable-last.ensures in ?
-
-pub node-token-requires-clause-last : goal.node-token-requires-clause-last
-node-token-requires-clause-last c = let clean = c.loop-is_open.invariant.clean in ?
