@@ -89,9 +89,9 @@ position_is p xs (Some i) h = go (slice_get xs i) refl (found_in (passes_at p xs
         let low : i < length xs = slice_get_within xs i x is in
         sym (found_read p xs i x low (sym (get_or_from_slice_get xs i x x is)) (sym (ap (λ o. option_map_or p o false) is) ∙ found.passes)
         (λ k d under.
-            let size = length-take i xs in
-            let small : k < i = omega (arith, under, size) in
-            ap p (get_or-take i xs k d small) ∙ read_at p xs k d (omega (arith, small, low)) ∙ found.before k (omega arith) small))
+        let size = length-take i xs in
+        let small : k < i = omega (arith, under, size) in
+        ap p (get_or-take i xs k d small) ∙ read_at p xs k d (omega (arith, small, low)) ∙ found.before k (omega arith) small))
 
 -- ---- items
 
