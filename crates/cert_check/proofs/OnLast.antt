@@ -1,16 +1,15 @@
 -- What is violated at a prefix and not without its last value has the last variable in its scope.
-use Rattle.std.proofs.Common.{◌≡◌, ℕ, zero, suc, ◌+◌, ◌-◌, ◌<◌, ◌≤◌, Bool, true, false, not, ◌&&◌, ◌||◌, List, [], ◌∷◌, ◌++◌, length, Option, Some, None, refl, sym, ◌∙◌, ap, subst, arith, inl, inr, ◌⊎◌, length-append}
+use Rattle.std.proofs.Common.{◌≡◌, ℕ, zero, suc, ◌+◌, ◌-◌, ◌<◌, ◌≤◌, Bool, true, false, ◌&&◌, ◌||◌, List, [], ◌∷◌, ◌++◌, length, Option, Some, None, refl, sym, ◌∙◌, ap, subst, arith, inl, inr, ◌⊎◌, length-append}
 use Rattle.std.specs.Prelude.{All, IfSome, ◌==◌, is_some, unwrap_or, slice_get, slice_index_or, slice_set}
 use Rattle.std.specs.Option.{option_map_or}
-use Rattle.std.proofs.lemmas.Bool.{both_ways, eq-eqb}
+use Rattle.std.proofs.lemmas.Bool.{both_ways, eq-eqb, and_parts, false_from_ne_true}
 use Rattle.std.proofs.lemmas.List.{get_or-set_other}
 use Rattle.std.proofs.lemmas.List.Elements.{All-head, All-tail, All-nil, All-cons, All-append, All-map}
 use Rattle.std.proofs.lemmas.Option.{get_or_from_slice_get, slice_get_within}
 use Rattle.assign.specs.Sets.{has}
 use Rattle.assign.specs.Assignment.{Assignment, value_of, covers, tuple_on, assigned}
-use Rattle.rel_table.specs.Relation.{holds}
 use Rattle.language.specs.declared.candidates.Candidate.{Candidate}
-use Rattle.language.specs.Language.{Language, IsLanguage, IsCandidate, IsScope, variable_count, scope_of, relation_of, values_of, violates}
+use Rattle.language.specs.Language.{Language, IsLanguage, IsCandidate, IsScope, variable_count, scope_of, values_of, violates}
 use Rattle.language.specs.Answers.{IsNetwork}
 use Rattle.language.specs.Search.{order_of, assignment_of, IsOrder}
 use Rattle.language.proofs.Beside.{value_of_assigned, beside_none}
@@ -19,7 +18,7 @@ use Rattle.language.proofs.Orders.{orders_are_known}
 use Rattle.cert_check.specs.declared.token.Token.{Token}
 use Rattle.cert_check.specs.declared.token.Token.TheVariants.{Branch, Holds, Item}
 use Rattle.cert_check.specs.ByVariable.{has_last, last_of, AreOnLast}
-use Rattle.cert_check.specs.Refuting.{children, violates_item}
+use Rattle.cert_check.specs.Refuting.{children}
 use Rattle.cert_check.specs.Trees.{node_of, node_at}
 use Rattle.cert_check.specs.Walking.{ahead, later, IsAt}
 use Rattle.cert_check.proofs.Finding.{all_fail}
@@ -42,7 +41,11 @@ same_beside e v o (w ∷ scope) out = go (w == v) refl out (same_beside e v o sc
         ((λ i. is_some (other i) && below.0 i), (λ i. unwrap_or (other i) 0 ∷ below.1 i))
 
 violates_beside : (l : Language) (d : Candidate) (e : Assignment) (v : ℕ) (o : Option ℕ) → has (scope_of l d) v ≡ false → violates l d (slice_set e v o) ≡ violates l d e
-violates_beside l d e v o out = let same = same_beside e v o (scope_of l d) out in (λ i. same.0 i && not (holds l.value_count (relation_of l d) (same.1 i)))
+violates_beside l d e v o out =
+    let same = same_beside e v o (scope_of l d) out in
+    let covered = same.0 in
+    let tuple = same.1 in
+    cc
 
 -- ---- without a value
 
@@ -52,7 +55,7 @@ bare n order (w ∷ scope) is =
     ap (λ o. is_some o && covers (assigned n order []) scope) (value_of_assigned n order [] w (All-head (λ v. v < n) w scope is.known) ∙ beside_none order w)
 
 none_at_start : (l : Language) (c d : Candidate) → IsLanguage l → IsCandidate l d → violates l d (assignment_of l c []) ≡ false
-none_at_start l c d lawful is = ap (λ b. b && not (holds l.value_count (relation_of l d) (tuple_on (assignment_of l c []) (scope_of l d)))) (bare (variable_count l) (order_of l c) (scope_of l d) (lawful.scopes d.scope [] is.scope))
+none_at_start l c d lawful is = false_from_ne_true _ (λ bad. both_ways _ (bare (variable_count l) (order_of l c) (scope_of l d) (lawful.scopes d.scope [] is.scope)) (and_parts (covers (assignment_of l c []) (scope_of l d)) _ bad).0)
 
 -- ---- prefixes at which a node is still to stand
 

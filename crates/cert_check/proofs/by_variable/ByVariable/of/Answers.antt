@@ -1,6 +1,3 @@
-use Rattle.std.proofs.Common.{◌≡◌, map, ◌∙◌, ap, arith}
-use Rattle.assign.specs.Sets.{numbers}
-use Rattle.language.specs.Language.{variable_count}
 use Rattle.cert_check.specs.ByVariable.{items_on}
 use Rattle.cert_check.proofs.Firsts.{rows_more}
 use Rattle.cert_check.proofs.by_variable.ByVariable.of.Goals as goal
