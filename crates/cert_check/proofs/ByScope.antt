@@ -1,8 +1,7 @@
 -- What one answer more tells of all candidates.
-use Rattle.std.proofs.Common.{◌≡◌, ℕ, zero, suc, ◌+◌, ◌-◌, ◌<◌, ◌≤◌, ◌^◌, Bool, true, false, cond, not, ◌&&◌, ◌||◌, List, [], ◌∷◌, length, take, get_or, replicate, Option, Some, None, refl, sym, ◌∙◌, ap, subst, arith, inl, inr, ◌⊎◌, get_or-set_same, get_or-set_other}
-use Rattle.std.specs.Prelude.{◌↔◌, ◌==◌, All, Contains, IfSome, IsTrue, map, bit_or, position, slice_set, slice_index_or, unwrap_or}
-use Rattle.std.specs.List.{filter, list_any, list_all}
-use Rattle.std.specs.Int.{bit_at, bit_not, w64}
+use Rattle.std.proofs.Common.{◌≡◌, ℕ, zero, suc, ◌+◌, ◌-◌, ◌<◌, ◌≤◌, ◌^◌, Bool, true, false, cond, not, ◌&&◌, ◌||◌, List, [], ◌∷◌, length, take, get_or, Option, Some, None, refl, sym, ◌∙◌, ap, subst, arith, inl, inr, ◌⊎◌, get_or-set_same, get_or-set_other}
+use Rattle.std.specs.Prelude.{◌↔◌, ◌==◌, All, Contains, IfSome, bit_or, slice_set, slice_index_or, unwrap_or}
+use Rattle.std.specs.List.{filter, list_any}
 use Rattle.std.proofs.lemmas.Bool.{and_from, and_parts, both_ways, cases_eq, eq-eqb, false_from_ne_true, not-true}
 use Rattle.std.proofs.lemmas.List.{length-set}
 use Rattle.std.proofs.lemmas.Nat.Bits.{bit_at-zero}
@@ -25,9 +24,9 @@ use Rattle.bias_store.specs.Masks.{ones_of}
 use Rattle.bias_store.proofs.Bits.{accepting_bit}
 use Rattle.bias_store.proofs.Ones.{has-ones_of, ones_of-first}
 use Rattle.bias_store.proofs.Picked.{bare, covered}
-use Rattle.cert_check.specs.Checking.{has_own_no, is_no_on, is_spared}
+use Rattle.cert_check.specs.Checking.{is_spared}
 use Rattle.cert_check.specs.Told.{AreSpared, IsSparedOn, is_no_about, unstruck}
-use Rattle.cert_check.proofs.Finding.{all_fail, within}
+use Rattle.cert_check.proofs.Finding.{all_fail}
 use Rattle.cert_check.proofs.Verdicts.{same_itself, same_list}
 
 -- ---- what a filter keeps

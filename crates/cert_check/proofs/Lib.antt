@@ -8,6 +8,8 @@ pub mod Verdicts
 pub mod Sheets
 pub mod Trees
 pub mod Growing
+pub mod OnLast
+pub mod Firsts
 pub mod Vocabularies
 pub mod Scopes
 pub mod Listing

@@ -11,6 +11,7 @@ pub mod Written
 pub mod Reading
 pub mod Trees
 pub mod Making
+pub mod ByVariable
 pub mod Laws
 pub mod Sheets
 pub mod Read

@@ -6,6 +6,7 @@
 //! cover. `read_cert` makes a certificate of its text, or names the first line that is missing or wrong.
 #![tactic(auto)]
 
+mod by_variable;
 mod cert;
 mod checking;
 mod entry;

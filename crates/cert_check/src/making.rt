@@ -7,12 +7,14 @@ ghost use Rattle.assign.specs.Events.{Answer};
 ghost use Rattle.language.specs.Language.{IsCandidate, IsImplied, IsQuestion, Language as Lang};
 ghost use Rattle.language.specs.Answers.{IsCovered, IsNetwork, has_scope, is_struck, kept};
 ghost use Rattle.voc_read.specs.Vocabulary.{IsVocabulary};
+ghost use Rattle.cert_check.specs.ByVariable.{by_variable};
 ghost use Rattle.cert_check.specs.Making.{IsFirstLong, Makes, is_long, made, refutation_of};
 ghost use Rattle.cert_check.specs.Reading.{MOST_ANSWERS};
 ghost use Rattle.cert_check.specs.Sheets.{Adds};
 ghost use Rattle.cert_check.specs.Told.{unstruck};
 ghost use Rattle.cert_check.specs.Written.{answers_section, count_line, entry_line, implied_section, item_line, listed_line, network_section, numbered_value, numbered_values, reply_text, vocabulary_section};
 
+use crate::by_variable::ByVariable;
 use crate::entry::Entry;
 use crate::fault::MakeFault;
 use crate::sheet::Sheet;
@@ -127,19 +129,20 @@ fn add_listed(
     sheet: &mut Sheet,
     lang: &Language,
     net: &[Candidate],
+    by: &ByVariable,
     c: Candidate,
     budget: u32,
 ) -> Result<bool, AllocError>
     requires candidate { IsCandidate lang.now c }
     requires network { IsNetwork lang.now net.now }
-    requires few { length net.now < 2 ^ 32 }
+    requires by { by.now ≡ by_variable lang.now net.now }
     requires implied { IsImplied lang.now net.now c }
     requires small_budget { budget ≤ 1000000000 }
     ensures long { IfOk result (λ long. long ≡ is_long lang.now net.now budget c) }
     ensures added { IfOk result (λ long. long ≡ false → Adds sheet.old (listed_line (refutation_of lang.now net.now c)) sheet.new) }
 {
     sheet.add_number(u64::from(lang.number_of(c)))?;
-    if add_tree(sheet, lang, net, c, budget)? {
+    if add_tree(sheet, lang, net, by, c, budget)? {
         return Ok(true);
     }
     sheet.add("\n")?;
@@ -187,11 +190,12 @@ fn add_implied(
     sheet: &mut Sheet,
     lang: &Language,
     net: &[Candidate],
+    by: &ByVariable,
     listed: &[Candidate],
     budget: u32,
 ) -> Result<(), MakeFault>
     requires network { IsNetwork lang.now net.now }
-    requires few { length net.now < 2 ^ 32 }
+    requires by { by.now ≡ by_variable lang.now net.now }
     requires candidates { All (IsCandidate lang.now) listed.now }
     requires implied { All (IsImplied lang.now net.now) listed.now }
     requires small_budget { budget ≤ 1000000000 }
@@ -201,7 +205,7 @@ fn add_implied(
 {
     add_count(sheet, "implied", listed.len())?;
     for c in listed {
-        if add_listed(sheet, lang, net, *c, budget)? {
+        if add_listed(sheet, lang, net, by, *c, budget)? {
             return Err(MakeFault::Long(lang.number_of(*c)));
         }
     }
@@ -237,7 +241,8 @@ pub fn make_cert(
     add_vocabulary(&mut sheet, voc)?;
     add_answers(&mut sheet, answers)?;
     add_network(&mut sheet, net)?;
-    add_implied(&mut sheet, lang, net, &listed, budget)?;
+    let by = ByVariable::of(alloc, lang, net)?;
+    add_implied(&mut sheet, lang, net, &by, &listed, budget)?;
     sheet.add("end\n")?;
     sheet.finish()
 }

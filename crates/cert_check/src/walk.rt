@@ -52,7 +52,7 @@ pub(crate) fn satisfies(lang: &Language, c: Candidate, e: &Partial) -> bool
 }
 
 /// Whether there is an item of this number, and it is violated.
-fn violates_item(lang: &Language, net: &[Candidate], e: &Partial, i: u32) -> bool
+pub(crate) fn violates_item(lang: &Language, net: &[Candidate], e: &Partial, i: u32) -> bool
     requires network { IsNetwork lang.now net.now }
     requires question { IsQuestion lang.now e.now }
     ensures { result ≡ violates_item lang.now net.now e.now i }

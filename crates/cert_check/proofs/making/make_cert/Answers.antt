@@ -15,8 +15,8 @@ use Rattle.cert_check.proofs.making.make_cert.Goals as goal
 pub add_vocabulary-requires : goal.add_vocabulary-requires
 add_vocabulary-requires c = vocabulary_is_text c.args.voc.now c.args.lang.now c.requires.read
 
-pub add_implied-requires-clause-few : goal.add_implied-requires-clause-few
-add_implied-requires-clause-few c = few_items c.args.lang.now c.args.net.now c.requires.read.built.lawful c.requires.network c.requires.covered.one_a_scope
+pub of-requires-clause-few : goal.of-requires-clause-few
+of-requires-clause-few c = few_items c.args.lang.now c.args.net.now c.requires.read.built.lawful c.requires.network c.requires.covered.one_a_scope
 
 pub returns : goal.returns
 returns c =

@@ -1,4 +1,4 @@
-use Rattle.std.proofs.Common.{List, not, sym, ◌∙◌, ap, subst}
+use Rattle.std.proofs.Common.{not, sym, ◌∙◌, ap, subst}
 use Rattle.std.specs.List.{filter}
 use Rattle.assign.specs.Events.{Answer}
 use Rattle.bias_store.specs.KeptSet.{IsMadeFor, KeptSet}

@@ -1,22 +1,22 @@
-use Rattle.std.proofs.Common.{sym, ◌∙◌, get_or}
-use Rattle.language.specs.declared.candidates.Candidate.{Candidate}
-use Rattle.language.specs.Language.{violates}
-use Rattle.cert_check.proofs.Finding.{within, fails_more, found_read, none_through}
+use Rattle.std.proofs.Common.{◌<◌, Some, ◌∙◌, subst}
+use Rattle.std.specs.Prelude.{IfSome}
+use Rattle.language.specs.Language.{variable_count}
+use Rattle.cert_check.specs.ByVariable.{AreOnLast}
+use Rattle.cert_check.proofs.Firsts.{first_in_row, first_of_none, row_of, row_there}
 use Rattle.cert_check.proofs.tree.first_violated.Goals as goal
 
-pub loop-i-preserved : goal.loop-i-preserved
-loop-i-preserved c =
-    let d : Candidate = get_or c.args.net.now c.loop-i.i (record { scope = 0; rel = 0 }) in
-    fails_more (λ b. violates c.args.lang.now b c.args.e.now) c.args.net.now c.loop-i.i d c.loop-i-test.true
-    (within c.args.net.now c.loop-i.i (record { scope = 0; rel = 0 }) d c.loop-i-test.true)
-    (sym c.candidate_violated.ensures ∙ c.if-candidate_violated.false) c.loop-i.invariant
+pub returns-in-None : goal.returns-in-None
+returns-in-None c = first_of_none c.args.lang.now c.args.net.now c.args.e.now (subst (λ o. AreOnLast c.args.lang.now c.args.net.now o c.args.e.now) c.in-None.is c.requires.last)
 
-pub returns-then-candidate_violated : goal.returns-then-candidate_violated
-returns-then-candidate_violated c =
-    let d : Candidate = get_or c.args.net.now c.loop-i.i (record { scope = 0; rel = 0 }) in
-    sym (found_read (λ b. violates c.args.lang.now b c.args.e.now) c.args.net.now c.loop-i.i d c.loop-i-test.true
-    (within c.args.net.now c.loop-i.i (record { scope = 0; rel = 0 }) d c.loop-i-test.true)
-    (sym c.candidate_violated.ensures ∙ c.if-candidate_violated.true) c.loop-i.invariant)
+pub items-requires : goal.items-requires
+items-requires c =
+    let low : IfSome (Some c.in-Some.v) (λ v. v < variable_count c.args.lang.now) = subst (λ o. IfSome o (λ v. v < variable_count c.args.lang.now)) c.in-Some.is c.requires.known in
+    row_there c.args.lang.now c.args.net.now c.args.by.now c.in-Some.v c.requires.by low
 
-pub returns : goal.returns
-returns c = sym (none_through (λ b. violates c.args.lang.now b c.args.e.now) c.args.net.now c.loop-i.i c.loop-i-test.false c.loop-i.invariant)
+pub returns-in-Some : goal.returns-in-Some
+returns-in-Some c =
+    let low : IfSome (Some c.in-Some.v) (λ v. v < variable_count c.args.lang.now) = subst (λ o. IfSome o (λ v. v < variable_count c.args.lang.now)) c.in-Some.is c.requires.known in
+    c.first_of.ensures
+    ∙ first_in_row c.args.lang.now c.args.net.now c.args.e.now c.in-Some.v c.items.result.now
+    (subst (λ o. AreOnLast c.args.lang.now c.args.net.now o c.args.e.now) c.in-Some.is c.requires.last)
+    (row_of c.args.lang.now c.args.net.now c.args.by.now c.items.result.now c.in-Some.v c.requires.by low c.items.ensures)
