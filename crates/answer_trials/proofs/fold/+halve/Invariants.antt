@@ -1,4 +1,4 @@
-use Rattle.session_trials.proofs.fold.+halve.Given as goal
+use Rattle.answer_trials.proofs.fold.+halve.Given as goal
 
 abbrev pub decreases-halve : goal.decreases-halve
 decreases-halve l = l.depth
