@@ -1,6 +1,6 @@
 //! A session as a plain fold over lists.
 
-use crate::plain::{Choices, Lists, MOST_RELATIONS, Values, are_same, is_in, part_of, value_of};
+use crate::plain::{Choices, Lists, MOST_RELATIONS, Values, is_in, part_of, value_of};
 use assign::Plan;
 use std::alloc::{AllocError, Global};
 
@@ -189,10 +189,7 @@ impl Fold {
     /// Whether a question may be put, where none is open.
     pub(crate) fn is_lawful(&self, lists: &Lists, values: &Values) -> bool {
         if !self.has_examples() {
-            return match self.scope_question(lists) {
-                Some(question) => are_same(&question, values),
-                None => false,
-            };
+            return self.scope_question(lists) == Some(*values);
         }
         (0..lists.variables).all(|v| lists.has_value(v, value_of(values, v)))
             && self.accepts(lists, values)
@@ -328,7 +325,7 @@ impl Fold {
             return Ok(());
         };
         let choices = self.violated_choices(lists, s, example);
-        if choices.iter().all(|choice| !*choice) {
+        if !choices.contains(&true) {
             return Ok(());
         }
         self.choose(alloc, lists, s, choices)

@@ -55,11 +55,6 @@ pub(crate) fn part_of(values: &Values, set: u32) -> Values {
     part
 }
 
-/// Whether the values are the same.
-pub(crate) fn are_same(x: &Values, y: &Values) -> bool {
-    (0..5u8).all(|v| value_of(x, v) == value_of(y, v))
-}
-
 /// The set of these variables.
 fn set_of(scope: &[u8]) -> u32 {
     let mut set = 0u32;
@@ -128,9 +123,8 @@ impl Scope {
 
     /// Whether some of the choices accept the tuple and some don't.
     fn splits(&self, choices: &Choices, place: usize) -> bool {
-        let accepted = (0..8usize).any(|choice| choices[choice] && self.allows(choice, place));
-        let rejected = (0..8usize).any(|choice| choices[choice] && !self.allows(choice, place));
-        accepted && rejected
+        self.replied(choices, place, true).contains(&true)
+            && self.replied(choices, place, false).contains(&true)
     }
 
     /// The least place at which some of the choices accept the tuple and some don't.
