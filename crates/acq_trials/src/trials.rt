@@ -181,10 +181,7 @@ impl Small {
                         .iter()
                         .any(|(q, yes)| *yes && violates(*scope, pairs, q));
                 let network = run.network();
-                let open = run
-                    .open
-                    .iter()
-                    .any(|(at, other)| at == scope && other == pairs);
+                let open = run.open.contains(&(*scope, *pairs));
                 if open {
                     listed = listed.saturating_add(1);
                 }

@@ -182,7 +182,7 @@ fn add_shows(
 
 fn add_show(shows: &mut Shows, text: Vec<u8>) -> Result<(), AllocError> {
     shows.contents = shows.contents.saturating_add(1);
-    if !shows.list.iter().any(|other| *other == text) {
+    if !shows.list.contains(&text) {
         shows.list.push(text)?;
     }
     Ok(())

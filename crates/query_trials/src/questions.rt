@@ -95,9 +95,7 @@ fn is_open_as_listed(lang: &Language, screen: &Screen, listed: &[(Candidate, Out
     for scope in 0..lang.scopes() as u16 {
         for rel in 0..4 {
             let c = Candidate { scope, rel };
-            let is_spent = listed
-                .iter()
-                .any(|(d, outcome)| *d == c && *outcome == Outcome::Spent);
+            let is_spent = listed.contains(&(c, Outcome::Spent));
             if is_candidate(lang, c) && screen.is_open(c) != is_spent {
                 return false;
             }
