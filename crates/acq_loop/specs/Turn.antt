@@ -42,7 +42,7 @@ module _ {K D : Type 0} (keep : KeepOf K D) (disk : DiskOf D) where
     pub says_next : SaysNext turns l terms (keep.record_of old.keeper) old.left old.written new.written
 
   -- Turns one after another lead from the one to the other. What is between them is listed from the last to the first.
-  pub AreTurns : Turns → Language → Terms → Between K D → List (Between K D) → Between K D → Type 0
+  abbrev pub AreTurns : Turns → Language → Terms → Between K D → List (Between K D) → Between K D → Type 0
   AreTurns turns l terms old [] new = new ≡ old
   AreTurns turns l terms old (mid ∷ more) new = AreTurns turns l terms old more mid × IsTurn turns l terms mid new
 
