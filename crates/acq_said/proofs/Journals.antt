@@ -108,7 +108,7 @@ module _ {D : Type 0} (disk : DiskOf D) where
           last = last;
           none_lost = λ no. absurd (no is);
           one_lost = λ so. (f.event, refl, f.lost);
-          all_places = placed_event run_laws lang lawful (terms_with plan budget) later f.lost.question f.event (record { puts = f.lost.puts; fits = f.lost.fits }) f.lost.follows (added.places places);
+          all_places = placed_event run_laws lang lawful (terms_with plan budget) later f.lost.question f.event f.lost.puts f.lost.fits f.lost.follows (added.places places);
           any_moment = λ bytes told.
               joined disk first old new (disk.may_leave first) (OpensWithin plan voc events (later ++ last)) (λ c. disk.may_leave first c ⊎ OpensWithin plan voc events (later ++ last) c) opening (f.any_moment bytes (still ∙ told))
               (λ c was. inl was) (λ c opens. inr opens);

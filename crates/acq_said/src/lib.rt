@@ -17,8 +17,8 @@
 mod ask;
 mod back;
 mod certifying;
-mod closing;
 mod confirming;
+mod endings;
 mod making;
 mod opens;
 mod over;
@@ -31,8 +31,8 @@ mod solving;
 
 pub use ask::Ask;
 pub use back::back_journal;
-pub use closing::closing;
 pub use confirming::check_input;
+pub use endings::closing;
 pub use making::{new_journal, refused_voc};
 pub use over::say_over;
 pub use refusing::{lang_of, refused};

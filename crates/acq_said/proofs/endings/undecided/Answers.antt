@@ -10,7 +10,7 @@ use Rattle.session_core.specs.Standing.{knowledge_of}
 use Rattle.acq_said.specs.Saying.{saying}
 use Rattle.acq_loop.specs.Texts.{open_line}
 use Rattle.acq_loop.specs.declared.ending.Ending.TheVariants as ending
-use Rattle.acq_said.proofs.closing.undecided.Goals as goal
+use Rattle.acq_said.proofs.endings.undecided.Goals as goal
 
 pub returns : goal.returns
 returns c =

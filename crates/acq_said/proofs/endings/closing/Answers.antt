@@ -15,7 +15,7 @@ use Rattle.acq_said.specs.declared.said.Unsaid.TheVariants as unsaid
 use Rattle.acq_loop.specs.declared.terms.Terms.{Terms}
 use Rattle.acq_said.proofs.Sayings.{converged_so, undecided_so}
 use Rattle.acq_said.proofs.Spoken.{said_as, silent}
-use Rattle.acq_said.proofs.closing.closing.Goals as goal
+use Rattle.acq_said.proofs.endings.closing.Goals as goal
 
 pub returns-in-Converged : goal.returns-in-Converged
 returns-in-Converged c budget t stands ended tells =

@@ -7,7 +7,7 @@ use Rattle.network.specs.Texts.{network_text}
 use Rattle.session_core.specs.Standing.{knowledge_of}
 use Rattle.acq_said.specs.Saying.{saying}
 use Rattle.acq_loop.specs.declared.ending.Ending.TheVariants as ending
-use Rattle.acq_said.proofs.closing.converged.Goals as goal
+use Rattle.acq_said.proofs.endings.converged.Goals as goal
 
 pub returns : goal.returns
 returns c =
