@@ -12,7 +12,23 @@ pub trait Calls {
 /// What a row's line begins with, where it holds.
 const HOLDS: &str = "ok ";
 
-/// What is said of a row: that it holds, or what came instead.
+/// What is said of a row whose call comes to this: that it holds, or what came instead.
+fn compared(
+    alloc: Global,
+    line: &str,
+    call: &str,
+    wanted: &str,
+    found: &str,
+) -> Result<String, AllocError> {
+    let found = one_line(alloc, found)?;
+    if found.as_str() == wanted {
+        format!(in alloc; "{HOLDS}{call}")
+    } else {
+        format!(in alloc; "{line} BUT {found}")
+    }
+}
+
+/// The same of a row, which is written out, over a text.
 fn said<C: Calls>(
     alloc: Global,
     calls: &C,
@@ -24,32 +40,26 @@ fn said<C: Calls>(
         return format!(in alloc; "no row: {line}");
     };
     let (call, arguments) = question.split_once(' ').unwrap_or((question, ""));
-    let Some(found) = calls.answer(alloc, over, call, arguments) else {
-        return format!(in alloc; "no answer: {line}");
-    };
-    let found = one_line(alloc, found.as_str())?;
-    if found.as_str() == wanted {
-        format!(in alloc; "{HOLDS}{call}")
-    } else {
-        format!(in alloc; "{line} BUT {found}")
+    match calls.answer(alloc, over, call, arguments) {
+        Some(found) => compared(alloc, line, call, wanted, found.as_str()),
+        None => format!(in alloc; "no answer: {line}"),
     }
 }
 
-/// Tries each row of standard input, and prints a line for it, and then how many rows there were and how many were refused.
-pub fn run<R: AllocGlobal + Input + Print, C: Calls>(rt: &R, calls: &C) -> io::Result<()> {
+/// Tries each row of a table, and prints a line for it, and then how many rows there were and how many were refused.
+fn run_table<R: AllocGlobal + Print, C: Calls>(rt: &R, calls: &C, table: &str) -> io::Result<()> {
     let alloc = rt.alloc();
-    let table = io::read_to_string(alloc, rt.reader())?;
     let mut over = String::new(alloc);
     let mut rows = 0u32;
     let mut refused = 0u32;
-    for line in table.as_str().lines() {
+    for line in table.lines() {
         if line.is_empty() || line.starts_with('#') {
             continue;
         }
-        let row = expanded(alloc, line)?;
-        if let Some(text) = row.as_str().strip_prefix("over ") {
-            over = String::from_str(alloc, text)?;
+        if let Some(text) = line.strip_prefix("over ") {
+            over = expanded(alloc, text)?;
         } else {
+            let row = expanded(alloc, line)?;
             let text = said(alloc, calls, over.as_str(), line, row.as_str())?;
             rows = rows.saturating_add(1);
             refused = refused.saturating_add(u32::from(!text.as_str().starts_with(HOLDS)));
@@ -57,4 +67,10 @@ pub fn run<R: AllocGlobal + Input + Print, C: Calls>(rt: &R, calls: &C) -> io::R
         }
     }
     rt.println(format!(in alloc; "{rows} rows, {refused} refused")?)
+}
+
+/// The same of a table that stands on standard input.
+pub fn run<R: AllocGlobal + Input + Print, C: Calls>(rt: &R, calls: &C) -> io::Result<()> {
+    let table = io::read_to_string(rt.alloc(), rt.reader())?;
+    run_table(rt, calls, table.as_str())
 }

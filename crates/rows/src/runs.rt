@@ -48,11 +48,7 @@ impl Distinct {
 
     /// Lists a text, unless it is listed already.
     pub fn add(&mut self, text: String) -> Option<()> {
-        if self
-            .list
-            .iter()
-            .all(|listed| listed.as_str() != text.as_str())
-        {
+        if !self.list.contains(&text) {
             self.list.push(text).ok()?;
         }
         Some(())
