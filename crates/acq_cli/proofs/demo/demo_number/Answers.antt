@@ -1,4 +1,5 @@
 use Rattle.std.proofs.Common.{◌≡◌, ◌∙◌, ℕ, List, Option, IsTrue, length, subst, sym}
+use Rattle.std.specs.Prelude.{Err}
 use Rattle.std.proofs.lemmas.Result.{err_from_is_err_and}
 use Rattle.acq_io.specs.declared.streams.Put.TheVariants as put
 use Rattle.assign.specs.declared.events.Plan.{Plan}
@@ -28,11 +29,11 @@ returns-in_err-put-clause-demos g c =
     let old : Option (List ℕ) = g.K.Sink.written c.args.out.now in
     let new : Option (List ℕ) = g.K.Sink.written c.put.new.out in
     let lawful = subst (IsNetwork l) c.in-Ok.ensures.target c.in-Ok.ensures.network in
-    let line = line_put c.args.number l c.made.result c.or_silent.result old new _ c.or_silent.ensures c.made.ensures.says c.in_err-put.ensures.writes in
+    let line = line_put c.args.number l c.made.result c.or_silent.result old new (Err c.in_err-put.field-0.0) c.or_silent.ensures c.made.ensures.says c.in_err-put.ensures.writes in
     let p = err_from_is_err_and c.from_residual.result c.from_residual.ensures.1 in
     rw (p.1, p.2)
     (demo_stopped c.args.number c.args.budget l c.in-Ok.ensures.language c.made.ensures.lawful lawful old new c.in_err-put.field-0.0
-    (front_of_first c.args.number l (terms_with Quacq c.args.budget) c.made.ensures.lawful old new (ends_part ending.Done (demo_text c.args.number l) old new _ line)))
+    (front_of_first c.args.number l (terms_with Quacq c.args.budget) c.made.ensures.lawful old new (ends_part ending.Done (demo_text c.args.number l) old new (Err c.in_err-put.field-0.0) line)))
 
 pub returns-in_default-new-clause-demos : goal.returns-in_default-new-clause-demos
 returns-in_default-new-clause-demos g c =
