@@ -236,10 +236,10 @@ module _ {D : Type 0} (disk : DiskOf D)
         let after : List Event = keep.record_of new in
         let Left : Type 0 = LeavesOnly disk x y (HoldsAtLeast plan voc before) in
         let failed : has_failed → Left = λ bad.
-            let f = keeps.fails bad in
-            weaker disk x y (OpensWithin plan voc before (after ++ f.event ∷ [])) (HoldsAtLeast plan voc before) (f.any_moment bytes told) (at_least plan voc before (after ++ f.event ∷ [])) in
+        let f = keeps.fails bad in
+        weaker disk x y (OpensWithin plan voc before (after ++ f.event ∷ [])) (HoldsAtLeast plan voc before) (f.any_moment bytes told) (at_least plan voc before (after ++ f.event ∷ [])) in
         let went_on : (has_failed → ⊥) → Left = λ well.
-            weaker disk x y (OpensWithin plan voc before after) (HoldsAtLeast plan voc before) (keeps.persists w bytes told well).any_moment (at_least plan voc before after) in
+        weaker disk x y (OpensWithin plan voc before after) (HoldsAtLeast plan voc before) (keeps.persists w bytes told well).any_moment (at_least plan voc before after) in
         ⊎_elim failed went_on known
 
     -- a disk that wasn't touched
