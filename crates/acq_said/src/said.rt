@@ -32,6 +32,7 @@ impl Model for Said {
 }
 
 impl Said {
+    /// This text, with an ending that is no fault.
     pub fn new(text: String, ending: Ending) -> Said
         requires { is_told ending ≡ true }
         ensures { result ≡ saying (string_bytes text) ending }
