@@ -22,7 +22,7 @@ pub record Keeps {K D : Type 0} (keep : KeepOf K D) (disk : DiskOf D) (has_faile
   pub told : ForSome (disk.content disk_old) (λ _. IsSome (disk.content disk_new))
   pub cause : has_failed → IsTrue (keep.writes old) × Rose (disk.faults disk_old) (disk.faults disk_new)
   pub grown : IsGrown (keep.record_of old) (keep.record_of new)
-  -- between two events the disk isn't called
+  -- no more calls of the disk than its events may take
   pub calls : AreEventCalls disk has_failed grown.more disk_old disk_new
   -- where nothing is written, the disk isn't touched
   pub unwritten : IsFalse (keep.writes old) → disk_new ≡ disk_old
