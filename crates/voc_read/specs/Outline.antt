@@ -1,5 +1,5 @@
 -- What a vocabulary holds, before its relations and scopes are read.
-use Rattle.std.specs.Prelude.{ℕ, ℤ, Bool, false, List, [], ◌∷◌, codes, Option, Some, None, Result, Ok, if◌then◌else◌}
+use Rattle.std.specs.Prelude.{ℕ, ℤ, ◌≤◌, Bool, false, List, [], ◌∷◌, length, codes, Option, Some, None, Result, Ok, IfSome, if◌then◌else◌}
 use Rattle.std.specs.Option.{ok_or, option_map, option_map_or}
 use Rattle.std.specs.Borrow.{Bor}
 use Rattle.serde_json.specs.declared.value.Value.{Value}
@@ -16,6 +16,7 @@ use Rattle.voc_read.specs.Answers.{then_on, unless}
 use Rattle.voc_read.specs.Keys.{keys_refusal, under}
 use Rattle.voc_read.specs.Texts.{texts_of}
 use Rattle.voc_read.specs.Values.{text_list, number_pair}
+use Rattle.voc_read.specs.Widest.{widest, widest_in, items_widest}
 
 -- the values under the keys of a vocabulary
 pub record HeldData : Type 0 where
@@ -51,6 +52,13 @@ held_data held = record {
   scopes = view held.scopes.now;
   ranges = found_data held.ranges;
 }
+
+-- no array of what is held has more values than this
+pub record IsHeldWithin (most : ℕ) (held : HeldData) : Type 0 where
+  pub variables : widest held.variables ≤ most
+  pub relations : widest held.relations ≤ most
+  pub scopes : widest held.scopes ≤ most
+  pub ranges : widest_in held.ranges ≤ most
 
 -- the names and the domain, with the relations, the scopes and the ranges that are still to be read
 pub record OutlineData : Type 0 where
@@ -98,3 +106,11 @@ outline_data outline = record {
   listed = listed_items outline.listed;
   ranges = items_view outline.ranges.now;
 }
+
+-- no list has more values than the largest array of what it is read from
+pub record IsOutlineWithin (held : HeldData) (outline : Outline) : Type 0 where
+  pub names : length outline.names.items ≤ widest held.variables
+  pub relations : length outline.relations.now ≤ widest held.relations
+  pub parts : items_widest (items_view outline.relations.now) ≤ widest held.relations
+  pub listed : IfSome outline.listed (λ list. length list.now ≤ widest held.scopes)
+  pub ranges : length outline.ranges.now ≤ widest_in held.ranges

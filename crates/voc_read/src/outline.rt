@@ -2,8 +2,8 @@
 ghost use Rattle.std.specs.Prelude.{◌≡◌, ◌≤◌, length, IfOk, IfSome};
 ghost use Rattle.serde_json.specs.View.{view, items_view};
 ghost use Rattle.voc_read.specs.Answers.{Reads};
-ghost use Rattle.voc_read.specs.Outline.{held_by, held_data, found_data, is_all, listed_under, listed_items, ranges_under, outline_of, outline_data};
-ghost use Rattle.voc_read.specs.Widest.{widest, widest_in, items_widest};
+ghost use Rattle.voc_read.specs.Outline.{held_by, held_data, found_data, is_all, listed_under, listed_items, ranges_under, outline_of, outline_data, IsHeldWithin, IsOutlineWithin};
+ghost use Rattle.voc_read.specs.Widest.{widest, widest_in};
 
 use crate::fault::{Spot, VocFault};
 use crate::keys::{check_keys, under};
@@ -26,10 +26,7 @@ pub struct Held<'a> {
 
 /// The values that an object holds under exactly these keys, of which `ranges` alone may be absent.
 pub fn held_by<'a>(whole: &'a Value) -> Result<Held<'a>, VocFault>
-    ensures variables { IfOk result (λ held. widest (view held.variables.now) ≤ widest (view whole.entry.now)) }
-    ensures relations { IfOk result (λ held. widest (view held.relations.now) ≤ widest (view whole.entry.now)) }
-    ensures scopes { IfOk result (λ held. widest (view held.scopes.now) ≤ widest (view whole.entry.now)) }
-    ensures ranges { IfOk result (λ held. widest_in (found_data held.ranges) ≤ widest (view whole.entry.now)) }
+    ensures within { IfOk result (λ held. IsHeldWithin (widest (view whole.entry.now)) (held_data held)) }
     ensures is { Reads held_data (held_by (view whole.entry.now)) result }
 {
     check_keys(whole, &KEYS, Spot::Whole)?;
@@ -93,11 +90,7 @@ fn ranges_under<'a>(ranges: Option<&'a Value>) -> Result<&'a [Value], VocFault>
 
 /// What the values are, where each is of its kind.
 pub fn outline_of<'a>(alloc: Global, held: &Held<'a>) -> Result<Outline<'a>, VocFault>
-    ensures few { IfOk result (λ outline. length outline.names.items ≤ widest (view held.entry.now.variables.now)) }
-    ensures few_relations { IfOk result (λ outline. length outline.relations.now ≤ widest (view held.entry.now.relations.now)) }
-    ensures parts { IfOk result (λ outline. items_widest (items_view outline.relations.now) ≤ widest (view held.entry.now.relations.now)) }
-    ensures few_scopes { IfOk result (λ outline. IfSome outline.listed (λ list. length list.now ≤ widest (view held.entry.now.scopes.now))) }
-    ensures few_ranges { IfOk result (λ outline. length outline.ranges.now ≤ widest_in (found_data held.entry.now.ranges)) }
+    ensures within { IfOk result (IsOutlineWithin (held_data held.entry.now)) }
     ensures is { Reads outline_data (outline_of (held_data held.entry.now)) result }
 {
     let names = text_list(alloc, held.variables, Spot::Variables)?;

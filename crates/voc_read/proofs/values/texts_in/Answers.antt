@@ -1,11 +1,20 @@
-use Rattle.std.proofs.Common.{Bor, List, ℕ, ap, sym, ◌∙◌}
+use Rattle.std.proofs.Common.{Bor, List, [], ◌∷◌, ℕ, ap, sym, ◌∙◌, length, length-append, arith}
 use Rattle.std.specs.Option.{ok_or, option_map}
+use Rattle.std.proofs.lemmas.List.{map-append}
 use Rattle.std.proofs.lemmas.Result.{err_from_is_err_and}
 use Rattle.serde_json.specs.Find.{as_str}
 use Rattle.voc_read.specs.declared.fault.VocFault.TheVariants.{WrongKind}
 use Rattle.voc_read.specs.Texts.{texts_of}
-use Rattle.voc_read.proofs.EachSteps.{reads_no_more, reads_all, refuses}
+use Rattle.voc_read.proofs.EachSteps.{reads_one_more, reads_no_more, reads_all, refuses, some_of_ok}
 use Rattle.voc_read.proofs.values.texts_in.Goals as goal
+
+pub loop-value-preserved : goal.loop-value-preserved
+loop-value-preserved c = record {
+  each = omega (arith, c.loop-value.invariant.each, ap length c.in_ok-push.ensures.items, length-append c.loop-value.texts.items (c.in_ok-text.text ∷ []));
+  rest = reads_one_more as_str c.args.list.now c.loop-value.value-index c.value-item.result c.in_ok-text.text.now (texts_of c.loop-value.texts.items) _ _ c.loop-value-test.true c.value-item.is
+      (sym c.as_str.ensures ∙ ap (option_map (λ (s : Bor (List ℕ)). s.now)) (some_of_ok c.as_str.result _ _ (sym c.ok_or.ensures.value ∙ c.in_ok-text.was)))
+      (ap texts_of c.in_ok-push.ensures.items ∙ map-append (λ (text : Bor (List ℕ)). text.now) c.loop-value.texts.items (c.in_ok-text.text ∷ [])) c.loop-value.invariant.rest;
+}
 
 pub returns-in_err-text-clause-is : goal.returns-in_err-text-clause-is
 returns-in_err-text-clause-is c =

@@ -1,11 +1,19 @@
-use Rattle.std.proofs.Common.{ap}
+use Rattle.std.proofs.Common.{[], ◌∷◌, ap, ◌∙◌, length, length-append, arith}
 use Rattle.std.specs.Option.{ok_or}
+use Rattle.std.proofs.lemmas.List.{map-append}
 use Rattle.std.proofs.lemmas.Result.{err_from_is_err_and}
 use Rattle.rel_table.specs.Made.{lists}
 use Rattle.voc_read.specs.declared.fault.VocFault.TheVariants.{WrongKind}
 use Rattle.voc_read.specs.Values.{number_list}
-use Rattle.voc_read.proofs.EachSteps.{reads_no_more, reads_all, refuses}
+use Rattle.voc_read.proofs.EachSteps.{reads_one_more, reads_no_more, reads_all, refuses, some_of_ok}
 use Rattle.voc_read.proofs.values.tuples_of.Goals as goal
+
+pub loop-value-preserved : goal.loop-value-preserved
+loop-value-preserved c = record {
+  each = omega (arith, c.loop-value.invariant.each, ap length c.in_ok-push.ensures.items, length-append c.loop-value.tuples.items (c.in_ok-tuple.tuple ∷ []));
+  rest = reads_one_more number_list c.args.list.now c.loop-value.value-index c.value-item.result c.in_ok-tuple.tuple.items (lists c.loop-value.tuples.items) _ _ c.loop-value-test.true c.value-item.is
+      (some_of_ok _ _ _ c.in_ok-tuple.ensures) (ap lists c.in_ok-push.ensures.items ∙ map-append _ c.loop-value.tuples.items (c.in_ok-tuple.tuple ∷ [])) c.loop-value.invariant.rest;
+}
 
 pub returns-in_err-tuple-clause-is : goal.returns-in_err-tuple-clause-is
 returns-in_err-tuple-clause-is c =
