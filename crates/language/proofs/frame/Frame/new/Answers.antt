@@ -7,9 +7,28 @@ use Rattle.std.proofs.lemmas.List.Elements.{All-replicate}
 use Rattle.std.proofs.lemmas.Bool.{eqb-false}
 use Rattle.language.specs.Ranges.{whole_range, IsRange}
 use Rattle.language.specs.Building.{is_domain, values_between}
-use Rattle.language.proofs.Refusals.{bad_domain}
+use Rattle.language.proofs.Refusals.{bad_domain, good_domain, too_many}
 use Rattle.language.proofs.frame.Frame.new.Goals as goal
 use Rattle.language.proofs.frame.Frame.new.Goals.{After-whole_ranges}
+
+pub returns-then-len-clause-refused : goal.returns-then-len-clause-refused
+returns-then-len-clause-refused c =
+    too_many (map (λ (s : String Global). string_bytes s) c.args.names.items) c.args.lo c.args.hi (omega (arith, length-map c.args.names.items (λ (s : String Global). string_bytes s)))
+
+pub returns-clause-made : goal.returns-clause-made
+returns-clause-made c =
+    let some = eqb-false _ _ (sym c.is_empty.ensures ∙ c.if-is_empty.false) in
+    let long = length-map c.args.names.items (λ (s : String Global). string_bytes s) in
+    let lo_is : to_z w64 (of_z w64 c.args.lo) ≡ c.args.lo = search (rules, to_z-of_z) in
+    let hi_is : to_z w64 (of_z w64 c.args.hi) ≡ c.args.hi = search (rules, to_z-of_z) in
+    good_domain (map (λ (s : String Global). string_bytes s) c.args.names.items) c.args.lo c.args.hi (omega (arith, some, long)) (omega (arith, long))
+    ((λ i. is_domain (sym lo_is i) (sym hi_is i)) ∙ sym c.is_domain.ensures ∙ c.if-not-is_domain.false)
+
+pub returns-clause-values : goal.returns-clause-values
+returns-clause-values c =
+    let lo_is : to_z w64 (of_z w64 c.args.lo) ≡ c.args.lo = search (rules, to_z-of_z) in
+    let hi_is : to_z w64 (of_z w64 c.args.hi) ≡ c.args.hi = search (rules, to_z-of_z) in
+    c.values_between-value_count.ensures.is ∙ (λ i. values_between (lo_is i) (hi_is i))
 
 pub returns-then-not-is_domain-clause-refused : goal.returns-then-not-is_domain-clause-refused
 returns-then-not-is_domain-clause-refused c =

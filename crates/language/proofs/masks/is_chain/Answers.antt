@@ -1,0 +1,5 @@
+use Rattle.std.proofs.Common.{rules}
+use Rattle.language.proofs.masks.is_chain.Goals as goal
+
+pub returns-then-are_running : goal.returns-then-are_running
+returns-then-are_running c = search rules
