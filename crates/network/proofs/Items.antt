@@ -1,13 +1,14 @@
 -- Items are read one after another.
-use Rattle.std.proofs.Common.{◌≡◌, ℕ, suc, ◌+◌, ◌-◌, ◌<◌, ◌≤◌, ◌++◌, ◌||◌, true, false, cond, Bor, List, [], ◌∷◌, length, drop, get_or, Option, Some, None, Result, Ok, Err, refl, sym, ap, ◌∙◌, arith}
+use Rattle.std.proofs.Common.{◌≡◌, ℕ, suc, ◌+◌, ◌-◌, ◌<◌, ◌≤◌, ◌++◌, ◌||◌, true, false, cond, Bor, List, [], ◌∷◌, length, drop, get_or, Option, Some, None, Result, Ok, Err, refl, sym, ap, ◌∙◌, append_assoc, arith}
 use Rattle.std.specs.Prelude.{◌==◌, ◌&&◌, nat_le, take}
-use Rattle.std.specs.Option.{ok_or, option_and_then}
+use Rattle.std.specs.Option.{ok_or, option_map, option_and_then}
 use Rattle.std.proofs.lemmas.Bool.{le-leb, and_from}
 use Rattle.std.proofs.lemmas.List.{take_all, drop-map, length-map, length-drop, get_or-map}
 use Rattle.serde_json.specs.Data.{Data}
 use Rattle.language.specs.ByName.{texts_of}
 use Rattle.network.specs.declared.fault.NetFault.TheVariants.{BadItem}
 use Rattle.std.proofs.Math.Seq.{drop-cons}
+use Rattle.serde_json.specs.Find.{as_str}
 use Rattle.serde_json.specs.View.{view, items_view}
 use Rattle.serde_json.specs.declared.value.Value.{Value}
 use Rattle.language.specs.declared.candidates.Candidate.{Candidate}
@@ -16,7 +17,7 @@ use Rattle.language.specs.Answers.{has_scope}
 use Rattle.language.proofs.ByNames.{position_nowhere}
 use Rattle.network.specs.declared.fault.NetFault.{NetFault}
 use Rattle.network.specs.Answers.{then_on}
-use Rattle.network.specs.Target.{Stated, stated_by, stated_in, text_list, candidate_of, candidate_in, network_from, repeat_of}
+use Rattle.network.specs.Target.{Stated, stated_by, stated_in, each_text, text_list, candidate_of, candidate_in, network_from, repeat_of}
 
 -- ---- one item
 
@@ -40,9 +41,27 @@ pub refused_here : (l : Language) (before : List Candidate) (items : List Value)
 refused_here l before items i value fault whole low is read so_far =
     sym so_far ∙ from_here l before items i value low is ∙ ap (λ r. then_on r (λ c. network_from l (before ++ c ∷ []) (items_view (drop (i + 1) items)))) read
 
+-- ---- its strings
+
+put_behind : (before : List (List ℕ)) (text : List ℕ) (rest : Option (List (List ℕ))) →
+    option_map (λ more. (before ++ text ∷ []) ++ more) rest ≡ option_map (λ more. before ++ more) (option_map (λ texts. text ∷ texts) rest)
+put_behind before text None = refl
+put_behind before text (Some more) = ap Some (append_assoc before (text ∷ []) more)
+
+pub text_more : (list : List Value) (j : ℕ) (value : Value) (text : List ℕ) (before after : List (List ℕ)) (whole : Option (List (List ℕ))) → j < length list → value ≡ get_or list j value →
+    as_str (view value) ≡ Some text → after ≡ before ++ text ∷ [] → option_map (λ more. before ++ more) (each_text (items_view (drop j list))) ≡ whole →
+    option_map (λ more. after ++ more) (each_text (items_view (drop (j + 1) list))) ≡ whole
+text_more list j value text before after whole low is some grown so_far =
+    let next : j + 1 ≡ suc j = omega arith in
+    let rest = each_text (items_view (drop (j + 1) list)) in
+    let here : drop j list ≡ value ∷ drop (j + 1) list = rw next (drop-cons list j value low ∙ ap (λ v. v ∷ drop (suc j) list) (sym is)) in
+    ap (λ b. option_map (λ more. b ++ more) rest) grown ∙ put_behind before text rest
+    ∙ sym (ap (λ o. option_map (λ more. before ++ more) (option_and_then (λ first. option_map (λ texts. first ∷ texts) rest) o)) some)
+    ∙ sym (ap (λ vs. option_map (λ more. before ++ more) (each_text (items_view vs))) here) ∙ so_far
+
 -- ---- an item's form
 
-some_of_ok : {A : Type 0} (o : Option A) (fault : NetFault) (x : A) → ok_or o fault ≡ Ok x → o ≡ Some x
+pub some_of_ok : {A : Type 0} (o : Option A) (fault : NetFault) (x : A) → ok_or o fault ≡ Ok x → o ≡ Some x
 some_of_ok None fault x h = absurd (cc)
 some_of_ok (Some y) fault x h = cc
 

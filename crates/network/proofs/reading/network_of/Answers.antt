@@ -1,10 +1,23 @@
-use Rattle.std.proofs.Common.{sym, ◌∙◌}
+use Rattle.std.proofs.Common.{sym, subst, ◌∙◌}
+use Rattle.std.specs.Prelude.{All}
 use Rattle.std.proofs.lemmas.List.{at_drop_all}
+use Rattle.std.proofs.lemmas.List.Elements.{All-push}
 use Rattle.std.proofs.lemmas.Result.{err_from_is_err_and}
 use Rattle.serde_json.specs.View.{items_view}
+use Rattle.language.specs.Language.{IsCandidate}
 use Rattle.network.specs.Target.{network_from}
-use Rattle.network.proofs.Items.{refused_here}
+use Rattle.network.proofs.Items.{read_more, refused_here}
 use Rattle.network.proofs.reading.network_of.Goals as goal
+
+pub loop-item-preserved : goal.loop-item-preserved
+loop-item-preserved c =
+    let kept = c.loop-item.invariant in
+    record {
+      rest = read_more c.args.lang.now c.loop-item.net.list c.learn.new.self.list c.args.items.now c.loop-item.item-index _ c.in_ok-c.c _ c.loop-item-test.true
+          c.item-item.is c.in_ok-c.ensures.is c.learn.ensures.list kept.rest;
+      network = subst (All (IsCandidate c.args.lang.now)) (sym c.learn.ensures.list) (All-push (IsCandidate c.args.lang.now) c.loop-item.net.list c.in_ok-c.c kept.network c.in_ok-c.ensures.candidate);
+      scopes = c.learn.ensures.scopes ∙ kept.scopes;
+    }
 
 pub returns-in_err-c-clause-is : goal.returns-in_err-c-clause-is
 returns-in_err-c-clause-is c =

@@ -1,11 +1,18 @@
-use Rattle.std.proofs.Common.{◌++◌, Some, ap, sym, ◌∙◌}
+use Rattle.std.proofs.Common.{◌++◌, Bor, List, [], ◌∷◌, ℕ, Some, ap, sym, ◌∙◌}
 use Rattle.std.specs.Option.{ok_or, option_map}
-use Rattle.std.proofs.lemmas.List.{append-nil, at_drop_all}
+use Rattle.std.proofs.lemmas.List.{append-nil, at_drop_all, map-append}
 use Rattle.serde_json.specs.View.{items_view}
 use Rattle.language.specs.ByName.{texts_of}
 use Rattle.network.specs.declared.fault.NetFault.TheVariants.{BadItem}
 use Rattle.network.specs.Target.{each_text}
+use Rattle.network.proofs.Items.{some_of_ok, text_more}
 use Rattle.network.proofs.reading.texts_in.Goals as goal
+
+pub loop-value-preserved : goal.loop-value-preserved
+loop-value-preserved c =
+    text_more c.args.list.now c.loop-value.value-index c.value-item.result c.in_ok-text.text.now (texts_of c.loop-value.texts.items) _ _ c.loop-value-test.true c.value-item.is
+    (sym c.as_str.ensures ∙ ap (option_map (λ (s : Bor (List ℕ)). s.now)) (some_of_ok c.as_str.result _ _ (sym c.ok_or.ensures.value ∙ c.in_ok-text.was)))
+    (ap texts_of c.in_ok-push.ensures.items ∙ map-append (λ (text : Bor (List ℕ)). text.now) c.loop-value.texts.items (c.in_ok-text.text ∷ [])) c.loop-value.invariant
 
 pub returns : goal.returns
 returns c =
