@@ -53,7 +53,7 @@ held_data held = record {
   ranges = found_data held.ranges;
 }
 
--- no array of what is held has more values than this
+-- no array of what is held, the domain aside, has more values than this
 pub record IsHeldWithin (most : ℕ) (held : HeldData) : Type 0 where
   pub variables : widest held.variables ≤ most
   pub relations : widest held.relations ≤ most
