@@ -14,10 +14,13 @@ pub mod Vocabularies
 pub mod Scopes
 pub mod Listing
 pub mod Made
-pub mod Cutting
-pub mod Numerals
 pub mod InTurn
 pub mod Faults
 pub mod OneText
 pub mod EachText
 pub mod ByScope
+pub mod LinesBack
+pub mod QuestionsBack
+pub mod ListedBack
+pub mod WrittenBack
+pub mod MadeBack

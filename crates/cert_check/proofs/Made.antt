@@ -90,7 +90,7 @@ module _ (l : Language) (network : List Candidate) (c : Candidate) (lawful : IsL
 
 -- ---- what is listed
 
-all_flat : {X Y : Type 0} (P : Y → Type 0) (f : X → List Y) (xs : List X) → All (λ x. All P (f x)) xs → All P (flat_map f xs)
+pub all_flat : {X Y : Type 0} (P : Y → Type 0) (f : X → List Y) (xs : List X) → All (λ x. All P (f x)) xs → All P (flat_map f xs)
 all_flat P f [] h = All-nil P
 all_flat P f (x ∷ xs) h = All-append P (f x) (flat_map f xs) (All-head (λ y. All P (f y)) x xs h) (all_flat P f xs (All-tail (λ y. All P (f y)) x xs h))
 
@@ -99,7 +99,7 @@ candidates_known l = all_flat (IsCandidate l) (candidates_on l) (numbers (length
     All-map (IsCandidate l) (λ (r : ℕ). let c : Candidate = record { scope = s; rel = r } in c) (numbers (length (relations_on l s)))
     (all_below (λ (r : ℕ). IsCandidate l (record { scope = s; rel = r })) (length (relations_on l s)) (λ r few. record { scope = low; rel = few }))))
 
-all_kept : (l : Language) (t : List Answer) (network : List Candidate) (Q : Candidate → Type 0) → ((c : Candidate) → IsCandidate l c → is_kept l t network c ≡ true → Q c) → All Q (kept l t network)
+pub all_kept : (l : Language) (t : List Answer) (network : List Candidate) (Q : Candidate → Type 0) → ((c : Candidate) → IsCandidate l c → is_kept l t network c ≡ true → Q c) → All Q (kept l t network)
 all_kept l t network Q h = λ k d low. h _ (All-filter (is_kept l t network) (IsCandidate l) (candidates l) (candidates_known l) k d low) (filter_passes (is_kept l t network) (candidates l) k d low)
 
 pub made_is_good : (l : Language) (network : List Candidate) (t : List Answer) → IsLanguage l → IsCovered l network t → IsGood l network t (map (refutation_of l network) (kept l t network))

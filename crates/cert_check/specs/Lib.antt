@@ -16,3 +16,4 @@ pub mod Laws
 pub mod Sheets
 pub mod Read
 pub mod ReadingLaws
+pub mod WritingLaws

@@ -1,10 +1,7 @@
 -- Reading the text of a certificate line by line, up to the first that is missing or wrong.
-use Rattle.std.specs.Prelude.{ℕ, zero, suc, ◌+◌, ◌==◌, ◌≡◌, ◌≤◌, ◌<◌, ◌⊎◌, nat_le, nat_lt, Bool, true, false, not, ◌&&◌, ◌||◌, List, [], ◌∷◌, length, take, drop, replicate, slice_index, slice_set, position, Option, Some, None, Result, Ok, Err, if◌then◌else◌, codes}
-use Rattle.std.specs.Char.{is_digit}
-use Rattle.std.specs.List.{list_all, slice_split}
+use Rattle.std.specs.Prelude.{ℕ, zero, suc, ◌+◌, ◌==◌, ◌≡◌, ◌≤◌, ◌<◌, ◌⊎◌, nat_le, nat_lt, Bool, true, false, ◌&&◌, List, [], ◌∷◌, length, take, drop, replicate, slice_index, slice_set, Option, Some, None, Result, Ok, Err, if◌then◌else◌, codes}
 use Rattle.std.specs.Option.{ok_or, option_map, option_and_then}
 use Rattle.std.specs.Str.{bytes_eq}
-use Rattle.std.specs.Str.Parse.{digits_value}
 use Rattle.assign.specs.Assignment.{Assignment}
 use Rattle.assign.specs.Events.{Answer}
 use Rattle.language.specs.declared.candidates.Candidate.{Candidate}
@@ -13,6 +10,7 @@ use Rattle.language.specs.Ranges.{range_in}
 use Rattle.language.specs.Language.{Language, variable_count, relations_on, candidates}
 use Rattle.voc_read.specs.Vocabulary.{MOST_VOCABULARY, IsVocabulary, refusal_of_vocabulary}
 use Rattle.voc_read.specs.declared.fault.VocFault.{VocFault}
+use Rattle.line_text.specs.Words.{capped, cut_at, decimal_below, decimal_in, number_from, words_in}
 use Rattle.cert_check.specs.declared.token.Token.{Token}
 use Rattle.cert_check.specs.declared.token.Token.TheVariants.{Branch, Holds, Item}
 use Rattle.cert_check.specs.declared.fault.CertFault.{CertFault}
@@ -27,38 +25,6 @@ MOST_CERTIFICATE = 67108864
 abbrev pub MOST_ANSWERS : ℕ
 MOST_ANSWERS = 999999
 
--- ---- Numbers and words
-
--- digits, of which the first is a 0 only where it stands alone
-abbrev pub begins_well : List ℕ → Bool
-begins_well digits = nat_lt 0 (length digits) && (not (slice_index digits 0 == 48) || (length digits == 1))
-
-abbrev pub is_decimal : List ℕ → Bool
-is_decimal digits = begins_well digits && list_all (λ b. is_digit b 10) digits
-
--- the number that digits write
-abbrev pub decimal_in : List ℕ → Option ℕ
-decimal_in digits = if is_decimal digits then Some (digits_value 10 digits) else None
-
--- Counts that need more than 32 bits are alike: no certificate has so many lines, or bytes.
-abbrev pub capped : ℕ → ℕ
-capped n = if nat_lt n 4294967296 then n else 4294967295
-
--- the same, where it is below a bound
-abbrev pub decimal_below : ℕ → List ℕ → Option ℕ
-decimal_below bound digits = option_and_then (λ n. if nat_lt n bound then Some n else None) (decimal_in digits)
-
--- what stands before and behind the first byte that is this, where there is one
-abbrev pub cut_at : ℕ → List ℕ → Option (List ℕ × List ℕ)
-cut_at byte bytes = option_map (λ i. (take i bytes, drop (i + 1) bytes)) (position (λ b. b == byte) bytes)
-
-abbrev pub is_space : ℕ → Bool
-is_space b = b == 32
-
--- what stands before, between and behind single spaces
-abbrev pub words_in : List ℕ → List (List ℕ)
-words_in line = slice_split is_space line
-
 -- ---- The forms of lines: what a line says, where it has the form
 
 -- a word and a number: `network 1`
@@ -68,10 +34,6 @@ count_in word line = option_and_then (λ parts. if bytes_eq parts.0 word then op
 -- the same, where the number is at most so much
 abbrev pub count_up_to : ℕ → List ℕ → List ℕ → Option ℕ
 count_up_to most word line = option_and_then (λ n. if nat_le n most then Some n else None) (count_in word line)
-
--- a number below a bound, and not below the least
-abbrev pub number_from : ℕ → ℕ → List ℕ → Option ℕ
-number_from least bound digits = option_and_then (λ n. if nat_le least n then Some n else None) (decimal_below bound digits)
 
 -- the number of a value of a range
 abbrev pub value_in : ValueRange → List ℕ → Option ℕ

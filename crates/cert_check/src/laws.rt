@@ -2,6 +2,7 @@
 
 ghost use Rattle.cert_check.specs.Laws.{GoodIsConverged, GoodIsCovered, MadeIsGood, RefutedIsImplied};
 ghost use Rattle.cert_check.specs.ReadingLaws.{EachIsReadOrRefused, NoTwoCertificates, NoTwoFaults, ReadIsNotRefused};
+ghost use Rattle.cert_check.specs.WritingLaws.{MadeIsConfirmed, WrittenIsRead};
 
 /// A candidate that tokens refute is implied by the network.
 pub fn refuted_is_implied()
@@ -41,4 +42,14 @@ pub fn no_two_faults()
 /// Each list of bytes is read as a certificate, or is refused, and not for want of memory.
 pub fn each_is_read_or_refused()
     ensures { EachIsReadOrRefused }
+{}
+
+/// The text of a certificate is read as that certificate.
+pub fn written_is_read()
+    ensures { WrittenIsRead }
+{}
+
+/// The text that is made for a covered network is read as the certificate that was made, and a check confirms it.
+pub fn made_is_confirmed()
+    ensures { MadeIsConfirmed }
 {}

@@ -25,7 +25,6 @@ mod tree;
 mod unread;
 mod verdict;
 mod walk;
-mod words;
 
 pub use cert::{Cert, Listed};
 pub use checking::check;

@@ -6,7 +6,7 @@ ghost use Rattle.cert_check.specs.Read.{AreFew, Reads, unread};
 
 use crate::fault::CertFault;
 use crate::unread::Lines;
-use crate::words::{cut_at, decimal_in};
+use line_text::{cut_at, decimal_in};
 
 /// The next line, and those behind it.
 pub(crate) fn line_in(lines: Lines<'_>) -> Result<(&[u8], Lines<'_>), CertFault>

@@ -6,7 +6,8 @@ ghost use Rattle.language.specs.Language.{IsCandidate, IsQuestion, candidates, r
 ghost use Rattle.language.specs.Ranges.{is_in};
 ghost use Rattle.language.specs.Answers.{IsNetwork};
 ghost use Rattle.cert_check.specs.Reading.{answer_in, answer_lines, item_in, item_lines, listed_in, listed_lines, next_line, pair_in, question_in, reply_in, token_in, tokens_in, value_in};
-ghost use Rattle.cert_check.specs.Read.{AreFew, Reads, unread, words_left};
+ghost use Rattle.line_text.specs.Left.{words_left};
+ghost use Rattle.cert_check.specs.Read.{AreFew, Reads, unread};
 
 use crate::cert::Listed;
 use crate::entry::Entry;
@@ -14,9 +15,9 @@ use crate::fault::CertFault;
 use crate::lines::line_in;
 use crate::token::Token;
 use crate::unread::Lines;
-use crate::words::{Words, cut_at, decimal_below, number_from};
 use assign::Partial;
 use language::{Candidate, Language};
+use line_text::{Words, cut_at, decimal_below, number_from};
 use std::alloc::Global;
 
 // ---- Answers

@@ -3,18 +3,18 @@
 ghost use Rattle.std.specs.Prelude.{◌≡◌, ◌<◌, ◌≤◌, ◌==◌, ◌∷◌, length, position, IfSome};
 ghost use Rattle.std.specs.Iterator.{YieldsFirstRef, item_count};
 ghost use Rattle.std.specs.Option.{option_map};
-ghost use Rattle.cert_check.specs.Reading.{begins_well, capped, cut_at, decimal_below, decimal_in, number_from, words_in};
-ghost use Rattle.cert_check.specs.Read.{words_left, words_of};
+ghost use Rattle.line_text.specs.Words.{begins_well, capped, cut_at, decimal_below, decimal_in, number_from, words_in};
+ghost use Rattle.line_text.specs.Left.{words_left, words_of};
 
 /// Where the byte is for the first time.
-fn place_of(bytes: &[u8], byte: u8) -> Option<usize>
+pub fn place_of(bytes: &[u8], byte: u8) -> Option<usize>
     ensures { result ≡ position (λ b. b == byte) bytes.now }
 {
     bytes.iter().position(|b| *b == byte)
 }
 
 /// What stands before and behind the first such byte, where there is one.
-pub(crate) fn cut_at(bytes: &[u8], byte: u8) -> Option<(&[u8], &[u8])>
+pub fn cut_at(bytes: &[u8], byte: u8) -> Option<(&[u8], &[u8])>
     ensures is { option_map (λ parts. (parts.0.now, parts.1.now)) result ≡ cut_at byte bytes.now }
     ensures shorter { IfSome result (λ parts. length parts.1.now < length bytes.now) }
 {
@@ -38,7 +38,7 @@ fn begins_well(digits: &[u8]) -> bool
 
 /// The number that digits write, where a 0 stands first only alone. One that needs more than 32 bits is taken for the greatest
 /// of 32.
-pub(crate) fn decimal_in(digits: &[u8]) -> Option<u32>
+pub fn decimal_in(digits: &[u8]) -> Option<u32>
     ensures { result ≡ option_map capped (decimal_in digits.now) }
 {
     if !begins_well(digits) {
@@ -53,7 +53,7 @@ pub(crate) fn decimal_in(digits: &[u8]) -> Option<u32>
 }
 
 /// The same, where the number is below the bound.
-pub(crate) fn decimal_below(bound: u32, digits: &[u8]) -> Option<u32>
+pub fn decimal_below(bound: u32, digits: &[u8]) -> Option<u32>
     ensures is { result ≡ decimal_below bound digits.now }
     ensures low { IfSome result (λ n. n < bound) }
 {
@@ -62,7 +62,7 @@ pub(crate) fn decimal_below(bound: u32, digits: &[u8]) -> Option<u32>
 }
 
 /// The same, where it isn't below the least.
-pub(crate) fn number_from(least: u32, bound: u32, digits: &[u8]) -> Option<u32>
+pub fn number_from(least: u32, bound: u32, digits: &[u8]) -> Option<u32>
     ensures is { result ≡ number_from least bound digits.now }
     ensures from { IfSome result (λ n. least ≤ n) }
     ensures low { IfSome result (λ n. n < bound) }
@@ -83,12 +83,12 @@ fn cut_word(line: &[u8]) -> (&[u8], Option<&[u8]>)
 
 /// The words of a line, one by one: what stands before, between and behind single spaces.
 #[derive(Drop)]
-pub(crate) struct Words<'a> {
+pub struct Words<'a> {
     rest: Option<&'a [u8]>,
 }
 
 impl<'a> Words<'a> {
-    pub(crate) fn of(line: &'a [u8]) -> Words<'a>
+    pub fn of(line: &'a [u8]) -> Words<'a>
         ensures { words_left result ≡ words_in line.entry.now }
     {
         Words { rest: Some(line) }

@@ -2,8 +2,8 @@ use Rattle.std.proofs.Common.{◌≡◌, ◌<◌, drop}
 use Rattle.std.specs.Char.{is_digit}
 use Rattle.std.specs.List.{list_all}
 use Rattle.std.specs.Str.Parse.{digits_value, digits_value_after}
-use Rattle.cert_check.specs.Reading.{capped}
-use Rattle.cert_check.proofs.words.decimal_in.Given as goal
+use Rattle.line_text.specs.Words.{capped}
+use Rattle.line_text.proofs.words.decimal_in.Given as goal
 
 abbrev pub invariant-loop-byte : goal.invariant-loop-byte
 invariant-loop-byte l = record {

@@ -6,7 +6,7 @@ use Rattle.std.specs.Char.{digit_value, is_digit}
 use Rattle.std.specs.Str.Parse.{digits_value, digits_value_after}
 use Rattle.std.proofs.lemmas.Bool.{cases_lt, lt-ltb, le-ltb, and_from}
 use Rattle.std.proofs.lemmas.List.{drop_all}
-use Rattle.cert_check.specs.Reading.{begins_well, is_decimal, capped, decimal_in}
+use Rattle.line_text.specs.Words.{begins_well, is_decimal, capped, decimal_in}
 
 -- more digits make no smaller number
 pub value_grows : (n : ℕ) (digits : List ℕ) → n ≤ digits_value_after 10 n digits

@@ -4,9 +4,9 @@ use Rattle.std.specs.List.{list_all}
 use Rattle.std.specs.Str.Parse.{digits_value_after}
 use Rattle.std.proofs.lemmas.Bool.{lt-ltb}
 use Rattle.std.proofs.lemmas.List.{at_drop_more}
-use Rattle.cert_check.specs.Reading.{capped}
-use Rattle.cert_check.proofs.Numerals.{capped_after, digits_read}
-use Rattle.cert_check.proofs.words.decimal_in.Goals as goal
+use Rattle.line_text.specs.Words.{capped}
+use Rattle.line_text.proofs.Numerals.{capped_after, digits_read}
+use Rattle.line_text.proofs.words.decimal_in.Goals as goal
 
 pub loop-byte-preserved : goal.loop-byte-preserved
 loop-byte-preserved c =

@@ -1,6 +1,6 @@
 use Rattle.std.proofs.Common.{sym}
-use Rattle.cert_check.proofs.Cutting.{word_alone, word_cut}
-use Rattle.cert_check.proofs.words.cut_word.Goals as goal
+use Rattle.line_text.proofs.Cutting.{word_alone, word_cut}
+use Rattle.line_text.proofs.words.cut_word.Goals as goal
 
 pub returns-in-None : goal.returns-in-None
 returns-in-None c = word_alone c.args.line.now (sym c.in-None.ensures.is)
