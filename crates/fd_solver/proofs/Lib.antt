@@ -2,5 +2,6 @@ pub mod Turning
 pub mod Left
 pub mod Alive
 pub mod Narrowing
+pub mod Knowing
 pub mod Walking
 pub mod Outcomes

@@ -1,11 +1,13 @@
 -- What the room of a search is seen as.
-use Rattle.std.specs.Prelude.{◌≤◌, vec_capacity}
+use Rattle.std.specs.Prelude.{◌≡◌, ◌≤◌, length, vec_capacity}
 use Rattle.fd_solver.specs.Ready.{Room}
 use Rattle.fd_solver.specs.declared.work.Work.TheInside.{Inside}
 
 abbrev pub seen : Inside → Room
-seen a = record { depths = a.depths.items; plan = a.plan }
+seen a = record { depths = a.depths.items; entailed = a.entailed.items; plan = a.plan }
 
--- room for depths from no value up to 128
-abbrev pub IsDeep : Inside → Type 0
-IsDeep a = 129 ≤ vec_capacity a.depths
+-- room for depths from no value up to 128, of which as many are there for both
+pub record IsDeep (a : Inside) : Type 0 where
+  pub depths : 129 ≤ vec_capacity a.depths
+  pub entailed : 129 ≤ vec_capacity a.entailed
+  pub same : length a.entailed.items ≡ length a.depths.items

@@ -5,6 +5,8 @@ ghost use Rattle.propagators.specs.Allowed.{AreConstraints};
 ghost use Rattle.propagators.specs.Families.{arcs_of, has_family, is_arc_consistent};
 ghost use Rattle.propagators.specs.Plans.{IsPlanOf};
 ghost use Rattle.propagators.specs.Indexes.{IsIndexOf};
+ghost use Rattle.propagators.specs.Entailed.{AreEntailed};
+ghost use Rattle.propagators.specs.declared.entailed.Entailed.{Entailed};
 ghost use Rattle.propagators.specs.Propagated.{AreSome, IsPropagated, RunsEmpty};
 ghost use Rattle.fd_solver.specs.Outcomes.{IsOrder, is_alive_in};
 ghost use Rattle.fd_solver.specs.Ready.{IsReady, IsArranged, fixed, room_of};
@@ -12,7 +14,9 @@ ghost use Rattle.fd_solver.specs.Ready.{IsReady, IsArranged, fixed, room_of};
 use crate::stack::Stack;
 use assign::VarSet;
 use language::{Language, Memory};
-use propagators::{Alive, Constraints, Domains, Index, Plan, propagate_after, propagate_all};
+use propagators::{
+    Alive, Constraints, Domains, Entailed, Index, Plan, propagate_all, propagate_beside,
+};
 use std::alloc::Global;
 use std::marker::Model;
 
@@ -25,6 +29,8 @@ pub struct Work {
     /// For each depth the values that are left to the variables, where so many have one. There are as many as the searches so far
     /// had, and room for all: memory that no search comes to is never touched.
     depths: Vec<Domains>,
+    /// For each of these depths conditions that are entailed there, which needn't be looked at below it.
+    entailed: Vec<Entailed>,
     /// What is known of the conditions.
     plan: Plan,
 }
@@ -43,15 +49,24 @@ impl Model for Work {
 
 /// Gives a variable one of its values, and takes the values away that don't go with it. Says whether each variable has one
 /// left.
-fn narrow(cons: &Constraints, plan: &Plan, doms: &mut Domains, v: u8, x: u8) -> bool
+fn narrow(
+    cons: &Constraints,
+    plan: &Plan,
+    doms: &mut Domains,
+    entailed: &mut Entailed,
+    v: u8,
+    x: u8,
+) -> bool
     requires lawful { IsLanguage cons.now.lang.now }
     requires constraints { AreConstraints cons.now.lang.now cons.now.list.now cons.now.against }
     requires plan { IsPlanOf cons.now.lang.now (arcs_of cons.now.lang.now cons.now.list.now cons.now.against) plan.now }
     requires doms { AreSome cons.now.lang.now doms.old }
     requires consistent { is_arc_consistent (arcs_of cons.now.lang.now cons.now.list.now cons.now.against) doms.old ≡ true }
+    requires entailed { AreEntailed (arcs_of cons.now.lang.now cons.now.list.now cons.now.against) entailed.old doms.old }
     requires known { v < variable_count cons.now.lang.now }
     requires there { has (slice_index_or doms.old v []) x ≡ true }
     ensures alive { result ≡ true → IsPropagated cons.now.lang.now (arcs_of cons.now.lang.now cons.now.list.now cons.now.against) (fixed doms.old v x) doms.new }
+    ensures entailed { result ≡ true → AreEntailed (arcs_of cons.now.lang.now cons.now.list.now cons.now.against) entailed.new doms.new }
     ensures dead { result ≡ false → RunsEmpty (arcs_of cons.now.lang.now cons.now.list.now cons.now.against) (fixed doms.old v x) }
 {
     if let Some(_only) = doms.only(v) {
@@ -59,14 +74,14 @@ fn narrow(cons: &Constraints, plan: &Plan, doms: &mut Domains, v: u8, x: u8) -> 
         return true;
     }
     doms.fix(v, x);
-    match propagate_after(cons, plan, doms, VarSet::empty().with(v)) {
+    match propagate_beside(cons, plan, doms, entailed, VarSet::empty().with(v)) {
         Alive::Yes => true,
         Alive::No => false,
     }
 }
 
-/// Puts the same values behind those of the depths that are there, up to the deepest.
-fn fill(depths: &mut Vec<Domains>, doms: Domains, deepest: usize)
+/// Puts the same item behind those of the depths that are there, up to the deepest.
+fn fill<T: Copy>(depths: &mut Vec<T>, item: T, deepest: usize)
     requires few { deepest ≤ 128 }
     requires room { 129 ≤ vec_capacity depths.old }
     requires below { vec_len depths.old ≤ deepest }
@@ -74,12 +89,12 @@ fn fill(depths: &mut Vec<Domains>, doms: Domains, deepest: usize)
     ensures room { vec_capacity depths.new ≡ vec_capacity depths.old }
 {
     for _depth in depths.len()..deepest + 1 {
-        depths.push_reserved(doms);
+        depths.push_reserved(item);
     }
 }
 
 impl Work {
-    /// Room for a search: some 130 KB for the values of each depth, and some 23 bytes for each of as many conditions as there are
+    /// Room for a search: some 150 KB for what is known at each depth, and some 23 bytes for each of as many conditions as there are
     /// scopes, and one more. `Memory` where there is none.
     ///
     /// With more conditions than that a search is as exact and slower.
@@ -89,8 +104,15 @@ impl Work {
         let Ok(depths) = Vec::with_capacity(alloc, DEPTHS) else {
             return Err(Memory);
         };
+        let Ok(entailed) = Vec::with_capacity(alloc, DEPTHS) else {
+            return Err(Memory);
+        };
         match Plan::new(alloc, lang.scopes() as usize + 1) {
-            Ok(plan) => Ok(Work { depths, plan }),
+            Ok(plan) => Ok(Work {
+                depths,
+                entailed,
+                plan,
+            }),
             Err(_) => Err(Memory),
         }
     }
@@ -99,6 +121,7 @@ impl Work {
     #[inline(never)]
     fn deepen(&mut self, lang: &Language)
         ensures deep { variable_count lang.now < length self.new.depths }
+        ensures same { length self.new.entailed ≡ length self.new.depths }
         ensures plan { self.new.plan ≡ self.old.plan }
     {
         let deepest = usize::from(lang.n());
@@ -106,6 +129,7 @@ impl Work {
             return;
         }
         fill(&mut self.depths, Domains::full(lang), deepest);
+        fill(&mut self.entailed, Entailed::none(), deepest);
     }
 
     /// Notes the conditions, and the values that are left where no variable has one. Says whether each has some.
@@ -114,6 +138,8 @@ impl Work {
         requires constraints { AreConstraints cons.now.lang.now cons.now.list.now cons.now.against }
         ensures plan { IsPlanOf cons.now.lang.now (arcs_of cons.now.lang.now cons.now.list.now cons.now.against) self.new.plan }
         ensures deep { variable_count cons.now.lang.now < length self.new.depths }
+        ensures same { length self.new.entailed ≡ length self.new.depths }
+        ensures entailed { result ≡ true → (e : Entailed) → AreEntailed (arcs_of cons.now.lang.now cons.now.list.now cons.now.against) (slice_index_or self.new.entailed 0 e) (slice_index_or self.new.depths 0 []) }
         ensures ready { result ≡ true → IsReady cons.now.lang.now cons.now.list.now cons.now.against (replicate (variable_count cons.now.lang.now) None) (slice_index_or self.new.depths 0 []) }
         ensures dead { result ≡ false → has_family cons.now.lang.now cons.now.list.now cons.now.against (replicate (variable_count cons.now.lang.now) None) ≡ false }
     {
@@ -123,6 +149,7 @@ impl Work {
         match propagate_all(cons, &self.plan, &mut root) {
             Alive::Yes => {
                 self.depths[0] = root;
+                self.entailed[0] = Entailed::none();
                 true
             }
             Alive::No => false,
@@ -136,6 +163,8 @@ impl Work {
         requires index { IsIndexOf cons.now.lang.now index.now }
         ensures plan { IsPlanOf cons.now.lang.now (arcs_of cons.now.lang.now cons.now.list.now cons.now.against) self.new.plan }
         ensures deep { variable_count cons.now.lang.now < length self.new.depths }
+        ensures same { length self.new.entailed ≡ length self.new.depths }
+        ensures entailed { result ≡ true → (e : Entailed) → AreEntailed (arcs_of cons.now.lang.now cons.now.list.now cons.now.against) (slice_index_or self.new.entailed 0 e) (slice_index_or self.new.depths 0 []) }
         ensures ready { result ≡ true → IsReady cons.now.lang.now cons.now.list.now cons.now.against (replicate (variable_count cons.now.lang.now) None) (slice_index_or self.new.depths 0 []) }
         ensures dead { result ≡ false → has_family cons.now.lang.now cons.now.list.now cons.now.against (replicate (variable_count cons.now.lang.now) None) ≡ false }
     {
@@ -143,6 +172,7 @@ impl Work {
         match index.begin(cons, &mut self.plan) {
             Some(left) => {
                 self.depths[0] = left;
+                self.entailed[0] = Entailed::none();
                 true
             }
             None => false,
@@ -167,6 +197,14 @@ impl Work {
             return false;
         }
         self.depths[at + 1] = self.depths[at];
-        narrow(cons, &self.plan, &mut self.depths[at + 1], v, x)
+        self.entailed[at + 1] = self.entailed[at];
+        narrow(
+            cons,
+            &self.plan,
+            &mut self.depths[at + 1],
+            &mut self.entailed[at + 1],
+            v,
+            x,
+        )
     }
 }

@@ -5,11 +5,12 @@ use Rattle.std.specs.List.{list_all}
 use Rattle.std.proofs.lemmas.List.{set-get_or, get_or-set_other}
 use Rattle.std.proofs.lemmas.Bool.{both_ways, eq-eqb, or_left}
 use Rattle.assign.specs.Sets.{has, union}
-use Rattle.propagators.specs.Families.{Family, Arc, sets_on, is_not_empty, size_of}
+use Rattle.propagators.specs.Families.{Family, Arc, sets_on, is_not_empty, size_of, IsSubfamily}
 use Rattle.propagators.specs.Supports.{AreBelow, AreDifferent, IsWithin, IsThrough, AreSupported, IsRevised, IsDead, replaced}
 use Rattle.propagators.specs.Pairs.{IsOnly, IsBeside, IsNarrowed}
+use Rattle.propagators.specs.Entailed.{IsEntailed}
 use Rattle.propagators.specs.Plans.{IsLooked}
-use Rattle.propagators.proofs.Replacing.{is_revised, is_dead, member_of_some}
+use Rattle.propagators.proofs.Replacing.{is_revised, is_dead, member_of_some, all_full}
 use Rattle.propagators.proofs.Rounds.{AreSmall}
 use Rattle.propagators.proofs.Visiting.{looked_same, looked_changed}
 
@@ -118,6 +119,38 @@ module _ (d : ℕ) (a : Arc) (f : Family) (v : ℕ) (pass : ℕ → Bool) (diffe
       go (inr is) = from (subst (λ (scope : List ℕ). AreSupported (sets_on f scope) a.accepted ([] ∷ [] ∷ [])) (sym is.0)
           (none_supported (slice_index_or f v []) (slice_index_or f beside.other []) a.accepted
           (λ y x in_y in_x at. never y in_y (sym (is.1 y (below v y in_y)) ∙ ap (λ w. a.accepted (y ∷ w ∷ [])) (sym (beside.only.alone x in_x)) ∙ at)))) (sym (ap length is.0))
+
+-- the other variable keeps its one value, and each of this one's goes with it
+module _ (d : ℕ) (a : Arc) (f g : Family) (v : ℕ) (pass : ℕ → Bool) (different : AreDifferent a.scope) (known : All (λ u. u < length f) a.scope) (below : (u : ℕ) → AreBelow d (slice_index_or f u [])) (beside : IsBeside d a f v pass) (narrowed : IsNarrowed v pass f g) (sub : IsSubfamily g f) (long : length g ≡ length f) where
+  pub beside_entailed : IsEntailed a g
+  beside_entailed = λ h within same full. (beside_revised d a h v pass different (subst (λ (n : ℕ). All (λ u. u < n) a.scope) (sym (same ∙ long)) known) (λ u x at. below u x (sub u x (within u x at))) (still h within same full) h (all h within same full)).consistent
+    where
+      two : (beside.other < length f) × (v < length f)
+      two = go beside.is
+        where
+          go : ((a.scope ≡ beside.other ∷ v ∷ []) × ((y : ℕ) → y < d → a.accepted (beside.value ∷ y ∷ []) ≡ pass y)) ⊎ ((a.scope ≡ v ∷ beside.other ∷ []) × ((y : ℕ) → y < d → a.accepted (y ∷ beside.value ∷ []) ≡ pass y)) → (beside.other < length f) × (v < length f)
+          go (inl is) = let both = subst (λ (scope : List ℕ). All (λ u. u < length f) scope) is.0 known in (both 0 0 (omega arith), both 1 0 (omega arith))
+          go (inr is) = let both = subst (λ (scope : List ℕ). All (λ u. u < length f) scope) is.0 known in (both 1 0 (omega arith), both 0 0 (omega arith))
+
+      still : (h : Family) → IsSubfamily h g → length h ≡ length g → list_all is_not_empty h ≡ true → IsBeside d a h v pass
+      still h within same full = record { other = beside.other; value = beside.value; only = only; is = beside.is }
+        where
+          some : (x : ℕ) × (has (slice_index_or h beside.other []) x ≡ true)
+          some = member_of_some (slice_index_or h beside.other []) (all_full h full beside.other (let low = two.0 in omega arith))
+
+          only : IsOnly (slice_index_or h beside.other []) beside.value
+          only = record {
+            there = ap (has (slice_index_or h beside.other [])) (sym (beside.only.alone some.0 (sub beside.other some.0 (within beside.other some.0 some.1)))) ∙ some.1;
+            alone = λ y at. beside.only.alone y (sub beside.other y (within beside.other y at));
+          }
+
+      all : (h : Family) → IsSubfamily h g → length h ≡ length g → list_all is_not_empty h ≡ true → IsNarrowed v pass h h
+      all h within same full = record {
+        values = λ y at. (at, (narrowed.values y (within v y at)).1);
+        kept = λ y at p. at;
+        some = all_full h full v (let low = two.1 in omega arith);
+        is = sym (set-get_or h v []);
+      }
 
 -- the others have the same values
 pub narrowed_others : (f g : Family) (v : ℕ) (pass : ℕ → Bool) → IsNarrowed v pass f g → (u : ℕ) → u ≢ v → slice_index_or g u [] ≡ slice_index_or f u []

@@ -18,3 +18,5 @@ pub mod ByMasks
 pub mod Standing
 pub mod Indexed
 pub mod Single
+pub mod Entailing
+pub mod Looking

@@ -7,11 +7,12 @@ use Rattle.language.specs.Language.{Language, range_of}
 use Rattle.propagators.specs.Families.{Family, Arc, sets_on, is_consistent, IsSubfamily}
 use Rattle.propagators.specs.Supports.{IsThrough, IsFamilyOf, IsRevised, IsDead}
 use Rattle.propagators.specs.Pairs.{AgreeInside}
+use Rattle.propagators.specs.Entailed.{IsEntailed}
 use Rattle.propagators.specs.Briefs.{by_pair, arc_by, IsPairOf}
 use Rattle.propagators.specs.declared.briefs.Pair.{Pair}
 use Rattle.propagators.proofs.Pruned.{consistent, supporting}
 use Rattle.propagators.proofs.Replacing.{supported_through, through_supported}
-use Rattle.propagators.proofs.Conditions.{tuple_in}
+use Rattle.propagators.proofs.Conditions.{tuple_in, family_within}
 
 -- the values of a family are of the ranges
 abbrev pub AreRanged : Language → Family → Type 0
@@ -61,3 +62,7 @@ module _ (l : Language) (a : Arc) (p : Pair) (f : Family) (is : IsPairOf l a p) 
     low = dead.low;
     empty = λ other sub ok. dead.empty other sub (to_table other sub ok);
   }
+
+-- a condition that a table stands for
+pub stood_entailed : (l : Language) (a : Arc) (p : Pair) (f : Family) → (is : IsPairOf l a p) → IsFamilyOf l f → IsEntailed (arc_by l is.pairs p) f → IsEntailed a f
+stood_entailed l a p f is family e = λ h sub same full. stood_consistent l a p h is (family_within l f h same sub family) (e h sub same full)

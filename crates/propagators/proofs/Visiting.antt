@@ -10,10 +10,14 @@ use Rattle.assign.specs.Sets.{has, union, without, least_of, Rises, IsSet}
 use Rattle.assign.specs.SetLemmas.{has-set_where, set_where-same}
 use Rattle.assign.proofs.Masks.{canonical, rises_lower, lacks}
 use Rattle.propagators.specs.Values.{ones_of}
-use Rattle.propagators.specs.Families.{Family, Arc, is_consistent, is_not_empty, size_of}
+use Rattle.std.specs.Int.{bit_at}
+use Rattle.propagators.specs.Families.{Family, Arc, is_consistent, is_not_empty, is_wanted, size_of}
+use Rattle.propagators.specs.Entailed.{AreEntailed}
+use Rattle.propagators.specs.declared.entailed.Entailed.{Entailed}
 use Rattle.propagators.specs.Supports.{IsRevised, AreSettled, AreFewer, IsCut, IsUnderway}
 use Rattle.propagators.specs.Plans.{AreNoted, AreLeft, IsLooked}
-use Rattle.propagators.proofs.Ones.{ones_of-zero}
+use Rattle.propagators.proofs.Ones.{ones_of-zero, has-ones_of}
+use Rattle.propagators.proofs.Entailing.{entailed_now}
 use Rattle.propagators.proofs.Replacing.{member_place}
 use Rattle.propagators.proofs.Rounds.{stays_consistent, touch_union, underway_begin, underway_step, underway_more, AreSmall, no_members}
 
@@ -134,21 +138,31 @@ visit_begin arcs changed v f small full settled = record {
     go k a low h (inl never) = absurd (omega arith)
     go k a low h (inr lacking) = settled k a low (touch_without changed v (slice_index_or arcs k a).scope (small k a low) (lacking a) h)
 
--- what isn't in the word of the variable lacks it
-pub visit_word : (arcs : List Arc) (words v w : ℕ) (sets begun : List ℕ) (from : Family) (waiting : List ℕ) (f : Family) (word : ℕ) → AreNoted arcs words sets → w < words → word ≡ slice_index_or sets (w * 128 + v) 0 →
+-- what isn't in the word of the variable lacks it, but for what is entailed
+pub visit_word : (arcs : List Arc) (words v w : ℕ) (sets begun : List ℕ) (from : Family) (waiting : List ℕ) (f : Family) (noted known word : ℕ) (e : Entailed) → AreNoted arcs words sets → w < words → noted ≡ slice_index_or sets (w * 128 + v) 0 →
+    known ≡ slice_index_or e.words w 0 → ((y : ℕ) → has (ones_of word) y ≡ (has (ones_of noted) y && is_wanted false (bit_at known y == 1))) → AreEntailed arcs e f →
     IsVisiting arcs begun from (IsBefore arcs v w) waiting f → IsVisiting arcs begun from (IsWithout arcs v w word) waiting f
-visit_word arcs words v w sets begun from waiting f word noted room at is = record {
+visit_word arcs words v w sets begun from waiting f noted known word e are_noted room at known_at goes are is = record {
   underway = is.underway;
   left = is.left;
   settled = λ k a low h done. go k a low h done;
 }
   where
+    open_there : (p q r : Bool) → q ≡ false → r ≡ q → (p && not r) ≡ false → p ≡ false
+    open_there true true r none same h = cc
+    open_there true false true none same h = cc
+    open_there true false false none same h = h
+    open_there false q r none same h = refl
+
     go : (k : ℕ) (a : Arc) → k < length arcs → list_any (has waiting) (slice_index_or arcs k a).scope ≡ false → IsWithout arcs v w word k → is_consistent f (slice_index_or arcs k a).scope (slice_index_or arcs k a).accepted ≡ true
     go k a low h (inl before) = is.settled k a low h before
-    go k a low h (inr gone) = is.settled k a low h (inr (λ b. lacking b (has (slice_index_or arcs k b).scope v) refl))
+    go k a low h (inr gone) = pick (has (ones_of known) gone.0) refl
       where
-        where_ : slice_index_or sets (k / 64 * 128 + v) 0 ≡ word
-        where_ = ap (λ j. slice_index_or sets (j * 128 + v) 0) (ap (λ j. j / 64) gone.2 ∙ div-mul-add w 64 gone.0 gone.1) ∙ sym at
+        row : k / 64 ≡ w
+        row = ap (λ j. j / 64) gone.2 ∙ div-mul-add w 64 gone.0 gone.1
+
+        where_ : slice_index_or sets (k / 64 * 128 + v) 0 ≡ noted
+        where_ = ap (λ j. slice_index_or sets (j * 128 + v) 0) row ∙ sym at
 
         bit : k % 64 ≡ gone.0
         bit = ap (λ j. j % 64) gone.2 ∙ mod-mul-add w 64 gone.0 gone.1
@@ -156,9 +170,16 @@ visit_word arcs words v w sets begun from waiting f word noted room at is = reco
         within : k < words * 64
         within = (let is = gone.2 in let b = gone.1 in omega arith)
 
-        lacking : (b : Arc) (q : Bool) → has (slice_index_or arcs k b).scope v ≡ q → q ≡ false
-        lacking b false e = refl
-        lacking b true e = absurd (both_ways _ gone.3 (ap (λ j. has (ones_of word) j) (sym bit) ∙ ap (λ m. has (ones_of m) (k % 64)) (sym where_) ∙ noted k v b low within e))
+        lacking : has (ones_of noted) gone.0 ≡ false → (b : Arc) (q : Bool) → has (slice_index_or arcs k b).scope v ≡ q → q ≡ false
+        lacking none b false at_b = refl
+        lacking none b true at_b = absurd (both_ways _ none (ap (λ j. has (ones_of noted) j) (sym bit) ∙ ap (λ m. has (ones_of m) (k % 64)) (sym where_) ∙ are_noted k v b low within at_b))
+
+        pick : (q : Bool) → has (ones_of known) gone.0 ≡ q → is_consistent f (slice_index_or arcs k a).scope (slice_index_or arcs k a).accepted ≡ true
+        pick true there = entailed_now (slice_index_or arcs k a) f is.underway.full (are k a low
+            (ap (λ j. has (ones_of (slice_index_or e.words j 0)) (k % 64)) row ∙ ap (λ j. has (ones_of (slice_index_or e.words w 0)) j) bit ∙ ap (λ m. has (ones_of m) gone.0) (sym known_at) ∙ there))
+        pick false other = is.settled k a low h (inr (λ b. lacking
+            (open_there (has (ones_of noted) gone.0) (has (ones_of known) gone.0) (bit_at known gone.0 == 1) other (sym (has-ones_of known gone.0 gone.1)) (sym (goes gone.0) ∙ gone.3))
+            b (has (slice_index_or arcs k b).scope v) refl))
 
 -- one look more
 pub visit_look : (arcs : List Arc) (v w : ℕ) (begun : List ℕ) (from : Family) (rest later b i : ℕ) (waiting next : List ℕ) (f g : Family) →

@@ -10,5 +10,6 @@ pub mod Loose
 pub mod Pairs
 pub mod Briefs
 pub mod Plans
+pub mod Entailed
 pub mod Propagated
 pub mod Indexes

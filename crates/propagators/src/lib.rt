@@ -12,6 +12,7 @@
 mod briefs;
 mod constraints;
 mod domains;
+mod entailed;
 mod index;
 mod indexing;
 pub mod laws;
@@ -24,7 +25,8 @@ mod visits;
 
 pub use constraints::Constraints;
 pub use domains::Domains;
+pub use entailed::Entailed;
 pub use index::Index;
 pub use plan::Plan;
 pub use revising::{Alive, propagate};
-pub use visits::{propagate_after, propagate_all};
+pub use visits::{propagate_after, propagate_all, propagate_beside};

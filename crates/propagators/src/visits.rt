@@ -14,15 +14,17 @@ ghost use Rattle.propagators.specs.Pairs.{IsOnly, IsValueOf, IsBeside};
 ghost use Rattle.propagators.specs.Briefs.{IsPairOf, AreBriefs, arc_by};
 ghost use Rattle.rel_table.specs.Relation.{Relation};
 ghost use Rattle.language.specs.Pairs.{ArePairTables, IsPairTable};
+ghost use Rattle.propagators.specs.Entailed.{AreEntailed};
 ghost use Rattle.propagators.specs.Plans.{IsPlanOf, AreNoted, AreLimits, AreTakenIn, AreNarrow, IsLooked};
 ghost use Rattle.propagators.specs.Propagated.{AreSome, IsSettledBut, IsPropagated, RunsEmpty, IsWholePlanOf, IsVisited};
 
 use crate::briefs::{Brief, Pair, brief_of, raise_all};
 use crate::constraints::Constraints;
 use crate::domains::{Domains, Left};
+use crate::entailed::Entailed;
 use crate::plan::Plan;
 use crate::revising::{Alive, revise, revise_pair, settle};
-use crate::values::{add_value, least_value, without_value};
+use crate::values::{add_value, least_value, passing, without_value};
 use assign::VarSet;
 use language::Language;
 use std::alloc::{AllocError, Global};
@@ -329,7 +331,8 @@ fn look_at_both(
     }
 }
 
-/// `look_at_both`, but where one of the two variables has one value alone, a mask tells what goes with it.
+/// `look_at_both`, but where one of the two variables has one value alone, a mask tells what goes with it. Then the condition is
+/// entailed.
 fn look_at_pair(
     cons: &Constraints,
     plan: &Plan,
@@ -338,6 +341,7 @@ fn look_at_pair(
     v: u8,
     value: Option<u8>,
     doms: &mut Domains,
+    entailed: &mut Entailed,
     waiting: &mut VarSet,
 ) -> Alive
     requires lawful { IsLanguage cons.now.lang.now }
@@ -348,6 +352,7 @@ fn look_at_pair(
     requires low { i < length (arcs_of cons.now.lang.now cons.now.list.now cons.now.against) }
     requires doms { AreSome cons.now.lang.now doms.old }
     ensures looked { result ≡ Alive.Yes → IsLooked (arcs_of cons.now.lang.now cons.now.list.now cons.now.against) i waiting.old waiting.new doms.old doms.new }
+    ensures entailed { result ≡ Alive.Yes → AreEntailed (arcs_of cons.now.lang.now cons.now.list.now cons.now.against) entailed.old doms.old → AreEntailed (arcs_of cons.now.lang.now cons.now.list.now cons.now.against) entailed.new doms.new }
     ensures dead { result ≡ Alive.No → RunsEmpty (arcs_of cons.now.lang.now cons.now.list.now cons.now.against) doms.old }
 {
     let Some((u, row)) = beside(cons.lang, pair, doms, v, value) else {
@@ -362,6 +367,7 @@ fn look_at_pair(
     match doms.keep(u, row, pair.holding) {
         Left::Nothing => Alive::No,
         Left::Fewer => {
+            entailed.add(i);
             // Its conditions stay consistent while it has more values than its limit.
             if doms.has_more(u, plan.limits[usize::from(u)]) {
                 return Alive::Yes;
@@ -369,7 +375,10 @@ fn look_at_pair(
             *waiting = waiting.with(u);
             Alive::Yes
         }
-        Left::Same => Alive::Yes,
+        Left::Same => {
+            entailed.add(i);
+            Alive::Yes
+        }
     }
 }
 
@@ -383,6 +392,7 @@ fn look_at(
     v: u8,
     value: Option<u8>,
     doms: &mut Domains,
+    entailed: &mut Entailed,
     waiting: &mut VarSet,
 ) -> Alive
     requires lawful { IsLanguage cons.now.lang.now }
@@ -392,13 +402,14 @@ fn look_at(
     requires count { count ≡ length (arcs_of cons.now.lang.now cons.now.list.now cons.now.against) }
     requires doms { AreSome cons.now.lang.now doms.old }
     ensures looked { result ≡ Alive.Yes → IsLooked (arcs_of cons.now.lang.now cons.now.list.now cons.now.against) i waiting.old waiting.new doms.old doms.new }
+    ensures entailed { result ≡ Alive.Yes → AreEntailed (arcs_of cons.now.lang.now cons.now.list.now cons.now.against) entailed.old doms.old → AreEntailed (arcs_of cons.now.lang.now cons.now.list.now cons.now.against) entailed.new doms.new }
     ensures dead { result ≡ Alive.No → RunsEmpty (arcs_of cons.now.lang.now cons.now.list.now cons.now.against) doms.old }
 {
     if i >= count {
         return Alive::Yes;
     }
     match plan.briefs[i] {
-        Brief::Two(pair) => look_at_pair(cons, plan, pair, i, v, value, doms, waiting),
+        Brief::Two(pair) => look_at_pair(cons, plan, pair, i, v, value, doms, entailed, waiting),
         Brief::Other => look_at_other(cons, i, doms, waiting),
     }
 }
@@ -411,12 +422,13 @@ fn value_of(lang: &Language, doms: &Domains, v: u8) -> Option<u8>
     if v < lang.n() { doms.only(v) } else { None }
 }
 
-/// Looks at the conditions of a changed variable. Says which variables are waiting then; `None` where some variable has no
-/// value left in an arc-consistent subfamily.
+/// Looks at the conditions of a changed variable, but for those that are entailed. Says which variables are waiting then; `None`
+/// where some variable has no value left in an arc-consistent subfamily.
 fn visit(
     cons: &Constraints,
     plan: &Plan,
     doms: &mut Domains,
+    entailed: &mut Entailed,
     changed: VarSet,
     v: u8,
 ) -> Option<VarSet>
@@ -424,15 +436,18 @@ fn visit(
     requires constraints { AreConstraints cons.now.lang.now cons.now.list.now cons.now.against }
     requires plan { IsWholePlanOf cons.now.lang.now (arcs_of cons.now.lang.now cons.now.list.now cons.now.against) plan.now }
     requires doms { IsSettledBut cons.now.lang.now (arcs_of cons.now.lang.now cons.now.list.now cons.now.against) changed doms.old }
+    requires entailed { AreEntailed (arcs_of cons.now.lang.now cons.now.list.now cons.now.against) entailed.old doms.old }
     requires known { v < 128 }
     ensures visited { IfSome result (λ next. IsVisited (arcs_of cons.now.lang.now cons.now.list.now cons.now.against) (without changed v) next doms.old doms.new) }
+    ensures entailed { IfSome result (λ next. AreEntailed (arcs_of cons.now.lang.now cons.now.list.now cons.now.against) entailed.new doms.new) }
     ensures dead { result ≡ None → RunsEmpty (arcs_of cons.now.lang.now cons.now.list.now cons.now.against) doms.old }
 {
     let mut waiting = changed.without(v);
     let count = cons.count();
     let value = value_of(cons.lang, doms, v);
     for w in 0..count.div_ceil(64) {
-        let mut rest = plan.sets[w * 128 + usize::from(v)];
+        let noted = plan.sets[w * 128 + usize::from(v)];
+        let mut rest = passing(noted, entailed.word(w), false);
         while rest != 0 {
             let b = least_value(rest);
             rest = without_value(rest, b);
@@ -444,6 +459,7 @@ fn visit(
                 v,
                 value,
                 doms,
+                entailed,
                 &mut waiting,
             ) {
                 Alive::No => return None,
@@ -455,12 +471,20 @@ fn visit(
 }
 
 /// Looks at the conditions of changed variables until none takes a value away.
-fn visit_all(cons: &Constraints, plan: &Plan, doms: &mut Domains, changed: VarSet) -> Alive
+fn visit_all(
+    cons: &Constraints,
+    plan: &Plan,
+    doms: &mut Domains,
+    entailed: &mut Entailed,
+    changed: VarSet,
+) -> Alive
     requires lawful { IsLanguage cons.now.lang.now }
     requires constraints { AreConstraints cons.now.lang.now cons.now.list.now cons.now.against }
     requires plan { IsWholePlanOf cons.now.lang.now (arcs_of cons.now.lang.now cons.now.list.now cons.now.against) plan.now }
     requires doms { IsSettledBut cons.now.lang.now (arcs_of cons.now.lang.now cons.now.list.now cons.now.against) changed doms.old }
+    requires entailed { AreEntailed (arcs_of cons.now.lang.now cons.now.list.now cons.now.against) entailed.old doms.old }
     ensures alive { result ≡ Alive.Yes → IsPropagated cons.now.lang.now (arcs_of cons.now.lang.now cons.now.list.now cons.now.against) doms.old doms.new }
+    ensures entailed { result ≡ Alive.Yes → AreEntailed (arcs_of cons.now.lang.now cons.now.list.now cons.now.against) entailed.new doms.new }
     ensures dead { result ≡ Alive.No → RunsEmpty (arcs_of cons.now.lang.now cons.now.list.now cons.now.against) doms.old }
 {
     let mut changed = changed;
@@ -468,12 +492,36 @@ fn visit_all(cons: &Constraints, plan: &Plan, doms: &mut Domains, changed: VarSe
         let Some(v) = changed.least() else {
             unreachable!()
         };
-        match visit(cons, plan, doms, changed, v) {
+        match visit(cons, plan, doms, entailed, changed, v) {
             None => return Alive::No,
             Some(next) => changed = next,
         }
     }
     Alive::Yes
+}
+
+/// `propagate_after`, where it is known that some conditions are entailed. Those that come to be so are taken in.
+pub fn propagate_beside(
+    cons: &Constraints,
+    plan: &Plan,
+    doms: &mut Domains,
+    entailed: &mut Entailed,
+    changed: VarSet,
+) -> Alive
+    requires lawful { IsLanguage cons.now.lang.now }
+    requires constraints { AreConstraints cons.now.lang.now cons.now.list.now cons.now.against }
+    requires plan { IsPlanOf cons.now.lang.now (arcs_of cons.now.lang.now cons.now.list.now cons.now.against) plan.now }
+    requires doms { IsSettledBut cons.now.lang.now (arcs_of cons.now.lang.now cons.now.list.now cons.now.against) changed doms.old }
+    requires entailed { AreEntailed (arcs_of cons.now.lang.now cons.now.list.now cons.now.against) entailed.old doms.old }
+    ensures alive { result ≡ Alive.Yes → IsPropagated cons.now.lang.now (arcs_of cons.now.lang.now cons.now.list.now cons.now.against) doms.old doms.new }
+    ensures entailed { result ≡ Alive.Yes → AreEntailed (arcs_of cons.now.lang.now cons.now.list.now cons.now.against) entailed.new doms.new }
+    ensures dead { result ≡ Alive.No → RunsEmpty (arcs_of cons.now.lang.now cons.now.list.now cons.now.against) doms.old }
+{
+    if cons.count() <= plan.briefs.len() {
+        visit_all(cons, plan, doms, entailed, changed)
+    } else {
+        settle(cons, doms, changed)
+    }
 }
 
 /// `propagate`, where no set is empty and each condition is consistent that has none of the changed variables. The plan is
@@ -491,11 +539,8 @@ pub fn propagate_after(
     ensures alive { result ≡ Alive.Yes → IsPropagated cons.now.lang.now (arcs_of cons.now.lang.now cons.now.list.now cons.now.against) doms.old doms.new }
     ensures dead { result ≡ Alive.No → RunsEmpty (arcs_of cons.now.lang.now cons.now.list.now cons.now.against) doms.old }
 {
-    if cons.count() <= plan.briefs.len() {
-        visit_all(cons, plan, doms, changed)
-    } else {
-        settle(cons, doms, changed)
-    }
+    let mut entailed = Entailed::none();
+    propagate_beside(cons, plan, doms, &mut entailed, changed)
 }
 
 /// The set, and the variable unless it has more than so many values.

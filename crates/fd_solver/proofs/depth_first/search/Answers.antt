@@ -2,12 +2,13 @@ use Rattle.std.proofs.Common.{◌∙◌, [], ap, sym, subst}
 use Rattle.std.specs.Prelude.{slice_index_or}
 use Rattle.language.specs.Language.{variable_count}
 use Rattle.assign.specs.Assignment.{assigned}
-use Rattle.propagators.specs.Families.{has_family}
+use Rattle.propagators.specs.Families.{arcs_of, has_family}
 use Rattle.fd_solver.specs.Outcomes.{is_alive_in}
 use Rattle.fd_solver.specs.Ready.{IsReady}
 use Rattle.language.proofs.Filling.{assigned_blank}
 use Rattle.fd_solver.proofs.Alive.{alive_fronts}
 use Rattle.fd_solver.proofs.Narrowing.{ready_first}
+use Rattle.fd_solver.proofs.Knowing.{known_first}
 use Rattle.fd_solver.proofs.Turning.{turn_dead}
 use Rattle.fd_solver.proofs.depth_first.search.Goals as goal
 
@@ -15,8 +16,10 @@ pub walk-requires-clause-ready : goal.walk-requires-clause-ready
 walk-requires-clause-ready c = record {
   depths = ready_first c.args.cons.now.lang.now c.args.cons.now.list.now c.args.cons.now.against c.args.order.now c.begin.new.self.depths
       (subst (λ e. IsReady c.args.cons.now.lang.now c.args.cons.now.list.now c.args.cons.now.against e (slice_index_or c.begin.new.self.depths 0 [])) (assigned_blank (variable_count c.args.cons.now.lang.now) c.args.order.now c.requires.order) (c.begin.ensures.ready c.if-begin.true));
+  entailed = known_first (arcs_of c.args.cons.now.lang.now c.args.cons.now.list.now c.args.cons.now.against) c.begin.new.self.depths c.begin.new.self.entailed (c.begin.ensures.entailed c.if-begin.true);
   plan = c.begin.ensures.plan;
   deep = c.begin.ensures.deep;
+  same = c.begin.ensures.same;
 }
 
 pub returns-else-begin : goal.returns-else-begin

@@ -16,6 +16,8 @@ use Rattle.propagators.proofs.Conditions.{arcs_small, arcs_within, arcs_differen
 use Rattle.propagators.proofs.Visiting.{looked_over}
 use Rattle.propagators.proofs.Beside.{beside_revised, beside_dead, beside_same, beside_fewer}
 use Rattle.propagators.proofs.Lazy.{beside_lazy, capped}
+use Rattle.propagators.proofs.Entailing.{entailed_under}
+use Rattle.propagators.proofs.Looking.{pair_taken_in}
 use Rattle.propagators.proofs.visits.look_at_pair.Goals as goal
 
 none : Arc
@@ -105,3 +107,27 @@ returns-in-Same-clause-looked c = λ e.
     (different_in c.args.cons.now.lang.now (slice_index_or (arcs_of c.args.cons.now.lang.now c.args.cons.now.list.now c.args.cons.now.against) c.args.i a) c.args.pair (c.requires.pair a) (arcs_different c.args.cons.now.lang.now c.args.cons.now.list.now c.args.cons.now.against c.requires.lawful c.requires.constraints c.args.i a c.requires.low))
     (known_in c.args.cons.now.lang.now (slice_index_or (arcs_of c.args.cons.now.lang.now c.args.cons.now.list.now c.args.cons.now.against) c.args.i a) c.args.pair c.args.doms.now (c.requires.pair a) (arcs_within c.args.cons.now.lang.now c.args.cons.now.list.now c.args.cons.now.against c.requires.lawful c.requires.constraints c.args.doms.now c.requires.doms.family c.args.i a c.requires.low))
     c.requires.doms.family.values (c.in-Some.ensures.beside (c.requires.pair a).pairs (c.requires.pair a).are c.requires.doms.family.values) c.keep.new.self c.in-Same.ensures.0)) c.in-Same.ensures.1
+
+pub returns-in_default-clause-entailed : goal.returns-in_default-clause-entailed
+returns-in_default-clause-entailed c = λ e are. entailed_under (arcs_of c.args.cons.now.lang.now c.args.cons.now.list.now c.args.cons.now.against) c.args.entailed.now c.args.doms.now c.look_at_both.new.doms (c.look_at_both.ensures.looked e).underway are
+
+pub returns-else-has_more-3-clause-entailed : goal.returns-else-has_more-3-clause-entailed
+returns-else-has_more-3-clause-entailed c = λ e are.
+    pair_taken_in c.args.cons.now.lang.now (arcs_of c.args.cons.now.lang.now c.args.cons.now.list.now c.args.cons.now.against) c.args.entailed.now c.add.new.self c.args.i c.args.pair c.args.doms.now c.keep.new.self c.in-Some.u (λ x. is_wanted c.args.pair.holding (bit_at c.in-Some.row x == 1))
+    c.requires.pair (λ a. arcs_different c.args.cons.now.lang.now c.args.cons.now.list.now c.args.cons.now.against c.requires.lawful c.requires.constraints c.args.i a c.requires.low)
+    (λ a. arcs_within c.args.cons.now.lang.now c.args.cons.now.list.now c.args.cons.now.against c.requires.lawful c.requires.constraints c.args.doms.now c.requires.doms.family c.args.i a c.requires.low)
+    c.requires.doms.family c.in-Some.ensures.beside c.in-Fewer.ensures.0 c.add.ensures are
+
+pub returns-then-has_more-3-clause-entailed : goal.returns-then-has_more-3-clause-entailed
+returns-then-has_more-3-clause-entailed c = λ e are.
+    pair_taken_in c.args.cons.now.lang.now (arcs_of c.args.cons.now.lang.now c.args.cons.now.list.now c.args.cons.now.against) c.args.entailed.now c.add.new.self c.args.i c.args.pair c.args.doms.now c.keep.new.self c.in-Some.u (λ x. is_wanted c.args.pair.holding (bit_at c.in-Some.row x == 1))
+    c.requires.pair (λ a. arcs_different c.args.cons.now.lang.now c.args.cons.now.list.now c.args.cons.now.against c.requires.lawful c.requires.constraints c.args.i a c.requires.low)
+    (λ a. arcs_within c.args.cons.now.lang.now c.args.cons.now.list.now c.args.cons.now.against c.requires.lawful c.requires.constraints c.args.doms.now c.requires.doms.family c.args.i a c.requires.low)
+    c.requires.doms.family c.in-Some.ensures.beside c.in-Fewer.ensures.0 c.add.ensures are
+
+pub returns-in-Same-clause-entailed : goal.returns-in-Same-clause-entailed
+returns-in-Same-clause-entailed c = λ e are.
+    pair_taken_in c.args.cons.now.lang.now (arcs_of c.args.cons.now.lang.now c.args.cons.now.list.now c.args.cons.now.against) c.args.entailed.now c.add-in-Same.new.self c.args.i c.args.pair c.args.doms.now c.keep.new.self c.in-Some.u (λ x. is_wanted c.args.pair.holding (bit_at c.in-Some.row x == 1))
+    c.requires.pair (λ a. arcs_different c.args.cons.now.lang.now c.args.cons.now.list.now c.args.cons.now.against c.requires.lawful c.requires.constraints c.args.i a c.requires.low)
+    (λ a. arcs_within c.args.cons.now.lang.now c.args.cons.now.list.now c.args.cons.now.against c.requires.lawful c.requires.constraints c.args.doms.now c.requires.doms.family c.args.i a c.requires.low)
+    c.requires.doms.family c.in-Some.ensures.beside c.in-Same.ensures.0 c.add-in-Same.ensures are

@@ -15,6 +15,7 @@ loop-w-init c = record {
       (visit_begin (arcs_of c.args.cons.now.lang.now c.args.cons.now.list.now c.args.cons.now.against) c.args.changed c.args.v c.args.doms.now
       (arcs_small c.args.cons.now.lang.now c.args.cons.now.list.now c.args.cons.now.against c.requires.lawful c.requires.constraints) c.requires.doms.full c.requires.doms.settled));
   value = c.value_of-value.ensures;
+  entailed = c.requires.entailed;
 }
 
 pub loop-rest-init : goal.loop-rest-init
@@ -28,12 +29,13 @@ loop-rest-init c = record {
       let known = c.requires.known in
       let word : c.loop-w.w < c.args.plan.now.words = omega arith in
       let fits = mul-add-lt c.loop-w.w 128 c.args.v c.args.plan.now.words word c.requires.known in
-      visit_word (arcs_of c.args.cons.now.lang.now c.args.cons.now.list.now c.args.cons.now.against) c.args.plan.now.words c.args.v c.loop-w.w c.args.plan.now.sets.items (without c.args.changed c.args.v) c.args.doms.now c.loop-w.waiting c.loop-w.doms c.index-rest.result.now
+      visit_word (arcs_of c.args.cons.now.lang.now c.args.cons.now.list.now c.args.cons.now.against) c.args.plan.now.words c.args.v c.loop-w.w c.args.plan.now.sets.items (without c.args.changed c.args.v) c.args.doms.now c.loop-w.waiting c.loop-w.doms c.index-noted.result.now c.word.result c.passing-rest.result c.loop-w.entailed
       c.requires.plan.plan.noted word
-      (get_or_read c.args.plan.now.sets.items (c.loop-w.w * 128 + c.from.result) c.index-rest.result.now (subst (λ (v : ℕ). c.loop-w.w * 128 + v < length c.args.plan.now.sets.items) (sym c.from.ensures) (omega arith)) c.index-rest.ensures 0
+      (get_or_read c.args.plan.now.sets.items (c.loop-w.w * 128 + c.from.result) c.index-noted.result.now (subst (λ (v : ℕ). c.loop-w.w * 128 + v < length c.args.plan.now.sets.items) (sym c.from.ensures) (omega arith)) c.index-noted.ensures 0
       ∙ ap (λ v. slice_index_or c.args.plan.now.sets.items (c.loop-w.w * 128 + v) 0) c.from.ensures)
-      c.loop-w.invariant.visiting);
+      c.word.ensures c.passing-rest.ensures c.loop-w.invariant.entailed c.loop-w.invariant.visiting);
   value = c.loop-w.invariant.value;
+  entailed = c.loop-w.invariant.entailed;
 }
 
 pub loop-rest-preserved : goal.loop-rest-preserved
@@ -42,6 +44,7 @@ loop-rest-preserved c = record {
       (c.loop-w.w * 64 + c.from-in-loop-rest.result) c.loop-rest.waiting c.look_at.new.waiting c.loop-rest.doms c.look_at.new.doms
       c.least_value-b.ensures.low c.without_value-rest.ensures.has (ap (λ b. c.loop-w.w * 64 + b) c.from-in-loop-rest.ensures) c.loop-rest.invariant.visiting (c.in-Yes.ensures.looked refl));
   value = value_stays (arcs_of c.args.cons.now.lang.now c.args.cons.now.list.now c.args.cons.now.against) c.loop-rest.doms c.look_at.new.doms c.args.v c.value_of-value.result (c.in-Yes.ensures.looked refl).underway c.loop-rest.invariant.value;
+  entailed = c.in-Yes.ensures.entailed refl c.loop-rest.invariant.entailed;
 }
 
 pub returns-in-No-clause-dead : goal.returns-in-No-clause-dead
@@ -51,4 +54,5 @@ pub loop-w-preserved : goal.loop-w-preserved
 loop-w-preserved c = record {
   visiting = (visit_next (arcs_of c.args.cons.now.lang.now c.args.cons.now.list.now c.args.cons.now.against) c.args.v c.loop-w.w (without c.args.changed c.args.v) c.args.doms.now c.loop-rest.rest c.loop-rest.waiting c.loop-rest.doms c.loop-rest-test.false c.loop-rest.invariant.visiting);
   value = c.loop-rest.invariant.value;
+  entailed = c.loop-rest.invariant.entailed;
 }

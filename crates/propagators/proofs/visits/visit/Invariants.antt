@@ -2,6 +2,7 @@ use Rattle.std.specs.Prelude.{IfSome}
 use Rattle.assign.specs.Sets.{without}
 use Rattle.propagators.specs.Families.{arcs_of}
 use Rattle.propagators.specs.Pairs.{IsValueOf}
+use Rattle.propagators.specs.Entailed.{AreEntailed}
 use Rattle.propagators.proofs.Visiting.{IsVisiting, IsBefore, IsWithout}
 use Rattle.propagators.proofs.visits.visit.Given as goal
 
@@ -9,12 +10,14 @@ abbrev pub invariant-loop-w : goal.invariant-loop-w
 invariant-loop-w l = record {
   visiting : IsVisiting (arcs_of l.cons.lang.now l.cons.list.now l.cons.against) (without l.fn.changed l.fn.v) l.fn.doms (IsBefore (arcs_of l.cons.lang.now l.cons.list.now l.cons.against) l.fn.v l.w) l.waiting l.doms;
   value : IfSome l.value (IsValueOf l.doms l.fn.v);
+  entailed : AreEntailed (arcs_of l.cons.lang.now l.cons.list.now l.cons.against) l.entailed l.doms;
 }
 
 abbrev pub invariant-loop-rest : goal.invariant-loop-rest
 invariant-loop-rest l = record {
   visiting : IsVisiting (arcs_of l.cons.lang.now l.cons.list.now l.cons.against) (without l.fn.changed l.fn.v) l.fn.doms (IsWithout (arcs_of l.cons.lang.now l.cons.list.now l.cons.against) l.fn.v l.w l.rest) l.waiting l.doms;
   value : IfSome l.value (IsValueOf l.doms l.fn.v);
+  entailed : AreEntailed (arcs_of l.cons.lang.now l.cons.list.now l.cons.against) l.entailed l.doms;
 }
 
 abbrev pub decreases-loop-rest : goal.decreases-loop-rest

@@ -1,11 +1,12 @@
 use Rattle.propagators.specs.Families.{arcs_of}
 use Rattle.propagators.specs.Supports.{IsUnderway, AreSettled}
+use Rattle.propagators.specs.Entailed.{AreEntailed}
 use Rattle.propagators.proofs.Visiting.{visits_left}
 use Rattle.propagators.proofs.visits.visit_all.Given as goal
 
 abbrev pub invariant-loop-changed : goal.invariant-loop-changed
 invariant-loop-changed l =
-    IsUnderway (arcs_of l.cons.lang.now l.cons.list.now l.cons.against) l.fn.doms l.doms × AreSettled (arcs_of l.cons.lang.now l.cons.list.now l.cons.against) l.changed l.doms
+    IsUnderway (arcs_of l.cons.lang.now l.cons.list.now l.cons.against) l.fn.doms l.doms × AreSettled (arcs_of l.cons.lang.now l.cons.list.now l.cons.against) l.changed l.doms × AreEntailed (arcs_of l.cons.lang.now l.cons.list.now l.cons.against) l.entailed l.doms
 
 abbrev pub decreases-loop-changed : goal.decreases-loop-changed
 decreases-loop-changed l = visits_left l.doms l.changed

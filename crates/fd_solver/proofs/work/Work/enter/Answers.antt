@@ -3,10 +3,13 @@ use Rattle.std.specs.Prelude.{slice_index_or, slice_set}
 use Rattle.std.proofs.lemmas.List.{get_or_read, get_or-set_same}
 use Rattle.std.proofs.Math.ListN.{length-set}
 use Rattle.assign.specs.Sets.{has}
-use Rattle.propagators.specs.Families.{arcs_of}
+use Rattle.propagators.specs.Families.{Family, arcs_of}
+use Rattle.propagators.specs.Entailed.{AreEntailed}
+use Rattle.propagators.specs.declared.entailed.Entailed.{Entailed}
 use Rattle.propagators.specs.Plans.{IsPlanOf}
-use Rattle.fd_solver.specs.Ready.{AreReady, Room}
+use Rattle.fd_solver.specs.Ready.{AreReady, AreKnown, Room}
 use Rattle.fd_solver.proofs.Narrowing.{deepest, below_lacking, entered, entered_ready, ready_written, deeper_written}
+use Rattle.fd_solver.proofs.Knowing.{known_written, known_deeper}
 use Rattle.fd_solver.proofs.work.Work.enter.Goals as goal
 
 pub returns-then-not-has-clause-is : goal.returns-then-not-has-clause-is
@@ -29,11 +32,11 @@ returns-clause-is c =
     let at = c.len-at.ensures in
     let room : c.len-at.result + 1 < length depths = omega arith in
     let read : c.index-2.result.now ≡ (slice_index_or c.args.self.now.depths (length c.args.prefix.now) []) = get_or_read depths c.len-at.result c.index-2.result.now (omega arith) c.index-2.ensures [] ∙ (λ i. slice_index_or (c.self.view_is i).depths (c.len-at.ensures i) []) in
-    let same : c.index_mut-2.result.now ≡ (slice_index_or c.args.self.now.depths (length c.args.prefix.now) []) =
-    get_or_read (slice_set depths (c.len-at.result + 1) c.index-2.result.now) (c.len-at.result + 1) c.index_mut-2.result.now (let size = length-set depths (c.len-at.result + 1) c.index-2.result.now in omega arith) c.index_mut-2.ensures.value []
+    let same : c.index_mut-3.result.now ≡ (slice_index_or c.args.self.now.depths (length c.args.prefix.now) []) =
+    get_or_read (slice_set depths (c.len-at.result + 1) c.index-2.result.now) (c.len-at.result + 1) c.index_mut-3.result.now (let size = length-set depths (c.len-at.result + 1) c.index-2.result.now in omega arith) c.index_mut-3.ensures.value []
     ∙ get_or-set_same depths (c.len-at.result + 1) c.index-2.result.now [] room ∙ read in
     entered c.args.cons.now.lang.now c.args.cons.now.list.now c.args.cons.now.against c.args.order.now c.requires.order c.requires.lawful c.requires.constraints c.args.prefix.now c.args.x (slice_index_or c.args.self.now.depths (length c.args.prefix.now) []) c.requires.short (deepest c.args.cons.now.lang.now c.args.cons.now.list.now c.args.cons.now.against c.args.order.now c.args.prefix.now c.args.self.now.depths c.requires.ready.depths)
-    c.len-at.result c.index_mut-2.result.now c.narrow.new.doms c.narrow.result at same c.narrow.ensures.alive c.narrow.ensures.dead
+    c.len-at.result c.index_mut-3.result.now c.narrow.new.doms c.narrow.result at same c.narrow.ensures.alive c.narrow.ensures.dead
 
 pub returns-clause-deeper : goal.returns-clause-deeper
 returns-clause-deeper c = λ alive. record {
@@ -44,18 +47,35 @@ returns-clause-deeper c = λ alive. record {
       let at = c.len-at.ensures in
       let room : c.len-at.result + 1 < length depths = omega arith in
       let read : c.index-2.result.now ≡ (slice_index_or c.args.self.now.depths (length c.args.prefix.now) []) = get_or_read depths c.len-at.result c.index-2.result.now (omega arith) c.index-2.ensures [] ∙ (λ i. slice_index_or (c.self.view_is i).depths (c.len-at.ensures i) []) in
-      let same : c.index_mut-2.result.now ≡ (slice_index_or c.args.self.now.depths (length c.args.prefix.now) []) =
-      get_or_read (slice_set depths (c.len-at.result + 1) c.index-2.result.now) (c.len-at.result + 1) c.index_mut-2.result.now (let size = length-set depths (c.len-at.result + 1) c.index-2.result.now in omega arith) c.index_mut-2.ensures.value []
+      let same : c.index_mut-3.result.now ≡ (slice_index_or c.args.self.now.depths (length c.args.prefix.now) []) =
+      get_or_read (slice_set depths (c.len-at.result + 1) c.index-2.result.now) (c.len-at.result + 1) c.index_mut-3.result.now (let size = length-set depths (c.len-at.result + 1) c.index-2.result.now in omega arith) c.index_mut-3.ensures.value []
       ∙ get_or-set_same depths (c.len-at.result + 1) c.index-2.result.now [] room ∙ read in
       deeper_written c.args.cons.now.lang.now c.args.cons.now.list.now c.args.cons.now.against c.args.order.now c.args.prefix.now c.args.x c.len-at.result depths c.index-2.result.now c.narrow.new.doms at room
       (subst (AreReady c.args.cons.now.lang.now c.args.cons.now.list.now c.args.cons.now.against c.args.order.now c.args.prefix.now) (sym (ap (λ (w : Room). w.depths) c.self.view_is)) c.requires.ready.depths)
       (entered_ready c.args.cons.now.lang.now c.args.cons.now.list.now c.args.cons.now.against c.args.order.now c.requires.order c.requires.lawful c.requires.constraints c.args.prefix.now c.args.x (slice_index_or c.args.self.now.depths (length c.args.prefix.now) []) c.requires.short (deepest c.args.cons.now.lang.now c.args.cons.now.list.now c.args.cons.now.against c.args.order.now c.args.prefix.now c.args.self.now.depths c.requires.ready.depths)
-      c.len-at.result c.index_mut-2.result.now c.narrow.new.doms at same (c.narrow.ensures.alive alive)));
+      c.len-at.result c.index_mut-3.result.now c.narrow.new.doms at same (c.narrow.ensures.alive alive)));
+  entailed = (let depths = c.self.inside.depths.items in
+      let lists = c.self.inside.entailed.items in
+      let short = c.requires.short in
+      let few = c.requires.lawful.few_variables in
+      let deep = c.requires.ready.deep in let both = c.requires.ready.same in let seen = ap (λ (w : Room). length w.depths) c.self.view_is in let seen_lists = ap (λ (w : Room). length w.entailed) c.self.view_is in
+      let at = c.len-at.ensures in
+      let room : c.len-at.result + 1 < length depths = omega arith in
+      let lists_room : c.len-at.result + 1 < length lists = omega arith in
+      known_deeper (arcs_of c.args.cons.now.lang.now c.args.cons.now.list.now c.args.cons.now.against) c.args.prefix.now c.len-at.result depths c.index-2.result.now c.narrow.new.doms lists c.index-3.result.now c.narrow.new.entailed at (subst (λ (w : Room). AreKnown (arcs_of c.args.cons.now.lang.now c.args.cons.now.list.now c.args.cons.now.against) c.args.prefix.now w.depths w.entailed) (sym c.self.view_is) c.requires.ready.entailed) c.args.x room lists_room (c.narrow.ensures.entailed alive));
   plan = subst (IsPlanOf c.args.cons.now.lang.now (arcs_of c.args.cons.now.lang.now c.args.cons.now.list.now c.args.cons.now.against)) (sym (ap (λ (w : Room). w.plan) c.self.view_is)) c.requires.ready.plan;
   deep = (let seen = ap (λ (w : Room). length w.depths) c.self.view_is in
       let copied = length-set c.self.inside.depths.items (c.len-at.result + 1) c.index-2.result.now in
       let narrowed = length-set (slice_set c.self.inside.depths.items (c.len-at.result + 1) c.index-2.result.now) (c.len-at.result + 1) c.narrow.new.doms in
       let deep = c.requires.ready.deep in
+      omega arith);
+  same = (let seen = ap (λ (w : Room). length w.depths) c.self.view_is in
+      let seen_lists = ap (λ (w : Room). length w.entailed) c.self.view_is in
+      let copied = length-set c.self.inside.depths.items (c.len-at.result + 1) c.index-2.result.now in
+      let narrowed = length-set (slice_set c.self.inside.depths.items (c.len-at.result + 1) c.index-2.result.now) (c.len-at.result + 1) c.narrow.new.doms in
+      let lists_copied = length-set c.self.inside.entailed.items (c.len-at.result + 1) c.index-3.result.now in
+      let lists_narrowed = length-set (slice_set c.self.inside.entailed.items (c.len-at.result + 1) c.index-3.result.now) (c.len-at.result + 1) c.narrow.new.entailed in
+      let both = c.requires.ready.same in
       omega arith);
 }
 
@@ -63,10 +83,42 @@ pub returns-clause-ready : goal.returns-clause-ready
 returns-clause-ready c = record {
   depths = ready_written c.args.cons.now.lang.now c.args.cons.now.list.now c.args.cons.now.against c.args.order.now c.args.prefix.now c.len-at.result c.self.inside.depths.items c.index-2.result.now c.narrow.new.doms c.len-at.ensures
       (subst (AreReady c.args.cons.now.lang.now c.args.cons.now.list.now c.args.cons.now.against c.args.order.now c.args.prefix.now) (sym (ap (λ (w : Room). w.depths) c.self.view_is)) c.requires.ready.depths);
+  entailed = known_written (arcs_of c.args.cons.now.lang.now c.args.cons.now.list.now c.args.cons.now.against) c.args.prefix.now c.len-at.result c.self.inside.depths.items c.index-2.result.now c.narrow.new.doms c.self.inside.entailed.items c.index-3.result.now c.narrow.new.entailed c.len-at.ensures (subst (λ (w : Room). AreKnown (arcs_of c.args.cons.now.lang.now c.args.cons.now.list.now c.args.cons.now.against) c.args.prefix.now w.depths w.entailed) (sym c.self.view_is) c.requires.ready.entailed);
   plan = subst (IsPlanOf c.args.cons.now.lang.now (arcs_of c.args.cons.now.lang.now c.args.cons.now.list.now c.args.cons.now.against)) (sym (ap (λ (w : Room). w.plan) c.self.view_is)) c.requires.ready.plan;
   deep = (let seen = ap (λ (w : Room). length w.depths) c.self.view_is in
       let copied = length-set c.self.inside.depths.items (c.len-at.result + 1) c.index-2.result.now in
       let narrowed = length-set (slice_set c.self.inside.depths.items (c.len-at.result + 1) c.index-2.result.now) (c.len-at.result + 1) c.narrow.new.doms in
       let deep = c.requires.ready.deep in
       omega arith);
+  same = (let seen = ap (λ (w : Room). length w.depths) c.self.view_is in
+      let seen_lists = ap (λ (w : Room). length w.entailed) c.self.view_is in
+      let copied = length-set c.self.inside.depths.items (c.len-at.result + 1) c.index-2.result.now in
+      let narrowed = length-set (slice_set c.self.inside.depths.items (c.len-at.result + 1) c.index-2.result.now) (c.len-at.result + 1) c.narrow.new.doms in
+      let lists_copied = length-set c.self.inside.entailed.items (c.len-at.result + 1) c.index-3.result.now in
+      let lists_narrowed = length-set (slice_set c.self.inside.entailed.items (c.len-at.result + 1) c.index-3.result.now) (c.len-at.result + 1) c.narrow.new.entailed in
+      let both = c.requires.ready.same in
+      omega arith);
 }
+
+pub narrow-requires-clause-entailed : goal.narrow-requires-clause-entailed
+narrow-requires-clause-entailed c =
+    let depths = c.self.inside.depths.items in
+    let lists = c.self.inside.entailed.items in
+    let short = c.requires.short in
+    let few = c.requires.lawful.few_variables in
+    let deep = c.requires.ready.deep in let both = c.requires.ready.same in let seen = ap (λ (w : Room). length w.depths) c.self.view_is in let seen_lists = ap (λ (w : Room). length w.entailed) c.self.view_is in
+    let at = c.len-at.ensures in
+    let room : c.len-at.result + 1 < length depths = omega arith in
+    let lists_room : c.len-at.result + 1 < length lists = omega arith in
+    let none = c.index-3.result.now in
+    let read : c.index-2.result.now ≡ (slice_index_or c.args.self.now.depths (length c.args.prefix.now) []) = get_or_read depths c.len-at.result c.index-2.result.now (omega arith) c.index-2.ensures [] ∙ (λ i. slice_index_or (c.self.view_is i).depths (c.len-at.ensures i) []) in
+    let same : c.index_mut-3.result.now ≡ (slice_index_or c.args.self.now.depths (length c.args.prefix.now) []) =
+    get_or_read (slice_set depths (c.len-at.result + 1) c.index-2.result.now) (c.len-at.result + 1) c.index_mut-3.result.now (let size = length-set depths (c.len-at.result + 1) c.index-2.result.now in omega arith) c.index_mut-3.ensures.value []
+    ∙ get_or-set_same depths (c.len-at.result + 1) c.index-2.result.now [] room ∙ read in
+    let lists_read : c.index-3.result.now ≡ slice_index_or c.args.self.now.entailed (length c.args.prefix.now) none = get_or_read lists c.len-at.result c.index-3.result.now (omega arith) c.index-3.ensures none ∙ (λ i. slice_index_or (c.self.view_is i).entailed (c.len-at.ensures i) none) in
+    let lists_same : c.index_mut-4.result.now ≡ slice_index_or c.args.self.now.entailed (length c.args.prefix.now) none =
+    get_or_read (slice_set lists (c.len-at.result + 1) c.index-3.result.now) (c.len-at.result + 1) c.index_mut-4.result.now (let size = length-set lists (c.len-at.result + 1) c.index-3.result.now in omega arith) c.index_mut-4.ensures.value none
+    ∙ get_or-set_same lists (c.len-at.result + 1) c.index-3.result.now none lists_room ∙ lists_read in
+    subst (λ (f : Family). AreEntailed (arcs_of c.args.cons.now.lang.now c.args.cons.now.list.now c.args.cons.now.against) c.index_mut-4.result.now f) (sym same)
+    (subst (λ (e : Entailed). AreEntailed (arcs_of c.args.cons.now.lang.now c.args.cons.now.list.now c.args.cons.now.against) e (slice_index_or c.args.self.now.depths (length c.args.prefix.now) [])) (sym lists_same)
+    (c.requires.ready.entailed (length c.args.prefix.now) none (omega arith)))

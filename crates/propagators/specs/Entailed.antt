@@ -1,0 +1,19 @@
+-- Conditions that stay consistent.
+use Rattle.std.specs.Prelude.{ℕ, ◌/◌, ◌%◌, ◌≡◌, ◌<◌, Bool, true, List, length, slice_index_or}
+use Rattle.std.specs.List.{list_all}
+use Rattle.assign.specs.Sets.{has}
+use Rattle.propagators.specs.Values.{ones_of}
+use Rattle.propagators.specs.Families.{Family, Arc, is_consistent, is_not_empty, IsSubfamily}
+use Rattle.propagators.specs.declared.entailed.Entailed.{Entailed}
+
+-- it is consistent whatever values of theirs the variables lose, where each keeps one
+abbrev pub IsEntailed : Arc → Family → Type 0
+IsEntailed a f = (g : Family) → IsSubfamily g f → length g ≡ length f → list_all is_not_empty g ≡ true → is_consistent g a.scope a.accepted ≡ true
+
+-- the condition with this number is among them
+abbrev pub is_noted_in : Entailed → ℕ → Bool
+is_noted_in e k = has (ones_of (slice_index_or e.words (k / 64) 0)) (k % 64)
+
+-- each that is among them is entailed
+abbrev pub AreEntailed : List Arc → Entailed → Family → Type 0
+AreEntailed arcs e f = (k : ℕ) (a : Arc) → k < length arcs → is_noted_in e k ≡ true → IsEntailed (slice_index_or arcs k a) f
