@@ -120,6 +120,30 @@ fn take_parts(
     }
 }
 
+/// Puts into the screen what the parts found of the candidates that were searched for, as where one of them found a question.
+fn take_searched(
+    places: &[Place],
+    screen: &mut Screen,
+    lang: &Language,
+    kept: &Kept,
+    net: &Network,
+    budget: u32,
+)
+    requires eight { length places.now ≡ 8 }
+    requires places { AreMadeFor lang.now places.now }
+    requires screen { IsMadeFor lang.now screen.old }
+    requires marks { MarksHold lang.now net.now.list budget screen.old }
+    requires searched { AreSearched lang.now net.now.list kept.now.members budget places.now }
+    ensures screen { IsMadeFor lang.now screen.new }
+    ensures marks { MarksHold lang.now net.now.list budget screen.new }
+{
+    for part in 0..PARTS {
+        let place = &places[part as usize];
+        let first = part_start(lang, part);
+        screen.take_searched(place, first, part_start(lang, part + 1), net, budget);
+    }
+}
+
 /// What the parts say, one after another.
 fn answer_of(places: &[Place], lang: &Language, kept: &Kept, net: &Network, budget: u32) -> Query
     requires eight { length places.now ≡ 8 }
@@ -175,6 +199,11 @@ pub fn next_query_forked<R: Threads + Sync, G: Gate>(
         net,
         budget,
     );
+    let answer = answer_of(places.as_slice(), lang, kept, net, budget);
+    if let Query::Ask(_) = answer {
+        take_searched(places.as_slice(), screen, lang, kept, net, budget);
+        return answer;
+    }
     take_parts(places.as_slice(), screen, lang, kept, net, budget);
-    answer_of(places.as_slice(), lang, kept, net, budget)
+    answer
 }

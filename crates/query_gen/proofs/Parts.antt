@@ -2,10 +2,10 @@
 use Rattle.std.proofs.Common.{◌≡◌, ℕ, ◌+◌, ◌-◌, ◌<◌, ◌≤◌, Bool, true, false, not, ◌&&◌, ◌||◌, cond, List, [], ◌∷◌, ◌++◌, length, map, take, drop, get_or, set, refl, sym, ◌∙◌, ap, subst, arith, inl, inr, ◌⊎◌, append_assoc, get_or-set_same, get_or-set_other}
 use Rattle.std.specs.Prelude.{◌==◌, ◌≢◌, slice_range}
 use Rattle.std.specs.List.{filter, filter_map, list_any}
-use Rattle.std.proofs.lemmas.List.{drop_more, take_all, map-append, append_cancel_right, length-set, length-map, get_or_read}
+use Rattle.std.proofs.lemmas.List.{drop_more, take_all, map-append, append_cancel_right, length-set, length-map, get_or_read, get_or-take, get_or-drop}
 use Rattle.std.proofs.lemmas.List.Elements.{filter-append, filter_map-append}
 use Rattle.std.proofs.lemmas.List.Folds.{list_any-append, drop_split}
-use Rattle.std.proofs.lemmas.Bool.{cases_eq, cases_lt, and_from, eq-eqb}
+use Rattle.std.proofs.lemmas.Bool.{cases_eq, cases_lt, and_from, eq-eqb, both_ways}
 use Rattle.assign.specs.Assignment.{Assignment}
 use Rattle.language.specs.declared.candidates.Candidate.{Candidate}
 use Rattle.language.specs.Language.{Language, IsCandidate, candidates, number_of}
@@ -23,7 +23,7 @@ use Rattle.query_gen.specs.Questions.{is_among, is_spent, found_in, query_from, 
 use Rattle.query_gen.specs.Marks.{Remembered, IsMadeFor, MarksHold, mark_of, is_mark_spent, is_open}
 use Rattle.query_gen.specs.Inside.{begun, without_spent, IsBegun}
 use Rattle.query_gen.specs.Laws.{PartsAreJoined, WholeIsNext}
-use Rattle.query_gen.specs.Parts.{query_in, query_then, is_ask, is_looked_at, byte_for, IsSearched, IsSearchedTo, mark_taken, AreTaken, HasTaken}
+use Rattle.query_gen.specs.Parts.{query_in, query_then, is_ask, is_looked_at, byte_for, IsSearched, IsSearchedTo, AreTrue, mark_taken, AreTaken, HasTaken}
 use Rattle.query_gen.proofs.Numbers.{same_number, number_below}
 use Rattle.query_gen.proofs.Marking.{has_begun}
 
@@ -337,53 +337,71 @@ pub record IsTakenTo (l : Language) (network kept : List Candidate) (budget numb
   -- where these candidates gave no question, those with an outcome of spent are open
   pub opened : is_ask (query_in l network kept budget 0 number) ≡ false → (c : Candidate) → IsCandidate l c → number_of l c < number → is_open l s c ≡ (is_among kept c && is_spent (outcome_of_candidate l network c budget))
 
-module _ (l : Language) (network kept : List Candidate) (budget first end : ℕ) (bytes : List ℕ) (answer : Query) (old new : Remembered) (begun : IsBegun l network budget old) (taken : HasTaken bytes first end old new) where
+-- what was searched says what is true, and so does a range of it
+pub searched_true : (l : Language) (network kept : List Candidate) (budget first end : ℕ) (bytes : List ℕ) (answer : Query) → IsSearched l network kept budget first end bytes answer → AreTrue l network budget first end bytes
+searched_true l network kept budget first end bytes answer part = λ c is from below. (is_looked_at l network kept budget first c, part.marked c is from below)
+
+range_true : (l : Language) (network : List Candidate) (budget first end from to : ℕ) (bytes : List ℕ) → first ≤ from → to ≤ end → AreTrue l network budget first end bytes →
+    AreTrue l network budget from to (slice_range bytes (from - first) (to - first))
+range_true l network budget first end from to bytes low high are = λ c is after before.
+    (let true_byte = are c is (omega arith) (omega arith) in
+    (true_byte.0,
+    get_or-take ((to - first) - (from - first)) (drop (from - first) bytes) (number_of l c - from) 0 (omega arith) ∙ get_or-drop (from - first) bytes (number_of l c - from) 0
+    ∙ ap (λ k. get_or bytes k 0) (let e : (from - first) + (number_of l c - from) ≡ number_of l c - first = omega arith in e) ∙ true_byte.1))
+
+pub part_range_true : (l : Language) (network kept : List Candidate) (budget first end from to : ℕ) (bytes : List ℕ) (answer : Query) → first ≤ from → to ≤ end → IsSearched l network kept budget first end bytes answer →
+    AreTrue l network budget from to (slice_range bytes (from - first) (to - first))
+part_range_true l network kept budget first end from to bytes answer low high part =
+    range_true l network budget first end from to bytes low high (searched_true l network kept budget first end bytes answer part)
+
+module _ (l : Language) (network : List Candidate) (budget first end : ℕ) (bytes : List ℕ) (old new : Remembered) (begun : IsBegun l network budget old) (taken : HasTaken bytes first end old new) where
   pub made_taken : IsMadeFor l new
   made_taken = record { first = taken.numbers ∙ begun.made.first; marks = taken.size ∙ begun.made.marks; index = subst (IsIndexOf l) (sym taken.index) begun.made.index }
 
-  module _ (part : IsSearched l network kept budget first end bytes answer) where
-    abbrev inner : Candidate → Outcome
-    inner c = outcome_of_candidate l network c budget
+  abbrev inner : Candidate → Outcome
+  inner c = outcome_of_candidate l network c budget
 
-    mark_inside : (c : Candidate) → IsCandidate l c → first ≤ number_of l c → number_of l c < end → mark_of l new c ≡ mark_taken (mark_of l old c) (cond (is_looked_at l network kept budget first c) (byte_for (inner c)) 0)
-    mark_inside c is from below = taken.inside (number_of l c) from below ∙ ap (mark_taken (mark_of l old c)) (part.marked c is from below)
+  pub holds_taken : AreTrue l network budget first end bytes → MarksHold l network budget new
+  holds_taken are = record {
+    implied = λ c is h. implied c is h (cases_lt (number_of l c) first) (cases_lt (number_of l c) end);
+    spent = λ c is h e f. spent c is h (cases_lt (number_of l c) first) (cases_lt (number_of l c) end);
+    earlier = λ c is h. (let same = taken.learned in let here = begun.learned in omega arith);
+  }
+    where
+      mark_inside : (c : Candidate) → IsCandidate l c → (from : first ≤ number_of l c) → (below : number_of l c < end) → (b : Bool) × (mark_of l new c ≡ mark_taken (mark_of l old c) (cond b (byte_for (inner c)) 0))
+      mark_inside c is from below = let byte = are c is from below in (byte.0, taken.inside (number_of l c) from below ∙ ap (mark_taken (mark_of l old c)) byte.1)
 
-    -- a part's candidates are open where they were looked at and their outcome is spent
-    open_inside : (c : Candidate) → IsCandidate l c → first ≤ number_of l c → number_of l c < end → is_open l new c ≡ (is_looked_at l network kept budget first c && is_spent (inner c))
-    open_inside c is from below = ap is_mark_spent (mark_inside c is from below) ∙ go (is_looked_at l network kept budget first c)
-      where
-        go : (b : Bool) → is_mark_spent (mark_taken (mark_of l old c) (cond b (byte_for (inner c)) 0)) ≡ (b && is_spent (inner c))
-        go true = taken_spent (mark_of l old c) (inner c)
-        go false = unset_spent (mark_of l old c)
+      told : (b : Bool) (c : Candidate) → IsCandidate l c → mark_taken (mark_of l old c) (cond b (byte_for (inner c)) 0) ≡ Implied → inner c ≡ outcomes.Absent
+      told true c is h = either (taken_outcome (mark_of l old c) (inner c) h)
+        where
+          either : (inner c ≡ outcomes.Absent) ⊎ (mark_of l old c ≡ Implied) → inner c ≡ outcomes.Absent
+          either (inl absent) = absent
+          either (inr before) = begun.holds.implied c is before
+      told false c is h = begun.holds.implied c is (taken_nothing (mark_of l old c) h)
 
-    pub holds_taken : MarksHold l network budget new
-    holds_taken = record {
-      implied = λ c is h. implied c is h (cases_lt (number_of l c) first) (cases_lt (number_of l c) end);
-      spent = λ c is h e f. spent c is h (cases_lt (number_of l c) first) (cases_lt (number_of l c) end);
-      earlier = λ c is h. (let same = taken.learned in let here = begun.learned in omega arith);
-    }
-      where
-        told : (b : Bool) (c : Candidate) → IsCandidate l c → mark_taken (mark_of l old c) (cond b (byte_for (inner c)) 0) ≡ Implied → inner c ≡ outcomes.Absent
-        told true c is h = either (taken_outcome (mark_of l old c) (inner c) h)
-          where
-            either : (inner c ≡ outcomes.Absent) ⊎ (mark_of l old c ≡ Implied) → inner c ≡ outcomes.Absent
-            either (inl absent) = absent
-            either (inr before) = begun.holds.implied c is before
-        told false c is h = begun.holds.implied c is (taken_nothing (mark_of l old c) h)
+      implied : (c : Candidate) → IsCandidate l c → mark_of l new c ≡ Implied → (number_of l c < first) ⊎ (first ≤ number_of l c) → (number_of l c < end) ⊎ (end ≤ number_of l c) → inner c ≡ outcomes.Absent
+      implied c is h (inl before) side = begun.holds.implied c is (sym (taken.outside (number_of l c) (inl before)) ∙ h)
+      implied c is h (inr from) (inl below) = let mark = mark_inside c is from below in told mark.0 c is (sym mark.1 ∙ h)
+      implied c is h (inr from) (inr past) = begun.holds.implied c is (sym (taken.outside (number_of l c) (inr past)) ∙ h)
 
-        implied : (c : Candidate) → IsCandidate l c → mark_of l new c ≡ Implied → (number_of l c < first) ⊎ (first ≤ number_of l c) → (number_of l c < end) ⊎ (end ≤ number_of l c) → inner c ≡ outcomes.Absent
-        implied c is h (inl before) side = begun.holds.implied c is (sym (taken.outside (number_of l c) (inl before)) ∙ h)
-        implied c is h (inr from) (inl below) = told (is_looked_at l network kept budget first c) c is (sym (mark_inside c is from below) ∙ h)
-        implied c is h (inr from) (inr past) = begun.holds.implied c is (sym (taken.outside (number_of l c) (inr past)) ∙ h)
+      said : (b : Bool) (c : Candidate) → is_mark_spent (mark_taken (mark_of l old c) (cond b (byte_for (inner c)) 0)) ≡ true → inner c ≡ outcomes.Spent
+      said true c h = spent_outcome (inner c) (sym (taken_spent (mark_of l old c) (inner c)) ∙ h)
+      said false c h = absurd (both_ways (is_mark_spent (mark_taken (mark_of l old c) 0)) (unset_spent (mark_of l old c)) h)
 
-        said : (b : Bool) (c : Candidate) → (b && is_spent (inner c)) ≡ true → inner c ≡ outcomes.Spent
-        said true c h = spent_outcome (inner c) h
-        said false c h = cc
+      spent : (c : Candidate) → IsCandidate l c → mark_of l new c ≡ marks.Spent → (number_of l c < first) ⊎ (first ≤ number_of l c) → (number_of l c < end) ⊎ (end ≤ number_of l c) → inner c ≡ outcomes.Spent
+      spent c is h (inl before) side = begun.holds.spent c is (sym (taken.outside (number_of l c) (inl before)) ∙ h) begun.learned begun.budgeted
+      spent c is h (inr from) (inl below) = let mark = mark_inside c is from below in said mark.0 c (sym (ap is_mark_spent mark.1) ∙ ap is_mark_spent h)
+      spent c is h (inr from) (inr past) = begun.holds.spent c is (sym (taken.outside (number_of l c) (inr past)) ∙ h) begun.learned begun.budgeted
 
-        spent : (c : Candidate) → IsCandidate l c → mark_of l new c ≡ marks.Spent → (number_of l c < first) ⊎ (first ≤ number_of l c) → (number_of l c < end) ⊎ (end ≤ number_of l c) → inner c ≡ outcomes.Spent
-        spent c is h (inl before) side = begun.holds.spent c is (sym (taken.outside (number_of l c) (inl before)) ∙ h) begun.learned begun.budgeted
-        spent c is h (inr from) (inl below) = said (is_looked_at l network kept budget first c) c (sym (open_inside c is from below) ∙ ap is_mark_spent h)
-        spent c is h (inr from) (inr past) = begun.holds.spent c is (sym (taken.outside (number_of l c) (inr past)) ∙ h) begun.learned begun.budgeted
+  -- a part's candidates are open where they were looked at and their outcome is spent
+  open_inside : (kept : List Candidate) (answer : Query) → IsSearched l network kept budget first end bytes answer → (c : Candidate) → IsCandidate l c → first ≤ number_of l c → number_of l c < end →
+      is_open l new c ≡ (is_looked_at l network kept budget first c && is_spent (inner c))
+  open_inside kept answer part c is from below =
+      ap is_mark_spent (taken.inside (number_of l c) from below ∙ ap (mark_taken (mark_of l old c)) (part.marked c is from below)) ∙ go (is_looked_at l network kept budget first c)
+    where
+      go : (b : Bool) → is_mark_spent (mark_taken (mark_of l old c) (cond b (byte_for (inner c)) 0)) ≡ (b && is_spent (inner c))
+      go true = taken_spent (mark_of l old c) (inner c)
+      go false = unset_spent (mark_of l old c)
 
 -- a search under the same network and budget forgets nothing
 begun_same : (s : Remembered) (learned budget : ℕ) → s.learned ≡ learned → s.budget ≡ budget → begun s learned budget ≡ s
@@ -405,8 +423,8 @@ pub taken_further : (l : Language) (network kept : List Candidate) (budget first
     IsTakenTo l network kept budget first old → HasTaken bytes first end (begun old (length network) budget) new → IsSearched l network kept budget first end bytes answer →
     IsTakenTo l network kept budget end new
 taken_further l network kept budget first end bytes answer old new rising before taken part = record {
-  made = made_taken l network kept budget first end bytes answer (begun old (length network) budget) new here taken;
-  holds = holds_taken l network kept budget first end bytes answer (begun old (length network) budget) new here taken part;
+  made = made_taken l network budget first end bytes (begun old (length network) budget) new here taken;
+  holds = holds_taken l network budget first end bytes (begun old (length network) budget) new here taken (searched_true l network kept budget first end bytes answer part);
   learned = λ some. taken.learned ∙ here.learned;
   budgeted = λ some. taken.budgeted ∙ here.budgeted;
   opened = λ none c is below. opened none c is below (cases_lt (number_of l c) first);
@@ -431,7 +449,7 @@ taken_further l network kept budget first end bytes answer old new rising before
         ap is_mark_spent (taken.outside (number_of l c) (inl earlier) ∙ ap (λ (s : Remembered). mark_of l s c) (begun_same old (length network) budget (before.learned (omega arith)) (before.budgeted (omega arith))))
         ∙ before.opened (parts none).0 c is earlier
     opened none c is below (inr from) =
-        open_inside l network kept budget first end bytes answer (begun old (length network) budget) new here taken part c is from below
+        open_inside l network budget first end bytes (begun old (length network) budget) new here taken kept answer part c is from below
         ∙ ap (λ a. (is_among kept c && not a) && is_spent (outcome_of_candidate l network c budget)) (none_before l network kept budget first end c from below (parts none).1)
         ∙ kept_as (is_among kept c) (outcome_of_candidate l network c budget)
 
@@ -469,7 +487,7 @@ made_over l bytes first end learned budget old new taken made = record {
   index = subst (IsIndexOf l) (sym (taken.index ∙ index-begun old learned budget)) made.index;
 }
 
-pub holds_over : (l : Language) (network kept : List Candidate) (budget first end : ℕ) (bytes : List ℕ) (answer : Query) (old new : Remembered) → HasTaken bytes first end (begun old (length network) budget) new →
-    IsMadeFor l old → MarksHold l network budget old → IsSearched l network kept budget first end bytes answer → MarksHold l network budget new
-holds_over l network kept budget first end bytes answer old new taken made holds part =
-    holds_taken l network kept budget first end bytes answer (begun old (length network) budget) new (has_begun l network budget old (length network) made holds refl) taken part
+pub holds_over : (l : Language) (network : List Candidate) (budget first end : ℕ) (bytes : List ℕ) (old new : Remembered) → HasTaken bytes first end (begun old (length network) budget) new →
+    IsMadeFor l old → MarksHold l network budget old → AreTrue l network budget first end bytes → MarksHold l network budget new
+holds_over l network budget first end bytes old new taken made holds are =
+    holds_taken l network budget first end bytes (begun old (length network) budget) new (has_begun l network budget old (length network) made holds refl) taken are

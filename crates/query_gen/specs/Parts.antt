@@ -5,6 +5,7 @@ use Rattle.language.specs.Language.{Language, IsCandidate, candidates, number_of
 use Rattle.fd_solver.specs.declared.outcome.Outcome.{Outcome}
 use Rattle.fd_solver.specs.declared.outcome.Outcome.TheVariants as outcomes
 use Rattle.fd_solver.specs.Outcomes.{outcome_of_candidate}
+use Rattle.query_gen.specs.declared.place.Place.{Place}
 use Rattle.query_gen.specs.declared.query.Query.{Query}
 use Rattle.query_gen.specs.declared.query.Query.TheVariants.{Ask, AllImplied, Undecided}
 use Rattle.query_gen.specs.declared.screen.Mark.{Mark}
@@ -57,6 +58,19 @@ pub record IsSearched (l : Language) (network kept : List Candidate) (budget fir
 pub record IsSearchedTo (l : Language) (network kept : List Candidate) (budget first number : ℕ) (bytes : List ℕ) (answer : Query) : Type 0 where
   pub searched : IsSearched l network kept budget first number bytes answer
   pub unset : (k : ℕ) → number ≤ first + k → slice_index_or bytes k 0 ≡ 0
+
+-- each byte of the candidates with numbers from first to below end says what the candidate's search says, or nothing
+abbrev pub AreTrue : Language → List Candidate → ℕ → ℕ → ℕ → List ℕ → Type 0
+AreTrue l network budget first end bytes =
+    (c : Candidate) → IsCandidate l c → first ≤ number_of l c → number_of l c < end →
+    (b : Bool) × (slice_index_or bytes (number_of l c - first) 0 ≡ (if b then byte_for (outcome_of_candidate l network c budget) else 0))
+
+-- of the candidates with numbers from first to below end, the least number that was searched for, and the one behind the greatest
+abbrev pub searched_from : Place → ℕ → ℕ
+searched_from place first = max first place.searched.least
+
+abbrev pub searched_end : Place → ℕ → ℕ
+searched_end place end = min end (place.searched.greatest + 1)
 
 -- the number that a search from first to below end comes to, where it has come to this one
 abbrev pub reach : ℕ → ℕ → ℕ → ℕ

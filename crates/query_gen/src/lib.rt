@@ -12,7 +12,9 @@ mod part;
 mod place;
 mod query;
 mod screen;
+mod span;
 
 pub use place::Place;
 pub use query::{Query, next_query};
 pub use screen::Screen;
+pub use span::Span;

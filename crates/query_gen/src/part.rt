@@ -12,7 +12,8 @@ ghost use Rattle.query_gen.specs.Parts.{byte_for, is_ask, query_then, IsScopeOf,
 
 use crate::query::Query;
 use crate::screen::{Mark, Screen};
-use bias_store::Kept;
+use crate::span::Span;
+use bias_store::{Kept, split_first};
 use fd_solver::{Outcome, Work, order_of, search_with};
 use language::{Candidate, Language, ScopeId};
 use network::Network;
@@ -115,6 +116,7 @@ fn byte_of(
 fn look_at(
     work: &mut Work,
     marks: &mut [u8],
+    searched: &mut Span,
     answer: &mut Query,
     screen: &Screen,
     lang: &Language,
@@ -142,6 +144,9 @@ fn look_at(
         return;
     }
     let mark = screen.mark_under(number, net.len(), budget);
+    if let Mark::Blank = mark {
+        searched.reach(number);
+    }
     let byte = byte_of(work, answer, screen.index(), mark, lang, net, budget, c);
     marks[(number - first) as usize] = byte;
 }
@@ -150,6 +155,7 @@ fn look_at(
 fn search_scope(
     work: &mut Work,
     marks: &mut [u8],
+    searched: &mut Span,
     answer: &mut Query,
     screen: &Screen,
     lang: &Language,
@@ -173,19 +179,29 @@ fn search_scope(
     ensures found { is_ask answer.new ≡ true → IsSearched lang.now net.now.list kept.now.members budget first end marks.new answer.new }
     ensures size { length marks.new ≡ length marks.old }
 {
-    let count = u32::from(lang.relations_on(scope));
+    let _some = lang.relations_on(scope);
     let base = lang.number_of(Candidate { scope, rel: 0 });
-    for number in first.max(base)..end.min(base.saturating_add(count)) {
-        let c = Candidate {
-            scope,
-            rel: (number - base) as u8,
-        };
+    let mut relations = kept.on_scope(scope);
+    // The candidates with lower numbers were looked at, or aren't kept.
+    let mut next = first.max(base);
+    while relations != 0 {
+        let (rel, others) = split_first(relations);
+        relations = others;
+        let number = base.saturating_add(u32::from(rel));
+        if number < next {
+            continue;
+        }
+        if number >= end {
+            continue;
+        }
+        let c = Candidate { scope, rel };
         look_at(
-            work, marks, answer, screen, lang, kept, net, budget, first, number, c,
+            work, marks, searched, answer, screen, lang, kept, net, budget, first, number, c,
         );
         if let Query::Ask(_) = *answer {
             return;
         }
+        next = number + 1;
     }
 }
 
@@ -211,6 +227,7 @@ fn kept_from(kept: &Kept, from: u32, end: u32) -> u32
 pub(crate) fn search_part(
     work: &mut Work,
     marks: &mut [u8],
+    searched: &mut Span,
     screen: &Screen,
     lang: &Language,
     kept: &Kept,
@@ -230,6 +247,7 @@ pub(crate) fn search_part(
     ensures size { length marks.new ≡ length marks.old }
 {
     marks.fill(0);
+    *searched = Span::none();
     let mut answer = Query::AllImplied;
     if first == end {
         return answer;
@@ -241,6 +259,7 @@ pub(crate) fn search_part(
         search_scope(
             work,
             marks,
+            searched,
             &mut answer,
             screen,
             lang,

@@ -10,6 +10,7 @@ ghost use Rattle.query_gen.specs.Parts.{IsSearched};
 use crate::part::search_part;
 use crate::query::Query;
 use crate::screen::Screen;
+use crate::span::Span;
 use bias_store::Kept;
 use fd_solver::Work;
 use language::{Language, Memory};
@@ -26,6 +27,8 @@ pub struct Place {
     pub marks: Vec<u8>,
     /// What the kept candidates of the part say.
     pub answer: Query,
+    /// Which of them were searched for.
+    pub searched: Span,
 }
 
 impl Place {
@@ -41,6 +44,7 @@ impl Place {
                 work,
                 marks,
                 answer: Query::AllImplied,
+                searched: Span::none(),
             }),
             Err(_) => Err(Memory),
         }
@@ -79,6 +83,7 @@ impl Place {
         self.answer = search_part(
             &mut self.work,
             marks,
+            &mut self.searched,
             screen,
             lang,
             kept,

@@ -11,6 +11,7 @@ ghost use Rattle.query_gen.specs.Parts.{query_then};
 
 use crate::part::search_part;
 use crate::screen::Screen;
+use crate::span::Span;
 use assign::Partial;
 use bias_store::Kept;
 use fd_solver::Work;
@@ -71,12 +72,22 @@ pub fn next_query(
     screen.follow(lang, net);
     let all = lang.candidates();
     let mut marks = [0; AT_ONCE as usize];
+    let mut searched = Span::none();
     let mut answer = Query::AllImplied;
     let mut first = 0;
     while first < all {
         let end = first + AT_ONCE.min(all - first);
         let next = search_part(
-            work, &mut marks, screen, lang, kept, net, budget, first, end,
+            work,
+            &mut marks,
+            &mut searched,
+            screen,
+            lang,
+            kept,
+            net,
+            budget,
+            first,
+            end,
         );
         screen.take_part(&marks, first, end, net, budget);
         answer = answer.then(next);

@@ -1,12 +1,12 @@
 //! What is remembered of searches.
 
-ghost use Rattle.std.specs.Prelude.{◌≡◌, ◌<◌, ◌≤◌, ◌+◌, ◌-◌, ℕ, IfOk, List, length, map, slice_index_or, vec_len};
+ghost use Rattle.std.specs.Prelude.{◌≡◌, ◌<◌, ◌≤◌, ◌+◌, ◌-◌, ℕ, IfOk, List, length, map, slice_index_or, slice_range, vec_len};
 ghost use Rattle.assign.specs.Sets.{numbers};
 ghost use Rattle.language.specs.Language.{Language, IsCandidate, number_of};
 ghost use Rattle.language.specs.Answers.{IsNetwork};
 ghost use Rattle.query_gen.specs.Marks.{IsMadeFor, HasNoMarks, MarksHold, is_mark_spent, is_open};
 ghost use Rattle.query_gen.specs.Inside.{begun, without_spent};
-ghost use Rattle.query_gen.specs.Parts.{mark_taken, AreTaken, IsSearched, HasTaken};
+ghost use Rattle.query_gen.specs.Parts.{mark_taken, searched_from, searched_end, AreTaken, AreTrue, IsSearched, HasTaken};
 
 use crate::part::{IMPLIED, SPENT};
 use crate::place::Place;
@@ -212,6 +212,35 @@ impl Screen {
         self.take_part(&place.marks, first, end, net, budget);
     }
 
+    /// Takes over what the search of a part found, as far as it searched: for the candidates of the part from the least to the
+    /// greatest that was searched for.
+    ///
+    /// That is all that it found out. What else `take_marks` does matters only where no question was found: there the candidates
+    /// that are open have to be those of the last search.
+    pub fn take_searched(
+        &mut self,
+        place: &Place,
+        first: u32,
+        end: u32,
+        net: &Network,
+        budget: u32,
+    )
+        requires part { (first ≤ end) × (end ≤ length self.old.marks) }
+        requires room { end - first ≤ vec_len place.now.marks }
+        ensures taken { searched_from place.now first < searched_end place.now end → HasTaken (slice_range place.now.marks.items (searched_from place.now first - first) (searched_end place.now end - first)) (searched_from place.now first) (searched_end place.now end) (begun self.old (length net.now.list) budget) self.new }
+        ensures same { searched_end place.now end ≤ searched_from place.now first → self.new ≡ self.old }
+        ensures made { (l : Language) → IsMadeFor l self.old → IsMadeFor l self.new }
+        ensures holds { (l : Language) (kept : List Candidate) → IsMadeFor l self.old → MarksHold l net.now.list budget self.old → IsSearched l net.now.list kept budget first end place.now.marks.items place.now.answer → MarksHold l net.now.list budget self.new }
+    {
+        let from = first.max(place.searched.least);
+        let to = end.min(place.searched.greatest.saturating_add(1));
+        if to <= from {
+            return;
+        }
+        let bytes = &place.marks[(from - first) as usize..(to - first) as usize];
+        self.take_part(bytes, from, to, net, budget);
+    }
+
     /// Takes over the bytes that the search of these candidates set.
     pub(crate) fn take_part(
         &mut self,
@@ -225,7 +254,7 @@ impl Screen {
         requires room { end - first ≤ length bytes.now }
         ensures taken { HasTaken bytes.now first end (begun self.old (length net.now.list) budget) self.new }
         ensures made { (l : Language) → IsMadeFor l self.old → IsMadeFor l self.new }
-        ensures holds { (l : Language) (kept : List Candidate) (answer : Query) → IsMadeFor l self.old → MarksHold l net.now.list budget self.old → IsSearched l net.now.list kept budget first end bytes.now answer → MarksHold l net.now.list budget self.new }
+        ensures holds { (l : Language) → IsMadeFor l self.old → MarksHold l net.now.list budget self.old → AreTrue l net.now.list budget first end bytes.now → MarksHold l net.now.list budget self.new }
     {
         self.begin(net.len(), budget);
         let count = (end - first) as usize;

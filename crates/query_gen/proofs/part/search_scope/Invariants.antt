@@ -1,10 +1,19 @@
-use Rattle.std.proofs.Common.{◌≡◌, false, length}
-use Rattle.query_gen.specs.Parts.{is_ask, IsSearchedTo}
+use Rattle.std.proofs.Common.{◌≡◌, ◌+◌, ◌≤◌, false, length}
+use Rattle.bias_store.specs.Masks.{ones_of}
+use Rattle.query_gen.specs.Parts.{is_ask, reach, start_of, IsSearchedTo}
+use Rattle.query_gen.proofs.Scopes.{AreLeft}
 use Rattle.query_gen.proofs.part.search_scope.Given as goal
 
-abbrev pub invariant-loop-number : goal.invariant-loop-number
-invariant-loop-number l = record {
-  searched : IsSearchedTo l.fn.lang l.fn.net.list l.fn.kept.members l.fn.budget l.fn.first l.number l.marks l.answer;
+abbrev pub invariant-loop-relations : goal.invariant-loop-relations
+invariant-loop-relations l = record {
+  searched : IsSearchedTo l.fn.lang l.fn.net.list l.fn.kept.members l.fn.budget l.fn.first l.next l.marks l.answer;
   none : is_ask l.answer ≡ false;
   size : length l.marks ≡ length l.initial.marks;
+  from : l.fn.first ≤ l.next;
+  behind : l.base ≤ l.next;
+  within : l.next ≤ reach l.fn.first l.fn.end (start_of l.fn.lang (l.fn.scope + 1));
+  left : AreLeft l.fn.kept.members l.fn.scope l.base l.fn.end l.relations l.next;
 }
+
+abbrev pub decreases-loop-relations : goal.decreases-loop-relations
+decreases-loop-relations l = length (ones_of l.relations)

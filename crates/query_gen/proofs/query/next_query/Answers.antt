@@ -2,7 +2,7 @@ use Rattle.std.proofs.Common.{◌+◌, ◌<◌, ◌≤◌, length, sym, ◌∙�
 use Rattle.language.specs.Language.{candidates, number_of}
 use Rattle.query_gen.specs.Parts.{query_then, is_ask}
 use Rattle.query_gen.proofs.Numbers.{number_below}
-use Rattle.query_gen.proofs.Parts.{parts_are_joined, says_early, taken_further}
+use Rattle.query_gen.proofs.Parts.{parts_are_joined, says_early, searched_true, taken_further}
 use Rattle.query_gen.proofs.Scopes.{no_ask}
 use Rattle.query_gen.proofs.query.next_query.Goals as goal
 
@@ -20,7 +20,8 @@ returns-in-Ask-clause-is c =
 pub returns-in-Ask-clause-marks : goal.returns-in-Ask-clause-marks
 returns-in-Ask-clause-marks c =
     let before = c.loop-first.invariant.taken in
-    c.take_part.ensures.holds c.args.lang.now c.args.kept.now.members c.search_part-next.result before.made before.holds c.search_part-next.ensures.is
+    c.take_part.ensures.holds c.args.lang.now before.made before.holds
+    (searched_true c.args.lang.now c.args.net.now.list c.args.kept.now.members c.args.budget c.loop-first.first _ c.search_part-next.new.marks c.search_part-next.result c.search_part-next.ensures.is)
 
 pub loop-first-preserved : goal.loop-first-preserved
 loop-first-preserved c =

@@ -26,5 +26,5 @@ returns-clause-taken c =
     (subst (AreTaken c.args.bytes.now c.args.first c.args.end c.self.inside.marks.items) (sym marks) (marks_taken c)))
 
 pub returns-clause-holds : goal.returns-clause-holds
-returns-clause-holds c = λ l kept answer made holds part.
-    holds_over l c.args.net.now.list kept c.args.budget c.args.first c.args.end c.args.bytes.now answer c.args.self.now _ (returns-clause-taken c) made holds part
+returns-clause-holds c = λ l made holds are.
+    holds_over l c.args.net.now.list c.args.budget c.args.first c.args.end c.args.bytes.now c.args.self.now _ (returns-clause-taken c) made holds are

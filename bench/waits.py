@@ -1,0 +1,127 @@
+#!/usr/bin/env python3
+"""How long one waits for a question, by the clock.
+
+usage: bench/waits.py PROGRAM [--case WORD] [--plan P] [--budget N] [FILE ..]
+
+PROGRAM is the built program, as crates/acquire/out/acquire. Three cases of bench/search.py are learned by `try` from an owner who
+answers by a network, or with --case those that have WORD in their names. Then the same answers are given once more over pipes, the
+next one when a question has come, and the clock tells how long each line was waited for: the first from the start of the program,
+the others from the answer before. A FILE is an input of `try`, given in place of the cases under these words: the vocabulary on its
+first line, and an answer on each other one.
+
+A table in Markdown comes: the questions; the median, the longest of 99 in 100 and the longest wait, in microseconds; the median of
+those for a question that shows all variables; and the wait for the first and for the last line. Each is the least of three runs.
+
+The times are those of the program, two pipes, the system and this script, on a machine that may do other things: a fifth of them may
+be this script's.
+"""
+
+import argparse
+import json
+import os
+import statistics
+import subprocess
+import sys
+import time
+
+sys.dont_write_bytecode = True
+from questions import learn
+from search import cases
+
+USUAL = ["zebra", "60 exams", "128 variables, 300 ne"]
+RUNS = 3
+
+
+class Waits:
+    """The waits of a session of `try`, in seconds: for each question and for what comes behind the last answer."""
+
+    def __init__(self, program, words, vocabulary, answers):
+        variables = len(json.loads(vocabulary)["variables"])
+        self.all, self.complete, self.text = [], [], b""
+        begun = time.perf_counter()
+        run = subprocess.Popen(
+            [program, ":memory:", "try", *words], stdin=subprocess.PIPE, stdout=subprocess.PIPE, bufsize=0
+        )
+        for line in [vocabulary, *answers]:
+            run.stdin.write(line + b"\n")
+            question = self.read_line(run)
+            waited = time.perf_counter() - begun
+            self.all.append(waited)
+            if question.count(b"=") == variables:
+                self.complete.append(waited)
+            begun = time.perf_counter()
+        run.stdin.close()
+        rest = run.stdout.read()
+        self.text += rest
+        assert run.wait() == 0, "the program refuses these answers"
+
+    def read_line(self, run):
+        """The next piece of output, which is a line or the whole closing."""
+        piece = b""
+        while not piece.endswith(b"\n"):
+            more = os.read(run.stdout.fileno(), 1 << 16)
+            assert more, "the program has ended before the answers have"
+            piece += more
+        self.text += piece
+        return piece
+
+
+def microseconds(seconds):
+    return f"{seconds * 1e6:,.0f}"
+
+
+def row_of(name, program, words, vocabulary, answers):
+    """The cells of a session, each the least of some runs."""
+    runs = [Waits(program, words, vocabulary, answers) for _ in range(RUNS)]
+    assert len({run.text for run in runs}) == 1, "two runs print different texts"
+    least = lambda of: microseconds(min(map(of, runs)))
+    most_of = lambda waits: sorted(waits)[len(waits) * 99 // 100]
+    return [
+        name,
+        f"{len(answers):,} ({len(runs[0].complete):,})",
+        least(lambda run: statistics.median(run.all)),
+        least(lambda run: most_of(run.all)),
+        least(lambda run: max(run.all[1:])),
+        least(lambda run: statistics.median(run.complete)) if runs[0].complete else "none",
+        least(lambda run: run.all[0]),
+        least(lambda run: run.all[-1]),
+    ]
+
+
+def sessions(program, given):
+    """A name, words, a vocabulary and its answers for each row."""
+    options = [word for option in ("plan", "budget") if getattr(given, option) for word in (f"--{option}", getattr(given, option))]
+    for path in given.files:
+        with open(path, "rb") as file:
+            vocabulary, *answers = file.read().splitlines()
+        yield os.path.basename(path), options, vocabulary, answers
+    if given.files:
+        return
+    for _, make in cases():
+        case = make()
+        if given.case in case.name if given.case else case.name in USUAL:
+            learned = learn(program, case.task, *case.words)
+            yield case.name, case.words, case.vocabulary.encode(), [answer.encode() for answer in learned.answers]
+
+
+def main():
+    words = argparse.ArgumentParser(usage="bench/waits.py PROGRAM [--case WORD] [--plan P] [--budget N] [FILE ..]")
+    words.add_argument("program")
+    words.add_argument("files", nargs="*")
+    words.add_argument("--case", default="")
+    words.add_argument("--plan", default="")
+    words.add_argument("--budget", default="")
+    if len(sys.argv) < 2:
+        print(__doc__)
+        sys.exit(2)
+    given = words.parse_args()
+    program = os.path.realpath(given.program)
+    heads = ["case", "questions (complete)", "median, us", "99 in 100 below", "longest", "median of complete", "first", "last"]
+    print(f"| {' | '.join(heads)} |\n|{'---|' * len(heads)}", flush=True)
+    for session in sessions(program, given):
+        name, options, vocabulary, answers = session
+        print(f"| {' | '.join(row_of(name, program, options, vocabulary, answers))} |", flush=True)
+
+
+if __name__ == "__main__":
+    main()
