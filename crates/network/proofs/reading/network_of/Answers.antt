@@ -1,8 +1,5 @@
-use Rattle.std.proofs.Common.{sym, ◌∙◌}
-use Rattle.std.proofs.lemmas.List.{at_drop_all}
+use Rattle.network.proofs.Prelude.{sym, ◌∙◌, at_drop_all, items_view, network_from}
 use Rattle.std.proofs.lemmas.Result.{err_from_is_err_and}
-use Rattle.serde_json.specs.View.{items_view}
-use Rattle.network.specs.Target.{network_from}
 use Rattle.network.proofs.Items.{refused_here}
 use Rattle.network.proofs.reading.network_of.Goals as goal
 
