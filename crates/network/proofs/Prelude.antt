@@ -1,5 +1,5 @@
 -- The names from outside that these proofs cite, passed on from one place. Declares nothing.
-pub use Rattle.std.proofs.Common.{Bool, Bor, Err, List, None, Ok, Option, Result, Some, [], ap, append_assoc, arith, cond, drop, false, get_or, inl, inr, length, lit<, map, min, nat_lt, not, refl, get_or as slice_index_or, subst, suc, sym, take, true, true≢false, w64, zero, ℕ, ◌&&◌, ◌++◌, ◌+◌, ◌-◌, ◌<◌, ◌^◌, ◌||◌, ◌∙◌, ◌∷◌, ◌≡◌, ◌≢◌, ◌≤◌, ◌⊎◌}
+pub use Rattle.std.proofs.Common.{Bool, Bor, Err, List, None, Ok, Option, Result, Some, [], ap, append_assoc, arith, cond, drop, false, get_or, inl, inr, length, lit<, map, min, nat_lt, not, refl, slice_index_or, subst, suc, sym, take, true, true≢false, w64, zero, ℕ, ◌&&◌, ◌++◌, ◌+◌, ◌-◌, ◌<◌, ◌^◌, ◌||◌, ◌∙◌, ◌∷◌, ◌≡◌, ◌≢◌, ◌≤◌, ◌⊎◌}
 pub use Rattle.std.proofs.Math.Seq.{drop-cons}
 pub use Rattle.std.proofs.lemmas.Bool.{and_from, and_parts, both_ways, cases_order, eq-eqb, eqb-true, le-leb, leb-true, ne_eqb, or_left, or_right}
 pub use Rattle.std.proofs.lemmas.List.{append-nil, at_drop_all, drop-map, flat_map_more, get_or-map, get_or_default, length-drop, length-map, length_push, map-append, take_all, take_more}
