@@ -1,17 +1,6 @@
 -- A whole list of words with options.
-use Rattle.std.proofs.Common.{◌≡◌, ℕ, ◌==◌, Bool, true, false, not, List, [], ◌∷◌, ◌++◌, refl, ap, ap₂, ◌∙◌, ◌||◌, ◌&&◌, sym, append-nil, append_assoc, map, codes, Some, fold, subst}
-use Rattle.std.specs.Prelude.{if◌then◌else◌, is_some}
-use Rattle.std.specs.List.{list_all, list_any}
-use Rattle.std.specs.Str.{bytes_eq}
-use Rattle.clap.specs.Facts.{parser_of_value}
-use Rattle.clap.specs.Faults.{check_fault, defaults_fault, default_fault, entered_fault, settle_fault, turn_fault, use_fault, walk_fault, given_default_fault}
-use Rattle.clap.specs.Kinds.{Kinds, or_else}
-use Rattle.clap.specs.Simple.{built, entered}
-use Rattle.clap.specs.ValueTests.{accepts}
-use Rattle.clap.specs.Walk.{Held, Row, Rule, Text, Walk, default_rows, finished, has_row, is_empty, nothing_held, reacted, reading_by, settled, used, walk, walk_from, walked, with_default}
-use Rattle.acq_words.specs.Laws.{ListsAreParsed, positional_row, positional_rows, row_of}
-use Rattle.acq_words.specs.Line.{faults_in, line, rows_in}
-use Rattle.acq_words.specs.Options.{Name, Written, are_once, begins_bare, budget, dashed, id_of, is_accepted, is_named, number, plan, rule_named, words_of_option, words_of_options}
+use Rattle.acq_words.proofs.Prelude.{◌≡◌, ℕ, ◌==◌, Bool, true, false, not, List, [], ◌∷◌, ◌++◌, refl, ap, ap₂, ◌∙◌, ◌||◌, ◌&&◌, sym, append-nil, append_assoc, map, codes, Some, fold, subst, if◌then◌else◌, is_some, list_all, list_any, bytes_eq, parser_of_value, check_fault, default_fault, entered_fault, settle_fault, turn_fault, use_fault, given_default_fault, Kinds, or_else, built, entered, accepts, Held, Row, Rule, Text, Walk, default_rows, finished, has_row, is_empty, nothing_held, reacted, reading_by, settled, used, walk, walk_from, walked, with_default, ListsAreParsed, positional_row, positional_rows, row_of, faults_in, line, rows_in, Name, Written, are_once, begins_bare, budget, dashed, id_of, is_accepted, is_named, number, plan, rule_named, words_of_option, words_of_options}
+use Rattle.clap.specs.Faults.{defaults_fault, walk_fault}
 use Rattle.acq_words.proofs.Steps.{at_options, between, given, joined_step, joined_turn, name_step, name_turn, positional_step, positional_turn, row_at, rule_at, rules, top, use_fresh, used_fresh, value_step, value_turn}
 
 -- ---- What is held between two options

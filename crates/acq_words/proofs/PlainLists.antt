@@ -1,24 +1,11 @@
 -- A plain list is taken, and asks for what it reads as.
-use Rattle.std.proofs.Common.{◌≡◌, ◌∙◌, ◌<◌, ◌≤◌, ◌==◌, ◌^◌, ℕ, Bool, true, false, not, cond, List, [], ◌∷◌, ◌++◌, length, drop, map, Option, Some, None, option_map, refl, sym, subst, ap, ap₂, arith, codes, ◌&&◌, ◌||◌, IsErrOf, lit<, lit≤}
-use Rattle.std.specs.Prelude.{ℤ, if◌then◌else◌, int_le, nat_lt, pos, unwrap_or, Ok, Err, Result}
+use Rattle.acq_words.proofs.Prelude.{◌≡◌, ◌∙◌, ◌<◌, ◌≤◌, ◌==◌, ◌^◌, ℕ, Bool, true, false, not, cond, List, [], ◌∷◌, ◌++◌, length, drop, map, Option, Some, None, option_map, refl, sym, subst, ap, ap₂, arith, codes, ◌&&◌, ◌||◌, IsErrOf, lit<, lit≤, ℤ, if◌then◌else◌, int_le, nat_lt, pos, unwrap_or, Ok, Err, Result, All, list_all, AllDigits, IsNumeral, digits_value, signed_digits_value, starts_with_minus, without_leading_plus, without_leading_sign, le-leb, lt-ltb, ne_eqb, All-from_recursion, All-head, All-tail, digit_from_value, without_minus, fits_i64, is_numeral, is_signed_in, Row, Text, first_of, one_of, ExampleIsPlain, PlainListsAreTaken, PlainListsReadOneWay, positional_rows, row_of, number_of, begins_bare, is_accepted, Contents, IsAnswer, answer_in, answer_to, answer_with, asked_by, asked_in, command_named, command_of, file_named, is_memory, is_unfit, plan_named, plan_said}
 use Rattle.std.specs.Fmt.{decimal}
 use Rattle.std.specs.Char.{digit_value}
-use Rattle.std.specs.List.{All, list_all}
-use Rattle.std.specs.Str.Parse.{AllDigits, IsNumeral, digits_value, signed_digits_value, starts_with_minus, without_leading_plus, without_leading_sign}
-use Rattle.std.proofs.lemmas.Bool.{le-leb, lt-ltb, ne_eqb}
 use Rattle.std.proofs.lemmas.Fmt.{decimal_digit, decimal_is_IsNumeral}
-use Rattle.std.proofs.lemmas.List.Elements.{All-from_recursion, All-head, All-tail}
-use Rattle.std.proofs.lemmas.Str.Parse.{digit_from_value}
 use Rattle.assign.specs.declared.events.Plan.{Plan}
 use Rattle.assign.specs.declared.events.Plan.TheVariants.{Scopes, Quacq, Multi}
-use Rattle.clap.specs.Lexer.{without_minus}
-use Rattle.clap.specs.ValueTests.{fits_i64, is_numeral, is_signed_in}
-use Rattle.clap.specs.Walk.{Row, Text, first_of, one_of}
-use Rattle.acq_words.specs.Laws.{ExampleIsPlain, PlainListsAreTaken, PlainListsReadOneWay, positional_rows, row_of}
-use Rattle.acq_words.specs.Numbers.{number_of}
-use Rattle.acq_words.specs.Options.{begins_bare, is_accepted}
 use Rattle.acq_words.specs.Plain.{Choice, IsListed, IsPlain, IsPlainList, Plain, Setting, answer_of, asked_of, budget_given, budget_is, command_text, number_given, number_is, plan_given, plan_is, plan_text, words_of, written_of}
-use Rattle.acq_words.specs.Request.{Contents, IsAnswer, answer_in, answer_to, answer_with, asked_by, asked_in, command_named, command_of, file_named, is_memory, is_unfit, plan_named, plan_said}
 use Rattle.acq_words.specs.declared.request.CommandName.{CommandName}
 use Rattle.acq_words.specs.declared.request.CommandName.TheVariants as name
 use Rattle.acq_words.specs.declared.request.Request.{Request}

@@ -1,20 +1,9 @@
 -- A word more, where all that was said so far is taken.
-use Rattle.std.proofs.Common.{◌≡◌, ℕ, ◌==◌, Bool, true, false, List, [], ◌∷◌, ◌++◌, refl, ap, ◌∙◌, append-nil, codes, Some, None}
-use Rattle.std.specs.Prelude.{if◌then◌else◌, option_and_then}
+use Rattle.acq_words.proofs.Prelude.{◌≡◌, ℕ, ◌==◌, Bool, true, false, List, [], ◌∷◌, ◌++◌, refl, ap, ◌∙◌, append-nil, codes, Some, None, if◌then◌else◌, option_and_then, bytes_eq, parser_of_value, flag_word_fault, other_fault, react_fault, settle_fault, step_fault, turn_fault, use_fault, bundle_fault, or_else, long_of, long_of_rest, short_of, short_of_rest, strip_byte, Shape, built, filled, accepts, Held, Row, Rule, Text, Waiting, Walk, after_step, arg_by_index, at_row, has_row, idle, long_or_other, more_values, next, option, plain_word, reacted, reading_by, settled, short_or_plain, to_positional, trailing, used, used_as, value, with_values, without, word_met, Reading, line, Name, budget, dashed, id_of, number, plan, rule_named}
 use Rattle.std.specs.Option.{option_map_or}
-use Rattle.std.specs.Str.{bytes_eq}
-use Rattle.clap.specs.Facts.{parser_of_value}
-use Rattle.clap.specs.Faults.{flag_word_fault, other_fault, react_fault, settle_fault, step_fault, turn_fault, use_fault, bundle_fault}
-use Rattle.clap.specs.Kinds.{or_else}
-use Rattle.clap.specs.Lexer.{long_of, long_of_rest, short_of, short_of_rest, strip_byte}
-use Rattle.clap.specs.Simple.{Shape, built, filled}
-use Rattle.clap.specs.ValueTests.{accepts}
-use Rattle.clap.specs.Walk.{Held, Row, Rule, Text, Waiting, Walk, after_step, arg_by_index, at_row, has_row, idle, long_or_other, more_values, next, option, plain_word, reacted, reading_by, settled, short_or_plain, to_positional, trailing, used, used_as, value, walked, with_values, without, word_met}
+use Rattle.clap.specs.Walk.{walked}
 use Rattle.clap.specs.declared.builder.action.ArgAction.TheVariants.{Set}
-use Rattle.clap.specs.declared.builder.value_parser.Reading.{Reading}
 use Rattle.clap.specs.declared.parser.matches.ValueSource.TheVariants.{CommandLine}
-use Rattle.acq_words.specs.Line.{line}
-use Rattle.acq_words.specs.Options.{Name, budget, dashed, id_of, number, plan, rule_named}
 
 abbrev pub top : Shape
 top = (built line).top

@@ -1,13 +1,7 @@
 -- What is known of a parse by the command.
-use Rattle.std.proofs.Common.{◌≡◌, true, List, [], ◌∷◌, ap, ap₂, refl, ◌∙◌, sym, inl, inr}
-use Rattle.std.specs.Prelude.{◌≢◌}
-use Rattle.clap.specs.Words.{App, HasMatchesOf, Text, fault_of, found_of, is_simple, kind_of, matches_of, rows_of}
-use Rattle.clap.specs.Kinds.{HasKind, IsAmong, Kinds}
-use Rattle.clap.specs.Faults.{is_simple_and_free}
+use Rattle.acq_words.proofs.Prelude.{◌≡◌, true, List, [], ◌∷◌, ap, ap₂, refl, ◌∙◌, sym, inl, inr, ◌≢◌, App, HasMatchesOf, Text, fault_of, found_of, is_simple, kind_of, matches_of, rows_of, HasKind, IsAmong, Kinds, is_simple_and_free, ArgMatches, faults_in, line, rows_in}
 use Rattle.clap.specs.declared.error.Error.{Error}
 use Rattle.clap.specs.declared.error.kind.ErrorKind.TheVariants as kind
-use Rattle.clap.specs.declared.parser.matches.ArgMatches.{ArgMatches}
-use Rattle.acq_words.specs.Line.{faults_in, line, rows_in}
 
 pub is_plain_app : (a : App) → a ≡ line → is_simple_and_free a ≡ true
 is_plain_app a e = ap is_simple_and_free e

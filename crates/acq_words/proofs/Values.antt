@@ -1,35 +1,20 @@
 -- The values that the options have in a parse that succeeds.
-use Rattle.std.proofs.Common.{◌≡◌, ◌∙◌, ◌<◌, ◌≤◌, ◌==◌, ℕ, Bool, true, false, cond, List, [], ◌∷◌, length, drop, map, Option, Some, None, option_map, refl, sym, subst, ap, inl, inr, arith, codes, Bor}
-use Rattle.std.specs.Prelude.{Err, Ok, Result, find, option_and_then, pos, slice_get, unwrap_or}
-use Rattle.std.specs.List.{All, list_all, slice_index_or}
-use Rattle.std.specs.Str.{bytes_eq}
-use Rattle.std.specs.Str.Parse.{IsNumeral, ParsesUnsigned, digits_value, starts_with_minus, without_leading_plus}
-use Rattle.std.proofs.lemmas.Bool.{cases_lt, ne_eqb}
+use Rattle.acq_words.proofs.Prelude.{◌≡◌, ◌∙◌, ◌<◌, ◌≤◌, ◌==◌, ℕ, Bool, true, false, cond, List, [], ◌∷◌, length, drop, map, Option, Some, None, option_map, refl, sym, subst, ap, inl, inr, arith, codes, Bor, Err, Ok, Result, find, option_and_then, pos, slice_get, unwrap_or, All, list_all, slice_index_or, bytes_eq, IsNumeral, ParsesUnsigned, digits_value, starts_with_minus, without_leading_plus, cases_lt, ne_eqb, All-from_recursion, All-get_or, digit_from_value, Entry, EntryPasses, HasReading, IsParsed, PassesArg, args_of, groups_of, parser_of, parser_of_value, without_minus, found_of, Row, Rule, Text, first_of, one_of, row_text, rows_of, rule_of, app_of, Reading, ArgMatches, line, HasNumber, HaveNumbers, IsNumberIn, number_of, Name, budget, id_of, number, plan, rule_named}
 use Rattle.std.proofs.lemmas.Int.{ints}
 use Rattle.std.proofs.lemmas.List.{get_or-map, length-map}
-use Rattle.std.proofs.lemmas.List.Elements.{All-from_recursion, All-get_or}
 use Rattle.std.proofs.lemmas.Slice.Eq.{bytes_eq-Decides}
-use Rattle.std.proofs.lemmas.Str.Parse.{digit_from_value}
 use Rattle.clap.specs.Built.{IsAuto, IsParsedFrom, SameRules}
-use Rattle.clap.specs.Facts.{Entry, EntryPasses, HasReading, IsParsed, PassesArg, args_of, groups_of, parser_of, parser_of_value}
-use Rattle.clap.specs.Lexer.{without_minus}
-use Rattle.clap.specs.Matches.{ReadsOne, first_value, found_of, has_subcommand, matched_of, one_text}
+use Rattle.clap.specs.Matches.{ReadsOne, first_value, has_subcommand, matched_of, one_text}
 use Rattle.clap.specs.Values.{Accepts, IsSignedIn, read_as, reading_of}
-use Rattle.clap.specs.Walk.{Row, Rule, Text, first_of, one_of, row_of, row_text, rows_of, rule_of}
-use Rattle.clap.specs.Words.{app_of}
+use Rattle.clap.specs.Walk.{row_of}
 use Rattle.clap.specs.declared.builder.arg.Arg.{Arg}
 use Rattle.clap.specs.declared.builder.command.Command.{Command}
-use Rattle.clap.specs.declared.builder.value_parser.Reading.{Reading}
 use Rattle.clap.specs.declared.builder.value_parser.ValueParser.{ValueParser}
 use Rattle.clap.specs.declared.builder.value_parser.ValueParser.TheVariants as vp
-use Rattle.clap.specs.declared.parser.matches.ArgMatches.{ArgMatches}
 use Rattle.clap.specs.declared.parser.matches.Found.{Found}
 use Rattle.clap.specs.declared.parser.matches.MatchedArg.{MatchedArg}
 use Rattle.clap.proofs.CallerLemmas.{entry_by_id}
 use Rattle.clap.proofs.SimpleLemmas.{plain_fields, simple_groups}
-use Rattle.acq_words.specs.Line.{line}
-use Rattle.acq_words.specs.Numbers.{HasNumber, HaveNumbers, IsNumberIn, number_of}
-use Rattle.acq_words.specs.Options.{Name, budget, id_of, number, plan, rule_named}
 
 -- ---- What the getters read is in the rows
 

@@ -1,19 +1,6 @@
 -- The mask of the relations that accept the tuple at a place, and what a mask has without them.
-use Rattle.std.proofs.Common.{◌≡◌, ℕ, ◌^◌, ◌<◌, ◌≤◌, Bool, true, false, ◌&&◌, not, List, [], length, get_or, Some, refl, sym, ◌∙◌, ap, arith, inl, inr, ◌⊎◌}
-use Rattle.std.specs.Prelude.{◌==◌, bit_and}
-use Rattle.std.specs.Int.{bit_not, w64}
-use Rattle.std.specs.List.{filter}
-use Rattle.std.proofs.lemmas.Bool.{cases_lt, eq-eqb}
-use Rattle.std.proofs.lemmas.Nat.Bits.{bit_at_above}
+use Rattle.bias_store.proofs.Prelude.{◌≡◌, ℕ, ◌^◌, ◌<◌, ◌≤◌, Bool, true, false, ◌&&◌, not, List, [], length, get_or, Some, refl, sym, ◌∙◌, ap, arith, inl, inr, ◌⊎◌, ◌==◌, bit_and, bit_not, w64, filter, cases_lt, eq-eqb, bit_at_above, Assignment, numbers, has, is_one, Relation, Language, relations_on, place_on, violates, any_number, ones_of, accepting_on}
 use Rattle.std.proofs.Math.ListN.{get_or-eq_default}
-use Rattle.assign.specs.Assignment.{Assignment}
-use Rattle.assign.specs.Sets.{numbers, has}
-use Rattle.assign.specs.SetLemmas.{is_one}
-use Rattle.rel_table.specs.Relation.{Relation}
-use Rattle.language.specs.Language.{Language, relations_on, place_on, violates}
-use Rattle.language.proofs.Members.{any_number}
-use Rattle.bias_store.specs.Masks.{ones_of}
-use Rattle.bias_store.specs.Accepting.{accepting_on}
 use Rattle.bias_store.proofs.Ones.{ones_of-passing, ones_of-listed, has-ones_of, has-filter, is_one-and_not}
 use Rattle.bias_store.proofs.Members.{candidate_at}
 use Rattle.bias_store.proofs.Picked.{covered}

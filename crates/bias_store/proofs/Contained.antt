@@ -1,13 +1,5 @@
 -- Which candidates are members, by the bits of the masks.
-use Rattle.std.proofs.Common.{◌≡◌, ℕ, zero, suc, ◌+◌, ◌<◌, ◌≤◌, true, ◌||◌, List, [], ◌∷◌, length, sym, ◌∙◌, ap, subst, arith, inl, inr, ◌⊎◌}
-use Rattle.std.specs.Prelude.{◌==◌, slice_index_or, Contains}
-use Rattle.std.proofs.lemmas.Bool.{eq-eqb, ne_eqb, cases_eq}
-use Rattle.std.proofs.lemmas.List.Elements.{Contains-append_left, Contains-append_right, Contains-append_cases}
-use Rattle.std.proofs.lemmas.List.Folds.{list_any_at}
-use Rattle.assign.specs.Sets.{has}
-use Rattle.language.specs.declared.candidates.Candidate.{Candidate}
-use Rattle.bias_store.specs.Masks.{ones_of}
-use Rattle.bias_store.specs.Inside.{candidates_at, members_from}
+use Rattle.bias_store.proofs.Prelude.{◌≡◌, ℕ, zero, suc, ◌+◌, ◌<◌, ◌≤◌, true, ◌||◌, List, [], ◌∷◌, length, sym, ◌∙◌, ap, subst, arith, inl, inr, ◌⊎◌, ◌==◌, slice_index_or, Contains, eq-eqb, ne_eqb, cases_eq, Contains-append_left, Contains-append_right, Contains-append_cases, list_any_at, has, Candidate, ones_of, candidates_at, members_from}
 use Rattle.bias_store.proofs.Members.{candidate_at}
 
 has_contained : (xs : List ℕ) (r : ℕ) → Contains xs r → has xs r ≡ true

@@ -1,18 +1,8 @@
 -- Masks that take all relations, one scope after another.
-use Rattle.std.proofs.Common.{◌≡◌, ℕ, zero, suc, ◌+◌, ◌*◌, ◌<◌, ◌≤◌, List, [], ◌∷◌, ◌++◌, length, refl, sym, ◌∙◌, ap, subst, arith, inl, inr, ◌⊎◌, get_or-set_same, get_or-set_other, length-append, add-one}
-use Rattle.std.specs.Prelude.{slice_index_or, slice_set, All}
-use Rattle.std.specs.List.{flat_map, range_with_len}
-use Rattle.std.proofs.lemmas.Bool.{cases_eq}
-use Rattle.std.proofs.lemmas.List.{length-set, length-map}
+use Rattle.bias_store.proofs.Prelude.{◌≡◌, ℕ, zero, suc, ◌+◌, ◌*◌, ◌<◌, ◌≤◌, List, [], ◌∷◌, ◌++◌, length, refl, sym, ◌∙◌, ap, subst, arith, inl, inr, ◌⊎◌, get_or-set_same, get_or-set_other, length-append, add-one, slice_index_or, slice_set, All, flat_map, range_with_len, cases_eq, length-set, length-map, All-nil, All-cons, All-head, All-tail, All-append, All-map, numbers, Candidate, Language, IsCandidate, candidates, candidates_on, relations_on, ones_of, members_from}
 use Rattle.std.proofs.lemmas.List.Concat.{flat_map-append}
-use Rattle.std.proofs.lemmas.List.Elements.{All-nil, All-cons, All-head, All-tail, All-append, All-map}
 use Rattle.std.proofs.lemmas.List.FromFn.{length-range_with_len}
-use Rattle.assign.specs.Sets.{numbers}
-use Rattle.language.specs.declared.candidates.Candidate.{Candidate}
-use Rattle.language.specs.Language.{Language, IsCandidate, candidates, candidates_on, relations_on}
 use Rattle.language.specs.Answers.{IsNetwork}
-use Rattle.bias_store.specs.Masks.{ones_of}
-use Rattle.bias_store.specs.Inside.{members_from}
 use Rattle.bias_store.proofs.Members.{candidate_at, members_from-all}
 
 -- ---- the candidates of the first scopes

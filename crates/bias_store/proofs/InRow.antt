@@ -1,12 +1,5 @@
 -- The places of a row, one after the other.
-use Rattle.std.proofs.Common.{◌≡◌, ◌≢◌, ℕ, ◌+◌, ◌-◌, ◌<◌, ◌≤◌, ◌^◌, List, [], length, get_or, Some, None, sym, ◌∙◌, ap, subst, arith, inl, inr, ◌⊎◌}
-use Rattle.std.specs.Prelude.{bit_and, is_some, unwrap_or}
-use Rattle.std.specs.Int.{bit_not, w64}
-use Rattle.std.proofs.lemmas.Bool.{cases_eq, cases_lt}
-use Rattle.std.proofs.lemmas.Nat.{and_le_l}
-use Rattle.assign.specs.Assignment.{Assignment, value_of}
-use Rattle.bias_store.specs.Masks.{ones_of}
-use Rattle.bias_store.specs.Shown.{violated_at, AreNoneIn, IsFirstIn}
+use Rattle.bias_store.proofs.Prelude.{◌≡◌, ◌≢◌, ℕ, ◌+◌, ◌-◌, ◌<◌, ◌≤◌, ◌^◌, List, [], length, get_or, Some, None, sym, ◌∙◌, ap, subst, arith, inl, inr, ◌⊎◌, bit_and, is_some, unwrap_or, bit_not, w64, cases_eq, cases_lt, and_le_l, Assignment, value_of, ones_of, violated_at, AreNoneIn, IsFirstIn}
 use Rattle.bias_store.proofs.Ones.{ones_of-zero}
 use Rattle.bias_store.proofs.Bits.{ones_without}
 

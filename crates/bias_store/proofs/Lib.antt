@@ -1,3 +1,4 @@
+mod Prelude
 pub mod Ones
 pub mod Members
 pub mod Picked

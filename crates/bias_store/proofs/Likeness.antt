@@ -1,22 +1,10 @@
 -- A scope of two variables goes, within the ranges, by the table of one whose variables have all values, where the relations have the same tables.
-use Rattle.std.proofs.Common.{◌≡◌, ℕ, ◌+◌, ◌<◌, ◌≤◌, ◌^◌, Bool, true, false, List, [], ◌∷◌, length, get_or, Option, Some, None, refl, sym, ◌∙◌, ap, subst, arith}
-use Rattle.std.specs.Prelude.{All, is_some, unwrap_or, if◌then◌else◌}
-use Rattle.std.specs.List.{filter}
-use Rattle.std.specs.Option.{option_map_or}
-use Rattle.std.proofs.lemmas.Bool.{both_ways, and_parts, and_from}
-use Rattle.std.proofs.lemmas.List.Elements.{All-head, All-tail}
-use Rattle.assign.specs.Sets.{numbers}
-use Rattle.assign.specs.Assignment.{Assignment, value_of, covers, tuple_on}
-use Rattle.rel_table.specs.Relation.{Relation, place, holds}
+use Rattle.bias_store.proofs.Prelude.{◌≡◌, ℕ, ◌+◌, ◌<◌, ◌≤◌, ◌^◌, Bool, true, false, List, [], ◌∷◌, length, get_or, Option, Some, None, refl, sym, ◌∙◌, ap, subst, arith, All, is_some, unwrap_or, if◌then◌else◌, filter, option_map_or, both_ways, and_parts, and_from, All-head, All-tail, numbers, Assignment, value_of, covers, tuple_on, Relation, place, holds, Language, IsLanguage, IsQuestion, variable_count, scope_at, relations_on, is_whole, filter_agree_from, ones_of, accepting_on, places_on, mask_in, IsTableOf, IsWholePair, HaveSameTables}
 use Rattle.language.specs.Ranges.{is_in, range_in, are_in}
-use Rattle.language.specs.Language.{Language, IsLanguage, IsQuestion, variable_count, scope_at, relations_on, is_whole}
 use Rattle.language.proofs.Beside.{tuple_fits}
-use Rattle.assign.specs.SetLemmas.{filter_agree_from}
 use Rattle.language.proofs.OneLanguage.{one_closing}
 use Rattle.language.proofs.Plain.{length-tuple_on}
 use Rattle.language.proofs.Within.{all_within, wholes_from}
-use Rattle.bias_store.specs.Masks.{ones_of}
-use Rattle.bias_store.specs.Accepting.{accepting_on, places_on, mask_in, IsTableOf, IsWholePair, HaveSameTables}
 
 -- a question's tuple is within the ranges
 within_ranges : (l : Language) (q : Assignment) (scope : List ℕ) → IsQuestion l q → All (λ v. v < variable_count l) scope → covers q scope ≡ true → are_in l.ranges scope (tuple_on q scope) ≡ true

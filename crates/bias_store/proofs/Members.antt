@@ -1,16 +1,5 @@
 -- The candidates of masks: filtered, counted, on one scope, all of a language.
-use Rattle.std.proofs.Common.{◌≡◌, ℕ, zero, suc, ◌+◌, ◌<◌, ◌≤◌, Bool, true, false, cond, ◌||◌, List, [], ◌∷◌, ◌++◌, length, map, refl, sym, ◌∙◌, ap, subst, arith, length-append}
-use Rattle.std.specs.Prelude.{◌==◌, slice_index_or, slice_set, replicate, All}
-use Rattle.std.specs.List.{filter, list_any, flat_map, range_with_len}
-use Rattle.std.proofs.lemmas.Bool.{eq-eqb, ne_eqb}
-use Rattle.std.proofs.lemmas.List.{length-map, append-nil, get_or_read}
-use Rattle.std.proofs.lemmas.List.Elements.{All-head, All-tail, All-nil, All-cons, filter-append}
-use Rattle.std.proofs.lemmas.List.Folds.{list_any-append}
-use Rattle.language.specs.declared.candidates.Candidate.{Candidate}
-use Rattle.language.proofs.Members.{any-map}
-use Rattle.language.proofs.Lists.{nothing_passes}
-use Rattle.bias_store.specs.Masks.{ones_of}
-use Rattle.bias_store.specs.Inside.{candidates_at, members_from}
+use Rattle.bias_store.proofs.Prelude.{◌≡◌, ℕ, zero, suc, ◌+◌, ◌<◌, ◌≤◌, Bool, true, false, cond, ◌||◌, List, [], ◌∷◌, ◌++◌, length, map, refl, sym, ◌∙◌, ap, subst, arith, length-append, ◌==◌, slice_index_or, slice_set, replicate, All, filter, list_any, flat_map, range_with_len, eq-eqb, ne_eqb, length-map, append-nil, get_or_read, All-head, All-tail, All-nil, All-cons, filter-append, list_any-append, Candidate, any-map, nothing_passes, ones_of, candidates_at, members_from}
 
 -- the candidate with a relation on a scope
 abbrev pub candidate_at : ℕ → ℕ → Candidate

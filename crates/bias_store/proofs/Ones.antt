@@ -1,17 +1,6 @@
 -- The relations of a mask: of none, of the first ones, of those that pass a test, and how many they are.
-use Rattle.std.proofs.Common.{◌≡◌, ℕ, zero, suc, ◌+◌, ◌-◌, ◌<◌, ◌≤◌, ◌^◌, Bool, true, false, cond, ◌&&◌, ◌||◌, not, List, [], ◌∷◌, length, refl, sym, ◌∙◌, ap, subst, arith, inl, inr, ◌⊎◌, lit≤}
-use Rattle.std.specs.Prelude.{◌==◌, ◌≢◌, bit_and, min, count_ones}
-use Rattle.std.specs.List.{filter, range_with_len}
-use Rattle.std.specs.Int.{bit_at, bit_not, w64}
-use Rattle.std.proofs.lemmas.Bool.{cases_eq, cases_lt, eqb-true, eq-eqb, ne_eqb}
-use Rattle.std.proofs.Math.Nat.{pow-le-pow_right}
-use Rattle.std.proofs.lemmas.Nat.{zero_from_ones, pow_below}
-use Rattle.std.proofs.lemmas.Nat.Bits.{bit_at-lt, bit_at_and, bit_at_not, bit_at_above}
-use Rattle.assign.specs.Sets.{numbers, has, set_where, members_of}
-use Rattle.assign.specs.SetLemmas.{filter_agree_from, is_one, is_one-pow, has-members_of, has-set_where_above}
+use Rattle.bias_store.proofs.Prelude.{◌≡◌, ℕ, zero, suc, ◌+◌, ◌-◌, ◌<◌, ◌≤◌, ◌^◌, Bool, true, false, cond, ◌&&◌, ◌||◌, not, List, [], ◌∷◌, length, refl, sym, ◌∙◌, ap, subst, arith, inl, inr, ◌⊎◌, lit≤, ◌==◌, ◌≢◌, bit_and, min, count_ones, filter, range_with_len, bit_at, bit_not, w64, cases_eq, cases_lt, eqb-true, eq-eqb, ne_eqb, pow-le-pow_right, zero_from_ones, pow_below, bit_at-lt, bit_at_and, bit_at_not, bit_at_above, numbers, has, set_where, members_of, filter_agree_from, is_one, is_one-pow, has-members_of, has-set_where_above, any_number, ones_of}
 use Rattle.assign.proofs.Masks.{members_of-ones, length-members_of}
-use Rattle.language.proofs.Members.{any_number}
-use Rattle.bias_store.specs.Masks.{ones_of}
 
 -- ---- a mask of 64 bits as one of 128
 

@@ -1,11 +1,5 @@
 -- What a question violates on a scope.
-use Rattle.std.proofs.Common.{◌≡◌, ℕ, Bool, true, false, cond, ◌&&◌, not, [], Some, None, refl, sym, ◌∙◌, ap}
-use Rattle.std.specs.Prelude.{slice_index_or}
-use Rattle.std.specs.List.{filter}
-use Rattle.assign.specs.Assignment.{Assignment, covers, tuple_on}
-use Rattle.rel_table.specs.Relation.{place, holds}
-use Rattle.language.specs.Language.{Language, scope_at, relations_on, relation_of, place_on, violates}
-use Rattle.bias_store.specs.Masks.{ones_of}
+use Rattle.bias_store.proofs.Prelude.{◌≡◌, ℕ, Bool, true, false, cond, ◌&&◌, not, [], Some, None, refl, sym, ◌∙◌, ap, slice_index_or, filter, Assignment, covers, tuple_on, place, holds, Language, scope_at, relations_on, relation_of, place_on, violates, ones_of}
 use Rattle.bias_store.proofs.Ones.{ones_of-zero}
 use Rattle.bias_store.proofs.Members.{candidate_at}
 

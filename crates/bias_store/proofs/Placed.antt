@@ -1,12 +1,6 @@
 -- The place of a question's tuple on two variables.
-use Rattle.std.proofs.Common.{◌≡◌, ℕ, ◌+◌, ◌*◌, ◌^◌, ◌<◌, Bool, true, false, ◌&&◌, List, [], ◌∷◌, Option, Some, None, refl, sym, ◌∙◌, ap, arith}
-use Rattle.std.specs.Prelude.{is_some, unwrap_or, if◌then◌else◌}
-use Rattle.std.proofs.Math.Nat.{pow-zero}
-use Rattle.assign.specs.Assignment.{Assignment, value_of, covers, tuple_on}
-use Rattle.rel_table.specs.Relation.{place}
+use Rattle.bias_store.proofs.Prelude.{◌≡◌, ℕ, ◌+◌, ◌*◌, ◌^◌, ◌<◌, Bool, true, false, ◌&&◌, List, [], ◌∷◌, Option, Some, None, refl, sym, ◌∙◌, ap, arith, is_some, unwrap_or, if◌then◌else◌, pow-zero, Assignment, value_of, covers, tuple_on, place, Language, scope_at, place_on, below_after}
 use Rattle.rel_table.proofs.Powers.{place_step}
-use Rattle.language.specs.Language.{Language, scope_at, place_on}
-use Rattle.language.proofs.Placing.{below_after}
 
 and_false : (b : Bool) → (b && (false && true)) ≡ false
 and_false true = refl

@@ -1,11 +1,5 @@
 -- Rows of scopes with one table: the same first variable, and second ones that follow one another.
-use Rattle.std.proofs.Common.{◌≡◌, ◌≢◌, ℕ, zero, suc, ◌+◌, ◌<◌, ◌≤◌, List, [], ◌∷◌, length, get_or, refl, sym, ◌∙◌, ap, subst, arith, inl, inr, ◌⊎◌, get_or-set_same, get_or-set_other}
-use Rattle.std.specs.Prelude.{slice_set, replicate, max}
-use Rattle.std.proofs.lemmas.Bool.{cases_eq}
-use Rattle.std.proofs.lemmas.List.{length-set, length-replicate}
-use Rattle.language.specs.Language.{Language, IsLanguage, IsScope, scope_at}
-use Rattle.bias_store.specs.Accepting.{IsRow, AreRowsFrom, first_of, second_of}
-use Rattle.bias_store.specs.declared.tables.TheConstants.{NO_TABLE}
+use Rattle.bias_store.proofs.Prelude.{◌≡◌, ◌≢◌, ℕ, zero, suc, ◌+◌, ◌<◌, ◌≤◌, List, [], ◌∷◌, length, get_or, refl, sym, ◌∙◌, ap, subst, arith, inl, inr, ◌⊎◌, get_or-set_same, get_or-set_other, slice_set, replicate, max, cases_eq, length-set, length-replicate, Language, IsLanguage, IsScope, scope_at, IsRow, AreRowsFrom, first_of, second_of, NO_TABLE}
 
 pair_is : (xs : List ℕ) → length xs ≡ 2 → xs ≡ get_or xs 0 0 ∷ get_or xs 1 0 ∷ []
 pair_is [] two = absurd (omega arith)

@@ -1,13 +1,5 @@
 -- Runs of scopes with the same first variable, and scopes that a question leaves open.
-use Rattle.std.proofs.Common.{◌≡◌, ℕ, ◌+◌, ◌-◌, ◌<◌, ◌≤◌, false, ◌&&◌, not, List, [], ◌∷◌, length, get_or, None, sym, ◌∙◌, ap, subst, arith, inl, inr, ◌⊎◌, get_or-set_same, get_or-set_other}
-use Rattle.std.specs.Prelude.{slice_set, replicate, is_some}
-use Rattle.std.proofs.lemmas.Bool.{cases_eq, false_from_ne_true}
-use Rattle.std.proofs.lemmas.List.{length-set, length-replicate, get_or-replicate}
-use Rattle.assign.specs.Assignment.{Assignment, value_of, covers, tuple_on}
-use Rattle.rel_table.specs.Relation.{holds}
-use Rattle.language.specs.Language.{Language, IsLanguage, IsScope, scope_at, relation_of, violates}
-use Rattle.bias_store.specs.Accepting.{AreRunsFrom}
-use Rattle.bias_store.specs.KeptSet.{CoversOnly}
+use Rattle.bias_store.proofs.Prelude.{◌≡◌, ℕ, ◌+◌, ◌-◌, ◌<◌, ◌≤◌, false, ◌&&◌, not, List, [], ◌∷◌, length, get_or, None, sym, ◌∙◌, ap, subst, arith, inl, inr, ◌⊎◌, get_or-set_same, get_or-set_other, slice_set, replicate, is_some, cases_eq, false_from_ne_true, length-set, length-replicate, get_or-replicate, Assignment, value_of, covers, tuple_on, holds, Language, IsLanguage, IsScope, scope_at, relation_of, violates, AreRunsFrom, CoversOnly}
 use Rattle.bias_store.proofs.Members.{candidate_at, read_at}
 
 -- the last scope's run ends behind it

@@ -1,10 +1,5 @@
 -- The next variable that has a value, and this value.
-use Rattle.std.proofs.Common.{◌≡◌, ℕ, ◌+◌, ◌<◌, ◌≤◌, List, length, get_or, Some, None, sym, ◌∙◌, ap, arith, inl, inr, ◌⊎◌, get_or-set_same, get_or-set_other}
-use Rattle.std.specs.Prelude.{slice_set, replicate}
-use Rattle.std.proofs.lemmas.Bool.{cases_eq}
-use Rattle.std.proofs.lemmas.List.{length-set, length-replicate, get_or-replicate, get_or_past}
-use Rattle.assign.specs.Assignment.{Assignment, value_of}
-use Rattle.bias_store.specs.Shown.{IsShown}
+use Rattle.bias_store.proofs.Prelude.{◌≡◌, ℕ, ◌+◌, ◌<◌, ◌≤◌, List, length, get_or, Some, None, sym, ◌∙◌, ap, arith, inl, inr, ◌⊎◌, get_or-set_same, get_or-set_other, slice_set, replicate, cases_eq, length-set, length-replicate, get_or-replicate, get_or_past, Assignment, value_of, IsShown}
 
 -- what is asked of a question's values, from a variable on
 pub record AreShownFrom (q : Assignment) (next values : List ℕ) (low : ℕ) : Type 0 where

@@ -1,16 +1,5 @@
 -- What a strike does on the scopes that it finds.
-use Rattle.std.proofs.Common.{◌≡◌, ℕ, Bool, true, false, ◌+◌, ◌-◌, ◌<◌, ◌≤◌, List, [], length, not, Option, Some, None, sym, ◌∙◌, ap, arith}
-use Rattle.std.specs.Prelude.{slice_index_or, slice_set, bit_and, is_some}
-use Rattle.std.specs.List.{filter, list_any}
-use Rattle.std.specs.Int.{bit_not, w64}
-use Rattle.std.specs.Option.{IfSome, IfNone}
-use Rattle.assign.specs.Assignment.{Assignment}
-use Rattle.language.specs.Language.{Language, violates}
-use Rattle.language.specs.declared.candidates.Candidate.{Candidate}
-use Rattle.bias_store.specs.Masks.{ones_of}
-use Rattle.bias_store.specs.Inside.{members_from}
-use Rattle.bias_store.specs.Violated.{violated_on, AreNoneViolated, IsViolated}
-use Rattle.bias_store.specs.declared.tables.Violated.{Violated}
+use Rattle.bias_store.proofs.Prelude.{◌≡◌, ℕ, Bool, true, false, ◌+◌, ◌-◌, ◌<◌, ◌≤◌, List, [], length, not, Option, Some, None, sym, ◌∙◌, ap, arith, slice_index_or, slice_set, bit_and, is_some, filter, list_any, bit_not, w64, IfSome, IfNone, Assignment, Language, violates, Candidate, ones_of, members_from, violated_on, AreNoneViolated, IsViolated, Violated}
 use Rattle.bias_store.proofs.Members.{none_passes, one_passes}
 use Rattle.bias_store.proofs.Struck.{IsStruck, enough, struck_more, struck_pass, struck_all, fails_of_filter, one_fails}
 

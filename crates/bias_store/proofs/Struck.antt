@@ -1,19 +1,6 @@
 -- Masks that lose, one scope after another, the relations of the candidates that fail a test.
-use Rattle.std.proofs.Common.{◌≡◌, ℕ, ◌+◌, ◌-◌, ◌<◌, ◌≤◌, ◌^◌, Bool, true, false, cond, ◌||◌, not, List, [], ◌∷◌, length, refl, sym, ◌∙◌, ap, subst, arith, inl, inr, ◌⊎◌, get_or-set_same, get_or-set_other}
-use Rattle.std.specs.Prelude.{◌==◌, bit_and, slice_index_or, slice_set, All}
-use Rattle.std.specs.List.{filter, list_any}
-use Rattle.std.specs.Int.{bit_not, w64}
-use Rattle.std.proofs.lemmas.Bool.{cases_eq, cases_lt, eq-eqb, ne_eqb, or_parts, true_from_ne_false}
-use Rattle.std.proofs.lemmas.List.{length-set}
-use Rattle.std.proofs.lemmas.List.Elements.{All-filter}
+use Rattle.bias_store.proofs.Prelude.{◌≡◌, ℕ, ◌+◌, ◌-◌, ◌<◌, ◌≤◌, ◌^◌, Bool, true, false, cond, ◌||◌, not, List, [], ◌∷◌, length, refl, sym, ◌∙◌, ap, subst, arith, inl, inr, ◌⊎◌, get_or-set_same, get_or-set_other, ◌==◌, bit_and, slice_index_or, slice_set, All, filter, list_any, bit_not, w64, cases_eq, cases_lt, eq-eqb, ne_eqb, or_parts, true_from_ne_false, length-set, All-filter, Candidate, Language, IsCandidate, nothing_passes, ones_of, IsAcceptingOf, KeptSet, IsMadeFor, members_from}
 use Rattle.std.proofs.lemmas.List.Filters.{length-filter_both}
-use Rattle.language.specs.declared.candidates.Candidate.{Candidate}
-use Rattle.language.specs.Language.{Language, IsCandidate}
-use Rattle.language.proofs.Lists.{nothing_passes}
-use Rattle.bias_store.specs.Masks.{ones_of}
-use Rattle.bias_store.specs.Accepting.{IsAcceptingOf}
-use Rattle.bias_store.specs.KeptSet.{KeptSet, IsMadeFor}
-use Rattle.bias_store.specs.Inside.{members_from}
 use Rattle.bias_store.proofs.Ones.{ones_of-zero, ones_of-and_not, no_ones}
 use Rattle.bias_store.proofs.Members.{candidate_at, length-members_set, fewer_on_one, filter_of_masks, all_pass}
 

@@ -1,16 +1,7 @@
 -- Tables of masks, made one place after another and one scope after another.
-use Rattle.std.proofs.Common.{◌≡◌, ℕ, ◌+◌, ◌^◌, ◌<◌, ◌≤◌, ◌≢◌, true, false, List, [], ◌∷◌, ◌++◌, length, get_or, refl, sym, ◌∙◌, ap, subst, arith, inl, inr, ◌⊎◌, length-append, replicate, get_or-set_same, get_or-set_other}
-use Rattle.std.specs.Prelude.{slice_set}
-use Rattle.std.specs.List.{filter}
-use Rattle.std.proofs.lemmas.Bool.{cases_eq}
-use Rattle.std.proofs.lemmas.List.{get_or_append_left, get_or_push, length-set, length-replicate, get_or-replicate}
-use Rattle.assign.specs.Sets.{numbers}
-use Rattle.language.specs.Language.{Language, IsLanguage, scope_at, is_whole}
+use Rattle.bias_store.proofs.Prelude.{◌≡◌, ℕ, ◌+◌, ◌^◌, ◌<◌, ◌≤◌, ◌≢◌, true, false, List, [], ◌∷◌, ◌++◌, length, get_or, refl, sym, ◌∙◌, ap, subst, arith, inl, inr, ◌⊎◌, length-append, replicate, get_or-set_same, get_or-set_other, slice_set, filter, cases_eq, get_or_append_left, get_or_push, length-set, length-replicate, get_or-replicate, numbers, Language, IsLanguage, scope_at, is_whole, ones_of, accepting_on, places_on, mask_in, AreRunsFrom, AreRowsFrom, IsAcceptingOf, IsTabled, IsTableOf, IsLikePair, NO_TABLE}
 use Rattle.language.proofs.Alike.{whole_alike}
-use Rattle.bias_store.specs.Masks.{ones_of}
-use Rattle.bias_store.specs.Accepting.{accepting_on, places_on, mask_in, AreRunsFrom, AreRowsFrom, IsAcceptingOf, IsTabled, IsTableOf, IsLikePair}
 use Rattle.bias_store.proofs.Likeness.{table_like}
-use Rattle.bias_store.specs.declared.tables.TheConstants.{NO_TABLE}
 
 pub table_none : (l : Language) (s : ℕ) (before : List ℕ) → IsTabled l s before before 0
 table_none l s before = record { long = omega arith; same = λ i low. refl; here = λ p low. absurd (omega arith) }

@@ -1,17 +1,5 @@
 -- What a question violates in a row of scopes of a language.
-use Rattle.std.proofs.Common.{◌≡◌, ℕ, ◌+◌, ◌-◌, ◌*◌, ◌<◌, ◌≤◌, Bool, true, false, ◌&&◌, List, [], ◌∷◌, length, get_or, Option, Some, None, refl, sym, ◌∙◌, ap, subst, arith}
-use Rattle.std.specs.Prelude.{not, is_some}
-use Rattle.std.specs.List.{filter, slice_range}
-use Rattle.std.proofs.lemmas.List.{get_or-take, get_or-drop, length-drop, length-take-le}
-use Rattle.assign.specs.Sets.{has}
-use Rattle.assign.specs.Assignment.{Assignment, value_of, covers}
-use Rattle.language.specs.Language.{Language, IsLanguage, scope_at, violates, IsQuestion}
-use Rattle.language.proofs.Lists.{nothing_passes}
-use Rattle.language.proofs.Placing.{value_fits}
-use Rattle.bias_store.specs.Masks.{ones_of}
-use Rattle.bias_store.specs.Accepting.{Accepting, places_on, mask_in, first_of, second_of, IsRow, IsAcceptingOf, IsTableOf}
-use Rattle.bias_store.specs.Shown.{violated_at, AreNoneIn, IsFirstIn}
-use Rattle.bias_store.specs.Violated.{violated_on, AreNoneViolated, IsViolated}
+use Rattle.bias_store.proofs.Prelude.{◌≡◌, ℕ, ◌+◌, ◌-◌, ◌*◌, ◌<◌, ◌≤◌, Bool, true, false, ◌&&◌, List, [], ◌∷◌, length, get_or, Option, Some, None, refl, sym, ◌∙◌, ap, subst, arith, not, is_some, filter, slice_range, get_or-take, get_or-drop, length-drop, length-take-le, has, Assignment, value_of, covers, Language, IsLanguage, scope_at, violates, IsQuestion, nothing_passes, value_fits, ones_of, Accepting, places_on, mask_in, first_of, second_of, IsRow, IsAcceptingOf, IsTableOf, violated_at, AreNoneIn, IsFirstIn, violated_on, AreNoneViolated, IsViolated}
 use Rattle.bias_store.proofs.Bits.{without_those}
 use Rattle.bias_store.proofs.Placed.{pair_place, pair_below}
 use Rattle.bias_store.proofs.Runs.{open_violates}

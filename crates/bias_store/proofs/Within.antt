@@ -1,18 +1,5 @@
 -- The scopes with candidates that a question violates, listed one after another.
-use Rattle.std.proofs.Common.{◌≡◌, ℕ, ◌+◌, ◌<◌, ◌≤◌, Bool, true, false, ◌&&◌, ◌||◌, zero, suc, List, [], ◌∷◌, length, take, refl, sym, ◌∙◌, ap, arith, inl, inr, ◌⊎◌, get_or-set_same, get_or-set_other}
-use Rattle.std.specs.Prelude.{slice_index_or, slice_set}
-use Rattle.std.specs.List.{list_any}
-use Rattle.std.proofs.lemmas.Bool.{cases_eq, cases_lt, both_ways, true_from_ne_false}
-use Rattle.std.proofs.lemmas.List.{length-set}
-use Rattle.assign.specs.Sets.{is_within}
-use Rattle.assign.specs.Assignment.{Assignment}
-use Rattle.language.specs.declared.candidates.Candidate.{Candidate}
-use Rattle.language.specs.Language.{Language, scope_at, scope_of, violates}
-use Rattle.bias_store.specs.Masks.{ones_of}
-use Rattle.bias_store.specs.Inside.{members_from}
-use Rattle.bias_store.specs.KeptSet.{is_struck_within}
-use Rattle.bias_store.specs.Violated.{violated_on, AreNoneViolated, IsViolated, IsHit, AreHitsListed}
-use Rattle.bias_store.specs.declared.tables.Violated.{Violated}
+use Rattle.bias_store.proofs.Prelude.{◌≡◌, ℕ, ◌+◌, ◌<◌, ◌≤◌, Bool, true, false, ◌&&◌, ◌||◌, zero, suc, List, [], ◌∷◌, length, take, refl, sym, ◌∙◌, ap, arith, inl, inr, ◌⊎◌, get_or-set_same, get_or-set_other, slice_index_or, slice_set, list_any, cases_eq, cases_lt, both_ways, true_from_ne_false, length-set, is_within, Assignment, Candidate, Language, scope_at, scope_of, violates, ones_of, members_from, is_struck_within, violated_on, AreNoneViolated, IsViolated, IsHit, AreHitsListed, Violated}
 use Rattle.bias_store.proofs.Members.{candidate_at, none_passes, one_passes}
 use Rattle.bias_store.proofs.Struck.{fails_of_filter, one_fails}
 

@@ -1,13 +1,6 @@
 -- The mask of the relations that accept the tuple at a place, as a test of choices.
-use Rattle.std.proofs.Common.{◌≡◌, ℕ, ◌^◌, ◌<◌, ◌≤◌, false, [], length, get_or, Some, None, refl}
-use Rattle.assign.specs.SetLemmas.{is_one}
-use Rattle.language.specs.Language.{Language, relations_on}
-use Rattle.bias_store.specs.Masks.{ones_of}
-use Rattle.bias_store.specs.Accepting.{accepting_on}
+use Rattle.find_c.proofs.Prelude.{◌≡◌, ℕ, ◌^◌, ◌<◌, ◌≤◌, false, [], length, get_or, Some, None, refl, is_one, Language, relations_on, ones_of, accepting_on, Choice, Scene, scene_of, is_accepting, allows_at}
 use Rattle.bias_store.proofs.Bits.{any_accepting_bit}
-use Rattle.language.specs.TellingApart.{Choice, Scene}
-use Rattle.language.specs.Scenes.{scene_of}
-use Rattle.find_c.specs.Choices.{is_accepting, allows_at}
 
 pub told_by : (scene : Scene) (place mask : ℕ) → ((r : ℕ) → is_one mask r ≡ get_or (get_or scene.relations r []) place false) → (c : Choice) → is_accepting mask c ≡ allows_at scene place c
 told_by scene place mask is None = refl

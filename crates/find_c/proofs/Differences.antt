@@ -1,17 +1,6 @@
 -- Where choices differ, from rows of their tables, one relation after another.
-use Rattle.std.proofs.Common.{◌≡◌, ℕ, ◌+◌, ◌<◌, Bool, true, false, ◌&&◌, ◌||◌, not, List, [], ◌∷◌, ◌++◌, map, length, Some, None, refl, sym, ◌∙◌, ap}
-use Rattle.std.specs.Prelude.{◌==◌, bit_or, bit_and, All}
-use Rattle.std.specs.List.{list_any}
+use Rattle.find_c.proofs.Prelude.{◌≡◌, ℕ, ◌+◌, ◌<◌, Bool, true, false, ◌&&◌, ◌||◌, not, List, [], ◌∷◌, ◌++◌, map, length, Some, None, refl, sym, ◌∙◌, ap, ◌==◌, bit_or, bit_and, All, list_any, bit_at-zero, All-nil, All-cons, All-head, All-tail, is_one, is_one-or, Language, relations_on, Choice, Scene, ones_of, is_one-and, choices_of, allows_at, differ_at, IsChoiceOn}
 use Rattle.std.proofs.lemmas.List.Folds.{list_any-append}
-use Rattle.std.proofs.lemmas.Nat.Bits.{bit_at-zero}
-use Rattle.std.proofs.lemmas.List.Elements.{All-nil, All-cons, All-head, All-tail}
-use Rattle.assign.specs.SetLemmas.{is_one, is_one-or}
-use Rattle.language.specs.Language.{Language, relations_on}
-use Rattle.language.specs.TellingApart.{Choice, Scene}
-use Rattle.bias_store.specs.Masks.{ones_of}
-use Rattle.bias_store.proofs.Ones.{is_one-and}
-use Rattle.find_c.specs.Choices.{choices_of, allows_at, differ_at}
-use Rattle.find_c.specs.Run.{IsChoiceOn}
 use Rattle.find_c.proofs.Marks.{none_of_nothing}
 
 or_assoc : (a b c : Bool) → ((a || b) || c) ≡ (a || (b || c))

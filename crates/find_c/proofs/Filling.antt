@@ -1,13 +1,8 @@
 -- An assignment of exactly some variables, a value at a time.
-use Rattle.std.proofs.Common.{◌≡◌, ℕ, suc, ◌+◌, ◌<◌, false, cond, List, [], ◌∷◌, ◌++◌, length, take, get_or, replicate, Some, None, refl, sym, ◌∙◌, ap, arith, inl, inr, ◌⊎◌}
-use Rattle.std.specs.Prelude.{◌==◌, ◌≢◌, slice_index_or, slice_set, All, AllPairs}
-use Rattle.std.proofs.lemmas.List.{get_or-set_same, get_or-set_other, get_or-replicate, length-replicate, length-take, take_more}
+use Rattle.find_c.proofs.Prelude.{◌≡◌, ℕ, suc, ◌+◌, ◌<◌, false, cond, List, [], ◌∷◌, ◌++◌, length, take, get_or, replicate, Some, None, refl, sym, ◌∙◌, ap, arith, inl, inr, ◌⊎◌, ◌==◌, ◌≢◌, slice_index_or, slice_set, All, AllPairs, get_or-set_same, get_or-set_other, get_or-replicate, length-replicate, length-take, take_more, cases_eq, eq-eqb, ne_eqb, value_beside, assigned, IsScope}
 use Rattle.std.proofs.Math.ListN.{length-set}
 use Rattle.std.proofs.lemmas.List.FromFn.{fill_by_all, length-map-range_with_len}
 use Rattle.std.proofs.lemmas.List.Kept.{AllPairs-from_increasing}
-use Rattle.std.proofs.lemmas.Bool.{cases_eq, eq-eqb, ne_eqb}
-use Rattle.assign.specs.Assignment.{value_beside, assigned}
-use Rattle.language.specs.Language.{IsScope}
 use Rattle.language.proofs.Beside.{value_of_assigned, beside_none}
 
 tail_different : (v : ℕ) (vars : List ℕ) → AllPairs (λ a b. a < b) (v ∷ vars) → AllPairs (λ a b. a < b) vars

@@ -1,6 +1,5 @@
 -- What a language's laws say of one scope.
-use Rattle.std.proofs.Common.{ℕ, ◌^◌, ◌<◌, ◌≤◌, [], length}
-use Rattle.language.specs.Language.{Language, IsLanguage, IsScope, variable_count, scope_at}
+use Rattle.find_c.proofs.Prelude.{ℕ, ◌^◌, ◌<◌, ◌≤◌, [], length, Language, IsLanguage, IsScope, variable_count, scope_at}
 
 module _ (l : Language) (lawful : IsLanguage l) (s : ℕ) (known : s < length l.scopes) where
   pub scope_is : IsScope (variable_count l) (scope_at l s)

@@ -1,15 +1,5 @@
 -- The choices of a mask: those that agree with a reply, none of them, the one that remains.
-use Rattle.std.proofs.Common.{◌≡◌, ℕ, ◌<◌, ◌≤◌, ◌^◌, Bool, true, false, cond, ◌&&◌, ◌||◌, not, List, [], ◌∷◌, ◌++◌, map, length, Some, None, refl, sym, ◌∙◌, ap, subst, arith}
-use Rattle.std.specs.Prelude.{◌≢◌, bit_and, is_none}
-use Rattle.std.specs.Bool.{beq}
-use Rattle.std.specs.List.{filter, list_any}
-use Rattle.std.specs.Int.{bit_not, w64}
-use Rattle.std.proofs.lemmas.List.Elements.{filter-append}
-use Rattle.assign.specs.SetLemmas.{is_one}
-use Rattle.bias_store.specs.Masks.{ones_of}
-use Rattle.language.specs.TellingApart.{Choice, remaining}
-use Rattle.find_c.specs.Choices.{choices_of, beside_none, is_accepting}
-use Rattle.bias_store.proofs.Ones.{is_one-and, is_one-and_not, ones_of-passing, ones_of-zero, no_ones}
+use Rattle.find_c.proofs.Prelude.{◌≡◌, ℕ, ◌<◌, ◌≤◌, ◌^◌, Bool, true, false, cond, ◌&&◌, ◌||◌, not, List, [], ◌∷◌, ◌++◌, map, length, Some, None, refl, sym, ◌∙◌, ap, subst, arith, ◌≢◌, bit_and, is_none, beq, filter, list_any, bit_not, w64, filter-append, is_one, ones_of, Choice, remaining, choices_of, beside_none, is_accepting, is_one-and, is_one-and_not, ones_of-passing, ones_of-zero, no_ones}
 
 -- ---- truth values
 

@@ -1,22 +1,6 @@
 -- What a reply makes of choices.
-use Rattle.std.proofs.Common.{◌≡◌, ℕ, ◌^◌, ◌<◌, ◌≤◌, arith, Bool, true, false, List, [], ◌∷◌, ◌++◌, length, Some, None, sym, ◌∙◌, ap, subst, append_assoc}
-use Rattle.std.specs.Prelude.{◌≢◌, All}
-use Rattle.std.specs.Bool.{beq}
-use Rattle.std.specs.List.{list_any}
-use Rattle.std.proofs.lemmas.Bool.{and_parts, both_ways}
-use Rattle.std.proofs.lemmas.List.Elements.{All-filter, All-from_get_or}
-use Rattle.language.specs.Language.{Language, IsLanguage, scope_at}
+use Rattle.find_c.proofs.Prelude.{◌≡◌, ℕ, ◌^◌, ◌<◌, ◌≤◌, arith, Bool, true, false, List, [], ◌∷◌, ◌++◌, length, Some, None, sym, ◌∙◌, ap, subst, append_assoc, ◌≢◌, All, beq, list_any, and_parts, both_ways, All-filter, All-from_get_or, Language, IsLanguage, scope_at, tuples, length-tuples, get_or-tuples, length-tuple_at, tuple_at-below, find_all, Choice, Scene, Got, allows, tells_apart, splitting_tuple, after_reply, remaining, choose, WantsReply, scene_of, Run, IsRun, IsChoiceOn, StandsFor, RelNext, Wants}
 use Rattle.language.proofs.Members.{find_some}
-use Rattle.rel_table.specs.Relation.{tuples}
-use Rattle.rel_table.proofs.PlaceLemmas.{length-tuples, get_or-tuples, length-tuple_at, tuple_at-below}
-use Rattle.language.proofs.Lists.{find_all}
-use Rattle.language.specs.TellingApart.{Choice, Scene, Got, allows, tells_apart, splitting_tuple, after_reply, remaining, choose}
-use Rattle.language.specs.TellingApart.{Wants as WantsReply}
-use Rattle.language.specs.Scenes.{scene_of}
-use Rattle.find_c.specs.Run.{Run, IsRun, IsChoiceOn}
-use Rattle.find_c.specs.Standing.{StandsFor}
-use Rattle.find_c.specs.declared.run.RelNext.{RelNext}
-use Rattle.find_c.specs.declared.run.RelNext.TheVariants.{Wants}
 use Rattle.find_c.proofs.Lawful.{few_places}
 use Rattle.find_c.proofs.Marks.{none_pass, beq_true, beq_false}
 

@@ -1,21 +1,6 @@
 -- The search for the least tuple on which two choices differ.
-use Rattle.std.proofs.Common.{◌≡◌, ℕ, zero, suc, ◌+◌, ◌*◌, ◌^◌, ◌<◌, ◌≤◌, Bool, true, false, cond, ◌&&◌, ◌||◌, not, List, [], ◌∷◌, length, drop, get_or, Some, None, refl, sym, ◌∙◌, ap, subst, arith, drop-cons, pow-suc, suc-mul, mul_comm}
-use Rattle.std.specs.Prelude.{◌==◌, find}
-use Rattle.std.specs.Bool.{beq}
-use Rattle.std.specs.Int.{bit_not, trailing_zeros, w64}
+use Rattle.find_c.proofs.Prelude.{◌≡◌, ℕ, zero, suc, ◌+◌, ◌*◌, ◌^◌, ◌<◌, ◌≤◌, Bool, true, false, cond, ◌&&◌, ◌||◌, not, List, [], ◌∷◌, length, drop, get_or, Some, None, refl, sym, ◌∙◌, ap, subst, arith, drop-cons, pow-suc, suc-mul, mul_comm, ◌==◌, find, beq, bit_not, trailing_zeros, w64, filter, list_any, drop_all, bit_at-zero, bit_at-trailing_zeros, is_one, is_one-not, place, tuples, length-tuples, get_or-tuples, place-tuple_at, Language, scope_at, scene_of, Choice, Scene, allows, tells_apart, splitting_tuple, after_reply, beside_none, is_accepting, allows_at, differ_at, IsAtRow, IsFoundFrom}
 use lib.Count.{count_trailing_zeros}
-use Rattle.std.specs.List.{filter, list_any}
-use Rattle.std.proofs.lemmas.List.{drop_all}
-use Rattle.std.proofs.lemmas.Nat.Bits.{bit_at-zero, bit_at-trailing_zeros}
-use Rattle.assign.specs.SetLemmas.{is_one}
-use Rattle.bias_store.proofs.Ones.{is_one-not}
-use Rattle.rel_table.specs.Relation.{place, tuples}
-use Rattle.rel_table.proofs.PlaceLemmas.{length-tuples, get_or-tuples, place-tuple_at}
-use Rattle.language.specs.Language.{Language, scope_at}
-use Rattle.language.specs.Scenes.{scene_of}
-use Rattle.language.specs.TellingApart.{Choice, Scene, allows, tells_apart, splitting_tuple, after_reply}
-use Rattle.find_c.specs.Choices.{beside_none, is_accepting, allows_at, differ_at}
-use Rattle.find_c.specs.Inside.{IsAtRow, IsFoundFrom}
 use Rattle.find_c.proofs.Marks.{beside_none_is}
 
 -- a choice allows a tuple where it allows its place

@@ -1,26 +1,7 @@
 -- The choices that a telling apart begins with.
-use Rattle.std.proofs.Common.{◌≡◌, ℕ, zero, suc, ◌<◌, Bool, true, false, cond, ◌&&◌, not, List, [], ◌∷◌, ◌++◌, length, map, get_or, Some, None, refl, sym, ◌∙◌, ap, subst, arith}
-use Rattle.std.specs.Prelude.{◌==◌, ◌≢◌, All, Contains, find, is_none}
-use Rattle.std.specs.Bool.{beq}
-use Rattle.std.specs.List.{filter, list_any}
-use Rattle.std.proofs.lemmas.Bool.{eqb-true, and_parts}
-use Rattle.std.proofs.lemmas.List.{append-nil}
-use Rattle.std.proofs.lemmas.List.Elements.{All-head, All-tail, All-nil, All-cons, All-append}
-use Rattle.assign.specs.Assignment.{Assignment, covers, tuple_on}
-use Rattle.rel_table.specs.Relation.{place, holds, tuples}
-use Rattle.language.specs.declared.candidates.Candidate.{Candidate}
-use Rattle.language.specs.Language.{Language, IsCandidate, scope_at, relations_on, scope_of, relation_of, place_on, violates}
+use Rattle.find_c.proofs.Prelude.{◌≡◌, ℕ, zero, suc, ◌<◌, Bool, true, false, cond, ◌&&◌, not, List, [], ◌∷◌, ◌++◌, length, map, get_or, Some, None, refl, sym, ◌∙◌, ap, subst, arith, ◌==◌, ◌≢◌, All, Contains, find, is_none, beq, filter, list_any, eqb-true, and_parts, append-nil, All-head, All-tail, All-nil, All-cons, All-append, Assignment, covers, tuple_on, place, holds, tuples, Candidate, Language, IsCandidate, scope_at, relations_on, scope_of, relation_of, place_on, violates, ones_of, nothing_passes, Choice, Got, remaining, tells_apart, choose, scene_of, free_choices, violated_choices, choices_of, is_accepting, allows_at, IsChoiceOn, LeavesChoices, IsFree, RelNext, Free}
 use Rattle.language.specs.Answers.{IsNetwork}
-use Rattle.bias_store.specs.Masks.{ones_of}
 use Rattle.bias_store.specs.KeptSet.{kept_relations}
-use Rattle.language.proofs.Lists.{nothing_passes}
-use Rattle.language.specs.TellingApart.{Choice, Got, remaining, tells_apart, choose}
-use Rattle.language.specs.Scenes.{scene_of, free_choices, violated_choices}
-use Rattle.find_c.specs.Choices.{choices_of, is_accepting, allows_at}
-use Rattle.find_c.specs.Run.{IsChoiceOn}
-use Rattle.find_c.specs.Standing.{LeavesChoices, IsFree}
-use Rattle.find_c.specs.declared.run.RelNext.{RelNext}
-use Rattle.find_c.specs.declared.run.RelNext.TheVariants.{Free}
 use Rattle.find_c.proofs.Marks.{beq_false}
 use Rattle.find_c.proofs.Replies.{choose_ended}
 

@@ -1,15 +1,5 @@
 -- Where a telling apart stands tells what is chosen.
-use Rattle.std.proofs.Common.{◌≡◌, ℕ, List, [], Some, None, refl, sym, ◌∙◌, ap, inl, inr}
-use Rattle.std.proofs.lemmas.List.{append-nil}
-use Rattle.language.specs.declared.candidates.Candidate.{Candidate}
-use Rattle.language.specs.Language.{Language}
-use Rattle.language.specs.TellingApart.{Choice, Chosen, Got, choose}
-use Rattle.language.specs.TellingApart.{Wants as WantsReply}
-use Rattle.language.specs.Scenes.{scene_of}
-use Rattle.find_c.specs.Run.{Run}
-use Rattle.find_c.specs.Standing.{LeavesChoices, IsTold, StandingTells, left_of}
-use Rattle.find_c.specs.declared.run.RelNext.{RelNext}
-use Rattle.find_c.specs.declared.run.RelNext.TheVariants.{Nothing, Wants, Found, Free}
+use Rattle.find_c.proofs.Prelude.{◌≡◌, ℕ, List, [], Some, None, refl, sym, ◌∙◌, ap, inl, inr, append-nil, Candidate, Language, Choice, Chosen, Got, choose, WantsReply, scene_of, Run, LeavesChoices, IsTold, StandingTells, left_of, RelNext, Nothing, Wants, Found, Free}
 use Rattle.find_c.proofs.Replies.{choose_wants}
 
 told_so : (l : Language) (s : ℕ) (left : List Choice) (told : Chosen) (next : RelNext) → left_of l next [] ≡ told → LeavesChoices l s left next → IsTold s told next

@@ -1,16 +1,9 @@
 -- How many of a run's replies are no.
-use Rattle.std.proofs.Common.{◌≡◌, ℕ, zero, suc, ◌+◌, ◌*◌, ◌/◌, ◌^◌, ◌<◌, ◌≤◌, Bool, true, false, cond, ◌||◌, not, List, [], ◌∷◌, length, take, drop, refl, sym, ◌∙◌, ap, subst, arith, inl, inr, ◌⊎◌, length-take, length-drop, pow-suc, nat_le, unwrap_or}
-use Rattle.std.proofs.Math.Nat.{pow-zero}
+use Rattle.find_scope.proofs.Prelude.{◌≡◌, ℕ, zero, suc, ◌+◌, ◌*◌, ◌/◌, ◌^◌, ◌<◌, ◌≤◌, Bool, true, false, cond, ◌||◌, not, List, [], ◌∷◌, length, take, drop, refl, sym, ◌∙◌, ap, subst, arith, inl, inr, ◌⊎◌, length-take, length-drop, pow-suc, nat_le, unwrap_or, pow-zero, or_cases, both_ways, eqb-true, cases_Bool, cases_eq, le-leb, leb-true, ◌==◌, ◌≢◌, Rises, IsSet, has, union, first_half, second_half, set_where, rises_take, rises_drop, canonical, lacks, length_cond, Halved, Wants, Got, then_got, is_empty, halve_within, halve, GotTakesFewNoes, RunsTakeFewNoes, NoesAreFew, LogIsLeast}
 use Rattle.std.proofs.lemmas.List.Sums.{sum_by-append}
-use Rattle.std.proofs.lemmas.Bool.{or_cases, both_ways, eqb-true, cases_Bool, cases_eq, le-leb, leb-true}
 use Rattle.std.proofs.lemmas.Nat.{mul-le}
-use Rattle.std.specs.Prelude.{◌==◌, ◌≢◌}
 use Rattle.std.specs.List.{filter, find, range_with_len}
-use Rattle.assign.specs.Sets.{Rises, IsSet, has, union, first_half, second_half, set_where}
-use Rattle.assign.proofs.Masks.{rises_take, rises_drop, canonical, lacks, length_cond}
 use Rattle.find_scope.specs.Bound.{log_up, noes}
-use Rattle.find_scope.specs.Halving.{Halved, Wants, Got, then_got, is_empty, halve_within, halve}
-use Rattle.find_scope.specs.Laws.{GotTakesFewNoes, RunsTakeFewNoes, NoesAreFew, LogIsLeast}
 use Rattle.find_scope.proofs.Halves.{depth_is_enough, first_shorter, second_shorter, asked}
 use Rattle.find_scope.proofs.Runs.{Sub, got_then, wants_last, wants_not_got, same_set, same_left}
 use Rattle.find_scope.proofs.Got.{rises_below, within_sub, first_some, got_some, got_rises, got_sub, got_is_part}

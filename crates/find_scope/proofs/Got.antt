@@ -1,12 +1,5 @@
 -- What a whole run of a halving wants and gets.
-use Rattle.std.proofs.Common.{◌≡◌, ℕ, zero, suc, ◌+◌, ◌/◌, ◌<◌, Bool, true, false, ◌&&◌, not, List, [], ◌∷◌, length, refl, sym, ◌∙◌, ap, subst, arith, inl, inr, ◌⊎◌, length-take, length-drop}
-use Rattle.std.proofs.lemmas.Bool.{or_cases, or_left, or_right, both_ways, eqb-true, eq-eqb, true_from_ne_false, and_from, and_parts}
-use Rattle.std.specs.Prelude.{◌==◌}
-use Rattle.assign.specs.Sets.{Rises, IsSet, has, union, without, is_within, first_half, second_half}
-use Rattle.assign.specs.SetLemmas.{has-set_where, set_where-same}
-use Rattle.assign.proofs.Masks.{rises_where, rises_take, rises_drop, canonical}
-use Rattle.find_scope.specs.Halving.{Halved, Wants, Got, then_got, ask, is_empty, halve_within, halve}
-use Rattle.find_scope.specs.Laws.{WantedIsAsked, GotIsPart, IsReplied, GotIsLeastDenied, GotIsMinimal}
+use Rattle.find_scope.proofs.Prelude.{◌≡◌, ℕ, zero, suc, ◌+◌, ◌/◌, ◌<◌, Bool, true, false, ◌&&◌, not, List, [], ◌∷◌, length, refl, sym, ◌∙◌, ap, subst, arith, inl, inr, ◌⊎◌, length-take, length-drop, or_cases, or_left, or_right, both_ways, eqb-true, eq-eqb, true_from_ne_false, and_from, and_parts, ◌==◌, Rises, IsSet, has, union, without, is_within, first_half, second_half, has-set_where, set_where-same, rises_where, rises_take, rises_drop, canonical, Halved, Wants, Got, then_got, ask, is_empty, halve_within, halve, WantedIsAsked, GotIsPart, IsReplied, GotIsLeastDenied, GotIsMinimal}
 use Rattle.find_scope.proofs.Halves.{depth_is_enough, first_shorter, second_shorter}
 use Rattle.find_scope.proofs.Runs.{Every, RunTo, run_to, run_within, run_rises, run_denied, run_least, bounded, asked_within, IsKnown, Sub, has_union, wants_last, wants_not_got, same_want, got_then}
 

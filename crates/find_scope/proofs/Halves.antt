@@ -1,8 +1,5 @@
 -- Laws of the halving.
-use Rattle.std.proofs.Common.{◌≡◌, ℕ, zero, suc, ◌+◌, ◌/◌, ◌≤◌, Bool, true, false, not, List, [], ◌∷◌, length, refl, arith, length-take, length-drop}
-use Rattle.assign.specs.Sets.{union, first_half, second_half}
-use Rattle.find_scope.specs.Halving.{Halved, Wants, Got, then_got, ask, is_empty, halve_within}
-use Rattle.find_scope.specs.Laws.{DepthIsEnough}
+use Rattle.find_scope.proofs.Prelude.{◌≡◌, ℕ, zero, suc, ◌+◌, ◌/◌, ◌≤◌, Bool, true, false, not, List, [], ◌∷◌, length, refl, arith, length-take, length-drop, union, first_half, second_half, Halved, Wants, Got, then_got, ask, is_empty, halve_within, DepthIsEnough}
 
 pub then_got_same : (x y : Halved) (f g : List ℕ → List Bool → Halved) → x ≡ y → ((s : List ℕ) (r : List Bool) → f s r ≡ g s r) → then_got x f ≡ then_got y g
 then_got_same x y f g e h = λ i. then_got (e i) (λ s r. h s r i)

@@ -1,15 +1,7 @@
 -- The moves of a run, as equations of what it has left to do, and the frames that they need.
-use Rattle.std.proofs.Common.{◌≡◌, ℕ, zero, suc, ◌+◌, ◌-◌, ◌/◌, ◌^◌, ◌<◌, ◌≤◌, Bool, true, false, ◌||◌, ◌&&◌, not, List, [], ◌∷◌, ◌++◌, length, refl, sym, ◌∙◌, ap, subst, arith, append_assoc, append-nil, length-take, length-drop, pow-suc}
-use Rattle.std.proofs.Math.Nat.{pow-zero}
-use Rattle.assign.specs.Sets.{IsSet, has, union, minus, first_half, second_half}
-use Rattle.assign.specs.SetLemmas.{set_where-same}
-use Rattle.assign.proofs.Masks.{rises_where, rises_take, rises_drop, canonical}
-use Rattle.find_scope.specs.declared.frames.Frame.{Frame}
-use Rattle.find_scope.specs.declared.frames.Frame.TheVariants.{ThenFirst, Joins}
+use Rattle.find_scope.proofs.Prelude.{◌≡◌, ℕ, zero, suc, ◌+◌, ◌-◌, ◌/◌, ◌^◌, ◌<◌, ◌≤◌, Bool, true, false, ◌||◌, ◌&&◌, not, List, [], ◌∷◌, ◌++◌, length, refl, sym, ◌∙◌, ap, subst, arith, append_assoc, append-nil, length-take, length-drop, pow-suc, pow-zero, IsSet, has, union, minus, first_half, second_half, set_where-same, rises_where, rises_take, rises_drop, canonical, Frame, ThenFirst, Joins, Halved, Wants, Got, then_got, is_empty, halve_within, halve, Run, finish, halve_then, meaning, AreFit, Fits}
 use Rattle.find_scope.specs.declared.run.ScopeNext.{ScopeNext}
 use Rattle.find_scope.specs.declared.run.ScopeNext.TheVariants.{Wants as WantsNext, Found}
-use Rattle.find_scope.specs.Halving.{Halved, Wants, Got, then_got, is_empty, halve_within, halve}
-use Rattle.find_scope.specs.Run.{Run, finish, halve_then, meaning, AreFit, Fits}
 use Rattle.find_scope.specs.Standing.{left_of, StandsFor, StandingTells}
 use Rattle.find_scope.proofs.Halves.{depth_is_enough, first_shorter, second_shorter, then_got_assoc, then_got_same, asked}
 use Rattle.find_scope.proofs.Runs.{has_halves}

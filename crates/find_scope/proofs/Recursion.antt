@@ -1,9 +1,5 @@
 -- The steps of the plain recursion, as equations of the halving.
-use Rattle.std.proofs.Common.{◌≡◌, ℕ, suc, ◌+◌, ◌/◌, ◌<◌, Bool, true, false, not, List, [], ◌∷◌, length, refl, sym, ◌∙◌, ap, arith, length-drop, length-take}
-use Rattle.std.specs.Prelude.{nat_lt}
-use Rattle.std.proofs.lemmas.Bool.{lt-ltb}
-use Rattle.assign.specs.Sets.{IsSet, union, minus, first_half, second_half}
-use Rattle.find_scope.specs.Halving.{Halved, Got, then_got, ask, is_empty, halve_within}
+use Rattle.find_scope.proofs.Prelude.{◌≡◌, ℕ, suc, ◌+◌, ◌/◌, ◌<◌, Bool, true, false, not, List, [], ◌∷◌, length, refl, sym, ◌∙◌, ap, arith, length-drop, length-take, nat_lt, lt-ltb, IsSet, union, minus, first_half, second_half, Halved, Got, then_got, ask, is_empty, halve_within}
 use Rattle.find_scope.proofs.Halves.{depth_is_enough, first_shorter, second_shorter, then_got_same, asked}
 use Rattle.find_scope.proofs.Moves.{minus_first}
 

@@ -1,13 +1,6 @@
 -- Whole runs of a halving: what was asked, and what the set that is got has to do with it.
-use Rattle.std.proofs.Common.{◌≡◌, ℕ, zero, suc, ◌+◌, ◌/◌, ◌<◌, ◌≤◌, Bool, true, false, ◌||◌, not, List, [], ◌∷◌, ◌++◌, length, take, drop, refl, sym, ◌∙◌, ap, subst, arith, inl, inr, ◌⊎◌}
-use Rattle.std.proofs.lemmas.Bool.{or_cases, or_left, or_right, both_ways, eqb-true, true_from_ne_false}
-use Rattle.std.proofs.lemmas.List.{append_assoc}
+use Rattle.find_scope.proofs.Prelude.{◌≡◌, ℕ, zero, suc, ◌+◌, ◌/◌, ◌<◌, ◌≤◌, Bool, true, false, ◌||◌, not, List, [], ◌∷◌, ◌++◌, length, take, drop, refl, sym, ◌∙◌, ap, subst, arith, inl, inr, ◌⊎◌, or_cases, or_left, or_right, both_ways, eqb-true, true_from_ne_false, append_assoc, ◌==◌, has, union, first_half, second_half, Rises, has-set_where, rises_where, Halved, Wants, Got, then_got, ask, is_empty, halve_within}
 use Rattle.std.proofs.lemmas.List.Folds.{list_any-append}
-use Rattle.std.specs.Prelude.{◌==◌}
-use Rattle.assign.specs.Sets.{has, union, first_half, second_half, Rises}
-use Rattle.assign.specs.SetLemmas.{has-set_where}
-use Rattle.assign.proofs.Masks.{rises_where}
-use Rattle.find_scope.specs.Halving.{Halved, Wants, Got, then_got, ask, is_empty, halve_within}
 use Rattle.find_scope.proofs.Halves.{first_shorter, second_shorter}
 
 -- ---- inversions

@@ -1,8 +1,5 @@
 -- How many replies a run takes.
-use Rattle.std.proofs.Common.{◌≡◌, ℕ, zero, suc, ◌+◌, ◌*◌, ◌<◌, ◌≤◌, Bool, true, false, not, List, [], ◌∷◌, length, refl, sym, ◌∙◌, ap, arith}
-use Rattle.assign.specs.Sets.{union, first_half, second_half}
-use Rattle.find_scope.specs.Halving.{Halved, Wants, Got, then_got, is_empty, halve_within, halve}
-use Rattle.find_scope.specs.Laws.{RunsAreShort}
+use Rattle.find_scope.proofs.Prelude.{◌≡◌, ℕ, zero, suc, ◌+◌, ◌*◌, ◌<◌, ◌≤◌, Bool, true, false, not, List, [], ◌∷◌, length, refl, sym, ◌∙◌, ap, arith, union, first_half, second_half, Halved, Wants, Got, then_got, is_empty, halve_within, RunsAreShort}
 use Rattle.find_scope.proofs.Halves.{depth_is_enough, first_shorter, second_shorter, asked}
 use Rattle.find_scope.proofs.Runs.{got_then, wants_last, wants_not_got, same_left}
 use Rattle.find_scope.proofs.Got.{first_some, second_some}

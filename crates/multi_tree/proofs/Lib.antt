@@ -1,3 +1,4 @@
+mod Prelude
 pub mod Rooms
 pub mod Turning
 pub mod Moves

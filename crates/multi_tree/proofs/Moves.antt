@@ -1,9 +1,5 @@
 -- One move more.
-use Rattle.std.proofs.Common.{◌≡◌, List, [], ◌∷◌, ◌++◌, refl, sym, ◌∙◌, ap}
-use Rattle.assign.specs.Assignment.{Assignment}
-use Rattle.language.specs.Language.{Language}
-use Rattle.multi_tree.specs.Stage.{Stage, begun}
-use Rattle.multi_tree.specs.Standing.{Move, moved, after_moves, StandsFor}
+use Rattle.multi_tree.proofs.Prelude.{◌≡◌, List, [], ◌∷◌, ◌++◌, refl, sym, ◌∙◌, ap, Assignment, Language, Stage, begun, Move, moved, after_moves, StandsFor}
 
 pub nothing_done : (l : Language) (e : Assignment) (stage : Stage) → stage ≡ begun l e → StandsFor stage l e []
 unfolding after_moves

@@ -1,15 +1,9 @@
 -- How long sets are, and what room they have.
-use Rattle.std.proofs.Common.{◌≡◌, ℕ, ◌+◌, ◌<◌, ◌≤◌, Bool, true, false, ◌||◌, ◌&&◌, not, List, [], ◌∷◌, ◌++◌, length, drop, get_or, refl, sym, ◌∙◌, ap, subst, arith, add-one, drop-cons, length-append}
-use Rattle.std.specs.Prelude.{◌==◌, reverse}
-use Rattle.std.proofs.lemmas.List.{reverse-append}
-use Rattle.std.proofs.lemmas.Bool.{and_parts, both_ways, eqb-true, not-true}
-use Rattle.assign.specs.Sets.{IsSet, has, union, without}
+use Rattle.multi_tree.proofs.Prelude.{◌≡◌, ℕ, ◌+◌, ◌<◌, ◌≤◌, Bool, true, false, ◌||◌, ◌&&◌, not, List, [], ◌∷◌, ◌++◌, length, drop, get_or, refl, sym, ◌∙◌, ap, subst, arith, add-one, drop-cons, length-append, ◌==◌, reverse, reverse-append, and_parts, both_ways, eqb-true, not-true, IsSet, has, union, without, parts_without, Fits, AreFit}
 use Rattle.assign.specs.SetLemmas.{has-set_where}
 use Rattle.assign.proofs.Masks.{rises_where}
 use Rattle.find_scope.proofs.Runs.{union_sub}
 use Rattle.find_scope.proofs.Counts.{sub_length, union_length}
-use Rattle.session_laws.specs.Walk.{parts_without}
-use Rattle.multi_tree.specs.Depth.{Fits, AreFit}
 
 -- ---- a set without one of its members
 

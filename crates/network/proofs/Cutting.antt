@@ -1,12 +1,5 @@
 -- Texts that are cut at a byte which their pieces don't have.
-use Rattle.std.proofs.Common.{◌≡◌, ℕ, Bool, true, false, not, List, [], ◌∷◌, ◌++◌, refl, sym, ◌∙◌, ap}
-use Rattle.std.specs.Prelude.{◌==◌}
-use Rattle.std.specs.List.{list_all, flat_map}
-use Rattle.std.proofs.lemmas.Bool.{and_parts, both_ways, eq-eqb}
-use Rattle.std.specs.Prelude.{All}
-use Rattle.std.proofs.lemmas.List.{append_assoc}
-use Rattle.std.proofs.lemmas.List.Elements.{All-head, All-tail}
-use Rattle.language.specs.Texts.{joined}
+use Rattle.network.proofs.Prelude.{◌≡◌, ℕ, Bool, true, false, not, List, [], ◌∷◌, ◌++◌, refl, sym, ◌∙◌, ap, ◌==◌, list_all, flat_map, and_parts, both_ways, eq-eqb, All, append_assoc, All-head, All-tail, joined}
 
 -- no byte is this one
 abbrev pub is_without : ℕ → List ℕ → Bool

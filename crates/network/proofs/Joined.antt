@@ -1,29 +1,13 @@
 -- The intersection of several relations comes first among the relations that lie within each of them.
-use Rattle.std.proofs.Common.{◌≡◌, ℕ, zero, suc, ◌+◌, ◌-◌, ◌^◌, ◌<◌, ◌≤◌, ◌++◌, ◌==◌, ◌&&◌, Bool, true, false, cond, w64, List, [], ◌∷◌, length, drop, map, get_or, Option, Some, None, Bor, refl, sym, ◌∙◌, ap, subst, arith, append_assoc, inl, inr, ◌⊎◌, min}
-use Rattle.std.specs.Prelude.{All, Contains, slice_index_or, position, bit_and}
+use Rattle.network.proofs.Prelude.{◌≡◌, ℕ, zero, suc, ◌+◌, ◌-◌, ◌^◌, ◌<◌, ◌≤◌, ◌++◌, ◌==◌, ◌&&◌, Bool, true, false, cond, w64, List, [], ◌∷◌, length, drop, map, get_or, Option, Some, None, Bor, refl, sym, ◌∙◌, ap, subst, arith, append_assoc, inl, inr, ◌⊎◌, min, All, Contains, slice_index_or, position, bit_and, find, bytes_eq, option_map, option_and_then, drop-cons, and_parts, and_from, both_ways, cases_order, get_or_default, All-nil, All-cons, All-head, All-tail, All-contains, All-weaker, Relation, meet_all, is_above, IsClosing, not_above_itself, Language, Given, IsLanguage, scope_at, relations_on, given_on, is_part, relation_named, TellsNamed, texts_of, position_here, given_on_sized, relations_named, intersection_on, relation_by}
 use Rattle.std.specs.Int.{bit_at, trailing_zeros}
-use Rattle.std.specs.List.{find}
-use Rattle.std.specs.Str.{bytes_eq}
 use Rattle.std.proofs.lemmas.Option.{same_Some}
-use Rattle.std.specs.Option.{option_map, option_and_then}
-use Rattle.std.proofs.Math.Seq.{drop-cons}
-use Rattle.std.proofs.lemmas.Bool.{and_parts, and_from, both_ways, cases_order}
 use Rattle.std.proofs.lemmas.Nat.Bits.{bit_at_and, bit_at_ones, bit_at-lt, bit_at-zero, bit_at-trailing_zeros}
-use Rattle.std.proofs.lemmas.List.{get_or_default}
 use Rattle.std.proofs.lemmas.List.Sums.{AllPass-from_list_all, list_all-from_AllPass}
-use Rattle.std.proofs.lemmas.List.Elements.{All-nil, All-cons, All-head, All-tail, All-contains, All-weaker}
 use Rattle.assign.specs.SetLemmas.{is_one}
-use Rattle.rel_table.specs.Relation.{Relation, meet_all, is_above, IsClosing}
-use Rattle.rel_table.proofs.Tables.{not_above_itself}
-use Rattle.language.specs.Language.{Language, Given, IsLanguage, scope_at, relations_on, given_on}
 use Rattle.language.specs.Building.{is_same_relation, relations_given}
-use Rattle.language.specs.Texts.{is_part}
-use Rattle.language.specs.ByName.{relation_named, TellsNamed, texts_of}
 use Rattle.language.proofs.Repeats.{same_is, same_itself}
-use Rattle.language.proofs.ByNames.{position_here}
-use Rattle.language.proofs.Ranged.{given_on_sized}
 use Rattle.network.specs.Masks.{is_within_all, TellsWithinAll}
-use Rattle.network.specs.Target.{relations_named, intersection_on, relation_by}
 use Rattle.network.proofs.Parts.{part_of_first, part_of_more, part_of_all}
 
 -- what comes before a relation has a tuple that the relation lacks

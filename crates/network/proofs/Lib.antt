@@ -1,3 +1,4 @@
+mod Prelude
 pub mod Room
 pub mod Cutting
 pub mod Naming

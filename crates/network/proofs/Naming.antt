@@ -1,11 +1,5 @@
 -- Names: what bytes they don't have, and that lists of them tell what they name.
-use Rattle.std.proofs.Common.{◌≡◌, ◌≢◌, ℕ, zero, suc, ◌<◌, Bool, true, false, cond, ◌&&◌, not, List, [], ◌∷◌, length, map, refl, sym, ◌∙◌, ap, arith, inl, inr, ◌⊎◌}
-use Rattle.std.specs.Prelude.{◌==◌, nat_le, All, AllPairs, slice_index_or}
-use Rattle.std.specs.List.{list_all, filter}
-use Rattle.std.proofs.lemmas.Bool.{and_parts, and_from, leb-true, ne_eqb, cases_order}
-use Rattle.std.proofs.lemmas.List.{get_or-map, length-map}
-use Rattle.std.proofs.lemmas.List.Elements.{All-head, All-tail, All-nil, All-cons, All-map, All-filter}
-use Rattle.language.specs.Language.{Language, Given, on_scope_of, is_name, is_name_byte}
+use Rattle.network.proofs.Prelude.{◌≡◌, ◌≢◌, ℕ, zero, suc, ◌<◌, Bool, true, false, cond, ◌&&◌, not, List, [], ◌∷◌, length, map, refl, sym, ◌∙◌, ap, arith, inl, inr, ◌⊎◌, ◌==◌, nat_le, All, AllPairs, slice_index_or, list_all, filter, and_parts, and_from, leb-true, ne_eqb, cases_order, get_or-map, length-map, All-head, All-tail, All-nil, All-cons, All-map, All-filter, Language, Given, on_scope_of, is_name, is_name_byte}
 use Rattle.network.proofs.Cutting.{is_without, is_piece}
 
 -- ---- the bytes of names

@@ -1,11 +1,6 @@
 -- Relations that lie within others: an intersection is told by the given relations that contain it.
-use Rattle.std.proofs.Common.{◌≡◌, ℕ, Bool, true, false, ◌&&◌, ◌||◌, not, List, [], ◌∷◌, length, refl, sym, ◌∙◌, ap, arith}
-use Rattle.std.specs.Prelude.{All, Contains, slice_index_or}
-use Rattle.std.proofs.lemmas.Bool.{and_parts, and_from}
-use Rattle.std.proofs.lemmas.List.Elements.{All-head, All-tail, All-contains, All-nil, All-cons, All-weaker}
-use Rattle.rel_table.specs.Relation.{Relation, meet, meet_all, IsIntersection}
+use Rattle.network.proofs.Prelude.{◌≡◌, ℕ, Bool, true, false, ◌&&◌, ◌||◌, not, List, [], ◌∷◌, length, refl, sym, ◌∙◌, ap, arith, All, Contains, slice_index_or, and_parts, and_from, All-head, All-tail, All-contains, All-nil, All-cons, All-weaker, Relation, meet, meet_all, IsIntersection, is_part}
 use Rattle.rel_table.proofs.Meets.{length-meet}
-use Rattle.language.specs.Texts.{is_part}
 
 pub part-itself : (r : Relation) → is_part r r ≡ true
 part-itself [] = refl

@@ -1,16 +1,9 @@
 -- One candidate a scope: there are no more of them than scopes.
-use Rattle.std.proofs.Common.{◌≡◌, ℕ, ◌<◌, ◌≤◌, true, false, ◌||◌, List, [], ◌∷◌, ◌++◌, length, map, refl, sym, ◌∙◌, subst, arith}
-use Rattle.std.specs.Prelude.{nat_eq, All}
-use Rattle.std.specs.List.{list_any, IsDistinct}
+use Rattle.network.proofs.Prelude.{◌≡◌, ℕ, ◌<◌, ◌≤◌, true, false, ◌||◌, List, [], ◌∷◌, ◌++◌, length, map, refl, sym, ◌∙◌, subst, arith, nat_eq, All, list_any, eqb-true, length-map, map-append, length_push, All-nil, All-map, All-push, Any-from_list_any, Candidate, has_scope}
+use Rattle.std.specs.List.{IsDistinct}
 use Rattle.std.specs.Cmp.{nat_eq_equiv}
-use Rattle.std.proofs.lemmas.Bool.{eqb-true}
-use Rattle.std.proofs.lemmas.List.{length-map, map-append, length_push}
-use Rattle.std.proofs.lemmas.List.Elements.{All-nil, All-map, All-push}
-use Rattle.std.proofs.lemmas.List.Folds.{Any-from_list_any}
 use Rattle.std.proofs.lemmas.Map.Keys.{IsDistinct-push}
 use Rattle.std.proofs.lemmas.Map.Steps.{length-le_from_distinct_below}
-use Rattle.language.specs.declared.candidates.Candidate.{Candidate}
-use Rattle.language.specs.Answers.{has_scope}
 use Rattle.language.proofs.Members.{any-map}
 
 abbrev pub scopes_of : List Candidate → List ℕ

@@ -1,19 +1,6 @@
 -- The text of a network tells it.
-use Rattle.std.proofs.Common.{◌≡◌, ℕ, ◌^◌, ◌<◌, ◌≤◌, true, ◌&&◌, not, List, [], ◌∷◌, ◌++◌, length, map, refl, sym, ◌∙◌, ap, subst, arith, inl, inr, ◌⊎◌}
-use Rattle.std.specs.Prelude.{◌==◌, AllPairs, slice_index_or}
-use Rattle.std.specs.List.{list_all, flat_map}
-use Rattle.std.proofs.lemmas.Bool.{and_parts, and_from, cases_order, both_ways, or_left, or_right, eq-eqb}
-use Rattle.std.proofs.lemmas.List.{length-map}
-use Rattle.std.proofs.lemmas.List.Elements.{All-map, All-contains}
-use Rattle.std.proofs.lemmas.List.Folds.{list_all-append}
+use Rattle.network.proofs.Prelude.{◌≡◌, ℕ, ◌^◌, ◌<◌, ◌≤◌, true, ◌&&◌, not, List, [], ◌∷◌, ◌++◌, length, map, refl, sym, ◌∙◌, ap, subst, arith, inl, inr, ◌⊎◌, ◌==◌, AllPairs, slice_index_or, list_all, flat_map, and_parts, and_from, cases_order, both_ways, or_left, or_right, eq-eqb, length-map, All-map, All-contains, list_all-append, Relation, one_number, Candidate, Language, Given, IsLanguage, IsCandidate, IsScope, AreApart, given_of, given_on, relations_on, scope_at, scope_of, relation_of, is_name, candidate_text, containing, scope_names, joined, is_part, given_on_sized, TextTellsNetwork}
 use Rattle.assign.specs.Sets.{has, is_within}
-use Rattle.rel_table.specs.Relation.{Relation}
-use Rattle.rel_table.proofs.Tables.{one_number}
-use Rattle.language.specs.declared.candidates.Candidate.{Candidate}
-use Rattle.language.specs.Language.{Language, Given, IsLanguage, IsCandidate, IsScope, AreApart, given_of, given_on, relations_on, scope_at, scope_of, relation_of, is_name}
-use Rattle.language.specs.Texts.{candidate_text, containing, scope_names, joined, is_part}
-use Rattle.language.proofs.Ranged.{given_on_sized}
-use Rattle.network.specs.Laws.{TextTellsNetwork}
 use Rattle.network.proofs.Cutting.{is_without, same_front, same_lines, same_words, same_pieces}
 use Rattle.network.proofs.Naming.{names-without, names-pieces, names_at, names_on, same_numbers, unlike_of, unlike_on, unlike-filter, names-filter, same_kept}
 use Rattle.network.proofs.Parts.{same_intersection}

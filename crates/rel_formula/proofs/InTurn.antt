@@ -1,14 +1,6 @@
 -- Operands that are read in turn and joined from the left.
-use Rattle.std.proofs.Common.{◌≡◌, ℕ, ◌+◌, ◌*◌, ◌≤◌, List, [], ◌∷◌, ◌++◌, length, Result, Ok, Err, refl, sym, ◌∙◌, ap, arith, append_assoc, length-append}
-use Rattle.std.specs.List.{fold}
+use Rattle.rel_formula.proofs.Prelude.{◌≡◌, ℕ, ◌+◌, ◌*◌, ◌≤◌, List, [], ◌∷◌, ◌++◌, length, Result, Ok, Err, refl, sym, ◌∙◌, ap, arith, append_assoc, length-append, fold, view, items_view, Value, FormulaFault, Reading, Step, then_on, Adds}
 use Rattle.serde_json.specs.Data.{Data, Items, no_items, item}
-use Rattle.serde_json.specs.View.{view, items_view}
-use Rattle.serde_json.specs.declared.value.Value.{Value}
-use Rattle.rel_formula.specs.declared.fault.FormulaFault.{FormulaFault}
-use Rattle.rel_formula.specs.declared.reading.Reading.{Reading}
-use Rattle.rel_formula.specs.declared.step.Step.{Step}
-use Rattle.rel_formula.specs.Answers.{then_on}
-use Rattle.rel_formula.specs.Adding.{Adds}
 
 -- what is read in turn, and how it is joined
 pub record Way (Tree : Type 0) : Type 0 where

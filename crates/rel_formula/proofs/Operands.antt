@@ -1,26 +1,9 @@
 -- The operands of an array.
-use Rattle.std.proofs.Common.{◌≡◌, ℕ, ◌+◌, ◌-◌, ◌≤◌, suc, Bool, true, false, List, [], ◌∷◌, ◌++◌, length, get_or, take, drop, Result, Ok, Err, OnOk, IfErr, if◌then◌else◌, refl, sym, ◌∙◌, ap, subst, arith, eqb-true, append_assoc, length-append}
-use Rattle.std.proofs.Math.Seq.{drop-cons}
-use Rattle.std.proofs.lemmas.List.{take_all}
-use Rattle.std.specs.Prelude.{⊤}
-use Rattle.serde_json.specs.View.{view, items_view}
-use Rattle.serde_json.specs.declared.value.Value.{Value}
+use Rattle.rel_formula.proofs.Prelude.{◌≡◌, ℕ, ◌+◌, ◌-◌, ◌≤◌, suc, Bool, true, false, List, [], ◌∷◌, ◌++◌, length, get_or, take, drop, Result, Ok, Err, OnOk, IfErr, if◌then◌else◌, refl, sym, ◌∙◌, ap, subst, arith, eqb-true, append_assoc, length-append, drop-cons, take_all, ⊤, view, items_view, Value, FormulaFault, BadShape, Memory, Reading, Step, Operator, Absolute, Adds, ReadsSteps, then_on, Term, absolute, operand_count, operator_in, term_takes, as_term_operator, term_operator_in, read_term, read_terms, read_term_call, applied, term_steps}
 use Rattle.serde_json.proofs.Views.{items_len-items_view}
-use Rattle.rel_formula.specs.declared.fault.FormulaFault.{FormulaFault}
-use Rattle.rel_formula.specs.declared.fault.FormulaFault.TheVariants.{BadShape, Memory}
-use Rattle.rel_formula.specs.declared.reading.Reading.{Reading}
-use Rattle.rel_formula.specs.declared.step.Step.{Step}
 use Rattle.rel_formula.specs.declared.step.Step.TheVariants as step
-use Rattle.rel_formula.specs.declared.step.Operator.{Operator}
 use Rattle.rel_formula.specs.declared.step.Operator.TheVariants as kind
 use Rattle.rel_formula.specs.declared.step.TermOperator.{TermOperator}
-use Rattle.rel_formula.specs.declared.step.TermOperator.TheVariants.{Absolute}
-use Rattle.rel_formula.specs.Adding.{Adds, ReadsSteps}
-use Rattle.rel_formula.specs.Answers.{then_on}
-use Rattle.rel_formula.specs.Formula.{Term, absolute}
-use Rattle.rel_formula.specs.Names.{operand_count, operator_in, term_takes, as_term_operator, term_operator_in}
-use Rattle.rel_formula.specs.Reading.{read_term, read_terms, read_term_call, applied}
-use Rattle.rel_formula.specs.Steps.{term_steps}
 
 pub operand_count-items_view : (items : List Value) → operand_count (items_view items) ≡ length items - 1
 operand_count-items_view [] = refl

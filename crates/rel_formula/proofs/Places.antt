@@ -1,12 +1,6 @@
 -- A formula's truth, place by place.
-use Rattle.std.proofs.Common.{◌≡◌, ℕ, ◌+◌, ◌^◌, ◌<◌, ◌≤◌, ℤ, Bool, true, false, List, [], ◌∷◌, ◌++◌, length, take, set, get_or, pos, ◌+ℤ◌, Option, Some, None, if◌then◌else◌, refl, sym, ◌∙◌, ap, arith, add-one, lt-ltb, le-ltb}
-use Rattle.std.specs.List.{position_or_len}
-use Rattle.std.proofs.Math.Seq.{take-suc}
-use Rattle.std.proofs.lemmas.List.{length-map, get_or-map, take_all, take_more_set, map_more}
+use Rattle.rel_formula.proofs.Prelude.{◌≡◌, ℕ, ◌+◌, ◌^◌, ◌<◌, ◌≤◌, ℤ, Bool, true, false, List, [], ◌∷◌, ◌++◌, length, take, set, get_or, pos, ◌+ℤ◌, Option, Some, None, if◌then◌else◌, refl, sym, ◌∙◌, ap, arith, add-one, lt-ltb, le-ltb, position_or_len, take-suc, length-map, get_or-map, take_all, take_more_set, map_more, tuples, tuple_at, length-tuples, get_or-tuples, Truth, is_true, is_too_big, shown_tuple, relation_of, first_too_big}
 use Rattle.std.proofs.lemmas.List.Sums.{position_or_len_is}
-use Rattle.rel_table.specs.Relation.{tuples, tuple_at}
-use Rattle.rel_table.proofs.PlaceLemmas.{length-tuples, get_or-tuples}
-use Rattle.rel_formula.specs.Formula.{Truth, is_true, is_too_big, shown_tuple, relation_of, first_too_big}
 
 pub length-relation_of : (f : Truth) (a : ℕ) (lo : ℤ) (d : ℕ) → length (relation_of f a lo d) ≡ d ^ a
 length-relation_of f a lo d = length-map (tuples d a) (λ tuple. is_true (shown_tuple lo tuple) f) ∙ length-tuples d a

@@ -1,13 +1,7 @@
 -- The steps of a formula end with its truth, or with a part that leaves 64 bits.
-use Rattle.std.proofs.Common.{◌≡◌, ℤ, Bool, true, false, not, ◌||◌, List, [], ◌∷◌, ◌++◌, Option, Some, None, is_some, IsSome, if◌then◌else◌, refl, sym, ◌∙◌, ap, append_assoc}
-use Rattle.std.proofs.lemmas.List.{append-nil}
+use Rattle.rel_formula.proofs.Prelude.{◌≡◌, ℤ, Bool, true, false, not, ◌||◌, List, [], ◌∷◌, ◌++◌, Option, Some, None, is_some, IsSome, if◌then◌else◌, refl, sym, ◌∙◌, ap, append_assoc, append-nil, Term, whole, shown, absolute, combined, Truth, compared, joined, opposite, value, is_true, parts_of, parts, fits, some_too_big, is_too_big, term_steps, truth_steps, regrouped, run, End, Step, Combine, Compare, Join, Negate}
 use Rattle.std.proofs.lemmas.List.Folds.{list_any-append}
-use Rattle.rel_formula.specs.Formula.{Term, whole, shown, absolute, combined, Truth, compared, joined, opposite, value, is_true, parts_of, parts, fits, some_too_big, is_too_big}
-use Rattle.rel_formula.specs.Steps.{term_steps, truth_steps}
-use Rattle.rel_formula.specs.StepLemmas.{regrouped}
-use Rattle.rel_formula.specs.Machine.{run, End}
-use Rattle.rel_formula.specs.declared.step.Step.{Step}
-use Rattle.rel_formula.specs.declared.step.Step.TheVariants.{Absolute, Combine, Compare, Join, Negate}
+use Rattle.rel_formula.specs.declared.step.Step.TheVariants.{Absolute}
 
 -- what comes unless something is too big
 abbrev pub guarded : Bool → End → End

@@ -1,24 +1,10 @@
 -- The operands of an operator that gives a truth.
-use Rattle.std.proofs.Common.{◌≡◌, ℕ, ◌+◌, ◌-◌, ◌≤◌, true, List, [], ◌∷◌, ◌++◌, length, get_or, Result, Ok, Err, OnOk, IfErr, sym, ◌∙◌, ap, subst, arith, eqb-true, append_assoc, length-append}
-use Rattle.std.specs.Prelude.{⊤}
-use Rattle.serde_json.specs.View.{view, items_view}
-use Rattle.serde_json.specs.declared.value.Value.{Value}
-use Rattle.rel_formula.specs.declared.fault.FormulaFault.{FormulaFault}
-use Rattle.rel_formula.specs.declared.fault.FormulaFault.TheVariants.{BadShape, Memory}
-use Rattle.rel_formula.specs.declared.reading.Reading.{Reading}
+use Rattle.rel_formula.proofs.Prelude.{◌≡◌, ℕ, ◌+◌, ◌-◌, ◌≤◌, true, List, [], ◌∷◌, ◌++◌, length, get_or, Result, Ok, Err, OnOk, IfErr, sym, ◌∙◌, ap, subst, arith, eqb-true, append_assoc, length-append, ⊤, view, items_view, Value, FormulaFault, BadShape, Memory, Reading, Operator, Connective, Adds, ReadsSteps, then_on, Term, Truth, compared, opposite, operand_count, operator_in, truth_takes, as_truth_operator, truth_operator_in, read_term, read_terms, read_truth, read_truths, read_truth_call, truth_by, comparison_of, connected, negated, term_steps, truth_steps}
 use Rattle.rel_formula.specs.declared.step.Step.TheVariants as step
-use Rattle.rel_formula.specs.declared.step.Operator.{Operator}
 use Rattle.rel_formula.specs.declared.step.Operator.TheVariants as kind
 use Rattle.rel_formula.specs.declared.step.TruthOperator.{TruthOperator}
 use Rattle.rel_formula.specs.declared.step.TruthOperator.TheVariants as op
 use Rattle.rel_formula.specs.declared.step.Comparison.{Comparison}
-use Rattle.rel_formula.specs.declared.step.Connective.{Connective}
-use Rattle.rel_formula.specs.Adding.{Adds, ReadsSteps}
-use Rattle.rel_formula.specs.Answers.{then_on}
-use Rattle.rel_formula.specs.Formula.{Term, Truth, compared, opposite}
-use Rattle.rel_formula.specs.Names.{operand_count, operator_in, truth_takes, as_truth_operator, truth_operator_in}
-use Rattle.rel_formula.specs.Reading.{read_term, read_terms, read_truth, read_truths, read_truth_call, truth_by, comparison_of, connected, negated}
-use Rattle.rel_formula.specs.Steps.{term_steps, truth_steps}
 use Rattle.rel_formula.proofs.Operands.{operands_of, operands_of-cons, length-operands_of, passed, one_term}
 
 -- ---- the operator takes as many operands as there are

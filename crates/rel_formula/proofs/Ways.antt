@@ -1,12 +1,7 @@
 -- How the operands of an operator are read in turn and joined.
-use Rattle.std.proofs.Common.{ℕ, refl}
+use Rattle.rel_formula.proofs.Prelude.{ℕ, refl, Connective, Combine, Join, Term, combined, Truth, joined, term_steps, truth_steps, read_term, read_terms, applied, read_truth, read_truths, connected}
 use Rattle.rel_formula.specs.declared.step.Arithmetic.{Arithmetic}
-use Rattle.rel_formula.specs.declared.step.Connective.{Connective}
-use Rattle.rel_formula.specs.declared.step.Step.TheVariants.{Combine, Join}
 use Rattle.rel_formula.specs.declared.step.TermOperator.TheVariants as term
-use Rattle.rel_formula.specs.Formula.{Term, combined, Truth, joined}
-use Rattle.rel_formula.specs.Steps.{term_steps, truth_steps}
-use Rattle.rel_formula.specs.Reading.{read_term, read_terms, applied, read_truth, read_truths, connected}
 use Rattle.rel_formula.proofs.InTurn.{Way}
 
 abbrev pub term_way : Arithmetic → ℕ → ℕ → Way Term

@@ -1,29 +1,6 @@
 -- Each question that is asked is one of the language, and gives some variable a value.
-use Rattle.std.proofs.Common.{◌≡◌, ℕ, zero, suc, ◌*◌, ◌<◌, ◌≤◌, Bool, true, false, ◌&&◌, not, List, [], ◌∷◌, ◌++◌, length, map, Option, Some, None, refl, sym, ◌∙◌, ap, subst, arith, inl, inr, ◌⊎◌, ⊎_elim}
-use Rattle.std.specs.Prelude.{All, slice_index_or, is_some, option_map, option_and_then, position}
-use Rattle.std.specs.List.{list_any}
-use Rattle.std.proofs.lemmas.Bool.{cases_lt, and_parts, or_cases, or_left}
-use Rattle.std.proofs.lemmas.List.Elements.{All-head, All-tail, All-nil, All-cons, All-map, All-weaker}
-use Rattle.std.proofs.lemmas.List.Folds.{list_any_at}
-use Rattle.std.proofs.Math.ListN.{get_or-eq_default}
-use Rattle.assign.specs.Sets.{numbers, is_same}
-use Rattle.assign.specs.Assignment.{Assignment, value_of, covers, restrict, is_complete}
-use Rattle.assign.specs.Events.{Answer}
-use Rattle.assign.specs.declared.events.Plan.{Plan}
-use Rattle.assign.specs.declared.events.Plan.TheVariants.{Scopes, Quacq, Multi}
-use Rattle.rel_table.specs.Relation.{tuples}
-use Rattle.language.specs.declared.candidates.Candidate.{Candidate}
-use Rattle.language.specs.Language.{Language, IsLanguage, IsCandidate, IsQuestion, candidates, is_question, variable_count, scope_at, scope_of, relations_on, violates, accepts}
-use Rattle.language.specs.Answers.{kept, is_struck, has_scope}
-use Rattle.language.specs.Scenes.{scene_of, on_scope, free_choices, violated_choices}
-use Rattle.language.specs.TellingApart.{Choice, splitting_tuple, tells_apart, remaining}
+use Rattle.session_laws.proofs.Prelude.{◌≡◌, ℕ, zero, suc, ◌*◌, ◌<◌, ◌≤◌, Bool, true, false, ◌&&◌, not, List, [], ◌∷◌, ◌++◌, length, map, Option, Some, None, refl, sym, ◌∙◌, ap, subst, arith, inl, inr, ◌⊎◌, ⊎_elim, All, slice_index_or, is_some, option_map, option_and_then, position, list_any, cases_lt, and_parts, or_cases, or_left, All-head, All-tail, All-nil, All-cons, All-map, All-weaker, list_any_at, get_or-eq_default, numbers, is_same, Assignment, value_of, covers, restrict, is_complete, Answer, Plan, Scopes, Quacq, Multi, tuples, Candidate, Language, IsLanguage, IsCandidate, IsQuestion, candidates, is_question, variable_count, scope_at, scope_of, relations_on, violates, accepts, kept, is_struck, has_scope, scene_of, on_scope, free_choices, violated_choices, Choice, splitting_tuple, tells_apart, remaining, find_all, all_below, any-filter, Halved, Wants, Got, Walk, Asks, violates_some, learned_within, parts_without, take_set, next_turn, State, Idle, Halving, Choosing, Walking, Over, At, MOST_SETS, wanted_set, open_question, next_scope, is_undecided, scope_question, is_just, is_lawful, learn, at_turn, go_on, settle_choices, chosen, begin_choosing, found, with_quiet_replies, halved, settle_halving, replied, replied_tuple, on_scope_asked, begun, step, state_after, has_value, IsAskable, QuestionsHaveValues}
 use Rattle.language.proofs.Ranged.{question_is, split_is_question}
-use Rattle.language.proofs.Lists.{find_all, all_below}
-use Rattle.language.proofs.Members.{any-filter}
-use Rattle.find_scope.specs.Halving.{Halved, Wants, Got}
-use Rattle.session_laws.specs.Walk.{Walk, Asks, violates_some, learned_within, parts_without, take_set, next_turn}
-use Rattle.session_laws.specs.Session.{State, Idle, Halving, Choosing, Walking, Over, At, MOST_SETS, wanted_set, open_question, next_scope, is_undecided, scope_question, is_just, is_lawful, learn, at_turn, go_on, settle_choices, chosen, begin_choosing, found, with_quiet_replies, halved, settle_halving, replied, replied_tuple, on_scope_asked, begun, step, state_after}
-use Rattle.session_laws.specs.Laws.{has_value, IsAskable, QuestionsHaveValues}
 use Rattle.session_laws.proofs.Lists.{all_flat_map, tuples_long}
 use Rattle.session_laws.proofs.OnScope.{covers_assigned}
 use Rattle.session_laws.proofs.Choices.{all_candidates, free_known}

@@ -1,28 +1,7 @@
 -- What holds while the choices on a scope are told apart.
-use Rattle.std.proofs.Common.{◌≡◌, ℕ, zero, suc, ◌<◌, ◌≤◌, Bool, true, false, cond, ◌||◌, ◌&&◌, not, List, [], ◌∷◌, ◌++◌, length, map, Some, None, refl, sym, ◌∙◌, ap, subst, arith, inl, inr, ◌⊎◌, length-append}
-use Rattle.std.specs.Prelude.{◌==◌, All, Any, AllPairs, slice_index_or, is_some, is_none}
-use Rattle.std.specs.Bool.{beq}
-use Rattle.std.specs.List.{list_any, filter}
-use Rattle.std.proofs.lemmas.List.Elements.{All-head, All-tail, All-append, All-cons, All-nil, All-map, All-filter, All-push, All-weaker, filter_passes}
-use Rattle.std.proofs.lemmas.List.Quantifiers.{Any-push}
-use Rattle.std.proofs.lemmas.List.Folds.{list_any-append, list_all-append}
-use Rattle.std.proofs.lemmas.Bool.{cases_Bool, and_parts, and_from, or_parts, or_left, or_right, both_ways, true_from_ne_false, not-true, not_from_false, eqb-true, eq-eqb}
-use Rattle.language.specs.declared.candidates.Candidate.{Candidate}
-use Rattle.assign.specs.Sets.{numbers}
-use Rattle.assign.specs.Assignment.{variables_of}
-use Rattle.rel_table.specs.Relation.{Relation, tuples}
-use Rattle.language.specs.Language.{Language, IsLanguage, IsCandidate, candidates, candidates_on, relations_on, violates, accepts}
-use Rattle.assign.specs.Events.{Answer}
-use Rattle.language.specs.Answers.{IsNetwork, IsNoOn, has_scope, agrees, is_struck, kept}
-use Rattle.language.specs.TellingApart.{Choice, Scene, allows, tells_apart, splitting_tuple, after_reply, remaining}
-use Rattle.language.proofs.Lists.{find_all, all_below}
-use Rattle.session_laws.specs.Session.{next_scope, learn}
-use Rattle.language.specs.Scenes.{scene_of, on_scope, free_choices}
-use Rattle.language.proofs.Covered.{IsTold, both_true}
+use Rattle.session_laws.proofs.Prelude.{◌≡◌, ℕ, zero, suc, ◌<◌, ◌≤◌, Bool, true, false, cond, ◌||◌, ◌&&◌, not, List, [], ◌∷◌, ◌++◌, length, map, Some, None, refl, sym, ◌∙◌, ap, subst, arith, inl, inr, ◌⊎◌, length-append, ◌==◌, All, Any, AllPairs, slice_index_or, is_some, is_none, beq, list_any, filter, All-head, All-tail, All-append, All-cons, All-nil, All-map, All-filter, All-push, All-weaker, filter_passes, Any-push, list_any-append, list_all-append, cases_Bool, and_parts, and_from, or_parts, or_left, or_right, both_ways, true_from_ne_false, not-true, not_from_false, eqb-true, eq-eqb, Candidate, numbers, variables_of, Relation, tuples, Language, IsLanguage, IsCandidate, candidates, candidates_on, relations_on, violates, accepts, Answer, IsNetwork, IsNoOn, has_scope, agrees, is_struck, kept, Choice, Scene, allows, tells_apart, splitting_tuple, after_reply, remaining, find_all, all_below, next_scope, learn, scene_of, on_scope, free_choices, IsTold, both_true, any-filter, any-map, any_candidate, find_none, find_some, all_pairs_push}
 use Rattle.session_laws.proofs.OnScope.{exact_question, violates_there, accepts_learned}
 use Rattle.rel_table.proofs.Tables.{same_table, one_number}
-use Rattle.language.proofs.Members.{any-filter, any-map, any_candidate, find_none, find_some}
-use Rattle.std.proofs.lemmas.List.Quantifiers.{all_pairs_push}
 use Rattle.session_laws.proofs.Lists.{any_more, some_left, all_flat_map, tuples_long, any_same}
 
 -- ---- the choices on a scope

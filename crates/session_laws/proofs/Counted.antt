@@ -1,34 +1,6 @@
 -- How many answers there are: every state that is reached counts them, so they are few.
-use Rattle.std.proofs.Common.{◌≡◌, ℕ, suc, ◌+◌, ◌*◌, ◌≤◌, Bool, true, false, cond, ◌||◌, ◌&&◌, not, List, [], ◌∷◌, ◌++◌, length, Option, Some, None, refl, sym, ◌∙◌, ap, subst, arith, inl, inr}
-use Rattle.std.specs.Prelude.{◌==◌, Any, slice_index_or, position, option_map, option_and_then, is_none}
-use Rattle.std.specs.List.{list_any, filter}
-use Rattle.std.proofs.lemmas.List.Elements.{All-nil, All-cons}
-use Rattle.std.proofs.lemmas.List.Folds.{Any-from_list_any}
-use Rattle.std.proofs.lemmas.List.Quantifiers.{position-Some}
-use Rattle.std.proofs.lemmas.Bool.{and_parts, and_left, or_left, both_ways, not-true, eqb-true, eq-eqb, true_from_ne_false}
-use Rattle.language.specs.declared.candidates.Candidate.{Candidate}
-use Rattle.assign.specs.declared.events.Plan.{Plan}
-use Rattle.assign.specs.declared.events.Plan.TheVariants.{Scopes, Quacq, Multi}
-use Rattle.assign.specs.Sets.{numbers, has, is_within, is_same, Rises}
-use Rattle.assign.specs.Assignment.{Assignment, restrict}
-use Rattle.language.specs.Language.{Language, IsLanguage, IsCandidate, candidates, variable_count, scope_of, violates}
-use Rattle.assign.specs.Events.{Answer}
-use Rattle.language.specs.Answers.{IsNoOn, has_scope, kept}
-use Rattle.find_scope.specs.Bound.{log_up}
-use Rattle.find_scope.specs.Halving.{Halved, Wants, Got, halve}
-use Rattle.language.specs.TellingApart.{Choice, splitting_tuple, after_reply}
-use Rattle.find_scope.proofs.Counts.{sub_length, log_up_holds, noes_are_few}
-use Rattle.language.proofs.Accepts.{accepted_at}
-use Rattle.session_laws.specs.Walk.{Walk, Turn, Asks, violates_some, next_turn}
-use Rattle.session_laws.specs.Session.{State, Idle, Halving, Choosing, Walking, Over, At, MOST_SETS, wanted_set, next_scope, at_turn, settle_choices, begin_choosing, found, with_quiet_replies, halved, settle_halving, is_just, replied, replied_tuple, on_scope_asked, begun, is_lawful, step, state_after}
-use Rattle.language.specs.Scenes.{scene_of, on_scope, free_choices, violated_choices}
-use Rattle.session_laws.specs.Laws.{AnswersAreFew, AnswersAreAtMost, LearnedAreFew}
-use Rattle.language.proofs.Covered.{denied}
-use Rattle.language.proofs.Members.{any-map}
+use Rattle.session_laws.proofs.Prelude.{◌≡◌, ℕ, suc, ◌+◌, ◌*◌, ◌≤◌, Bool, true, false, cond, ◌||◌, ◌&&◌, not, List, [], ◌∷◌, ◌++◌, length, Option, Some, None, refl, sym, ◌∙◌, ap, subst, arith, inl, inr, ◌==◌, Any, slice_index_or, position, option_map, option_and_then, is_none, list_any, filter, All-nil, All-cons, Any-from_list_any, position-Some, and_parts, and_left, or_left, both_ways, not-true, eqb-true, eq-eqb, true_from_ne_false, Candidate, Plan, Scopes, Quacq, Multi, numbers, has, is_within, is_same, Rises, Assignment, restrict, Language, IsLanguage, IsCandidate, candidates, variable_count, scope_of, violates, Answer, IsNoOn, has_scope, kept, log_up, Halved, Wants, Got, halve, Choice, splitting_tuple, after_reply, sub_length, log_up_holds, noes_are_few, accepted_at, Walk, Turn, Asks, violates_some, next_turn, State, Idle, Halving, Choosing, Walking, Over, At, MOST_SETS, wanted_set, next_scope, at_turn, settle_choices, begin_choosing, found, with_quiet_replies, halved, settle_halving, is_just, replied, replied_tuple, on_scope_asked, begun, is_lawful, step, state_after, scene_of, on_scope, free_choices, violated_choices, AnswersAreFew, AnswersAreAtMost, LearnedAreFew, denied, any-map, length-range_with_len, noes, greatest_arity, most_answers}
 use Rattle.std.proofs.Math.Nat.{mul-le-mul_right}
-use Rattle.std.proofs.lemmas.List.FromFn.{length-range_with_len}
-use Rattle.find_scope.specs.Bound.{noes}
-use Rattle.session_laws.specs.Bound.{greatest_arity, most_answers}
 use Rattle.session_laws.proofs.Lists.{any_never, count_all}
 use Rattle.session_laws.proofs.Folds.{same_assignment, passed, asked_is, reached}
 use Rattle.session_laws.proofs.Choices.{IsSound, IsHalfway, is_number, begin_halfway, reply_halfway, kept_is_choice, nothing_yet}

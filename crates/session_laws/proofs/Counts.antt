@@ -1,29 +1,5 @@
 -- How many answers a state may have taken. Each yes, and each no that tells choices apart, makes one more candidate gone, and each learned candidate pays for the noes of one halving.
-use Rattle.std.proofs.Common.{◌≡◌, ℕ, zero, suc, ◌+◌, ◌*◌, ◌<◌, ◌≤◌, Bool, true, false, cond, ◌||◌, ◌&&◌, not, List, [], ◌∷◌, ◌++◌, length, Option, Some, None, refl, sym, ◌∙◌, ap, subst, arith, inl, inr, ◌⊎◌, length-append}
-use Rattle.std.specs.Prelude.{◌==◌, All, Any, slice_index_or, is_none}
-use Rattle.std.specs.Bool.{beq}
-use Rattle.std.specs.List.{list_any, filter}
-use Rattle.std.proofs.lemmas.List.Elements.{All-map, All-nil, All-append}
-use Rattle.std.proofs.lemmas.List.Folds.{list_any_at, list_all-append, Any-from_list_any}
-use Rattle.std.proofs.lemmas.Bool.{cases_Bool, and_parts, and_from, and_left, or_cases, or_left, or_right, or_from, both_ways, not_from_false, not-true, eqb-true, eq-eqb, false_from_ne_true, true_from_ne_false}
-use Rattle.language.specs.declared.candidates.Candidate.{Candidate}
-use Rattle.assign.specs.Sets.{without, Rises}
-use Rattle.assign.specs.Assignment.{Assignment, restrict}
-use Rattle.rel_table.specs.Relation.{tuples}
-use Rattle.language.specs.Language.{Language, IsLanguage, IsCandidate, variable_count, scope_of, violates, accepts}
-use Rattle.assign.specs.Events.{Answer}
-use Rattle.language.specs.Answers.{agrees, is_struck, kept}
-use Rattle.find_scope.specs.Bound.{log_up}
-use Rattle.language.specs.TellingApart.{Choice, allows, tells_apart, splitting_tuple, after_reply, remaining}
-use Rattle.language.proofs.Lists.{find_all}
-use Rattle.session_laws.specs.Walk.{Walk, Asks, violates_some, learned_within, parts_without, take_set, next_turn}
-use Rattle.session_laws.specs.Session.{State, Idle, Halving, Choosing, Walking, Over, learn, at_turn, go_on, settle_choices, chosen}
-use Rattle.language.specs.Scenes.{scene_of, on_scope}
-use Rattle.language.proofs.Covered.{not_struck, denied}
-use Rattle.assign.proofs.Masks.{rises_where}
-use Rattle.language.proofs.Members.{any-filter, any_candidate, find_some}
-use Rattle.find_scope.specs.Bound.{noes}
-use Rattle.session_laws.specs.Bound.{greatest_arity}
+use Rattle.session_laws.proofs.Prelude.{◌≡◌, ℕ, zero, suc, ◌+◌, ◌*◌, ◌<◌, ◌≤◌, Bool, true, false, cond, ◌||◌, ◌&&◌, not, List, [], ◌∷◌, ◌++◌, length, Option, Some, None, refl, sym, ◌∙◌, ap, subst, arith, inl, inr, ◌⊎◌, length-append, ◌==◌, All, Any, slice_index_or, is_none, beq, list_any, filter, All-map, All-nil, All-append, list_any_at, list_all-append, Any-from_list_any, cases_Bool, and_parts, and_from, and_left, or_cases, or_left, or_right, or_from, both_ways, not_from_false, not-true, eqb-true, eq-eqb, false_from_ne_true, true_from_ne_false, Candidate, without, Rises, Assignment, restrict, tuples, Language, IsLanguage, IsCandidate, variable_count, scope_of, violates, accepts, Answer, agrees, is_struck, kept, log_up, Choice, allows, tells_apart, splitting_tuple, after_reply, remaining, find_all, Walk, Asks, violates_some, learned_within, parts_without, take_set, next_turn, State, Idle, Halving, Choosing, Walking, Over, learn, at_turn, go_on, settle_choices, chosen, scene_of, on_scope, not_struck, denied, rises_where, any-filter, any_candidate, find_some, noes, greatest_arity}
 use Rattle.session_laws.proofs.Lists.{tuples_long, any_imp, any_never}
 use Rattle.session_laws.proofs.OnScope.{violates_there}
 use Rattle.session_laws.proofs.Choices.{IsHalfway, is_number, struck_more, number_kept}

@@ -1,16 +1,9 @@
 -- Two example languages are languages, so the laws speak of something.
-use Rattle.std.proofs.Common.{◌≡◌, ℕ, zero, suc, ◌<◌, ◌≤◌, ◌^◌, List, [], ◌∷◌, length, map, false, refl, sym, ◌∙◌, ap, subst, arith}
-use Rattle.std.specs.Prelude.{All, AllPairs, Contains, IsTrue, ◌≢◌, codes, replicate}
+use Rattle.session_laws.proofs.Prelude.{◌≡◌, ℕ, zero, suc, ◌<◌, ◌≤◌, ◌^◌, List, [], ◌∷◌, length, map, false, refl, sym, ◌∙◌, ap, subst, arith, All, AllPairs, Contains, IsTrue, ◌≢◌, codes, replicate, All-nil, All-cons, both_ways, is_same, Relation, meet, meet_all, IsIntersection, IsClosing, is_above, Given, IsLanguage, IsScope, AreApart, scope_at, given_on, relations_on, eq, ne, none, binary, equal_or_not, three_equal}
 use Rattle.std.specs.List.Sorted.{IsStrictlyIncreasing}
-use Rattle.std.proofs.lemmas.List.Elements.{All-nil, All-cons}
 use Rattle.std.proofs.lemmas.List.Kept.{AllPairs-cons}
 use Rattle.std.proofs.lemmas.Int.{ints}
-use Rattle.std.proofs.lemmas.Bool.{both_ways}
-use Rattle.assign.specs.Sets.{is_same}
-use Rattle.rel_table.specs.Relation.{Relation, meet, meet_all, IsIntersection, IsClosing, is_above}
 use Rattle.language.specs.Ranges.{IsRange, whole_range}
-use Rattle.language.specs.Language.{Given, IsLanguage, IsScope, AreApart, scope_at, given_on, relations_on}
-use Rattle.session_laws.specs.Examples.{eq, ne, none, binary, equal_or_not, three_equal}
 use Rattle.session_laws.proofs.Restrict.{list_same}
 
 -- ---- by cases

@@ -1,15 +1,5 @@
 -- The fold over answers: what each step keeps holds of every state that is reached, and one answer more is one step more.
-use Rattle.std.proofs.Common.{◌≡◌, ℕ, ◌+◌, Bool, true, false, List, [], ◌∷◌, ◌++◌, length, Option, Some, None, refl, sym, ◌∙◌, ap, subst}
-use Rattle.std.specs.Prelude.{option_map}
-use Rattle.std.proofs.lemmas.List.{append-nil, append_assoc}
-use Rattle.std.proofs.lemmas.Bool.{and_parts, and_from, eqb-true, eq-eqb}
-use Rattle.assign.specs.Assignment.{Assignment, is_same_assignment, is_same_value}
-use Rattle.assign.specs.Events.{Answer}
-use Rattle.assign.specs.declared.events.Plan.{Plan}
-use Rattle.language.specs.Language.{Language}
-use Rattle.language.specs.Scenes.{on_scope}
-use Rattle.session_laws.specs.Session.{State, Idle, At, if_passes, is_just, then_on, step, read_on, state_after}
-use Rattle.session_laws.specs.Laws.{OneAnswerMore}
+use Rattle.session_laws.proofs.Prelude.{◌≡◌, ℕ, ◌+◌, Bool, true, false, List, [], ◌∷◌, ◌++◌, length, Option, Some, None, refl, sym, ◌∙◌, ap, subst, option_map, append-nil, append_assoc, and_parts, and_from, eqb-true, eq-eqb, Assignment, is_same_assignment, is_same_value, Answer, Plan, Language, on_scope, State, Idle, At, if_passes, is_just, then_on, step, read_on, state_after, OneAnswerMore}
 
 -- ---- assignments that are the same
 

@@ -1,29 +1,6 @@
 -- What begins once a halving has found a set: that set is a scope with choices, or no network agrees.
-use Rattle.std.proofs.Common.{◌≡◌, ℕ, ◌<◌, ◌≤◌, Bool, true, false, ◌&&◌, not, List, [], ◌∷◌, ◌++◌, length, map, Some, None, refl, sym, ◌∙◌, ap, subst, inl, inr, ◌⊎◌}
-use Rattle.std.specs.Prelude.{◌==◌, All, Any, slice_index_or, position}
-use Rattle.std.specs.Bool.{beq}
-use Rattle.std.specs.List.{list_any, filter}
-use Rattle.std.proofs.lemmas.List.{append-nil}
-use Rattle.std.proofs.lemmas.List.Elements.{All-map, All-filter, All-head, filter_passes}
-use Rattle.std.proofs.lemmas.List.Quantifiers.{position-Some}
-use Rattle.std.proofs.lemmas.List.Folds.{list_all-append, list_any_at}
-use Rattle.std.proofs.lemmas.List.Sums.{list_all-from_AllPass}
-use Rattle.std.proofs.lemmas.Bool.{cases_Bool, and_parts, and_from, and_right, both_ways, not_from_false, not-true, eq-eqb, eqb-true, false_from_ne_true}
-use Rattle.language.specs.declared.candidates.Candidate.{Candidate}
-use Rattle.assign.specs.Sets.{has, is_within, is_same, Rises}
-use Rattle.assign.specs.Assignment.{Assignment, variables_of}
-use Rattle.language.specs.Language.{Language, IsLanguage, IsCandidate, candidates, scope_of, violates, accepts}
-use Rattle.assign.specs.Events.{Answer}
-use Rattle.language.specs.Answers.{IsNoOn, NoneAgrees, has_scope, agrees, is_struck, kept}
-use Rattle.find_scope.specs.Halving.{Got, halve}
-use Rattle.language.specs.TellingApart.{Choice}
-use Rattle.language.specs.Scenes.{violated_choices}
-use Rattle.session_laws.specs.Session.{learn}
-use Rattle.language.proofs.Covered.{same_scope}
-use Rattle.find_scope.proofs.Runs.{IsKnown}
-use Rattle.find_scope.proofs.Got.{sub_within}
+use Rattle.session_laws.proofs.Prelude.{◌≡◌, ℕ, ◌<◌, ◌≤◌, Bool, true, false, ◌&&◌, not, List, [], ◌∷◌, ◌++◌, length, map, Some, None, refl, sym, ◌∙◌, ap, subst, inl, inr, ◌⊎◌, ◌==◌, All, Any, slice_index_or, position, beq, list_any, filter, append-nil, All-map, All-filter, All-head, filter_passes, position-Some, list_all-append, list_any_at, list_all-from_AllPass, cases_Bool, and_parts, and_from, and_right, both_ways, not_from_false, not-true, eq-eqb, eqb-true, false_from_ne_true, Candidate, has, is_within, is_same, Rises, Assignment, variables_of, Language, IsLanguage, IsCandidate, candidates, scope_of, violates, accepts, Answer, IsNoOn, NoneAgrees, has_scope, agrees, is_struck, kept, Got, halve, Choice, violated_choices, learn, same_scope, IsKnown, sub_within, any-filter, any-map, any_candidate}
 use Rattle.session_laws.proofs.Restrict.{same_list, list_same, position_some, violates_restrict, rising_scope, exact_on}
-use Rattle.language.proofs.Members.{any-filter, any-map, any_candidate}
 use Rattle.session_laws.proofs.Choices.{IsHalfway, IsGone, is_number, still_agrees, all_candidates, beq_false}
 use Rattle.session_laws.proofs.Halving.{IsHalving, IsReply, IsWith, culprit, got_denied, got_rises}
 

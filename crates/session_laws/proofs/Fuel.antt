@@ -1,12 +1,5 @@
 -- How many questions a halving asks at most, so that the quiet replies come to an end.
-use Rattle.std.proofs.Common.{◌≡◌, ℕ, zero, suc, ◌+◌, ◌*◌, ◌-◌, ◌/◌, ◌≤◌, Bool, true, false, cond, not, List, [], ◌∷◌, ◌++◌, length, refl, ◌∙◌, arith, inl, inr, ◌⊎◌, length-take, length-drop, length-append}
-use Rattle.language.specs.declared.candidates.Candidate.{Candidate}
-use Rattle.assign.specs.Assignment.{Assignment}
-use Rattle.language.specs.Language.{Language}
-use Rattle.assign.specs.Sets.{union, first_half, second_half}
-use Rattle.find_scope.specs.Halving.{Halved, Wants, Got, then_got, ask, is_empty, halve_within, halve}
-use Rattle.session_laws.specs.Session.{is_quiet, with_quiet_replies}
-use Rattle.session_laws.specs.Laws.{FuelIsEnough}
+use Rattle.session_laws.proofs.Prelude.{◌≡◌, ℕ, zero, suc, ◌+◌, ◌*◌, ◌-◌, ◌/◌, ◌≤◌, Bool, true, false, cond, not, List, [], ◌∷◌, ◌++◌, length, refl, ◌∙◌, arith, inl, inr, ◌⊎◌, length-take, length-drop, length-append, Candidate, Assignment, Language, union, first_half, second_half, Halved, Wants, Got, then_got, ask, is_empty, halve_within, halve, is_quiet, with_quiet_replies, FuelIsEnough}
 
 -- so many replies fit below a bound: a want leaves room for one more, and what is got has used no more than the bound
 abbrev Fits : ℕ → ℕ → Halved → Type 0

@@ -1,16 +1,5 @@
 -- Candidates that are gone: those that can't be learned any more. Each yes makes one more so.
-use Rattle.std.proofs.Common.{◌≡◌, ℕ, suc, ◌+◌, ◌≤◌, Bool, true, false, ◌||◌, ◌&&◌, not, List, [], ◌∷◌, ◌++◌, length, Some, refl, sym, ◌∙◌, ap, arith, inl, inr, ◌⊎◌, length-append}
-use Rattle.std.specs.Prelude.{◌==◌}
-use Rattle.std.specs.List.{list_any, filter}
-use Rattle.std.proofs.lemmas.List.Folds.{list_any-append}
-use Rattle.std.proofs.lemmas.Bool.{and_parts, and_from, and_left, or_cases, or_left, or_right, or_from, both_ways, not_from_false, not-true, eqb-true, eq-eqb, false_from_ne_true}
-use Rattle.language.specs.declared.candidates.Candidate.{Candidate}
-use Rattle.language.specs.Language.{Language, IsCandidate, candidates, violates}
-use Rattle.assign.specs.Events.{Answer}
-use Rattle.language.specs.Answers.{has_scope, is_struck, kept}
-use Rattle.language.specs.TellingApart.{Choice}
-use Rattle.session_laws.specs.Walk.{violates_some}
-use Rattle.language.proofs.Members.{any-filter}
+use Rattle.session_laws.proofs.Prelude.{◌≡◌, ℕ, suc, ◌+◌, ◌≤◌, Bool, true, false, ◌||◌, ◌&&◌, not, List, [], ◌∷◌, ◌++◌, length, Some, refl, sym, ◌∙◌, ap, arith, inl, inr, ◌⊎◌, length-append, ◌==◌, list_any, filter, list_any-append, and_parts, and_from, and_left, or_cases, or_left, or_right, or_from, both_ways, not_from_false, not-true, eqb-true, eq-eqb, false_from_ne_true, Candidate, Language, IsCandidate, candidates, violates, Answer, has_scope, is_struck, kept, Choice, violates_some, any-filter}
 use Rattle.session_laws.proofs.Lists.{any_imp, fewer_in, more_in}
 use Rattle.session_laws.proofs.Choices.{is_number, all_candidates, struck_more}
 

@@ -1,18 +1,5 @@
 -- What is learned stays learned.
-use Rattle.std.proofs.Common.{◌≡◌, ℕ, ◌+◌, Bool, true, false, List, [], ◌∷◌, ◌++◌, length, Option, Some, None, refl, sym, ◌∙◌, ap, subst}
-use Rattle.std.proofs.lemmas.List.{append-nil, append_assoc}
-use Rattle.language.specs.declared.candidates.Candidate.{Candidate}
-use Rattle.assign.specs.Assignment.{Assignment}
-use Rattle.assign.specs.Events.{Answer}
-use Rattle.assign.specs.declared.events.Plan.{Plan}
-use Rattle.assign.specs.declared.events.Plan.TheVariants.{Scopes, Quacq, Multi}
-use Rattle.language.specs.Language.{Language}
-use Rattle.find_scope.specs.Halving.{Halved, Wants, Got}
-use Rattle.language.specs.TellingApart.{Choice, splitting_tuple}
-use Rattle.language.specs.Scenes.{scene_of, free_choices}
-use Rattle.session_laws.specs.Walk.{Walk, Turn, Asks, Ends}
-use Rattle.session_laws.specs.Session.{State, Idle, Halving, Choosing, Walking, Over, At, at_turn, go_on, learn, chosen, begin_choosing, found, halved, replied, replied_tuple, on_scope_asked, begun, then_on, step, read_on}
-use Rattle.session_laws.specs.Laws.{Extends, NetworkGrows, network_in}
+use Rattle.session_laws.proofs.Prelude.{◌≡◌, ℕ, ◌+◌, Bool, true, false, List, [], ◌∷◌, ◌++◌, length, Option, Some, None, refl, sym, ◌∙◌, ap, subst, append-nil, append_assoc, Candidate, Assignment, Answer, Plan, Scopes, Quacq, Multi, Language, Halved, Wants, Got, Choice, splitting_tuple, scene_of, free_choices, Walk, Turn, Asks, Ends, State, Idle, Halving, Choosing, Walking, Over, At, at_turn, go_on, learn, chosen, begin_choosing, found, halved, replied, replied_tuple, on_scope_asked, begun, then_on, step, read_on, Extends, NetworkGrows, network_in}
 use Rattle.session_laws.proofs.Folds.{passed, one_answer_more}
 
 stays : (network : List Candidate) → Extends network network

@@ -1,31 +1,7 @@
 -- What holds while an example is halved, and what the set that is found says of each network that agrees.
-use Rattle.std.proofs.Common.{◌≡◌, ℕ, zero, suc, ◌*◌, ◌<◌, ◌≤◌, Bool, true, false, cond, ◌||◌, ◌&&◌, not, List, [], ◌∷◌, ◌++◌, length, refl, sym, ◌∙◌, ap, subst, arith, inl, inr, ◌⊎◌}
-use Rattle.std.specs.Prelude.{◌==◌, All, Any, AllPairs, slice_index_or}
-use Rattle.std.specs.Bool.{beq}
-use Rattle.std.specs.List.{list_any}
-use Rattle.std.proofs.lemmas.List.{append_assoc}
-use Rattle.std.proofs.lemmas.List.Elements.{All-push, All-weaker, All-head}
-use Rattle.std.proofs.lemmas.List.Quantifiers.{Any-push}
-use Rattle.std.proofs.lemmas.List.Folds.{list_any-append, list_any_at, Any-from_list_any}
-use Rattle.std.proofs.lemmas.List.Sums.{AllPass-from_list_all}
-use Rattle.std.proofs.lemmas.Bool.{and_parts, and_from, or_parts, or_left, or_from, both_ways, not_from_false, not-true, eq-eqb, eqb-true, false_from_ne_true}
-use Rattle.language.specs.declared.candidates.Candidate.{Candidate}
-use Rattle.assign.specs.Sets.{has, is_within, Rises}
-use Rattle.assign.specs.Assignment.{Assignment, restrict, is_complete}
-use Rattle.language.specs.Language.{Language, IsLanguage, IsCandidate, candidates, variable_count, scope_of, violates, accepts}
-use Rattle.assign.specs.Events.{Answer}
-use Rattle.language.specs.Answers.{IsNetwork, IsNoOn, has_scope, agrees, is_struck, kept}
-use Rattle.find_scope.specs.Halving.{Halved, Wants, Got, halve}
-use Rattle.find_scope.proofs.Counts.{deep}
-use Rattle.language.proofs.Accepts.{accepted_at, accepted_from}
-use Rattle.session_laws.specs.Walk.{violates_some}
-use Rattle.session_laws.specs.Session.{is_quiet, with_quiet_replies}
+use Rattle.session_laws.proofs.Prelude.{◌≡◌, ℕ, zero, suc, ◌*◌, ◌<◌, ◌≤◌, Bool, true, false, cond, ◌||◌, ◌&&◌, not, List, [], ◌∷◌, ◌++◌, length, refl, sym, ◌∙◌, ap, subst, arith, inl, inr, ◌⊎◌, ◌==◌, All, Any, AllPairs, slice_index_or, beq, list_any, append_assoc, All-push, All-weaker, All-head, Any-push, list_any-append, list_any_at, Any-from_list_any, AllPass-from_list_all, and_parts, and_from, or_parts, or_left, or_from, both_ways, not_from_false, not-true, eq-eqb, eqb-true, false_from_ne_true, Candidate, has, is_within, Rises, Assignment, restrict, is_complete, Language, IsLanguage, IsCandidate, candidates, variable_count, scope_of, violates, accepts, Answer, IsNetwork, IsNoOn, has_scope, agrees, is_struck, kept, Halved, Wants, Got, halve, deep, accepted_at, accepted_from, violates_some, is_quiet, with_quiet_replies, IsTold, IsGathered, gather, not_struck, learned_is, both_true, Sub, Every, RunTo, IsKnown, run_to, run_within, run_rises, run_denied, run_least, bounded, asked_within, within_sub, sub_within, same_sets, any-filter, any_candidate}
 use Rattle.language.proofs.Meets.{closed_candidates}
-use Rattle.language.proofs.Covered.{IsTold, IsGathered, gather, not_struck, learned_is, both_true}
-use Rattle.find_scope.proofs.Runs.{Sub, Every, RunTo, IsKnown, run_to, run_within, run_rises, run_denied, run_least, bounded, asked_within}
-use Rattle.find_scope.proofs.Got.{within_sub, sub_within, same_sets}
 use Rattle.session_laws.proofs.Restrict.{violates_restrict, rejecting, scope_small, rising_scope, accepts_narrower}
-use Rattle.language.proofs.Members.{any-filter, any_candidate}
 use Rattle.session_laws.proofs.Lists.{any_more}
 use Rattle.session_laws.proofs.Choices.{IsSound, told_more, agrees_more}
 

@@ -1,8 +1,5 @@
 -- A halving that wanted its last reply, and has got a set with it, leaves no reply.
-use Rattle.std.proofs.Common.{◌≡◌, ℕ, zero, suc, Bool, true, false, not, List, [], ◌∷◌, ◌++◌, length, refl, sym, ◌∙◌, ap}
-use Rattle.assign.specs.Sets.{union, first_half, second_half}
-use Rattle.find_scope.specs.Halving.{Halved, Wants, Got, then_got, ask, is_empty, halve_within, halve}
-use Rattle.find_scope.proofs.Runs.{got_then, wants_last, wants_not_got, same_left, more_replies}
+use Rattle.session_laws.proofs.Prelude.{◌≡◌, ℕ, zero, suc, Bool, true, false, not, List, [], ◌∷◌, ◌++◌, length, refl, sym, ◌∙◌, ap, union, first_half, second_half, Halved, Wants, Got, then_got, ask, is_empty, halve_within, halve, got_then, wants_last, wants_not_got, same_left, more_replies}
 
 -- ---- with no reply
 

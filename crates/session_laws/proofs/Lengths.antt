@@ -1,21 +1,5 @@
 -- How long scopes, sets and networks are.
-use Rattle.std.proofs.Common.{◌≡◌, ℕ, zero, suc, ◌<◌, ◌≤◌, Bool, true, false, cond, ◌||◌, ◌&&◌, not, List, [], ◌∷◌, length, map, refl, sym, ◌∙◌, subst, arith}
-use Rattle.std.specs.Prelude.{◌==◌, All, AllPairs, slice_index_or, max}
-use Rattle.std.specs.List.{filter, fold}
-use Rattle.std.proofs.lemmas.List.{get_or_default}
-use Rattle.std.proofs.lemmas.List.Elements.{All-head, All-tail, All-map, All-nil, All-cons}
-use Rattle.std.proofs.lemmas.Bool.{and_parts, and_from, both_ways, not_from_false, eqb-true, eq-eqb, false_from_ne_true}
-use Rattle.language.specs.declared.candidates.Candidate.{Candidate}
-use Rattle.assign.specs.Sets.{numbers, has, without, Rises}
-use Rattle.language.specs.Language.{Language, IsLanguage, variable_count}
-use Rattle.language.specs.Answers.{IsNetwork}
-use Rattle.assign.proofs.Masks.{rises_where}
-use Rattle.language.proofs.Members.{any-filter, any_number}
-use Rattle.std.proofs.lemmas.List.FromFn.{length-range_with_len}
-use Rattle.assign.specs.SetLemmas.{has-set_where}
-use Rattle.find_scope.proofs.Counts.{sub_length}
-use Rattle.language.proofs.Beside.{scope_rises}
-use Rattle.session_laws.specs.Bound.{greatest_arity}
+use Rattle.session_laws.proofs.Prelude.{◌≡◌, ℕ, zero, suc, ◌<◌, ◌≤◌, Bool, true, false, cond, ◌||◌, ◌&&◌, not, List, [], ◌∷◌, length, map, refl, sym, ◌∙◌, subst, arith, ◌==◌, All, AllPairs, slice_index_or, max, filter, fold, get_or_default, All-head, All-tail, All-map, All-nil, All-cons, and_parts, and_from, both_ways, not_from_false, eqb-true, eq-eqb, false_from_ne_true, Candidate, numbers, has, without, Rises, Language, IsLanguage, variable_count, IsNetwork, rises_where, any-filter, any_number, length-range_with_len, has-set_where, sub_length, scope_rises, greatest_arity}
 use Rattle.session_laws.proofs.Lists.{any_imp, count_all}
 use Rattle.session_laws.proofs.Restrict.{rises_range, has_all}
 

@@ -1,3 +1,4 @@
+mod Prelude
 pub mod Folds
 pub mod Lists
 pub mod OnScope

@@ -1,18 +1,6 @@
 -- How many answers the largest language allows.
-use Rattle.std.proofs.Common.{ℕ, ◌+◌, ◌*◌, ◌≤◌, List, [], ◌∷◌, length, map, arith, length-append}
-use Rattle.std.specs.Prelude.{All}
-use Rattle.std.specs.List.{flat_map}
-use Rattle.std.proofs.lemmas.List.Elements.{All-head, All-tail, All-map}
-use Rattle.std.proofs.lemmas.List.FromFn.{length-map-range_with_len, length-range_with_len}
+use Rattle.session_laws.proofs.Prelude.{ℕ, ◌+◌, ◌*◌, ◌≤◌, List, [], ◌∷◌, length, map, arith, length-append, All, flat_map, All-head, All-tail, All-map, length-map-range_with_len, length-range_with_len, numbers, Candidate, Language, IsLanguage, variable_count, relations_on, candidates, candidates_on, log_up, log_is_least, all_below, greatest_arity, AnswersFit}
 use Rattle.std.proofs.lemmas.Nat.{mul-le}
-use Rattle.assign.specs.Sets.{numbers}
-use Rattle.language.specs.declared.candidates.Candidate.{Candidate}
-use Rattle.language.specs.Language.{Language, IsLanguage, variable_count, relations_on, candidates, candidates_on}
-use Rattle.find_scope.specs.Bound.{log_up}
-use Rattle.find_scope.proofs.Counts.{log_is_least}
-use Rattle.language.proofs.Lists.{all_below}
-use Rattle.session_laws.specs.Bound.{greatest_arity}
-use Rattle.session_laws.specs.Laws.{AnswersFit}
 use Rattle.session_laws.proofs.Lengths.{greatest_below}
 
 -- lists of at most so many members each

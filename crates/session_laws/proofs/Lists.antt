@@ -1,13 +1,6 @@
 -- Lists: what some or all of their members pass.
-use Rattle.std.proofs.Common.{◌≡◌, ℕ, zero, suc, ◌≤◌, Bool, true, false, cond, ◌||◌, ◌&&◌, not, List, [], ◌∷◌, ◌++◌, length, map, Option, Some, None, refl, sym, ◌∙◌, ap, arith, inl, inr, ◌⊎◌, length-append}
-use Rattle.std.specs.Prelude.{All, Any, is_some}
-use Rattle.std.specs.List.{list_any, filter, flat_map}
-use Rattle.std.proofs.lemmas.List.{get_or_append_left}
-use Rattle.std.proofs.lemmas.List.Elements.{All-head, All-tail, All-append, All-cons, All-nil, All-map, All-weaker}
-use Rattle.std.proofs.lemmas.Bool.{both_ways, or_cases, or_left, or_right, or_from}
+use Rattle.session_laws.proofs.Prelude.{◌≡◌, ℕ, zero, suc, ◌≤◌, Bool, true, false, cond, ◌||◌, ◌&&◌, not, List, [], ◌∷◌, ◌++◌, length, map, Option, Some, None, refl, sym, ◌∙◌, ap, arith, inl, inr, ◌⊎◌, length-append, All, Any, is_some, list_any, filter, flat_map, get_or_append_left, All-head, All-tail, All-append, All-cons, All-nil, All-map, All-weaker, both_ways, or_cases, or_left, or_right, or_from, numbers, tuples}
 use Rattle.std.proofs.lemmas.List.Filters.{length-filter_both}
-use Rattle.assign.specs.Sets.{numbers}
-use Rattle.rel_table.specs.Relation.{tuples}
 
 pub any_more : {X : Type 0} (P : X → Type 0) (xs : List X) (y : X) → Any P xs → Any P (xs ++ y ∷ [])
 any_more P xs y (k, x, low, at, p) = (k, x, omega (arith, length-append xs (y ∷ [])), get_or_append_left xs (y ∷ []) x k low ∙ at, p)

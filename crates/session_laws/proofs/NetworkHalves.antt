@@ -1,17 +1,6 @@
 -- What a halving gets that a network answers.
-use Rattle.std.proofs.Common.{◌≡◌, ℕ, ◌<◌, ◌≤◌, Bool, true, false, ◌&&◌, not, ◌||◌, List, [], ◌∷◌, length, refl, sym, ◌∙◌, ap, subst, arith, inl, inr, ◌⊎◌}
-use Rattle.std.specs.Prelude.{◌==◌, slice_index_or, Any}
-use Rattle.std.proofs.lemmas.Bool.{and_parts, and_from, both_ways, cases_Bool, eqb-true}
-use Rattle.assign.specs.Sets.{has, without, is_within}
-use Rattle.assign.specs.SetLemmas.{has-set_where}
+use Rattle.session_laws.proofs.Prelude.{◌≡◌, ℕ, ◌<◌, ◌≤◌, Bool, true, false, ◌&&◌, not, ◌||◌, List, [], ◌∷◌, length, refl, sym, ◌∙◌, ap, subst, arith, inl, inr, ◌⊎◌, ◌==◌, slice_index_or, Any, and_parts, and_from, both_ways, cases_Bool, eqb-true, has, without, is_within, has-set_where, same_sets, within_sub, sub_within, got_is_part, got_is_minimal, Candidate, restrict, IsCandidate, scope_of, violates, accepted_at, accepted_from, accepts_on, IsViolatedOn, NetworkHalves, both_true}
 use Rattle.find_scope.specs.Laws.{IsTest, IsMinimal}
-use Rattle.find_scope.proofs.Got.{same_sets, within_sub, sub_within, got_is_part, got_is_minimal}
-use Rattle.language.specs.declared.candidates.Candidate.{Candidate}
-use Rattle.assign.specs.Assignment.{restrict}
-use Rattle.language.specs.Language.{IsCandidate, scope_of, violates}
-use Rattle.language.proofs.Accepts.{accepted_at, accepted_from}
-use Rattle.session_laws.specs.Laws.{accepts_on, IsViolatedOn, NetworkHalves}
-use Rattle.language.proofs.Covered.{both_true}
 use Rattle.session_laws.proofs.Restrict.{violates_restrict, rejecting, rising_scope, accepts_narrower}
 
 none_within : (xs : List ℕ) → 1 ≤ length xs → is_within xs [] ≡ true → ⊥

@@ -1,14 +1,6 @@
 -- The noes of a halving: quiet replies add none, and none is left where a set is got.
-use Rattle.std.proofs.Common.{◌≡◌, ℕ, zero, suc, Bool, true, false, cond, not, List, [], ◌∷◌, ◌++◌, refl, sym, ◌∙◌, ap, arith, inl, inr, ◌⊎◌}
-use Rattle.std.proofs.lemmas.Bool.{both_ways}
-use Rattle.language.specs.declared.candidates.Candidate.{Candidate}
-use Rattle.assign.specs.Assignment.{Assignment}
-use Rattle.language.specs.Language.{Language}
-use Rattle.find_scope.specs.Halving.{Halved, Wants, Got, halve}
-use Rattle.session_laws.specs.Session.{is_quiet, with_quiet_replies}
+use Rattle.session_laws.proofs.Prelude.{◌≡◌, ℕ, zero, suc, Bool, true, false, cond, not, List, [], ◌∷◌, ◌++◌, refl, sym, ◌∙◌, ap, arith, inl, inr, ◌⊎◌, both_ways, Candidate, Assignment, Language, Halved, Wants, Got, halve, is_quiet, with_quiet_replies, sum_by-append, noes}
 use Rattle.session_laws.proofs.LastReply.{nothing_at_first, nothing_after_last}
-use Rattle.std.proofs.lemmas.List.Sums.{sum_by-append}
-use Rattle.find_scope.specs.Bound.{noes}
 
 -- the last reply was wanted
 abbrev pub IsLive : List ℕ → List Bool → Type 0

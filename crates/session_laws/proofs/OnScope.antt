@@ -1,25 +1,5 @@
 -- A tuple as a question about exactly one scope.
-use Rattle.std.proofs.Common.{◌≡◌, ℕ, ◌+◌, ◌<◌, ◌≤◌, Bool, true, false, cond, ◌||◌, ◌&&◌, not, List, [], ◌∷◌, length, map, Some, None, refl, sym, ◌∙◌, ap, arith, inl, inr, ◌⊎◌}
-use Rattle.std.specs.Prelude.{◌==◌, All, slice_index_or, is_some, unwrap_or}
-use Rattle.std.proofs.lemmas.List.Elements.{All-head, All-tail, All-nil, All-cons, All-weaker}
-use Rattle.std.proofs.lemmas.List.FromFn.{length-map-range_with_len}
-use Rattle.std.proofs.Math.ListN.{get_or-eq_default}
-use Rattle.std.proofs.lemmas.List.Sums.{list_all-from_AllPass}
-use Rattle.std.proofs.lemmas.List.Folds.{list_any_at, list_all-append}
-use Rattle.std.proofs.lemmas.Bool.{cases_lt, ne_eqb, eq-eqb, both_ways, true_from_ne_false}
-use Rattle.assign.specs.Sets.{has, Rises}
-use Rattle.assign.specs.Assignment.{value_of, value_beside, assigned, covers, tuple_on, variables_of}
-use Rattle.language.specs.declared.candidates.Candidate.{Candidate}
-use Rattle.rel_table.specs.Relation.{holds}
-use Rattle.language.specs.Language.{Language, IsLanguage, variable_count, relations_on, violates, accepts}
-use Rattle.language.specs.Answers.{IsNetwork, has_scope}
-use Rattle.language.specs.TellingApart.{Choice, allows}
-use Rattle.language.specs.Scenes.{scene_of, on_scope}
-use Rattle.language.proofs.Beside.{value_of_assigned, scope_rises}
-use Rattle.session_laws.specs.Session.{learn}
-use Rattle.language.proofs.Covered.{only_there, rejected_on, none_on}
-use Rattle.assign.specs.SetLemmas.{set_where-same}
-use Rattle.assign.proofs.Masks.{canonical}
+use Rattle.session_laws.proofs.Prelude.{◌≡◌, ℕ, ◌+◌, ◌<◌, ◌≤◌, Bool, true, false, cond, ◌||◌, ◌&&◌, not, List, [], ◌∷◌, length, map, Some, None, refl, sym, ◌∙◌, ap, arith, inl, inr, ◌⊎◌, ◌==◌, All, slice_index_or, is_some, unwrap_or, All-head, All-tail, All-nil, All-cons, All-weaker, length-map-range_with_len, get_or-eq_default, list_all-from_AllPass, list_any_at, list_all-append, cases_lt, ne_eqb, eq-eqb, both_ways, true_from_ne_false, has, Rises, value_of, value_beside, assigned, covers, tuple_on, variables_of, Candidate, holds, Language, IsLanguage, variable_count, relations_on, violates, accepts, IsNetwork, has_scope, Choice, allows, scene_of, on_scope, value_of_assigned, scope_rises, learn, only_there, rejected_on, none_on, set_where-same, canonical}
 
 -- ---- the values of such a question
 

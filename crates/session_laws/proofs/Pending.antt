@@ -1,31 +1,5 @@
 -- What is left to walk of an example: each candidate that it violates and that may still be learned lies within a set that waits.
-use Rattle.std.proofs.Common.{◌≡◌, ℕ, zero, suc, ◌*◌, ◌<◌, Bool, true, false, ◌||◌, ◌&&◌, not, List, [], ◌∷◌, ◌++◌, length, Option, Some, None, refl, sym, ◌∙◌, ap, subst, arith, inl, inr, ◌⊎◌}
-use Rattle.std.specs.Prelude.{◌==◌, Any, AllPairs, Contains, slice_index_or, position, option_map, option_and_then}
-use Rattle.std.specs.List.{list_any}
-use Rattle.std.proofs.lemmas.List.{get_or_default}
-use Rattle.std.proofs.lemmas.List.Elements.{All-nil}
-use Rattle.std.proofs.lemmas.List.Folds.{list_any-append, list_any_at, Any-from_list_any}
-use Rattle.std.proofs.lemmas.Bool.{cases_eq, cases_order, and_parts, and_from, and_left, or_cases, or_parts, or_left, or_right, or_from, both_ways, not_from_false, not-true, eqb-true, eq-eqb, false_from_ne_true, true_from_ne_false}
-use Rattle.language.specs.declared.candidates.Candidate.{Candidate}
-use Rattle.assign.specs.declared.events.Plan.{Plan}
-use Rattle.assign.specs.declared.events.Plan.TheVariants.{Scopes, Quacq, Multi}
-use Rattle.assign.specs.Sets.{numbers, has, is_within, is_same, without, Rises}
-use Rattle.assign.specs.Assignment.{Assignment, restrict}
-use Rattle.assign.specs.Events.{Answer}
-use Rattle.assign.specs.SetLemmas.{has-set_where}
-use Rattle.language.specs.Language.{Language, IsLanguage, IsCandidate, candidates, variable_count, scope_of, violates}
-use Rattle.language.specs.Answers.{IsNetwork, IsNoOn, has_scope, agrees, is_struck, kept}
-use Rattle.language.proofs.Accepts.{accepted_at}
-use Rattle.language.proofs.Covered.{denied, same_scope}
-use Rattle.language.proofs.Lists.{find_all}
-use Rattle.language.proofs.Members.{any-filter, any-map, any_candidate, any_number}
-use Rattle.find_scope.specs.Halving.{Halved, Wants, Got, halve}
-use Rattle.find_scope.proofs.Got.{sub_within, within_sub}
-use Rattle.language.specs.TellingApart.{Choice, splitting_tuple, after_reply, remaining}
-use Rattle.language.specs.Scenes.{scene_of, on_scope, free_choices, violated_choices}
-use Rattle.session_laws.specs.Walk.{Walk, WalkEnd, Ended, Capped, Turn, Asks, violates_some, learned_within, parts_without, take_set, next_turn}
-use Rattle.session_laws.specs.Session.{State, Idle, Halving, Choosing, Walking, Over, At, MOST_SETS, next_scope, learn, at_turn, go_on, settle_choices, chosen, begin_choosing, found, with_quiet_replies, halved, settle_halving, is_just, replied, replied_tuple, on_scope_asked, begun, is_lawful, step, state_after, end_in}
-use Rattle.session_laws.specs.Laws.{IsWalked, EndedIsWalked}
+use Rattle.session_laws.proofs.Prelude.{◌≡◌, ℕ, zero, suc, ◌*◌, ◌<◌, Bool, true, false, ◌||◌, ◌&&◌, not, List, [], ◌∷◌, ◌++◌, length, Option, Some, None, refl, sym, ◌∙◌, ap, subst, arith, inl, inr, ◌⊎◌, ◌==◌, Any, AllPairs, Contains, slice_index_or, position, option_map, option_and_then, list_any, get_or_default, All-nil, list_any-append, list_any_at, Any-from_list_any, cases_eq, cases_order, and_parts, and_from, and_left, or_cases, or_parts, or_left, or_right, or_from, both_ways, not_from_false, not-true, eqb-true, eq-eqb, false_from_ne_true, true_from_ne_false, Candidate, Plan, Scopes, Quacq, Multi, numbers, has, is_within, is_same, without, Rises, Assignment, restrict, Answer, has-set_where, Language, IsLanguage, IsCandidate, candidates, variable_count, scope_of, violates, IsNetwork, IsNoOn, has_scope, agrees, is_struck, kept, accepted_at, denied, same_scope, find_all, any-filter, any-map, any_candidate, any_number, Halved, Wants, Got, halve, sub_within, within_sub, Choice, splitting_tuple, after_reply, remaining, scene_of, on_scope, free_choices, violated_choices, Walk, WalkEnd, Ended, Capped, Turn, Asks, violates_some, learned_within, parts_without, take_set, next_turn, State, Idle, Halving, Choosing, Walking, Over, At, MOST_SETS, next_scope, learn, at_turn, go_on, settle_choices, chosen, begin_choosing, found, with_quiet_replies, halved, settle_halving, is_just, replied, replied_tuple, on_scope_asked, begun, is_lawful, step, state_after, end_in, IsWalked, EndedIsWalked}
 use Rattle.session_laws.proofs.Restrict.{restrict_all, rises_range, violates_restrict, rising_scope, below_count, has_all}
 use Rattle.session_laws.proofs.Lists.{any_imp}
 use Rattle.session_laws.proofs.Gone.{struck_now}

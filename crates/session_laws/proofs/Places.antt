@@ -1,20 +1,5 @@
 -- Each question has a place, and no session is stuck.
-use Rattle.std.proofs.Common.{◌≡◌, ℕ, ◌*◌, Bool, true, false, List, [], ◌∷◌, ◌++◌, length, Option, Some, None, refl, ◌∙◌, ap, subst}
-use Rattle.std.specs.Prelude.{position, option_map, is_some}
-use Rattle.language.specs.declared.candidates.Candidate.{Candidate}
-use Rattle.assign.specs.declared.events.Plan.{Plan}
-use Rattle.assign.specs.declared.events.Plan.TheVariants.{Scopes, Quacq, Multi}
-use Rattle.assign.specs.Sets.{numbers, is_same}
-use Rattle.assign.specs.Assignment.{Assignment, restrict}
-use Rattle.language.specs.Language.{Language, variable_count}
-use Rattle.assign.specs.Events.{Answer}
-use Rattle.language.specs.Answers.{kept}
-use Rattle.find_scope.specs.Halving.{Halved, Wants, Got, halve}
-use Rattle.language.specs.TellingApart.{Choice, splitting_tuple, remaining}
-use Rattle.session_laws.specs.Walk.{Walk, Turn, Asks, Ends, next_turn}
-use Rattle.session_laws.specs.Session.{State, Idle, Halving, Choosing, Walking, Over, MOST_SETS, wanted_set, open_question, next_scope, learn, at_turn, go_on, settle_choices, chosen, begin_choosing, found, with_quiet_replies, halved, settle_halving, if_passes, is_just, replied, replied_tuple, on_scope_asked, begun, step}
-use Rattle.language.specs.Scenes.{scene_of, on_scope, free_choices, violated_choices}
-use Rattle.session_laws.specs.Laws.{QuestionsHavePlaces, NeverStuck}
+use Rattle.session_laws.proofs.Prelude.{◌≡◌, ℕ, ◌*◌, Bool, true, false, List, [], ◌∷◌, ◌++◌, length, Option, Some, None, refl, ◌∙◌, ap, subst, position, option_map, is_some, Candidate, Plan, Scopes, Quacq, Multi, numbers, is_same, Assignment, restrict, Language, variable_count, Answer, kept, Halved, Wants, Got, halve, Choice, splitting_tuple, remaining, Walk, Turn, Asks, Ends, next_turn, State, Idle, Halving, Choosing, Walking, Over, MOST_SETS, wanted_set, open_question, next_scope, learn, at_turn, go_on, settle_choices, chosen, begin_choosing, found, with_quiet_replies, halved, settle_halving, if_passes, is_just, replied, replied_tuple, on_scope_asked, begun, step, scene_of, on_scope, free_choices, violated_choices, QuestionsHavePlaces, NeverStuck}
 use Rattle.session_laws.proofs.Folds.{passed, assignment_same, reached}
 use Rattle.session_laws.proofs.States.{halving_asks}
 

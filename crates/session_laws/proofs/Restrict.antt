@@ -1,27 +1,7 @@
 -- An assignment on a set alone.
-use Rattle.std.proofs.Common.{◌≡◌, ℕ, zero, suc, ◌+◌, ◌<◌, ◌≤◌, Bool, true, false, cond, ◌||◌, ◌&&◌, not, List, [], ◌∷◌, length, Option, Some, None, refl, sym, ◌∙◌, ap, subst, arith, inl, inr, ◌⊎◌}
-use Rattle.std.specs.Prelude.{◌==◌, All, Any, slice_index_or, is_some, unwrap_or, nat_lt}
-use Rattle.std.specs.List.{list_any, position, position_or_len, range_with_len}
+use Rattle.session_laws.proofs.Prelude.{◌≡◌, ℕ, zero, suc, ◌+◌, ◌<◌, ◌≤◌, Bool, true, false, cond, ◌||◌, ◌&&◌, not, List, [], ◌∷◌, length, Option, Some, None, refl, sym, ◌∙◌, ap, subst, arith, inl, inr, ◌⊎◌, ◌==◌, All, Any, slice_index_or, is_some, unwrap_or, nat_lt, list_any, position_or_len, range_with_len, All-head, All-tail, All-map, get_or-map-range_with_len, length-map-range_with_len, fill_by_all, get_or-eq_default, AllPass-from_list_all, Any-from_list_any, cases_lt, and_parts, and_from, or_cases, both_ways, eq-eqb, eqb-true, lt-ltb, cond-true, Candidate, numbers, has, is_within, is_same, Rises, Assignment, value_of, restrict, covers, tuple_on, is_complete, variables_of, holds, Language, IsLanguage, IsCandidate, variable_count, scope_of, relation_of, violates, accepts, IsQuestion, is_ranged, IsNetwork, set_where-same, canonical, any_number, Sub, within_sub, sub_within, accepted_at, accepted_from, scope_rises}
+use Rattle.std.specs.List.{position}
 use Rattle.std.specs.Option.{ForSome}
-use Rattle.std.proofs.lemmas.List.Elements.{All-head, All-tail, All-map}
-use Rattle.std.proofs.lemmas.List.FromFn.{get_or-map-range_with_len, length-map-range_with_len, fill_by_all}
-use Rattle.std.proofs.Math.ListN.{get_or-eq_default}
-use Rattle.std.proofs.lemmas.List.Sums.{AllPass-from_list_all}
-use Rattle.std.proofs.lemmas.List.Folds.{Any-from_list_any}
-use Rattle.std.proofs.lemmas.Bool.{cases_lt, and_parts, and_from, or_cases, both_ways, eq-eqb, eqb-true, lt-ltb, cond-true}
-use Rattle.language.specs.declared.candidates.Candidate.{Candidate}
-use Rattle.assign.specs.Sets.{numbers, has, is_within, is_same, Rises}
-use Rattle.assign.specs.Assignment.{Assignment, value_of, restrict, covers, tuple_on, is_complete, variables_of}
-use Rattle.rel_table.specs.Relation.{holds}
-use Rattle.language.specs.Language.{Language, IsLanguage, IsCandidate, variable_count, scope_of, relation_of, violates, accepts, IsQuestion, is_ranged}
-use Rattle.language.specs.Answers.{IsNetwork}
-use Rattle.assign.specs.SetLemmas.{set_where-same}
-use Rattle.assign.proofs.Masks.{canonical}
-use Rattle.language.proofs.Members.{any_number}
-use Rattle.find_scope.proofs.Runs.{Sub}
-use Rattle.find_scope.proofs.Got.{within_sub, sub_within}
-use Rattle.language.proofs.Accepts.{accepted_at, accepted_from}
-use Rattle.language.proofs.Beside.{scope_rises}
 
 -- ---- sets
 

@@ -1,21 +1,5 @@
 -- Plan Scopes: where no scope is next, the network is covered, and no session is over.
-use Rattle.std.proofs.Common.{◌≡◌, ℕ, suc, ◌<◌, Bool, true, false, ◌&&◌, not, List, [], ◌∷◌, ◌++◌, length, Option, Some, None, refl, sym, ◌∙◌, ap, subst, inl, inr, ◌⊎◌}
-use Rattle.std.specs.Prelude.{All, is_some, option_map, option_and_then}
-use Rattle.std.proofs.lemmas.Bool.{cases_Bool, and_from, both_ways, false_from_ne_true, true_from_ne_false, not_from_false}
-use Rattle.language.specs.declared.candidates.Candidate.{Candidate}
-use Rattle.assign.specs.Sets.{numbers}
-use Rattle.assign.specs.Assignment.{Assignment, covers, tuple_on}
-use Rattle.rel_table.specs.Relation.{holds, tuples}
-use Rattle.language.specs.Language.{Language, IsLanguage, IsCandidate, IsImplied, scope_of, relation_of}
-use Rattle.assign.specs.Events.{Answer}
-use Rattle.language.specs.Answers.{has_scope, is_struck, kept}
-use Rattle.language.specs.TellingApart.{Choice, allows, tells_apart, splitting_tuple, after_reply}
-use Rattle.assign.specs.declared.events.Plan.TheVariants.{Scopes}
-use Rattle.language.proofs.Beside.{tuple_fits}
-use Rattle.session_laws.specs.Session.{State, Idle, Halving, Choosing, Walking, Over, At, next_scope, settle_choices, chosen, is_just, replied, replied_tuple, on_scope_asked, step, state_after}
-use Rattle.language.specs.Scenes.{scene_of, on_scope, free_choices}
-use Rattle.session_laws.specs.Laws.{ScopesAreCovered, ScopesNeverOver}
-use Rattle.language.proofs.Members.{any_tuple, any_number, find_none}
+use Rattle.session_laws.proofs.Prelude.{◌≡◌, ℕ, suc, ◌<◌, Bool, true, false, ◌&&◌, not, List, [], ◌∷◌, ◌++◌, length, Option, Some, None, refl, sym, ◌∙◌, ap, subst, inl, inr, ◌⊎◌, All, is_some, option_map, option_and_then, cases_Bool, and_from, both_ways, false_from_ne_true, true_from_ne_false, not_from_false, Candidate, numbers, Assignment, covers, tuple_on, holds, tuples, Language, IsLanguage, IsCandidate, IsImplied, scope_of, relation_of, Answer, has_scope, is_struck, kept, Choice, allows, tells_apart, splitting_tuple, after_reply, Scopes, tuple_fits, State, Idle, Halving, Choosing, Walking, Over, At, next_scope, settle_choices, chosen, is_just, replied, replied_tuple, on_scope_asked, step, state_after, scene_of, on_scope, free_choices, ScopesAreCovered, ScopesNeverOver, any_tuple, any_number, find_none}
 use Rattle.session_laws.proofs.Lists.{is_none_option}
 use Rattle.session_laws.proofs.Choices.{kept_is_choice, none_is_choice, IsSound, IsHalfway, reply_halfway, settled, begin_halfway, nothing_yet}
 use Rattle.session_laws.proofs.Folds.{passed, asked_is, reached}

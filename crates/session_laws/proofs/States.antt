@@ -1,29 +1,7 @@
 -- What holds of every state of a session, whatever its plan.
-use Rattle.std.proofs.Common.{◌≡◌, ℕ, zero, suc, ◌*◌, ◌<◌, Bool, true, false, cond, ◌&&◌, not, List, [], ◌∷◌, ◌++◌, length, Option, Some, None, refl, sym, ◌∙◌, ap, subst, arith, inl, inr, ◌⊎◌}
-use Rattle.std.specs.Prelude.{◌==◌, All, slice_index_or, position, option_map, option_and_then, find}
-use Rattle.std.specs.Bool.{beq}
-use Rattle.std.proofs.lemmas.List.Elements.{All-map, All-nil, All-cons, All-append}
-use Rattle.std.proofs.lemmas.List.Folds.{Any-from_list_any, list_any_at}
-use Rattle.std.proofs.lemmas.Bool.{cases_Bool, and_parts, and_from, and_left, both_ways, not_from_false, not-false, eqb-true, eq-eqb}
-use Rattle.language.specs.declared.candidates.Candidate.{Candidate}
-use Rattle.assign.specs.declared.events.Plan.{Plan}
-use Rattle.assign.specs.declared.events.Plan.TheVariants.{Scopes, Quacq, Multi}
-use Rattle.assign.specs.Sets.{numbers, is_within, is_same, without, Rises}
-use Rattle.assign.specs.Assignment.{Assignment, restrict, is_complete}
-use Rattle.language.specs.Language.{Language, IsLanguage, IsCandidate, IsImplied, candidates, variable_count, scope_of, is_question, violates, accepts}
-use Rattle.assign.specs.Events.{Answer}
-use Rattle.language.specs.Answers.{NoneAgrees, has_scope, is_struck, kept}
-use Rattle.find_scope.specs.Halving.{Halved, Wants, Got, halve}
-use Rattle.language.specs.TellingApart.{Choice, splitting_tuple, after_reply, remaining}
-use Rattle.language.proofs.Accepts.{accepted_at, accepted_from}
-use Rattle.session_laws.specs.Walk.{Walk, Turn, Asks, violates_some, learned_within, parts_without, take_set, next_turn}
-use Rattle.session_laws.specs.Session.{State, Idle, Halving, Choosing, Walking, Over, At, MOST_SETS, wanted_set, next_scope, learn, at_turn, go_on, settle_choices, chosen, begin_choosing, found, is_quiet, with_quiet_replies, halved, settle_halving, is_just, replied, replied_tuple, on_scope_asked, begun, is_lawful, step, state_after}
-use Rattle.language.specs.Scenes.{scene_of, on_scope, free_choices, violated_choices}
-use Rattle.session_laws.specs.Laws.{IsAsking, HalvingAsks, IdleIsInStep, ImpliedIsCovered, OverMeansNone}
+use Rattle.session_laws.proofs.Prelude.{◌≡◌, ℕ, zero, suc, ◌*◌, ◌<◌, Bool, true, false, cond, ◌&&◌, not, List, [], ◌∷◌, ◌++◌, length, Option, Some, None, refl, sym, ◌∙◌, ap, subst, arith, inl, inr, ◌⊎◌, ◌==◌, All, slice_index_or, position, option_map, option_and_then, find, beq, All-map, All-nil, All-cons, All-append, Any-from_list_any, list_any_at, cases_Bool, and_parts, and_from, and_left, both_ways, not_from_false, not-false, eqb-true, eq-eqb, Candidate, Plan, Scopes, Quacq, Multi, numbers, is_within, is_same, without, Rises, Assignment, restrict, is_complete, Language, IsLanguage, IsCandidate, IsImplied, candidates, variable_count, scope_of, is_question, violates, accepts, Answer, NoneAgrees, has_scope, is_struck, kept, Halved, Wants, Got, halve, Choice, splitting_tuple, after_reply, remaining, accepted_at, accepted_from, Walk, Turn, Asks, violates_some, learned_within, parts_without, take_set, next_turn, State, Idle, Halving, Choosing, Walking, Over, At, MOST_SETS, wanted_set, next_scope, learn, at_turn, go_on, settle_choices, chosen, begin_choosing, found, is_quiet, with_quiet_replies, halved, settle_halving, is_just, replied, replied_tuple, on_scope_asked, begun, is_lawful, step, state_after, scene_of, on_scope, free_choices, violated_choices, IsAsking, HalvingAsks, IdleIsInStep, ImpliedIsCovered, OverMeansNone, rises_where, find_none, any-filter, any_candidate}
 use Rattle.session_laws.proofs.Fuel.{fuel_is_enough}
-use Rattle.assign.proofs.Masks.{rises_where}
 use Rattle.session_laws.proofs.Restrict.{violates_restrict, restrict_all, rises_range}
-use Rattle.language.proofs.Members.{find_none, any-filter, any_candidate}
 use Rattle.session_laws.proofs.Folds.{same_assignment, passed, asked_is, reached}
 use Rattle.session_laws.proofs.Choices.{IsSound, IsHalfway, begin_halfway, reply_halfway, settled, nothing_yet}
 use Rattle.session_laws.proofs.Halving.{IsHalving, sound_more, begin_halving, reply_halving, settled_halving}

@@ -1,17 +1,5 @@
 -- What a step does to the kept candidates and to a halving, as equations for a program's loop.
-use Rattle.std.proofs.Common.{◌≡◌, ℕ, zero, suc, ◌*◌, Bool, true, false, cond, ◌||◌, ◌&&◌, not, List, [], ◌∷◌, ◌++◌, length, refl, sym, ◌∙◌, ap}
-use Rattle.std.specs.Prelude.{◌==◌}
-use Rattle.std.specs.List.{filter}
-use Rattle.std.proofs.lemmas.List.Folds.{list_any-append}
-use Rattle.std.proofs.lemmas.Bool.{both_ways}
-use Rattle.language.specs.declared.candidates.Candidate.{Candidate}
-use Rattle.assign.specs.Assignment.{Assignment}
-use Rattle.language.specs.Language.{Language, candidates, violates}
-use Rattle.assign.specs.Events.{Answer}
-use Rattle.language.specs.Answers.{has_scope, is_struck, kept}
-use Rattle.find_scope.specs.Halving.{halve}
-use Rattle.session_laws.specs.Session.{is_quiet, with_quiet_replies, halved}
-use Rattle.session_laws.specs.Laws.{KeptSteps, SettleSteps}
+use Rattle.session_laws.proofs.Prelude.{◌≡◌, ℕ, zero, suc, ◌*◌, Bool, true, false, cond, ◌||◌, ◌&&◌, not, List, [], ◌∷◌, ◌++◌, length, refl, sym, ◌∙◌, ap, ◌==◌, filter, list_any-append, both_ways, Candidate, Assignment, Language, candidates, violates, Answer, has_scope, is_struck, kept, halve, is_quiet, with_quiet_replies, halved, KeptSteps, SettleSteps}
 use Rattle.session_laws.proofs.Fuel.{fuel_is_enough}
 
 -- ---- kept candidates

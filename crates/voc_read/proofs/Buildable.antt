@@ -1,20 +1,9 @@
 -- Of a frame, of relations and of scopes that nothing refuses a language is built.
-use Rattle.std.proofs.Common.{◌≡◌, ℕ, zero, ◌^◌, ◌<◌, ◌≤◌, ◌||◌, Bool, true, false, cond, List, [], ◌∷◌, length, map, get_or, Option, refl, sym, ◌∙◌, ap, subst, arith, ◌⊎◌, inl, inr}
-use Rattle.std.specs.Prelude.{All, AllPairs, ◌==◌}
-use Rattle.std.specs.List.{list_any, filter}
-use Rattle.std.proofs.lemmas.Bool.{cases_Bool, eqb-true}
-use Rattle.std.proofs.lemmas.List.{length-map, get_or-map}
-use Rattle.std.proofs.lemmas.List.Folds.{Any-from_list_any}
-use Rattle.std.proofs.lemmas.List.Elements.{All-map, All-weaker}
-use Rattle.rel_table.specs.Relation.{Relation, meet, IsClosing}
-use Rattle.rel_table.proofs.Growing.{one_given}
-use Rattle.language.specs.Language.{Language, Given, of_arity, given_on, given_within, relations_on, scope_at, IsLanguage, IsScope, AreApart, AreNames}
-use Rattle.language.specs.Ranges.{widened, inside}
-use Rattle.language.specs.declared.ranges.ValueRange.{ValueRange}
-use Rattle.language.specs.Building.{Frame, IsFrame, IsBuilt, has_arity, has_too_many, relations_given, relations_of_arity, scopes_of}
+use Rattle.voc_read.proofs.Prelude.{◌≡◌, ℕ, zero, ◌^◌, ◌<◌, ◌≤◌, ◌||◌, Bool, true, false, cond, List, [], ◌∷◌, length, map, get_or, Option, refl, sym, ◌∙◌, ap, subst, arith, ◌⊎◌, inl, inr, All, AllPairs, ◌==◌, list_any, filter, cases_Bool, eqb-true, length-map, get_or-map, Any-from_list_any, All-map, All-weaker, Relation, meet, IsClosing, one_given, Language, Given, of_arity, given_on, given_within, relations_on, scope_at, IsLanguage, IsScope, AreNames, widened, inside, ValueRange, Frame, IsFrame, IsBuilt, has_arity, has_too_many, relations_given, relations_of_arity, over-meet, widened-over}
+use Rattle.language.specs.Language.{AreApart}
+use Rattle.language.specs.Building.{scopes_of}
 use Rattle.language.specs.Built.{given_at}
 use Rattle.language.proofs.Sizes.{of_arity_sized, closed_sized}
-use Rattle.language.proofs.Widening.{over-meet, widened-over}
 use Rattle.language.proofs.Within.{length-widened}
 use Rattle.voc_read.proofs.ClosingsMade.{IsClosed, closing_of, few_closed, few_images}
 

@@ -1,19 +1,12 @@
 -- Relations of one length have a closing.
-use Rattle.std.proofs.Common.{◌≡◌, ℕ, zero, ◌<◌, ◌≤◌, Bool, true, false, cond, nat_lt, List, [], ◌∷◌, ◌++◌, length, map, get_or, refl, sym, ◌∙◌, subst, arith, ◌⊎◌, inl, inr}
-use Rattle.std.specs.Prelude.{All, AllPairs, Contains}
-use Rattle.std.proofs.lemmas.Bool.{cases_Bool, both_ways, ltb-false, cases_lt}
-use Rattle.std.proofs.lemmas.List.Elements.{All-nil, All-cons, All-head, All-tail, All-append, All-weaker, All-map, All-contains, All-contains_itself, Contains-append_left, Contains-append_right, Contains-append_cases, Contains-push, Contains-push_cases}
+use Rattle.voc_read.proofs.Prelude.{◌≡◌, ℕ, zero, ◌<◌, ◌≤◌, Bool, true, false, cond, nat_lt, List, [], ◌∷◌, ◌++◌, length, map, get_or, refl, sym, ◌∙◌, subst, arith, ◌⊎◌, inl, inr, All, AllPairs, Contains, cases_Bool, both_ways, ltb-false, cases_lt, All-nil, All-cons, All-head, All-tail, All-append, All-weaker, All-map, All-contains, All-contains_itself, Contains-append_left, Contains-append_right, Contains-append_cases, Contains-push, Contains-push_cases, Relation, is_above, meet, IsIntersection, IsClosing, grown, closing_more, contains_map, image_of, meet_comm, wider, cons_cases, no_longer, is_same_relation, is_listed, without_repeats, intersections, not_more}
 use Rattle.std.proofs.lemmas.List.Kept.{AllPairs-cons}
-use Rattle.rel_table.specs.Relation.{Relation, is_above, meet, IsIntersection, IsClosing}
 use Rattle.rel_table.specs.InOrder.{Above, IsInOrder}
 use Rattle.rel_table.proofs.Falling.{above_above, other_above}
-use Rattle.rel_table.proofs.Growing.{grown, closing_more, contains_map, image_of, meet_comm, wider, cons_cases, no_longer}
 use Rattle.rel_table.proofs.Meets.{length-meet}
 use Rattle.rel_table.proofs.Pairwise.{no_pairs, pairs_head, pairs_tail}
 use Rattle.rel_table.proofs.Tables.{not_above_itself}
-use Rattle.language.specs.Building.{is_same_relation, is_listed, without_repeats, intersections}
 use Rattle.language.proofs.Repeats.{same_is, same_itself, contains_listed}
-use Rattle.language.proofs.Widening.{not_more}
 
 abbrev AreLong : ℕ → List Relation → Type 0
 AreLong n relations = All (λ (r : Relation). length r ≡ n) relations

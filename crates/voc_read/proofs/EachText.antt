@@ -1,33 +1,8 @@
 -- Each list of bytes is the text of a language, or is refused.
-use Rattle.std.proofs.Common.{◌≡◌, ℕ, ◌≤◌, ◌==◌, Bool, true, false, cond, ◌&&◌, nat_lt, List, [], ◌∷◌, length, get_or, Option, Some, None, ℤ, pos, negsuc, Result, Ok, Err, refl, ap, ◌∙◌, subst, arith, ◌⊎◌, inl, inr}
-use Rattle.std.specs.Prelude.{All, int_le, ◌≤ℤ◌, ◌<ℤ◌, ◌+ℤ◌, ◌-ℤ◌, unsigned_abs}
-use Rattle.std.specs.Bool.{passes}
-use Rattle.std.specs.List.{range_with_len}
-use Rattle.std.specs.Option.{ok_or, option_map, option_or}
-use Rattle.std.proofs.lemmas.Bool.{and_parts, ltb-false}
-use Rattle.std.proofs.lemmas.Int.{ints}
-use Rattle.std.proofs.lemmas.List.Elements.{All-head, All-tail, All-map}
-use Rattle.std.proofs.lemmas.List.FromFn.{length-map-range_with_len}
-use Rattle.serde_json.specs.Data.{Items}
-use Rattle.language.specs.Language.{Language, Given}
-use Rattle.language.specs.Ranges.{IsRange}
-use Rattle.language.specs.Building.{IsFrame, AreKnown, is_domain, values_between, range_between, frame_refusal, build_refusal, closing_refusal, scopes_refusal, scopes_of as scopes_built, has_too_many}
-use Rattle.language.specs.declared.ranges.ValueRange.{ValueRange}
-use Rattle.language.specs.declared.parts.LangFault.{LangFault}
+use Rattle.voc_read.proofs.Prelude.{◌≡◌, ℕ, ◌≤◌, ◌==◌, Bool, true, false, cond, ◌&&◌, nat_lt, List, [], ◌∷◌, length, get_or, Option, Some, None, ℤ, pos, negsuc, Result, Ok, Err, refl, ap, ◌∙◌, subst, arith, ◌⊎◌, inl, inr, All, int_le, ◌≤ℤ◌, ◌<ℤ◌, ◌+ℤ◌, ◌-ℤ◌, unsigned_abs, passes, range_with_len, ok_or, option_map, option_or, and_parts, ltb-false, ints, All-head, All-tail, All-map, length-map-range_with_len, Items, Language, Given, IsRange, IsFrame, AreKnown, is_domain, values_between, range_between, frame_refusal, build_refusal, closing_refusal, scopes_refusal, scopes_built, has_too_many, ValueRange, LangFault, VocFault, TooLong, NotJson, Lang, then_on, unless, EachIsReadOrRefused, names_refusal, OutlineData, held_by, outline_of, VariableRange, values_for, ranges_of, IsKnown, given_of, scopes_from, scopes_of, Parts, outline_refusal, parts_from, parts_in, parts_of, json_of, frame_of, MOST_VOCABULARY, refusal_after, refusal_of_vocabulary, IsLanguageOf, lang_wants, wants_memory}
 use Rattle.language.specs.declared.parts.LangFault.TheVariants.{TooManyVariables, BadDomain, TooManyScopes}
 use Rattle.language.proofs.Arities.{each_arity}
 use Rattle.language.proofs.Lawful.{are_scopes, known_in, taken}
-use Rattle.voc_read.specs.declared.fault.VocFault.{VocFault}
-use Rattle.voc_read.specs.declared.fault.VocFault.TheVariants.{TooLong, NotJson, Lang}
-use Rattle.voc_read.specs.Answers.{then_on, unless}
-use Rattle.voc_read.specs.Laws.{EachIsReadOrRefused}
-use Rattle.voc_read.specs.Names.{names_refusal}
-use Rattle.voc_read.specs.Outline.{OutlineData, held_by, outline_of}
-use Rattle.voc_read.specs.Ranges.{VariableRange, values_for, ranges_of, IsKnown}
-use Rattle.voc_read.specs.Relations.{given_of}
-use Rattle.voc_read.specs.Scopes.{scopes_from, scopes_of}
-use Rattle.voc_read.specs.Vocabulary.{Parts, outline_refusal, parts_from, parts_in, parts_of, json_of, frame_of, MOST_VOCABULARY, refusal_after, refusal_of_vocabulary, IsLanguageOf}
-use Rattle.voc_read.specs.Want.{lang_wants, wants_memory}
 use Rattle.voc_read.proofs.Buildable.{IsBuildable, built}
 use Rattle.voc_read.proofs.Faults.{NoWant, OfErr, real, build_read}
 use Rattle.voc_read.proofs.KnownRanges.{are_known}

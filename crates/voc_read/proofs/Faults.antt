@@ -1,38 +1,12 @@
 -- No bytes are refused for want of memory.
-use Rattle.std.proofs.Common.{◌≡◌, ℕ, ◌+◌, ◌^◌, ◌&&◌, Bool, true, false, cond, nat_eq, nat_le, nat_lt, not, List, [], ◌∷◌, length, Option, Some, None, ℤ, pos, negsuc, Result, Ok, Err, refl}
-use Rattle.std.specs.Prelude.{codes, find, position}
-use Rattle.std.specs.List.{list_all}
-use Rattle.std.specs.Option.{ok_or, option_map, option_map_or, option_or}
-use Rattle.serde_json.specs.Data.{Data, Items, no_items, item, Members}
-use Rattle.serde_json.specs.Find.{as_object, as_array, as_str, get}
-use Rattle.rel_table.specs.Made.{size_for, is_shown, tuple_fault, first_fault}
+use Rattle.voc_read.proofs.Prelude.{◌≡◌, ℕ, ◌+◌, ◌^◌, ◌&&◌, Bool, true, false, cond, nat_eq, nat_le, nat_lt, not, List, [], ◌∷◌, length, Option, Some, None, ℤ, pos, negsuc, Result, Ok, Err, refl, codes, find, position, list_all, ok_or, option_map, option_map_or, option_or, Data, Items, no_items, item, Members, as_object, as_array, as_str, get, size_for, is_shown, tuple_fault, first_fault, TableFault, Truth, first_too_big, formula_in, FormulaFault, TooBig, Given, is_name, values_between, frame_refusal, is_domain, is_ordered, are_nested, first_pair, has_arity, has_too_many, scope_list_refusal, scopes_refusal, closing_refusal, build_refusal, scopes_built, LangFault, VocFault, TooLong, NotJson, Missing, WrongKind, UnknownKey, BadName, NameRepeated, BadRelName, RelRepeated, UnknownVariable, RangeName, BadRange, RangeRepeated, Table, TableOf, Lang, then_on, unless, keys_refusal, has_other_key, under, names_refusal, first_bad, first_repeat, number_of, HeldData, OutlineData, held_by, outline_of, listed_under, ranges_under, is_all, vocabulary_keys, RangeData, range_data, bounds_refusal, range_for, range_of, ranges_from, ranged_names, ranges_refusal, ranges_of, RuleData, formula, one_of, stated_under, rule_in, relation_by, formula_of, RelationData, relation_keys, relation_data, counted_arity, small_arity, name_refusal, made_of, relation_of, relations_from, given_names, relation_names_refusal, given_of, numbers_of, scope_of, scopes_from, scopes_of, text_list, tuple_list, number_pair, whole_number, table_wants, lang_wants, wants_memory, outline_refusal, parts_from, parts_in, json_of, parts_of, MOST_VOCABULARY}
 use Rattle.rel_table.specs.declared.table.CloseFault.TheVariants as closing
-use Rattle.rel_table.specs.declared.table.TableFault.{TableFault}
 use Rattle.rel_table.specs.declared.table.TableFault.TheVariants as table
-use Rattle.rel_formula.specs.Formula.{Truth, first_too_big}
-use Rattle.rel_formula.specs.Reading.{formula_in}
-use Rattle.rel_formula.specs.declared.fault.FormulaFault.{FormulaFault}
-use Rattle.rel_formula.specs.declared.fault.TableOfFault.TheVariants.{TooBig}
-use Rattle.language.specs.Language.{Given, is_name}
-use Rattle.language.specs.Building.{values_between, frame_refusal, is_domain, is_ordered, are_nested, first_pair, has_arity, has_too_many, scope_list_refusal, scopes_refusal, closing_refusal, build_refusal, scopes_of as scopes_built}
-use Rattle.language.specs.declared.parts.LangFault.{LangFault}
 use Rattle.language.specs.declared.parts.LangFault.TheVariants as lang
 use Rattle.voc_read.specs.declared.fault.Spot.{Spot}
 use Rattle.voc_read.specs.declared.fault.Spot.TheVariants as spot
-use Rattle.voc_read.specs.declared.fault.VocFault.{VocFault}
-use Rattle.voc_read.specs.declared.fault.VocFault.TheVariants.{TooLong, NotJson, Missing, WrongKind, UnknownKey, BadName, NameRepeated, BadRelName, RelRepeated, UnknownVariable, RangeName, BadRange, RangeRepeated, Table, TableOf, Lang}
-use Rattle.voc_read.specs.Answers.{then_on, unless}
-use Rattle.voc_read.specs.Keys.{keys_refusal, has_other_key, under}
-use Rattle.voc_read.specs.Names.{names_refusal, first_bad, first_repeat, number_of}
-use Rattle.voc_read.specs.Outline.{HeldData, OutlineData, held_by, outline_of, listed_under, ranges_under, is_all, vocabulary_keys}
-use Rattle.voc_read.specs.Ranges.{RangeData, range_data, bounds_refusal, range_for, range_of, ranges_from, ranged_names, ranges_refusal, ranges_of}
-use Rattle.voc_read.specs.Rules.{RuleData, tuples, formula, one_of, stated_under, rule_in, relation_by, formula_of}
-use Rattle.voc_read.specs.Relations.{RelationData, relation_keys, relation_data, counted_arity, small_arity, name_refusal, made_of, relation_of, relations_from, given_names, relation_names_refusal, given_of}
-use Rattle.voc_read.specs.Scopes.{numbers_of, scope_of, scopes_from, scopes_of}
-use Rattle.voc_read.specs.Values.{text_list, tuple_list, number_pair, whole_number}
-use Rattle.voc_read.specs.Want.{table_wants, lang_wants, wants_memory}
+use Rattle.voc_read.specs.Rules.{tuples}
 use Rattle.voc_read.proofs.FormulaFaults.{formula_read, OfErr as OfFormulaErr}
-use Rattle.voc_read.specs.Vocabulary.{outline_refusal, parts_from, parts_in, json_of, parts_of, MOST_VOCABULARY}
 
 -- none is told, or one that isn't want of memory
 abbrev pub NoWant : {F : Type 0} → (F → Bool) → Option F → Type 0

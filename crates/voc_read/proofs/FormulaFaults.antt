@@ -1,19 +1,12 @@
 -- No value is refused as a formula for want of memory.
-use Rattle.std.proofs.Common.{◌≡◌, ℕ, ◌+◌, Bool, true, false, cond, nat_le, List, Option, Some, None, Result, Ok, Err, refl}
-use Rattle.std.specs.Option.{ok_or}
-use Rattle.serde_json.specs.Data.{Data, null, boolean, number, string, array, object, Items, no_items, item}
-use Rattle.serde_json.specs.Find.{as_i64, as_str}
-use Rattle.rel_formula.specs.declared.fault.FormulaFault.{FormulaFault}
+use Rattle.voc_read.proofs.Prelude.{◌≡◌, ℕ, ◌+◌, Bool, true, false, cond, nat_le, List, Option, Some, None, Result, Ok, Err, refl, ok_or, Data, null, boolean, number, string, array, object, Items, no_items, item, as_i64, as_str, FormulaFault, Term, Truth, limit_refusal, text_term, text_truth, truth_by, read_term, read_term_call, read_terms, read_truth, read_truth_call, read_truths, formula_in, formula_wants}
 use Rattle.rel_formula.specs.declared.fault.FormulaFault.TheVariants.{BadShape, BadOperator, BadPosition, TooDeep, TooManyNodes}
 use Rattle.rel_formula.specs.declared.step.Operator.{Operator}
 use Rattle.rel_formula.specs.declared.step.Operator.TheVariants as operator
 use Rattle.rel_formula.specs.declared.step.TruthOperator.{TruthOperator}
 use Rattle.rel_formula.specs.declared.step.TruthOperator.TheVariants as truth
 use Rattle.rel_formula.specs.Answers.{then_on, unless}
-use Rattle.rel_formula.specs.Formula.{Term, Truth}
 use Rattle.rel_formula.specs.Names.{position_of, operator_of, operator_in, operand_count, term_takes, truth_takes, as_term_operator, as_truth_operator, term_operator_in, truth_operator_in}
-use Rattle.rel_formula.specs.Reading.{limit_refusal, text_term, text_truth, truth_by, read_term, read_term_call, read_terms, read_truth, read_truth_call, read_truths, formula_in}
-use Rattle.voc_read.specs.Want.{formula_wants}
 
 -- a fault of the value
 abbrev pub OfErr : {A : Type 0} → Result A FormulaFault → Type 0

@@ -1,22 +1,6 @@
 -- Ranges that are read are ranges of the variables within the values, no two of one variable.
-use Rattle.std.proofs.Common.{◌≡◌, ℕ, ◌+◌, ◌<◌, Bool, true, false, cond, ◌&&◌, nat_lt, List, [], ◌∷◌, length, get_or, Option, Some, None, ℤ, pos, Result, Ok, Err, refl, sym, ap, ◌∙◌, subst, arith}
-use Rattle.std.specs.Prelude.{All, int_le, int_lt, ◌≤ℤ◌, ◌<ℤ◌, ◌+ℤ◌}
-use Rattle.std.specs.Bool.{passes}
-use Rattle.std.specs.List.{position_or_len}
-use Rattle.std.specs.Option.{ok_or, option_map}
-use Rattle.std.specs.Str.{bytes_eq}
-use Rattle.std.proofs.lemmas.List.{get_or-map, length-map}
-use Rattle.std.proofs.lemmas.List.Elements.{All-nil, All-cons}
+use Rattle.voc_read.proofs.Prelude.{◌≡◌, ℕ, ◌+◌, ◌<◌, Bool, true, false, cond, ◌&&◌, nat_lt, List, [], ◌∷◌, length, get_or, Option, Some, None, ℤ, pos, Result, Ok, Err, refl, sym, ap, ◌∙◌, subst, arith, All, int_le, int_lt, ◌≤ℤ◌, ◌<ℤ◌, ◌+ℤ◌, passes, position_or_len, ok_or, option_map, bytes_eq, get_or-map, length-map, All-nil, All-cons, same_Some, ltb-true, bytes_eq-Decides, Items, no_items, item, VocFault, RangeName, BadRange, RangeRepeated, then_on, unless, first_repeat, number_of, RangeData, VariableRange, range_data, is_value, range_for, range_of, ranges_from, ranged_names, ranges_refusal, ranges_of, IsKnown, AreApart}
 use Rattle.std.proofs.lemmas.List.Sums.{passes_at_first}
-use Rattle.std.proofs.lemmas.Option.{same_Some}
-use Rattle.std.proofs.lemmas.Bool.{ltb-true}
-use Rattle.std.proofs.lemmas.Slice.Eq.{bytes_eq-Decides}
-use Rattle.serde_json.specs.Data.{Items, no_items, item}
-use Rattle.voc_read.specs.declared.fault.VocFault.{VocFault}
-use Rattle.voc_read.specs.declared.fault.VocFault.TheVariants.{RangeName, BadRange, RangeRepeated}
-use Rattle.voc_read.specs.Answers.{then_on, unless}
-use Rattle.voc_read.specs.Names.{first_repeat, number_of}
-use Rattle.voc_read.specs.Ranges.{RangeData, VariableRange, range_data, is_value, range_for, range_of, ranges_from, ranged_names, ranges_refusal, ranges_of, IsKnown, AreApart}
 use Rattle.voc_read.proofs.NameForms.{apart}
 
 -- ---- a name's number

@@ -1,17 +1,6 @@
 -- Scopes that are read are lists of numbers of variables.
-use Rattle.std.proofs.Common.{◌≡◌, ℕ, ◌+◌, ◌<◌, Bool, true, false, cond, nat_lt, List, [], ◌∷◌, length, Option, Some, None, option_map, option_and_then, Result, Ok, Err, refl, sym, subst}
-use Rattle.std.specs.Prelude.{All}
-use Rattle.std.specs.List.{position_or_len}
-use Rattle.std.specs.Option.{ok_or}
-use Rattle.std.specs.Str.{bytes_eq}
-use Rattle.std.proofs.lemmas.List.Elements.{All-nil, All-cons}
-use Rattle.std.proofs.lemmas.Option.{same_Some}
-use Rattle.std.proofs.lemmas.Bool.{ltb-true}
-use Rattle.serde_json.specs.Data.{Data, Items, no_items, item}
-use Rattle.voc_read.specs.declared.fault.VocFault.{VocFault}
-use Rattle.voc_read.specs.Answers.{then_on}
-use Rattle.voc_read.specs.Names.{number_of}
-use Rattle.voc_read.specs.Scopes.{numbers_of, scope_of, scopes_from}
+use Rattle.voc_read.proofs.Prelude.{◌≡◌, ℕ, ◌+◌, ◌<◌, Bool, true, false, cond, nat_lt, List, [], ◌∷◌, length, Option, Some, None, option_and_then, Result, Ok, Err, refl, sym, subst, All, position_or_len, ok_or, bytes_eq, All-nil, All-cons, same_Some, ltb-true, Data, Items, no_items, item, VocFault, then_on, number_of, numbers_of, scope_of, scopes_from}
+use Rattle.std.proofs.Common.{option_map}
 
 abbrev AreBelow : ℕ → List ℕ → Type 0
 AreBelow n vs = All (λ v. v < n) vs

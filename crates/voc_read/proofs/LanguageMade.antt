@@ -1,16 +1,7 @@
 -- The language that is built of what was read, or the fault that is met.
-use Rattle.std.proofs.Common.{◌≡◌, ℕ, ℤ, List, length, Option, Some, None, Result, Ok, Err, option_map, refl, ap, ◌∙◌, subst}
-use Rattle.language.specs.Language.{Language, Given}
+use Rattle.voc_read.proofs.Prelude.{◌≡◌, ℕ, ℤ, List, length, Option, Some, None, Result, Ok, Err, refl, ap, ◌∙◌, subst, Language, Given, LangFault, VocFault, Lang, names_refusal, OutlineData, VariableRange, ranges_of, ranges_by, with_ranges, given_of, scopes_of, Parts, outline_refusal, parts_from, refusal_after, IsFrameOf, IsLanguageOf}
+use Rattle.std.proofs.Common.{option_map}
 use Rattle.language.specs.Building as build
-use Rattle.language.specs.declared.parts.LangFault.{LangFault}
-use Rattle.voc_read.specs.declared.fault.VocFault.{VocFault}
-use Rattle.voc_read.specs.declared.fault.VocFault.TheVariants.{Lang}
-use Rattle.voc_read.specs.Names.{names_refusal}
-use Rattle.voc_read.specs.Outline.{OutlineData}
-use Rattle.voc_read.specs.Ranges.{VariableRange, ranges_of, ranges_by, with_ranges}
-use Rattle.voc_read.specs.Relations.{given_of}
-use Rattle.voc_read.specs.Scopes.{scopes_of}
-use Rattle.voc_read.specs.Vocabulary.{Parts, outline_refusal, parts_from, refusal_after, IsFrameOf, IsLanguageOf}
 
 -- what was read, over these values
 pub record AreRead (o : OutlineData) (frame set : build.Frame) (least_value : ℤ) (value_count : ℕ) (found : List VariableRange) (given : List Given) (listed : Option (List (List ℕ))) : Type 0 where

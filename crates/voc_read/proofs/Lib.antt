@@ -1,3 +1,4 @@
+mod Prelude
 pub mod MemberKeys
 pub mod Repeats
 pub mod NameForms

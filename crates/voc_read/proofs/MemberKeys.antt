@@ -1,12 +1,6 @@
 -- The keys of a map, and those of the object that it stands for.
-use Rattle.std.proofs.Common.{◌≡◌, ℕ, List, [], ◌∷◌, Bool, not, ◌||◌, map, string_bytes, String, Global, Bor, refl, sym, ap₂}
-use Rattle.std.specs.List.{list_any}
-use Rattle.std.specs.Str.{bytes_eq}
-use Rattle.serde_json.specs.View.{members_view}
-use Rattle.serde_json.specs.declared.value.Value.{Value}
+use Rattle.voc_read.proofs.Prelude.{◌≡◌, ℕ, List, [], ◌∷◌, Bool, not, ◌||◌, map, string_bytes, String, Global, Bor, refl, sym, ap₂, list_any, bytes_eq, members_view, Value, is_known, has_other_key, texts_of}
 use Rattle.language.proofs.Members.{any-map}
-use Rattle.voc_read.specs.Keys.{is_known, has_other_key}
-use Rattle.voc_read.specs.Texts.{texts_of}
 
 pub other_keys : (known : List (Bor (List ℕ))) (entries : List (String Global × Value))
     → list_any (λ key. not (list_any (λ name. bytes_eq name.now (string_bytes key)) known)) (map (λ entry. entry.0) entries) ≡ has_other_key (texts_of known) (members_view entries)

@@ -1,18 +1,5 @@
 -- Names that nothing refuses are names, and no two of them are equal.
-use Rattle.std.proofs.Common.{◌≡◌, ◌≢◌, ℕ, zero, suc, ◌+◌, ◌<◌, ◌≤◌, ◌++◌, Bool, true, false, not, cond, nat_lt, List, [], ◌∷◌, length, take, get_or, Option, Some, None, Bor, refl, sym, ap, ap₂, ◌∙◌, arith, true≢false, append_assoc, append-nil, ◌&&◌}
-use Rattle.std.specs.Prelude.{position, AllPairs}
-use Rattle.std.specs.Option.{option_map, option_or}
-use Rattle.std.specs.List.{list_any, list_all, position_or_len}
-use Rattle.std.specs.Str.{bytes_eq}
-use Rattle.std.proofs.lemmas.List.{length-take, get_or-take}
-use Rattle.std.proofs.lemmas.List.Folds.{list_any_at}
-use Rattle.std.proofs.lemmas.Slice.Eq.{bytes_eq-Decides}
-use Rattle.std.proofs.lemmas.Bool.{ltb-false}
-use Rattle.language.specs.Language.{is_name, AreNames}
-use Rattle.voc_read.specs.declared.fault.VocFault.{VocFault}
-use Rattle.voc_read.specs.declared.fault.VocFault.TheVariants.{BadName, NameRepeated}
-use Rattle.voc_read.specs.Names.{first_bad, repeat_after, first_repeat, names_refusal}
-use Rattle.voc_read.specs.Texts.{texts_of}
+use Rattle.voc_read.proofs.Prelude.{◌≡◌, ◌≢◌, ℕ, zero, suc, ◌+◌, ◌<◌, ◌≤◌, ◌++◌, Bool, true, false, not, cond, nat_lt, List, [], ◌∷◌, length, take, get_or, Option, Some, None, Bor, refl, sym, ap, ap₂, ◌∙◌, arith, true≢false, append_assoc, append-nil, ◌&&◌, position, AllPairs, option_map, option_or, list_any, list_all, position_or_len, bytes_eq, length-take, get_or-take, list_any_at, bytes_eq-Decides, ltb-false, is_name, AreNames, VocFault, BadName, NameRepeated, first_bad, repeat_after, first_repeat, names_refusal, texts_of}
 
 bad_place : (names : List (Bor (List ℕ))) → position_or_len (λ name. not (is_name name.now)) names ≡ position_or_len (λ name. not (is_name name)) (texts_of names)
 bad_place [] = refl

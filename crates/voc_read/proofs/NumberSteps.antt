@@ -1,12 +1,6 @@
 -- One name more of a scope is looked up.
-use Rattle.std.proofs.Common.{◌≡◌, ℕ, suc, ◌+◌, ◌<◌, ◌++◌, List, [], ◌∷◌, length, drop, get_or, Option, Some, None, option_map, option_and_then, Bor, refl, sym, ap, ◌∙◌, append_assoc, arith}
-use Rattle.std.specs.Option.{ok_or}
-use Rattle.std.specs.Prelude.{Ok, Err}
-use Rattle.std.proofs.Math.Seq.{drop-cons}
-use Rattle.voc_read.specs.declared.fault.VocFault.{VocFault}
-use Rattle.voc_read.specs.Names.{number_of}
-use Rattle.voc_read.specs.Scopes.{numbers_of}
-use Rattle.voc_read.specs.Texts.{texts_of}
+use Rattle.voc_read.proofs.Prelude.{◌≡◌, ℕ, suc, ◌+◌, ◌<◌, ◌++◌, List, [], ◌∷◌, length, drop, get_or, Option, Some, None, option_and_then, Bor, refl, sym, ap, ◌∙◌, append_assoc, arith, ok_or, Ok, Err, drop-cons, VocFault, number_of, numbers_of, texts_of}
+use Rattle.std.proofs.Common.{option_map}
 
 -- the numbers from name j on
 from_here : (names : List (List ℕ)) (listed : List (Bor (List ℕ))) (j : ℕ) (d : Bor (List ℕ)) → j < length listed

@@ -1,10 +1,6 @@
 -- No bytes describe two languages.
-use Rattle.std.proofs.Common.{◌≡◌, Result, Ok, sym, ◌∙◌, subst}
-use Rattle.language.specs.Building.{IsBuilt}
+use Rattle.voc_read.proofs.Prelude.{◌≡◌, Result, Ok, sym, ◌∙◌, subst, IsBuilt, VocFault, Parts, frame_of, NoTwoLanguages}
 use Rattle.language.proofs.OneLanguage.{one_built}
-use Rattle.voc_read.specs.declared.fault.VocFault.{VocFault}
-use Rattle.voc_read.specs.Vocabulary.{Parts, frame_of}
-use Rattle.voc_read.specs.Laws.{NoTwoLanguages}
 
 same_parts : (one other : Parts) → (let read : Result Parts VocFault = Ok one in read) ≡ Ok other → one ≡ other
 same_parts one other is = cc

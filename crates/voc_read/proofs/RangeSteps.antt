@@ -1,13 +1,5 @@
 -- What an array states as a range, and one range more that is read.
-use Rattle.std.proofs.Common.{◌≡◌, ◌≢◌, ℕ, ℤ, suc, ◌+◌, ◌<◌, ◌≤◌, ◌++◌, List, [], ◌∷◌, length, drop, get_or, map, None, Result, Ok, Err, refl, sym, ap, ◌∙◌, append_assoc, arith}
-use Rattle.std.proofs.Math.Seq.{drop-cons}
-use Rattle.std.proofs.lemmas.List.{append-nil, at_drop_all, map-append}
-use Rattle.serde_json.specs.View.{view, items_view}
-use Rattle.serde_json.specs.declared.value.Value.{Value}
-use Rattle.voc_read.specs.declared.fault.VocFault.{VocFault}
-use Rattle.voc_read.specs.declared.ranges.NamedRange.{NamedRange}
-use Rattle.voc_read.specs.Answers.{then_on}
-use Rattle.voc_read.specs.Ranges.{VariableRange, stated_by, named_range, range_of, ranges_from}
+use Rattle.voc_read.proofs.Prelude.{◌≡◌, ◌≢◌, ℕ, ℤ, suc, ◌+◌, ◌<◌, ◌≤◌, ◌++◌, List, [], ◌∷◌, length, drop, get_or, map, None, Result, Ok, Err, refl, sym, ap, ◌∙◌, append_assoc, arith, drop-cons, append-nil, at_drop_all, map-append, view, items_view, Value, VocFault, NamedRange, then_on, VariableRange, stated_by, named_range, range_of, ranges_from}
 
 -- ---- a range
 

@@ -1,15 +1,6 @@
 -- The values of each variable, one range more at a time.
-use Rattle.std.proofs.Common.{◌≡◌, ◌≢◌, ℕ, ℤ, ◌+◌, ◌<◌, ◌++◌, ◌==◌, true, false, cond, List, [], ◌∷◌, length, take, get_or, sym, ap, ◌∙◌, subst, arith, inl, inr, ◌⊎◌}
-use Rattle.std.specs.Prelude.{All, slice_set, replicate}
+use Rattle.voc_read.proofs.Prelude.{◌≡◌, ◌≢◌, ℕ, ℤ, ◌+◌, ◌<◌, ◌++◌, ◌==◌, true, false, cond, List, [], ◌∷◌, length, take, get_or, sym, ap, ◌∙◌, subst, arith, inl, inr, ◌⊎◌, All, slice_set, replicate, take_more, length-take, get_or-take, get_or_default, ext_get_or, get_or-set_same, get_or-set_other, get_or-replicate, length-replicate, All-head, All-tail, length-map-range_with_len, get_or-map-range_with_len, ne_eqb, cases_eq, whole_range, Frame, range_between, ValueRange, VariableRange, values_for, ranges_by, with_ranges, HasWholeRanges, IsKnown, AreApart}
 use Rattle.std.proofs.Math.ListN.{length-set}
-use Rattle.std.proofs.lemmas.List.{take_more, length-take, get_or-take, get_or_default, ext_get_or, get_or-set_same, get_or-set_other, get_or-replicate, length-replicate}
-use Rattle.std.proofs.lemmas.List.Elements.{All-head, All-tail}
-use Rattle.std.proofs.lemmas.List.FromFn.{length-map-range_with_len, get_or-map-range_with_len}
-use Rattle.std.proofs.lemmas.Bool.{ne_eqb, cases_eq}
-use Rattle.language.specs.Ranges.{whole_range}
-use Rattle.language.specs.Building.{Frame, range_between}
-use Rattle.language.specs.declared.ranges.ValueRange.{ValueRange}
-use Rattle.voc_read.specs.Ranges.{VariableRange, values_for, ranges_by, with_ranges, HasWholeRanges, IsKnown, AreApart}
 use Rattle.voc_read.proofs.KnownRanges.{numbered}
 
 module _ (n : ℕ) (lo : ℤ) (count : ℕ) where

@@ -1,14 +1,8 @@
 -- A value that is read of a text has no array with more values than the text has tokens.
-use Rattle.std.proofs.Common.{◌≡◌, ℕ, zero, suc, ◌+◌, ◌≤◌, max, List, [], ◌∷◌, length, Option, Some, None, option_map, option_and_then, Ordering, Less, Equal, Greater, subst, arith}
-use Rattle.std.specs.Prelude.{⊤}
-use Rattle.std.specs.Ordering.{match_ordering}
-use Rattle.json.specs.Token.{Token}
-use Rattle.json.specs.Lex.{tokens}
+use Rattle.voc_read.proofs.Prelude.{◌≡◌, ℕ, zero, suc, ◌+◌, ◌≤◌, max, List, [], ◌∷◌, length, Option, Some, None, option_and_then, Ordering, Less, Equal, Greater, subst, arith, ⊤, match_ordering, Token, tokens, Data, number, array, object, Items, item, Members, no_members, member, put, items_len, of_json, of_items, of_members, max_depth, read, widest, items_widest, members_widest}
+use Rattle.std.proofs.Common.{option_map}
 use Rattle.json.specs.Json as json
-use Rattle.serde_json.specs.Data.{Data, number, array, object, Items, item, Members, no_members, member, put}
-use Rattle.serde_json.specs.Events.{items_len}
-use Rattle.serde_json.specs.Read.{number_of, of_json, of_items, of_members, max_depth, read}
-use Rattle.voc_read.specs.Widest.{widest, items_widest, members_widest}
+use Rattle.serde_json.specs.Read.{number_of}
 use Rattle.voc_read.proofs.TokenCounts.{length-tokens}
 
 -- ---- The trees of the grammar

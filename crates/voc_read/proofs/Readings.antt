@@ -1,28 +1,8 @@
 -- What holds of each relation that is read.
-use Rattle.std.proofs.Common.{◌≡◌, ℕ, ◌+◌, ◌^◌, ◌≤◌, Bool, true, false, cond, ◌&&◌, nat_le, nat_eq, List, [], ◌∷◌, length, map, Option, Some, None, ℤ, pos, negsuc, Result, Ok, Err, refl, ◌∙◌}
-use Rattle.std.specs.Prelude.{All}
-use Rattle.std.specs.List.{list_all, list_any}
-use Rattle.std.specs.Option.{option_map}
-use Rattle.std.proofs.lemmas.Bool.{leb-true, and_from}
-use Rattle.std.proofs.lemmas.List.{length-map}
-use Rattle.std.proofs.lemmas.List.Elements.{All-nil, All-cons, All-head, All-tail, All-weaker}
-use Rattle.std.proofs.lemmas.List.FromFn.{length-map-range_with_len}
-use Rattle.rel_table.specs.Relation.{Relation, tuples}
-use Rattle.rel_table.specs.Made.{size_for, first_fault, place_of_shown}
+use Rattle.voc_read.proofs.Prelude.{◌≡◌, ℕ, ◌+◌, ◌^◌, ◌≤◌, Bool, true, false, cond, ◌&&◌, nat_le, nat_eq, List, [], ◌∷◌, length, map, Option, Some, None, ℤ, pos, negsuc, Result, Ok, Err, refl, ◌∙◌, All, list_all, list_any, option_map, leb-true, and_from, length-map, All-nil, All-cons, All-head, All-tail, All-weaker, length-map-range_with_len, Relation, tuples, size_for, first_fault, place_of_shown, is_true, shown_tuple, first_too_big, formula_in, TooBig, Items, no_items, item, Given, is_name, AreNames, VocFault, BadRelName, RelRepeated, Table, TableOf, then_on, unless, first_repeat, RuleData, tuples_data, formula, accepting, formula_of, relation_by, RelationData, relation_data, counted_arity, small_arity, made_of, relation_of, relations_from, given_names, relation_names_refusal, given_of}
 use Rattle.rel_table.specs.declared.table.TableFault.TheVariants.{TooLarge}
 use Rattle.rel_table.proofs.PlaceLemmas.{length-tuples}
-use Rattle.rel_formula.specs.Formula.{is_true, shown_tuple, first_too_big}
-use Rattle.rel_formula.specs.Reading.{formula_in}
-use Rattle.rel_formula.specs.declared.fault.TableOfFault.TheVariants.{TooBig}
-use Rattle.serde_json.specs.Data.{Items, no_items, item}
-use Rattle.language.specs.Language.{Given, is_name, AreNames}
 use Rattle.voc_read.specs.declared.fault.Spot.TheVariants as spot
-use Rattle.voc_read.specs.declared.fault.VocFault.{VocFault}
-use Rattle.voc_read.specs.declared.fault.VocFault.TheVariants.{BadRelName, RelRepeated, Table, TableOf}
-use Rattle.voc_read.specs.Answers.{then_on, unless}
-use Rattle.voc_read.specs.Names.{first_repeat}
-use Rattle.voc_read.specs.Rules.{RuleData, tuples as tuples_data, formula, accepting, formula_of, relation_by}
-use Rattle.voc_read.specs.Relations.{RelationData, relation_data, counted_arity, small_arity, made_of, relation_of, relations_from, given_names, relation_names_refusal, given_of}
 use Rattle.voc_read.proofs.NameForms.{apart}
 use Rattle.voc_read.proofs.Buildable.{IsRight}
 

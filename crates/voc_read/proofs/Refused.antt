@@ -1,7 +1,5 @@
 -- What describes a language isn't refused.
-use Rattle.std.proofs.Common.{◌≡◌, ℕ, List, None, refl}
-use Rattle.language.specs.Language.{Language}
-use Rattle.voc_read.specs.Vocabulary.{refusal_of_vocabulary, IsVocabulary}
+use Rattle.voc_read.proofs.Prelude.{◌≡◌, ℕ, List, None, refl, Language, refusal_of_vocabulary, IsVocabulary}
 
 pub not_refused : (bytes : List ℕ) (l : Language) → IsVocabulary bytes l → refusal_of_vocabulary bytes ≡ None
 unfolding refusal_of_vocabulary

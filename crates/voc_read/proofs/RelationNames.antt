@@ -1,13 +1,5 @@
 -- Relations whose names nothing refuses have names, and no two of them are equal.
-use Rattle.std.proofs.Common.{◌≡◌, ℕ, suc, true, List, [], ◌∷◌, map, All, Option, Some, None, refl, arith, string_bytes}
-use Rattle.std.specs.List.{list_all}
-use Rattle.std.specs.Option.{option_map}
-use Rattle.language.specs.Language.{is_name, AreNames}
-use Rattle.language.specs.Inside.{given_by}
-use Rattle.language.specs.declared.parts.RelPart.{RelPart}
-use Rattle.voc_read.specs.declared.fault.VocFault.TheVariants.{RelRepeated}
-use Rattle.voc_read.specs.Names.{first_repeat}
-use Rattle.voc_read.specs.Relations.{given_names, relation_names_refusal, IsNamed}
+use Rattle.voc_read.proofs.Prelude.{◌≡◌, ℕ, suc, true, List, [], ◌∷◌, map, All, Option, Some, None, refl, arith, string_bytes, list_all, option_map, is_name, AreNames, given_by, RelPart, RelRepeated, first_repeat, given_names, relation_names_refusal, IsNamed}
 use Rattle.voc_read.proofs.NameForms.{apart}
 
 all_named : (parts : List RelPart) → All IsNamed parts → list_all is_name (given_names (map given_by parts)) ≡ true

@@ -1,15 +1,5 @@
 -- One relation more is read.
-use Rattle.std.proofs.Common.{◌≡◌, ℕ, ℤ, suc, ◌+◌, ◌<◌, ◌≤◌, ◌++◌, List, [], ◌∷◌, length, drop, get_or, map, Result, Ok, Err, refl, sym, ap, ◌∙◌, append_assoc, arith}
-use Rattle.std.proofs.Math.Seq.{drop-cons}
-use Rattle.std.proofs.lemmas.List.{append-nil, at_drop_all, map-append}
-use Rattle.serde_json.specs.View.{view, items_view}
-use Rattle.serde_json.specs.declared.value.Value.{Value}
-use Rattle.language.specs.Language.{Given}
-use Rattle.language.specs.Inside.{given_by}
-use Rattle.language.specs.declared.parts.RelPart.{RelPart}
-use Rattle.voc_read.specs.declared.fault.VocFault.{VocFault}
-use Rattle.voc_read.specs.Answers.{then_on}
-use Rattle.voc_read.specs.Relations.{relation_of, relations_from}
+use Rattle.voc_read.proofs.Prelude.{◌≡◌, ℕ, ℤ, suc, ◌+◌, ◌<◌, ◌≤◌, ◌++◌, List, [], ◌∷◌, length, drop, get_or, map, Result, Ok, Err, refl, sym, ap, ◌∙◌, append_assoc, arith, drop-cons, append-nil, at_drop_all, map-append, view, items_view, Value, Given, given_by, RelPart, VocFault, then_on, relation_of, relations_from}
 
 -- it stands behind those that were read before
 put_behind : (rest : Result (List Given) VocFault) (before : List Given) (g : Given)

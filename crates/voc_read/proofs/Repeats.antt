@@ -1,12 +1,5 @@
 -- The names that a table of numbers holds, one more at a time.
-use Rattle.std.proofs.Common.{◌≡◌, ℕ, zero, suc, ◌+◌, ◌<◌, ◌≤◌, ◌++◌, ◌||◌, true, false, not, cond, Bool, Option, List, [], ◌∷◌, length, take, drop, get_or, Some, None, Bor, refl, sym, ap, ap₂, ◌∙◌, arith}
-use Rattle.std.proofs.Math.Seq.{drop-cons}
-use Rattle.std.proofs.lemmas.List.{take_more, length-take, length-map, get_or-map}
-use Rattle.std.specs.Prelude.{position}
-use Rattle.std.specs.List.{list_any, position_or_len}
-use Rattle.std.specs.Str.{bytes_eq}
-use Rattle.voc_read.specs.Names.{repeat_after}
-use Rattle.voc_read.specs.Texts.{texts_of}
+use Rattle.voc_read.proofs.Prelude.{◌≡◌, ℕ, zero, suc, ◌+◌, ◌<◌, ◌≤◌, ◌++◌, ◌||◌, true, false, not, cond, Bool, Option, List, [], ◌∷◌, length, take, drop, get_or, Some, None, Bor, refl, sym, ap, ap₂, ◌∙◌, arith, drop-cons, take_more, length-take, length-map, get_or-map, position, list_any, position_or_len, bytes_eq, repeat_after, texts_of}
 
 any_text : (text : List ℕ) (keys : List (Bor (List ℕ))) → list_any (λ key. bytes_eq text key.now) keys ≡ list_any (bytes_eq text) (texts_of keys)
 any_text text [] = refl

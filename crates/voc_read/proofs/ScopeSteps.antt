@@ -1,13 +1,6 @@
 -- One scope more is read.
-use Rattle.std.proofs.Common.{◌≡◌, ℕ, suc, ◌+◌, ◌<◌, ◌≤◌, ◌++◌, List, [], ◌∷◌, length, drop, get_or, map, Result, Ok, Err, refl, sym, ap, ◌∙◌, append_assoc, arith}
-use Rattle.std.proofs.Math.Seq.{drop-cons}
-use Rattle.std.proofs.lemmas.List.{append-nil, at_drop_all, map-append}
+use Rattle.voc_read.proofs.Prelude.{◌≡◌, ℕ, suc, ◌+◌, ◌<◌, ◌≤◌, ◌++◌, List, [], ◌∷◌, length, drop, get_or, map, Result, Ok, Err, refl, sym, ap, ◌∙◌, append_assoc, arith, drop-cons, append-nil, at_drop_all, map-append, view, items_view, Value, VocFault, then_on, scope_of, scopes_from}
 use Rattle.smallvec.specs.SmallVec.{SmallVec}
-use Rattle.serde_json.specs.View.{view, items_view}
-use Rattle.serde_json.specs.declared.value.Value.{Value}
-use Rattle.voc_read.specs.declared.fault.VocFault.{VocFault}
-use Rattle.voc_read.specs.Answers.{then_on}
-use Rattle.voc_read.specs.Scopes.{scope_of, scopes_from}
 
 abbrev pub Listed : Type 0
 Listed = SmallVec ℕ

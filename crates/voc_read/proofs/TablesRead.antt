@@ -1,15 +1,6 @@
 -- The table of a relation's tuples.
-use Rattle.std.proofs.Common.{◌≡◌, ℕ, zero, suc, ℤ, pos, ◌^◌, ◌<◌, ◌≤◌, Bool, false, List, length, nat_eq, Some, None, Ok, Err, refl, sym, ap, ◌∙◌, ap₂, arith}
-use Rattle.std.specs.List.{list_any}
-use Rattle.std.proofs.lemmas.List.{same_lists, get_or_default}
-use Rattle.std.proofs.lemmas.List.FromFn.{get_or-map-range_with_len, length-map-range_with_len}
-use Rattle.std.proofs.lemmas.Bool.{le-leb}
-use Rattle.std.proofs.lemmas.Option.{same_Some}
+use Rattle.voc_read.proofs.Prelude.{◌≡◌, ℕ, zero, suc, ℤ, pos, ◌^◌, ◌<◌, ◌≤◌, Bool, false, List, length, nat_eq, Some, None, Ok, Err, refl, sym, ap, ◌∙◌, ap₂, arith, list_any, same_lists, get_or_default, get_or-map-range_with_len, length-map-range_with_len, le-leb, same_Some, arity_of, place_of_shown, first_fault, refusal_of, IsMade, Marks, TableFault, Table, accepting, relation_of_tuples}
 use Rattle.rel_table.specs.Table.{TruthTable, IsTable}
-use Rattle.rel_table.specs.Made.{arity_of, place_of_shown, first_fault, refusal_of, IsMade, Marks}
-use Rattle.rel_table.specs.declared.table.TableFault.{TableFault}
-use Rattle.voc_read.specs.declared.fault.VocFault.TheVariants.{Table}
-use Rattle.voc_read.specs.Rules.{accepting, relation_of_tuples}
 
 -- the truth values that are marked so are those of the relation that accepts exactly the tuples
 same_truth : (lo : ℤ) (d a : ℕ) (tuples : List (List ℤ)) (truth : List Bool) → length truth ≡ d ^ a → Marks lo d tuples truth → truth ≡ accepting lo d a tuples

@@ -1,11 +1,6 @@
 -- What the reading of bytes as JSON says.
-use Rattle.std.proofs.Common.{◌≡◌, ℕ, List, Bool, true, false, Some, None, refl, sym, ◌∙◌, true≢false}
-use Rattle.std.specs.Prelude.{IsUtf8, IsTrue}
-use Rattle.std.specs.Str.{is_utf8}
+use Rattle.voc_read.proofs.Prelude.{◌≡◌, ℕ, List, Bool, true, false, Some, None, refl, sym, ◌∙◌, true≢false, IsUtf8, IsTrue, is_utf8, Data, read, json_of}
 use Rattle.std.proofs.lemmas.Str.{IsUtf8-from_is_utf8, is_utf8-from_IsUtf8}
-use Rattle.serde_json.specs.Data.{Data}
-use Rattle.serde_json.specs.Read.{read}
-use Rattle.voc_read.specs.Vocabulary.{json_of}
 
 pub json_of-read : (bytes : List ℕ) (d : Data) → IsUtf8 bytes → read bytes ≡ Some d → json_of bytes ≡ Some d
 json_of-read bytes d text is = rw (is_utf8-from_IsUtf8 bytes text) is

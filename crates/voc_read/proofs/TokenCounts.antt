@@ -1,7 +1,7 @@
 -- A text has at most one token more than bytes.
-use Rattle.std.proofs.Common.{ℕ, ◌+◌, ◌≤◌, Bool, true, false, List, [], ◌∷◌, length, arith}
-use Rattle.json.specs.Token.{Token, begin_object, end_object, begin_array, end_array, key, string, number, boolean, null, bad}
-use Rattle.json.specs.Lex.{Lexeme, token, comma, colon, Class, quote, backslash, operator, space, other, Mode, between, in_word, in_string, in_escape, lex_byte, lex, class, Place, fresh, after_value, after_comma, after_key, begins_colon, if_allowed, may_begin, may_close, place_token, punctuate, tokens}
+use Rattle.voc_read.proofs.Prelude.{ℕ, ◌+◌, ◌≤◌, Bool, true, false, List, [], ◌∷◌, length, arith, Token, begin_object, end_object, begin_array, end_array, key, bad, Lexeme, token, comma, colon, Class, quote, backslash, operator, space, other, Mode, between, in_word, in_string, in_escape, lex_byte, class, Place, fresh, after_value, after_comma, after_key, begins_colon, if_allowed, may_begin, may_close, place_token, tokens}
+use Rattle.json.specs.Token.{string, number, boolean, null}
+use Rattle.json.specs.Lex.{lex, punctuate}
 
 at_byte : (m : Mode) (c : Class) (x : ℕ) (xs : List ℕ) (rest : Mode → List Lexeme) → ((next : Mode) → length (rest next) ≤ length xs) → length (lex_byte m c x xs rest) ≤ length xs + 1
 at_byte between quote x xs rest h = omega (arith, h in_string)

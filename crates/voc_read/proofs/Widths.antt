@@ -1,18 +1,8 @@
 -- A part of a value has no larger arrays than the value.
-use Rattle.std.proofs.Common.{◌≡◌, ℕ, zero, suc, ◌<◌, ◌≤◌, List, [], ◌∷◌, length, get_or, Option, Some, None, Ordering, Less, Equal, Greater, sym, subst, arith}
-use Rattle.std.specs.Prelude.{IfOk}
+use Rattle.voc_read.proofs.Prelude.{◌≡◌, ℕ, zero, suc, ◌<◌, ◌≤◌, List, [], ◌∷◌, length, get_or, Option, Some, None, Ordering, Less, Equal, Greater, sym, subst, arith, IfOk, option_map, ok_or, nat_cmp, match_ordering, Data, null, boolean, number, string, array, object, Items, Members, no_members, member, items_len, get, get_member, as_array, view, items_view, Value, VocFault, widest, items_widest, members_widest, widest_in}
 use Rattle.std.specs.Borrow.{Bor}
-use Rattle.std.specs.Option.{option_map, ok_or}
 use Rattle.std.specs.Cmp.Lexicographic.{slice_cmp}
-use Rattle.std.specs.Ordering.{nat_cmp, match_ordering}
-use Rattle.serde_json.specs.Data.{Data, null, boolean, number, string, array, object, Items, Members, no_members, member}
-use Rattle.serde_json.specs.Events.{items_len}
-use Rattle.serde_json.specs.Find.{get, get_member, as_array}
-use Rattle.serde_json.specs.View.{view, items_view}
-use Rattle.serde_json.specs.declared.value.Value.{Value}
 use Rattle.serde_json.proofs.Views.{items_len-items_view}
-use Rattle.voc_read.specs.declared.fault.VocFault.{VocFault}
-use Rattle.voc_read.specs.Widest.{widest, items_widest, members_widest, widest_in}
 
 either : (o : Ordering) (rest : Option Data) (d e : Data) (n : ℕ) → (rest ≡ Some e → widest e ≤ n) → widest d ≤ n → match_ordering o rest (Some d) rest ≡ Some e → widest e ≤ n
 either Less rest d e n more here h = more h

@@ -1,6 +1,5 @@
-use Rattle.std.proofs.Common.{◌∙◌, ap₂}
+use Rattle.acq_words.proofs.Prelude.{◌∙◌, ap₂, with_rule}
 use Rattle.std.proofs.lemmas.Result.{IfOk-weaker}
-use Rattle.clap.specs.Words.{with_rule}
 use Rattle.acq_words.proofs.line.line.Goals as goal
 
 pub returns : goal.returns

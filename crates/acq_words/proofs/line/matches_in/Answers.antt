@@ -1,4 +1,4 @@
-use Rattle.std.proofs.Common.{arith, ◌∙◌}
+use Rattle.acq_words.proofs.Prelude.{arith, ◌∙◌}
 use Rattle.acq_words.proofs.Taken.{are_refused, are_taken, is_plain_app, rows_are}
 use Rattle.acq_words.proofs.Values.{have_numbers}
 use Rattle.acq_words.proofs.line.matches_in.Goals as goal

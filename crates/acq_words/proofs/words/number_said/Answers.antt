@@ -1,5 +1,4 @@
-use Rattle.std.specs.Str.Parse.{ExplainsUnsignedError, HasUnsignedDigitsIfOk, ParsesUnsigned}
-use Rattle.clap.specs.Words.{found_of}
+use Rattle.acq_words.proofs.Prelude.{ExplainsUnsignedError, HasUnsignedDigitsIfOk, ParsesUnsigned, found_of}
 use Rattle.acq_words.proofs.Values.{number_read}
 use Rattle.acq_words.proofs.words.number_said.Goals as goal
 

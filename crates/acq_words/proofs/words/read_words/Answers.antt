@@ -1,6 +1,5 @@
-use Rattle.std.proofs.Common.{arith, map, string_bytes}
+use Rattle.acq_words.proofs.Prelude.{arith, map, string_bytes, IsAnswer, answer_to}
 use Rattle.std.proofs.lemmas.Grind.{common_steps}
-use Rattle.acq_words.specs.Request.{IsAnswer, answer_to}
 use Rattle.acq_words.proofs.PlainLists.{is_no_plain_list, plain_is}
 use Rattle.acq_words.proofs.words.read_words.Goals as goal
 

@@ -1,5 +1,4 @@
-use Rattle.std.proofs.Common.{◌∙◌}
-use Rattle.clap.specs.Words.{found_of}
+use Rattle.acq_words.proofs.Prelude.{◌∙◌, found_of}
 use Rattle.acq_words.proofs.Values.{first_value_is}
 use Rattle.acq_words.proofs.words.text_said.Goals as goal
 

@@ -1,7 +1,4 @@
-use Rattle.std.proofs.Common.{◌<◌, ◌-◌, ◌∙◌, ap, sym, arith, lit≤}
-use Rattle.std.proofs.lemmas.Nat.{one_shl}
-use Rattle.assign.specs.Sets.{numbers}
-use Rattle.bias_store.specs.Masks.{ones_of}
+use Rattle.bias_store.proofs.Prelude.{◌<◌, ◌-◌, ◌∙◌, ap, sym, arith, lit≤, one_shl, numbers, ones_of}
 use Rattle.bias_store.proofs.Ones.{ones_of-first}
 use Rattle.bias_store.proofs.masks.first_relations.Goals as goal
 

@@ -1,7 +1,4 @@
-use Rattle.std.proofs.Common.{◌∙◌, ap, sym}
-use Rattle.std.specs.Prelude.{◌==◌}
-use Rattle.std.proofs.lemmas.Bool.{le-ltb}
-use Rattle.std.proofs.lemmas.Nat.Bits.{shr_and_one}
+use Rattle.bias_store.proofs.Prelude.{◌∙◌, ap, sym, ◌==◌, le-ltb, shr_and_one}
 use Rattle.bias_store.proofs.Ones.{has-ones_of, has_above}
 use Rattle.bias_store.proofs.masks.has_relation.Goals as goal
 

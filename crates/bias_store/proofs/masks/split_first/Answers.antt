@@ -1,9 +1,4 @@
-use Rattle.std.proofs.Common.{◌<◌, ◌∷◌, ◌∙◌, ap, sym, arith}
-use Rattle.std.specs.Prelude.{bit_and}
-use Rattle.std.specs.Int.{bit_not, trailing_zeros, w64}
-use Rattle.std.proofs.lemmas.Nat.{one_shl}
-use Rattle.std.proofs.lemmas.Nat.Bits.{bit_at-trailing_zeros}
-use Rattle.bias_store.specs.Masks.{ones_of}
+use Rattle.bias_store.proofs.Prelude.{◌<◌, ◌∷◌, ◌∙◌, ap, sym, arith, bit_and, bit_not, trailing_zeros, w64, one_shl, bit_at-trailing_zeros, ones_of}
 use Rattle.bias_store.proofs.Ones.{ones_of-first_and_others}
 use Rattle.bias_store.proofs.masks.split_first.Goals as goal
 

@@ -1,5 +1,4 @@
-use Rattle.std.proofs.Common.{length, refl, ◌∙◌}
-use Rattle.language.specs.Language.{relations_on}
+use Rattle.bias_store.proofs.Prelude.{length, refl, ◌∙◌, relations_on}
 use Rattle.bias_store.proofs.Bits.{mask_all, none_accepts}
 use Rattle.bias_store.proofs.tables.accepting_at.Goals as goal
 

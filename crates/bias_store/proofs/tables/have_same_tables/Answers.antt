@@ -1,6 +1,4 @@
-use Rattle.std.proofs.Common.{ℕ, inl, inr, sym, subst, arith}
-use Rattle.std.proofs.lemmas.Bool.{cases_eq}
-use Rattle.language.specs.Pairs.{IsPairTableOn}
+use Rattle.bias_store.proofs.Prelude.{ℕ, inl, inr, sym, subst, arith, cases_eq, IsPairTableOn}
 use Rattle.bias_store.proofs.tables.have_same_tables.Goals as goal
 
 pub loop-r-preserved : goal.loop-r-preserved

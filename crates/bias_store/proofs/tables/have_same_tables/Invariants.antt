@@ -1,5 +1,4 @@
-use Rattle.std.proofs.Common.{ℕ, ◌<◌}
-use Rattle.language.specs.Pairs.{IsPairTableOn}
+use Rattle.bias_store.proofs.Prelude.{ℕ, ◌<◌, IsPairTableOn}
 use Rattle.bias_store.proofs.tables.have_same_tables.Given as goal
 
 abbrev pub invariant-loop-r : goal.invariant-loop-r

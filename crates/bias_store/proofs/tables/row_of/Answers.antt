@@ -1,5 +1,4 @@
-use Rattle.std.proofs.Common.{◌≡◌, ◌+◌, length, get_or, ap, sym, subst, ◌∙◌, arith}
-use Rattle.bias_store.specs.Accepting.{IsRow}
+use Rattle.bias_store.proofs.Prelude.{◌≡◌, ◌+◌, length, get_or, ap, sym, subst, ◌∙◌, arith, IsRow}
 use Rattle.bias_store.proofs.Rows.{row_on}
 use Rattle.bias_store.proofs.tables.row_of.Goals as goal
 

@@ -1,5 +1,4 @@
-use Rattle.std.proofs.Common.{◌-◌, ◌≤◌, length}
-use Rattle.bias_store.specs.Accepting.{AreRowsFrom, IsRow}
+use Rattle.bias_store.proofs.Prelude.{◌-◌, ◌≤◌, length, AreRowsFrom, IsRow}
 use Rattle.bias_store.proofs.tables.rows_of.Given as goal
 
 abbrev pub invariant-loop-back : goal.invariant-loop-back

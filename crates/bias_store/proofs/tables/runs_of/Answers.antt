@@ -1,4 +1,4 @@
-use Rattle.std.proofs.Common.{◌-◌, get_or, refl, sym, ◌∙◌, ap, arith}
+use Rattle.bias_store.proofs.Prelude.{◌-◌, get_or, refl, sym, ◌∙◌, ap, arith}
 use Rattle.bias_store.proofs.Runs.{step_apart, step_on}
 use Rattle.bias_store.proofs.tables.runs_of.Goals.{then-scope, else-scope}
 use Rattle.bias_store.proofs.tables.runs_of.Goals as goal

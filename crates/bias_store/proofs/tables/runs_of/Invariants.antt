@@ -1,5 +1,4 @@
-use Rattle.std.proofs.Common.{◌-◌, ◌≤◌}
-use Rattle.bias_store.specs.Accepting.{AreRunsFrom}
+use Rattle.bias_store.proofs.Prelude.{◌-◌, ◌≤◌, AreRunsFrom}
 use Rattle.bias_store.proofs.tables.runs_of.Given as goal
 
 abbrev pub invariant-loop-back : goal.invariant-loop-back

@@ -1,7 +1,4 @@
-use Rattle.std.proofs.Common.{◌∙◌, sym}
-use Rattle.language.specs.Language.{violates}
-use Rattle.language.proofs.Lists.{nothing_passes}
-use Rattle.bias_store.specs.Masks.{ones_of}
+use Rattle.bias_store.proofs.Prelude.{◌∙◌, sym, violates, nothing_passes, ones_of}
 use Rattle.bias_store.proofs.Ones.{ones_of-zero}
 use Rattle.bias_store.proofs.Picked.{bare}
 use Rattle.bias_store.proofs.Bits.{without_accepting}

@@ -1,4 +1,4 @@
-use Rattle.bias_store.specs.Accepting.{IsTabled}
+use Rattle.bias_store.proofs.Prelude.{IsTabled}
 use Rattle.bias_store.proofs.tables.with_table.Given as goal
 
 abbrev pub invariant-loop-place : goal.invariant-loop-place

@@ -1,4 +1,4 @@
-use Rattle.std.proofs.Common.{◌+◌, ◌∙◌, sym, ap, get_or, false, arith}
+use Rattle.find_c.proofs.Prelude.{◌+◌, ◌∙◌, sym, ap, get_or, false, arith}
 use Rattle.find_c.proofs.choices.row_of.Goals as goal
 
 pub row-requires : goal.row-requires

@@ -1,5 +1,4 @@
-use Rattle.std.proofs.Common.{refl}
-use Rattle.language.specs.TellingApart.{choose}
+use Rattle.find_c.proofs.Prelude.{refl, choose}
 use Rattle.find_c.proofs.rows.telling_one.Goals as goal
 
 pub returns : goal.returns

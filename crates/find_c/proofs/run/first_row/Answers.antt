@@ -1,7 +1,4 @@
-use Rattle.std.proofs.Common.{◌+◌, ◌^◌, ◌<◌, get_or, length, false, [], inl, inr, sym, ◌∙◌, ap, arith}
-use Rattle.std.specs.Int.{bit_not, trailing_zeros, w64}
-use Rattle.language.specs.Language.{scope_at}
-use Rattle.language.specs.Scenes.{scene_of}
+use Rattle.find_c.proofs.Prelude.{◌+◌, ◌^◌, ◌<◌, get_or, length, false, [], inl, inr, sym, ◌∙◌, ap, arith, bit_not, trailing_zeros, w64, scope_at, scene_of}
 use Rattle.find_c.proofs.Splitting.{from_first_row, from_next_row, at_end, lowest_is, rejecting_row}
 use Rattle.find_c.proofs.run.first_row.Goals as goal
 

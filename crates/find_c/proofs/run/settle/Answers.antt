@@ -1,7 +1,4 @@
-use Rattle.std.proofs.Common.{sym, ◌∙◌, ap}
-use Rattle.std.proofs.lemmas.Bool.{both_ways}
-use Rattle.language.specs.TellingApart.{Got, choose}
-use Rattle.language.specs.Scenes.{scene_of}
+use Rattle.find_c.proofs.Prelude.{sym, ◌∙◌, ap, both_ways, Got, choose, scene_of}
 use Rattle.find_c.proofs.Replies.{choose_ended}
 use Rattle.find_c.proofs.Starting.{none_among, nothing_stands}
 use Rattle.find_c.proofs.run.settle.Goals as goal

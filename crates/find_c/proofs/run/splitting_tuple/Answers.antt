@@ -1,8 +1,4 @@
-use Rattle.std.proofs.Common.{◌≡◌, ◌+◌, ◌^◌, length, get_or, Some, [], sym, ◌∙◌, ap, arith}
-use Rattle.std.specs.Int.{trailing_zeros, w64}
-use Rattle.rel_table.specs.Relation.{tuples}
-use Rattle.language.specs.Language.{scope_at}
-use Rattle.language.specs.Scenes.{scene_of}
+use Rattle.find_c.proofs.Prelude.{◌≡◌, ◌+◌, ◌^◌, length, get_or, Some, [], sym, ◌∙◌, ap, arith, trailing_zeros, w64, tuples, scope_at, scene_of}
 use Rattle.find_c.proofs.Lawful.{few_places}
 use Rattle.find_c.proofs.Splitting.{found_in_row, found_nowhere, from_next_row, lowest_is, none_of_one, row_fits}
 use Rattle.find_c.proofs.run.splitting_tuple.Goals as goal

@@ -1,5 +1,4 @@
-use Rattle.std.proofs.Common.{◌-◌}
-use Rattle.find_c.specs.Inside.{IsFoundFrom}
+use Rattle.find_c.proofs.Prelude.{◌-◌, IsFoundFrom}
 use Rattle.find_c.proofs.run.splitting_tuple.Given as goal
 
 abbrev pub invariant-loop-place : goal.invariant-loop-place

@@ -1,7 +1,4 @@
-use Rattle.std.proofs.Common.{◌∙◌, false, sym, refl, ap}
-use Rattle.std.specs.Bool.{beq}
-use Rattle.std.specs.List.{filter}
-use Rattle.find_c.specs.Choices.{is_accepting}
+use Rattle.find_c.proofs.Prelude.{◌∙◌, false, sym, refl, ap, beq, filter, is_accepting}
 use Rattle.find_c.proofs.Accepting.{kept_accepting}
 use Rattle.find_c.proofs.Marks.{none_of_nothing}
 use Rattle.find_c.proofs.Starting.{nothing_violated, violated_marked}

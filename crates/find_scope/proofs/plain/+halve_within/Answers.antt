@@ -1,7 +1,4 @@
-use Rattle.std.proofs.Common.{◌≡◌, ℕ, ◌<◌, List, length, true, false, not, sym, ap, subst, ◌∙◌, arith}
-use Rattle.std.specs.Prelude.{nat_lt}
-use Rattle.assign.specs.Sets.{union}
-use Rattle.find_scope.specs.Halving.{Halved, Got, then_got, is_empty, halve_within}
+use Rattle.find_scope.proofs.Prelude.{◌≡◌, ℕ, ◌<◌, List, length, true, false, not, sym, ap, subst, ◌∙◌, arith, nat_lt, union, Halved, Got, then_got, is_empty, halve_within}
 use Rattle.find_scope.proofs.Recursion.{asks_first, one_is_got, by_halves, goes_by_halves, first_after, some_found, first_is_shorter, second_is_shorter}
 use Rattle.find_scope.proofs.plain.+halve_within.Goals as goal
 use Rattle.find_scope.proofs.plain.+halve_within.Goals.{After-minus, After-len-in-Got}

@@ -1,6 +1,4 @@
-use Rattle.std.proofs.Common.{refl}
-use Rattle.assign.specs.Sets.{set_where}
-use Rattle.find_scope.specs.Halving.{halve_within}
+use Rattle.find_scope.proofs.Prelude.{refl, set_where, halve_within}
 use Rattle.find_scope.proofs.rows.halving_small.Goals as goal
 
 pub returns : goal.returns

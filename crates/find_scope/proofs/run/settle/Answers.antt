@@ -1,8 +1,4 @@
-use Rattle.std.proofs.Common.{◌≡◌, ◌<◌, ℕ, List, ◌∷◌, length, sym, subst, ap, ◌∙◌, arith}
-use Rattle.assign.specs.Sets.{union}
-use Rattle.find_scope.specs.declared.frames.Frame.{Frame}
-use Rattle.find_scope.specs.declared.frames.Frame.TheVariants.{ThenFirst, Joins}
-use Rattle.find_scope.specs.Run.{Run, finish, meaning, AreFit}
+use Rattle.find_scope.proofs.Prelude.{◌≡◌, ◌<◌, ℕ, List, ◌∷◌, length, sym, subst, ap, ◌∙◌, arith, union, Frame, ThenFirst, Joins, Run, finish, meaning, AreFit}
 use Rattle.find_scope.proofs.Moves.{Holds, joins, is_none, found_some, found_none, found_holds, halves_one, more_room}
 use Rattle.find_scope.proofs.run.settle.Goals as goal
 

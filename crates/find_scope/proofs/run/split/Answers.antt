@@ -1,7 +1,4 @@
-use Rattle.std.proofs.Common.{◌≡◌, ℕ, List, ◌∷◌, sym, subst, ap, ◌∙◌}
-use Rattle.assign.specs.Sets.{union, minus, first_half, second_half}
-use Rattle.find_scope.specs.declared.frames.Frame.TheVariants.{ThenFirst}
-use Rattle.find_scope.specs.Run.{Run, meaning}
+use Rattle.find_scope.proofs.Prelude.{◌≡◌, ℕ, List, ◌∷◌, sym, subst, ap, ◌∙◌, union, minus, first_half, second_half, ThenFirst, Run, meaning}
 use Rattle.find_scope.proofs.Moves.{Holds, minus_first, second_first, split_holds, halves_two}
 use Rattle.find_scope.proofs.run.split.Goals as goal
 

@@ -1,7 +1,4 @@
-use Rattle.std.proofs.Common.{◌≡◌, ℕ, Bool, true, false, not, List, [], ◌∷◌, ◌++◌, refl, sym, ap, ◌∙◌, lit<}
-use Rattle.std.proofs.lemmas.Bool.{both_ways}
-use Rattle.assign.specs.Sets.{has, set_where}
-use Rattle.find_scope.specs.Halving.{Wants, halve, halve_within}
+use Rattle.find_scope.proofs.Prelude.{◌≡◌, ℕ, Bool, true, false, not, List, [], ◌∷◌, ◌++◌, refl, sym, ap, ◌∙◌, lit<, both_ways, has, set_where, Wants, halve, halve_within}
 use Rattle.find_scope.proofs.Got.{within_sub}
 use Rattle.find_scope.proofs.sample.tests_without_zero.Goals as goal
 

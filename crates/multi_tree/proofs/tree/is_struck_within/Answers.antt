@@ -1,7 +1,4 @@
-use Rattle.std.proofs.Common.{sym, ◌∙◌, ap, subst}
-use Rattle.language.specs.Language.{IsQuestion}
-use Rattle.session_laws.specs.Walk.{violates_some}
-use Rattle.session_laws.proofs.Restrict.{part_is_question}
+use Rattle.multi_tree.proofs.Prelude.{sym, ◌∙◌, ap, subst, IsQuestion, violates_some, part_is_question}
 use Rattle.multi_tree.proofs.Turning.{struck_is, none_struck}
 use Rattle.multi_tree.proofs.tree.is_struck_within.Goals as goal
 

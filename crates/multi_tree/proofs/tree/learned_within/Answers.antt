@@ -1,11 +1,4 @@
-use Rattle.std.proofs.Common.{◌≡◌, ◌&&◌, Bool, true, take, sym, ◌∙◌, ap, arith}
-use Rattle.std.specs.Prelude.{slice_index_or}
-use Rattle.std.specs.List.{list_any}
-use Rattle.std.proofs.lemmas.List.{get_or_default, take_all}
-use Rattle.std.proofs.lemmas.Bool.{and_from}
-use Rattle.assign.specs.Sets.{is_within}
-use Rattle.language.specs.declared.candidates.Candidate.{Candidate}
-use Rattle.language.specs.Language.{scope_of, violates}
+use Rattle.multi_tree.proofs.Prelude.{◌≡◌, ◌&&◌, Bool, true, take, sym, ◌∙◌, ap, arith, slice_index_or, list_any, get_or_default, take_all, and_from, is_within, Candidate, scope_of, violates}
 use Rattle.multi_tree.proofs.Turning.{find_first, find_never}
 use Rattle.multi_tree.proofs.tree.learned_within.Goals as goal
 

@@ -1,7 +1,4 @@
-use Rattle.std.proofs.Common.{◌≡◌, ◌&&◌, take, false}
-use Rattle.std.specs.List.{list_any}
-use Rattle.assign.specs.Sets.{is_within}
-use Rattle.language.specs.Language.{scope_of, violates}
+use Rattle.multi_tree.proofs.Prelude.{◌≡◌, ◌&&◌, take, false, list_any, is_within, scope_of, violates}
 use Rattle.multi_tree.proofs.tree.learned_within.Given as goal
 
 abbrev pub invariant-loop-c : goal.invariant-loop-c

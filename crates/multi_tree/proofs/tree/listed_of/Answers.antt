@@ -1,8 +1,4 @@
-use Rattle.std.proofs.Common.{◌+◌, ◌<◌, length, take, get_or, sym, ◌∙◌, ap, refl, arith}
-use Rattle.std.specs.List.{filter}
-use Rattle.std.proofs.lemmas.List.{get_or_default, length-set}
-use Rattle.language.specs.declared.candidates.Candidate.{Candidate}
-use Rattle.language.specs.Language.{violates}
+use Rattle.multi_tree.proofs.Prelude.{◌+◌, ◌<◌, length, take, get_or, sym, ◌∙◌, ap, refl, arith, filter, get_or_default, length-set, Candidate, violates}
 use Rattle.multi_tree.proofs.Turning.{at_most_one, listed_step}
 use Rattle.multi_tree.proofs.tree.listed_of.Goals as goal
 

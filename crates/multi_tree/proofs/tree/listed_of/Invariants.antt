@@ -1,5 +1,4 @@
-use Rattle.std.proofs.Common.{◌≡◌}
-use Rattle.multi_tree.specs.Listed.{AreListed}
+use Rattle.multi_tree.proofs.Prelude.{◌≡◌, AreListed}
 use Rattle.multi_tree.proofs.tree.listed_of.Given as goal
 
 abbrev pub invariant-loop-i : goal.invariant-loop-i

@@ -1,9 +1,4 @@
-use Rattle.std.proofs.Common.{◌-◌, List, length, drop, take, sym, ◌∙◌, ap, subst}
-use Rattle.std.proofs.lemmas.List.Elements.{All-filter, All-take}
-use Rattle.language.specs.declared.candidates.Candidate.{Candidate}
-use Rattle.language.specs.Answers.{IsNetwork}
-use Rattle.language.specs.Language.{IsCandidate, violates}
-use Rattle.session_laws.specs.Walk.{learned_within}
+use Rattle.multi_tree.proofs.Prelude.{◌-◌, List, length, drop, take, sym, ◌∙◌, ap, subst, All-filter, All-take, Candidate, IsNetwork, IsCandidate, violates, learned_within}
 use Rattle.multi_tree.proofs.Turning.{found_known, found_within, listed_found, listed_none}
 use Rattle.multi_tree.proofs.tree.listed_within.Goals as goal
 

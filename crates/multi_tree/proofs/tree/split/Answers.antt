@@ -1,4 +1,4 @@
-use Rattle.std.proofs.Common.{arith}
+use Rattle.multi_tree.proofs.Prelude.{arith}
 use Rattle.multi_tree.proofs.tree.split.Goals as goal
 
 pub push_parts-requires-clause-known : goal.push_parts-requires-clause-known

@@ -1,7 +1,4 @@
-use Rattle.std.proofs.Common.{◌≡◌, ◌-◌, ◌<◌, true, false, List, length, refl, sym, ◌∙◌, ap, subst, arith}
-use Rattle.language.specs.declared.candidates.Candidate.{Candidate}
-use Rattle.session_laws.specs.Walk.{next_turn}
-use Rattle.multi_tree.specs.Listed.{AreListed}
+use Rattle.multi_tree.proofs.Prelude.{◌≡◌, ◌-◌, ◌<◌, true, false, List, length, refl, sym, ◌∙◌, ap, subst, arith, Candidate, next_turn, AreListed}
 use Rattle.multi_tree.proofs.Turning.{none_waits, cut_off, splits, asks, drops, taken, some_asked, nothing_struck}
 use Rattle.multi_tree.proofs.tree.take_sets.Goals as goal
 

@@ -1,6 +1,4 @@
-use Rattle.std.proofs.Common.{◌≡◌, ◌≤◌, length, take}
-use Rattle.session_laws.specs.Walk.{next_turn}
-use Rattle.multi_tree.specs.Listed.{AreStruck}
+use Rattle.multi_tree.proofs.Prelude.{◌≡◌, ◌≤◌, length, take, next_turn, AreStruck}
 use Rattle.multi_tree.proofs.tree.take_sets.Given as goal
 
 abbrev pub invariant-loop-left : goal.invariant-loop-left

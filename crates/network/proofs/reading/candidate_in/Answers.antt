@@ -1,8 +1,4 @@
-use Rattle.std.proofs.Common.{◌≤◌, length, sym, subst, arith}
-use Rattle.language.specs.declared.candidates.Candidate.{Candidate}
-use Rattle.serde_json.specs.View.{view}
-use Rattle.network.specs.declared.fault.NetFault.TheVariants.{BadItem}
-use Rattle.network.specs.Answers.{Reads}
+use Rattle.network.proofs.Prelude.{◌≤◌, length, sym, subst, arith, Candidate, view, BadItem, Reads}
 use Rattle.network.proofs.Items.{item_here}
 use Rattle.network.proofs.reading.candidate_in.Goals as goal
 

@@ -1,8 +1,5 @@
-use Rattle.std.proofs.Common.{◌≡◌, List, ℕ, Bor, length, ap, arith}
-use Rattle.std.specs.Prelude.{◌==◌}
-use Rattle.std.proofs.lemmas.List.{length-map}
+use Rattle.network.proofs.Prelude.{◌≡◌, List, ℕ, Bor, length, ap, arith, ◌==◌, length-map, texts_of}
 use Rattle.std.proofs.lemmas.List.Splits.{length-slice_split}
-use Rattle.language.specs.ByName.{texts_of}
 use Rattle.network.proofs.reading.candidate_of.Goals as goal
 
 pub relation_by-requires-clause-some : goal.relation_by-requires-clause-some

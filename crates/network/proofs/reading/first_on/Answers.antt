@@ -1,8 +1,4 @@
-use Rattle.std.proofs.Common.{◌≡◌, true, get_or, arith, sym, ap, ◌∙◌}
-use Rattle.std.proofs.lemmas.Bool.{eq-eqb}
-use Rattle.std.specs.Prelude.{◌==◌}
-use Rattle.language.specs.declared.candidates.Candidate.{Candidate}
-use Rattle.language.proofs.ByNames.{position_here}
+use Rattle.network.proofs.Prelude.{◌≡◌, true, get_or, arith, sym, ap, ◌∙◌, eq-eqb, ◌==◌, Candidate, position_here}
 use Rattle.network.proofs.Items.{no_repeat, no_scope}
 use Rattle.network.proofs.reading.first_on.Goals as goal
 

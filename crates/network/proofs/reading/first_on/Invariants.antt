@@ -1,6 +1,4 @@
-use Rattle.std.proofs.Common.{◌≡◌, ℕ, ◌<◌, false, get_or}
-use Rattle.std.specs.Prelude.{◌==◌}
-use Rattle.language.specs.declared.candidates.Candidate.{Candidate}
+use Rattle.network.proofs.Prelude.{◌≡◌, ℕ, ◌<◌, false, get_or, ◌==◌, Candidate}
 use Rattle.network.proofs.reading.first_on.Given as goal
 
 abbrev pub invariant-loop-j : goal.invariant-loop-j

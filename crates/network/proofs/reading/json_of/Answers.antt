@@ -1,6 +1,4 @@
-use Rattle.std.proofs.Common.{ap}
-use Rattle.std.specs.Option.{ok_or}
-use Rattle.network.specs.declared.fault.NetFault.TheVariants.{NotJson}
+use Rattle.network.proofs.Prelude.{ap, ok_or, NotJson}
 use Rattle.network.proofs.TextsRead.{json_of-read, json_of-refused, not_both}
 use Rattle.network.proofs.reading.json_of.Goals as goal
 

@@ -1,7 +1,4 @@
-use Rattle.std.proofs.Common.{◌≡◌, [], drop, length}
-use Rattle.serde_json.specs.View.{items_view}
-use Rattle.language.specs.Answers.{IsNetwork}
-use Rattle.network.specs.Target.{network_from}
+use Rattle.network.proofs.Prelude.{◌≡◌, [], drop, length, items_view, IsNetwork, network_from}
 use Rattle.network.proofs.reading.network_of.Given as goal
 
 abbrev pub invariant-loop-item : goal.invariant-loop-item

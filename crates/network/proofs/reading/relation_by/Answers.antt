@@ -1,6 +1,4 @@
-use Rattle.std.proofs.Common.{length, sym, ◌≤◌, ◌≡◌, List, ℕ, Bor, arith}
-use Rattle.std.proofs.lemmas.List.{length-map}
-use Rattle.language.specs.ByName.{texts_of}
+use Rattle.network.proofs.Prelude.{length, sym, ◌≤◌, ◌≡◌, List, ℕ, Bor, arith, length-map, texts_of}
 use Rattle.network.proofs.Joined.{IsJoined, joined}
 use Rattle.network.proofs.reading.relation_by.Goals as goal
 use Rattle.network.proofs.reading.relation_by.Goals.{In_ok-relations}

@@ -1,8 +1,4 @@
-use Rattle.std.proofs.Common.{◌≡◌, ◌++◌, drop}
-use Rattle.std.specs.Option.{option_map}
-use Rattle.serde_json.specs.View.{items_view}
-use Rattle.language.specs.ByName.{texts_of}
-use Rattle.network.specs.Target.{each_text}
+use Rattle.network.proofs.Prelude.{◌≡◌, ◌++◌, drop, option_map, items_view, texts_of, each_text}
 use Rattle.network.proofs.reading.texts_in.Given as goal
 
 abbrev pub invariant-loop-value : goal.invariant-loop-value

@@ -1,4 +1,4 @@
-use Rattle.language.specs.ByName.{texts_of}
+use Rattle.network.proofs.Prelude.{texts_of}
 use Rattle.language.proofs.Fields.{few_here}
 use Rattle.network.proofs.Joined.{begun, one_more}
 use Rattle.network.proofs.reading.within_named.Goals as goal

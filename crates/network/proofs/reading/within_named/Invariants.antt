@@ -1,5 +1,4 @@
-use Rattle.std.proofs.Common.{drop}
-use Rattle.language.specs.ByName.{texts_of}
+use Rattle.network.proofs.Prelude.{drop, texts_of}
 use Rattle.network.proofs.Joined.{IsMasked}
 use Rattle.network.proofs.reading.within_named.Given as goal
 

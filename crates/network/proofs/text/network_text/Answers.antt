@@ -1,11 +1,4 @@
-use Rattle.std.proofs.Common.{◌≡◌, ℕ, ◌<◌, ◌≤◌, List, [], ◌∷◌, ◌++◌, get_or, length, take, sym, ◌∙◌, ap, subst}
-use Rattle.std.specs.Prelude.{string_bytes}
-use Rattle.std.specs.List.{flat_map}
-use Rattle.std.proofs.lemmas.List.{flat_map_more, take_all, take_more}
-use Rattle.language.specs.declared.candidates.Candidate.{Candidate}
-use Rattle.language.specs.Language.{IsCandidate}
-use Rattle.language.specs.Texts.{candidate_text}
-use Rattle.network.specs.Texts.{network_text}
+use Rattle.network.proofs.Prelude.{◌≡◌, ℕ, ◌<◌, ◌≤◌, List, [], ◌∷◌, ◌++◌, get_or, length, take, sym, ◌∙◌, ap, subst, string_bytes, flat_map, flat_map_more, take_all, take_more, Candidate, IsCandidate, candidate_text, network_text}
 use Rattle.network.proofs.text.network_text.Goals as goal
 
 -- what an index past the end would read

@@ -1,6 +1,4 @@
-use Rattle.std.proofs.Common.{◌≡◌, take}
-use Rattle.std.specs.Prelude.{string_bytes}
-use Rattle.network.specs.Texts.{network_text}
+use Rattle.network.proofs.Prelude.{◌≡◌, take, string_bytes, network_text}
 use Rattle.network.proofs.text.network_text.Given as goal
 
 abbrev pub invariant-loop-c : goal.invariant-loop-c

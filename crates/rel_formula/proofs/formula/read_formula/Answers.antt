@@ -1,8 +1,4 @@
-use Rattle.std.proofs.Common.{ℕ, Ok, ◌++◌, sym, ◌∙◌, ap}
-use Rattle.rel_formula.specs.Answers.{then_on}
-use Rattle.rel_formula.specs.Formula.{Truth}
-use Rattle.rel_formula.specs.StepLemmas.{formula_of-steps, steps-formula_of}
-use Rattle.rel_formula.specs.Steps.{truth_steps}
+use Rattle.rel_formula.proofs.Prelude.{ℕ, Ok, ◌++◌, sym, ◌∙◌, ap, then_on, Truth, formula_of-steps, steps-formula_of, truth_steps}
 use Rattle.rel_formula.proofs.formula.read_formula.Goals as goal
 
 pub of_steps-requires-clause-sound : goal.of_steps-requires-clause-sound

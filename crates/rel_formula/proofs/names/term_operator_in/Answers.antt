@@ -1,7 +1,4 @@
-use Rattle.std.proofs.Common.{sym, ◌∙◌, ap}
-use Rattle.serde_json.specs.View.{items_view}
-use Rattle.rel_formula.specs.Answers.{then_on}
-use Rattle.rel_formula.specs.Names.{as_term_operator, operand_count}
+use Rattle.rel_formula.proofs.Prelude.{sym, ◌∙◌, ap, items_view, then_on, as_term_operator, operand_count}
 use Rattle.rel_formula.proofs.Operands.{operand_count-items_view}
 use Rattle.rel_formula.proofs.names.term_operator_in.Goals as goal
 

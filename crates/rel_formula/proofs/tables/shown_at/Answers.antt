@@ -1,9 +1,4 @@
-use Rattle.std.proofs.Common.{◌≡◌, ◌<◌, ℤ, length, take, w64, to_z, of_z, SFits, rules, arith, subst, ap, sym, ◌∙◌}
-use Rattle.std.proofs.lemmas.Int.{to_z-of_z}
-use Rattle.std.proofs.lemmas.List.{length-set, length-take}
-use Rattle.rel_table.specs.Relation.{tuple_at}
-use Rattle.rel_table.proofs.PlaceLemmas.{length-tuple_at}
-use Rattle.rel_formula.specs.Formula.{shown_tuple}
+use Rattle.rel_formula.proofs.Prelude.{◌≡◌, ◌<◌, ℤ, length, take, w64, to_z, of_z, SFits, rules, arith, subst, ap, sym, ◌∙◌, to_z-of_z, length-set, length-take, tuple_at, length-tuple_at, shown_tuple}
 use Rattle.rel_formula.proofs.Places.{shown_more}
 use Rattle.rel_formula.proofs.tables.shown_at.Goals as goal
 

@@ -1,5 +1,4 @@
-use Rattle.std.proofs.Common.{◌≡◌, take, length}
-use Rattle.rel_formula.specs.Formula.{shown_tuple}
+use Rattle.rel_formula.proofs.Prelude.{◌≡◌, take, length, shown_tuple}
 use Rattle.rel_formula.proofs.tables.shown_at.Given as goal
 
 abbrev pub invariant-loop-i : goal.invariant-loop-i

@@ -1,4 +1,4 @@
-use Rattle.std.proofs.Common.{◌≡◌, ◌^◌, length, arith, ap, ◌∙◌}
+use Rattle.rel_formula.proofs.Prelude.{◌≡◌, ◌^◌, length, arith, ap, ◌∙◌}
 use Rattle.rel_formula.proofs.Places.{length-relation_of}
 use Rattle.rel_formula.proofs.tables.table_of.Goals as goal
 

@@ -1,8 +1,5 @@
-use Rattle.std.proofs.Common.{◌≡◌, ◌^◌, ◌<◌, ℤ, None, w64, to_z, of_z, SFits, arith, subst, ap, sym, ◌∙◌}
-use Rattle.std.proofs.lemmas.Int.{to_z-of_z}
+use Rattle.rel_formula.proofs.Prelude.{◌≡◌, ◌^◌, ◌<◌, ℤ, None, w64, to_z, of_z, SFits, arith, subst, ap, sym, ◌∙◌, to_z-of_z, tuple_at, shown_tuple, is_too_big, relation_of, first_too_big}
 use Rattle.std.specs.Option.{option_map}
-use Rattle.rel_table.specs.Relation.{tuple_at}
-use Rattle.rel_formula.specs.Formula.{shown_tuple, is_too_big, relation_of, first_too_big}
 use Rattle.rel_formula.specs.declared.fault.TableOfFault.TheVariants.{TooBig}
 use Rattle.rel_formula.proofs.Places.{relation_of-more, relation_of-all, first_too_big-none, first_too_big-some, none_is, some_is, passed_more}
 use Rattle.rel_formula.proofs.tables.truths_of.Goals as goal

@@ -1,6 +1,4 @@
-use Rattle.std.proofs.Common.{◌≡◌, ℕ, ◌<◌, false, take}
-use Rattle.rel_table.specs.Relation.{tuple_at}
-use Rattle.rel_formula.specs.Formula.{shown_tuple, is_too_big, relation_of}
+use Rattle.rel_formula.proofs.Prelude.{◌≡◌, ℕ, ◌<◌, false, take, tuple_at, shown_tuple, is_too_big, relation_of}
 use Rattle.rel_formula.proofs.tables.truths_of.Given as goal
 
 abbrev pub invariant-loop-place : goal.invariant-loop-place

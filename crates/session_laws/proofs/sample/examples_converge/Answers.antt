@@ -1,12 +1,4 @@
-use Rattle.std.proofs.Common.{refl, None, [], ◌∷◌, true, false}
-use Rattle.std.proofs.lemmas.List.Elements.{All-nil}
-use Rattle.assign.specs.Sets.{set_where}
-use Rattle.assign.specs.declared.events.Plan.TheVariants.{Quacq}
-use Rattle.language.specs.Language.{IsImplied}
-use Rattle.language.proofs.Covered.{covered_converged}
-use Rattle.find_scope.specs.Halving.{halve_within}
-use Rattle.session_laws.specs.Session.{with_quiet_replies, read_on}
-use Rattle.session_laws.specs.Examples.{equal_or_not, pair, says}
+use Rattle.session_laws.proofs.Prelude.{refl, None, [], ◌∷◌, true, false, All-nil, set_where, Quacq, IsImplied, covered_converged, halve_within, with_quiet_replies, read_on, equal_or_not, pair, says}
 use Rattle.session_laws.proofs.ExampleLanguages.{equal_or_not_is}
 use Rattle.session_laws.proofs.States.{implied_is_covered}
 use Rattle.session_laws.proofs.sample.examples_converge.Goals as goal

@@ -1,7 +1,4 @@
-use Rattle.std.proofs.Common.{refl, None}
-use Rattle.assign.specs.Sets.{set_where}
-use Rattle.language.proofs.Covered.{covered_converged}
-use Rattle.session_laws.specs.Session.{read_on}
+use Rattle.session_laws.proofs.Prelude.{refl, None, set_where, covered_converged, read_on}
 use Rattle.session_laws.proofs.ExampleLanguages.{equal_or_not_is}
 use Rattle.session_laws.proofs.ScopeByScope.{scopes_are_covered}
 use Rattle.session_laws.proofs.sample.scopes_converge.Goals as goal

@@ -1,4 +1,4 @@
-use Rattle.std.proofs.Common.{◌∙◌}
+use Rattle.voc_read.proofs.Prelude.{◌∙◌}
 use Rattle.voc_read.proofs.MemberKeys.{other_keys}
 use Rattle.voc_read.proofs.keys.has_other_key.Goals as goal
 

@@ -1,4 +1,4 @@
-use Rattle.serde_json.specs.View.{view}
+use Rattle.voc_read.proofs.Prelude.{view}
 use Rattle.voc_read.proofs.Widths.{widest-found}
 use Rattle.voc_read.proofs.keys.under.Goals as goal
 

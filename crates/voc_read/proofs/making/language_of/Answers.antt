@@ -1,14 +1,5 @@
-use Rattle.std.proofs.Common.{◌≡◌, ◌≢◌, None, Ok, Err, map, subst, sym, ap, ◌∙◌}
-use Rattle.std.specs.Prelude.{Some}
-use Rattle.std.proofs.lemmas.Result.{err_from_is_err_and}
-use Rattle.serde_json.specs.View.{items_view}
-use Rattle.language.specs.Building.{listed_in}
+use Rattle.voc_read.proofs.Prelude.{◌≡◌, ◌≢◌, None, Ok, Err, map, subst, sym, ap, ◌∙◌, Some, err_from_is_err_and, items_view, listed_in, names_refusal, listed_items, outline_data, named_range, ranges_of, with_ranges, AreApart, scopes_of, texts_of}
 use Rattle.language.specs.declared.parts.LangFault.TheVariants as lang
-use Rattle.voc_read.specs.Names.{names_refusal}
-use Rattle.voc_read.specs.Outline.{listed_items, outline_data}
-use Rattle.voc_read.specs.Ranges.{named_range, ranges_of, with_ranges, AreApart}
-use Rattle.voc_read.specs.Scopes.{scopes_of}
-use Rattle.voc_read.specs.Texts.{texts_of}
 use Rattle.voc_read.proofs.KnownRanges.{are_known, known_as}
 use Rattle.voc_read.proofs.LanguageMade.{is_language, is_refused, names_refused, outline_refused, ranges_refused, relations_refused, scopes_refused}
 use Rattle.voc_read.proofs.making.language_of.Goals as goal

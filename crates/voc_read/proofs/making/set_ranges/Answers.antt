@@ -1,8 +1,4 @@
-use Rattle.std.proofs.Common.{◌≡◌, ◌<◌, [], length, get_or, map, sym, ap, ◌∙◌, pos, w64, SFits, rules, arith, subst}
-use Rattle.std.proofs.lemmas.Int.{to_z-of_z}
-use Rattle.std.proofs.lemmas.List.{length-map, get_or-map, take_all}
-use Rattle.voc_read.specs.declared.ranges.NamedRange.{NamedRange}
-use Rattle.voc_read.specs.Ranges.{VariableRange, named_range, with_ranges, IsKnown}
+use Rattle.voc_read.proofs.Prelude.{◌≡◌, ◌<◌, [], length, get_or, map, sym, ap, ◌∙◌, pos, w64, SFits, rules, arith, subst, to_z-of_z, length-map, get_or-map, take_all, NamedRange, VariableRange, named_range, with_ranges, IsKnown}
 use Rattle.voc_read.proofs.KnownRanges.{numbered}
 use Rattle.voc_read.proofs.RangesSet.{Sets, at_first, known_at, one_more}
 use Rattle.voc_read.proofs.making.set_ranges.Goals as goal

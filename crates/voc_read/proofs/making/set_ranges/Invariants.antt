@@ -1,5 +1,4 @@
-use Rattle.std.proofs.Common.{◌≡◌, map, take}
-use Rattle.voc_read.specs.Ranges.{named_range, with_ranges}
+use Rattle.voc_read.proofs.Prelude.{◌≡◌, map, take, named_range, with_ranges}
 use Rattle.voc_read.proofs.making.set_ranges.Given as goal
 
 abbrev pub invariant-loop-range : goal.invariant-loop-range

@@ -1,7 +1,5 @@
-use Rattle.std.proofs.Common.{◌≡◌, None, Some, sym, ◌∙◌, refl}
+use Rattle.voc_read.proofs.Prelude.{◌≡◌, None, Some, sym, ◌∙◌, refl, first_bad, first_repeat, texts_of}
 use Rattle.voc_read.proofs.NameForms.{first_bad-texts_of, names_refusal-parts, AreNames-accepted}
-use Rattle.voc_read.specs.Names.{first_bad, first_repeat}
-use Rattle.voc_read.specs.Texts.{texts_of}
 use Rattle.voc_read.proofs.names.check_names.Goals as goal
 
 pub returns-in-Some-clause-refused : goal.returns-in-Some-clause-refused

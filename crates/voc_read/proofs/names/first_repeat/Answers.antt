@@ -1,6 +1,4 @@
-use Rattle.std.proofs.Common.{arith, ◌≡◌, ◌++◌, ◌∷◌, [], true, false, get_or, sym, ◌∙◌}
-use Rattle.std.specs.List.{list_any}
-use Rattle.std.specs.Str.{bytes_eq}
+use Rattle.voc_read.proofs.Prelude.{arith, ◌≡◌, ◌++◌, ◌∷◌, [], true, false, get_or, sym, ◌∙◌, list_any, bytes_eq}
 use Rattle.voc_read.proofs.Repeats.{repeats, goes_on, all_are_new}
 use Rattle.voc_read.proofs.names.first_repeat.Goals as goal
 

@@ -1,6 +1,4 @@
-use Rattle.std.proofs.Common.{arith, ◌≡◌, ◌++◌, ◌∷◌, [], None, drop, get_or, sym, ◌∙◌}
-use Rattle.voc_read.specs.Names.{repeat_after}
-use Rattle.voc_read.specs.Texts.{texts_of}
+use Rattle.voc_read.proofs.Prelude.{arith, ◌≡◌, ◌++◌, ◌∷◌, [], None, drop, get_or, sym, ◌∙◌, repeat_after, texts_of}
 use Rattle.voc_read.proofs.Repeats.{goes_on, is_no_repeat}
 use Rattle.voc_read.proofs.names.index_names.Goals as goal
 

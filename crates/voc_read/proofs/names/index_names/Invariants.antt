@@ -1,6 +1,4 @@
-use Rattle.std.proofs.Common.{◌≡◌, take, drop}
-use Rattle.voc_read.specs.Names.{first_repeat, repeat_after}
-use Rattle.voc_read.specs.Texts.{texts_of}
+use Rattle.voc_read.proofs.Prelude.{◌≡◌, take, drop, first_repeat, repeat_after, texts_of}
 use Rattle.voc_read.proofs.names.index_names.Given as goal
 
 abbrev pub invariant-loop-name : goal.invariant-loop-name

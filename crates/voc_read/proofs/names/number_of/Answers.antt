@@ -1,4 +1,4 @@
-use Rattle.std.proofs.Common.{◌∙◌}
+use Rattle.voc_read.proofs.Prelude.{◌∙◌}
 use Rattle.voc_read.proofs.Repeats.{position-texts_of}
 use Rattle.voc_read.proofs.names.number_of.Goals as goal
 

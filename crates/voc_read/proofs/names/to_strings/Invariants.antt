@@ -1,5 +1,4 @@
-use Rattle.std.proofs.Common.{◌≡◌, map, take, string_bytes, String, Global}
-use Rattle.voc_read.specs.Texts.{texts_of}
+use Rattle.voc_read.proofs.Prelude.{◌≡◌, map, take, string_bytes, String, Global, texts_of}
 use Rattle.voc_read.proofs.names.to_strings.Given as goal
 
 abbrev pub invariant-loop-name : goal.invariant-loop-name

@@ -1,5 +1,4 @@
-use Rattle.std.proofs.Common.{codes}
-use Rattle.serde_json.specs.View.{view}
+use Rattle.voc_read.proofs.Prelude.{codes, view}
 use Rattle.voc_read.proofs.Widths.{widest-found_in}
 use Rattle.voc_read.proofs.outline.held_by.Goals as goal
 

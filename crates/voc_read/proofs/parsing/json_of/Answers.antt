@@ -1,6 +1,4 @@
-use Rattle.std.proofs.Common.{ap}
-use Rattle.std.specs.Option.{ok_or}
-use Rattle.voc_read.specs.declared.fault.VocFault.TheVariants.{NotJson}
+use Rattle.voc_read.proofs.Prelude.{ap, ok_or, NotJson}
 use Rattle.voc_read.proofs.ReadSizes.{widest-read}
 use Rattle.voc_read.proofs.TextsRead.{json_of-read, json_of-refused, not_both}
 use Rattle.voc_read.proofs.parsing.json_of.Goals as goal

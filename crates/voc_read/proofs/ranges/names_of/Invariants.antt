@@ -1,6 +1,4 @@
-use Rattle.std.proofs.Common.{◌≡◌, map, take}
-use Rattle.voc_read.specs.Ranges.{named_range, ranged_names}
-use Rattle.voc_read.specs.Texts.{texts_of}
+use Rattle.voc_read.proofs.Prelude.{◌≡◌, map, take, named_range, ranged_names, texts_of}
 use Rattle.voc_read.proofs.ranges.names_of.Given as goal
 
 abbrev pub invariant-loop-range : goal.invariant-loop-range

@@ -1,8 +1,4 @@
-use Rattle.std.proofs.Common.{◌≡◌, ◌++◌, Ok, drop, length, map}
-use Rattle.serde_json.specs.View.{items_view}
-use Rattle.voc_read.specs.Answers.{then_on}
-use Rattle.voc_read.specs.Ranges.{named_range, ranges_from}
-use Rattle.voc_read.specs.Texts.{texts_of}
+use Rattle.voc_read.proofs.Prelude.{◌≡◌, ◌++◌, Ok, drop, length, map, items_view, then_on, named_range, ranges_from, texts_of}
 use Rattle.voc_read.proofs.ranges.ranges_in.Given as goal
 
 abbrev pub invariant-loop-i : goal.invariant-loop-i

@@ -1,8 +1,5 @@
-use Rattle.std.proofs.Common.{◌≢◌, length, arith, ap}
+use Rattle.voc_read.proofs.Prelude.{◌≢◌, length, arith, ap, ltb-true, ltb-false, ok_or, WrongKind}
 use Rattle.std.proofs.lemmas.Bool.Decides.{nat_tests}
-use Rattle.std.proofs.lemmas.Bool.{ltb-true, ltb-false}
-use Rattle.std.specs.Option.{ok_or}
-use Rattle.voc_read.specs.declared.fault.VocFault.TheVariants.{WrongKind}
 use Rattle.voc_read.proofs.RangeSteps.{not_three}
 use Rattle.voc_read.proofs.ranges.stated_by.Goals as goal
 use Rattle.voc_read.proofs.ranges.stated_by.Goals.{in_default-via-then-list-lt3, in_default-via-else-list-lt3+else-list-lt4}

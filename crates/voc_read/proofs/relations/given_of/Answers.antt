@@ -1,7 +1,4 @@
-use Rattle.std.proofs.Common.{◌≡◌, None, List, map, subst}
-use Rattle.language.specs.Inside.{given_by}
-use Rattle.language.specs.declared.parts.RelPart.{RelPart}
-use Rattle.voc_read.specs.Relations.{relation_names_refusal}
+use Rattle.voc_read.proofs.Prelude.{◌≡◌, None, List, map, subst, given_by, RelPart, relation_names_refusal}
 use Rattle.voc_read.proofs.RelationNames.{AreNames-given_names}
 use Rattle.voc_read.proofs.relations.given_of.Goals as goal
 

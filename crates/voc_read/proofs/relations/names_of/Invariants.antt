@@ -1,7 +1,4 @@
-use Rattle.std.proofs.Common.{◌≡◌, map, take}
-use Rattle.language.specs.Inside.{given_by}
-use Rattle.voc_read.specs.Relations.{given_names}
-use Rattle.voc_read.specs.Texts.{texts_of}
+use Rattle.voc_read.proofs.Prelude.{◌≡◌, map, take, given_by, given_names, texts_of}
 use Rattle.voc_read.proofs.relations.names_of.Given as goal
 
 abbrev pub invariant-loop-relation : goal.invariant-loop-relation

@@ -1,12 +1,4 @@
-use Rattle.std.proofs.Common.{◌≤◌, arith, length-append, sym, subst}
-use Rattle.std.proofs.lemmas.List.Elements.{All-push}
-use Rattle.std.proofs.lemmas.Result.{err_from_is_err_and}
-use Rattle.serde_json.specs.View.{view, items_view}
-use Rattle.serde_json.specs.declared.value.Value.{Value}
-use Rattle.language.specs.declared.parts.RelPart.{RelPart}
-use Rattle.language.specs.Building.{IsOver}
-use Rattle.voc_read.specs.Relations.{IsNamed}
-use Rattle.voc_read.specs.Widest.{widest, items_widest}
+use Rattle.voc_read.proofs.Prelude.{◌≤◌, arith, length-append, sym, subst, All-push, err_from_is_err_and, view, items_view, Value, RelPart, IsOver, IsNamed, widest, items_widest}
 use Rattle.voc_read.proofs.Widths.{widest-get_or}
 use Rattle.voc_read.proofs.RelationSteps.{reads_one_more, reads_no_more, reads_all}
 use Rattle.voc_read.proofs.relations.relations_of.Goals as goal

@@ -1,9 +1,4 @@
-use Rattle.std.proofs.Common.{◌≡◌, ◌++◌, Ok, All, drop, length, map}
-use Rattle.serde_json.specs.View.{items_view}
-use Rattle.language.specs.Inside.{given_by}
-use Rattle.voc_read.specs.Answers.{then_on}
-use Rattle.language.specs.Building.{IsOver}
-use Rattle.voc_read.specs.Relations.{relations_from, IsNamed}
+use Rattle.voc_read.proofs.Prelude.{◌≡◌, ◌++◌, Ok, All, drop, length, map, items_view, given_by, then_on, IsOver, relations_from, IsNamed}
 use Rattle.voc_read.proofs.relations.relations_of.Given as goal
 
 abbrev pub invariant-loop-i : goal.invariant-loop-i

@@ -1,5 +1,4 @@
-use Rattle.std.proofs.Common.{sym, codes}
-use Rattle.serde_json.specs.View.{view}
+use Rattle.voc_read.proofs.Prelude.{sym, codes, view}
 use Rattle.voc_read.proofs.Widths.{widest-get}
 use Rattle.voc_read.proofs.rules.stated_under.Goals as goal
 

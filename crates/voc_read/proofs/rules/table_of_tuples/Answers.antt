@@ -1,6 +1,4 @@
-use Rattle.std.proofs.Common.{◌≡◌, ℤ, pos, to_z, of_z, w64, SFits, rules, subst, ◌∙◌}
-use Rattle.std.proofs.lemmas.Int.{to_z-of_z}
-use Rattle.rel_table.specs.Made.{IsMade, lists}
+use Rattle.voc_read.proofs.Prelude.{◌≡◌, ℤ, pos, to_z, of_z, w64, SFits, rules, subst, ◌∙◌, to_z-of_z, IsMade, lists}
 use Rattle.voc_read.proofs.TablesRead.{table-made}
 use Rattle.voc_read.proofs.rules.table_of_tuples.Goals as goal
 

@@ -1,6 +1,4 @@
-use Rattle.std.proofs.Common.{◌≡◌, None, rules, sym, ◌∙◌}
-use Rattle.voc_read.specs.Scopes.{numbers_of}
-use Rattle.voc_read.specs.Texts.{texts_of}
+use Rattle.voc_read.proofs.Prelude.{◌≡◌, None, rules, sym, ◌∙◌, numbers_of, texts_of}
 use Rattle.voc_read.proofs.NumberSteps.{unknown, one_more, none_of_err, some_of_ok}
 use Rattle.voc_read.proofs.scopes.numbers_of.Goals as goal
 

@@ -1,7 +1,4 @@
-use Rattle.std.proofs.Common.{◌≡◌, ◌++◌, drop}
-use Rattle.std.specs.Option.{option_map}
-use Rattle.voc_read.specs.Scopes.{numbers_of}
-use Rattle.voc_read.specs.Texts.{texts_of}
+use Rattle.voc_read.proofs.Prelude.{◌≡◌, ◌++◌, drop, option_map, numbers_of, texts_of}
 use Rattle.voc_read.proofs.scopes.numbers_of.Given as goal
 
 abbrev pub invariant-loop-name : goal.invariant-loop-name

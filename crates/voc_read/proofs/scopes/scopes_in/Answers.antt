@@ -1,5 +1,4 @@
-use Rattle.std.proofs.Common.{arith, length-append}
-use Rattle.std.proofs.lemmas.Result.{err_from_is_err_and}
+use Rattle.voc_read.proofs.Prelude.{arith, length-append, err_from_is_err_and}
 use Rattle.voc_read.proofs.ScopeSteps.{Listed, reads_one_more, reads_no_more, reads_all}
 use Rattle.voc_read.proofs.scopes.scopes_in.Goals as goal
 

@@ -1,8 +1,4 @@
-use Rattle.std.proofs.Common.{◌≡◌, ◌++◌, Ok, drop, length}
-use Rattle.serde_json.specs.View.{items_view}
-use Rattle.voc_read.specs.Answers.{then_on}
-use Rattle.voc_read.specs.Scopes.{scopes_from}
-use Rattle.voc_read.specs.Texts.{texts_of}
+use Rattle.voc_read.proofs.Prelude.{◌≡◌, ◌++◌, Ok, drop, length, items_view, then_on, scopes_from, texts_of}
 use Rattle.voc_read.proofs.ScopeSteps.{variables}
 use Rattle.voc_read.proofs.scopes.scopes_in.Given as goal
 

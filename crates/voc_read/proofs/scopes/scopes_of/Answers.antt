@@ -1,8 +1,4 @@
-use Rattle.std.proofs.Common.{◌≡◌, ◌<◌, ℕ, List, Bor, length, ap, subst, ◌∙◌}
-use Rattle.std.specs.Prelude.{All}
-use Rattle.std.proofs.lemmas.List.{length-map}
-use Rattle.serde_json.specs.View.{items_view}
-use Rattle.voc_read.specs.Texts.{texts_of}
+use Rattle.voc_read.proofs.Prelude.{◌≡◌, ◌<◌, ℕ, List, Bor, length, ap, subst, ◌∙◌, All, length-map, items_view, texts_of}
 use Rattle.voc_read.proofs.ScopeSteps.{variables}
 use Rattle.voc_read.proofs.KnownScopes.{known}
 use Rattle.voc_read.proofs.scopes.scopes_of.Goals as goal

@@ -1,7 +1,4 @@
-use Rattle.std.proofs.Common.{◌≤◌, List, length, sym, subst}
-use Rattle.serde_json.specs.View.{view, items_view}
-use Rattle.serde_json.specs.declared.value.Value.{Value}
-use Rattle.voc_read.specs.Widest.{widest, items_widest}
+use Rattle.voc_read.proofs.Prelude.{◌≤◌, List, length, sym, subst, view, items_view, Value, widest, items_widest}
 use Rattle.voc_read.proofs.Widths.{widest-as_array, length-as_array}
 use Rattle.voc_read.proofs.values.items_of.Goals as goal
 

@@ -1,8 +1,4 @@
-use Rattle.std.proofs.Common.{ap, sym, ◌∙◌}
-use Rattle.std.specs.Option.{ok_or}
-use Rattle.std.proofs.lemmas.Result.{err_from_is_err_and}
-use Rattle.voc_read.specs.declared.fault.VocFault.TheVariants.{WrongKind}
-use Rattle.voc_read.specs.Values.{whole_number}
+use Rattle.voc_read.proofs.Prelude.{ap, sym, ◌∙◌, ok_or, err_from_is_err_and, WrongKind, whole_number}
 use Rattle.voc_read.proofs.EachSteps.{reads_no_more, reads_all, refuses}
 use Rattle.voc_read.proofs.values.numbers_of.Goals as goal
 

@@ -1,7 +1,4 @@
-use Rattle.std.proofs.Common.{◌≡◌, ◌++◌, drop}
-use Rattle.std.specs.Option.{option_map}
-use Rattle.serde_json.specs.View.{items_view}
-use Rattle.voc_read.specs.Values.{whole_number, each_of}
+use Rattle.voc_read.proofs.Prelude.{◌≡◌, ◌++◌, drop, option_map, items_view, whole_number, each_of}
 use Rattle.voc_read.proofs.values.numbers_of.Given as goal
 
 abbrev pub invariant-loop-value : goal.invariant-loop-value

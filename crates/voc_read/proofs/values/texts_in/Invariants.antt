@@ -1,9 +1,4 @@
-use Rattle.std.proofs.Common.{◌≡◌, ◌++◌, drop, length}
-use Rattle.std.specs.Option.{option_map}
-use Rattle.serde_json.specs.Find.{as_str}
-use Rattle.serde_json.specs.View.{items_view}
-use Rattle.voc_read.specs.Texts.{texts_of}
-use Rattle.voc_read.specs.Values.{each_of}
+use Rattle.voc_read.proofs.Prelude.{◌≡◌, ◌++◌, drop, length, option_map, as_str, items_view, texts_of, each_of}
 use Rattle.voc_read.proofs.values.texts_in.Given as goal
 
 abbrev pub invariant-loop-value : goal.invariant-loop-value

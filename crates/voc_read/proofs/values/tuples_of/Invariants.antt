@@ -1,8 +1,4 @@
-use Rattle.std.proofs.Common.{◌≡◌, ◌++◌, drop, length}
-use Rattle.std.specs.Option.{option_map}
-use Rattle.serde_json.specs.View.{items_view}
-use Rattle.rel_table.specs.Made.{lists}
-use Rattle.voc_read.specs.Values.{number_list, each_of}
+use Rattle.voc_read.proofs.Prelude.{◌≡◌, ◌++◌, drop, length, option_map, items_view, lists, number_list, each_of}
 use Rattle.voc_read.proofs.values.tuples_of.Given as goal
 
 abbrev pub invariant-loop-value : goal.invariant-loop-value

@@ -1,9 +1,4 @@
-use Rattle.std.proofs.Common.{◌≡◌, ◌<◌, length, not, ◌∙◌, ap, sym, arith}
-use Rattle.std.specs.Prelude.{◌==◌, slice_set}
-use Rattle.std.specs.List.{filter}
-use Rattle.std.proofs.lemmas.List.{length-set}
-use Rattle.bias_store.specs.KeptSet.{KeptSet}
-use Rattle.bias_store.specs.Inside.{members_from}
+use Rattle.bias_store.proofs.Prelude.{◌≡◌, ◌<◌, length, not, ◌∙◌, ap, sym, arith, ◌==◌, slice_set, filter, length-set, KeptSet, members_from}
 use Rattle.bias_store.proofs.Members.{read_at}
 use Rattle.bias_store.proofs.Struck.{dropped, dropped_count, made_still}
 use Rattle.bias_store.proofs.kept.Kept.drop_scope.Goals as goal

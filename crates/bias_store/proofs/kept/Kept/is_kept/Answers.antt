@@ -1,7 +1,4 @@
-use Rattle.std.proofs.Common.{◌<◌, ◌≤◌, length, subst, sym, ◌∙◌, arith}
-use Rattle.std.specs.Prelude.{Contains}
-use Rattle.std.proofs.lemmas.Bool.{le-ltb, both_ways}
-use Rattle.bias_store.specs.KeptSet.{KeptSet}
+use Rattle.bias_store.proofs.Prelude.{◌<◌, ◌≤◌, length, subst, sym, ◌∙◌, arith, Contains, le-ltb, both_ways, KeptSet}
 use Rattle.bias_store.proofs.Members.{read_at}
 use Rattle.bias_store.proofs.Contained.{kept_is, kept_on, none_past}
 use Rattle.bias_store.proofs.kept.Kept.is_kept.Goals as goal

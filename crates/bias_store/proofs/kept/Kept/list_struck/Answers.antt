@@ -1,7 +1,4 @@
-use Rattle.std.proofs.Common.{◌≡◌, true, sym, ◌∙◌, ap, subst}
-use Rattle.std.specs.Prelude.{List, ℕ}
-use Rattle.bias_store.specs.KeptSet.{KeptSet, is_struck_within}
-use Rattle.bias_store.specs.Violated.{AreHitsListed}
+use Rattle.bias_store.proofs.Prelude.{◌≡◌, true, sym, ◌∙◌, ap, subst, List, ℕ, KeptSet, is_struck_within, AreHitsListed}
 use Rattle.bias_store.proofs.Within.{struck_some, struck_all_within}
 use Rattle.bias_store.proofs.kept.Kept.list_struck.Goals as goal
 

@@ -1,9 +1,4 @@
-use Rattle.std.proofs.Common.{length, subst, sym, ap, ◌∙◌}
-use Rattle.std.specs.Prelude.{All}
-use Rattle.std.proofs.lemmas.List.{length-replicate}
-use Rattle.std.proofs.lemmas.List.Elements.{All-nil}
-use Rattle.language.specs.Language.{IsCandidate}
-use Rattle.bias_store.specs.Inside.{members_from}
+use Rattle.bias_store.proofs.Prelude.{length, subst, sym, ap, ◌∙◌, All, length-replicate, All-nil, IsCandidate, members_from}
 use Rattle.bias_store.proofs.Ones.{ones_of-zero}
 use Rattle.bias_store.proofs.Members.{members_from-none}
 use Rattle.bias_store.proofs.kept.Kept.of.Goals as goal

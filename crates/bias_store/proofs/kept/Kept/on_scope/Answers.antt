@@ -1,8 +1,4 @@
-use Rattle.std.proofs.Common.{ℕ, ◌<◌, ◌∙◌, ap, sym, arith, length}
-use Rattle.std.specs.Prelude.{slice_index_or}
-use Rattle.std.proofs.lemmas.List.{get_or_read}
-use Rattle.bias_store.specs.Masks.{ones_of}
-use Rattle.bias_store.specs.KeptSet.{KeptSet, kept_relations}
+use Rattle.bias_store.proofs.Prelude.{ℕ, ◌<◌, ◌∙◌, ap, sym, arith, length, slice_index_or, get_or_read, ones_of, KeptSet, kept_relations}
 use Rattle.bias_store.proofs.Members.{relations_at}
 use Rattle.bias_store.proofs.kept.Kept.on_scope.Goals as goal
 

@@ -1,10 +1,4 @@
-use Rattle.std.proofs.Common.{◌≡◌, ℕ, ◌+◌, length, subst, sym, ap, ◌∙◌, arith}
-use Rattle.std.specs.Prelude.{slice_set, All}
-use Rattle.language.specs.Language.{IsCandidate, candidates}
-use Rattle.assign.specs.Sets.{numbers}
-use Rattle.bias_store.specs.Accepting.{IsAcceptingOf}
-use Rattle.bias_store.specs.KeptSet.{KeptSet}
-use Rattle.bias_store.specs.Inside.{members_from}
+use Rattle.bias_store.proofs.Prelude.{◌≡◌, ℕ, ◌+◌, length, subst, sym, ap, ◌∙◌, arith, slice_set, All, IsCandidate, candidates, numbers, IsAcceptingOf, KeptSet, members_from}
 use Rattle.bias_store.proofs.Filled.{IsFilled, filled_more, filled_all, candidates_known}
 use Rattle.bias_store.proofs.kept.Kept.reset.Goals as goal
 

@@ -1,4 +1,4 @@
-use Rattle.std.proofs.Common.{◌≡◌}
+use Rattle.bias_store.proofs.Prelude.{◌≡◌}
 use Rattle.bias_store.proofs.Filled.{IsFilled}
 use Rattle.bias_store.proofs.kept.Kept.reset.Given as goal
 

@@ -1,5 +1,4 @@
-use Rattle.std.proofs.Common.{◌≡◌, ◌-◌, ◌≤◌, length}
-use Rattle.language.specs.Language.{violates}
+use Rattle.bias_store.proofs.Prelude.{◌≡◌, ◌-◌, ◌≤◌, length, violates}
 use Rattle.bias_store.proofs.Struck.{IsStruck}
 use Rattle.bias_store.proofs.kept.Kept.strike.Given as goal
 

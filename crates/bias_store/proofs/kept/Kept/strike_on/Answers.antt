@@ -1,10 +1,4 @@
-use Rattle.std.proofs.Common.{◌≡◌, ◌-◌, ◌<◌, length, not, ◌∙◌, ap, subst, sym, arith}
-use Rattle.std.specs.Prelude.{slice_set, bit_and}
-use Rattle.std.specs.List.{filter}
-use Rattle.std.specs.Int.{bit_not, w64}
-use Rattle.language.specs.Language.{violates}
-use Rattle.bias_store.specs.KeptSet.{KeptSet}
-use Rattle.bias_store.specs.Inside.{members_from}
+use Rattle.bias_store.proofs.Prelude.{◌≡◌, ◌-◌, ◌<◌, length, not, ◌∙◌, ap, subst, sym, arith, slice_set, bit_and, filter, bit_not, w64, violates, KeptSet, members_from}
 use Rattle.bias_store.proofs.Members.{read_at}
 use Rattle.bias_store.proofs.Runs.{open_elsewhere}
 use Rattle.bias_store.proofs.Struck.{IsStruck, enough_alone, struck_alone, struck_all, made_still}

@@ -1,9 +1,4 @@
-use Rattle.std.proofs.Common.{◌∙◌, ap, subst, length}
-use Rattle.std.specs.List.{list_any}
-use Rattle.std.specs.Option.{IfSome, IfNone}
-use Rattle.language.specs.Language.{violates}
-use Rattle.bias_store.specs.KeptSet.{KeptSet}
-use Rattle.bias_store.specs.Violated.{AreNoneViolated, IsViolated}
+use Rattle.bias_store.proofs.Prelude.{◌∙◌, ap, subst, length, list_any, IfSome, IfNone, violates, KeptSet, AreNoneViolated, IsViolated}
 use Rattle.bias_store.proofs.Striking.{found_or_none}
 use Rattle.bias_store.proofs.kept.Kept.strikes_any.Goals as goal
 

@@ -1,5 +1,4 @@
-use Rattle.std.proofs.Common.{◌≡◌, ◌+◌, ◌-◌, Some, get_or, refl, sym, ◌∙◌, ap, arith}
-use Rattle.assign.specs.Assignment.{value_of}
+use Rattle.bias_store.proofs.Prelude.{◌≡◌, ◌+◌, ◌-◌, Some, get_or, refl, sym, ◌∙◌, ap, arith, value_of}
 use Rattle.bias_store.proofs.InRow.{first_found, none_more}
 use Rattle.bias_store.proofs.shown.Shown.first_in_row.Goals as goal
 

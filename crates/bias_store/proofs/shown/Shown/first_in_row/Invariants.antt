@@ -1,7 +1,4 @@
-use Rattle.std.proofs.Common.{◌≡◌, ◌-◌, ◌<◌, ◌≤◌, Some}
-use Rattle.std.specs.Prelude.{slice_index_or}
-use Rattle.assign.specs.Assignment.{value_of}
-use Rattle.bias_store.specs.Shown.{AreNoneIn}
+use Rattle.bias_store.proofs.Prelude.{◌≡◌, ◌-◌, ◌<◌, ◌≤◌, Some, slice_index_or, value_of, AreNoneIn}
 use Rattle.bias_store.proofs.shown.Shown.first_in_row.Given as goal
 
 abbrev pub invariant-loop-v : goal.invariant-loop-v

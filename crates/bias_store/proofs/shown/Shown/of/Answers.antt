@@ -1,4 +1,4 @@
-use Rattle.std.proofs.Common.{◌≡◌, ◌-◌, ℕ, subst, arith}
+use Rattle.bias_store.proofs.Prelude.{◌≡◌, ◌-◌, ℕ, subst, arith}
 use Rattle.bias_store.proofs.Showing.{AreShownFrom, shown_none}
 use Rattle.bias_store.proofs.shown.Shown.of.Goals as goal
 

@@ -1,4 +1,4 @@
-use Rattle.std.proofs.Common.{◌-◌}
+use Rattle.bias_store.proofs.Prelude.{◌-◌}
 use Rattle.bias_store.proofs.Showing.{AreShownFrom}
 use Rattle.bias_store.proofs.shown.Shown.of.Given as goal
 

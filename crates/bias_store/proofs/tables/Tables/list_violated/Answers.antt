@@ -1,4 +1,4 @@
-use Rattle.std.proofs.Common.{arith}
+use Rattle.bias_store.proofs.Prelude.{arith}
 use Rattle.bias_store.proofs.Within.{hits_none, hits_more, hits_some, hits_all}
 use Rattle.bias_store.proofs.tables.Tables.list_violated.Goals as goal
 

@@ -1,7 +1,4 @@
-use Rattle.std.proofs.Common.{◌+◌, ◌-◌, ◌*◌, length, get_or, refl, sym, ◌∙◌, ap, subst, arith}
-use Rattle.std.specs.Option.{IfNone}
-use Rattle.language.proofs.Placing.{value_fits}
-use Rattle.bias_store.specs.Violated.{AreNoneViolated}
+use Rattle.bias_store.proofs.Prelude.{◌+◌, ◌-◌, ◌*◌, length, get_or, refl, sym, ◌∙◌, ap, subst, arith, IfNone, value_fits, AreNoneViolated}
 use Rattle.bias_store.proofs.Rows.{row_small}
 use Rattle.bias_store.proofs.Violating.{row_read, row_two, row_end, room, none_here, first_here, length-slice_range, range_is}
 use Rattle.bias_store.proofs.tables.Tables.next_in_row.Goals as goal

@@ -1,10 +1,4 @@
-use Rattle.std.proofs.Common.{◌≡◌, ℕ, ◌+◌, ◌<◌, ◌≤◌, ◌⊎◌, inl, inr, [], length, get_or, None, sym, ◌∙◌, ap, subst, arith}
-use Rattle.std.proofs.lemmas.Bool.{cases_lt, cases_eq}
-use Rattle.assign.specs.Assignment.{value_of}
-use Rattle.language.specs.Language.{scope_at}
-use Rattle.bias_store.specs.Masks.{ones_of}
-use Rattle.bias_store.specs.Accepting.{Accepting, AreRunsFrom}
-use Rattle.bias_store.specs.Violated.{violated_on}
+use Rattle.bias_store.proofs.Prelude.{◌≡◌, ℕ, ◌+◌, ◌<◌, ◌≤◌, ◌⊎◌, inl, inr, [], length, get_or, None, sym, ◌∙◌, ap, subst, arith, cases_lt, cases_eq, value_of, scope_at, ones_of, Accepting, AreRunsFrom, violated_on}
 use Rattle.bias_store.proofs.Members.{read_at}
 use Rattle.bias_store.proofs.Ones.{ones_of-zero}
 use Rattle.bias_store.proofs.Runs.{run_open}

@@ -1,5 +1,4 @@
-use Rattle.std.proofs.Common.{◌-◌, ◌≤◌, length}
-use Rattle.bias_store.specs.Violated.{AreNoneViolated}
+use Rattle.bias_store.proofs.Prelude.{◌-◌, ◌≤◌, length, AreNoneViolated}
 use Rattle.bias_store.proofs.tables.Tables.next_violated.Given as goal
 
 abbrev pub invariant-loop-s : goal.invariant-loop-s

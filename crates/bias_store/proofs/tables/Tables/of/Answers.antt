@@ -1,4 +1,4 @@
-use Rattle.std.proofs.Common.{ℕ, Vec, Global, ◌+◌, ◌*◌, ◌<◌, ◌≤◌, [], ◌∷◌, ◌++◌, length, get_or, refl, sym, ap, ◌∙◌, arith}
+use Rattle.bias_store.proofs.Prelude.{ℕ, Vec, Global, ◌+◌, ◌*◌, ◌<◌, ◌≤◌, [], ◌∷◌, ◌++◌, length, get_or, refl, sym, ap, ◌∙◌, arith}
 use Rattle.bias_store.proofs.Tabled.{AreMade, begun_none, tabled_none, tabled_wider, made_at, made_narrow, made_like, made_new}
 use Rattle.bias_store.proofs.tables.Tables.of.Goals.{then-is_whole, then-begins-size+in_ok-masks, else-begins-size, else-is_whole}
 use Rattle.bias_store.proofs.tables.Tables.of.Goals as goal

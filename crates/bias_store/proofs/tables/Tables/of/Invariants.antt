@@ -1,4 +1,4 @@
-use Rattle.std.proofs.Common.{◌≤◌, ◌*◌, length}
+use Rattle.bias_store.proofs.Prelude.{◌≤◌, ◌*◌, length}
 use Rattle.bias_store.proofs.Tabled.{AreMade}
 use Rattle.bias_store.proofs.tables.Tables.of.Given as goal
 

@@ -1,7 +1,4 @@
-use Rattle.std.proofs.Common.{◌∙◌, sym}
-use Rattle.std.specs.Bool.{beq}
-use Rattle.std.specs.List.{filter}
-use Rattle.find_c.specs.Choices.{is_accepting}
+use Rattle.find_c.proofs.Prelude.{◌∙◌, sym, beq, filter, is_accepting}
 use Rattle.find_c.proofs.Marks.{agreeing_yes, agreeing_no}
 use Rattle.find_c.proofs.choices.Choices.agreeing.Goals as goal
 

@@ -1,5 +1,4 @@
-use Rattle.std.proofs.Common.{sym, ◌∙◌, ap, arith}
-use Rattle.find_c.specs.Choices.{choices_of, beside_none}
+use Rattle.find_c.proofs.Prelude.{sym, ◌∙◌, ap, arith, choices_of, beside_none}
 use Rattle.find_c.proofs.Marks.{beside_nothing, none_alone, one_beside_none, more_than_one}
 use Rattle.find_c.proofs.choices.Choices.beside_none.Goals as goal
 

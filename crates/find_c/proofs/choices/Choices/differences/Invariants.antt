@@ -1,9 +1,4 @@
-use Rattle.std.proofs.Common.{◌<◌, length}
-use Rattle.std.specs.Prelude.{All}
-use Rattle.language.specs.Language.{relations_on}
-use Rattle.language.specs.Scenes.{scene_of}
-use Rattle.bias_store.specs.Masks.{ones_of}
-use Rattle.find_c.specs.Choices.{allows_at}
+use Rattle.find_c.proofs.Prelude.{◌<◌, length, All, relations_on, scene_of, ones_of, allows_at}
 use Rattle.find_c.proofs.Differences.{IsSeen, rejects_at}
 use Rattle.find_c.proofs.choices.Choices.differences.Given as goal
 

@@ -1,6 +1,4 @@
-use Rattle.std.proofs.Common.{◌∙◌, ap, sym, eq-eqb}
-use Rattle.std.proofs.lemmas.Bool.{eqb-true}
-use Rattle.find_c.specs.Choices.{choices_of}
+use Rattle.find_c.proofs.Prelude.{◌∙◌, ap, sym, eq-eqb, eqb-true, choices_of}
 use Rattle.find_c.proofs.Marks.{none_of_nothing, nothing_of_none}
 use Rattle.find_c.proofs.choices.Choices.is_empty.Goals as goal
 

@@ -1,6 +1,4 @@
-use Rattle.std.proofs.Common.{length, ◌≤◌, sym, ◌∙◌, ap, subst, refl, eq-eqb, arith}
-use Rattle.std.proofs.lemmas.Bool.{eqb-true}
-use Rattle.find_c.specs.Choices.{choices_of}
+use Rattle.find_c.proofs.Prelude.{length, ◌≤◌, sym, ◌∙◌, ap, subst, refl, eq-eqb, arith, eqb-true, choices_of}
 use Rattle.find_c.proofs.Marks.{few_of_none, few_of_first, no_others, more_beside_none}
 use Rattle.find_c.proofs.choices.Choices.is_single.Goals as goal
 

@@ -1,8 +1,4 @@
-use Rattle.std.proofs.Common.{◌≡◌, ◌∙◌, ap, sym, true, false}
-use Rattle.std.proofs.lemmas.Bool.{eqb-true}
-use Rattle.language.specs.TellingApart.{remaining}
-use Rattle.bias_store.specs.Masks.{ones_of}
-use Rattle.find_c.specs.Choices.{choices_of}
+use Rattle.find_c.proofs.Prelude.{◌≡◌, ◌∙◌, ap, sym, true, false, eqb-true, remaining, ones_of, choices_of}
 use Rattle.find_c.proofs.Marks.{remaining_free, remaining_first, none_of_nothing}
 use Rattle.find_c.proofs.choices.Choices.remaining.Goals as goal
 use Rattle.find_c.proofs.choices.Choices.remaining.Goals.{then-self, else-self}

@@ -1,4 +1,4 @@
-use Rattle.std.proofs.Common.{◌∙◌}
+use Rattle.find_c.proofs.Prelude.{◌∙◌}
 use Rattle.find_c.proofs.Starting.{free_marked}
 use Rattle.find_c.proofs.run.RelRun.asking.Goals as goal
 

@@ -1,9 +1,4 @@
-use Rattle.std.proofs.Common.{◌≡◌, ◌^◌, ◌<◌, ◌≤◌, length, sym, ◌∙◌, ap, subst, arith}
-use Rattle.std.specs.Prelude.{All}
-use Rattle.language.specs.Language.{Language, scope_at}
-use Rattle.rel_table.specs.Relation.{place}
-use Rattle.find_c.specs.Run.{Run, IsRun}
-use Rattle.find_c.specs.declared.run.RelRun.TheInside.{Inside}
+use Rattle.find_c.proofs.Prelude.{◌≡◌, ◌^◌, ◌<◌, ◌≤◌, length, sym, ◌∙◌, ap, subst, arith, All, Language, scope_at, place, Run, IsRun, Inside}
 use Rattle.find_c.proofs.Replies.{run_tuple, run_places}
 use Rattle.find_c.proofs.run.RelRun.place.Goals as goal
 

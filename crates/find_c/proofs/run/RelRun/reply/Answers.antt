@@ -1,9 +1,4 @@
-use Rattle.std.proofs.Common.{◌≡◌, ◌^◌, ◌<◌, ℕ, false, [], length, get_or, sym, subst}
-use Rattle.assign.specs.SetLemmas.{is_one}
-use Rattle.language.specs.Language.{scope_at, relations_on}
-use Rattle.language.specs.TellingApart.{Choice}
-use Rattle.language.specs.Scenes.{scene_of}
-use Rattle.find_c.specs.Choices.{is_accepting, allows_at}
+use Rattle.find_c.proofs.Prelude.{◌≡◌, ◌^◌, ◌<◌, ℕ, false, [], length, get_or, sym, subst, is_one, scope_at, relations_on, Choice, scene_of, is_accepting, allows_at}
 use Rattle.find_c.proofs.Accepting.{told_by}
 use Rattle.find_c.proofs.run.RelRun.reply.Goals as goal
 

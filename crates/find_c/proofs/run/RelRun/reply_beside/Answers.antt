@@ -1,10 +1,4 @@
-use Rattle.std.proofs.Common.{◌≡◌, ◌^◌, ◌<◌, ℕ, length, sym, subst}
-use Rattle.language.specs.Language.{scope_at}
-use Rattle.language.specs.TellingApart.{Choice}
-use Rattle.language.specs.Scenes.{scene_of}
-use Rattle.bias_store.specs.Masks.{ones_of}
-use Rattle.bias_store.specs.Accepting.{accepting_on}
-use Rattle.find_c.specs.Choices.{is_accepting, allows_at}
+use Rattle.find_c.proofs.Prelude.{◌≡◌, ◌^◌, ◌<◌, ℕ, length, sym, subst, scope_at, Choice, scene_of, ones_of, accepting_on, is_accepting, allows_at}
 use Rattle.find_c.proofs.Accepting.{kept_accepting}
 use Rattle.find_c.proofs.run.RelRun.reply_beside.Goals as goal
 

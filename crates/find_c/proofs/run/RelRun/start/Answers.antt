@@ -1,8 +1,5 @@
-use Rattle.std.proofs.Common.{sym, subst, filter, ◌&&◌}
-use Rattle.std.specs.Prelude.{◌==◌, All}
-use Rattle.language.specs.Language.{violates}
-use Rattle.find_c.specs.Run.{IsChoiceOn}
-use Rattle.find_c.specs.Standing.{LeavesChoices}
+use Rattle.find_c.proofs.Prelude.{sym, subst, ◌&&◌, ◌==◌, All, violates, IsChoiceOn, LeavesChoices}
+use Rattle.std.proofs.Common.{filter}
 use Rattle.find_c.proofs.Starting.{violated_known, not_free}
 use Rattle.find_c.proofs.run.RelRun.start.Goals as goal
 

@@ -1,7 +1,4 @@
-use Rattle.std.proofs.Common.{[], sym, ◌∙◌, subst}
-use Rattle.std.specs.Prelude.{All}
-use Rattle.find_c.specs.Run.{IsChoiceOn}
-use Rattle.find_c.specs.Standing.{LeavesChoices, StandsFor}
+use Rattle.find_c.proofs.Prelude.{[], sym, ◌∙◌, subst, All, IsChoiceOn, LeavesChoices, StandsFor}
 use Rattle.find_c.proofs.Marks.{free_is_some}
 use Rattle.find_c.proofs.Starting.{free_marked, free_known}
 use Rattle.find_c.proofs.run.RelRun.start_free.Goals as goal

@@ -1,15 +1,4 @@
-use Rattle.std.proofs.Common.{◌≡◌, ℕ, Bool, List, [], sym, ◌∙◌, ap, subst, refl}
-use Rattle.std.specs.Prelude.{All}
-use Rattle.std.specs.Bool.{beq}
-use Rattle.std.specs.List.{filter}
-use Rattle.language.specs.Language.{Language}
-use Rattle.rel_table.specs.Relation.{place}
-use Rattle.language.specs.TellingApart.{Choice, after_reply}
-use Rattle.language.specs.Scenes.{scene_of}
-use Rattle.find_c.specs.Choices.{is_accepting, allows_at}
-use Rattle.find_c.specs.Run.{Run, IsRun, IsChoiceOn}
-use Rattle.find_c.specs.Standing.{LeavesChoices, StandsFor}
-use Rattle.find_c.specs.declared.run.RelRun.TheInside.{Inside}
+use Rattle.find_c.proofs.Prelude.{◌≡◌, ℕ, Bool, List, [], sym, ◌∙◌, ap, subst, refl, All, beq, filter, Language, place, Choice, after_reply, scene_of, is_accepting, allows_at, Run, IsRun, IsChoiceOn, LeavesChoices, StandsFor, Inside}
 use Rattle.find_c.proofs.Splitting.{agreeing_is}
 use Rattle.find_c.proofs.Replies.{run_leaves_some, known_after, stands_after}
 use Rattle.find_c.proofs.run.RelRun.told.Goals as goal

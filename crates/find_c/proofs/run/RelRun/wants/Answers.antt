@@ -1,10 +1,5 @@
-use Rattle.std.proofs.Common.{ℕ, List, Option, Some, None, replicate, length, take, get_or, sym, ◌∙◌, ap, subst, arith}
-use Rattle.std.specs.Prelude.{slice_set}
-use Rattle.std.proofs.lemmas.List.{take_all}
-use Rattle.assign.specs.Assignment.{assigned}
-use Rattle.language.specs.Language.{variable_count, scope_at, IsQuestion}
+use Rattle.find_c.proofs.Prelude.{ℕ, List, Option, Some, None, replicate, length, take, get_or, sym, ◌∙◌, ap, subst, arith, slice_set, take_all, assigned, variable_count, scope_at, IsQuestion, Run}
 use Rattle.language.proofs.Ranged.{split_is_question}
-use Rattle.find_c.specs.Run.{Run}
 use Rattle.find_c.proofs.Lawful.{scope_is}
 use Rattle.find_c.proofs.Replies.{run_tuple}
 use Rattle.find_c.proofs.Filling.{assigned_blank, length-assigned, assigned_more}

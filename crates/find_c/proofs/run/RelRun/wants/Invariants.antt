@@ -1,6 +1,4 @@
-use Rattle.std.proofs.Common.{◌≡◌, take}
-use Rattle.assign.specs.Assignment.{assigned}
-use Rattle.language.specs.Language.{variable_count, scope_at}
+use Rattle.find_c.proofs.Prelude.{◌≡◌, take, assigned, variable_count, scope_at}
 use Rattle.find_c.proofs.run.RelRun.wants.Given as goal
 
 abbrev pub invariant-loop-i : goal.invariant-loop-i

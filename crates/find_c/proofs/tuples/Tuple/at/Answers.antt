@@ -1,5 +1,4 @@
-use Rattle.std.proofs.Common.{sym, ◌∙◌}
-use Rattle.rel_table.proofs.PlaceLemmas.{get_or-tuples}
+use Rattle.find_c.proofs.Prelude.{sym, ◌∙◌, get_or-tuples}
 use Rattle.find_c.proofs.tuples.Tuple.at.Goals as goal
 
 pub returns : goal.returns

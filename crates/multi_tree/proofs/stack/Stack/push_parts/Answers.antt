@@ -1,8 +1,4 @@
-use Rattle.std.proofs.Common.{ℕ, ◌-◌, ◌≤◌, List, length, drop, get_or, sym, subst, arith, length-drop}
-use Rattle.std.proofs.lemmas.List.{length-map}
-use Rattle.assign.specs.Sets.{without}
-use Rattle.session_laws.specs.Walk.{parts_without}
-use Rattle.multi_tree.specs.Depth.{Fits}
+use Rattle.multi_tree.proofs.Prelude.{ℕ, ◌-◌, ◌≤◌, List, length, drop, get_or, sym, subst, arith, length-drop, length-map, without, parts_without, Fits}
 use Rattle.multi_tree.proofs.Rooms.{part_fits}
 use Rattle.multi_tree.proofs.stack.Stack.push_parts.Goals as goal
 

@@ -1,5 +1,4 @@
-use Rattle.std.proofs.Common.{◌≡◌, ◌++◌, ◌-◌, length, drop}
-use Rattle.session_laws.specs.Walk.{parts_without}
+use Rattle.multi_tree.proofs.Prelude.{◌≡◌, ◌++◌, ◌-◌, length, drop, parts_without}
 use Rattle.multi_tree.proofs.stack.Stack.push_parts.Given as goal
 
 abbrev pub invariant-loop-i : goal.invariant-loop-i

@@ -1,10 +1,7 @@
-use Rattle.std.proofs.Common.{◌≡◌, ℕ, List, ◌∷◌, None, refl, sym, ◌∙◌, ap, subst}
-use Rattle.session_laws.specs.Walk.{Walk}
+use Rattle.multi_tree.proofs.Prelude.{◌≡◌, ℕ, List, ◌∷◌, None, refl, sym, ◌∙◌, ap, subst, Walk, Stage, Ready, asked_in, put_again, PutsAgain}
 use Rattle.multi_tree.specs.declared.tree.Phase.{Phase}
 use Rattle.multi_tree.specs.declared.tree.Phase.TheVariants as phases
 use Rattle.multi_tree.specs.Inside.{stage_of}
-use Rattle.multi_tree.specs.Stage.{Stage, Ready, asked_in, put_again}
-use Rattle.multi_tree.specs.Standing.{PutsAgain}
 use Rattle.multi_tree.proofs.Moves.{move_stands}
 use Rattle.multi_tree.proofs.tree.Tree.again.Goals as goal
 

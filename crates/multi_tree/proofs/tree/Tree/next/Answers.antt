@@ -1,4 +1,4 @@
-use Rattle.multi_tree.specs.Standing.{Turns}
+use Rattle.multi_tree.proofs.Prelude.{Turns}
 use Rattle.multi_tree.proofs.Moves.{move_stands}
 use Rattle.multi_tree.proofs.tree.Tree.next.Goals as goal
 

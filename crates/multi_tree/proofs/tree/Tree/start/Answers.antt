@@ -1,8 +1,5 @@
-use Rattle.std.proofs.Common.{◌≡◌, ◌∙◌, ◌∷◌, [], List, ℕ, ap, length, arith}
+use Rattle.multi_tree.proofs.Prelude.{◌≡◌, ◌∙◌, ◌∷◌, [], List, ℕ, ap, length, arith, numbers, variable_count, Ready}
 use Rattle.std.proofs.lemmas.List.FromFn.{length-range_with_len}
-use Rattle.assign.specs.Sets.{numbers}
-use Rattle.language.specs.Language.{variable_count}
-use Rattle.multi_tree.specs.Stage.{Ready}
 use Rattle.multi_tree.proofs.Moves.{nothing_done}
 use Rattle.multi_tree.proofs.tree.Tree.start.Goals as goal
 

@@ -1,8 +1,4 @@
-use Rattle.std.proofs.Common.{◌≡◌, ◌<◌, [], ◌∷◌, ◌++◌, false, ap, ◌∙◌, arith}
-use Rattle.std.proofs.lemmas.List.Elements.{All-push}
-use Rattle.language.specs.declared.candidates.Candidate.{Candidate}
-use Rattle.language.specs.Answers.{has_scope}
-use Rattle.network.specs.Learned.{Learned}
+use Rattle.network.proofs.Prelude.{◌≡◌, ◌<◌, [], ◌∷◌, ◌++◌, false, ap, ◌∙◌, arith, All-push, Candidate, has_scope, Learned}
 use Rattle.network.proofs.Room.{apart_more, room_for}
 use Rattle.network.proofs.network.Network.learn.Goals as goal
 

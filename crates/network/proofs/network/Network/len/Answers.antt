@@ -1,5 +1,4 @@
-use Rattle.std.proofs.Common.{ap, arith}
-use Rattle.network.specs.Learned.{Learned}
+use Rattle.network.proofs.Prelude.{ap, arith, Learned}
 use Rattle.network.proofs.Room.{few}
 use Rattle.network.proofs.network.Network.len.Goals as goal
 

@@ -1,4 +1,4 @@
-use Rattle.std.proofs.Common.{arith}
+use Rattle.network.proofs.Prelude.{arith}
 use Rattle.network.proofs.Room.{none_apart, none_known}
 use Rattle.network.proofs.network.Network.new.Goals as goal
 

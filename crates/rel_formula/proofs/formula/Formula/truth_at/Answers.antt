@@ -1,5 +1,4 @@
-use Rattle.std.proofs.Common.{◌∙◌, ap}
-use Rattle.rel_formula.specs.Steps.{truth_steps}
+use Rattle.rel_formula.proofs.Prelude.{◌∙◌, ap, truth_steps}
 use Rattle.rel_formula.proofs.Runs.{end_is, ends}
 use Rattle.rel_formula.proofs.formula.Formula.truth_at.Goals as goal
 

@@ -1,5 +1,4 @@
-use Rattle.std.proofs.Common.{◌≡◌, ◌≤◌, [], drop, length, reverse}
-use Rattle.rel_formula.specs.Machine.{run}
+use Rattle.rel_formula.proofs.Prelude.{◌≡◌, ◌≤◌, [], drop, length, reverse, run}
 use Rattle.rel_formula.proofs.machine.Stacks.end_of.Given as goal
 
 abbrev pub invariant-loop-step : goal.invariant-loop-step

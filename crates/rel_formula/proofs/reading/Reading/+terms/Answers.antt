@@ -1,6 +1,4 @@
-use Rattle.std.proofs.Common.{◌-◌, Ok, rules, sym, ◌∙◌, ap, arith}
-use Rattle.rel_formula.specs.declared.step.TermOperator.TheVariants.{Arithmetic, Absolute}
-use Rattle.rel_formula.specs.Steps.{term_steps}
+use Rattle.rel_formula.proofs.Prelude.{◌-◌, Ok, rules, sym, ◌∙◌, ap, arith, Arithmetic, Absolute, term_steps}
 use Rattle.rel_formula.proofs.InTurn.{one_more}
 use Rattle.rel_formula.proofs.Operands.{of_call, operands_of, absolute_of_one, term_call_is, absolute_read, alone, from_index}
 use Rattle.rel_formula.proofs.Ways.{term_way}

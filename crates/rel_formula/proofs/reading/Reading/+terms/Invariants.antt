@@ -1,4 +1,4 @@
-use Rattle.std.proofs.Common.{◌+◌, ◌-◌, ◌*◌, drop}
+use Rattle.rel_formula.proofs.Prelude.{◌+◌, ◌-◌, ◌*◌, drop}
 use Rattle.rel_formula.proofs.InTurn.{SoFar}
 use Rattle.rel_formula.proofs.Ways.{term_way}
 use Rattle.rel_formula.proofs.reading.Reading.+terms.Given as goal

@@ -1,5 +1,4 @@
-use Rattle.std.proofs.Common.{◌-◌, Ok, rules, sym, ◌∙◌, ap, arith}
-use Rattle.rel_formula.specs.Steps.{truth_steps}
+use Rattle.rel_formula.proofs.Prelude.{◌-◌, Ok, rules, sym, ◌∙◌, ap, arith, truth_steps}
 use Rattle.rel_formula.proofs.InTurn.{one_more}
 use Rattle.rel_formula.proofs.Operands.{of_call, operands_of, alone, from_index}
 use Rattle.rel_formula.proofs.TruthOperands.{comparison_of_two, not_of_one, comparison_call_is, connective_call_is, not_call_is, negated_read}

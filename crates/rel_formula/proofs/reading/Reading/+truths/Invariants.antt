@@ -1,4 +1,4 @@
-use Rattle.std.proofs.Common.{◌+◌, ◌-◌, ◌*◌, drop}
+use Rattle.rel_formula.proofs.Prelude.{◌+◌, ◌-◌, ◌*◌, drop}
 use Rattle.rel_formula.proofs.InTurn.{SoFar}
 use Rattle.rel_formula.proofs.Ways.{truth_way}
 use Rattle.rel_formula.proofs.reading.Reading.+truths.Given as goal
