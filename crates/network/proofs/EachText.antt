@@ -1,6 +1,5 @@
 -- Each list of bytes is a network, or is refused.
-use Rattle.network.proofs.Prelude.{◌≡◌, ◌≢◌, ℕ, ◌++◌, Bool, true, false, cond, nat_lt, List, [], ◌∷◌, length, Option, Some, None, Result, Ok, Err, refl, subst, ◌⊎◌, inl, inr, ok_or, option_map, Data, Items, no_items, item, Candidate, scope_named, Language, NetFault, TooLong, NotJson, NotList, BadItem, UnknownScope, UnknownRelation, ScopeRepeated, Memory, then_on, unless, EachIsReadOrRefused, Stated, stated_in, pieces, relation_by, repeat_of, candidate_of, candidate_in, network_from, json_of, network_in, network_of}
-use Rattle.serde_json.specs.Find.{as_array}
+use Rattle.network.proofs.Prelude.{◌≡◌, ◌≢◌, ℕ, ◌++◌, Bool, true, false, cond, nat_lt, List, [], ◌∷◌, length, Option, Some, None, Result, Ok, Err, refl, subst, ◌⊎◌, inl, inr, ok_or, option_map, Data, Items, no_items, item, Candidate, scope_named, Language, NetFault, TooLong, NotJson, NotList, BadItem, UnknownScope, UnknownRelation, ScopeRepeated, Memory, then_on, unless, EachIsReadOrRefused, Stated, stated_in, pieces, relation_by, repeat_of, candidate_of, candidate_in, network_from, json_of, network_in, network_of, as_array}
 
 -- what isn't read is refused for a fault of the bytes
 abbrev OfErr : {A : Type 0} → Result A NetFault → Type 0

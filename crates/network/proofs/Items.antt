@@ -1,23 +1,6 @@
 -- Items are read one after another.
-use Rattle.std.proofs.Common.{◌≡◌, ℕ, suc, ◌+◌, ◌-◌, ◌<◌, ◌≤◌, ◌++◌, ◌||◌, true, false, cond, Bor, List, [], ◌∷◌, length, drop, get_or, Option, Some, None, Result, Ok, Err, refl, sym, ap, ◌∙◌, append_assoc, arith}
-use Rattle.std.specs.Prelude.{◌==◌, ◌&&◌, nat_le, take}
-use Rattle.std.specs.Option.{ok_or, option_map, option_and_then}
-use Rattle.std.proofs.lemmas.Bool.{le-leb, and_from}
-use Rattle.std.proofs.lemmas.List.{take_all, drop-map, length-map, length-drop, get_or-map}
-use Rattle.serde_json.specs.Data.{Data}
-use Rattle.language.specs.ByName.{texts_of}
-use Rattle.network.specs.declared.fault.NetFault.TheVariants.{BadItem}
-use Rattle.std.proofs.Math.Seq.{drop-cons}
-use Rattle.serde_json.specs.Find.{as_str}
-use Rattle.serde_json.specs.View.{view, items_view}
+use Rattle.network.proofs.Prelude.{◌≡◌, ℕ, suc, ◌+◌, ◌-◌, ◌<◌, ◌≤◌, ◌++◌, ◌||◌, true, false, cond, Bor, List, [], ◌∷◌, length, drop, get_or, Option, Some, None, Result, Ok, Err, refl, sym, ap, ◌∙◌, append_assoc, arith, ◌==◌, ◌&&◌, nat_le, take, ok_or, option_map, option_and_then, le-leb, and_from, take_all, drop-map, length-map, length-drop, get_or-map, Data, texts_of, BadItem, drop-cons, as_str, view, items_view, Candidate, Language, has_scope, position_nowhere, NetFault, then_on, Stated, stated_by, stated_in, each_text, text_list, candidate_of, candidate_in, network_from, repeat_of}
 use Rattle.serde_json.specs.declared.value.Value.{Value}
-use Rattle.language.specs.declared.candidates.Candidate.{Candidate}
-use Rattle.language.specs.Language.{Language}
-use Rattle.language.specs.Answers.{has_scope}
-use Rattle.language.proofs.ByNames.{position_nowhere}
-use Rattle.network.specs.declared.fault.NetFault.{NetFault}
-use Rattle.network.specs.Answers.{then_on}
-use Rattle.network.specs.Target.{Stated, stated_by, stated_in, each_text, text_list, candidate_of, candidate_in, network_from, repeat_of}
 
 -- ---- one item
 

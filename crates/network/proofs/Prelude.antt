@@ -1,5 +1,5 @@
 -- The names from outside that these proofs cite, passed on from one place. Declares nothing.
-pub use Rattle.std.proofs.Common.{Bool, Bor, Err, List, None, Ok, Option, Result, Some, [], ap, append_assoc, arith, cond, drop, false, get_or, inl, inr, length, lit<, map, min, nat_lt, not, refl, slice_index_or, subst, suc, sym, take, true, true≢false, w64, zero, ℕ, ◌&&◌, ◌++◌, ◌+◌, ◌-◌, ◌<◌, ◌^◌, ◌||◌, ◌∙◌, ◌∷◌, ◌≡◌, ◌≢◌, ◌≤◌, ◌⊎◌}
+pub use Rattle.std.proofs.Common.{Bool, Bor, Err, List, None, Ok, Option, Result, Some, [], ap, append_assoc, arith, cond, drop, false, get_or, inl, inr, length, lit<, map, min, nat_lt, not, refl, rules, slice_index_or, subst, suc, sym, take, true, true≢false, w64, zero, ℕ, ◌&&◌, ◌++◌, ◌+◌, ◌-◌, ◌<◌, ◌^◌, ◌||◌, ◌∙◌, ◌∷◌, ◌≡◌, ◌≢◌, ◌≤◌, ◌⊎◌}
 pub use Rattle.std.proofs.Math.Seq.{drop-cons}
 pub use Rattle.std.proofs.lemmas.Bool.{and_from, and_parts, both_ways, cases_order, eq-eqb, eqb-true, le-leb, leb-true, ne_eqb, or_left, or_right}
 pub use Rattle.std.proofs.lemmas.List.{append-nil, at_drop_all, drop-map, flat_map_more, get_or-map, get_or_default, length-drop, length-map, length_push, map-append, take_all, take_more}
@@ -19,6 +19,7 @@ pub use Rattle.language.specs.declared.candidates.Candidate.{Candidate}
 pub use Rattle.rel_table.proofs.Tables.{not_above_itself, one_number}
 pub use Rattle.rel_table.specs.Relation.{IsClosing, IsIntersection, Relation, is_above, meet, meet_all}
 pub use Rattle.serde_json.specs.Data.{Data, Items, item, no_items}
+pub use Rattle.serde_json.specs.Find.{as_array, as_str}
 pub use Rattle.serde_json.specs.View.{items_view, view}
 pub use Rattle.network.specs.Answers.{Reads, then_on, unless}
 pub use Rattle.network.specs.Laws.{EachIsReadOrRefused, TextTellsNetwork}

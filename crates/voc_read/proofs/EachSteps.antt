@@ -1,14 +1,6 @@
 -- The values of a list are read, or one of them isn't.
-use Rattle.std.proofs.Common.{◌≡◌, ℕ, suc, ◌+◌, ◌<◌, ◌≤◌, ◌++◌, List, [], ◌∷◌, length, drop, get_or, Option, Some, None, option_map, option_and_then, refl, sym, ap, ◌∙◌, append_assoc, arith}
-use Rattle.std.proofs.Math.Seq.{drop-cons}
-use Rattle.std.proofs.lemmas.List.{append-nil, at_drop_all}
-use Rattle.std.specs.Option.{ok_or}
-use Rattle.std.specs.Prelude.{Ok, Err}
-use Rattle.serde_json.specs.Data.{Data}
-use Rattle.serde_json.specs.View.{view, items_view}
-use Rattle.serde_json.specs.declared.value.Value.{Value}
-use Rattle.voc_read.specs.declared.fault.VocFault.{VocFault}
-use Rattle.voc_read.specs.Values.{each_of}
+use Rattle.voc_read.proofs.Prelude.{◌≡◌, ℕ, suc, ◌+◌, ◌<◌, ◌≤◌, ◌++◌, List, [], ◌∷◌, length, drop, get_or, Option, Some, None, option_and_then, refl, sym, ap, ◌∙◌, append_assoc, arith, drop-cons, append-nil, at_drop_all, ok_or, Ok, Err, Data, view, items_view, Value, VocFault, each_of}
+use Rattle.std.proofs.Common.{option_map}
 
 module _ {A : Type 0} (read : Data → Option A) where
   put_behind : (before : List A) (x : A) (rest : Option (List A)) → option_map (λ more. (before ++ x ∷ []) ++ more) rest ≡ option_map (λ more. before ++ more) (option_map (λ xs. x ∷ xs) rest)

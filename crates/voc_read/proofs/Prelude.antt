@@ -14,7 +14,7 @@ pub use Rattle.std.specs.Bool.{passes}
 pub use Rattle.std.specs.List.{filter, list_all, list_any, position_or_len, range_with_len}
 pub use Rattle.std.specs.Option.{ok_or, option_map, option_map_or, option_or}
 pub use Rattle.std.specs.Ordering.{match_ordering, nat_cmp}
-pub use Rattle.std.specs.Prelude.{All, AllPairs, Contains, IfOk, IsTrue, IsUtf8, find, int_le, int_lt, position, replicate, slice_set, unsigned_abs, ⊤, ◌+ℤ◌, ◌-ℤ◌, ◌<ℤ◌, ◌≤ℤ◌}
+pub use Rattle.std.specs.Prelude.{All, AllPairs, Contains, IfOk, IfSome, IsTrue, IsUtf8, find, int_le, int_lt, position, replicate, slice_set, unsigned_abs, ⊤, ◌+ℤ◌, ◌-ℤ◌, ◌<ℤ◌, ◌≤ℤ◌}
 pub use Rattle.std.specs.Str.{bytes_eq, is_utf8}
 pub use Rattle.json.specs.Lex.{Class, Lexeme, Mode, Place, after_comma, after_key, after_value, backslash, begins_colon, between, class, colon, comma, fresh, if_allowed, in_escape, in_string, in_word, lex_byte, may_begin, may_close, operator, other, place_token, quote, space, token, tokens}
 pub use Rattle.json.specs.Token.{Token, bad, begin_array, begin_object, end_array, end_object, key}

@@ -1,11 +1,5 @@
-use Rattle.std.proofs.Common.{sym, subst, ◌∙◌}
-use Rattle.std.specs.Prelude.{All}
-use Rattle.std.proofs.lemmas.List.{at_drop_all}
-use Rattle.std.proofs.lemmas.List.Elements.{All-push}
+use Rattle.network.proofs.Prelude.{sym, subst, ◌∙◌, All, at_drop_all, All-push, items_view, IsCandidate, network_from}
 use Rattle.std.proofs.lemmas.Result.{err_from_is_err_and}
-use Rattle.serde_json.specs.View.{items_view}
-use Rattle.language.specs.Language.{IsCandidate}
-use Rattle.network.specs.Target.{network_from}
 use Rattle.network.proofs.Items.{read_more, refused_here}
 use Rattle.network.proofs.reading.network_of.Goals as goal
 

@@ -1,10 +1,4 @@
-use Rattle.std.proofs.Common.{◌++◌, Bor, List, [], ◌∷◌, ℕ, Some, ap, sym, ◌∙◌}
-use Rattle.std.specs.Option.{ok_or, option_map}
-use Rattle.std.proofs.lemmas.List.{append-nil, at_drop_all, map-append}
-use Rattle.serde_json.specs.View.{items_view}
-use Rattle.language.specs.ByName.{texts_of}
-use Rattle.network.specs.declared.fault.NetFault.TheVariants.{BadItem}
-use Rattle.network.specs.Target.{each_text}
+use Rattle.network.proofs.Prelude.{◌++◌, Bor, List, [], ◌∷◌, ℕ, Some, ap, sym, ◌∙◌, ok_or, option_map, append-nil, at_drop_all, map-append, items_view, texts_of, BadItem, each_text}
 use Rattle.network.proofs.Items.{some_of_ok, text_more}
 use Rattle.network.proofs.reading.texts_in.Goals as goal
 

@@ -1,4 +1,4 @@
-use Rattle.std.proofs.Common.{arith}
+use Rattle.network.proofs.Prelude.{arith}
 use Rattle.std.proofs.lemmas.Grind.{common_steps}
 use Rattle.network.proofs.text.add_line.Goals as goal
 

@@ -1,6 +1,4 @@
-use Rattle.std.proofs.Common.{ℕ, ◌<◌, ◌≤◌, List, length, Bor, Option, Some, None, arith}
-use Rattle.std.specs.Prelude.{IfSome}
-use Rattle.serde_json.specs.declared.value.Value.{Value}
+use Rattle.voc_read.proofs.Prelude.{ℕ, ◌<◌, ◌≤◌, List, length, Bor, Option, Some, None, arith, IfSome, Value}
 use Rattle.voc_read.proofs.reading.read_whole.Goals as goal
 
 fewer : (listed : Option (Bor (List Value))) (most bound : ℕ) → IfSome listed (λ list. length list.now ≤ most) → most < bound → IfSome listed (λ list. length list.now < bound)

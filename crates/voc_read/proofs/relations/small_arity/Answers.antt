@@ -1,4 +1,4 @@
-use Rattle.std.proofs.Common.{rules}
+use Rattle.voc_read.proofs.Prelude.{rules}
 use Rattle.voc_read.proofs.relations.small_arity.Goals as goal
 
 pub returns-in-Ok-clause-is : goal.returns-in-Ok-clause-is

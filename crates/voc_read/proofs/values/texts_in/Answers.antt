@@ -1,10 +1,4 @@
-use Rattle.std.proofs.Common.{Bor, List, [], ◌∷◌, ℕ, ap, sym, ◌∙◌, length, length-append, arith}
-use Rattle.std.specs.Option.{ok_or, option_map}
-use Rattle.std.proofs.lemmas.List.{map-append}
-use Rattle.std.proofs.lemmas.Result.{err_from_is_err_and}
-use Rattle.serde_json.specs.Find.{as_str}
-use Rattle.voc_read.specs.declared.fault.VocFault.TheVariants.{WrongKind}
-use Rattle.voc_read.specs.Texts.{texts_of}
+use Rattle.voc_read.proofs.Prelude.{Bor, List, [], ◌∷◌, ℕ, ap, sym, ◌∙◌, length, length-append, arith, ok_or, option_map, map-append, err_from_is_err_and, as_str, WrongKind, texts_of}
 use Rattle.voc_read.proofs.EachSteps.{reads_one_more, reads_no_more, reads_all, refuses, some_of_ok}
 use Rattle.voc_read.proofs.values.texts_in.Goals as goal
 

@@ -1,10 +1,4 @@
-use Rattle.std.proofs.Common.{[], ◌∷◌, ap, ◌∙◌, length, length-append, arith}
-use Rattle.std.specs.Option.{ok_or}
-use Rattle.std.proofs.lemmas.List.{map-append}
-use Rattle.std.proofs.lemmas.Result.{err_from_is_err_and}
-use Rattle.rel_table.specs.Made.{lists}
-use Rattle.voc_read.specs.declared.fault.VocFault.TheVariants.{WrongKind}
-use Rattle.voc_read.specs.Values.{number_list}
+use Rattle.voc_read.proofs.Prelude.{[], ◌∷◌, ap, ◌∙◌, length, length-append, arith, ok_or, map-append, err_from_is_err_and, lists, WrongKind, number_list}
 use Rattle.voc_read.proofs.EachSteps.{reads_one_more, reads_no_more, reads_all, refuses, some_of_ok}
 use Rattle.voc_read.proofs.values.tuples_of.Goals as goal
 

@@ -1,4 +1,4 @@
-use Rattle.std.proofs.Common.{rules}
+use Rattle.network.proofs.Prelude.{rules}
 use Rattle.network.proofs.network.Network.list.Goals as goal
 
 pub returns : goal.returns
