@@ -1,6 +1,8 @@
 -- A turn by what was heard of the teacher's word.
 use Rattle.std.proofs.Common.{◌≡◌, ◌⊎◌, ◌∙◌, ◌+◌, ◌<◌, ℕ, List, [], ◌∷◌, ◌++◌, length, true, false, is_some, ap, sym, subst, refl, inl, inr, Option, Some, None}
 use Rattle.std.specs.Prelude.{◌≢◌, IfSome}
+use Rattle.std.specs.Option.{ForSome}
+use Rattle.acq_io.specs.Streams.{AddsFront}
 use Rattle.assign.specs.Assignment.{Assignment}
 use Rattle.assign.specs.declared.events.Event.{Event}
 use Rattle.assign.specs.declared.events.Event.TheVariants as event
@@ -11,7 +13,7 @@ use Rattle.query_gen.specs.Marks.{Remembered, IsMadeFor}
 use Rattle.query_gen.proofs.Marking.{no_marks_hold}
 use Rattle.session_laws.specs.Laws.{network_in}
 use Rattle.target_oracle.specs.Turns.{Turns, Reply, Said, TakenBack, Stopped, Ended, Overlong, Unread}
-use Rattle.target_oracle.specs.Tells.{Front, Tells}
+use Rattle.target_oracle.specs.Tells.{Tells}
 use Rattle.target_oracle.specs.declared.teacher.Told.{Told}
 use Rattle.target_oracle.specs.declared.teacher.Told.TheVariants as told
 use Rattle.acq_loop.specs.Added.{IsTaught, MayAdd, MayEnd}
@@ -138,7 +140,7 @@ module _ (l m : Language) (terms : Terms) (events : List Event) (count : ℕ) (q
 
   -- what the teacher's call says of the word
   abbrev pub Spoken : Told → Type 0
-  Spoken t = (bytes before : List ℕ) → left ≡ Some bytes → written ≡ Some before → Tells (turns m (count + 1) q bytes) before left' written' t
+  Spoken t = ForSome left (λ bytes. Tells (turns m (count + 1) q bytes) written left' written' t)
 
   told_here : (reply : Reply) → ToldSo turns m (count + 1) q here there reply → ToldSo turns l (number_on l events) q here there reply
   told_here reply = told_as turns m l (count + 1) (number_on l events) q here there reply asked.at.language (ap (λ n. n + 1) asked.at.number)
@@ -166,10 +168,10 @@ module _ (l m : Language) (terms : Terms) (events : List Event) (count : ℕ) (q
   word_front told.Memory said = front_here said
 
   pub word_says_next : (t : Told) → Spoken t → SaysNext turns l terms events left written written'
-  word_says_next t said bytes before is was =
+  word_says_next t said bytes is =
       let comes : next_on l terms events ≡ Some (Puts q) = next_put l terms events q asked.puts (room_not_full events asked.room) in
-      let Fronts : Option Next → Type 0 = λ next. Front (next_lines turns l events bytes next) before written' in
-      subst Fronts (sym comes) (word_front t said bytes before is was)
+      let Fronts : Option Next → Type 0 = λ next. AddsFront written written' (next_lines turns l events bytes next) in
+      subst Fronts (sym comes) (word_front t said bytes is)
 
   -- how the loop ends
   pub word_ends : (t : Told) (d : Drove) (marks : Remembered) → IsMadeFor l marks → heard_of t count ≡ heard.End d → AskedSo turns m (count + 1) q here there → Spoken t → EndsAs turns l terms here there marks d

@@ -1,13 +1,17 @@
 -- What the loop has done after a turn, and after many.
 use Rattle.std.proofs.Common.{◌≡◌, ℕ, List, [], ◌∷◌, ◌++◌, ap, sym, ◌∙◌, refl, Option, Some, None, subst, append_assoc}
 use Rattle.std.specs.Prelude.{IfSome}
+use Rattle.std.specs.Option.{ForSome}
 use Rattle.std.proofs.lemmas.List.{append-nil}
+use Rattle.acq_io.specs.Streams.{Adds, AddsFront}
+use Rattle.acq_io.proofs.TakenLemmas.{adds_none, adds_then}
 use Rattle.assign.specs.Assignment.{Assignment}
 use Rattle.assign.specs.declared.events.Event.{Event}
 use Rattle.language.specs.Language.{Language, IsLanguage, IsQuestion}
 use Rattle.language.specs.Answers.{standing_on}
 use Rattle.target_oracle.specs.Turns.{Turns, Reply}
-use Rattle.target_oracle.specs.Tells.{AsksFirst, Turn, Front}
+use Rattle.target_oracle.specs.Tells.{AsksFirst, Turn}
+use Rattle.target_oracle.proofs.Fronts.{front_longer, front_none, front_then, front_whole}
 use Rattle.acq_loop.specs.Closings.{closing_of}
 use Rattle.acq_loop.specs.Run.{Closing, Runs, Next, Puts, Ends, next_after, next_on, number_on, after_text, ended, event_heard}
 use Rattle.acq_loop.specs.Turn.{SaysNext}
@@ -16,73 +20,60 @@ use Rattle.acq_loop.specs.Driven.{Point, StepsTo, RanTo, CutOff, StopsAt, next_l
 use Rattle.acq_loop.specs.declared.driving.Drove.{Drove}
 use Rattle.acq_loop.proofs.Running.{text_after, runs_heard, EndsSo, runs_closed, runs_end, IsWithin, puts_next, RunLaws, turn_exists}
 
-pub some_text : (x y : List ℕ) → x ≡ y → (let a : Option (List ℕ) = Some x in a) ≡ Some y
-some_text x y e = ap (λ (t : List ℕ). let a : Option (List ℕ) = Some t in a) e
-
 -- ---- many turns
 
 pub steps_none : (turns : Turns) (l : Language) (terms : Terms) (a : Point) → StepsTo turns l terms a a
-steps_none turns l terms a bytes before left written = record {
+steps_none turns l terms a bytes left = record {
   rest = bytes;
   done = [];
   left = left;
-  written = written ∙ some_text _ _ (sym (append-nil before));
+  written = adds_none a.written;
   begins = λ run runs. runs;
 }
 
 pub steps_on : (turns : Turns) (l : Language) (terms : Terms) (a b c : Point) → StepsTo turns l terms a b → StepsTo turns l terms b c → StepsTo turns l terms a c
-steps_on turns l terms a b c first second bytes before left written =
-    let f = first bytes before left written in
-    let s = second f.rest (before ++ f.done) f.left f.written in
+steps_on turns l terms a b c first second bytes left =
+    let f = first bytes left in
+    let s = second f.rest f.left in
     record {
       rest = s.rest;
       done = f.done ++ s.done;
       left = s.left;
-      written = s.written ∙ some_text _ _ (append_assoc before f.done s.done);
+      written = adds_then a.written b.written c.written f.done s.done f.written s.written;
       begins = λ run runs. subst (Runs turns l terms a.events bytes) (text_after f.done s.done run) (f.begins (after_text s.done run) (s.begins run runs));
     }
 
 steps_ran : (turns : Turns) (l : Language) (terms : Terms) (closing : Closing) (a b c : Point) → StepsTo turns l terms a b → RanTo turns l terms closing b c → RanTo turns l terms closing a c
-steps_ran turns l terms closing a b c first second bytes before left written =
-    let f = first bytes before left written in
-    let s = second f.rest (before ++ f.done) f.left f.written in
+steps_ran turns l terms closing a b c first second bytes left =
+    let f = first bytes left in
+    let s = second f.rest f.left in
     record {
       run = after_text f.done s.run;
       runs = f.begins s.run s.runs;
       closing = s.closing;
       events = s.events;
       left = s.left;
-      written = s.written ∙ some_text _ _ (append_assoc before f.done s.run.text);
+      written = adds_then a.written b.written c.written f.done s.run.text f.written s.written;
     }
 
 steps_cut : (turns : Turns) (l : Language) (terms : Terms) (a b c : Point) → StepsTo turns l terms a b → CutOff turns l terms b c → CutOff turns l terms a c
-steps_cut turns l terms a b c first second bytes before left written =
-    let f = first bytes before left written in
-    let s = second f.rest (before ++ f.done) f.left f.written in
+steps_cut turns l terms a b c first second bytes left =
+    let f = first bytes left in
+    let s = second f.rest f.left in
     record {
       run = after_text f.done s.run;
       runs = f.begins s.run s.runs;
-      text = record {
-        front = f.done ++ s.text.front;
-        back = s.text.back;
-        parts = ap (λ x. f.done ++ x) s.text.parts ∙ sym (append_assoc f.done s.text.front s.text.back);
-        put = s.text.put ∙ some_text _ _ (append_assoc before f.done s.text.front);
-      };
+      text = front_then a.written b.written c.written f.done s.run.text f.written s.text;
       later = s.later;
       events = s.events;
       stops = record {
         rest = s.stops.rest;
         done = f.done ++ s.stops.done;
+        middle = s.stops.middle;
+        before = adds_then a.written b.written s.stops.middle f.done s.stops.done f.written s.stops.before;
         begins = λ run runs. subst (Runs turns l terms a.events bytes) (text_after f.done s.stops.done run) (f.begins (after_text s.stops.done run) (s.stops.begins run runs));
-        text = record {
-          front = s.stops.text.front;
-          back = s.stops.text.back;
-          parts = s.stops.text.parts;
-          put = s.stops.text.put ∙ some_text _ _ (ap (λ x. x ++ s.stops.text.front) (append_assoc before f.done s.stops.done));
-        };
-        asked =
-            let Asked : List ℕ → Type 0 = λ w. AsksFirst (Some s.stops.rest) (Some w) c.left c.written (next_lines turns l c.events [] (next_on l terms c.events)) in
-            subst Asked (append_assoc before f.done s.stops.done) s.stops.asked;
+        text = s.stops.text;
+        asked = s.stops.asked;
       };
     }
 
@@ -92,17 +83,18 @@ steps_loses turns l terms a b c lost first second = record {
   puts = second.puts;
   fits = second.fits;
   follows = second.follows;
-  told = λ bytes before left written.
-      let f = first bytes before left written in
-      let s = second.told f.rest (before ++ f.done) f.left f.written in
-      let text = (turns l (number_on l c.events) second.question s.rest).text in
+  told = λ bytes left.
+      let f = first bytes left in
+      let s = second.told f.rest f.left in
+      let text : List ℕ = (turns l (number_on l c.events) second.question s.rest).text in
+      let Added : List ℕ → Type 0 = Adds a.written c.written in
       record {
         rest = s.rest;
         done = f.done ++ s.done;
         begins = λ run runs. subst (Runs turns l terms a.events bytes) (text_after f.done s.done run) (f.begins (after_text s.done run) (s.begins run runs));
         heard = s.heard;
         left = s.left;
-        written = s.written ∙ some_text _ _ (append_assoc before f.done (s.done ++ text) ∙ ap (λ x. before ++ x) (sym (append_assoc f.done s.done text)));
+        written = subst Added (sym (append_assoc f.done s.done text)) (adds_then a.written b.written c.written f.done (s.done ++ text) f.written s.written);
       };
 }
 
@@ -122,50 +114,41 @@ steps_end turns l terms a b c end steps e = record {
 
 -- ---- one turn
 
--- where both tell, the turn's reply is this one
+-- where the source tells, the turn's reply is this one
 abbrev pub ToldSo : Turns → Language → ℕ → Assignment → Point → Point → Reply → Type 0
-ToldSo turns l k q a b reply = (bytes before : List ℕ) → a.left ≡ Some bytes → a.written ≡ Some before → Turn (turns l k q bytes) before b.left b.written reply
+ToldSo turns l k q a b reply = ForSome a.left (λ bytes. Turn (turns l k q bytes) a.written b.left b.written reply)
 
--- where both tell, a front of the turn's text was written
+-- where the source tells, a front of the turn's text was written
 abbrev pub FrontSo : Turns → Language → ℕ → Assignment → Point → Point → Type 0
-FrontSo turns l k q a b = (bytes before : List ℕ) → a.left ≡ Some bytes → a.written ≡ Some before → Front (turns l k q bytes).text before b.written
+FrontSo turns l k q a b = ForSome a.left (λ bytes. AddsFront a.written b.written (turns l k q bytes).text)
 
 -- the question's line stood before any of the input was taken
 abbrev pub AskedSo : Turns → Language → ℕ → Assignment → Point → Point → Type 0
 AskedSo turns l k q a b = AsksFirst a.left a.written b.left b.written (turns l k q []).text
 
-asked_from : (turns : Turns) (l : Language) (k : ℕ) (q : Assignment) (a b : Point) (bytes before : List ℕ) → AskedSo turns l k q a b → a.left ≡ Some bytes → a.written ≡ Some before → AsksFirst (Some bytes) (Some (before ++ [])) b.left b.written (turns l k q []).text
-asked_from turns l k q a b bytes before asked left written =
-    let From : Option (List ℕ) → Type 0 = λ o. AsksFirst o a.written b.left b.written (turns l k q []).text in
-    let Put : Option (List ℕ) → Type 0 = λ w. AsksFirst (Some bytes) w b.left b.written (turns l k q []).text in
-    subst Put (written ∙ some_text _ _ (sym (append-nil before))) (subst From left asked)
-
 -- the turn's text, whole
 pub front_of_turn : (turns : Turns) (l : Language) (k : ℕ) (q : Assignment) (a b : Point) (reply : Reply) → ToldSo turns l k q a b reply → FrontSo turns l k q a b
-front_of_turn turns l k q a b reply told bytes before left written =
-    let t = told bytes before left written in
-    record { front = (turns l k q bytes).text; back = []; parts = sym (append-nil (turns l k q bytes).text); put = t.text }
+front_of_turn turns l k q a b reply told bytes left = front_whole a.written b.written (turns l k q bytes).text (told bytes left).text
 
 -- nothing was written
 pub says_nothing : (turns : Turns) (l : Language) (terms : Terms) (events : List Event) (left written : Option (List ℕ)) → SaysNext turns l terms events left written written
-says_nothing turns l terms events left written bytes before is was =
-    record { front = []; back = next_lines turns l events bytes (next_on l terms events); parts = refl; put = was ∙ some_text _ _ (sym (append-nil before)) }
+says_nothing turns l terms events left written bytes is = front_none written written (next_lines turns l events bytes (next_on l terms events)) refl
 
 -- nothing is put
 pub ran_end : (turns : Turns) (l : Language) (terms : Terms) (closing : Closing) (a : Point) → next_on l terms a.events ≡ Some (Ends closing) → RanTo turns l terms closing a a
-ran_end turns l terms closing a due bytes before left written = record {
+ran_end turns l terms closing a due bytes left = record {
   run = ended closing a.events bytes;
   runs = runs_end turns l terms a.events bytes closing due;
   closing = refl;
   events = refl;
   left = left;
-  written = written ∙ some_text _ _ (sym (append-nil before));
+  written = adds_none a.written;
 }
 
 pub step_heard : (turns : Turns) (l : Language) (terms : Terms) (q : Assignment) (reply : Reply) (e : Event) (a b : Point) → event_heard q reply ≡ Some e → next_on l terms a.events ≡ Some (Puts q) →
     b.events ≡ a.events ++ e ∷ [] → ToldSo turns l (number_on l a.events) q a b reply → StepsTo turns l terms a b
-step_heard turns l terms q reply e a b gives due added told bytes before left written =
-    let t = told bytes before left written in
+step_heard turns l terms q reply e a b gives due added told bytes left =
+    let t = told bytes left in
     let turned = turns l (number_on l a.events) q bytes in
     record {
       rest = turned.heard.rest;
@@ -177,44 +160,44 @@ step_heard turns l terms q reply e a b gives due added told bytes before left wr
 
 pub ran_closed : (turns : Turns) (l : Language) (terms : Terms) (q : Assignment) (reply : Reply) (closing : Closing) (a b : Point) → next_on l terms a.events ≡ Some (Puts q) → b.events ≡ a.events →
     EndsSo reply closing a.events q → ToldSo turns l (number_on l a.events) q a b reply → RanTo turns l terms closing a b
-ran_closed turns l terms q reply closing a b due same closes told bytes before left written =
-    let t = told bytes before left written in
+ran_closed turns l terms q reply closing a b due same closes told bytes left =
+    let t = told bytes left in
+    let Added : List ℕ → Type 0 = Adds a.written b.written in
     record {
       run = _;
       runs = runs_closed turns l terms a.events bytes q reply closing due t.heard closes;
       closing = refl;
       events = sym same;
       left = t.rest;
-      written = t.text ∙ some_text _ _ (ap (λ x. before ++ x) (sym (append-nil _)));
+      written = subst Added (sym (append-nil (turns l (number_on l a.events) q bytes).text)) t.text;
     }
 
 -- a turn that was cut off
 pub cut_turn : RunLaws → (turns : Turns) (l : Language) (terms : Terms) → IsLanguage l → (q : Assignment) (a b : Point) → IsWithin l terms.plan a.events → next_on l terms a.events ≡ Some (Puts q) →
     b.events ≡ a.events → FrontSo turns l (number_on l a.events) q a b → AskedSo turns l (number_on l a.events) q a b → CutOff turns l terms a b
-cut_turn laws turns l terms lawful q a b within due same told asked bytes before left written =
-    let f = told bytes before left written in
+cut_turn laws turns l terms lawful q a b within due same told asked bytes left =
+    let f = told bytes left in
     let turn = turn_exists laws turns l terms lawful a.events bytes q within due in
+    let Begun : List ℕ → Type 0 = AddsFront a.written b.written in
     record {
       run = turn.has.run;
       runs = turn.has.runs;
-      text = record {
-        front = f.front;
-        back = f.back ++ turn.more;
-        parts = turn.begins ∙ ap (λ x. x ++ turn.more) f.parts ∙ append_assoc f.front f.back turn.more;
-        put = f.put;
-      };
+      text = subst Begun (sym turn.begins) (front_longer a.written b.written (turns l (number_on l a.events) q bytes).text turn.more f);
       later = turn.has.later;
       events = turn.has.extends ∙ ap (λ x. x ++ turn.has.later) (sym same);
       stops =
-          let Stops : List Event → Type 0 = λ x. StopsAt turns l terms a.events x bytes before b.left b.written in
-          let Lines : Option Next → Type 0 = λ n. Front (next_lines turns l a.events bytes n) (before ++ []) b.written in
-          let Asked : Option Next → Type 0 = λ n. AsksFirst (Some bytes) (Some (before ++ [])) b.left b.written (next_lines turns l a.events [] n) in
+          let Stops : List Event → Type 0 = λ x. StopsAt turns l terms a.events x bytes a.written b.left b.written in
+          let Lines : Option Next → Type 0 = λ n. AddsFront a.written b.written (next_lines turns l a.events bytes n) in
+          let Asked : Option Next → Type 0 = λ n. AsksFirst (Some bytes) a.written b.left b.written (next_lines turns l a.events [] n) in
+          let From : Option (List ℕ) → Type 0 = λ o. AsksFirst o a.written b.left b.written (turns l (number_on l a.events) q []).text in
           subst Stops (sym same) (record {
             rest = bytes;
             done = [];
+            middle = a.written;
+            before = adds_none a.written;
             begins = λ run runs. runs;
-            text = subst Lines (sym due) (record { front = f.front; back = f.back; parts = f.parts; put = f.put ∙ some_text _ _ (ap (λ x. x ++ f.front) (sym (append-nil before))) });
-            asked = subst Asked (sym due) (asked_from turns l (number_on l a.events) q a b bytes before asked left written);
+            text = subst Lines (sym due) f;
+            asked = subst Asked (sym due) (subst From left asked);
           });
     }
 
@@ -229,9 +212,9 @@ lost_turn turns l terms q reply e a b gives follows due fits same told =
       puts = subst Due (sym same) (puts_next l terms a.events q due).due;
       fits = fits;
       follows = subst Follows (sym same) follows;
-      told = λ bytes before left written.
-          let Number : List Event → Type 0 = λ x. Turn (turns l (number_on l x) q bytes) before b.left b.written reply in
-          let here : Number b.events = subst Number (sym same) (told bytes before left written) in
+      told = λ bytes left.
+          let Number : List Event → Type 0 = λ x. Turn (turns l (number_on l x) q bytes) a.written b.left b.written reply in
+          let here : Number b.events = subst Number (sym same) (told bytes left) in
           record {
             rest = bytes;
             done = [];

@@ -1,5 +1,7 @@
 -- What the loop has done, by how it ended.
 use Rattle.std.specs.Prelude.{◌≡◌, ◌≢◌, ◌⊎◌, ◌↔◌, ◌<◌, ◌+◌, ℕ, Bool, IsTrue, List, [], ◌++◌, length, All, ◌&&◌, Option, Some, None, IfSome}
+use Rattle.std.specs.Option.{ForSome}
+use Rattle.acq_io.specs.Streams.{Adds, AddsFront}
 use Rattle.assign.specs.Assignment.{Assignment}
 use Rattle.assign.specs.Events.{Answer, standing}
 use Rattle.assign.specs.declared.events.Event.{Event}
@@ -20,7 +22,7 @@ use Rattle.session_laws.specs.Walk.{WalkEnd, Ended}
 use Rattle.session_laws.specs.Laws.{IsWalked, network_in}
 use Rattle.session_store.specs.Kept.{answer_event}
 use Rattle.target_oracle.specs.Turns.{Turns}
-use Rattle.target_oracle.specs.Tells.{AsksFirst, Front}
+use Rattle.target_oracle.specs.Tells.{AsksFirst}
 use Rattle.acq_loop.specs.Closings.{closing_of, number_of}
 use Rattle.acq_loop.specs.Few.{AreFew}
 use Rattle.acq_loop.specs.Run.{Closing, Converged, Collapsed, Undecided, Next, Puts, Ends, next_after, next_on, number_on, Ran, Runs, after_text, event_heard}
@@ -36,28 +38,28 @@ pub record Point : Type 0 where
   pub written : Option (List ℕ)
 
 -- what was written so far begins each run that goes on from there
-pub record IsBegun (turns : Turns) (l : Language) (terms : Terms) (bytes before : List ℕ) (old new : Point) : Type 0 where
+pub record IsBegun (turns : Turns) (l : Language) (terms : Terms) (bytes : List ℕ) (old new : Point) : Type 0 where
   pub rest : List ℕ
   pub done : List ℕ
   pub left : new.left ≡ Some rest
-  pub written : new.written ≡ Some (before ++ done)
+  pub written : Adds old.written new.written done
   pub begins : (run : Ran) → Runs turns l terms new.events rest run → Runs turns l terms old.events bytes (after_text done run)
 
--- where source and sink tell
+-- where the source tells
 abbrev pub StepsTo : Turns → Language → Terms → Point → Point → Type 0
-StepsTo turns l terms old new = (bytes before : List ℕ) → old.left ≡ Some bytes → old.written ≡ Some before → IsBegun turns l terms bytes before old new
+StepsTo turns l terms old new = ForSome old.left (λ bytes. IsBegun turns l terms bytes old new)
 
 -- the run with this closing is what was written and left, and its events are there
-pub record IsRun (turns : Turns) (l : Language) (terms : Terms) (bytes before : List ℕ) (end : Closing) (old new : Point) : Type 0 where
+pub record IsRun (turns : Turns) (l : Language) (terms : Terms) (bytes : List ℕ) (end : Closing) (old new : Point) : Type 0 where
   pub run : Ran
   pub runs : Runs turns l terms old.events bytes run
   pub closing : run.closing ≡ end
   pub events : run.events ≡ new.events
   pub left : new.left ≡ Some run.rest
-  pub written : new.written ≡ Some (before ++ run.text)
+  pub written : Adds old.written new.written run.text
 
 abbrev pub RanTo : Turns → Language → Terms → Closing → Point → Point → Type 0
-RanTo turns l terms closing old new = (bytes before : List ℕ) → old.left ≡ Some bytes → old.written ≡ Some before → IsRun turns l terms bytes before closing old new
+RanTo turns l terms closing old new = ForSome old.left (λ bytes. IsRun turns l terms bytes closing old new)
 
 -- the lines of what comes next after these events, where that is a question
 abbrev pub next_lines : Turns → Language → List Event → List ℕ → Option Next → List ℕ
@@ -68,34 +70,37 @@ next_lines turns l events bytes (Some (Puts q)) = (turns l (number_on l events) 
 -- What was written goes no further than the lines of the question that comes after these events. So no event is missing behind
 -- whose lines something was written. Of the bytes that were there when the question came, the input has an end. Before any of
 -- them was taken, what the question's turn writes to no bytes stood there: its line.
-pub record StopsAt (turns : Turns) (l : Language) (terms : Terms) (start events : List Event) (bytes before : List ℕ) (left written : Option (List ℕ)) : Type 0 where
+pub record StopsAt (turns : Turns) (l : Language) (terms : Terms) (start events : List Event) (bytes : List ℕ) (written left' written' : Option (List ℕ)) : Type 0 where
   pub rest : List ℕ
   pub done : List ℕ
+  -- what the sink had when the question came
+  pub middle : Option (List ℕ)
+  pub before : Adds written middle done
   pub begins : (run : Ran) → Runs turns l terms events rest run → Runs turns l terms start bytes (after_text done run)
-  pub text : Front (next_lines turns l events rest (next_on l terms events)) (before ++ done) written
-  pub asked : AsksFirst (Some rest) (Some (before ++ done)) left written (next_lines turns l events [] (next_on l terms events))
+  pub text : AddsFront middle written' (next_lines turns l events rest (next_on l terms events))
+  pub asked : AsksFirst (Some rest) middle left' written' (next_lines turns l events [] (next_on l terms events))
 
 -- What was written is a front of the run's text, and the events are a front of its events, with each behind whose lines
 -- something was written.
-pub record IsCut (turns : Turns) (l : Language) (terms : Terms) (bytes before : List ℕ) (old new : Point) : Type 0 where
+pub record IsCut (turns : Turns) (l : Language) (terms : Terms) (bytes : List ℕ) (old new : Point) : Type 0 where
   pub run : Ran
   pub runs : Runs turns l terms old.events bytes run
-  pub text : Front run.text before new.written
+  pub text : AddsFront old.written new.written run.text
   pub later : List Event
   pub events : run.events ≡ new.events ++ later
-  pub stops : StopsAt turns l terms old.events new.events bytes before new.left new.written
+  pub stops : StopsAt turns l terms old.events new.events bytes old.written new.left new.written
 
 abbrev pub CutOff : Turns → Language → Terms → Point → Point → Type 0
-CutOff turns l terms old new = (bytes before : List ℕ) → old.left ≡ Some bytes → old.written ≡ Some before → IsCut turns l terms bytes before old new
+CutOff turns l terms old new = ForSome old.left (λ bytes. IsCut turns l terms bytes old new)
 
 -- This question was put: its lines were written, and a reply was heard, whose event, which is this one, isn't there.
-pub record IsUnkept (turns : Turns) (l : Language) (terms : Terms) (question : Assignment) (lost : Event) (bytes before : List ℕ) (old new : Point) : Type 0 where
+pub record IsUnkept (turns : Turns) (l : Language) (terms : Terms) (question : Assignment) (lost : Event) (bytes : List ℕ) (old new : Point) : Type 0 where
   pub rest : List ℕ
   pub done : List ℕ
   pub begins : (run : Ran) → Runs turns l terms new.events rest run → Runs turns l terms old.events bytes (after_text done run)
   pub heard : event_heard question (turns l (number_on l new.events) question rest).heard.reply ≡ Some lost
   pub left : new.left ≡ Some (turns l (number_on l new.events) question rest).heard.rest
-  pub written : new.written ≡ Some (before ++ (done ++ (turns l (number_on l new.events) question rest).text))
+  pub written : Adds old.written new.written (done ++ (turns l (number_on l new.events) question rest).text)
 
 -- after these events a question may be answered so; an answer is taken back where one stands
 abbrev pub MayFollow : List Event → Assignment → Event → Type 0
@@ -107,8 +112,8 @@ pub record Loses (turns : Turns) (l : Language) (terms : Terms) (old new : Point
   pub puts : next_after l terms (standing_on l new.events) ≡ Some (Puts question)
   pub fits : IsQuestion l question
   pub follows : MayFollow new.events question lost
-  -- where source and sink tell
-  pub told : (bytes before : List ℕ) → old.left ≡ Some bytes → old.written ≡ Some before → IsUnkept turns l terms question lost bytes before old new
+  -- where the source tells
+  pub told : ForSome old.left (λ bytes. IsUnkept turns l terms question lost bytes old new)
 
 -- an event was lost
 abbrev pub UnkeptTo : Turns → Language → Terms → Point → Point → Type 0

@@ -1,5 +1,6 @@
 -- What is heard of a teacher's word to a question: what is to be kept of it, or how the loop ends.
 use Rattle.std.specs.Prelude.{◌≡◌, ◌≢◌, ◌<◌, ◌+◌, ℕ, List, [], true, false, Option, Some, None, IsSome, Result, Ok, Err}
+use Rattle.std.specs.Option.{ForSome}
 use Rattle.assign.specs.Assignment.{Assignment}
 use Rattle.assign.specs.Events.{standing}
 use Rattle.assign.specs.declared.events.Event.{Event}
@@ -37,8 +38,8 @@ heard_of told.Memory count = heard.End drove.Memory
 pub record Hears (turns : Turns) (may : Language → Assignment → Told → Type 0) (l : Language) (q : Assignment) (count : ℕ) (left written left' written' : Option (List ℕ)) (heard : Heard) : Type 0 where
   pub word : Told
   pub is : heard ≡ heard_of word count
-  -- where source and sink tell
-  pub tells : (bytes before : List ℕ) → left ≡ Some bytes → written ≡ Some before → Tells (turns l (count + 1) q bytes) before left' written' word
+  -- where the source tells
+  pub tells : ForSome left (λ bytes. Tells (turns l (count + 1) q bytes) written left' written' word)
   pub asks : AsksFirst left written left' written' (turns l (count + 1) q []).text
   pub says : may l q word
   pub back : word ≡ told.Back → 1 < count + 1

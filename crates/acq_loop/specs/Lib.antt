@@ -10,3 +10,4 @@ pub mod Loop
 pub mod Turn
 pub mod Texts
 pub mod Program
+pub mod Laws

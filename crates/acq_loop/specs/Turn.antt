@@ -1,5 +1,7 @@
 -- One turn of the loop, and turns one after another.
-use Rattle.std.specs.Prelude.{◌≡◌, List, [], ◌∷◌, ℕ, Option, Some}
+use Rattle.std.specs.Prelude.{◌≡◌, List, [], ◌∷◌, ℕ, Bool, Option}
+use Rattle.std.specs.Option.{ForSome}
+use Rattle.acq_io.specs.Streams.{AddsFront}
 use Rattle.assign.specs.Assignment.{Assignment}
 use Rattle.assign.specs.declared.events.Event.{Event}
 use Rattle.disk_model.specs.declared.disk.Disk.{Ghosts as DiskOf}
@@ -9,18 +11,16 @@ use Rattle.query_gen.specs.declared.place.Place.{Place}
 use Rattle.session_store.specs.Keeps.{LosesNone}
 use Rattle.session_store.specs.declared.keep.Keep.{Ghosts as KeepOf}
 use Rattle.target_oracle.specs.Teaching.{TeachesOn}
-use Rattle.target_oracle.specs.Tells.{Front}
 use Rattle.target_oracle.specs.Turns.{Turns}
 use Rattle.target_oracle.specs.declared.teacher.Told.{Told}
 use Rattle.acq_loop.specs.Driven.{next_lines}
 use Rattle.acq_loop.specs.Run.{next_on}
 use Rattle.acq_loop.specs.declared.terms.Terms.{Terms}
 
--- What was written, where source and sink tell, is a front of the lines of the question that comes after these events, and nothing
+-- What was written, where the source tells, is a front of the lines of the question that comes after these events, and nothing
 -- where none comes.
 abbrev pub SaysNext : Turns → Language → Terms → List Event → (left written written' : Option (List ℕ)) → Type 0
-SaysNext turns l terms events left written written' =
-    (bytes before : List ℕ) → left ≡ Some bytes → written ≡ Some before → Front (next_lines turns l events bytes (next_on l terms events)) before written'
+SaysNext turns l terms events left written written' = ForSome left (λ bytes. AddsFront written written' (next_lines turns l events bytes (next_on l terms events)))
 
 -- the keeper, its disk, and what a source has left and a sink has, where they tell
 pub record Between (K D : Type 0) : Type 0 where
@@ -52,8 +52,8 @@ module _ {K D : Type 0} (keep : KeepOf K D) (disk : DiskOf D) where
 -- ---- what serves another turn
 
 -- the meanings of a teacher
-module _ {T : Type 0} (turns_of : T → Turns) (fits_of : T → Language → Type 0) (may_of : T → Language → Assignment → Told → Type 0) where
+module _ {T : Type 0} (turns_of : T → Turns) (fits_of : T → Language → Type 0) (may_of : T → Language → Assignment → Told → Type 0) (reads_of : T → Bool) where
   -- The teacher teaches as before, and the places are made for the language.
   pub record ServesOn (l : Language) (old new : T) (places : List Place) : Type 0 where
-    pub teaches : TeachesOn turns_of fits_of may_of old new
+    pub teaches : TeachesOn turns_of fits_of may_of reads_of old new
     pub equipped : AreMadeFor l places

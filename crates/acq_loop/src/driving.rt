@@ -1,4 +1,4 @@
-ghost use Rattle.std.specs.Prelude.{◌≡◌, ◌≢◌, ◌+◌, ◌<◌, List, [], length, Some, None, IfSome, IsSome, IsTrue};
+ghost use Rattle.std.specs.Prelude.{◌≡◌, ◌≢◌, ◌+◌, ◌<◌, List, [], length, Some, None, IfSome, IsSome, IsTrue, IsFalse};
 ghost use Rattle.std.specs.Option.{ForSome};
 ghost use Rattle.acq_io.specs.Streams.{Rose};
 ghost use Rattle.assign.specs.Events.{Answer, standing};
@@ -173,7 +173,8 @@ fn hear<S: Source, K: Sink, T: Teacher<S, K>>(
     ensures fits { ForSome (open_in session.now) (IsQuestion (knowledge_of session.now).lang) }
     ensures hears { ForSome (open_in session.now) (λ q. Hears (T.turn teacher.old) (T.may_say teacher.old) (knowledge_of session.now).lang q (knowledge_of session.now).answers
         (S.left source.old) (K.written sink.old) (S.left source.new) (K.written sink.new) result) }
-    ensures teacher { TeachesOn T.turn T.fits T.may_say teacher.old teacher.new }
+    ensures teacher { TeachesOn T.turn T.fits T.may_say T.reads teacher.old teacher.new }
+    ensures unread { IsFalse (T.reads teacher.old) → source.new ≡ source.old }
     ensures faults { HasReadAndWritten (S.left source.old) (S.left source.new) (S.faults source.old) (S.faults source.new) (S.late source.old) (S.late source.new) (K.faults sink.old) (K.faults sink.new) (result ≡ Heard.End Drove.ReadFault) (result ≡ Heard.End Drove.WriteFault) }
 {
     let count = session.answers();
@@ -232,7 +233,9 @@ pub fn take_turn<
         (point_of (P.record_of keep.new) (S.left source.new) (K.written sink.new)))
         keep.old keep.new disk.old disk.new }
     ensures faults { HasReadAndWritten (S.left source.old) (S.left source.new) (S.faults source.old) (S.faults source.new) (S.late source.old) (S.late source.new) (K.faults sink.old) (K.faults sink.new) (result ≡ Some Drove.ReadFault) (result ≡ Some Drove.WriteFault) }
-    ensures serves { ServesOn T.turn T.fits T.may_say (P.lang keep.old) teacher.old teacher.new places.new }
+    // a teacher that doesn't read leaves the source alone
+    ensures unread { IsFalse (T.reads teacher.old) → source.new ≡ source.old }
+    ensures serves { ServesOn T.turn T.fits T.may_say T.reads (P.lang keep.old) teacher.old teacher.new places.new }
     // whatever comes of it
     ensures turn { IsTurn P.Keep D.Disk (T.turn teacher.old) (P.lang keep.old) (terms_with (P.plan keep.old) budget)
         (between keep.old disk.old (S.left source.old) (K.written sink.old)) (between keep.new disk.new (S.left source.new) (K.written sink.new)) }
@@ -294,8 +297,10 @@ pub fn drive<R: Threads + Sync, S: Source, K: Sink, D: Disk, T: Teacher<S, K>, P
         keep.old keep.new disk.old disk.new }
     // whatever the ending, the input has an end of what it had
     ensures faults { HasReadAndWritten (S.left source.old) (S.left source.new) (S.faults source.old) (S.faults source.new) (S.late source.old) (S.late source.new) (K.faults sink.old) (K.faults sink.new) (result ≡ Drove.ReadFault) (result ≡ Drove.WriteFault) }
+    // where the teacher doesn't read, nothing does
+    ensures unread { IsFalse (T.reads teacher.old) → source.new ≡ source.old }
     // however it ends, places and teacher serve another call
-    ensures serves { ServesOn T.turn T.fits T.may_say (P.lang keep.old) teacher.old teacher.new places.new }
+    ensures serves { ServesOn T.turn T.fits T.may_say T.reads (P.lang keep.old) teacher.old teacher.new places.new }
     // no turn loses an event that was there when it began, or writes more than the lines of the question that came then
     ensures by_turns { ByTurns P.Keep D.Disk (T.turn teacher.old) (P.lang keep.old) (terms_with (P.plan keep.old) budget)
         (between keep.old disk.old (S.left source.old) (K.written sink.old)) (between keep.new disk.new (S.left source.new) (K.written sink.new)) }

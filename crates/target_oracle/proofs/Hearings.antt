@@ -2,14 +2,15 @@
 use Rattle.std.proofs.Common.{◌≡◌, ℕ, zero, suc, ◌+◌, List, [], ◌++◌, true, false, ap, sym, subst, ◌∙◌, refl, arith, append_assoc, Option, Some, None}
 use Rattle.std.specs.Prelude.{IfSome}
 use Rattle.std.specs.Option.{option_map}
-use Rattle.std.proofs.lemmas.List.{append-nil}
 use Rattle.acq_io.specs.Streams.{Adds, AddsFront}
+use Rattle.acq_io.proofs.TakenLemmas.{adds_none, adds_then}
 use Rattle.acq_io.specs.Lines.{Lined, lined, line_of}
 use Rattle.acq_io.specs.declared.lines.LineGot.{LineGot}
 use Rattle.target_oracle.specs.Turns.{Turned, turned_after, Reply, Said, TakenBack, Stopped, Ended, Overlong, Unread}
 use Rattle.target_oracle.specs.Lines.{Spoken, spoken, spoken_in, line_reply, no_answer_text, replied, hear_line, hear}
 use Rattle.target_oracle.specs.Hearing.{told_of, Speaks, Hears, HearsLine, CutsOff, Passes, TellsOf, PassedBy}
-use Rattle.target_oracle.specs.Tells.{Turn, Front, Tells}
+use Rattle.target_oracle.specs.Tells.{Turn, Tells}
+use Rattle.target_oracle.proofs.Fronts.{front_longer, front_none, front_then}
 use Rattle.target_oracle.specs.declared.teacher.Told.{Told}
 use Rattle.target_oracle.specs.declared.teacher.Told.TheVariants.{Yes, No, Back, Stop, End, TooLong, Unreadable, ReadFault, WriteFault, Memory}
 
@@ -53,36 +54,32 @@ unfolding hear
 hear_reply k zero bytes reply h = ap (hear_line (replied Unread) (spoken k bytes).rest) h
 hear_reply k (suc patience) bytes reply h = ap (hear_line (λ rest. turned_after no_answer_text (hear k patience rest)) (spoken k bytes).rest) h
 
-turn_as : (turned : Turned) (reply : Reply) (rest before : List ℕ) (now written : Option (List ℕ)) → turned ≡ replied reply rest → now ≡ Some rest → written ≡ Some before → Turn turned before now written reply
-turn_as turned reply rest before now written e left put = record {
+turn_as : (turned : Turned) (reply : Reply) (rest : List ℕ) (now written : Option (List ℕ)) → turned ≡ replied reply rest → now ≡ Some rest → Turn turned written now written reply
+turn_as turned reply rest now written e left = record {
   heard = ap (λ (t : Turned). t.heard.reply) e;
   rest = left ∙ some_text _ _ (sym (ap (λ (t : Turned). t.heard.rest) e));
-  text = put ∙ some_text _ _ (sym (append-nil before) ∙ ap (λ x. before ++ x) (sym (ap (λ (t : Turned). t.text) e)));
+  text = let Added : List ℕ → Type 0 = Adds written written in subst Added (sym (ap (λ (t : Turned). t.text) e)) (adds_none written);
 }
 
-turn_replied : (k : ℕ) (patience : ℕ) (bytes before : List ℕ) (now written : Option (List ℕ)) (reply : Reply) → Speaks k (Some bytes) now (Some reply) → written ≡ Some before → Turn (hear k patience bytes) before now written reply
-turn_replied k patience bytes before now written reply h put =
-    let so = spoken_so k bytes now (Some reply) h in turn_as (hear k patience bytes) reply _ before now written (hear_reply k patience bytes reply so.0) so.1 put
+turn_replied : (k : ℕ) (patience : ℕ) (bytes : List ℕ) (now written : Option (List ℕ)) (reply : Reply) → Speaks k (Some bytes) now (Some reply) → Turn (hear k patience bytes) written now written reply
+turn_replied k patience bytes now written reply h =
+    let so = spoken_so k bytes now (Some reply) h in turn_as (hear k patience bytes) reply _ now written (hear_reply k patience bytes reply so.0) so.1
 
--- nothing of a text was written
-front_none : (text before : List ℕ) (written : Option (List ℕ)) → written ≡ Some before → Front text before written
-front_none text before written put = record { front = []; back = text; parts = refl; put = put ∙ some_text _ _ (sym (append-nil before)) }
-
-heard_tells : (k : ℕ) (patience : ℕ) (bytes before : List ℕ) (now written : Option (List ℕ)) (told : Told) → Hears k (Some bytes) now told → written ≡ Some before → Tells (hear k patience bytes) before now written told
-heard_tells k patience bytes before now written Yes h put = turn_replied k patience bytes before now written (Said true) h put
-heard_tells k patience bytes before now written No h put = turn_replied k patience bytes before now written (Said false) h put
-heard_tells k patience bytes before now written Back h put = turn_replied k patience bytes before now written TakenBack h put
-heard_tells k patience bytes before now written Stop h put = turn_replied k patience bytes before now written Stopped h put
-heard_tells k patience bytes before now written End h put = turn_replied k patience bytes before now written Ended h put
-heard_tells k patience bytes before now written TooLong h put = turn_replied k patience bytes before now written Overlong h put
-heard_tells k patience bytes before now written Unreadable h put = turn_replied k patience bytes before now written Unread h put
-heard_tells k patience bytes before now written ReadFault h put = front_none (hear k patience bytes).text before written put
-heard_tells k patience bytes before now written WriteFault h put = absurd h
-heard_tells k patience bytes before now written Memory h put = absurd h
+heard_tells : (k : ℕ) (patience : ℕ) (bytes : List ℕ) (now written : Option (List ℕ)) (told : Told) → Hears k (Some bytes) now told → Tells (hear k patience bytes) written now written told
+heard_tells k patience bytes now written Yes h = turn_replied k patience bytes now written (Said true) h
+heard_tells k patience bytes now written No h = turn_replied k patience bytes now written (Said false) h
+heard_tells k patience bytes now written Back h = turn_replied k patience bytes now written TakenBack h
+heard_tells k patience bytes now written Stop h = turn_replied k patience bytes now written Stopped h
+heard_tells k patience bytes now written End h = turn_replied k patience bytes now written Ended h
+heard_tells k patience bytes now written TooLong h = turn_replied k patience bytes now written Overlong h
+heard_tells k patience bytes now written Unreadable h = turn_replied k patience bytes now written Unread h
+heard_tells k patience bytes now written ReadFault h = front_none written written (hear k patience bytes).text refl
+heard_tells k patience bytes now written WriteFault h = absurd h
+heard_tells k patience bytes now written Memory h = absurd h
 
 pub line_tells : (k : ℕ) (patience : ℕ) (left now written : Option (List ℕ)) (told : Told) → Hears k left now told → TellsOf k patience left written now written told
-line_tells k patience left now written told h bytes before is put =
-    let P : Option (List ℕ) → Type 0 = λ o. Hears k o now told in heard_tells k patience bytes before now written told (subst P is h) put
+line_tells k patience left now written told h bytes is =
+    let P : Option (List ℕ) → Type 0 = λ o. Hears k o now told in heard_tells k patience bytes now written told (subst P is h)
 
 -- ---- a line that is no answer
 
@@ -92,54 +89,39 @@ unfolding hear
 hear_none k bytes h = ap (hear_line (replied Unread) (spoken k bytes).rest) h
 
 pub last_tells : (k : ℕ) (left now written : Option (List ℕ)) → Speaks k left now None → TellsOf k zero left written now written Unreadable
-last_tells k left now written h bytes before is put =
+last_tells k left now written h bytes is =
     let P : Option (List ℕ) → Type 0 = λ o. Speaks k o now None in
-    let so = spoken_so k bytes now None (subst P is h) in turn_as (hear k zero bytes) Unread _ before now written (hear_none k bytes so.0) so.1 put
+    let so = spoken_so k bytes now None (subst P is h) in turn_as (hear k zero bytes) Unread _ now written (hear_none k bytes so.0) so.1
 
 -- where it is passed over
 pub passed_line : (k : ℕ) (left now written written' : Option (List ℕ)) → Speaks k left now None → Adds written written' no_answer_text → Passes k left written now written'
-passed_line k left now written written' h adds bytes before is put =
+passed_line k left now written written' h adds bytes is =
     let P : Option (List ℕ) → Type 0 = λ o. Speaks k o now None in
-    let so = spoken_so k bytes now None (subst P is h) in record {
-      says = so.0;
-      left = so.1;
-      written = adds ∙ ap (option_map (λ text. text ++ no_answer_text)) put;
-    }
+    let so = spoken_so k bytes now None (subst P is h) in record { says = so.0; left = so.1; put = adds }
 
 hear_more : (k : ℕ) (patience : ℕ) (bytes : List ℕ) → (spoken k bytes).says ≡ None → hear k (suc patience) bytes ≡ turned_after no_answer_text (hear k patience (spoken k bytes).rest)
 unfolding hear
 hear_more k patience bytes h = ap (hear_line (λ rest. turned_after no_answer_text (hear k patience rest)) (spoken k bytes).rest) h
 
--- a front of a text that begins a longer one
-front_of : (text more before : List ℕ) (written written' : Option (List ℕ)) → AddsFront written written' text → written ≡ Some before → Front (text ++ more) before written'
-front_of text more before written written' adds put = record {
-  front = adds.0;
-  back = adds.1 ++ more;
-  parts = ap (λ x. x ++ more) adds.2 ∙ append_assoc adds.0 adds.1 more;
-  put = adds.3 ∙ ap (option_map (λ x. x ++ adds.0)) put;
-}
-
-front_as : (turned : Turned) (text more before : List ℕ) (written : Option (List ℕ)) → turned.text ≡ text ++ more → Front (text ++ more) before written → Front turned.text before written
-front_as turned text more before written e f = let P : List ℕ → Type 0 = λ x. Front x before written in subst P (sym e) f
-
-cut_tells : (k : ℕ) (patience : ℕ) (bytes before : List ℕ) (now written written' : Option (List ℕ)) (told : Told) → Speaks k (Some bytes) now None → CutsOff no_answer_text written written' told → written ≡ Some before → Tells (hear k (suc patience) bytes) before now written' told
-cut_tells k patience bytes before now written written' Yes h cut put = absurd cut
-cut_tells k patience bytes before now written written' No h cut put = absurd cut
-cut_tells k patience bytes before now written written' Back h cut put = absurd cut
-cut_tells k patience bytes before now written written' Stop h cut put = absurd cut
-cut_tells k patience bytes before now written written' End h cut put = absurd cut
-cut_tells k patience bytes before now written written' TooLong h cut put = absurd cut
-cut_tells k patience bytes before now written written' Unreadable h cut put = absurd cut
-cut_tells k patience bytes before now written written' ReadFault h cut put = absurd cut
-cut_tells k patience bytes before now written written' WriteFault h cut put =
+cut_tells : (k : ℕ) (patience : ℕ) (bytes : List ℕ) (now written written' : Option (List ℕ)) (told : Told) → Speaks k (Some bytes) now None → CutsOff no_answer_text written written' told → Tells (hear k (suc patience) bytes) written now written' told
+cut_tells k patience bytes now written written' Yes h cut = absurd cut
+cut_tells k patience bytes now written written' No h cut = absurd cut
+cut_tells k patience bytes now written written' Back h cut = absurd cut
+cut_tells k patience bytes now written written' Stop h cut = absurd cut
+cut_tells k patience bytes now written written' End h cut = absurd cut
+cut_tells k patience bytes now written written' TooLong h cut = absurd cut
+cut_tells k patience bytes now written written' Unreadable h cut = absurd cut
+cut_tells k patience bytes now written written' ReadFault h cut = absurd cut
+cut_tells k patience bytes now written written' WriteFault h cut =
     let so = spoken_so k bytes now None h in
     let more : List ℕ = (hear k patience (spoken k bytes).rest).text in
-    front_as (hear k (suc patience) bytes) no_answer_text more before written' (ap (λ (t : Turned). t.text) (hear_more k patience bytes so.0)) (front_of no_answer_text more before written written' cut put)
-cut_tells k patience bytes before now written written' Memory h cut put = front_none (hear k (suc patience) bytes).text before written' (cut ∙ put)
+    let Fronts : List ℕ → Type 0 = AddsFront written written' in
+    subst Fronts (sym (ap (λ (t : Turned). t.text) (hear_more k patience bytes so.0))) (front_longer written written' no_answer_text more cut)
+cut_tells k patience bytes now written written' Memory h cut = front_none written written' (hear k (suc patience) bytes).text cut
 
 passing_tells : (k : ℕ) (patience : ℕ) (left now written written' : Option (List ℕ)) (told : Told) → Speaks k left now None → CutsOff no_answer_text written written' told → TellsOf k (suc patience) left written now written' told
-passing_tells k patience left now written written' told h cut bytes before is put =
-    let P : Option (List ℕ) → Type 0 = λ o. Speaks k o now None in cut_tells k patience bytes before now written written' told (subst P is h) cut put
+passing_tells k patience left now written written' told h cut bytes is =
+    let P : Option (List ℕ) → Type 0 = λ o. Speaks k o now None in cut_tells k patience bytes now written written' told (subst P is h) cut
 
 pub maybe_tells : (k : ℕ) (left now written written' : Option (List ℕ)) (end : Option Told) → Speaks k left now None → IfSome end (CutsOff no_answer_text written written') →
     IfSome end (λ told. (patience : ℕ) → TellsOf k (suc patience) left written now written' told)
@@ -148,49 +130,41 @@ maybe_tells k left now written written' (Some told) h cut = λ patience. passing
 
 -- ---- many lines
 
--- more was written before
-turn_after : (text before : List ℕ) (turned : Turned) (left written : Option (List ℕ)) (reply : Reply) → Turn turned (before ++ text) left written reply → Turn (turned_after text turned) before left written reply
-turn_after text before turned left written reply t = record { heard = t.heard; rest = t.rest; text = t.text ∙ some_text _ _ (append_assoc before text turned.text) }
+-- another text was added before
+turn_after : (text : List ℕ) (turned : Turned) (written before left' written' : Option (List ℕ)) (reply : Reply) → Adds written before text → Turn turned before left' written' reply → Turn (turned_after text turned) written left' written' reply
+turn_after text turned written before left' written' reply adds t = record { heard = t.heard; rest = t.rest; text = adds_then written before written' text turned.text adds t.text }
 
-front_after : (text more before : List ℕ) (written : Option (List ℕ)) → Front more (before ++ text) written → Front (text ++ more) before written
-front_after text more before written f = record {
-  front = text ++ f.front;
-  back = f.back;
-  parts = ap (λ x. text ++ x) f.parts ∙ sym (append_assoc text f.front f.back);
-  put = f.put ∙ some_text _ _ (append_assoc before text f.front);
-}
-
-pub tells_after : (text before : List ℕ) (turned : Turned) (left written : Option (List ℕ)) (told : Told) → Tells turned (before ++ text) left written told → Tells (turned_after text turned) before left written told
-tells_after text before turned left written Yes t = turn_after text before turned left written (Said true) t
-tells_after text before turned left written No t = turn_after text before turned left written (Said false) t
-tells_after text before turned left written Back t = turn_after text before turned left written TakenBack t
-tells_after text before turned left written Stop t = turn_after text before turned left written Stopped t
-tells_after text before turned left written End t = turn_after text before turned left written Ended t
-tells_after text before turned left written TooLong t = turn_after text before turned left written Overlong t
-tells_after text before turned left written Unreadable t = turn_after text before turned left written Unread t
-tells_after text before turned left written ReadFault t = front_after text turned.text before written t
-tells_after text before turned left written WriteFault t = front_after text turned.text before written t
-tells_after text before turned left written Memory t = front_after text turned.text before written t
+pub tells_after : (text : List ℕ) (turned : Turned) (written before left' written' : Option (List ℕ)) (told : Told) → Adds written before text → Tells turned before left' written' told → Tells (turned_after text turned) written left' written' told
+tells_after text turned written before left' written' Yes adds t = turn_after text turned written before left' written' (Said true) adds t
+tells_after text turned written before left' written' No adds t = turn_after text turned written before left' written' (Said false) adds t
+tells_after text turned written before left' written' Back adds t = turn_after text turned written before left' written' TakenBack adds t
+tells_after text turned written before left' written' Stop adds t = turn_after text turned written before left' written' Stopped adds t
+tells_after text turned written before left' written' End adds t = turn_after text turned written before left' written' Ended adds t
+tells_after text turned written before left' written' TooLong adds t = turn_after text turned written before left' written' Overlong adds t
+tells_after text turned written before left' written' Unreadable adds t = turn_after text turned written before left' written' Unread adds t
+tells_after text turned written before left' written' ReadFault adds t = front_then written before written' text turned.text adds t
+tells_after text turned written before left' written' WriteFault adds t = front_then written before written' text turned.text adds t
+tells_after text turned written before left' written' Memory adds t = front_then written before written' text turned.text adds t
 
 -- none was passed over yet
 pub passed_none : (k : ℕ) (most : ℕ) (left written : Option (List ℕ)) → PassedBy k most 0 left written left written
-passed_none k most left written bytes before is put = record {
+passed_none k most left written bytes is = record {
   rest = bytes;
   done = [];
   left = is;
-  written = put ∙ some_text _ _ (sym (append-nil before));
+  put = adds_none written;
   begins = λ patience same. ap (λ n. hear k n bytes) (let e : most ≡ patience = omega (arith, same) in e);
 }
 
 -- one more
 pub passed_more : (k : ℕ) (most count : ℕ) (left written left' written' left'' written'' : Option (List ℕ)) → PassedBy k most count left written left' written' → Passes k left' written' left'' written'' → PassedBy k most (count + 1) left written left'' written''
-passed_more k most count left written left' written' left'' written'' passed one bytes before is put =
-    let p = passed bytes before is put in let o = one p.rest (before ++ p.done) p.left p.written in
+passed_more k most count left written left' written' left'' written'' passed one bytes is =
+    let p = passed bytes is in let o = one p.rest p.left in
     record {
       rest = (spoken k p.rest).rest;
       done = p.done ++ no_answer_text;
       left = o.left;
-      written = o.written ∙ some_text _ _ (append_assoc before p.done no_answer_text);
+      put = adds_then written written' written'' p.done no_answer_text p.put o.put;
       begins = λ patience same.
           p.begins (suc patience) (omega (arith, same))
           ∙ ap (turned_after p.done) (hear_more k patience p.rest o.says)
@@ -200,25 +174,10 @@ passed_more k most count left written left' written' left'' written'' passed one
 -- what is told after them
 pub passed_tells : (k : ℕ) (most count patience : ℕ) (left written left' written' left'' written'' : Option (List ℕ)) (told : Told) → patience + count ≡ most → PassedBy k most count left written left' written' →
     TellsOf k patience left' written' left'' written'' told → TellsOf k most left written left'' written'' told
-passed_tells k most count patience left written left' written' left'' written'' told same passed tells bytes before is put =
-    let p = passed bytes before is put in
-    let P : Turned → Type 0 = λ t. Tells t before left'' written'' told in
-    subst P (sym (p.begins patience same)) (tells_after p.done before (hear k patience p.rest) left'' written'' told (tells p.rest (before ++ p.done) p.left p.written))
-
--- ---- the whole turn
-
--- the line was added where the sink told
-pub put_line : (before line text : List ℕ) (old now : Option (List ℕ)) → Adds old now line → old ≡ Some before → line ≡ text → now ≡ Some (before ++ text)
-put_line before line text old now adds told same =
-    adds ∙ ap (option_map (λ written. written ++ line)) told ∙ ap (λ (x : List ℕ). let o : Option (List ℕ) = Some (before ++ x) in o) same
-
--- or a front of it
-pub cut_line : (before line text more : List ℕ) (old now : Option (List ℕ)) → AddsFront old now line → old ≡ Some before → line ≡ text → Front (text ++ more) before now
-cut_line before line text more old now adds told same =
-    let P : List ℕ → Type 0 = λ x. AddsFront old now x in front_of text more before old now (subst P same adds) told
-
-pub no_line : (text before : List ℕ) (old now : Option (List ℕ)) → now ≡ old → old ≡ Some before → Front text before now
-no_line text before old now same told = front_none text before now (same ∙ told)
+passed_tells k most count patience left written left' written' left'' written'' told same passed tells bytes is =
+    let p = passed bytes is in
+    let P : Turned → Type 0 = λ t. Tells t written left'' written'' told in
+    subst P (sym (p.begins patience same)) (tells_after p.done (hear k patience p.rest) written written' left'' written'' told p.put (tells p.rest p.left))
 
 -- ---- no bytes
 

@@ -1,7 +1,7 @@
 -- What is known after a line, and after many.
-use Rattle.std.specs.Prelude.{◌≡◌, ℕ, ◌+◌, List, ◌++◌, true, false, Option, Some, None}
-use Rattle.std.specs.Option.{option_map}
-use Rattle.acq_io.specs.Streams.{AddsFront}
+use Rattle.std.specs.Prelude.{◌≡◌, ℕ, ◌+◌, List, true, false, Option, Some, None}
+use Rattle.std.specs.Option.{option_map, ForSome}
+use Rattle.acq_io.specs.Streams.{Adds, AddsFront}
 use Rattle.target_oracle.specs.Turns.{turned_after, Reply, Said, TakenBack, Stopped, Ended, Overlong, Unread}
 use Rattle.target_oracle.specs.Lines.{Spoken, spoken, no_answer_text, hear}
 use Rattle.target_oracle.specs.Tells.{Tells}
@@ -54,28 +54,26 @@ CutsOff text before now WriteFault = AddsFront before now text
 CutsOff text before now Memory = now ≡ before
 
 -- a line that is no answer was passed over, and that was written
-pub record IsPassed (k : ℕ) (bytes before : List ℕ) (left' written' : Option (List ℕ)) : Type 0 where
+pub record IsPassed (k : ℕ) (bytes : List ℕ) (written left' written' : Option (List ℕ)) : Type 0 where
   pub says : (spoken k bytes).says ≡ None
   pub left : left' ≡ Some (spoken k bytes).rest
-  pub written : written' ≡ Some (before ++ no_answer_text)
+  pub put : Adds written written' no_answer_text
 
--- where source and sink tell
+-- where the source tells
 abbrev pub Passes : ℕ → (left written left' written' : Option (List ℕ)) → Type 0
-Passes k left written left' written' = (bytes before : List ℕ) → left ≡ Some bytes → written ≡ Some before → IsPassed k bytes before left' written'
+Passes k left written left' written' = ForSome left (λ bytes. IsPassed k bytes written left' written')
 
 -- lines are heard after question number k, so many of which may be no answers
 abbrev pub TellsOf : (k patience : ℕ) → (left written left' written' : Option (List ℕ)) → Told → Type 0
-TellsOf k patience left written left' written' told =
-    (bytes before : List ℕ) → left ≡ Some bytes → written ≡ Some before → Tells (hear k patience bytes) before left' written' told
+TellsOf k patience left written left' written' told = ForSome left (λ bytes. Tells (hear k patience bytes) written left' written' told)
 
 -- so many lines were passed over, of the most that are
-pub record HasPassed (k most count : ℕ) (bytes before : List ℕ) (left' written' : Option (List ℕ)) : Type 0 where
+pub record HasPassed (k most count : ℕ) (bytes : List ℕ) (written left' written' : Option (List ℕ)) : Type 0 where
   pub rest : List ℕ
   pub done : List ℕ
   pub left : left' ≡ Some rest
-  pub written : written' ≡ Some (before ++ done)
+  pub put : Adds written written' done
   pub begins : (patience : ℕ) → patience + count ≡ most → hear k most bytes ≡ turned_after done (hear k patience rest)
 
 abbrev pub PassedBy : (k most count : ℕ) → (left written left' written' : Option (List ℕ)) → Type 0
-PassedBy k most count left written left' written' =
-    (bytes before : List ℕ) → left ≡ Some bytes → written ≡ Some before → HasPassed k most count bytes before left' written'
+PassedBy k most count left written left' written' = ForSome left (λ bytes. HasPassed k most count bytes written left' written')

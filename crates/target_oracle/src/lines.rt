@@ -1,4 +1,4 @@
-ghost use Rattle.std.specs.Prelude.{◌≡◌, ◌≢◌, ℕ, zero, suc, ◌+◌, ◌<◌, ◌≤◌, ◌++◌, ◌∷◌, [], List, IfOk, IfSome, Option, Some, None, length, string_bytes};
+ghost use Rattle.std.specs.Prelude.{◌≡◌, ◌≢◌, true, ℕ, zero, suc, ◌+◌, ◌<◌, ◌≤◌, ◌++◌, ◌∷◌, [], List, IfOk, IfSome, Option, Some, None, length, string_bytes};
 ghost use Rattle.acq_io.specs.Streams.{Adds, AddsOn, HasCalled, Rose, TakesSome};
 ghost use Rattle.language.specs.Language.{IsQuestion};
 ghost use Rattle.language.specs.Texts.{question_text};
@@ -131,6 +131,8 @@ impl<S: Source, K: Sink> Teacher<S, K> for LineTeacher {
     ghost turn = { λ _. line_turn };
 
     ghost may_say = { λ _ _ _ _. Unit {0} };
+
+    ghost reads = { λ _. true };
 
     fn told(
         &mut self,

@@ -1,4 +1,5 @@
-ghost use Rattle.std.specs.Prelude.{◌≡◌, ℕ, ◌≤◌, ◌++◌, ◌∷◌, [], List, IfOk, IfSome, Option, Some, None, string_bytes};
+ghost use Rattle.std.specs.Prelude.{◌≡◌, ◌≤◌, ◌++◌, ◌∷◌, [], false, IfOk, IfSome, Some, None, string_bytes};
+ghost use Rattle.std.specs.Option.{ForSome};
 ghost use Rattle.acq_io.specs.Streams.{Adds, Rose};
 ghost use Rattle.language.specs.Language.{IsQuestion, accepts};
 ghost use Rattle.language.specs.Answers.{IsNetwork};
@@ -100,6 +101,8 @@ impl<S: Source, K: Sink> Teacher<S, K> for NetTeacher {
 
     ghost may_say = { λ owner. net_may_say owner.network };
 
+    ghost reads = { λ _. false };
+
     fn told(
         &mut self,
         alloc: Global,
@@ -114,8 +117,7 @@ impl<S: Source, K: Sink> Teacher<S, K> for NetTeacher {
         // nothing is read, whatever comes of it
         ensures unread { source.new ≡ source.old }
         ensures same { self.new ≡ self.old }
-        ensures tells { (bytes before : List ℕ) → S.left source.old ≡ Some bytes → K.written sink.old ≡ Some before
-            → Tells (net_turn self.old.network self.old.quiet lang.now k q.now bytes) before (S.left source.new) (K.written sink.new) result }
+        ensures tells { ForSome (S.left source.old) (λ bytes. Tells (net_turn self.old.network self.old.quiet lang.now k q.now bytes) (K.written sink.old) (S.left source.new) (K.written sink.new) result) }
         ensures says { net_may_say self.old.network lang.now q.now result }
         ensures later_sink { K.faults sink.old ≤ K.faults sink.new }
         ensures write { result ≡ Told.WriteFault → Rose (K.faults sink.old) (K.faults sink.new) }

@@ -1,4 +1,5 @@
-ghost use Rattle.std.specs.Prelude.{◌≡◌, ℕ, ◌<◌, ◌≤◌, List, [], Option, Some};
+ghost use Rattle.std.specs.Prelude.{◌≡◌, ◌<◌, ◌≤◌, [], Bool, IsFalse};
+ghost use Rattle.std.specs.Option.{ForSome};
 ghost use Rattle.acq_io.specs.Streams.{HasCalled, Rose};
 ghost use Rattle.assign.specs.Assignment.{Assignment};
 ghost use Rattle.language.specs.Language.{Language, IsQuestion};
@@ -45,6 +46,9 @@ pub trait Teacher<S: Source, K: Sink> {
     /// What the teacher may say to a question, whether or not source and sink tell their bytes.
     ghost may_say: { Self → Language → Assignment → Told → Type 0 };
 
+    /// Whether it may read the source.
+    ghost reads: { Self → Bool };
+
     /// Puts question number `k`, counted from 1, and says what comes back.
     fn told(
         &mut self,
@@ -57,14 +61,15 @@ pub trait Teacher<S: Source, K: Sink> {
     ) -> Told
         requires question { IsQuestion lang.now q.now }
         requires fits { fits self.old lang.now }
-        ensures tells { (bytes before : List ℕ) → S.left source.old ≡ Some bytes → K.written sink.old ≡ Some before
-            → Tells (turn self.old lang.now k q.now bytes) before (S.left source.new) (K.written sink.new) result }
+        // where the source tells its bytes, whether or not the sink does
+        ensures tells { ForSome (S.left source.old) (λ bytes. Tells (turn self.old lang.now k q.now bytes) (K.written sink.old) (S.left source.new) (K.written sink.new) result) }
         // what a turn writes where no bytes are left stands written before any are taken
         ensures asks { AsksFirst (S.left source.old) (K.written sink.old) (S.left source.new) (K.written sink.new) (turn self.old lang.now k q.now []).text }
-        ensures on { TeachesOn turn fits may_say self.old self.new }
+        ensures on { TeachesOn turn fits may_say reads self.old self.new }
         ensures says { may_say self.old lang.now q.now result }
         // an answer is taken back only where one stands, whether or not source and sink tell
         ensures back { result ≡ Told.Back → 1 < k }
+        ensures unread { IsFalse (reads self.old) → source.new ≡ source.old }
         ensures later_sink { K.faults sink.old ≤ K.faults sink.new }
         ensures called { HasCalled (S.faults source.old) (S.faults source.new) (S.late source.old) (S.late source.new) (result ≡ Told.ReadFault) }
         ensures write { result ≡ Told.WriteFault → Rose (K.faults sink.old) (K.faults sink.new) };

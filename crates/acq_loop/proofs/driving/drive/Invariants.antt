@@ -1,4 +1,5 @@
 use Rattle.std.proofs.Common.{◌≡◌, ◌≤◌, length}
+use Rattle.std.specs.Prelude.{IsFalse}
 use Rattle.acq_io.specs.Streams.{HasCalled, TakesSome}
 use Rattle.assign.specs.Assignment.{Assignment}
 use Rattle.language.specs.Language.{Language}
@@ -35,6 +36,8 @@ invariant-loop-turn g l =
       takes : TakesSome (left l.initial.source) (left l.source);
       called : HasCalled (g.S.Source.faults l.initial.source) (g.S.Source.faults l.source) (g.S.Source.late l.initial.source) (g.S.Source.late l.source) ⊥;
       later_sink : g.K.Sink.faults l.initial.sink ≤ g.K.Sink.faults l.sink;
+      reads : g.T.Teacher.reads l.teacher ≡ g.T.Teacher.reads l.initial.teacher;
+      unread : IsFalse (g.T.Teacher.reads l.initial.teacher) → l.source ≡ l.initial.source;
       no_more : (m : Language) (q : Assignment) (told : Told) → g.T.Teacher.may_say l.teacher m q told → g.T.Teacher.may_say l.initial.teacher m q told;
       added : IsAdded (g.P.Keep.lang l.initial.keep) (g.P.Keep.plan l.initial.keep) (g.T.Teacher.may_say l.initial.teacher (g.P.Keep.lang l.initial.keep)) (entries l.initial.keep) (entries l.keep);
       keeps : Keeps g.P.Keep g.D.Disk ⊥ (λ e. ⊥)

@@ -69,7 +69,8 @@ returns-in-Some g c =
         read = record { takes = takes_same left; called = called_not _ _ _ (no_fault how drove.ReadFault unasked.unasked refl) };
         write = record { later = omega arith; rose = λ so. absurd (no_fault how drove.WriteFault unasked.unasked refl so) };
       };
-      serves = record { teaches = record { turn = refl; fits = λ m fits. fits; fitted = λ m fits. fits; no_more = λ m q told may. may }; equipped = c.put_next.ensures.places };
+      unread = λ no. refl;
+      serves = record { teaches = record { turn = refl; fits = λ m fits. fits; fitted = λ m fits. fits; no_more = λ m q told may. may; reads = refl }; equipped = c.put_next.ensures.places };
       turn = record {
         acknowledged = loses_nothing D g.met.D.Disk.counts_now g.met.D.Disk.only_now P one c.args.disk.now (λ w bytes told f gone. g.met.P.Keep.lasts one c.args.disk.now w c.requires.keeper.live c.requires.keeper.sits bytes told f gone);
         says_next = says_nothing turns l terms (P.record_of one) left written;
@@ -110,7 +111,8 @@ returns-then-is_full g c =
         read = record { takes = takes_same left; called = called_not _ _ _ (λ so. cc) };
         write = record { later = omega arith; rose = λ so. absurd (let no : ⊥ = cc in no) };
       };
-      serves = record { teaches = record { turn = refl; fits = λ m fits. fits; fitted = λ m fits. fits; no_more = λ m q told may. may }; equipped = c.put_next.ensures.places };
+      unread = λ no. refl;
+      serves = record { teaches = record { turn = refl; fits = λ m fits. fits; fitted = λ m fits. fits; no_more = λ m q told may. may; reads = refl }; equipped = c.put_next.ensures.places };
       turn = record {
         acknowledged = loses_nothing D g.met.D.Disk.counts_now g.met.D.Disk.only_now P one c.args.disk.now (λ w bytes told f gone. g.met.P.Keep.lasts one c.args.disk.now w c.requires.keeper.live c.requires.keeper.sits bytes told f gone);
         says_next = says_nothing turns l terms events left written;
@@ -231,6 +233,7 @@ returns-in-Keep g c =
         };
         write = record { later = c.hear.ensures.faults.write.later; rose = λ so. absurd (kept_calm e events after end drove.WriteFault kept (λ x. cc) (λ x. cc) so) };
       };
+      unread = c.hear.ensures.unread;
       serves = record { teaches = c.hear.ensures.teacher; equipped = c.put_next.ensures.places };
       turn = record {
         acknowledged = loses_none_as D g.met.D.Disk.counts_now g.met.D.Disk.only_now P one two c.args.disk.now c.keep_event.new.disk only
@@ -281,6 +284,7 @@ returns-in-End g c =
         read = record { takes = c.hear.ensures.faults.read.takes; called = called_as _ _ _ _ _ _ (some_end end drove.ReadFault) (end_heard end drove.ReadFault) c.in-End.ensures.faults.read.called };
         write = record { later = c.hear.ensures.faults.write.later; rose = λ so. c.in-End.ensures.faults.write.rose (end_heard end drove.WriteFault so) };
       };
+      unread = c.hear.ensures.unread;
       serves = record { teaches = c.hear.ensures.teacher; equipped = c.put_next.ensures.places };
       turn = record {
         acknowledged = loses_nothing D g.met.D.Disk.counts_now g.met.D.Disk.only_now P one c.args.disk.now (λ w bytes told f gone. g.met.P.Keep.lasts one c.args.disk.now w c.requires.keeper.live c.requires.keeper.sits bytes told f gone);

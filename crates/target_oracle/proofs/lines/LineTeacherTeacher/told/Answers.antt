@@ -1,24 +1,31 @@
 use Rattle.std.proofs.Common.{◌≡◌, ℕ, List, [], ◌∷◌, ◌++◌, ◌∙◌, ap, sym, subst, inr, Result, Err}
 use Rattle.std.proofs.lemmas.List.{append-nil}
-use Rattle.acq_io.specs.Streams.{Adds}
+use Rattle.acq_io.specs.Streams.{Adds, AddsFront}
 use Rattle.acq_io.proofs.TakenLemmas.{adds_then}
 use Rattle.acq_io.specs.declared.streams.Put.{Put}
 use Rattle.language.specs.Texts.{question_text}
 use Rattle.target_oracle.specs.Lines.{hear, line_turn}
-use Rattle.target_oracle.proofs.Hearings.{tells_after, put_line, cut_line, silent}
+use Rattle.target_oracle.proofs.Fronts.{front_longer}
+use Rattle.target_oracle.proofs.Hearings.{tells_after, silent}
 use Rattle.target_oracle.proofs.lines.LineTeacherTeacher.told.Goals as goal
 
 pub returns-in-Ok-write-clause-tells : goal.returns-in-Ok-write-clause-tells
-returns-in-Ok-write-clause-tells g c = λ bytes before left written.
+returns-in-Ok-write-clause-tells g c = λ bytes left.
     let text : List ℕ = question_text c.args.lang.now c.args.k c.args.q.now ++ 10 ∷ [] in
-    tells_after text before (hear c.args.k 999 bytes) (g.S.Source.left c.hear_lines.new.source) (g.K.Sink.written c.hear_lines.new.sink) c.hear_lines.result
-    (c.hear_lines.ensures.tells bytes (before ++ text) left
-    (put_line before c.as_bytes.result.now text _ _ c.in-Ok-write.ensures.ok written (c.as_bytes.ensures.value ∙ c.in-Ok.ensures)))
+    let written = g.K.Sink.written c.args.sink.now in
+    let before = g.K.Sink.written c.write.new.self in
+    let Stands : List ℕ → Type 0 = Adds written before in
+    tells_after text (hear c.args.k 999 bytes) written before (g.S.Source.left c.hear_lines.new.source) (g.K.Sink.written c.hear_lines.new.sink) c.hear_lines.result
+    (subst Stands (c.as_bytes.ensures.value ∙ c.in-Ok.ensures) c.in-Ok-write.ensures.ok) (c.hear_lines.ensures.tells bytes left)
 
 pub returns-in-Err-Failed-clause-tells : goal.returns-in-Err-Failed-clause-tells
-returns-in-Err-Failed-clause-tells g c = λ bytes before left written.
+returns-in-Err-Failed-clause-tells g c = λ bytes left.
     let text : List ℕ = question_text c.args.lang.now c.args.k c.args.q.now ++ 10 ∷ [] in
-    cut_line before c.as_bytes.result.now text (hear c.args.k 999 bytes).text _ _ (c.in-Err-Failed.ensures.failed (ap (λ (p : Put). let r : Result (Unit {0}) Put = Err p in r) c.in-Err-Failed.field-0-is)) written (c.as_bytes.ensures.value ∙ c.in-Ok.ensures)
+    let written = g.K.Sink.written c.args.sink.now in
+    let written' = g.K.Sink.written c.write.new.self in
+    let Stands : List ℕ → Type 0 = AddsFront written written' in
+    front_longer written written' text (hear c.args.k 999 bytes).text
+    (subst Stands (c.as_bytes.ensures.value ∙ c.in-Ok.ensures) (c.in-Err-Failed.ensures.failed (ap (λ (p : Put). let r : Result (Unit {0}) Put = Err p in r) c.in-Err-Failed.field-0-is)))
 
 pub returns-in-Ok-write-clause-asks : goal.returns-in-Ok-write-clause-asks
 returns-in-Ok-write-clause-asks g c =

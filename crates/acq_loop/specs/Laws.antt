@@ -1,0 +1,18 @@
+-- Laws of how the loop ends, over the definitions alone.
+use Rattle.std.specs.Prelude.{◌≡◌, IsTrue}
+use Rattle.language.specs.Language.{Language}
+use Rattle.language.specs.Answers.{standing_on}
+use Rattle.target_oracle.specs.Turns.{Turns}
+use Rattle.acq_loop.specs.Driven.{Point, Drives}
+use Rattle.acq_loop.specs.Loop.{is_unasked}
+use Rattle.acq_loop.specs.declared.terms.Terms.{Terms}
+use Rattle.acq_loop.specs.declared.driving.Drove.{Drove}
+use Rattle.acq_loop.specs.declared.driving.Drove.TheVariants as drove
+
+-- The ways in which the loop ends exclude one another. Where the same answers stand, it ends as converged, as collapsed, as undecided or
+-- at a question that was due, and never in two of these ways; after the same events the journal is full, or it isn't.
+pub record EndingsExclude : Type 0 where
+  pub unasked : (turns others : Turns) (l : Language) (terms : Terms) (a b c d : Point) (how other : Drove) → Drives turns l terms a b how → Drives others l terms c d other →
+      standing_on l d.events ≡ standing_on l b.events → IsTrue (is_unasked how) → other ≡ how
+  pub full : (turns others : Turns) (l : Language) (terms : Terms) (a b c d : Point) (how other : Drove) → Drives turns l terms a b how → Drives others l terms c d other →
+      d.events ≡ b.events → how ≡ drove.JournalFull → other ≡ drove.JournalFull
