@@ -139,8 +139,8 @@ fn take_searched(
 {
     for part in 0..PARTS {
         let place = &places[part as usize];
-        let first = part_start(lang, part);
-        screen.take_searched(place, first, part_start(lang, part + 1), net, budget);
+        let start = part_start(lang, part);
+        screen.take_searched(place, start, part_start(lang, part + 1), net, budget);
     }
 }
 
