@@ -1,6 +1,5 @@
 -- How an input stands after more calls.
-use Rattle.std.proofs.Common.{◌≡◌, ℕ, ◌≤◌, ◌<◌, ◌∙◌, refl, arith}
-use Rattle.acq_io.specs.Streams.{Rose, HasCalled, HasStopped}
+use Rattle.acq_io.proofs.Prelude.{ℕ, ◌∙◌, refl, arith, HasCalled, HasStopped}
 
 -- before any call
 pub called_none : (f l : ℕ) → HasCalled f f l l ⊥

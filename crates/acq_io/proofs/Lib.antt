@@ -1,3 +1,4 @@
+mod Prelude
 pub mod LineLemmas
 pub mod ReadLemmas
 pub mod TakenLemmas

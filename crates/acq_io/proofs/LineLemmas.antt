@@ -1,15 +1,11 @@
 -- A line is found at its newline, ends with the source, or is too long.
-use Rattle.std.proofs.Common.{◌≡◌, ◌≢◌, ℕ, ◌+◌, ◌<◌, ◌≤◌, true, false, ◌||◌, ◌==◌, nat_lt, nat_le, List, [], ◌∷◌, ◌++◌, length, take, drop, ap, sym, ◌∙◌, refl, arith, append-nil, Ok, Err}
+use Rattle.acq_io.proofs.Prelude.{◌≡◌, ◌≢◌, ℕ, ◌+◌, ◌<◌, ◌≤◌, true, false, ◌||◌, ◌==◌, nat_lt, nat_le, List, [], ◌∷◌, ◌++◌, length, take, drop, ap, sym, ◌∙◌, refl, arith, append-nil, Ok, Err, length-append, drop_at, take-append-le, LacksNewline, newline, before_newline, after_newline, has_newline, line_of, all_of, first_line_of, gathered, TooManyBytes}
 use Rattle.std.specs.List.{position_or_len}
 use Rattle.std.proofs.lemmas.Grind.{common_steps}
 use Rattle.std.proofs.lemmas.Bool.Decides.{nat_tests}
-use Rattle.std.proofs.lemmas.List.{length-append, drop_at, take-append-le}
 use Rattle.std.proofs.lemmas.List.Folds.{list_any_none, list_any-append}
 use Rattle.std.proofs.Math.Seq.{take-append-add, drop-append-add}
-use Rattle.acq_io.specs.Lines.{LacksNewline, newline, before_newline, after_newline, has_newline, line_of}
-use Rattle.acq_io.specs.Whole.{all_of, first_line_of, gathered}
 use Rattle.acq_io.specs.Laws.{LinesAreRead, CutLinesEnd, LongLinesAreRefused, FirstLinesAreRead, OnlyLinesAreRead, LongFirstLinesAreRefused}
-use Rattle.acq_io.specs.declared.whole.AllFault.TheVariants.{TooLong as TooManyBytes}
 
 is_no_newline : (b : ℕ) → b ≢ newline → (b == newline) ≡ false
 is_no_newline b h = grind (arith, nat_tests, h)

@@ -1,13 +1,6 @@
 -- What is read of a source that may tell its bytes: `told` when the call began, `before` the last piece, and `now`.
-use Rattle.std.proofs.Common.{◌≡◌, ◌≢◌, ℕ, ◌+◌, ◌≤◌, List, [], ◌∷◌, ◌++◌, length, ap, ◌∙◌, append_assoc, arith, Option, Ok, Err}
-use Rattle.std.specs.Option.{option_map}
-use Rattle.std.proofs.lemmas.List.{length-append, length_push, take_at}
-use Rattle.std.proofs.lemmas.List.Elements.{All-push}
-use Rattle.acq_io.specs.Streams.{Takes, WasEmpty}
-use Rattle.acq_io.specs.Lines.{LacksNewline, newline, line_of, lined}
-use Rattle.acq_io.specs.Whole.{Gives, all_of, first_line_of, gathered}
+use Rattle.acq_io.proofs.Prelude.{◌≡◌, ◌≢◌, ℕ, ◌+◌, ◌≤◌, List, [], ◌∷◌, ◌++◌, length, ap, ◌∙◌, append_assoc, arith, Option, Ok, Err, option_map, length-append, length_push, take_at, All-push, Takes, WasEmpty, LacksNewline, newline, line_of, lined, Gives, all_of, first_line_of, gathered, TooManyBytes}
 use Rattle.acq_io.specs.declared.lines.LineGot.TheVariants.{Line, End, TooLong}
-use Rattle.acq_io.specs.declared.whole.AllFault.TheVariants.{TooLong as TooManyBytes}
 use Rattle.acq_io.proofs.TakenLemmas.{takes_on, gives_on, gives_end}
 use Rattle.acq_io.proofs.LineLemmas.{line_of-line, line_of-cut, line_of-long, first_line_of-line, first_line_of-only, first_line_of-long, all_of-few, all_of-many}
 

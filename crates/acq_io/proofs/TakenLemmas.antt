@@ -1,7 +1,5 @@
 -- Pieces that are taken or added one after another, and what is read of them.
-use Rattle.std.proofs.Common.{◌≡◌, ℕ, List, [], ◌++◌, ap, sym, subst, ◌∙◌, refl, append_assoc, append-nil, Option, Some, None}
-use Rattle.std.specs.Option.{option_map}
-use Rattle.acq_io.specs.Streams.{Takes, TakesSome, WasEmpty, Adds, AddsOn}
+use Rattle.acq_io.proofs.Prelude.{◌≡◌, ℕ, List, [], ◌++◌, ap, sym, subst, ◌∙◌, refl, append_assoc, append-nil, Option, Some, None, option_map, Takes, TakesSome, WasEmpty, Adds, AddsOn}
 
 pub takes_none : (a : Option (List ℕ)) → Takes a a []
 takes_none None = refl

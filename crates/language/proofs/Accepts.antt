@@ -1,11 +1,5 @@
 -- A network accepts what none of its candidates is violated by.
-use Rattle.std.proofs.Common.{◌≡◌, ℕ, ◌<◌, true, false, not, List, length}
-use Rattle.std.specs.Prelude.{slice_index_or}
-use Rattle.std.proofs.lemmas.List.Sums.{list_all-from_AllPass, AllPass-from_list_all}
-use Rattle.std.proofs.lemmas.Bool.{not-true, not_from_false, false_from_ne_true}
-use Rattle.assign.specs.Assignment.{Assignment}
-use Rattle.language.specs.declared.candidates.Candidate.{Candidate}
-use Rattle.language.specs.Language.{Language, violates, accepts}
+use Rattle.language.proofs.Prelude.{◌≡◌, ℕ, ◌<◌, true, false, not, List, length, slice_index_or, list_all-from_AllPass, AllPass-from_list_all, not-true, not_from_false, false_from_ne_true, Assignment, Candidate, Language, violates, accepts}
 
 pub accepted_at : (l : Language) (network : List Candidate) (x : Assignment) → accepts l network x ≡ true → (k : ℕ) (d : Candidate) → k < length network → violates l (slice_index_or network k d) x ≡ false
 accepted_at l network x h k d low = not-true _ (AllPass-from_list_all (λ c. not (violates l c x)) network h k d low)

@@ -1,9 +1,5 @@
 -- Counts of all scopes, by arity.
-use Rattle.std.proofs.Common.{◌≡◌, ℕ, ◌+◌, ◌≤◌, Bool, true, false, List, [], ◌++◌, length, refl, sym, ◌∙◌, arith, length-append}
-use Rattle.std.specs.Prelude.{if◌then◌else◌}
-use Rattle.language.specs.Language.{Given}
-use Rattle.language.specs.Choosing.{choices}
-use Rattle.language.specs.Building.{has_arity, rising_lists, all_scopes}
+use Rattle.language.proofs.Prelude.{◌≡◌, ℕ, ◌+◌, ◌≤◌, Bool, true, false, List, [], ◌++◌, length, refl, sym, ◌∙◌, arith, length-append, if◌then◌else◌, Given, choices, has_arity, rising_lists, all_scopes}
 use Rattle.language.proofs.Rising.{count_lists}
 use Rattle.language.proofs.Used.{of_arity}
 

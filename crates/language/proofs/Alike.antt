@@ -1,7 +1,5 @@
 -- Scopes of one length whose variables have all values have the same relations.
-use Rattle.std.proofs.Common.{◌≡◌, ℕ, ◌<◌, true, length, map, sym, ◌∙◌, ap, subst}
-use Rattle.rel_table.specs.Relation.{IsClosing}
-use Rattle.language.specs.Language.{Language, Given, IsLanguage, scope_at, given_of, given_on, relations_on, is_whole}
+use Rattle.language.proofs.Prelude.{◌≡◌, ℕ, ◌<◌, true, length, map, sym, ◌∙◌, ap, subst, IsClosing, Language, Given, IsLanguage, scope_at, given_of, given_on, relations_on, is_whole}
 use Rattle.language.proofs.Whole.{given_there}
 use Rattle.language.proofs.OneLanguage.{one_closing}
 

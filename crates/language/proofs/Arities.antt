@@ -1,5 +1,5 @@
 -- The arities are 1, 2, 3 and 4.
-use Rattle.std.proofs.Common.{ℕ, zero, suc, ◌≤◌, arith}
+use Rattle.language.proofs.Prelude.{ℕ, zero, suc, ◌≤◌, arith}
 
 pub each_arity : (P : ℕ → Type 0) → P 1 → P 2 → P 3 → P 4 → (arity : ℕ) → 1 ≤ arity → arity ≤ 4 → P arity
 each_arity P one two three four zero some few = absurd (omega arith)

@@ -1,14 +1,5 @@
 -- Values beside variables, as an assignment and as a tuple, and scopes as rising lists.
-use Rattle.std.proofs.Common.{◌≡◌, ℕ, zero, suc, ◌+◌, ◌<◌, ◌≤◌, Bool, true, false, cond, List, [], ◌∷◌, length, Some, None, refl, subst, arith}
-use Rattle.std.specs.Prelude.{◌==◌, All, AllPairs, slice_index_or, is_some, unwrap_or}
-use Rattle.std.specs.Option.{ForSome}
-use Rattle.std.specs.List.Sorted.{IsStrictlyIncreasing}
-use Rattle.std.proofs.lemmas.List.FromFn.{get_or-map-range_with_len}
-use Rattle.std.proofs.lemmas.List.Elements.{All-head, All-tail, All-nil, All-cons}
-use Rattle.std.proofs.lemmas.List.Kept.{AllPairs-from_increasing}
-use Rattle.std.proofs.lemmas.Bool.{and_parts}
-use Rattle.assign.specs.Sets.{Rises}
-use Rattle.assign.specs.Assignment.{Assignment, value_of, value_beside, assigned, covers, tuple_on}
+use Rattle.language.proofs.Prelude.{◌≡◌, ℕ, zero, suc, ◌+◌, ◌<◌, ◌≤◌, Bool, true, false, cond, List, [], ◌∷◌, length, Some, None, refl, subst, arith, ◌==◌, All, AllPairs, slice_index_or, is_some, unwrap_or, ForSome, IsStrictlyIncreasing, get_or-map-range_with_len, All-head, All-tail, All-nil, All-cons, AllPairs-from_increasing, and_parts, Rises, Assignment, value_of, value_beside, assigned, covers, tuple_on}
 
 pub value_of_assigned : (n : ℕ) (vars values : List ℕ) (v : ℕ) → v < n → value_of (assigned n vars values) v ≡ value_beside vars values v
 value_of_assigned n vars values v h = get_or-map-range_with_len (value_beside vars values) 0 n v v None h (omega arith)

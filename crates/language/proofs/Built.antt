@@ -1,30 +1,5 @@
 -- A language that is built keeps what each language keeps.
-use Rattle.std.proofs.Common.{◌≡◌, ℕ, zero, ◌+◌, ◌-◌, ◌^◌, ◌<◌, ◌≤◌, ◌||◌, ◌⊎◌, inl, inr, Option, Some, Bool, true, false, cond, List, [], ◌∷◌, length, map, get_or, take, refl, sym, ◌∙◌, ap, subst, arith}
-use Rattle.std.specs.Prelude.{All, string_bytes, ◌==◌}
-use Rattle.std.specs.List.{list_any, list_all, filter}
-use Rattle.std.specs.Option.{option_or}
-use Rattle.std.proofs.lemmas.Bool.{cases_Bool, eqb-true}
-use Rattle.std.proofs.lemmas.List.{length-map, get_or-map}
-use Rattle.std.proofs.lemmas.List.FromFn.{length-range_with_len, get_or-map-range_with_len}
-use Rattle.std.proofs.lemmas.List.Folds.{Any-from_list_any}
-use Rattle.std.proofs.lemmas.List.Elements.{All-head, All-map}
-use Rattle.rel_table.specs.Relation.{Relation, IsClosing}
-use Rattle.rel_table.specs.Table.{IsTable}
-use Rattle.rel_table.specs.Closing.{IsOfKind}
-use Rattle.rel_table.proofs.Growing.{one_given}
-use Rattle.language.specs.declared.parts.RelPart.{RelPart}
-use Rattle.language.specs.declared.parts.LangFault.{LangFault}
-use Rattle.language.specs.declared.scopes.Scope.{Scope}
-use Rattle.language.specs.declared.lang.Language.TheInside.{Inside}
-use Rattle.language.specs.Language.{Language, Given, of_arity, given_on, given_within, relations_on, scope_at, IsLanguage, AreNames}
-use Rattle.language.specs.Ranges.{is_whole_range, widened}
-use Rattle.language.specs.declared.ranges.ValueRange.{ValueRange}
-use Rattle.language.specs.Building.{Frame, IsFrame, IsOver, IsBuilt, has_arity, relations_of_arity, relations_given, scopes_of, scopes_refusal, closing_refusal, build_refusal}
-use Rattle.language.specs.Built.{AreScopes, IsClosedOf, AreAll, given_at}
-use Rattle.language.specs.Scopes.{variables_in}
-use Rattle.language.specs.Inside.{seen, given_by, ranges_in, scope_in, relations_at, pairs_in, IsSound}
-use Rattle.language.specs.PairMasks.{ArePairMasks}
-use Rattle.assign.specs.Sets.{numbers}
+use Rattle.language.proofs.Prelude.{◌≡◌, ℕ, zero, ◌+◌, ◌-◌, ◌^◌, ◌<◌, ◌≤◌, ◌||◌, ◌⊎◌, inl, inr, Option, Some, Bool, true, false, cond, List, [], ◌∷◌, length, map, get_or, take, refl, sym, ◌∙◌, ap, subst, arith, All, string_bytes, ◌==◌, list_any, list_all, filter, option_or, cases_Bool, eqb-true, length-map, get_or-map, length-range_with_len, get_or-map-range_with_len, Any-from_list_any, All-head, All-map, Relation, IsClosing, IsTable, IsOfKind, one_given, RelPart, LangFault, Scope, Inside, Language, Given, of_arity, given_on, given_within, relations_on, scope_at, IsLanguage, AreNames, is_whole_range, widened, ValueRange, Frame, IsFrame, IsOver, IsBuilt, has_arity, relations_of_arity, relations_given, scopes_of, scopes_refusal, closing_refusal, build_refusal, AreScopes, IsClosedOf, AreAll, given_at, variables_in, seen, given_by, ranges_in, scope_in, relations_at, pairs_in, IsSound, ArePairMasks, numbers}
 use Rattle.language.proofs.Sizes.{closed_sized}
 use Rattle.language.proofs.Members.{any-map}
 

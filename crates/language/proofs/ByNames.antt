@@ -1,26 +1,9 @@
 -- Scopes and relations are looked for by their names.
-use Rattle.std.proofs.Common.{◌≡◌, ℕ, zero, suc, ◌+◌, ◌*◌, ◌%◌, ◌^◌, ◌<◌, ◌≤◌, ◌==◌, ◌&&◌, ◌||◌, Bool, true, false, cond, List, [], ◌∷◌, length, map, drop, Option, Some, None, Bor, refl, sym, ◌∙◌, ap, subst, arith, inl, inr, ◌⊎◌}
-use Rattle.std.specs.Prelude.{slice_index_or, string_bytes, ◌≢◌, bit_or, option_map, All, String, position, not, nat_lt}
-use Rattle.std.specs.declared.alloc.Global.{Global}
-use Rattle.std.proofs.lemmas.List.{get_or-map, length-map}
-use Rattle.std.proofs.lemmas.List.Sums.{position_or_len_is}
-use Rattle.std.specs.List.{find, filter}
-use Rattle.std.specs.Int.{from_bool}
-use Rattle.std.specs.Str.{bytes_eq}
-use Rattle.std.specs.Cmp.Lexicographic.{pointwise}
-use Rattle.std.proofs.Math.Seq.{drop-cons}
-use Rattle.std.proofs.lemmas.Bool.{cases_eq, eq-eqb, ne_eqb, lt-ltb, le-ltb}
+use Rattle.language.proofs.Prelude.{◌≡◌, ℕ, zero, suc, ◌+◌, ◌*◌, ◌%◌, ◌^◌, ◌<◌, ◌≤◌, ◌==◌, ◌&&◌, ◌||◌, Bool, true, false, cond, List, [], ◌∷◌, length, map, drop, Option, Some, None, Bor, refl, sym, ◌∙◌, ap, subst, arith, inl, inr, ◌⊎◌, slice_index_or, string_bytes, ◌≢◌, bit_or, option_map, All, String, position, not, nat_lt, Global, get_or-map, length-map, position_or_len_is, filter, from_bool, bytes_eq, pointwise, drop-cons, cases_eq, eq-eqb, ne_eqb, lt-ltb, le-ltb, bit_at-zero, is_one, is_one-or, is_one-pow, Relation, Given, of_arity, RelPart, given_by, All-head, All-tail, relation_among, texts_of}
+use Rattle.std.specs.List.{find}
 use Rattle.std.proofs.lemmas.Nat.{one_shl}
-use Rattle.std.proofs.lemmas.Nat.Bits.{bit_at-zero}
-use Rattle.assign.specs.SetLemmas.{is_one, is_one-or, is_one-pow}
-use Rattle.rel_table.specs.Relation.{Relation}
-use Rattle.language.specs.Language.{Given, of_arity}
-use Rattle.language.specs.declared.parts.RelPart.{RelPart}
-use Rattle.language.specs.Inside.{given_by}
-use Rattle.std.proofs.lemmas.List.Elements.{All-head, All-tail}
 use Rattle.language.proofs.Sizes.{of_arity_sized}
 use Rattle.language.proofs.Wording.{made}
-use Rattle.language.specs.ByName.{relation_among, texts_of}
 
 -- ---- a relation by its name
 

@@ -1,19 +1,5 @@
 -- The numbers of tables, one scope after another.
-use Rattle.std.proofs.Common.{◌≡◌, ℕ, zero, suc, ◌+◌, ◌-◌, ◌<◌, ◌≤◌, List, [], ◌∷◌, ◌++◌, length, map, get_or, refl, sym, ◌∙◌, ap, subst, arith, ◌⊎◌, inl, inr}
-use Rattle.std.specs.Prelude.{All}
-use Rattle.std.specs.List.{range_with_len}
-use Rattle.std.proofs.lemmas.Bool.{cases_lt}
-use Rattle.std.proofs.lemmas.List.{same_lists, length-map, length-append, length_push, get_or_default, get_or_append_left, get_or-append_right, get_or_push}
-use Rattle.std.proofs.lemmas.List.FromFn.{length-range_with_len, get_or-map-range_with_len}
-use Rattle.rel_table.specs.Relation.{Relation, IsClosing}
-use Rattle.rel_table.specs.Table.{TruthTable}
-use Rattle.language.specs.declared.ranges.ValueRange.{ValueRange}
-use Rattle.language.specs.declared.scopes.Scope.{Scope}
-use Rattle.language.specs.Language.{Given}
-use Rattle.language.specs.Ranges.{widened}
-use Rattle.language.specs.Scopes.{variables_in}
-use Rattle.language.specs.Inside.{truths, tables_for, chosen_on, between, scope_in, relations_at, IsPart}
-use Rattle.language.specs.Built.{given_at, AreChosen, AreAll}
+use Rattle.language.proofs.Prelude.{◌≡◌, ℕ, zero, suc, ◌+◌, ◌-◌, ◌<◌, ◌≤◌, List, [], ◌∷◌, ◌++◌, length, map, get_or, refl, sym, ◌∙◌, ap, subst, arith, ◌⊎◌, inl, inr, All, range_with_len, cases_lt, same_lists, length-map, length-append, length_push, get_or_default, get_or_append_left, get_or-append_right, get_or_push, length-range_with_len, get_or-map-range_with_len, Relation, IsClosing, TruthTable, ValueRange, Scope, Given, widened, variables_in, truths, tables_for, chosen_on, between, scope_in, relations_at, IsPart, given_at, AreChosen, AreAll}
 
 -- ---- numbers between two places
 

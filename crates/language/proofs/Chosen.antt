@@ -1,24 +1,5 @@
 -- The tables of the relations on a scope, found by relations that are cut down to the ranges.
-use Rattle.std.proofs.Common.{◌≡◌, ◌≢◌, ℕ, ◌+◌, ◌^◌, ◌<◌, ◌≤◌, Bool, true, false, cond, List, [], ◌∷◌, ◌++◌, length, map, take, get_or, refl, sym, ◌∙◌, ap, subst, arith, ◌⊎◌, inl, inr}
-use Rattle.std.specs.Prelude.{All, Contains, ◌==◌}
-use Rattle.std.specs.List.{filter, range_with_len}
-use Rattle.std.proofs.lemmas.Bool.{cases_eq, eq-eqb, ne_eqb}
-use Rattle.std.proofs.lemmas.List.{same_lists, get_or-map, length-map, take_more, map-append, get_or_default, append-nil}
-use Rattle.std.proofs.lemmas.List.FromFn.{length-range_with_len, get_or-map-range_with_len}
-use Rattle.rel_table.proofs.Growing.{one_given}
-use Rattle.std.proofs.lemmas.List.Elements.{All-nil, All-head, All-tail}
-use Rattle.rel_table.specs.Relation.{Relation, meet, IsIntersection, IsClosing}
-use Rattle.rel_table.specs.Table.{TruthTable}
-use Rattle.rel_table.specs.Closing.{relations_of, IsClosed, HasTooMany, IsRefused}
-use Rattle.rel_table.specs.declared.table.CloseFault.TheVariants.{TooMany}
-use Rattle.rel_table.proofs.Same.{same_table_value}
-use Rattle.language.specs.declared.parts.RelPart.{RelPart}
-use Rattle.language.specs.declared.ranges.ValueRange.{ValueRange}
-use Rattle.language.specs.Language.{Given}
-use Rattle.language.specs.Ranges.{range_in, widened, inside, IsWhole}
-use Rattle.language.specs.Building.{relations_given, relations_of_arity}
-use Rattle.language.specs.Inside.{given_by, truths, chosen_on}
-use Rattle.language.specs.Built.{IsClosedOf, AreChosen, given_at}
+use Rattle.language.proofs.Prelude.{◌≡◌, ◌≢◌, ℕ, ◌+◌, ◌^◌, ◌<◌, ◌≤◌, Bool, true, false, cond, List, [], ◌∷◌, ◌++◌, length, map, take, get_or, refl, sym, ◌∙◌, ap, subst, arith, ◌⊎◌, inl, inr, All, Contains, ◌==◌, filter, range_with_len, cases_eq, eq-eqb, ne_eqb, same_lists, get_or-map, length-map, take_more, map-append, get_or_default, append-nil, length-range_with_len, get_or-map-range_with_len, one_given, All-nil, All-head, All-tail, Relation, meet, IsIntersection, IsClosing, TruthTable, relations_of, IsClosed, HasTooMany, IsRefused, TooMany, same_table_value, RelPart, ValueRange, Given, range_in, widened, inside, IsWhole, relations_given, relations_of_arity, given_by, truths, chosen_on, IsClosedOf, AreChosen, given_at}
 use Rattle.language.proofs.Lists.{filter_all, filter_none, all_below}
 use Rattle.language.proofs.Within.{widened_where_whole}
 use Rattle.language.proofs.Widening.{over, under, widened-over, under-meet, intersection_of, not_more, closing_over}

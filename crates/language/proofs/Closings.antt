@@ -1,25 +1,5 @@
 -- How many intersections relations have.
-use Rattle.std.proofs.Common.{◌≡◌, ◌≢◌, ℕ, zero, ◌<◌, ◌≤◌, Bool, true, false, cond, nat_lt, nat_eq, ◌-◌, List, [], ◌∷◌, ◌++◌, length, map, Option, Some, None, get_or, refl, sym, ◌∙◌, ap, subst, arith, ◌⊎◌, inl, inr}
-use Rattle.std.specs.Prelude.{All, AllPairs, Contains, option_map, ◌==◌}
-use Rattle.std.specs.List.{filter}
-use Rattle.std.proofs.lemmas.Bool.{cases_Bool, both_ways, lt-ltb, le-ltb}
-use Rattle.std.proofs.lemmas.List.Elements.{All-nil, All-cons, All-head, All-tail, All-append, All-weaker, All-map, Contains-append_left, Contains-append_right, Contains-append_cases}
-use Rattle.std.proofs.lemmas.List.{get_or_default}
-use Rattle.std.proofs.lemmas.List.Kept.{AllPairs-cons}
-use Rattle.rel_table.specs.Relation.{Relation, meet, meet_all, IsIntersection, IsClosing}
-use Rattle.rel_table.specs.Table.{TruthTable}
-use Rattle.rel_table.specs.Closing.{relations_in, relations_of, HasTooMany, HasFew, IsClosed, IsFirstTooMany}
-use Rattle.rel_table.specs.declared.table.CloseFault.TheVariants.{TooMany}
-use Rattle.rel_table.proofs.Inserting.{meet_itself}
-use Rattle.rel_table.proofs.Growing.{IsImage, image_of, contains_map, meet_comm, meet_assoc, one_given, wider, cons_cases, no_longer, few_of}
-use Rattle.rel_table.proofs.Pairwise.{no_pairs}
-use Rattle.language.specs.Language.{Given}
-use Rattle.language.specs.declared.parts.RelPart.{RelPart}
-use Rattle.language.specs.declared.parts.LangFault.{LangFault}
-use Rattle.language.specs.declared.parts.LangFault.TheVariants.{Closing}
-use Rattle.language.specs.Inside.{given_by}
-use Rattle.language.specs.Building.{is_listed, without_repeats, intersections, relations_given, relations_of_arity, has_too_many, closing_refusal}
-use Rattle.language.specs.Built.{IsClosedOf}
+use Rattle.language.proofs.Prelude.{◌≡◌, ◌≢◌, ℕ, zero, ◌<◌, ◌≤◌, Bool, true, false, cond, nat_lt, nat_eq, ◌-◌, List, [], ◌∷◌, ◌++◌, length, map, Option, Some, None, get_or, refl, sym, ◌∙◌, ap, subst, arith, ◌⊎◌, inl, inr, All, AllPairs, Contains, option_map, ◌==◌, filter, cases_Bool, both_ways, lt-ltb, le-ltb, All-nil, All-cons, All-head, All-tail, All-append, All-weaker, All-map, Contains-append_left, Contains-append_right, Contains-append_cases, get_or_default, AllPairs-cons, Relation, meet, meet_all, IsIntersection, IsClosing, TruthTable, relations_in, relations_of, HasTooMany, HasFew, IsClosed, IsFirstTooMany, TooMany, meet_itself, IsImage, image_of, contains_map, meet_comm, meet_assoc, one_given, wider, cons_cases, no_longer, few_of, no_pairs, Given, RelPart, LangFault, Closing, given_by, is_listed, without_repeats, intersections, relations_given, relations_of_arity, has_too_many, closing_refusal, IsClosedOf}
 use Rattle.language.proofs.Arities.{each_arity}
 use Rattle.language.proofs.Repeats.{contains_listed, listed_contains}
 use Rattle.language.proofs.Meets.{intersections_meet}

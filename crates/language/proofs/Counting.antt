@@ -1,13 +1,5 @@
 -- The numbers of candidates.
-use Rattle.std.proofs.Common.{◌≡◌, ℕ, zero, suc, ◌+◌, ◌-◌, ◌*◌, ◌<◌, ◌≤◌, [], ◌∷◌, ◌++◌, length, take, get_or, sym, ◌∙◌, ap, subst, arith}
-use Rattle.std.specs.List.{flat_map}
-use Rattle.std.proofs.lemmas.List.{length-map, length-append, map-id, append-nil}
-use Rattle.std.proofs.lemmas.List.FromFn.{length-range_with_len, get_or-range_with_len, map-range_with_len_more, take-map-range_with_len, get_or-map-range_with_len}
-use Rattle.std.proofs.lemmas.List.Concat.{flat_map-append, get_or-flat_map}
-use Rattle.assign.specs.Sets.{numbers}
-use Rattle.language.specs.declared.candidates.Candidate.{Candidate}
-use Rattle.language.specs.Language.{Language, IsCandidate, candidates_on, candidates, number_of, relations_on}
-use Rattle.language.specs.Laws.{CandidatesAreNumbered}
+use Rattle.language.proofs.Prelude.{◌≡◌, ℕ, zero, suc, ◌+◌, ◌-◌, ◌*◌, ◌<◌, ◌≤◌, [], ◌∷◌, ◌++◌, length, take, get_or, sym, ◌∙◌, ap, subst, arith, flat_map, length-map, length-append, map-id, append-nil, length-range_with_len, get_or-range_with_len, map-range_with_len_more, take-map-range_with_len, get_or-map-range_with_len, flat_map-append, get_or-flat_map, numbers, Candidate, Language, IsCandidate, candidates_on, candidates, number_of, relations_on, CandidatesAreNumbered}
 
 -- how many candidates are on the first s scopes
 abbrev pub count : Language → ℕ → ℕ

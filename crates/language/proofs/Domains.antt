@@ -1,7 +1,5 @@
 -- What a domain's bounds say.
-use Rattle.std.proofs.Common.{◌≡◌, ℕ, ◌≤◌, ℤ, pos, negsuc, ◌+ℤ◌, ◌-ℤ◌, ◌<ℤ◌, ◌≤ℤ◌, true, arith}
-use Rattle.std.proofs.lemmas.Int.{ints}
-use Rattle.language.specs.Building.{is_domain}
+use Rattle.language.proofs.Prelude.{◌≡◌, ℕ, ◌≤◌, ℤ, pos, negsuc, ◌+ℤ◌, ◌-ℤ◌, ◌<ℤ◌, ◌≤ℤ◌, true, arith, ints, is_domain}
 
 -- values from the first to the last, each within a million, 64 at most
 pub record IsDomain (lo hi : ℤ) : Type 0 where

@@ -1,31 +1,5 @@
 -- What the fields of a language say of the language that they stand for.
-use Rattle.std.proofs.Common.{◌≡◌, ℕ, zero, suc, ◌+◌, ◌-◌, ◌^◌, ◌<◌, ◌≤◌, ◌++◌, ◌∷◌, List, [], length, map, true, false, Bool, cond, ◌&&◌, nat_le, nat_lt, nat_eq, Some, None, refl, sym, ◌∙◌, ap, subst, arith, ◌⊎◌, inl, inr}
-use Rattle.std.specs.Prelude.{slice_index_or, string_bytes, All, AllPairs}
-use Rattle.std.specs.List.{flat_map, range_with_len}
-use Rattle.std.proofs.lemmas.List.FromFn.{length-range_with_len, get_or-map-range_with_len}
-use Rattle.std.proofs.lemmas.List.{get_or-map, get_or_read, length-map}
-use Rattle.std.specs.List.Sorted.{IsNonDecreasingBy, IsPartitionedBy, IsPartitionPoint}
-use Rattle.std.proofs.lemmas.List.Sorted.{IsNonDecreasingBy-from_default, IsPartitionedBy-leb}
-use Rattle.std.proofs.lemmas.List.Sums.{AllPass-from_list_all, position_or_len_is}
-use Rattle.std.proofs.lemmas.Bool.{leb-true, leb-false, lt-ltb, le-ltb, eqb-true, cases_order, and_parts}
-use Rattle.std.proofs.lemmas.List.Elements.{All-head, All-tail}
-use Rattle.std.proofs.lemmas.List.Kept.{AllPairs-from_increasing}
-use Rattle.std.specs.Cmp.Lexicographic.{pointwise}
-use Rattle.rel_table.proofs.Pairwise.{pairs_head, pairs_tail}
-use Rattle.assign.specs.Sets.{is_same, IsSet, Rises}
-use Rattle.rel_table.specs.Table.{TruthTable}
-use Rattle.rel_table.specs.Closing.{IsOfKind}
-use Rattle.rel_table.specs.Relation.{Relation}
-use Rattle.language.specs.Language.{Language, Given, variable_count, candidates, of_arity, given_within, given_on, scope_at, scope_of, scope_number, relations_on, is_name, IsScope, IsLanguage}
-use Rattle.language.specs.Texts.{joined, names_containing, scope_names, candidate_text}
-use Rattle.language.specs.declared.candidates.Candidate.{Candidate}
-use Rattle.language.specs.declared.parts.RelPart.{RelPart}
-use Rattle.language.specs.declared.scopes.Scope.{Scope}
-use Rattle.language.specs.declared.lang.Language.TheInside.{Inside}
-use Rattle.language.specs.Scopes.{variables_in}
-use Rattle.language.specs.Inside.{seen, given_by, truths, tables_for, between, scope_in, relations_at, ranges_in, IsSound}
-use Rattle.language.specs.declared.ranges.ValueRange.{ValueRange}
-use Rattle.language.specs.Ranges.{widened}
+use Rattle.language.proofs.Prelude.{◌≡◌, ℕ, zero, suc, ◌+◌, ◌-◌, ◌^◌, ◌<◌, ◌≤◌, ◌++◌, ◌∷◌, List, [], length, map, true, false, Bool, cond, ◌&&◌, nat_le, nat_lt, nat_eq, Some, None, refl, sym, ◌∙◌, ap, subst, arith, ◌⊎◌, inl, inr, slice_index_or, string_bytes, All, AllPairs, flat_map, range_with_len, length-range_with_len, get_or-map-range_with_len, get_or-map, get_or_read, length-map, IsNonDecreasingBy, IsPartitionedBy, IsPartitionPoint, IsNonDecreasingBy-from_default, IsPartitionedBy-leb, AllPass-from_list_all, position_or_len_is, leb-true, leb-false, lt-ltb, le-ltb, eqb-true, cases_order, and_parts, All-head, All-tail, AllPairs-from_increasing, pointwise, pairs_head, pairs_tail, is_same, IsSet, Rises, TruthTable, IsOfKind, Relation, Language, Given, variable_count, candidates, of_arity, given_within, given_on, scope_at, scope_of, scope_number, relations_on, is_name, IsScope, IsLanguage, joined, names_containing, scope_names, candidate_text, Candidate, RelPart, Scope, Inside, variables_in, seen, given_by, truths, tables_for, between, scope_in, relations_at, ranges_in, IsSound, ValueRange, widened}
 use Rattle.language.proofs.Counting.{count, count_more, count_rises, count_few}
 
 pub scope_here : (a : Inside) → IsSound a → (l : Language) → seen a ≡ l → (s : ℕ) (scope : Scope) → s < length l.scopes →

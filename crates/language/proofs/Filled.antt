@@ -1,6 +1,5 @@
 -- A list that is filled from another one, one item after another.
-use Rattle.std.proofs.Common.{◌≡◌, ℕ, ◌+◌, ◌<◌, List, [], ◌∷◌, ◌++◌, length, get_or, map, take, sym, ◌∙◌, ap}
-use Rattle.std.proofs.lemmas.List.{map_more, map_push}
+use Rattle.language.proofs.Prelude.{◌≡◌, ℕ, ◌+◌, ◌<◌, List, [], ◌∷◌, ◌++◌, length, get_or, map, take, sym, ◌∙◌, ap, map_more, map_push}
 
 -- one more item says the same as the next one of the other list
 pub filled_more : {X Y Z : Type 0} (f : X → Z) (g : Y → Z) (xs zs : List X) (x : X) (ys : List Y) (i : ℕ) (y : Y) → zs ≡ xs ++ x ∷ [] → i < length ys →

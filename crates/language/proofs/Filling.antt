@@ -1,18 +1,8 @@
 -- The assignment of a prefix, as its values come and go.
-use Rattle.std.proofs.Common.{◌≡◌, ℕ, suc, ◌<◌, Bool, true, false, cond, ◌&&◌, List, [], ◌∷◌, ◌++◌, length, replicate, Some, None, refl, sym, ◌∙◌, ap, arith, inl, inr, ◌⊎◌}
-use Rattle.std.specs.Prelude.{◌==◌, ◌≢◌, slice_index_or, slice_set, All, AllPairs}
-use Rattle.std.specs.Option.{ForSome}
-use Rattle.std.proofs.lemmas.List.{get_or-set_same, get_or-set_other, get_or-replicate, length-replicate}
+use Rattle.language.proofs.Prelude.{◌≡◌, ℕ, suc, ◌<◌, Bool, true, false, cond, ◌&&◌, List, [], ◌∷◌, ◌++◌, length, replicate, Some, None, refl, sym, ◌∙◌, ap, arith, inl, inr, ◌⊎◌, ◌==◌, ◌≢◌, slice_index_or, slice_set, All, AllPairs, ForSome, get_or-set_same, get_or-set_other, get_or-replicate, length-replicate, fill_by_all, length-map-range_with_len, All-map, cases_eq, eq-eqb, ne_eqb, and_parts, and_from, value_of, value_beside, assigned, IsAssignment, is_in, Language, IsQuestion, variable_count, range_of, is_ranged, IsOrder, are_ranged}
 use Rattle.std.proofs.Math.ListN.{length-set}
-use Rattle.std.proofs.lemmas.List.FromFn.{fill_by_all, length-map-range_with_len}
-use Rattle.std.proofs.lemmas.List.Elements.{All-map}
-use Rattle.std.proofs.lemmas.Bool.{cases_eq, eq-eqb, ne_eqb, and_parts, and_from}
-use Rattle.assign.specs.Assignment.{value_of, value_beside, assigned, IsAssignment}
 use Rattle.language.proofs.Beside.{value_of_assigned, beside_none, beside_fits}
 use Rattle.language.proofs.Lists.{all_below}
-use Rattle.language.specs.Ranges.{is_in}
-use Rattle.language.specs.Language.{Language, IsQuestion, variable_count, range_of, is_ranged}
-use Rattle.language.specs.Search.{IsOrder, are_ranged}
 use Rattle.language.proofs.Fronts.{assigned_more, ranged_at, ranged_from, ranged_more}
 
 -- ---- the value beside a variable, with one value more

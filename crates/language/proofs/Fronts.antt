@@ -1,17 +1,6 @@
 -- What an assignment with more values tells of a candidate and of ranges.
-use Rattle.std.proofs.Common.{◌≡◌, ℕ, ◌+◌, ◌<◌, ◌≤◌, Bool, true, false, cond, not, List, [], ◌∷◌, ◌++◌, Option, Some, None, refl, sym, ◌∙◌, ap, arith, inl, inr, ◌⊎◌}
-use Rattle.std.specs.Prelude.{◌==◌, is_some, unwrap_or}
-use Rattle.std.proofs.Math.ListN.{get_or-eq_default}
-use Rattle.std.proofs.lemmas.List.FromFn.{length-map-range_with_len, length-range_with_len, get_or-range_with_len}
-use Rattle.std.proofs.lemmas.List.Sums.{list_all-from_AllPass, AllPass-from_list_all}
-use Rattle.std.proofs.lemmas.Bool.{and_parts, and_from, both_ways, not-true, not_from_false, false_from_ne_true, cases_lt}
-use Rattle.assign.specs.Assignment.{Assignment, value_of, value_beside, assigned, covers, tuple_on}
-use Rattle.rel_table.specs.Relation.{holds}
-use Rattle.language.specs.declared.candidates.Candidate.{Candidate}
-use Rattle.language.specs.Language.{Language, variable_count, scope_of, relation_of, violates, accepts, is_ranged}
-use Rattle.language.specs.Search.{order_of, satisfies, are_ranged, is_plain}
+use Rattle.language.proofs.Prelude.{◌≡◌, ℕ, ◌+◌, ◌<◌, ◌≤◌, Bool, true, false, cond, not, List, [], ◌∷◌, ◌++◌, Option, Some, None, refl, sym, ◌∙◌, ap, arith, inl, inr, ◌⊎◌, ◌==◌, is_some, unwrap_or, get_or-eq_default, length-map-range_with_len, length-range_with_len, get_or-range_with_len, list_all-from_AllPass, AllPass-from_list_all, and_parts, and_from, both_ways, not-true, not_from_false, false_from_ne_true, cases_lt, Assignment, value_of, value_beside, assigned, covers, tuple_on, holds, Candidate, Language, variable_count, scope_of, relation_of, violates, accepts, is_ranged, order_of, satisfies, are_ranged, is_plain, numbers}
 use Rattle.language.proofs.Accepts.{accepted_at, accepted_from}
-use Rattle.assign.specs.Sets.{numbers}
 use Rattle.language.proofs.Lists.{all_below}
 use Rattle.language.proofs.Beside.{value_of_assigned}
 use Rattle.language.proofs.Preorder.{PassesFronts}

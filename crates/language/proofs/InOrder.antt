@@ -1,14 +1,5 @@
 -- Sets of one size, no two the same: none lies within another.
-use Rattle.std.proofs.Common.{◌≡◌, ◌≢◌, ◌⊎◌, inl, inr, ℕ, ◌+◌, ◌*◌, ◌<◌, ◌≤◌, Bool, true, false, cond, ◌&&◌, ◌||◌, Some, None, List, [], ◌∷◌, ◌++◌, length, take, is_some, true≢false, refl, sym, ◌∙◌, ap, subst, arith}
-use Rattle.std.specs.Prelude.{All, ◌%◌, ◌^◌, not, position, slice_index_or, ◌==◌}
-use Rattle.std.specs.List.{list_any, position_or_len}
-use Rattle.std.proofs.lemmas.Bool.{and_parts, both_ways, eqb-true, ne_eqb, false_from_ne_true, cases_eq, or_from, and_from}
-use Rattle.std.proofs.lemmas.List.{take_more}
-use Rattle.std.proofs.lemmas.List.Elements.{All-nil, All-cons, All-head, All-tail, All-weaker, All-append}
-use Rattle.assign.specs.Sets.{Rises, IsSet, has, without, is_within, least_of}
-use Rattle.assign.specs.SetLemmas.{set_where-same}
-use Rattle.assign.proofs.Masks.{canonical, lacks, rises_lower}
-use Rattle.language.specs.Building.{are_nested, digits}
+use Rattle.language.proofs.Prelude.{◌≡◌, ◌≢◌, ◌⊎◌, inl, inr, ℕ, ◌+◌, ◌*◌, ◌<◌, ◌≤◌, Bool, true, false, cond, ◌&&◌, ◌||◌, Some, None, List, [], ◌∷◌, ◌++◌, length, take, is_some, true≢false, refl, sym, ◌∙◌, ap, subst, arith, All, ◌%◌, ◌^◌, not, position, slice_index_or, ◌==◌, list_any, position_or_len, and_parts, both_ways, eqb-true, ne_eqb, false_from_ne_true, cases_eq, or_from, and_from, take_more, All-nil, All-cons, All-head, All-tail, All-weaker, All-append, Rises, IsSet, has, without, is_within, least_of, set_where-same, canonical, lacks, rises_lower, are_nested, digits}
 use Rattle.language.proofs.Pairs.{first_is}
 
 -- ---- Digits

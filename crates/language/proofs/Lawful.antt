@@ -1,20 +1,5 @@
 -- What lists of variables are that nothing refuses.
-use Rattle.std.proofs.Common.{◌≡◌, ℕ, zero, suc, ◌+◌, ◌<◌, ◌≤◌, Bool, true, false, cond, ◌&&◌, ◌||◌, true≢false, Option, Some, None, Result, Ok, Err, is_some, List, [], ◌∷◌, ◌++◌, length, map, refl, sym, ◌∙◌, ap, subst, arith}
-use Rattle.std.specs.Prelude.{All, AllPairs, IsTrue, IfErr, OnOk, ◌≢◌, nat_lt, nat_le, not, position, option_map, slice_index}
-use Rattle.std.specs.Option.{option_or}
-use Rattle.std.specs.List.{list_any, position_or_len}
-use Rattle.std.specs.List.Sorted.{IsStrictlyIncreasing}
-use Rattle.std.proofs.lemmas.Bool.{and_parts, or_parts, ltb-true, leb-true, le-leb, lt-ltb}
-use Rattle.std.proofs.lemmas.List.Elements.{All-nil, All-cons, All-head, All-tail, All-append, All-weaker}
-use Rattle.std.proofs.lemmas.List.Kept.{AllPairs-cons}
-use Rattle.assign.specs.Sets.{Rises, IsSet, is_within, is_same}
-use Rattle.language.specs.declared.scopes.Scope.{Scope}
-use Rattle.language.specs.Scopes.{variables_in}
-use Rattle.language.specs.Built.{AreScopes}
-use Rattle.language.specs.Language.{Given, IsScope, AreApart}
-use Rattle.language.specs.declared.parts.LangFault.{LangFault}
-use Rattle.language.specs.declared.parts.LangFault.TheVariants.{Memory, ScopeOrder, TooManyScopes, ScopeRepeated, Nested, NoRelationOfArity}
-use Rattle.language.specs.Building.{is_rising, is_ordered, are_nested, pair_after, first_pair, has_arity, rising_lists, all_scopes, scopes_of, AreKnown, scope_list_refusal, scopes_refusal}
+use Rattle.language.proofs.Prelude.{◌≡◌, ℕ, zero, suc, ◌+◌, ◌<◌, ◌≤◌, Bool, true, false, cond, ◌&&◌, ◌||◌, true≢false, Option, Some, None, Result, Ok, Err, is_some, List, [], ◌∷◌, ◌++◌, length, map, refl, sym, ◌∙◌, ap, subst, arith, All, AllPairs, IsTrue, IfErr, OnOk, ◌≢◌, nat_lt, nat_le, not, position, option_map, slice_index, option_or, list_any, position_or_len, IsStrictlyIncreasing, and_parts, or_parts, ltb-true, leb-true, le-leb, lt-ltb, All-nil, All-cons, All-head, All-tail, All-append, All-weaker, AllPairs-cons, Rises, IsSet, is_within, is_same, Scope, variables_in, AreScopes, Given, IsScope, AreApart, LangFault, Memory, ScopeOrder, TooManyScopes, ScopeRepeated, Nested, NoRelationOfArity, is_rising, is_ordered, are_nested, pair_after, first_pair, has_arity, rising_lists, all_scopes, scopes_of, AreKnown, scope_list_refusal, scopes_refusal}
 use Rattle.language.proofs.Pairs.{first_is, one_step}
 use Rattle.language.proofs.Used.{of_arity}
 use Rattle.language.proofs.Rising.{lists_long, lists_rise, lists_known}

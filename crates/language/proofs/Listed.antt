@@ -1,11 +1,5 @@
 -- Listed scopes, as lists.
-use Rattle.std.proofs.Common.{◌≡◌, ℕ, ◌<◌, List, length, map, Some, None, ◌∙◌, arith}
-use Rattle.std.specs.Prelude.{position, not}
-use Rattle.std.specs.declared.alloc.Global.{Global}
-use Rattle.smallvec.specs.declared.small_vec.SmallVec.{SmallVec}
-use Rattle.language.specs.Language.{Given}
-use Rattle.language.specs.declared.parts.LangFault.TheVariants.{ScopeOrder, TooManyScopes}
-use Rattle.language.specs.Building.{is_ordered, scopes_refusal}
+use Rattle.language.proofs.Prelude.{◌≡◌, ℕ, ◌<◌, List, length, map, Some, None, ◌∙◌, arith, position, not, Global, SmallVec, Given, ScopeOrder, TooManyScopes, is_ordered, scopes_refusal}
 use Rattle.language.proofs.Lawful.{position-map, length-same, refused_order, refused_many}
 
 abbrev pub lists_in : List (SmallVec ℕ 4 Global) → List (List ℕ)

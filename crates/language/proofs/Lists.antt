@@ -1,11 +1,5 @@
 -- Lists: what some or all of their members pass.
-use Rattle.std.proofs.Common.{◌≡◌, ℕ, zero, suc, ◌+◌, ◌<◌, ◌≤◌, Bool, true, false, cond, ◌||◌, List, [], ◌∷◌, ◌++◌, length, Some, None, sym, ◌∙◌, ap, subst, refl, arith, inl, inr, ◌⊎◌}
-use Rattle.std.specs.Prelude.{All, find}
-use Rattle.std.specs.List.{list_any, list_all, filter, range_with_len}
-use Rattle.std.proofs.lemmas.List.Folds.{list_all-append}
-use Rattle.std.proofs.lemmas.List.Elements.{All-head, All-tail, All-cons, All-nil}
-use Rattle.std.proofs.lemmas.Bool.{and_parts, both_ways, or_cases, or_left, or_right}
-use Rattle.assign.specs.Sets.{numbers}
+use Rattle.language.proofs.Prelude.{◌≡◌, ℕ, zero, suc, ◌+◌, ◌<◌, ◌≤◌, Bool, true, false, cond, ◌||◌, List, [], ◌∷◌, ◌++◌, length, Some, None, sym, ◌∙◌, ap, subst, refl, arith, inl, inr, ◌⊎◌, All, find, list_any, list_all, filter, range_with_len, list_all-append, All-head, All-tail, All-cons, All-nil, and_parts, both_ways, or_cases, or_left, or_right, numbers}
 
 pub find_all : {X : Type 0} (Q : X → Type 0) (p : X → Bool) (xs : List X) (y : X) → All Q xs → find p xs ≡ Some y → Q y
 find_all Q p [] y all h = cc

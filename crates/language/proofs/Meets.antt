@@ -1,14 +1,5 @@
 -- The intersection of two candidates on a scope is a candidate there.
-use Rattle.std.proofs.Common.{◌≡◌, ℕ, zero, suc, Bool, true, false, ◌||◌, ◌&&◌, not, List, [], ◌∷◌, ◌++◌, refl, sym, ◌∙◌, ap, subst}
-use Rattle.std.specs.Prelude.{Contains, slice_index_or}
-use Rattle.std.proofs.lemmas.List.Elements.{All-append, All-cons}
-use Rattle.std.proofs.lemmas.List.{get_or_default}
-use Rattle.language.specs.declared.candidates.Candidate.{Candidate}
-use Rattle.assign.specs.Assignment.{covers, tuple_on}
-use Rattle.rel_table.specs.Relation.{Relation, place, meet, meet_all, IsIntersection}
-use Rattle.rel_table.proofs.Growing.{meet_assoc}
-use Rattle.language.specs.Language.{Language, IsLanguage, IsCandidate, relations_on}
-use Rattle.language.specs.Laws.{IsMeetOf, CandidatesAreClosed}
+use Rattle.language.proofs.Prelude.{◌≡◌, ℕ, zero, suc, Bool, true, false, ◌||◌, ◌&&◌, not, List, [], ◌∷◌, ◌++◌, refl, sym, ◌∙◌, ap, subst, Contains, slice_index_or, All-append, All-cons, get_or_default, Candidate, covers, tuple_on, Relation, place, meet, meet_all, IsIntersection, meet_assoc, Language, IsLanguage, IsCandidate, relations_on, IsMeetOf, CandidatesAreClosed}
 
 pub meet_at : (r q : Relation) (k : ℕ) → slice_index_or (meet r q) k false ≡ (slice_index_or r k false && slice_index_or q k false)
 meet_at [] q k = refl

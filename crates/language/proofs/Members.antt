@@ -1,14 +1,5 @@
 -- What some member of a list passes, through the functions that make the lists of the definitions.
-use Rattle.std.proofs.Common.{◌≡◌, ℕ, zero, suc, ◌+◌, ◌<◌, ◌≤◌, Bool, true, false, cond, ◌||◌, ◌&&◌, List, [], ◌∷◌, length, map, Some, None, refl, sym, ◌∙◌, ap, arith, inl, inr, ◌⊎◌}
-use Rattle.std.specs.Prelude.{find, All}
-use Rattle.std.specs.List.{list_any, filter, flat_map, range_with_len}
-use Rattle.std.proofs.lemmas.List.Folds.{list_any-append}
-use Rattle.std.proofs.lemmas.List.Elements.{All-head, All-tail}
-use Rattle.std.proofs.lemmas.Bool.{cases_eq, or_left, or_right}
-use Rattle.language.specs.declared.candidates.Candidate.{Candidate}
-use Rattle.assign.specs.Sets.{numbers}
-use Rattle.rel_table.specs.Relation.{tuples}
-use Rattle.language.specs.Language.{Language, IsCandidate, candidates, candidates_on}
+use Rattle.language.proofs.Prelude.{◌≡◌, ℕ, zero, suc, ◌+◌, ◌<◌, ◌≤◌, Bool, true, false, cond, ◌||◌, ◌&&◌, List, [], ◌∷◌, length, map, Some, None, refl, sym, ◌∙◌, ap, arith, inl, inr, ◌⊎◌, find, All, list_any, filter, flat_map, range_with_len, list_any-append, All-head, All-tail, cases_eq, or_left, or_right, Candidate, numbers, tuples, Language, IsCandidate, candidates, candidates_on}
 
 any_cond : {X : Type 0} (p : X → Bool) (b : Bool) (x : X) (xs : List X) → list_any p (cond b (x ∷ xs) xs) ≡ ((b && p x) || list_any p xs)
 any_cond p true x xs = refl

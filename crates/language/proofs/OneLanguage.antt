@@ -1,17 +1,8 @@
 -- Some relations have one closing, and what is built of the same parts is the same.
-use Rattle.std.proofs.Common.{◌≡◌, ℕ, zero, suc, ◌<◌, List, [], ◌∷◌, length, map, get_or, refl, sym, ◌∙◌, ap, subst, arith}
-use Rattle.std.specs.Prelude.{AllPairs, Contains}
-use Rattle.std.proofs.lemmas.Bool.{both_ways}
-use Rattle.std.proofs.lemmas.List.{same_lists, get_or_default}
-use Rattle.rel_table.specs.Relation.{Relation, IsIntersection, IsClosing}
+use Rattle.language.proofs.Prelude.{◌≡◌, ℕ, zero, suc, ◌<◌, List, [], ◌∷◌, length, map, get_or, refl, sym, ◌∙◌, ap, subst, arith, AllPairs, Contains, both_ways, same_lists, get_or_default, Relation, IsIntersection, IsClosing, pairs_head, pairs_tail, ValueRange, widened, Given, of_arity, given_on, BuiltIsOne}
 use Rattle.rel_table.specs.InOrder.{Above}
 use Rattle.rel_table.proofs.Falling.{above_above}
-use Rattle.rel_table.proofs.Pairwise.{pairs_head, pairs_tail}
 use Rattle.rel_table.proofs.Tables.{not_above_itself}
-use Rattle.language.specs.declared.ranges.ValueRange.{ValueRange}
-use Rattle.language.specs.Ranges.{widened}
-use Rattle.language.specs.Language.{Given, of_arity, given_on}
-use Rattle.language.specs.Laws.{BuiltIsOne}
 
 -- ---- lists in falling order
 

@@ -1,26 +1,8 @@
 -- The order of a candidate has each variable once, and a prefix of all its values gives a whole assignment.
-use Rattle.std.proofs.Common.{◌≡◌, ℕ, zero, suc, ◌+◌, ◌<◌, ◌≤◌, Bool, true, false, cond, ◌||◌, ◌&&◌, not, List, [], ◌∷◌, ◌++◌, length, map, take, Option, Some, None, refl, sym, ◌∙◌, ap, subst, arith, inl, inr, ◌⊎◌, length-append, append_assoc}
-use Rattle.std.specs.Prelude.{◌==◌, ◌≢◌, All, AllPairs, slice_index_or, is_some, unwrap_or}
-use Rattle.std.specs.List.{list_any, filter, range_with_len}
-use Rattle.std.proofs.lemmas.List.{append-nil}
-use Rattle.std.proofs.lemmas.List.Elements.{All-head, All-tail, All-nil, All-append, All-filter, All-push, filter_passes, filter_more}
-use Rattle.std.proofs.lemmas.List.FromFn.{fill_by_all, length-range_with_len, get_or-range_with_len}
-use Rattle.std.proofs.lemmas.List.Kept.{AllPairs-cons, AllPairs-filter, AllPairs-from_increasing}
-use Rattle.std.proofs.lemmas.List.Sums.{list_all-from_AllPass, AllPass-from_list_all}
-use Rattle.std.proofs.lemmas.List.Folds.{list_any-append, list_any_at}
-use Rattle.std.proofs.lemmas.Bool.{cases_eq, and_from, or_left, or_cases, both_ways, not-true, not_from_false, true_from_ne_false, eq-eqb, ne_eqb, eqb-true}
-use Rattle.std.specs.List.{IsDistinct}
+use Rattle.language.proofs.Prelude.{◌≡◌, ℕ, zero, suc, ◌+◌, ◌<◌, ◌≤◌, Bool, true, false, cond, ◌||◌, ◌&&◌, not, List, [], ◌∷◌, ◌++◌, length, map, take, Option, Some, None, refl, sym, ◌∙◌, ap, subst, arith, inl, inr, ◌⊎◌, length-append, append_assoc, ◌==◌, ◌≢◌, All, AllPairs, slice_index_or, is_some, unwrap_or, list_any, filter, range_with_len, append-nil, All-head, All-tail, All-nil, All-append, All-filter, All-push, filter_passes, filter_more, fill_by_all, length-range_with_len, get_or-range_with_len, AllPairs-cons, AllPairs-filter, AllPairs-from_increasing, list_all-from_AllPass, AllPass-from_list_all, list_any-append, list_any_at, cases_eq, and_from, or_left, or_cases, both_ways, not-true, not_from_false, true_from_ne_false, eq-eqb, ne_eqb, eqb-true, IsDistinct, eqb, numbers, has, Rises, Assignment, value_of, value_beside, covers, tuple_on, is_complete, filter_agree_from, rises_lower, lacks, Candidate, Language, IsLanguage, IsCandidate, variable_count, scope_of, IsOrder, order_of, assignment_of}
 use Rattle.std.proofs.lemmas.Map.Keys.{IsDistinct-from_apart, IsDistinct-push}
 use Rattle.std.proofs.lemmas.Map.Steps.{length-le_from_distinct_below}
 use Rattle.std.proofs.lemmas.Cmp.{nat_eq_equiv}
-use Rattle.std.proofs.Common.{eqb}
-use Rattle.assign.specs.Sets.{numbers, has, Rises}
-use Rattle.assign.specs.Assignment.{Assignment, value_of, value_beside, covers, tuple_on, is_complete}
-use Rattle.assign.specs.SetLemmas.{filter_agree_from}
-use Rattle.assign.proofs.Masks.{rises_lower, lacks}
-use Rattle.language.specs.declared.candidates.Candidate.{Candidate}
-use Rattle.language.specs.Language.{Language, IsLanguage, IsCandidate, variable_count, scope_of}
-use Rattle.language.specs.Search.{IsOrder, order_of, assignment_of}
 use Rattle.language.proofs.Members.{any-filter, any_number}
 use Rattle.language.proofs.Beside.{scope_rises}
 use Rattle.language.proofs.Lists.{all_numbers, all_below}

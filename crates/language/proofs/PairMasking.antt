@@ -1,26 +1,6 @@
 -- The masks of relations of two variables, one after another.
-use Rattle.std.proofs.Common.{◌≡◌, ℕ, zero, suc, ◌+◌, ◌-◌, ◌*◌, ◌%◌, ◌&&◌, take, drop, ◌<◌, ◌≤◌, Bool, true, false, cond, not, List, [], ◌∷◌, ◌++◌, length, refl, sym, ◌∙◌, ap, subst, arith, inl, inr, ◌⊎◌}
-use Rattle.std.specs.Prelude.{◌==◌, ◌≢◌, nat_le, slice_index_or, slice_set, max}
-use Rattle.std.specs.Int.{bit_at}
-use Rattle.std.specs.Bool.{beq}
-use Rattle.std.specs.List.{filter, list_all, range_with_len}
-use Rattle.std.proofs.lemmas.List.Folds.{list_all-append, list_all_at}
-use Rattle.std.proofs.lemmas.List.FromFn.{length-range_with_len, get_or-range_with_len}
-use Rattle.std.proofs.lemmas.List.{get_or-set_same, get_or-set_other, length-append, get_or_append_left, get_or-append_right, get_or-take, get_or-drop}
-use Rattle.std.proofs.Math.Seq.{take-append_seam}
-use Rattle.std.proofs.lemmas.List.Elements.{filter-append}
-use Rattle.std.proofs.lemmas.Bool.{cases_eq, both_ways}
+use Rattle.language.proofs.Prelude.{◌≡◌, ℕ, zero, suc, ◌+◌, ◌-◌, ◌*◌, ◌%◌, ◌&&◌, take, drop, ◌<◌, ◌≤◌, Bool, true, false, cond, not, List, [], ◌∷◌, ◌++◌, length, refl, sym, ◌∙◌, ap, subst, arith, inl, inr, ◌⊎◌, ◌==◌, ◌≢◌, nat_le, slice_index_or, slice_set, max, bit_at, beq, filter, list_all, range_with_len, list_all-append, list_all_at, length-range_with_len, get_or-range_with_len, get_or-set_same, get_or-set_other, length-append, get_or_append_left, get_or-append_right, get_or-take, get_or-drop, take-append_seam, filter-append, cases_eq, both_ways, numbers, filter_agree_from, Relation, go_together, rejected_of, most_of, ArePairTables, IsPairTable, changes_of, is_running, AreMasksFrom, ArePairMasksAt, PairBounds, Language, relations_of_arity, Inside, seen, pairs_in, IsSound}
 use Rattle.std.proofs.Math.Nat.{le-max_left, le-max_right}
-use Rattle.assign.specs.Sets.{numbers}
-use Rattle.assign.specs.SetLemmas.{filter_agree_from}
-use Rattle.rel_table.specs.Relation.{Relation}
-use Rattle.language.specs.Pairs.{go_together, rejected_of, most_of, ArePairTables, IsPairTable, changes_of, is_running}
-use Rattle.language.specs.PairMasks.{AreMasksFrom, ArePairMasksAt}
-use Rattle.language.specs.declared.masks.PairBounds.{PairBounds}
-use Rattle.language.specs.Language.{Language}
-use Rattle.language.specs.Building.{relations_of_arity}
-use Rattle.language.specs.declared.lang.Language.TheInside.{Inside}
-use Rattle.language.specs.Inside.{seen, pairs_in, IsSound}
 use Rattle.language.proofs.Counting.{numbers_more}
 use Rattle.language.proofs.OneLanguage.{one_closing}
 

@@ -1,16 +1,7 @@
 -- The first pair of scopes that is related.
-use Rattle.std.proofs.Common.{◌≡◌, ℕ, zero, suc, ◌+◌, ◌<◌, ◌≤◌, Bool, true, false, cond, ◌&&◌, ◌||◌, true≢false, Option, Some, None, List, [], ◌∷◌, ◌++◌, length, take, drop, is_some, refl, sym, ◌∙◌, ap, subst, arith}
-use Rattle.std.specs.Prelude.{nat_eq, not, position, slice_index_or, ◌==◌}
-use Rattle.std.specs.List.{list_any, position_or_len, position_from}
-use Rattle.std.proofs.lemmas.List.Folds.{list_any_at}
-use Rattle.std.proofs.lemmas.List.Sums.{list_all-from_AllPass}
-use Rattle.std.proofs.lemmas.Bool.{and_parts, both_ways, eq-eqb, eqb-true, false_from_ne_true, or_left}
+use Rattle.language.proofs.Prelude.{◌≡◌, ℕ, zero, suc, ◌+◌, ◌<◌, ◌≤◌, Bool, true, false, cond, ◌&&◌, ◌||◌, true≢false, Option, Some, None, List, [], ◌∷◌, ◌++◌, length, take, drop, is_some, refl, sym, ◌∙◌, ap, subst, arith, nat_eq, not, position, slice_index_or, ◌==◌, list_any, position_or_len, position_from, list_any_at, list_all-from_AllPass, and_parts, both_ways, eq-eqb, eqb-true, false_from_ne_true, or_left, pointwise, take_more, drop_more, has, is_same, is_within, are_nested, pair_after, first_pair}
 use Rattle.std.proofs.lemmas.Iterator.Adapters.{position_from-zero}
-use Rattle.std.specs.Cmp.Lexicographic.{pointwise}
-use Rattle.std.proofs.lemmas.List.{take_more, drop_more}
 use Rattle.std.proofs.lemmas.List.Quantifiers.{position-Some}
-use Rattle.assign.specs.Sets.{has, is_same, is_within}
-use Rattle.language.specs.Building.{are_nested, pair_after, first_pair}
 use Rattle.language.proofs.Lists.{any_weaker}
 
 pub same_is : (xs ys : List ℕ) → pointwise nat_eq xs ys ≡ is_same xs ys

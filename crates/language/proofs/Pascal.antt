@@ -1,7 +1,5 @@
 -- Pascal's rule, and bounds for up to 128 things.
-use Rattle.std.proofs.Common.{◌≡◌, ℕ, zero, suc, ◌+◌, ◌*◌, ◌<◌, ◌≤◌, List, [], ◌∷◌, subst, refl, sym, ap, arith}
-use Rattle.std.specs.Prelude.{slice_index_or}
-use Rattle.language.specs.Choosing.{choices}
+use Rattle.language.proofs.Prelude.{◌≡◌, ℕ, zero, suc, ◌+◌, ◌*◌, ◌<◌, ◌≤◌, List, [], ◌∷◌, subst, refl, sym, ap, arith, slice_index_or, choices}
 
 pub pascal : (m size : ℕ) → choices (m + 1) (suc size) ≡ choices m size + choices m (suc size)
 pascal m size = ap (λ k. choices k (suc size)) (let e : m + 1 ≡ suc m = omega arith in e)

@@ -1,12 +1,5 @@
 -- The place of the tuple that an assignment gives to some variables, one variable after another.
-use Rattle.std.proofs.Common.{◌≡◌, ℕ, suc, ◌+◌, ◌*◌, ◌^◌, ◌<◌, ◌≤◌, ◌&&◌, List, ◌∷◌, length, drop, Option, Some, None, ap, sym, ◌∙◌, arith, subst, ◌⊎◌, inl, inr}
-use Rattle.std.specs.Prelude.{is_some, unwrap_or, if◌then◌else◌, slice_index_or, All}
-use Rattle.std.specs.Option.{ForSome}
-use Rattle.std.specs.List.{fold}
-use Rattle.std.proofs.Math.Seq.{drop-cons}
-use Rattle.std.proofs.lemmas.Bool.{cases_lt}
-use Rattle.std.proofs.lemmas.List.{get_or_past}
-use Rattle.assign.specs.Assignment.{Assignment, value_of, covers, tuple_on}
+use Rattle.language.proofs.Prelude.{◌≡◌, ℕ, suc, ◌+◌, ◌*◌, ◌^◌, ◌<◌, ◌≤◌, ◌&&◌, List, ◌∷◌, length, drop, Option, Some, None, ap, sym, ◌∙◌, arith, subst, ◌⊎◌, inl, inr, is_some, unwrap_or, if◌then◌else◌, slice_index_or, All, ForSome, fold, drop-cons, cases_lt, get_or_past, Assignment, value_of, covers, tuple_on}
 use Rattle.rel_table.proofs.Powers.{place_step, power_within}
 
 -- the place that is reached from one, where the variables have values

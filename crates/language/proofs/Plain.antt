@@ -1,16 +1,5 @@
 -- Plain prefixes: each list of values is a prefix, and what one with a value for each variable tells.
-use Rattle.std.proofs.Common.{◌≡◌, ℕ, zero, suc, ◌<◌, ◌≤◌, Bool, true, false, cond, ◌&&◌, ◌||◌, not, List, [], ◌∷◌, ◌++◌, length, map, Some, refl, sym, ◌∙◌, ap, subst, arith}
-use Rattle.std.specs.Prelude.{◌==◌, All, is_some}
-use Rattle.std.specs.List.{list_any}
-use Rattle.std.proofs.lemmas.List.Elements.{All-head, All-tail, All-map}
-use Rattle.std.proofs.lemmas.List.Sums.{list_all-from_AllPass}
-use Rattle.std.proofs.lemmas.Bool.{and_parts, and_from, or_left, or_right}
-use Rattle.assign.specs.Sets.{numbers}
-use Rattle.assign.specs.Assignment.{Assignment, value_beside, covers, tuple_on, is_complete}
-use Rattle.rel_table.specs.Relation.{holds}
-use Rattle.language.specs.declared.candidates.Candidate.{Candidate}
-use Rattle.language.specs.Language.{Language, IsLanguage, IsCandidate, IsQuestion, variable_count, scope_of, relation_of, violates, accepts}
-use Rattle.language.specs.Search.{order_of, prefixes, assignment_of, satisfies, are_ranged, is_plain, plain_size}
+use Rattle.language.proofs.Prelude.{◌≡◌, ℕ, zero, suc, ◌<◌, ◌≤◌, Bool, true, false, cond, ◌&&◌, ◌||◌, not, List, [], ◌∷◌, ◌++◌, length, map, Some, refl, sym, ◌∙◌, ap, subst, arith, ◌==◌, All, is_some, list_any, All-head, All-tail, All-map, list_all-from_AllPass, and_parts, and_from, or_left, or_right, numbers, Assignment, value_beside, covers, tuple_on, is_complete, holds, Candidate, Language, IsLanguage, IsCandidate, IsQuestion, variable_count, scope_of, relation_of, violates, accepts, order_of, prefixes, assignment_of, satisfies, are_ranged, is_plain, plain_size}
 use Rattle.language.proofs.Members.{any-map, any-flat_map, any_number}
 use Rattle.language.proofs.Lists.{all_below, fewer_pass, front_of}
 use Rattle.language.proofs.Fronts.{ranged_from}

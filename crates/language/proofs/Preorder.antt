@@ -1,12 +1,5 @@
 -- How a depth-first search goes on in the list of the prefixes.
-use Rattle.std.proofs.Common.{◌≡◌, ℕ, zero, suc, ◌+◌, ◌-◌, ◌<◌, Bool, true, false, cond, List, [], ◌∷◌, ◌++◌, length, map, refl, sym, ◌∙◌, ap, subst, arith, length-append}
-use Rattle.std.specs.Prelude.{All, slice_index_or}
-use Rattle.std.specs.List.{filter, flat_map, range_with_len}
-use Rattle.std.proofs.lemmas.List.Elements.{All-head, All-tail, All-nil, All-cons, All-append, All-map, filter-append}
-use Rattle.std.proofs.lemmas.List.{length-map}
-use Rattle.std.proofs.lemmas.Bool.{both_ways, false_from_ne_true}
-use Rattle.assign.specs.Sets.{numbers}
-use Rattle.language.specs.Search.{prefixes}
+use Rattle.language.proofs.Prelude.{◌≡◌, ℕ, zero, suc, ◌+◌, ◌-◌, ◌<◌, Bool, true, false, cond, List, [], ◌∷◌, ◌++◌, length, map, refl, sym, ◌∙◌, ap, subst, arith, length-append, All, slice_index_or, filter, flat_map, range_with_len, All-head, All-tail, All-nil, All-cons, All-append, All-map, filter-append, length-map, both_ways, false_from_ne_true, numbers, prefixes}
 use Rattle.language.proofs.Lists.{all_below}
 
 -- ---- what comes from a place on

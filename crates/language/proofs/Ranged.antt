@@ -1,20 +1,5 @@
 -- What the ranges ask of a question, and why no tuple outside them is asked: each relation on a scope accepts it there.
-use Rattle.std.proofs.Common.{◌≡◌, ℕ, zero, suc, ◌+◌, ◌^◌, ◌<◌, Bool, true, false, cond, ◌||◌, not, List, [], ◌∷◌, length, map, Option, Some, None, refl, sym, ◌∙◌, ap, subst, arith}
-use Rattle.std.specs.Prelude.{All, slice_index_or, ◌==◌, nat_le}
-use Rattle.std.specs.Option.{ForSome}
-use Rattle.std.specs.List.{list_all, list_any, zip}
-use Rattle.std.proofs.lemmas.Bool.{leb-true, and_from, and_parts, eqb-true, eq-eqb, both_ways, true_from_ne_false, or_left}
-use Rattle.std.proofs.lemmas.List.{get_or_default}
-use Rattle.std.proofs.lemmas.List.Elements.{All-head, All-tail, All-contains, All-map, All-filter, All-weaker, filter_passes}
-use Rattle.std.proofs.lemmas.List.FromFn.{get_or-range_with_len, length-range_with_len, length-map-range_with_len}
-use Rattle.std.proofs.lemmas.List.Sums.{list_all-from_AllPass, AllPass-from_list_all}
-use Rattle.assign.specs.Sets.{numbers}
-use Rattle.assign.specs.Assignment.{Assignment, value_of, value_beside}
-use Rattle.rel_table.specs.Relation.{Relation, place, holds, tuples, tuple_at, meet, meet_all, IsIntersection}
-use Rattle.rel_table.proofs.PlaceLemmas.{length-tuples, get_or-tuples, place-below, tuple_at-place}
-use Rattle.language.specs.declared.ranges.ValueRange.{ValueRange}
-use Rattle.language.specs.Ranges.{is_in, are_in, widened}
-use Rattle.language.specs.Language.{Language, Given, IsLanguage, IsQuestion, is_question, is_ranged, variable_count, scope_at, relations_on, range_of, on_scope_of, given_of, given_on}
+use Rattle.language.proofs.Prelude.{◌≡◌, ℕ, zero, suc, ◌+◌, ◌^◌, ◌<◌, Bool, true, false, cond, ◌||◌, not, List, [], ◌∷◌, length, map, Option, Some, None, refl, sym, ◌∙◌, ap, subst, arith, All, slice_index_or, ◌==◌, nat_le, ForSome, list_all, list_any, zip, leb-true, and_from, and_parts, eqb-true, eq-eqb, both_ways, true_from_ne_false, or_left, get_or_default, All-head, All-tail, All-contains, All-map, All-filter, All-weaker, filter_passes, get_or-range_with_len, length-range_with_len, length-map-range_with_len, list_all-from_AllPass, AllPass-from_list_all, numbers, Assignment, value_of, value_beside, Relation, place, holds, tuples, tuple_at, meet, meet_all, IsIntersection, length-tuples, get_or-tuples, place-below, tuple_at-place, ValueRange, is_in, are_in, widened, Language, Given, IsLanguage, IsQuestion, is_question, is_ranged, variable_count, scope_at, relations_on, range_of, on_scope_of, given_of, given_on}
 use Rattle.language.specs.Scenes.{scene_of, on_scope}
 use Rattle.language.specs.TellingApart.{Choice, allows, tells_apart, splitting_tuple}
 use Rattle.language.proofs.Beside.{value_of_assigned, beside_fits}

@@ -1,9 +1,5 @@
 -- Why there is no frame or no language.
-use Rattle.std.proofs.Common.{◌≡◌, ℕ, ◌<◌, ◌≤◌, ℤ, List, [], ◌∷◌, length, Bool, true, false, Some, cond, ap, arith}
-use Rattle.std.proofs.lemmas.Bool.{le-ltb, lt-ltb}
-use Rattle.language.specs.declared.parts.LangFault.TheVariants.{TooManyVariables, BadDomain}
-use Rattle.language.specs.Building.{is_domain, frame_refusal}
-use Rattle.std.specs.Prelude.{None}
+use Rattle.language.proofs.Prelude.{◌≡◌, ℕ, ◌<◌, ◌≤◌, ℤ, List, [], ◌∷◌, length, Bool, true, false, Some, cond, ap, arith, le-ltb, lt-ltb, TooManyVariables, BadDomain, is_domain, frame_refusal, None}
 
 no_domain : (many domain : Bool) → many ≡ false → domain ≡ false → cond many (Some TooManyVariables) (cond domain None (Some BadDomain)) ≡ Some BadDomain
 no_domain many domain few bad = λ i. cond (few i) (Some TooManyVariables) (cond (bad i) None (Some BadDomain))

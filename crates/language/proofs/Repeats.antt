@@ -1,10 +1,5 @@
 -- Listed relations.
-use Rattle.std.proofs.Common.{◌≡◌, Bool, true, false, ◌&&◌, List, [], ◌∷◌, refl, sym, subst}
-use Rattle.std.specs.Prelude.{Contains, slice_index_or}
-use Rattle.std.specs.Bool.{beq}
-use Rattle.std.proofs.lemmas.List.Folds.{list_any_at, Any-from_list_any}
-use Rattle.rel_table.specs.Relation.{Relation}
-use Rattle.language.specs.Building.{is_same_relation, is_listed}
+use Rattle.language.proofs.Prelude.{◌≡◌, Bool, true, false, ◌&&◌, List, [], ◌∷◌, refl, sym, subst, Contains, slice_index_or, beq, list_any_at, Any-from_list_any, Relation, is_same_relation, is_listed}
 
 same_head : (x y b : Bool) → (beq x y && b) ≡ true → (x ≡ y) × (b ≡ true)
 same_head true true b h = (refl, h)

@@ -1,17 +1,6 @@
 -- The rising lists of a size, by least variable, and how many there are.
-use Rattle.std.proofs.Common.{◌≡◌, ℕ, zero, suc, ◌+◌, ◌-◌, ◌<◌, ◌≤◌, Bool, true, false, cond, ◌&&◌, List, [], ◌∷◌, ◌++◌, length, map, refl, sym, ◌∙◌, ap, arith, append_assoc, append-nil, length-append, subst, take}
-use Rattle.std.specs.Prelude.{nat_le, filter, All, slice_index_or}
-use Rattle.std.specs.List.{flat_map, range_with_len}
-use Rattle.std.proofs.lemmas.Bool.{le-leb, lt-leb}
-use Rattle.std.proofs.lemmas.List.{length-map}
-use Rattle.std.proofs.lemmas.List.Concat.{flat_map-append}
-use Rattle.std.proofs.lemmas.List.Folds.{flat_map-map}
-use Rattle.std.proofs.lemmas.List.Elements.{filter-append, filter_agree, filter_passes, All-nil, All-cons, All-append, All-map, All-weaker}
-use Rattle.rel_table.specs.Relation.{tuples}
-use Rattle.language.specs.declared.scopes.Scope.{Scope}
-use Rattle.language.specs.Scopes.{variables_in}
-use Rattle.language.specs.Choosing.{choices, past, longer_by}
-use Rattle.language.specs.Building.{is_rising, rising_lists}
+use Rattle.language.proofs.Prelude.{◌≡◌, ℕ, zero, suc, ◌+◌, ◌-◌, ◌<◌, ◌≤◌, Bool, true, false, cond, ◌&&◌, List, [], ◌∷◌, ◌++◌, length, map, refl, sym, ◌∙◌, ap, arith, append_assoc, append-nil, length-append, subst, take, nat_le, All, slice_index_or, flat_map, range_with_len, le-leb, lt-leb, length-map, flat_map-append, flat_map-map, filter-append, filter_agree, filter_passes, All-nil, All-cons, All-append, All-map, All-weaker, tuples, Scope, variables_in, choices, past, longer_by, is_rising, rising_lists}
+use Rattle.std.specs.Prelude.{filter}
 
 -- the rising lists of a size of the m numbers from a on: first those with a
 abbrev pub rising_from : ℕ → ℕ → ℕ → List (List ℕ)

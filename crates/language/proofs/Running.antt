@@ -1,9 +1,5 @@
 -- Tests that change once at most.
-use Rattle.std.proofs.Common.{◌≡◌, ℕ, zero, suc, ◌+◌, ◌<◌, ◌≤◌, Bool, true, false, cond, refl, sym, ◌∙◌, ap, subst, arith, inl, inr, ◌⊎◌}
-use Rattle.std.specs.Prelude.{◌≢◌, nat_le}
-use Rattle.std.specs.Bool.{beq}
-use Rattle.std.proofs.lemmas.Bool.{cases_eq, both_ways, leb-true}
-use Rattle.language.specs.Pairs.{changes_of, is_running}
+use Rattle.language.proofs.Prelude.{◌≡◌, ℕ, zero, suc, ◌+◌, ◌<◌, ◌≤◌, Bool, true, false, cond, refl, sym, ◌∙◌, ap, subst, arith, inl, inr, ◌⊎◌, ◌≢◌, nat_le, beq, cases_eq, both_ways, leb-true, changes_of, is_running}
 use Rattle.language.proofs.PairMasking.{running_fails}
 
 beq_true : (a b : Bool) → beq a b ≡ true → a ≡ b

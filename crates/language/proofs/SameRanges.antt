@@ -1,17 +1,5 @@
 -- Scopes whose variables have the same ranges have the same tables.
-use Rattle.std.proofs.Common.{◌≡◌, ◌≢◌, ℕ, suc, Bool, true, false, ◌&&◌, ◌||◌, not, List, [], ◌∷◌, length, map, get_or, refl, sym, ◌∙◌, ap, subst}
-use Rattle.std.specs.Prelude.{◌==◌}
-use Rattle.std.specs.List.{zip, list_all}
-use Rattle.std.proofs.lemmas.Bool.{and_parts, eqb-true}
-use Rattle.std.proofs.lemmas.List.{length-map}
-use Rattle.rel_table.specs.Relation.{Relation, tuples, IsClosing}
-use Rattle.rel_table.specs.Table.{TruthTable}
-use Rattle.language.specs.declared.ranges.ValueRange.{ValueRange}
-use Rattle.language.specs.Language.{Given}
-use Rattle.language.specs.Ranges.{is_in, range_in, are_in, widened, have_same_ranges}
-use Rattle.language.specs.Building.{relations_of_arity}
-use Rattle.language.specs.Inside.{truths, chosen_on}
-use Rattle.language.specs.Built.{AreChosen, given_at}
+use Rattle.language.proofs.Prelude.{◌≡◌, ◌≢◌, ℕ, suc, Bool, true, false, ◌&&◌, ◌||◌, not, List, [], ◌∷◌, length, map, get_or, refl, sym, ◌∙◌, ap, subst, ◌==◌, zip, list_all, and_parts, eqb-true, length-map, Relation, tuples, IsClosing, TruthTable, ValueRange, Given, is_in, range_in, are_in, widened, have_same_ranges, relations_of_arity, truths, chosen_on, AreChosen, given_at}
 
 -- ---- the test
 

@@ -1,12 +1,5 @@
 -- How many truth values relations have.
-use Rattle.std.proofs.Common.{◌≡◌, ℕ, suc, ◌^◌, Bool, true, false, cond, List, [], ◌∷◌, length, map, refl, sym, ◌∙◌, ap, arith}
-use Rattle.std.specs.Prelude.{All, Contains, ◌==◌}
-use Rattle.std.proofs.lemmas.Bool.{eqb-true}
-use Rattle.std.proofs.lemmas.List.Elements.{All-nil, All-cons, All-head, All-tail, All-map, All-weaker, All-contains}
-use Rattle.rel_table.specs.Relation.{Relation, meet, meet_all, IsIntersection, IsClosing}
-use Rattle.language.specs.declared.ranges.ValueRange.{ValueRange}
-use Rattle.language.specs.Ranges.{widened}
-use Rattle.language.specs.Language.{Given, of_arity, given_within}
+use Rattle.language.proofs.Prelude.{◌≡◌, ℕ, suc, ◌^◌, Bool, true, false, cond, List, [], ◌∷◌, length, map, refl, sym, ◌∙◌, ap, arith, All, Contains, ◌==◌, eqb-true, All-nil, All-cons, All-head, All-tail, All-map, All-weaker, All-contains, Relation, meet, meet_all, IsIntersection, IsClosing, ValueRange, widened, Given, of_arity, given_within}
 use Rattle.language.proofs.Within.{length-widened}
 
 length-meet : (n : ℕ) (r q : Relation) → length r ≡ n → length q ≡ n → length (meet r q) ≡ n

@@ -1,13 +1,5 @@
 -- Lists of numbers as scopes: their order, and their sets.
-use Rattle.std.proofs.Common.{◌≡◌, ℕ, ◌+◌, ◌<◌, ◌≤◌, true, ◌&&◌, List, [], ◌∷◌, length, take, map, refl, sym, ◌∙◌, ap, arith}
-use Rattle.std.specs.Prelude.{All, nat_lt, slice_index_or, ◌==◌}
-use Rattle.std.proofs.lemmas.List.{take_more}
-use Rattle.std.proofs.lemmas.List.Elements.{All-nil, All-cons, All-head, All-tail, All-get_or}
-use Rattle.std.proofs.lemmas.List.Folds.{list_any-append}
-use Rattle.assign.specs.Sets.{Rises, IsSet, has, with_member}
-use Rattle.assign.specs.SetLemmas.{set_where-same}
-use Rattle.assign.proofs.Masks.{canonical, rises_take}
-use Rattle.language.specs.Building.{is_ordered}
+use Rattle.language.proofs.Prelude.{◌≡◌, ℕ, ◌+◌, ◌<◌, ◌≤◌, true, ◌&&◌, List, [], ◌∷◌, length, take, map, refl, sym, ◌∙◌, ap, arith, All, nat_lt, slice_index_or, ◌==◌, take_more, All-nil, All-cons, All-head, All-tail, All-get_or, list_any-append, Rises, IsSet, has, with_member, set_where-same, canonical, rises_take, is_ordered}
 
 -- ---- Sets
 

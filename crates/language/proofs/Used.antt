@@ -1,11 +1,5 @@
 -- The arities that relations have.
-use Rattle.std.proofs.Common.{◌≡◌, ℕ, List, [], ◌∷◌, ◌||◌, map, refl, ap}
-use Rattle.std.specs.Prelude.{◌==◌, if◌then◌else◌}
-use Rattle.std.specs.List.{list_any}
-use Rattle.language.specs.Language.{Given}
-use Rattle.language.specs.declared.parts.RelPart.{RelPart}
-use Rattle.language.specs.Inside.{given_by}
-use Rattle.language.specs.Building.{has_arity, rising_lists}
+use Rattle.language.proofs.Prelude.{◌≡◌, ℕ, List, [], ◌∷◌, ◌||◌, map, refl, ap, ◌==◌, if◌then◌else◌, list_any, Given, RelPart, given_by, has_arity, rising_lists}
 
 -- all scopes of an arity, if some relation has it
 abbrev pub of_arity : ℕ → List Given → ℕ → List (List ℕ)

@@ -1,14 +1,5 @@
 -- Relations made true outside a mask, or cut down to it: their intersections and their order.
-use Rattle.std.proofs.Common.{◌≡◌, ℕ, ◌<◌, ◌≤◌, Bool, true, false, ◌&&◌, ◌||◌, not, List, [], ◌∷◌, length, map, get_or, refl, sym, ◌∙◌, ap, subst, arith}
-use Rattle.std.specs.Prelude.{All, Contains}
-use Rattle.std.specs.List.{zip}
-use Rattle.std.proofs.lemmas.List.{get_or-map, length-map}
-use Rattle.std.proofs.lemmas.List.Elements.{All-nil, All-cons, All-head, All-tail, All-map}
-use Rattle.rel_table.specs.Relation.{Relation, meet, meet_all, is_above, tuples, IsIntersection, IsClosing}
-use Rattle.rel_table.specs.Closing.{HasTooMany}
-use Rattle.rel_table.proofs.Growing.{contains_map, image_of, no_longer}
-use Rattle.language.specs.declared.ranges.ValueRange.{ValueRange}
-use Rattle.language.specs.Ranges.{are_in, widened, inside}
+use Rattle.language.proofs.Prelude.{◌≡◌, ℕ, ◌<◌, ◌≤◌, Bool, true, false, ◌&&◌, ◌||◌, not, List, [], ◌∷◌, length, map, get_or, refl, sym, ◌∙◌, ap, subst, arith, All, Contains, zip, get_or-map, length-map, All-nil, All-cons, All-head, All-tail, All-map, Relation, meet, meet_all, is_above, tuples, IsIntersection, IsClosing, HasTooMany, contains_map, image_of, no_longer, ValueRange, are_in, widened, inside}
 
 -- a relation, true outside the mask
 abbrev pub over : Relation → Relation → Relation

@@ -1,20 +1,7 @@
 -- Relations on a scope, tuple by tuple: within the ranges they are as they were.
-use Rattle.std.proofs.Common.{◌≡◌, ℕ, zero, suc, ◌+◌, ◌-◌, ◌^◌, ◌<◌, ◌≤◌, Bool, true, false, cond, ◌&&◌, ◌||◌, not, List, [], ◌∷◌, length, map, get_or, take, drop, ◌++◌, refl, sym, ◌∙◌, ap, subst, arith}
-use Rattle.std.specs.Prelude.{All, ◌==◌, nat_le}
-use Rattle.std.specs.List.{zip, list_all, flat_map}
+use Rattle.language.proofs.Prelude.{◌≡◌, ℕ, zero, suc, ◌+◌, ◌-◌, ◌^◌, ◌<◌, ◌≤◌, Bool, true, false, cond, ◌&&◌, ◌||◌, not, List, [], ◌∷◌, length, map, get_or, take, drop, ◌++◌, refl, sym, ◌∙◌, ap, subst, arith, All, ◌==◌, nat_le, zip, list_all, flat_map, leb-true, le-leb, and_parts, and_from, eqb-true, eq-eqb, drop_more, get_or-take, get_or-map, length-map, map-append, append-nil, same_lists, get_or_default, All-nil, All-cons, All-head, All-tail, AllPass-from_list_all, flat_map-append, numbers, Relation, place, tuples, tuple_at, length-tuples, get_or-tuples, place-below, length-tuple_at, tuple_at-below, tuple_at-place, place-tuple_at, ValueRange, is_in, range_in, are_in, is_whole_range, are_whole, widened, inside, AgreeWithin, IsRange, IsWhole, is_part}
 use Rattle.std.proofs.lemmas.Simd.{map-map}
-use Rattle.std.proofs.lemmas.Bool.{leb-true, le-leb, and_parts, and_from, eqb-true, eq-eqb}
-use Rattle.std.proofs.lemmas.List.{drop_more, get_or-take, get_or-map, length-map, map-append, append-nil, same_lists, get_or_default}
-use Rattle.std.proofs.lemmas.List.Elements.{All-nil, All-cons, All-head, All-tail}
-use Rattle.std.proofs.lemmas.List.Sums.{AllPass-from_list_all}
-use Rattle.std.proofs.lemmas.List.Concat.{flat_map-append}
-use Rattle.assign.specs.Sets.{numbers}
 use Rattle.language.proofs.Counting.{numbers_more}
-use Rattle.rel_table.specs.Relation.{Relation, place, tuples, tuple_at}
-use Rattle.rel_table.proofs.PlaceLemmas.{length-tuples, get_or-tuples, place-below, length-tuple_at, tuple_at-below, tuple_at-place, place-tuple_at}
-use Rattle.language.specs.declared.ranges.ValueRange.{ValueRange}
-use Rattle.language.specs.Ranges.{is_in, range_in, are_in, is_whole_range, are_whole, widened, inside, AgreeWithin, IsRange, IsWhole}
-use Rattle.language.specs.Texts.{is_part}
 use Rattle.language.proofs.Widening.{over, widened-over}
 
 -- ---- at a place

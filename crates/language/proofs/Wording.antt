@@ -1,18 +1,6 @@
 -- Texts that grow by one piece after another.
-use Rattle.std.proofs.Common.{◌≡◌, ℕ, zero, suc, ◌+◌, ◌<◌, ◌≤◌, ◌++◌, ◌==◌, ◌&&◌, Bool, true, false, cond, List, [], ◌∷◌, length, map, drop, Option, ℤ, negsuc, pos, ◌≤ℤ◌, ◌+ℤ◌, w64, refl, sym, ◌∙◌, ap, arith, rules, append_assoc, append-nil, length-append}
-use Rattle.std.specs.Prelude.{slice_index_or, All, string_bytes}
-use Rattle.std.specs.List.{filter}
+use Rattle.language.proofs.Prelude.{◌≡◌, ℕ, zero, suc, ◌+◌, ◌<◌, ◌≤◌, ◌++◌, ◌==◌, ◌&&◌, Bool, true, false, cond, List, [], ◌∷◌, length, map, drop, Option, ℤ, negsuc, pos, ◌≤ℤ◌, ◌+ℤ◌, w64, refl, sym, ◌∙◌, ap, arith, rules, append_assoc, append-nil, length-append, slice_index_or, All, string_bytes, filter, drop-cons, ints, ne_eqb, All-head, All-map, All-filter, Assignment, value_of, Relation, Given, of_arity, RelPart, given_by, value_text, values_text, is_part, joined, names_containing}
 use mir.Val.{SFits}
-use Rattle.std.proofs.Math.Seq.{drop-cons}
-use Rattle.std.proofs.lemmas.Int.{ints}
-use Rattle.std.proofs.lemmas.Bool.{ne_eqb}
-use Rattle.std.proofs.lemmas.List.Elements.{All-head, All-map, All-filter}
-use Rattle.assign.specs.Assignment.{Assignment, value_of}
-use Rattle.rel_table.specs.Relation.{Relation}
-use Rattle.language.specs.Language.{Given, of_arity}
-use Rattle.language.specs.declared.parts.RelPart.{RelPart}
-use Rattle.language.specs.Inside.{given_by}
-use Rattle.language.specs.Texts.{value_text, values_text, is_part, joined, names_containing}
 
 -- one more piece is written
 pub one_more : (whole before after piece rest next : List ℕ) → whole ≡ before ++ rest → after ≡ before ++ piece → rest ≡ piece ++ next → whole ≡ after ++ next

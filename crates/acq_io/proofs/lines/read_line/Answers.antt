@@ -1,6 +1,4 @@
-use Rattle.std.proofs.Common.{ap, rules, Ok, Option, Result, ℕ, ◌++◌}
-use Rattle.std.specs.Option.{option_to_list}
-use Rattle.acq_io.specs.declared.streams.Failed.{Failed}
+use Rattle.acq_io.proofs.Prelude.{ap, rules, Ok, Option, Result, ℕ, ◌++◌, option_to_list, Failed}
 use Rattle.acq_io.proofs.TakenLemmas.{takes_on}
 use Rattle.acq_io.proofs.ReadLemmas.{reads_line, reads_end, reads_too_long}
 use Rattle.acq_io.proofs.lines.read_line.Goals as goal

@@ -1,6 +1,4 @@
-use Rattle.std.proofs.Common.{◌≤◌, ◌-◌, length}
-use Rattle.acq_io.specs.Streams.{Takes, HasCalled}
-use Rattle.acq_io.specs.Lines.{LacksNewline}
+use Rattle.acq_io.proofs.Prelude.{◌≤◌, ◌-◌, length, Takes, HasCalled, LacksNewline}
 use Rattle.acq_io.proofs.lines.read_line.Given as goal
 
 abbrev pub invariant-loop-byte : goal.invariant-loop-byte

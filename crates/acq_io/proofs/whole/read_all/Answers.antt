@@ -1,6 +1,4 @@
-use Rattle.std.proofs.Common.{◌≡◌, ap, arith, Ok, Result, ℕ, List, ◌++◌, take, length}
-use Rattle.std.proofs.lemmas.List.{length-append, length-take}
-use Rattle.acq_io.specs.declared.streams.Failed.{Failed}
+use Rattle.acq_io.proofs.Prelude.{◌≡◌, ap, arith, Ok, Result, ℕ, List, ◌++◌, take, length, length-append, length-take, Failed}
 use Rattle.acq_io.proofs.TakenLemmas.{takes_on}
 use Rattle.acq_io.proofs.ReadLemmas.{gives_all, gives_too_many}
 use Rattle.acq_io.proofs.whole.read_all.Goals as goal

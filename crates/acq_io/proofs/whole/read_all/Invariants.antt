@@ -1,5 +1,4 @@
-use Rattle.std.proofs.Common.{◌≡◌, ◌≤◌, ◌+◌, ◌-◌, length}
-use Rattle.acq_io.specs.Streams.{Takes, HasCalled}
+use Rattle.acq_io.proofs.Prelude.{◌≡◌, ◌≤◌, ◌+◌, ◌-◌, length, Takes, HasCalled}
 use Rattle.acq_io.proofs.whole.read_all.Given as goal
 
 abbrev pub invariant-loop-all : goal.invariant-loop-all

@@ -1,9 +1,4 @@
-use Rattle.std.proofs.Common.{ap, arith, Ok, Option, Result, ℕ, ◌++◌, ◌∷◌, [], ◌≢◌}
-use Rattle.std.proofs.lemmas.List.{length-append}
-use Rattle.std.proofs.lemmas.List.Elements.{All-push}
-use Rattle.acq_io.specs.Lines.{newline}
-use Rattle.std.specs.Option.{option_to_list}
-use Rattle.acq_io.specs.declared.streams.Failed.{Failed}
+use Rattle.acq_io.proofs.Prelude.{ap, arith, Ok, Option, Result, ℕ, ◌++◌, ◌∷◌, [], ◌≢◌, length-append, All-push, newline, option_to_list, Failed}
 use Rattle.acq_io.proofs.TakenLemmas.{takes_on}
 use Rattle.acq_io.proofs.ReadLemmas.{gives_line, gives_only_line, gives_long_line}
 use Rattle.acq_io.proofs.whole.read_first_line.Goals as goal

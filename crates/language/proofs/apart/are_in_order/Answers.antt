@@ -1,6 +1,4 @@
-use Rattle.std.proofs.Common.{◌≡◌, ◌∙◌, ◌+◌, ◌≤◌, length, take, sym, subst, arith}
-use Rattle.std.specs.Prelude.{All}
-use Rattle.language.specs.Building.{are_nested, digits}
+use Rattle.language.proofs.Prelude.{◌≡◌, ◌∙◌, ◌+◌, ◌≤◌, length, take, sym, subst, arith, All, are_nested, digits}
 use Rattle.language.proofs.Pairs.{pair_later, no_pair}
 use Rattle.language.proofs.InOrder.{IsBefore, none_before, one_more}
 use Rattle.language.proofs.apart.are_in_order.Goals as goal

@@ -1,6 +1,4 @@
-use Rattle.std.proofs.Common.{◌≡◌, take, drop}
-use Rattle.std.specs.Prelude.{All}
-use Rattle.language.specs.Building.{are_nested, first_pair, pair_after}
+use Rattle.language.proofs.Prelude.{◌≡◌, take, drop, All, are_nested, first_pair, pair_after}
 use Rattle.language.proofs.InOrder.{IsBefore}
 use Rattle.language.proofs.apart.are_in_order.Given as goal
 

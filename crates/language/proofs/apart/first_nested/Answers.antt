@@ -1,5 +1,4 @@
-use Rattle.std.proofs.Common.{◌∙◌, sym}
-use Rattle.language.specs.Building.{are_nested}
+use Rattle.language.proofs.Prelude.{◌∙◌, sym, are_nested}
 use Rattle.language.proofs.Pairs.{pair_found, pair_later, no_pair}
 use Rattle.language.proofs.apart.first_nested.Goals as goal
 

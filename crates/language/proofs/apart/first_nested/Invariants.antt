@@ -1,5 +1,4 @@
-use Rattle.std.proofs.Common.{◌≡◌, take, drop}
-use Rattle.language.specs.Building.{are_nested, first_pair, pair_after}
+use Rattle.language.proofs.Prelude.{◌≡◌, take, drop, are_nested, first_pair, pair_after}
 use Rattle.language.proofs.apart.first_nested.Given as goal
 
 abbrev pub invariant-loop-j : goal.invariant-loop-j

@@ -1,5 +1,4 @@
-use Rattle.std.proofs.Common.{◌∙◌, sym, take}
-use Rattle.assign.specs.Sets.{is_same}
+use Rattle.language.proofs.Prelude.{◌∙◌, sym, take, is_same}
 use Rattle.language.proofs.Pairs.{pair_found, pair_later, no_pair, same_first}
 use Rattle.language.proofs.apart.first_repeated.Goals as goal
 

@@ -1,6 +1,4 @@
-use Rattle.std.proofs.Common.{◌≡◌, take, drop}
-use Rattle.assign.specs.Sets.{is_same}
-use Rattle.language.specs.Building.{first_pair, pair_after}
+use Rattle.language.proofs.Prelude.{◌≡◌, take, drop, is_same, first_pair, pair_after}
 use Rattle.language.proofs.apart.first_repeated.Given as goal
 
 abbrev pub invariant-loop-j : goal.invariant-loop-j

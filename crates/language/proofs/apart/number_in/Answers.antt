@@ -1,4 +1,4 @@
-use Rattle.std.proofs.Common.{◌∙◌, sym}
+use Rattle.language.proofs.Prelude.{◌∙◌, sym}
 use Rattle.language.proofs.InOrder.{digits_on, shorter, none_left}
 use Rattle.language.proofs.apart.number_in.Goals as goal
 

@@ -1,5 +1,4 @@
-use Rattle.std.proofs.Common.{◌≡◌, length}
-use Rattle.language.specs.Building.{digits}
+use Rattle.language.proofs.Prelude.{◌≡◌, length, digits}
 use Rattle.language.proofs.apart.number_in.Given as goal
 
 abbrev pub invariant-loop-rest : goal.invariant-loop-rest

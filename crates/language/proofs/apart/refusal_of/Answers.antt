@@ -1,4 +1,4 @@
-use Rattle.std.proofs.Common.{sym, ◌∙◌, rules}
+use Rattle.language.proofs.Prelude.{sym, ◌∙◌, rules}
 use Rattle.language.proofs.Pairs.{none_repeated}
 use Rattle.language.proofs.apart.refusal_of.Goals as goal
 

@@ -1,7 +1,4 @@
-use Rattle.std.proofs.Common.{subst, sym}
-use Rattle.std.proofs.lemmas.List.Elements.{All-get_or}
-use Rattle.assign.specs.Sets.{IsSet}
-use Rattle.language.specs.Scopes.{variables_in}
+use Rattle.language.proofs.Prelude.{subst, sym, All-get_or, IsSet, variables_in}
 use Rattle.language.proofs.Stated.{all_of}
 use Rattle.language.proofs.apart.sets_of.Goals as goal
 

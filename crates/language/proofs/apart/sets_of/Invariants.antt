@@ -1,5 +1,4 @@
-use Rattle.std.proofs.Common.{◌≡◌, map, take}
-use Rattle.language.specs.Scopes.{variables_in}
+use Rattle.language.proofs.Prelude.{◌≡◌, map, take, variables_in}
 use Rattle.language.proofs.apart.sets_of.Given as goal
 
 abbrev pub invariant-loop-scope : goal.invariant-loop-scope

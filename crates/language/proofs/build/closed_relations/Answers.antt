@@ -1,11 +1,4 @@
-use Rattle.std.proofs.Common.{◌≡◌, ◌-◌, [], get_or, sym, ◌∙◌, subst, arith}
-use Rattle.std.specs.Prelude.{All}
-use Rattle.std.proofs.lemmas.List.{get_or-map, length-map}
-use Rattle.std.proofs.lemmas.List.Elements.{All-map}
-use Rattle.rel_table.specs.Table.{TruthTable, IsTable}
-use Rattle.rel_table.specs.Closing.{IsClosed, IsRefused}
-use Rattle.rel_table.specs.declared.table.CloseFault.TheVariants.{TooMany}
-use Rattle.language.specs.declared.parts.RelPart.{RelPart}
+use Rattle.language.proofs.Prelude.{◌≡◌, ◌-◌, [], get_or, sym, ◌∙◌, subst, arith, All, get_or-map, length-map, All-map, TruthTable, IsTable, IsClosed, IsRefused, TooMany, RelPart}
 use Rattle.language.proofs.Closings.{made, closed_of, refused_for}
 use Rattle.language.proofs.build.closed_relations.Goals as goal
 

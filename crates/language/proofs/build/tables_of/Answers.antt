@@ -1,11 +1,4 @@
-use Rattle.std.proofs.Common.{◌≡◌, [], ◌∷◌, ◌++◌, sym, ◌∙◌, ap, subst}
-use Rattle.std.specs.Prelude.{All}
-use Rattle.std.proofs.lemmas.List.{map_more}
-use Rattle.std.proofs.lemmas.List.Elements.{All-push}
-use Rattle.rel_table.specs.Table.{IsTable}
-use Rattle.rel_table.proofs.Inserting.{meet_itself}
-use Rattle.rel_table.proofs.Same.{same_table_value}
-use Rattle.language.specs.declared.parts.RelPart.{RelPart}
+use Rattle.language.proofs.Prelude.{◌≡◌, [], ◌∷◌, ◌++◌, sym, ◌∙◌, ap, subst, All, map_more, All-push, IsTable, meet_itself, same_table_value, RelPart}
 use Rattle.language.proofs.build.tables_of.Goals as goal
 
 pub loop-rel-preserved : goal.loop-rel-preserved

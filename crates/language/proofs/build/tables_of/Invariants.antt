@@ -1,7 +1,4 @@
-use Rattle.std.proofs.Common.{◌≡◌, map, take}
-use Rattle.std.specs.Prelude.{All}
-use Rattle.rel_table.specs.Table.{IsTable}
-use Rattle.language.specs.declared.parts.RelPart.{RelPart}
+use Rattle.language.proofs.Prelude.{◌≡◌, map, take, All, IsTable, RelPart}
 use Rattle.language.proofs.build.tables_of.Given as goal
 
 abbrev pub invariant-loop-rel : goal.invariant-loop-rel

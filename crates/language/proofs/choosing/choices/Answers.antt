@@ -1,4 +1,4 @@
-use Rattle.std.proofs.Common.{arith}
+use Rattle.language.proofs.Prelude.{arith}
 use Rattle.language.proofs.Pascal.{few_at, pascal}
 use Rattle.language.proofs.choosing.choices.Goals as goal
 

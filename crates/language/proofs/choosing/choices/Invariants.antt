@@ -1,5 +1,4 @@
-use Rattle.std.proofs.Common.{◌≡◌}
-use Rattle.language.specs.Choosing.{choices}
+use Rattle.language.proofs.Prelude.{◌≡◌, choices}
 use Rattle.language.proofs.choosing.choices.Given as goal
 
 abbrev pub invariant-loop : goal.invariant-loop

@@ -1,6 +1,4 @@
-use Rattle.std.proofs.Common.{arith, ap, map, ℕ, List}
-use Rattle.std.specs.Prelude.{slice_index_or}
-use Rattle.language.specs.Inside.{given_by}
+use Rattle.language.proofs.Prelude.{arith, ap, map, ℕ, List, slice_index_or, given_by}
 use Rattle.language.proofs.Pascal.{few_of}
 use Rattle.language.proofs.Adding.{count_of, sum_is, at_most}
 use Rattle.language.proofs.choosing.count_all.Goals as goal

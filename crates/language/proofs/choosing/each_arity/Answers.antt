@@ -1,8 +1,4 @@
-use Rattle.std.proofs.Common.{◌≡◌, ◌<◌, ◌+◌, ◌-◌, ◌++◌, ℕ, List, suc, sym, ◌∙◌, ap, map, append_assoc, arith}
-use Rattle.std.specs.List.{flat_map, range_with_len}
-use Rattle.language.specs.Language.{Given}
-use Rattle.language.specs.Inside.{given_by}
-use Rattle.language.specs.Scopes.{variables_in}
+use Rattle.language.proofs.Prelude.{◌≡◌, ◌<◌, ◌+◌, ◌-◌, ◌++◌, ℕ, List, suc, sym, ◌∙◌, ap, map, append_assoc, arith, flat_map, range_with_len, Given, given_by, variables_in}
 use Rattle.language.proofs.Used.{of_arity}
 use Rattle.language.proofs.choosing.each_arity.Goals as goal
 

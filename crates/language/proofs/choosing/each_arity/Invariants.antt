@@ -1,10 +1,4 @@
-use Rattle.std.proofs.Common.{◌≡◌, ◌≤◌, ◌-◌, ◌++◌, map}
-use Rattle.std.specs.Prelude.{All}
-use Rattle.std.specs.List.{flat_map, range_with_len}
-use Rattle.language.specs.declared.scopes.Scope.{Scope}
-use Rattle.language.specs.Scopes.{variables_in}
-use Rattle.language.specs.Inside.{given_by}
-use Rattle.language.specs.Building.{all_scopes}
+use Rattle.language.proofs.Prelude.{◌≡◌, ◌≤◌, ◌-◌, ◌++◌, map, All, flat_map, range_with_len, Scope, variables_in, given_by, all_scopes}
 use Rattle.language.proofs.Used.{of_arity}
 use Rattle.language.proofs.choosing.each_arity.Given as goal
 

@@ -1,4 +1,4 @@
-use Rattle.std.proofs.Common.{◌∙◌}
+use Rattle.language.proofs.Prelude.{◌∙◌}
 use Rattle.language.proofs.Used.{any_given}
 use Rattle.language.proofs.choosing.has_arity.Goals as goal
 

@@ -1,7 +1,4 @@
-use Rattle.std.proofs.Common.{◌<◌}
-use Rattle.std.specs.Prelude.{All}
-use Rattle.std.proofs.lemmas.List.Elements.{All-get_or}
-use Rattle.language.specs.Scopes.{variables_in}
+use Rattle.language.proofs.Prelude.{◌<◌, All, All-get_or, variables_in}
 use Rattle.language.proofs.Stated.{all_of}
 use Rattle.language.proofs.choosing.one_longer.Goals as goal
 

@@ -1,9 +1,4 @@
-use Rattle.std.proofs.Common.{◌≡◌, ◌+◌, map, take}
-use Rattle.std.specs.Prelude.{All}
-use Rattle.std.specs.List.{flat_map}
-use Rattle.language.specs.declared.scopes.Scope.{Scope}
-use Rattle.language.specs.Scopes.{variables_in}
-use Rattle.language.specs.Choosing.{longer_by}
+use Rattle.language.proofs.Prelude.{◌≡◌, ◌+◌, map, take, All, flat_map, Scope, variables_in, longer_by}
 use Rattle.language.proofs.choosing.one_longer.Given as goal
 
 abbrev pub invariant-loop-scope : goal.invariant-loop-scope

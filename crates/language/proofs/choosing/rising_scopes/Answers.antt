@@ -1,8 +1,4 @@
-use Rattle.std.proofs.Common.{◌<◌, ◌∙◌, ap, sym, subst, map}
-use Rattle.std.specs.Prelude.{All}
-use Rattle.std.specs.List.{flat_map}
-use Rattle.language.specs.Scopes.{variables_in}
-use Rattle.language.specs.Choosing.{longer_by}
+use Rattle.language.proofs.Prelude.{◌<◌, ◌∙◌, ap, sym, subst, map, All, flat_map, variables_in, longer_by}
 use Rattle.language.proofs.Rising.{lists_known, lists_next}
 use Rattle.language.proofs.choosing.rising_scopes.Goals as goal
 

@@ -1,8 +1,4 @@
-use Rattle.std.proofs.Common.{◌≡◌, map}
-use Rattle.std.specs.Prelude.{All}
-use Rattle.language.specs.declared.scopes.Scope.{Scope}
-use Rattle.language.specs.Scopes.{variables_in}
-use Rattle.language.specs.Building.{rising_lists}
+use Rattle.language.proofs.Prelude.{◌≡◌, map, All, Scope, variables_in, rising_lists}
 use Rattle.language.proofs.choosing.rising_scopes.Given as goal
 
 abbrev pub invariant-loop-shorter : goal.invariant-loop-shorter

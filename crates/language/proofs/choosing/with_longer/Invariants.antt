@@ -1,9 +1,4 @@
-use Rattle.std.proofs.Common.{◌≡◌, ◌+◌, ◌-◌, ◌++◌, ◌∷◌, [], map}
-use Rattle.std.specs.Prelude.{All}
-use Rattle.std.specs.List.{range_with_len}
-use Rattle.language.specs.declared.scopes.Scope.{Scope}
-use Rattle.language.specs.Scopes.{variables_in}
-use Rattle.language.specs.Choosing.{longer_by}
+use Rattle.language.proofs.Prelude.{◌≡◌, ◌+◌, ◌-◌, ◌++◌, ◌∷◌, [], map, All, range_with_len, Scope, variables_in, longer_by}
 use Rattle.language.proofs.choosing.with_longer.Given as goal
 
 abbrev pub invariant-loop-v : goal.invariant-loop-v

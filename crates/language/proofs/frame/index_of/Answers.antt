@@ -1,5 +1,4 @@
-use Rattle.std.proofs.Common.{arith}
-use Rattle.std.proofs.lemmas.Int.{ints}
+use Rattle.language.proofs.Prelude.{arith, ints}
 use Rattle.language.proofs.Domains.{domain_is}
 use Rattle.language.proofs.frame.index_of.Goals as goal
 

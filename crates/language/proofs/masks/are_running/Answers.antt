@@ -1,8 +1,4 @@
-use Rattle.std.proofs.Common.{ℕ, ◌+◌, ◌≤◌, ◌<◌, sym, subst}
-use Rattle.std.specs.Prelude.{◌==◌, nat_le, slice_index_or}
-use Rattle.std.specs.Int.{bit_at}
-use Rattle.std.proofs.lemmas.Bool.{le-leb, lt-leb}
-use Rattle.language.specs.Pairs.{changes_of}
+use Rattle.language.proofs.Prelude.{ℕ, ◌+◌, ◌≤◌, ◌<◌, sym, subst, ◌==◌, nat_le, slice_index_or, bit_at, le-leb, lt-leb, changes_of}
 use Rattle.language.proofs.PairMasking.{running_more, running_fails}
 use Rattle.language.proofs.masks.are_running.Goals as goal
 

@@ -1,9 +1,4 @@
-use Rattle.std.proofs.Common.{◌≡◌, ◌+◌, true}
-use Rattle.std.specs.Prelude.{◌==◌, nat_le, slice_index_or}
-use Rattle.std.specs.List.{list_all}
-use Rattle.std.specs.Int.{bit_at}
-use Rattle.assign.specs.Sets.{numbers}
-use Rattle.language.specs.Pairs.{changes_of}
+use Rattle.language.proofs.Prelude.{◌≡◌, ◌+◌, true, ◌==◌, nat_le, slice_index_or, list_all, bit_at, numbers, changes_of}
 use Rattle.language.proofs.masks.are_running.Given as goal
 
 abbrev pub invariant-loop-y : goal.invariant-loop-y

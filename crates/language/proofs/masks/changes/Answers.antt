@@ -1,7 +1,4 @@
-use Rattle.std.proofs.Common.{◌≡◌, ℕ, ◌+◌, ◌-◌, ◌≤◌, Bool, not, sym, ◌∙◌, arith}
-use Rattle.std.specs.Prelude.{◌==◌, slice_index_or}
-use Rattle.std.specs.Bool.{beq}
-use Rattle.std.specs.Int.{bit_at}
+use Rattle.language.proofs.Prelude.{◌≡◌, ℕ, ◌+◌, ◌-◌, ◌≤◌, Bool, not, sym, ◌∙◌, arith, ◌==◌, slice_index_or, beq, bit_at}
 use Rattle.language.proofs.PairMasking.{changes_more, changes_few, change_on, change_off}
 use Rattle.language.proofs.masks.changes.Goals as goal
 use Rattle.language.proofs.masks.changes.Goals.{Joined-differ_at, then-differ_at, else-differ_at}

@@ -1,7 +1,4 @@
-use Rattle.std.proofs.Common.{◌≡◌, ◌+◌}
-use Rattle.std.specs.Prelude.{◌==◌, slice_index_or}
-use Rattle.std.specs.Int.{bit_at}
-use Rattle.language.specs.Pairs.{changes_of}
+use Rattle.language.proofs.Prelude.{◌≡◌, ◌+◌, ◌==◌, slice_index_or, bit_at, changes_of}
 use Rattle.language.proofs.masks.changes.Given as goal
 
 abbrev pub invariant-loop-x : goal.invariant-loop-x

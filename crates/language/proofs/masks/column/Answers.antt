@@ -1,6 +1,4 @@
-use Rattle.std.proofs.Common.{◌+◌, ◌*◌, false, ◌∙◌, arith}
-use Rattle.std.specs.Prelude.{slice_index_or}
-use Rattle.language.specs.Pairs.{go_together}
+use Rattle.language.proofs.Prelude.{◌+◌, ◌*◌, false, ◌∙◌, arith, slice_index_or, go_together}
 use Rattle.language.proofs.ByNames.{no_mask, mask_more}
 use Rattle.language.proofs.masks.column.Goals as goal
 

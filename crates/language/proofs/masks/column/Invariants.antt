@@ -1,4 +1,4 @@
-use Rattle.language.specs.Pairs.{go_together}
+use Rattle.language.proofs.Prelude.{go_together}
 use Rattle.language.proofs.ByNames.{IsMaskOf}
 use Rattle.language.proofs.masks.column.Given as goal
 

@@ -1,7 +1,4 @@
-use Rattle.std.proofs.Common.{◌∙◌, ap}
-use Rattle.std.specs.Prelude.{◌==◌, bit_xor}
-use Rattle.std.specs.Int.{bit_at}
-use Rattle.std.proofs.lemmas.Nat.Bits.{shr_and_one, bit_at_xor, bit_at-lt}
+use Rattle.language.proofs.Prelude.{◌∙◌, ap, ◌==◌, bit_xor, bit_at, shr_and_one, bit_at_xor, bit_at-lt}
 use Rattle.language.proofs.PairMasking.{differ_is}
 use Rattle.language.proofs.masks.differ_at.Goals as goal
 

@@ -1,7 +1,4 @@
-use Rattle.std.proofs.Common.{◌≡◌, ◌+◌}
-use Rattle.std.specs.Prelude.{◌==◌, slice_index_or}
-use Rattle.std.specs.Int.{bit_at}
-use Rattle.language.specs.Pairs.{rejected_of, most_of}
+use Rattle.language.proofs.Prelude.{◌≡◌, ◌+◌, ◌==◌, slice_index_or, bit_at, rejected_of, most_of}
 use Rattle.language.proofs.masks.most_rejected.Given as goal
 
 abbrev pub invariant-loop-x : goal.invariant-loop-x

@@ -1,8 +1,4 @@
-use Rattle.std.proofs.Common.{◌≡◌, ◌+◌, ◌≤◌, cond, not, sym, ◌∙◌, ap, arith}
-use Rattle.std.specs.Prelude.{◌==◌}
-use Rattle.std.specs.Int.{bit_at}
-use Rattle.std.proofs.lemmas.Nat.Bits.{shr_and_one, bit_at-lt}
-use Rattle.language.specs.Pairs.{rejected_of}
+use Rattle.language.proofs.Prelude.{◌≡◌, ◌+◌, ◌≤◌, cond, not, sym, ◌∙◌, ap, arith, ◌==◌, bit_at, shr_and_one, bit_at-lt, rejected_of}
 use Rattle.language.proofs.PairMasking.{rejected_more, rejected_few}
 use Rattle.language.proofs.masks.rejected.Goals as goal
 use Rattle.language.proofs.masks.rejected.Goals.{then-mask-x-eq0, else-mask-x-eq0}

@@ -1,7 +1,4 @@
-use Rattle.std.proofs.Common.{◌≡◌}
-use Rattle.std.specs.Prelude.{◌==◌}
-use Rattle.std.specs.Int.{bit_at}
-use Rattle.language.specs.Pairs.{rejected_of}
+use Rattle.language.proofs.Prelude.{◌≡◌, ◌==◌, bit_at, rejected_of}
 use Rattle.language.proofs.masks.rejected.Given as goal
 
 abbrev pub invariant-loop-x : goal.invariant-loop-x

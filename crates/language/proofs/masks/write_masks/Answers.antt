@@ -1,6 +1,4 @@
-use Rattle.std.proofs.Common.{◌≡◌, ℕ, ◌+◌, ◌*◌, ◌<◌, ◌≤◌, Bool, false, get_or, ◌∙◌, ap, arith}
-use Rattle.std.proofs.lemmas.List.{length-set}
-use Rattle.language.specs.Pairs.{go_together}
+use Rattle.language.proofs.Prelude.{◌≡◌, ℕ, ◌+◌, ◌*◌, ◌<◌, ◌≤◌, Bool, false, get_or, ◌∙◌, ap, arith, length-set, go_together}
 use Rattle.language.proofs.PairMasking.{masks_more, outside_more}
 use Rattle.language.proofs.masks.write_masks.Goals as goal
 

@@ -1,5 +1,4 @@
-use Rattle.std.proofs.Common.{◌≡◌, length}
-use Rattle.language.specs.Pairs.{go_together}
+use Rattle.language.proofs.Prelude.{◌≡◌, length, go_together}
 use Rattle.language.proofs.PairMasking.{AreMasksBelow, AreOutside}
 use Rattle.language.proofs.masks.write_masks.Given as goal
 

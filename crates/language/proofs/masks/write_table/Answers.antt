@@ -1,7 +1,4 @@
-use Rattle.std.proofs.Common.{◌&&◌, ◌≡◌, ℕ, ◌+◌, ◌*◌, ◌∙◌, subst}
-use Rattle.std.specs.Prelude.{◌==◌, slice_index_or}
-use Rattle.std.specs.Int.{bit_at}
-use Rattle.language.specs.Pairs.{go_together, rejected_of, most_of, is_running}
+use Rattle.language.proofs.Prelude.{◌&&◌, ◌≡◌, ℕ, ◌+◌, ◌*◌, ◌∙◌, subst, ◌==◌, slice_index_or, bit_at, go_together, rejected_of, most_of, is_running}
 use Rattle.language.proofs.PairMasking.{bounds_from, running_from}
 use Rattle.language.proofs.masks.write_table.Goals as goal
 

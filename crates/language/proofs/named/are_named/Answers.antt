@@ -1,6 +1,4 @@
-use Rattle.std.proofs.Common.{◌≡◌, ℕ, length, List, Bor, arith, sym, ◌∙◌}
-use Rattle.std.proofs.lemmas.List.{length-map}
-use Rattle.language.specs.ByName.{texts_of}
+use Rattle.language.proofs.Prelude.{◌≡◌, ℕ, length, List, Bor, arith, sym, ◌∙◌, length-map, texts_of}
 use Rattle.language.proofs.ByNames.{named_by, pair_at, differs, agrees, pointwise-ends}
 use Rattle.language.proofs.named.are_named.Goals as goal
 

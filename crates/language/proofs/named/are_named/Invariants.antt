@@ -1,8 +1,4 @@
-use Rattle.std.proofs.Common.{◌≡◌, ℕ, [], drop, map}
-use Rattle.std.specs.Prelude.{string_bytes, slice_index_or}
-use Rattle.std.specs.Str.{bytes_eq}
-use Rattle.std.specs.Cmp.Lexicographic.{pointwise}
-use Rattle.language.specs.ByName.{texts_of}
+use Rattle.language.proofs.Prelude.{◌≡◌, ℕ, [], drop, map, string_bytes, slice_index_or, bytes_eq, pointwise, texts_of}
 use Rattle.language.proofs.named.are_named.Given as goal
 
 abbrev pub invariant-loop-i : goal.invariant-loop-i

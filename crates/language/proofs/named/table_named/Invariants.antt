@@ -1,4 +1,4 @@
-use Rattle.std.proofs.Common.{◌≡◌, drop}
+use Rattle.language.proofs.Prelude.{◌≡◌, drop}
 use Rattle.language.proofs.ByNames.{among}
 use Rattle.language.proofs.named.table_named.Given as goal
 

@@ -1,4 +1,4 @@
-use Rattle.std.proofs.Common.{◌∙◌, [], ◌∷◌, ◌++◌, ap, sym}
+use Rattle.language.proofs.Prelude.{◌∙◌, [], ◌∷◌, ◌++◌, ap, sym}
 use Rattle.language.proofs.Counting.{numbers_more}
 use Rattle.language.proofs.narrow.all_numbers.Goals as goal
 

@@ -1,5 +1,4 @@
-use Rattle.std.proofs.Common.{◌≡◌}
-use Rattle.std.specs.List.{range_with_len}
+use Rattle.language.proofs.Prelude.{◌≡◌, range_with_len}
 use Rattle.language.proofs.narrow.all_numbers.Given as goal
 
 abbrev pub invariant-loop-k : goal.invariant-loop-k

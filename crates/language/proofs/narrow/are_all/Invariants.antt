@@ -1,6 +1,4 @@
-use Rattle.std.proofs.Common.{◌≡◌, drop}
-use Rattle.std.specs.List.{list_all}
-use Rattle.language.specs.Ranges.{is_whole_range}
+use Rattle.language.proofs.Prelude.{◌≡◌, drop, list_all, is_whole_range}
 use Rattle.language.proofs.narrow.are_all.Given as goal
 
 abbrev pub invariant-loop-range : goal.invariant-loop-range

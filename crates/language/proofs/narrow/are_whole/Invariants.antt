@@ -1,5 +1,4 @@
-use Rattle.std.proofs.Common.{◌≡◌, drop}
-use Rattle.language.specs.Ranges.{are_whole}
+use Rattle.language.proofs.Prelude.{◌≡◌, drop, are_whole}
 use Rattle.language.proofs.narrow.are_whole.Given as goal
 
 abbrev pub invariant-loop-v : goal.invariant-loop-v

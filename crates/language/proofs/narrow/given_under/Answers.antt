@@ -1,9 +1,4 @@
-use Rattle.std.proofs.Common.{◌≡◌, ◌∙◌, ap, sym, subst}
-use Rattle.std.specs.Prelude.{All}
-use Rattle.std.proofs.lemmas.List.Elements.{All-push}
-use Rattle.rel_table.specs.Table.{TruthTable}
-use Rattle.language.specs.declared.parts.RelPart.{RelPart}
-use Rattle.language.specs.Inside.{truths}
+use Rattle.language.proofs.Prelude.{◌≡◌, ◌∙◌, ap, sym, subst, All, All-push, TruthTable, RelPart, truths}
 use Rattle.language.proofs.Chosen.{one_cut, none_cut}
 use Rattle.language.proofs.narrow.given_under.Goals as goal
 use Rattle.language.proofs.narrow.given_under.Goals.{then-arity+in_ok-meet+in_ok-push, else-arity}

@@ -1,9 +1,4 @@
-use Rattle.std.proofs.Common.{◌≡◌, map, take}
-use Rattle.std.specs.Prelude.{All}
-use Rattle.rel_table.specs.Relation.{meet}
-use Rattle.rel_table.specs.Table.{TruthTable}
-use Rattle.language.specs.Inside.{given_by, truths}
-use Rattle.language.specs.Building.{relations_of_arity}
+use Rattle.language.proofs.Prelude.{◌≡◌, map, take, All, meet, TruthTable, given_by, truths, relations_of_arity}
 use Rattle.language.proofs.narrow.given_under.Given as goal
 
 abbrev pub invariant-loop-part : goal.invariant-loop-part

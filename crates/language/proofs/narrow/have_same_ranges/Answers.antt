@@ -1,4 +1,4 @@
-use Rattle.std.proofs.Common.{sym}
+use Rattle.language.proofs.Prelude.{sym}
 use Rattle.language.proofs.SameRanges.{other_length}
 use Rattle.language.proofs.narrow.have_same_ranges.Goals as goal
 

@@ -1,5 +1,4 @@
-use Rattle.std.proofs.Common.{◌≡◌, drop}
-use Rattle.language.specs.Ranges.{have_same_ranges}
+use Rattle.language.proofs.Prelude.{◌≡◌, drop, have_same_ranges}
 use Rattle.language.proofs.narrow.have_same_ranges.Given as goal
 
 abbrev pub invariant-loop-i : goal.invariant-loop-i

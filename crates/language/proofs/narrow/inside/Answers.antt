@@ -1,10 +1,4 @@
-use Rattle.std.proofs.Common.{◌≡◌, ◌-◌, ◌+◌, ℕ, drop, length, get_or, ◌∙◌, ap, subst, arith}
-use Rattle.std.specs.Prelude.{IfOk}
-use Rattle.std.proofs.lemmas.List.{get_or_default}
-use Rattle.rel_table.specs.Relation.{Relation}
-use Rattle.rel_table.specs.Table.{TruthTable}
-use Rattle.language.specs.declared.ranges.ValueRange.{ValueRange}
-use Rattle.language.specs.Ranges.{range_in, inside}
+use Rattle.language.proofs.Prelude.{◌≡◌, ◌-◌, ◌+◌, ℕ, drop, length, get_or, ◌∙◌, ap, subst, arith, IfOk, get_or_default, Relation, TruthTable, ValueRange, range_in, inside}
 use Rattle.language.proofs.Within.{fronts, inside-front, length-inside}
 use Rattle.language.proofs.narrow.inside.Goals as goal
 use Rattle.language.proofs.narrow.inside.Goals.{After-deref-2}

@@ -1,5 +1,4 @@
-use Rattle.std.proofs.Common.{◌≡◌, ◌-◌, drop, length}
-use Rattle.language.specs.Ranges.{inside}
+use Rattle.language.proofs.Prelude.{◌≡◌, ◌-◌, drop, length, inside}
 use Rattle.language.proofs.narrow.inside.Given as goal
 
 abbrev pub invariant-loop-k : goal.invariant-loop-k

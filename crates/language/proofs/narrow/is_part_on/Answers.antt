@@ -1,7 +1,4 @@
-use Rattle.std.proofs.Common.{◌≡◌, ℕ, ◌^◌, ◌<◌, Bool, true, false, not, ◌||◌, length, get_or, sym, ◌∙◌, ap, subst, arith, below_more}
-use Rattle.rel_table.specs.Relation.{tuple_at}
-use Rattle.language.specs.Ranges.{are_in, are_whole, widened}
-use Rattle.language.specs.Texts.{is_part}
+use Rattle.language.proofs.Prelude.{◌≡◌, ℕ, ◌^◌, ◌<◌, Bool, true, false, not, ◌||◌, length, get_or, sym, ◌∙◌, ap, subst, arith, below_more, tuple_at, are_in, are_whole, widened, is_part}
 use Rattle.language.proofs.Within.{widened-at, length-widened, widened_where_whole, wholes_from, part_from, not_part, part_is, kept_at}
 use Rattle.language.proofs.narrow.is_part_on.Goals as goal
 use Rattle.language.proofs.narrow.is_part_on.Goals.{After-value_count-value_count, else-at-via-then-at+then-not-at+else-lies_within, else-at-via-then-at+else-not-at, else-at-via-else-at}

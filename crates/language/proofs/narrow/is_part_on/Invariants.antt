@@ -1,6 +1,4 @@
-use Rattle.std.proofs.Common.{◌≡◌, ℕ, ◌<◌, true, false, get_or}
-use Rattle.std.specs.Prelude.{not, ◌||◌}
-use Rattle.language.specs.Ranges.{widened}
+use Rattle.language.proofs.Prelude.{◌≡◌, ℕ, ◌<◌, true, false, get_or, not, ◌||◌, widened}
 use Rattle.language.proofs.narrow.is_part_on.Given as goal
 
 abbrev pub invariant-loop-place : goal.invariant-loop-place

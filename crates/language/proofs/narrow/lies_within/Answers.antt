@@ -1,8 +1,4 @@
-use Rattle.std.proofs.Common.{◌+◌, length, drop, sym, ◌∙◌, ap}
-use Rattle.std.specs.Prelude.{◌&&◌}
-use Rattle.rel_table.specs.Relation.{tuple_at}
-use Rattle.rel_table.proofs.PlaceLemmas.{length-tuple_at}
-use Rattle.language.specs.Ranges.{are_in}
+use Rattle.language.proofs.Prelude.{◌+◌, length, drop, sym, ◌∙◌, ap, ◌&&◌, tuple_at, length-tuple_at, are_in}
 use Rattle.language.proofs.Within.{in_step}
 use Rattle.language.proofs.narrow.lies_within.Goals as goal
 

@@ -1,6 +1,4 @@
-use Rattle.std.proofs.Common.{◌≡◌, drop, length}
-use Rattle.language.specs.Ranges.{are_in}
-use Rattle.rel_table.specs.Relation.{tuple_at}
+use Rattle.language.proofs.Prelude.{◌≡◌, drop, length, are_in, tuple_at}
 use Rattle.language.proofs.narrow.lies_within.Given as goal
 
 abbrev pub invariant-loop-i : goal.invariant-loop-i

@@ -1,10 +1,4 @@
-use Rattle.std.proofs.Common.{◌≡◌, length, map, refl, ap, sym, ◌∙◌, subst}
-use Rattle.std.specs.Prelude.{All, Contains}
-use Rattle.rel_table.specs.Table.{TruthTable}
-use Rattle.rel_table.specs.Closing.{IsClosed, IsRefused}
-use Rattle.language.specs.Ranges.{inside}
-use Rattle.language.specs.Inside.{given_by, truths}
-use Rattle.language.specs.Building.{relations_of_arity}
+use Rattle.language.proofs.Prelude.{◌≡◌, length, map, refl, ap, sym, ◌∙◌, subst, All, Contains, TruthTable, IsClosed, IsRefused, inside, given_by, truths, relations_of_arity}
 use Rattle.language.proofs.Widening.{under}
 use Rattle.language.proofs.Chosen.{same_over, closed_over, never_many, found, chosen}
 use Rattle.language.proofs.narrow.narrow_numbers.Goals as goal

@@ -1,5 +1,4 @@
-use Rattle.std.proofs.Common.{◌≡◌, ℕ, ◌-◌, ◌<◌, length}
-use Rattle.std.specs.Prelude.{slice_index_or}
+use Rattle.language.proofs.Prelude.{◌≡◌, ℕ, ◌-◌, ◌<◌, length, slice_index_or}
 use Rattle.language.proofs.narrow.number_among.Given as goal
 
 abbrev pub invariant-loop-k : goal.invariant-loop-k

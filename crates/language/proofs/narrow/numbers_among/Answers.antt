@@ -1,10 +1,4 @@
-use Rattle.std.proofs.Common.{◌≡◌, ℕ, ◌<◌, List, [], get_or, length, sym, ◌∙◌, ap, subst}
-use Rattle.std.specs.Prelude.{All, Contains, slice_index_or}
-use Rattle.std.proofs.lemmas.List.{get_or-map, take_all}
-use Rattle.std.proofs.lemmas.List.Elements.{All-push}
-use Rattle.rel_table.specs.Relation.{Relation}
-use Rattle.rel_table.specs.Table.{TruthTable}
-use Rattle.language.specs.Inside.{truths}
+use Rattle.language.proofs.Prelude.{◌≡◌, ℕ, ◌<◌, List, [], get_or, length, sym, ◌∙◌, ap, subst, All, Contains, slice_index_or, get_or-map, take_all, All-push, Relation, TruthTable, truths}
 use Rattle.language.proofs.Filled.{filled_more}
 use Rattle.language.proofs.narrow.numbers_among.Goals as goal
 

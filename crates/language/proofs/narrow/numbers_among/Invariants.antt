@@ -1,6 +1,4 @@
-use Rattle.std.proofs.Common.{◌≡◌, ℕ, [], ◌<◌, map, take, length}
-use Rattle.std.specs.Prelude.{All, slice_index_or}
-use Rattle.language.specs.Inside.{truths}
+use Rattle.language.proofs.Prelude.{◌≡◌, ℕ, [], ◌<◌, map, take, length, All, slice_index_or, truths}
 use Rattle.language.proofs.narrow.numbers_among.Given as goal
 
 abbrev pub invariant-loop-table : goal.invariant-loop-table

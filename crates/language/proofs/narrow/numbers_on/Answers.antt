@@ -1,6 +1,4 @@
-use Rattle.std.proofs.Common.{sym, subst, ◌∙◌, map}
-use Rattle.language.specs.Inside.{given_by}
-use Rattle.language.specs.Built.{AreChosen}
+use Rattle.language.proofs.Prelude.{sym, subst, ◌∙◌, map, given_by, AreChosen}
 use Rattle.language.proofs.Within.{wholes_from}
 use Rattle.language.proofs.Chosen.{chosen_whole}
 use Rattle.language.proofs.narrow.numbers_on.Goals as goal

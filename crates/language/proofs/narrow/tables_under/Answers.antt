@@ -1,11 +1,4 @@
-use Rattle.std.proofs.Common.{◌≡◌, ℕ, List, [], ◌∷◌, ◌++◌, get_or, map, take, sym, ◌∙◌, ap, subst}
-use Rattle.std.specs.Prelude.{All}
-use Rattle.std.proofs.lemmas.List.{map_more, map_push, take_all}
-use Rattle.std.proofs.lemmas.List.Elements.{All-push}
-use Rattle.rel_table.specs.Relation.{Relation, meet}
-use Rattle.rel_table.specs.Table.{TruthTable}
-use Rattle.rel_table.specs.Closing.{IsOfKind}
-use Rattle.language.specs.Inside.{truths}
+use Rattle.language.proofs.Prelude.{◌≡◌, ℕ, List, [], ◌∷◌, ◌++◌, get_or, map, take, sym, ◌∙◌, ap, subst, All, map_more, map_push, take_all, All-push, Relation, meet, TruthTable, IsOfKind, truths}
 use Rattle.language.proofs.narrow.tables_under.Goals as goal
 
 pub loop-table-preserved : goal.loop-table-preserved

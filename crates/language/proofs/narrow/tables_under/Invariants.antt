@@ -1,8 +1,4 @@
-use Rattle.std.proofs.Common.{◌≡◌, map, take}
-use Rattle.std.specs.Prelude.{All}
-use Rattle.rel_table.specs.Relation.{meet}
-use Rattle.rel_table.specs.Table.{TruthTable}
-use Rattle.language.specs.Inside.{truths}
+use Rattle.language.proofs.Prelude.{◌≡◌, map, take, All, meet, TruthTable, truths}
 use Rattle.language.proofs.narrow.tables_under.Given as goal
 
 abbrev pub invariant-loop-table : goal.invariant-loop-table

@@ -1,5 +1,4 @@
-use Rattle.std.proofs.Common.{◌≡◌, ◌++◌, ◌∷◌, [], ◌&&◌, Bool, false, map, take, get_or, append_assoc, sym, ◌∙◌, ap}
-use Rattle.std.proofs.lemmas.List.{map_more, take_all}
+use Rattle.language.proofs.Prelude.{◌≡◌, ◌++◌, ◌∷◌, [], ◌&&◌, Bool, false, map, take, get_or, append_assoc, sym, ◌∙◌, ap, map_more, take_all}
 use Rattle.language.proofs.Within.{one_first}
 use Rattle.language.proofs.narrow.with_first.Goals as goal
 use Rattle.language.proofs.narrow.with_first.Goals.{then-is_first, else-is_first}

@@ -1,7 +1,4 @@
-use Rattle.std.proofs.Common.{◌≡◌, ◌++◌, ◌&&◌, map, take}
-use Rattle.std.specs.List.{flat_map}
-use Rattle.assign.specs.Sets.{numbers}
-use Rattle.language.specs.Ranges.{is_in}
+use Rattle.language.proofs.Prelude.{◌≡◌, ◌++◌, ◌&&◌, map, take, flat_map, numbers, is_in}
 use Rattle.language.proofs.narrow.with_first.Given as goal
 
 abbrev pub invariant-loop-x : goal.invariant-loop-x

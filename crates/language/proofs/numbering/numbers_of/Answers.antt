@@ -1,13 +1,4 @@
-use Rattle.std.proofs.Common.{◌≡◌, ℕ, ◌+◌, ◌-◌, ◌^◌, ◌≤◌, List, [], ◌∷◌, ◌++◌, length, map, take, get_or, sym, ◌∙◌, ap, subst, arith}
-use Rattle.std.specs.Prelude.{All}
-use Rattle.std.proofs.lemmas.List.{length-map, length-append, length-take-le, get_or-map, get_or_push, take_more, take_all}
-use Rattle.std.proofs.lemmas.List.Elements.{All-more}
-use Rattle.rel_table.specs.Table.{TruthTable}
-use Rattle.language.specs.declared.scopes.Scope.{Scope}
-use Rattle.language.specs.Scopes.{variables_in}
-use Rattle.language.specs.Language.{IsScope}
-use Rattle.language.specs.Inside.{given_by, scope_in, tables_for}
-use Rattle.language.specs.Built.{AreChosen, AreAll}
+use Rattle.language.proofs.Prelude.{◌≡◌, ℕ, ◌+◌, ◌-◌, ◌^◌, ◌≤◌, List, [], ◌∷◌, ◌++◌, length, map, take, get_or, sym, ◌∙◌, ap, subst, arith, All, length-map, length-append, length-take-le, get_or-map, get_or_push, take_more, take_all, All-more, TruthTable, Scope, variables_in, IsScope, given_by, scope_in, tables_for, AreChosen, AreAll}
 use Rattle.language.proofs.ByScope.{all_more}
 use Rattle.language.proofs.SameRanges.{same_ranges, same_length, chosen_same}
 use Rattle.language.proofs.numbering.numbers_of.Goals as goal

@@ -1,9 +1,4 @@
-use Rattle.std.proofs.Common.{◌≡◌, ◌*◌, ◌-◌, ◌<◌, ◌≤◌, [], map, take, length, get_or}
-use Rattle.std.specs.Prelude.{All}
-use Rattle.language.specs.declared.scopes.Scope.{Scope}
-use Rattle.language.specs.Scopes.{variables_in}
-use Rattle.language.specs.Inside.{given_by}
-use Rattle.language.specs.Built.{AreAll, AreChosen}
+use Rattle.language.proofs.Prelude.{◌≡◌, ◌*◌, ◌-◌, ◌<◌, ◌≤◌, [], map, take, length, get_or, All, Scope, variables_in, given_by, AreAll, AreChosen}
 use Rattle.language.proofs.numbering.numbers_of.Given as goal
 
 abbrev pub invariant-loop-scope : goal.invariant-loop-scope

@@ -1,5 +1,4 @@
-use Rattle.std.proofs.Common.{length, arith, refl}
-use Rattle.std.specs.Prelude.{slice_index_or}
+use Rattle.language.proofs.Prelude.{length, arith, refl, slice_index_or}
 use Rattle.language.proofs.Placing.{one_more, value_fits, below_after, fits_after}
 use Rattle.language.proofs.places.place_of_values.Goals as goal
 

@@ -1,4 +1,4 @@
-use Rattle.std.proofs.Common.{◌≡◌, ◌+◌, ◌^◌, ◌≤◌, drop}
+use Rattle.language.proofs.Prelude.{◌≡◌, ◌+◌, ◌^◌, ◌≤◌, drop}
 use Rattle.language.proofs.Placing.{place_from}
 use Rattle.language.proofs.places.place_of_values.Given as goal
 

@@ -1,8 +1,4 @@
-use Rattle.std.proofs.Common.{◌≤◌, List, ◌∙◌, ap, subst, sym}
-use Rattle.std.specs.Prelude.{All}
-use Rattle.std.proofs.lemmas.List.Elements.{All-push}
-use Rattle.language.specs.declared.scopes.Scope.{Scope}
-use Rattle.language.specs.Scopes.{variables_in}
+use Rattle.language.proofs.Prelude.{◌≤◌, List, ◌∙◌, ap, subst, sym, All, All-push, Scope, variables_in}
 use Rattle.language.proofs.Filled.{filled_more}
 use Rattle.language.proofs.scopes.copies.Goals as goal
 

@@ -1,7 +1,4 @@
-use Rattle.std.proofs.Common.{◌≡◌, ◌≤◌, map, take}
-use Rattle.std.specs.Prelude.{All}
-use Rattle.language.specs.declared.scopes.Scope.{Scope}
-use Rattle.language.specs.Scopes.{variables_in}
+use Rattle.language.proofs.Prelude.{◌≡◌, ◌≤◌, map, take, All, Scope, variables_in}
 use Rattle.language.proofs.scopes.copies.Given as goal
 
 abbrev pub invariant-loop-scope : goal.invariant-loop-scope

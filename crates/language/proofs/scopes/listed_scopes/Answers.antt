@@ -1,7 +1,4 @@
-use Rattle.std.proofs.Common.{◌∙◌, sym, ℕ}
-use Rattle.std.specs.declared.alloc.Global.{Global}
-use Rattle.smallvec.specs.declared.small_vec.SmallVec.{SmallVec}
-use Rattle.language.specs.Building.{is_ordered}
+use Rattle.language.proofs.Prelude.{◌∙◌, sym, ℕ, Global, SmallVec, is_ordered}
 use Rattle.language.proofs.Lawful.{all_pass}
 use Rattle.language.proofs.Listed.{first_is, unordered, many}
 use Rattle.language.proofs.scopes.listed_scopes.Goals as goal

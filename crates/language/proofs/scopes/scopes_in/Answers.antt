@@ -1,6 +1,4 @@
-use Rattle.std.proofs.Common.{ap, map}
-use Rattle.language.specs.Inside.{given_by}
-use Rattle.language.specs.Building.{listed_in}
+use Rattle.language.proofs.Prelude.{ap, map, given_by, listed_in}
 use Rattle.language.proofs.Lawful.{on_ok, none_ordered, refused_so}
 use Rattle.language.proofs.scopes.scopes_in.Goals as goal
 

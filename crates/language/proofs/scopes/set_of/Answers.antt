@@ -1,6 +1,4 @@
-use Rattle.std.proofs.Common.{◌∙◌, ap}
-use Rattle.assign.specs.Sets.{with_member}
-use Rattle.std.specs.Prelude.{slice_index_or}
+use Rattle.language.proofs.Prelude.{◌∙◌, ap, with_member, slice_index_or}
 use Rattle.language.proofs.Stated.{known_at, set_next}
 use Rattle.language.proofs.scopes.set_of.Goals as goal
 

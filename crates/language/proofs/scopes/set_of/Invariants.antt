@@ -1,4 +1,4 @@
-use Rattle.std.proofs.Common.{◌≡◌, take}
+use Rattle.language.proofs.Prelude.{◌≡◌, take}
 use Rattle.language.proofs.scopes.set_of.Given as goal
 
 abbrev pub invariant-loop-v : goal.invariant-loop-v

@@ -1,9 +1,4 @@
-use Rattle.std.proofs.Common.{◌∙◌, ap, sym, map, subst}
-use Rattle.std.specs.Prelude.{All}
-use Rattle.assign.specs.Sets.{IsSet}
-use Rattle.language.specs.Inside.{given_by}
-use Rattle.language.specs.Scopes.{variables_in}
-use Rattle.language.specs.Building.{listed_in, scopes_of, scope_list_refusal}
+use Rattle.language.proofs.Prelude.{◌∙◌, ap, sym, map, subst, All, IsSet, given_by, variables_in, listed_in, scopes_of, scope_list_refusal}
 use Rattle.language.proofs.Lawful.{are_sets, known_in, sound}
 use Rattle.language.proofs.scopes.stated_scopes.Goals as goal
 

@@ -1,9 +1,6 @@
-use Rattle.std.proofs.Common.{arith, ◌≡◌, ◌<◌, ◌∙◌, ◌+◌, ◌∷◌, ◌++◌, if◌then◌else◌, ℕ, ℤ, pos, negsuc, [], List, Result, Ok, Err, w64, of_z, to_z, OnOk, ap, sym, subst, unsigned_abs}
+use Rattle.language.proofs.Prelude.{arith, ◌≡◌, ◌<◌, ◌∙◌, ◌+◌, ◌∷◌, ◌++◌, if◌then◌else◌, ℕ, ℤ, pos, negsuc, [], List, Result, Ok, Err, w64, of_z, to_z, OnOk, ap, sym, subst, unsigned_abs, FitsUnsignedBits, decimal, signed_decimal, to_z-of_z}
 use Rattle.std.specs.Result.{is_ok}
-use Rattle.std.specs.Int.{FitsUnsignedBits}
-use Rattle.std.specs.Fmt.{decimal, signed_decimal}
 use Rattle.std.proofs.lemmas.Fmt.{decimal_digit}
-use Rattle.std.proofs.lemmas.Int.{to_z-of_z}
 use Rattle.language.proofs.texts.add_number.Goals as goal
 
 -- a digit is written as itself

@@ -1,4 +1,4 @@
-use Rattle.std.proofs.Common.{arith}
+use Rattle.language.proofs.Prelude.{arith}
 use Rattle.std.proofs.lemmas.Grind.{common_steps}
 use Rattle.language.proofs.texts.add_value.Goals as goal
 

@@ -1,7 +1,4 @@
-use Rattle.std.proofs.Common.{length, sym, ◌∙◌, ap, List, ℕ}
-use Rattle.std.specs.Prelude.{String, string_bytes}
-use Rattle.std.specs.declared.alloc.Global.{Global}
-use Rattle.language.specs.Ranges.{widened}
+use Rattle.language.proofs.Prelude.{length, sym, ◌∙◌, ap, List, ℕ, String, string_bytes, Global, widened}
 use Rattle.language.proofs.Wording.{joined_from, names_of, joined-from_none, some_names, name_written, name_left_out}
 use Rattle.language.proofs.texts.name_of.Goals as goal
 use Rattle.language.proofs.texts.name_of.Goals.{then-contains+in_ok-add_name, else-contains}

@@ -1,7 +1,4 @@
-use Rattle.std.proofs.Common.{length, ◌≡◌, drop}
-use Rattle.std.specs.Prelude.{string_bytes}
-use Rattle.language.specs.Ranges.{widened}
-use Rattle.language.specs.Texts.{joined}
+use Rattle.language.proofs.Prelude.{length, ◌≡◌, drop, string_bytes, widened, joined}
 use Rattle.language.proofs.Wording.{joined_from, names_of}
 use Rattle.language.proofs.texts.name_of.Given as goal
 

@@ -1,8 +1,4 @@
-use Rattle.std.proofs.Common.{length, ◌≡◌, ◌++◌, drop, map, ◌∷◌, [], ℕ}
-use Rattle.std.specs.Prelude.{string_bytes, slice_index_or}
-use Rattle.std.specs.List.{flat_map}
-use Rattle.language.specs.Ranges.{widened}
-use Rattle.language.specs.Texts.{joined}
+use Rattle.language.proofs.Prelude.{length, ◌≡◌, ◌++◌, drop, map, ◌∷◌, [], ℕ, string_bytes, slice_index_or, flat_map, widened, joined}
 use Rattle.language.proofs.Wording.{names_of}
 use Rattle.language.proofs.texts.text_of_candidate.Given as goal
 

@@ -1,10 +1,4 @@
-use Rattle.std.proofs.Common.{◌≡◌, ◌≤◌, [], ◌∷◌, ◌++◌, ℤ, length, map, sym, ◌∙◌, ap, arith, subst, to_z, of_z, w64}
-use Rattle.std.specs.Prelude.{String, string_bytes}
-use Rattle.std.specs.Fmt.{decimal}
-use Rattle.std.specs.declared.alloc.Global.{Global}
-use Rattle.std.proofs.lemmas.Int.{to_z-of_z}
-use Rattle.std.proofs.lemmas.List.{length-map, get_or-map}
-use Rattle.language.specs.Texts.{values_text}
+use Rattle.language.proofs.Prelude.{◌≡◌, ◌≤◌, [], ◌∷◌, ◌++◌, ℤ, length, map, sym, ◌∙◌, ap, arith, subst, to_z, of_z, w64, String, string_bytes, decimal, Global, to_z-of_z, length-map, get_or-map, values_text}
 use Rattle.language.proofs.Wording.{value_written, all_written, no_names, small_fits}
 use Rattle.language.proofs.texts.text_of_question.Goals as goal
 

@@ -1,7 +1,4 @@
-use Rattle.std.proofs.Common.{◌≡◌, ◌++◌, ◌∷◌, drop, map}
-use Rattle.std.specs.Prelude.{string_bytes}
-use Rattle.std.specs.Fmt.{decimal}
-use Rattle.language.specs.Texts.{values_text}
+use Rattle.language.proofs.Prelude.{◌≡◌, ◌++◌, ◌∷◌, drop, map, string_bytes, decimal, values_text}
 use Rattle.language.proofs.texts.text_of_question.Given as goal
 
 abbrev pub invariant-loop-v : goal.invariant-loop-v

@@ -1,4 +1,4 @@
-use Rattle.std.proofs.Common.{rules}
+use Rattle.acq_io.proofs.Prelude.{rules}
 use Rattle.acq_io.proofs.standard.StdSourceSource.read.Goals as goal
 
 pub returns-in-Ok-clause-kept : goal.returns-in-Ok-clause-kept

@@ -1,12 +1,4 @@
-use Rattle.std.proofs.Common.{◌≡◌, ℕ, map, take, replicate, length, sym, ◌∙◌, ap, subst, arith, rules, to_z, of_z, w64}
-use Rattle.std.specs.Prelude.{All, String, string_bytes}
-use Rattle.std.specs.declared.alloc.Global.{Global}
-use Rattle.std.proofs.lemmas.Int.{to_z-of_z}
-use Rattle.std.proofs.lemmas.List.{length-map, length-replicate, take-replicate}
-use Rattle.std.proofs.lemmas.List.Elements.{All-replicate}
-use Rattle.std.proofs.lemmas.Bool.{eqb-false}
-use Rattle.language.specs.Ranges.{whole_range, IsRange}
-use Rattle.language.specs.Building.{is_domain, values_between}
+use Rattle.language.proofs.Prelude.{◌≡◌, ℕ, map, take, replicate, length, sym, ◌∙◌, ap, subst, arith, rules, to_z, of_z, w64, All, String, string_bytes, Global, to_z-of_z, length-map, length-replicate, take-replicate, All-replicate, eqb-false, whole_range, IsRange, is_domain, values_between}
 use Rattle.language.proofs.Refusals.{bad_domain, good_domain, too_many}
 use Rattle.language.proofs.frame.Frame.new.Goals as goal
 use Rattle.language.proofs.frame.Frame.new.Goals.{After-whole_ranges}

@@ -1,13 +1,4 @@
-use Rattle.std.proofs.Common.{◌≡◌, ◌<◌, pos, ◌+ℤ◌, ◌-ℤ◌, unsigned_abs, take, set, length, sym, ◌∙◌, ap, subst, arith, rules, to_z, of_z, w64}
-use Rattle.std.specs.Prelude.{All, String, string_bytes}
-use Rattle.std.specs.declared.alloc.Global.{Global}
-use Rattle.std.proofs.Math.Seq.{take-set-lt}
-use Rattle.std.proofs.lemmas.Int.{to_z-of_z, ints}
-use Rattle.std.proofs.lemmas.List.{length-set, length-map}
-use Rattle.std.proofs.lemmas.List.Elements.{All-set}
-use Rattle.language.specs.declared.ranges.ValueRange.{ValueRange}
-use Rattle.language.specs.Ranges.{IsRange}
-use Rattle.language.specs.Building.{Frame, is_domain}
+use Rattle.language.proofs.Prelude.{◌≡◌, ◌<◌, pos, ◌+ℤ◌, ◌-ℤ◌, unsigned_abs, take, set, length, sym, ◌∙◌, ap, subst, arith, rules, to_z, of_z, w64, All, String, string_bytes, Global, take-set-lt, to_z-of_z, ints, length-set, length-map, All-set, ValueRange, IsRange, Frame, is_domain}
 use Rattle.language.proofs.Domains.{domain_within}
 use Rattle.language.proofs.Wording.{least_fits}
 use Rattle.language.proofs.frame.Frame.with_range.Goals as goal

@@ -1,10 +1,4 @@
-use Rattle.std.proofs.Common.{◌≡◌, ℕ, ◌<◌, ◌≤◌, ◌⊎◌, inl, inr, false, List, [], length, get_or, sym, ◌∙◌, ap, arith}
-use Rattle.std.specs.Prelude.{◌==◌}
-use Rattle.std.specs.Int.{bit_at}
-use Rattle.std.proofs.lemmas.Bool.{cases_lt}
-use Rattle.std.proofs.Math.ListN.{get_or-eq_default}
-use Rattle.rel_table.specs.Relation.{Relation}
-use Rattle.language.specs.Language.{relations_on}
+use Rattle.language.proofs.Prelude.{◌≡◌, ℕ, ◌<◌, ◌≤◌, ◌⊎◌, inl, inr, false, List, [], length, get_or, sym, ◌∙◌, ap, arith, ◌==◌, bit_at, cases_lt, get_or-eq_default, Relation, relations_on}
 use Rattle.language.proofs.ByNames.{IsMaskOf, no_mask, mask_more}
 use Rattle.language.proofs.lang.Language.accepting.Goals as goal
 

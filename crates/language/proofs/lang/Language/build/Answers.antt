@@ -1,23 +1,6 @@
-use Rattle.std.proofs.Common.{◌≡◌, ℕ, ◌-◌, ◌≤◌, List, [], get_or, take, length, map, ◌^◌, true, sym, ◌∙◌, ap, subst, arith, refl, to_z, of_z, w64}
-use Rattle.std.specs.Prelude.{String, string_bytes, Some, All}
-use Rattle.std.specs.declared.alloc.Global.{Global}
-use Rattle.std.proofs.lemmas.Int.{to_z-of_z}
-use Rattle.std.proofs.lemmas.Bool.{eqb-false}
-use Rattle.std.proofs.lemmas.List.{length-map}
+use Rattle.language.proofs.Prelude.{◌≡◌, ℕ, ◌-◌, ◌≤◌, List, [], get_or, take, length, map, ◌^◌, true, sym, ◌∙◌, ap, subst, arith, refl, to_z, of_z, w64, String, string_bytes, Some, All, Global, to_z-of_z, eqb-false, length-map, RelPart, TruthTable, IsTable, IsOfKind, Scope, Inside, AreScopes, IsClosedOf, AreAll, list_all, is_whole_range, variables_in, has_arity, Frame, IsFrame, listed_in, scopes_of, scopes_refusal, given_by, truths, ArePairMasks}
 use Rattle.std.proofs.lemmas.Result.{err_from_is_err_and}
-use Rattle.language.specs.declared.parts.RelPart.{RelPart}
-use Rattle.rel_table.specs.Table.{TruthTable, IsTable}
-use Rattle.rel_table.specs.Closing.{IsOfKind}
-use Rattle.language.specs.declared.scopes.Scope.{Scope}
-use Rattle.language.specs.declared.lang.Language.TheInside.{Inside}
-use Rattle.language.specs.Built.{AreScopes, IsClosedOf, AreAll}
-use Rattle.std.specs.List.{list_all}
-use Rattle.language.specs.Ranges.{is_whole_range}
-use Rattle.language.specs.Scopes.{variables_in}
 use Rattle.language.proofs.Wording.{least_fits}
-use Rattle.language.specs.Building.{has_arity, Frame, IsFrame, listed_in, scopes_of, scopes_refusal}
-use Rattle.language.specs.Inside.{given_by, truths}
-use Rattle.language.specs.PairMasks.{ArePairMasks}
 use Rattle.language.proofs.Built.{IsMadeOf, sound, built, scopes_fit, refused_scopes, values_of, values_of-over}
 use Rattle.language.proofs.lang.Language.build.Goals as goal
 use Rattle.language.proofs.lang.Language.build.Goals.{In_ok-pairs}

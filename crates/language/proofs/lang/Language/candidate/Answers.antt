@@ -1,6 +1,4 @@
-use Rattle.std.proofs.Common.{◌≡◌, ℕ, ◌≤◌, ◌-◌, true, false, leb, length, List, arith, rules, subst, sym}
-use Rattle.std.specs.List.Sorted.{IsPartitionedBy, IsPartitionPoint}
-use Rattle.std.proofs.lemmas.List.Sorted.{IsPartitionPoint-from_clause}
+use Rattle.language.proofs.Prelude.{◌≡◌, ℕ, ◌≤◌, ◌-◌, true, false, leb, length, List, arith, rules, subst, sym, IsPartitionedBy, IsPartitionPoint, IsPartitionPoint-from_clause}
 use Rattle.language.proofs.Counting.{count}
 use Rattle.language.proofs.Fields.{IsJustAfter, numbers_at, just_after, parted}
 use Rattle.language.proofs.lang.Language.candidate.Goals as goal

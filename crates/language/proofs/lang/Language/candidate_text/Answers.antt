@@ -1,9 +1,4 @@
-use Rattle.std.proofs.Common.{◌≡◌, ◌^◌, ℕ, length, map, sym, ap, subst, ◌∙◌}
-use Rattle.std.specs.Prelude.{All, String, string_bytes}
-use Rattle.std.specs.declared.alloc.Global.{Global}
-use Rattle.language.specs.Language.{Language}
-use Rattle.language.specs.Inside.{given_by}
-use Rattle.language.specs.declared.parts.RelPart.{RelPart}
+use Rattle.language.proofs.Prelude.{◌≡◌, ◌^◌, ℕ, length, map, sym, ap, subst, ◌∙◌, All, String, string_bytes, Global, Language, given_by, RelPart}
 use Rattle.language.proofs.Fields.{some_name, parts_sized, text_here}
 use Rattle.language.proofs.lang.Language.candidate_text.Goals as goal
 

@@ -1,5 +1,4 @@
-use Rattle.std.proofs.Common.{◌≡◌, length, ap, ◌∙◌, arith}
-use Rattle.std.proofs.lemmas.List.{get_or_read}
+use Rattle.language.proofs.Prelude.{◌≡◌, length, ap, ◌∙◌, arith, get_or_read}
 use Rattle.language.proofs.Counting.{count}
 use Rattle.language.proofs.Fields.{numbers_here, length-numbers, length-scopes}
 use Rattle.language.proofs.lang.Language.candidates.Goals as goal

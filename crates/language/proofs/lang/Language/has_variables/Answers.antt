@@ -1,5 +1,4 @@
-use Rattle.std.proofs.Common.{◌≡◌, ◌≤◌, ℕ, List, [], ◌∷◌, length, false, None, refl, sym, ◌∙◌, ap, arith}
-use Rattle.assign.specs.Sets.{is_same, least_of}
+use Rattle.language.proofs.Prelude.{◌≡◌, ◌≤◌, ℕ, List, [], ◌∷◌, length, false, None, refl, sym, ◌∙◌, ap, arith, is_same, least_of}
 use Rattle.language.proofs.lang.Language.has_variables.Goals as goal
 
 -- no scope is empty

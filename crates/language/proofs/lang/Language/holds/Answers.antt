@@ -1,7 +1,4 @@
-use Rattle.std.proofs.Common.{length, ◌≡◌, ◌||◌, not, [], false, sym, ◌∙◌, ap, get_or}
-use Rattle.language.specs.Language.{scope_at, relations_on}
-use Rattle.language.specs.Ranges.{are_in}
-use Rattle.rel_table.specs.Relation.{tuple_at}
+use Rattle.language.proofs.Prelude.{length, ◌≡◌, ◌||◌, not, [], false, sym, ◌∙◌, ap, get_or, scope_at, relations_on, are_in, tuple_at}
 use Rattle.language.proofs.Within.{widened-at, holds_else, holds_there}
 use Rattle.language.proofs.lang.Language.holds.Goals as goal
 use Rattle.language.proofs.lang.Language.holds.Goals.{After-at}

@@ -1,5 +1,4 @@
-use Rattle.std.proofs.Common.{◌≡◌, Bool, true, false, ◌||◌, [], refl, sym, ◌∙◌, ap, get_or}
-use Rattle.language.specs.Language.{scope_at, relations_on}
+use Rattle.language.proofs.Prelude.{◌≡◌, Bool, true, false, ◌||◌, [], refl, sym, ◌∙◌, ap, get_or, scope_at, relations_on}
 use Rattle.language.proofs.Within.{widened-at}
 use Rattle.language.proofs.lang.Language.holds_at.Goals as goal
 use Rattle.language.proofs.lang.Language.holds_at.Goals.{After-table_on-table}

@@ -1,9 +1,4 @@
-use Rattle.std.proofs.Common.{◌≡◌, ℕ, true, length, List, [], sym, ◌∙◌, ap}
-use Rattle.std.specs.List.{list_all}
-use Rattle.rel_table.specs.Relation.{tuple_at}
-use Rattle.rel_table.proofs.PlaceLemmas.{tuple_at-below}
-use Rattle.language.specs.Language.{Language, scope_at}
-use Rattle.language.specs.Ranges.{is_whole_range, are_whole}
+use Rattle.language.proofs.Prelude.{◌≡◌, ℕ, true, length, List, [], sym, ◌∙◌, ap, list_all, tuple_at, tuple_at-below, Language, scope_at, is_whole_range, are_whole}
 use Rattle.language.proofs.Within.{wholes_from, wholes_in, all_within}
 use Rattle.language.proofs.Fields.{lawful_here, known_here}
 use Rattle.language.proofs.lang.Language.is_inside.Goals as goal

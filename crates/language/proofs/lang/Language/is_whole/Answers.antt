@@ -1,7 +1,4 @@
-use Rattle.std.proofs.Common.{◌≡◌, ℕ, true, List, [], sym, ◌∙◌, ap}
-use Rattle.std.specs.List.{list_all}
-use Rattle.language.specs.Language.{Language, scope_at}
-use Rattle.language.specs.Ranges.{is_whole_range}
+use Rattle.language.proofs.Prelude.{◌≡◌, ℕ, true, List, [], sym, ◌∙◌, ap, list_all, Language, scope_at, is_whole_range}
 use Rattle.language.proofs.Within.{wholes_in, whole_by}
 use Rattle.language.proofs.Fields.{lawful_here, known_here}
 use Rattle.language.proofs.lang.Language.is_whole.Goals as goal

@@ -1,4 +1,4 @@
-use Rattle.std.proofs.Common.{arith}
+use Rattle.language.proofs.Prelude.{arith}
 use Rattle.language.proofs.Fields.{numbers_at}
 use Rattle.language.proofs.lang.Language.number_of.Goals as goal
 

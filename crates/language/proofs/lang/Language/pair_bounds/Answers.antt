@@ -1,6 +1,4 @@
-use Rattle.std.proofs.Common.{ℕ, ap, ◌∙◌}
-use Rattle.std.specs.Prelude.{slice_index_or}
-use Rattle.language.specs.declared.masks.PairBounds.{PairBounds}
+use Rattle.language.proofs.Prelude.{ℕ, ap, ◌∙◌, slice_index_or, PairBounds}
 use Rattle.language.proofs.PairMasking.{masks_here}
 use Rattle.language.proofs.lang.Language.pair_bounds.Goals as goal
 

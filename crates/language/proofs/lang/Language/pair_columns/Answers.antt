@@ -1,6 +1,4 @@
-use Rattle.std.proofs.Common.{false, ◌+◌, ◌*◌, ap, ◌∙◌, arith}
-use Rattle.std.specs.Prelude.{◌==◌, slice_index_or}
-use Rattle.std.specs.Int.{bit_at}
+use Rattle.language.proofs.Prelude.{false, ◌+◌, ◌*◌, ap, ◌∙◌, arith, ◌==◌, slice_index_or, bit_at}
 use Rattle.language.proofs.Fields.{lawful_here}
 use Rattle.language.proofs.PairMasking.{window, masks_here}
 use Rattle.language.proofs.lang.Language.pair_columns.Goals as goal

@@ -1,11 +1,4 @@
-use Rattle.std.proofs.Common.{◌≡◌, ◌<◌, ℕ, ◌+◌, ◌-◌, List, [], length, get_or, refl, sym, ◌∙◌, ap, subst, arith}
-use Rattle.std.proofs.lemmas.List.{get_or_read, get_or-map, get_or_default, length-map}
-use Rattle.rel_table.specs.Relation.{Relation}
-use Rattle.rel_table.specs.Table.{TruthTable}
-use Rattle.language.specs.Ranges.{AgreeWithin}
-use Rattle.language.specs.Language.{Language, scope_at, relations_on}
-use Rattle.language.specs.Inside.{truths, pairs_in}
-use Rattle.language.specs.Pairs.{ArePairTables}
+use Rattle.language.proofs.Prelude.{◌≡◌, ◌<◌, ℕ, ◌+◌, ◌-◌, List, [], length, get_or, refl, sym, ◌∙◌, ap, subst, arith, get_or_read, get_or-map, get_or_default, length-map, Relation, TruthTable, AgreeWithin, Language, scope_at, relations_on, truths, pairs_in, ArePairTables}
 use Rattle.language.proofs.Within.{agrees_within}
 use Rattle.language.proofs.Fields.{IsTableAt, table_here, lawful_here, known_here}
 use Rattle.language.proofs.PairMasking.{pairs_same}

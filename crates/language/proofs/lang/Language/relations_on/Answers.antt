@@ -1,5 +1,4 @@
-use Rattle.std.proofs.Common.{◌≡◌, ◌≤◌, ◌-◌, length, arith}
-use Rattle.language.specs.Language.{relations_on}
+use Rattle.language.proofs.Prelude.{◌≡◌, ◌≤◌, ◌-◌, length, arith, relations_on}
 use Rattle.language.proofs.Fields.{count_here, few_here, lawful_here}
 use Rattle.language.proofs.lang.Language.relations_on.Goals as goal
 use Rattle.language.proofs.lang.Language.relations_on.Goals.{After-index-2}

@@ -1,5 +1,4 @@
-use Rattle.std.proofs.Common.{◌≡◌, ◌+◌, ◌≤◌, false, [], slice_index_or, ap, ◌∙◌, arith}
-use Rattle.language.specs.Language.{Language, relations_on}
+use Rattle.language.proofs.Prelude.{◌≡◌, ◌+◌, ◌≤◌, false, [], slice_index_or, ap, ◌∙◌, arith, Language, relations_on}
 use Rattle.language.proofs.ByNames.{no_mask, mask_more}
 use Rattle.language.proofs.Fields.{lawful_here}
 use Rattle.language.proofs.lang.Language.row_on.Goals as goal

@@ -1,5 +1,4 @@
-use Rattle.std.proofs.Common.{◌+◌, false, [], slice_index_or}
-use Rattle.language.specs.Language.{relations_on}
+use Rattle.language.proofs.Prelude.{◌+◌, false, [], slice_index_or, relations_on}
 use Rattle.language.proofs.ByNames.{IsMaskOf}
 use Rattle.language.proofs.lang.Language.row_on.Given as goal
 

@@ -1,5 +1,4 @@
-use Rattle.std.proofs.Common.{sym, subst}
-use Rattle.language.specs.Language.{variable_count, IsScope}
+use Rattle.language.proofs.Prelude.{sym, subst, variable_count, IsScope}
 use Rattle.language.proofs.Fields.{scope_here, room_here}
 use Rattle.language.proofs.lang.Language.scope.Goals as goal
 

@@ -1,5 +1,4 @@
-use Rattle.std.proofs.Common.{[], arith, below_more, sym, ◌∙◌}
-use Rattle.language.specs.ByName.{has_names, texts_of}
+use Rattle.language.proofs.Prelude.{[], arith, below_more, sym, ◌∙◌, has_names, texts_of}
 use Rattle.language.proofs.Fields.{length-scopes}
 use Rattle.language.proofs.ByNames.{position_here, position_nowhere}
 use Rattle.language.proofs.lang.Language.scope_named.Goals as goal

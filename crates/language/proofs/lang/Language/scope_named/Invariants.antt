@@ -1,6 +1,4 @@
-use Rattle.std.proofs.Common.{◌≡◌, ℕ, ◌<◌, false}
-use Rattle.language.specs.Language.{scope_at}
-use Rattle.language.specs.ByName.{has_names, texts_of}
+use Rattle.language.proofs.Prelude.{◌≡◌, ℕ, ◌<◌, false, scope_at, has_names, texts_of}
 use Rattle.language.proofs.lang.Language.scope_named.Given as goal
 
 abbrev pub invariant-loop-s : goal.invariant-loop-s

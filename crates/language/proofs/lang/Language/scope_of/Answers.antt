@@ -1,5 +1,4 @@
-use Rattle.std.proofs.Common.{refl, sym, ◌∙◌, arith}
-use Rattle.language.specs.Language.{scope_at}
+use Rattle.language.proofs.Prelude.{refl, sym, ◌∙◌, arith, scope_at}
 use Rattle.language.proofs.Fields.{length-scopes, found_scope, no_scope}
 use Rattle.language.proofs.Pairs.{same_is}
 use Rattle.language.proofs.lang.Language.scope_of.Goals as goal

@@ -1,6 +1,4 @@
-use Rattle.std.proofs.Common.{◌≡◌, ℕ, ◌<◌, false}
-use Rattle.assign.specs.Sets.{is_same}
-use Rattle.language.specs.Language.{scope_at}
+use Rattle.language.proofs.Prelude.{◌≡◌, ℕ, ◌<◌, false, is_same, scope_at}
 use Rattle.language.proofs.lang.Language.scope_of.Given as goal
 
 abbrev pub invariant-loop-s : goal.invariant-loop-s

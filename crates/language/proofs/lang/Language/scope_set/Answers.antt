@@ -1,6 +1,4 @@
-use Rattle.std.proofs.Common.{sym, subst}
-use Rattle.assign.specs.Sets.{IsSet}
-use Rattle.language.specs.Language.{variable_count}
+use Rattle.language.proofs.Prelude.{sym, subst, IsSet, variable_count}
 use Rattle.language.proofs.Fields.{lawful_here, room_here, scope_here, scope_is_set}
 use Rattle.language.proofs.lang.Language.scope_set.Goals as goal
 

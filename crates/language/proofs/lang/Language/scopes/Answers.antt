@@ -1,4 +1,4 @@
-use Rattle.std.proofs.Common.{arith}
+use Rattle.language.proofs.Prelude.{arith}
 use Rattle.language.proofs.Fields.{lawful_here, length-scopes}
 use Rattle.language.proofs.lang.Language.scopes.Goals as goal
 

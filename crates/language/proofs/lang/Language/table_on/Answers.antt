@@ -1,7 +1,4 @@
-use Rattle.std.proofs.Common.{◌≡◌, ℕ, ◌+◌, List, [], sym, ◌∙◌, ap, subst, arith, get_or}
-use Rattle.std.proofs.lemmas.List.{get_or_read}
-use Rattle.language.specs.Ranges.{AgreeWithin}
-use Rattle.language.specs.Language.{Language, scope_at}
+use Rattle.language.proofs.Prelude.{◌≡◌, ℕ, ◌+◌, List, [], sym, ◌∙◌, ap, subst, arith, get_or, get_or_read, AgreeWithin, Language, scope_at}
 use Rattle.language.proofs.Within.{agrees_within, widened_where_whole, wholes_from}
 use Rattle.language.proofs.Fields.{IsTableAt, table_here, lawful_here, known_here}
 use Rattle.language.proofs.lang.Language.table_on.Goals as goal

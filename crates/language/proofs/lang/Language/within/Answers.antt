@@ -1,8 +1,4 @@
-use Rattle.std.proofs.Common.{◌≡◌, [], get_or, ◌∙◌, ap, arith}
-use Rattle.rel_table.specs.Relation.{Relation}
-use Rattle.language.specs.Ranges.{widened}
-use Rattle.language.specs.Language.{Language, scope_at, relations_on}
-use Rattle.language.specs.Texts.{is_part}
+use Rattle.language.proofs.Prelude.{◌≡◌, [], get_or, ◌∙◌, ap, arith, Relation, widened, Language, scope_at, relations_on, is_part}
 use Rattle.language.proofs.ByNames.{no_mask, mask_more}
 use Rattle.language.proofs.lang.Language.within.Goals as goal
 

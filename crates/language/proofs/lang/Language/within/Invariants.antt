@@ -1,7 +1,4 @@
-use Rattle.std.specs.Prelude.{slice_index_or, []}
-use Rattle.language.specs.Ranges.{widened}
-use Rattle.language.specs.Language.{scope_at, relations_on}
-use Rattle.language.specs.Texts.{is_part}
+use Rattle.language.proofs.Prelude.{slice_index_or, [], widened, scope_at, relations_on, is_part}
 use Rattle.language.proofs.ByNames.{IsMaskOf}
 use Rattle.language.proofs.lang.Language.within.Given as goal
 

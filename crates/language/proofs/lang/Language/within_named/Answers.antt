@@ -1,10 +1,4 @@
-use Rattle.std.proofs.Common.{◌≡◌, length, map, Option, Some, None, sym, ◌∙◌, ap, subst}
-use Rattle.std.specs.Prelude.{option_map}
-use Rattle.rel_table.specs.Relation.{Relation}
-use Rattle.language.specs.Ranges.{widened}
-use Rattle.language.specs.Inside.{given_by}
-use Rattle.language.specs.Language.{Language, of_arity, scope_at}
-use Rattle.language.specs.ByName.{relation_among, relation_named, TellsNamed}
+use Rattle.language.proofs.Prelude.{◌≡◌, length, map, Option, Some, None, sym, ◌∙◌, ap, subst, option_map, Relation, widened, given_by, Language, of_arity, scope_at, relation_among, relation_named, TellsNamed}
 use Rattle.language.proofs.ByNames.{named_sized, among-made}
 use Rattle.language.proofs.Fields.{lawful_here}
 use Rattle.language.proofs.lang.Language.within_named.Goals as goal

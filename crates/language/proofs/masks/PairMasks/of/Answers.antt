@@ -1,10 +1,4 @@
-use Rattle.std.proofs.Common.{◌≡◌, ℕ, ◌+◌, ◌*◌, ◌++◌, ◌∷◌, List, [], length, ap, ◌∙◌, sym, subst, arith}
-use Rattle.std.specs.Prelude.{slice_index_or}
-use Rattle.std.proofs.lemmas.List.{get_or-map, length-map}
-use Rattle.rel_table.specs.Relation.{Relation}
-use Rattle.rel_table.specs.Table.{TruthTable}
-use Rattle.language.specs.Inside.{truths}
-use Rattle.language.specs.PairMasks.{ArePairMasksAt}
+use Rattle.language.proofs.Prelude.{◌≡◌, ℕ, ◌+◌, ◌*◌, ◌++◌, ◌∷◌, List, [], length, ap, ◌∙◌, sym, subst, arith, slice_index_or, get_or-map, length-map, Relation, TruthTable, truths, ArePairMasksAt}
 use Rattle.language.proofs.PairMasking.{AreFirstMasks, table_more, masks_as, written}
 use Rattle.language.proofs.masks.PairMasks.of.Goals as goal
 

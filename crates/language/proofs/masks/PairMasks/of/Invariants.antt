@@ -1,4 +1,4 @@
-use Rattle.language.specs.Inside.{truths}
+use Rattle.language.proofs.Prelude.{truths}
 use Rattle.language.proofs.PairMasking.{AreFirstMasks}
 use Rattle.language.proofs.masks.PairMasks.of.Given as goal
 
