@@ -14,11 +14,11 @@ use Rattle.session_core.specs.Settled.{IsSettled}
 use Rattle.session_store.specs.declared.fault.SFault.{SFault}
 use Rattle.session_store.specs.declared.fault.SFault.TheVariants as store
 use Rattle.session_store.specs.declared.keep.Keep.{Ghosts as KeepOf}
-use Rattle.session_store.specs.Keeping.{HasKept, IsUnmoved, HasSameTerms}
+use Rattle.session_store.specs.Keeping.{HasKept, IsUnmoved, HasSameTerms, calls_for}
 use Rattle.session_store.specs.Keeps.{Keeps, IsKeeping}
 use Rattle.session_store.specs.Kept.{IsAddable, IsTried}
 use Rattle.session_store.specs.Left.{OpensWith, OpensWithOrWithout, LeavesNow}
-use Rattle.session_store.proofs.Keepers.{grown_none, grown_one, one_added, keeps_still, persists_one, fails_one}
+use Rattle.session_store.proofs.Keepers.{calls_one, few_for, grown_none, grown_one, keeps_still, persists_one, fails_one}
 use Rattle.acq_loop.specs.Due.{EventKept, ended_by}
 use Rattle.acq_loop.specs.Heard.{end_of}
 use Rattle.acq_loop.specs.declared.driving.Drove.{Drove}
@@ -70,7 +70,7 @@ module _ {K D : Type 0} (keep : KeepOf K D) (disk : DiskOf D)
       (IsTrue (keep.writes old) → ForSome (disk.content x) (λ _. (c : List ℕ) → disk.may_leave x c → OpensWith (keep.plan old) (keep.voc old) (keep.record_of old) c)) →
       OnOk r HasAdded → OnErr r IsLeft → HasSameTerms keep.lang keep.plan keep.voc keep.writes old new → keep.sits new y → GivesUp r →
       (IsErrOf r store.Memory → (keep.live new ≡ keep.live old) × (y ≡ x)) →
-      (IsErrOf r (store.Journal journal.DiskFault) → IsTrue (keep.writes old) × IsFalse (keep.live new) × Rose (disk.faults x) (disk.faults y)) → GoesOn disk x y → disk.calls y ≤ disk.calls x + 8 → (IsFalse (keep.writes old) → y ≡ x) →
+      (IsErrOf r (store.Journal journal.DiskFault) → IsTrue (keep.writes old) × IsFalse (keep.live new) × Rose (disk.faults x) (disk.faults y)) → GoesOn disk x y → disk.calls y ≤ disk.calls x + calls_for e → (IsFalse (keep.writes old) → y ≡ x) →
       (IsTrue (keep.writes old) → ForSome (disk.content x) (λ _. OnOk r (LeavesNow disk (OpensWith (keep.plan old) (keep.voc old) (keep.record_of new)) y))) →
       (IsTrue (keep.writes old) → ForSome (disk.content x) (λ _. LeavesOnly disk x y (OpensWithOrWithout (keep.plan old) (keep.voc old) (keep.record_of old) e))) →
       Keeps keep disk (end_of r ≡ Some drove.DiskFault) (λ lost. lost ≡ e) old new x y
@@ -84,9 +84,7 @@ module _ {K D : Type 0} (keep : KeepOf K D) (disk : DiskOf D)
     told = on.told;
     cause = λ bad. absurd (not_failed bad);
     grown = grown_one (keep.record_of old) (keep.record_of new) e addable added.added;
-    calls =
-        let one = one_added (keep.record_of old) (keep.record_of new) e added.added (grown_one (keep.record_of old) (keep.record_of new) e addable added.added) in
-        record { each_kept = λ no. omega (arith, few, one); at_most = omega (arith, few) };
+    calls = let one = calls_one (keep.record_of old) (keep.record_of new) e addable added.added in record { each_kept = λ no. omega (arith, few, one); at_most = omega (arith, few, one) };
     unwritten = unwritten;
     persists = λ w bytes told no.
         persists_one disk counts_now only_now (keep.plan old) (keep.voc old) (keep.record_of old) (keep.record_of new) e x y added.added (written w bytes told) (any w bytes told);
@@ -112,7 +110,7 @@ module _ {K D : Type 0} (keep : KeepOf K D) (disk : DiskOf D)
         told = on.told;
         cause = λ so. (why.0, why.2);
         grown = grown_none (keep.record_of old) (keep.record_of new) left.events;
-        calls = record { each_kept = λ no. absurd (no bad); at_most = omega (arith, few) };
+        calls = record { each_kept = λ no. absurd (no bad); at_most = omega (arith, few, few_for e) };
         unwritten = unwritten;
         persists = λ w bytes told no. absurd (no bad);
         fails = λ so.

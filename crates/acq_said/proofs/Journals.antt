@@ -15,6 +15,7 @@ use Rattle.assign.specs.declared.events.Plan.{Plan}
 use Rattle.disk_model.specs.Moments.{LeavesOnly, joined}
 use Rattle.language.specs.Language.{Language, IsLanguage}
 use Rattle.session_store.specs.Left.{OpensWith, OpensWithin, SaysSession, LeavesNow, bytes_told}
+use Rattle.session_store.proofs.Keepers.{few_of}
 use Rattle.session_store.specs.Keeping.{AreEventCalls, IsGrown, Persists, FailsWith}
 use Rattle.session_store.specs.Replay.{HavePlaces}
 use Rattle.session_store.specs.Store.{plan_of, voc_of, events_of, IsThere, opens_there}
@@ -113,7 +114,7 @@ module _ {D : Type 0} (disk : DiskOf D) where
               joined disk first old new (disk.may_leave first) (OpensWithin plan voc events (later ++ last)) (λ c. disk.may_leave first c ⊎ OpensWithin plan voc events (later ++ last) c) opening (f.any_moment bytes (still ∙ told))
               (λ c was. inl was) (λ c opens. inr opens);
           now = λ bytes told. let t = bytes_told (disk.content new) (on bytes (still ∙ told)) in record { bytes = t.0; tells = t.1; each = f.now bytes (still ∙ told) };
-          calls = λ bytes told. omega (arith, few bytes told, calls.at_most, ap length grown.is, length-append events grown.more, length-append later last);
+          calls = λ bytes told. omega (arith, few bytes told, calls.at_most, few_of grown.more, ap length grown.is, length-append events grown.more, length-append later last);
         },
         has,
       ))
@@ -142,7 +143,7 @@ module _ {D : Type 0} (disk : DiskOf D) where
               joined disk first old new (disk.may_leave first) (OpensWithin plan voc events (later ++ [])) (λ c. disk.may_leave first c ⊎ OpensWithin plan voc events (later ++ []) c) opening
               (subst Within (sym same) (p bytes (still ∙ told)).any_moment) (λ c was. inl was) (λ c opens. inr opens);
           now = λ bytes told. let n = (p bytes (still ∙ told)).now in record { bytes = n.bytes; tells = n.tells; each = λ c left. inl (n.each c left) };
-          calls = λ bytes told. omega (arith, few bytes told, calls.each_kept no, ap length grown.is, length-append events grown.more, ap length same);
+          calls = λ bytes told. omega (arith, few bytes told, calls.each_kept no, few_of grown.more, ap length grown.is, length-append events grown.more, ap length same);
         },
         has,
       ))

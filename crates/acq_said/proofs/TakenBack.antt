@@ -12,7 +12,7 @@ use Rattle.assign.specs.declared.events.Event.TheVariants as event
 use Rattle.assign.specs.declared.events.Plan.{Plan}
 use Rattle.disk_model.specs.Moments.{LeavesOnly, joined, weaker}
 use Rattle.session_store.specs.Keeping.{AreEventCalls, IsGrown, Persists, FailsWith}
-use Rattle.session_store.proofs.Keepers.{both_as, within_more}
+use Rattle.session_store.proofs.Keepers.{both_as, few_of, within_more}
 use Rattle.session_store.specs.Left.{OpensWithin, OpensWithOrWithout, bytes_told}
 use Rattle.session_store.specs.Opened.{Opened, OpensOnce}
 use Rattle.session_store.specs.declared.fault.SFault.{SFault}
@@ -119,8 +119,8 @@ module _ {D : Type 0} (disk : DiskOf D) where
       (before : ℕ) (bytes : List ℕ) → AreReadingCalls 5 before (disk.calls old) bytes → AreReadingCalls 13 before (disk.calls new) bytes
   back_calls events later what old new said ends grown calls before bytes few =
       ⊎_elim
-      (λ is. omega (arith, few, calls.at_most, ap length (back_same what events later said ends is), ap length grown.is, length-append events grown.more))
-      (λ no. omega (arith, few, calls.each_kept no, back_grown what events later said ends grown))
+      (λ is. omega (arith, few, calls.at_most, few_of grown.more, ap length (back_same what events later said ends is), ap length grown.is, length-append events grown.more))
+      (λ no. omega (arith, few, calls.each_kept no, few_of grown.more, back_grown what events later said ends grown))
       (disk_lost said)
 
 -- ---- how it ends

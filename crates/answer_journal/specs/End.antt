@@ -1,7 +1,10 @@
 -- Where a journal stands, and on which disk.
-use Rattle.std.specs.Prelude.{ℕ, ◌+◌, ◌<◌, ◌≡◌, ◌⊎◌, Bool, true, false, List, [], ◌∷◌, ◌++◌, length}
+use Rattle.std.specs.Prelude.{ℕ, ◌+◌, ◌<◌, ◌≡◌, ◌⊎◌, Bool, true, false, IsTrue, IsFalse, List, [], ◌∷◌, ◌++◌, length}
+use Rattle.std.specs.Option.{ForSome}
 use Rattle.assign.specs.declared.events.Plan.{Plan}
 use Rattle.assign.specs.declared.events.Event.{Event}
+use Rattle.disk_model.specs.Disk.{Only}
+use Rattle.disk_model.specs.declared.disk.Disk.{Ghosts as DiskOf}
 use Rattle.answer_journal.specs.declared.record.Record.{Record}
 use Rattle.answer_journal.specs.declared.record.Record.TheVariants.{Added, Raising}
 use Rattle.answer_journal.specs.Format.{MOST_RECORDS, written}
@@ -27,6 +30,20 @@ pub record Sits (place : End) (bytes : List ℕ) : Type 0 where
   pub gate : place.at ≡ length (written plan voc records)
   pub count : place.records ≡ length (events_among records) + 1
   pub raised : place.raised ≡ is_raised_after false records
+
+-- The journal may be written. Where the disk tells, the journal stands behind all records of what it tells, and a crash leaves
+-- nothing else.
+pub record IsInPlace {D : Type 0} (disk : DiskOf D) (place : End) (now : D) : Type 0 where
+  pub live : IsTrue place.live
+  pub sits : ForSome (disk.content now) (Sits place)
+  pub durable : ForSome (disk.content now) (λ bytes. Only bytes (disk.may_leave now))
+
+-- The journal stands where it stood, and may not be written any more.
+pub record HasGivenUp (old new : End) : Type 0 where
+  pub at : new.at ≡ old.at
+  pub records : new.records ≡ old.records
+  pub raised : new.raised ≡ old.raised
+  pub not_live : IsFalse new.live
 
 -- so many bytes more the record takes that raises a journal
 abbrev pub room_to_raise : Bool → ℕ

@@ -1,12 +1,12 @@
 //! Making a journal.
 
-ghost use Rattle.std.specs.Prelude.{◌≡◌, ◌≢◌, ◌<◌, ◌≤◌, ◌+◌, ◌^◌, ◌⊎◌, List, [], ◌∷◌, ◌++◌, ℕ, Some, None, IsTrue, IsFalse, IfOk, IfErr, IsErr, IsErrOf, IsSome, OnOk, length};
-ghost use Rattle.std.specs.Option.{ForSome, ForNone};
+ghost use Rattle.std.specs.Prelude.{◌≡◌, ◌≤◌, ◌⊎◌, List, [], ◌∷◌, ◌++◌, ℕ, IsFalse, IfOk, IfErr, IsErrOf, OnOk, length};
+ghost use Rattle.std.specs.Option.{ForSome};
 ghost use Rattle.disk_model.specs.Disk.{Only, Rose, HasCause};
-ghost use Rattle.disk_model.specs.Moments.{LeavesOnly, IsOnDisk, IsOnlyRead};
+ghost use Rattle.disk_model.specs.Moments.{LeavesBehind, IsOnlyRead};
 ghost use Rattle.answer_journal.specs.Format.{MAGIC, plan_byte, session_tail};
 ghost use Rattle.answer_journal.specs.Journal.{IsClosedAfter, HasNoSession};
-ghost use Rattle.answer_journal.specs.End.{Sits};
+ghost use Rattle.answer_journal.specs.End.{IsInPlace};
 ghost use Rattle.answer_journal.specs.Heads.{IsHead};
 ghost use Rattle.answer_journal.specs.Making.{StartsWith, IsCreating, CreateRefused};
 
@@ -29,16 +29,12 @@ pub fn create<D: Disk>(
     voc: &[u8],
 ) -> Result<Journal, JFault>
     requires short { length voc.now ≤ 4194304 }
-    ensures created { ForSome (D.content disk.old) (λ _. OnOk result (IsOnDisk D.Disk disk.new (StartsWith plan voc.now))) }
-    ensures sits { ForSome (D.content disk.new) (λ bytes. IfOk result (λ j. Sits j bytes)) }
-    ensures durable { ForSome (D.content disk.new) (λ bytes. OnOk result (Only bytes (D.may_leave disk.new))) }
-    ensures live { IfOk result (λ j. IsTrue j.live) }
+    // After `Ok` there is the new session. A crash at any moment leaves what it might have left before, or no session, or the
+    // new one with no event.
+    ensures leaves { LeavesBehind D.Disk 9 disk.old disk.new result (λ _. StartsWith plan voc.now) (λ _. IsCreating (D.may_leave disk.old) plan voc.now) }
+    ensures there { IfOk result (λ j. IsInPlace D.Disk j disk.new) }
     ensures records { IfOk result (λ j. j.records ≡ 1) }
     ensures not_raised { IfOk result (λ j. IsFalse j.raised) }
-
-    // A disk that tells goes on telling, and one that doesn't never begins to.
-    ensures silent { ForNone (D.content disk.old) (D.content disk.new ≡ None) }
-    ensures told { ForSome (D.content disk.old) (λ _. IsSome (D.content disk.new)) }
 
     // It is made only where there is no session, and refused by what the bytes say.
     ensures free { ForSome (D.content disk.old) (λ bytes. OnOk result (HasNoSession bytes)) }
@@ -46,16 +42,11 @@ pub fn create<D: Disk>(
     // where the disk tells nothing, by what some bytes say
     ensures some_refusal { IfErr result (λ e. (bytes : List ℕ) × CreateRefused bytes e) }
     ensures failed { IsErrOf result JFault.DiskFault → Rose (D.faults disk.old) (D.faults disk.new) }
-    ensures later { D.faults disk.old ≤ D.faults disk.new }
-    ensures few_calls { D.calls disk.new ≤ D.calls disk.old + 9 }
 
     // Where the disk didn't fail, a refusal leaves the file and each content of a crash as they were. Where the file holds a
     // session or is no journal, it leaves them so whatever failed.
     ensures untouched { IfErr result (λ e. (e ≡ JFault.DiskFault) ⊎ IsOnlyRead D.Disk disk.old disk.new) }
     ensures spared { ForSome (D.content disk.old) (λ bytes. HasNoSession bytes ⊎ IsOnlyRead D.Disk disk.old disk.new) }
-
-    // A crash at any moment leaves what it might have left before, or no session, or the new one with no event.
-    ensures any_moment { ForSome (D.content disk.old) (λ _. LeavesOnly D.Disk disk.old disk.new (IsCreating (D.may_leave disk.old) plan voc.now)) }
 {
     let (head, _) = head_of(disk)?;
     match head {
@@ -74,11 +65,7 @@ fn empty<D: Disk>(disk: &mut D, head: Head) -> Result<(), Failed>
     requires head { ForSome (D.content disk.old) (λ bytes. IsHead bytes head) }
     requires free { (head ≡ Head.Short) ⊎ (head ≡ Head.Closed) }
     requires durable { ForSome (D.content disk.old) (λ bytes. Only bytes (D.may_leave disk.old)) }
-    ensures emptied { ForSome (D.content disk.old) (λ _. OnOk result (IsOnDisk D.Disk disk.new (IsClosedAfter MAGIC))) }
-    ensures any_moment { ForSome (D.content disk.old) (λ _. LeavesOnly D.Disk disk.old disk.new HasNoSession) }
-    ensures silent { ForNone (D.content disk.old) (D.content disk.new ≡ None) }
-    ensures told { ForSome (D.content disk.old) (λ _. IsSome (D.content disk.new)) }
-    ensures few { D.calls disk.new ≤ D.calls disk.old + 2 }
+    ensures leaves { LeavesBehind D.Disk 2 disk.old disk.new result (λ _. IsClosedAfter MAGIC) (λ _. HasNoSession) }
     ensures cause { HasCause (D.faults disk.old) (D.faults disk.new) result }
 {
     match head {

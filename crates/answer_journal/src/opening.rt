@@ -1,12 +1,12 @@
 //! Opening a journal.
 
-ghost use Rattle.std.specs.Prelude.{◌≡◌, ◌<◌, ◌≤◌, ◌+◌, ◌^◌, ◌⊎◌, List, ℕ, Some, None, IsTrue, IfOk, IfErr, IsErrOf, OnOk, All, length};
-ghost use Rattle.std.specs.Option.{ForSome, ForNone};
-ghost use Rattle.disk_model.specs.Disk.{Only, Rose};
-ghost use Rattle.disk_model.specs.Moments.{LeavesOnly};
+ghost use Rattle.std.specs.Prelude.{◌≡◌, ◌<◌, ◌≤◌, ◌+◌, ◌⊎◌, List, ℕ, IfOk, IfErr, IsErrOf, All, length};
+ghost use Rattle.std.specs.Option.{ForSome};
+ghost use Rattle.disk_model.specs.Disk.{Rose};
+ghost use Rattle.disk_model.specs.Moments.{IsOnlyRead};
 ghost use Rattle.answer_journal.specs.Storable.{IsStorableEvent};
 ghost use Rattle.answer_journal.specs.Journal.{ReadsAs, Session};
-ghost use Rattle.answer_journal.specs.End.{Sits};
+ghost use Rattle.answer_journal.specs.End.{IsInPlace};
 ghost use Rattle.answer_journal.specs.Found.{Refused};
 ghost use Rattle.answer_journal.specs.Synced.{IsSynced};
 ghost use Rattle.answer_journal.specs.Calls.{AreReadingCalls};
@@ -41,16 +41,13 @@ const PIECE: usize = 4_194_311;
 pub fn open<D: Disk>(alloc: Global, disk: &mut D) -> Result<Opened, JFault>
     // What is read is what the bytes say, and the journal stands behind it.
     ensures opened { ForSome (D.content disk.old) (λ bytes. IfOk result (λ o. ReadsAs bytes (Session o.plan o.voc.items o.events.items))) }
-    ensures sits { ForSome (D.content disk.old) (λ bytes. IfOk result (λ o. Sits o.journal bytes)) }
-    ensures durable { ForSome (D.content disk.old) (λ bytes. OnOk result (Only bytes (D.may_leave disk.new))) }
-    ensures live { IfOk result (λ o. IsTrue o.journal.live) }
+    ensures there { IfOk result (λ o. IsInPlace D.Disk o.journal disk.new) }
     ensures records { IfOk result (λ o. o.journal.records ≡ length o.events.items + 1) }
     ensures storable { IfOk result (λ o. All IsStorableEvent o.events.items) }
 
     // A refusal is what the bytes say.
     ensures refused { ForSome (D.content disk.old) (λ bytes. IfErr result (λ e. (e ≡ JFault.DiskFault) ⊎ Refused bytes e)) }
     ensures failed { IsErrOf result JFault.DiskFault → Rose (D.faults disk.old) (D.faults disk.new) }
-    ensures later { D.faults disk.old ≤ D.faults disk.new }
 
     // Where the disk tells nothing, either is what some bytes say.
     ensures some_session { IfOk result (λ o. (bytes : List ℕ) × ReadsAs bytes (Session o.plan o.voc.items o.events.items)) }
@@ -62,9 +59,8 @@ pub fn open<D: Disk>(alloc: Global, disk: &mut D) -> Result<Opened, JFault>
     // It makes few calls to the disk: five, and one more for each 4,194,047 bytes of the file.
     ensures few_calls { ForSome (D.content disk.old) (AreReadingCalls 5 (D.calls disk.old) (D.calls disk.new)) }
 
-    // It writes nothing.
-    ensures same { D.content disk.new ≡ D.content disk.old }
-    ensures any_moment { LeavesOnly D.Disk disk.old disk.new (D.may_leave disk.old) }
+    // It writes nothing: the content is the same, and a crash at any moment leaves what it might have left before.
+    ensures only_read { IsOnlyRead D.Disk disk.old disk.new }
 {
     let (head, size) = head_of(disk)?;
     match head {

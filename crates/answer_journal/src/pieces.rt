@@ -42,7 +42,6 @@ pub(crate) fn events_of<D: Disk>(
     ensures some_bytes { IfErr result (λ e. (e ≡ JFault.DiskFault) ⊎ ((bytes : List ℕ) × EventsRefused start bytes e)) }
     ensures read { IfOk result (λ found. WereRead start found.2 found.0.items found.1) }
     ensures failed { IsErrOf result JFault.DiskFault → Rose (D.faults disk.old) (D.faults disk.new) }
-    ensures later { D.faults disk.old ≤ D.faults disk.new }
     ensures only_read { IsOnlyRead D.Disk disk.old disk.new }
     ensures few_calls { ForSome (D.content disk.old) (λ bytes. TakesPieces (length buffer.old) bytes → AreReadingCalls 1 (D.calls disk.old) (D.calls disk.new) bytes) }
 {

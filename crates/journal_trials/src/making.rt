@@ -1,9 +1,7 @@
 //! Journals that are made and added to: their bytes, calls that fail in turn, and crashes.
 
-ghost use Rattle.std.specs.Prelude.{IfOk, IsTrue, OnOk};
-ghost use Rattle.std.specs.Option.{ForSome};
-ghost use Rattle.disk_model.specs.Disk.{Only};
-ghost use Rattle.answer_journal.specs.End.{Sits};
+ghost use Rattle.std.specs.Prelude.{IfOk, OnOk};
+ghost use Rattle.answer_journal.specs.End.{IsInPlace};
 
 use crate::files::{disk_with, fault_text, read_from, read_of};
 use crate::questions::question_in;
@@ -38,12 +36,8 @@ fn plan_in(word: &str) -> Result<Plan, Stop> {
 
 /// Adds an answer, `yes` or `no` and its question.
 fn add_answer<D: Disk>(disk: &mut D, journal: &mut Journal, text: &str) -> Result<(), Stop>
-    requires live { IsTrue journal.old.live }
-    requires sits { ForSome (D.content disk.old) (Sits journal.old) }
-    requires durable { ForSome (D.content disk.old) (λ bytes. Only bytes (D.may_leave disk.old)) }
-    ensures live { OnOk result (IsTrue journal.new.live) }
-    ensures sits { ForSome (D.content disk.new) (λ bytes. OnOk result (Sits journal.new bytes)) }
-    ensures durable { ForSome (D.content disk.new) (λ bytes. OnOk result (Only bytes (D.may_leave disk.new))) }
+    requires { IsInPlace D.Disk journal.old disk.old }
+    ensures { OnOk result (IsInPlace D.Disk journal.new disk.new) }
 {
     let (said, pairs) = text.split_once(' ').unwrap_or((text, ""));
     let Some(question) = question_in(pairs) else {
@@ -59,12 +53,8 @@ fn add_answer<D: Disk>(disk: &mut D, journal: &mut Journal, text: &str) -> Resul
 
 /// Adds an answer, raises the journal, or takes back.
 fn add<D: Disk>(disk: &mut D, journal: &mut Journal, text: &str) -> Result<(), Stop>
-    requires live { IsTrue journal.old.live }
-    requires sits { ForSome (D.content disk.old) (Sits journal.old) }
-    requires durable { ForSome (D.content disk.old) (λ bytes. Only bytes (D.may_leave disk.old)) }
-    ensures live { OnOk result (IsTrue journal.new.live) }
-    ensures sits { ForSome (D.content disk.new) (λ bytes. OnOk result (Sits journal.new bytes)) }
-    ensures durable { ForSome (D.content disk.new) (λ bytes. OnOk result (Only bytes (D.may_leave disk.new))) }
+    requires { IsInPlace D.Disk journal.old disk.old }
+    ensures { OnOk result (IsInPlace D.Disk journal.new disk.new) }
 {
     match text {
         "raise" if !journal.is_raised() => Ok(journal.raise(disk)?),

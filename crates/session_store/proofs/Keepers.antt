@@ -1,18 +1,24 @@
 -- Calls of a keeper, one after another.
-use Rattle.std.proofs.Common.{◌≡◌, ◌≤◌, ◌⊎◌, ⊎_elim, ◌+◌, ℕ, length, IsTrue, List, [], ◌∷◌, ◌++◌, Option, Some, is_some, refl, sym, ◌∙◌, ap, subst, inl, inr, arith, append_assoc, length-append}
+use Rattle.std.proofs.Common.{◌≡◌, ◌≤◌, ◌⊎◌, ⊎_elim, ◌+◌, ◌*◌, ℕ, length, IsTrue, Bool, true, false, List, [], ◌∷◌, ◌++◌, Option, Some, is_some, Result, Ok, Err, refl, sym, ◌∙◌, ap, subst, inl, inr, arith, append_assoc, length-append}
 use Rattle.std.specs.Option.{ForSome}
+use Rattle.std.specs.Prelude.{IfErr, IsErrOf, OnOk}
+use Rattle.std.proofs.lemmas.Result.{IfErr-at_err}
 use Rattle.std.proofs.lemmas.List.{append-nil}
 use Rattle.std.proofs.lemmas.List.Elements.{All-nil, All-cons, All-append}
 use Rattle.assign.specs.Assignment.{Assignment}
 use Rattle.assign.specs.declared.events.Event.{Event}
+use Rattle.assign.specs.declared.events.Event.TheVariants as variant
 use Rattle.assign.specs.declared.events.Plan.{Plan}
+use Rattle.answer_journal.specs.declared.fault.JFault.TheVariants as journal
 use Rattle.disk_model.specs.declared.disk.Disk.{Ghosts as DiskOf}
 use Rattle.disk_model.specs.Disk.{Rose}
-use Rattle.disk_model.specs.Moments.{LeavesOnly, started, joined, weaker}
+use Rattle.disk_model.specs.Moments.{GoesOn, IsOnDisk, LeavesOnly, started, joined, weaker}
 use Rattle.session_store.specs.Kept.{IsAddable, IsTried}
 use Rattle.session_store.specs.Left.{OpensWith, OpensWithOrWithout, OpensWithin, HoldsAtLeast, LeavesNow, bytes_told}
-use Rattle.session_store.specs.Keeping.{IsGrown, Persists, FailsWith}
+use Rattle.session_store.specs.Keeping.{IsGrown, IsNotKept, LeavesEvent, Persists, FailsWith, calls_for, calls_of}
 use Rattle.session_store.specs.Keeps.{Keeps, LosesNone, OnlyPuts}
+use Rattle.session_store.specs.declared.fault.SFault.{SFault}
+use Rattle.session_store.specs.declared.fault.SFault.TheVariants as store
 use Rattle.session_store.specs.declared.keep.Keep.{Ghosts as KeepOf}
 
 -- ---- events
@@ -30,13 +36,27 @@ grown_then one two three first second = record {
   each = All-append IsAddable first.more second.more first.each second.each;
 }
 
--- how many were added
-pub one_added : (before after : List Event) (e : Event) → after ≡ before ++ e ∷ [] → (grown : IsGrown before after) → length grown.more ≡ 1
-one_added before after e is grown = omega (arith, ap length is, ap length grown.is, length-append before (e ∷ []), length-append before grown.more)
+-- how many calls they take
+pub calls_of-append : (one two : List Event) → calls_of (one ++ two) ≡ calls_of one + calls_of two
+calls_of-append [] two = omega arith
+calls_of-append (e ∷ one) two = omega (arith, calls_of-append one two)
 
-pub both_added : (one two three : List Event) (first : IsGrown one two) (second : IsGrown two three) (all : IsGrown one three) → length all.more ≡ length first.more + length second.more
-both_added one two three first second all =
-    omega (arith, ap length first.is, ap length second.is, ap length all.is, length-append one first.more, length-append two second.more, length-append one all.more)
+pub calls_one : (before after : List Event) (e : Event) (addable : IsAddable e) (is : after ≡ before ++ e ∷ []) → calls_of (grown_one before after e addable is).more ≡ calls_for e
+unfolding grown_one
+calls_one before after e addable is = omega arith
+
+calls_then : (one two three : List Event) (first : IsGrown one two) (second : IsGrown two three) → calls_of (grown_then one two three first second).more ≡ calls_of first.more + calls_of second.more
+unfolding grown_then
+calls_then one two three first second = calls_of-append first.more second.more
+
+-- at most eight each
+pub few_for : (e : Event) → calls_for e ≤ 8
+few_for (variant.Answer q said) = omega arith
+few_for variant.Back = omega arith
+
+pub few_of : (events : List Event) → calls_of events ≤ 8 * length events
+few_of [] = omega arith
+few_of (e ∷ events) = omega (arith, few_for e, few_of events)
 
 -- ---- contents
 
@@ -76,6 +96,57 @@ rose_later a b c le rose = omega arith
 
 pub both_as : {A B : Type 0} (P : A → B → Type 0) (a b : A) (v w : B) → a ≡ b → v ≡ w → P a v → P b w
 both_as {A} {B} P a b v w e f p = let One : A → Type 0 = λ x. P x v in let Two : B → Type 0 = λ y. P b y in subst Two f (subst One e p)
+
+-- ---- a call that adds an event
+
+-- why it gives up
+pub kept_faults : {A : Type 0} (r : Result A SFault) (unchanged lost : Type 0) → IfErr r (IsNotKept unchanged lost) → IfErr r (λ e. (e ≡ store.Memory) ⊎ (e ≡ store.Journal journal.DiskFault))
+kept_faults (Ok x) unchanged lost none = tt
+kept_faults (Err store.Memory) unchanged lost so = inl refl
+kept_faults (Err (store.Journal journal.DiskFault)) unchanged lost so = inr refl
+kept_faults (Err (store.Journal journal.Memory)) unchanged lost so = absurd so
+kept_faults (Err (store.Journal journal.SessionThere)) unchanged lost so = absurd so
+kept_faults (Err (store.Journal journal.NoSession)) unchanged lost so = absurd so
+kept_faults (Err (store.Journal journal.NotAJournal)) unchanged lost so = absurd so
+kept_faults (Err (store.Journal (journal.Damaged at))) unchanged lost so = absurd so
+kept_faults (Err (store.Journal journal.TooManyRecords)) unchanged lost so = absurd so
+kept_faults (Err (store.Journal journal.Full)) unchanged lost so = absurd so
+kept_faults (Err (store.Voc fault)) unchanged lost so = absurd so
+kept_faults (Err (store.Stray i)) unchanged lost so = absurd so
+
+pub kept_memory : {A : Type 0} (r : Result A SFault) (unchanged lost : Type 0) → IfErr r (IsNotKept unchanged lost) → IsErrOf r store.Memory → unchanged
+kept_memory r unchanged lost so is = IfErr-at_err (IsNotKept unchanged lost) is so
+
+pub kept_failed : {A : Type 0} (r : Result A SFault) (unchanged lost : Type 0) → IfErr r (IsNotKept unchanged lost) → IsErrOf r (store.Journal journal.DiskFault) → lost
+kept_failed r unchanged lost so is = IfErr-at_err (IsNotKept unchanged lost) is so
+
+-- what it leaves of the disk
+module _ {D T E : Type 0} (disk : DiskOf D) where
+  pub event_goes_on : (writes : Bool) (plan : Plan) (voc : List ℕ) (before : List Event) (e : Event) (old new : D) (r : Result T E) → LeavesEvent disk writes plan voc before e old new r → GoesOn disk old new
+  event_goes_on true plan voc before e old new r left = (left.written refl).goes_on
+  event_goes_on false plan voc before e old new r left =
+      subst (GoesOn disk old) (sym (left.unwritten refl)) (record { later = omega arith; silent = λ none. none; told = λ bytes is. ap is_some is })
+
+  pub event_calls : (writes : Bool) (plan : Plan) (voc : List ℕ) (before : List Event) (e : Event) (old new : D) (r : Result T E) → LeavesEvent disk writes plan voc before e old new r → disk.calls new ≤ disk.calls old + calls_for e
+  event_calls true plan voc before e old new r left = (left.written refl).few_calls
+  event_calls false plan voc before e old new r left = let same : disk.calls new ≡ disk.calls old = ap (λ (d : D). disk.calls d) (left.unwritten refl) in omega (arith, same)
+
+  event_opens : (r : Result T E) (plan : Plan) (voc : List ℕ) (before after : List Event) (e : Event) (new : D) → OnOk r (after ≡ before ++ e ∷ []) → OnOk r (IsOnDisk disk new (OpensWith plan voc (before ++ e ∷ []))) →
+      OnOk r (LeavesNow disk (OpensWith plan voc after) new)
+  event_opens (Ok x) plan voc before after e new added there = record {
+    bytes = there.now;
+    tells = there.tells;
+    each = λ c left. subst (λ (l : List Event). OpensWith plan voc l c) (sym added) (subst (OpensWith plan voc (before ++ e ∷ [])) (sym (there.durable c left)) there.holds);
+  }
+  event_opens (Err f) plan voc before after e new added there = tt
+
+  pub event_now : (writes : Bool) (plan : Plan) (voc : List ℕ) (before after : List Event) (e : Event) (old new : D) (r : Result T E) → LeavesEvent disk writes plan voc before e old new r → OnOk r (after ≡ before ++ e ∷ []) →
+      IsTrue writes → ForSome (disk.content old) (λ _. OnOk r (LeavesNow disk (OpensWith plan voc after) new))
+  event_now writes plan voc before after e old new r left added w bytes told = event_opens r plan voc before after e new added ((left.written w).now bytes told)
+
+  pub event_left : (writes : Bool) (plan : Plan) (voc : List ℕ) (before : List Event) (e : Event) (old new : D) (r : Result T E) → LeavesEvent disk writes plan voc before e old new r →
+      IsTrue writes → ForSome (disk.content old) (λ _. LeavesOnly disk old new (OpensWithOrWithout plan voc before e))
+  event_left writes plan voc before e old new r left w = (left.written w).any_moment
 
 -- ---- calls
 
@@ -184,8 +255,7 @@ module _ {D : Type 0} (disk : DiskOf D)
       cause = λ failed. (sym first.same_writes ∙ (second.cause failed).0, rose_later (disk.faults x) (disk.faults y) (disk.faults z) first.later (second.cause failed).1);
       grown = grown_then (keep.record_of one) (keep.record_of two) (keep.record_of three) first.grown second.grown;
       calls =
-          let grown = grown_then (keep.record_of one) (keep.record_of two) (keep.record_of three) first.grown second.grown in
-          let both = both_added (keep.record_of one) (keep.record_of two) (keep.record_of three) first.grown second.grown grown in
+          let both = calls_then (keep.record_of one) (keep.record_of two) (keep.record_of three) first.grown second.grown in
           record {
             each_kept = λ no. omega (arith, both, first.calls.each_kept (λ bad. bad), second.calls.each_kept no);
             at_most = omega (arith, both, first.calls.each_kept (λ bad. bad), second.calls.at_most);

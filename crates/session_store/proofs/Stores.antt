@@ -1,11 +1,12 @@
 -- A store beside its disk.
 use Rattle.std.proofs.Common.{◌≡◌, ◌<◌, ◌⊎◌, ℕ, length, List, [], ◌∷◌, ◌++◌, Option, Some, None, Result, Ok, Err, IfErr, IsTrue, refl, sym, ◌∙◌, ap, subst, inl, inr}
-use Rattle.std.specs.Option.{ForNone}
+use Rattle.std.specs.Option.{ForNone, ForSome}
 use Rattle.assign.specs.declared.events.Event.{Event}
 use Rattle.assign.specs.declared.events.Plan.{Plan}
 use Rattle.disk_model.specs.Disk.{Only}
-use Rattle.disk_model.specs.Moments.{IsOnDisk, LeavesOnly, started, joined, weaker}
-use Rattle.answer_journal.specs.End.{End, Sits, HasNew, IsOldOrNew, IsSame}
+use Rattle.disk_model.specs.Moments.{IsOnDisk, LeavesBehind}
+use Rattle.disk_model.proofs.Behind.{none_done, behind_as, nothing_behind}
+use Rattle.answer_journal.specs.End.{End, IsInPlace, Sits, HasNew, IsOldOrNew, IsSame}
 use Rattle.answer_journal.specs.Making.{StartsWith, CreateRefused}
 use Rattle.answer_journal.specs.Found.{Refused}
 use Rattle.answer_journal.specs.declared.fault.JFault.{JFault}
@@ -16,7 +17,8 @@ use Rattle.session_laws.specs.Session.{Stray}
 use Rattle.voc_read.specs.Vocabulary.{IsVocabulary, refusal_of_vocabulary}
 use Rattle.voc_read.specs.declared.fault.VocFault.{VocFault}
 use Rattle.session_store.specs.Faults.{of_journal}
-use Rattle.std.specs.Prelude.{All, OnOk}
+use Rattle.std.specs.Prelude.{◌≤◌, All, Bool, true, IsErr, IsErrAnd, IsErrOf, IsFalse, OnOk}
+use Rattle.std.proofs.lemmas.Result.{on_ok_weaker}
 use Rattle.disk_model.specs.declared.disk.Disk.{Ghosts as DiskOf}
 use Rattle.session_store.specs.Held.{lang_in, plan_in, StandsIn, events_held, IsHeld, IsWide}
 use Rattle.session_store.specs.Opening.{NoLanguage, NotLed, NotMade, NotOpened}
@@ -25,7 +27,8 @@ use Rattle.session_store.specs.declared.fault.SFault.{SFault}
 use Rattle.session_store.specs.declared.fault.SFault.TheVariants as store
 use Rattle.session_store.specs.declared.held.Held.{Held}
 use Rattle.session_store.proofs.Replaying.{both_same}
-use Rattle.session_store.specs.Left.{SaysSession, OpensWith, OpensWithOrWithout, LeavesNow}
+use Rattle.session_store.specs.Left.{SaysSession, OpensWith, OpensWithOrWithout}
+use Rattle.session_store.specs.Keeping.{IsNotKept, LeavesEvent, calls_for}
 use Rattle.session_store.specs.Store.{IsThere, SitsOn, plan_of, voc_of, events_of, opens_there}
 use Rattle.session_store.specs.declared.store.Store.{Store}
 
@@ -33,6 +36,16 @@ use Rattle.session_store.specs.declared.store.Store.{Store}
 pub on_ok : {A E P Q : Type 0} (r : Result A E) → (P → Q) → OnOk r P → OnOk r Q
 on_ok (Ok x) then h = then h
 on_ok (Err e) then h = tt
+
+-- an append gave up with the disk, where it had room
+pub append_failed : {P : Type 0} (r : Result (Unit {0}) JFault) → IfErr r (λ e. (e ≡ journal.Full) ⊎ (e ≡ journal.DiskFault)) → (IsErrOf r journal.Full → ⊥) → (IsErrOf r journal.DiskFault → P) → IfErr r (λ _. P)
+append_failed (Ok x) faults room disk = tt
+append_failed (Err e) (inl full) room disk = absurd (room (ap (λ (f : JFault). Err f) full))
+append_failed (Err e) (inr failed) room disk = disk (ap (λ (f : JFault). Err f) failed)
+
+pub on_err : {A E P : Type 0} (r : Result A E) → (IsErr r → P) → IfErr r (λ _. P)
+on_err (Ok x) h = tt
+on_err (Err e) h = h refl
 
 -- it is there by the same plan and the same events
 pub there_as : (place : End) (p q : Plan) (voc : List ℕ) (e f : List Event) (may_leave : List ℕ → Type 0) (bytes : List ℕ) → p ≡ q → e ≡ f → IsThere place p voc e may_leave bytes → IsThere place q voc f may_leave bytes
@@ -50,52 +63,45 @@ sits_as old new content may_leave journal voc plan events sits live bytes told =
     there_as new.journal (plan_of old) (plan_of new) (voc_of new) (events_of old) (events_of new) may_leave bytes plan events
     (subst Two voc (subst One journal (sits (subst Placed (sym journal) live) bytes told)))
 
+true_is_not_false : IsFalse true → ⊥
+true_is_not_false e = cc
+
+-- the journal of a live store is in its place
+pub in_place : {D : Type 0} (disk : DiskOf D) (keep : Store) (d : D) → IsTrue keep.journal.live → SitsOn keep (disk.content d) (disk.may_leave d) → IsInPlace disk keep.journal d
+in_place disk keep d live sits = record { live = live; sits = λ bytes told. (sits live bytes told).behind; durable = λ bytes told. (sits live bytes told).durable }
+
 module _ {D : Type 0} (disk : DiskOf D)
     (only_now : (d : D) (c : List ℕ) → disk.left_since d (disk.moment d) c → disk.may_leave d c) where
-  -- nothing was done
-  pub nothing_left : (place : End) (plan : Plan) (voc : List ℕ) (events : List Event) (e : Event) (d : D) (bytes : List ℕ) → IsThere place plan voc events (disk.may_leave d) bytes →
-      LeavesOnly disk d d (OpensWithOrWithout plan voc events e)
-  nothing_left place plan voc events e d bytes there =
-      started disk d (OpensWithOrWithout plan voc events e) (λ c left. inl (opens_there place plan voc events (disk.may_leave d) bytes c there (only_now d c left)))
+  -- nothing was done to a disk where the journal is in its place
+  pub same_behind : (place : End) (d : D) → IsInPlace disk place d → LeavesBehind {D = D} {T = Unit {0}} {E = JFault} disk 4 d d (Ok tt) IsSame IsSame
+  same_behind place d there = nothing_behind disk 4 d (Ok tt) IsSame IsSame (only_now d)
+      (λ b told. record { now = b; tells = told; durable = there.durable b told; holds = λ plan voc events spelled. spelled })
+      (λ b c told left. subst (IsSame b) (sym (there.durable b told c left)) (λ plan voc events spelled. spelled))
 
-  -- what the append said, of this plan and these events
-  pub left_by_append : (place : End) (plan : Plan) (voc : List ℕ) (events : List Event) (e : Event) (old new : D) (bytes : List ℕ) → IsThere place plan voc events (disk.may_leave old) bytes →
-      LeavesOnly disk old new (IsOldOrNew bytes e) → LeavesOnly disk old new (OpensWithOrWithout plan voc events e)
-  left_by_append place plan voc events e old new bytes there any =
-      weaker disk old new (IsOldOrNew bytes e) (OpensWithOrWithout plan voc events e) any (λ c either. either plan voc events there.opens)
-
-  -- nothing was done to a disk that tells
-  pub same_now : (d : D) (bytes : List ℕ) → disk.content d ≡ Some bytes → Only bytes (disk.may_leave d) → IsOnDisk disk d (IsSame bytes)
-  same_now d bytes told durable = record { now = bytes; tells = told; durable = durable; holds = λ plan voc events spelled. spelled }
-
-  pub same_left : (d : D) (bytes : List ℕ) → Only bytes (disk.may_leave d) → LeavesOnly disk d d (IsSame bytes)
-  same_left d bytes durable =
-      started disk d (IsSame bytes) (λ c left. subst (IsSame bytes) (sym (durable c (only_now d c left))) (λ plan voc events spelled. spelled))
-
-  -- first a journal was raised, and then an event was added
-  pub added_after : (bytes here : List ℕ) (e : Event) (new : D) → IsSame bytes here → IsOnDisk disk new (HasNew here e) → IsOnDisk disk new (HasNew bytes e)
-  added_after bytes here e new same added = record {
-    now = added.now;
-    tells = added.tells;
-    durable = added.durable;
-    holds = λ plan voc events spelled. added.holds plan voc events (same plan voc events spelled);
+  -- an event that wasn't added, and one that a journal was asked to add
+  pub event_left_out : {T E : Type 0} (Q : E → Type 0) (place : End) (plan : Plan) (voc : List ℕ) (events : List Event) (e : Event) (d : D) (r : Result T E) → ForSome (disk.content d) (IsThere place plan voc events (disk.may_leave d)) →
+      IsErrAnd r Q → LeavesEvent disk true plan voc events e d d r
+  event_left_out Q place plan voc events e d r there failed = record {
+    unwritten = λ no. refl;
+    written = λ w.
+        nothing_behind disk (calls_for e) d r (λ _. OpensWith plan voc (events ++ e ∷ [])) (λ _. OpensWithOrWithout plan voc events e) (only_now d)
+        (λ b told. none_done _ _ r failed) (λ b c told left. inl (opens_there place plan voc events (disk.may_leave d) b c (there b told) left));
   }
 
-  -- where the raising failed, and where the adding behind it did
-  pub left_by_raising : (bytes : List ℕ) (e : Event) (old new : D) → LeavesOnly disk old new (IsSame bytes) → LeavesOnly disk old new (IsOldOrNew bytes e)
-  left_by_raising bytes e old new any = weaker disk old new (IsSame bytes) (IsOldOrNew bytes e) any (λ c same plan voc events spelled. inl (same plan voc events spelled))
+  pub event_written : {T E U F : Type 0} (n : ℕ) (place : End) (plan : Plan) (voc : List ℕ) (events : List Event) (e : Event) (old new : D) (r : Result T E) (s : Result U F) → ForSome (disk.content old) (IsThere place plan voc events (disk.may_leave old)) →
+      LeavesBehind disk n old new r (λ b. HasNew b e) (λ b. IsOldOrNew b e) → n ≤ calls_for e → ((P : Type 0) → OnOk r P → OnOk s P) → LeavesEvent disk true plan voc events e old new s
+  event_written n place plan voc events e old new r s there left few gives = record {
+    unwritten = λ no. absurd (true_is_not_false no);
+    written = λ w.
+        behind_as disk n (calls_for e) old new r s (λ b. HasNew b e) (λ b. IsOldOrNew b e) (λ _. OpensWith plan voc (events ++ e ∷ [])) (λ _. OpensWithOrWithout plan voc events e) left few
+        (λ b told. gives _ (on_ok_weaker r (λ t. record { now = t.now; tells = t.tells; durable = t.durable; holds = t.holds plan voc events (there b told).opens }) (left.now b told)))
+        (λ b c told either. either plan voc events (there b told).opens);
+  }
 
-  pub left_after : (bytes here : List ℕ) (e : Event) (old mid new : D) → IsSame bytes here → LeavesOnly disk old mid (IsSame bytes) → LeavesOnly disk mid new (IsOldOrNew here e) →
-      LeavesOnly disk old new (IsOldOrNew bytes e)
-  left_after bytes here e old mid new same first second =
-      joined disk old mid new (IsSame bytes) (IsOldOrNew here e) (IsOldOrNew bytes e) first second
-      (λ c kept plan voc events spelled. inl (kept plan voc events spelled)) (λ c either plan voc events spelled. either plan voc events (same plan voc events spelled))
-
-  pub now_by_append : (place : End) (plan : Plan) (voc : List ℕ) (events : List Event) (e : Event) (old new : D) (bytes : List ℕ) → IsThere place plan voc events (disk.may_leave old) bytes →
-      IsOnDisk disk new (HasNew bytes e) → LeavesNow disk (OpensWith plan voc (events ++ e ∷ [])) new
-  now_by_append place plan voc events e old new bytes there settled =
-      let opens : OpensWith plan voc (events ++ e ∷ []) settled.now = settled.holds plan voc events there.opens in
-      record { bytes = settled.now; tells = settled.tells; each = λ c left. subst (OpensWith plan voc (events ++ e ∷ [])) (sym (settled.durable c left)) opens }
+-- memory was wanting, and nothing was changed
+pub want_of_memory : {A : Type 0} (unchanged lost : Type 0) (r : Result A SFault) → IsErrAnd r (λ e. e ≡ store.Memory) → unchanged → IfErr r (IsNotKept unchanged lost)
+want_of_memory unchanged lost (Ok x) want same = tt
+want_of_memory unchanged lost (Err e) want same = subst (IsNotKept unchanged lost) (sym want) same
 
 -- a disk that tells now told before
 pub told_before : (old new : Option (List ℕ)) → ForNone old (new ≡ None) → (bytes : List ℕ) → new ≡ Some bytes → (b : List ℕ) × (old ≡ Some b)
@@ -180,6 +186,10 @@ not_opened bytes journal.Full (inl failed) = absurd cc
 not_opened bytes journal.Full (inr refused) = absurd refused
 not_opened bytes journal.DiskFault either = tt
 not_opened bytes journal.Memory either = tt
+
+pub some_not_opened : (fault : JFault) → (fault ≡ journal.DiskFault) ⊎ ((bytes : List ℕ) × Refused bytes fault) → (bytes : List ℕ) × NotOpened bytes (of_journal fault)
+some_not_opened fault (inl failed) = ([], not_opened [] fault (inl failed))
+some_not_opened fault (inr (bytes, refused)) = (bytes, not_opened bytes fault (inr refused))
 
 -- why its vocabulary is no language
 pub no_language : (plan : Plan) (voc : List ℕ) (events : List Event) (fault : SFault) → NoLanguage voc fault → NotLed plan voc events fault

@@ -1,16 +1,20 @@
 -- What the calls of a keeper, one after another, have done to it and to its disk.
-use Rattle.std.specs.Prelude.{◌≡◌, ◌≤◌, ◌+◌, ◌*◌, ℕ, Bool, IsTrue, List, ◌∷◌, [], ◌++◌, length, Option, All}
+use Rattle.std.specs.Prelude.{◌≡◌, ◌≤◌, ◌+◌, ℕ, Bool, IsTrue, IsFalse, List, ◌∷◌, [], ◌++◌, Option, All, Result}
 use Rattle.std.specs.Option.{ForSome}
 use Rattle.assign.specs.Assignment.{Assignment}
 use Rattle.assign.specs.declared.events.Event.{Event}
+use Rattle.assign.specs.declared.events.Event.TheVariants as variant
 use Rattle.assign.specs.declared.events.Plan.{Plan}
 use Rattle.language.specs.Language.{Language}
 use Rattle.language.specs.Answers.{standing_on}
 use Rattle.disk_model.specs.declared.disk.Disk.{Ghosts as DiskOf}
-use Rattle.disk_model.specs.Moments.{LeavesOnly}
+use Rattle.disk_model.specs.Moments.{LeavesBehind, LeavesOnly}
+use Rattle.answer_journal.specs.declared.fault.JFault.TheVariants as journal
 use Rattle.session_core.specs.Settled.{IsSettled}
 use Rattle.session_store.specs.Kept.{IsAddable, IsTried}
 use Rattle.session_store.specs.Left.{OpensWith, OpensWithOrWithout, OpensWithin, LeavesNow}
+use Rattle.session_store.specs.declared.fault.SFault.{SFault}
+use Rattle.session_store.specs.declared.fault.SFault.TheVariants as store
 
 -- ---- one call that adds an event
 
@@ -24,6 +28,21 @@ pub record HasKept (l : Language) (plan : Plan) (before after : List Event) (eve
 pub record IsUnmoved (before after : List Event) (was put : Option Assignment) : Type 0 where
   pub events : after ≡ before
   pub question : put ≡ was
+
+-- Why an event isn't kept, and what follows of it: memory is wanting, or the disk failed.
+abbrev pub IsNotKept : (unchanged lost : Type 0) → SFault → Type 0
+IsNotKept unchanged lost store.Memory = unchanged
+IsNotKept unchanged lost (store.Journal journal.DiskFault) = lost
+IsNotKept unchanged lost other = ⊥
+
+-- how many calls of a disk an event takes at most: before a take-back a journal may have to be raised
+abbrev pub calls_for : Event → ℕ
+calls_for (variant.Answer question said) = 4
+calls_for variant.Back = 8
+
+abbrev pub calls_of : List Event → ℕ
+calls_of [] = 0
+calls_of (e ∷ events) = calls_for e + calls_of events
 
 -- What no call changes.
 pub record HasSameTerms {K : Type 0} (lang : K → Language) (plan : K → Plan) (voc : K → List ℕ) (writes : K → Bool) (old new : K) : Type 0 where
@@ -42,16 +61,22 @@ pub record IsGrown (before after : List Event) : Type 0 where
 
 -- the meanings of a disk
 module _ {D : Type 0} (disk : DiskOf D) where
+  -- What a call that adds an event leaves of the disk. Where nothing is written, the disk isn't touched. Else after `Ok` the
+  -- file opens with the event as its last, and a crash at any moment leaves the events from before, with it or without.
+  pub record LeavesEvent {T E : Type 0} (writes : Bool) (plan : Plan) (voc : List ℕ) (before : List Event) (event : Event) (old new : D) (result : Result T E) : Type 0 where
+    pub unwritten : IsFalse writes → new ≡ old
+    pub written : IsTrue writes → LeavesBehind disk (calls_for event) old new result (λ _. OpensWith plan voc (before ++ event ∷ [])) (λ _. OpensWithOrWithout plan voc before event)
+
   -- Since the disk was the old one, some events were added. A crash at any moment since then leaves those from before and a
   -- front of the new ones, and a crash now leaves all of them.
   pub record Persists (plan : Plan) (voc : List ℕ) (before after : List Event) (old new : D) : Type 0 where
     pub now : LeavesNow disk (OpensWith plan voc after) new
     pub any_moment : LeavesOnly disk old new (OpensWithin plan voc before after)
 
-  -- At most eight calls were made for each of these events, which were added, and for one whose adding failed.
+  -- No more calls were made than these events take, which were added, and eight for one whose adding failed.
   pub record AreEventCalls (has_failed : Type 0) (added : List Event) (old new : D) : Type 0 where
-    pub each_kept : (has_failed → ⊥) → disk.calls new ≤ disk.calls old + 8 * length added
-    pub at_most : disk.calls new ≤ disk.calls old + 8 * length added + 8
+    pub each_kept : (has_failed → ⊥) → disk.calls new ≤ disk.calls old + calls_of added
+    pub at_most : disk.calls new ≤ disk.calls old + calls_of added + 8
 
   -- The disk failed while an event was added, of which this is known: that of an answer to the question that is put, or a
   -- take-back. Where the disk told what it held, a crash leaves it as the last event, or leaves it out.

@@ -1,5 +1,5 @@
 -- What a session over a journal is.
-use Rattle.std.specs.Prelude.{ℕ, ◌≡◌, ◌+◌, Bool, IsTrue, List, length, Option}
+use Rattle.std.specs.Prelude.{ℕ, ◌≡◌, ◌+◌, Bool, IsTrue, List, [], length, Option, None}
 use Rattle.std.specs.Option.{ForSome}
 use Rattle.std.proofs.Common.{subst, sym}
 use Rattle.assign.specs.Assignment.{Assignment}
@@ -37,6 +37,14 @@ pub record IsSound (store : Store) : Type 0 where
   pub held : IsHeld store.held
   pub read : IsVocabulary (voc_of store) (lang_of store)
   pub count : IsTrue (is_live_in store) → store.journal.records ≡ length (events_of store) + 1
+
+-- A store of this plan and these bytes of a vocabulary, to which events may be added. It has none, and no question is put.
+pub record IsMadeOf (asked : Plan) (given : List ℕ) (store : Store) : Type 0 where
+  pub plan : plan_of store ≡ asked
+  pub voc : voc_of store ≡ given
+  pub events : events_of store ≡ []
+  pub idle : question_of store ≡ None
+  pub live : IsTrue (is_live_in store)
 
 -- The bytes open with the session and its events, the journal stands behind them, and a crash leaves nothing else.
 pub record IsThere (place : End) (plan : Plan) (voc : List ℕ) (events : List Event) (may_leave : List ℕ → Type 0) (bytes : List ℕ) : Type 0 where

@@ -1,4 +1,4 @@
-ghost use Rattle.std.specs.Prelude.{◌≡◌, ◌≢◌, ◌<◌, ◌≤◌, All, ◌+◌, ◌⊎◌, ◌↔◌, [], ℕ, Bool, List, Option, Some, None, OnOk, OnErr, IfErr, IsErrOf, IsSome, IsTrue, IsFalse, length};
+ghost use Rattle.std.specs.Prelude.{◌≡◌, ◌≢◌, ◌<◌, All, ◌+◌, ◌↔◌, [], ℕ, Bool, List, Option, Some, None, OnOk, OnErr, IfErr, IsSome, IsTrue, IsFalse, length};
 ghost use Rattle.std.specs.Option.{ForSome};
 ghost use Rattle.assign.specs.Assignment.{Assignment};
 ghost use Rattle.assign.specs.Events.{standing};
@@ -7,16 +7,14 @@ ghost use Rattle.assign.specs.declared.events.Plan.{Plan};
 ghost use Rattle.language.specs.Language.{Language};
 ghost use Rattle.language.specs.Answers.{standing_on};
 ghost use Rattle.disk_model.specs.Disk.{Rose};
-ghost use Rattle.disk_model.specs.Moments.{LeavesOnly, GoesOn};
 ghost use Rattle.session_core.specs.Standing.{Stands, knowledge_of, open_in};
 ghost use Rattle.session_store.specs.Held.{IsWide};
-ghost use Rattle.session_store.specs.Keeping.{HasKept, IsUnmoved, HasSameTerms};
+ghost use Rattle.session_store.specs.Keeping.{HasKept, IsNotKept, IsUnmoved, HasSameTerms, LeavesEvent};
 ghost use Rattle.session_store.specs.Kept.{IsLawfulAfter, answer_event};
 ghost use Rattle.session_store.specs.Replay.{HavePlaces};
-ghost use Rattle.session_store.specs.Left.{OpensWith, OpensWithOrWithout, LeavesNow};
+ghost use Rattle.session_store.specs.Left.{OpensWith};
 
 use crate::SFault;
-use answer_journal::JFault;
 use assign::{Event, Partial};
 use disk_model::Disk;
 use session_core::Session;
@@ -99,17 +97,11 @@ pub trait Keep<D: Disk> {
         ensures sits { sits self.new disk.new }
 
         // It doesn't give up by itself, but for want of memory.
-        ensures faults { IfErr result (λ e. (e ≡ SFault.Memory) ⊎ (e ≡ SFault.Journal JFault.DiskFault)) }
-        ensures memory { IsErrOf result SFault.Memory → (live self.new ≡ live self.old) × (disk.new ≡ disk.old) }
-        ensures failed { IsErrOf result (SFault.Journal JFault.DiskFault) → IsTrue (writes self.old) × IsFalse (live self.new) × Rose (D.faults disk.old) (D.faults disk.new) }
-        ensures disk { GoesOn D.Disk disk.old disk.new }
-        ensures few_calls { D.calls disk.new ≤ D.calls disk.old + 4 }
+        ensures refused { IfErr result (IsNotKept ((live self.new ≡ live self.old) × (disk.new ≡ disk.old)) (IsTrue (writes self.old) × IsFalse (live self.new) × Rose (D.faults disk.old) (D.faults disk.new))) }
 
         // Where nothing is written, the disk isn't touched. Else a crash at any moment leaves the events from before the call,
         // with the new one or without, and after `Ok` with it.
-        ensures unwritten { IsFalse (writes self.old) → disk.new ≡ disk.old }
-        ensures written { IsTrue (writes self.old) → ForSome (D.content disk.old) (λ _. OnOk result (LeavesNow D.Disk (OpensWith (plan self.old) (voc self.old) (record_of self.new)) disk.new)) }
-        ensures any_moment { IsTrue (writes self.old) → ForSome (D.content disk.old) (λ _. ForSome (question self.old) (λ q. LeavesOnly D.Disk disk.old disk.new (OpensWithOrWithout (plan self.old) (voc self.old) (record_of self.old) (answer_event q «yes»)))) };
+        ensures leaves { ForSome (question self.old) (λ q. LeavesEvent D.Disk (writes self.old) (plan self.old) (voc self.old) (record_of self.old) (answer_event q «yes») disk.old disk.new result) };
 
     /// Keeps that the last answer that stands is taken back, and then leads the session from its beginning through those that
     /// are left. A question that was put is dropped: what is open then is what these answers lead to. All memory is taken
@@ -127,18 +119,11 @@ pub trait Keep<D: Disk> {
         ensures sits { sits self.new disk.new }
 
         // It doesn't give up by itself, but for want of memory.
-        ensures faults { IfErr result (λ e. (e ≡ SFault.Memory) ⊎ (e ≡ SFault.Journal JFault.DiskFault)) }
-        ensures memory { IsErrOf result SFault.Memory → (live self.new ≡ live self.old) × (disk.new ≡ disk.old) }
-        ensures failed { IsErrOf result (SFault.Journal JFault.DiskFault) → IsTrue (writes self.old) × IsFalse (live self.new) × Rose (D.faults disk.old) (D.faults disk.new) }
-        ensures disk { GoesOn D.Disk disk.old disk.new }
-        // a journal may have to be raised first
-        ensures few_calls { D.calls disk.new ≤ D.calls disk.old + 8 }
+        ensures refused { IfErr result (IsNotKept ((live self.new ≡ live self.old) × (disk.new ≡ disk.old)) (IsTrue (writes self.old) × IsFalse (live self.new) × Rose (D.faults disk.old) (D.faults disk.new))) }
 
         // Where nothing is written, the disk isn't touched. Else a crash at any moment leaves the events from before the call,
         // with the take-back or without, and after `Ok` with it.
-        ensures unwritten { IsFalse (writes self.old) → disk.new ≡ disk.old }
-        ensures written { IsTrue (writes self.old) → ForSome (D.content disk.old) (λ _. OnOk result (LeavesNow D.Disk (OpensWith (plan self.old) (voc self.old) (record_of self.new)) disk.new)) }
-        ensures any_moment { IsTrue (writes self.old) → ForSome (D.content disk.old) (λ _. LeavesOnly D.Disk disk.old disk.new (OpensWithOrWithout (plan self.old) (voc self.old) (record_of self.old) Event.Back)) };
+        ensures leaves { LeavesEvent D.Disk (writes self.old) (plan self.old) (voc self.old) (record_of self.old) Event.Back disk.old disk.new result };
 
     /// There are never more records than a journal takes.
     ghost few: { (keep : Self) → sound keep → length (record_of keep) < 1000000 };

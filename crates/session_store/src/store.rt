@@ -1,11 +1,11 @@
-ghost use Rattle.std.specs.Prelude.{◌≡◌, ◌≤◌, ◌<◌, ◌+◌, ◌⊎◌, [], List, ℕ, IfOk, IfErr, IsErrOf, IsSome, OnOk, IsTrue, IsFalse, All, Some, None, true, length};
-ghost use Rattle.std.specs.Option.{ForSome, ForNone};
+ghost use Rattle.std.specs.Prelude.{◌≡◌, ◌≤◌, ◌<◌, ◌+◌, ◌⊎◌, [], List, ℕ, IfOk, IfErr, IsErrOf, MatchResult, OnOk, IsTrue, IsFalse, All, Some, None, true, length};
+ghost use Rattle.std.specs.Option.{ForSome};
 ghost use Rattle.language.specs.Answers.{standing_on};
-ghost use Rattle.disk_model.specs.Disk.{Only, Rose};
-ghost use Rattle.disk_model.specs.Moments.{LeavesOnly, IsOnlyRead, IsOnDisk, GoesOn};
-ghost use Rattle.answer_journal.specs.End.{Sits, HasNew, IsOldOrNew, IsSame};
+ghost use Rattle.disk_model.specs.Disk.{Rose};
+ghost use Rattle.disk_model.specs.Moments.{LeavesBehind, IsOnlyRead};
+ghost use Rattle.answer_journal.specs.End.{IsInPlace, HasNew, IsOldOrNew, IsSame};
 ghost use Rattle.answer_journal.specs.Journal.{HasNoSession};
-ghost use Rattle.answer_journal.specs.Making.{IsCreating};
+ghost use Rattle.answer_journal.specs.Making.{IsCreating, StartsWith};
 ghost use Rattle.answer_journal.specs.Storable.{IsStorableEvent};
 ghost use Rattle.answer_journal.specs.Synced.{IsSynced};
 ghost use Rattle.answer_journal.specs.Calls.{AreReadingCalls};
@@ -16,7 +16,7 @@ ghost use Rattle.session_store.specs.Held.{lang_held, plan_held, question_held, 
 ghost use Rattle.session_store.specs.Left.{SaysSession};
 ghost use Rattle.session_store.specs.Replay.{HavePlaces};
 ghost use Rattle.session_store.specs.Opening.{NoLanguage, NotLed, NotMade, NotOpened};
-ghost use Rattle.session_store.specs.Store.{lang_of, plan_of, question_of, events_of, voc_of, is_live_in, IsSound, SitsOn};
+ghost use Rattle.session_store.specs.Store.{lang_of, plan_of, question_of, events_of, voc_of, is_live_in, IsMadeOf, IsSound, SitsOn};
 
 use crate::SFault;
 use crate::held::Held;
@@ -99,16 +99,12 @@ impl Store {
         voc: &[u8],
     ) -> Result<Store, SFault>
         ensures sound { IfOk result IsSound }
-        ensures plan { IfOk result (λ store. plan_of store ≡ plan) }
-        ensures voc { IfOk result (λ store. voc_of store ≡ voc.now) }
-        ensures events { IfOk result (λ store. events_of store ≡ []) }
-        ensures idle { IfOk result (λ store. question_of store ≡ None) }
-        ensures live { IfOk result (λ store. IsTrue (is_live_in store)) }
+        ensures made { IfOk result (IsMadeOf plan voc.now) }
         ensures sits { IfOk result (λ store. SitsOn store (D.content disk.new) (D.may_leave disk.new)) }
 
-        // A disk that tells goes on telling, and one that doesn't never begins to.
-        ensures silent { ForNone (D.content disk.old) (D.content disk.new ≡ None) }
-        ensures told { ForSome (D.content disk.old) (λ _. IsSome (D.content disk.new)) }
+        // After `Ok` there is the new session. A crash at any moment leaves what it might have left before, or no session, or
+        // the new one with no event.
+        ensures leaves { LeavesBehind D.Disk 9 disk.old disk.new result (λ _. StartsWith plan voc.now) (λ _. IsCreating (D.may_leave disk.old) plan voc.now) }
 
         // It is made only where there is no session, and refused by what the vocabulary and the bytes of the file say.
         ensures taken { OnOk result (refusal_of_vocabulary voc.now ≡ None) }
@@ -118,16 +114,11 @@ impl Store {
         ensures some_refusal { IfErr result (λ e. (bytes : List ℕ) × NotMade voc.now bytes e) }
         ensures unread { (f : VocFault) → IsErrOf result (SFault.Voc f) → (refusal_of_vocabulary voc.now ≡ Some f) × (disk.new ≡ disk.old) }
         ensures failed { IsErrOf result (SFault.Journal JFault.DiskFault) → Rose (D.faults disk.old) (D.faults disk.new) }
-        ensures later { D.faults disk.old ≤ D.faults disk.new }
-        ensures few_calls { D.calls disk.new ≤ D.calls disk.old + 9 }
 
         // Where the disk didn't fail, a refusal leaves the file and each content of a crash as they were. Where the file holds
         // a session or is no journal, it leaves them so whatever failed.
         ensures untouched { IfErr result (λ e. (e ≡ SFault.Journal JFault.DiskFault) ⊎ IsOnlyRead D.Disk disk.old disk.new) }
         ensures spared { ForSome (D.content disk.old) (λ bytes. HasNoSession bytes ⊎ IsOnlyRead D.Disk disk.old disk.new) }
-
-        // A crash at any moment leaves what it might have left before, or no session, or the new one with no event.
-        ensures any_moment { ForSome (D.content disk.old) (λ _. LeavesOnly D.Disk disk.old disk.new (IsCreating (D.may_leave disk.old) plan voc.now)) }
     {
         let (held, bytes) = new_session(alloc, plan, voc)?;
         let journal = answer_journal::create(alloc, disk, plan, voc)?;
@@ -151,11 +142,9 @@ impl Store {
         // A refusal is what the bytes say.
         ensures refused { ForSome (D.content disk.old) (λ bytes. IfErr result (NotOpened bytes)) }
         ensures failed { IsErrOf result (SFault.Journal JFault.DiskFault) → Rose (D.faults disk.old) (D.faults disk.new) }
-        ensures later { D.faults disk.old ≤ D.faults disk.new }
 
         // Where the disk tells nothing, either is what some bytes say.
-        ensures some_session { IfOk result (λ store. (bytes : List ℕ) × SaysSession bytes (plan_of store) (voc_of store) (events_of store)) }
-        ensures some_refusal { IfErr result (λ e. (bytes : List ℕ) × NotOpened bytes e) }
+        ensures some { MatchResult result (λ store. (bytes : List ℕ) × SaysSession bytes (plan_of store) (voc_of store) (events_of store)) (λ e. (bytes : List ℕ) × NotOpened bytes e) }
 
         // It makes few calls to the disk: five, and one more for each 4,194,047 bytes of the file.
         ensures few_calls { ForSome (D.content disk.old) (AreReadingCalls 5 (D.calls disk.old) (D.calls disk.new)) }
@@ -163,9 +152,8 @@ impl Store {
         // It syncs first. A refusal leaves only what a read gives too, but where that sync is what failed.
         ensures synced { ForSome (D.content disk.old) (λ bytes. IfErr result (λ e. IsSynced D.Disk (e ≡ SFault.Journal JFault.DiskFault) disk.old disk.new bytes)) }
 
-        // It writes nothing.
-        ensures same { D.content disk.new ≡ D.content disk.old }
-        ensures any_moment { LeavesOnly D.Disk disk.old disk.new (D.may_leave disk.old) }
+        // It writes nothing: the content is the same, and a crash at any moment leaves what it might have left before.
+        ensures only_read { IsOnlyRead D.Disk disk.old disk.new }
     {
         let Opened {
             journal,
@@ -192,18 +180,11 @@ impl Store {
 
 /// Raises a journal where it isn't raised, so that a take-back may be added.
 fn raised<D: Disk>(journal: &mut Journal, disk: &mut D) -> Result<(), JFault>
-    requires live { IsTrue journal.old.live }
-    requires sits { ForSome (D.content disk.old) (Sits journal.old) }
-    requires durable { ForSome (D.content disk.old) (λ bytes. Only bytes (D.may_leave disk.old)) }
-    ensures same { ForSome (D.content disk.old) (λ old. OnOk result (IsOnDisk D.Disk disk.new (IsSame old))) }
-    ensures sits { ForSome (D.content disk.new) (λ bytes. OnOk result (Sits journal.new bytes)) }
-    ensures durable { ForSome (D.content disk.new) (λ bytes. OnOk result (Only bytes (D.may_leave disk.new))) }
+    requires { IsInPlace D.Disk journal.old disk.old }
+    ensures leaves { LeavesBehind D.Disk 4 disk.old disk.new result IsSame IsSame }
+    ensures there { OnOk result (IsInPlace D.Disk journal.new disk.new) }
     ensures counted { journal.new.records ≡ journal.old.records }
     ensures raised { OnOk result (IsTrue journal.new.raised) }
-    ensures live { OnOk result (IsTrue journal.new.live) }
-    ensures disk { GoesOn D.Disk disk.old disk.new }
-    ensures any_moment { ForSome (D.content disk.old) (λ old. LeavesOnly D.Disk disk.old disk.new (IsSame old)) }
-    ensures few_calls { D.calls disk.new ≤ D.calls disk.old + 4 }
     // the disk alone makes it give up
     ensures failed { IfErr result (λ _. Rose (D.faults disk.old) (D.faults disk.new) × IsFalse journal.new.live) }
 {
@@ -215,18 +196,11 @@ fn raised<D: Disk>(journal: &mut Journal, disk: &mut D) -> Result<(), JFault>
 
 /// Adds a take-back, after the journal was raised where it wasn't.
 fn append_back<D: Disk>(journal: &mut Journal, disk: &mut D) -> Result<(), JFault>
-    requires live { IsTrue journal.old.live }
+    requires there { IsInPlace D.Disk journal.old disk.old }
     requires room { journal.old.records < 1000000 }
-    requires sits { ForSome (D.content disk.old) (Sits journal.old) }
-    requires durable { ForSome (D.content disk.old) (λ bytes. Only bytes (D.may_leave disk.old)) }
-    ensures added { ForSome (D.content disk.old) (λ old. OnOk result (IsOnDisk D.Disk disk.new (HasNew old Event.Back))) }
-    ensures sits { ForSome (D.content disk.new) (λ bytes. OnOk result (Sits journal.new bytes)) }
-    ensures durable { ForSome (D.content disk.new) (λ bytes. OnOk result (Only bytes (D.may_leave disk.new))) }
+    ensures leaves { LeavesBehind D.Disk 8 disk.old disk.new result (λ old. HasNew old Event.Back) (λ old. IsOldOrNew old Event.Back) }
+    ensures there { OnOk result (IsInPlace D.Disk journal.new disk.new) }
     ensures counted { OnOk result (journal.new.records ≡ journal.old.records + 1) }
-    ensures live { OnOk result (IsTrue journal.new.live) }
-    ensures disk { GoesOn D.Disk disk.old disk.new }
-    ensures any_moment { ForSome (D.content disk.old) (λ old. LeavesOnly D.Disk disk.old disk.new (IsOldOrNew old Event.Back)) }
-    ensures few_calls { D.calls disk.new ≤ D.calls disk.old + 8 }
     // the disk alone makes it give up
     ensures failed { IfErr result (λ _. Rose (D.faults disk.old) (D.faults disk.new) × IsFalse journal.new.live) }
 {

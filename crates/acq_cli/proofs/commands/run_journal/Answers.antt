@@ -18,7 +18,7 @@ returns-in-Ok-clause-runs g c =
     let after = c.ask_on.new.keep in
     inr (goes_on D line_turn any_answer c.args.budget (g.S.Source.left c.args.input.now) (g.K.Sink.written c.args.out.now) (g.S.Source.left c.ask_on.new.input) (g.K.Sink.written c.ask_on.new.out)
     c.args.disk.now c.open.new.disk c.ask_on.new.disk c.ask_on.result (plan_of store) (voc_of store) (events_of store) (events_of after) (question_of after) (lang_of store)
-    c.in-Ok.ensures.opened c.in-Ok.ensures.some_session c.in-Ok.ensures.sound.read c.in-Ok.ensures.places c.open.ensures.same c.open.ensures.any_moment c.open.ensures.few_calls c.ask_on.ensures.keeps.grown c.ask_on.ensures.keeps.calls c.ask_on.ensures.lawful c.ask_on.ensures.taught.added c.ask_on.ensures.keeps.told
+    c.in-Ok.ensures.opened c.in-Ok.ensures.some c.in-Ok.ensures.sound.read c.in-Ok.ensures.places c.open.ensures.only_read.same c.open.ensures.only_read.any_moment c.open.ensures.few_calls c.ask_on.ensures.keeps.grown c.ask_on.ensures.keeps.calls c.ask_on.ensures.lawful c.ask_on.ensures.taught.added c.ask_on.ensures.keeps.told
     (λ no bytes told. c.ask_on.ensures.keeps.persists refl bytes told no) (λ is. c.ask_on.ensures.keeps.fails is)
     c.ask_on.ensures.asked.tries c.ask_on.ensures.asked.part)
 
@@ -27,17 +27,17 @@ returns-in-Err-clause-runs g c =
     inl (record {
       fault = c.in-Err.fault;
       why = c.in-Err.ensures.refused;
-      some = c.in-Err.ensures.some_refusal;
+      some = c.in-Err.ensures.some;
       refuses = c.refuse_journal.ensures.refuses;
       unread = refl;
-      same = c.open.ensures.same;
-      any_moment = c.open.ensures.any_moment;
+      same = c.open.ensures.only_read.same;
+      any_moment = c.open.ensures.only_read.any_moment;
       now = inl c.in-Err.ensures.synced;
       calls = c.open.ensures.few_calls;
     })
 
 pub returns-in-Ok-clause-lost : goal.returns-in-Ok-clause-lost
-returns-in-Ok-clause-lost g c is = rose_later _ _ _ c.open.ensures.later (c.ask_on.ensures.keeps.cause is).1
+returns-in-Ok-clause-lost g c is = rose_later _ _ _ c.open.ensures.only_read.later (c.ask_on.ensures.keeps.cause is).1
 
 pub returns-in-Err-clause-lost : goal.returns-in-Err-clause-lost
 returns-in-Err-clause-lost g c is = c.in-Err.ensures.failed (ap not_opened (c.refuse_journal.ensures.lost is))

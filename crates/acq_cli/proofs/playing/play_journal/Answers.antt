@@ -36,13 +36,13 @@ returns-then-count-ge1-clause-plays g c =
         voc = voc_of store;
         events = events_of store;
         says = c.in-Ok.ensures.opened;
-        some = c.in-Ok.ensures.some_session;
+        some = c.in-Ok.ensures.some;
         lang = lang_of store;
         read = c.in-Ok.ensures.sound.read;
         places = c.in-Ok.ensures.places;
-        same = c.open.ensures.same;
-        any_moment = c.open.ensures.any_moment;
-        now = λ bytes told. let was = c.open.ensures.same ∙ told in opened_now g.D.Disk c.open.new.disk store bytes was (c.in-Ok.ensures.sits c.in-Ok.ensures.live bytes was);
+        same = c.open.ensures.only_read.same;
+        any_moment = c.open.ensures.only_read.any_moment;
+        now = λ bytes told. let was = c.open.ensures.only_read.same ∙ told in opened_now g.D.Disk c.open.new.disk store bytes was (c.in-Ok.ensures.sits c.in-Ok.ensures.live bytes was);
         calls = c.open.ensures.few_calls;
       };
       number = c.answers_of-count.result;
@@ -62,13 +62,13 @@ returns-clause-plays g c =
         voc = voc_of store;
         events = events_of store;
         says = c.in-Ok.ensures.opened;
-        some = c.in-Ok.ensures.some_session;
+        some = c.in-Ok.ensures.some;
         lang = lang_of store;
         read = c.in-Ok.ensures.sound.read;
         places = c.in-Ok.ensures.places;
-        same = c.open.ensures.same;
-        any_moment = c.open.ensures.any_moment;
-        now = λ bytes told. let was = c.open.ensures.same ∙ told in opened_now g.D.Disk c.open.new.disk store bytes was (c.in-Ok.ensures.sits c.in-Ok.ensures.live bytes was);
+        same = c.open.ensures.only_read.same;
+        any_moment = c.open.ensures.only_read.any_moment;
+        now = λ bytes told. let was = c.open.ensures.only_read.same ∙ told in opened_now g.D.Disk c.open.new.disk store bytes was (c.in-Ok.ensures.sits c.in-Ok.ensures.live bytes was);
         calls = c.open.ensures.few_calls;
       };
       fresh = none_at_all (standing_on (lang_of store) (events_of store)) (let few = c.if-count-ge1.false in let is = c.answers_of-count.ensures.is in omega (arith, few, is));
@@ -104,7 +104,7 @@ returns-in-Ok-read_target-clause-plays g c =
     (standing_on m before ≡ []) × ReadsTarget m left rest target × IsAnsweredBy target m (terms_with plan c.args.budget) (standing_on m later) c.ask_on.result in
     let on = goes_on_with D Holds (net_turn target false) (net_may_say target) c.args.budget rest written left' written'
     c.args.disk.now c.open.new.disk c.ask_on.new.disk c.ask_on.result (plan_of store) (voc_of store) (events_of store) (events_of after) (question_of after) l
-    c.in-Ok.ensures.opened c.in-Ok.ensures.some_session c.in-Ok.ensures.sound.read c.in-Ok.ensures.places c.open.ensures.same c.open.ensures.any_moment c.open.ensures.few_calls c.ask_on.ensures.keeps.grown c.ask_on.ensures.keeps.calls c.ask_on.ensures.lawful c.ask_on.ensures.taught.added c.ask_on.ensures.keeps.told
+    c.in-Ok.ensures.opened c.in-Ok.ensures.some c.in-Ok.ensures.sound.read c.in-Ok.ensures.places c.open.ensures.only_read.same c.open.ensures.only_read.any_moment c.open.ensures.few_calls c.ask_on.ensures.keeps.grown c.ask_on.ensures.keeps.calls c.ask_on.ensures.lawful c.ask_on.ensures.taught.added c.ask_on.ensures.keeps.told
     (λ no bytes told. c.ask_on.ensures.keeps.persists refl bytes told no) (subst Lost c.new-teacher.ensures.quiet (λ is. c.ask_on.ensures.keeps.fails is))
     tries (subst Part c.new-teacher.ensures.quiet c.ask_on.ensures.asked.part)
     (fresh, reads, answered (net_turn target false) l terms target (events_of store) (events_of after) rest written left' written' c.ask_on.result reads.lawful fresh c.ask_on.ensures.taught.added c.ask_on.ensures.taught.said tries) in

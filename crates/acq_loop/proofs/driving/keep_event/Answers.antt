@@ -5,7 +5,7 @@ use Rattle.assign.specs.declared.events.Event.{Event}
 use Rattle.assign.specs.declared.events.Event.TheVariants as event
 use Rattle.session_store.specs.Keeps.{Keeps}
 use Rattle.session_store.specs.Kept.{answer_event}
-use Rattle.session_store.proofs.Keepers.{both_as}
+use Rattle.session_store.proofs.Keepers.{both_as, event_calls, event_goes_on, event_left, event_now, kept_failed, kept_faults, kept_memory}
 use Rattle.acq_loop.specs.Run.{answer}
 use Rattle.acq_loop.specs.Due.{EventKept}
 use Rattle.acq_loop.specs.Heard.{MayKeep, event_on, end_of}
@@ -41,19 +41,21 @@ returns-in-Answer g c =
     let same = c.answer.ensures.same in
     let keeper = c.requires.keeper in
     let ok = c.answer.ensures.ok q asked.1 in
+    let left = c.answer.ensures.leaves q asked.1 in
     let Both : Option Drove → Event → Type 0 = λ o z. EventKept z before after o in
     let Done : Option Drove → Event → Type 0 = λ o z. Keeps P D (o ≡ Some drove.DiskFault) (λ lost. lost ≡ z) old new x y in
     record {
       kept =
           both_as Both (end_of r) c.end_of.result e (event_on c.args.entry (P.question old)) (sym c.end_of.ensures) is
-          (event_kept e before after r (on_ok_weaker r (λ k. k.added) ok) (on_err_weaker r (λ u. u.events) c.answer.ensures.err) c.answer.ensures.faults);
+          (event_kept e before after r (on_ok_weaker r (λ k. k.added) ok) (on_err_weaker r (λ u. u.events) c.answer.ensures.err) (kept_faults r _ _ c.answer.ensures.refused));
       settled = λ none. settled_on P D g.met.D.Disk.counts_now g.met.D.Disk.only_now old new x y e r ok same (sym c.end_of.ensures ∙ none);
       same = record { lang = same.same_lang; plan = same.same_plan; sound = c.answer.ensures.sound };
       keeps =
           both_as Done (end_of r) c.end_of.result e (event_on c.args.entry (P.question old)) (sym c.end_of.ensures) is
           (keeps_event P D g.met.D.Disk.counts_now g.met.D.Disk.only_now old new x y e r keeper (inl (answer q yes, refl)) (inl (q, yes, asked.1, refl))
-          (λ w bytes told f left. g.met.P.Keep.lasts old x w keeper.live keeper.sits bytes told f left) ok c.answer.ensures.err same c.answer.ensures.sits c.answer.ensures.faults c.answer.ensures.memory c.answer.ensures.failed c.answer.ensures.disk (omega (arith, c.answer.ensures.few_calls)) c.answer.ensures.unwritten c.answer.ensures.written
-          (λ w bytes told. c.answer.ensures.any_moment w bytes told q asked.1));
+          (λ w bytes told f left. g.met.P.Keep.lasts old x w keeper.live keeper.sits bytes told f left) ok c.answer.ensures.err same c.answer.ensures.sits (kept_faults r _ _ c.answer.ensures.refused) (kept_memory r _ _ c.answer.ensures.refused) (kept_failed r _ _ c.answer.ensures.refused)
+          (event_goes_on D (P.writes old) (P.plan old) (P.voc old) before e x y r left) (event_calls D (P.writes old) (P.plan old) (P.voc old) before e x y r left) left.unwritten
+          (event_now D (P.writes old) (P.plan old) (P.voc old) before after e x y r left (on_ok_weaker r (λ k. k.added) ok)) (event_left D (P.writes old) (P.plan old) (P.voc old) before e x y r left));
     }
 
 pub returns-in-Back : goal.returns-in-Back
@@ -72,17 +74,19 @@ returns-in-Back g c =
     let same = c.take_back.ensures.same in
     let keeper = c.requires.keeper in
     let ok = c.take_back.ensures.ok in
+    let left = c.take_back.ensures.leaves in
     let Both : Option Drove → Event → Type 0 = λ o z. EventKept z before after o in
     let Done : Option Drove → Event → Type 0 = λ o z. Keeps P D (o ≡ Some drove.DiskFault) (λ lost. lost ≡ z) old new x y in
     record {
       kept =
           both_as Both (end_of r) c.end_of-in-Back.result e (event_on c.args.entry (P.question old)) (sym c.end_of-in-Back.ensures) is
-          (event_kept e before after r (on_ok_weaker r (λ k. k.added) ok) (on_err_weaker r (λ u. u.events) c.take_back.ensures.err) c.take_back.ensures.faults);
+          (event_kept e before after r (on_ok_weaker r (λ k. k.added) ok) (on_err_weaker r (λ u. u.events) c.take_back.ensures.err) (kept_faults r _ _ c.take_back.ensures.refused));
       settled = λ none. settled_on P D g.met.D.Disk.counts_now g.met.D.Disk.only_now old new x y e r ok same (sym c.end_of-in-Back.ensures ∙ none);
       same = record { lang = same.same_lang; plan = same.same_plan; sound = c.take_back.ensures.sound };
       keeps =
           both_as Done (end_of r) c.end_of-in-Back.result e (event_on c.args.entry (P.question old)) (sym c.end_of-in-Back.ensures) is
           (keeps_event P D g.met.D.Disk.counts_now g.met.D.Disk.only_now old new x y e r keeper (inr refl) (inr refl)
-          (λ w bytes told f left. g.met.P.Keep.lasts old x w keeper.live keeper.sits bytes told f left) ok c.take_back.ensures.err same c.take_back.ensures.sits c.take_back.ensures.faults c.take_back.ensures.memory c.take_back.ensures.failed c.take_back.ensures.disk c.take_back.ensures.few_calls c.take_back.ensures.unwritten c.take_back.ensures.written
-          c.take_back.ensures.any_moment);
+          (λ w bytes told f left. g.met.P.Keep.lasts old x w keeper.live keeper.sits bytes told f left) ok c.take_back.ensures.err same c.take_back.ensures.sits (kept_faults r _ _ c.take_back.ensures.refused) (kept_memory r _ _ c.take_back.ensures.refused) (kept_failed r _ _ c.take_back.ensures.refused)
+          (event_goes_on D (P.writes old) (P.plan old) (P.voc old) before e x y r left) (event_calls D (P.writes old) (P.plan old) (P.voc old) before e x y r left) left.unwritten
+          (event_now D (P.writes old) (P.plan old) (P.voc old) before after e x y r left (on_ok_weaker r (λ k. k.added) ok)) (event_left D (P.writes old) (P.plan old) (P.voc old) before e x y r left));
     }

@@ -33,12 +33,12 @@ returns-in-Err-clause-backs g c =
     inl (record {
       opening = Err c.in-Err.fault;
       opens = c.in-Err.ensures.refused;
-      some = c.in-Err.ensures.some_refusal;
+      some = c.in-Err.ensures.some;
       session = tt;
       says = c.refused.ensures.refuses;
       so = ok_any c.refused.result tt;
-      same = c.open.ensures.same;
-      any_moment = c.open.ensures.any_moment;
+      same = c.open.ensures.only_read.same;
+      any_moment = c.open.ensures.only_read.any_moment;
       now = inl c.in-Err.ensures.synced;
       calls = c.open.ensures.few_calls;
     })
@@ -51,13 +51,13 @@ returns-in_default-clause-backs g c =
     inl (record {
       opening = Ok o;
       opens = λ bytes told. record { says = c.in-Ok.ensures.opened bytes told; session = record { read = c.in-Ok.ensures.sound.read; places = c.in-Ok.ensures.places } };
-      some = let said = c.in-Ok.ensures.some_session in (said.0, record { says = said.1; session = record { read = c.in-Ok.ensures.sound.read; places = c.in-Ok.ensures.places } });
+      some = let said = c.in-Ok.ensures.some in (said.0, record { says = said.1; session = record { read = c.in-Ok.ensures.sound.read; places = c.in-Ok.ensures.places } });
       session = record { read = c.in-Ok.ensures.sound.read; places = c.in-Ok.ensures.places };
       says = (none.0, said_as c.fixed.result c.or_silent.result (saying nothing_text ending.NothingBack) (back_said o) c.or_silent.ensures none.1 c.fixed.ensures);
       so = ok_any c.or_silent.result tt;
-      same = c.open.ensures.same;
-      any_moment = c.open.ensures.any_moment;
-      now = λ bytes told. let was = c.open.ensures.same ∙ told in opened_now g.D.Disk c.open.new.disk store bytes was (c.in-Ok.ensures.sits c.in-Ok.ensures.live bytes was);
+      same = c.open.ensures.only_read.same;
+      any_moment = c.open.ensures.only_read.any_moment;
+      now = λ bytes told. let was = c.open.ensures.only_read.same ∙ told in opened_now g.D.Disk c.open.new.disk store bytes was (c.in-Ok.ensures.sits c.in-Ok.ensures.live bytes was);
       calls = c.open.ensures.few_calls;
     })
 
@@ -70,13 +70,13 @@ returns-then-is_full-clause-backs g c =
     inl (record {
       opening = Ok o;
       opens = λ bytes told. record { says = c.in-Ok.ensures.opened bytes told; session = record { read = c.in-Ok.ensures.sound.read; places = c.in-Ok.ensures.places } };
-      some = let said = c.in-Ok.ensures.some_session in (said.0, record { says = said.1; session = record { read = c.in-Ok.ensures.sound.read; places = c.in-Ok.ensures.places } });
+      some = let said = c.in-Ok.ensures.some in (said.0, record { says = said.1; session = record { read = c.in-Ok.ensures.sound.read; places = c.in-Ok.ensures.places } });
       session = record { read = c.in-Ok.ensures.sound.read; places = c.in-Ok.ensures.places };
       says = (full.0, said_as c.fixed-then-is_full.result c.or_silent-then-is_full.result (saying full_text ending.JournalFull) (back_said o) c.or_silent-then-is_full.ensures full.1 c.fixed-then-is_full.ensures);
       so = ok_any c.or_silent-then-is_full.result tt;
-      same = c.open.ensures.same;
-      any_moment = c.open.ensures.any_moment;
-      now = λ bytes told. let was = c.open.ensures.same ∙ told in opened_now g.D.Disk c.open.new.disk store bytes was (c.in-Ok.ensures.sits c.in-Ok.ensures.live bytes was);
+      same = c.open.ensures.only_read.same;
+      any_moment = c.open.ensures.only_read.any_moment;
+      now = λ bytes told. let was = c.open.ensures.only_read.same ∙ told in opened_now g.D.Disk c.open.new.disk store bytes was (c.in-Ok.ensures.sits c.in-Ok.ensures.live bytes was);
       calls = c.open.ensures.few_calls;
     })
 
@@ -94,7 +94,7 @@ returns-clause-backs g c =
     inr (record {
       of = o;
       opens = λ bytes told. record { says = c.in-Ok.ensures.opened bytes told; session = record { read = c.in-Ok.ensures.sound.read; places = c.in-Ok.ensures.places } };
-      some = let said = c.in-Ok.ensures.some_session in (said.0, record { says = said.1; session = record { read = c.in-Ok.ensures.sound.read; places = c.in-Ok.ensures.places } });
+      some = let said = c.in-Ok.ensures.some in (said.0, record { says = said.1; session = record { read = c.in-Ok.ensures.sound.read; places = c.in-Ok.ensures.places } });
       session = record { read = c.in-Ok.ensures.sound.read; places = c.in-Ok.ensures.places };
       takes = one.0;
       room = room;
@@ -102,7 +102,7 @@ returns-clause-backs g c =
       ends = subst Ends (ap (λ (m : ℕ). saying (taken_text m) ending.Done) number.0 ∙ one.1) c.take_last.ensures.ends;
       all_places = back_has_place o.lang o.plan o.events c.in-Ok.ensures.places (some_there o.lang o.events c.in-Some.m number.0 number.1);
       leaves = leaves_back D o.plan o.voc taken o.events (events_of after) (question_of after)
-          c.args.disk.now c.open.new.disk c.take_last.new.disk c.take_last.result c.open.ensures.same c.open.ensures.any_moment c.take_last.ensures.ends c.take_last.ensures.keeps.told
+          c.args.disk.now c.open.new.disk c.take_last.new.disk c.take_last.result c.open.ensures.only_read.same c.open.ensures.only_read.any_moment c.take_last.ensures.ends c.take_last.ensures.keeps.told
           (λ no bytes told. c.take_last.ensures.keeps.persists refl bytes told no) (λ is. c.take_last.ensures.keeps.fails is);
       calls = λ bytes told. back_calls D o.events (events_of after) taken c.open.new.disk c.take_last.new.disk c.take_last.result c.take_last.ensures.ends
           c.take_last.ensures.keeps.grown c.take_last.ensures.keeps.calls (D.calls c.args.disk.now) bytes (c.open.ensures.few_calls bytes told);
@@ -130,7 +130,7 @@ pub returns-then-is_full-clause-lost : goal.returns-then-is_full-clause-lost
 returns-then-is_full-clause-lost g c is = absurd (silent_not c.fixed-then-is_full.result c.or_silent-then-is_full.result unsaid.DiskFault (λ e. cc) c.or_silent-then-is_full.ensures is)
 
 pub returns-clause-lost : goal.returns-clause-lost
-returns-clause-lost g c is = rose_later _ _ _ c.open.ensures.later (c.take_last.ensures.keeps.cause is).1
+returns-clause-lost g c is = rose_later _ _ _ c.open.ensures.only_read.later (c.take_last.ensures.keeps.cause is).1
 
 pub returns-in-Err-clause-lost : goal.returns-in-Err-clause-lost
 returns-in-Err-clause-lost g c is = c.in-Err.ensures.failed (ap not_opened (c.refused.ensures.lost is))

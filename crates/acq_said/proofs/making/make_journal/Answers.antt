@@ -25,13 +25,13 @@ returns-in-Ok-clause-makes g c =
     inl (record {
       free = ok.free;
       lang = c.lang_of.result.now;
-      read = subst Read (sym c.lang_of.ensures.is) (subst Voc ok.voc ok.sound.read);
+      read = subst Read (sym c.lang_of.ensures.is) (subst Voc ok.made.voc ok.sound.read);
       says = said_as c.created.result c.or_silent.result what what c.or_silent.ensures refl c.created.ensures;
       now = λ bytes told.
-          let t = bytes_told (g.D.Disk.content c.create.new.disk) (ok.told bytes told) in
-          made_now g.D.Disk c.create.new.disk store c.args.plan c.args.voc.now t.0 t.1 ok.plan ok.voc ok.events (ok.sits ok.live t.0 t.1);
-      any_moment = ok.any_moment;
-      calls = c.create.ensures.few_calls;
+          let t = bytes_told (g.D.Disk.content c.create.new.disk) (ok.leaves.goes_on.told bytes told) in
+          made_now g.D.Disk c.create.new.disk store c.args.plan c.args.voc.now t.0 t.1 ok.made.plan ok.made.voc ok.made.events (ok.sits ok.made.live t.0 t.1);
+      any_moment = ok.leaves.any_moment;
+      calls = c.create.ensures.leaves.few_calls;
     })
 
 pub returns-in-Err-clause-makes : goal.returns-in-Err-clause-makes
@@ -44,9 +44,9 @@ returns-in-Err-clause-makes g c =
       refuses = c.unmade.ensures.refuses;
       untouched = c.in-Err.ensures.untouched;
       spared = c.in-Err.ensures.spared;
-      told = c.in-Err.ensures.told;
-      any_moment = c.create.ensures.any_moment;
-      calls = c.create.ensures.few_calls;
+      told = c.in-Err.ensures.leaves.goes_on.told;
+      any_moment = c.create.ensures.leaves.any_moment;
+      calls = c.create.ensures.leaves.few_calls;
     })
 
 pub returns-in-Ok-clause-no_read : goal.returns-in-Ok-clause-no_read

@@ -28,13 +28,13 @@ returns-in-Ok-clause-says g c =
     record {
       opening = Ok o;
       opens = λ bytes told. record { says = c.in-Ok.ensures.opened bytes told; session = record { read = c.in-Ok.ensures.sound.read; places = c.in-Ok.ensures.places } };
-      some = let said = c.in-Ok.ensures.some_session in (said.0, record { says = said.1; session = record { read = c.in-Ok.ensures.sound.read; places = c.in-Ok.ensures.places } });
+      some = let said = c.in-Ok.ensures.some in (said.0, record { says = said.1; session = record { read = c.in-Ok.ensures.sound.read; places = c.in-Ok.ensures.places } });
       session = record { read = c.in-Ok.ensures.sound.read; places = c.in-Ok.ensures.places };
       says = subst (IsSaid what) (sym c.or_silent.ensures) (said_so c.asked.result (λ s. s ≡ what) c.asked.ensures.says);
       so = subst So (sym c.or_silent.ensures) (so_said c.asked.result (AsksTruly c.args.ask o) c.asked.ensures.so);
-      same = c.open.ensures.same;
-      any_moment = c.open.ensures.any_moment;
-      now = λ bytes told. let was = c.open.ensures.same ∙ told in opened_now g.D.Disk c.open.new.disk store bytes was (c.in-Ok.ensures.sits c.in-Ok.ensures.live bytes was);
+      same = c.open.ensures.only_read.same;
+      any_moment = c.open.ensures.only_read.any_moment;
+      now = λ bytes told. let was = c.open.ensures.only_read.same ∙ told in opened_now g.D.Disk c.open.new.disk store bytes was (c.in-Ok.ensures.sits c.in-Ok.ensures.live bytes was);
       calls = c.open.ensures.few_calls;
     }
 
@@ -42,12 +42,12 @@ pub returns-in-Err-clause-says : goal.returns-in-Err-clause-says
 returns-in-Err-clause-says g c = record {
   opening = Err c.in-Err.fault;
   opens = c.in-Err.ensures.refused;
-  some = c.in-Err.ensures.some_refusal;
+  some = c.in-Err.ensures.some;
   session = tt;
   says = c.refused.ensures.refuses;
   so = ok_any c.refused.result tt;
-  same = c.open.ensures.same;
-  any_moment = c.open.ensures.any_moment;
+  same = c.open.ensures.only_read.same;
+  any_moment = c.open.ensures.only_read.any_moment;
   now = inl c.in-Err.ensures.synced;
   calls = c.open.ensures.few_calls;
 }

@@ -46,11 +46,11 @@ returns-in_err-events-clause-refused g c x told =
     (subst (λ (l : List ℕ). EventsRefused start l c.in_err-events.field-0.0) (rest_is x o.0 o.1 o.2 c.in-Some.plan c.in-Some.voc.now rest found.0 spelled start begins) r)))
     (c.in_err-events.ensures.refused x (c.read.ensures.same ∙ c.head_of.ensures.only_read.same ∙ told)))
 
-pub returns-in_err-events-clause-any_moment : goal.returns-in_err-events-clause-any_moment
-returns-in_err-events-clause-any_moment g c =
+pub returns-in_err-events-clause-only_read : goal.returns-in_err-events-clause-only_read
+returns-in_err-events-clause-only_read g c =
     let D = g.D.Disk in
-    let first = read_more D c.args.disk.now c.head_of.new.disk c.read.new.self c.head_of.ensures.only_read c.read.ensures.same c.read.ensures.crash c.read.ensures.time in
-    (then_read D c.args.disk.now c.read.new.self c.events_of.new.disk first c.events_of.ensures.only_read).any_moment
+    let first = read_more D c.args.disk.now c.head_of.new.disk c.read.new.self c.head_of.ensures.only_read c.read.ensures.same c.read.ensures.crash c.read.ensures.time c.read.ensures.cause.later in
+    then_read D c.args.disk.now c.read.new.self c.events_of.new.disk first c.events_of.ensures.only_read
 
 pub at-requires-clause-near : goal.at-requires-clause-near
 at-requires-clause-near g c =
@@ -84,31 +84,38 @@ returns-clause-opened g c x told =
           (subst (HasEvents start c.in_ok-events.at events c.in_ok-events.raised) (rest_is x o.0 o.1 o.2 c.in-Some.plan c.in-Some.voc.now rest found.0 spelled start begins) h)),
     )
 
-pub returns-clause-sits : goal.returns-clause-sits
-returns-clause-sits g c x told =
-    let o = subst (IsHead x) c.in-Open.is (c.in_ok-head.ensures.head x told) in
-    let t = c.in_ok-count.ensures.told x (c.head_of.ensures.only_read.same ∙ told) in
-    let whole = c.deref.ensures.value ∙ take_at c.read.new.buf _ c.in_ok-buffer.buffer.len (c.read.auto.buf ∙ c.deref_mut.ensures.len) in
-    let found = c.in-Some.ensures.found in
-    let tail = session_tail c.in-Some.plan c.in-Some.voc.now in
-    let rest = c.in-Some.rest.now ++ drop c.in_ok-count.count (drop 9 x) in
-    let start = 9 + (c.in_ok-count.count - length c.in-Some.rest.now) in
-    let begins : start ≡ 9 + length tail = start_is x c.deref_mut.result.now c.deref.result.now c.in_ok-count.count t.0 (whole ∙ t.1) tail c.in-Some.rest.now found.1 start (λ i. start) in
-    let spelled : drop 9 x ≡ tail ++ rest = spelled_first x c.deref_mut.result.now c.deref.result.now c.in_ok-count.count t.0 (whole ∙ t.1) tail c.in-Some.rest.now found.1 in
-    let events = c.in_ok-events.events.items in
-    let h = c.in_ok-events.ensures.found x (c.read.ensures.same ∙ c.head_of.ensures.only_read.same ∙ told) in
-    sits x o.0 o.1 o.2 c.in-Some.plan c.in-Some.voc.now rest found.0 spelled start c.in_ok-events.at events c.in_ok-events.raised c.at.result begins
-    (subst (HasEvents start c.in_ok-events.at events c.in_ok-events.raised) (rest_is x o.0 o.1 o.2 c.in-Some.plan c.in-Some.voc.now rest found.0 spelled start begins) h)
-    c.at.ensures.place (omega (arith, c.at.ensures.records, c.len.ensures)) c.at.ensures.raised
+pub returns-clause-there : goal.returns-clause-there
+returns-clause-there g c = record {
+  live = c.at.ensures.live;
+  sits = λ x now.
+      let told = sym c.head_of.ensures.only_read.same ∙ sym c.read.ensures.same ∙ sym c.events_of.ensures.only_read.same ∙ now in
+      let o = subst (IsHead x) c.in-Open.is (c.in_ok-head.ensures.head x told) in
+      let t = c.in_ok-count.ensures.told x (c.head_of.ensures.only_read.same ∙ told) in
+      let whole = c.deref.ensures.value ∙ take_at c.read.new.buf _ c.in_ok-buffer.buffer.len (c.read.auto.buf ∙ c.deref_mut.ensures.len) in
+      let found = c.in-Some.ensures.found in
+      let tail = session_tail c.in-Some.plan c.in-Some.voc.now in
+      let rest = c.in-Some.rest.now ++ drop c.in_ok-count.count (drop 9 x) in
+      let start = 9 + (c.in_ok-count.count - length c.in-Some.rest.now) in
+      let begins : start ≡ 9 + length tail = start_is x c.deref_mut.result.now c.deref.result.now c.in_ok-count.count t.0 (whole ∙ t.1) tail c.in-Some.rest.now found.1 start (λ i. start) in
+      let spelled : drop 9 x ≡ tail ++ rest = spelled_first x c.deref_mut.result.now c.deref.result.now c.in_ok-count.count t.0 (whole ∙ t.1) tail c.in-Some.rest.now found.1 in
+      let events = c.in_ok-events.events.items in
+      let h = c.in_ok-events.ensures.found x (c.read.ensures.same ∙ c.head_of.ensures.only_read.same ∙ told) in
+      sits x o.0 o.1 o.2 c.in-Some.plan c.in-Some.voc.now rest found.0 spelled start c.in_ok-events.at events c.in_ok-events.raised c.at.result begins
+      (subst (HasEvents start c.in_ok-events.at events c.in_ok-events.raised) (rest_is x o.0 o.1 o.2 c.in-Some.plan c.in-Some.voc.now rest found.0 spelled start begins) h)
+      c.at.ensures.place (omega (arith, c.at.ensures.records, c.len.ensures)) c.at.ensures.raised;
+  durable = λ x now f left.
+      let told = sym c.head_of.ensures.only_read.same ∙ sym c.read.ensures.same ∙ sym c.events_of.ensures.only_read.same ∙ now in
+      c.in_ok-head.ensures.durable x told f (c.read.ensures.crash f (c.events_of.ensures.only_read.nothing_new f left));
+}
 
 pub returns-clause-storable : goal.returns-clause-storable
 returns-clause-storable g c = let read = c.in_ok-events.ensures.read in subst (All IsStorableEvent) read.1.are (all_storable false read.0 read.1.in_order)
 
-pub returns-clause-any_moment : goal.returns-clause-any_moment
-returns-clause-any_moment g c =
+pub returns-clause-only_read : goal.returns-clause-only_read
+returns-clause-only_read g c =
     let D = g.D.Disk in
-    let first = read_more D c.args.disk.now c.head_of.new.disk c.read.new.self c.head_of.ensures.only_read c.read.ensures.same c.read.ensures.crash c.read.ensures.time in
-    (then_read D c.args.disk.now c.read.new.self c.events_of.new.disk first c.events_of.ensures.only_read).any_moment
+    let first = read_more D c.args.disk.now c.head_of.new.disk c.read.new.self c.head_of.ensures.only_read c.read.ensures.same c.read.ensures.crash c.read.ensures.time c.read.ensures.cause.later in
+    then_read D c.args.disk.now c.read.new.self c.events_of.new.disk first c.events_of.ensures.only_read
 
 pub returns-in-Foreign-clause-some_refusal : goal.returns-in-Foreign-clause-some_refusal
 returns-in-Foreign-clause-some_refusal g c = inr foreign_somewhere
@@ -135,14 +142,14 @@ returns-clause-some_session g c =
     let Spelled : List ℕ → Type 0 = λ l. (bytes : List ℕ) × ReadsAs bytes (Session c.in-Some.plan l events) in
     subst Spelled (sym voc_is) (session_somewhere c.in-Some.plan c.in-Some.voc.now _ c.in_ok-events.at events c.in_ok-events.raised c.in-Some.ensures.found.0 c.in_ok-events.ensures.read)
 
-pub returns-in_err-count-clause-any_moment : goal.returns-in_err-count-clause-any_moment
-returns-in_err-count-clause-any_moment g c =
-    (read_more g.D.Disk c.args.disk.now c.head_of.new.disk c.read.new.self c.head_of.ensures.only_read c.read.ensures.same c.read.ensures.crash c.read.ensures.time).any_moment
+pub returns-in_err-count-clause-only_read : goal.returns-in_err-count-clause-only_read
+returns-in_err-count-clause-only_read g c =
+    read_more g.D.Disk c.args.disk.now c.head_of.new.disk c.read.new.self c.head_of.ensures.only_read c.read.ensures.same c.read.ensures.crash c.read.ensures.time c.read.ensures.cause.later
 
-pub returns-in_default-clause-any_moment : goal.returns-in_default-clause-any_moment
-returns-in_default-clause-any_moment g c =
-    (read_more g.D.Disk c.args.disk.now c.head_of.new.disk c.read.new.self c.head_of.ensures.only_read c.read.ensures.same c.read.ensures.crash c.read.ensures.time).any_moment
+pub returns-in_default-clause-only_read : goal.returns-in_default-clause-only_read
+returns-in_default-clause-only_read g c =
+    read_more g.D.Disk c.args.disk.now c.head_of.new.disk c.read.new.self c.head_of.ensures.only_read c.read.ensures.same c.read.ensures.crash c.read.ensures.time c.read.ensures.cause.later
 
-pub returns-in_err-voc-clause-any_moment : goal.returns-in_err-voc-clause-any_moment
-returns-in_err-voc-clause-any_moment g c =
-    (read_more g.D.Disk c.args.disk.now c.head_of.new.disk c.read.new.self c.head_of.ensures.only_read c.read.ensures.same c.read.ensures.crash c.read.ensures.time).any_moment
+pub returns-in_err-voc-clause-only_read : goal.returns-in_err-voc-clause-only_read
+returns-in_err-voc-clause-only_read g c =
+    read_more g.D.Disk c.args.disk.now c.head_of.new.disk c.read.new.self c.head_of.ensures.only_read c.read.ensures.same c.read.ensures.crash c.read.ensures.time c.read.ensures.cause.later

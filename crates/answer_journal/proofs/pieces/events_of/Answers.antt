@@ -73,7 +73,7 @@ pieces-preserved g c =
           (c.in_ok-place.ensures.read (drop c.args.start x) (drop c.in_ok-count.count (drop c.pieces.at x)) c.args.start h.records h.read
           (subst (λ (l : List ℕ). BeginsWith (drop c.args.start x) h.records l) (sym (piece_more x c.pieces.buffer c.read.new.buf c.pieces.at c.in_ok-count.count t.0 t.1)) (h.begins x told))
           (λ short. last_is x c.pieces.buffer c.read.new.buf c.pieces.at c.in_ok-count.count t.0 t.1 (omega (arith, ltb-true _ _ short, c.read.auto.buf)))));
-      only_read = read_more D c.args.disk.now c.pieces.disk c.read.new.self c.pieces.invariant.only_read c.read.ensures.same c.read.ensures.crash c.read.ensures.time;
+      only_read = read_more D c.args.disk.now c.pieces.disk c.read.new.self c.pieces.invariant.only_read c.read.ensures.same c.read.ensures.crash c.read.ensures.time c.read.ensures.cause.later;
       calls = λ x told pieced.
           let t = c.in_ok-count.ensures.told x (c.pieces.invariant.only_read.same ∙ told) in
           let Far : Reached → Type 0 = IsFar (ltb c.in_ok-count.count (length c.read.new.buf)) c.pieces.at (length (take c.in_ok-count.count c.read.new.buf)) in
@@ -82,20 +82,19 @@ pieces-preserved g c =
           (omega (arith, (h.begins x told).some, length-drop c.pieces.at x))
           (length c.args.buffer.now) c.in_ok-count.count c.in-Further.place pieced c.requires.behind (omega (arith, h.read.place)) (omega (arith, t.0, c.pieces.auto.buffer)) (omega (arith, ltb-false _ _ far.0, c.read.auto.buf, c.pieces.auto.buffer))
           (omega (arith, far.1, length-take-le c.in_ok-count.count c.read.new.buf (omega (arith, c.in_ok-count.ensures.fits, c.read.auto.buf))));
-      later = omega (arith, c.read.ensures.cause.later, c.pieces.invariant.later);
     }
 
 pub returns-in_err-count-clause-only_read : goal.returns-in_err-count-clause-only_read
 returns-in_err-count-clause-only_read g c =
-    read_more g.D.Disk c.args.disk.now c.pieces.disk c.read.new.self c.pieces.invariant.only_read c.read.ensures.same c.read.ensures.crash c.read.ensures.time
+    read_more g.D.Disk c.args.disk.now c.pieces.disk c.read.new.self c.pieces.invariant.only_read c.read.ensures.same c.read.ensures.crash c.read.ensures.time c.read.ensures.cause.later
 
 pub returns-in_err-place-clause-only_read : goal.returns-in_err-place-clause-only_read
 returns-in_err-place-clause-only_read g c =
-    read_more g.D.Disk c.args.disk.now c.pieces.disk c.read.new.self c.pieces.invariant.only_read c.read.ensures.same c.read.ensures.crash c.read.ensures.time
+    read_more g.D.Disk c.args.disk.now c.pieces.disk c.read.new.self c.pieces.invariant.only_read c.read.ensures.same c.read.ensures.crash c.read.ensures.time c.read.ensures.cause.later
 
 pub returns-in-Closed-clause-only_read : goal.returns-in-Closed-clause-only_read
 returns-in-Closed-clause-only_read g c =
-    read_more g.D.Disk c.args.disk.now c.pieces.disk c.read.new.self c.pieces.invariant.only_read c.read.ensures.same c.read.ensures.crash c.read.ensures.time
+    read_more g.D.Disk c.args.disk.now c.pieces.disk c.read.new.self c.pieces.invariant.only_read c.read.ensures.same c.read.ensures.crash c.read.ensures.time c.read.ensures.cause.later
 
 pub returns-in_err-count-clause-few_calls : goal.returns-in_err-count-clause-few_calls
 returns-in_err-count-clause-few_calls g c x told pieced =

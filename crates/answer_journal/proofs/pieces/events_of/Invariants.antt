@@ -10,7 +10,6 @@ invariant-pieces g l = record {
   read : HasRead l.start l.at l.events.items l.raised (g.D.Disk.content l.initial.disk);
   only_read : IsOnlyRead g.D.Disk l.initial.disk l.disk;
   calls : (x : List ℕ) → g.D.Disk.content l.initial.disk ≡ Some x → TakesPieces (length l.initial.buffer) x → 4194047 * g.D.Disk.calls l.disk + l.start ≤ 4194047 * g.D.Disk.calls l.initial.disk + l.at;
-  later : g.D.Disk.faults l.initial.disk ≤ g.D.Disk.faults l.disk;
 }
 
 -- so many bytes the events and the record that raises the journal have at most

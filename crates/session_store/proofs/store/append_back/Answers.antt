@@ -1,20 +1,29 @@
+use Rattle.std.proofs.Common.{inl, arith}
+use Rattle.std.proofs.lemmas.Result.{on_ok_weaker}
 use Rattle.assign.specs.declared.events.Event.TheVariants.{Back}
-use Rattle.session_store.proofs.Stores.{on_ok, added_after, left_by_raising, left_after}
+use Rattle.disk_model.proofs.Behind.{none_done, behind_as, then_behind}
+use Rattle.answer_journal.specs.End.{HasNew, IsOldOrNew, IsSame}
+use Rattle.session_store.proofs.Keepers.{rose_later}
+use Rattle.session_store.proofs.Stores.{append_failed}
 use Rattle.session_store.proofs.store.append_back.Goals as goal
 
-pub returns-in_err-raised-clause-any_moment : goal.returns-in_err-raised-clause-any_moment
-returns-in_err-raised-clause-any_moment g c bytes told =
-    left_by_raising g.D.Disk g.met.D.Disk.only_now bytes Back c.args.disk.now c.raised.new.disk (c.raised.ensures.any_moment bytes told)
+pub returns-in_err-raised-clause-leaves : goal.returns-in_err-raised-clause-leaves
+returns-in_err-raised-clause-leaves g c =
+    behind_as g.D.Disk 4 8 c.args.disk.now c.raised.new.disk c.raised.result _ IsSame IsSame (λ old. HasNew old Back) (λ old. IsOldOrNew old Back) c.raised.ensures.leaves (omega arith)
+    (λ old told. none_done _ _ c.from_residual.result c.from_residual.ensures.1) (λ old f told same plan voc events spelled. inl (same plan voc events spelled))
 
-pub returns-clause-added : goal.returns-clause-added
-returns-clause-added g c bytes told =
-    let kept = c.in_ok-raised.ensures.same bytes told in
-    on_ok c.append.result
-    (added_after g.D.Disk g.met.D.Disk.only_now bytes kept.now Back c.append.new.disk kept.holds)
-    (c.append.ensures.added kept.now kept.tells)
+pub returns-clause-leaves : goal.returns-clause-leaves
+returns-clause-leaves g c =
+    then_behind g.D.Disk 4 4 8 c.args.disk.now c.raised.new.disk c.append.new.disk c.append.result IsSame IsSame (λ old. HasNew old Back) (λ old. IsOldOrNew old Back) (λ old. HasNew old Back) (λ old. IsOldOrNew old Back)
+    c.in_ok-raised.ensures.leaves c.append.ensures.leaves (omega arith)
+    (λ old mid new told same added plan voc events spelled. added plan voc events (same plan voc events spelled))
+    (λ old f told same plan voc events spelled. inl (same plan voc events spelled))
+    (λ old mid f told same either plan voc events spelled. either plan voc events (same plan voc events spelled))
 
-pub returns-clause-any_moment : goal.returns-clause-any_moment
-returns-clause-any_moment g c bytes told =
-    let kept = c.in_ok-raised.ensures.same bytes told in
-    left_after g.D.Disk g.met.D.Disk.only_now bytes kept.now Back c.args.disk.now c.raised.new.disk c.append.new.disk kept.holds
-    (c.raised.ensures.any_moment bytes told) (c.append.ensures.any_moment kept.now kept.tells)
+pub returns-clause-counted : goal.returns-clause-counted
+returns-clause-counted g c = on_ok_weaker c.append.result (λ more. omega (arith, more, c.raised.ensures.counted)) c.append.ensures.counted
+
+pub returns-clause-failed : goal.returns-clause-failed
+returns-clause-failed g c =
+    append_failed c.append.result c.append.ensures.faults (λ full. let all = c.append.ensures.full.0 full in let no : ⊥ = omega (arith, all, c.raised.ensures.counted, c.requires.room) in no)
+    (λ is. let failed = c.append.ensures.failed is in (rose_later _ _ _ c.raised.ensures.leaves.goes_on.later failed.0, failed.1.not_live))

@@ -1,7 +1,7 @@
-use Rattle.std.proofs.Common.{◌∙◌, sym, inl, inr}
+use Rattle.std.proofs.Common.{◌∙◌, List, ℕ, sym, inl, inr, arith}
 use Rattle.std.proofs.lemmas.Result.{err_from_is_err_and}
-use Rattle.disk_model.specs.Moments.{started}
-use Rattle.answer_journal.specs.Making.{IsCreating}
+use Rattle.disk_model.proofs.Behind.{none_done, behind_as, nothing_behind}
+use Rattle.answer_journal.specs.Making.{IsCreating, StartsWith}
 use Rattle.answer_journal.proofs.OnlyRead.{unread}
 use Rattle.session_store.specs.Held.{plan_held, events_held}
 use Rattle.session_store.proofs.Stores.{not_made, no_voc, one_fault, unless_failed, of_each_error, there_made, told_before}
@@ -30,9 +30,9 @@ returns-in_err-journal-clause-untouched g c =
 
 pub returns-clause-sits : goal.returns-clause-sits
 returns-clause-sits g c live bytes told =
-    let was = told_before _ _ c.create.ensures.silent bytes told in
+    let was = told_before _ _ c.create.ensures.leaves.goes_on.silent bytes told in
     there_made g.D.Disk c.create.new.disk c.in_ok-journal.journal (plan_held c.in_ok-held.held) c.args.plan c.in_ok-held.bytes.items c.args.voc.now (events_held c.in_ok-held.held) bytes told
-    (sym c.in_ok-held.ensures.plan) (sym c.in_ok-held.ensures.voc) c.in_ok-held.ensures.events (c.in_ok-journal.ensures.sits bytes told) (c.in_ok-journal.ensures.durable bytes told) (c.in_ok-journal.ensures.created was.0 was.1)
+    (sym c.in_ok-held.ensures.plan) (sym c.in_ok-held.ensures.voc) c.in_ok-held.ensures.events (c.in_ok-journal.ensures.there.sits bytes told) (c.in_ok-journal.ensures.there.durable bytes told) (c.in_ok-journal.ensures.leaves.now was.0 was.1)
 
 pub returns-in_err-journal-clause-some_refusal : goal.returns-in_err-journal-clause-some_refusal
 returns-in_err-journal-clause-some_refusal g c =
@@ -40,7 +40,24 @@ returns-in_err-journal-clause-some_refusal g c =
     let some = c.in_err-journal.ensures.some_refusal in
     rw (p.1, p.2) (some.0, not_made c.args.voc.now some.0 c.in_err-journal.field-0.0 c.in_ok-held.ensures.taken some.1)
 
-pub returns-in_err-held-clause-any_moment : goal.returns-in_err-held-clause-any_moment
-returns-in_err-held-clause-any_moment g c bytes told =
-    let before = g.D.Disk.may_leave c.args.disk.now in
-    started g.D.Disk c.args.disk.now (IsCreating before c.args.plan c.args.voc.now) (λ f left. inl (g.met.D.Disk.only_now c.args.disk.now f left))
+pub returns-in_err-held-clause-leaves : goal.returns-in_err-held-clause-leaves
+returns-in_err-held-clause-leaves g c =
+    nothing_behind g.D.Disk 9 c.args.disk.now c.from_residual.result (λ _. StartsWith c.args.plan c.args.voc.now) (λ _. IsCreating (g.D.Disk.may_leave c.args.disk.now) c.args.plan c.args.voc.now) (g.met.D.Disk.only_now c.args.disk.now)
+    (λ old told. none_done _ _ c.from_residual.result c.from_residual.ensures.1) (λ old f told left. inl left)
+
+pub returns-in_err-journal-clause-leaves : goal.returns-in_err-journal-clause-leaves
+returns-in_err-journal-clause-leaves g c =
+    let Start : List ℕ → List ℕ → Type 0 = λ _. StartsWith c.args.plan c.args.voc.now in
+    let Creating : List ℕ → List ℕ → Type 0 = λ _. IsCreating (g.D.Disk.may_leave c.args.disk.now) c.args.plan c.args.voc.now in
+    behind_as g.D.Disk 9 9 c.args.disk.now c.create.new.disk c.create.result _ Start Creating Start Creating c.create.ensures.leaves (omega arith)
+    (λ old told. none_done _ _ c.from_residual-in_err-journal.result c.from_residual-in_err-journal.ensures.1) (λ old f told left. left)
+
+pub returns-clause-leaves : goal.returns-clause-leaves
+returns-clause-leaves g c =
+    let Start : List ℕ → List ℕ → Type 0 = λ _. StartsWith c.args.plan c.args.voc.now in
+    let Creating : List ℕ → List ℕ → Type 0 = λ _. IsCreating (g.D.Disk.may_leave c.args.disk.now) c.args.plan c.args.voc.now in
+    behind_as g.D.Disk 9 9 c.args.disk.now c.create.new.disk c.create.result _ Start Creating Start Creating c.create.ensures.leaves (omega arith)
+    (λ old told. c.in_ok-journal.ensures.leaves.now old told) (λ old f told left. left)
+
+pub returns-clause-made : goal.returns-clause-made
+returns-clause-made g c = record { plan = c.in_ok-held.ensures.plan; voc = c.in_ok-held.ensures.voc; events = c.in_ok-held.ensures.events; idle = c.in_ok-held.ensures.idle; live = c.in_ok-journal.ensures.there.live }

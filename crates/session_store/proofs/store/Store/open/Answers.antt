@@ -7,7 +7,7 @@ use Rattle.session_store.specs.Held.{plan_in, plan_held, events_held}
 use Rattle.session_store.specs.Left.{SaysSession}
 use Rattle.session_store.specs.Opening.{NotLed}
 use Rattle.session_store.proofs.Replaying.{both_same}
-use Rattle.session_store.proofs.Stores.{not_led, there_as}
+use Rattle.session_store.proofs.Stores.{not_led, some_not_opened, there_as}
 use Rattle.session_store.proofs.store.Store.open.Goals as goal
 
 pub returns-in_err-session-clause-refused : goal.returns-in_err-session-clause-refused
@@ -21,13 +21,13 @@ returns-in_err-session-clause-refused g c bytes told =
 pub returns-clause-sits : goal.returns-clause-sits
 returns-clause-sits g c live bytes told =
     let o = c.in_ok-journal.field-0 in
-    let was = sym c.open.ensures.same ∙ told in
+    let was = sym c.open.ensures.only_read.same ∙ told in
     there_as o.journal o.plan (plan_held c.new.result) o.voc.items o.events.items (events_held c.new.result) (g.D.Disk.may_leave c.open.new.disk) bytes
     (sym (ap plan_in c.new.ensures.session ∙ c.in_ok-session.ensures.plan)) (sym c.new.ensures.events)
-    (record { behind = c.in_ok-journal.ensures.sits bytes was; opens = (c.in_ok-journal.ensures.opened bytes was).1; durable = c.in_ok-journal.ensures.durable bytes was })
+    (record { behind = c.in_ok-journal.ensures.there.sits bytes told; opens = (c.in_ok-journal.ensures.opened bytes was).1; durable = c.in_ok-journal.ensures.there.durable bytes told })
 
-pub returns-in_err-session-clause-some_refusal : goal.returns-in_err-session-clause-some_refusal
-returns-in_err-session-clause-some_refusal g c =
+pub returns-in_err-session-clause-some : goal.returns-in_err-session-clause-some
+returns-in_err-session-clause-some g c =
     let o = c.in_ok-journal.field-0 in
     let p = err_from_is_err_and c.from_residual-in_err-session.result c.from_residual-in_err-session.ensures.1 in
     let fault = c.in_err-session.field-0.0 in
@@ -38,8 +38,8 @@ returns-in_err-session-clause-some_refusal g c =
       not_led some.0 o.plan o.voc.items o.events.items fault some.1 (both_same No _ _ _ _ c.deref.ensures.value c.deref-2.ensures.value c.in_err-session.ensures.refused),
     )
 
-pub returns-clause-some_session : goal.returns-clause-some_session
-returns-clause-some_session g c =
+pub returns-clause-some : goal.returns-clause-some
+returns-clause-some g c =
     let o = c.in_ok-journal.field-0 in
     let some = c.in_ok-journal.ensures.some_session in
     let Says : Plan → List Event → Type 0 = λ p e. SaysSession some.0 p o.voc.items e in (
@@ -56,4 +56,9 @@ returns-in_err-journal-clause-synced g c bytes told =
 pub returns-in_err-session-clause-synced : goal.returns-in_err-session-clause-synced
 returns-in_err-session-clause-synced g c bytes told =
     let p = err_from_is_err_and c.from_residual-in_err-session.result c.from_residual-in_err-session.ensures.1 in
-    rw (p.1, p.2) (inl (c.in_ok-journal.ensures.durable bytes told))
+    rw (p.1, p.2) (inl (c.in_ok-journal.ensures.there.durable bytes (c.open.ensures.only_read.same ∙ told)))
+
+pub returns-in_err-journal-clause-some : goal.returns-in_err-journal-clause-some
+returns-in_err-journal-clause-some g c =
+    let p = err_from_is_err_and c.from_residual.result c.from_residual.ensures.1 in
+    rw (p.1, p.2) (some_not_opened c.in_err-journal.field-0.0 c.in_err-journal.ensures.some_refusal)
