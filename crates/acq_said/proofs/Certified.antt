@@ -1,25 +1,36 @@
 -- What `certify` says of a session.
-use Rattle.std.proofs.Common.{◌≡◌, ◌≤◌, ◌∙◌, ℕ, Bool, true, false, List, length, Option, Some, None, refl, sym, ap, subst, arith}
-use Rattle.std.specs.Prelude.{All}
+use Rattle.std.proofs.Common.{◌≡◌, ◌≤◌, ◌∙◌, ℕ, Bool, true, false, List, length, Option, Some, None, Result, Ok, Err, refl, sym, ap, subst, arith}
+use Rattle.std.specs.Prelude.{All, IfOk}
 use Rattle.assign.specs.Events.{Answer}
 use Rattle.assign.specs.declared.events.Event.{Event}
 use Rattle.assign.specs.declared.events.Plan.{Plan}
-use Rattle.cert_check.specs.Making.{made}
+use Rattle.cert_check.specs.Certificate.{Certificate}
+use Rattle.cert_check.specs.Checking.{verdict}
+use Rattle.cert_check.specs.Making.{certificate_of, made}
+use Rattle.cert_check.specs.Texts.{confirmed_text}
+use Rattle.cert_check.specs.WritingLaws.{IsConfirmed}
+use Rattle.cert_check.specs.declared.fault.CertFault.{CertFault}
+use Rattle.cert_check.proofs.MadeBack.{made_is_confirmed}
+use Rattle.cert_check.proofs.OneText.{not_both, one_certificate}
 use Rattle.language.specs.declared.candidates.Candidate.{Candidate}
 use Rattle.language.specs.Language.{Language, IsLanguage, IsQuestion}
-use Rattle.language.specs.Answers.{IsCovered, standing_on}
+use Rattle.language.specs.Answers.{IsCovered, IsNetwork, standing_on}
+use Rattle.session_store.specs.Opened.{opened_as}
+use Rattle.voc_read.specs.Vocabulary.{IsVocabulary}
 use Rattle.session_core.specs.Standing.{Stands, knowledge_of}
 use Rattle.session_core.specs.declared.session.Session.{Session}
-use Rattle.acq_said.specs.Certifying.{IsAtEnd, TellsEnd, certificate_said, if_at_end}
+use Rattle.acq_said.specs.Certifying.{ChecksOut, IsAtEnd, MakesGood, TellsEnd, certificate_said, if_at_end}
+use Rattle.acq_said.specs.Confirming.{IsReading, checked_said, verdict_said}
 use Rattle.acq_loop.specs.Driven.{IsDone}
 use Rattle.acq_loop.specs.Points.{terms_with}
 use Rattle.acq_said.specs.Reducing.{network_after}
 use Rattle.acq_loop.specs.Run.{Next, Puts, Ends, Converged, Collapsed, Undecided, Suspended, LineTooLong, Unreadable, JournalFull}
-use Rattle.acq_said.specs.Saying.{Saying}
+use Rattle.acq_said.specs.Saying.{Saying, saying}
 use Rattle.acq_loop.specs.Texts.{learned_in}
 use Rattle.acq_loop.proofs.Reached.{IsReached}
-use Rattle.acq_said.proofs.StandingQuestions.{all_questions}
+use Rattle.acq_said.proofs.StandingQuestions.{all_questions, all_valued}
 use Rattle.acq_loop.proofs.Standings.{carried, few_answers, reached}
+use Rattle.acq_loop.specs.declared.ending.Ending.TheVariants as ending
 use Rattle.acq_loop.specs.declared.terms.Terms.{Terms}
 
 -- ---- what is certified of a session
@@ -29,6 +40,14 @@ pub reached_so : (session : Session) (l : Language) (plan : Plan) (t : List Answ
 reached_so session l plan t lang planned stands =
     let k = knowledge_of session in
     carried (λ m p. IsReached m p t) k.lang l k.plan plan lang planned (reached session t stands)
+
+-- what a check confirms is read as nothing else, and said to be confirmed
+checks_out : (text : List ℕ) (cert : Certificate) → IsConfirmed text cert → ChecksOut text cert
+checks_out text cert is = record { confirmed = is; says = go }
+  where
+    go : (reading : Result Certificate CertFault) → IsReading text reading → checked_said reading ≡ saying (confirmed_text cert) ending.Done
+    go (Ok other) read = ap (λ c. verdict_said c (verdict c)) (one_certificate text other cert read is.read) ∙ ap (verdict_said cert) is.yes
+    go (Err fault) refused = absurd (not_both text cert fault is.read refused)
 
 -- The language, the network and the answers of a session that has converged are those to which its events lead.
 module _ (l : Language) (plan : Plan) (events : List Event) (budget : ℕ) (m : Language) (list : List Candidate) (answers : List Answer) (lang : m ≡ l) (same : list ≡ network_after l plan events) (stand : answers ≡ standing_on l events) where
@@ -51,6 +70,17 @@ module _ (l : Language) (plan : Plan) (events : List Event) (budget : ℕ) (m : 
       let few = few_answers l plan (standing_on l events) (subst IsLanguage lang lawful) there in
       let size : length answers ≡ length (standing_on l events) = ap (λ (t : List Answer). length t) stand in
       omega (arith, few, size)
+
+  pub good_so : IsLanguage m → IsReached l plan (standing_on l events) → (voc : List ℕ) → IsVocabulary voc l → IsDone l (terms_with plan budget) (standing_on l events) → MakesGood budget (opened_as plan voc events l)
+  good_so lawful there voc described done text h =
+      let t : List Answer = standing_on l events in
+      let network : List Candidate = network_after l plan events in
+      let learned : done.network ≡ network = sym (ap learned_in done.idle) in
+      let right : IsLanguage l = subst IsLanguage lang lawful in
+      let few = few_answers l plan t right there in
+      checks_out text (certificate_of l network t)
+      (made_is_confirmed voc l network t budget text right described (subst (λ (n : List Candidate). IsNetwork l n) learned done.converged.lawful) (subst (λ (n : List Candidate). IsCovered l n t) learned done.covered)
+      (all_questions l plan right t there) (all_valued l plan right t there) (omega (arith, few)) h)
 
   pub certificate_so : (voc : List ℕ) → certificate_said (made voc m list answers budget) ≡ certificate_said (made voc l (network_after l plan events) (standing_on l events) budget)
   certificate_so voc = λ i. certificate_said (made voc (lang i) (same i) (stand i) budget)
@@ -80,3 +110,8 @@ more_said (Some (Ends Suspended)) certificate other more = refl
 more_said (Some (Ends LineTooLong)) certificate other more = refl
 more_said (Some (Ends Unreadable)) certificate other more = refl
 more_said (Some (Ends JournalFull)) certificate other more = refl
+
+-- what follows where a call answers Ok
+pub ok_so : {A E : Type 0} (said : Result A E) {fact other : Type 0} → (fact → other) → IfOk said (λ _. fact) → IfOk said (λ _. other)
+ok_so (Ok s) more holds = more holds
+ok_so (Err e) more holds = tt

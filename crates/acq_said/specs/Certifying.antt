@@ -2,14 +2,18 @@
 use Rattle.std.specs.Prelude.{◌≡◌, ◌⊎◌, ◌++◌, ◌∷◌, [], ℕ, Bool, true, false, List, length, Option, Some, Result, Ok, Err, codes}
 use Rattle.std.specs.Fmt.{decimal}
 use Rattle.assign.specs.Events.{Answer}
-use Rattle.cert_check.specs.Making.{made}
-use Rattle.cert_check.specs.Texts.{make_fault_line}
+use Rattle.cert_check.specs.Certificate.{Certificate}
+use Rattle.cert_check.specs.Making.{certificate_of, made}
+use Rattle.cert_check.specs.Texts.{confirmed_text, make_fault_line}
+use Rattle.cert_check.specs.WritingLaws.{IsConfirmed}
+use Rattle.cert_check.specs.declared.fault.CertFault.{CertFault}
 use Rattle.cert_check.specs.declared.fault.MakeFault.{MakeFault}
 use Rattle.language.specs.Language.{Language}
 use Rattle.language.specs.Answers.{standing_on}
 use Rattle.session_store.specs.Opened.{Opened}
 use Rattle.acq_loop.specs.Driven.{IsDone}
 use Rattle.acq_loop.specs.Points.{terms_with}
+use Rattle.acq_said.specs.Confirming.{IsReading, checked_said}
 use Rattle.acq_said.specs.Reducing.{network_of}
 use Rattle.acq_loop.specs.Run.{Next, Converged, Ends, next_after}
 use Rattle.acq_said.specs.Saying.{Saying, saying}
@@ -52,7 +56,20 @@ certified_said budget o =
     (certificate_said (made o.voc o.lang (network_of o) (standing_on o.lang o.events) budget))
     (unconverged_said (length (standing_on o.lang o.events)))
 
--- a certificate is made only where the answers converge on the network
-abbrev pub CertifiesTruly : ℕ → Opened → Type 0
-CertifiesTruly budget o =
-    IsDone o.lang (terms_with o.plan budget) (standing_on o.lang o.events) ⊎ (IsAtEnd o.lang (terms_with o.plan budget) (standing_on o.lang o.events) → ⊥)
+-- ---- What is true of it
+
+-- The text is read as this certificate, which a check confirms; so what `check` reads it as is that, and it says so and is done.
+pub record ChecksOut (text : List ℕ) (cert : Certificate) : Type 0 where
+  pub confirmed : IsConfirmed text cert
+  pub says : (reading : Result Certificate CertFault) → IsReading text reading → checked_said reading ≡ saying (confirmed_text cert) ending.Done
+
+-- each text that is made checks out
+abbrev pub MakesGood : ℕ → Opened → Type 0
+MakesGood budget o =
+    (text : List ℕ) → made o.voc o.lang (network_of o) (standing_on o.lang o.events) budget ≡ Ok text →
+    ChecksOut text (certificate_of o.lang (network_of o) (standing_on o.lang o.events))
+
+-- a certificate is made only where the answers converge on the network, and then it checks out
+pub record CertifiesTruly (budget : ℕ) (o : Opened) : Type 0 where
+  pub converged : IsDone o.lang (terms_with o.plan budget) (standing_on o.lang o.events) ⊎ (IsAtEnd o.lang (terms_with o.plan budget) (standing_on o.lang o.events) → ⊥)
+  pub good : IsAtEnd o.lang (terms_with o.plan budget) (standing_on o.lang o.events) → MakesGood budget o

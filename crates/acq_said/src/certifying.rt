@@ -11,7 +11,7 @@ ghost use Rattle.session_store.specs.Held.{IsWide};
 ghost use Rattle.session_store.specs.Opened.{opened_as};
 ghost use Rattle.session_store.specs.Replay.{IsAnswer, answer_in, seen, standing_numbers};
 ghost use Rattle.voc_read.specs.Vocabulary.{IsVocabulary};
-ghost use Rattle.acq_said.specs.Certifying.{CertifiesTruly, TellsEnd, certificate_said, certified_said, unconverged_said};
+ghost use Rattle.acq_said.specs.Certifying.{CertifiesTruly, MakesGood, TellsEnd, certificate_said, certified_said, unconverged_said};
 ghost use Rattle.acq_loop.specs.Driven.{IsDone};
 ghost use Rattle.acq_loop.specs.Points.{terms_with};
 ghost use Rattle.acq_said.specs.Reducing.{network_after};
@@ -151,7 +151,8 @@ fn certify_converged<D: Disk, P: Keep<D>>(
     requires done { IsDone (P.lang keep.now) (terms_with (P.plan keep.now) budget) (standing_on (P.lang keep.now) (P.record_of keep.now)) }
     requires read { IsVocabulary voc.now (P.lang keep.now) }
     requires budget { IsBudget budget }
-    ensures { IfOk result (λ said. said ≡ certificate_said (made voc.now (P.lang keep.now) (network_after (P.lang keep.now) (P.plan keep.now) (P.record_of keep.now)) (standing_on (P.lang keep.now) (P.record_of keep.now)) budget)) }
+    ensures is { IfOk result (λ said. said ≡ certificate_said (made voc.now (P.lang keep.now) (network_after (P.lang keep.now) (P.plan keep.now) (P.record_of keep.now)) (standing_on (P.lang keep.now) (P.record_of keep.now)) budget)) }
+    ensures good { IfOk result (λ _. MakesGood budget (opened_as (P.plan keep.now) voc.now (P.record_of keep.now) (P.lang keep.now))) }
 {
     let Ok(answers) = standing_entries::<D, P>(alloc, keep) else {
         return Err(Memory);

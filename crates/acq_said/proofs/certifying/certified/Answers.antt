@@ -2,12 +2,13 @@ use Rattle.std.proofs.Common.{◌≡◌, ◌∙◌, ap, subst, inl, inr, length,
 use Rattle.std.specs.Prelude.{IfOk}
 use Rattle.cert_check.specs.Making.{made}
 use Rattle.language.specs.Answers.{standing_on}
-use Rattle.acq_said.specs.Certifying.{certificate_said, unconverged_said}
+use Rattle.acq_said.specs.Certifying.{MakesGood, certificate_said, unconverged_said}
+use Rattle.session_store.specs.Opened.{opened_as}
 use Rattle.acq_loop.specs.Points.{terms_with}
 use Rattle.acq_said.specs.Reducing.{network_after}
 use Rattle.acq_loop.specs.Run.{next_after}
 use Rattle.acq_said.specs.Saying.{Saying}
-use Rattle.acq_said.proofs.Certified.{end_said, more_said, told_done, told_more}
+use Rattle.acq_said.proofs.Certified.{end_said, more_said, ok_so, told_done, told_more}
 use Rattle.acq_said.proofs.Spoken.{ok_any}
 use Rattle.acq_said.proofs.certifying.certified.Goals as goal
 
@@ -23,14 +24,19 @@ returns-in-Ok-true-clause-says g c =
     subst (λ (what : Saying). IfOk c.certify_converged.result (λ said. said ≡ what))
     (ap (λ (v : List ℕ). certificate_said (made v l network t c.args.budget)) c.requires.voc
     ∙ end_said (next_after l terms t) (certificate_said (made (P.voc keep) l network t c.args.budget)) (unconverged_said (length t)) done.ends)
-    c.certify_converged.ensures
+    c.certify_converged.ensures.is
 
 pub returns-in-Ok-true-clause-so : goal.returns-in-Ok-true-clause-so
 returns-in-Ok-true-clause-so g c =
     let P = g.P.Keep in
     let keep = c.args.keep.now in
-    ok_any c.certify_converged.result
-    (inl (told_done (P.lang keep) (terms_with (P.plan keep) c.args.budget) (standing_on (P.lang keep) (P.record_of keep)) c.in-Ok-true.field-0 c.in-Ok-true.field-0-test c.in-Ok-true.ensures))
+    let l = P.lang keep in
+    ok_so c.certify_converged.result
+    (λ good. record {
+      converged = inl (told_done l (terms_with (P.plan keep) c.args.budget) (standing_on l (P.record_of keep)) c.in-Ok-true.field-0 c.in-Ok-true.field-0-test c.in-Ok-true.ensures);
+      good = λ end. subst (λ (v : List ℕ). MakesGood c.args.budget (opened_as (P.plan keep) v (P.record_of keep) l)) c.requires.voc good;
+    })
+    c.certify_converged.ensures.good
 
 pub returns-in-Ok-false-clause-says : goal.returns-in-Ok-false-clause-says
 returns-in-Ok-false-clause-says g c =
@@ -49,5 +55,5 @@ pub returns-in-Ok-false-clause-so : goal.returns-in-Ok-false-clause-so
 returns-in-Ok-false-clause-so g c =
     let P = g.P.Keep in
     let keep = c.args.keep.now in
-    ok_any c.unconverged.result
-    (inr (told_more (P.lang keep) (terms_with (P.plan keep) c.args.budget) (standing_on (P.lang keep) (P.record_of keep)) c.in-Ok-false.field-0 c.in-Ok-false.field-0-test c.in-Ok-false.ensures))
+    let more = told_more (P.lang keep) (terms_with (P.plan keep) c.args.budget) (standing_on (P.lang keep) (P.record_of keep)) c.in-Ok-false.field-0 c.in-Ok-false.field-0-test c.in-Ok-false.ensures in
+    ok_any c.unconverged.result (record { converged = inr more; good = λ end. absurd (more end) })
