@@ -344,10 +344,11 @@ searched_true l network kept budget first end bytes answer part = λ c is from b
 range_true : (l : Language) (network : List Candidate) (budget first end from to : ℕ) (bytes : List ℕ) → first ≤ from → to ≤ end → AreTrue l network budget first end bytes →
     AreTrue l network budget from to (slice_range bytes (from - first) (to - first))
 range_true l network budget first end from to bytes low high are = λ c is after before.
-    (let true_byte = are c is (omega arith) (omega arith) in
-    (true_byte.0,
-    get_or-take ((to - first) - (from - first)) (drop (from - first) bytes) (number_of l c - from) 0 (omega arith) ∙ get_or-drop (from - first) bytes (number_of l c - from) 0
-    ∙ ap (λ k. get_or bytes k 0) (let e : (from - first) + (number_of l c - from) ≡ number_of l c - first = omega arith in e) ∙ true_byte.1))
+    (let true_byte = are c is (omega arith) (omega arith) in (
+      true_byte.0,
+      get_or-take ((to - first) - (from - first)) (drop (from - first) bytes) (number_of l c - from) 0 (omega arith) ∙ get_or-drop (from - first) bytes (number_of l c - from) 0
+          ∙ ap (λ k. get_or bytes k 0) (let e : (from - first) + (number_of l c - from) ≡ number_of l c - first = omega arith in e) ∙ true_byte.1,
+    ))
 
 pub part_range_true : (l : Language) (network kept : List Candidate) (budget first end from to : ℕ) (bytes : List ℕ) (answer : Query) → first ≤ from → to ≤ end → IsSearched l network kept budget first end bytes answer →
     AreTrue l network budget from to (slice_range bytes (from - first) (to - first))

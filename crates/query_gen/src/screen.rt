@@ -217,14 +217,7 @@ impl Screen {
     ///
     /// That is all that it found out. What else `take_marks` does matters only where no question was found: there the candidates
     /// that are open have to be those of the last search.
-    pub fn take_searched(
-        &mut self,
-        place: &Place,
-        first: u32,
-        end: u32,
-        net: &Network,
-        budget: u32,
-    )
+    pub fn take_searched(&mut self, place: &Place, first: u32, end: u32, net: &Network, budget: u32)
         requires part { (first ≤ end) × (end ≤ length self.old.marks) }
         requires room { end - first ≤ vec_len place.now.marks }
         ensures taken { searched_from place.now first < searched_end place.now end → HasTaken (slice_range place.now.marks.items (searched_from place.now first - first) (searched_end place.now end - first)) (searched_from place.now first) (searched_end place.now end) (begun self.old (length net.now.list) budget) self.new }

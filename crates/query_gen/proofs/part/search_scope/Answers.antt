@@ -44,7 +44,12 @@ loop-relations-preserved-then-number-next c =
     let small = c.if-number-next.true in
     let fits = c.ranges.end.fits in
     record {
-      searched = before.searched; none = before.none; size = before.size; from = before.from; behind = before.behind; within = before.within;
+      searched = before.searched;
+      none = before.none;
+      size = before.size;
+      from = before.from;
+      behind = before.behind;
+      within = before.within;
       left = left_after c.args.kept.now.members c.args.scope c.number_of-base.result c.args.end c.loop-relations.relations c.split_first-rel.result.0 c.split_first-rel.result.1 c.loop-relations.next c.loop-relations.next c.split_first-rel.ensures
           (omega arith) (λ r low high same. omega arith) before.left;
     }
@@ -57,11 +62,15 @@ loop-relations-preserved-then-number-end c =
     let past = c.if-number-end.true in
     let fits = c.ranges.end.fits in
     record {
-      searched = before.searched; none = before.none; size = before.size; from = before.from; behind = before.behind; within = before.within;
+      searched = before.searched;
+      none = before.none;
+      size = before.size;
+      from = before.from;
+      behind = before.behind;
+      within = before.within;
       left = left_after c.args.kept.now.members c.args.scope c.number_of-base.result c.args.end c.loop-relations.relations c.split_first-rel.result.0 c.split_first-rel.result.1 c.loop-relations.next c.loop-relations.next c.split_first-rel.ensures
           (omega arith) (λ r low high same. omega arith) before.left;
     }
-
 
 -- the relation's candidate is of the part, and its number is the sum
 pub look_at-requires-clause-candidate : goal.look_at-requires-clause-candidate
