@@ -1,6 +1,6 @@
 -- When a command comes to its own end.
 use Rattle.std.proofs.Common.{◌≡◌, ◌∙◌, ◌⊎◌, ℕ, ◌+◌, ◌≤◌, Bool, true, false, cond, drop, List, [], length, Option, Some, None, Result, Ok, Err, refl, sym, ap, subst, inl, inr, ⊎_elim, arith}
-use Rattle.std.specs.Prelude.{IfSome, IsSome, nat_le}
+use Rattle.std.specs.Prelude.{IfSome, nat_le}
 use Rattle.std.specs.Option.{option_map}
 use Rattle.std.proofs.lemmas.List.{append-nil}
 use Rattle.disk_model.specs.declared.disk.Disk.{Ghosts as DiskOf}
@@ -23,7 +23,6 @@ use Rattle.network.specs.declared.fault.NetFault.{NetFault}
 use Rattle.session_laws.specs.Bound.{most_answers}
 use Rattle.session_laws.specs.Session.{Idle}
 use Rattle.session_laws.proofs.Limits.{answers_fit}
-use Rattle.session_store.specs.Left.{bytes_told}
 use Rattle.session_store.specs.Opened.{Opened}
 use Rattle.session_store.specs.Replay.{HavePlaces, replay_on}
 use Rattle.session_store.proofs.Fronts.{replay_is_state}
@@ -75,20 +74,20 @@ abbrev OwnEnd : Ending → Type 0
 OwnEnd end = ((m : ℕ) × (end ≡ ending.Converged m)) ⊎ ((m : ℕ) × (end ≡ ending.Collapsed m))
 
 module _ (turns : Turns) (Left : ℕ → List ℕ → Type 0) (each : AnswersEach turns Left) (l : Language) (lawful : IsLanguage l) (terms : Terms) (n : ℕ) (start later : List Event) (left written left' written' : Option (List ℕ)) (end : Ending)
-    (bytes before : List ℕ) (from : left ≡ Some bytes) (to : written ≡ Some before)
+    (bytes : List ℕ) (from : left ≡ Some bytes)
     (reached : IsReached l terms.plan (standing_on l start)) (enough : most_answers l ≤ length (standing_on l start) + n) (has : Left n bytes) (room : HasRoom l start) (affordable : IsAffordable turns l terms start bytes) where
   abbrev RanSo : Option (List ℕ) → Closing → Type 0
   RanSo middle closing = RanTo turns l terms closing (point_of start left written) (point_of later left' middle)
 
   closed_itself : (middle : Option (List ℕ)) (closing : Closing) → RanSo middle closing → EndsItself closing
   closed_itself middle closing closed =
-      let ran = closed bytes before from to in
+      let ran = closed bytes from in
       subst EndsItself ran.closing (ends_itself turns Left each l lawful terms ran.runs.count n start bytes ran.run (reached, enough, has, room) ran.runs.is)
 
   -- a budget that is enough leaves nothing open
   not_open : (middle : Option (List ℕ)) → RanSo middle Undecided → IsLeftOpen l terms (standing_on l later) → ⊥
   not_open middle closed undone =
-      let ran = closed bytes before from to in
+      let ran = closed bytes from in
       let some = undone.undecided.some in
       ⊎_elim (λ scopes. undone.plan scopes)
       (λ affords.
@@ -120,14 +119,13 @@ pub record NoFault (end : Ending) : Type 0 where
   pub kept : end ≡ ending.DiskFault → ⊥
 
 -- with the answers and the budget that are enough
-lines_end : (l : Language) (terms : Terms) (start later : List Event) (left written left' written' : Option (List ℕ)) (end : Ending) (bytes : List ℕ) → IsLanguage l → IsReached l terms.plan (standing_on l start) → left ≡ Some bytes → IsSome written →
+lines_end : (l : Language) (terms : Terms) (start later : List Event) (left written left' written' : Option (List ℕ)) (end : Ending) (bytes : List ℕ) → IsLanguage l → IsReached l terms.plan (standing_on l start) → left ≡ Some bytes →
     HasRoom l start → IsEnough l terms start bytes → NoFault end → Tries line_turn l terms start later left written left' written' end → ConvergesOrCollapses end
-lines_end l terms start later left written left' written' end bytes lawful reached from tells room enough calm tries =
-    let before = bytes_told written tells in
+lines_end l terms start later left written left' written' end bytes lawful reached from room enough calm tries =
     let a = enough.answers in
     let has : HasLines (length a.lines) bytes = record { lines = a.lines; rest = a.rest; is = a.is; each = a.each; many = omega arith } in
     ⊎_elim (λ converged. inl converged) (λ collapsed. inr (inl collapsed))
-    (own_end line_turn HasLines lines_answer l lawful terms (length a.lines) start later left written left' written' end bytes before.0 from before.1 reached a.enough has room enough.affordable tries calm.read calm.kept)
+    (own_end line_turn HasLines lines_answer l lawful terms (length a.lines) start later left written left' written' end bytes from reached a.enough has room enough.affordable tries calm.read calm.kept)
 
 broken_memory : (end : Ending) → IsBrokenOff end → NoFault end → end ≡ ending.Memory
 broken_memory end broken calm = ⊎_elim (λ e. absurd (calm.read e)) (λ o. ⊎_elim (λ e. absurd (calm.write e)) (λ more. ⊎_elim (λ e. absurd (calm.kept e)) (λ e. e) more) o) broken
@@ -172,7 +170,7 @@ not_refused : (line : List ℕ) (got : Result (List ℕ) AllFault) (f : VocFault
 not_refused line (Ok other) f is taken refused = not_both line f taken (ap refusal_of_vocabulary (one_line line other is) ∙ refused)
 not_refused line (Err e) f is taken refused = fine_err line e is
 
-module _ (terms : Terms) (left written left' written' : Option (List ℕ)) (bytes : List ℕ) (from : left ≡ Some bytes) (tells : IsSome written) (has : TryHasEnough terms bytes) where
+module _ (terms : Terms) (left written left' written' : Option (List ℕ)) (bytes : List ℕ) (from : left ≡ Some bytes) (has : TryHasEnough terms bytes) where
   abbrev first : Gathered
   first = first_line_of 4194304 bytes
 
@@ -181,7 +179,7 @@ module _ (terms : Terms) (left written left' written' : Option (List ℕ)) (byte
       let rest : reads.rest ≡ Some first.rest = gives_rest (first_line_of 4194304) left reads.rest (fine reads.line) bytes reads.gives from in
       let line : reads.line ≡ has.line = one_line reads.line has.line (sym (gives_got (first_line_of 4194304) left reads.rest (fine reads.line) bytes reads.gives from) ∙ has.first) in
       let Reads : List ℕ → Type 0 = λ x. IsVocabulary x reads.lang in
-      lines_end reads.lang terms [] reads.events reads.rest written left' written' end first.rest reads.vocabulary.built.lawful (places_reached reads.lang terms.plan [] (none_placed reads.lang terms.plan)) rest tells (no_events_room reads.lang reads.vocabulary.built.lawful)
+      lines_end reads.lang terms [] reads.events reads.rest written left' written' end first.rest reads.vocabulary.built.lawful (places_reached reads.lang terms.plan [] (none_placed reads.lang terms.plan)) rest (no_events_room reads.lang reads.vocabulary.built.lawful)
       (has.enough reads.lang (subst Reads line reads.vocabulary)) calm reads.tries
 
   try_completes : (end : Ending) → NoFault end → Acquires terms left written left' written' end → ConvergesOrCollapses end
@@ -244,17 +242,16 @@ lacks_none l terms events left left' written written' bytes end has from calm wi
 lacks_none l terms events left left' written written' bytes end has from calm without.Memory lacks (said, is, wrote) = err_ok put.Memory end (sym (silent_ends unsaid.Memory said written written' end is wrote))
 
 -- with a target and a budget that is enough
-target_end : (l : Language) (terms : Terms) (start later : List Event) (left rest written left' written' : Option (List ℕ)) (end : Ending) (bytes : List ℕ) (target : List Candidate) → IsLanguage l → IsReached l terms.plan (standing_on l start) → left ≡ Some bytes → IsSome written →
+target_end : (l : Language) (terms : Terms) (start later : List Event) (left rest written left' written' : Option (List ℕ)) (end : Ending) (bytes : List ℕ) (target : List Candidate) → IsLanguage l → IsReached l terms.plan (standing_on l start) → left ≡ Some bytes →
     HasTarget l terms start bytes → ReadsTarget l left rest target → ((m : ℕ) → end ≡ ending.Collapsed m → ⊥) → NoFault end → Tries (net_turn target false) l terms start later rest written left' written' end → Converges end
-target_end l terms start later left rest written left' written' end bytes target lawful reached from tells has reads agreed calm tries =
-    let before = bytes_told written tells in
+target_end l terms start later left rest written left' written' end bytes target lawful reached from has reads agreed calm tries =
     let got = gives_got (all_of 4194304) left rest (fine reads.bytes) bytes reads.gives from in
     let whole : bytes ≡ reads.bytes = whole_of 4194304 bytes reads.bytes got in
     let nothing : rest ≡ Some [] = gives_rest (all_of 4194304) left rest (fine reads.bytes) bytes reads.gives from ∙ ap (λ (x : List ℕ). let o : Option (List ℕ) = Some x in o) (none_left bytes reads.bytes got) in
     let same : has.target ≡ target = same_target has.target target (sym has.is ∙ ap (network_of l) whole ∙ reads.is) in
     let Afforded : List Candidate → Type 0 = λ x. IsAffordable (net_turn x false) l terms start [] in
     ⊎_elim (λ converged. inl converged) (λ collapsed. absurd (agreed collapsed.0 collapsed.1))
-    (own_end (net_turn target false) AsMany (network_answers target false) l lawful terms (most_answers l) start later rest written left' written' end [] before.0 nothing before.1 reached (omega arith) tt has.room (subst Afforded same has.affordable) tries calm.read calm.kept)
+    (own_end (net_turn target false) AsMany (network_answers target false) l lawful terms (most_answers l) start later rest written left' written' end [] nothing reached (omega arith) tt has.room (subst Afforded same has.affordable) tries calm.read calm.kept)
 
 -- ---- a number's language
 
@@ -287,27 +284,27 @@ told_end number l terms events written written' (ending.Flawed flaw) made enough
 told_end number l terms events written written' (ending.CertUnread fault) made enough tells = absurd tells
 
 module _ {D : Type 0} (disk : DiskOf D) (left written left' written' : Option (List ℕ)) (old new : D) (end : Ending) (calm : NoFault end) where
-  run_completes : (budget : ℕ) → RunsOn disk budget left written left' written' old new (okay end) → (bytes file : List ℕ) → left ≡ Some bytes → disk.content old ≡ Some file → IsSome written → RunHasEnough budget bytes file → ConvergesOrCollapses end
-  run_completes budget (inl closed) bytes file from told tells has =
+  run_completes : (budget : ℕ) → RunsOn disk budget left written left' written' old new (okay end) → (bytes file : List ℕ) → left ≡ Some bytes → disk.content old ≡ Some file → RunHasEnough budget bytes file → ConvergesOrCollapses end
+  run_completes budget (inl closed) bytes file from told has =
       ⊎_elim (λ broken. inr (inr (broken_memory end broken calm))) (λ is. absurd (has.opens closed.fault (is.0, closed.why file told))) (closed_end written written' end closed.fault closed.refuses)
-  run_completes budget (inr on) bytes file from told tells has =
-      lines_end on.lang (terms_with on.plan budget) on.events on.later left written left' written' end bytes on.read.built.lawful (places_reached on.lang on.plan on.events on.places) from tells
+  run_completes budget (inr on) bytes file from told has =
+      lines_end on.lang (terms_with on.plan budget) on.events on.later left written left' written' end bytes on.read.built.lawful (places_reached on.lang on.plan on.events on.places) from
       (has.room on.plan on.voc on.events on.lang (on.says file told) on.read) (has.enough on.plan on.voc on.events on.lang (on.says file told) on.read) calm on.tries
 
-  play_completes : (budget : ℕ) → PlaysOn disk budget left written left' written' old new (okay end) → (bytes file : List ℕ) → left ≡ Some bytes → disk.content old ≡ Some file → IsSome written → PlayHasEnough budget bytes file → Converges end
-  play_completes budget (inl closed) bytes file from told tells has =
+  play_completes : (budget : ℕ) → PlaysOn disk budget left written left' written' old new (okay end) → (bytes file : List ℕ) → left ≡ Some bytes → disk.content old ≡ Some file → PlayHasEnough budget bytes file → Converges end
+  play_completes budget (inl closed) bytes file from told has =
       ⊎_elim (λ broken. inr (broken_memory end broken calm)) (λ is. absurd (has.opens closed.fault (is.0, closed.why file told))) (closed_end written written' end closed.fault closed.refuses)
-  play_completes budget (inr (inl stale)) bytes file from told tells has =
+  play_completes budget (inr (inl stale)) bytes file from told has =
       let o = stale.opened in
       let given = has.enough o.plan o.voc o.events o.lang (o.says file told) o.read in
       absurd (none_stale (standing_on o.lang o.events) stale.number given.fresh stale.is stale.some)
-  play_completes budget (inr (inr (inl lacks))) bytes file from told tells has =
+  play_completes budget (inr (inr (inl lacks))) bytes file from told has =
       let o = lacks.opened in
       let given = has.enough o.plan o.voc o.events o.lang (o.says file told) o.read in
       absurd (lacks_none o.lang (terms_with o.plan budget) o.events left left' written written' bytes end given from calm lacks.why lacks.lacks lacks.ends)
-  play_completes budget (inr (inr (inr played))) bytes file from told tells has =
+  play_completes budget (inr (inr (inr played))) bytes file from told has =
       let on = played.on in
-      target_end on.lang (terms_with on.plan budget) on.events on.later left played.rest written left' written' end bytes played.target on.read.built.lawful (places_reached on.lang on.plan on.events on.places) from tells
+      target_end on.lang (terms_with on.plan budget) on.events on.later left played.rest written left' written' end bytes played.target on.read.built.lawful (places_reached on.lang on.plan on.events on.places) from
       (has.enough on.plan on.voc on.events on.lang (on.says file told) on.read) played.reads (λ m is. played.answered.no_collapse m (ap okay is)) calm on.tries
 
   says_its_own : (says : Opened → Saying) (content' : Option (List ℕ)) → SaidEnds says content' end → SaysItsOwn says content' end
@@ -317,13 +314,13 @@ module _ {D : Type 0} (disk : DiskOf D) (left written left' written' : Option (L
   demo_completes number budget (inl none) enough = absurd (err_ok put.Memory end (sym none.0))
   demo_completes number budget (inr demo) enough = told_end number demo.lang (terms_with Quacq budget) demo.events written written' end demo.generated enough demo.ends
 
-  pub completes : (asked : Result Command UsageFault) → Does disk asked left written left' written' old new (okay end) → EndsExactly asked left (disk.content old) end → Completes asked left written (disk.content old) end
+  pub completes : (asked : Result Command UsageFault) → Does disk asked left written left' written' old new (okay end) → EndsExactly asked left (disk.content old) end → Completes asked left (disk.content old) end
   completes (Ok (command.New plan)) does ends = λ bytes from file told. ⊎_elim (λ broken. inr (broken_memory end broken calm)) (λ made. inl made) (ends bytes from file told)
   completes (Ok (command.Run budget)) does ends = λ bytes from file told. run_completes budget does bytes file from told
   completes (Ok (command.Play budget)) does ends = λ bytes from file told. play_completes budget does bytes file from told
   completes (Ok command.Show) does ends = says_its_own (asked_said ask.Show) (disk.content old) ends
   completes (Ok command.Back) does ends = says_its_own back_said (disk.content old) ends
-  completes (Ok (command.Try plan budget)) does ends = λ bytes from tells has. try_completes (terms_with plan budget) left written left' written' bytes from tells has end calm does
+  completes (Ok (command.Try plan budget)) does ends = λ bytes from has. try_completes (terms_with plan budget) left written left' written' bytes from has end calm does
   completes (Ok (command.Demo number budget)) does ends = λ enough. demo_completes number budget does enough
   completes (Ok (command.Reduce budget)) does ends = says_its_own (asked_said (ask.Reduce budget)) (disk.content old) ends
   completes (Ok command.Cnf) does ends = says_its_own (asked_said ask.Cnf) (disk.content old) ends
@@ -333,17 +330,17 @@ module _ {D : Type 0} (disk : DiskOf D) (left written left' written' : Option (L
   completes (Err fault) does ends = tt
 
 -- want of memory is always an answer
-pub memory_completes : (asked : Result Command UsageFault) (left written content : Option (List ℕ)) → Completes asked left written content ending.Memory
-memory_completes (Ok (command.New plan)) left written content = λ bytes from file told. inr refl
-memory_completes (Ok (command.Run budget)) left written content = λ bytes from file told tells has. inr (inr refl)
-memory_completes (Ok (command.Play budget)) left written content = λ bytes from file told tells has. inr refl
-memory_completes (Ok command.Show) left written content = λ file told. inr refl
-memory_completes (Ok command.Back) left written content = λ file told. inr refl
-memory_completes (Ok (command.Try plan budget)) left written content = λ bytes from tells has. inr (inr refl)
-memory_completes (Ok (command.Demo number budget)) left written content = λ enough. inr refl
-memory_completes (Ok (command.Reduce budget)) left written content = λ file told. inr refl
-memory_completes (Ok command.Cnf) left written content = λ file told. inr refl
-memory_completes (Ok command.Model) left written content = λ bytes from file told. inr refl
-memory_completes (Ok (command.Certify budget)) left written content = λ file told. inr refl
-memory_completes (Ok command.Check) left written content = λ bytes from. inr refl
-memory_completes (Err fault) left written content = tt
+pub memory_completes : (asked : Result Command UsageFault) (left content : Option (List ℕ)) → Completes asked left content ending.Memory
+memory_completes (Ok (command.New plan)) left content = λ bytes from file told. inr refl
+memory_completes (Ok (command.Run budget)) left content = λ bytes from file told has. inr (inr refl)
+memory_completes (Ok (command.Play budget)) left content = λ bytes from file told has. inr refl
+memory_completes (Ok command.Show) left content = λ file told. inr refl
+memory_completes (Ok command.Back) left content = λ file told. inr refl
+memory_completes (Ok (command.Try plan budget)) left content = λ bytes from has. inr (inr refl)
+memory_completes (Ok (command.Demo number budget)) left content = λ enough. inr refl
+memory_completes (Ok (command.Reduce budget)) left content = λ file told. inr refl
+memory_completes (Ok command.Cnf) left content = λ file told. inr refl
+memory_completes (Ok command.Model) left content = λ bytes from file told. inr refl
+memory_completes (Ok (command.Certify budget)) left content = λ file told. inr refl
+memory_completes (Ok command.Check) left content = λ bytes from. inr refl
+memory_completes (Err fault) left content = tt

@@ -1,9 +1,9 @@
 -- What `demo` has done, of its loop and what was said of it.
-use Rattle.std.proofs.Common.{◌≡◌, ◌∙◌, ℕ, Bool, true, IsTrue, List, [], ◌++◌, length, Option, Some, None, Result, Ok, Err, refl, sym, ap, subst, inr, ⊎_elim, append_assoc}
+use Rattle.std.proofs.Common.{◌≡◌, ◌∙◌, ℕ, Bool, true, IsTrue, List, [], ◌++◌, length, Option, Some, Result, Ok, Err, refl, sym, ap, subst, inr, ⊎_elim}
 use Rattle.std.specs.Prelude.{IfOk, IfSome, OnErr}
-use Rattle.std.specs.Option.{option_map}
-use Rattle.std.proofs.lemmas.List.{append-nil}
 use Rattle.acq_io.specs.Streams.{Adds, AddsFront}
+use Rattle.acq_io.proofs.TakenLemmas.{adds_then}
+use Rattle.target_oracle.proofs.Fronts.{front_longer, front_none, front_then, front_whole}
 use Rattle.acq_io.specs.declared.streams.Put.{Put}
 use Rattle.acq_io.specs.declared.streams.Put.TheVariants as put
 use Rattle.assign.specs.Events.{Answer}
@@ -35,27 +35,10 @@ use Rattle.acq_loop.specs.declared.ending.Ending.{Ending}
 use Rattle.acq_loop.specs.declared.ending.Ending.TheVariants as ending
 use Rattle.acq_loop.specs.declared.terms.Terms.{Terms}
 use Rattle.acq_said.proofs.Closings.{failed, same_ok, err_ok}
-use Rattle.acq_said.proofs.Parts.{adds_nothing, begun}
+use Rattle.acq_said.proofs.Parts.{begun}
 use Rattle.acq_loop.proofs.Running.{run_exists}
 use Rattle.acq_said.proofs.Spoken.{ends_as, said_as}
 use Rattle.acq_loop.proofs.Standings.{run_laws, stands_at}
-use Rattle.acq_loop.proofs.Turning.{some_text}
-
--- ---- texts, one after the other
-
-adds_both : (a b c : Option (List ℕ)) (x y : List ℕ) → Adds a b x → Adds b c y → Adds a c (x ++ y)
-adds_both None b c x y one two = two ∙ ap (option_map (λ w. w ++ y)) one
-adds_both (Some w) b c x y one two = two ∙ ap (option_map (λ v. v ++ y)) one ∙ some_text _ _ (append_assoc w x y)
-
-adds_then_front : (a b c : Option (List ℕ)) (x y : List ℕ) → Adds a b x → AddsFront b c y → AddsFront a c (x ++ y)
-adds_then_front a b c x y one (front, back, parts, two) = (x ++ front, back, ap (λ z. x ++ z) parts ∙ sym (append_assoc x front back), adds_both a b c x front one two)
-
-pub front_of_both : (a b : Option (List ℕ)) (x y : List ℕ) → AddsFront a b x → AddsFront a b (x ++ y)
-front_of_both a b x y (front, back, parts, adds) = (front, back ++ y, ap (λ z. z ++ y) parts ∙ append_assoc front back y, adds)
-
--- the whole of a text is a front of it
-whole_front : (a b : Option (List ℕ)) (x : List ℕ) → Adds a b x → AddsFront a b x
-whole_front a b x adds = (x, [], sym (append-nil x), adds)
 
 -- ---- what the session has learned
 
@@ -68,36 +51,35 @@ learned_as session l plan t lang planned stands =
 -- ---- the loop
 
 -- how the loop ended, where nothing of its own has failed
-pub driven_by : (target : List Candidate) (l : Language) (terms : Terms) (events : List Event) (left' written' : Option (List ℕ)) (how : Drove) →
-    Drives (net_turn target true) l terms (point_of [] (Some []) (Some [])) (point_of events left' written') how → MayEnd (net_may_say target l) (ending_of how) →
+pub driven_by : (target : List Candidate) (l : Language) (terms : Terms) (events : List Event) (written left' written' : Option (List ℕ)) (how : Drove) →
+    Drives (net_turn target true) l terms (point_of [] (Some []) written) (point_of events left' written') how → MayEnd (net_may_say target l) (ending_of how) →
     ((m : ℕ) → how ≡ drove.Collapsed m → ⊥) → (how ≡ drove.WriteFault → ⊥) → (how ≡ drove.DiskFault → ⊥) → (how ≡ drove.JournalFull → ⊥) → HasDriven target l terms events how
-driven_by target l terms events left' written' (drove.Converged m) drives said collapsed write disk full =
-    let run = drives.closed [] [] refl refl in
+driven_by target l terms events written left' written' (drove.Converged m) drives said collapsed write disk full =
+    let run = drives.closed [] refl in
     record { run = run.run; runs = run.runs; closing = run.closing; events = run.events; count = drives.says.number; found = drives.says.found }
-driven_by target l terms events left' written' (drove.Undecided m) drives said collapsed write disk full =
-    let run = drives.closed [] [] refl refl in
+driven_by target l terms events written left' written' (drove.Undecided m) drives said collapsed write disk full =
+    let run = drives.closed [] refl in
     record { run = run.run; runs = run.runs; closing = run.closing; events = run.events; count = drives.says.number; found = drives.says.found }
-driven_by target l terms events left' written' (drove.Collapsed m) drives said collapsed write disk full = collapsed m refl
-driven_by target l terms events left' written' (drove.Suspended m) drives (q, said) collapsed write disk full = ⊎_elim (λ no. no) (λ no. no) said
-driven_by target l terms events left' written' drove.LineTooLong drives (q, said) collapsed write disk full = said
-driven_by target l terms events left' written' drove.Unreadable drives (q, said) collapsed write disk full = said
-driven_by target l terms events left' written' drove.ReadFault drives (q, said) collapsed write disk full = said
-driven_by target l terms events left' written' drove.WriteFault drives said collapsed write disk full = write refl
-driven_by target l terms events left' written' drove.DiskFault drives said collapsed write disk full = disk refl
-driven_by target l terms events left' written' drove.JournalFull drives said collapsed write disk full = full refl
-driven_by target l terms events left' written' drove.Memory drives said collapsed write disk full = tt
+driven_by target l terms events written left' written' (drove.Collapsed m) drives said collapsed write disk full = collapsed m refl
+driven_by target l terms events written left' written' (drove.Suspended m) drives (q, said) collapsed write disk full = ⊎_elim (λ no. no) (λ no. no) said
+driven_by target l terms events written left' written' drove.LineTooLong drives (q, said) collapsed write disk full = said
+driven_by target l terms events written left' written' drove.Unreadable drives (q, said) collapsed write disk full = said
+driven_by target l terms events written left' written' drove.ReadFault drives (q, said) collapsed write disk full = said
+driven_by target l terms events written left' written' drove.WriteFault drives said collapsed write disk full = write refl
+driven_by target l terms events written left' written' drove.DiskFault drives said collapsed write disk full = disk refl
+driven_by target l terms events written left' written' drove.JournalFull drives said collapsed write disk full = full refl
+driven_by target l terms events written left' written' drove.Memory drives said collapsed write disk full = tt
 
 -- by what it was handed
 pub driven_from : (net target : List Candidate) (quiet : Bool) (l : Language) (terms : Terms) (start events : List Event) (left written left' written' : Option (List ℕ)) (how : Drove) →
-    net ≡ target → quiet ≡ true → start ≡ [] → left ≡ Some [] → written ≡ Some [] → Drives (net_turn net quiet) l terms (point_of start left written) (point_of events left' written') how →
-    Drives (net_turn target true) l terms (point_of [] (Some []) (Some [])) (point_of events left' written') how
-driven_from net target quiet l terms start events left written left' written' how same is_quiet fresh from to drives =
+    net ≡ target → quiet ≡ true → start ≡ [] → left ≡ Some [] → Drives (net_turn net quiet) l terms (point_of start left written) (point_of events left' written') how →
+    Drives (net_turn target true) l terms (point_of [] (Some []) written) (point_of events left' written') how
+driven_from net target quiet l terms start events left written left' written' how same is_quiet fresh from drives =
     let Net : List Candidate → Type 0 = λ x. Drives (net_turn x quiet) l terms (point_of start left written) (point_of events left' written') how in
     let Quiet : Bool → Type 0 = λ x. Drives (net_turn target x) l terms (point_of start left written) (point_of events left' written') how in
     let Start : List Event → Type 0 = λ x. Drives (net_turn target true) l terms (point_of x left written) (point_of events left' written') how in
     let Left : Option (List ℕ) → Type 0 = λ x. Drives (net_turn target true) l terms (point_of [] x written) (point_of events left' written') how in
-    let Written : Option (List ℕ) → Type 0 = λ x. Drives (net_turn target true) l terms (point_of [] (Some []) x) (point_of events left' written') how in
-    subst Written to (subst Left from (subst Start fresh (subst Quiet is_quiet (subst Net same drives))))
+    subst Left from (subst Start fresh (subst Quiet is_quiet (subst Net same drives)))
 
 -- it hasn't collapsed where its owner gave each answer
 pub not_collapsed : (l : Language) (terms : Terms) (owner : List Candidate) (t : List Answer) (how : Drove) → IfSome (closing_of how) (IsOwned l terms owner t) → (m : ℕ) → how ≡ drove.Collapsed m → ⊥
@@ -150,14 +132,14 @@ module _ (number : ℕ) (l : Language) (terms : Terms) (lawful : IsLanguage l) w
   pub front_of_first : (written written' : Option (List ℕ)) → AddsFront written written' (demo_text number l) → TellsFront number l terms written written'
   front_of_first written written' adds =
       let has = run_exists run_laws (net_turn (target_of number l) true) l terms lawful [] [] (begun l terms.plan) in
-      record { run = has.run; runs = has.runs; adds = front_of_both written written' (demo_text number l) (summary_text has.run.closing (length (standing_on l has.run.events)) (length (learned_after l terms (standing_on l has.run.events)))) adds }
+      record { run = has.run; runs = has.runs; adds = front_longer written written' (demo_text number l) (summary_text has.run.closing (length (standing_on l has.run.events)) (length (learned_after l terms (standing_on l has.run.events)))) adds }
 
   pub front_of_none : (written written' : Option (List ℕ)) → written' ≡ written → TellsFront number l terms written written'
-  front_of_none written written' same = let Part : Option (List ℕ) → Type 0 = TellsFront number l terms written in subst Part (sym same) (front_of_first written written (adds_nothing written (demo_text number l)))
+  front_of_none written written' same = front_of_first written written' (front_none written written' (demo_text number l) same)
 
   -- the first line was written, and no more
   pub front_of_line : (written written' : Option (List ℕ)) → Adds written written' (demo_text number l) → TellsFront number l terms written written'
-  front_of_line written written' adds = front_of_first written written' (whole_front written written' (demo_text number l) adds)
+  front_of_line written written' adds = front_of_first written written' (front_whole written written' (demo_text number l) adds)
 
   module _ (events : List Event) (written middle written' : Option (List ℕ)) (first : Adds written middle (demo_text number l)) (learned : ℕ) (learned_is : learned ≡ length (learned_after l terms (standing_on l events))) where
     abbrev Run : Closing → ℕ → Type 0
@@ -171,13 +153,13 @@ module _ (number : ℕ) (l : Language) (terms : Terms) (lawful : IsLanguage l) w
     whole_is closing m ran = λ i. demo_text number l ++ summary_text closing (ran.count i) (learned_is i)
 
     all_told : (closing : Closing) (m : ℕ) → Run closing m → Adds middle written' (summary_text closing m learned) → Adds written written' (whole closing)
-    all_told closing m ran adds = let P : List ℕ → Type 0 = Adds written written' in subst P (whole_is closing m ran) (adds_both written middle written' (demo_text number l) (summary_text closing m learned) first adds)
+    all_told closing m ran adds = let P : List ℕ → Type 0 = Adds written written' in subst P (whole_is closing m ran) (adds_then written middle written' (demo_text number l) (summary_text closing m learned) first adds)
 
     part_told : (closing : Closing) (m : ℕ) → Run closing m → AddsFront middle written' (summary_text closing m learned) → TellsFront number l terms written written'
     part_told closing m ran adds =
         let P : List ℕ → Type 0 = AddsFront written written' in
         let same : whole closing ≡ whole_demo number l terms (standing_on l ran.run.events) ran.run.closing = sym (λ i. whole_demo number l terms (standing_on l (ran.events i)) (ran.closing i)) in
-        record { run = ran.run; runs = ran.runs; adds = subst P (whole_is closing m ran ∙ same) (adds_then_front written middle written' (demo_text number l) (summary_text closing m learned) first adds) }
+        record { run = ran.run; runs = ran.runs; adds = subst P (whole_is closing m ran ∙ same) (front_then written middle written' (demo_text number l) (summary_text closing m learned) first adds) }
 
     pub tells_by : (how : Drove) (got : Result Ending Put) → HasDriven (target_of number l) l terms events how → SumsUp learned middle written' got how → IfOk got (Tells number l terms events written written')
     tells_by (drove.Converged m) (Ok end) ran (is, adds) = let P : Ending → Type 0 = Tells number l terms events written written' in subst P (sym is) (ran, all_told Converged m ran adds)
@@ -195,7 +177,7 @@ module _ (number : ℕ) (l : Language) (terms : Terms) (lawful : IsLanguage l) w
 
     stopped : (closing : Closing) (m : ℕ) (end : Ending) (e : Put) → Run closing m → EndsWith end (summary_text closing m learned) middle written' (Err e) → TellsFront number l terms written written'
     stopped closing m end put.Failed ran front = part_told closing m ran front
-    stopped closing m end put.Memory ran same = part_told closing m ran (let P : Option (List ℕ) → Type 0 = λ w. AddsFront middle w (summary_text closing m learned) in subst P (sym same) (adds_nothing middle (summary_text closing m learned)))
+    stopped closing m end put.Memory ran same = part_told closing m ran (front_none middle written' (summary_text closing m learned) same)
 
     pub part_by : (how : Drove) (got : Result Ending Put) → HasDriven (target_of number l) l terms events how → SumsUp learned middle written' got how → OnErr got (TellsFront number l terms written written')
     part_by how (Ok end) ran sums = tt

@@ -1,5 +1,5 @@
 -- When a command comes to its own end, and to no other.
-use Rattle.std.specs.Prelude.{◌≡◌, ◌⊎◌, ◌<◌, ◌≤◌, ◌+◌, ℕ, Bool, false, List, [], ◌∷◌, ◌++◌, length, All, Option, Some, None, IsSome, Result, Ok}
+use Rattle.std.specs.Prelude.{◌≡◌, ◌⊎◌, ◌<◌, ◌≤◌, ◌+◌, ℕ, Bool, false, List, [], ◌∷◌, ◌++◌, length, All, Option, Some, None, Result, Ok}
 use Rattle.std.specs.List.{flat_map}
 use Rattle.std.specs.Option.{ForSome}
 use Rattle.acq_io.specs.Lines.{LacksNewline, newline}
@@ -135,22 +135,22 @@ Converges end = ((m : ℕ) × (end ≡ ending.Converged m)) ⊎ (end ≡ ending.
 abbrev pub ConvergesOrCollapses : Ending → Type 0
 ConvergesOrCollapses end = ((m : ℕ) × (end ≡ ending.Converged m)) ⊎ (((m : ℕ) × (end ≡ ending.Collapsed m)) ⊎ (end ≡ ending.Memory))
 
--- Where input, output and disk tell their bytes and nothing fails, a command that is given enough comes to its own end.
-abbrev pub Completes : Result Command UsageFault → (left written content : Option (List ℕ)) → Ending → Type 0
-Completes (Ok (command.Try plan budget)) left written content end =
-    ForSome left (λ bytes. IsSome written → TryHasEnough (terms_with plan budget) bytes → ConvergesOrCollapses end)
-Completes (Ok (command.Run budget)) left written content end =
-    ForSome left (λ bytes. ForSome content (λ file. IsSome written → RunHasEnough budget bytes file → ConvergesOrCollapses end))
-Completes (Ok (command.Play budget)) left written content end =
-    ForSome left (λ bytes. ForSome content (λ file. IsSome written → PlayHasEnough budget bytes file → Converges end))
-Completes (Ok (command.New plan)) left written content end =
+-- Where input and disk tell their bytes and nothing fails, a command that is given enough comes to its own end.
+abbrev pub Completes : Result Command UsageFault → (left content : Option (List ℕ)) → Ending → Type 0
+Completes (Ok (command.Try plan budget)) left content end =
+    ForSome left (λ bytes. TryHasEnough (terms_with plan budget) bytes → ConvergesOrCollapses end)
+Completes (Ok (command.Run budget)) left content end =
+    ForSome left (λ bytes. ForSome content (λ file. RunHasEnough budget bytes file → ConvergesOrCollapses end))
+Completes (Ok (command.Play budget)) left content end =
+    ForSome left (λ bytes. ForSome content (λ file. PlayHasEnough budget bytes file → Converges end))
+Completes (Ok (command.New plan)) left content end =
     ForSome left (λ bytes. ForSome content (λ file. EndsAsMade bytes file end ⊎ (end ≡ ending.Memory)))
-Completes (Ok command.Show) left written content end = SaysItsOwn (asked_said ask.Show) content end
-Completes (Ok command.Back) left written content end = SaysItsOwn back_said content end
-Completes (Ok (command.Demo number budget)) left written content end = 88573 ≤ budget → Converges end
-Completes (Ok (command.Reduce budget)) left written content end = SaysItsOwn (asked_said (ask.Reduce budget)) content end
-Completes (Ok command.Cnf) left written content end = SaysItsOwn (asked_said ask.Cnf) content end
-Completes (Ok command.Model) left written content end = ForSome left (λ bytes. SaysItsOwn (solved_said (all_of 4194304 bytes).got) content end)
-Completes (Ok (command.Certify budget)) left written content end = SaysItsOwn (asked_said (ask.Certify budget)) content end
-Completes (Ok command.Check) left written content end = ForSome left (λ bytes. ConfirmsExactly bytes end ⊎ (end ≡ ending.Memory))
-Completes asked left written content end = Unit {0}
+Completes (Ok command.Show) left content end = SaysItsOwn (asked_said ask.Show) content end
+Completes (Ok command.Back) left content end = SaysItsOwn back_said content end
+Completes (Ok (command.Demo number budget)) left content end = 88573 ≤ budget → Converges end
+Completes (Ok (command.Reduce budget)) left content end = SaysItsOwn (asked_said (ask.Reduce budget)) content end
+Completes (Ok command.Cnf) left content end = SaysItsOwn (asked_said ask.Cnf) content end
+Completes (Ok command.Model) left content end = ForSome left (λ bytes. SaysItsOwn (solved_said (all_of 4194304 bytes).got) content end)
+Completes (Ok (command.Certify budget)) left content end = SaysItsOwn (asked_said (ask.Certify budget)) content end
+Completes (Ok command.Check) left content end = ForSome left (λ bytes. ConfirmsExactly bytes end ⊎ (end ≡ ending.Memory))
+Completes asked left content end = Unit {0}

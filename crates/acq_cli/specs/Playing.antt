@@ -131,13 +131,14 @@ module _ {D : Type 0} (disk : DiskOf D) where
     pub lacks : MayLack opened.lang left left' why
     pub ends : SaysSo (SaysWithout why) written written' got
 
-  -- no answer stood, and the run goes on by the answers of the target
+  -- no answer stood, and the run goes on by the answers of the target, behind which the input is left alone
   pub record IsPlayed (budget : ℕ) (left written left' written' : Option (List ℕ)) (old new : D) (got : Result Ending Put) : Type 0 where
     pub target : List Candidate
     pub rest : Option (List ℕ)
     pub on : GoesOn disk (net_turn target false) (net_may_say target) budget rest written left' written' old new got
     pub fresh : standing_on on.lang on.events ≡ []
     pub reads : ReadsTarget on.lang left rest target
+    pub alone : left' ≡ rest
     pub answered : IsAnsweredBy target on.lang (terms_with on.plan budget) (standing_on on.lang on.later) got
 
   abbrev pub PlaysOn : ℕ → (left written left' written' : Option (List ℕ)) → D → D → Result Ending Put → Type 0

@@ -1,7 +1,7 @@
 //! The commands that ask nothing: what each says.
 
 ghost use Rattle.std.specs.Prelude.{◌≡◌, true, Ok, Err};
-ghost use Rattle.acq_io.specs.Streams.{HasStopped};
+ghost use Rattle.acq_io.specs.Streams.{HasCalled};
 ghost use Rattle.acq_words.specs.Request.{IsWithin};
 ghost use Rattle.disk_model.specs.Disk.{Rose as DiskRose};
 ghost use Rattle.acq_cli.specs.Doing.{Spoke};
@@ -18,7 +18,7 @@ use std::alloc::Global;
 use std::thread::Threads;
 
 /// Does what a command asks for that asks nothing itself, and says what is to be written.
-#[tactic(auto, using(acq_loop::proofs::Taking::takes_same, crate::proofs::Causes::stopped_unless))]
+#[tactic(auto, using(acq_loop::proofs::Taking::takes_same, crate::proofs::Causes::called_unless))]
 pub(crate) fn speak<R: Threads + Sync, S: Source, D: Disk, G: Gate>(
     rt: &R,
     alloc: Global,
@@ -31,7 +31,7 @@ pub(crate) fn speak<R: Threads + Sync, S: Source, D: Disk, G: Gate>(
     requires within { IsWithin command }
     ensures spoke { Spoke D.Disk command (S.left input.old) (S.left input.new) disk.old disk.new result }
     ensures spares { Spares (Ok command) (S.left input.old) (S.left input.new) disk.old disk.new }
-    ensures read { HasStopped (S.faults input.old) (S.faults input.new) (S.late input.old) (S.late input.new) (result ≡ Err Unsaid.ReadFault) }
+    ensures read { HasCalled (S.faults input.old) (S.faults input.new) (S.late input.old) (S.late input.new) (result ≡ Err Unsaid.ReadFault) }
     ensures lost { result ≡ Err Unsaid.DiskFault → DiskRose (D.faults disk.old) (D.faults disk.new) }
 {
     match command {

@@ -1,7 +1,7 @@
-ghost use Rattle.std.specs.Prelude.{◌≡◌, ◌≤◌, ◌≢◌, ℕ, List, [], map, IfOk, OnErr, Ok, Err};
+ghost use Rattle.std.specs.Prelude.{◌≡◌, ◌≤◌, ◌≢◌, ℕ, List, [], map, IfOk, IsFalse, OnErr, Ok, Err};
 ghost use Rattle.assign.specs.declared.events.Event.{Event};
 ghost use Rattle.std.specs.String.{string_bytes};
-ghost use Rattle.acq_io.specs.Streams.{Adds, AddsFront, HasStopped, Rose, TakesSome};
+ghost use Rattle.acq_io.specs.Streams.{Adds, AddsFront, HasCalled, Rose, TakesSome};
 ghost use Rattle.assign.specs.Events.{Answer};
 ghost use Rattle.language.specs.Language.{IsLanguage};
 ghost use Rattle.language.specs.Answers.{standing_on};
@@ -74,7 +74,7 @@ pub(crate) fn say<K: Sink>(
 
 /// Asks on from where a session stands until the answers converge, nothing more can be asked, or the teacher stops, and says
 /// how that ended.
-#[tactic(auto, using(acq_loop::proofs::Taking::takes_same, crate::proofs::Causes::stopped_idle))]
+#[tactic(auto, using(acq_loop::proofs::Taking::takes_same, crate::proofs::Causes::called_idle))]
 pub(crate) fn ask_on<
     R: Threads + Sync,
     S: Source,
@@ -101,11 +101,13 @@ pub(crate) fn ask_on<
     ensures asked { HasAsked (T.turn teacher.old) (P.lang keep.old) (terms_with (P.plan keep.old) budget) (P.record_of keep.old) (P.record_of keep.new)
         (S.left input.old) (K.written out.old) (S.left input.new) (K.written out.new) result }
     ensures takes { TakesSome (S.left input.old) (S.left input.new) }
-    ensures read { HasStopped (S.faults input.old) (S.faults input.new) (S.late input.old) (S.late input.new) (result ≡ Ok Ending.ReadFault) }
+    ensures read { HasCalled (S.faults input.old) (S.faults input.new) (S.late input.old) (S.late input.new) (result ≡ Ok Ending.ReadFault) }
     ensures no_fault { IfOk result (λ ending. ending ≢ Ending.WriteFault) }
     ensures failed { CountsFaults (K.faults out.old) (K.faults out.new) (result ≡ Err Put.Failed) }
     ensures taught { IsTaught (P.lang keep.old) (P.plan keep.old) (T.may_say teacher.old (P.lang keep.old)) (P.record_of keep.old) (P.record_of keep.new)
         (MayEnd (T.may_say teacher.old (P.lang keep.old)) result) }
+    // where the teacher doesn't read, nothing does
+    ensures unread { IsFalse (T.reads teacher.old) → input.new ≡ input.old }
     ensures keeps { Keeps P.Keep D.Disk (result ≡ Ok Ending.DiskFault)
         (Loses (T.turn teacher.old) (P.lang keep.old) (terms_with (P.plan keep.old) budget)
         (point_of (P.record_of keep.old) (S.left input.old) (K.written out.old))
@@ -140,7 +142,7 @@ pub(crate) fn ask_on<
 }
 
 /// Asks about a language, with the answers in memory. No disk is touched.
-#[tactic(auto, using(acq_loop::proofs::Taking::takes_same, crate::proofs::Causes::stopped_idle))]
+#[tactic(auto, using(acq_loop::proofs::Taking::takes_same, crate::proofs::Causes::called_idle))]
 fn try_language<R: Threads + Sync, S: Source, K: Sink, G: Gate>(
     rt: &R,
     alloc: Global,
@@ -154,7 +156,7 @@ fn try_language<R: Threads + Sync, S: Source, K: Sink, G: Gate>(
     ensures tries { IfOk result (λ ending. (events : List Event) × Tries line_turn lang terms [] events (S.left input.old) (K.written out.old) (S.left input.new) (K.written out.new) ending) }
     ensures part { OnErr result ((events : List Event) × BreaksRun line_turn lang terms [] events (S.left input.old) (K.written out.old) (S.left input.new) (K.written out.new)) }
     ensures takes { TakesSome (S.left input.old) (S.left input.new) }
-    ensures read { HasStopped (S.faults input.old) (S.faults input.new) (S.late input.old) (S.late input.new) (result ≡ Ok Ending.ReadFault) }
+    ensures read { HasCalled (S.faults input.old) (S.faults input.new) (S.late input.old) (S.late input.new) (result ≡ Ok Ending.ReadFault) }
     ensures no_fault { IfOk result (λ ending. ending ≢ Ending.WriteFault) }
     ensures no_disk { IfOk result (λ ending. ending ≢ Ending.DiskFault) }
     ensures failed { result ≡ Err Put.Failed → Rose (K.faults out.old) (K.faults out.new) }
@@ -204,7 +206,7 @@ fn try_input<R: Threads + Sync, S: Source, K: Sink, G: Gate>(
     ensures acquires { IfOk result (Acquires terms (S.left input.old) (K.written out.old) (S.left input.new) (K.written out.new)) }
     ensures part { OnErr result (BreaksOff terms (S.left input.old) (K.written out.old) (S.left input.new) (K.written out.new)) }
     ensures takes { TakesSome (S.left input.old) (S.left input.new) }
-    ensures read { HasStopped (S.faults input.old) (S.faults input.new) (S.late input.old) (S.late input.new) (result ≡ Ok Ending.ReadFault) }
+    ensures read { HasCalled (S.faults input.old) (S.faults input.new) (S.late input.old) (S.late input.new) (result ≡ Ok Ending.ReadFault) }
     ensures no_fault { IfOk result (λ ending. ending ≢ Ending.WriteFault) }
     ensures failed { result ≡ Err Put.Failed → Rose (K.faults out.old) (K.faults out.new) }
 {
@@ -243,7 +245,7 @@ fn command_asked(alloc: Global, words: &[String]) -> Result<Command, WordsFault>
 
 /// What the program does, and how it ends where the output takes all: a command over the journal on the disk, or one that
 /// touches no disk.
-#[tactic(auto, using(acq_loop::proofs::Taking::takes_same, crate::proofs::Causes::ok_causes, crate::proofs::Causes::stopped_idle))]
+#[tactic(auto, using(acq_loop::proofs::Taking::takes_same, crate::proofs::Causes::ok_causes, crate::proofs::Causes::called_idle))]
 fn perform<R: Threads + Sync, S: Source, K: Sink, D: Disk, G: Gate>(
     rt: &R,
     alloc: Global,
@@ -255,7 +257,7 @@ fn perform<R: Threads + Sync, S: Source, K: Sink, D: Disk, G: Gate>(
 ) -> Result<Ending, Put>
     ensures does { Does D.Disk (command_asked (map string_bytes words.now)) (S.left input.old) (K.written out.old) (S.left input.new) (K.written out.new) disk.old disk.new result }
     ensures spares { Spares (command_asked (map string_bytes words.now)) (S.left input.old) (S.left input.new) disk.old disk.new }
-    ensures read { HasStopped (S.faults input.old) (S.faults input.new) (S.late input.old) (S.late input.new) (result ≡ Ok Ending.ReadFault) }
+    ensures read { HasCalled (S.faults input.old) (S.faults input.new) (S.late input.old) (S.late input.new) (result ≡ Ok Ending.ReadFault) }
     ensures causes { IfOk result (TellsCauses (S.faults input.old) (S.faults input.new) (S.late input.old) (S.late input.new) (K.faults out.old) (K.faults out.new) (D.faults disk.old) (D.faults disk.new)) }
     ensures no_fault { IfOk result (λ ending. ending ≢ Ending.WriteFault) }
     ensures failed { result ≡ Err Put.Failed → Rose (K.faults out.old) (K.faults out.new) }
@@ -311,7 +313,7 @@ pub fn acquire<R: Threads + Sync, S: Source, K: Sink, D: Disk, G: Gate>(
     ensures exactly { EndsExactly (command_asked (map string_bytes words.now)) (S.left input.old) (D.content disk.old) result }
     // what is given enough comes to its own end
     ensures completes { NoneRose (S.faults input.old) (S.faults input.new) (K.faults out.old) (K.faults out.new) (D.faults disk.old) (D.faults disk.new)
-        → Completes (command_asked (map string_bytes words.now)) (S.left input.old) (K.written out.old) (D.content disk.old) result }
+        → Completes (command_asked (map string_bytes words.now)) (S.left input.old) (D.content disk.old) result }
 {
     // a law: what refuses a file is the only reason
     no_two_readings();

@@ -62,5 +62,8 @@ pub disk_by : (how : Drove) (end : Ending) → ending_of how ≡ okay end → en
 disk_by how end is so = loops_by how drove.DiskFault end is (ap loop_end so)
 
 -- and the other way round
+pub read_said : (how : Drove) (end : Ending) → ending_of how ≡ okay end → how ≡ drove.ReadFault → end ≡ ending.ReadFault
+read_said how end so is = same_ok end ending.ReadFault (sym so ∙ ap ending_of is)
+
 pub disk_said : (how : Drove) (end : Ending) → ending_of how ≡ okay end → how ≡ drove.DiskFault → end ≡ ending.DiskFault
 disk_said how end so is = same_ok end ending.DiskFault (sym so ∙ ap ending_of is)

@@ -1,9 +1,9 @@
 -- What was written where it could not be written whole.
-use Rattle.std.proofs.Common.{◌≡◌, ◌⊎◌, ℕ, List, [], ◌++◌, ap, sym, subst, refl, ◌∙◌, Option, Some, None, Result, Ok, Err, inl, inr, arith, append_assoc}
-use Rattle.std.proofs.lemmas.List.{append-nil}
+use Rattle.std.proofs.Common.{◌≡◌, ◌⊎◌, ℕ, List, [], ap, sym, subst, refl, ◌∙◌, Option, Some, None, Result, Ok, Err, inl, inr, arith}
 use Rattle.std.specs.Prelude.{IfOk, OnErr}
 use Rattle.std.specs.Option.{option_map}
 use Rattle.acq_io.specs.Streams.{Adds, AddsFront, TakesSome}
+use Rattle.acq_io.proofs.TakenLemmas.{adds_none}
 use Rattle.acq_said.specs.Said.{EndsWith}
 use Rattle.acq_io.specs.Whole.{Gathered, gathered, Gives, TakesOfLine, first_line_of}
 use Rattle.acq_io.specs.declared.streams.Put.{Put}
@@ -16,7 +16,7 @@ use Rattle.language.specs.Answers.{standing_on}
 use Rattle.session_laws.specs.Session.{Idle, read_on}
 use Rattle.target_oracle.specs.Lines.{line_turn}
 use Rattle.target_oracle.specs.Turns.{Turns}
-use Rattle.target_oracle.specs.Tells.{Front}
+use Rattle.target_oracle.proofs.Fronts.{front_longer, front_none, front_then}
 use Rattle.voc_read.specs.Vocabulary.{IsVocabulary}
 use Rattle.voc_read.specs.declared.fault.VocFault.{VocFault}
 use Rattle.acq_loop.specs.Run.{Ran, Runs, next_on}
@@ -34,18 +34,12 @@ use Rattle.acq_loop.proofs.Running.{IsWithin, run_exists}
 use Rattle.acq_loop.proofs.Standings.{run_laws}
 use Rattle.acq_loop.proofs.Taking.{takes_same}
 use Rattle.acq_said.proofs.Tries.{cut_off}
-use Rattle.acq_loop.proofs.Turning.{some_text}
 use Rattle.acq_loop.specs.Closings.{closing_of, ending_of}
 use Rattle.acq_loop.specs.declared.driving.Drove.{Drove}
 use Rattle.acq_loop.specs.declared.ending.Ending.{Ending}
 use Rattle.acq_loop.specs.declared.ending.Ending.TheVariants as ending
 
 -- ---- one text
-
--- nothing was written
-pub adds_nothing : (written : Option (List ℕ)) (text : List ℕ) → AddsFront written written text
-adds_nothing None text = ([], text, refl, refl)
-adds_nothing (Some before) text = ([], text, refl, some_text _ _ (sym (append-nil before)))
 
 -- what was said whole, and what was written where it wasn't
 pub ends_ok : (end : Ending) (text : List ℕ) (old new : Option (List ℕ)) (got : Result Ending Put) → EndsWith end text old new got → IfOk got (λ e. (e ≡ end) × Adds old new text)
@@ -55,7 +49,7 @@ ends_ok end text old new (Err e) told = tt
 pub ends_part : (end : Ending) (text : List ℕ) (old new : Option (List ℕ)) (got : Result Ending Put) → EndsWith end text old new got → OnErr got (AddsFront old new text)
 ends_part end text old new (Ok e) told = tt
 ends_part end text old new (Err Failed) told = told
-ends_part end text old new (Err Memory) told = let P : Option (List ℕ) → Type 0 = λ w. AddsFront old w text in subst P (sym told) (adds_nothing old text)
+ends_part end text old new (Err Memory) told = front_none old new text told
 
 -- what is told in place of the value
 pub on_err : {A : Type 0} (got : Result A Put) {P : Type 0} → P → OnErr got P
@@ -71,66 +65,48 @@ begun l plan = record { reached = (Idle [] None, refl); few = omega arith }
 
 -- nothing of it was written
 pub begun_part : (turns : Turns) (l : Language) (terms : Terms) (start : List Event) (left written : Option (List ℕ)) → IsLanguage l → IsWithin l terms.plan start → BreaksRun turns l terms start start left written left written
-begun_part turns l terms start left written lawful within = inl (λ bytes before from to.
+begun_part turns l terms start left written lawful within = inl (λ bytes from.
     let has = run_exists run_laws turns l terms lawful start bytes within in
     record {
       run = has.run;
       runs = has.runs;
-      text = record { front = []; back = has.run.text; parts = refl; put = to ∙ some_text _ _ (sym (append-nil before)) };
+      text = front_none written written has.run.text refl;
       later = has.later;
       events = has.extends;
       stops = record {
         rest = bytes;
         done = [];
+        middle = written;
+        before = adds_none written;
         begins = λ run runs. runs;
-        text = record { front = []; back = next_lines turns l start bytes (next_on l terms start); parts = refl; put = to ∙ some_text _ _ (sym (append-nil before) ∙ sym (append-nil (before ++ []))) };
+        text = front_none written written (next_lines turns l start bytes (next_on l terms start)) refl;
         asked = record { takes = (let Left : Option (List ℕ) → Type 0 = λ o. TakesSome o left in subst Left from (takes_same left)); first = inl from };
       };
     })
 
 -- a front of the whole text of a run of these bytes
-record IsPartOfRun (turns : Turns) (l : Language) (terms : Terms) (start : List Event) (bytes before : List ℕ) (written : Option (List ℕ)) : Type 0 where
+record IsPartOfRun (turns : Turns) (l : Language) (terms : Terms) (start : List Event) (bytes : List ℕ) (written written' : Option (List ℕ)) : Type 0 where
   pub run : Ran
   pub runs : Runs turns l terms start bytes run
-  pub text : Front (whole_text l terms run) before written
+  pub text : AddsFront written written' (whole_text l terms run)
 
 module _ (turns : Turns) (l : Language) (terms : Terms) (start events : List Event) (left written left' written' : Option (List ℕ)) where
   -- not all the lines of its turns
-  cut_part : CutOff turns l terms (point_of start left written) (point_of events left' written') → (bytes before : List ℕ) → left ≡ Some bytes → written ≡ Some before → IsPartOfRun turns l terms start bytes before written'
-  cut_part cut bytes before from to =
-      let run = cut bytes before from to in
-      let last : List ℕ = closing_text l terms (standing_on l run.run.events) run.run.closing in
-      record {
-        run = run.run;
-        runs = run.runs;
-        text = record {
-          front = run.text.front;
-          back = run.text.back ++ last;
-          parts = ap (λ x. x ++ last) run.text.parts ∙ append_assoc run.text.front run.text.back last;
-          put = run.text.put;
-        };
-      }
+  cut_part : CutOff turns l terms (point_of start left written) (point_of events left' written') → (bytes : List ℕ) → left ≡ Some bytes → IsPartOfRun turns l terms start bytes written written'
+  cut_part cut bytes from =
+      let run = cut bytes from in
+      record { run = run.run; runs = run.runs; text = front_longer written written' run.run.text (closing_text l terms (standing_on l run.run.events) run.run.closing) run.text }
 
   -- these, and a front of the last ones
-  closed_part : ClosesInPart turns l terms start events left written left' written' → (bytes before : List ℕ) → left ≡ Some bytes → written ≡ Some before → IsPartOfRun turns l terms start bytes before written'
-  closed_part closes bytes before from to =
-      let run = closes.ran bytes before from to in
-      let front : List ℕ = closes.adds.0 in
-      let back : List ℕ = closes.adds.1 in
-      let last : closing_text l terms (standing_on l run.run.events) run.run.closing ≡ front ++ back =
-      (λ i. closing_text l terms (standing_on l (run.events i)) (run.closing i)) ∙ closes.adds.2 in
-      record {
-        run = run.run;
-        runs = run.runs;
-        text = record {
-          front = run.run.text ++ front;
-          back = back;
-          parts = ap (λ x. run.run.text ++ x) last ∙ sym (append_assoc run.run.text front back);
-          put = closes.adds.3 ∙ ap (option_map (λ w. w ++ front)) run.written ∙ some_text _ _ (append_assoc before run.run.text front);
-        };
-      }
+  closed_part : ClosesInPart turns l terms start events left written left' written' → (bytes : List ℕ) → left ≡ Some bytes → IsPartOfRun turns l terms start bytes written written'
+  closed_part closes bytes from =
+      let run = closes.ran bytes from in
+      let last : List ℕ = closing_text l terms (standing_on l run.run.events) run.run.closing in
+      let same : last ≡ closing_text l terms (standing_on l events) closes.closing = (λ i. closing_text l terms (standing_on l (run.events i)) (run.closing i)) in
+      let Last : List ℕ → Type 0 = AddsFront closes.middle written' in
+      record { run = run.run; runs = run.runs; text = front_then written closes.middle written' run.run.text last run.written (subst Last (sym same) closes.adds) }
 
-  part_of_run : BreaksRun turns l terms start events left written left' written' → (bytes before : List ℕ) → left ≡ Some bytes → written ≡ Some before → IsPartOfRun turns l terms start bytes before written'
+  part_of_run : BreaksRun turns l terms start events left written left' written' → (bytes : List ℕ) → left ≡ Some bytes → IsPartOfRun turns l terms start bytes written written'
   part_of_run (inl cut) = cut_part cut
   part_of_run (inr closes) = closed_part closes
 
@@ -155,23 +131,19 @@ given_of f left left' got bytes gives told = go left' (sym (ap (option_map f) to
     go None e = absurd (none (f bytes) e)
     go (Some rest) e = record { rest = rest; left = refl; gives = same (f bytes) (gathered got rest) e }
 
--- a front of a text, where the output tells its bytes
-front_of : (text before : List ℕ) (written written' : Option (List ℕ)) → AddsFront written written' text → written ≡ Some before → Front text before written'
-front_of text before written written' (front, back, parts, adds) told = record { front = front; back = back; parts = parts; put = adds ∙ ap (option_map (λ w. w ++ front)) told }
-
 -- this is given of the first line
 module _ (terms : Terms) (left rest written written' : Option (List ℕ)) (got : Result (List ℕ) AllFault) (gives : Gives (first_line_of 4194304) left rest got) where
   pub breaks_refusal : (fault : VocFault) → IsRefusal fault got → AddsFront written written' (refusal_text fault) → Breaks terms left written written'
-  breaks_refusal fault refused adds bytes before from to =
+  breaks_refusal fault refused adds bytes from =
       let given = given_of (first_line_of 4194304) left rest got bytes gives from in
       let Q : Gathered → Type 0 = λ first. IsTextOfRefusal first (refusal_text fault) in
       let is : Q (first_line_of 4194304 bytes) = subst Q (sym given.gives) (record { fault = fault; refused = refused; is = refl }) in
-      inr (record { whole = refusal_text fault; is = inl is; text = front_of (refusal_text fault) before written written' adds to })
+      inr (record { whole = refusal_text fault; is = inl is; text = adds })
 
   pub breaks_run : (line : List ℕ) (lang : Language) (events : List Event) (left' : Option (List ℕ)) → got ≡ Ok line → IsVocabulary line lang → BreaksRun line_turn lang terms [] events rest written left' written' → Breaks terms left written written'
-  breaks_run line lang events left' is vocabulary broken bytes before from to =
+  breaks_run line lang events left' is vocabulary broken bytes from =
       let given = given_of (first_line_of 4194304) left rest got bytes gives from in
-      let part = part_of_run line_turn lang terms [] events rest written left' written' broken given.rest before given.left to in
+      let part = part_of_run line_turn lang terms [] events rest written left' written' broken given.rest given.left in
       let whole : List ℕ = whole_text lang terms part.run in
       let Q : Gathered → Type 0 = λ first. IsTextOfRun terms first whole in
       let run : Q (first_line_of 4194304 bytes) =
@@ -244,10 +216,10 @@ breaks_refused terms left rest written written' first fault (Err e) gives refuse
 
 -- nothing was written
 pub unbegun : (terms : Terms) (left left' written : Option (List ℕ)) → TakesOfLine 4194304 left left' ⊎ ((got : Result (List ℕ) AllFault) × Gives (first_line_of 4194304) left left' got) → BreaksOff terms left written left' written
-unbegun terms left left' written taken = record { text = λ bytes before from to. inl to; step = inl (record { silent = refl; taken = taken }) }
+unbegun terms left left' written taken = record { text = λ bytes from. inl refl; step = inl (record { silent = refl; taken = taken }) }
 
 pub unread : (terms : Terms) (left left' written : Option (List ℕ)) → TakesOfLine 4194304 left left' → Acquires terms left written left' written ending.ReadFault
-unread terms left left' written taken = record { text = λ bytes before from to. inl to; step = inl (record { silent = refl; taken = inl taken }) }
+unread terms left left' written taken = record { text = λ bytes from. inl refl; step = inl (record { silent = refl; taken = inl taken }) }
 
 -- the ending of the program, by what was answered
 pub acquires_as : (terms : Terms) (left written left' written' : Option (List ℕ)) (got : Result Ending Put) → IfOk got (Acquires terms left written left' written') → OnErr got (BreaksOff terms left written left' written') → Acquires terms left written left' written' (ended_as got)

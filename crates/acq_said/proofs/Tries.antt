@@ -30,7 +30,7 @@ use Rattle.acq_said.specs.Breaks.{BreaksRun}
 use Rattle.acq_said.specs.Endings.{AddsLast, AddsLastFront, HasAsked, Says, SaysPart, Tries}
 use Rattle.acq_loop.specs.Loop.{EndsAs}
 use Rattle.acq_loop.specs.Run.{Closing}
-use Rattle.acq_said.proofs.Closings.{okay, same_ok, err_ok, not_loops, read_by, disk_by, disk_said}
+use Rattle.acq_said.proofs.Closings.{okay, same_ok, err_ok, not_loops, read_by, read_said, disk_by, disk_said}
 
 not_err : false ≡ true → ⊥
 not_err e = cc
@@ -119,6 +119,13 @@ module _ (turns : Turns) (l now : Language) (p still : Plan) (budget : ℕ) (sta
       found (Err e) is s = absurd (err_ok e ending.ReadFault is)
       found (Ok end) is s = read_by how end s.0 (same_ok end ending.ReadFault is)
 
+  read_told : how ≡ drove.ReadFault → got ≡ Ok ending.ReadFault
+  read_told is = found got said said_part
+    where
+      found : (r : Result Ending Put) → IfOk r (Says l (terms_with p budget) (standing_on l later) middle written' how) → OnErr r (SaysPart l (terms_with p budget) (standing_on l later) middle written' how) → r ≡ Ok ending.ReadFault
+      found (Err e) s part = let P : Drove → Type 0 = λ d. SaysPart l (terms_with p budget) (standing_on l later) middle written' d in absurd (not_err (subst P is part).1)
+      found (Ok end) s part = ap okay (read_said how end s.0 is)
+
   -- so is a fault of the disk
   disk_of : got ≡ Ok ending.DiskFault → how ≡ drove.DiskFault
   disk_of is = found got is said
@@ -149,6 +156,7 @@ pub record IsSaidOf (turns : Turns) (l : Language) (terms : Terms) (start later 
   pub no_fault : IfOk got (λ (end : Ending). end ≢ ending.WriteFault)
   pub may_end : MayEnd may (ending_of how) → MayEnd may got
   pub read_of : got ≡ Ok ending.ReadFault → how ≡ drove.ReadFault
+  pub read_told : how ≡ drove.ReadFault → got ≡ Ok ending.ReadFault
   pub disk_of : got ≡ Ok ending.DiskFault → how ≡ drove.DiskFault
   pub disk_told : how ≡ drove.DiskFault → got ≡ Ok ending.DiskFault
   pub loses : got ≡ Ok ending.DiskFault → (lost : Event) → Loses turns l terms (point_of start left written) (point_of later left' middle) lost → Loses turns l terms (point_of start left written) (point_of later left' written') lost
@@ -187,6 +195,7 @@ said_of keep turns old new budget left written left' middle written' s screen ho
       no_fault = no_fault turns l (terms_with p budget) start later left written left' written' got whole;
       may_end = may_end turns l k.lang p k.plan budget start later left written left' middle written' screen how got same again walked ends.ends opens to part may;
       read_of = read_of turns l k.lang p k.plan budget start later left written left' middle written' screen how got same again walked ends.ends opens to part;
+      read_told = read_told turns l k.lang p k.plan budget start later left written left' middle written' screen how got same again walked ends.ends opens to part;
       disk_of = was;
       disk_told = disk_told turns l k.lang p k.plan budget start later left written left' middle written' screen how got same again walked ends.ends opens to part;
       loses = λ ended.

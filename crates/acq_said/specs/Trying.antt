@@ -1,5 +1,6 @@
 -- What `try` has done, by how it ended.
 use Rattle.std.specs.Prelude.{◌≡◌, ℕ, List, [], Option, Some, Result, Ok, ◌⊎◌, Err}
+use Rattle.std.specs.Option.{ForSome}
 use Rattle.acq_io.specs.Streams.{Adds, AddsFront}
 use Rattle.acq_io.specs.Whole.{Gives, first_line_of, Gathered, TakesOfLine}
 use Rattle.acq_io.specs.declared.whole.AllFault.{AllFault}
@@ -13,7 +14,6 @@ use Rattle.acq_loop.specs.Texts.{refusal_text, whole_text}
 use Rattle.acq_loop.specs.declared.terms.Terms.{Terms}
 use Rattle.acq_loop.specs.declared.ending.Ending.{Ending}
 use Rattle.acq_io.specs.declared.whole.AllFault.TheVariants.{TooLong}
-use Rattle.target_oracle.specs.Tells.{Front}
 use Rattle.acq_said.specs.Breaks.{BreaksRun}
 use Rattle.acq_said.specs.Endings.{Tries}
 use Rattle.acq_loop.specs.declared.ending.Ending.TheVariants as ending
@@ -45,15 +45,14 @@ abbrev pub IsWholeText : Terms → List ℕ → List ℕ → Type 0
 IsWholeText terms bytes text = IsTextOfRefusal (first_line_of 4194304 bytes) text ⊎ IsTextOfRun terms (first_line_of 4194304 bytes) text
 
 -- a front of it was written
-pub record IsPart (terms : Terms) (bytes before : List ℕ) (written : Option (List ℕ)) : Type 0 where
+pub record IsPart (terms : Terms) (bytes : List ℕ) (written written' : Option (List ℕ)) : Type 0 where
   pub whole : List ℕ
   pub is : IsWholeText terms bytes whole
-  pub text : Front whole before written
+  pub text : AddsFront written written' whole
 
--- where input and output tell their bytes, nothing was written or a front of the whole text
+-- where the input tells its bytes, nothing was written or a front of the whole text
 abbrev pub Breaks : Terms → (left written written' : Option (List ℕ)) → Type 0
-Breaks terms left written written' =
-    (bytes before : List ℕ) → left ≡ Some bytes → written ≡ Some before → (written' ≡ Some before) ⊎ IsPart terms bytes before written'
+Breaks terms left written written' = ForSome left (λ bytes. (written' ≡ written) ⊎ IsPart terms bytes written written')
 
 -- the first line of the input is a vocabulary
 pub record ReadsVocabulary (terms : Terms) (left written left' written' : Option (List ℕ)) (end : Ending) : Type 0 where
@@ -96,7 +95,7 @@ pub record IsRunInPart (terms : Terms) (left written left' written' : Option (Li
 abbrev pub BreaksAt : Terms → (left written left' written' : Option (List ℕ)) → Type 0
 BreaksAt terms left written left' written' = IsUnbegun left written left' written' ⊎ (IsRefusedInPart left written left' written' ⊎ IsRunInPart terms left written left' written')
 
--- That, and where input and output tell their bytes, a front of the whole text.
+-- That, and where the input tells its bytes, a front of the whole text.
 pub record BreaksOff (terms : Terms) (left written left' written' : Option (List ℕ)) : Type 0 where
   pub text : Breaks terms left written written'
   pub step : BreaksAt terms left written left' written'

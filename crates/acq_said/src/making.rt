@@ -1,7 +1,7 @@
 //! The command that makes a journal.
 
 ghost use Rattle.std.specs.Prelude.{◌≡◌, ◌≢◌, IfOk, Err};
-ghost use Rattle.acq_io.specs.Streams.{HasStopped, TakesSome};
+ghost use Rattle.acq_io.specs.Streams.{HasCalled, TakesSome};
 ghost use Rattle.disk_model.specs.Disk.{Rose as DiskRose};
 ghost use Rattle.acq_said.specs.Making.{Makes, News, RefusesMaking, created_text, voc_refused};
 ghost use Rattle.acq_said.specs.Saying.{saying};
@@ -80,7 +80,7 @@ pub fn new_journal<S: Source, D: Disk>(
 ) -> Result<Said, Unsaid>
     ensures news { News D.Disk plan (S.left input.old) (S.left input.new) disk.old disk.new result }
     ensures takes { TakesSome (S.left input.old) (S.left input.new) }
-    ensures read { HasStopped (S.faults input.old) (S.faults input.new) (S.late input.old) (S.late input.new) (result ≡ Err Unsaid.ReadFault) }
+    ensures read { HasCalled (S.faults input.old) (S.faults input.new) (S.late input.old) (S.late input.new) (result ≡ Err Unsaid.ReadFault) }
     ensures lost { result ≡ Err Unsaid.DiskFault → DiskRose (D.faults disk.old) (D.faults disk.new) }
 {
     match read_all(alloc, input, MOST_VOCABULARY) {

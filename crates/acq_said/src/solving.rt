@@ -1,7 +1,7 @@
 //! What `model` says: the solution of a journal's network that a SAT solver's model gives.
 
 ghost use Rattle.std.specs.Prelude.{◌≡◌, ◌≢◌, IfOk, Err};
-ghost use Rattle.acq_io.specs.Streams.{HasStopped, TakesSome};
+ghost use Rattle.acq_io.specs.Streams.{HasCalled, TakesSome};
 ghost use Rattle.disk_model.specs.Disk.{Rose as DiskRose};
 ghost use Rattle.language.specs.Answers.{IsNetwork};
 ghost use Rattle.net_cnf.specs.Models.{model_of};
@@ -62,7 +62,7 @@ fn solved<S: Source, D: Disk, P: Keep<D>>(
     requires { P.sound keep.now }
     ensures says { SaysOfInput 4194304 (λ read. IsSaid (solved_said read (opened_as (P.plan keep.now) (P.voc keep.now) (P.record_of keep.now) (P.lang keep.now)))) (S.left input.old) (S.left input.new) result }
     ensures takes { TakesSome (S.left input.old) (S.left input.new) }
-    ensures read { HasStopped (S.faults input.old) (S.faults input.new) (S.late input.old) (S.late input.new) (result ≡ Err Unsaid.ReadFault) }
+    ensures read { HasCalled (S.faults input.old) (S.faults input.new) (S.late input.old) (S.late input.new) (result ≡ Err Unsaid.ReadFault) }
     ensures no_disk { result ≢ Err Unsaid.DiskFault }
 {
     let session = keep.session();
@@ -83,7 +83,7 @@ pub fn solve_journal<S: Source, D: Disk>(
 ) -> Result<Said, Unsaid>
     ensures says { SaysOver D.Disk (Solves (S.left input.old) (S.left input.new)) (λ o. Unit {0}) disk.old disk.new result }
     ensures takes { TakesSome (S.left input.old) (S.left input.new) }
-    ensures read { HasStopped (S.faults input.old) (S.faults input.new) (S.late input.old) (S.late input.new) (result ≡ Err Unsaid.ReadFault) }
+    ensures read { HasCalled (S.faults input.old) (S.faults input.new) (S.late input.old) (S.late input.new) (result ≡ Err Unsaid.ReadFault) }
     ensures lost { result ≡ Err Unsaid.DiskFault → DiskRose (D.faults disk.old) (D.faults disk.new) }
 {
     match Store::open(alloc, disk) {

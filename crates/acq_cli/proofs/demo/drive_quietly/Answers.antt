@@ -1,4 +1,4 @@
-use Rattle.std.proofs.Common.{◌∙◌, List, Some, ap, subst, arith}
+use Rattle.std.proofs.Common.{◌∙◌, ℕ, List, Option, Some, ap, subst, arith}
 use Rattle.language.specs.declared.candidates.Candidate.{Candidate}
 use Rattle.language.specs.Language.{Language, IsLanguage}
 use Rattle.language.specs.Answers.{standing_on}
@@ -10,8 +10,10 @@ use Rattle.acq_loop.specs.Closings.{ending_of}
 use Rattle.acq_loop.specs.Points.{terms_with}
 use Rattle.acq_cli.proofs.Demoing.{driven_by, driven_from, not_collapsed}
 use Rattle.acq_cli.proofs.Targets.{agreeing_added, not_filled}
-use Rattle.acq_loop.proofs.Turning.{some_text}
 use Rattle.acq_cli.proofs.demo.drive_quietly.Goals as goal
+
+abbrev told_bytes : List ℕ → Option (List ℕ)
+told_bytes bytes = Some bytes
 
 pub returns-clause-agreeing : goal.returns-clause-agreeing
 returns-clause-agreeing g c =
@@ -30,9 +32,9 @@ returns-clause-driven g c =
     let how = c.drive.result in
     let Own : List Candidate → Type 0 = λ net. MayEnd (net_may_say net l) (ending_of how) in
     let Grown : List Candidate → Type 0 = λ net. IsAdded l (plan_of c.args.keep.now) (net_may_say net l) (events_of c.args.keep.now) after in
-    driven_by target l terms after (Some c.drive.new.source) (Some c.drive.new.sink) how
+    driven_by target l terms after (Some c.new-sink.result) (Some c.drive.new.source) (Some c.drive.new.sink) how
     (driven_from c.new-teacher.result.network target c.new-teacher.result.quiet l terms (events_of c.args.keep.now) after (Some c.new-source.result) (Some c.new-sink.result) (Some c.drive.new.source) (Some c.drive.new.sink) how
-    c.new-teacher.ensures.network c.new-teacher.ensures.quiet c.requires.fresh (c.new-source.ensures.tells ∙ some_text _ _ c.new-5.ensures.items) c.new-sink.ensures.tells c.drive.ensures.ends.ends)
+    c.new-teacher.ensures.network c.new-teacher.ensures.quiet c.requires.fresh (c.new-source.ensures.tells ∙ ap told_bytes c.new-5.ensures.items) c.drive.ensures.ends.ends)
     (subst Own c.new-teacher.ensures.network c.drive.ensures.taught.said)
     (not_collapsed l terms target (standing_on l after) how (c.drive.ensures.owner target c.requires.target (returns-clause-agreeing g c)))
     (λ is. let rose = c.drive.ensures.faults.write.rose is in omega (arith, rose))

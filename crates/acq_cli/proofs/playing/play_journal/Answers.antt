@@ -11,21 +11,25 @@ use Rattle.target_oracle.specs.NetTurns.{net_turn, net_may_say}
 use Rattle.acq_said.specs.Breaks.{BreaksRun}
 use Rattle.acq_loop.specs.Driven.{Loses}
 use Rattle.acq_said.specs.Endings.{Tries}
-use Rattle.acq_cli.specs.Playing.{IsAnsweredBy, MayLack, ReadsTarget, stale_said}
+use Rattle.acq_cli.specs.Playing.{IsAnsweredBy, MayLack, ReadsTarget, SaysWithout, stale_said}
 use Rattle.acq_loop.specs.Points.{point_of, terms_with}
 use Rattle.acq_said.proofs.Journals.{goes_on_with, opened_now, IsDisk}
 use Rattle.acq_cli.proofs.Targets.{answered, none_at_all}
-use Rattle.acq_cli.proofs.Causes.{stopped_unless}
+use Rattle.acq_cli.proofs.Causes.{called_unless, ends_read}
 use Rattle.acq_said.proofs.Spoken.{said_as, silent_not}
 use Rattle.acq_cli.specs.declared.playing.NoTarget.{NoTarget}
+use Rattle.acq_cli.specs.declared.playing.NoTarget.TheVariants as without
 use Rattle.acq_said.specs.declared.said.Unsaid.TheVariants as unsaid
-use Rattle.acq_io.proofs.CallLemmas.{stopped_by}
+use Rattle.acq_io.proofs.CallLemmas.{called_as}
 use Rattle.network.specs.Learned.{Learned}
 use Rattle.acq_loop.proofs.Taking.{takes_then}
 use Rattle.acq_cli.proofs.playing.play_journal.Goals as goal
 
 abbrev untaken : NoTarget → Result Learned NoTarget
 untaken why = Err why
+
+same_why : (a b : NoTarget) → untaken a ≡ untaken b → a ≡ b
+same_why a b e = cc
 
 pub returns-then-count-ge1-clause-plays : goal.returns-then-count-ge1-clause-plays
 returns-then-count-ge1-clause-plays g c =
@@ -108,19 +112,26 @@ returns-in-Ok-read_target-clause-plays g c =
     (λ no bytes told. c.ask_on.ensures.keeps.persists refl bytes told no) (subst Lost c.new-teacher.ensures.quiet (λ is. c.ask_on.ensures.keeps.fails is))
     tries (subst Part c.new-teacher.ensures.quiet c.ask_on.ensures.asked.part)
     (fresh, reads, answered (net_turn target false) l terms target (events_of store) (events_of after) rest written left' written' c.ask_on.result reads.lawful fresh c.ask_on.ensures.taught.added c.ask_on.ensures.taught.said tries) in
-    inr (inr (inr (record { target = target; rest = rest; on = on.0; fresh = on.1.0; reads = on.1.1; answered = on.1.2 })))
+    inr (inr (inr (record { target = target; rest = rest; on = on.0; fresh = on.1.0; reads = on.1.1; alone = ap g.S.Source.left (c.ask_on.ensures.unread refl); answered = on.1.2 })))
 
 pub returns-in-Ok-read_target-clause-takes : goal.returns-in-Ok-read_target-clause-takes
 returns-in-Ok-read_target-clause-takes g c = takes_then _ _ _ c.read_target.ensures.takes c.ask_on.ensures.takes
 
 pub returns-then-count-ge1-clause-read : goal.returns-then-count-ge1-clause-read
-returns-then-count-ge1-clause-read g c = stopped_unless _ _ _ (λ is. silent_not c.stale.result c.or_silent.result unsaid.ReadFault (λ e. cc) c.or_silent.ensures (c.put.ensures.read is))
+returns-then-count-ge1-clause-read g c = called_unless _ _ _ (λ is. silent_not c.stale.result c.or_silent.result unsaid.ReadFault (λ e. cc) c.or_silent.ensures (c.put.ensures.read is))
 
 pub returns-then-count-ge1-clause-lost : goal.returns-then-count-ge1-clause-lost
 returns-then-count-ge1-clause-lost g c is = absurd (silent_not c.stale.result c.or_silent.result unsaid.DiskFault (λ e. cc) c.or_silent.ensures (c.put.ensures.lost is))
 
 pub returns-clause-read : goal.returns-clause-read
-returns-clause-read g c = stopped_by _ _ _ _ _ _ (λ is. c.in-Err-read_target.is ∙ ap untaken (c.untargeted.ensures.read (c.put-in-Err-read_target.ensures.read is))) c.read_target.ensures.called
+returns-clause-read g c =
+    let why : NoTarget = c.in-Err-read_target.why in
+    let Says : NoTarget → Type 0 = λ w. SaysWithout w c.untargeted.result in
+    called_as _ _ _ _ _ _
+    (λ is.
+    ends_read c.untargeted.result (g.K.Sink.written c.args.out.now) (g.K.Sink.written c.put-in-Err-read_target.new.out) c.put-in-Err-read_target.result c.put-in-Err-read_target.ensures.writes
+    (subst Says (same_why why without.ReadFault (sym c.in-Err-read_target.is ∙ is)) c.untargeted.ensures.says))
+    (λ is. c.in-Err-read_target.is ∙ ap untaken (c.untargeted.ensures.read (c.put-in-Err-read_target.ensures.read is))) c.read_target.ensures.called
 
 pub returns-clause-lost : goal.returns-clause-lost
 returns-clause-lost g c is = absurd (c.untargeted.ensures.no_disk (c.put-in-Err-read_target.ensures.lost is))

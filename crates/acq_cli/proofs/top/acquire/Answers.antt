@@ -96,7 +96,7 @@ pub returns-in-Err-Failed-clause-completes : goal.returns-in-Err-Failed-clause-c
 returns-in-Err-Failed-clause-completes g c none = absurd (none.write (c.in-Err-Failed.ensures.failed (ap failed c.in-Err-Failed.field-0-is)))
 
 pub returns-in-Err-Memory-clause-completes : goal.returns-in-Err-Memory-clause-completes
-returns-in-Err-Memory-clause-completes g c none = memory_completes (command_asked (map string_bytes c.args.words.now)) (g.S.Source.left c.args.input.now) (g.K.Sink.written c.args.out.now) (g.D.Disk.content c.args.disk.now)
+returns-in-Err-Memory-clause-completes g c none = memory_completes (command_asked (map string_bytes c.args.words.now)) (g.S.Source.left c.args.input.now) (g.D.Disk.content c.args.disk.now)
 
 pub returns-in-Ok-clause-converged : goal.returns-in-Ok-clause-converged
 returns-in-Ok-clause-converged g c m is =

@@ -12,7 +12,7 @@ use Rattle.acq_loop.specs.Points.{point_of, terms_with}
 use Rattle.acq_loop.specs.declared.driving.Drove.TheVariants as drove
 use Rattle.acq_loop.specs.declared.ending.Ending.{Ending}
 use Rattle.acq_loop.specs.declared.ending.Ending.TheVariants as ending
-use Rattle.acq_io.proofs.CallLemmas.{stopped_by}
+use Rattle.acq_io.proofs.CallLemmas.{called_as}
 use Rattle.acq_loop.proofs.Added.{taught_none}
 use Rattle.acq_said.proofs.Closings.{okay}
 use Rattle.acq_said.proofs.Parts.{begun_part}
@@ -40,7 +40,7 @@ returns-clause-read g c =
     let on = said_of P (g.T.Teacher.turn c.args.teacher.now) old new c.args.budget (g.S.Source.left c.args.input.now) (g.K.Sink.written c.args.out.now) (g.S.Source.left c.drive-drove.new.source) (g.K.Sink.written c.drive-drove.new.sink)
     (g.K.Sink.written c.say.new.out) c.session-session.result.now c.drive-drove.new.screen c.drive-drove.result c.say.result (g.T.Teacher.may_say c.args.teacher.now (P.lang old)) c.drive-drove.ensures.same there.stands there.lang there.plan c.drive-drove.ensures.walked c.drive-drove.ensures.ends
     (c.say.ensures.says c.args.budget) (c.say.ensures.part c.args.budget) in
-    stopped_by _ _ _ _ (c.drive-drove.result ≡ drove.ReadFault) (c.say.result ≡ okay ending.ReadFault) on.read_of c.drive-drove.ensures.faults.read.called
+    called_as _ _ _ _ (c.drive-drove.result ≡ drove.ReadFault) (c.say.result ≡ okay ending.ReadFault) on.read_told on.read_of c.drive-drove.ensures.faults.read.called
 
 pub returns-clause-takes : goal.returns-clause-takes
 returns-clause-takes g c = c.drive-drove.ensures.faults.read.takes

@@ -7,7 +7,7 @@ use Rattle.acq_loop.specs.Points.{terms_with}
 use Rattle.acq_cli.specs.Words.{Spares, command_asked}
 use Rattle.acq_said.proofs.Parts.{acquires_as}
 use Rattle.acq_cli.proofs.Asked.{does_nothing, does_speak}
-use Rattle.acq_cli.proofs.Causes.{ok_causes, stopped_as}
+use Rattle.acq_cli.proofs.Causes.{called_put, ok_causes}
 use Rattle.acq_cli.proofs.top.perform.Goals as goal
 
 abbrev asked_for : Command → Result Command UsageFault
@@ -63,7 +63,7 @@ returns-in-New-clause-spares g c =
     subst Spared (sym c.in-Ok.ensures.is) c.speak.ensures.spares
 
 pub returns-in-New-clause-read : goal.returns-in-New-clause-read
-returns-in-New-clause-read g c = stopped_as _ _ _ _ _ _ c.put.ensures.read c.speak.ensures.read
+returns-in-New-clause-read g c = called_put _ _ _ _ c.speak.result (g.K.Sink.written c.args.out.now) (g.K.Sink.written c.put.new.out) c.put.result c.put.ensures.writes c.put.ensures.read c.speak.ensures.read
 
 pub returns-in-New-clause-causes : goal.returns-in-New-clause-causes
-returns-in-New-clause-causes g c = ok_causes _ _ _ _ _ _ _ _ c.put.result (stopped_as _ _ _ _ _ _ c.put.ensures.read c.speak.ensures.read) c.put.ensures.no_fault (λ is. c.speak.ensures.lost (c.put.ensures.lost is))
+returns-in-New-clause-causes g c = ok_causes _ _ _ _ _ _ _ _ c.put.result (returns-in-New-clause-read g c) c.put.ensures.no_fault (λ is. c.speak.ensures.lost (c.put.ensures.lost is))
