@@ -3,6 +3,7 @@ pub mod Marks
 pub mod Accepting
 pub mod Lawful
 pub mod Splitting
+pub mod Outside
 pub mod Differences
 pub mod Replies
 pub mod Filling

@@ -25,7 +25,7 @@ module _ (scene : Scene) (cs : List Choice) where
   abbrev us : List (List ℕ)
   us = tuples scene.value_count scene.arity
 
-  tells_there : (p : ℕ) → p < scene.value_count ^ scene.arity → differ_at scene cs p ≡ tells_apart scene cs (get_or us p [])
+  pub tells_there : (p : ℕ) → p < scene.value_count ^ scene.arity → differ_at scene cs p ≡ tells_apart scene cs (get_or us p [])
   tells_there p low = λ i.
       list_any (λ c. allows_there scene (get_or us p []) p (there scene.value_count scene.arity p low) c i) cs
       && list_any (λ c. not (allows_there scene (get_or us p []) p (there scene.value_count scene.arity p low) c i)) cs
@@ -84,7 +84,7 @@ module _ (scene : Scene) (cs : List Choice) (p mask y : ℕ) (fits : p + scene.v
 
 pub at_first_row : (d a : ℕ) → 1 ≤ a → IsAtRow d (d ^ a) 0
 at_first_row d zero some = absurd (omega arith)
-at_first_row d (suc a) some = record { rows = d ^ a; end = omega (arith, pow-suc d a, mul_comm d (d ^ a)) }
+at_first_row d (suc a) some = record { before = 0; rows = d ^ a; start = omega arith; end = omega (arith, pow-suc d a, mul_comm d (d ^ a)) }
 
 pub row_fits : (d places p : ℕ) → IsAtRow d places p → p < places → p + d ≤ places
 row_fits d places p is low = go is.rows is.end
@@ -102,7 +102,7 @@ at_next_row d places p is low = go is.rows is.end
   where
     go : (rows : ℕ) → p + rows * d ≡ places → IsAtRow d places (p + d)
     go zero end = absurd (omega arith)
-    go (suc rows) end = record { rows = rows; end = omega (arith, suc-mul rows d) }
+    go (suc rows) end = record { before = is.before + 1; rows = rows; start = (let start = is.start in omega (arith, start)); end = omega (arith, suc-mul rows d) }
 
 pub from_first_row : (l : Language) (s : ℕ) (cs : List Choice) → 1 ≤ length (scope_at l s) → IsFoundFrom l s cs 0
 from_first_row l s cs some = record { found = refl; row = at_first_row l.value_count (length (scope_at l s)) some }

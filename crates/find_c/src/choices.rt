@@ -4,14 +4,17 @@ ghost use Rattle.std.specs.Prelude.{ℕ, ◌≡◌, ◌+◌, ◌^◌, ◌<◌, �
 ghost use Rattle.std.specs.List.{filter};
 ghost use Rattle.std.specs.Bool.{beq};
 ghost use Rattle.std.specs.Int.{bit_at};
-ghost use Rattle.language.specs.Language.{IsLanguage, is_whole, scope_at, relations_on};
+ghost use Rattle.language.specs.Language.{IsLanguage, variable_count, range_of, scope_at, relations_on};
+ghost use Rattle.language.specs.Ranges.{is_in, are_in};
 ghost use Rattle.language.specs.Scenes.{scene_of};
 ghost use Rattle.language.specs.TellingApart.{remaining};
 ghost use Rattle.find_c.specs.Choices.{choices_of, beside_none, is_accepting, differ_at};
+ghost use Rattle.find_c.specs.Inside.{IsAtRow, is_outside};
 ghost use Rattle.find_c.specs.Run.{IsChoiceOn};
 
 use bias_store::split_first;
 use language::{Language, ScopeId};
+use rel_table::tuple_of;
 use std::marker::Model;
 
 /// Relations on a scope, and perhaps the choice of none of them, which accepts every tuple.
@@ -35,21 +38,74 @@ impl Model for Choices {
     ghost invariant = { λ c. c.relations < 2 ^ 64 };
 }
 
-/// The truth values of relation r on a scope from a place on, one for each value of the last variable. Where each variable there
-/// has all values, which is known already, they are those of its table.
+/// Whether a value is one of a range.
+fn is_in(first: u8, last: u8, value: u8) -> bool
+    ensures { result ≡ is_in (record { first = first; last = last }) value }
+{
+    first <= value && value <= last
+}
+
+/// Whether each of these values is one of its variable's.
+fn are_in(lang: &Language, scope: &[u8], values: &[u8]) -> bool
+    requires known { All (λ v. v < variable_count lang.now) scope.now }
+    requires long { length values.now ≡ length scope.now }
+    ensures { result ≡ are_in lang.now.ranges scope.now values.now }
+{
+    for i in 0..scope.len() {
+        let (first, last) = lang.range(scope[i]);
+        if !is_in(first, last, values[i]) {
+            return false;
+        }
+    }
+    true
+}
+
+/// The values of a variable's range: bit y is 1 where y is one of them.
+fn range_mask(lang: &Language, v: u8) -> u64
+    requires { v < variable_count lang.now }
+    ensures { (y : ℕ) → y < lang.now.value_count → (bit_at result y == 1) ≡ is_in (range_of lang.now v) y }
+{
+    let (first, last) = lang.range(v);
+    let mut mask = 0;
+    for y in 0..lang.d() {
+        mask |= u64::from(is_in(first, last, y)) << y;
+    }
+    mask
+}
+
+/// Which places of a row are outside the ranges: bit y is 1 where the tuple y places further has a value that isn't one of its
+/// variable's. The values before the last are the same in the whole row.
+fn outside_row(lang: &Language, s: ScopeId, place: u32) -> u64
+    requires lawful { IsLanguage lang.now }
+    requires scope { s < length lang.now.scopes }
+    requires row { IsAtRow lang.now.value_count (lang.now.value_count ^ length (scope_at lang.now s)) place }
+    requires below { place < lang.now.value_count ^ length (scope_at lang.now s) }
+    ensures { (y : ℕ) → y < lang.now.value_count → (bit_at result y == 1) ≡ is_outside lang.now s (place + y) }
+{
+    if lang.is_whole(s) {
+        return 0;
+    }
+    let scope = lang.scope(s);
+    let tuple = tuple_of(lang.d(), scope.len() as u8, place);
+    let last = scope.len() - 1;
+    if are_in(lang, &scope[..last], &tuple[..last]) {
+        !range_mask(lang, scope[last])
+    } else {
+        !0
+    }
+}
+
+/// The truth values of relation r on a scope from a place on, one for each value of the last variable, given which of the tuples are
+/// outside the ranges: there it holds, and within them as its table does.
 #[inline]
-fn row_of(lang: &Language, s: ScopeId, r: u8, whole: bool, place: u32) -> u64
+fn row_of(lang: &Language, s: ScopeId, r: u8, outside: u64, place: u32) -> u64
     requires scope { s < length lang.now.scopes }
     requires rel { r < length (relations_on lang.now s) }
-    requires whole { whole ≡ is_whole lang.now s }
     requires row { place + lang.now.value_count ≤ lang.now.value_count ^ length (scope_at lang.now s) }
+    requires outside { (y : ℕ) → y < lang.now.value_count → (bit_at outside y == 1) ≡ is_outside lang.now s (place + y) }
     ensures { (y : ℕ) → y < lang.now.value_count → (bit_at result y == 1) ≡ slice_index_or (slice_index_or (relations_on lang.now s) r []) (place + y) false }
 {
-    if whole {
-        lang.table_on(s, r).row(place)
-    } else {
-        lang.row_on(s, r, place)
-    }
+    lang.table_on(s, r).row(place) | outside
 }
 
 impl Choices {
@@ -98,15 +154,20 @@ impl Choices {
         requires lawful { IsLanguage lang.now }
         requires scope { s < length lang.now.scopes }
         requires known { All (IsChoiceOn lang.now s) self.now }
-        requires row { place + lang.now.value_count ≤ lang.now.value_count ^ length (scope_at lang.now s) }
+        requires row { IsAtRow lang.now.value_count (lang.now.value_count ^ length (scope_at lang.now s)) place }
+        requires below { place < lang.now.value_count ^ length (scope_at lang.now s) }
         ensures { (y : ℕ) → y < lang.now.value_count → (bit_at result y == 1) ≡ differ_at (scene_of lang.now s) self.now (place + y) }
     {
-        let whole = lang.is_whole(s);
+        let outside = outside_row(lang, s, place);
+        if outside == u64::MAX {
+            // Each choice accepts the whole row.
+            return 0;
+        }
         let (mut accepted, mut rejected) = (0, 0);
         let mut left = self.relations;
         while left != 0 {
             let (r, rest) = split_first(left);
-            let row = row_of(lang, s, r, whole, place);
+            let row = row_of(lang, s, r, outside, place);
             accepted |= row;
             rejected |= !row;
             left = rest;

@@ -13,11 +13,13 @@ pub loop-place-init : goal.loop-place-init
 loop-place-init c = c.first_row-place.ensures.found
 
 pub differences-y-requires-clause-row : goal.differences-y-requires-clause-row
-differences-y-requires-clause-row c =
+differences-y-requires-clause-row c = c.loop-place.invariant.row
+
+pub differences-y-requires-clause-below : goal.differences-y-requires-clause-below
+differences-y-requires-clause-below c =
     let all : c.pow-places.result ≡ c.args.lang.now.value_count ^ length (scope_at c.args.lang.now c.args.s) = c.pow-places.ensures ∙ (λ i. (c.from-row.ensures ∙ c.d-value_count.ensures.is) i ^ (c.from.ensures ∙ ap length c.scope.ensures.is) i) in
     let low = c.loop-place-test.true in
-    let fits = row_fits c.args.lang.now.value_count (c.args.lang.now.value_count ^ length (scope_at c.args.lang.now c.args.s)) c.loop-place.place c.loop-place.invariant.row (omega arith) in
-    fits
+    omega arith
 
 pub overflow_add-place : goal.overflow_add-place
 overflow_add-place c =

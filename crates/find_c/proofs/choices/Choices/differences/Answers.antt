@@ -1,5 +1,17 @@
-use Rattle.find_c.proofs.Prelude.{◌+◌, ◌<◌, ◌∙◌, ap, sym, subst, not, length, arith, All, bit_not, w64, All-head, All-tail, relations_on, scene_of, ones_of, is_one-not, choices_of, allows_at, differ_at, IsChoiceOn}
+use Rattle.std.proofs.Common.{◌+◌, ◌<◌, ◌^◌, ◌∙◌, ap, sym, subst, not, length, arith}
+use Rattle.std.specs.Prelude.{All, ◌==◌}
+use Rattle.std.specs.Int.{bit_at, bit_not, w64}
+use Rattle.std.proofs.lemmas.List.Elements.{All-head, All-tail}
+use Rattle.language.specs.Language.{relations_on, scope_at}
+use Rattle.language.specs.Scenes.{scene_of}
+use Rattle.bias_store.specs.Masks.{ones_of}
+use Rattle.bias_store.proofs.Ones.{is_one-not}
+use Rattle.find_c.specs.Choices.{choices_of, allows_at, differ_at}
+use Rattle.find_c.specs.Run.{IsChoiceOn}
 use Rattle.find_c.proofs.Differences.{known_of, seen_none, seen_more, rejects_at, differ_bound, differ_free}
+use Rattle.std.proofs.lemmas.Nat.Bits.{bit_at-zero}
+use Rattle.find_c.proofs.Outside.{none_differ}
+use Rattle.find_c.proofs.Splitting.{row_fits}
 use Rattle.find_c.proofs.choices.Choices.differences.Goals as goal
 
 pub loop-left-init : goal.loop-left-init
@@ -8,6 +20,16 @@ loop-left-init c = record {
   accepts = seen_none (scene_of c.args.lang.now c.args.s) c.args.place (allows_at (scene_of c.args.lang.now c.args.s)) c.self.inside.relations;
   rejects = seen_none (scene_of c.args.lang.now c.args.s) c.args.place (rejects_at (scene_of c.args.lang.now c.args.s)) c.self.inside.relations;
 }
+
+pub returns-then-outside : goal.returns-then-outside
+returns-then-outside c = λ y low.
+    ap (λ x. x == 1) (bit_at-zero y)
+    ∙ sym (none_differ c.args.lang.now c.args.s (c.args.place + y) c.args.self.now c.requires.lawful c.requires.scope c.requires.known
+    (let fits = row_fits c.args.lang.now.value_count (c.args.lang.now.value_count ^ length (scope_at c.args.lang.now c.args.s)) c.args.place c.requires.row c.requires.below in omega arith)
+    (sym (c.outside_row-outside.ensures y low) ∙ ap (λ m. bit_at m y == 1) c.if-outside.true ∙ is_one-not 0 y (omega arith) (let few = c.requires.lawful.few_values in omega arith) ∙ ap (λ x. not (x == 1)) (bit_at-zero y)))
+
+pub row_of-row-requires-clause-row : goal.row_of-row-requires-clause-row
+row_of-row-requires-clause-row c = row_fits c.args.lang.now.value_count (c.args.lang.now.value_count ^ length (scope_at c.args.lang.now c.args.s)) c.args.place c.requires.row c.requires.below
 
 pub row_of-row-requires-clause-rel : goal.row_of-row-requires-clause-rel
 row_of-row-requires-clause-rel c = All-head (λ r. r < length (relations_on c.args.lang.now c.args.s)) c.split_first-r.result.0 (ones_of c.split_first-r.result.1) (subst (λ rs. All (λ r. r < length (relations_on c.args.lang.now c.args.s)) rs) c.split_first-r.ensures c.loop-left.invariant.known)
