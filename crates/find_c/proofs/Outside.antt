@@ -1,22 +1,8 @@
 -- Which tuples of a row are outside the ranges.
-use Rattle.std.proofs.Common.{◌≡◌, ℕ, zero, suc, ◌+◌, ◌*◌, ◌%◌, ◌^◌, ◌<◌, ◌≤◌, Bool, true, false, ◌&&◌, ◌||◌, not, List, [], ◌∷◌, ◌++◌, length, take, drop, get_or, refl, sym, ◌∙◌, ap, subst, arith, length-take-le, take-take, take_all}
-use Rattle.std.specs.Prelude.{All}
-use Rattle.std.specs.List.{fold}
+use Rattle.find_c.proofs.Prelude.{◌≡◌, ℕ, zero, suc, ◌+◌, ◌*◌, ◌%◌, ◌^◌, ◌<◌, ◌≤◌, Bool, true, false, ◌&&◌, ◌||◌, not, List, [], ◌∷◌, ◌++◌, length, take, drop, get_or, refl, sym, ◌∙◌, ap, subst, arith, length-take-le, take-take, take_all, All, fold, length-append, take_more, drop_more, drop_all, All-nil, All-cons, All-head, All-tail, Relation, place, tuple_at, get_or-tuples, length-tuple_at, tuple_at-below, place-tuple_at, tuple_at-place, Language, IsLanguage, scope_at, is_whole, is_in, range_in, are_in, widened, scene_of, Choice, tells_apart, told_apart_within, differ_at, IsAtRow, is_outside, IsChoiceOn}
 use Rattle.std.proofs.lemmas.Nat.{mod-mul-add}
-use Rattle.std.proofs.lemmas.List.{length-append, take_more, drop_more, drop_all}
-use Rattle.std.proofs.lemmas.List.Elements.{All-nil, All-cons, All-head, All-tail}
-use Rattle.rel_table.specs.Relation.{Relation, place, tuple_at}
-use Rattle.rel_table.proofs.PlaceLemmas.{get_or-tuples, length-tuple_at, tuple_at-below, place-tuple_at, tuple_at-place}
 use Rattle.language.specs.declared.ranges.ValueRange.{ValueRange}
-use Rattle.language.specs.Language.{Language, IsLanguage, scope_at, is_whole}
-use Rattle.language.specs.Ranges.{is_in, range_in, are_in, widened}
 use Rattle.language.proofs.Within.{widened-at, wholes_from, all_within}
-use Rattle.language.specs.Scenes.{scene_of}
-use Rattle.language.specs.TellingApart.{Choice, tells_apart}
-use Rattle.language.proofs.Ranged.{told_apart_within}
-use Rattle.find_c.specs.Choices.{differ_at}
-use Rattle.find_c.specs.Inside.{IsAtRow, is_outside}
-use Rattle.find_c.specs.Run.{IsChoiceOn}
 use Rattle.find_c.proofs.Splitting.{tells_there}
 
 -- ---- the tuples of a row

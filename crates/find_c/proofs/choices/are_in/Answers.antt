@@ -1,6 +1,4 @@
-use Rattle.std.proofs.Common.{◌+◌, drop, sym, ◌∙◌, ap, arith}
-use Rattle.std.specs.Prelude.{◌&&◌}
-use Rattle.language.specs.Ranges.{are_in}
+use Rattle.find_c.proofs.Prelude.{◌+◌, drop, sym, ◌∙◌, ap, arith, ◌&&◌, are_in}
 use Rattle.find_c.proofs.Outside.{in_more, in_all}
 use Rattle.find_c.proofs.choices.are_in.Goals as goal
 

@@ -1,5 +1,4 @@
-use Rattle.std.proofs.Common.{◌≡◌, drop}
-use Rattle.language.specs.Ranges.{are_in}
+use Rattle.find_c.proofs.Prelude.{◌≡◌, drop, are_in}
 use Rattle.find_c.proofs.choices.are_in.Given as goal
 
 abbrev pub invariant-loop-i : goal.invariant-loop-i

@@ -1,11 +1,4 @@
-use Rattle.std.proofs.Common.{ℕ, suc, ◌+◌, ◌-◌, ◌<◌, ◌≡◌, ◌^◌, ◌&&◌, length, take, get_or, not, sym, ◌∙◌, ap, arith}
-use Rattle.std.proofs.lemmas.Nat.Bits.{bit_at-zero}
-use Rattle.std.specs.Prelude.{◌==◌}
-use Rattle.bias_store.proofs.Ones.{is_one-not}
-use Rattle.rel_table.specs.Relation.{tuple_at}
-use Rattle.language.specs.Language.{scope_at, range_of}
-use Rattle.language.specs.Ranges.{is_in, range_in, are_in}
-use Rattle.find_c.specs.Inside.{is_outside}
+use Rattle.find_c.proofs.Prelude.{ℕ, suc, ◌+◌, ◌-◌, ◌<◌, ◌≡◌, ◌^◌, ◌&&◌, length, take, get_or, not, sym, ◌∙◌, ap, arith, bit_at-zero, ◌==◌, is_one-not, tuple_at, scope_at, range_of, is_in, range_in, are_in, is_outside}
 use Rattle.find_c.proofs.Splitting.{row_fits}
 use Rattle.find_c.proofs.Outside.{inside_row, none_outside}
 use Rattle.find_c.proofs.choices.outside_row.Goals as goal

@@ -1,7 +1,4 @@
-use Rattle.std.proofs.Common.{◌∙◌, arith}
-use Rattle.language.proofs.ByNames.{no_mask, mask_more}
-use Rattle.language.specs.Language.{range_of}
-use Rattle.language.specs.Ranges.{is_in}
+use Rattle.find_c.proofs.Prelude.{◌∙◌, arith, no_mask, mask_more, range_of, is_in}
 use Rattle.find_c.proofs.choices.range_mask.Goals as goal
 
 pub loop-y-init : goal.loop-y-init

@@ -1,6 +1,4 @@
-use Rattle.std.proofs.Common.{◌+◌, ◌||◌, ◌∙◌, get_or, [], arith}
-use Rattle.assign.specs.SetLemmas.{is_one-or}
-use Rattle.language.specs.Language.{relations_on}
+use Rattle.find_c.proofs.Prelude.{◌+◌, ◌||◌, ◌∙◌, get_or, [], arith, is_one-or, relations_on}
 use Rattle.find_c.proofs.Outside.{holds_outside}
 use Rattle.find_c.proofs.choices.row_of.Goals as goal
 

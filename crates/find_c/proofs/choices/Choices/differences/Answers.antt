@@ -1,15 +1,5 @@
-use Rattle.std.proofs.Common.{◌+◌, ◌<◌, ◌^◌, ◌∙◌, ap, sym, subst, not, length, arith}
-use Rattle.std.specs.Prelude.{All, ◌==◌}
-use Rattle.std.specs.Int.{bit_at, bit_not, w64}
-use Rattle.std.proofs.lemmas.List.Elements.{All-head, All-tail}
-use Rattle.language.specs.Language.{relations_on, scope_at}
-use Rattle.language.specs.Scenes.{scene_of}
-use Rattle.bias_store.specs.Masks.{ones_of}
-use Rattle.bias_store.proofs.Ones.{is_one-not}
-use Rattle.find_c.specs.Choices.{choices_of, allows_at, differ_at}
-use Rattle.find_c.specs.Run.{IsChoiceOn}
+use Rattle.find_c.proofs.Prelude.{◌+◌, ◌<◌, ◌^◌, ◌∙◌, ap, sym, subst, not, length, arith, All, ◌==◌, bit_at, bit_not, w64, All-head, All-tail, relations_on, scope_at, scene_of, ones_of, is_one-not, choices_of, allows_at, differ_at, IsChoiceOn, bit_at-zero}
 use Rattle.find_c.proofs.Differences.{known_of, seen_none, seen_more, rejects_at, differ_bound, differ_free}
-use Rattle.std.proofs.lemmas.Nat.Bits.{bit_at-zero}
 use Rattle.find_c.proofs.Outside.{none_differ}
 use Rattle.find_c.proofs.Splitting.{row_fits}
 use Rattle.find_c.proofs.choices.Choices.differences.Goals as goal

@@ -1,5 +1,4 @@
-use Rattle.find_c.proofs.Prelude.{ℕ, List, Option, Some, None, replicate, length, take, get_or, sym, ◌∙◌, ap, subst, arith, slice_set, take_all, assigned, variable_count, scope_at, IsQuestion, Run}
-use Rattle.language.proofs.Ranged.{split_is_question}
+use Rattle.find_c.proofs.Prelude.{ℕ, List, Option, Some, None, replicate, length, take, get_or, sym, ◌∙◌, ap, subst, arith, slice_set, take_all, assigned, variable_count, scope_at, IsQuestion, Run, split_is_question}
 use Rattle.find_c.proofs.Lawful.{scope_is}
 use Rattle.find_c.proofs.Replies.{run_tuple}
 use Rattle.find_c.proofs.Filling.{assigned_blank, length-assigned, assigned_more}
