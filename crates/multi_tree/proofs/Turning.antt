@@ -1,8 +1,22 @@
 -- What becomes of a set that is taken.
-use Rattle.multi_tree.proofs.Prelude.{◌≡◌, ℕ, zero, suc, ◌+◌, ◌-◌, ◌<◌, ◌≤◌, Bool, true, false, cond, ◌&&◌, ◌||◌, List, [], ◌∷◌, ◌++◌, length, take, drop, set, get_or, Option, Some, None, refl, sym, ◌∙◌, ap, subst, arith, All, IfSome, IsTrue, list_any, filter, find, append-nil, length-drop, take-append-drop, take_all, take_more_set, take-set, All-head, All-tail, filter_more, and_parts, both_ways, or_parts, has, is_within, Assignment, restrict, Candidate, Language, IsLanguage, IsCandidate, scope_of, violates, IsNetwork, AreStruck, Ended, Capped, Asks, Ends, violates_some, learned_within, parts_without, take_set, next_turn, violates_restrict}
-use Rattle.std.specs.Int.{from_bool}
+use Rattle.std.proofs.Common.{◌≡◌, ℕ, zero, suc, ◌+◌, ◌-◌, ◌<◌, ◌≤◌, Bool, true, false, cond, ◌&&◌, ◌||◌, List, [], ◌∷◌, ◌++◌, length, take, drop, set, get_or, Option, Some, None, refl, sym, ◌∙◌, ap, subst, arith}
+use Rattle.std.specs.Prelude.{All, IfSome, IsTrue, map}
+use Rattle.std.specs.Option.{option_map}
+use Rattle.std.specs.List.{list_any, filter, find}
+use Rattle.std.proofs.lemmas.List.{append-nil, length-drop, take-append-drop, map-append, take_all, take_more_set}
+use Rattle.std.proofs.lemmas.List.Elements.{All-head, All-tail, filter_more}
 use Rattle.std.proofs.lemmas.List.Folds.{Any-from_list_any}
+use Rattle.std.proofs.lemmas.Bool.{and_parts, both_ways, or_parts}
+use Rattle.assign.specs.Sets.{has, is_within}
+use Rattle.assign.specs.Assignment.{Assignment, restrict}
+use Rattle.language.specs.declared.candidates.Candidate.{Candidate}
+use Rattle.language.specs.Language.{Language, IsLanguage, IsCandidate, scope_of, violates}
+use Rattle.language.specs.Answers.{IsNetwork}
 use Rattle.bias_store.specs.KeptSet.{is_struck_within}
+use Rattle.multi_tree.specs.Listed.{AreStruck, beside_scope, item_within}
+use Rattle.multi_tree.specs.declared.tree.Violated.{Violated}
+use Rattle.session_laws.specs.Walk.{Ended, Capped, Asks, Ends, violates_some, learned_within, parts_without, take_set, next_turn}
+use Rattle.session_laws.proofs.Restrict.{violates_restrict}
 
 -- ---- the first that passes
 
@@ -55,29 +69,32 @@ find_passes P p (y ∷ xs) x all some = go (p y) refl some (find_passes P p xs x
     go false off some rest = rest some
 
 -- one item more is looked at
-pub listed_more : (p : Candidate → Bool) (xs list : List Candidate) (i count : ℕ) (c : Candidate) → i < length xs → count < length list → c ≡ get_or xs i c → p c ≡ true →
-    take count list ≡ filter p (take i xs) → take (count + 1) (set list count c) ≡ filter p (take (i + 1) xs)
-listed_more p xs list i count c low room is on before =
-    take_more_set list count c room
-    ∙ ap (λ ys. ys ++ c ∷ []) before
-    ∙ ap (λ ys. filter p (take i xs) ++ ys) ((λ j. is j ∷ []) ∙ sym (ap (λ b. cond b (get_or xs i c ∷ []) []) (ap p (sym is) ∙ on)))
-    ∙ sym (filter_more p xs i c low)
+module _ (l : Language) (p : Candidate → Bool) (xs : List Candidate) (places : List Violated) (i count : ℕ) (c : Candidate) where
+  pub listed_more : (v : Violated) → i < length xs → count < length places → c ≡ get_or xs i c → v ≡ beside_scope l c → p c ≡ true →
+      take count places ≡ map (beside_scope l) (filter p (take i xs)) → take (count + 1) (set places count v) ≡ map (beside_scope l) (filter p (take (i + 1) xs))
+  listed_more v low room is beside on before =
+      take_more_set places count v room
+      ∙ (λ j. before j ++ beside j ∷ [])
+      ∙ sym (map-append (beside_scope l) (filter p (take i xs)) (c ∷ []))
+      ∙ ap (λ ys. map (beside_scope l) (filter p (take i xs) ++ ys)) ((λ j. is j ∷ []) ∙ sym (ap (λ b. cond b (get_or xs i c ∷ []) []) (ap p (sym is) ∙ on)))
+      ∙ ap (map (beside_scope l)) (sym (filter_more p xs i c low))
 
-pub listed_still : (p : Candidate → Bool) (xs list : List Candidate) (i count : ℕ) (c : Candidate) → i < length xs → c ≡ get_or xs i c → p c ≡ false →
-    take count list ≡ filter p (take i xs) → take count list ≡ filter p (take (i + 1) xs)
-listed_still p xs list i count c low is off before =
-    before ∙ sym (append-nil (filter p (take i xs))) ∙ ap (λ ys. filter p (take i xs) ++ ys) (sym (ap (λ b. cond b (get_or xs i c ∷ []) []) (ap p (sym is) ∙ off)))
-    ∙ sym (filter_more p xs i c low)
+  pub listed_still : i < length xs → c ≡ get_or xs i c → p c ≡ false →
+      take count places ≡ map (beside_scope l) (filter p (take i xs)) → take count places ≡ map (beside_scope l) (filter p (take (i + 1) xs))
+  listed_still low is off before =
+      before ∙ ap (map (beside_scope l)) (
+      sym (append-nil (filter p (take i xs))) ∙ ap (λ ys. filter p (take i xs) ++ ys) (sym (ap (λ b. cond b (get_or xs i c ∷ []) []) (ap p (sym is) ∙ off)))
+      ∙ sym (filter_more p xs i c low))
 
-pub at_most_one : (b : Bool) → from_bool b ≤ 1
-at_most_one true = omega arith
-at_most_one false = omega arith
-
-pub listed_step : (p : Candidate → Bool) (xs list : List Candidate) (i count more : ℕ) (c : Candidate) (b : Bool) → i < length xs → count < length list → c ≡ get_or xs i c → p c ≡ b → more ≡ count + from_bool b →
-    take count list ≡ filter p (take i xs) → take more (set list count c) ≡ filter p (take (i + 1) xs)
-listed_step p xs list i count more c true low room is on put before = ap (λ n. take n (set list count c)) put ∙ listed_more p xs list i count c low room is on before
-listed_step p xs list i count more c false low room is off put before =
-    ap (λ n. take n (set list count c)) (put ∙ (let e : count + 0 ≡ count = omega arith in e)) ∙ take-set list count c ∙ listed_still p xs list i count c low is off before
+-- the first one within a set, found by the variables that stand beside it
+pub find_beside : (l : Language) (set : List ℕ) (xs : List Candidate) → item_within (map (beside_scope l) xs) set ≡ find (λ c. is_within (scope_of l c) set) xs
+find_beside l set [] = refl
+find_beside l set (x ∷ xs) = go (is_within (scope_of l x) set) (find_beside l set xs)
+  where
+    go : (b : Bool) → item_within (map (beside_scope l) xs) set ≡ find (λ c. is_within (scope_of l c) set) xs →
+        option_map (λ v. v.item) (cond b (Some (beside_scope l x)) (find (λ v. is_within v.variables set) (map (beside_scope l) xs))) ≡ cond b (Some x) (find (λ c. is_within (scope_of l c) set) xs)
+    go true rest = refl
+    go false rest = rest
 
 -- ---- a listed candidate within a set, or one behind those that were looked at
 
@@ -88,15 +105,18 @@ module _ (l : Language) (network : List Candidate) (e : Assignment) (set : List 
   abbrev pub bites : Candidate → Bool
   bites c = violates l c e
 
-  pub listed_found : (listed : List Candidate) (n : ℕ) (c : Candidate) → listed ≡ filter bites (take n network) → find lies listed ≡ Some c → learned_within l network e set ≡ Some c
+  found_at : (listed : List Violated) (n : ℕ) (o : Option Candidate) → listed ≡ map (beside_scope l) (filter bites (take n network)) → item_within listed set ≡ o → find (λ x. bites x && lies x) (take n network) ≡ o
+  found_at listed n o is at = sym (find_listed bites lies (take n network)) ∙ sym (find_beside l set (filter bites (take n network))) ∙ ap (λ vs. item_within vs set) (sym is) ∙ at
+
+  pub listed_found : (listed : List Violated) (n : ℕ) (c : Candidate) → listed ≡ map (beside_scope l) (filter bites (take n network)) → item_within listed set ≡ Some c → learned_within l network e set ≡ Some c
   listed_found listed n c is some =
       ap (find (λ x. bites x && lies x)) (sym (take-append-drop n network))
-      ∙ find_before (λ x. bites x && lies x) (take n network) (drop n network) c (sym (find_listed bites lies (take n network)) ∙ ap (find lies) (sym is) ∙ some)
+      ∙ find_before (λ x. bites x && lies x) (take n network) (drop n network) c (found_at listed n (Some c) is some)
 
-  pub listed_none : (listed : List Candidate) (n : ℕ) → listed ≡ filter bites (take n network) → find lies listed ≡ None → learned_within l (take (length network - n) (drop n network)) e set ≡ learned_within l network e set
+  pub listed_none : (listed : List Violated) (n : ℕ) → listed ≡ map (beside_scope l) (filter bites (take n network)) → item_within listed set ≡ None → learned_within l (take (length network - n) (drop n network)) e set ≡ learned_within l network e set
   listed_none listed n is none = ap (find (λ x. bites x && lies x)) (take_all (length network - n) (drop n network) (let left = length-drop n network in omega arith)) ∙ sym (
       ap (find (λ x. bites x && lies x)) (sym (take-append-drop n network))
-      ∙ find_behind (λ x. bites x && lies x) (take n network) (drop n network) (sym (find_listed bites lies (take n network)) ∙ ap (find lies) (sym is) ∙ none))
+      ∙ find_behind (λ x. bites x && lies x) (take n network) (drop n network) (found_at listed n None is none))
 
   pub found_known : IsNetwork l network → (o : Option Candidate) → learned_within l network e set ≡ o → IfSome o (IsCandidate l)
   found_known known None h = tt

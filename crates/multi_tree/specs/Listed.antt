@@ -1,18 +1,27 @@
 -- What an example violates, listed once for all sets that are taken.
-use Rattle.std.specs.Prelude.{ℕ, ◌≡◌, ◌≤◌, Bool, true, List, length, take, filter}
+use Rattle.std.specs.Prelude.{ℕ, ◌≡◌, ◌≤◌, Bool, true, List, length, take, filter, find, map, Option}
 use Rattle.std.specs.List.{list_any}
+use Rattle.std.specs.Option.{option_map}
 use Rattle.assign.specs.Sets.{is_within}
 use Rattle.assign.specs.Assignment.{Assignment}
 use Rattle.language.specs.declared.candidates.Candidate.{Candidate}
-use Rattle.language.specs.Language.{Language, violates}
+use Rattle.language.specs.Language.{Language, scope_of, violates}
 use Rattle.bias_store.specs.KeptSet.{is_struck_within}
 use Rattle.multi_tree.specs.declared.tree.Listed.{Listed}
+use Rattle.multi_tree.specs.declared.tree.Violated.{Violated}
 
--- the listed ones are those that e violates among the items that were looked at
-pub record AreListed (l : Language) (network : List Candidate) (e : Assignment) (listed : Listed) : Type 0 where
-  pub is : take listed.count listed.items ≡ filter (λ c. violates l c e) (take listed.looked_at network)
-  pub size : length listed.items ≡ 1024
-  pub few : listed.count ≤ 1024
+-- an item beside the variables of its scope
+abbrev pub beside_scope : Language → Candidate → Violated
+beside_scope l c = record { item = c; variables = scope_of l c }
+
+-- the first of some items whose scope lies within a set
+abbrev pub item_within : List Violated → List ℕ → Option Candidate
+item_within items set = option_map (λ v. v.item) (find (λ v. is_within v.variables set) items)
+
+-- in the first places are those that e violates among the items that were looked at
+pub record AreListed (l : Language) (network : List Candidate) (e : Assignment) (places : List Violated) (listed : Listed) : Type 0 where
+  pub is : take listed.count places ≡ map (beside_scope l) (filter (λ c. violates l c e) (take listed.looked_at network))
+  pub few : listed.count ≤ length places
   pub within : listed.looked_at ≤ length network
 
 -- the sets are scopes of kept candidates that e violates, and all such ones where that is said

@@ -1,6 +1,6 @@
 //! The walk of an example, a turn at a time.
 
-ghost use Rattle.std.specs.Prelude.{◌≡◌, ◌≢◌, ◌<◌, ◌≤◌, ◌++◌, ◌∷◌, ℕ, List, [], length, take, find, IfOk, IfSome, IsTrue, Some, None};
+ghost use Rattle.std.specs.Prelude.{◌≡◌, ◌≢◌, ◌<◌, ◌≤◌, ◌++◌, ◌∷◌, ℕ, List, [], length, take, IfOk, IfSome, IsTrue, Some, None};
 ghost use Rattle.std.specs.List.{list_any};
 ghost use Rattle.assign.specs.Sets.{is_within};
 ghost use Rattle.assign.specs.Assignment.{restrict};
@@ -9,7 +9,7 @@ ghost use Rattle.language.specs.Answers.{IsNetwork};
 ghost use Rattle.bias_store.specs.KeptSet.{IsMadeFor};
 ghost use Rattle.session_laws.specs.Walk.{learned_within, next_turn, parts_without, violates_some};
 ghost use Rattle.multi_tree.specs.Depth.{Fits};
-ghost use Rattle.multi_tree.specs.Listed.{AreListed, AreStruck};
+ghost use Rattle.multi_tree.specs.Listed.{AreListed, AreStruck, item_within};
 ghost use Rattle.multi_tree.specs.Stage.{walk_in, asked_in, example_in, begun, turn_at, stage_after, put_again, IsWalkOn};
 ghost use Rattle.multi_tree.specs.Standing.{answer_to, turn_told, Move, Turns, PutsAgain, StandsFor};
 
@@ -54,6 +54,8 @@ pub struct Tree {
     /// The set that is asked about, while one is.
     asked: VarSet,
     phase: Phase,
+    /// Room for items that the example violates. What it holds means nothing between turns.
+    places: Vec<Violated>,
     /// Room for scopes that the example strikes. What it holds means nothing between turns.
     room: Vec<VarSet>,
 }
@@ -87,12 +89,17 @@ impl Tree {
     pub fn make(alloc: Global) -> Result<Tree, Memory>
         ensures { IfOk result (λ tree. walk_in tree ≡ None) }
     {
+        let nothing = Violated {
+            item: Candidate { scope: 0, rel: 0 },
+            variables: VarSet::empty(),
+        };
         Ok(Tree {
             example: Partial::blank(1),
             waiting: Stack::make(alloc)?,
             left: 0,
             asked: VarSet::empty(),
             phase: Phase::Ended,
+            places: vec![in alloc; nothing; MOST_LISTED]?,
             room: vec![in alloc; VarSet::empty(); MOST_STRUCK]?,
         })
     }
@@ -171,6 +178,7 @@ impl Tree {
                     &self.example,
                     &mut self.waiting,
                     &mut self.left,
+                    &mut self.places,
                     &mut self.room,
                 );
                 match next {
@@ -195,6 +203,7 @@ fn take_sets(
     example: &Partial,
     waiting: &mut Stack,
     left: &mut u16,
+    places: &mut [Violated],
     room: &mut [VarSet],
 ) -> TreeNext
     requires question { IsQuestion lang.now example.now }
@@ -205,7 +214,7 @@ fn take_sets(
     ensures some { (set : List ℕ) → result ≡ TreeNext.Ask set → 0 < length set }
 {
     let _variables = lang.n();
-    let listed = listed_of(lang, net.list(), example);
+    let listed = listed_of(lang, net.list(), example, places);
     // So many scopes that the example strikes stand in the room, once a set was dropped.
     let mut count = 0;
     let mut are_all = false;
@@ -214,7 +223,7 @@ fn take_sets(
             return TreeNext::End;
         };
         *left -= 1;
-        match listed_within(lang, net, &listed, example, set) {
+        match listed_within(lang, net, places, &listed, example, set) {
             Some(c) => split(lang, waiting, set, c),
             None => {
                 if is_struck_within(lang, kept, &room[..count], are_all, example, set) {
@@ -299,49 +308,61 @@ fn is_struck_within(
     kept.strikes_any(lang, &example.restrict(set))
 }
 
+/// An item that an example violates, beside the variables of its scope: each set that is taken is held against these.
+#[derive(Clone, Copy)]
+struct Violated {
+    item: Candidate,
+    variables: VarSet,
+}
+
 /// The first items of a network that an example violates. The example stays the same while a walk takes sets, and mostly
 /// violates few of the items.
 #[derive(Clone, Copy)]
 struct Listed {
-    /// The first of these places have them, in learning order.
-    items: [Candidate; MOST_LISTED],
-    /// How many there are.
+    /// How many there are. They stand in the first places of a room, in learning order.
     count: usize,
     /// How many items of the network were looked at: all, where there was room.
     looked_at: usize,
 }
 
 /// Lists them, as far as there is room.
-fn listed_of(lang: &Language, net: &[Candidate], example: &Partial) -> Listed
+fn listed_of(
+    lang: &Language,
+    net: &[Candidate],
+    example: &Partial,
+    places: &mut [Violated],
+) -> Listed
     requires question { IsQuestion lang.now example.now }
     requires network { IsNetwork lang.now net.now }
-    ensures { AreListed lang.now net.now example.now result }
+    ensures { AreListed lang.now net.now example.now places.new result }
 {
     let mut listed = Listed {
-        items: [Candidate { scope: 0, rel: 0 }; MOST_LISTED],
         count: 0,
         looked_at: 0,
     };
     for i in 0..net.len() {
-        if listed.count == MOST_LISTED {
+        if listed.count == places.len() {
             return listed;
         }
-        // One that holds is written over by the next one.
-        listed.items[listed.count] = net[i];
-        listed.count += usize::from(lang.candidate_violated(net[i], example));
+        if lang.candidate_violated(net[i], example) {
+            places[listed.count] = Violated {
+                item: net[i],
+                variables: lang.scope_set(net[i].scope),
+            };
+            listed.count += 1;
+        }
         listed.looked_at = i + 1;
     }
     listed
 }
 
-/// The first candidate of a list whose scope lies within the set.
-fn first_within(lang: &Language, list: &[Candidate], set: VarSet) -> Option<Candidate>
-    requires { IsNetwork lang.now list.now }
-    ensures { result ≡ find (λ c. is_within (scope_of lang.now c) set) list.now }
+/// The first of some violated items whose scope lies within the set.
+fn first_within(list: &[Violated], set: VarSet) -> Option<Candidate>
+    ensures { result ≡ item_within list.now set }
 {
-    for c in list {
-        if lang.scope_set(c.scope).within(set) {
-            return Some(*c);
+    for v in list {
+        if v.variables.within(set) {
+            return Some(v.item);
         }
     }
     None
@@ -352,18 +373,19 @@ fn first_within(lang: &Language, list: &[Candidate], set: VarSet) -> Option<Cand
 fn listed_within(
     lang: &Language,
     net: &Network,
+    places: &[Violated],
     listed: &Listed,
     example: &Partial,
     set: VarSet,
 ) -> Option<Candidate>
     requires question { IsQuestion lang.now example.now }
     requires network { IsNetwork lang.now net.now.list }
-    requires listed { AreListed lang.now net.now.list example.now listed.now }
+    requires listed { AreListed lang.now net.now.list example.now places.now listed.now }
     ensures is { result ≡ learned_within lang.now net.now.list example.now set }
     ensures known { IfSome result (IsCandidate lang.now) }
     ensures within { IfSome result (λ c. IsTrue (is_within (scope_of lang.now c) set)) }
 {
-    match first_within(lang, &listed.items[..listed.count], set) {
+    match first_within(&places[..listed.count], set) {
         Some(c) => Some(c),
         None => learned_within(lang, &net.list()[listed.looked_at..], example, set),
     }

@@ -1,17 +1,20 @@
-use Rattle.multi_tree.proofs.Prelude.{◌≡◌, Bool, true, take, sym, ◌∙◌, ap, arith, slice_index_or, list_any, get_or_default, take_all, is_within, Candidate, scope_of}
+use Rattle.std.proofs.Common.{◌≡◌, Bool, take, sym, ◌∙◌, ap, arith}
+use Rattle.std.specs.List.{list_any}
+use Rattle.std.specs.Option.{option_map}
+use Rattle.std.proofs.lemmas.List.{take_all}
+use Rattle.assign.specs.Sets.{is_within}
+use Rattle.multi_tree.specs.declared.tree.Violated.{Violated}
 use Rattle.multi_tree.proofs.Turning.{find_first, find_never}
 use Rattle.multi_tree.proofs.tree.first_within.Goals as goal
 
 pub returns-then-within : goal.returns-then-within
 returns-then-within c =
-    let passes : Candidate → Bool = λ x. is_within (scope_of c.args.lang.now x) c.args.set in
-    let zero : Candidate = record { scope = 0; rel = 0 } in
-    let x : Candidate = slice_index_or c.args.list.now c.loop-c.c-index zero in
-    let on : passes x ≡ true = ap (λ set. is_within set c.args.set) (sym c.scope_set.ensures) ∙ sym c.within.ensures ∙ c.if-within.true in
-    sym (find_first passes c.args.list.now c.loop-c.c-index x (omega arith) c.loop-c.invariant (get_or_default c.args.list.now c.loop-c.c-index x zero (omega arith)) on)
+    ap (option_map (λ (v : Violated). v.item)) (sym
+    (find_first (λ v. is_within v.variables c.args.set) c.args.list.now c.loop-v.v-index c.v-item.result (omega arith) c.loop-v.invariant (sym c.v-item.is)
+    (sym c.within.ensures ∙ c.if-within.true)))
 
 pub returns : goal.returns
 returns c =
-    let passes : Candidate → Bool = λ x. is_within (scope_of c.args.lang.now x) c.args.set in
-    let all : take c.loop-c.c-index c.args.list.now ≡ c.args.list.now = take_all c.loop-c.c-index c.args.list.now (omega arith) in
-    sym (find_never passes c.args.list.now (ap (list_any passes) (sym all) ∙ c.loop-c.invariant))
+    let passes : Violated → Bool = λ v. is_within v.variables c.args.set in
+    let all : take c.loop-v.v-index c.args.list.now ≡ c.args.list.now = take_all c.loop-v.v-index c.args.list.now (omega arith) in
+    ap (option_map (λ (v : Violated). v.item)) (sym (find_never passes c.args.list.now (ap (list_any passes) (sym all) ∙ c.loop-v.invariant)))

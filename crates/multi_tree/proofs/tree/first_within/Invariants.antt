@@ -1,5 +1,7 @@
-use Rattle.multi_tree.proofs.Prelude.{◌≡◌, take, false, list_any, is_within, scope_of}
+use Rattle.std.proofs.Common.{◌≡◌, take, false}
+use Rattle.std.specs.List.{list_any}
+use Rattle.assign.specs.Sets.{is_within}
 use Rattle.multi_tree.proofs.tree.first_within.Given as goal
 
-abbrev pub invariant-loop-c : goal.invariant-loop-c
-invariant-loop-c l = list_any (λ c. is_within (scope_of l.fn.lang c) l.fn.set) (take l.c-index l.list) ≡ false
+abbrev pub invariant-loop-v : goal.invariant-loop-v
+invariant-loop-v l = list_any (λ v. is_within v.variables l.fn.set) (take l.v-index l.list) ≡ false

@@ -22,7 +22,7 @@ loop-left-preserved-in-Some-listed_within c = record {
 }
 
 pub listed_within-requires-clause-listed : goal.listed_within-requires-clause-listed
-listed_within-requires-clause-listed c = subst (λ (network : List Candidate). AreListed c.args.lang.now network c.args.example.now c.listed_of-listed.result) c.list.ensures c.listed_of-listed.ensures
+listed_within-requires-clause-listed c = subst (λ (network : List Candidate). AreListed c.args.lang.now network c.args.example.now c.listed_of-listed.new.places c.listed_of-listed.result) c.list.ensures c.listed_of-listed.ensures
 
 pub returns-then-is_struck_within-clause-turn : goal.returns-then-is_struck_within-clause-turn
 returns-then-is_struck_within-clause-turn c =
