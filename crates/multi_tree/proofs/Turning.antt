@@ -1,22 +1,9 @@
 -- What becomes of a set that is taken.
-use Rattle.std.proofs.Common.{◌≡◌, ℕ, zero, suc, ◌+◌, ◌-◌, ◌<◌, ◌≤◌, Bool, true, false, cond, ◌&&◌, ◌||◌, List, [], ◌∷◌, ◌++◌, length, take, drop, set, get_or, Option, Some, None, refl, sym, ◌∙◌, ap, subst, arith}
-use Rattle.std.specs.Prelude.{All, IfSome, IsTrue, map}
-use Rattle.std.specs.Option.{option_map}
-use Rattle.std.specs.List.{list_any, filter, find}
-use Rattle.std.proofs.lemmas.List.{append-nil, length-drop, take-append-drop, map-append, take_all, take_more_set}
+use Rattle.multi_tree.proofs.Prelude.{◌≡◌, ℕ, zero, suc, ◌+◌, ◌-◌, ◌<◌, ◌≤◌, Bool, true, false, cond, ◌&&◌, ◌||◌, List, [], ◌∷◌, ◌++◌, length, take, drop, set, get_or, Option, Some, None, refl, sym, ◌∙◌, ap, subst, arith, All, IfSome, IsTrue, map, option_map, list_any, filter, find, append-nil, length-drop, take-append-drop, map-append, take_all, take_more_set, and_parts, both_ways, or_parts, has, is_within, Assignment, restrict, Candidate, Language, IsLanguage, IsCandidate, scope_of, violates, AreStruck, beside_scope, item_within, Violated, Ended, Capped, Asks, Ends, violates_some, learned_within, parts_without, take_set, next_turn, violates_restrict}
 use Rattle.std.proofs.lemmas.List.Elements.{All-head, All-tail, filter_more}
 use Rattle.std.proofs.lemmas.List.Folds.{Any-from_list_any}
-use Rattle.std.proofs.lemmas.Bool.{and_parts, both_ways, or_parts}
-use Rattle.assign.specs.Sets.{has, is_within}
-use Rattle.assign.specs.Assignment.{Assignment, restrict}
-use Rattle.language.specs.declared.candidates.Candidate.{Candidate}
-use Rattle.language.specs.Language.{Language, IsLanguage, IsCandidate, scope_of, violates}
 use Rattle.language.specs.Answers.{IsNetwork}
 use Rattle.bias_store.specs.KeptSet.{is_struck_within}
-use Rattle.multi_tree.specs.Listed.{AreStruck, beside_scope, item_within}
-use Rattle.multi_tree.specs.declared.tree.Violated.{Violated}
-use Rattle.session_laws.specs.Walk.{Ended, Capped, Asks, Ends, violates_some, learned_within, parts_without, take_set, next_turn}
-use Rattle.session_laws.proofs.Restrict.{violates_restrict}
 
 -- ---- the first that passes
 

@@ -1,9 +1,4 @@
-use Rattle.std.proofs.Common.{◌≡◌, Bool, take, sym, ◌∙◌, ap, arith}
-use Rattle.std.specs.List.{list_any}
-use Rattle.std.specs.Option.{option_map}
-use Rattle.std.proofs.lemmas.List.{take_all}
-use Rattle.assign.specs.Sets.{is_within}
-use Rattle.multi_tree.specs.declared.tree.Violated.{Violated}
+use Rattle.multi_tree.proofs.Prelude.{◌≡◌, Bool, take, sym, ◌∙◌, ap, arith, list_any, option_map, take_all, is_within, Violated}
 use Rattle.multi_tree.proofs.Turning.{find_first, find_never}
 use Rattle.multi_tree.proofs.tree.first_within.Goals as goal
 

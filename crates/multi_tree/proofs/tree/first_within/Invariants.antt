@@ -1,6 +1,4 @@
-use Rattle.std.proofs.Common.{◌≡◌, take, false}
-use Rattle.std.specs.List.{list_any}
-use Rattle.assign.specs.Sets.{is_within}
+use Rattle.multi_tree.proofs.Prelude.{◌≡◌, take, false, list_any, is_within}
 use Rattle.multi_tree.proofs.tree.first_within.Given as goal
 
 abbrev pub invariant-loop-v : goal.invariant-loop-v

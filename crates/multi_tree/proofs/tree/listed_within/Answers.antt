@@ -1,6 +1,4 @@
-use Rattle.std.proofs.Common.{◌-◌, List, length, drop, take, sym, ◌∙◌, ap}
-use Rattle.language.specs.declared.candidates.Candidate.{Candidate}
-use Rattle.session_laws.specs.Walk.{learned_within}
+use Rattle.multi_tree.proofs.Prelude.{◌-◌, List, length, drop, take, sym, ◌∙◌, ap, Candidate, learned_within}
 use Rattle.multi_tree.proofs.Turning.{found_known, found_within, listed_found, listed_none}
 use Rattle.multi_tree.proofs.tree.listed_within.Goals as goal
 
