@@ -1,36 +1,10 @@
 -- Runs in which each reply is an answer. They end by themselves: nothing is left to ask, or no network agrees, or the budget was too small.
-use Rattle.std.proofs.Common.{◌≡◌, ◌∙◌, ℕ, zero, suc, ◌+◌, ◌<◌, ◌≤◌, Bool, true, List, [], ◌∷◌, ◌++◌, length, Option, Some, None, ap, subst, sym, refl, arith, append_assoc, length-append}
-use Rattle.std.specs.Prelude.{All}
-use Rattle.std.specs.List.{flat_map}
-use Rattle.std.specs.Option.{option_map}
-use Rattle.std.proofs.lemmas.List.Elements.{All-head, All-tail}
+use Rattle.acq_cli.proofs.Prelude.{◌≡◌, ◌∙◌, ℕ, zero, suc, ◌+◌, ◌<◌, ◌≤◌, Bool, true, List, [], ◌∷◌, ◌++◌, length, Option, Some, None, ap, subst, sym, refl, arith, append_assoc, length-append, All, flat_map, option_map, All-head, All-tail, Assignment, Answer, Event, Plan, Scopes, Quacq, Multi, cut_to-standing-push, Candidate, Language, IsLanguage, accepts, variable_count, kept, standing_on, Undecided, next_query, most_answers, State, Idle, Halving, Choosing, Walking, Over, open_question, scope_question, answer_event, Spoken, spoken, spoken_in, no_answer_text, replied, hear_line, hear, line_turn, net_turn, Turns, Turned, turned_after, Said, Unread, IsAnswerLine, HasRoom, Closing, Converged, Collapsed, Suspended, LineTooLong, Unreadable, JournalFull, Next, Puts, Ends, puts_or, searched, idle_next, next_at, next_in, next_after, next_on, number_on, Ran, after_text, answer, ended, heard_on, turned_on, put_on, ran, Terms, IsReached, next_ends, next_put, placed, puts_next, room_not_full, sized_at, run_laws}
 use Rattle.acq_io.specs.Lines.{newline}
 use Rattle.acq_io.proofs.LineLemmas.{line_of-line}
-use Rattle.assign.specs.Assignment.{Assignment}
-use Rattle.assign.specs.Events.{Answer}
-use Rattle.assign.specs.declared.events.Event.{Event}
-use Rattle.assign.specs.declared.events.Plan.{Plan}
-use Rattle.assign.specs.declared.events.Plan.TheVariants.{Scopes, Quacq, Multi}
-use Rattle.assign.proofs.EventLemmas.{cut_to-standing-push}
-use Rattle.language.specs.declared.candidates.Candidate.{Candidate}
-use Rattle.language.specs.Language.{Language, IsLanguage, accepts, variable_count}
-use Rattle.language.specs.Answers.{kept, standing_on}
 use Rattle.query_gen.specs.declared.query.Query.{Query}
 use Rattle.query_gen.specs.declared.query.Query.TheVariants.{Ask, AllImplied, Undecided}
-use Rattle.query_gen.specs.Questions.{next_query}
-use Rattle.session_laws.specs.Bound.{most_answers}
-use Rattle.session_laws.specs.Session.{State, Idle, Halving, Choosing, Walking, Over, open_question, scope_question}
 use Rattle.session_laws.proofs.Counted.{answers_are_at_most}
-use Rattle.session_store.specs.Kept.{answer_event}
-use Rattle.target_oracle.specs.Lines.{Spoken, spoken, spoken_in, no_answer_text, replied, hear_line, hear, line_turn}
-use Rattle.target_oracle.specs.NetTurns.{net_turn}
-use Rattle.target_oracle.specs.Turns.{Turns, Turned, turned_after, Said, Unread}
-use Rattle.acq_cli.specs.Completing.{IsAnswerLine, HasRoom}
-use Rattle.acq_loop.specs.Run.{Closing, Converged, Collapsed, Undecided, Suspended, LineTooLong, Unreadable, JournalFull, Next, Puts, Ends, puts_or, searched, idle_next, next_at, next_in, next_after, next_on, number_on, Ran, after_text, answer, ended, heard_on, turned_on, put_on, ran}
-use Rattle.acq_loop.specs.declared.terms.Terms.{Terms}
-use Rattle.acq_loop.proofs.Reached.{IsReached}
-use Rattle.acq_loop.proofs.Running.{next_ends, next_put, placed, puts_next, room_not_full, sized_at}
-use Rattle.acq_loop.proofs.Standings.{run_laws}
 
 -- ---- how a run ends where nothing is put
 

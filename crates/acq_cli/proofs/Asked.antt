@@ -1,55 +1,19 @@
 -- What was done about the words.
-use Rattle.std.proofs.Common.{◌≡◌, ◌⊎◌, ◌∙◌, ℕ, true, false, List, [], Option, Result, Ok, Err, refl, sym, ap, subst, inl, inr, ⊎_elim, arith}
-use Rattle.disk_model.specs.declared.disk.Disk.{Ghosts as DiskOf}
-use Rattle.acq_io.specs.declared.streams.Put.{Put}
+use Rattle.acq_cli.proofs.Prelude.{◌≡◌, ◌⊎◌, ◌∙◌, ℕ, true, false, List, [], Option, Result, Ok, Err, refl, sym, ap, subst, inl, inr, ⊎_elim, arith, DiskOf, Put, Command, UsageFault, Event, Quacq, Language, line_turn, net_turn, Turns, Opened, SFault, StaysClosed, RunsOn, PlaysOn, SaysWithout, stale_said, target_refused, NoTarget, Demos, Tells, Tries, Terms, Solves, AsksTruly, asked_said, SaysOpening, SaysOver, IsSaid, SaysSo, Saying, Unsaid, broken_own, is_own, not_own, own_said, refuses_own, silently, TakesNone, Asks, Does, Speaks, terms_with, Acquires, IsAsked, command_asked, command_in, err_ok, failed, not_loops, okay, unbegun, takes_none, Ending}
 use Rattle.acq_io.specs.declared.streams.Put.TheVariants as put
 use Rattle.acq_io.specs.declared.whole.AllFault.TheVariants as all
 use Rattle.acq_words.specs.Request.{IsAnswer, answer_to, contents_of}
-use Rattle.acq_words.specs.declared.request.Command.{Command}
 use Rattle.acq_words.specs.declared.request.Command.TheVariants as command
 use Rattle.acq_words.specs.declared.request.Request.{Request}
-use Rattle.acq_words.specs.declared.request.UsageFault.{UsageFault}
 use Rattle.acq_words.specs.declared.request.WordsFault.{WordsFault}
 use Rattle.acq_words.specs.declared.request.WordsFault.TheVariants.{Usage, Memory}
-use Rattle.assign.specs.declared.events.Event.{Event}
-use Rattle.assign.specs.declared.events.Plan.TheVariants.{Quacq}
-use Rattle.language.specs.Language.{Language}
-use Rattle.target_oracle.specs.Lines.{line_turn}
-use Rattle.target_oracle.specs.NetTurns.{net_turn}
-use Rattle.target_oracle.specs.Turns.{Turns}
 use Rattle.disk_model.specs.Moments.{started}
-use Rattle.session_store.specs.Opened.{Opened}
-use Rattle.session_store.specs.declared.fault.SFault.{SFault}
 use Rattle.session_store.specs.declared.fault.SFault.TheVariants as store
-use Rattle.acq_said.specs.Journals.{StaysClosed}
-use Rattle.acq_said.specs.Running.{RunsOn}
-use Rattle.acq_cli.specs.Playing.{PlaysOn, SaysWithout, stale_said, target_refused}
-use Rattle.acq_cli.specs.declared.playing.NoTarget.{NoTarget}
 use Rattle.acq_cli.specs.declared.playing.NoTarget.TheVariants as without
-use Rattle.acq_cli.specs.Demoing.{Demos, Tells}
-use Rattle.acq_said.specs.Endings.{Tries}
-use Rattle.acq_loop.specs.declared.terms.Terms.{Terms}
-use Rattle.acq_said.specs.Solving.{Solves}
-use Rattle.acq_said.specs.Asks.{AsksTruly, asked_said}
-use Rattle.acq_said.specs.Over.{SaysOpening, SaysOver}
-use Rattle.acq_said.specs.Said.{IsSaid, SaysSo}
-use Rattle.acq_said.specs.Saying.{Saying}
-use Rattle.acq_said.specs.declared.said.Unsaid.{Unsaid}
 use Rattle.acq_said.specs.declared.said.Unsaid.TheVariants as unsaid
-use Rattle.acq_said.proofs.SaidOver.{broken_own, is_own, not_own, own_said, refuses_own}
-use Rattle.acq_said.proofs.Spoken.{silently}
 use Rattle.acq_cli.proofs.Speaking.{speaks_own}
-use Rattle.acq_said.specs.TakingBack.{TakesNone}
-use Rattle.acq_cli.specs.Doing.{Asks, Does, Speaks}
 use Rattle.acq_said.specs.declared.ask.Ask.{Ask}
 use Rattle.acq_said.specs.declared.ask.Ask.TheVariants as ask
-use Rattle.acq_loop.specs.Points.{terms_with}
-use Rattle.acq_said.specs.Trying.{Acquires}
-use Rattle.acq_cli.specs.Words.{IsAsked, command_asked, command_in}
-use Rattle.acq_said.proofs.Closings.{err_ok, failed, not_loops, okay}
-use Rattle.acq_said.proofs.Parts.{unbegun}
-use Rattle.acq_io.proofs.TakenLemmas.{takes_none}
-use Rattle.acq_loop.specs.declared.ending.Ending.{Ending}
 use Rattle.acq_loop.specs.declared.ending.Ending.TheVariants as ending
 
 -- ---- What is asked for

@@ -1,18 +1,8 @@
 -- What a command that has ended says of the faults that it met.
-use Rattle.std.proofs.Common.{◌≡◌, ℕ, List, Option, Result, Ok, Err, ap, subst}
-use Rattle.std.specs.Prelude.{◌≢◌, IfOk}
-use Rattle.acq_io.specs.declared.streams.Put.{Put}
-use Rattle.acq_io.specs.Streams.{HasCalled}
-use Rattle.acq_io.proofs.CallLemmas.{called_as, called_not}
+use Rattle.acq_cli.proofs.Prelude.{◌≡◌, ℕ, List, Option, Result, Ok, Err, ap, subst, ◌≢◌, IfOk, Put, HasCalled, called_as, called_not, TellsCauses, Ending, HasWritten, Saying, Unsaid, okay, same_ok}
 use Rattle.disk_model.specs.Disk.{Rose as DiskRose}
-use Rattle.acq_loop.specs.Program.{TellsCauses}
-use Rattle.acq_loop.specs.declared.ending.Ending.{Ending}
 use Rattle.acq_loop.specs.declared.ending.Ending.TheVariants as ending
-use Rattle.acq_said.specs.Said.{HasWritten}
-use Rattle.acq_said.specs.Saying.{Saying}
-use Rattle.acq_said.specs.declared.said.Unsaid.{Unsaid}
 use Rattle.acq_said.specs.declared.said.Unsaid.TheVariants as unsaid
-use Rattle.acq_said.proofs.Closings.{okay, same_ok}
 
 -- where its result says each by itself
 pub ok_causes : (input input' late late' output output' disk disk' : ℕ) (got : Result Ending Put) → HasCalled input input' late late' (got ≡ okay ending.ReadFault) → IfOk got (λ end. end ≢ ending.WriteFault) → (got ≡ okay ending.DiskFault → DiskRose disk disk') →

@@ -1,70 +1,16 @@
 -- When a command comes to its own end.
-use Rattle.std.proofs.Common.{◌≡◌, ◌∙◌, ◌⊎◌, ℕ, ◌+◌, ◌≤◌, Bool, true, false, cond, drop, List, [], length, Option, Some, None, Result, Ok, Err, refl, sym, ap, subst, inl, inr, ⊎_elim, arith}
-use Rattle.std.specs.Prelude.{IfSome, nat_le}
-use Rattle.std.specs.Option.{option_map}
-use Rattle.std.proofs.lemmas.List.{append-nil}
-use Rattle.disk_model.specs.declared.disk.Disk.{Ghosts as DiskOf}
-use Rattle.acq_io.specs.Whole.{Gathered, gathered, Gives, first_line_of, all_of}
+use Rattle.acq_cli.proofs.Prelude.{◌≡◌, ◌∙◌, ◌⊎◌, ℕ, ◌+◌, ◌≤◌, Bool, true, false, cond, drop, List, [], length, Option, Some, None, Result, Ok, Err, refl, sym, ap, subst, inl, inr, ⊎_elim, arith, IfSome, nat_le, option_map, append-nil, DiskOf, Gathered, gathered, Gives, first_line_of, all_of, AllFault, Command, UsageFault, Answer, Event, Plan, Quacq, Candidate, Language, IsLanguage, standing_on, network_of, NetFault, most_answers, Idle, answers_fit, Opened, HavePlaces, replay_on, IsGenerated, line_turn, net_turn, Turns, IsVocabulary, refusal_of_vocabulary, VocFault, closing_of, ending_of, EndsExactly, HasRoom, IsAffordable, IsEnough, TryHasEnough, RunHasEnough, HasTarget, PlayHasEnough, SaysItsOwn, Converges, ConvergesOrCollapses, Completes, Demos, Tells, HasEnded, IsLeftOpen, RanTo, Tries, IsBrokenOff, MayLack, PlaysOn, ReadsTarget, SaysWithout, point_of, terms_with, Closing, Undecided, Suspended, LineTooLong, Unreadable, JournalFull, asked_said, SaidEnds, SaysSo, Saying, solved_said, RunsOn, back_said, Does, Acquires, IsRefusal, ReadsVocabulary, Drove, Ending, NoTarget, Terms, okay, same_ok, err_ok, silent_ends, closed_end, fine, fine_long, gives_got, long_one, whole_of, IsReached}
 use Rattle.acq_io.specs.declared.streams.Put.TheVariants as put
-use Rattle.acq_io.specs.declared.whole.AllFault.{AllFault}
-use Rattle.acq_words.specs.declared.request.Command.{Command}
 use Rattle.acq_words.specs.declared.request.Command.TheVariants as command
-use Rattle.acq_words.specs.declared.request.UsageFault.{UsageFault}
-use Rattle.assign.specs.Events.{Answer}
-use Rattle.assign.specs.declared.events.Event.{Event}
-use Rattle.assign.specs.declared.events.Plan.{Plan}
-use Rattle.assign.specs.declared.events.Plan.TheVariants.{Quacq}
 use Rattle.fd_solver.specs.Outcomes.{outcome_of_candidate}
-use Rattle.language.specs.declared.candidates.Candidate.{Candidate}
-use Rattle.language.specs.Language.{Language, IsLanguage}
-use Rattle.language.specs.Answers.{standing_on}
-use Rattle.network.specs.Target.{network_of}
-use Rattle.network.specs.declared.fault.NetFault.{NetFault}
-use Rattle.session_laws.specs.Bound.{most_answers}
-use Rattle.session_laws.specs.Session.{Idle}
-use Rattle.session_laws.proofs.Limits.{answers_fit}
-use Rattle.session_store.specs.Opened.{Opened}
-use Rattle.session_store.specs.Replay.{HavePlaces, replay_on}
 use Rattle.session_store.proofs.Fronts.{replay_is_state}
-use Rattle.target_oracle.specs.Generator.{IsGenerated}
-use Rattle.target_oracle.specs.Lines.{line_turn}
-use Rattle.target_oracle.specs.NetTurns.{net_turn}
-use Rattle.target_oracle.specs.Turns.{Turns}
-use Rattle.voc_read.specs.Vocabulary.{IsVocabulary, refusal_of_vocabulary}
-use Rattle.voc_read.specs.declared.fault.VocFault.{VocFault}
-use Rattle.acq_loop.specs.Closings.{closing_of, ending_of}
-use Rattle.acq_cli.specs.Commands.{EndsExactly}
-use Rattle.acq_cli.specs.Completing.{HasRoom, IsAffordable, IsEnough, TryHasEnough, RunHasEnough, HasTarget, PlayHasEnough, SaysItsOwn, Converges, ConvergesOrCollapses, Completes}
-use Rattle.acq_cli.specs.Demoing.{Demos, Tells}
-use Rattle.acq_loop.specs.Driven.{HasEnded, IsLeftOpen, RanTo}
-use Rattle.acq_said.specs.Endings.{Tries}
-use Rattle.acq_said.specs.Exactly.{IsBrokenOff}
-use Rattle.acq_cli.specs.Playing.{MayLack, PlaysOn, ReadsTarget, SaysWithout}
-use Rattle.acq_loop.specs.Points.{point_of, terms_with}
-use Rattle.acq_loop.specs.Run.{Closing, Undecided, Suspended, LineTooLong, Unreadable, JournalFull}
-use Rattle.acq_said.specs.Asks.{asked_said}
-use Rattle.acq_said.specs.Over.{SaidEnds}
-use Rattle.acq_said.specs.Said.{SaysSo}
-use Rattle.acq_said.specs.Saying.{Saying}
 use Rattle.acq_said.specs.declared.said.Unsaid.TheVariants as unsaid
-use Rattle.acq_said.specs.Solving.{solved_said}
-use Rattle.acq_said.specs.Running.{RunsOn}
-use Rattle.acq_said.specs.TakingBack.{back_said}
-use Rattle.acq_cli.specs.Doing.{Does}
-use Rattle.acq_said.specs.Trying.{Acquires, IsRefusal, ReadsVocabulary}
 use Rattle.acq_said.specs.declared.ask.Ask.TheVariants as ask
-use Rattle.acq_loop.specs.declared.driving.Drove.{Drove}
 use Rattle.acq_loop.specs.declared.driving.Drove.TheVariants as drove
-use Rattle.acq_loop.specs.declared.ending.Ending.{Ending}
 use Rattle.acq_loop.specs.declared.ending.Ending.TheVariants as ending
-use Rattle.acq_cli.specs.declared.playing.NoTarget.{NoTarget}
 use Rattle.acq_cli.specs.declared.playing.NoTarget.TheVariants as without
-use Rattle.acq_loop.specs.declared.terms.Terms.{Terms}
 use Rattle.acq_cli.proofs.Answering.{AnswersEach, EndsItself, HasLines, AsMany, ends_itself, lines_answer, network_answers}
-use Rattle.acq_said.proofs.Closings.{okay, same_ok, err_ok}
 use Rattle.acq_cli.proofs.Enough.{generated_is_settled}
-use Rattle.acq_said.proofs.Spoken.{silent_ends, closed_end, fine, fine_long, gives_got, long_one, whole_of}
-use Rattle.acq_loop.proofs.Reached.{IsReached}
 use Rattle.acq_cli.proofs.Targets.{none_of}
 
 -- ---- a run that ends by itself

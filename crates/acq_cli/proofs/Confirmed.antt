@@ -1,10 +1,6 @@
 -- What `check` tells of the input, exactly.
-use Rattle.std.proofs.Common.{◌≡◌, ◌∙◌, ◌⊎◌, ◌<◌, ℕ, List, Option, Result, Ok, Err, refl, sym, ap, subst, inl, inr, ⊎_elim}
-use Rattle.std.specs.Prelude.{◌↔◌, IfOk}
-use Rattle.acq_io.specs.Whole.{all_of}
-use Rattle.acq_io.specs.declared.streams.Put.{Put}
+use Rattle.acq_cli.proofs.Prelude.{◌≡◌, ◌∙◌, ◌⊎◌, ℕ, List, Option, Result, Ok, Err, refl, sym, ap, subst, inl, inr, ⊎_elim, ◌↔◌, IfOk, all_of, Put, AllFault, IsConverged, ConfirmEnds, Confirms, ConfirmsExactly, IsCheck, IsCheckOf, IsJudged, IsReading, checked_said, verdict_said, IsBrokenOff, ended_as, HasWritten, SaidSo, SaysSo, Saying, Ending, Unsaid, okay, input_end, silently, too_many, whole_of}
 use Rattle.acq_io.specs.declared.streams.Put.TheVariants as put
-use Rattle.acq_io.specs.declared.whole.AllFault.{AllFault}
 use Rattle.cert_check.specs.Certificate.{Certificate}
 use Rattle.cert_check.specs.Checking.{verdict}
 use Rattle.cert_check.specs.Good.{IsGood}
@@ -13,17 +9,7 @@ use Rattle.cert_check.specs.declared.fault.CertFault.{CertFault}
 use Rattle.cert_check.specs.declared.fault.CertFault.TheVariants as form
 use Rattle.cert_check.specs.declared.verdict.Verdict.{Verdict}
 use Rattle.cert_check.specs.declared.verdict.Verdict.TheVariants.{Yes}
-use Rattle.language.specs.Answers.{IsConverged}
 use Rattle.cert_check.proofs.OneText.{not_both, one_certificate, one_fault}
-use Rattle.acq_said.specs.Confirming.{ConfirmEnds, Confirms, ConfirmsExactly, IsCheck, IsCheckOf, IsJudged, IsReading, checked_said, verdict_said}
-use Rattle.acq_said.specs.Exactly.{IsBrokenOff}
-use Rattle.acq_loop.specs.Program.{ended_as}
-use Rattle.acq_said.specs.Said.{HasWritten, SaidSo, SaysSo}
-use Rattle.acq_said.specs.Saying.{Saying}
-use Rattle.acq_loop.specs.declared.ending.Ending.{Ending}
-use Rattle.acq_said.specs.declared.said.Unsaid.{Unsaid}
-use Rattle.acq_said.proofs.Closings.{okay}
-use Rattle.acq_said.proofs.Spoken.{input_end, silently, too_many, whole_of}
 
 abbrev Readings : Type 0
 Readings = Result Certificate CertFault

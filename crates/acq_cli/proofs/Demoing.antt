@@ -1,44 +1,10 @@
 -- What `demo` has done, of its loop and what was said of it.
-use Rattle.std.proofs.Common.{◌≡◌, ◌∙◌, ℕ, Bool, true, IsTrue, List, [], ◌++◌, length, Option, Some, Result, Ok, Err, refl, sym, ap, subst, inr, ⊎_elim}
-use Rattle.std.specs.Prelude.{IfOk, IfSome, OnErr}
-use Rattle.acq_io.specs.Streams.{Adds, AddsFront}
-use Rattle.acq_io.proofs.TakenLemmas.{adds_then}
+use Rattle.acq_cli.proofs.Prelude.{◌≡◌, ◌∙◌, ℕ, Bool, true, IsTrue, List, [], ◌++◌, length, Option, Some, Result, Ok, Err, refl, sym, ap, subst, inr, ⊎_elim, IfOk, IfSome, OnErr, Adds, AddsFront, adds_then, Put, Answer, Event, Plan, Quacq, Candidate, Language, IsLanguage, HasSameSolutions, IsNetwork, agrees, standing_on, Stands, knowledge_of, state_after, IsGenerated, target_of, net_turn, net_may_say, MayEnd, closing_of, ending_of, ClosesQuietly, Demos, HasDriven, IsQuietEnd, SaysSum, Tells, TellsFront, demo_text, summary_text, whole_demo, Drives, IsOwned, EndsWith, HasWritten, or_silent, Saying, saying, Unsaid, IsAnsweredBy, IsUnstopped, point_of, terms_with, Closing, Converged, Undecided, learned_in, learned_after, Drove, Ending, Terms, failed, same_ok, err_ok, begun, run_exists, ends_as, said_as, run_laws, stands_at}
 use Rattle.target_oracle.proofs.Fronts.{front_longer, front_none, front_then, front_whole}
-use Rattle.acq_io.specs.declared.streams.Put.{Put}
 use Rattle.acq_io.specs.declared.streams.Put.TheVariants as put
-use Rattle.assign.specs.Events.{Answer}
-use Rattle.assign.specs.declared.events.Event.{Event}
-use Rattle.assign.specs.declared.events.Plan.{Plan}
-use Rattle.assign.specs.declared.events.Plan.TheVariants.{Quacq}
-use Rattle.language.specs.declared.candidates.Candidate.{Candidate}
-use Rattle.language.specs.Language.{Language, IsLanguage, HasSameSolutions}
-use Rattle.language.specs.Answers.{IsNetwork, agrees, standing_on}
-use Rattle.session_core.specs.Standing.{Stands, knowledge_of}
 use Rattle.session_core.specs.declared.session.Session.{Session}
-use Rattle.session_laws.specs.Session.{state_after}
-use Rattle.target_oracle.specs.Generator.{IsGenerated, target_of}
-use Rattle.target_oracle.specs.NetTurns.{net_turn, net_may_say}
-use Rattle.acq_loop.specs.Added.{MayEnd}
-use Rattle.acq_loop.specs.Closings.{closing_of, ending_of}
-use Rattle.acq_cli.specs.Demoing.{ClosesQuietly, Demos, HasDriven, IsQuietEnd, SaysSum, Tells, TellsFront, demo_text, summary_text, whole_demo}
-use Rattle.acq_loop.specs.Driven.{Drives, IsOwned}
-use Rattle.acq_said.specs.Said.{EndsWith, HasWritten, or_silent}
-use Rattle.acq_said.specs.Saying.{Saying, saying}
-use Rattle.acq_said.specs.declared.said.Unsaid.{Unsaid}
-use Rattle.acq_cli.specs.Playing.{IsAnsweredBy, IsUnstopped}
-use Rattle.acq_loop.specs.Points.{point_of, terms_with}
-use Rattle.acq_loop.specs.Run.{Closing, Converged, Undecided}
-use Rattle.acq_loop.specs.Texts.{learned_in, learned_after}
-use Rattle.acq_loop.specs.declared.driving.Drove.{Drove}
 use Rattle.acq_loop.specs.declared.driving.Drove.TheVariants as drove
-use Rattle.acq_loop.specs.declared.ending.Ending.{Ending}
 use Rattle.acq_loop.specs.declared.ending.Ending.TheVariants as ending
-use Rattle.acq_loop.specs.declared.terms.Terms.{Terms}
-use Rattle.acq_said.proofs.Closings.{failed, same_ok, err_ok}
-use Rattle.acq_said.proofs.Parts.{begun}
-use Rattle.acq_loop.proofs.Running.{run_exists}
-use Rattle.acq_said.proofs.Spoken.{ends_as, said_as}
-use Rattle.acq_loop.proofs.Standings.{run_laws, stands_at}
 
 -- ---- what the session has learned
 

@@ -1,24 +1,10 @@
 -- Budgets that are enough.
-use Rattle.std.proofs.Common.{◌≡◌, ◌∙◌, ℕ, zero, suc, ◌+◌, ◌*◌, ◌≤◌, Bool, List, [], ◌∷◌, length, map, get_or, refl, ap, arith, inr, length-append}
-use Rattle.std.specs.Prelude.{◌<◌, ◌≢◌, IsTrue, filter, All}
-use Rattle.std.specs.List.{flat_map}
-use Rattle.std.proofs.lemmas.List.{length-map}
-use Rattle.std.proofs.lemmas.List.Elements.{All-filter}
+use Rattle.acq_cli.proofs.Prelude.{◌≡◌, ◌∙◌, ℕ, zero, suc, ◌+◌, ◌*◌, ◌≤◌, Bool, List, [], ◌∷◌, length, map, get_or, refl, ap, arith, inr, length-append, ◌<◌, ◌≢◌, IsTrue, filter, All, flat_map, length-map, All-filter, Candidate, Language, candidates, variable_count, kept, IsGenerated, name_of, Answer, is_among, IsLeftOpen, open_candidates, Terms, BudgetIsEnough, GeneratedIsShort}
 use Rattle.std.proofs.lemmas.List.FromFn.{length-range_with_len}
 use Rattle.std.proofs.lemmas.List.Sums.{length-filter, count_by-le-length}
 use Rattle.assign.specs.Sets.{numbers}
-use Rattle.language.specs.declared.candidates.Candidate.{Candidate}
-use Rattle.language.specs.Language.{Language, candidates, variable_count}
-use Rattle.language.specs.Answers.{kept}
 use Rattle.language.specs.Search.{prefixes, is_plain, plain_size}
 use Rattle.fd_solver.proofs.Outcomes.{plain_is_less}
-use Rattle.target_oracle.specs.Generator.{IsGenerated, name_of}
-use Rattle.assign.specs.Events.{Answer}
-use Rattle.query_gen.specs.Questions.{is_among}
-use Rattle.acq_loop.specs.Driven.{IsLeftOpen}
-use Rattle.acq_loop.specs.Texts.{open_candidates}
-use Rattle.acq_loop.specs.declared.terms.Terms.{Terms}
-use Rattle.acq_cli.specs.Laws.{BudgetIsEnough, GeneratedIsShort}
 
 pub budget_is_enough : BudgetIsEnough
 budget_is_enough turns l terms events bytes all =

@@ -1,36 +1,11 @@
 -- What `converged` and `collapsed` say, of what was done.
-use Rattle.std.proofs.Common.{◌≡◌, ◌∙◌, ◌⊎◌, ℕ, true, false, List, [], ◌++◌, length, Option, Some, None, Result, Ok, Err, refl, sym, ap, subst, inl, inr}
-use Rattle.std.specs.Prelude.{IfSome}
-use Rattle.std.specs.Option.{ForSome}
-use Rattle.disk_model.specs.declared.disk.Disk.{Ghosts as DiskOf}
-use Rattle.acq_io.specs.Streams.{Adds}
+use Rattle.acq_cli.proofs.Prelude.{◌≡◌, ◌∙◌, ℕ, true, false, List, [], ◌++◌, length, Option, Some, None, Result, Ok, Err, refl, sym, ap, subst, inl, inr, ForSome, DiskOf, Adds, Command, UsageFault, Answer, Event, Quacq, Candidate, Language, IsConverged, NoneAgrees, standing_on, line_turn, net_turn, Turns, closing_of, Does, HasEnded, IsDone, AddsLast, Tries, terms_with, converged_text, learned_after, learned_in, Drove, Terms, err_ok, loops_by, okay, is_own, refuses_own}
 use Rattle.acq_io.specs.declared.streams.Put.TheVariants as put
-use Rattle.acq_words.specs.declared.request.Command.{Command}
 use Rattle.acq_words.specs.declared.request.Command.TheVariants as command
-use Rattle.acq_words.specs.declared.request.UsageFault.{UsageFault}
-use Rattle.assign.specs.Events.{Answer}
-use Rattle.assign.specs.declared.events.Event.{Event}
-use Rattle.assign.specs.declared.events.Plan.TheVariants.{Quacq}
-use Rattle.language.specs.declared.candidates.Candidate.{Candidate}
-use Rattle.language.specs.Language.{Language}
-use Rattle.language.specs.Answers.{IsConverged, NoneAgrees, standing_on}
-use Rattle.target_oracle.specs.Lines.{line_turn}
-use Rattle.target_oracle.specs.NetTurns.{net_turn}
-use Rattle.target_oracle.specs.Turns.{Turns}
-use Rattle.acq_loop.specs.Closings.{closing_of}
-use Rattle.acq_cli.specs.Doing.{Does}
-use Rattle.acq_loop.specs.Driven.{HasEnded, IsDone}
-use Rattle.acq_said.specs.Endings.{AddsLast, Tries}
 use Rattle.acq_cli.specs.Headline.{FindsNetwork, FindsNone}
-use Rattle.acq_loop.specs.Points.{terms_with}
-use Rattle.acq_loop.specs.Texts.{converged_text, learned_after, learned_in}
-use Rattle.acq_loop.specs.declared.driving.Drove.{Drove}
 use Rattle.acq_loop.specs.declared.driving.Drove.TheVariants as drove
 use Rattle.acq_loop.specs.declared.ending.Ending.TheVariants as ending
-use Rattle.acq_loop.specs.declared.terms.Terms.{Terms}
 use Rattle.acq_cli.proofs.Asked.{stale_own, without_own}
-use Rattle.acq_said.proofs.Closings.{err_ok, loops_by, okay}
-use Rattle.acq_said.proofs.SaidOver.{is_own, refuses_own}
 use Rattle.acq_cli.proofs.Speaking.{speaks_own}
 use Rattle.acq_cli.proofs.Targets.{found_by}
 

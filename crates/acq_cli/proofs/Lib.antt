@@ -1,3 +1,4 @@
+mod Prelude
 pub mod Causes
 pub mod Asked
 pub mod Targets

@@ -1,37 +1,14 @@
 -- What `new` tells of the input and a file, exactly.
-use Rattle.std.proofs.Common.{true, ◌≡◌, ◌⊎◌, ◌∙◌, ℕ, List, get_or, take, Option, Some, None, Result, Ok, Err, refl, sym, ap, subst, inl, inr, ⊎_elim, arith}
-use Rattle.disk_model.specs.declared.disk.Disk.{Ghosts as DiskOf}
-use Rattle.acq_io.specs.Whole.{all_of}
-use Rattle.acq_io.specs.declared.streams.Put.{Put}
+use Rattle.acq_cli.proofs.Prelude.{true, ◌≡◌, ◌⊎◌, ◌∙◌, ℕ, List, get_or, take, Option, Some, None, Result, Ok, Err, refl, sym, ap, subst, inl, inr, ⊎_elim, arith, DiskOf, all_of, Put, AllFault, Plan, Language, SFault, IsVocabulary, refusal_of_vocabulary, VocFault, one_language, not_refused, IsBrokenOff, IsInTheWay, refused_said, EndsAsMade, HasLanguage, IsMaking, MakesOf, News, NewEnds, RefusesMaking, made_said, voc_refused, ended_as, HasWritten, SaysSo, Saying, IsRefusal, Ending, Unsaid, okay, is_own, own_said, read_own, refuses_own, ends_said, fine, input_end, only_long, same_fine, silently}
 use Rattle.acq_io.specs.declared.streams.Put.TheVariants as put
-use Rattle.acq_io.specs.declared.whole.AllFault.{AllFault}
 use Rattle.answer_journal.specs.declared.fault.JFault.{JFault}
 use Rattle.answer_journal.specs.declared.fault.JFault.TheVariants as journal
 use Rattle.answer_journal.specs.Journal.{ReadsAs, NotAJournal, HasNoSession}
 use Rattle.answer_journal.specs.Making.{CreateRefused}
-use Rattle.assign.specs.declared.events.Plan.{Plan}
-use Rattle.language.specs.Language.{Language}
 use Rattle.session_store.specs.Opening.{NotMade}
-use Rattle.session_store.specs.declared.fault.SFault.{SFault}
 use Rattle.session_store.specs.declared.fault.SFault.TheVariants as store
-use Rattle.voc_read.specs.Vocabulary.{IsVocabulary, refusal_of_vocabulary}
-use Rattle.voc_read.specs.declared.fault.VocFault.{VocFault}
 use Rattle.voc_read.specs.declared.fault.VocFault.TheVariants as vocs
-use Rattle.voc_read.proofs.OneReading.{one_language}
-use Rattle.voc_read.proofs.Refused.{not_refused}
-use Rattle.acq_said.specs.Exactly.{IsBrokenOff, IsInTheWay}
-use Rattle.acq_said.specs.Journals.{refused_said}
-use Rattle.acq_said.specs.Making.{EndsAsMade, HasLanguage, IsMaking, MakesOf, News, NewEnds, RefusesMaking, made_said, voc_refused}
-use Rattle.acq_loop.specs.Program.{ended_as}
-use Rattle.acq_said.specs.Said.{HasWritten, SaysSo}
-use Rattle.acq_said.specs.Saying.{Saying}
-use Rattle.acq_said.specs.Trying.{IsRefusal}
-use Rattle.acq_loop.specs.declared.ending.Ending.{Ending}
-use Rattle.acq_said.specs.declared.said.Unsaid.{Unsaid}
 use Rattle.acq_said.specs.declared.said.Unsaid.TheVariants as unsaid
-use Rattle.acq_said.proofs.Closings.{okay}
-use Rattle.acq_said.proofs.SaidOver.{is_own, own_said, read_own, refuses_own}
-use Rattle.acq_said.proofs.Spoken.{ends_said, fine, input_end, only_long, same_fine, silently}
 
 -- ---- one making
 

@@ -1,24 +1,7 @@
 -- One run, and one text.
-use Rattle.std.proofs.Common.{◌≡◌, ◌∙◌, ℕ, zero, suc, List, [], ◌∷◌, ◌++◌, ap, sym, subst, refl, Option, Some, None, Result, Ok, Err, inl, inr}
-use Rattle.std.specs.Option.{option_map}
-use Rattle.acq_io.specs.Whole.{Gathered, first_line_of}
-use Rattle.acq_io.specs.declared.whole.AllFault.{AllFault}
-use Rattle.assign.specs.Assignment.{Assignment}
-use Rattle.assign.specs.declared.events.Event.{Event}
+use Rattle.acq_cli.proofs.Prelude.{◌≡◌, ◌∙◌, ℕ, zero, suc, List, [], ◌∷◌, ◌++◌, ap, sym, subst, refl, Option, Some, None, Result, Ok, Err, inl, inr, option_map, Gathered, first_line_of, AllFault, Assignment, Event, Language, answer_event, line_turn, Turns, Turned, Reply, Said, TakenBack, Stopped, Ended, Overlong, Unread, IsVocabulary, refusal_of_vocabulary, VocFault, one_language, not_refused, Closing, Next, Puts, Ends, next_on, number_on, Ran, Runs, after_text, ended, heard_on, turned_on, put_on, ran, refusal_text, whole_text, IsRefusal, IsTextOfRun, Terms}
 use Rattle.assign.specs.declared.events.Event.TheVariants as event
-use Rattle.language.specs.Language.{Language}
-use Rattle.session_store.specs.Kept.{answer_event}
-use Rattle.target_oracle.specs.Lines.{line_turn}
-use Rattle.target_oracle.specs.Turns.{Turns, Turned, Reply, Said, TakenBack, Stopped, Ended, Overlong, Unread}
-use Rattle.voc_read.specs.Vocabulary.{IsVocabulary, refusal_of_vocabulary}
-use Rattle.voc_read.specs.declared.fault.VocFault.{VocFault}
-use Rattle.voc_read.proofs.OneReading.{one_language}
-use Rattle.voc_read.proofs.Refused.{not_refused}
 use Rattle.acq_cli.specs.OneText.{RunIsOne, TextIsOne}
-use Rattle.acq_loop.specs.Run.{Closing, Next, Puts, Ends, next_on, number_on, Ran, Runs, after_text, ended, heard_on, turned_on, put_on, ran}
-use Rattle.acq_loop.specs.Texts.{refusal_text, whole_text}
-use Rattle.acq_said.specs.Trying.{IsRefusal, IsTextOfRun}
-use Rattle.acq_loop.specs.declared.terms.Terms.{Terms}
 
 -- ---- one run
 

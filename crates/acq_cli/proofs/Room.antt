@@ -1,14 +1,6 @@
 -- Journals with a record for each answer that their session may still take.
-use Rattle.std.proofs.Common.{◌≡◌, ◌+◌, List, [], ◌∷◌, ◌++◌, length, inl, inr, arith, length-append}
-use Rattle.std.specs.Prelude.{All}
-use Rattle.std.proofs.lemmas.List.Elements.{All-head, All-tail}
-use Rattle.assign.specs.Events.{Answer, standing_from}
-use Rattle.assign.specs.declared.events.Event.{Event}
+use Rattle.acq_cli.proofs.Prelude.{◌≡◌, ◌+◌, List, [], ◌∷◌, ◌++◌, length, inl, inr, arith, length-append, All, All-head, All-tail, Answer, standing_from, Event, answers_fit, IsAnswer, RoomIsLeft, standing_size}
 use Rattle.assign.specs.declared.events.Event.TheVariants as event
-use Rattle.session_laws.proofs.Limits.{answers_fit}
-use Rattle.session_store.specs.Replay.{IsAnswer}
-use Rattle.acq_cli.specs.Laws.{RoomIsLeft}
-use Rattle.acq_loop.proofs.Reached.{standing_size}
 
 -- where nothing was taken back each answer stands
 all_stand : (events : List Event) (before : List Answer) → All IsAnswer events → length (standing_from before events) ≡ length before + length events

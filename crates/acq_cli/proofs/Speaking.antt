@@ -1,20 +1,8 @@
 -- How the commands end that say something, and ask nothing.
-use Rattle.std.proofs.Common.{◌≡◌, ℕ, true, List, Option, Result}
-use Rattle.disk_model.specs.declared.disk.Disk.{Ghosts as DiskOf}
-use Rattle.acq_words.specs.declared.request.Command.{Command}
+use Rattle.acq_cli.proofs.Prelude.{◌≡◌, ℕ, true, List, Option, Result, DiskOf, Command, asked_said, IsCheckOf, Speaks, Spoke, HasWritten, SaidSo, Saying, Ending, Unsaid, okay, asked_own, check_own, is_own, opening_own, read_own, so_own, solves_own, back_own}
 use Rattle.acq_words.specs.declared.request.Command.TheVariants as command
-use Rattle.acq_said.specs.Asks.{asked_said}
-use Rattle.acq_said.specs.Confirming.{IsCheckOf}
-use Rattle.acq_cli.specs.Doing.{Speaks, Spoke}
-use Rattle.acq_said.specs.Said.{HasWritten, SaidSo}
-use Rattle.acq_said.specs.Saying.{Saying}
 use Rattle.acq_said.specs.declared.ask.Ask.TheVariants as ask
-use Rattle.acq_loop.specs.declared.ending.Ending.{Ending}
-use Rattle.acq_said.specs.declared.said.Unsaid.{Unsaid}
-use Rattle.acq_said.proofs.Closings.{okay}
 use Rattle.acq_cli.proofs.Made.{new_own}
-use Rattle.acq_said.proofs.SaidOver.{asked_own, check_own, is_own, opening_own, read_own, so_own, solves_own}
-use Rattle.acq_said.proofs.TakenBack.{back_own}
 
 module _ {D : Type 0} (disk : DiskOf D) (left written left' written' : Option (List ℕ)) (old new : D) (end : Ending) where
   spoke_own : (c : Command) (said : Result Saying Unsaid) → Spoke disk c left left' old new said → HasWritten said written written' (okay end) → is_own end ≡ true

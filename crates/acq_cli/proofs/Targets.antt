@@ -1,66 +1,21 @@
 -- What `play` has done, of what its target said, and exactly when it refuses.
-use Rattle.std.proofs.Common.{◌≡◌, ◌≤◌, ◌⊎◌, ◌∙◌, ℕ, suc, Bool, true, false, List, [], ◌∷◌, ◌++◌, length, ◌&&◌, ◌+◌, cond, Option, Some, Result, Ok, Err, refl, sym, ap, subst, inl, inr, ⊎_elim, arith, append_assoc}
-use Rattle.std.specs.Prelude.{IfOk, All}
+use Rattle.acq_cli.proofs.Prelude.{◌≡◌, ◌≤◌, ◌⊎◌, ◌∙◌, ℕ, suc, Bool, true, false, List, [], ◌∷◌, ◌++◌, length, ◌&&◌, ◌+◌, cond, Option, Some, Result, Ok, Err, refl, sym, ap, subst, inl, inr, ⊎_elim, arith, append_assoc, IfOk, All, All-nil, All-cons, All-head, All-tail, append-nil, length-map, all_of, Put, AllFault, Command, UsageFault, Assignment, Answer, standing, Event, Plan, cut_to-standing-push, Candidate, Language, IsLanguage, HasSameSolutions, accepts, variable_count, IsNetwork, agrees, standing_on, network_of, network_in, json_of, ok_or, DiskOf, NetFault, Opened, SFault, net_may_say, told_of_answer, Turns, MayAdd, IsAdded, MayEnd, AsksTruly, asked_said, EndsExactly, HasEnded, TellsFull, Tries, HoldsSession, IsBrokenOff, OpensExactly, RefusesOpening, Does, IsAnsweredBy, IsNoNetwork, IsUnstopped, HoldsAnswers, HoldsNoTarget, IsOpened, MayLack, PlayEnds, PlaysExactly, PlaysOn, RefusesTarget, SaysWithout, stale_said, target_refused, ended_as, answer, IsSaid, SaysSo, over_ends, solve_ends, back_ends, learned_in, learned_after, Drove, Ending, Terms, NoTarget, okay, err_ok, loops_by, not_loops, few_answers, due_reached, ends_said, silently, closed_end, fine, gives_got, long_one, too_many, whole_of}
 use Rattle.std.specs.Bool.{beq}
-use Rattle.std.proofs.lemmas.List.Elements.{All-nil, All-cons, All-head, All-tail}
-use Rattle.std.proofs.lemmas.List.{append-nil, length-map}
 use Rattle.std.proofs.lemmas.Bool.{lt-ltb}
-use Rattle.acq_io.specs.Whole.{all_of}
-use Rattle.acq_io.specs.declared.streams.Put.{Put}
 use Rattle.acq_io.specs.declared.streams.Put.TheVariants as put
-use Rattle.acq_io.specs.declared.whole.AllFault.{AllFault}
 use Rattle.acq_io.specs.declared.whole.AllFault.TheVariants as long
-use Rattle.acq_words.specs.declared.request.Command.{Command}
 use Rattle.acq_words.specs.declared.request.Command.TheVariants as command
-use Rattle.acq_words.specs.declared.request.UsageFault.{UsageFault}
-use Rattle.assign.specs.Assignment.{Assignment}
-use Rattle.assign.specs.Events.{Answer, standing}
-use Rattle.assign.specs.declared.events.Event.{Event}
-use Rattle.assign.specs.declared.events.Plan.{Plan}
-use Rattle.assign.proofs.EventLemmas.{cut_to-standing-push}
-use Rattle.language.specs.declared.candidates.Candidate.{Candidate}
-use Rattle.language.specs.Language.{Language, IsLanguage, HasSameSolutions, accepts, variable_count}
-use Rattle.language.specs.Answers.{IsNetwork, agrees, standing_on}
-use Rattle.network.specs.Target.{network_of, network_in, json_of}
 use Rattle.network.specs.Answers.{then_on}
-use Rattle.std.specs.Option.{ok_or}
-use Rattle.disk_model.specs.declared.disk.Disk.{Ghosts as DiskOf}
-use Rattle.network.specs.declared.fault.NetFault.{NetFault}
 use Rattle.network.specs.declared.fault.NetFault.TheVariants as net
-use Rattle.session_store.specs.Opened.{Opened}
-use Rattle.session_store.specs.declared.fault.SFault.{SFault}
 use Rattle.session_store.proofs.Openings.{ReadOnce, opens_once}
-use Rattle.target_oracle.specs.NetTurns.{net_may_say, told_of_answer}
-use Rattle.target_oracle.specs.Turns.{Turns}
-use Rattle.acq_loop.specs.Added.{MayAdd, IsAdded, MayEnd}
-use Rattle.acq_said.specs.Asks.{AsksTruly, asked_said}
-use Rattle.acq_cli.specs.Commands.{EndsExactly}
-use Rattle.acq_loop.specs.Driven.{HasEnded, TellsFull}
-use Rattle.acq_said.specs.Endings.{Tries}
-use Rattle.acq_said.specs.Exactly.{HoldsSession, IsBrokenOff, OpensExactly, RefusesOpening}
-use Rattle.acq_cli.specs.Doing.{Does}
-use Rattle.acq_cli.specs.Playing.{IsAnsweredBy, IsNoNetwork, IsUnstopped, HoldsAnswers, HoldsNoTarget, IsOpened, MayLack, PlayEnds, PlaysExactly, PlaysOn, RefusesTarget, SaysWithout, stale_said, target_refused}
-use Rattle.acq_loop.specs.Program.{ended_as}
-use Rattle.acq_loop.specs.Run.{answer}
-use Rattle.acq_said.specs.Said.{IsSaid, SaysSo}
 use Rattle.acq_said.specs.declared.said.Unsaid.TheVariants as unsaid
 use Rattle.acq_cli.proofs.Confirmed.{confirm_ends}
-use Rattle.acq_said.proofs.SaidOver.{over_ends, solve_ends}
-use Rattle.acq_said.proofs.TakenBack.{back_ends}
-use Rattle.acq_loop.specs.Texts.{learned_in, learned_after}
 use Rattle.acq_said.specs.declared.ask.Ask.TheVariants as ask
-use Rattle.acq_loop.specs.declared.driving.Drove.{Drove}
 use Rattle.acq_loop.specs.declared.driving.Drove.TheVariants as drove
-use Rattle.acq_loop.specs.declared.ending.Ending.{Ending}
 use Rattle.acq_loop.specs.declared.ending.Ending.TheVariants as ending
-use Rattle.acq_loop.specs.declared.terms.Terms.{Terms}
-use Rattle.acq_cli.specs.declared.playing.NoTarget.{NoTarget}
 use Rattle.acq_cli.specs.declared.playing.NoTarget.TheVariants as without
-use Rattle.acq_said.proofs.Closings.{okay, err_ok, loops_by, not_loops}
-use Rattle.acq_loop.proofs.Standings.{few_answers, due_reached}
 use Rattle.acq_said.proofs.Exactly.{holds_none, same_in, closed_exactly, run_ends}
 use Rattle.acq_cli.proofs.Made.{new_ends}
-use Rattle.acq_said.proofs.Spoken.{ends_said, silently, closed_end, fine, gives_got, long_one, too_many, whole_of}
 
 -- ---- what its target said
 

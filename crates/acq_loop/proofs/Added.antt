@@ -1,29 +1,11 @@
 -- Events that were added, and their places.
-use Rattle.std.proofs.Common.{◌≡◌, List, [], ◌∷◌, ◌++◌, Option, Some, None, Result, Ok, Err, sym, ◌∙◌, ap, subst, inl, inr, append_assoc}
-use Rattle.std.specs.Prelude.{IfSome}
-use Rattle.std.proofs.lemmas.List.{append-nil}
-use Rattle.std.proofs.lemmas.List.Elements.{All-nil, All-cons, All-append}
-use Rattle.assign.specs.Assignment.{Assignment}
-use Rattle.assign.specs.declared.events.Event.{Event}
-use Rattle.assign.specs.declared.events.Plan.{Plan}
-use Rattle.language.specs.Language.{Language, IsLanguage, IsQuestion}
-use Rattle.language.specs.Answers.{standing_on}
-use Rattle.session_laws.specs.Session.{At, state_after}
-use Rattle.session_core.specs.Standing.{IsAskedAfter}
+use Rattle.acq_loop.proofs.Prelude.{◌≡◌, List, [], ◌∷◌, ◌++◌, Option, Some, None, Result, Ok, Err, sym, ◌∙◌, ap, subst, inl, inr, append_assoc, IfSome, append-nil, All-nil, All-cons, All-append, Assignment, Event, Plan, Language, IsLanguage, IsQuestion, standing_on, At, state_after, IsAskedAfter, Told, MayAdd, IsAdded, IsTaught, MayEnd, ending_of, MayFollow, EventKept, Puts, next_after, next_at, next_in, Drove, Terms}
 use Rattle.session_store.specs.Replay.{HavePlaces}
 use Rattle.session_store.proofs.Fronts.{replay_is_state}
 use Rattle.session_store.proofs.Placing.{answer_has_place, back_has_place}
 use Rattle.target_oracle.specs.NetTurns.{told_of_answer}
-use Rattle.target_oracle.specs.declared.teacher.Told.{Told}
-use Rattle.acq_loop.specs.Added.{MayAdd, IsAdded, IsTaught, MayEnd}
-use Rattle.acq_loop.specs.Closings.{ending_of}
-use Rattle.acq_loop.specs.Driven.{MayFollow}
-use Rattle.acq_loop.specs.Due.{EventKept}
-use Rattle.acq_loop.specs.Run.{Puts, next_after, next_at, next_in}
-use Rattle.acq_loop.specs.declared.driving.Drove.{Drove}
 use Rattle.acq_loop.specs.declared.ending.Ending.{Ending}
 use Rattle.acq_loop.specs.declared.ending.Ending.TheVariants as ending
-use Rattle.acq_loop.specs.declared.terms.Terms.{Terms}
 use Rattle.acq_io.specs.declared.streams.Put.{Put}
 use Rattle.acq_loop.proofs.Running.{RunLaws, asked_at}
 

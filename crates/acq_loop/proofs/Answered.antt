@@ -1,22 +1,5 @@
 -- A turn whose question was answered.
-use Rattle.std.proofs.Common.{◌≡◌, ◌∙◌, true, ℕ, ◌+◌, ◌<◌, List, [], ◌∷◌, ◌++◌, length, sym, ap, Option, Some, None, subst, ⊎_elim, arith}
-use Rattle.std.specs.Prelude.{◌≢◌, IfSome}
-use Rattle.assign.specs.Assignment.{Assignment}
-use Rattle.assign.specs.declared.events.Event.{Event}
-use Rattle.language.specs.Language.{Language}
-use Rattle.language.specs.Answers.{standing_on}
-use Rattle.target_oracle.specs.Turns.{Turns, Reply}
-use Rattle.target_oracle.specs.declared.teacher.Told.{Told}
-use Rattle.acq_loop.specs.Added.{MayEnd}
-use Rattle.acq_loop.specs.Closings.{closing_of, ending_of}
-use Rattle.acq_loop.specs.Run.{Closing, Puts, Ends, next_after, next_on, number_on, event_heard}
-use Rattle.acq_loop.specs.declared.terms.Terms.{Terms}
-use Rattle.query_gen.specs.Marks.{Remembered, IsMadeFor}
-use Rattle.acq_loop.specs.Driven.{Point, CutOff, HasEnded, IsPending, Loses, MayFollow, RanTo, TellsFull, TellsOpen, UnkeptTo}
-use Rattle.acq_loop.specs.Loop.{EndsAs, EndsUnasked, HasTurned, is_unasked}
-use Rattle.acq_loop.specs.Due.{EventKept}
-use Rattle.acq_loop.specs.Points.{point_of}
-use Rattle.acq_loop.specs.declared.driving.Drove.{Drove}
+use Rattle.acq_loop.proofs.Prelude.{◌≡◌, ◌∙◌, true, ℕ, ◌+◌, ◌<◌, List, [], ◌∷◌, ◌++◌, length, sym, ap, Option, Some, None, subst, ⊎_elim, arith, ◌≢◌, IfSome, Assignment, Event, Language, standing_on, Turns, Reply, Told, MayEnd, closing_of, ending_of, Closing, Puts, Ends, next_after, next_on, number_on, event_heard, Terms, Remembered, IsMadeFor, Point, CutOff, HasEnded, IsPending, Loses, MayFollow, RanTo, TellsFull, TellsOpen, UnkeptTo, EndsAs, EndsUnasked, HasTurned, is_unasked, EventKept, point_of, Drove}
 use Rattle.acq_loop.specs.declared.driving.Drove.TheVariants as drove
 use Rattle.acq_loop.proofs.Running.{next_ends, next_put, room_not_full}
 use Rattle.acq_loop.proofs.Standings.{AtQuestion, run_laws, within}

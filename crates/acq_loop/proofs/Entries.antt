@@ -1,27 +1,12 @@
 -- An entry that a keeper was asked to keep.
-use Rattle.std.proofs.Common.{◌≡◌, ◌∙◌, ◌≤◌, ◌⊎◌, ◌++◌, ◌∷◌, [], ℕ, IsTrue, IsFalse, List, Option, Some, None, Result, Ok, Err, OnOk, OnErr, IfErr, IsErrOf, IsSome, ap, sym, subst, refl, inl, inr, ⊎_elim, ◌+◌, arith}
-use Rattle.std.specs.Option.{ForSome}
-use Rattle.assign.specs.Assignment.{Assignment}
-use Rattle.assign.specs.declared.events.Event.{Event}
-use Rattle.assign.specs.declared.events.Plan.{Plan}
+use Rattle.acq_loop.proofs.Prelude.{◌≡◌, ◌∙◌, ◌≤◌, ◌⊎◌, ◌++◌, ◌∷◌, [], ℕ, IsTrue, IsFalse, List, Option, Some, None, Result, Ok, Err, OnOk, OnErr, IfErr, IsErrOf, ap, sym, subst, refl, inl, inr, ◌+◌, arith, ForSome, Assignment, Event, Plan, DiskOf, Language, standing_on, IsSettled, KeepOf, Keeps, IsKeeping, IsAddable, IsTried, calls_one, few_for, grown_none, grown_one, keeps_still, persists_one, fails_one, EventKept, ended_by, end_of}
 use Rattle.answer_journal.specs.declared.fault.JFault.TheVariants as journal
-use Rattle.disk_model.specs.declared.disk.Disk.{Ghosts as DiskOf}
 use Rattle.disk_model.specs.Disk.{Rose}
 use Rattle.disk_model.specs.Moments.{GoesOn, LeavesOnly}
-use Rattle.language.specs.Language.{Language}
-use Rattle.language.specs.Answers.{standing_on}
-use Rattle.session_core.specs.Settled.{IsSettled}
 use Rattle.session_store.specs.declared.fault.SFault.{SFault}
 use Rattle.session_store.specs.declared.fault.SFault.TheVariants as store
-use Rattle.session_store.specs.declared.keep.Keep.{Ghosts as KeepOf}
 use Rattle.session_store.specs.Keeping.{HasKept, IsUnmoved, HasSameTerms, calls_for}
-use Rattle.session_store.specs.Keeps.{Keeps, IsKeeping}
-use Rattle.session_store.specs.Kept.{IsAddable, IsTried}
 use Rattle.session_store.specs.Left.{OpensWith, OpensWithOrWithout, LeavesNow}
-use Rattle.session_store.proofs.Keepers.{calls_one, few_for, grown_none, grown_one, keeps_still, persists_one, fails_one}
-use Rattle.acq_loop.specs.Due.{EventKept, ended_by}
-use Rattle.acq_loop.specs.Heard.{end_of}
-use Rattle.acq_loop.specs.declared.driving.Drove.{Drove}
 use Rattle.acq_loop.specs.declared.driving.Drove.TheVariants as drove
 use Rattle.acq_loop.proofs.Standings.{carried}
 

@@ -1,22 +1,8 @@
 -- How few answers lead to convergence.
-use Rattle.std.proofs.Common.{◌≡◌, ◌∙◌, ℕ, ◌+◌, ◌*◌, ◌≤◌, true, List, length, Option, refl, arith}
-use Rattle.std.specs.Prelude.{◌==◌, ◌&&◌, IsTrue, All, slice_index_or}
-use Rattle.std.specs.List.{list_any}
-use Rattle.std.proofs.lemmas.Bool.{and_from, eq-eqb}
-use Rattle.std.proofs.lemmas.List.Folds.{list_any_at}
+use Rattle.acq_loop.proofs.Prelude.{◌≡◌, ◌∙◌, ℕ, ◌+◌, ◌*◌, ◌≤◌, true, List, length, Option, refl, arith, ◌==◌, ◌&&◌, IsTrue, All, slice_index_or, list_any, and_from, eq-eqb, list_any_at, Answer, Plan, numbers, has, Candidate, Language, IsLanguage, variable_count, candidates, IsNetwork, has_scope, any-filter, any_number, Idle, At, state_after, WalkEnd, answers_are_few, learned_are_few}
 use Rattle.std.proofs.lemmas.Nat.{mul-le}
-use Rattle.assign.specs.Events.{Answer}
-use Rattle.assign.specs.declared.events.Plan.{Plan}
-use Rattle.assign.specs.Sets.{numbers, has}
 use Rattle.find_scope.specs.Bound.{log_up}
-use Rattle.language.specs.declared.candidates.Candidate.{Candidate}
-use Rattle.language.specs.Language.{Language, IsLanguage, variable_count, candidates}
-use Rattle.language.specs.Answers.{IsNetwork, has_scope}
-use Rattle.language.proofs.Members.{any-filter, any_number}
 use Rattle.session_laws.specs.Bound.{greatest_arity}
-use Rattle.session_laws.specs.Session.{Idle, At, state_after}
-use Rattle.session_laws.specs.Walk.{WalkEnd}
-use Rattle.session_laws.proofs.Counted.{answers_are_few, learned_are_few}
 use Rattle.acq_loop.specs.Few.{AreFew, scopes_of_network}
 
 -- a greater cost a candidate makes a greater sum

@@ -1,36 +1,9 @@
 -- A turn by what was heard of the teacher's word.
-use Rattle.std.proofs.Common.{◌≡◌, ◌⊎◌, ◌∙◌, ◌+◌, ◌<◌, ℕ, List, [], ◌∷◌, ◌++◌, length, true, false, is_some, ap, sym, subst, refl, inl, inr, Option, Some, None}
-use Rattle.std.specs.Prelude.{◌≢◌, IfSome}
-use Rattle.std.specs.Option.{ForSome}
-use Rattle.acq_io.specs.Streams.{AddsFront}
-use Rattle.assign.specs.Assignment.{Assignment}
-use Rattle.assign.specs.declared.events.Event.{Event}
+use Rattle.acq_loop.proofs.Prelude.{◌≡◌, ◌⊎◌, ◌∙◌, ◌+◌, ◌<◌, ℕ, List, [], ◌∷◌, ◌++◌, length, true, false, is_some, ap, sym, subst, refl, inl, inr, Option, Some, None, ◌≢◌, IfSome, ForSome, AddsFront, Assignment, Event, Language, IsQuestion, variable_count, standing_on, Remembered, IsMadeFor, no_marks_hold, network_in, Turns, Reply, Said, TakenBack, Stopped, Ended, Overlong, Unread, Tells, Told, MayAdd, MayEnd, closing_of, ending_of, Closing, Next, Puts, Suspended, LineTooLong, Unreadable, answer, next_on, number_on, event_heard, Point, next_lines, HasEnded, IsPending, MayFollow, RanTo, Remembers, EventKept, heard_of, event_on, MayKeep, Forgets, EndsAs, point_of, SaysNext, Terms, Drove, Entry}
 use Rattle.assign.specs.declared.events.Event.TheVariants as event
-use Rattle.assign.specs.declared.events.Plan.{Plan}
-use Rattle.language.specs.Language.{Language, IsQuestion, variable_count}
-use Rattle.language.specs.Answers.{standing_on}
-use Rattle.query_gen.specs.Marks.{Remembered, IsMadeFor}
-use Rattle.query_gen.proofs.Marking.{no_marks_hold}
-use Rattle.session_laws.specs.Laws.{network_in}
-use Rattle.target_oracle.specs.Turns.{Turns, Reply, Said, TakenBack, Stopped, Ended, Overlong, Unread}
-use Rattle.target_oracle.specs.Tells.{Tells}
-use Rattle.target_oracle.specs.declared.teacher.Told.{Told}
 use Rattle.target_oracle.specs.declared.teacher.Told.TheVariants as told
-use Rattle.acq_loop.specs.Added.{IsTaught, MayAdd, MayEnd}
-use Rattle.acq_loop.specs.Closings.{closing_of, ending_of}
-use Rattle.acq_loop.specs.Run.{Closing, Next, Puts, Suspended, LineTooLong, Unreadable, answer, next_on, number_on, event_heard}
-use Rattle.acq_loop.specs.Driven.{Point, next_lines, HasEnded, IsPending, MayFollow, RanTo, Remembers}
-use Rattle.acq_loop.specs.Due.{EventKept}
-use Rattle.acq_loop.specs.Heard.{heard_of, event_on, MayKeep, Forgets}
-use Rattle.acq_loop.specs.Loop.{EndsAs}
-use Rattle.acq_loop.specs.Points.{point_of, terms_with}
-use Rattle.acq_loop.specs.Turn.{SaysNext}
-use Rattle.acq_loop.specs.declared.terms.Terms.{Terms}
-use Rattle.acq_loop.specs.declared.driving.Drove.{Drove}
 use Rattle.acq_loop.specs.declared.driving.Drove.TheVariants as drove
-use Rattle.acq_loop.specs.declared.driving.Entry.{Entry}
 use Rattle.acq_loop.specs.declared.driving.Entry.TheVariants as entry
-use Rattle.acq_loop.specs.declared.driving.Heard.{Heard}
 use Rattle.acq_loop.specs.declared.driving.Heard.TheVariants as heard
 use Rattle.acq_loop.proofs.Answered.{ends_closed, ends_failed, not_full_with}
 use Rattle.acq_loop.proofs.Reached.{IsReached, some_stand}

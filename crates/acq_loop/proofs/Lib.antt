@@ -1,3 +1,4 @@
+mod Prelude
 pub mod Questions
 pub mod Taking
 pub mod Reached

@@ -1,44 +1,14 @@
 -- What comes next in a session.
-use Rattle.std.proofs.Common.{◌≡◌, ℕ, true, List, length, refl, sym, ◌∙◌, ap, subst, inl, inr, ◌⊎◌, Option, Some, None}
-use Rattle.std.specs.Prelude.{◌≢◌, ◌&&◌, is_some, not}
-use Rattle.std.specs.Option.{option_map}
-use Rattle.std.proofs.lemmas.Bool.{and_parts}
-use Rattle.assign.specs.Sets.{numbers}
-use Rattle.assign.specs.Assignment.{Assignment}
-use Rattle.assign.specs.Events.{Answer}
-use Rattle.assign.specs.declared.events.Plan.{Plan}
-use Rattle.assign.specs.declared.events.Plan.TheVariants.{Scopes, Quacq, Multi}
-use Rattle.language.specs.declared.candidates.Candidate.{Candidate}
-use Rattle.language.specs.Language.{Language, IsLanguage, IsCandidate}
-use Rattle.language.specs.Answers.{IsNetwork, IsCovered, has_scope, kept}
+use Rattle.acq_loop.proofs.Prelude.{◌≡◌, ℕ, true, List, length, refl, sym, ◌∙◌, ap, subst, Option, Some, None, ◌≢◌, ◌&&◌, is_some, not, option_map, and_parts, numbers, Assignment, Answer, Plan, Scopes, Quacq, Multi, Candidate, Language, IsLanguage, IsCandidate, IsNetwork, IsCovered, has_scope, kept, find_some, outcome_of_candidate, is_among, is_spent, next_query, Remembered, is_open, State, Idle, Halving, Choosing, Walking, Over, At, is_just, is_lawful, is_undecided, next_scope, open_question, scope_question, state_after, WalkEnd, network_in, assignment_same, implied_is_covered, over_means_none, idle_is_in_step, Knowledge, Session, Stands, Knows, IsAskedIn, knowledge_of, open_in, question_put, IsSettled, IsLawfulAfter, Terms, terms_with, Next, Puts, Ends, Converged, Collapsed, puts_or, searched, idle_next, next_at, next_in, next_after, IsDone, IsCollapsed, IsLeftOpen, TellsOpen, NextIs}
 use Rattle.language.proofs.Covered.{covered_converged}
-use Rattle.language.proofs.Members.{find_some}
-use Rattle.fd_solver.specs.Outcomes.{outcome_of_candidate}
 use Rattle.language.specs.TellingApart.{splitting_tuple}
 use Rattle.language.specs.Scenes.{scene_of, on_scope, free_choices}
 use Rattle.query_gen.specs.declared.query.Query.TheVariants as query
-use Rattle.query_gen.specs.Questions.{is_among, is_spent, next_query}
-use Rattle.query_gen.specs.Marks.{Remembered, is_open}
-use Rattle.session_laws.specs.Session.{State, Idle, Halving, Choosing, Walking, Over, At, is_just, is_lawful, is_undecided, next_scope, open_question, scope_question, state_after}
-use Rattle.session_laws.specs.Walk.{WalkEnd}
-use Rattle.session_laws.specs.Laws.{network_in}
-use Rattle.session_laws.proofs.Folds.{assignment_same}
 use Rattle.session_laws.proofs.ScopeByScope.{scopes_are_covered, scopes_never_over}
-use Rattle.session_laws.proofs.States.{implied_is_covered, over_means_none, idle_is_in_step}
-use Rattle.session_core.specs.declared.knowledge.Knowledge.{Knowledge}
-use Rattle.session_core.specs.declared.session.Session.{Session}
 use Rattle.session_core.specs.declared.session.Asking as askings
 use Rattle.session_core.specs.declared.session.Collapsed as overs
 use Rattle.session_core.specs.declared.session.Session.TheVariants as sessions
-use Rattle.session_core.specs.Standing.{Stands, Knows, IsAskedIn, knowledge_of, open_in, question_put}
 use Rattle.session_core.proofs.Opened.{open_asked}
-use Rattle.session_core.specs.Settled.{IsSettled}
-use Rattle.session_store.specs.Kept.{IsLawfulAfter}
-use Rattle.acq_loop.specs.declared.terms.Terms.{Terms}
-use Rattle.acq_loop.specs.Points.{terms_with}
-use Rattle.acq_loop.specs.Run.{Next, Puts, Ends, Converged, Collapsed, puts_or, searched, idle_next, next_at, next_in, next_after}
-use Rattle.acq_loop.specs.Driven.{IsDone, IsCollapsed, IsLeftOpen, TellsOpen}
-use Rattle.acq_loop.specs.Due.{NextIs}
 use Rattle.acq_loop.specs.declared.next.Upcoming.{Upcoming}
 use Rattle.acq_loop.specs.declared.next.Upcoming.TheVariants as nexts
 use Rattle.acq_loop.proofs.Questions.{IsLawfulExample, asked_is_example, all_are_implied, undecided_is_spent, kept_network, same_state}

@@ -1,26 +1,8 @@
 -- The open candidates.
-use Rattle.std.proofs.Common.{◌≡◌, ◌<◌, Bool, true, false, cond, ◌||◌, List, [], ◌∷◌, get_or, refl, sym, ◌∙◌, ap, Option}
-use Rattle.std.specs.Prelude.{◌≢◌, ◌==◌, ◌&&◌, IsTrue, All, Any}
-use Rattle.std.specs.List.{filter, list_any}
-use Rattle.std.proofs.lemmas.Bool.{and_from, eq-eqb}
-use Rattle.std.proofs.lemmas.List.Elements.{All-filter, All-head, All-tail, filter_passes}
-use Rattle.std.proofs.lemmas.List.Folds.{list_any_at}
-use Rattle.assign.specs.Events.{Answer}
-use Rattle.language.specs.declared.candidates.Candidate.{Candidate}
-use Rattle.language.specs.Language.{Language, IsCandidate, candidates}
-use Rattle.language.specs.Answers.{kept}
+use Rattle.acq_loop.proofs.Prelude.{◌≡◌, ◌<◌, Bool, true, false, cond, ◌||◌, List, [], ◌∷◌, get_or, refl, sym, ◌∙◌, ap, Option, ◌≢◌, ◌==◌, ◌&&◌, IsTrue, All, Any, filter, list_any, and_from, eq-eqb, All-filter, All-head, All-tail, filter_passes, list_any_at, Answer, Candidate, Language, IsCandidate, candidates, kept, outcome_of_candidate, is_among, is_spent, IsUndecided, Remembered, is_open, WalkEnd, Idle, At, state_after, all_candidates, Terms, TellsOpen}
 use Rattle.language.specs.Search.{plain_size}
 use Rattle.fd_solver.specs.declared.outcome.Outcome.{Outcome}
 use Rattle.fd_solver.specs.declared.outcome.Outcome.TheVariants.{Found, Absent, Spent}
-use Rattle.fd_solver.specs.Outcomes.{outcome_of_candidate}
-use Rattle.query_gen.specs.Questions.{is_among, is_spent}
-use Rattle.query_gen.specs.Laws.{IsUndecided}
-use Rattle.query_gen.specs.Marks.{Remembered, is_open}
-use Rattle.session_laws.specs.Walk.{WalkEnd}
-use Rattle.session_laws.specs.Session.{Idle, At, state_after}
-use Rattle.session_laws.proofs.Choices.{all_candidates}
-use Rattle.acq_loop.specs.declared.terms.Terms.{Terms}
-use Rattle.acq_loop.specs.Driven.{TellsOpen}
 use Rattle.acq_loop.specs.Texts.{open_candidates}
 use Rattle.query_gen.proofs.Among.{picked_are_in_order}
 

@@ -1,29 +1,11 @@
 -- What the next question's search says of a session.
-use Rattle.std.proofs.Common.{◌≡◌, ℕ, true, List, Option, refl, ◌∙◌, ap}
-use Rattle.std.specs.Prelude.{IsTrue, All, Any, ◌&&◌, length, Some, None}
-use Rattle.std.proofs.lemmas.List.Elements.{All-filter}
-use Rattle.std.proofs.lemmas.List.Folds.{list_any_at}
-use Rattle.std.proofs.lemmas.Bool.{and_from}
-use Rattle.assign.specs.Assignment.{Assignment, is_complete}
-use Rattle.assign.specs.Events.{Answer}
-use Rattle.assign.specs.declared.events.Plan.{Plan}
-use Rattle.assign.specs.declared.events.Plan.TheVariants.{Quacq, Multi}
-use Rattle.language.specs.declared.candidates.Candidate.{Candidate}
-use Rattle.language.specs.Language.{Language, IsLanguage, IsCandidate, IsQuestion, candidates, is_question, accepts, violates}
-use Rattle.language.specs.Answers.{IsNetwork, kept}
+use Rattle.acq_loop.proofs.Prelude.{◌≡◌, ℕ, true, List, Option, ◌∙◌, ap, IsTrue, Any, ◌&&◌, All-filter, list_any_at, and_from, Assignment, is_complete, Answer, Plan, Quacq, Multi, Candidate, Language, IsLanguage, IsCandidate, IsQuestion, candidates, is_question, accepts, violates, IsNetwork, kept, Ask, next_query, AskedIsLawful, AllAreImplied, UndecidedIsSpent, MarksStay, State, Idle, At, is_lawful, state_after, WalkEnd, violates_some, all_candidates, idle_is_in_step}
 use Rattle.language.proofs.Ranged.{question_passes}
 use Rattle.fd_solver.specs.Laws.{IsQuestionAgainst}
 use Rattle.fd_solver.proofs.Outcomes.{absent_is_implied, absent_stays, found_is_lawful}
 use Rattle.fd_solver.proofs.Outcomes as outcomes
-use Rattle.query_gen.specs.declared.query.Query.TheVariants.{Ask}
-use Rattle.query_gen.specs.Questions.{next_query}
-use Rattle.query_gen.specs.Laws.{AskedIsLawful, AllAreImplied, UndecidedIsSpent, MarksStay}
 use Rattle.query_gen.proofs.Told as told
 use Rattle.query_gen.proofs.Marking as marking
-use Rattle.session_laws.specs.Session.{State, Idle, At, is_lawful, state_after}
-use Rattle.session_laws.specs.Walk.{WalkEnd, violates_some}
-use Rattle.session_laws.proofs.Choices.{all_candidates}
-use Rattle.session_laws.proofs.States.{idle_is_in_step}
 
 -- a question that may be put in the plans that search
 pub record IsLawfulExample (l : Language) (live network : List Candidate) (q : Assignment) : Type 0 where

@@ -1,14 +1,6 @@
 -- Answers that have places.
-use Rattle.std.proofs.Common.{◌≡◌, ℕ, zero, suc, ◌+◌, ◌-◌, ◌<◌, ◌≤◌, List, [], ◌∷◌, ◌++◌, length, take, refl, sym, ◌∙◌, ap, subst, arith, Option, Some, None}
-use Rattle.std.proofs.lemmas.List.{length-map, take-map}
-use Rattle.assign.specs.Events.{Answer, standing, without_last, cut_to}
-use Rattle.assign.specs.declared.events.Event.{Event}
+use Rattle.acq_loop.proofs.Prelude.{◌≡◌, ℕ, zero, suc, ◌+◌, ◌-◌, ◌<◌, ◌≤◌, List, [], ◌∷◌, ◌++◌, length, take, refl, sym, ◌∙◌, ap, subst, arith, Option, Some, None, length-map, take-map, Answer, standing, without_last, cut_to, Event, Plan, standing-back, Language, variable_count, standing_on, State, Idle, At, then_on, step, read_on, state_after}
 use Rattle.assign.specs.declared.events.Event.TheVariants as event
-use Rattle.assign.specs.declared.events.Plan.{Plan}
-use Rattle.assign.proofs.EventLemmas.{standing-back}
-use Rattle.language.specs.Language.{Language, variable_count}
-use Rattle.language.specs.Answers.{standing_on}
-use Rattle.session_laws.specs.Session.{State, Idle, At, then_on, step, read_on, state_after}
 
 abbrev pub IsReached : Language → Plan → List Answer → Type 0
 IsReached l plan t = (state : State) × (state_after l plan t ≡ At state)

@@ -1,32 +1,10 @@
 -- Runs, one turn at a time.
-use Rattle.std.proofs.Common.{◌≡◌, ℕ, zero, suc, ◌+◌, ◌<◌, ◌≤◌, List, [], ◌∷◌, ◌++◌, Bool, true, false, length, ap, subst, sym, ◌∙◌, refl, Option, Some, None, arith, append_assoc, length-append, ⊎_elim}
-use Rattle.std.proofs.lemmas.Bool.{cases_lt, eq-eqb, eqb-true}
-use Rattle.std.proofs.lemmas.List.{append-nil}
-use Rattle.std.specs.Option.{option_map}
-use Rattle.assign.specs.Assignment.{Assignment}
-use Rattle.assign.specs.Events.{Answer}
-use Rattle.assign.specs.declared.events.Event.{Event}
+use Rattle.acq_loop.proofs.Prelude.{◌≡◌, ℕ, zero, suc, ◌+◌, ◌<◌, ◌≤◌, List, [], ◌∷◌, ◌++◌, Bool, true, false, length, ap, subst, sym, ◌∙◌, refl, Option, Some, None, arith, append_assoc, length-append, ⊎_elim, cases_lt, eq-eqb, eqb-true, append-nil, option_map, Assignment, Answer, Event, Plan, Scopes, Quacq, Multi, cut_to-standing-push, Candidate, Language, IsLanguage, variable_count, kept, standing_on, Ask, AllImplied, next_query, WalkEnd, answer_event, Terms, State, Idle, Halving, Choosing, Walking, Over, At, is_just, step, state_after, assignment_same, IsAskedIn, OneAnswerMore, QuestionsHavePlaces, QuestionsHaveValues, Turns, Turned, Reply, Said, TakenBack, Stopped, Ended, Overlong, Unread, Closing, Suspended, LineTooLong, Unreadable, Collapsed, Converged, JournalFull, Next, Puts, Ends, puts_or, searched, idle_next, next_at, next_in, next_after, is_full, unless_full, next_on, number_on, Ran, after_text, answer, ended, event_heard, heard_on, turned_on, put_on, ran, Runs}
 use Rattle.assign.specs.declared.events.Event.TheVariants as event
-use Rattle.assign.specs.declared.events.Plan.{Plan}
-use Rattle.assign.specs.declared.events.Plan.TheVariants.{Scopes, Quacq, Multi}
-use Rattle.assign.proofs.EventLemmas.{cut_to-standing-push}
-use Rattle.language.specs.declared.candidates.Candidate.{Candidate}
-use Rattle.language.specs.Language.{Language, IsLanguage, variable_count}
-use Rattle.language.specs.Answers.{kept, standing_on}
 use Rattle.query_gen.specs.declared.query.Query.{Query}
-use Rattle.query_gen.specs.declared.query.Query.TheVariants.{Ask, AllImplied, Undecided}
-use Rattle.query_gen.specs.Questions.{next_query}
-use Rattle.session_laws.specs.Walk.{WalkEnd}
-use Rattle.session_store.specs.Kept.{answer_event}
-use Rattle.acq_loop.specs.declared.terms.Terms.{Terms}
+use Rattle.query_gen.specs.declared.query.Query.TheVariants.{Undecided}
 use Rattle.acq_loop.proofs.Questions.{IsLawfulExample}
 use Rattle.acq_loop.proofs.Reached.{IsReached, back_reached}
-use Rattle.session_laws.specs.Session.{State, Idle, Halving, Choosing, Walking, Over, At, is_just, step, state_after}
-use Rattle.session_laws.proofs.Folds.{assignment_same}
-use Rattle.session_core.specs.Standing.{IsAskedIn}
-use Rattle.session_laws.specs.Laws.{OneAnswerMore, QuestionsHavePlaces, QuestionsHaveValues}
-use Rattle.target_oracle.specs.Turns.{Turns, Turned, Reply, Said, TakenBack, Stopped, Ended, Overlong, Unread}
-use Rattle.acq_loop.specs.Run.{Closing, Suspended, LineTooLong, Unreadable, Collapsed, Converged, JournalFull, Next, Puts, Ends, puts_or, searched, idle_next, next_at, next_in, next_after, is_full, unless_full, next_on, number_on, Ran, after_text, answer, ended, event_heard, heard_on, turned_on, put_on, ran, Runs}
 
 -- ---- a turn and what follows
 

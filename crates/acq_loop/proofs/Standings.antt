@@ -1,38 +1,12 @@
 -- Sessions that stand where answers lead, and what follows of them.
-use Rattle.std.proofs.Common.{Option, Some, None, ⊎_elim, Bool, true, false, IsTrue, ◌≡◌, ℕ, ◌+◌, ◌≤◌, ◌<◌, ◌^◌, List, ◌∷◌, [], ◌++◌, refl, length, ap, sym, ◌∙◌, subst, arith}
-use Rattle.std.proofs.lemmas.Bool.{cases_lt}
-use Rattle.assign.specs.Assignment.{Assignment}
-use Rattle.assign.specs.Events.{Answer}
-use Rattle.assign.specs.declared.events.Plan.{Plan}
-use Rattle.language.specs.declared.candidates.Candidate.{Candidate}
-use Rattle.language.specs.Language.{Language, IsLanguage, IsQuestion, variable_count}
-use Rattle.query_gen.specs.Marks.{Remembered, MarksHold}
-use Rattle.session_laws.specs.Session.{State, Reading, Stray, At, state_after}
-use Rattle.session_laws.specs.Laws.{network_in, Extends}
-use Rattle.session_laws.proofs.Folds.{one_answer_more}
+use Rattle.acq_loop.proofs.Prelude.{Some, None, ⊎_elim, Bool, true, false, IsTrue, ◌≡◌, ℕ, ◌+◌, ◌≤◌, ◌<◌, ◌^◌, List, ◌∷◌, [], ◌++◌, refl, length, ap, sym, ◌∙◌, subst, arith, cases_lt, Assignment, Answer, Plan, Candidate, Language, IsLanguage, IsQuestion, variable_count, Remembered, MarksHold, State, Reading, Stray, At, state_after, network_in, Extends, one_answer_more, answers_are_at_most, Session, Knowledge, Stands, PutAfter, knowledge_of, open_in, OnlyPuts, KeepOf, ForSome, IsDue, terms_with, Terms, Event, cut_to-standing-push, standing_on, answer_event, Next, Puts, next_in, next_after, answer, Remembers}
 use Rattle.session_laws.proofs.Places.{questions_have_places}
-use Rattle.session_laws.proofs.Counted.{answers_are_at_most}
 use Rattle.session_laws.proofs.Askable.{questions_have_values}
 use Rattle.session_laws.proofs.Growing.{network_grows}
 use Rattle.session_laws.proofs.Limits.{answers_fit}
-use Rattle.session_core.specs.declared.session.Session.{Session}
 use Rattle.session_core.specs.declared.session.Session.TheVariants as sessions
-use Rattle.session_core.specs.declared.knowledge.Knowledge.{Knowledge}
 use Rattle.session_core.specs.declared.put.Put.{Put}
 use Rattle.session_core.specs.declared.put.Put.TheVariants as puts
-use Rattle.session_core.specs.Standing.{Stands, PutAfter, knowledge_of, open_in}
-use Rattle.session_store.specs.Keeps.{OnlyPuts}
-use Rattle.session_store.specs.declared.keep.Keep.{Ghosts as KeepOf}
-use Rattle.std.specs.Option.{ForSome}
-use Rattle.acq_loop.specs.Due.{IsDue}
-use Rattle.acq_loop.specs.Points.{terms_with}
-use Rattle.acq_loop.specs.declared.terms.Terms.{Terms}
-use Rattle.assign.specs.declared.events.Event.{Event}
-use Rattle.assign.proofs.EventLemmas.{cut_to-standing-push}
-use Rattle.language.specs.Answers.{standing_on}
-use Rattle.session_store.specs.Kept.{answer_event}
-use Rattle.acq_loop.specs.Run.{Next, Puts, next_in, next_after, answer}
-use Rattle.acq_loop.specs.Driven.{Remembers}
 use Rattle.acq_loop.proofs.Questions.{asked_is_example, marks_stay, same_state}
 use Rattle.acq_loop.proofs.Reached.{IsReached}
 use Rattle.acq_loop.proofs.Running.{IsWithin, RunLaws}

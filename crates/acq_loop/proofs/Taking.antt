@@ -1,7 +1,5 @@
 -- What is left of a source.
-use Rattle.std.proofs.Common.{ℕ, List, [], Option}
-use Rattle.acq_io.specs.Streams.{TakesSome}
-use Rattle.acq_io.proofs.TakenLemmas.{takes_none, takes_some_on}
+use Rattle.acq_loop.proofs.Prelude.{ℕ, List, [], Option, TakesSome, takes_none, takes_some_on}
 
 -- nothing was taken
 pub takes_same : (left : Option (List ℕ)) → TakesSome left left

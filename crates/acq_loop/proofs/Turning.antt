@@ -1,23 +1,6 @@
 -- What the loop has done after a turn, and after many.
-use Rattle.std.proofs.Common.{◌≡◌, ℕ, List, [], ◌∷◌, ◌++◌, ap, sym, ◌∙◌, refl, Option, Some, None, subst, append_assoc}
-use Rattle.std.specs.Prelude.{IfSome}
-use Rattle.std.specs.Option.{ForSome}
-use Rattle.std.proofs.lemmas.List.{append-nil}
-use Rattle.acq_io.specs.Streams.{Adds, AddsFront}
-use Rattle.acq_io.proofs.TakenLemmas.{adds_none, adds_then}
-use Rattle.assign.specs.Assignment.{Assignment}
-use Rattle.assign.specs.declared.events.Event.{Event}
-use Rattle.language.specs.Language.{Language, IsLanguage, IsQuestion}
-use Rattle.language.specs.Answers.{standing_on}
-use Rattle.target_oracle.specs.Turns.{Turns, Reply}
-use Rattle.target_oracle.specs.Tells.{AsksFirst, Turn}
+use Rattle.acq_loop.proofs.Prelude.{◌≡◌, ℕ, List, [], ◌∷◌, ◌++◌, ap, sym, ◌∙◌, refl, Option, Some, None, subst, append_assoc, IfSome, ForSome, append-nil, Adds, AddsFront, adds_none, adds_then, Assignment, Event, Language, IsLanguage, IsQuestion, standing_on, Turns, Reply, AsksFirst, Turn, closing_of, Closing, Runs, Next, Puts, Ends, next_after, next_on, number_on, after_text, ended, event_heard, SaysNext, Terms, Point, StepsTo, RanTo, CutOff, StopsAt, next_lines, MayFollow, Loses, Drives, Drove}
 use Rattle.target_oracle.proofs.Fronts.{front_longer, front_none, front_then, front_whole}
-use Rattle.acq_loop.specs.Closings.{closing_of}
-use Rattle.acq_loop.specs.Run.{Closing, Runs, Next, Puts, Ends, next_after, next_on, number_on, after_text, ended, event_heard}
-use Rattle.acq_loop.specs.Turn.{SaysNext}
-use Rattle.acq_loop.specs.declared.terms.Terms.{Terms}
-use Rattle.acq_loop.specs.Driven.{Point, StepsTo, RanTo, CutOff, StopsAt, next_lines, MayFollow, Loses, Drives}
-use Rattle.acq_loop.specs.declared.driving.Drove.{Drove}
 use Rattle.acq_loop.proofs.Running.{text_after, runs_heard, EndsSo, runs_closed, runs_end, IsWithin, puts_next, RunLaws, turn_exists}
 
 -- ---- many turns

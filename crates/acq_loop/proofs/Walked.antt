@@ -1,12 +1,6 @@
 -- Where the walk of an example has ended, nothing is left to learn from the example.
-use Rattle.std.proofs.Common.{◌≡◌, List, Some, None}
-use Rattle.assign.specs.Events.{Answer}
-use Rattle.assign.specs.declared.events.Plan.{Plan}
-use Rattle.assign.specs.declared.events.Plan.TheVariants.{Scopes, Quacq, Multi}
-use Rattle.language.specs.Language.{Language, IsLanguage}
-use Rattle.session_laws.specs.Walk.{WalkEnd}
+use Rattle.acq_loop.proofs.Prelude.{◌≡◌, List, Some, None, Answer, Plan, Scopes, Quacq, Multi, Language, IsLanguage, WalkEnd, LeavesNothing}
 use Rattle.session_laws.proofs.Pending.{ended_is_walked}
-use Rattle.acq_loop.specs.Driven.{LeavesNothing}
 
 no_walk : (end : WalkEnd) → None ≡ Some end → ⊥
 no_walk end e = cc

@@ -1,37 +1,10 @@
 -- What `certify` says of a session.
-use Rattle.std.proofs.Common.{◌≡◌, ◌≤◌, ◌∙◌, ℕ, Bool, true, false, List, length, Option, Some, None, Result, Ok, Err, refl, sym, ap, subst, arith}
-use Rattle.std.specs.Prelude.{All, IfOk}
-use Rattle.assign.specs.Events.{Answer}
-use Rattle.assign.specs.declared.events.Event.{Event}
-use Rattle.assign.specs.declared.events.Plan.{Plan}
-use Rattle.cert_check.specs.Certificate.{Certificate}
-use Rattle.cert_check.specs.Checking.{verdict}
-use Rattle.cert_check.specs.Making.{certificate_of, made}
+use Rattle.acq_said.proofs.Prelude.{◌≡◌, ◌≤◌, ◌∙◌, ℕ, Bool, true, false, List, length, Option, Some, None, Result, Ok, Err, refl, sym, ap, subst, arith, All, IfOk, Answer, Event, Plan, Certificate, verdict, certificate_of, made, IsConfirmed, CertFault, Candidate, Language, IsLanguage, IsQuestion, IsCovered, IsNetwork, standing_on, opened_as, IsVocabulary, Stands, knowledge_of, Session, ChecksOut, IsAtEnd, MakesGood, TellsEnd, certificate_said, if_at_end, IsReading, checked_said, verdict_said, IsDone, terms_with, network_after, Next, Puts, Ends, Converged, Collapsed, Undecided, Suspended, LineTooLong, Unreadable, JournalFull, Saying, saying, learned_in, IsReached, carried, few_answers, reached, Terms}
 use Rattle.cert_check.specs.Texts.{confirmed_text}
-use Rattle.cert_check.specs.WritingLaws.{IsConfirmed}
-use Rattle.cert_check.specs.declared.fault.CertFault.{CertFault}
 use Rattle.cert_check.proofs.MadeBack.{made_is_confirmed}
 use Rattle.cert_check.proofs.OneText.{not_both, one_certificate}
-use Rattle.language.specs.declared.candidates.Candidate.{Candidate}
-use Rattle.language.specs.Language.{Language, IsLanguage, IsQuestion}
-use Rattle.language.specs.Answers.{IsCovered, IsNetwork, standing_on}
-use Rattle.session_store.specs.Opened.{opened_as}
-use Rattle.voc_read.specs.Vocabulary.{IsVocabulary}
-use Rattle.session_core.specs.Standing.{Stands, knowledge_of}
-use Rattle.session_core.specs.declared.session.Session.{Session}
-use Rattle.acq_said.specs.Certifying.{ChecksOut, IsAtEnd, MakesGood, TellsEnd, certificate_said, if_at_end}
-use Rattle.acq_said.specs.Confirming.{IsReading, checked_said, verdict_said}
-use Rattle.acq_loop.specs.Driven.{IsDone}
-use Rattle.acq_loop.specs.Points.{terms_with}
-use Rattle.acq_said.specs.Reducing.{network_after}
-use Rattle.acq_loop.specs.Run.{Next, Puts, Ends, Converged, Collapsed, Undecided, Suspended, LineTooLong, Unreadable, JournalFull}
-use Rattle.acq_said.specs.Saying.{Saying, saying}
-use Rattle.acq_loop.specs.Texts.{learned_in}
-use Rattle.acq_loop.proofs.Reached.{IsReached}
 use Rattle.acq_said.proofs.StandingQuestions.{all_questions, all_valued}
-use Rattle.acq_loop.proofs.Standings.{carried, few_answers, reached}
 use Rattle.acq_loop.specs.declared.ending.Ending.TheVariants as ending
-use Rattle.acq_loop.specs.declared.terms.Terms.{Terms}
 
 -- ---- what is certified of a session
 

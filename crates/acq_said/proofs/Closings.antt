@@ -1,11 +1,6 @@
 -- The endings of the loop and those of the program.
-use Rattle.std.proofs.Common.{◌≡◌, ◌∙◌, sym, ap, Option, None, Some, Result, Ok, Err}
-use Rattle.acq_io.specs.declared.streams.Put.{Put}
-use Rattle.acq_io.specs.declared.streams.Put.TheVariants.{Failed, Memory}
-use Rattle.acq_loop.specs.Closings.{ending_of}
-use Rattle.acq_loop.specs.declared.driving.Drove.{Drove}
+use Rattle.acq_said.proofs.Prelude.{◌≡◌, ◌∙◌, sym, ap, Option, None, Some, Result, Ok, Err, Put, Failed, Memory, ending_of, Drove, Ending}
 use Rattle.acq_loop.specs.declared.driving.Drove.TheVariants as drove
-use Rattle.acq_loop.specs.declared.ending.Ending.{Ending}
 use Rattle.acq_loop.specs.declared.ending.Ending.TheVariants as ending
 
 abbrev pub okay : Ending → Result Ending Put

@@ -1,20 +1,12 @@
 -- Exactly when a command over a journal is done or refused, of what it has done.
-use Rattle.std.proofs.Common.{◌≡◌, ◌⊎◌, ℕ, List, true, Option, None, Result, Ok, Err, refl, sym, ◌∙◌, ap, subst, inl, inr, ⊎_elim}
-use Rattle.disk_model.specs.declared.disk.Disk.{Ghosts as DiskOf}
-use Rattle.acq_io.specs.declared.streams.Put.{Put}
+use Rattle.acq_said.proofs.Prelude.{◌≡◌, ◌⊎◌, ℕ, List, true, Option, None, Result, Ok, Err, refl, sym, ◌∙◌, ap, subst, inl, inr, ⊎_elim, DiskOf, Put, Opened, Holds, RefusesBytes, is_of_bytes, opened_as, SFault, OpensExactly, HoldsSession, RunEnds, untold, RunsOn, ended_as, Ending}
 use Rattle.acq_io.specs.declared.streams.Put.TheVariants as put
 use Rattle.answer_journal.specs.declared.fault.JFault.TheVariants as journal
-use Rattle.session_store.specs.Opened.{Opened, Holds, RefusesOpening as RefusesBytes, is_of_bytes, opened_as}
 use Rattle.session_store.proofs.Openings.{ReadOnce, holds_none as bytes_hold_none, only_reason as bytes_only_reason, same_session}
-use Rattle.session_store.specs.declared.fault.SFault.{SFault}
 use Rattle.session_store.specs.declared.fault.SFault.TheVariants as store
-use Rattle.acq_said.specs.Exactly.{RefusesOpening, OpensExactly, HoldsSession, RunEnds}
-use Rattle.acq_said.specs.Journals.{untold}
-use Rattle.acq_said.specs.Running.{RunsOn}
-use Rattle.acq_loop.specs.Program.{ended_as}
+use Rattle.acq_said.specs.Exactly.{RefusesOpening}
 use Rattle.acq_said.proofs.Closings.{okay, not_loops}
 use Rattle.acq_said.proofs.Spoken.{closed_end}
-use Rattle.acq_loop.specs.declared.ending.Ending.{Ending}
 use Rattle.acq_loop.specs.declared.ending.Ending.TheVariants as ending
 
 -- ---- endings

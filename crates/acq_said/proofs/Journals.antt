@@ -1,44 +1,11 @@
 -- What a run over a journal has done, of its opening and its loop.
-use Rattle.std.proofs.Common.{◌≡◌, ◌⊎◌, ℕ, List, [], ◌∷◌, ◌++◌, Option, Some, Result, Ok, Err, refl, sym, ◌∙◌, ap, subst, inl, inr, ⊎_elim, length, arith, length-append}
-use Rattle.std.specs.Prelude.{◌≢◌, IfOk, OnErr, IsSome}
-use Rattle.std.specs.Option.{ForSome}
-use Rattle.std.proofs.lemmas.List.{append-nil}
-use Rattle.disk_model.specs.declared.disk.Disk.{Ghosts as DiskOf}
-use Rattle.acq_io.specs.Streams.{AddsFront}
-use Rattle.acq_io.specs.declared.streams.Put.{Put}
+use Rattle.acq_said.proofs.Prelude.{◌≡◌, ◌⊎◌, ℕ, List, [], ◌∷◌, ◌++◌, Option, Some, Result, Ok, Err, refl, sym, ◌∙◌, ap, subst, inl, inr, ⊎_elim, length, arith, length-append, IfOk, OnErr, IsSome, ForSome, append-nil, DiskOf, Put, AreReadingCalls, Assignment, Event, Plan, LeavesOnly, joined, Language, IsLanguage, OpensWith, OpensWithin, SaysSession, LeavesNow, bytes_told, few_of, AreEventCalls, IsGrown, Persists, FailsWith, HavePlaces, plan_of, voc_of, events_of, IsThere, opens_there, Store, SFault, IsVocabulary, BreaksRun, Turns, Told, IsAdded, run_laws, Loses, point_of, terms_with, Tries, GoesOn, Ending, untold, Unsaid}
 use Rattle.acq_io.specs.declared.streams.Put.TheVariants as put
-use Rattle.answer_journal.specs.Calls.{AreReadingCalls}
 use Rattle.answer_journal.specs.declared.fault.JFault.TheVariants as journal
-use Rattle.assign.specs.Assignment.{Assignment}
-use Rattle.assign.specs.declared.events.Event.{Event}
-use Rattle.assign.specs.declared.events.Plan.{Plan}
-use Rattle.disk_model.specs.Moments.{LeavesOnly, joined}
-use Rattle.language.specs.Language.{Language, IsLanguage}
-use Rattle.session_store.specs.Left.{OpensWith, OpensWithin, SaysSession, LeavesNow, bytes_told}
-use Rattle.session_store.proofs.Keepers.{few_of}
-use Rattle.session_store.specs.Keeping.{AreEventCalls, IsGrown, Persists, FailsWith}
-use Rattle.session_store.specs.Replay.{HavePlaces}
-use Rattle.session_store.specs.Store.{plan_of, voc_of, events_of, IsThere, opens_there}
-use Rattle.session_store.specs.declared.store.Store.{Store}
-use Rattle.session_store.specs.declared.fault.SFault.{SFault}
 use Rattle.session_store.specs.declared.fault.SFault.TheVariants as store
-use Rattle.voc_read.specs.Vocabulary.{IsVocabulary}
-use Rattle.acq_said.specs.Breaks.{BreaksRun}
-use Rattle.target_oracle.specs.Turns.{Turns}
-use Rattle.target_oracle.specs.declared.teacher.Told.{Told}
-use Rattle.acq_loop.specs.Added.{IsAdded}
 use Rattle.acq_loop.proofs.Added.{placed_event}
-use Rattle.acq_loop.proofs.Standings.{run_laws}
-use Rattle.acq_loop.specs.Driven.{Loses}
-use Rattle.acq_loop.specs.Points.{point_of, terms_with}
-use Rattle.acq_said.specs.Endings.{Tries}
-use Rattle.acq_said.specs.Running.{GoesOn}
-use Rattle.acq_said.specs.Said.{EndsWith}
 use Rattle.acq_said.proofs.Closings.{okay, same_ok, err_ok}
-use Rattle.acq_loop.specs.declared.ending.Ending.{Ending}
 use Rattle.acq_loop.specs.declared.ending.Ending.TheVariants as ending
-use Rattle.acq_said.specs.Journals.{untold}
-use Rattle.acq_said.specs.declared.said.Unsaid.{Unsaid}
 use Rattle.acq_said.specs.declared.said.Unsaid.TheVariants as unsaid
 
 abbrev pub IsDisk : Result Ending Put → Type 0

@@ -1,3 +1,4 @@
+mod Prelude
 pub mod OpenLines
 pub mod Sayings
 pub mod Closings

@@ -1,16 +1,9 @@
 -- The lines of open candidates, one more at a time.
-use Rattle.std.proofs.Common.{◌≡◌, ℕ, ◌+◌, Bool, true, false, cond, List, [], ◌∷◌, ◌++◌, map, refl, sym, ◌∙◌, ap, arith}
-use Rattle.std.specs.Prelude.{if◌then◌else◌}
-use Rattle.std.specs.List.{filter, flat_map}
-use Rattle.std.proofs.lemmas.List.{append-nil}
+use Rattle.acq_said.proofs.Prelude.{◌≡◌, ℕ, ◌+◌, Bool, true, false, cond, List, [], ◌∷◌, ◌++◌, map, refl, sym, ◌∙◌, ap, arith, if◌then◌else◌, flat_map, append-nil, filter-append, Candidate, Language, candidates_on, Remembered, is_open, open_line}
+use Rattle.std.specs.List.{filter}
 use Rattle.std.proofs.lemmas.List.Concat.{flat_map-append}
-use Rattle.std.proofs.lemmas.List.Elements.{filter-append}
 use Rattle.std.proofs.lemmas.List.FromFn.{map-range_with_len_more}
 use Rattle.assign.specs.Sets.{numbers}
-use Rattle.language.specs.declared.candidates.Candidate.{Candidate}
-use Rattle.language.specs.Language.{Language, candidates_on}
-use Rattle.query_gen.specs.Marks.{Remembered, is_open}
-use Rattle.acq_loop.specs.Texts.{open_line}
 
 abbrev pub at : ℕ → ℕ → Candidate
 at s r = record { scope = s; rel = r }

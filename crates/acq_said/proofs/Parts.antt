@@ -1,42 +1,13 @@
 -- What was written where it could not be written whole.
-use Rattle.std.proofs.Common.{◌≡◌, ◌⊎◌, ℕ, List, [], ap, sym, subst, refl, ◌∙◌, Option, Some, None, Result, Ok, Err, inl, inr, arith}
-use Rattle.std.specs.Prelude.{IfOk, OnErr}
-use Rattle.std.specs.Option.{option_map}
+use Rattle.acq_said.proofs.Prelude.{◌≡◌, ◌⊎◌, ℕ, List, [], ap, sym, subst, refl, ◌∙◌, Option, Some, None, Result, Ok, Err, inl, inr, arith, IfOk, OnErr, option_map, EndsWith, Gathered, gathered, Gives, TakesOfLine, first_line_of, Put, Failed, Memory, AllFault, Event, Plan, Language, IsLanguage, standing_on, Idle, read_on, line_turn, Turns, IsVocabulary, Ran, Runs, next_on, ended_as, BreaksRun, ClosesInPart, CutOff, next_lines, point_of, Tries, closing_text, refusal_text, whole_text, Terms, IsWithin, run_exists, run_laws, closing_of, ending_of, Drove, Ending}
 use Rattle.acq_io.specs.Streams.{Adds, AddsFront, TakesSome}
 use Rattle.acq_io.proofs.TakenLemmas.{adds_none}
-use Rattle.acq_said.specs.Said.{EndsWith}
-use Rattle.acq_io.specs.Whole.{Gathered, gathered, Gives, TakesOfLine, first_line_of}
-use Rattle.acq_io.specs.declared.streams.Put.{Put}
-use Rattle.acq_io.specs.declared.streams.Put.TheVariants.{Failed, Memory}
-use Rattle.acq_io.specs.declared.whole.AllFault.{AllFault}
-use Rattle.assign.specs.declared.events.Event.{Event}
-use Rattle.assign.specs.declared.events.Plan.{Plan}
-use Rattle.language.specs.Language.{Language, IsLanguage}
-use Rattle.language.specs.Answers.{standing_on}
-use Rattle.session_laws.specs.Session.{Idle, read_on}
-use Rattle.target_oracle.specs.Lines.{line_turn}
-use Rattle.target_oracle.specs.Turns.{Turns}
 use Rattle.target_oracle.proofs.Fronts.{front_longer, front_none, front_then}
-use Rattle.voc_read.specs.Vocabulary.{IsVocabulary}
 use Rattle.voc_read.specs.declared.fault.VocFault.{VocFault}
-use Rattle.acq_loop.specs.Run.{Ran, Runs, next_on}
-use Rattle.acq_loop.specs.Program.{ended_as}
-use Rattle.acq_said.specs.Trying.{Breaks, BreaksOff, IsRefusal, IsTextOfRefusal, IsTextOfRun}
-use Rattle.acq_said.specs.Breaks.{BreaksRun, ClosesInPart}
-use Rattle.acq_loop.specs.Driven.{CutOff, next_lines}
-use Rattle.acq_loop.specs.Points.{point_of}
-use Rattle.acq_said.specs.Trying.{Acquires, ReadsVocabulary}
-use Rattle.acq_said.specs.Endings.{Tries}
-use Rattle.acq_loop.specs.Texts.{closing_text, refusal_text, whole_text}
-use Rattle.acq_loop.specs.declared.terms.Terms.{Terms}
+use Rattle.acq_said.specs.Trying.{Breaks, BreaksOff, IsRefusal, IsTextOfRefusal, IsTextOfRun, Acquires, ReadsVocabulary}
 use Rattle.acq_said.proofs.Closings.{okay, not_loops, read_by}
-use Rattle.acq_loop.proofs.Running.{IsWithin, run_exists}
-use Rattle.acq_loop.proofs.Standings.{run_laws}
 use Rattle.acq_loop.proofs.Taking.{takes_same}
 use Rattle.acq_said.proofs.Tries.{cut_off}
-use Rattle.acq_loop.specs.Closings.{closing_of, ending_of}
-use Rattle.acq_loop.specs.declared.driving.Drove.{Drove}
-use Rattle.acq_loop.specs.declared.ending.Ending.{Ending}
 use Rattle.acq_loop.specs.declared.ending.Ending.TheVariants as ending
 
 -- ---- one text

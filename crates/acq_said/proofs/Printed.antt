@@ -1,15 +1,7 @@
 -- What `cnf` says of a session's network.
-use Rattle.std.proofs.Common.{◌≡◌, ◌∙◌, ℕ, List, Result, Err, sym, ap, subst}
-use Rattle.std.specs.Prelude.{◌≢◌}
-use Rattle.language.specs.declared.candidates.Candidate.{Candidate}
-use Rattle.language.specs.Language.{Language, IsLanguage}
-use Rattle.language.specs.Answers.{IsNetwork}
+use Rattle.acq_said.proofs.Prelude.{◌≡◌, ◌∙◌, ℕ, List, Result, Err, sym, ap, subst, ◌≢◌, Candidate, Language, IsLanguage, IsNetwork, cnf_of, CnfFault, clauses_said, too_large_text, saying}
 use Rattle.net_cnf.specs.Laws.{ClausesEncode, IsEncoded}
-use Rattle.net_cnf.specs.Texts.{cnf_of}
-use Rattle.net_cnf.specs.declared.fault.CnfFault.{CnfFault}
 use Rattle.net_cnf.specs.declared.fault.CnfFault.TheVariants as cnf
-use Rattle.acq_said.specs.Printing.{clauses_said, too_large_text}
-use Rattle.acq_said.specs.Saying.{saying}
 use Rattle.acq_loop.specs.declared.ending.Ending.TheVariants as ending
 
 -- it is said of a session's language and network, which are these

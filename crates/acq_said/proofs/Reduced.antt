@@ -1,30 +1,14 @@
 -- What `reduce` says of a session's network.
-use Rattle.std.proofs.Common.{◌≡◌, ◌⊎◌, ◌∙◌, ℕ, zero, suc, ◌<◌, ◌≤◌, List, [], length, Some, None, Result, refl, sym, ap, subst, inl, inr, arith}
-use Rattle.std.specs.Prelude.{IfOk, IsErr}
-use Rattle.std.proofs.lemmas.Bool.{cases_lt}
+use Rattle.acq_said.proofs.Prelude.{◌≡◌, ◌⊎◌, ◌∙◌, ℕ, zero, suc, ◌<◌, ◌≤◌, List, [], length, Some, None, Result, refl, sym, ap, subst, inl, inr, arith, IfOk, IsErr, cases_lt, Event, Plan, Candidate, Language, standing_on, ReduceFault, Stands, knowledge_of, Session, state_after, Opened, IsReduced, IsSpent, ReducesTruly, first_spent, network_after, network_of, network_said, sifted_said, spent_first, unreduced_said, Saying, saying, learned_in, stands_at}
 use Rattle.std.proofs.lemmas.Result.{IfOk-from_err}
-use Rattle.assign.specs.declared.events.Event.{Event}
-use Rattle.assign.specs.declared.events.Plan.{Plan}
 use Rattle.fd_solver.specs.declared.outcome.Outcome.{Outcome}
 use Rattle.fd_solver.specs.declared.outcome.Outcome.TheVariants.{Found, Absent, Spent}
-use Rattle.language.specs.declared.candidates.Candidate.{Candidate}
-use Rattle.language.specs.Language.{Language}
-use Rattle.language.specs.Answers.{standing_on}
 use Rattle.net_reduce.specs.Reduction.{IsReduction, Sifts}
 use Rattle.net_reduce.specs.Searched.{AreDecided, HasCause, IsSearched, IsSpentAt, outcome_at}
 use Rattle.net_reduce.specs.Texts.{reduced_text, spent_text}
-use Rattle.net_reduce.specs.declared.fault.ReduceFault.{ReduceFault}
 use Rattle.net_reduce.specs.declared.fault.ReduceFault.TheVariants as unreduced
 use Rattle.net_reduce.proofs.Sifting.{reduced_is_target}
-use Rattle.session_core.specs.Standing.{Stands, knowledge_of}
-use Rattle.session_core.specs.declared.session.Session.{Session}
-use Rattle.session_laws.specs.Session.{state_after}
-use Rattle.session_store.specs.Opened.{Opened}
-use Rattle.acq_said.specs.Reducing.{IsReduced, IsSpent, ReducesTruly, first_spent, network_after, network_of, network_said, sifted_said, spent_first, unreduced_said}
-use Rattle.acq_said.specs.Saying.{Saying, saying}
-use Rattle.acq_loop.specs.Texts.{learned_in}
 use Rattle.acq_said.proofs.Spoken.{ok_any}
-use Rattle.acq_loop.proofs.Standings.{stands_at}
 use Rattle.acq_loop.specs.declared.ending.Ending.TheVariants as ending
 
 -- ---- the network of a session

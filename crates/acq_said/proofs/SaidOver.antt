@@ -1,48 +1,13 @@
 -- What a command that only says something has done, and by which endings.
-use Rattle.std.proofs.Common.{◌≡◌, ◌∙◌, ◌⊎◌, ℕ, Bool, true, false, List, length, Option, Some, None, Result, Ok, Err, refl, sym, ap, inl, inr, ⊎_elim}
-use Rattle.disk_model.specs.declared.disk.Disk.{Ghosts as DiskOf}
-use Rattle.acq_io.specs.Whole.{all_of}
-use Rattle.acq_io.specs.declared.streams.Put.{Put}
+use Rattle.acq_said.proofs.Prelude.{◌≡◌, ◌∙◌, ◌⊎◌, ℕ, Bool, true, false, List, length, Option, Some, None, Result, Ok, Err, refl, sym, ap, inl, inr, ⊎_elim, DiskOf, all_of, Put, AllFault, Assignment, Certificate, verdict, made, CertFault, Candidate, Language, standing_on, model_of, cnf_of, CnfFault, Opened, OpensOnce, RefusesOpening, SFault, asked_said, certificate_said, if_at_end, unconverged_said, IsCheckOf, checked_said, verdict_said, IsBrokenOff, SaysOfRead, Refuses, EndsAsOpened, OpensAs, SaidEnds, SaysOpening, SaysOver, terms_with, clauses_said, ended_as, first_spent, network_of, sifted_said, Next, Puts, Ends, Converged, Collapsed, Undecided, Suspended, LineTooLong, Unreadable, JournalFull, next_after, HasWritten, IsSaid, SaidSo, SaysSo, Saying, SolveEnds, Solves, solution_said, solved_said, Ask, Ending, Unsaid}
 use Rattle.acq_io.specs.declared.streams.Put.TheVariants as put
-use Rattle.acq_io.specs.declared.whole.AllFault.{AllFault}
 use Rattle.acq_io.specs.declared.whole.AllFault.TheVariants as all
-use Rattle.assign.specs.Assignment.{Assignment}
-use Rattle.cert_check.specs.Certificate.{Certificate}
-use Rattle.cert_check.specs.Checking.{verdict}
-use Rattle.cert_check.specs.Making.{made}
-use Rattle.cert_check.specs.declared.fault.CertFault.{CertFault}
 use Rattle.cert_check.specs.declared.fault.MakeFault.{MakeFault}
 use Rattle.cert_check.specs.declared.verdict.Verdict.{Verdict}
 use Rattle.cert_check.specs.declared.verdict.Verdict.TheVariants.{Yes, No}
-use Rattle.language.specs.declared.candidates.Candidate.{Candidate}
-use Rattle.language.specs.Language.{Language}
-use Rattle.language.specs.Answers.{standing_on}
-use Rattle.net_cnf.specs.Models.{model_of}
-use Rattle.net_cnf.specs.Texts.{cnf_of}
-use Rattle.net_cnf.specs.declared.fault.CnfFault.{CnfFault}
 use Rattle.net_cnf.specs.declared.model_fault.ModelFault.{ModelFault}
-use Rattle.session_store.specs.Opened.{Opened, OpensOnce, RefusesOpening}
-use Rattle.session_store.specs.declared.fault.SFault.{SFault}
-use Rattle.acq_said.specs.Asks.{asked_said}
-use Rattle.acq_said.specs.Certifying.{certificate_said, if_at_end, unconverged_said}
-use Rattle.acq_said.specs.Confirming.{IsCheckOf, checked_said, verdict_said}
-use Rattle.acq_said.specs.Exactly.{IsBrokenOff}
-use Rattle.acq_said.specs.Inputs.{SaysOfRead}
-use Rattle.acq_said.specs.Journals.{Refuses}
-use Rattle.acq_said.specs.Over.{EndsAsOpened, OpensAs, SaidEnds, SaysOpening, SaysOver}
-use Rattle.acq_loop.specs.Points.{terms_with}
-use Rattle.acq_said.specs.Printing.{clauses_said}
-use Rattle.acq_loop.specs.Program.{ended_as}
-use Rattle.acq_said.specs.Reducing.{first_spent, network_of, sifted_said}
-use Rattle.acq_loop.specs.Run.{Next, Puts, Ends, Converged, Collapsed, Undecided, Suspended, LineTooLong, Unreadable, JournalFull, next_after}
-use Rattle.acq_said.specs.Said.{HasWritten, IsSaid, SaidSo, SaysSo}
-use Rattle.acq_said.specs.Saying.{Saying}
-use Rattle.acq_said.specs.Solving.{SolveEnds, Solves, solution_said, solved_said}
-use Rattle.acq_said.specs.declared.ask.Ask.{Ask}
 use Rattle.acq_said.specs.declared.ask.Ask.TheVariants as ask
-use Rattle.acq_loop.specs.declared.ending.Ending.{Ending}
 use Rattle.acq_loop.specs.declared.ending.Ending.TheVariants as ending
-use Rattle.acq_said.specs.declared.said.Unsaid.{Unsaid}
 use Rattle.acq_said.specs.declared.said.Unsaid.TheVariants as unsaid
 use Rattle.acq_said.proofs.Closings.{okay}
 use Rattle.acq_said.proofs.Exactly.{told_of_bytes}

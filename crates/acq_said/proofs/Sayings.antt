@@ -1,30 +1,8 @@
 -- What is said of a session at its end.
-use Rattle.std.proofs.Common.{◌≡◌, ◌∙◌, ℕ, List, Option, Some, None, Result, Ok, Err, sym, ap, subst, refl}
-use Rattle.std.specs.Prelude.{filter, IfOk, OnErr, IsErr}
-use Rattle.acq_io.specs.declared.streams.Put.{Put}
-use Rattle.assign.specs.Events.{Answer}
-use Rattle.language.specs.declared.candidates.Candidate.{Candidate}
-use Rattle.language.specs.Language.{Language, candidates}
-use Rattle.query_gen.specs.Marks.{Remembered, is_open}
+use Rattle.acq_said.proofs.Prelude.{◌≡◌, ◌∙◌, ℕ, List, Option, Some, None, Result, Ok, Err, sym, ap, subst, refl, filter, IfOk, OnErr, IsErr, Put, Answer, Candidate, Language, candidates, Remembered, is_open, Idle, At, state_after, Session, Stands, knowledge_of, closing_of, ending_of, HasEnded, TellsOpen, AddsLast, AddsLastFront, Says, SaysEnd, SaysEndBy, SaysPart, terms_with, Closing, Converged, Undecided, EndsWith, HasWritten, silent_end, Saying, saying, closing_text, converged_text, undecided_text, open_candidates, learned_in, learned_after, Drove, Ending, Unsaid, Terms, learned_is}
 use Rattle.session_laws.specs.Walk.{WalkEnd}
-use Rattle.session_laws.specs.Session.{Idle, At, state_after}
-use Rattle.session_core.specs.declared.session.Session.{Session}
-use Rattle.session_core.specs.Standing.{Stands, knowledge_of}
-use Rattle.acq_loop.specs.Closings.{closing_of, ending_of}
-use Rattle.acq_loop.specs.Driven.{HasEnded, TellsOpen}
-use Rattle.acq_said.specs.Endings.{AddsLast, AddsLastFront, Says, SaysEnd, SaysEndBy, SaysPart}
-use Rattle.acq_loop.specs.Points.{terms_with}
-use Rattle.acq_loop.specs.Run.{Closing, Converged, Undecided}
-use Rattle.acq_said.specs.Said.{EndsWith, HasWritten, silent_end}
-use Rattle.acq_said.specs.Saying.{Saying, saying}
-use Rattle.acq_loop.specs.Texts.{closing_text, converged_text, undecided_text, open_candidates, learned_in, learned_after}
-use Rattle.acq_loop.specs.declared.driving.Drove.{Drove}
 use Rattle.acq_loop.specs.declared.driving.Drove.TheVariants as drove
-use Rattle.acq_loop.specs.declared.ending.Ending.{Ending}
-use Rattle.acq_said.specs.declared.said.Unsaid.{Unsaid}
-use Rattle.acq_loop.specs.declared.terms.Terms.{Terms}
 use Rattle.acq_said.proofs.Closings.{okay}
-use Rattle.acq_loop.proofs.Nexts.{learned_is}
 use Rattle.acq_loop.proofs.OpenCandidates.{opens_are}
 use Rattle.acq_said.proofs.Parts.{ends_part}
 use Rattle.acq_said.proofs.Spoken.{ends_as}

@@ -1,23 +1,7 @@
 -- The lines of answers, one more at a time.
-use Rattle.std.proofs.Common.{◌≡◌, ◌∙◌, ℕ, suc, ◌+◌, ◌-◌, ◌<◌, ◌≤◌, Bool, false, List, [], ◌∷◌, ◌++◌, length, take, get_or, refl, sym, ap, subst, arith, append_assoc, length-append, length-take-le}
-use Rattle.std.specs.Prelude.{codes}
-use Rattle.std.proofs.lemmas.List.{append-nil, length-map}
-use Rattle.assign.specs.Assignment.{Assignment}
-use Rattle.assign.specs.Events.{Answer}
-use Rattle.assign.specs.declared.events.Event.{Event}
+use Rattle.acq_said.proofs.Prelude.{◌≡◌, ◌∙◌, ℕ, suc, ◌+◌, ◌-◌, ◌<◌, ◌≤◌, Bool, false, List, [], ◌∷◌, ◌++◌, length, take, get_or, refl, sym, ap, subst, arith, append_assoc, length-append, length-take-le, codes, append-nil, length-map, Assignment, Answer, Event, Plan, Language, variable_count, standing_on, IsAskedIn, Stands, knowledge_of, Session, learned_in, stands_at, State, Idle, Halving, Choosing, Walking, Over, At, state_after, IsAnswer, Recorded, all_seen, answer_to, recorded_from, seen, seen_next, IsBusy, answer_line, answer_lines, state_text, show_text, take_backs}
 use Rattle.assign.specs.declared.events.Event.TheVariants as event
-use Rattle.assign.specs.declared.events.Plan.{Plan}
-use Rattle.language.specs.Language.{Language, variable_count}
-use Rattle.language.specs.Answers.{standing_on}
-use Rattle.session_core.specs.Standing.{IsAskedIn, Stands, knowledge_of}
-use Rattle.session_core.specs.declared.session.Session.{Session}
-use Rattle.acq_loop.specs.Texts.{learned_in}
 use Rattle.acq_said.specs.Showing.{shown_text}
-use Rattle.acq_loop.proofs.Standings.{stands_at}
-use Rattle.session_laws.specs.Session.{State, Idle, Halving, Choosing, Walking, Over, At, state_after}
-use Rattle.session_store.specs.Replay.{IsAnswer, Recorded, all_seen, answer_to, recorded_from, seen}
-use Rattle.session_store.proofs.Replaying.{seen_next, IsBusy}
-use Rattle.acq_said.specs.Shows.{answer_line, answer_lines, state_text, show_text, take_backs}
 
 lines_more : (l : Language) (k : ℕ) (t : List Answer) (a : Answer) → answer_lines l k (t ++ a ∷ []) ≡ answer_lines l k t ++ answer_line l (k + length t) a
 lines_more l k [] a = append-nil (answer_line l k a) ∙ ap (λ n. answer_line l n a) (let e : k ≡ k + 0 = omega arith in e)

@@ -1,22 +1,8 @@
 -- How a command ends by what it says.
-use Rattle.std.proofs.Common.{◌≡◌, ◌∙◌, ◌⊎◌, ◌+◌, ◌<◌, ℕ, Bool, true, false, cond, List, [], length, drop, Option, Some, None, Result, Ok, Err, refl, sym, ap, subst, inl, inr, ⊎_elim}
-use Rattle.std.specs.Prelude.{IfOk, nat_le}
-use Rattle.std.specs.Option.{option_map}
-use Rattle.std.proofs.lemmas.Bool.{leb-false}
-use Rattle.acq_io.specs.Whole.{Gathered, gathered, Gives, all_of}
-use Rattle.acq_io.specs.declared.streams.Put.{Put}
+use Rattle.acq_said.proofs.Prelude.{◌≡◌, ◌∙◌, ◌⊎◌, ◌+◌, ◌<◌, ℕ, Bool, true, false, cond, List, [], length, drop, Option, Some, None, Result, Ok, Err, refl, sym, ap, subst, inl, inr, IfOk, nat_le, option_map, leb-false, Gathered, gathered, Gives, all_of, Put, AllFault, SFault, IsBrokenOff, SaysOfInput, RefusesBy, Refuses, refused_said, untold, EndsWith, HasWritten, IsSaid, SaidSo, SaysSo, or_silent, silent_end, Saying, Ending, Unsaid}
 use Rattle.acq_io.specs.declared.streams.Put.TheVariants as put
-use Rattle.acq_io.specs.declared.whole.AllFault.{AllFault}
 use Rattle.acq_io.specs.declared.whole.AllFault.TheVariants as all
-use Rattle.session_store.specs.declared.fault.SFault.{SFault}
-use Rattle.acq_said.specs.Exactly.{IsBrokenOff}
-use Rattle.acq_said.specs.Inputs.{SaysOfInput}
-use Rattle.acq_said.specs.Journals.{RefusesBy, Refuses, refused_said, untold}
-use Rattle.acq_said.specs.Said.{EndsWith, HasWritten, IsSaid, SaidSo, SaysSo, or_silent, silent_end}
-use Rattle.acq_said.specs.Saying.{Saying}
-use Rattle.acq_loop.specs.declared.ending.Ending.{Ending}
 use Rattle.acq_loop.specs.declared.ending.Ending.TheVariants as ending
-use Rattle.acq_said.specs.declared.said.Unsaid.{Unsaid}
 use Rattle.acq_said.specs.declared.said.Unsaid.TheVariants as unsaid
 use Rattle.acq_said.proofs.Closings.{err_ok, okay, same_ok}
 

@@ -1,19 +1,7 @@
 -- The answers that have places are answers to questions of the language.
-use Rattle.std.proofs.Common.{◌≡◌, ◌+◌, true, List, [], ◌∷◌, ◌++◌, length, refl, ap, Option, Some, None, is_some}
-use Rattle.std.specs.Prelude.{All}
-use Rattle.std.specs.List.{list_any}
-use Rattle.std.proofs.lemmas.List.Elements.{All-cons, All-nil, All-weaker}
-use Rattle.assign.specs.Assignment.{Assignment}
-use Rattle.assign.specs.Events.{Answer}
-use Rattle.assign.specs.declared.events.Plan.{Plan}
-use Rattle.cert_check.specs.WritingLaws.{HaveValues}
-use Rattle.language.specs.Language.{Language, IsLanguage, IsQuestion}
-use Rattle.session_laws.specs.Laws.{IsAskable}
-use Rattle.session_laws.specs.Session.{State, Idle, Halving, Choosing, Walking, Over, At, is_just, open_question, read_on, state_after, step, then_on}
+use Rattle.acq_said.proofs.Prelude.{◌≡◌, ◌+◌, true, List, [], ◌∷◌, ◌++◌, length, refl, ap, Option, Some, None, is_some, All, list_any, All-cons, All-nil, All-weaker, Assignment, Answer, Plan, HaveValues, Language, IsLanguage, IsQuestion, IsAskable, State, Idle, Halving, Choosing, Walking, Over, At, is_just, open_question, read_on, state_after, step, then_on, some_of, IsReached}
 use Rattle.session_laws.proofs.Askable.{questions_have_values}
 use Rattle.session_laws.proofs.Folds.{one_answer_more, passed, same_assignment}
-use Rattle.acq_loop.proofs.Nexts.{some_of}
-use Rattle.acq_loop.proofs.Reached.{IsReached}
 
 just_is : (o : Option Assignment) (q : Assignment) → is_just o q ≡ true → o ≡ Some q
 just_is None q h = absurd (let no : ⊥ = cc in no)

@@ -1,31 +1,8 @@
 -- What `back` says of a session, and leaves of it.
-use Rattle.std.proofs.Common.{◌≡◌, ◌⊎◌, ◌∙◌, ℕ, zero, suc, ◌≤◌, Bool, true, false, List, [], ◌∷◌, ◌++◌, Option, Some, Result, Ok, Err, refl, sym, ap, subst, inl, inr, ⊎_elim, length, arith, length-append}
-use Rattle.std.specs.Prelude.{IsSome}
-use Rattle.std.specs.Option.{ForSome}
-use Rattle.disk_model.specs.declared.disk.Disk.{Ghosts as DiskOf}
-use Rattle.answer_journal.specs.Calls.{AreReadingCalls}
-use Rattle.acq_io.specs.declared.streams.Put.{Put}
+use Rattle.acq_said.proofs.Prelude.{◌≡◌, ◌⊎◌, ◌∙◌, ℕ, zero, suc, ◌≤◌, Bool, true, false, List, [], ◌∷◌, ◌++◌, Option, Some, Result, Ok, Err, refl, sym, ap, subst, inl, inr, ⊎_elim, length, arith, length-append, IsSome, ForSome, DiskOf, AreReadingCalls, Put, Assignment, Event, Plan, LeavesOnly, joined, weaker, AreEventCalls, IsGrown, Persists, FailsWith, both_as, few_of, within_more, OpensWithin, OpensWithOrWithout, bytes_told, Opened, OpensOnce, SFault, IsBrokenOff, EndsAsOpened, SaidEnds, SaysOpening, ended_as, HasWritten, SaysSo, Saying, saying, EndsBack, LeavesBack, TakesBack, TakesNone, back_on, back_said, nothing_text, taken_text, takes_on, full_text, Ending, Unsaid}
 use Rattle.acq_io.specs.declared.streams.Put.TheVariants as put
-use Rattle.assign.specs.Assignment.{Assignment}
-use Rattle.assign.specs.declared.events.Event.{Event}
 use Rattle.assign.specs.declared.events.Event.TheVariants as event
-use Rattle.assign.specs.declared.events.Plan.{Plan}
-use Rattle.disk_model.specs.Moments.{LeavesOnly, joined, weaker}
-use Rattle.session_store.specs.Keeping.{AreEventCalls, IsGrown, Persists, FailsWith}
-use Rattle.session_store.proofs.Keepers.{both_as, few_of, within_more}
-use Rattle.session_store.specs.Left.{OpensWithin, OpensWithOrWithout, bytes_told}
-use Rattle.session_store.specs.Opened.{Opened, OpensOnce}
-use Rattle.session_store.specs.declared.fault.SFault.{SFault}
-use Rattle.acq_said.specs.Exactly.{IsBrokenOff}
-use Rattle.acq_said.specs.Over.{EndsAsOpened, SaidEnds, SaysOpening}
-use Rattle.acq_loop.specs.Program.{ended_as}
-use Rattle.acq_said.specs.Said.{HasWritten, SaysSo}
-use Rattle.acq_said.specs.Saying.{Saying, saying}
-use Rattle.acq_said.specs.TakingBack.{EndsBack, LeavesBack, TakesBack, TakesNone, back_on, back_said, nothing_text, taken_text, takes_on}
-use Rattle.acq_loop.specs.Texts.{full_text}
-use Rattle.acq_loop.specs.declared.ending.Ending.{Ending}
 use Rattle.acq_loop.specs.declared.ending.Ending.TheVariants as ending
-use Rattle.acq_said.specs.declared.said.Unsaid.{Unsaid}
 use Rattle.acq_said.specs.declared.said.Unsaid.TheVariants as unsaid
 use Rattle.acq_said.proofs.Closings.{okay}
 use Rattle.acq_said.proofs.SaidOver.{broken_own, is_own, opening_own, own_said, said_end}

@@ -1,35 +1,10 @@
 -- What was done about a language, of its loop and what was said.
-use Rattle.std.proofs.Common.{◌≡◌, ◌∙◌, ℕ, true, false, List, [], sym, subst, refl, ap, Option, Some, None, Result, Ok, Err, inl, inr}
-use Rattle.std.specs.Prelude.{◌≢◌, IfOk, OnErr, IfSome}
-use Rattle.acq_io.specs.declared.streams.Put.{Put}
-use Rattle.assign.specs.Events.{Answer}
-use Rattle.assign.specs.declared.events.Event.{Event}
-use Rattle.assign.specs.declared.events.Plan.{Plan}
-use Rattle.language.specs.Language.{Language}
-use Rattle.language.specs.Answers.{standing_on}
-use Rattle.target_oracle.specs.Lines.{line_turn}
-use Rattle.target_oracle.specs.Turns.{Turns}
-use Rattle.target_oracle.specs.declared.teacher.Told.{Told}
-use Rattle.query_gen.specs.Marks.{Remembered}
-use Rattle.acq_loop.specs.declared.terms.Terms.{Terms}
-use Rattle.assign.specs.Assignment.{Assignment}
-use Rattle.acq_loop.specs.Added.{MayEnd}
-use Rattle.acq_loop.specs.Closings.{closing_of, ending_of}
-use Rattle.acq_loop.specs.Driven.{Point, CutOff, Drives, HasEnded, LeavesNothing, Loses, RanTo, TellsOpen}
-use Rattle.acq_loop.specs.Points.{point_of, terms_with}
-use Rattle.session_core.specs.Standing.{Stands, knowledge_of}
-use Rattle.session_core.specs.declared.session.Session.{Session}
+use Rattle.acq_said.proofs.Prelude.{◌≡◌, ◌∙◌, ℕ, true, false, List, [], sym, subst, refl, ap, Option, Some, None, Result, Ok, Err, inl, inr, ◌≢◌, IfOk, OnErr, IfSome, Put, Answer, Event, Plan, Language, standing_on, line_turn, Turns, Told, Remembered, Terms, Assignment, MayEnd, closing_of, ending_of, Point, CutOff, Drives, HasEnded, LeavesNothing, Loses, RanTo, TellsOpen, point_of, terms_with, Stands, knowledge_of, Session, carried, Drove, Ending, BreaksRun, AddsLast, AddsLastFront, HasAsked, Says, SaysPart, Tries, Closing}
 use Rattle.session_store.specs.Keeps.{IsSameSession}
 use Rattle.session_store.specs.declared.keep.Keep.{Ghosts as KeepOf}
-use Rattle.acq_loop.proofs.Standings.{carried}
-use Rattle.acq_loop.specs.declared.driving.Drove.{Drove}
 use Rattle.acq_loop.specs.declared.driving.Drove.TheVariants as drove
-use Rattle.acq_loop.specs.declared.ending.Ending.{Ending}
 use Rattle.acq_loop.specs.declared.ending.Ending.TheVariants as ending
-use Rattle.acq_said.specs.Breaks.{BreaksRun}
-use Rattle.acq_said.specs.Endings.{AddsLast, AddsLastFront, HasAsked, Says, SaysPart, Tries}
 use Rattle.acq_loop.specs.Loop.{EndsAs}
-use Rattle.acq_loop.specs.Run.{Closing}
 use Rattle.acq_said.proofs.Closings.{okay, same_ok, err_ok, not_loops, read_by, read_said, disk_by, disk_said}
 
 not_err : false ≡ true → ⊥

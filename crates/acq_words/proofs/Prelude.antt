@@ -1,5 +1,5 @@
 -- The names from outside that these proofs cite, passed on from one place. Declares nothing.
-pub use Rattle.std.proofs.Common.{Bool, Bor, IsErrOf, List, None, Option, Some, [], ap, append-nil, append_assoc, ap₂, arith, codes, cond, drop, false, fold, inl, inr, length, lit<, lit≤, map, not, option_map, refl, string_bytes, subst, sym, true, ℕ, ◌&&◌, ◌++◌, ◌<◌, ◌==◌, ◌^◌, ◌||◌, ◌∙◌, ◌∷◌, ◌≡◌, ◌≤◌}
+pub use Rattle.std.proofs.Common.{Bool, Bor, IsErrOf, List, None, Option, Some, [], ap, append-nil, append_assoc, ap₂, arith, codes, cond, drop, false, fold, inl, inr, length, lit<, lit≤, map, not, option_map, refl, rules, string_bytes, subst, sym, true, ℕ, ◌&&◌, ◌++◌, ◌<◌, ◌==◌, ◌^◌, ◌||◌, ◌∙◌, ◌∷◌, ◌≡◌, ◌≤◌}
 pub use Rattle.std.proofs.lemmas.Bool.{cases_lt, le-leb, lt-ltb, ne_eqb}
 pub use Rattle.std.proofs.lemmas.List.Elements.{All-from_recursion, All-get_or, All-head, All-tail}
 pub use Rattle.std.proofs.lemmas.Str.Parse.{digit_from_value}

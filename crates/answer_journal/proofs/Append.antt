@@ -1,14 +1,5 @@
 -- One record more behind those of a journal.
-use Rattle.std.proofs.Common.{◌≡◌, ℕ, ◌+◌, ◌<◌, Bool, false, List, [], ◌∷◌, ◌++◌, length, take, flat_map, inl, inr, sym, ◌∙◌, ap, subst, arith, append_assoc, length-append, take_at}
-use Rattle.assign.specs.declared.events.Plan.{Plan}
-use Rattle.assign.specs.declared.events.Event.{Event}
-use Rattle.answer_journal.specs.declared.record.Record.{Record}
-use Rattle.answer_journal.specs.Format.{MOST_RECORDS, MAGIC, session_tail, record_tail, record_bytes, written}
-use Rattle.answer_journal.specs.Records.{events_among, with_record, is_raised_by, MayFollow}
-use Rattle.answer_journal.specs.Journal.{IsClosedAfter, HoldsRecords, Spells}
-use Rattle.answer_journal.specs.Steps.{HasRecord, IsWithOrWithout}
-use Rattle.answer_journal.specs.End.{End, Sits, MayBeAdded, counted_with, HasAdded, IsOldOrAdded}
-use Rattle.answer_journal.specs.Unique.{records_once}
+use Rattle.answer_journal.proofs.Prelude.{◌≡◌, ℕ, ◌+◌, ◌<◌, Bool, false, List, [], ◌∷◌, ◌++◌, length, take, flat_map, inl, inr, sym, ◌∙◌, ap, subst, arith, append_assoc, length-append, take_at, Plan, Event, Record, MOST_RECORDS, MAGIC, session_tail, record_tail, record_bytes, written, events_among, with_record, is_raised_by, MayFollow, IsClosedAfter, HoldsRecords, Spells, HasRecord, IsWithOrWithout, End, Sits, MayBeAdded, counted_with, HasAdded, IsOldOrAdded, records_once}
 use Rattle.answer_journal.proofs.RecordLists.{bytes-push, events_among-push, is_raised_after-push, AreInOrder-push, with_record-count, with_record-few}
 
 pub written-push : (plan : Plan) (voc : List ℕ) (records : List Record) (r : Record) → written plan voc (records ++ r ∷ []) ≡ written plan voc records ++ record_bytes r

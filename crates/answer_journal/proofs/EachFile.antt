@@ -1,17 +1,6 @@
 -- Each list of bytes has a reading.
-use Rattle.std.proofs.Common.{◌≡◌, ℕ, zero, suc, ◌<◌, ◌≤◌, false, List, [], ◌∷◌, ◌++◌, length, take, drop, get_or, refl, sym, ◌∙◌, ap, subst, arith, ◌⊎◌, inl, inr, append_assoc, length-append, drop_at, take-append-drop}
-use Rattle.std.proofs.lemmas.Bool.{cases_eq, cases_lt}
-use Rattle.std.proofs.lemmas.List.{length-drop}
-use Rattle.assign.specs.declared.events.Plan.{Plan}
-use Rattle.assign.specs.declared.events.Event.{Event}
-use Rattle.answer_journal.specs.declared.record.Record.{Record}
-use Rattle.answer_journal.specs.Storable.{IsStorableSession}
-use Rattle.answer_journal.specs.Format.{MOST_RECORDS, MAGIC, session_tail, record_tail, record_bytes, written}
-use Rattle.answer_journal.specs.Records.{events_among, is_raised_after, AreInOrder}
-use Rattle.answer_journal.specs.Journal.{Bare, Records, Reading, Session, NoSession, NotAJournal, TooManyRecords, Damaged, HasNoSession, ReadsAs}
+use Rattle.answer_journal.proofs.Prelude.{◌≡◌, ℕ, zero, suc, ◌<◌, ◌≤◌, false, List, [], ◌∷◌, ◌++◌, length, take, drop, get_or, refl, sym, ◌∙◌, ap, subst, arith, ◌⊎◌, inl, inr, append_assoc, length-append, drop_at, take-append-drop, cases_eq, cases_lt, length-drop, Plan, Event, Record, IsStorableSession, MOST_RECORDS, MAGIC, session_tail, record_tail, record_bytes, written, events_among, is_raised_after, AreInOrder, Bare, Records, Reading, Session, NoSession, NotAJournal, TooManyRecords, Damaged, HasNoSession, ReadsAs, CreateRefused, written_split}
 use Rattle.answer_journal.specs.Laws.{EachHasAReading, EachIsFreeOrRefused}
-use Rattle.answer_journal.specs.Making.{CreateRefused}
-use Rattle.answer_journal.specs.Unique.{written_split}
 use Rattle.answer_journal.specs.declared.fault.JFault.TheVariants as faults
 use Rattle.answer_journal.proofs.Append.{written-push}
 use Rattle.answer_journal.proofs.EachRecord.{Decided, same_list, StandsBehind, stands_behind, BeginsBehind, begins_behind}

@@ -1,19 +1,7 @@
 -- Whether a whole record stands somewhere is a fact of the bytes.
-use Rattle.std.proofs.Common.{◌≡◌, ℕ, zero, suc, ◌^◌, ◌<◌, ◌≤◌, Bool, true, false, List, [], ◌∷◌, ◌++◌, length, get_or, take, drop, Option, Some, None, refl, sym, ◌∙◌, ap, subst, arith, ◌⊎◌, inl, inr, length-append, take-append-drop}
-use Rattle.std.specs.Int.{w32, to_be_bytes, from_be_bytes}
-use Rattle.std.proofs.lemmas.Bool.{cases_eq, cases_lt, cases_Bool}
-use Rattle.std.proofs.lemmas.List.{length-take, length-drop}
+use Rattle.answer_journal.proofs.Prelude.{◌≡◌, ℕ, zero, suc, ◌^◌, ◌<◌, ◌≤◌, Bool, true, false, List, [], ◌∷◌, ◌++◌, length, get_or, take, drop, Option, Some, None, refl, sym, ◌∙◌, ap, subst, arith, ◌⊎◌, inl, inr, length-append, take-append-drop, w32, to_be_bytes, from_be_bytes, cases_eq, cases_lt, cases_Bool, length-take, length-drop, Plan, Answer, Back, Record, Added, Raising, MOST_VOCABULARY, valued_count, tail_bytes, plan_byte, session_tail, pairs_from, said_byte, answer_payload, kind_byte, record_payload, record_tail, IsStorableSession, IsStorable, MayFollow, options_at, options_sound, options_again, tail_once, payload_small}
 use Rattle.std.proofs.lemmas.Nat.{from_be_bytes-to_be_bytes_4}
-use Rattle.assign.specs.declared.events.Plan.{Plan}
 use Rattle.assign.specs.declared.events.Plan.TheVariants.{Scopes, Quacq, Multi}
-use Rattle.assign.specs.declared.events.Event.TheVariants.{Answer, Back}
-use Rattle.answer_journal.specs.declared.record.Record.{Record}
-use Rattle.answer_journal.specs.declared.record.Record.TheVariants.{Added, Raising}
-use Rattle.answer_journal.specs.Format.{MOST_VOCABULARY, valued_count, tail_bytes, plan_byte, session_tail, pairs_from, said_byte, answer_payload, kind_byte, record_payload, record_tail}
-use Rattle.answer_journal.specs.Storable.{IsStorableSession, IsStorable}
-use Rattle.answer_journal.specs.Records.{MayFollow}
-use Rattle.answer_journal.specs.Pairs.{options_at, options_sound, options_again}
-use Rattle.answer_journal.specs.Unique.{tail_once, payload_small}
 
 -- it is so, or it isn't
 abbrev pub Decided : Type 0 → Type 0

@@ -1,17 +1,5 @@
 -- What making a journal leaves.
-use Rattle.std.proofs.Common.{◌≡◌, ◌⊎◌, ℕ, ◌+◌, ◌≤◌, List, [], ◌∷◌, ◌++◌, length, take, drop, inl, inr, false, refl, sym, ◌∙◌, ap, subst, arith, append_assoc, length-append}
-use Rattle.assign.specs.declared.events.Plan.{Plan}
-use Rattle.disk_model.specs.Disk.{Holds, Torn}
-use Rattle.answer_journal.specs.declared.head.Head.{Head}
-use Rattle.answer_journal.specs.declared.head.Head.TheVariants.{Short, Closed}
-use Rattle.answer_journal.specs.Storable.{IsStorableSession}
-use Rattle.answer_journal.specs.Format.{MAGIC, session_tail}
-use Rattle.answer_journal.specs.Journal.{IsClosedAfter, HoldsRecords, HasNoSession}
-use Rattle.answer_journal.specs.Steps.{HasRecord, IsWithOrWithout}
-use Rattle.answer_journal.specs.End.{End, Sits}
-use Rattle.answer_journal.specs.Heads.{IsHead}
-use Rattle.answer_journal.specs.Making.{StartsWith, IsCreating}
-use Rattle.answer_journal.specs.Unique.{written_split}
+use Rattle.answer_journal.proofs.Prelude.{◌≡◌, ◌⊎◌, ℕ, ◌+◌, ◌≤◌, List, [], ◌∷◌, ◌++◌, length, take, drop, inl, inr, false, refl, sym, ◌∙◌, ap, subst, arith, append_assoc, length-append, Plan, Holds, Torn, Head, Short, Closed, IsStorableSession, MAGIC, session_tail, IsClosedAfter, HoldsRecords, HasNoSession, HasRecord, IsWithOrWithout, End, Sits, IsHead, StartsWith, IsCreating, written_split}
 use Rattle.answer_journal.proofs.WholeFile.{headed, shut}
 
 abbrev pub first_bytes : List ℕ

@@ -1,6 +1,5 @@
 -- How many calls the reading of a file takes, a piece at a time.
-use Rattle.std.proofs.Common.{◌≡◌, ◌≤◌, ◌<◌, ◌+◌, ◌-◌, ◌*◌, ℕ, min, List, length, inl, inr, arith}
-use Rattle.answer_journal.specs.Calls.{AreReadingCalls, TakesPieces}
+use Rattle.answer_journal.proofs.Prelude.{◌≡◌, ◌≤◌, ◌<◌, ◌+◌, ◌-◌, ◌*◌, ℕ, min, List, length, inl, inr, arith, AreReadingCalls, TakesPieces}
 
 module _ (start at : ℕ) (bytes : List ℕ) (old mid new : ℕ) (so_far : 4194047 * mid + start ≤ 4194047 * old + at) (one : new ≤ mid + 1) (within : at < length bytes) where
   -- one read more

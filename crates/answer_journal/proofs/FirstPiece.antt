@@ -1,10 +1,5 @@
 -- The record of a session, read from the first piece of a file behind its first gate.
-use Rattle.std.proofs.Common.{◌≡◌, ◌⊎◌, ℕ, ◌+◌, ◌-◌, ◌<◌, ◌≤◌, min, List, ◌∷◌, ◌++◌, length, take, drop, inl, inr, sym, ◌∙◌, ap, arith, append_assoc, length-append, length-drop, length-take-le}
-use Rattle.std.proofs.lemmas.Bool.{cases_lt}
-use Rattle.std.proofs.lemmas.List.{length-take}
-use Rattle.assign.specs.declared.events.Plan.{Plan}
-use Rattle.answer_journal.specs.Storable.{IsStorableSession}
-use Rattle.answer_journal.specs.Format.{session_tail}
+use Rattle.answer_journal.proofs.Prelude.{◌≡◌, ◌⊎◌, ℕ, ◌+◌, ◌-◌, ◌<◌, ◌≤◌, min, List, ◌∷◌, ◌++◌, length, take, drop, inl, inr, sym, ◌∙◌, ap, arith, append_assoc, length-append, length-drop, length-take-le, cases_lt, length-take, Plan, IsStorableSession, session_tail}
 use Rattle.answer_journal.proofs.RecordLoop.{IsWide, wide_enough, seen}
 use Rattle.answer_journal.proofs.PieceLemmas.{piece_is, piece_more, last_is}
 use Rattle.answer_journal.proofs.Sizes.{session_size}

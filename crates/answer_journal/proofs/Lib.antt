@@ -1,3 +1,4 @@
+mod Prelude
 mod Gate
 mod RecordLists
 mod Append

@@ -1,9 +1,7 @@
 -- Runs of calls that only read a disk, and what is left behind where others write after them.
-use Rattle.std.proofs.Common.{◌≡◌, ◌≤◌, ◌+◌, ℕ, List, Option, Some, None, is_some, Result, refl, ap, ◌∙◌, arith}
+use Rattle.answer_journal.proofs.Prelude.{◌≡◌, ◌≤◌, ◌+◌, ℕ, List, Some, is_some, Result, refl, ap, ◌∙◌, arith, AddsNothing, Elapses, IsOnDisk, IsOnlyRead, LeavesBehind, started, goes_on, joined, weaker}
 use Rattle.std.specs.Prelude.{OnOk}
 use Rattle.disk_model.specs.declared.disk.Disk.{Ghosts as DiskOf}
-use Rattle.disk_model.specs.Disk.{AddsNothing, Elapses}
-use Rattle.disk_model.specs.Moments.{IsOnDisk, IsOnlyRead, LeavesBehind, started, goes_on, joined, weaker}
 
 module _ {D : Type 0} (disk : DiskOf D) where
   -- before the first call

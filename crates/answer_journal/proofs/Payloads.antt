@@ -1,13 +1,5 @@
 -- What a payload spells, and what it doesn't.
-use Rattle.std.proofs.Common.{◌≡◌, ℕ, ◌-◌, ◌^◌, ◌<◌, ◌≤◌, Bool, List, [], ◌∷◌, ◌++◌, length, get_or, take, drop, Option, Some, None, sym, ◌∙◌, ap, subst, arith, take_all, length-drop}
-use Rattle.assign.specs.declared.events.Plan.{Plan}
-use Rattle.answer_journal.specs.declared.record.Record.{Record}
-use Rattle.answer_journal.specs.Format.{valued_count}
-use Rattle.answer_journal.specs.Storable.{IsStorableSession, IsStorable}
-use Rattle.answer_journal.specs.Format.{tail_bytes, plan_byte, session_tail, pairs_from, said_byte, answer_payload, kind_byte, record_payload, record_tail}
-use Rattle.answer_journal.specs.Records.{MayFollow}
-use Rattle.answer_journal.specs.Pairs.{options_at, options_again, options_sound}
-use Rattle.answer_journal.specs.Unique.{tail_once, payload_small}
+use Rattle.answer_journal.proofs.Prelude.{◌≡◌, ℕ, ◌-◌, ◌^◌, ◌<◌, ◌≤◌, Bool, List, [], ◌∷◌, ◌++◌, length, get_or, take, drop, Option, Some, None, sym, ◌∙◌, ap, subst, arith, take_all, length-drop, Plan, Record, valued_count, IsStorableSession, IsStorable, tail_bytes, plan_byte, session_tail, pairs_from, said_byte, answer_payload, kind_byte, record_payload, record_tail, MayFollow, options_at, options_again, options_sound, tail_once, payload_small}
 
 abbrev pub pairs_in : List ℕ → List ℕ
 pairs_in p = take (length p - 2) (drop 2 p)

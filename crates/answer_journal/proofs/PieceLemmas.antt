@@ -1,6 +1,5 @@
 -- A piece of a file, as a read gives it.
-use Rattle.std.proofs.Common.{◌≡◌, ℕ, ◌-◌, ◌<◌, min, List, [], ◌++◌, length, take, drop, ◌∙◌, ap, arith, length-drop, length-take-le, take-append-drop, take_at}
-use Rattle.std.proofs.lemmas.List.{nil_from_length}
+use Rattle.answer_journal.proofs.Prelude.{◌≡◌, ℕ, ◌-◌, ◌<◌, min, List, [], ◌++◌, length, take, drop, ◌∙◌, ap, arith, length-drop, length-take-le, take-append-drop, take_at, nil_from_length}
 
 module _ (file old new : List ℕ) (at n : ℕ) (count : n ≡ min (length old) (length file - at)) (is : new ≡ take n (drop at file) ++ drop n old) where
   size : length (take n (drop at file)) ≡ n

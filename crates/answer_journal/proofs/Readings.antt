@@ -1,14 +1,5 @@
 -- No bytes are read in two ways: which of the readings holds is a fact of the bytes.
-use Rattle.std.proofs.Common.{◌≡◌, ℕ, ◌<◌, ◌≤◌, Bool, false, List, [], ◌∷◌, ◌++◌, length, get_or, take, flat_map, inl, inr, refl, sym, ◌∙◌, ap, subst, arith, append_assoc}
-use Rattle.assign.specs.declared.events.Plan.{Plan}
-use Rattle.assign.specs.declared.events.Event.{Event}
-use Rattle.answer_journal.specs.declared.record.Record.{Record}
-use Rattle.answer_journal.specs.declared.record.Record.TheVariants.{Added, Raising}
-use Rattle.answer_journal.specs.Storable.{IsStorableSession}
-use Rattle.answer_journal.specs.Format.{MAGIC, session_tail, record_bytes, written}
-use Rattle.answer_journal.specs.Records.{events_among, is_raised_by, is_raised_after, AreInOrder}
-use Rattle.answer_journal.specs.Journal.{HoldsRecords, Front, Bare, Records, front_bytes, IsFront, HasNextRecord, IsDamagedAt, HasTooManyRecords, Reading, Session, NoSession, NotAJournal, TooManyRecords, Damaged, ReadsAs}
-use Rattle.answer_journal.specs.Unique.{Stuck, closed_stuck, first_once, none_follows, records_more, written_split, sessions_once, written_apart, spells_once}
+use Rattle.answer_journal.proofs.Prelude.{◌≡◌, ℕ, ◌<◌, ◌≤◌, Bool, false, List, [], ◌∷◌, ◌++◌, length, get_or, take, flat_map, inl, inr, refl, sym, ◌∙◌, ap, subst, arith, append_assoc, Plan, Event, Record, Added, Raising, IsStorableSession, MAGIC, session_tail, record_bytes, written, events_among, is_raised_by, is_raised_after, AreInOrder, HoldsRecords, Front, Bare, Records, front_bytes, IsFront, HasNextRecord, IsDamagedAt, HasTooManyRecords, Reading, Session, NoSession, NotAJournal, TooManyRecords, Damaged, ReadsAs, Stuck, closed_stuck, first_once, none_follows, records_more, written_split, sessions_once, written_apart, spells_once}
 use Rattle.answer_journal.proofs.Append.{written-push}
 
 -- one record more

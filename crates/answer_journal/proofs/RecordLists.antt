@@ -1,15 +1,7 @@
 -- Lists of records, with one more.
-use Rattle.std.proofs.Common.{◌≡◌, ℕ, ◌+◌, ◌<◌, ◌≤◌, Bool, true, List, [], ◌∷◌, ◌++◌, length, All, flat_map, refl, ◌∙◌, ap, arith, append-nil}
-use Rattle.std.proofs.lemmas.List.{length_push}
+use Rattle.answer_journal.proofs.Prelude.{◌≡◌, ℕ, ◌+◌, ◌<◌, ◌≤◌, Bool, true, List, [], ◌∷◌, ◌++◌, length, All, flat_map, refl, ◌∙◌, ap, arith, append-nil, length_push, Event, Record, Added, Raising, IsStorableEvent, MOST_RECORDS, record_bytes, events_among, with_record, is_raised_by, is_raised_after, MayFollow, AreInOrder, HasRoom, counted_with}
 use Rattle.std.proofs.lemmas.List.Concat.{flat_map-append}
 use Rattle.std.proofs.lemmas.List.Elements.{All-nil, All-cons}
-use Rattle.assign.specs.declared.events.Event.{Event}
-use Rattle.answer_journal.specs.declared.record.Record.{Record}
-use Rattle.answer_journal.specs.declared.record.Record.TheVariants.{Added, Raising}
-use Rattle.answer_journal.specs.Storable.{IsStorableEvent}
-use Rattle.answer_journal.specs.Format.{MOST_RECORDS, record_bytes}
-use Rattle.answer_journal.specs.Records.{events_among, with_record, is_raised_by, is_raised_after, MayFollow, AreInOrder}
-use Rattle.answer_journal.specs.End.{HasRoom, counted_with}
 
 pub bytes-push : (records : List Record) (r : Record) → flat_map record_bytes (records ++ r ∷ []) ≡ flat_map record_bytes records ++ record_bytes r
 bytes-push records r = flat_map-append record_bytes records (r ∷ []) ∙ ap (λ (l : List ℕ). flat_map record_bytes records ++ l) (append-nil (record_bytes r))

@@ -1,15 +1,7 @@
 -- Reading records one after the other, from a piece of the bytes.
-use Rattle.std.proofs.Common.{◌≡◌, ◌⊎◌, ℕ, ◌+◌, ◌-◌, ◌<◌, ◌≤◌, Bool, false, List, [], ◌∷◌, ◌++◌, length, get_or, take, drop, flat_map, inl, inr, refl, sym, ◌∙◌, ap, subst, arith, append_assoc, length-append, take-append-drop, take_at, take_all, drop_at, Option, Some, None}
+use Rattle.answer_journal.proofs.Prelude.{◌≡◌, ◌⊎◌, ℕ, ◌+◌, ◌-◌, ◌<◌, ◌≤◌, Bool, false, List, [], ◌∷◌, ◌++◌, length, get_or, take, drop, flat_map, inl, inr, refl, sym, ◌∙◌, ap, subst, arith, append_assoc, length-append, take-append-drop, take_at, take_all, drop_at, Option, Some, None, drop_more, drop-drop, take-append-le, Event, JFault, Record, MOST_RECORDS, record_tail, record_bytes, with_record, is_raised_by, MayFollow, IsClosedAfter, IsRead, WereRead, BeginsWith, GoesOn, BreaksOff, Overflows, EventsRefused}
 use Rattle.std.specs.Option.{ForSome}
-use Rattle.std.proofs.lemmas.List.{drop_more, drop-drop, take-append-le}
-use Rattle.assign.specs.declared.events.Event.{Event}
-use Rattle.answer_journal.specs.declared.fault.JFault.{JFault}
 use Rattle.answer_journal.specs.declared.fault.JFault.TheVariants as faults
-use Rattle.answer_journal.specs.declared.record.Record.{Record}
-use Rattle.answer_journal.specs.Format.{MOST_RECORDS, record_tail, record_bytes}
-use Rattle.answer_journal.specs.Records.{with_record, is_raised_by, MayFollow}
-use Rattle.answer_journal.specs.Journal.{IsClosedAfter}
-use Rattle.answer_journal.specs.Found.{IsRead, WereRead, BeginsWith, GoesOn, BreaksOff, Overflows, EventsRefused}
 use Rattle.answer_journal.proofs.RecordLists.{bytes-push, events_among-push, is_raised_after-push, AreInOrder-push, with_record-many}
 use Rattle.answer_journal.proofs.Sizes.{tail_size}
 

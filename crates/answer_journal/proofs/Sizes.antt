@@ -1,15 +1,5 @@
 -- How long the records are.
-use Rattle.std.proofs.Common.{◌≡◌, ℕ, ◌+◌, ◌*◌, ◌≤◌, Bool, true, false, List, [], ◌∷◌, length, flat_map, refl, ap, arith, length-append}
-use Rattle.assign.specs.declared.events.Plan.{Plan}
-use Rattle.assign.specs.declared.events.Event.{Event}
-use Rattle.assign.specs.declared.events.Event.TheVariants.{Answer, Back}
-use Rattle.answer_journal.specs.declared.record.Record.{Record}
-use Rattle.answer_journal.specs.declared.record.Record.TheVariants.{Added, Raising}
-use Rattle.answer_journal.specs.Format.{MOST_RECORDS, session_tail, record_tail, record_bytes, pairs_from}
-use Rattle.answer_journal.specs.Records.{events_among, is_raised_by, is_raised_after, MayFollow, AreInOrder}
-use Rattle.answer_journal.specs.End.{HasRoom, room_to_raise, counted_with}
-use Rattle.answer_journal.specs.Found.{IsRead}
-use Rattle.answer_journal.specs.Unique.{pairs_size, given_few}
+use Rattle.answer_journal.proofs.Prelude.{◌≡◌, ℕ, ◌+◌, ◌*◌, ◌≤◌, Bool, true, false, List, [], ◌∷◌, length, flat_map, refl, ap, arith, length-append, Plan, Event, Answer, Back, Record, Added, Raising, MOST_RECORDS, session_tail, record_tail, record_bytes, pairs_from, events_among, is_raised_by, is_raised_after, MayFollow, AreInOrder, HasRoom, room_to_raise, counted_with, IsRead, pairs_size, given_few}
 
 pub tail_size : (raised : Bool) (r : Record) → MayFollow raised r → length (record_tail r) ≤ 263
 unfolding record_tail

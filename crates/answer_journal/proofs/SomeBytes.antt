@@ -1,17 +1,5 @@
 -- Bytes that a refusal, or a session, may be read from.
-use Rattle.std.proofs.Common.{◌≡◌, ℕ, ◌+◌, ◌-◌, ◌<◌, ◌≤◌, Bool, false, List, [], ◌∷◌, ◌++◌, length, get_or, take, flat_map, inl, refl, sym, ◌∙◌, ap, subst, arith, length-append}
-use Rattle.std.proofs.lemmas.List.{length-take}
-use Rattle.assign.specs.declared.events.Plan.{Plan}
-use Rattle.assign.specs.declared.events.Event.{Event}
-use Rattle.answer_journal.specs.declared.record.Record.{Record}
-use Rattle.answer_journal.specs.Storable.{IsStorableSession}
-use Rattle.answer_journal.specs.Format.{MOST_RECORDS, MAGIC, session_tail, record_bytes, written}
-use Rattle.answer_journal.specs.Records.{events_among, with_record, is_raised_after, MayFollow}
-use Rattle.answer_journal.specs.Journal.{IsClosedAfter, Bare, ReadsAs, Session}
-use Rattle.answer_journal.specs.Unique.{Stuck}
-use Rattle.answer_journal.specs.Found.{IsRead, WereRead, BreaksOff, Overflows, EventsRefused, Refused}
-use Rattle.answer_journal.specs.Making.{CreateRefused}
-use Rattle.answer_journal.specs.declared.fault.JFault.{JFault}
+use Rattle.answer_journal.proofs.Prelude.{◌≡◌, ℕ, ◌+◌, ◌-◌, ◌<◌, ◌≤◌, Bool, false, List, [], ◌∷◌, ◌++◌, length, get_or, take, flat_map, inl, refl, sym, ◌∙◌, ap, subst, arith, length-append, length-take, Plan, Event, Record, IsStorableSession, MOST_RECORDS, MAGIC, session_tail, record_bytes, written, events_among, with_record, is_raised_after, MayFollow, IsClosedAfter, Bare, ReadsAs, Session, Stuck, IsRead, WereRead, BreaksOff, Overflows, EventsRefused, Refused, CreateRefused, JFault}
 use Rattle.answer_journal.specs.declared.fault.JFault.TheVariants as faults
 use Rattle.answer_journal.proofs.RecordLists.{events_among-push, AreInOrder-push, with_record-many}
 use Rattle.answer_journal.proofs.Sizes.{session_size}

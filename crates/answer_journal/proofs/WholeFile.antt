@@ -1,16 +1,5 @@
 -- What a whole file says.
-use Rattle.std.proofs.Common.{◌≡◌, ℕ, ◌+◌, ◌<◌, Bool, List, [], ◌∷◌, ◌++◌, length, get_or, take, drop, flat_map, inr, refl, sym, ◌∙◌, ap, subst, arith, append_assoc, length-append, take-append-drop, drop_at}
-use Rattle.std.proofs.lemmas.List.{append_cancel_left, drop_more}
-use Rattle.assign.specs.declared.events.Plan.{Plan}
-use Rattle.assign.specs.declared.events.Event.{Event}
-use Rattle.answer_journal.specs.declared.record.Record.{Record}
-use Rattle.answer_journal.specs.Storable.{IsStorableSession}
-use Rattle.answer_journal.specs.Format.{MOST_RECORDS, MAGIC, session_tail, record_bytes, written}
-use Rattle.answer_journal.specs.End.{End, Sits}
-use Rattle.answer_journal.specs.Journal.{HoldsRecords, Spells, Bare, Records, IsDamagedAt, HasTooManyRecords, HasNoSession}
-use Rattle.answer_journal.specs.Unique.{written_split}
-use Rattle.answer_journal.specs.Found.{HasEvents, BreaksOff, Overflows, EventsRefused, Refused}
-use Rattle.answer_journal.specs.declared.fault.JFault.{JFault}
+use Rattle.answer_journal.proofs.Prelude.{◌≡◌, ℕ, ◌+◌, ◌<◌, Bool, List, [], ◌∷◌, ◌++◌, length, get_or, take, drop, flat_map, inr, refl, sym, ◌∙◌, ap, subst, arith, append_assoc, length-append, take-append-drop, drop_at, append_cancel_left, drop_more, Plan, Event, Record, IsStorableSession, MOST_RECORDS, MAGIC, session_tail, record_bytes, written, End, Sits, HoldsRecords, Spells, Bare, Records, IsDamagedAt, HasTooManyRecords, HasNoSession, written_split, HasEvents, BreaksOff, Overflows, EventsRefused, Refused, JFault}
 use Rattle.answer_journal.specs.declared.fault.JFault.TheVariants as faults
 use Rattle.answer_journal.proofs.Append.{written-push}
 

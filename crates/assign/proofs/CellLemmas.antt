@@ -1,10 +1,6 @@
-use Rattle.std.proofs.Common.{◌≡◌, ℕ, ◌≤◌, List, Option, Some, None, length, take, drop, replicate, sym, ◌∙◌, ap, arith, refl, lit≤, true, nat_eq}
+use Rattle.assign.proofs.Prelude.{◌≡◌, ℕ, ◌≤◌, List, Option, Some, None, length, take, drop, replicate, sym, ◌∙◌, ap, arith, refl, lit≤, true, nat_eq, take-replicate, drop-replicate, length-replicate, take_all, drop_all, Inside, widened, IsCells, seen, cells_of, cells_of-seen, made}
 use lib.Pointwise.{pointwise, pointwise_decides}
 use Rattle.std.specs.Option.{option_eq}
-use Rattle.std.proofs.lemmas.List.{take-replicate, drop-replicate, length-replicate, take_all, drop_all}
-use Rattle.assign.specs.declared.assignment.Partial.TheInside.{Inside}
-use Rattle.assign.specs.Assignment.{widened}
-use Rattle.assign.specs.Cells.{IsCells, seen, cells_of, cells_of-seen, made}
 
 pub blank_cells : (n : ℕ) (cells : List (Option ℕ)) → 1 ≤ n → n ≤ 128 → cells ≡ replicate 128 None → IsCells (record { n = n; cells = cells })
 blank_cells n cells some fits e = let none : Option ℕ = None in let long : length (replicate 128 none) ≡ 128 = length-replicate 128 none in record {

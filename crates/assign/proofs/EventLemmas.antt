@@ -1,7 +1,5 @@
 -- What a further answer adds to those that stand.
-use Rattle.std.proofs.Common.{◌≡◌, ℕ, ◌-◌, Bool, List, [], ◌∷◌, ◌++◌, length, take, replicate, None, refl, ◌∙◌, ap}
-use Rattle.std.proofs.lemmas.List.{take_at, map-append}
-use Rattle.assign.specs.Assignment.{Assignment, widened}
+use Rattle.assign.proofs.Prelude.{◌≡◌, ℕ, ◌-◌, Bool, List, [], ◌∷◌, ◌++◌, length, take, replicate, None, refl, ◌∙◌, ap, take_at, map-append, Assignment, widened}
 use Rattle.assign.specs.Events.{Answer, standing, standing_from, without_last, cut_to}
 use Rattle.assign.specs.declared.events.Event.{Event}
 use Rattle.assign.specs.declared.events.Event.TheVariants as events

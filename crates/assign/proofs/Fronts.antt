@@ -1,12 +1,5 @@
 -- The members below a place are a front of a set; a place is looked for below which so many stand.
-use Rattle.std.proofs.Common.{◌≡◌, ℕ, zero, suc, ◌+◌, ◌/◌, ◌<◌, ◌≤◌, Bool, true, false, cond, ◌&&◌, List, [], ◌∷◌, length, take, refl, sym, ◌∙◌, ap, subst, arith, inl, inr, nat_lt, lit≤}
-use Rattle.std.specs.Prelude.{◌==◌, bit_and, min}
-use Rattle.std.specs.List.{filter, range_with_len}
-use Rattle.std.specs.Int.{bit_at}
-use Rattle.std.proofs.lemmas.Bool.{cases_lt, lt-ltb, le-ltb}
-use Rattle.std.proofs.lemmas.Nat.Bits.{bit_at-lt, bit_at_and}
-use Rattle.assign.specs.Sets.{numbers, has, set_where, members_of, first_half, Rises}
-use Rattle.assign.specs.SetLemmas.{filter_agree_from, has-set_where, has-members_of, is_one}
+use Rattle.assign.proofs.Prelude.{◌≡◌, ℕ, zero, suc, ◌+◌, ◌/◌, ◌<◌, ◌≤◌, Bool, true, false, cond, ◌&&◌, List, [], ◌∷◌, length, take, refl, sym, ◌∙◌, ap, subst, arith, inl, inr, nat_lt, lit≤, ◌==◌, bit_and, min, filter, range_with_len, bit_at, cases_lt, lt-ltb, le-ltb, bit_at-lt, bit_at_and, numbers, has, set_where, members_of, first_half, Rises, filter_agree_from, has-set_where, has-members_of, is_one}
 use Rattle.assign.proofs.Masks.{filter_lt}
 
 -- the members below a place

@@ -1,3 +1,4 @@
+mod Prelude
 pub mod Masks
 pub mod Fronts
 pub mod Valued

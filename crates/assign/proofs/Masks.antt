@@ -1,15 +1,6 @@
 -- What the operations on a mask make of its members.
-use Rattle.std.proofs.Common.{◌≡◌, ℕ, zero, suc, ◌+◌, ◌-◌, ◌/◌, ◌<◌, ◌≤◌, ◌^◌, Bool, true, false, cond, ◌||◌, ◌&&◌, not, List, [], ◌∷◌, length, take, drop, refl, sym, ◌∙◌, ap, arith, inl, inr, ◌⊎◌, Some, nat_eq, nat_lt, add-one, pow-suc, lit≤}
-use Rattle.std.specs.Prelude.{◌==◌, ◌≢◌, bit_or, bit_and, min}
-use Rattle.std.specs.List.{list_all, filter, range_with_len}
-use Rattle.std.specs.Int.{bit_at, bit_not, w128}
-use Rattle.std.proofs.lemmas.Bool.{ne_eqb, eq-eqb, cases_eq, cases_lt, cases_Bool, lt-ltb, le-ltb, and_parts, both_ways, eqb-true, or_from, or_left}
-use Rattle.std.proofs.lemmas.Nat.Bits.{bit_at-lt, bit_at_and, bit_at-zero, bit_at_not, bit_at_ones, bit_at_ones_above, bit_at-suc, bit_at_lowest, bit_at_above}
-use Rattle.std.proofs.lemmas.Nat.{and_le_l}
+use Rattle.assign.proofs.Prelude.{◌≡◌, ℕ, zero, suc, ◌+◌, ◌-◌, ◌/◌, ◌<◌, ◌≤◌, ◌^◌, Bool, true, false, cond, ◌||◌, ◌&&◌, not, List, [], ◌∷◌, length, take, drop, refl, sym, ◌∙◌, ap, arith, inl, inr, ◌⊎◌, Some, nat_eq, nat_lt, add-one, pow-suc, lit≤, ◌==◌, ◌≢◌, bit_or, bit_and, min, list_all, filter, range_with_len, bit_at, bit_not, w128, ne_eqb, eq-eqb, cases_eq, cases_lt, cases_Bool, lt-ltb, le-ltb, and_parts, both_ways, eqb-true, or_from, or_left, bit_at-lt, bit_at_and, bit_at-zero, bit_at_not, bit_at_ones, bit_at_ones_above, bit_at-suc, bit_at_lowest, bit_at_above, and_le_l, numbers, has, set_where, minus, with_member, without, is_within, least_of, members_of, mask_of, Rises, filter_agree_from, set_where-same, is_one, is_one-or, is_one-pow, has-members_of, same_masks, mask_of-members_of, pointwise}
 use lib.Count.{ones, ones_step}
-use Rattle.assign.specs.Sets.{numbers, has, set_where, minus, with_member, without, is_within, least_of, members_of, mask_of, Rises}
-use Rattle.assign.specs.SetLemmas.{filter_agree_from, set_where-same, is_one, is_one-or, is_one-pow, has-members_of, same_masks, mask_of-members_of}
-use Rattle.std.specs.Cmp.Lexicographic.{pointwise}
 use Rattle.std.proofs.lemmas.Slice.Eq.{bytes_eq-Decides}
 
 -- ---- no member, the first n, one more, one less

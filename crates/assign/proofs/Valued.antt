@@ -1,12 +1,6 @@
 -- The variables that have a value, and a restriction, one variable after another.
-use Rattle.std.proofs.Common.{◌≡◌, ℕ, ◌+◌, ◌<◌, ◌≤◌, Bool, true, false, cond, ◌||◌, List, length, take, set, Some, None, refl, sym, ◌∙◌, ap, arith, inl, inr, get_or-set_same}
-use Rattle.std.specs.Prelude.{◌==◌, ◌≢◌, is_some}
-use Rattle.std.proofs.lemmas.Bool.{ne_eqb, eq-eqb, cases_eq, cases_lt}
-use Rattle.std.proofs.lemmas.List.{length-take, length-set, get_or-take, get_or-set_other, get_or_past}
+use Rattle.assign.proofs.Prelude.{◌≡◌, ℕ, ◌+◌, ◌<◌, ◌≤◌, Bool, true, false, cond, ◌||◌, List, length, take, set, Some, None, refl, sym, ◌∙◌, ap, arith, inl, inr, get_or-set_same, ◌==◌, ◌≢◌, is_some, ne_eqb, eq-eqb, cases_eq, cases_lt, length-take, length-set, get_or-take, get_or-set_other, get_or_past, has, with_member, Assignment, value_of, variables_of, restrict, set_where-same, has-set_where}
 use Rattle.std.proofs.lemmas.List.FromFn.{fill_by_all}
-use Rattle.assign.specs.Sets.{has, with_member}
-use Rattle.assign.specs.Assignment.{Assignment, value_of, variables_of, restrict}
-use Rattle.assign.specs.SetLemmas.{set_where-same, has-set_where}
 
 -- ---- the variables that have a value
 

@@ -1,31 +1,10 @@
 -- What one answer more tells of all candidates.
-use Rattle.std.proofs.Common.{◌≡◌, ℕ, zero, suc, ◌+◌, ◌-◌, ◌<◌, ◌≤◌, ◌^◌, Bool, true, false, cond, not, ◌&&◌, ◌||◌, List, [], ◌∷◌, length, take, get_or, Option, Some, None, refl, sym, ◌∙◌, ap, subst, arith, inl, inr, ◌⊎◌, get_or-set_same, get_or-set_other}
-use Rattle.std.specs.Prelude.{◌↔◌, ◌==◌, All, Contains, IfSome, bit_or, slice_set, slice_index_or, unwrap_or}
-use Rattle.std.specs.List.{filter, list_any}
-use Rattle.std.proofs.lemmas.Bool.{and_from, and_parts, both_ways, cases_eq, eq-eqb, false_from_ne_true, not-true}
-use Rattle.std.proofs.lemmas.List.{length-set}
-use Rattle.std.proofs.lemmas.Nat.Bits.{bit_at-zero}
-use Rattle.std.proofs.lemmas.List.Elements.{All-contains}
-use Rattle.std.proofs.lemmas.List.Folds.{list_any_at, list_any_more}
-use Rattle.std.proofs.lemmas.List.Sums.{list_all-from_AllPass}
-use Rattle.assign.specs.Sets.{has, is_same, is_within}
-use Rattle.assign.specs.SetLemmas.{is_one, is_one-or}
-use Rattle.assign.specs.Assignment.{Assignment, covers, variables_of}
-use Rattle.assign.specs.Events.{Answer}
-use Rattle.language.specs.declared.candidates.Candidate.{Candidate}
-use Rattle.language.specs.Language.{Language, IsLanguage, IsCandidate, candidates, number_of, place_on, relations_on, scope_at, scope_number, scope_of, violates}
-use Rattle.language.specs.Answers.{is_struck}
-use Rattle.language.proofs.Counting.{numbered}
-use Rattle.language.proofs.Covered.{covered_within, same_scope}
-use Rattle.language.proofs.Lists.{filter_all}
-use Rattle.language.proofs.Members.{any_number}
+use Rattle.cert_check.proofs.Prelude.{◌≡◌, ℕ, zero, suc, ◌+◌, ◌-◌, ◌<◌, ◌≤◌, ◌^◌, Bool, true, false, cond, not, ◌&&◌, ◌||◌, List, [], ◌∷◌, length, take, get_or, Option, Some, None, refl, sym, ◌∙◌, ap, subst, arith, inl, inr, ◌⊎◌, get_or-set_same, get_or-set_other, ◌↔◌, ◌==◌, All, Contains, IfSome, bit_or, slice_set, slice_index_or, unwrap_or, filter, list_any, and_from, and_parts, both_ways, cases_eq, eq-eqb, false_from_ne_true, not-true, length-set, bit_at-zero, All-contains, list_any_at, list_any_more, list_all-from_AllPass, has, is_same, is_within, is_one, is_one-or, Assignment, covers, variables_of, Answer, Candidate, Language, IsLanguage, IsCandidate, candidates, number_of, place_on, relations_on, scope_at, scope_number, scope_of, violates, is_struck, numbered, covered_within, same_scope, filter_all, any_number, is_spared, AreSpared, IsSparedOn, is_no_about, unstruck}
 use Rattle.bias_store.specs.Accepting.{accepting_on}
 use Rattle.bias_store.specs.Masks.{ones_of}
 use Rattle.bias_store.proofs.Bits.{accepting_bit}
 use Rattle.bias_store.proofs.Ones.{has-ones_of, ones_of-first}
 use Rattle.bias_store.proofs.Picked.{bare, covered}
-use Rattle.cert_check.specs.Checking.{is_spared}
-use Rattle.cert_check.specs.Told.{AreSpared, IsSparedOn, is_no_about, unstruck}
 use Rattle.cert_check.proofs.Finding.{all_fail}
 use Rattle.cert_check.proofs.Verdicts.{same_itself, same_list}
 

@@ -1,18 +1,7 @@
 -- Each list of bytes is read as a certificate, or is refused.
-use Rattle.std.proofs.Common.{◌≡◌, ℕ, ◌<◌, ◌≤◌, false, List, length, Some, Result, Ok, Err, refl, sym, ◌∙◌, subst, ◌⊎◌, inl, inr}
-use Rattle.std.proofs.lemmas.Bool.{cases_lt}
-use Rattle.std.proofs.lemmas.Option.{none-some, same_Some}
-use Rattle.language.specs.Language.{Language}
-use Rattle.voc_read.specs.declared.fault.VocFault.{VocFault}
-use Rattle.voc_read.specs.Vocabulary.{IsVocabulary, refusal_of_vocabulary}
+use Rattle.cert_check.proofs.Prelude.{◌≡◌, ℕ, ◌<◌, ◌≤◌, false, List, length, Some, Result, Ok, Err, refl, sym, ◌∙◌, subst, ◌⊎◌, inl, inr, cases_lt, none-some, same_Some, Language, VocFault, IsVocabulary, refusal_of_vocabulary, not_refused, CertFault, TooLong, BadLine, Voc, Memory, Certificate, Unread, MOST_CERTIFICATE, vocabulary_in, certificate_in, IsRead, IsUnreadable, wants_memory, EachIsReadOrRefused}
 use Rattle.voc_read.specs.Want.{wants_memory as voc_wants}
 use Rattle.voc_read.proofs.EachText.{each_text as each_vocabulary}
-use Rattle.voc_read.proofs.Refused.{not_refused}
-use Rattle.cert_check.specs.declared.fault.CertFault.{CertFault}
-use Rattle.cert_check.specs.declared.fault.CertFault.TheVariants.{TooLong, BadLine, Voc, Memory}
-use Rattle.cert_check.specs.Certificate.{Certificate}
-use Rattle.cert_check.specs.Reading.{Unread, MOST_CERTIFICATE, vocabulary_in, certificate_in, IsRead, IsUnreadable}
-use Rattle.cert_check.specs.ReadingLaws.{wants_memory, EachIsReadOrRefused}
 use Rattle.cert_check.proofs.Faults.{unread_before, unread_behind, read_behind}
 
 -- the vocabulary is told apart too

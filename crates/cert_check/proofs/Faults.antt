@@ -1,15 +1,5 @@
 -- What a reading answers that isn't a certificate: a bad line, and no other fault.
-use Rattle.std.proofs.Common.{◌≡◌, ℕ, zero, suc, ◌≤◌, ◌&&◌, Bool, true, false, cond, List, length, get_or, Option, Some, None, Result, Ok, Err, refl, sym, subst, eqb, ltb, inl, inr}
-use Rattle.std.specs.Prelude.{◌≢◌, IfOk, IfErr, codes}
-use Rattle.std.specs.Option.{ok_or}
-use Rattle.std.specs.Str.{bytes_eq}
-use Rattle.language.specs.Language.{Language}
-use Rattle.voc_read.specs.Vocabulary.{MOST_VOCABULARY, IsVocabulary}
-use Rattle.cert_check.specs.declared.fault.CertFault.{CertFault}
-use Rattle.cert_check.specs.declared.fault.CertFault.TheVariants.{TooLong, BadLine, Voc, Memory}
-use Rattle.cert_check.specs.Certificate.{Certificate}
-use Rattle.cert_check.specs.Read.{Reads}
-use Rattle.cert_check.specs.Reading.{◌>>=◌, Unread, MOST_CERTIFICATE, MOST_ANSWERS, line_in, next_line, behind_line, lines_in, block_in, vocabulary_in, end_in, certificate_in, count_up_to, count_in, answer_lines, item_lines, listed_lines, IsRead, IsUnreadable}
+use Rattle.cert_check.proofs.Prelude.{◌≡◌, ℕ, zero, suc, ◌≤◌, ◌&&◌, Bool, true, false, cond, List, length, get_or, Option, Some, None, Result, Ok, Err, refl, sym, subst, eqb, ltb, inl, inr, ◌≢◌, IfOk, IfErr, codes, ok_or, bytes_eq, Language, MOST_VOCABULARY, IsVocabulary, CertFault, TooLong, BadLine, Voc, Memory, Certificate, Reads, ◌>>=◌, Unread, MOST_CERTIFICATE, MOST_ANSWERS, line_in, next_line, behind_line, lines_in, block_in, vocabulary_in, end_in, certificate_in, count_up_to, count_in, answer_lines, item_lines, listed_lines, IsRead, IsUnreadable}
 
 -- ---- Nothing else than a bad line is told
 

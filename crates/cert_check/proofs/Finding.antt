@@ -1,22 +1,7 @@
 -- The first member of a list that passes a test.
-use Rattle.std.proofs.Common.{◌≡◌, ℕ, zero, suc, ◌+◌, ◌-◌, ◌*◌, ◌/◌, ◌%◌, ◌<◌, ◌≤◌, Bool, true, false, cond, List, [], ◌∷◌, length, take, drop, min, get_or, Some, None, refl, sym, ◌∙◌, ap, subst, arith, inl, inr, ◌⊎◌}
-use Rattle.std.specs.Prelude.{All, position, nat_lt, slice_index_or}
-use Rattle.std.specs.List.{HoldsAt, position_or_len, range_with_len}
-use Rattle.std.proofs.lemmas.List.{get_or-take, get_or-drop, length-take, length-drop, take_all}
-use Rattle.std.proofs.Math.Seq.{take-add}
-use Rattle.std.proofs.lemmas.List.Quantifiers.{position-Some}
-use Rattle.std.proofs.lemmas.List.Elements.{All-append, All-from_get_or, All-more, at_read}
-use Rattle.std.proofs.lemmas.List.Sums.{position_or_len_is, fails_before_first}
-use Rattle.std.proofs.lemmas.List.FromFn.{length-range_with_len, get_or-range_with_len}
-use Rattle.std.proofs.lemmas.Bool.{lt-ltb, ltb-true, ltb-false, cases_lt}
+use Rattle.cert_check.proofs.Prelude.{◌≡◌, ℕ, zero, suc, ◌+◌, ◌-◌, ◌*◌, ◌/◌, ◌%◌, ◌<◌, ◌≤◌, Bool, true, false, cond, List, [], ◌∷◌, length, take, drop, min, get_or, Some, None, refl, sym, ◌∙◌, ap, subst, arith, inl, inr, ◌⊎◌, All, position, nat_lt, slice_index_or, HoldsAt, position_or_len, range_with_len, get_or-take, get_or-drop, length-take, length-drop, take_all, take-add, position-Some, All-append, All-from_get_or, All-more, at_read, position_or_len_is, fails_before_first, length-range_with_len, get_or-range_with_len, lt-ltb, ltb-true, ltb-false, cases_lt, numbers, Candidate, Language, IsCandidate, candidates, number_of, numbered, candidate_at, all_below}
 use Rattle.std.proofs.Math.Nat.{mul-le-mul_left}
 use Rattle.std.proofs.lemmas.Nat.{div-add-mod'}
-use Rattle.assign.specs.Sets.{numbers}
-use Rattle.language.specs.declared.candidates.Candidate.{Candidate}
-use Rattle.language.specs.Language.{Language, IsCandidate, candidates, number_of}
-use Rattle.language.proofs.Counting.{numbered}
-use Rattle.cert_check.specs.Good.{candidate_at}
-use Rattle.language.proofs.Lists.{all_below}
 
 position_from : (n i : ℕ) (b : Bool) → nat_lt i n ≡ b → (k : ℕ) → k ≡ i → cond (nat_lt k n) (Some k) None ≡ cond b (Some i) None
 position_from n i b e k same = (λ j. cond (nat_lt (same j) n) (Some (same j)) None) ∙ ap (λ b. cond b (Some i) None) e

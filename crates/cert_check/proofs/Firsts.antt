@@ -1,18 +1,5 @@
 -- The first item of a row of numbers that is violated, where each that is stands in the row.
-use Rattle.std.proofs.Common.{◌≡◌, ℕ, zero, suc, ◌+◌, ◌<◌, ◌≤◌, Bool, true, false, cond, List, [], ◌∷◌, ◌++◌, length, map, Option, Some, None, Vec, Global, refl, sym, ◌∙◌, ap, arith, inl, inr, ◌⊎◌}
-use Rattle.std.specs.Prelude.{find, position, slice_get, slice_index_or}
-use Rattle.std.specs.Option.{option_map_or}
-use Rattle.std.specs.List.{filter, range_with_len}
-use Rattle.std.proofs.lemmas.Bool.{both_ways, cases_eq, false_from_ne_true}
-use Rattle.std.proofs.lemmas.List.{get_or-take, length-take, map-append}
-use Rattle.std.proofs.lemmas.List.FromFn.{get_or-map-range_with_len, length-map-range_with_len, map-range_with_len_more}
-use Rattle.std.proofs.lemmas.Option.{slice_get-get_or, slice_get_within, get_or_from_slice_get}
-use Rattle.assign.specs.Sets.{numbers}
-use Rattle.assign.specs.Assignment.{Assignment}
-use Rattle.language.specs.declared.candidates.Candidate.{Candidate}
-use Rattle.language.specs.Language.{Language, variable_count, violates}
-use Rattle.cert_check.specs.ByVariable.{AreOnLast, by_variable, has_variable, items_on}
-use Rattle.cert_check.specs.Refuting.{violates_item}
+use Rattle.cert_check.proofs.Prelude.{◌≡◌, ℕ, zero, suc, ◌+◌, ◌<◌, ◌≤◌, Bool, true, false, cond, List, [], ◌∷◌, ◌++◌, length, map, Option, Some, None, Vec, Global, refl, sym, ◌∙◌, ap, arith, inl, inr, ◌⊎◌, find, position, slice_get, slice_index_or, option_map_or, filter, range_with_len, both_ways, cases_eq, false_from_ne_true, get_or-take, length-take, map-append, get_or-map-range_with_len, length-map-range_with_len, map-range_with_len_more, slice_get-get_or, slice_get_within, get_or_from_slice_get, numbers, Assignment, Candidate, Language, variable_count, violates, AreOnLast, by_variable, has_variable, items_on, violates_item}
 use Rattle.cert_check.proofs.Finding.{found_read, none_found}
 
 -- what a test refuses may be left out, where nothing that is looked for is refused

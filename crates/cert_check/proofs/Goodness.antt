@@ -1,18 +1,5 @@
 -- A network with a good list is covered.
-use Rattle.std.proofs.Common.{◌≡◌, Bool, true, List, [], ◌∷◌, ◌∙◌, ap, subst, inl, inr, ◌⊎◌}
-use Rattle.std.specs.Prelude.{All, IsTrue, ◌==◌}
-use Rattle.std.specs.List.{list_any}
-use Rattle.std.proofs.lemmas.List.Elements.{All-head, All-tail}
-use Rattle.std.proofs.lemmas.Bool.{or_cases, eqb-true}
-use Rattle.assign.specs.Events.{Answer}
-use Rattle.language.specs.declared.candidates.Candidate.{Candidate}
-use Rattle.language.specs.Language.{Language, IsLanguage, IsCandidate, IsImplied, number_of}
-use Rattle.language.specs.Answers.{IsNetwork, IsCovered, IsConverged, is_struck}
-use Rattle.language.proofs.Covered.{covered_converged}
-use Rattle.language.proofs.Counting.{numbered}
-use Rattle.cert_check.specs.Certificate.{Refutation}
-use Rattle.cert_check.specs.Refuting.{refutes}
-use Rattle.cert_check.specs.Good.{candidate_at, is_earned, has_refutation, IsGood}
+use Rattle.cert_check.proofs.Prelude.{◌≡◌, Bool, true, List, [], ◌∷◌, ◌∙◌, ap, subst, inl, inr, ◌⊎◌, All, IsTrue, ◌==◌, list_any, All-head, All-tail, or_cases, eqb-true, Answer, Candidate, Language, IsLanguage, IsCandidate, IsImplied, number_of, IsNetwork, IsCovered, IsConverged, is_struck, covered_converged, numbered, Refutation, refutes, candidate_at, is_earned, has_refutation, IsGood}
 use Rattle.cert_check.proofs.Refuted.{refuted_is_implied}
 
 -- what follows from a member that passes

@@ -1,23 +1,5 @@
 -- How the writing of a tree goes on.
-use Rattle.std.proofs.Common.{◌≡◌, ℕ, ◌+◌, ◌<◌, ◌≤◌, Bool, true, false, List, [], ◌∷◌, ◌++◌, length, refl, sym, ◌∙◌, ap, subst, arith, append_assoc}
-use Rattle.std.specs.Prelude.{position}
-use Rattle.std.specs.List.{flat_map}
-use Rattle.std.proofs.lemmas.List.{append-nil}
-use Rattle.std.proofs.lemmas.List.Concat.{flat_map-append}
-use Rattle.std.proofs.lemmas.Bool.{lt-ltb, ltb-true, false_from_ne_true}
-use Rattle.assign.specs.Assignment.{Assignment}
-use Rattle.language.specs.declared.candidates.Candidate.{Candidate}
-use Rattle.language.specs.Language.{Language, IsLanguage, IsCandidate, IsImplied, variable_count, violates}
-use Rattle.language.specs.Search.{satisfies, plain_size}
-use Rattle.cert_check.specs.declared.token.Token.{Token}
-use Rattle.cert_check.specs.declared.token.Token.TheVariants.{Branch}
-use Rattle.cert_check.specs.declared.sheet.Sheet.{Sheet}
-use Rattle.cert_check.specs.Making.{is_long}
-use Rattle.cert_check.specs.Refuting.{children}
-use Rattle.cert_check.specs.Sheets.{Adds}
-use Rattle.cert_check.specs.Trees.{branches, node_of, node_at, tree_of}
-use Rattle.cert_check.specs.Walking.{later, ahead, IsAt}
-use Rattle.cert_check.specs.Written.{token_text}
+use Rattle.cert_check.proofs.Prelude.{◌≡◌, ℕ, ◌+◌, ◌<◌, ◌≤◌, Bool, true, false, List, [], ◌∷◌, ◌++◌, length, refl, sym, ◌∙◌, ap, subst, arith, append_assoc, position, flat_map, append-nil, flat_map-append, lt-ltb, ltb-true, false_from_ne_true, Assignment, Candidate, Language, IsLanguage, IsCandidate, IsImplied, variable_count, violates, satisfies, plain_size, Token, Branch, Sheet, is_long, children, Adds, branches, node_of, node_at, tree_of, later, ahead, IsAt, token_text}
 use Rattle.cert_check.proofs.Sheets.{adds_none, adds_more, adds_as}
 use Rattle.cert_check.proofs.Trees.{branches_both, forest, forest_step, forest_begins, branches_are_plain, branch_has_room}
 use Rattle.cert_check.proofs.Walking.{later_none}

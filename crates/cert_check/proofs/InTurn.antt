@@ -1,17 +1,5 @@
 -- So many lines, words or pairs, one after the other, as a loop reads them.
-use Rattle.std.proofs.Common.{◌≡◌, ℕ, suc, ◌+◌, ◌-◌, ◌<◌, ◌≤◌, true, List, [], ◌∷◌, ◌++◌, length, get_or, set, Option, Some, None, Result, Ok, Err, refl, sym, ap, ◌∙◌, append_assoc, arith, ◌⊎◌, inl, inr}
-use Rattle.std.specs.Option.{ok_or, option_map, option_and_then}
-use Rattle.std.proofs.lemmas.Bool.{cases_eq}
-use Rattle.std.proofs.lemmas.Option.{same_Some}
-use Rattle.std.proofs.lemmas.List.{append-nil, get_or-set_same, get_or-set_other, length-set}
-use Rattle.assign.specs.Assignment.{Assignment, value_of}
-use Rattle.language.specs.declared.ranges.ValueRange.{ValueRange}
-use Rattle.language.specs.Ranges.{is_in}
-use Rattle.language.specs.Language.{Language, IsQuestion, variable_count, range_of, is_ranged}
-use Rattle.cert_check.specs.declared.fault.CertFault.{CertFault}
-use Rattle.cert_check.specs.declared.fault.CertFault.TheVariants.{BadLine}
-use Rattle.cert_check.specs.declared.token.Token.{Token}
-use Rattle.cert_check.specs.Reading.{◌>>=◌, Unread, line_in, next_line, lines_in, pair_in, with_pairs, token_in, tokens_in}
+use Rattle.cert_check.proofs.Prelude.{◌≡◌, ℕ, suc, ◌+◌, ◌-◌, ◌<◌, ◌≤◌, true, List, [], ◌∷◌, ◌++◌, length, get_or, set, Option, Some, None, Result, Ok, Err, refl, sym, ap, ◌∙◌, append_assoc, arith, ◌⊎◌, inl, inr, ok_or, option_map, option_and_then, cases_eq, same_Some, append-nil, get_or-set_same, get_or-set_other, length-set, Assignment, value_of, ValueRange, is_in, Language, IsQuestion, variable_count, range_of, is_ranged, CertFault, BadLine, Token, ◌>>=◌, Unread, line_in, next_line, lines_in, pair_in, with_pairs, token_in, tokens_in}
 
 -- ---- A value that is read, or the fault where there is none
 

@@ -1,18 +1,5 @@
 -- Lines that were written one after the other are read so.
-use Rattle.std.proofs.Common.{◌≡◌, ℕ, suc, ◌+◌, ◌<◌, ◌≤◌, true, cond, List, [], ◌∷◌, ◌++◌, length, take, drop, Option, Some, None, Ok, Err, refl, sym, ◌∙◌, ap, arith, append_assoc, length-append, inl}
-use Rattle.std.specs.Prelude.{nat_le, ◌==◌}
-use Rattle.std.specs.Fmt.{decimal}
-use Rattle.std.specs.List.{flat_map}
-use Rattle.std.specs.Option.{ok_or, option_map, option_and_then}
-use Rattle.std.specs.Str.{bytes_eq}
-use Rattle.std.proofs.lemmas.Bool.{and_from, le-leb, lt-ltb}
-use Rattle.std.proofs.lemmas.List.{take_at, get_or_at}
-use Rattle.cert_check.specs.declared.fault.CertFault.TheVariants.{BadLine}
-use Rattle.line_text.specs.Words.{capped, decimal_in}
-use Rattle.cert_check.specs.Reading.{◌>>=◌, Unread, count_in, count_up_to, line_in, next_line, behind_line, lines_in, block_in}
-use Rattle.cert_check.specs.Written.{count_line}
-use Rattle.line_text.proofs.Avoiding.{Lacks, lacks_both, lacks_first, behind_byte, cut_found}
-use Rattle.line_text.proofs.Decimals.{decimal_lacks, decimal_read}
+use Rattle.cert_check.proofs.Prelude.{◌≡◌, ℕ, suc, ◌+◌, ◌<◌, ◌≤◌, true, cond, List, [], ◌∷◌, ◌++◌, length, take, drop, Option, Some, None, Ok, Err, refl, sym, ◌∙◌, ap, arith, append_assoc, length-append, inl, nat_le, ◌==◌, decimal, flat_map, ok_or, option_map, option_and_then, bytes_eq, and_from, le-leb, lt-ltb, take_at, get_or_at, BadLine, capped, decimal_in, ◌>>=◌, Unread, count_in, count_up_to, line_in, next_line, behind_line, lines_in, block_in, count_line, Lacks, lacks_both, lacks_first, behind_byte, cut_found, decimal_lacks, decimal_read}
 use Rattle.cert_check.proofs.InTurn.{next_read}
 use Rattle.line_text.proofs.Numerals.{capped_low}
 

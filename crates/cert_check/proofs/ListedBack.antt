@@ -1,23 +1,5 @@
 -- The lines of items and of listed candidates are read as those.
-use Rattle.std.proofs.Common.{◌≡◌, ℕ, ◌+◌, ◌<◌, ◌≤◌, ◌^◌, ◌&&◌, false, cond, List, [], ◌∷◌, ◌++◌, length, map, Some, refl, sym, ◌∙◌, ap, arith, append_assoc, inl, inr}
-use Rattle.std.specs.Prelude.{All, ◌==◌, codes}
-use Rattle.std.specs.Fmt.{decimal}
-use Rattle.std.specs.List.{flat_map}
-use Rattle.std.specs.Option.{option_map, option_and_then}
-use Rattle.std.specs.Str.{bytes_eq}
-use Rattle.std.proofs.lemmas.List.Elements.{All-nil, All-cons, All-head, All-tail}
-use Rattle.language.specs.declared.candidates.Candidate.{Candidate}
-use Rattle.language.specs.Language.{Language, IsLanguage, IsCandidate, candidates, relations_on}
-use Rattle.language.proofs.Counting.{count_few}
-use Rattle.cert_check.specs.declared.token.Token.{Token}
-use Rattle.cert_check.specs.declared.token.Token.TheVariants.{Branch, Holds, Item}
-use Rattle.cert_check.specs.Certificate.{Refutation}
-use Rattle.line_text.specs.Words.{decimal_below}
-use Rattle.cert_check.specs.Reading.{item_in, token_in, tokens_in, listed_of, listed_in}
-use Rattle.cert_check.specs.Written.{item_line, listed_line, token_text}
-use Rattle.cert_check.specs.WritingLaws.{IsNodeOver}
-use Rattle.line_text.proofs.Avoiding.{Lacks, lacks_by, lacks_both, lacks_first, cut_found, spaced, spaced_lacks, words_joined}
-use Rattle.line_text.proofs.Decimals.{decimal_lacks, below_read, from_read}
+use Rattle.cert_check.proofs.Prelude.{◌≡◌, ℕ, ◌+◌, ◌<◌, ◌≤◌, ◌^◌, ◌&&◌, false, cond, List, [], ◌∷◌, ◌++◌, length, map, Some, refl, sym, ◌∙◌, ap, arith, append_assoc, inl, inr, All, ◌==◌, codes, decimal, flat_map, option_map, option_and_then, bytes_eq, All-nil, All-cons, All-head, All-tail, Candidate, Language, IsLanguage, IsCandidate, candidates, relations_on, count_few, Token, Branch, Holds, Item, Refutation, decimal_below, item_in, token_in, tokens_in, listed_of, listed_in, item_line, listed_line, token_text, IsNodeOver, Lacks, lacks_by, lacks_both, lacks_first, cut_found, spaced, spaced_lacks, words_joined, decimal_lacks, below_read, from_read}
 use Rattle.cert_check.proofs.LinesBack.{Says}
 
 -- ---- Items

@@ -1,21 +1,6 @@
 -- The candidates that are listed, and the first of them whose tree is too long.
-use Rattle.std.proofs.Common.{◌≡◌, ℕ, zero, suc, ◌+◌, ◌<◌, ◌≤◌, Bool, true, false, cond, not, ◌&&◌, List, [], ◌∷◌, ◌++◌, length, take, get_or, map, Option, Some, None, Err, refl, sym, ◌∙◌, ap, arith, inl, inr, ◌⊎◌}
-use Rattle.std.specs.Prelude.{All, IsTrue, find, option_map, codes}
-use Rattle.std.specs.List.{filter, flat_map}
-use Rattle.std.proofs.lemmas.List.{append-nil, length-map, take_all}
-use Rattle.std.proofs.lemmas.List.Elements.{All-head, All-tail, filter_more}
-use Rattle.std.proofs.lemmas.List.Folds.{flat_map-map}
-use Rattle.std.proofs.lemmas.Bool.{and_parts, both_ways, not-true}
-use Rattle.assign.specs.Events.{Answer}
-use Rattle.language.specs.declared.candidates.Candidate.{Candidate}
-use Rattle.language.specs.Language.{Language, IsCandidate, IsImplied, number_of}
-use Rattle.language.specs.Answers.{IsCovered, is_struck, has_scope}
-use Rattle.cert_check.specs.declared.fault.MakeFault.{MakeFault}
-use Rattle.cert_check.specs.declared.fault.MakeFault.TheVariants.{Long}
-use Rattle.cert_check.specs.declared.sheet.Sheet.{Sheet}
-use Rattle.cert_check.specs.Making.{IsFirstLong, is_long, fitting, made_within, refutation_of}
-use Rattle.cert_check.specs.Sheets.{Adds}
-use Rattle.cert_check.specs.Written.{count_line, listed_line, implied_section}
+use Rattle.cert_check.proofs.Prelude.{◌≡◌, ℕ, zero, suc, ◌+◌, ◌<◌, ◌≤◌, Bool, true, false, cond, not, ◌&&◌, List, [], ◌∷◌, ◌++◌, length, take, get_or, map, Option, Some, None, Err, refl, sym, ◌∙◌, ap, arith, inl, inr, ◌⊎◌, All, IsTrue, find, codes, filter, flat_map, append-nil, length-map, take_all, All-head, All-tail, filter_more, flat_map-map, and_parts, both_ways, not-true, Answer, Candidate, Language, IsCandidate, IsImplied, number_of, IsCovered, is_struck, has_scope, MakeFault, Long, Sheet, IsFirstLong, is_long, fitting, made_within, refutation_of, Adds, count_line, listed_line, implied_section}
+use Rattle.std.specs.Prelude.{option_map}
 use Rattle.cert_check.proofs.Sheets.{adds_as}
 
 -- whether a candidate is kept

@@ -1,7 +1,5 @@
 -- What holds of all members of two lists in one.
-use Rattle.std.proofs.Common.{List, [], ◌∷◌, ◌++◌}
-use Rattle.std.specs.Prelude.{All}
-use Rattle.std.proofs.lemmas.List.Elements.{All-head, All-tail, All-nil, All-cons}
+use Rattle.cert_check.proofs.Prelude.{List, [], ◌∷◌, ◌++◌, All, All-head, All-tail, All-nil, All-cons}
 
 pub all_left : {X : Type 0} (P : X → Type 0) (xs ys : List X) → All P (xs ++ ys) → All P xs
 all_left P [] ys h = All-nil P

@@ -1,29 +1,5 @@
 -- The certificate that is made is good.
-use Rattle.std.proofs.Common.{◌≡◌, ℕ, zero, suc, ◌-◌, ◌<◌, ◌≤◌, Bool, true, false, ◌&&◌, List, [], ◌∷◌, ◌++◌, length, map, Option, Some, None, refl, sym, ◌∙◌, ap, subst, arith, inl, inr, ◌⊎◌, append_assoc, length-append}
-use Rattle.std.specs.Prelude.{◌==◌, All, IsTrue, position, slice_index_or}
-use Rattle.std.specs.List.{flat_map}
-use Rattle.std.specs.Option.{option_map_or}
-use Rattle.std.proofs.lemmas.List.{append-nil}
-use Rattle.std.proofs.lemmas.List.Elements.{All-head, All-tail, All-nil, All-append, All-push, All-map, All-filter, filter_passes}
-use Rattle.std.proofs.lemmas.List.Quantifiers.{position-Some}
-use Rattle.std.proofs.lemmas.Option.{slice_get-get_or}
-use Rattle.std.proofs.lemmas.Bool.{and_from, not_from_false, lt-ltb, eq-eqb}
-use Rattle.assign.specs.Sets.{numbers}
-use Rattle.assign.specs.Events.{Answer}
-use Rattle.language.specs.declared.candidates.Candidate.{Candidate}
-use Rattle.language.specs.Language.{Language, IsLanguage, IsCandidate, IsImplied, variable_count, values_of, relations_on, candidates_on, candidates, number_of, violates}
-use Rattle.language.specs.Answers.{IsCovered, is_struck, has_scope, kept}
-use Rattle.language.specs.Search.{order_of, assignment_of, satisfies}
-use Rattle.language.proofs.Counting.{numbered}
-use Rattle.language.proofs.Lists.{all_below}
-use Rattle.language.proofs.Members.{any-filter, any-map, any_candidate}
-use Rattle.cert_check.specs.declared.token.Token.{Token}
-use Rattle.cert_check.specs.declared.token.Token.TheVariants.{Branch, Holds, Item}
-use Rattle.cert_check.specs.Certificate.{Refutation}
-use Rattle.cert_check.specs.Good.{is_earned, has_refutation, IsGood}
-use Rattle.cert_check.specs.Making.{refutation_of}
-use Rattle.cert_check.specs.Refuting.{is_lawful, children, are_trees, refutes}
-use Rattle.cert_check.specs.Trees.{node_of, node_at, tree_from, tree_of}
+use Rattle.cert_check.proofs.Prelude.{◌≡◌, ℕ, zero, suc, ◌-◌, ◌<◌, ◌≤◌, Bool, true, false, ◌&&◌, List, [], ◌∷◌, ◌++◌, length, map, Option, Some, None, refl, sym, ◌∙◌, ap, subst, arith, inl, inr, ◌⊎◌, append_assoc, length-append, ◌==◌, All, IsTrue, position, slice_index_or, flat_map, option_map_or, append-nil, All-head, All-tail, All-nil, All-append, All-push, All-map, All-filter, filter_passes, position-Some, slice_get-get_or, and_from, not_from_false, lt-ltb, eq-eqb, numbers, Answer, Candidate, Language, IsLanguage, IsCandidate, IsImplied, variable_count, values_of, relations_on, candidates_on, candidates, number_of, violates, IsCovered, is_struck, has_scope, kept, order_of, assignment_of, satisfies, numbered, all_below, any-filter, any-map, any_candidate, Token, Branch, Holds, Item, Refutation, is_earned, has_refutation, IsGood, refutation_of, is_lawful, children, are_trees, refutes, node_of, node_at, tree_from, tree_of}
 use Rattle.cert_check.proofs.Listing.{is_kept, implied_if_kept}
 use Rattle.cert_check.proofs.Trees.{branch_has_room, no_children}
 use Rattle.cert_check.proofs.Within.{IsNext, IsRanged, all_next, ranged_none, ranged_longer}

@@ -1,27 +1,5 @@
 -- The text that is made for a covered network is read as the certificate that was made, and a check confirms it.
-use Rattle.std.proofs.Common.{◌≡◌, ℕ, zero, suc, ◌+◌, ◌<◌, ◌≤◌, Bool, true, false, cond, not, List, [], ◌∷◌, ◌++◌, length, map, Option, Some, None, Result, Ok, Err, refl, sym, subst, arith}
-use Rattle.std.specs.Prelude.{All, nat_lt, position}
-use Rattle.std.specs.List.{filter, flat_map, range_with_len}
-use Rattle.std.proofs.lemmas.Bool.{ltb-false}
-use Rattle.std.proofs.lemmas.List.{length-map}
-use Rattle.std.proofs.lemmas.List.Elements.{All-nil, All-cons, All-map}
-use Rattle.std.proofs.lemmas.List.Filters.{length-filter_both}
-use Rattle.assign.specs.Sets.{numbers}
-use Rattle.language.specs.declared.candidates.Candidate.{Candidate}
-use Rattle.language.specs.Language.{Language, candidates, candidates_on, number_of, relations_on, violates}
-use Rattle.language.specs.Answers.{kept}
-use Rattle.language.specs.Search.{assignment_of, satisfies}
-use Rattle.language.proofs.Counting.{count, count_few, count_more, length-candidates_on, numbered}
-use Rattle.cert_check.specs.declared.fault.MakeFault.{MakeFault}
-use Rattle.cert_check.specs.declared.fault.MakeFault.TheVariants.{TooLarge}
-use Rattle.cert_check.specs.declared.token.Token.{Token}
-use Rattle.cert_check.specs.Certificate.{Certificate}
-use Rattle.cert_check.specs.Making.{certificate_of, first_long, made_within, refutation_of}
-use Rattle.cert_check.specs.Reading.{MOST_CERTIFICATE, IsRead}
-use Rattle.cert_check.specs.Refuting.{children}
-use Rattle.cert_check.specs.Trees.{node_of, node_at, tree_from}
-use Rattle.cert_check.specs.Written.{certificate_text}
-use Rattle.cert_check.specs.WritingLaws.{IsNodeOver, MadeIsConfirmed}
+use Rattle.cert_check.proofs.Prelude.{◌≡◌, ℕ, zero, suc, ◌+◌, ◌<◌, ◌≤◌, Bool, true, false, cond, not, List, [], ◌∷◌, ◌++◌, length, map, Option, Some, None, Result, Ok, Err, refl, sym, subst, arith, All, nat_lt, position, filter, flat_map, range_with_len, ltb-false, length-map, All-nil, All-cons, All-map, length-filter_both, numbers, Candidate, Language, candidates, candidates_on, number_of, relations_on, violates, kept, assignment_of, satisfies, count, count_few, count_more, length-candidates_on, numbered, MakeFault, TooLarge, Token, Certificate, certificate_of, first_long, made_within, refutation_of, MOST_CERTIFICATE, IsRead, children, node_of, node_at, tree_from, certificate_text, IsNodeOver, MadeIsConfirmed}
 use Rattle.line_text.proofs.Cutting.{at_first}
 use Rattle.cert_check.proofs.Listing.{is_kept}
 use Rattle.cert_check.proofs.Made.{all_flat, all_kept, made_is_good}

@@ -1,26 +1,5 @@
 -- What is violated at a prefix and not without its last value has the last variable in its scope.
-use Rattle.std.proofs.Common.{◌≡◌, ℕ, zero, suc, ◌+◌, ◌-◌, ◌<◌, ◌≤◌, Bool, true, false, ◌&&◌, ◌||◌, List, [], ◌∷◌, ◌++◌, length, Option, Some, None, refl, sym, ◌∙◌, ap, subst, arith, inl, inr, ◌⊎◌, length-append}
-use Rattle.std.specs.Prelude.{All, IfSome, ◌==◌, is_some, unwrap_or, slice_get, slice_index_or, slice_set}
-use Rattle.std.specs.Option.{option_map_or}
-use Rattle.std.proofs.lemmas.Bool.{both_ways, eq-eqb, and_parts, false_from_ne_true}
-use Rattle.std.proofs.lemmas.List.{get_or-set_other}
-use Rattle.std.proofs.lemmas.List.Elements.{All-head, All-tail, All-nil, All-cons, All-append, All-map}
-use Rattle.std.proofs.lemmas.Option.{get_or_from_slice_get, slice_get_within}
-use Rattle.assign.specs.Sets.{has}
-use Rattle.assign.specs.Assignment.{Assignment, value_of, covers, tuple_on, assigned}
-use Rattle.language.specs.declared.candidates.Candidate.{Candidate}
-use Rattle.language.specs.Language.{Language, IsLanguage, IsCandidate, IsScope, variable_count, scope_of, values_of, violates}
-use Rattle.language.specs.Answers.{IsNetwork}
-use Rattle.language.specs.Search.{order_of, assignment_of, IsOrder}
-use Rattle.language.proofs.Beside.{value_of_assigned, beside_none}
-use Rattle.language.proofs.Filling.{assigned_push}
-use Rattle.language.proofs.Orders.{orders_are_known}
-use Rattle.cert_check.specs.declared.token.Token.{Token}
-use Rattle.cert_check.specs.declared.token.Token.TheVariants.{Branch, Holds, Item}
-use Rattle.cert_check.specs.ByVariable.{has_last, last_of, AreOnLast}
-use Rattle.cert_check.specs.Refuting.{children}
-use Rattle.cert_check.specs.Trees.{node_of, node_at}
-use Rattle.cert_check.specs.Walking.{ahead, later, IsAt}
+use Rattle.cert_check.proofs.Prelude.{◌≡◌, ℕ, zero, suc, ◌+◌, ◌-◌, ◌<◌, ◌≤◌, Bool, true, false, ◌&&◌, ◌||◌, List, [], ◌∷◌, ◌++◌, length, Option, Some, None, refl, sym, ◌∙◌, ap, subst, arith, inl, inr, ◌⊎◌, length-append, All, IfSome, ◌==◌, is_some, unwrap_or, slice_get, slice_index_or, slice_set, option_map_or, both_ways, eq-eqb, and_parts, false_from_ne_true, get_or-set_other, All-head, All-tail, All-nil, All-cons, All-append, All-map, get_or_from_slice_get, slice_get_within, has, Assignment, value_of, covers, tuple_on, assigned, Candidate, Language, IsLanguage, IsCandidate, IsScope, variable_count, scope_of, values_of, violates, IsNetwork, order_of, assignment_of, IsOrder, value_of_assigned, beside_none, assigned_push, orders_are_known, Token, Branch, Holds, Item, has_last, last_of, AreOnLast, children, node_of, node_at, ahead, later, IsAt}
 use Rattle.cert_check.proofs.Finding.{all_fail}
 use Rattle.cert_check.proofs.Walking.{later_none}
 use Rattle.cert_check.proofs.Within.{next_of}

@@ -1,16 +1,6 @@
 -- Bytes are read as one certificate, or refused for one fault.
-use Rattle.std.proofs.Common.{◌≡◌, ℕ, ◌<◌, ◌≤◌, List, length, Some, Result, Ok, Err, refl, sym, ap, ◌∙◌, subst, arith, ◌⊎◌, inl, inr}
-use Rattle.std.proofs.lemmas.Option.{none-some, same_Some}
-use Rattle.language.specs.Language.{Language}
-use Rattle.voc_read.specs.declared.fault.VocFault.{VocFault}
-use Rattle.voc_read.specs.Vocabulary.{IsVocabulary, refusal_of_vocabulary}
+use Rattle.cert_check.proofs.Prelude.{◌≡◌, ℕ, ◌<◌, ◌≤◌, List, length, Some, Result, Ok, Err, refl, sym, ap, ◌∙◌, subst, arith, ◌⊎◌, inl, inr, none-some, same_Some, Language, VocFault, IsVocabulary, refusal_of_vocabulary, not_refused, CertFault, TooLong, BadLine, Voc, Memory, Certificate, Unread, MOST_CERTIFICATE, vocabulary_in, certificate_in, IsVocRefused, IsBadBehind, ReadIsNotRefused, NoTwoCertificates, NoTwoFaults}
 use Rattle.voc_read.proofs.OneReading.{one_language}
-use Rattle.voc_read.proofs.Refused.{not_refused}
-use Rattle.cert_check.specs.declared.fault.CertFault.{CertFault}
-use Rattle.cert_check.specs.declared.fault.CertFault.TheVariants.{TooLong, BadLine, Voc, Memory}
-use Rattle.cert_check.specs.Certificate.{Certificate}
-use Rattle.cert_check.specs.Reading.{Unread, MOST_CERTIFICATE, vocabulary_in, certificate_in, IsVocRefused, IsBadBehind}
-use Rattle.cert_check.specs.ReadingLaws.{ReadIsNotRefused, NoTwoCertificates, NoTwoFaults}
 
 abbrev done : {A : Type 0} → A → Result A CertFault
 done x = Ok x

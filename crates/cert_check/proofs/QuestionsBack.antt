@@ -1,23 +1,5 @@
 -- The line of an answer is read as that answer.
-use Rattle.std.proofs.Common.{◌≡◌, ℕ, zero, suc, ◌+◌, ◌<◌, ◌≤◌, not, Bool, true, false, List, [], ◌∷◌, ◌++◌, length, replicate, set, Option, Some, None, is_some, refl, sym, ◌∙◌, ap, subst, arith, append_assoc, inl, inr, ◌⊎◌}
-use Rattle.std.specs.Prelude.{All, ◌==◌, codes}
-use Rattle.std.specs.Fmt.{decimal}
-use Rattle.std.specs.List.{flat_map, list_all, list_any, range_with_len}
-use Rattle.std.specs.Option.{option_map, option_and_then}
-use Rattle.std.proofs.lemmas.Bool.{both_ways, cases_eq, cases_lt}
-use Rattle.std.proofs.lemmas.Option.{same_Some}
-use Rattle.std.proofs.lemmas.List.{ext_get_or, get_or-set_same, get_or-set_other, length-replicate, length-set}
-use Rattle.std.proofs.lemmas.List.Elements.{All-nil, All-cons, All-head, All-tail}
-use Rattle.assign.specs.Assignment.{Assignment, value_of}
-use Rattle.assign.specs.Events.{Answer}
-use Rattle.language.specs.declared.ranges.ValueRange.{ValueRange}
-use Rattle.language.specs.Ranges.{range_in}
-use Rattle.language.specs.Language.{Language, IsLanguage, IsQuestion, variable_count, range_of, is_ranged}
-use Rattle.line_text.specs.Words.{number_from}
-use Rattle.cert_check.specs.Reading.{value_in, pair_in, with_pairs, question_in, reply_in, answer_in}
-use Rattle.cert_check.specs.Written.{entry_line, numbered_value, reply_text}
-use Rattle.line_text.proofs.Avoiding.{Lacks, lacks_by, lacks_both, lacks_first, cut_found, spaced, spaced_lacks, words_joined}
-use Rattle.line_text.proofs.Decimals.{IsNoDigit, decimal_lacks, from_read}
+use Rattle.cert_check.proofs.Prelude.{◌≡◌, ℕ, zero, suc, ◌+◌, ◌<◌, ◌≤◌, not, Bool, true, false, List, [], ◌∷◌, ◌++◌, length, replicate, set, Option, Some, None, is_some, refl, sym, ◌∙◌, ap, subst, arith, append_assoc, inl, inr, ◌⊎◌, All, ◌==◌, codes, decimal, flat_map, list_all, list_any, range_with_len, option_map, option_and_then, both_ways, cases_eq, cases_lt, same_Some, ext_get_or, get_or-set_same, get_or-set_other, length-replicate, length-set, All-nil, All-cons, All-head, All-tail, Assignment, value_of, Answer, ValueRange, range_in, Language, IsLanguage, IsQuestion, variable_count, range_of, is_ranged, number_from, value_in, pair_in, with_pairs, question_in, reply_in, answer_in, entry_line, numbered_value, reply_text, Lacks, lacks_by, lacks_both, lacks_first, cut_found, spaced, spaced_lacks, words_joined, IsNoDigit, decimal_lacks, from_read}
 use Rattle.cert_check.proofs.InTurn.{pairs_go_on, pairs_done}
 use Rattle.cert_check.proofs.LinesBack.{Says}
 use Rattle.cert_check.proofs.Within.{bounds}

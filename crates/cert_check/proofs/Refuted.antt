@@ -1,25 +1,7 @@
 -- What trees of tokens say: no complete assignment that goes on from a prefix is accepted and violates the candidate.
-use Rattle.std.proofs.Common.{◌≡◌, ℕ, ◌<◌, Bool, true, false, ◌&&◌, not, List, [], ◌∷◌, ◌++◌, length, Option, Some, None, refl, sym, ◌∙◌, ap, subst, arith, append_assoc, length-append}
-use Rattle.std.specs.Prelude.{All, slice_get}
-use Rattle.std.specs.Option.{option_map_or}
-use Rattle.std.proofs.lemmas.List.Elements.{All-head, All-nil, All-cons}
-use Rattle.std.proofs.lemmas.Option.{get_or_from_slice_get, slice_get_within}
-use Rattle.std.proofs.lemmas.Bool.{and_parts, both_ways, ltb-true, false_from_ne_true}
-use Rattle.assign.specs.Assignment.{Assignment, tuple_on, covers}
-use Rattle.language.specs.declared.candidates.Candidate.{Candidate}
-use Rattle.language.specs.Ranges.{is_in}
-use Rattle.language.specs.Language.{Language, IsLanguage, IsCandidate, IsImplied, variable_count, range_of, scope_of, violates, accepts}
-use Rattle.language.specs.Search.{order_of, assignment_of, are_ranged}
-use Rattle.language.proofs.Accepts.{accepted_at}
-use Rattle.language.proofs.Beside.{tuple_fits}
-use Rattle.language.proofs.Fronts.{HasMore, assigned_more, violates_more, satisfies_more, ranged_from}
-use Rattle.language.proofs.Orders.{order_small, whole_prefix, covers_all}
-use Rattle.language.proofs.Plain.{length-tuple_on, scope_small, long_order}
-use Rattle.cert_check.specs.declared.token.Token.{Token}
-use Rattle.cert_check.specs.declared.token.Token.TheVariants.{Branch, Holds, Item}
+use Rattle.cert_check.proofs.Prelude.{◌≡◌, ℕ, ◌<◌, Bool, true, false, ◌&&◌, not, List, [], ◌∷◌, ◌++◌, length, Option, Some, None, refl, sym, ◌∙◌, ap, subst, arith, append_assoc, length-append, All, slice_get, option_map_or, All-head, All-nil, All-cons, get_or_from_slice_get, slice_get_within, and_parts, both_ways, ltb-true, false_from_ne_true, Assignment, tuple_on, covers, Candidate, is_in, Language, IsLanguage, IsCandidate, IsImplied, variable_count, range_of, scope_of, violates, accepts, order_of, assignment_of, are_ranged, accepted_at, tuple_fits, HasMore, assigned_more, violates_more, satisfies_more, ranged_from, order_small, whole_prefix, covers_all, length-tuple_on, scope_small, long_order, Token, Branch, Holds, Item, violates_item, is_lawful, children, are_trees, refutes}
 use Rattle.cert_check.proofs.Lists.{all_left, all_right}
 use Rattle.cert_check.proofs.Within.{IsRanged, next_of, ranged_front, ranged_last, all_among}
-use Rattle.cert_check.specs.Refuting.{violates_item, is_lawful, children, are_trees, refutes}
 
 -- ---- what is closed
 

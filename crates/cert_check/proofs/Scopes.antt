@@ -1,16 +1,5 @@
 -- A network has no more candidates than there are scopes.
-use Rattle.std.proofs.Common.{◌≡◌, ℕ, suc, ◌<◌, ◌≤◌, ◌^◌, Bool, true, false, cond, ◌||◌, ◌&&◌, not, List, [], ◌∷◌, length, refl, sym, ◌∙◌, arith}
-use Rattle.std.specs.Prelude.{◌==◌, All, AllPairs, slice_index_or}
-use Rattle.std.specs.List.{filter}
-use Rattle.std.proofs.lemmas.List.FromFn.{length-range_with_len}
-use Rattle.std.proofs.lemmas.List.Filters.{length-filter_both}
-use Rattle.std.proofs.lemmas.Bool.{and_from, both_ways, not_from_false, eqb-true, eq-eqb, false_from_ne_true}
-use Rattle.assign.specs.Sets.{numbers, has}
-use Rattle.language.specs.declared.candidates.Candidate.{Candidate}
-use Rattle.language.specs.Language.{Language, IsLanguage}
-use Rattle.language.specs.Answers.{IsNetwork}
-use Rattle.language.proofs.Lists.{any_weaker}
-use Rattle.language.proofs.Members.{any-filter, any_number}
+use Rattle.cert_check.proofs.Prelude.{◌≡◌, ℕ, suc, ◌<◌, ◌≤◌, ◌^◌, Bool, true, false, cond, ◌||◌, ◌&&◌, not, List, [], ◌∷◌, length, refl, sym, ◌∙◌, arith, ◌==◌, All, AllPairs, slice_index_or, filter, length-range_with_len, length-filter_both, and_from, both_ways, not_from_false, eqb-true, eq-eqb, false_from_ne_true, numbers, has, Candidate, Language, IsLanguage, IsNetwork, any_weaker, any-filter, any_number}
 
 no_more : (p : ℕ → Bool) (xs : List ℕ) → length (filter p xs) ≤ length xs
 no_more p xs = omega (arith, length-filter_both p (λ x. not (p x)) (λ x. refl) xs)

@@ -1,15 +1,5 @@
 -- Text that is written piece by piece.
-use Rattle.std.proofs.Common.{OnOk, Result, Ok, Err, ◌≡◌, ℕ, ◌+◌, ◌<◌, ◌≤◌, Bool, true, false, List, [], ◌∷◌, ◌++◌, length, take, get_or, sym, ◌∙◌, ap, subst, arith, append_assoc, length-append}
-use Rattle.std.specs.Prelude.{nat_lt}
-use Rattle.std.specs.List.{flat_map}
-use Rattle.std.proofs.lemmas.List.{append-nil, take_more, take_all}
-use Rattle.std.proofs.lemmas.List.FromFn.{length-range_with_len, get_or-range_with_len}
-use Rattle.std.proofs.lemmas.List.Concat.{flat_map-append}
-use Rattle.std.proofs.lemmas.Bool.{ltb-true, ltb-false}
-use Rattle.assign.specs.Sets.{numbers}
-use Rattle.cert_check.specs.Reading.{MOST_CERTIFICATE}
-use Rattle.cert_check.specs.Sheets.{Stands, IsSheetOf, Adds}
-use Rattle.cert_check.specs.declared.sheet.Sheet.{Sheet}
+use Rattle.cert_check.proofs.Prelude.{OnOk, Result, Ok, Err, ◌≡◌, ℕ, ◌+◌, ◌<◌, ◌≤◌, Bool, true, false, List, [], ◌∷◌, ◌++◌, length, take, get_or, sym, ◌∙◌, ap, subst, arith, append_assoc, length-append, nat_lt, flat_map, append-nil, take_more, take_all, length-range_with_len, get_or-range_with_len, flat_map-append, ltb-true, ltb-false, numbers, MOST_CERTIFICATE, Stands, IsSheetOf, Adds, Sheet}
 
 -- what is too long stays so
 pub stands_full : (full : Bool) (text whole piece : List ℕ) → full ≡ true → Stands full text whole → Stands full text (whole ++ piece)

@@ -1,29 +1,6 @@
 -- The tree of a candidate that the network implies.
-use Rattle.std.proofs.Common.{◌≡◌, ℕ, zero, suc, ◌+◌, ◌-◌, ◌<◌, ◌≤◌, Bool, true, false, cond, ◌&&◌, not, List, [], ◌∷◌, ◌++◌, length, map, Option, Some, None, refl, sym, ◌∙◌, ap, subst, arith, inl, inr, ◌⊎◌, append_assoc, length-append}
-use Rattle.std.specs.Prelude.{All, position, slice_index_or}
-use Rattle.std.specs.List.{filter, flat_map}
-use Rattle.std.proofs.lemmas.List.{append-nil, length-map}
-use Rattle.std.proofs.lemmas.List.Concat.{flat_map-append}
-use Rattle.std.proofs.lemmas.List.Elements.{All-head, All-tail, All-nil, All-append, All-push, All-weaker, filter-append}
-use Rattle.std.proofs.lemmas.List.Quantifiers.{position-Some}
-use Rattle.std.proofs.lemmas.List.Sums.{list_all-from_AllPass}
-use Rattle.std.proofs.lemmas.Bool.{and_parts, both_ways, false_from_ne_true, not_from_false, cases_lt}
-use Rattle.assign.specs.Sets.{numbers}
-use Rattle.assign.specs.Assignment.{Assignment}
-use Rattle.language.specs.declared.candidates.Candidate.{Candidate}
-use Rattle.language.specs.Ranges.{is_in}
-use Rattle.language.specs.Language.{Language, IsLanguage, IsCandidate, IsImplied, variable_count, range_of, values_of, violates, accepts}
-use Rattle.language.specs.Search.{order_of, prefixes, assignment_of, satisfies, are_ranged, is_plain, plain_size}
-use Rattle.language.proofs.Accepts.{accepted_at}
-use Rattle.language.proofs.Filling.{question_there, size_of}
-use Rattle.language.proofs.Fronts.{plain_fronts}
-use Rattle.language.proofs.Orders.{orders_are_known}
-use Rattle.language.proofs.Plain.{complete_there, violated_there}
+use Rattle.cert_check.proofs.Prelude.{◌≡◌, ℕ, zero, suc, ◌+◌, ◌-◌, ◌<◌, ◌≤◌, Bool, true, false, cond, ◌&&◌, not, List, [], ◌∷◌, ◌++◌, length, map, Option, Some, None, refl, sym, ◌∙◌, ap, subst, arith, inl, inr, ◌⊎◌, append_assoc, length-append, All, position, slice_index_or, filter, flat_map, append-nil, length-map, flat_map-append, All-head, All-tail, All-nil, All-append, All-push, All-weaker, filter-append, position-Some, list_all-from_AllPass, and_parts, both_ways, false_from_ne_true, not_from_false, cases_lt, numbers, Assignment, Candidate, is_in, Language, IsLanguage, IsCandidate, IsImplied, variable_count, range_of, values_of, violates, accepts, order_of, prefixes, assignment_of, satisfies, are_ranged, is_plain, plain_size, accepted_at, question_there, size_of, plain_fronts, orders_are_known, complete_there, violated_there, Token, Branch, Holds, Item, children, node_of, node_at, tree_from, tree_of, is_branch, branches}
 use Rattle.language.proofs.Preorder.{filter_map_of, none_passes, prefixes_small}
-use Rattle.cert_check.specs.declared.token.Token.{Token}
-use Rattle.cert_check.specs.declared.token.Token.TheVariants.{Branch, Holds, Item}
-use Rattle.cert_check.specs.Refuting.{children}
-use Rattle.cert_check.specs.Trees.{node_of, node_at, tree_from, tree_of, is_branch, branches}
 use Rattle.cert_check.proofs.Finding.{all_fail}
 use Rattle.cert_check.proofs.Within.{IsNext, IsRanged, all_next, next_of, ranged_none, ranged_front, ranged_longer, ranged_last}
 

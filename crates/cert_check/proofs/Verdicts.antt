@@ -1,30 +1,10 @@
 -- No flaw is found exactly where the certificate is good.
-use Rattle.std.proofs.Common.{◌≡◌, ℕ, ◌+◌, ◌<◌, Bool, true, false, not, ◌&&◌, List, [], ◌∷◌, length, take, Option, Some, None, refl, sym, ◌∙◌, ap, subst, arith, inl, inr, ◌⊎◌}
-use Rattle.std.specs.Prelude.{All, Any, AllPairs, IsTrue, position, option_map, slice_index_or, ◌==◌, ◌↔◌}
-use Rattle.std.specs.Option.{option_or}
+use Rattle.cert_check.proofs.Prelude.{◌≡◌, ℕ, ◌+◌, ◌<◌, Bool, true, false, not, ◌&&◌, List, [], ◌∷◌, length, take, Option, Some, None, refl, sym, ◌∙◌, ap, subst, arith, inl, inr, ◌⊎◌, All, Any, AllPairs, IsTrue, position, slice_index_or, ◌==◌, ◌↔◌, option_or, flat_map, get_or-take, length-take, All-head, All-tail, All-nil, All-append, All-map, Any-from_list_any, list_any-from_Any, list_any_at, list_all-from_AllPass, AllPass-from_list_all, length-range_with_len, get_or-range_with_len, both_ways, not-true, not-false, and_parts, and_from, and_left, and_right, not_from_true, not_from_false, false_from_ne_true, eqb-true, eq-eqb, ne_eqb, numbers, is_same, variables_of, Answer, Candidate, Language, IsCandidate, candidates, candidates_on, relations_on, number_of, scope_of, violates, accepts, is_struck, has_scope, IsNoOn, numbered, all_below, Yes, Refutation, has_refutation, IsGood, is_other, repeats_scope, is_no_on, has_own_no, has_other, is_spared, is_rival, is_uncovered, is_unearned, flaw_before_list, first_flaw, verdict_of}
+use Rattle.std.specs.Prelude.{option_map}
 use Rattle.std.specs.Bool.{beq}
-use Rattle.std.specs.List.{flat_map}
-use Rattle.std.proofs.lemmas.List.{get_or-take, length-take}
-use Rattle.std.proofs.lemmas.List.Elements.{All-head, All-tail, All-nil, All-append, All-map}
-use Rattle.std.proofs.lemmas.List.Folds.{Any-from_list_any, list_any-from_Any, list_any_at}
-use Rattle.std.proofs.lemmas.List.Sums.{list_all-from_AllPass, AllPass-from_list_all}
-use Rattle.std.proofs.lemmas.List.FromFn.{length-range_with_len, get_or-range_with_len}
-use Rattle.std.proofs.lemmas.Bool.{both_ways, not-true, not-false, and_parts, and_from, and_left, and_right, not_from_true, not_from_false, false_from_ne_true, eqb-true, eq-eqb, ne_eqb}
-use Rattle.assign.specs.Sets.{numbers, is_same}
-use Rattle.assign.specs.Assignment.{variables_of}
-use Rattle.assign.specs.Events.{Answer}
-use Rattle.language.specs.declared.candidates.Candidate.{Candidate}
-use Rattle.language.specs.Language.{Language, IsCandidate, candidates, candidates_on, relations_on, number_of, scope_of, violates, accepts}
-use Rattle.language.specs.Answers.{is_struck, has_scope, IsNoOn}
-use Rattle.language.proofs.Counting.{numbered}
-use Rattle.language.proofs.Lists.{all_below}
 use Rattle.cert_check.specs.declared.verdict.Flaw.{Flaw}
 use Rattle.cert_check.specs.declared.verdict.Flaw.TheVariants as flaw
 use Rattle.cert_check.specs.declared.verdict.Verdict.{Verdict}
-use Rattle.cert_check.specs.declared.verdict.Verdict.TheVariants.{Yes}
-use Rattle.cert_check.specs.Certificate.{Refutation}
-use Rattle.cert_check.specs.Good.{has_refutation, IsGood}
-use Rattle.cert_check.specs.Checking.{is_other, repeats_scope, is_no_on, has_own_no, has_other, is_spared, is_rival, is_uncovered, is_unearned, flaw_before_list, first_flaw, verdict_of}
 use Rattle.cert_check.proofs.Finding.{none_found, all_fail, no_number, within}
 
 -- ---- none of several

@@ -1,14 +1,7 @@
 -- The bytes of a vocabulary are text.
-use Rattle.std.proofs.Common.{◌≡◌, ℕ, Bool, true, false, cond, List, length, Option, None, Result, Ok, Err, sym, ◌∙◌, ap, refl}
-use Rattle.std.specs.Prelude.{nat_lt}
-use Rattle.std.specs.Option.{ok_or}
-use Rattle.std.specs.Str.{is_utf8, IsUtf8}
+use Rattle.cert_check.proofs.Prelude.{◌≡◌, ℕ, Bool, true, false, cond, List, length, Option, None, Result, Ok, Err, sym, ◌∙◌, ap, refl, nat_lt, ok_or, is_utf8, IsUtf8, Language, then_on, MOST_VOCABULARY, Parts, json_of, parts_in, parts_of, IsVocabulary, VocFault, NotJson}
 use Rattle.std.proofs.lemmas.Str.{IsUtf8-from_is_utf8}
-use Rattle.language.specs.Language.{Language}
-use Rattle.voc_read.specs.Answers.{then_on}
-use Rattle.voc_read.specs.Vocabulary.{MOST_VOCABULARY, Parts, json_of, parts_in, parts_of, IsVocabulary}
-use Rattle.voc_read.specs.declared.fault.VocFault.{VocFault}
-use Rattle.voc_read.specs.declared.fault.VocFault.TheVariants.{TooLong, NotJson}
+use Rattle.voc_read.specs.declared.fault.VocFault.TheVariants.{TooLong}
 
 -- nothing is read where there is no value
 none_read : {D : Type 0} (long : Bool) (o : Option D) (f : D → Result Parts VocFault) (parts : Parts) → o ≡ None → cond long (Err TooLong) (then_on (ok_or o NotJson) f) ≡ Ok parts → ⊥

@@ -1,19 +1,6 @@
 -- How the prefixes at which nodes are still to stand go on.
-use Rattle.std.proofs.Common.{◌≡◌, ℕ, suc, ◌+◌, ◌-◌, ◌<◌, ◌≤◌, Bool, true, false, not, ◌&&◌, List, [], ◌∷◌, ◌++◌, length, map, replicate, Some, None, refl, sym, ◌∙◌, ap, subst, arith, append_assoc, length-append}
-use Rattle.std.specs.Prelude.{slice_index_or, slice_set}
-use Rattle.std.specs.List.{range_with_len}
-use Rattle.std.proofs.lemmas.List.{append-nil}
-use Rattle.std.proofs.lemmas.List.Elements.{All-push}
-use Rattle.assign.specs.Assignment.{Assignment}
-use Rattle.language.specs.declared.candidates.Candidate.{Candidate}
-use Rattle.language.specs.Language.{Language, IsLanguage, IsCandidate, IsQuestion, variable_count, range_of, values_of}
-use Rattle.language.specs.Search.{order_of, assignment_of}
-use Rattle.language.proofs.Filling.{assigned_blank, assigned_push, assigned_pop, question_there, next_known, size_of}
-use Rattle.language.proofs.Orders.{orders_are_known}
+use Rattle.cert_check.proofs.Prelude.{◌≡◌, ℕ, suc, ◌+◌, ◌-◌, ◌<◌, ◌≤◌, Bool, true, false, not, ◌&&◌, List, [], ◌∷◌, ◌++◌, length, map, replicate, Some, None, refl, sym, ◌∙◌, ap, subst, arith, append_assoc, length-append, slice_index_or, slice_set, range_with_len, append-nil, All-push, Assignment, Candidate, Language, IsLanguage, IsCandidate, IsQuestion, variable_count, range_of, values_of, order_of, assignment_of, assigned_blank, assigned_push, assigned_pop, question_there, next_known, size_of, orders_are_known, Token, is_lawful, children, are_trees, refutes, last_behind, later_from, later, ahead, IsAt}
 use Rattle.cert_check.proofs.Lists.{all_left}
-use Rattle.cert_check.specs.declared.token.Token.{Token}
-use Rattle.cert_check.specs.Refuting.{is_lawful, children, are_trees, refutes}
-use Rattle.cert_check.specs.Walking.{last_behind, later_from, later, ahead, IsAt}
 use Rattle.cert_check.proofs.Within.{IsNext, IsRanged, in_between, bounds, next_of, next_range, next_values, ranged_none, ranged_front, ranged_longer, ranged_last}
 
 -- ---- one value more, one value less

@@ -1,20 +1,5 @@
 -- Prefixes whose values are their variables', and the values of the next variable.
-use Rattle.std.proofs.Common.{◌≡◌, ℕ, zero, suc, ◌+◌, ◌-◌, ◌<◌, ◌≤◌, Bool, true, false, cond, List, [], ◌∷◌, ◌++◌, length, map, refl, sym, ◌∙◌, ap, subst, arith, ◌⊎◌, inl, inr}
-use Rattle.std.specs.Prelude.{All, nat_le, slice_index_or}
-use Rattle.std.specs.List.{filter, range_with_len}
-use Rattle.std.proofs.lemmas.Bool.{cases_eq, both_ways, and_from, and_parts, and_left, and_right, le-leb, leb-true, lt-leb}
-use Rattle.std.proofs.lemmas.List.{append-nil}
-use Rattle.std.proofs.lemmas.List.Elements.{All-head, All-tail, filter-append}
-use Rattle.assign.specs.Sets.{numbers}
-use Rattle.language.specs.declared.candidates.Candidate.{Candidate}
-use Rattle.language.specs.declared.ranges.ValueRange.{ValueRange}
-use Rattle.language.specs.Ranges.{is_in, IsRange}
-use Rattle.language.specs.Language.{Language, IsLanguage, IsCandidate, variable_count, range_of, values_of}
-use Rattle.language.specs.Search.{order_of, assignment_of, are_ranged}
-use Rattle.language.proofs.Filling.{next_known, ranged_blank, ranged_push}
-use Rattle.language.proofs.Fronts.{assigned_more, ranged_more}
-use Rattle.language.proofs.Lists.{all_numbers}
-use Rattle.language.proofs.Orders.{orders_are_known}
+use Rattle.cert_check.proofs.Prelude.{◌≡◌, ℕ, zero, suc, ◌+◌, ◌-◌, ◌<◌, ◌≤◌, Bool, true, false, cond, List, [], ◌∷◌, ◌++◌, length, map, refl, sym, ◌∙◌, ap, subst, arith, ◌⊎◌, inl, inr, All, nat_le, slice_index_or, filter, range_with_len, cases_eq, both_ways, and_from, and_parts, and_left, and_right, le-leb, leb-true, lt-leb, append-nil, All-head, All-tail, filter-append, numbers, Candidate, ValueRange, is_in, IsRange, Language, IsLanguage, IsCandidate, variable_count, range_of, values_of, order_of, assignment_of, are_ranged, next_known, ranged_blank, ranged_push, assigned_more, ranged_more, all_numbers, orders_are_known}
 
 -- ---- the values of a range are a run of numbers
 

@@ -1,25 +1,7 @@
 -- The text of a certificate is read as that certificate.
-use Rattle.std.proofs.Common.{◌≡◌, ℕ, suc, ◌+◌, ◌<◌, ◌≤◌, ◌^◌, Bool, true, false, cond, List, [], ◌∷◌, ◌++◌, length, map, is_some, Option, Result, Ok, Err, refl, sym, ◌∙◌, ap, subst, arith, append_assoc}
-use Rattle.std.specs.Prelude.{All, ◌==◌, nat_lt, codes, slice_index}
-use Rattle.std.specs.List.{flat_map, list_any}
+use Rattle.cert_check.proofs.Prelude.{◌≡◌, ℕ, suc, ◌+◌, ◌<◌, ◌≤◌, ◌^◌, Bool, true, false, cond, List, [], ◌∷◌, ◌++◌, length, map, is_some, Option, Result, Ok, Err, refl, sym, ◌∙◌, ap, subst, arith, append_assoc, All, ◌==◌, nat_lt, codes, slice_index, flat_map, list_any, ok_or, ltb-false, All-head, All-tail, Answer, Candidate, Language, IsLanguage, IsCandidate, IsQuestion, candidates, IsNetwork, then_on, MOST_VOCABULARY, json_of, parts_in, parts_of, IsVocabulary, NotJson, CertFault, BadLine, Certificate, Refutation, ◌>>=◌, Unread, MOST_ANSWERS, MOST_CERTIFICATE, answer_in, item_in, listed_in, count_in, count_up_to, next_line, behind_line, lines_in, vocabulary_in, end_in, certificate_in, IsRead, answers_section, certificate_text, count_line, end_line, entry_line, implied_section, item_line, listed_line, network_section, HaveValues, IsNodeOver, WrittenIsRead, lacks_by}
 use Rattle.std.specs.List.Sorted.{IsStrictlyIncreasing}
-use Rattle.std.specs.Option.{ok_or}
-use Rattle.std.proofs.lemmas.Bool.{ltb-false}
-use Rattle.std.proofs.lemmas.List.Elements.{All-head, All-tail}
-use Rattle.assign.specs.Events.{Answer}
-use Rattle.language.specs.declared.candidates.Candidate.{Candidate}
-use Rattle.language.specs.Language.{Language, IsLanguage, IsCandidate, IsQuestion, candidates}
-use Rattle.language.specs.Answers.{IsNetwork}
-use Rattle.voc_read.specs.Answers.{then_on}
-use Rattle.voc_read.specs.Vocabulary.{MOST_VOCABULARY, json_of, parts_in, parts_of, IsVocabulary}
-use Rattle.voc_read.specs.declared.fault.VocFault.TheVariants.{TooLong, NotJson}
-use Rattle.cert_check.specs.declared.fault.CertFault.{CertFault}
-use Rattle.cert_check.specs.declared.fault.CertFault.TheVariants.{BadLine}
-use Rattle.cert_check.specs.Certificate.{Certificate, Refutation}
-use Rattle.cert_check.specs.Reading.{◌>>=◌, Unread, MOST_ANSWERS, MOST_CERTIFICATE, answer_in, item_in, listed_in, count_in, count_up_to, next_line, behind_line, lines_in, vocabulary_in, end_in, certificate_in, IsRead}
-use Rattle.cert_check.specs.Written.{answers_section, certificate_text, count_line, end_line, entry_line, implied_section, item_line, listed_line, network_section}
-use Rattle.cert_check.specs.WritingLaws.{HaveValues, IsNodeOver, WrittenIsRead}
-use Rattle.line_text.proofs.Avoiding.{lacks_by}
+use Rattle.voc_read.specs.declared.fault.VocFault.TheVariants.{TooLong}
 use Rattle.cert_check.proofs.LinesBack.{AreSaid, Says, block_back, count_said, count_up_to_said, from, known_back, lines_back, said_back}
 use Rattle.cert_check.proofs.ListedBack.{item_said, listed_said}
 use Rattle.cert_check.proofs.QuestionsBack.{entry_said}

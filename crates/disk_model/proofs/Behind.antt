@@ -1,6 +1,5 @@
 -- Calls that write, one after another, and what they leave behind.
-use Rattle.std.proofs.Common.{◌≡◌, ◌≤◌, ◌+◌, ℕ, List, Some, Result, Ok, Err, refl, is_some, ap, arith}
-use Rattle.std.specs.Prelude.{OnOk, IsErrAnd}
+use Rattle.disk_model.proofs.Prelude.{◌≡◌, ◌≤◌, ◌+◌, ℕ, List, Some, Result, Ok, Err, is_some, ap, arith, OnOk, IsErrAnd}
 use Rattle.std.proofs.lemmas.Result.{on_ok_weaker}
 use Rattle.disk_model.specs.declared.disk.Disk.{Ghosts}
 use Rattle.disk_model.specs.Moments.{IsOnDisk, LeavesBehind, started, joined, weaker}

@@ -1,2 +1,3 @@
+mod Prelude
 mod Replays
 pub mod Behind

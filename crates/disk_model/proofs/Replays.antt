@@ -1,15 +1,6 @@
 -- A file that is written again from its record, step by step.
-use Rattle.std.proofs.Common.{◌≡◌, ℕ, zero, suc, ◌+◌, ◌<◌, ◌≤◌, min, ◌⊎◌, inl, inr, List, [], ◌∷◌, ◌++◌, length, get_or, take, drop, All, Vec, Global, refl, sym, ◌∙◌, ap, subst, arith, add-one, take_all}
-use Rattle.std.specs.Prelude.{Contains}
-use Rattle.std.proofs.lemmas.Bool.{cases_lt}
+use Rattle.disk_model.proofs.Prelude.{◌≡◌, ℕ, zero, suc, ◌+◌, ◌<◌, ◌≤◌, min, ◌⊎◌, inl, inr, List, [], ◌∷◌, ◌++◌, length, get_or, take, drop, All, Vec, Global, refl, sym, ◌∙◌, ap, subst, arith, add-one, take_all, Contains, cases_lt, All-append, Contains-append_left, Contains-append_right, Torn, Step, Wrote, Synced, CutShort, put, steps_of, bytes_in, content-write, content-sync, cut-write, cut-sync, image-torn, image-synced, AreTorn, HaveAllCuts, HaveCutsOf, IsTornOf, contents, size_of, step_of, IsReplay, Mark, Write, Sync}
 use Rattle.std.proofs.lemmas.List.{drop-drop, get_or-take, length-drop, length-take, map-append}
-use Rattle.std.proofs.lemmas.List.Elements.{All-append, Contains-append_left, Contains-append_right}
-use Rattle.disk_model.specs.Disk.{Torn}
-use Rattle.disk_model.specs.Record.{Step, Wrote, Synced, CutShort, put, steps_of, bytes_in}
-use Rattle.disk_model.specs.Images.{content-write, content-sync, cut-write, cut-sync, image-torn, image-synced}
-use Rattle.disk_model.specs.Crash.{AreTorn, HaveAllCuts, HaveCutsOf, IsTornOf, contents, size_of, step_of, IsReplay}
-use Rattle.disk_model.specs.declared.tape.Mark.{Mark}
-use Rattle.disk_model.specs.declared.tape.Mark.TheVariants.{Write, Sync}
 
 -- the images of one more, behind those of others
 pub torn_more : (at n : ℕ) (images torn more : List (Vec ℕ Global)) (k : ℕ) (image : Vec ℕ Global) → k < length images → image ≡ get_or images k image → All (IsTornOf at n images) torn → AreTorn at n image.items more → All (IsTornOf at n images) (torn ++ more)

@@ -1,34 +1,9 @@
 -- Alive prefixes: what they say of plain ones, their fronts, and the domains on the way down.
-use Rattle.std.proofs.Common.{◌≡◌, ℕ, ◌<◌, ◌≤◌, Bool, true, false, ◌&&◌, not, List, [], ◌∷◌, ◌++◌, length, Option, Some, None, refl, sym, ◌∙◌, ap, subst, arith, inl, inr, ◌⊎◌}
-use Rattle.std.specs.Prelude.{slice_index_or, All, is_some, unwrap_or}
+use Rattle.fd_solver.proofs.Prelude.{◌≡◌, ℕ, ◌<◌, ◌≤◌, Bool, true, false, ◌&&◌, not, List, [], ◌∷◌, ◌++◌, length, Option, Some, None, refl, sym, ◌∙◌, ap, subst, arith, inl, inr, ◌⊎◌, slice_index_or, All, is_some, unwrap_or, list_all, get_or-eq_default, get_or-map, All-head, All-tail, All-nil, All-cons, All-map, AllPass-from_list_all, list_all-from_AllPass, and_parts, and_from, both_ways, not-true, not_from_false, false_from_ne_true, cases_lt, numbers, has, Assignment, value_of, assigned, covers, tuple_on, is_complete, Candidate, is_in, Language, IsLanguage, IsCandidate, variable_count, range_of, is_ranged, scope_of, accepts, are_ranged, all_below, AreConstraints, satisfies_one, is_allowed, Family, Arc, arc_of, arcs_of, is_not_empty, domain_of, left_by, sets_on, is_consistent, is_arc_consistent, has_family, IsSubfamily, IsLargest, largest, IsWithin, largest_is, supporting, consistent, has_head, full_above, largest_tells, largest_long, supported_through, through_supported, all_full, tells_more, is_alive_in, PassesFronts, assigned_more, ranged_from, covers_all}
 use Rattle.std.specs.Option.{ForSome}
-use Rattle.std.specs.List.{list_all}
-use Rattle.std.proofs.Math.ListN.{get_or-eq_default}
-use Rattle.std.proofs.lemmas.List.{get_or-map}
-use Rattle.std.proofs.lemmas.List.Elements.{All-head, All-tail, All-nil, All-cons, All-map}
-use Rattle.std.proofs.lemmas.List.Sums.{AllPass-from_list_all, list_all-from_AllPass}
-use Rattle.std.proofs.lemmas.Bool.{and_parts, and_from, both_ways, not-true, not_from_false, false_from_ne_true, cases_lt}
-use Rattle.assign.specs.Sets.{numbers, has}
-use Rattle.assign.specs.Assignment.{Assignment, value_of, assigned, covers, tuple_on, is_complete}
-use Rattle.language.specs.declared.candidates.Candidate.{Candidate}
-use Rattle.language.specs.Ranges.{is_in}
-use Rattle.language.specs.Language.{Language, IsLanguage, IsCandidate, variable_count, range_of, is_ranged, scope_of, accepts}
-use Rattle.language.specs.Search.{are_ranged}
 use Rattle.language.proofs.Accepts.{accepted_at, accepted_from}
-use Rattle.language.proofs.Lists.{all_below}
-use Rattle.propagators.specs.Allowed.{AreConstraints, satisfies_one, is_allowed}
-use Rattle.propagators.specs.Families.{Family, Arc, arc_of, arcs_of, is_not_empty, domain_of, left_by, sets_on, is_consistent, is_arc_consistent, has_family, IsSubfamily, IsLargest, largest}
-use Rattle.propagators.specs.Supports.{IsWithin}
-use Rattle.propagators.proofs.Pruned.{largest_is, supporting, consistent, has_head}
-use Rattle.propagators.proofs.Living.{full_above, largest_tells, largest_long}
-use Rattle.propagators.proofs.Replacing.{supported_through, through_supported, all_full}
-use Rattle.propagators.proofs.Rounds.{tells_more}
-use Rattle.fd_solver.specs.Outcomes.{is_alive_in}
 use Rattle.propagators.proofs.Filled.{value_there}
 use Rattle.fd_solver.proofs.Left.{length-left, left_at, left_only, left_own, some_member, left_more}
-use Rattle.language.proofs.Preorder.{PassesFronts}
-use Rattle.language.proofs.Fronts.{assigned_more, ranged_from}
-use Rattle.language.proofs.Orders.{covers_all}
 
 -- ---- what an assignment leaves
 

@@ -1,14 +1,6 @@
 -- The conditions that are known to be entailed at each depth.
-use Rattle.std.proofs.Common.{◌≡◌, ℕ, ◌+◌, ◌<◌, ◌≤◌, List, [], ◌∷◌, ◌++◌, length, length-append, sym, ◌∙◌, ap, subst, arith, inl, inr, ◌⊎◌}
-use Rattle.std.specs.Prelude.{slice_index_or, slice_set}
-use Rattle.std.proofs.lemmas.List.{get_or-set_same, get_or-set_other}
-use Rattle.std.proofs.lemmas.Bool.{cases_lt}
-use Rattle.std.proofs.Math.ListN.{length-set}
-use Rattle.propagators.specs.Families.{Family, Arc}
-use Rattle.propagators.specs.Entailed.{AreEntailed}
-use Rattle.propagators.specs.declared.entailed.Entailed.{Entailed}
+use Rattle.fd_solver.proofs.Prelude.{◌≡◌, ℕ, ◌+◌, ◌<◌, ◌≤◌, List, [], ◌∷◌, ◌++◌, length, length-append, sym, ◌∙◌, subst, arith, inl, inr, ◌⊎◌, slice_index_or, slice_set, get_or-set_same, get_or-set_other, cases_lt, length-set, Family, Arc, AreEntailed, Entailed, AreKnown, fixed}
 use Rattle.propagators.proofs.Entailing.{entailed_less}
-use Rattle.fd_solver.specs.Ready.{AreKnown, fixed}
 use Rattle.fd_solver.proofs.Narrowing.{fixed_within}
 
 -- one value was left to a variable

@@ -1,20 +1,5 @@
 -- What an assignment leaves to the variables.
-use Rattle.std.proofs.Common.{◌≡◌, ℕ, zero, suc, ◌<◌, ◌≤◌, true, List, [], ◌∷◌, length, map, replicate, Option, Some, None, refl, sym, ◌∙◌, ap, subst, arith, inl, inr, ◌⊎◌}
-use Rattle.std.specs.Prelude.{◌==◌, slice_index_or, nat_le}
-use Rattle.std.specs.List.{filter}
-use Rattle.std.proofs.Math.ListN.{get_or-eq_default}
-use Rattle.std.proofs.lemmas.List.FromFn.{length-map-range_with_len, get_or-map-range_with_len}
-use Rattle.std.proofs.lemmas.Bool.{and_parts, and_from, both_ways, cases_lt, eq-eqb, eqb-true, leb-true}
-use Rattle.assign.specs.Sets.{numbers, has}
-use Rattle.assign.specs.Assignment.{Assignment, value_of, value_beside, assigned}
-use Rattle.language.specs.Ranges.{is_in}
-use Rattle.language.specs.Language.{Language, IsLanguage, variable_count, range_of, values_of, is_ranged}
-use Rattle.language.specs.Search.{are_ranged}
-use Rattle.language.proofs.Beside.{value_of_assigned}
-use Rattle.language.proofs.Fronts.{HasMore, ranged_at}
-use Rattle.language.proofs.Members.{any_number}
-use Rattle.propagators.specs.Families.{domain_of, left_by, is_not_empty, IsSubfamily}
-use Rattle.propagators.proofs.Ones.{has-filter}
+use Rattle.fd_solver.proofs.Prelude.{◌≡◌, ℕ, zero, suc, ◌<◌, ◌≤◌, true, List, [], ◌∷◌, length, map, replicate, Option, Some, None, refl, sym, ◌∙◌, ap, subst, arith, inl, inr, ◌⊎◌, ◌==◌, slice_index_or, nat_le, filter, get_or-eq_default, length-map-range_with_len, get_or-map-range_with_len, and_parts, and_from, both_ways, cases_lt, eq-eqb, eqb-true, leb-true, numbers, has, Assignment, value_of, value_beside, assigned, is_in, Language, IsLanguage, variable_count, range_of, values_of, is_ranged, are_ranged, value_of_assigned, HasMore, ranged_at, any_number, domain_of, left_by, is_not_empty, IsSubfamily, has-filter}
 
 pub length-left : (l : Language) (e : Assignment) → length (left_by l e) ≡ variable_count l
 length-left l e = length-map-range_with_len (λ v. domain_of l v (value_of e v)) 0 (variable_count l)

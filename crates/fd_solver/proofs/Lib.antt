@@ -1,3 +1,4 @@
+mod Prelude
 pub mod Turning
 pub mod Left
 pub mod Alive

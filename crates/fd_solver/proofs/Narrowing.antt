@@ -1,31 +1,10 @@
 -- The domains below a prefix, from those of the prefix.
-use Rattle.std.proofs.Common.{◌≡◌, ℕ, zero, suc, ◌+◌, ◌<◌, ◌≤◌, Bool, true, false, cond, ◌&&◌, ◌||◌, List, [], ◌∷◌, ◌++◌, length, map, take, replicate, Option, Some, None, refl, sym, ◌∙◌, ap, subst, arith, inl, inr, ◌⊎◌, length-append}
-use Rattle.std.specs.Prelude.{◌==◌, ◌≢◌, slice_index_or, slice_set}
-use Rattle.std.specs.List.{list_all, filter}
-use Rattle.std.proofs.Math.ListN.{length-set}
-use Rattle.std.proofs.lemmas.List.{get_or-set_same, get_or-set_other, set-get_or, take_all}
-use Rattle.std.proofs.lemmas.List.Sums.{AllPass-from_list_all}
-use Rattle.std.proofs.lemmas.Bool.{and_from, or_left, or_right, both_ways, cases_eq, cases_lt, eq-eqb, ne_eqb}
-use Rattle.assign.specs.Sets.{numbers, has, with_member}
-use Rattle.assign.specs.Assignment.{value_beside, assigned}
-use Rattle.language.specs.declared.candidates.Candidate.{Candidate}
-use Rattle.language.specs.Language.{Language, IsLanguage, variable_count, values_of}
-use Rattle.propagators.specs.Allowed.{AreConstraints}
-use Rattle.propagators.specs.Families.{Family, Arc, arcs_of, is_not_empty, domain_of, left_by, is_consistent, is_arc_consistent, has_family, IsSubfamily, IsLargest, largest}
-use Rattle.propagators.specs.Supports.{AreSettled, IsFamilyOf}
+use Rattle.fd_solver.proofs.Prelude.{◌≡◌, ℕ, zero, suc, ◌+◌, ◌<◌, ◌≤◌, Bool, true, false, cond, ◌&&◌, ◌||◌, List, [], ◌∷◌, ◌++◌, length, map, take, replicate, Option, Some, None, refl, sym, ◌∙◌, ap, subst, arith, inl, inr, ◌⊎◌, length-append, ◌==◌, ◌≢◌, slice_index_or, slice_set, list_all, filter, length-set, get_or-set_same, get_or-set_other, set-get_or, take_all, AllPass-from_list_all, and_from, or_left, or_right, both_ways, cases_eq, cases_lt, eq-eqb, ne_eqb, numbers, has, with_member, value_beside, assigned, Candidate, Language, IsLanguage, variable_count, values_of, AreConstraints, Family, Arc, arcs_of, is_not_empty, domain_of, left_by, is_consistent, is_arc_consistent, has_family, IsSubfamily, IsLargest, largest, AreSettled, IsFamilyOf, has-filter, largest_is, largest_again, filter_has, largest_tells, largest_long, all_full, full_from, stays_consistent, tells_with, empty_stays, IsOrder, is_alive_in, IsReady, AreReady, fixed, beside_next, beside_push, next_known}
 use Rattle.propagators.specs.Pairs.{IsOnly}
 use Rattle.propagators.specs.Propagated.{AreSome, IsPropagated, RunsEmpty}
-use Rattle.propagators.proofs.Ones.{has-filter}
-use Rattle.propagators.proofs.Pruned.{largest_is, largest_again, filter_has}
-use Rattle.propagators.proofs.Living.{largest_tells, largest_long}
-use Rattle.propagators.proofs.Replacing.{all_full, full_from}
-use Rattle.propagators.proofs.Rounds.{stays_consistent, tells_with, empty_stays}
 use Rattle.propagators.proofs.Cutting.{not_with}
 use Rattle.propagators.proofs.Conditions.{arcs_small}
-use Rattle.fd_solver.specs.Outcomes.{IsOrder, is_alive_in}
-use Rattle.fd_solver.specs.Ready.{IsReady, AreReady, fixed}
 use Rattle.fd_solver.proofs.Left.{length-left, left_beside, left_past, some_member, left_none}
-use Rattle.language.proofs.Filling.{beside_next, beside_push, next_known}
 
 -- ---- one value alone
 

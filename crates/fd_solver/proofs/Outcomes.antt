@@ -1,29 +1,9 @@
 -- What outcomes say of a network and a candidate.
-use Rattle.std.proofs.Common.{◌≡◌, ℕ, ◌<◌, ◌≤◌, Bool, true, false, ◌&&◌, not, List, ◌++◌, length, take, Option, Some, None, refl, sym, ◌∙◌, ap, subst, arith}
-use Rattle.std.specs.Prelude.{◌==◌, All, find, nat_le}
-use Rattle.std.specs.List.{list_any, filter}
-use Rattle.std.proofs.lemmas.List.{take_all}
-use Rattle.std.proofs.lemmas.List.Elements.{All-filter, All-take, filter_passes}
-use Rattle.std.proofs.lemmas.List.FromFn.{length-map-range_with_len}
-use Rattle.std.proofs.lemmas.Bool.{and_parts, and_from, both_ways, eq-eqb, eqb-true, leb-true, leb-false, le-leb, false_from_ne_true}
-use Rattle.assign.specs.Assignment.{Assignment, assigned, value_beside, tuple_on, is_complete}
-use Rattle.language.specs.declared.candidates.Candidate.{Candidate}
-use Rattle.language.specs.Language.{Language, IsLanguage, IsCandidate, IsImplied, IsQuestion, variable_count, scope_of, violates, accepts}
+use Rattle.fd_solver.proofs.Prelude.{◌≡◌, ℕ, ◌<◌, ◌≤◌, Bool, true, false, ◌&&◌, not, List, ◌++◌, length, take, Option, Some, None, refl, sym, ◌∙◌, ap, subst, arith, ◌==◌, All, find, nat_le, list_any, filter, take_all, All-filter, All-take, filter_passes, length-map-range_with_len, and_parts, and_from, both_ways, eq-eqb, eqb-true, leb-true, leb-false, le-leb, false_from_ne_true, Assignment, assigned, value_beside, tuple_on, is_complete, Candidate, Language, IsLanguage, IsCandidate, IsImplied, IsQuestion, variable_count, scope_of, violates, accepts, order_of, prefixes, assignment_of, satisfies, are_ranged, is_plain, any-filter, find_none, find_some, tuple_fits, find_all, any_weaker, find_nothing, fewer_pass, prefixes_small, question_there, order_small, whole_prefix, covers_all, Found, Absent, Spent, outcome_from, outcome_by, is_alive, alive_walk, outcome_of_candidate, AreConstraints, has_family}
 use Rattle.language.specs.Answers.{IsNetwork}
-use Rattle.language.specs.Search.{order_of, prefixes, assignment_of, satisfies, are_ranged, is_plain}
-use Rattle.language.proofs.Members.{any-filter, find_none, find_some}
-use Rattle.language.proofs.Beside.{tuple_fits}
-use Rattle.language.proofs.Lists.{find_all, any_weaker, find_nothing, fewer_pass}
-use Rattle.language.proofs.Preorder.{prefixes_small}
-use Rattle.language.proofs.Filling.{question_there}
-use Rattle.language.proofs.Orders.{order_small, whole_prefix, covers_all}
 use Rattle.language.proofs.Plain.{any_prefix, length-tuple_on, scope_small, long_order, lets_plain, complete_there, violated_there}
 use Rattle.language.proofs.Plain as plain
-use Rattle.fd_solver.specs.declared.outcome.Outcome.TheVariants.{Found, Absent, Spent}
-use Rattle.fd_solver.specs.Outcomes.{outcome_from, outcome_by, is_alive, alive_walk, outcome_of_candidate}
 use Rattle.fd_solver.specs.Laws.{AbsentIsImplied, SpentIsLong, PlainIsLess, IsQuestionAgainst, FoundIsLawful, AbsentStays, AliveIsPlain, AliveIsAllowed, WholeIsAlive}
-use Rattle.propagators.specs.Allowed.{AreConstraints}
-use Rattle.propagators.specs.Families.{has_family}
 use Rattle.fd_solver.proofs.Alive.{family_is_plain, family_is_ranged, whole_has_family, family_of_fewer}
 
 -- ---- outcomes by their members

@@ -1,15 +1,7 @@
 -- How the outcome of what is left goes on, whatever the test.
-use Rattle.std.proofs.Common.{◌≡◌, ℕ, zero, suc, ◌+◌, ◌*◌, ◌<◌, Bool, true, false, cond, List, [], ◌∷◌, ◌++◌, length, take, Some, None, refl, ◌∙◌, ap, arith, length-append}
-use Rattle.std.specs.Prelude.{◌==◌, All, find}
-use Rattle.std.specs.List.{filter}
-use Rattle.std.proofs.lemmas.Bool.{both_ways, eq-eqb, ne_eqb, false_from_ne_true, le-leb}
+use Rattle.fd_solver.proofs.Prelude.{◌≡◌, ℕ, zero, suc, ◌+◌, ◌*◌, ◌<◌, Bool, true, false, cond, List, [], ◌∷◌, ◌++◌, length, take, Some, None, refl, ◌∙◌, ap, arith, length-append, ◌==◌, All, find, filter, both_ways, eq-eqb, ne_eqb, false_from_ne_true, le-leb, Assignment, prefixes, Found, Absent, Spent, outcome_from, outcome_by, PassesFronts, pending, none_passes, skip_shorter, prefixes_small, pending_step, pending_skip, pending_pop, pending_end, pending_begin}
 use Rattle.std.proofs.Math.Dec.{leb-suc-suc, leb-suc-zero}
-use Rattle.assign.specs.Assignment.{Assignment}
-use Rattle.language.specs.Search.{prefixes}
 use Rattle.fd_solver.specs.declared.outcome.Outcome.{Outcome}
-use Rattle.fd_solver.specs.declared.outcome.Outcome.TheVariants.{Found, Absent, Spent}
-use Rattle.fd_solver.specs.Outcomes.{outcome_from, outcome_by}
-use Rattle.language.proofs.Preorder.{PassesFronts, pending, none_passes, skip_shorter, prefixes_small, pending_step, pending_skip, pending_pop, pending_end, pending_begin}
 
 pub outcome_whole : (n : ℕ) (assign : List ℕ → Assignment) (p : List ℕ) (members : List (List ℕ)) (budget : ℕ) → length p ≡ n → outcome_by n assign (p ∷ members) (suc budget) ≡ Found (assign p)
 outcome_whole n assign p members budget long = rw (eq-eqb (length p) n long) refl

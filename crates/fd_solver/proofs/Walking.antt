@@ -1,15 +1,7 @@
 -- What holds at each turn of the search, and what each turn makes of it.
-use Rattle.std.proofs.Common.{◌≡◌, ℕ, suc, ◌+◌, ◌-◌, ◌<◌, ◌≤◌, true, false, List, [], ◌∷◌, ◌++◌, length, replicate, Option, Some, None, sym, ◌∙◌, ap, subst, arith, length-append}
-use Rattle.std.specs.Prelude.{slice_index_or, slice_set, All}
-use Rattle.std.proofs.lemmas.List.Elements.{All-nil, All-cons, All-head, All-tail, All-push}
-use Rattle.language.specs.declared.candidates.Candidate.{Candidate}
-use Rattle.assign.specs.Assignment.{Assignment, assigned}
-use Rattle.language.specs.Language.{Language, IsLanguage, variable_count}
-use Rattle.fd_solver.specs.declared.outcome.Outcome.TheVariants.{Found, Absent, Spent}
+use Rattle.fd_solver.proofs.Prelude.{◌≡◌, ℕ, suc, ◌+◌, ◌-◌, ◌<◌, ◌≤◌, true, false, List, [], ◌∷◌, ◌++◌, length, replicate, Option, Some, None, sym, ◌∙◌, ap, subst, arith, length-append, slice_index_or, slice_set, All, All-nil, All-cons, All-head, All-tail, All-push, Candidate, Assignment, assigned, Language, IsLanguage, variable_count, Found, Absent, Spent, IsOrder, is_alive_in, search_outcome, assigned_blank, assigned_push, assigned_pop, size_of}
 use Rattle.fd_solver.proofs.Alive.{alive_fronts}
 use Rattle.fd_solver.proofs.Turning.{left_at, turn_spent, turn_found, turn_down, turn_next, turn_up, turn_end, turn_first}
-use Rattle.fd_solver.specs.Outcomes.{IsOrder, is_alive_in, search_outcome}
-use Rattle.language.proofs.Filling.{assigned_blank, assigned_push, assigned_pop, size_of}
 
 all_before : (P : ℕ → Type 0) (xs : List ℕ) (y : ℕ) → All P (xs ++ y ∷ []) → All P xs
 all_before P [] y h = All-nil P

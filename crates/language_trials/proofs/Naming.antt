@@ -1,15 +1,10 @@
 -- One more name among others.
-use Rattle.std.proofs.Common.{◌≡◌, ◌≢◌, ℕ, ◌&&◌, Bool, true, false, eqb, List, [], ◌∷◌, ◌++◌, map, get_or, refl, sym, ◌∙◌, ap, subst}
-use Rattle.std.specs.Prelude.{All, String, string_bytes}
-use Rattle.std.specs.declared.alloc.Global.{Global}
+use Rattle.language_trials.proofs.Prelude.{◌≡◌, ◌≢◌, ℕ, ◌&&◌, Bool, true, false, eqb, List, [], ◌∷◌, ◌++◌, map, get_or, refl, sym, ◌∙◌, ap, subst, All, String, string_bytes, Global, map_push, All-nil, All-cons, All-map, AreNames, is_name}
 use Rattle.std.specs.Cmp.Lexicographic.{pointwise, bytes_decides}
 use Rattle.std.proofs.lemmas.Bool.{both_ways}
-use Rattle.std.proofs.lemmas.List.{map_push}
 use Rattle.std.proofs.lemmas.List.Folds.{list_all-append}
-use Rattle.std.proofs.lemmas.List.Elements.{All-nil, All-cons, All-map}
 use Rattle.std.proofs.lemmas.List.Kept.{AllPairs-cons}
 use Rattle.rel_table.proofs.Pairwise.{no_pairs, pairs_join}
-use Rattle.language.specs.Language.{AreNames, is_name}
 
 names_push : (names : List (List ℕ)) (name : List ℕ) → AreNames names → is_name name ≡ true → All (λ other. other ≢ name) names → AreNames (names ++ name ∷ [])
 names_push names name are is other = record {

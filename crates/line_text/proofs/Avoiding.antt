@@ -1,14 +1,5 @@
 -- Texts that lack a byte: they are cut where it comes next.
-use Rattle.std.proofs.Common.{◌≡◌, ℕ, ◌+◌, not, true, false, List, [], ◌∷◌, ◌++◌, length, take, drop, Some, None, Option, cond, ltb, refl, sym, ◌∙◌, ap, arith, append_assoc, append-nil, length-append}
-use Rattle.std.specs.Prelude.{All, position, ◌==◌}
-use Rattle.std.specs.Option.{option_map}
-use Rattle.std.specs.List.{flat_map, list_all, position_or_len}
-use Rattle.std.proofs.lemmas.Bool.{eq-eqb, lt-ltb, not-true}
-use Rattle.std.proofs.lemmas.List.{take_at, drop_at, get_or_at, get_or_append_left}
-use Rattle.std.proofs.lemmas.List.Elements.{All-nil, All-cons, All-append, All-head, All-tail}
-use Rattle.std.proofs.lemmas.List.Splits.{slice_split_none, slice_split_at}
-use Rattle.std.proofs.lemmas.List.Sums.{AllPass-from_list_all, position_or_len_is}
-use Rattle.line_text.specs.Words.{cut_at, is_space, words_in}
+use Rattle.line_text.proofs.Prelude.{◌≡◌, ℕ, ◌+◌, not, true, false, List, [], ◌∷◌, ◌++◌, length, take, drop, Some, None, Option, cond, ltb, refl, sym, ◌∙◌, ap, arith, append_assoc, append-nil, length-append, All, position, ◌==◌, option_map, flat_map, list_all, position_or_len, eq-eqb, lt-ltb, not-true, take_at, drop_at, get_or_at, get_or_append_left, All-nil, All-cons, All-append, All-head, All-tail, slice_split_none, slice_split_at, AllPass-from_list_all, position_or_len_is, cut_at, is_space, words_in}
 
 -- the text doesn't have this byte
 abbrev pub Lacks : ℕ → List ℕ → Type 0

@@ -1,17 +1,9 @@
 -- Decimal texts of numbers are read as the numbers.
-use Rattle.std.proofs.Common.{◌≡◌, ℕ, ◌<◌, ◌≤◌, ◌^◌, true, false, cond, List, [], ◌∷◌, length, get_or, Some, None, refl, ◌∙◌, ap, arith, ◌⊎◌, inl, inr}
-use Rattle.std.specs.Prelude.{nat_le, nat_lt, ◌==◌}
+use Rattle.line_text.proofs.Prelude.{◌≡◌, ℕ, ◌<◌, ◌≤◌, ◌^◌, true, false, cond, List, [], ◌∷◌, length, get_or, Some, None, refl, ◌∙◌, ap, arith, ◌⊎◌, inl, inr, nat_le, nat_lt, ◌==◌, list_all, digit_value, is_digit, option_and_then, AllDigits, digits_value, and_from, cases_lt, le-leb, lt-ltb, ne_eqb, not_from_false, or_left, All-nil, begins_well, decimal_in, decimal_below, number_from}
 use Rattle.std.specs.Int.{IsInRange}
-use Rattle.std.specs.List.{list_all}
-use Rattle.std.specs.Char.{digit_value, is_digit}
 use Rattle.std.specs.Fmt.{decimal}
-use Rattle.std.specs.Option.{option_and_then}
-use Rattle.std.specs.Str.Parse.{AllDigits, digits_value}
-use Rattle.std.proofs.lemmas.Bool.{and_from, cases_lt, le-leb, lt-ltb, ne_eqb, not_from_false, or_left}
 use Rattle.std.proofs.lemmas.Fmt.{decimal_digit, decimal_is_IsNumeral, first_decimal}
-use Rattle.std.proofs.lemmas.List.Elements.{All-nil}
 use Rattle.std.proofs.lemmas.Str.Parse.{digit_from_value}
-use Rattle.line_text.specs.Words.{begins_well, decimal_in, decimal_below, number_from}
 use Rattle.line_text.proofs.Avoiding.{Lacks, lacks_first}
 
 -- a byte that is no digit

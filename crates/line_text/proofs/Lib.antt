@@ -1,3 +1,4 @@
+mod Prelude
 pub mod Cutting
 pub mod Numerals
 pub mod Avoiding

@@ -1,12 +1,5 @@
 -- Numbers of any length, where those above 32 bits are taken for one.
-use Rattle.std.proofs.Common.{◌≡◌, ℕ, ◌+◌, ◌*◌, ◌<◌, ◌≤◌, true, cond, List, [], ◌∷◌, length, drop, Some, None, sym, ◌∙◌, ap, arith, ◌⊎◌, inl, inr}
-use Rattle.std.specs.List.{list_all}
-use Rattle.std.specs.Option.{option_map}
-use Rattle.std.specs.Char.{digit_value, is_digit}
-use Rattle.std.specs.Str.Parse.{digits_value, digits_value_after}
-use Rattle.std.proofs.lemmas.Bool.{cases_lt, lt-ltb, le-ltb, and_from}
-use Rattle.std.proofs.lemmas.List.{drop_all}
-use Rattle.line_text.specs.Words.{begins_well, is_decimal, capped, decimal_in}
+use Rattle.line_text.proofs.Prelude.{◌≡◌, ℕ, ◌+◌, ◌*◌, ◌<◌, ◌≤◌, true, cond, List, [], ◌∷◌, length, drop, Some, None, sym, ◌∙◌, ap, arith, ◌⊎◌, inl, inr, list_all, option_map, digit_value, is_digit, digits_value, digits_value_after, cases_lt, lt-ltb, le-ltb, and_from, drop_all, begins_well, is_decimal, capped, decimal_in}
 
 -- more digits make no smaller number
 pub value_grows : (n : ℕ) (digits : List ℕ) → n ≤ digits_value_after 10 n digits

@@ -1,7 +1,7 @@
 -- The names from outside that these proofs cite, passed on from one place. Declares nothing.
 pub use Rattle.std.proofs.Common.{Bool, List, None, Option, Some, [], add-one, ap, arith, cond, drop, drop-cons, false, get_or, length, length-append, length-drop, not, refl, set, slice_index_or, subst, suc, sym, take, true, zero, ℕ, ◌&&◌, ◌++◌, ◌+◌, ◌-◌, ◌<◌, ◌||◌, ◌∙◌, ◌∷◌, ◌≡◌, ◌≤◌}
 pub use Rattle.std.proofs.lemmas.Bool.{and_from, and_parts, both_ways, eqb-true, not-true, or_parts}
-pub use Rattle.std.proofs.lemmas.List.{append-nil, get_or_default, length-map, length-set, map-append, reverse-append, take-append-drop, take_all, take_more_set}
+pub use Rattle.std.proofs.lemmas.List.{append-nil, get_or_default, length-map, map-append, reverse-append, take-append-drop, take_all, take_more_set}
 pub use Rattle.std.specs.List.{filter, find, list_any}
 pub use Rattle.std.specs.Option.{option_map}
 pub use Rattle.std.specs.Prelude.{All, IfSome, IsTrue, map, reverse, ◌==◌}

@@ -1,16 +1,8 @@
 -- Lines and words, cut off at the front.
-use Rattle.std.proofs.Common.{◌≡◌, ℕ, zero, suc, ◌+◌, ◌-◌, ◌<◌, ◌≤◌, not, Bool, true, false, cond, List, [], ◌∷◌, ◌++◌, length, take, drop, get_or, Some, None, refl, sym, ◌∙◌, ap, arith, ltb, ◌⊎◌, inl, inr}
-use Rattle.std.specs.Prelude.{filter, position, All, nat_lt}
-use Rattle.std.specs.List.{flat_map, slice_split, onto_first, position_or_len, before_first, after_first}
-use Rattle.std.specs.Str.{bytes_eq}
-use Rattle.std.specs.Prelude.{codes}
-use Rattle.std.proofs.lemmas.Bool.{cases_lt, lt-ltb, ltb-true, not-false, not-true, not_from_false}
-use Rattle.std.proofs.lemmas.Option.{none-some, cond_some}
-use Rattle.std.proofs.lemmas.List.{take_all, drop_all, get_or-drop, length-append, length-drop}
+use Rattle.net_cnf.proofs.Prelude.{◌≡◌, ℕ, zero, suc, ◌+◌, ◌-◌, ◌<◌, ◌≤◌, not, Bool, true, false, cond, List, [], ◌∷◌, ◌++◌, length, take, drop, get_or, Some, None, refl, sym, ◌∙◌, ap, arith, ltb, ◌⊎◌, inl, inr, position, All, nat_lt, flat_map, slice_split, onto_first, position_or_len, before_first, after_first, bytes_eq, codes, cases_lt, lt-ltb, ltb-true, not-false, not-true, not_from_false, none-some, cond_some, take_all, drop_all, get_or-drop, length-append, length-drop, fails_before_first, is_blank, is_newline, is_remark, words, behind_v, tokens_of_line, all_tokens}
+use Rattle.std.specs.Prelude.{filter}
 use Rattle.std.proofs.lemmas.List.Quantifiers.{position-Some}
-use Rattle.std.proofs.lemmas.List.Sums.{fails_before_first}
 use Rattle.std.proofs.lemmas.List.Splits.{slice_split-cons_yes, slice_split-cons_no, slice_split_none, slice_split_first}
-use Rattle.net_cnf.specs.Tokens.{is_blank, is_newline, is_remark, words, behind_v, tokens_of_line, all_tokens}
 
 -- ---- where a test first passes
 

@@ -1,14 +1,5 @@
 -- Each list of bytes is a model of a solution, or is refused.
-use Rattle.std.proofs.Common.{◌≡◌, ◌≢◌, ℕ, Bool, true, false, cond, nat_lt, List, length, Option, Some, None, Result, Ok, Err, refl, subst, ◌⊎◌, inl, inr}
-use Rattle.assign.specs.Assignment.{Assignment}
-use Rattle.language.specs.Language.{Language}
-use Rattle.language.specs.declared.candidates.Candidate.{Candidate}
-use Rattle.net_cnf.specs.Laws.{EachIsReadOrRefused}
-use Rattle.net_cnf.specs.Models.{MOST_MODEL, boolean_count, literals_of, truths_of, both_named, not_one, assignment_of, violated, unless, solution_in, solution_of, model_of, IsModel}
-use Rattle.net_cnf.specs.Tokens.{tokens, bad_token}
-use Rattle.net_cnf.specs.declared.literal.Literal.{Literal}
-use Rattle.net_cnf.specs.declared.model_fault.ModelFault.{ModelFault}
-use Rattle.net_cnf.specs.declared.model_fault.ModelFault.TheVariants.{TooLong, BadToken, Twice, NotOne, Violates, Memory}
+use Rattle.net_cnf.proofs.Prelude.{◌≡◌, ◌≢◌, ℕ, Bool, true, false, cond, nat_lt, List, length, Option, Some, None, Result, Ok, Err, refl, subst, ◌⊎◌, inl, inr, Assignment, Language, Candidate, EachIsReadOrRefused, MOST_MODEL, boolean_count, literals_of, truths_of, both_named, not_one, assignment_of, violated, unless, solution_in, solution_of, model_of, IsModel, tokens, bad_token, Literal, ModelFault, TooLong, BadToken, Twice, NotOne, Violates, Memory}
 use Rattle.net_cnf.proofs.Modelled.{reads_models}
 
 -- what isn't read is refused for a fault of the bytes

@@ -1,25 +1,6 @@
 -- The models of a network's clauses are its solutions.
-use Rattle.std.proofs.Common.{◌≡◌, ℕ, ◌-◌, ◌<◌, ◌&&◌, ◌||◌, not, Bool, true, false, cond, List, [], ◌∷◌, ◌++◌, length, get_or, map, Option, Some, None, refl, sym, ◌∙◌, ap, arith, eqb, ◌⊎◌, inl, inr}
-use Rattle.std.specs.Prelude.{find, is_some, unwrap_or, All}
-use Rattle.std.specs.Bool.{beq}
-use Rattle.std.specs.List.{list_all, list_any, flat_map}
-use Rattle.std.proofs.lemmas.Bool.{cases_eq, cases_lt, eq-eqb, eqb-true, ne_eqb, and_from, and_parts, or_left, or_right, both_ways}
-use Rattle.std.proofs.lemmas.List.{length-map, ext_get_or}
-use Rattle.std.proofs.lemmas.List.FromFn.{get_or-map-range_with_len, length-map-range_with_len}
-use Rattle.std.proofs.lemmas.List.Folds.{list_all-append, list_all-map}
-use Rattle.std.proofs.lemmas.List.Sums.{AllPass-from_list_all}
-use Rattle.std.proofs.lemmas.List.Elements.{All-head, All-tail}
-use Rattle.assign.specs.Sets.{numbers}
-use Rattle.assign.specs.Assignment.{Assignment, value_of, covers, tuple_on, is_complete, is_same_value}
-use Rattle.rel_table.specs.Relation.{holds}
-use Rattle.language.specs.declared.candidates.Candidate.{Candidate}
-use Rattle.language.specs.Language.{Language, variable_count, values_of, is_ranged, scope_of, relation_of, violates, accepts, IsLanguage, IsQuestion, IsCandidate}
+use Rattle.net_cnf.proofs.Prelude.{◌≡◌, ℕ, ◌-◌, ◌<◌, ◌&&◌, ◌||◌, not, Bool, true, false, cond, List, [], ◌∷◌, ◌++◌, length, get_or, map, Option, Some, None, refl, sym, ◌∙◌, ap, arith, eqb, ◌⊎◌, inl, inr, find, is_some, unwrap_or, All, beq, list_all, list_any, flat_map, cases_eq, cases_lt, eq-eqb, eqb-true, ne_eqb, and_from, and_parts, or_left, or_right, both_ways, length-map, ext_get_or, get_or-map-range_with_len, length-map-range_with_len, list_all-append, list_all-map, AllPass-from_list_all, All-head, All-tail, numbers, Assignment, value_of, covers, tuple_on, is_complete, is_same_value, holds, Candidate, Language, variable_count, values_of, is_ranged, scope_of, relation_of, violates, accepts, IsLanguage, IsQuestion, IsCandidate, find_all, any-map, find_none, find_some, Boolean, boolean, booleans_of, booleans, number_of, gives, bits, Clause, is_met, satisfies, literal, some_value, each_two, not_both, no_two_values, tuples_on, values_in, rejected, none_rejected, clauses, IsOnly, ClausesEncode}
 use Rattle.language.specs.Answers.{IsNetwork}
-use Rattle.language.proofs.Lists.{find_all}
-use Rattle.language.proofs.Members.{any-map, find_none, find_some}
-use Rattle.net_cnf.specs.Booleans.{Boolean, boolean, booleans_of, booleans, number_of, gives, bits}
-use Rattle.net_cnf.specs.Clauses.{Clause, is_met, satisfies, literal, some_value, each_two, not_both, no_two_values, tuples_on, values_in, rejected, none_rejected, clauses}
-use Rattle.net_cnf.specs.Laws.{IsOnly, ClausesEncode}
 use Rattle.net_cnf.proofs.Numbers.{truth_of, same_truths}
 use Rattle.net_cnf.proofs.Runs.{IsValue, first_of, size_of, values-run, value_in, in_value, value_at, place_in, any_value, all_values}
 use Rattle.net_cnf.proofs.Tests.{all-flat_map, all_failing, all_range, at_range, all_same, only_one, all_two, at_two}

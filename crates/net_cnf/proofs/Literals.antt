@@ -1,14 +1,5 @@
 -- The literals of tokens.
-use Rattle.std.proofs.Common.{◌≡◌, ℕ, ◌<◌, ◌≤◌, ◌^◌, Bool, true, false, cond, List, [], ◌∷◌, drop, get_or, Option, Some, None, refl, sym, ◌∙◌, ap, arith, eqb}
-use Rattle.std.specs.Option.{option_map}
-use Rattle.std.specs.Fmt.{decimal}
-use Rattle.std.proofs.lemmas.Bool.{ne_eqb, eqb-true}
-use Rattle.std.proofs.lemmas.Option.{none-some, same_Some}
-use Rattle.std.proofs.lemmas.Fmt.{first_decimal}
-use Rattle.net_cnf.specs.Laws.{LiteralsAreRead}
-use Rattle.net_cnf.specs.Texts.{literal_text}
-use Rattle.net_cnf.specs.Tokens.{number_in, signed, literal_in}
-use Rattle.net_cnf.specs.declared.literal.Literal.{Literal}
+use Rattle.net_cnf.proofs.Prelude.{◌≡◌, ℕ, ◌<◌, ◌≤◌, ◌^◌, Bool, true, false, cond, List, [], ◌∷◌, drop, get_or, Option, Some, None, refl, sym, ◌∙◌, ap, arith, eqb, option_map, decimal, ne_eqb, eqb-true, none-some, same_Some, first_decimal, LiteralsAreRead, literal_text, number_in, signed, literal_in, Literal}
 use Rattle.net_cnf.proofs.Numerals.{number_is, number_some, decimal_read, read_decimal}
 
 pub literal_negated : (count : ℕ) (token : List ℕ) → eqb (get_or token 0 0) 45 ≡ true → literal_in count token ≡ option_map (signed false) (number_in count (drop 1 token))

@@ -1,16 +1,5 @@
 -- Marks of the literals that are read.
-use Rattle.std.proofs.Common.{◌≡◌, ℕ, zero, suc, ◌+◌, ◌<◌, ◌&&◌, ◌||◌, Bool, true, false, cond, List, [], ◌∷◌, ◌++◌, length, map, get_or, set, replicate, Some, None, refl, sym, ◌∙◌, ap, arith, eqb, ◌⊎◌, inl, inr}
-use Rattle.std.specs.Prelude.{find}
-use Rattle.std.specs.Bool.{beq}
-use Rattle.std.specs.List.{range_with_len}
-use Rattle.std.proofs.lemmas.Bool.{cases_eq, eq-eqb, ne_eqb}
-use Rattle.std.proofs.lemmas.List.{length-set, get_or-set_same, get_or-set_other, ext_get_or}
-use Rattle.std.proofs.lemmas.List.Folds.{list_any-append}
-use Rattle.std.proofs.lemmas.List.FromFn.{get_or-map-range_with_len, length-map-range_with_len}
-use Rattle.net_cnf.specs.Marked.{signs_of, marks, IsMarked}
-use Rattle.net_cnf.specs.Models.{is_named, both_named}
-use Rattle.net_cnf.specs.declared.literal.Literal.{Literal}
-use Rattle.net_cnf.specs.declared.reading.Signs.{Signs}
+use Rattle.net_cnf.proofs.Prelude.{◌≡◌, ℕ, zero, suc, ◌+◌, ◌<◌, ◌&&◌, ◌||◌, Bool, true, false, cond, List, [], ◌∷◌, ◌++◌, length, map, get_or, set, replicate, Some, None, refl, sym, ◌∙◌, ap, arith, eqb, ◌⊎◌, inl, inr, find, beq, range_with_len, cases_eq, eq-eqb, ne_eqb, length-set, get_or-set_same, get_or-set_other, ext_get_or, list_any-append, get_or-map-range_with_len, length-map-range_with_len, signs_of, marks, IsMarked, is_named, both_named, Literal, Signs}
 
 -- ---- a literal more
 

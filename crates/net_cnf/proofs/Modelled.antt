@@ -1,27 +1,6 @@
 -- The bytes from which a solution is read are those that are a model of it.
-use Rattle.std.proofs.Common.{◌≡◌, ℕ, ◌+◌, ◌-◌, ◌<◌, ◌≤◌, ◌&&◌, not, Bool, true, false, cond, List, [], ◌∷◌, length, map, get_or, Option, Some, None, Result, Ok, Err, zero, suc, refl, sym, ◌∙◌, ap, arith, subst, ◌⊎◌, inl, inr}
-use Rattle.std.specs.Prelude.{filter, find, position, is_some, is_none, nat_eq, nat_lt}
-use Rattle.std.specs.List.{range_with_len}
-use Rattle.std.specs.Option.{option_map}
-use Rattle.std.proofs.lemmas.Bool.{cases_order, not-true, not-false, not_from_true, not_from_false, lt-ltb, le-ltb, ltb-false, both_ways, false_from_ne_true, and_from, and_parts}
-use Rattle.std.proofs.lemmas.Option.{none-some, same_Some}
-use Rattle.std.proofs.lemmas.List.{length-map}
-use Rattle.std.proofs.lemmas.List.FromFn.{get_or-map-range_with_len, length-map-range_with_len, fill_by_all}
-use Rattle.std.proofs.lemmas.List.Sums.{list_all-from_AllPass, AllPass-from_list_all, fails_before_first}
-use Rattle.assign.specs.Sets.{numbers}
-use Rattle.assign.specs.Assignment.{Assignment, is_complete}
-use Rattle.language.specs.declared.candidates.Candidate.{Candidate}
-use Rattle.language.specs.Language.{Language, variable_count, is_ranged, violates, IsQuestion}
-use Rattle.language.proofs.ByNames.{position_nowhere}
-use Rattle.net_cnf.specs.Booleans.{boolean, booleans, number_of, gives, bits}
-use Rattle.net_cnf.specs.Laws.{ReadsModels, ReadIsNotRefused}
-use Rattle.net_cnf.specs.Marked.{signs_of, marks, IsMarked, truths, AreNamed, AreOnes}
-use Rattle.net_cnf.specs.Models.{MOST_MODEL, boolean_count, literals_of, is_named, truths_of, both_named, true_values, not_one, only_of, assignment_of, violated, unless, solution_in, solution_of, model_of, IsModel}
-use Rattle.net_cnf.specs.Tokens.{tokens, literal_in, bad_token}
-use Rattle.net_cnf.specs.declared.literal.Literal.{Literal}
-use Rattle.net_cnf.specs.declared.model_fault.ModelFault.{ModelFault}
-use Rattle.net_cnf.specs.declared.model_fault.ModelFault.TheVariants.{TooLong, BadToken, Twice, NotOne, Violates}
-use Rattle.net_cnf.specs.declared.reading.Signs.{Signs}
+use Rattle.net_cnf.proofs.Prelude.{◌≡◌, ℕ, ◌+◌, ◌-◌, ◌<◌, ◌≤◌, ◌&&◌, not, Bool, true, false, cond, List, [], ◌∷◌, length, map, get_or, Option, Some, None, Result, Ok, Err, zero, suc, refl, sym, ◌∙◌, ap, arith, subst, ◌⊎◌, inl, inr, find, position, is_some, is_none, nat_eq, nat_lt, range_with_len, option_map, cases_order, not-true, not-false, not_from_true, not_from_false, lt-ltb, le-ltb, ltb-false, both_ways, false_from_ne_true, and_from, and_parts, none-some, same_Some, length-map, get_or-map-range_with_len, length-map-range_with_len, fill_by_all, list_all-from_AllPass, AllPass-from_list_all, fails_before_first, numbers, Assignment, is_complete, Candidate, Language, variable_count, is_ranged, violates, IsQuestion, position_nowhere, boolean, booleans, number_of, gives, bits, ReadsModels, ReadIsNotRefused, signs_of, marks, IsMarked, truths, AreNamed, AreOnes, MOST_MODEL, boolean_count, literals_of, is_named, truths_of, both_named, true_values, not_one, only_of, assignment_of, violated, unless, solution_in, solution_of, model_of, IsModel, tokens, literal_in, bad_token, Literal, ModelFault, TooLong, BadToken, Twice, NotOne, Violates, Signs}
+use Rattle.std.specs.Prelude.{filter}
 use Rattle.net_cnf.proofs.Cutting.{nowhere}
 use Rattle.net_cnf.proofs.Encoding.{Valued, valued, given_is}
 use Rattle.net_cnf.proofs.Marking.{find_nowhere}

@@ -1,12 +1,5 @@
 -- Where a Boolean stands among all.
-use Rattle.std.proofs.Common.{◌≡◌, ℕ, zero, suc, ◌+◌, ◌-◌, ◌<◌, ◌≤◌, ◌&&◌, Bool, false, List, ◌++◌, length, get_or, map, refl, sym, ◌∙◌, ap, arith, eqb, ◌⊎◌, inl, inr}
-use Rattle.std.specs.List.{flat_map, range_with_len}
-use Rattle.std.proofs.lemmas.Bool.{cases_eq, cases_lt, eq-eqb, ne_eqb, and_left, and_right, and_from}
-use Rattle.std.proofs.lemmas.List.{length-append, length-map, get_or_append_left, get_or-append_right, get_or-map, ext_get_or}
-use Rattle.std.proofs.lemmas.List.FromFn.{length-range_with_len, get_or-map-range_with_len}
-use Rattle.std.proofs.lemmas.List.Sums.{position_or_len_is}
-use Rattle.language.specs.Language.{Language, variable_count, values_of}
-use Rattle.net_cnf.specs.Booleans.{Boolean, boolean, booleans_of, booleans, is_boolean, number_of}
+use Rattle.net_cnf.proofs.Prelude.{◌≡◌, ℕ, zero, suc, ◌+◌, ◌-◌, ◌<◌, ◌≤◌, ◌&&◌, Bool, false, List, ◌++◌, length, get_or, map, refl, sym, ◌∙◌, ap, arith, eqb, ◌⊎◌, inl, inr, flat_map, range_with_len, cases_eq, cases_lt, eq-eqb, ne_eqb, and_left, and_right, and_from, length-append, length-map, get_or_append_left, get_or-append_right, get_or-map, ext_get_or, length-range_with_len, get_or-map-range_with_len, position_or_len_is, Language, variable_count, values_of, Boolean, boolean, booleans_of, booleans, is_boolean, number_of}
 use Rattle.net_cnf.proofs.Adding.{front, pieces_more}
 use Rattle.net_cnf.proofs.Runs.{IsValue, first_of, size_of, values-run, nth_value, place_in}
 

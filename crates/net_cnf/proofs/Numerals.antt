@@ -1,15 +1,6 @@
 -- Digits and the numbers that they write.
-use Rattle.std.proofs.Common.{◌≡◌, ℕ, ◌+◌, ◌-◌, ◌*◌, ◌<◌, ◌≤◌, ◌^◌, ◌&&◌, not, Bool, true, false, cond, List, [], ◌∷◌, length, get_or, Some, None, refl, sym, ◌∙◌, ap, arith, eqb, ltb, ◌⊎◌, inl, inr}
-use Rattle.std.specs.Prelude.{nat_le, nat_lt, nat_eq}
-use Rattle.std.specs.List.{list_all}
-use Rattle.std.specs.Char.{digit_value, is_digit}
-use Rattle.std.specs.Fmt.{decimal}
-use Rattle.std.specs.Str.Parse.{AllDigits, digits_value, digits_value_after}
-use Rattle.std.proofs.lemmas.Bool.{cases_lt, cond_both, and_parts, and_from, leb-true, lt-ltb, le-leb, ltb-true, ltb-false, lt-leb, eqb-false, not-true, not_from_false, ne_eqb}
-use Rattle.std.proofs.lemmas.Option.{cond_some}
-use Rattle.std.proofs.lemmas.Fmt.{decimal_is_IsNumeral, decimal-digits_value, first_decimal}
+use Rattle.net_cnf.proofs.Prelude.{◌≡◌, ℕ, ◌+◌, ◌-◌, ◌*◌, ◌<◌, ◌≤◌, ◌^◌, ◌&&◌, not, Bool, true, false, cond, List, [], ◌∷◌, length, get_or, Some, None, refl, sym, ◌∙◌, ap, arith, eqb, ltb, ◌⊎◌, inl, inr, nat_le, nat_lt, nat_eq, list_all, digit_value, is_digit, decimal, AllDigits, digits_value, digits_value_after, cases_lt, cond_both, and_parts, and_from, leb-true, lt-ltb, le-leb, ltb-true, ltb-false, lt-leb, eqb-false, not-true, not_from_false, ne_eqb, cond_some, decimal_is_IsNumeral, decimal-digits_value, first_decimal, is_number, number_in}
 use Rattle.std.proofs.lemmas.Str.Parse.{IsNumeralModel, numerals_by_value, tells_digits}
-use Rattle.net_cnf.specs.Tokens.{is_number, number_in}
 
 not_first : (b : ℕ) → 48 ≤ b → (b ≡ 48 → ⊥) → 48 < b
 not_first b low apart = go (cases_lt 48 b)

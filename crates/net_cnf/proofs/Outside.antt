@@ -1,15 +1,6 @@
 -- A relation on a scope rejects only tuples within the ranges.
-use Rattle.std.proofs.Common.{◌≡◌, ℕ, zero, suc, ◌^◌, ◌<◌, ◌≤◌, true, false, List, [], ◌∷◌, length, get_or, sym, ◌∙◌, ap, arith}
-use Rattle.std.specs.Prelude.{nat_le}
-use Rattle.std.proofs.lemmas.Bool.{and_parts, leb-true, both_ways, true_from_ne_false}
-use Rattle.rel_table.specs.Relation.{tuple_at}
-use Rattle.rel_table.proofs.PlaceLemmas.{length-tuple_at, tuple_at-below, place-tuple_at}
-use Rattle.language.specs.declared.candidates.Candidate.{Candidate}
-use Rattle.language.specs.declared.ranges.ValueRange.{ValueRange}
-use Rattle.language.specs.Ranges.{is_in, range_in, are_in}
-use Rattle.language.specs.Language.{Language, IsLanguage, IsCandidate, scope_of, relation_of}
+use Rattle.net_cnf.proofs.Prelude.{◌≡◌, ℕ, zero, suc, ◌^◌, ◌<◌, ◌≤◌, true, false, List, [], ◌∷◌, length, get_or, sym, ◌∙◌, ap, arith, nat_le, and_parts, leb-true, both_ways, true_from_ne_false, tuple_at, length-tuple_at, tuple_at-below, place-tuple_at, Candidate, ValueRange, is_in, range_in, are_in, Language, IsLanguage, IsCandidate, scope_of, relation_of, accepts_there}
 use Rattle.language.proofs.Ranged.{accepted_outside}
-use Rattle.net_cnf.specs.Paired.{accepts_there}
 
 -- the place of a tuple that is rejected is that of one within the ranges
 pub rejected_within : (l : Language) (c : Candidate) (at : ℕ) → IsLanguage l → IsCandidate l c → at < l.value_count ^ length (scope_of l c) → accepts_there l c at ≡ false →

@@ -1,25 +1,5 @@
 -- The lines of clauses, a piece for each number.
-use Rattle.std.proofs.Common.{◌≡◌, ℕ, zero, suc, ◌+◌, ◌-◌, ◌*◌, ◌/◌, ◌^◌, ◌<◌, ◌≤◌, ◌&&◌, Bool, true, false, not, cond, List, [], ◌∷◌, ◌++◌, length, map, take, get_or, set, replicate, ℤ, Some, None, refl, sym, ◌∙◌, ap, arith}
-use Rattle.std.specs.Prelude.{slice_get}
-use Rattle.std.specs.List.{flat_map, filter, range_with_len}
-use Rattle.std.proofs.lemmas.List.{append-nil, length-append, length-map, map-append, map-id, take_more}
-use Rattle.std.proofs.lemmas.Option.{get_or_from_slice_get}
-use Rattle.std.proofs.lemmas.Bool.{and_from, and_right}
-use Rattle.std.proofs.lemmas.List.Elements.{filter-append}
-use Rattle.std.proofs.Math.Nat.{mul-le-mul}
-use Rattle.std.proofs.lemmas.List.Concat.{flat_map-append}
-use Rattle.std.proofs.lemmas.List.FromFn.{fill_by_all, length-map-range_with_len, filter_of_map_range_with_len_more}
-use Rattle.assign.specs.Sets.{numbers}
-use Rattle.rel_table.specs.Relation.{holds, tuples, tuple_at}
-use Rattle.rel_table.proofs.PlaceLemmas.{length-tuples, get_or-tuples, length-tuple_at, place-tuple_at}
-use Rattle.language.specs.declared.candidates.Candidate.{Candidate}
-use Rattle.language.specs.Language.{Language, IsLanguage, IsCandidate, variable_count, range_of, values_of, scope_of, relation_of}
-use Rattle.language.specs.Ranges.{is_in, are_in, IsRange}
-use Rattle.language.specs.Texts.{value_text, values_text}
-use Rattle.net_cnf.specs.Booleans.{Boolean, boolean, booleans, booleans_of}
-use Rattle.net_cnf.specs.Clauses.{literal, some_value, each_two, not_both, no_two_values, tuples_on, values_in, rejected, none_rejected, clauses}
-use Rattle.net_cnf.specs.Paired.{paired, tuple_there, accepts_there, place_piece, item_piece}
-use Rattle.net_cnf.specs.Texts.{literal_text, clause_text, boolean_text}
+use Rattle.net_cnf.proofs.Prelude.{◌≡◌, ℕ, zero, suc, ◌+◌, ◌-◌, ◌*◌, ◌/◌, ◌^◌, ◌<◌, ◌≤◌, ◌&&◌, Bool, true, false, not, cond, List, [], ◌∷◌, ◌++◌, length, map, take, get_or, set, replicate, ℤ, Some, None, refl, sym, ◌∙◌, ap, arith, slice_get, flat_map, filter, range_with_len, append-nil, length-append, length-map, map-append, map-id, take_more, get_or_from_slice_get, and_from, and_right, filter-append, mul-le-mul, flat_map-append, fill_by_all, length-map-range_with_len, filter_of_map_range_with_len_more, numbers, holds, tuples, tuple_at, length-tuples, get_or-tuples, length-tuple_at, place-tuple_at, Candidate, Language, IsLanguage, IsCandidate, variable_count, range_of, values_of, scope_of, relation_of, is_in, are_in, IsRange, value_text, values_text, Boolean, boolean, booleans, booleans_of, literal, some_value, each_two, not_both, no_two_values, tuples_on, values_in, rejected, none_rejected, clauses, paired, tuple_there, accepts_there, place_piece, item_piece, literal_text, clause_text, boolean_text}
 use Rattle.net_cnf.proofs.Adding.{pieces_more}
 use Rattle.net_cnf.proofs.Outside.{rejected_within}
 use Rattle.net_cnf.proofs.Runs.{first_of, size_of, values-run}

@@ -1,16 +1,5 @@
 -- The values of a variable are a run of numbers.
-use Rattle.std.proofs.Common.{◌≡◌, ℕ, zero, suc, ◌+◌, ◌-◌, ◌<◌, ◌≤◌, ◌&&◌, Bool, true, false, cond, min, [], ◌∷◌, ◌++◌, refl, sym, ◌∙◌, ap, subst, arith, ◌⊎◌, inl, inr}
-use Rattle.std.specs.Prelude.{All, nat_le}
-use Rattle.std.specs.List.{list_any, filter, range_with_len}
-use Rattle.std.proofs.lemmas.Bool.{cases_lt, and_from, and_parts, and_left, and_right, le-leb, leb-true, lt-leb}
-use Rattle.std.proofs.lemmas.List.{append-nil}
-use Rattle.std.proofs.lemmas.List.Elements.{filter-append}
-use Rattle.assign.specs.Sets.{numbers}
-use Rattle.language.specs.declared.ranges.ValueRange.{ValueRange}
-use Rattle.language.specs.Ranges.{is_in, IsRange}
-use Rattle.language.specs.Language.{Language, IsLanguage, variable_count, range_of, values_of}
-use Rattle.language.proofs.Lists.{all_numbers}
-use Rattle.language.proofs.Members.{any-filter, any_number}
+use Rattle.net_cnf.proofs.Prelude.{◌≡◌, ℕ, zero, suc, ◌+◌, ◌-◌, ◌<◌, ◌≤◌, ◌&&◌, Bool, true, false, cond, min, [], ◌∷◌, ◌++◌, refl, sym, ◌∙◌, ap, subst, arith, ◌⊎◌, inl, inr, All, nat_le, list_any, filter, range_with_len, cases_lt, and_from, and_parts, and_left, and_right, le-leb, leb-true, lt-leb, append-nil, filter-append, numbers, ValueRange, is_in, IsRange, Language, IsLanguage, variable_count, range_of, values_of, all_numbers, any-filter, any_number}
 
 -- ---- runs
 

@@ -1,14 +1,5 @@
 -- Tokens that are read one by one.
-use Rattle.std.proofs.Common.{◌≡◌, ℕ, suc, ◌+◌, ◌<◌, ◌≤◌, Bool, true, false, cond, List, [], ◌∷◌, ◌++◌, length, take, Option, Some, None, Result, Ok, Err, refl, sym, ◌∙◌, ap, arith, append_assoc, ltb, ◌⊎◌, inl, inr}
-use Rattle.std.specs.Prelude.{position, is_none}
-use Rattle.std.specs.Option.{ok_or, option_map}
-use Rattle.std.specs.List.{cons_option, before_first, position_or_len}
-use Rattle.std.proofs.lemmas.Bool.{cases_lt, lt-ltb, le-ltb, not_from_false, not_from_true}
-use Rattle.std.proofs.lemmas.List.{append-nil}
-use Rattle.net_cnf.specs.Marked.{marks, IsMarked, AreNamed}
-use Rattle.net_cnf.specs.Tokens.{is_end, bad_token, literal_in, literals_in}
-use Rattle.net_cnf.specs.declared.literal.Literal.{Literal}
-use Rattle.net_cnf.specs.declared.reading.Signs.{Signs}
+use Rattle.net_cnf.proofs.Prelude.{◌≡◌, ℕ, suc, ◌+◌, ◌<◌, ◌≤◌, Bool, true, false, cond, List, [], ◌∷◌, ◌++◌, length, take, Option, Some, None, Result, Ok, Err, refl, sym, ◌∙◌, ap, arith, append_assoc, ltb, ◌⊎◌, inl, inr, position, is_none, ok_or, option_map, cons_option, before_first, position_or_len, cases_lt, lt-ltb, le-ltb, not_from_false, not_from_true, append-nil, marks, IsMarked, AreNamed, is_end, bad_token, literal_in, literals_in, Literal, Signs}
 
 -- those before the end
 abbrev pub read_of : List (List ℕ) → List (List ℕ)

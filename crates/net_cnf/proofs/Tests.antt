@@ -1,11 +1,5 @@
 -- Tests of all members of a list, through the functions that make the lists of clauses.
-use Rattle.std.proofs.Common.{◌≡◌, ℕ, zero, suc, ◌+◌, ◌<◌, ◌≤◌, ◌&&◌, ◌||◌, not, Bool, true, false, cond, List, [], ◌∷◌, map, refl, sym, ◌∙◌, ap, arith, eqb, ◌⊎◌, inl, inr}
-use Rattle.std.specs.List.{list_all, filter, flat_map, range_with_len}
-use Rattle.std.proofs.lemmas.Bool.{cases_eq, eq-eqb, ne_eqb, and_from, and_parts}
-use Rattle.std.proofs.lemmas.List.FromFn.{length-range_with_len, get_or-range_with_len}
-use Rattle.std.proofs.lemmas.List.Folds.{list_all-append, list_all-map}
-use Rattle.std.proofs.lemmas.List.Sums.{list_all-from_AllPass}
-use Rattle.net_cnf.specs.Clauses.{each_two}
+use Rattle.net_cnf.proofs.Prelude.{◌≡◌, ℕ, zero, suc, ◌+◌, ◌<◌, ◌≤◌, ◌&&◌, ◌||◌, not, Bool, true, false, cond, List, [], ◌∷◌, map, refl, sym, ◌∙◌, ap, arith, eqb, ◌⊎◌, inl, inr, list_all, filter, flat_map, range_with_len, cases_eq, eq-eqb, ne_eqb, and_from, and_parts, length-range_with_len, get_or-range_with_len, list_all-append, list_all-map, list_all-from_AllPass, each_two}
 
 pub all-flat_map : {X Y : Type 0} (p : Y → Bool) (f : X → List Y) (xs : List X) → list_all p (flat_map f xs) ≡ list_all (λ x. list_all p (f x)) xs
 all-flat_map p f [] = refl

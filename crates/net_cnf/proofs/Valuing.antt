@@ -1,19 +1,6 @@
 -- The values whose Booleans are true.
-use Rattle.std.proofs.Common.{◌≡◌, ℕ, zero, suc, ◌+◌, ◌-◌, ◌<◌, ◌≤◌, ◌&&◌, ◌||◌, not, Bool, true, false, cond, List, [], ◌∷◌, ◌++◌, length, get_or, set, Option, Some, None, refl, sym, ◌∙◌, ap, subst, arith, eqb, ◌⊎◌, inl, inr}
-use Rattle.std.specs.Prelude.{All, filter, is_some, nat_eq, IfSome}
-use Rattle.std.specs.Option.{option_to_list}
-use Rattle.std.specs.List.{list_any, range_with_len}
-use Rattle.std.proofs.lemmas.Bool.{cases_eq, cases_order, eq-eqb, ne_eqb}
-use Rattle.std.proofs.lemmas.Option.{none-some, same_Some}
-use Rattle.std.proofs.lemmas.List.{append-nil, get_or-map, get_or-set_same, get_or-set_other, length-set, map-id}
-use Rattle.std.proofs.lemmas.List.Elements.{filter-append, All-filter, All-head}
-use Rattle.std.proofs.lemmas.List.FromFn.{map-range_with_len_more}
-use Rattle.assign.specs.Assignment.{Assignment, value_of}
-use Rattle.language.specs.Language.{Language, IsQuestion, variable_count, values_of, is_ranged}
-use Rattle.net_cnf.specs.Booleans.{boolean, number_of}
-use Rattle.net_cnf.specs.Marked.{truths}
-use Rattle.net_cnf.specs.Models.{boolean_count, true_values, not_one, only_of}
-use Rattle.net_cnf.specs.declared.reading.Signs.{Signs}
+use Rattle.net_cnf.proofs.Prelude.{◌≡◌, ℕ, zero, suc, ◌+◌, ◌-◌, ◌<◌, ◌≤◌, ◌&&◌, ◌||◌, not, Bool, true, false, cond, List, [], ◌∷◌, ◌++◌, length, get_or, set, Option, Some, None, refl, sym, ◌∙◌, ap, subst, arith, eqb, ◌⊎◌, inl, inr, All, is_some, nat_eq, IfSome, option_to_list, list_any, range_with_len, cases_eq, cases_order, eq-eqb, ne_eqb, none-some, same_Some, append-nil, get_or-map, get_or-set_same, get_or-set_other, length-set, map-id, filter-append, All-filter, All-head, map-range_with_len_more, Assignment, value_of, Language, IsQuestion, variable_count, values_of, is_ranged, boolean, number_of, truths, boolean_count, true_values, not_one, only_of, Signs}
+use Rattle.std.specs.Prelude.{filter}
 use Rattle.net_cnf.proofs.Marking.{find_at, find_nowhere}
 use Rattle.net_cnf.proofs.Numbers.{number_fits}
 use Rattle.net_cnf.proofs.Runs.{IsValue, run_parts, none_pass, value_in, all_values}

@@ -1,12 +1,5 @@
 -- Of each network the searches are decided, or a first one is spent.
-use Rattle.std.proofs.Common.{◌≡◌, ℕ, zero, suc, ◌≤◌, List, length, ◌⊎◌, inl, inr, refl, sym, ◌∙◌, arith}
-use Rattle.language.specs.declared.candidates.Candidate.{Candidate}
-use Rattle.language.specs.Language.{Language, IsLanguage}
-use Rattle.language.specs.Answers.{IsNetwork}
-use Rattle.fd_solver.specs.declared.outcome.Outcome.{Outcome}
-use Rattle.fd_solver.specs.declared.outcome.Outcome.TheVariants.{Found, Absent, Spent}
-use Rattle.net_reduce.specs.Laws.{EachIsSearchedOrSpent}
-use Rattle.net_reduce.specs.Searched.{left_at, outcome_at, AreDecided, IsSearched, IsSpentAt}
+use Rattle.net_reduce.proofs.Prelude.{◌≡◌, ℕ, zero, suc, ◌≤◌, List, length, ◌⊎◌, inl, inr, refl, sym, ◌∙◌, arith, Candidate, Language, IsLanguage, IsNetwork, Outcome, Found, Absent, Spent, EachIsSearchedOrSpent, left_at, outcome_at, AreDecided, IsSearched, IsSpentAt}
 use Rattle.net_reduce.proofs.Searching.{decided_none, decided_on, spent_at}
 
 module _ (l : Language) (network : List Candidate) (budget : ℕ) (lawful : IsLanguage l) (known : IsNetwork l network) where

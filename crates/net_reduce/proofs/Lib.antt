@@ -1,3 +1,4 @@
+mod Prelude
 pub mod Sifting
 pub mod Searching
 pub mod EachNetwork

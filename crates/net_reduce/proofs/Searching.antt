@@ -1,21 +1,8 @@
 -- What the searches of a network's items say of sifting it.
-use Rattle.std.proofs.Common.{◌≡◌, ℕ, zero, suc, ◌+◌, ◌<◌, ◌≤◌, List, [], ◌∷◌, ◌++◌, length, drop, ◌⊎◌, inl, inr, refl, sym, ◌∙◌, ap, subst, arith, add-one}
-use Rattle.std.specs.Prelude.{◌≢◌, slice_index_or}
-use Rattle.std.specs.List.{insert, remove}
+use Rattle.net_reduce.proofs.Prelude.{◌≡◌, ℕ, zero, suc, ◌+◌, ◌<◌, ◌≤◌, List, [], ◌∷◌, ◌++◌, length, drop, ◌⊎◌, inl, inr, refl, sym, ◌∙◌, ap, subst, arith, add-one, ◌≢◌, slice_index_or, insert, remove, append-nil, get_or_at, length-append, length_push, drop_all, All-nil, All-append, All-push, All-drop, both_ways, cases_lt, Candidate, Language, IsLanguage, IsCandidate, IsImplied, IsNetwork, Outcome, Found, Absent, Spent, outcome_of_candidate, Sifts, item_at, unless_absent, left_at, others_at, outcome_at, AreDecided, IsSearched, IsSpentAt}
 use Rattle.std.proofs.Math.Seq.{drop-cons}
-use Rattle.std.proofs.lemmas.List.{append-nil, get_or_at, length-append, length_push, drop_all}
-use Rattle.std.proofs.lemmas.List.Elements.{All-nil, All-append, All-push, All-drop}
-use Rattle.std.proofs.lemmas.Bool.{both_ways, cases_lt}
-use Rattle.language.specs.declared.candidates.Candidate.{Candidate}
-use Rattle.language.specs.Language.{Language, IsLanguage, IsCandidate, IsImplied}
-use Rattle.language.specs.Answers.{IsNetwork}
-use Rattle.fd_solver.specs.declared.outcome.Outcome.{Outcome}
-use Rattle.fd_solver.specs.declared.outcome.Outcome.TheVariants.{Found, Absent, Spent}
-use Rattle.fd_solver.specs.Outcomes.{outcome_of_candidate}
 use Rattle.fd_solver.specs.Laws.{IsQuestionAgainst}
 use Rattle.fd_solver.proofs.Outcomes.{absent_is_implied, found_is_lawful, spent_is_long}
-use Rattle.net_reduce.specs.Reduction.{Sifts}
-use Rattle.net_reduce.specs.Searched.{item_at, unless_absent, left_at, others_at, outcome_at, AreDecided, IsSearched, IsSpentAt}
 
 -- ---- taking an item out of a list, and putting it back
 

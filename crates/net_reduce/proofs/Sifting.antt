@@ -1,15 +1,7 @@
 -- What sifting leaves.
-use Rattle.std.proofs.Common.{◌≡◌, Bool, true, false, ◌&&◌, not, List, [], ◌∷◌, ◌++◌, ◌⊎◌, inl, inr, refl, sym, ◌∙◌, ap, subst}
-use Rattle.std.proofs.lemmas.List.{append-nil, append_assoc, same_from_push}
-use Rattle.std.proofs.lemmas.List.Elements.{All-cons, All-head, All-tail}
+use Rattle.net_reduce.proofs.Prelude.{◌≡◌, Bool, true, false, ◌&&◌, not, List, [], ◌∷◌, ◌++◌, ◌⊎◌, inl, inr, refl, sym, ◌∙◌, ap, subst, append-nil, append_assoc, same_from_push, All-cons, All-head, All-tail, and_parts, and_from, not_from_false, Candidate, Language, IsCandidate, IsImplied, HasSameSolutions, violates, accepts, IsNetwork, IsSublist, Sifts, SiftedIsReduction, SiftedIsOne, ReducedIsTarget}
 use Rattle.std.proofs.lemmas.List.Folds.{list_all-append}
-use Rattle.std.proofs.lemmas.Bool.{and_parts, and_from, not_from_false}
 use Rattle.assign.specs.Assignment.{Assignment}
-use Rattle.language.specs.declared.candidates.Candidate.{Candidate}
-use Rattle.language.specs.Language.{Language, IsCandidate, IsImplied, HasSameSolutions, violates, accepts}
-use Rattle.language.specs.Answers.{IsNetwork}
-use Rattle.net_reduce.specs.Reduction.{IsSublist, Sifts}
-use Rattle.net_reduce.specs.Laws.{SiftedIsReduction, SiftedIsOne, ReducedIsTarget}
 
 -- ---- lists
 

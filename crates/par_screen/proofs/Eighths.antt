@@ -1,15 +1,7 @@
 -- Eight parts, one after another.
-use Rattle.std.proofs.Common.{◌≡◌, ℕ, ◌+◌, ◌-◌, ◌*◌, ◌≤◌, List, length, sym, ◌∙◌, ap, arith}
+use Rattle.par_screen.proofs.Prelude.{◌≡◌, ℕ, ◌+◌, ◌-◌, ◌*◌, ◌≤◌, List, length, sym, ◌∙◌, ap, arith, Language, candidates, Query, AllImplied, Remembered, begun, part_size, query_in, query_then, IsSearched, HasTaken, parts_are_joined, whole_is_next, says_nothing, IsTakenTo, taken_further, part_start}
 use Rattle.language.specs.declared.candidates.Candidate.{Candidate}
-use Rattle.language.specs.Language.{Language, candidates}
-use Rattle.query_gen.specs.declared.query.Query.{Query}
-use Rattle.query_gen.specs.declared.query.Query.TheVariants.{AllImplied}
 use Rattle.query_gen.specs.Questions.{next_query}
-use Rattle.query_gen.specs.Marks.{Remembered}
-use Rattle.query_gen.specs.Inside.{begun}
-use Rattle.query_gen.specs.Parts.{part_size, query_in, query_then, IsSearched, HasTaken}
-use Rattle.query_gen.proofs.Parts.{parts_are_joined, whole_is_next, says_nothing, IsTakenTo, taken_further}
-use Rattle.par_screen.specs.Eighths.{part_start}
 
 -- ---- Where parts begin
 

@@ -1,15 +1,5 @@
 -- A condition on two variables, one of which has one value.
-use Rattle.std.proofs.Common.{◌≡◌, ℕ, zero, suc, ◌<◌, Bool, true, List, [], ◌∷◌, length, refl, sym, ◌∙◌, ap, subst, arith, inl, inr, ◌⊎◌}
-use Rattle.std.specs.Prelude.{◌≢◌, slice_index_or, slice_set, All}
-use Rattle.std.specs.List.{list_all}
-use Rattle.std.proofs.lemmas.List.{set-get_or, get_or-set_other}
-use Rattle.std.proofs.lemmas.Bool.{both_ways, eq-eqb, or_left}
-use Rattle.assign.specs.Sets.{has, union}
-use Rattle.propagators.specs.Families.{Family, Arc, sets_on, is_not_empty, size_of, IsSubfamily}
-use Rattle.propagators.specs.Supports.{AreBelow, AreDifferent, IsWithin, IsThrough, AreSupported, IsRevised, IsDead, replaced}
-use Rattle.propagators.specs.Pairs.{IsOnly, IsBeside, IsNarrowed}
-use Rattle.propagators.specs.Entailed.{IsEntailed}
-use Rattle.propagators.specs.Plans.{IsLooked}
+use Rattle.propagators.proofs.Prelude.{◌≡◌, ℕ, zero, suc, ◌<◌, Bool, true, List, [], ◌∷◌, length, refl, sym, ◌∙◌, ap, subst, arith, inl, inr, ◌⊎◌, ◌≢◌, slice_index_or, slice_set, All, list_all, set-get_or, get_or-set_other, both_ways, eq-eqb, or_left, has, union, Family, Arc, sets_on, is_not_empty, size_of, IsSubfamily, AreBelow, AreDifferent, IsWithin, IsThrough, AreSupported, IsRevised, IsDead, replaced, IsOnly, IsBeside, IsNarrowed, IsEntailed, IsLooked}
 use Rattle.propagators.proofs.Replacing.{is_revised, is_dead, member_of_some, all_full}
 use Rattle.propagators.proofs.Rounds.{AreSmall}
 use Rattle.propagators.proofs.Visiting.{looked_same, looked_changed}

@@ -1,15 +1,5 @@
 -- A condition on two variables, revised by the masks of its relation.
-use Rattle.std.proofs.Common.{◌≡◌, ℕ, zero, suc, ◌<◌, Bool, true, false, List, [], ◌∷◌, length, map, take, refl, sym, ◌∙◌, ap, subst, arith}
-use Rattle.std.specs.Prelude.{slice_index_or, All}
-use Rattle.std.proofs.lemmas.List.Elements.{All-nil, All-cons}
-use Rattle.assign.specs.Sets.{has}
-use Rattle.propagators.specs.Values.{ones_of}
-use Rattle.std.specs.Prelude.{◌==◌}
-use Rattle.std.specs.Int.{bit_at}
-use Rattle.propagators.specs.Families.{Family, Arc, sets_on, is_wanted, is_not_empty}
-use Rattle.propagators.specs.Supports.{AreBelow, AreDifferent, AreSupported, IsWithin, IsThrough, IsRevised, IsDead, replaced}
-use Rattle.propagators.specs.Pairs.{goes_by}
-use Rattle.propagators.specs.declared.briefs.Pair.{Pair}
+use Rattle.propagators.proofs.Prelude.{◌≡◌, ℕ, zero, suc, ◌<◌, Bool, true, false, List, [], ◌∷◌, length, map, take, refl, sym, ◌∙◌, ap, subst, arith, slice_index_or, All, All-nil, All-cons, has, ones_of, ◌==◌, bit_at, Family, Arc, sets_on, is_wanted, is_not_empty, AreBelow, AreDifferent, AreSupported, IsWithin, IsThrough, IsRevised, IsDead, replaced, goes_by, Pair}
 use Rattle.propagators.proofs.Conditions.{supported_as}
 use Rattle.propagators.proofs.Replacing.{is_revised, is_dead, member_of_some, value_within}
 

@@ -1,12 +1,5 @@
 -- Relations of two variables whose rows and columns run one way.
-use Rattle.std.proofs.Common.{◌≡◌, ℕ, zero, suc, ◌<◌, Bool, true, ◌&&◌, ◌||◌, List, [], ◌∷◌, refl, sym, ◌∙◌, ap, arith, inl, inr, ◌⊎◌}
-use Rattle.std.specs.Prelude.{slice_index_or}
-use Rattle.std.proofs.lemmas.Bool.{and_parts, and_from, or_left, or_right, or_cases, both_ways}
-use Rattle.assign.specs.Sets.{has}
-use Rattle.propagators.specs.Values.{ones_of}
-use Rattle.propagators.specs.Families.{is_wanted}
-use Rattle.propagators.specs.Supports.{AreBelow, AreSupported, IsWithin, IsThrough}
-use Rattle.propagators.specs.Chains.{IsRunning, IsChain, AreEnds}
+use Rattle.propagators.proofs.Prelude.{◌≡◌, ℕ, zero, suc, ◌<◌, Bool, true, ◌&&◌, ◌||◌, List, [], ◌∷◌, refl, sym, ◌∙◌, ap, arith, inl, inr, ◌⊎◌, slice_index_or, and_parts, and_from, or_left, or_right, or_cases, both_ways, has, ones_of, is_wanted, AreBelow, AreSupported, IsWithin, IsThrough, IsRunning, IsChain, AreEnds}
 use Rattle.propagators.proofs.Ones.{ones_of-zero}
 
 -- the same, where what runs is to hold or not to hold

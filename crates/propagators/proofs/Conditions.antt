@@ -1,24 +1,6 @@
 -- The conditions of constraints, and what a revision needs of one.
-use Rattle.std.proofs.Common.{◌≡◌, ℕ, zero, suc, ◌+◌, ◌*◌, ◌<◌, ◌≤◌, Bool, true, false, List, [], ◌∷◌, length, map, take, Option, Some, None, refl, sym, ◌∙◌, ap, subst, arith}
-use Rattle.std.specs.Prelude.{◌==◌, slice_index_or, All}
-use Rattle.std.specs.List.{list_any, fold}
-use Rattle.std.specs.Option.{option_map_or}
-use Rattle.std.proofs.lemmas.List.{length-take, length-map, get_or-map}
-use Rattle.std.proofs.lemmas.List.Elements.{All-nil, All-cons, All-head, All-append, All-map}
-use Rattle.std.proofs.lemmas.Bool.{and_from, or_left, both_ways, eq-eqb}
-use Rattle.assign.specs.Sets.{numbers, has, Rises}
-use Rattle.rel_table.specs.Relation.{holds}
-use Rattle.rel_table.specs.Table.{TruthTable}
-use Rattle.language.specs.declared.candidates.Candidate.{Candidate}
-use Rattle.language.specs.Ranges.{is_in, are_in}
-use Rattle.language.specs.Language.{Language, IsLanguage, IsCandidate, IsScope, variable_count, range_of, scope_of, relation_of}
-use Rattle.language.proofs.Members.{any_number}
+use Rattle.propagators.proofs.Prelude.{◌≡◌, ℕ, zero, suc, ◌+◌, ◌*◌, ◌<◌, ◌≤◌, Bool, true, false, List, [], ◌∷◌, length, map, take, Option, Some, None, refl, sym, ◌∙◌, ap, subst, arith, ◌==◌, slice_index_or, All, list_any, fold, option_map_or, length-take, length-map, get_or-map, All-nil, All-cons, All-head, All-append, All-map, and_from, or_left, both_ways, eq-eqb, numbers, has, Rises, holds, TruthTable, Candidate, is_in, are_in, Language, IsLanguage, IsCandidate, IsScope, variable_count, range_of, scope_of, relation_of, any_number, lacks, AreConstraints, ones_of, Family, Arc, is_wanted, arc_of, arcs_of, sets_on, is_not_empty, IsSubfamily, IsWithin, AreSupported, continues, AreBelow, IsFamilyOf, AreSettled, AreDifferent, IsUnderway, IsRevised, IsDead, replaced}
 use Rattle.language.proofs.Beside.{scope_rises}
-use Rattle.assign.proofs.Masks.{lacks}
-use Rattle.propagators.specs.Allowed.{AreConstraints}
-use Rattle.propagators.specs.Values.{ones_of}
-use Rattle.propagators.specs.Families.{Family, Arc, is_wanted, arc_of, arcs_of, sets_on, is_not_empty, IsSubfamily}
-use Rattle.propagators.specs.Supports.{IsWithin, AreSupported, continues, AreBelow, IsFamilyOf, AreSettled, AreDifferent, IsUnderway, IsRevised, IsDead, replaced}
 use Rattle.propagators.proofs.Cutting.{sets_for, set_for}
 use Rattle.propagators.proofs.Replacing.{is_revised, is_dead, set_at, supported_within, member_of_some}
 

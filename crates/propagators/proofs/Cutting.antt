@@ -1,14 +1,5 @@
 -- Writing the sets of a scope's variables, one after another.
-use Rattle.std.proofs.Common.{◌≡◌, ℕ, zero, suc, ◌+◌, ◌<◌, ◌≤◌, Bool, true, false, ◌||◌, List, [], ◌∷◌, length, map, take, drop, refl, sym, ◌∙◌, ap, subst, arith, inl, inr}
-use Rattle.std.specs.Prelude.{◌≢◌, slice_index_or, slice_set}
-use Rattle.std.proofs.Math.ListN.{length-set}
-use Rattle.std.proofs.lemmas.List.{get_or-set_other, get_or-take, get_or-map, length-take, length-map, drop_more, drop_all}
-use Rattle.std.proofs.lemmas.Bool.{or_left, or_right, both_ways, eq-eqb}
-use Rattle.assign.specs.Sets.{has, with_member}
-use Rattle.assign.specs.SetLemmas.{has-set_where}
-use Rattle.propagators.specs.Values.{ones_of}
-use Rattle.propagators.specs.Families.{Family, size_of}
-use Rattle.propagators.specs.Supports.{AreFewer, IsCut, AreDifferent, replaced}
+use Rattle.propagators.proofs.Prelude.{◌≡◌, ℕ, zero, suc, ◌+◌, ◌<◌, ◌≤◌, Bool, true, false, ◌||◌, List, [], ◌∷◌, length, map, take, drop, refl, sym, ◌∙◌, ap, subst, arith, inl, inr, ◌≢◌, slice_index_or, slice_set, length-set, get_or-set_other, get_or-take, get_or-map, length-take, length-map, drop_more, drop_all, or_left, or_right, both_ways, eq-eqb, has, with_member, has-set_where, ones_of, Family, size_of, AreFewer, IsCut, AreDifferent, replaced}
 
 -- the sets of masks for a scope
 abbrev pub sets_for : List ℕ → List ℕ → List (List ℕ)

@@ -1,17 +1,6 @@
 -- Entailed conditions: they stay so, and one more of them.
-use Rattle.std.proofs.Common.{◌≡◌, ℕ, zero, suc, ◌<◌, ◌/◌, ◌%◌, true, List, length, refl, sym, ◌∙◌, ap, subst, inl, inr, ◌⊎◌}
-use Rattle.std.specs.Prelude.{slice_index_or, replicate}
-use Rattle.std.proofs.lemmas.Bool.{both_ways}
-use Rattle.assign.specs.Sets.{has}
-use Rattle.propagators.specs.Values.{ones_of}
+use Rattle.propagators.proofs.Prelude.{◌≡◌, ℕ, zero, suc, ◌<◌, ◌/◌, ◌%◌, true, List, length, refl, sym, ◌∙◌, ap, subst, inl, inr, ◌⊎◌, slice_index_or, replicate, both_ways, has, ones_of, list_all, Language, Family, Arc, is_consistent, is_not_empty, IsSubfamily, IsFamilyOf, IsUnderway, IsPropagated, IsEntailed, AreEntailed, is_noted_in, Entailed}
 use Rattle.propagators.proofs.Ones.{ones_of-zero}
-use Rattle.std.specs.List.{list_all}
-use Rattle.language.specs.Language.{Language}
-use Rattle.propagators.specs.Families.{Family, Arc, is_consistent, is_not_empty, IsSubfamily}
-use Rattle.propagators.specs.Supports.{IsFamilyOf, IsUnderway}
-use Rattle.propagators.specs.Propagated.{IsPropagated}
-use Rattle.propagators.specs.Entailed.{IsEntailed, AreEntailed, is_noted_in}
-use Rattle.propagators.specs.declared.entailed.Entailed.{Entailed}
 use Rattle.propagators.proofs.Rounds.{sub_sub}
 
 pub entailed_less : (a : Arc) (f g : Family) → IsSubfamily g f → length g ≡ length f → IsEntailed a f → IsEntailed a g

@@ -1,24 +1,6 @@
 -- The masks of the family of the ranges, and families of a language.
-use Rattle.std.proofs.Common.{◌≡◌, ℕ, zero, suc, ◌+◌, ◌-◌, ◌<◌, ◌≤◌, ◌^◌, Bool, true, false, not, ◌&&◌, List, [], ◌∷◌, length, map, take, drop, replicate, refl, ap, sym, ◌∙◌, arith, inl, inr, ◌⊎◌, length-drop}
-use Rattle.std.specs.Prelude.{◌==◌, ◌≢◌, nat_le, nat_lt, bit_and, slice_index_or, slice_set, All}
-use Rattle.std.specs.List.{range_with_len}
-use Rattle.std.specs.Int.{bit_not, w64}
-use Rattle.std.proofs.Math.ListN.{length-set}
-use Rattle.std.proofs.lemmas.Bool.{and_parts, both_ways, cases_eq, cases_lt, eq-eqb, ne_eqb, lt-ltb, le-ltb, le-leb, lt-leb, ltb-true, ltb-false}
-use Rattle.std.proofs.lemmas.List.{length-replicate, length-map, length-take, get_or-map, get_or-take, get_or-drop, get_or_past, get_or-replicate, get_or-set_same, get_or-set_other}
-use Rattle.std.proofs.lemmas.Nat.Bits.{bit_at_above}
-use Rattle.std.proofs.lemmas.List.FromFn.{fill_by_all, length-map-range_with_len, get_or-map-range_with_len}
-use Rattle.std.proofs.lemmas.List.Elements.{All-nil, All-cons, All-set}
-use Rattle.assign.specs.SetLemmas.{filter_agree_from, is_one}
-use Rattle.assign.specs.Sets.{numbers, has}
-use Rattle.language.specs.Ranges.{is_in}
-use Rattle.language.specs.Language.{Language, variable_count, range_of, values_of}
-use Rattle.language.proofs.Members.{any_number}
-use Rattle.propagators.specs.Values.{ones_of}
+use Rattle.propagators.proofs.Prelude.{◌≡◌, ℕ, zero, suc, ◌+◌, ◌-◌, ◌<◌, ◌≤◌, ◌^◌, Bool, true, false, not, ◌&&◌, List, [], ◌∷◌, length, map, take, drop, replicate, refl, ap, sym, ◌∙◌, arith, inl, inr, ◌⊎◌, length-drop, ◌==◌, ◌≢◌, nat_le, nat_lt, bit_and, slice_index_or, slice_set, All, range_with_len, bit_not, w64, length-set, and_parts, both_ways, cases_eq, cases_lt, eq-eqb, ne_eqb, lt-ltb, le-ltb, le-leb, lt-leb, ltb-true, ltb-false, length-replicate, length-map, length-take, get_or-map, get_or-take, get_or-drop, get_or_past, get_or-replicate, get_or-set_same, get_or-set_other, bit_at_above, fill_by_all, length-map-range_with_len, get_or-map-range_with_len, All-nil, All-cons, All-set, filter_agree_from, is_one, numbers, has, is_in, Language, variable_count, range_of, values_of, any_number, ones_of, Family, IsFamilyOf, filter_front}
 use Rattle.propagators.specs.InsideDomains.{AreMasks}
-use Rattle.propagators.specs.Families.{Family}
-use Rattle.propagators.specs.Supports.{IsFamilyOf}
-use Rattle.propagators.specs.ValueLemmas.{filter_front}
 use Rattle.propagators.proofs.Ones.{has-filter, has-ones_of, has_above, has-and_not}
 
 -- ---- the values from one to another

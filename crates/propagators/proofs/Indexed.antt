@@ -1,26 +1,5 @@
 -- What is known of a list of candidates, and of one more condition.
-use Rattle.std.proofs.Common.{◌≡◌, ℕ, zero, suc, ◌+◌, ◌*◌, ◌/◌, ◌%◌, ◌<◌, ◌≤◌, Bool, true, false, ◌||◌, ◌-◌, List, [], ◌∷◌, ◌++◌, length, map, take, Option, Some, None, refl, sym, ◌∙◌, ap, subst, arith, inl, inr, ◌⊎◌}
-use Rattle.std.specs.Prelude.{◌==◌, slice_index_or, min}
-use Rattle.std.specs.List.{list_any}
-use Rattle.std.specs.Option.{option_map_or}
-use Rattle.std.proofs.lemmas.List.{append-nil, length-map, length-append, get_or-take, get_or_append_left, get_or-append_right, length-take-le, take_at, same_lists}
-use Rattle.std.proofs.lemmas.List.FromFn.{length-range_with_len}
-use Rattle.std.proofs.lemmas.List.Folds.{list_all-append}
-use Rattle.std.proofs.lemmas.List.Sums.{AllPass-from_list_all}
-use Rattle.std.proofs.lemmas.Bool.{and_parts, or_left, both_ways, cases_lt, eq-eqb}
-use Rattle.assign.specs.Sets.{numbers, has}
-use Rattle.language.specs.declared.candidates.Candidate.{Candidate}
-use Rattle.language.specs.Language.{Language, IsLanguage, IsCandidate, variable_count, values_of, scope_of}
-use Rattle.language.specs.Answers.{IsNetwork}
-use Rattle.propagators.specs.Allowed.{AreConstraints}
-use Rattle.propagators.specs.Values.{ones_of}
-use Rattle.propagators.specs.Families.{Family, Arc, arc_of, arcs_of, is_consistent, is_arc_consistent, largest}
-use Rattle.propagators.specs.Supports.{AreSettled}
-use Rattle.propagators.specs.Briefs.{IsBriefOf, bound_at}
-use Rattle.propagators.specs.Plans.{AreTakenIn, AreNarrow, IsPlanOf}
-use Rattle.propagators.specs.Propagated.{IsSettledBut, IsPropagated, RunsEmpty}
-use Rattle.propagators.specs.Indexes.{all_values, IsRoot, IsRootBefore}
-use Rattle.propagators.specs.declared.briefs.Brief.{Brief}
+use Rattle.propagators.proofs.Prelude.{◌≡◌, ℕ, zero, suc, ◌+◌, ◌*◌, ◌/◌, ◌%◌, ◌<◌, ◌≤◌, Bool, true, false, ◌||◌, ◌-◌, List, [], ◌∷◌, ◌++◌, length, map, take, Option, Some, None, refl, sym, ◌∙◌, ap, subst, arith, inl, inr, ◌⊎◌, ◌==◌, slice_index_or, min, list_any, option_map_or, append-nil, length-map, length-append, get_or-take, get_or_append_left, get_or-append_right, length-take-le, take_at, same_lists, length-range_with_len, list_all-append, AllPass-from_list_all, and_parts, or_left, both_ways, cases_lt, eq-eqb, numbers, has, Candidate, Language, IsLanguage, IsCandidate, variable_count, values_of, scope_of, IsNetwork, AreConstraints, ones_of, Family, Arc, arc_of, arcs_of, is_consistent, is_arc_consistent, largest, AreSettled, IsBriefOf, bound_at, AreTakenIn, AreNarrow, IsPlanOf, IsSettledBut, IsPropagated, RunsEmpty, all_values, IsRoot, IsRootBefore, Brief}
 use Rattle.propagators.specs.declared.plan.Plan.{Plan}
 use Rattle.propagators.proofs.Pruned.{largest_is}
 use Rattle.propagators.proofs.Living.{full_above, largest_long}

@@ -1,20 +1,5 @@
 -- Bounded conditions stay consistent while a variable keeps more values than its limit.
-use Rattle.std.proofs.Common.{◌≡◌, ℕ, zero, suc, ◌+◌, ◌<◌, ◌≤◌, Bool, true, false, ◌||◌, List, [], ◌∷◌, length, refl, sym, ◌∙◌, ap, subst, arith, inl, inr, ◌⊎◌}
-use Rattle.std.specs.Prelude.{◌==◌, ◌≢◌, slice_index_or, slice_set, All}
-use Rattle.std.specs.List.{list_any, list_all}
-use Rattle.std.proofs.lemmas.List.{get_or-set_same, get_or-set_other}
-use Rattle.std.proofs.lemmas.Bool.{both_ways, cases_eq, eq-eqb, eqb-true, or_left, or_cases}
-use Rattle.assign.specs.Sets.{has}
-use Rattle.propagators.specs.Families.{Family, Arc, sets_on, is_consistent, is_not_empty, size_of}
-use Rattle.propagators.specs.Supports.{AreBelow, IsFamilyOf, AreDifferent, AreSettled, IsWithin, IsThrough, IsRevised}
-use Rattle.propagators.specs.Loose.{HasMore, IsBounded}
-use Rattle.propagators.specs.Pairs.{IsNarrowed}
-use Rattle.propagators.specs.Plans.{IsLooked, AreLimits}
-use Rattle.propagators.specs.Pairs.{AgreeInside}
-use Rattle.propagators.specs.Briefs.{by_pair, IsPairOf, IsBriefOf, AreBriefs, at_place, bound_at}
-use Rattle.language.specs.Language.{Language}
-use Rattle.language.specs.declared.masks.PairBounds.{PairBounds}
-use Rattle.propagators.specs.declared.briefs.Brief.{Brief}
+use Rattle.propagators.proofs.Prelude.{◌≡◌, ℕ, zero, suc, ◌+◌, ◌<◌, ◌≤◌, Bool, true, false, ◌||◌, List, [], ◌∷◌, length, refl, sym, ◌∙◌, ap, subst, arith, inl, inr, ◌⊎◌, ◌==◌, ◌≢◌, slice_index_or, slice_set, All, list_any, list_all, get_or-set_same, get_or-set_other, both_ways, cases_eq, eq-eqb, eqb-true, or_left, or_cases, has, Family, Arc, sets_on, is_consistent, is_not_empty, size_of, AreBelow, IsFamilyOf, AreDifferent, AreSettled, IsWithin, IsThrough, IsRevised, HasMore, IsBounded, IsNarrowed, IsLooked, AreLimits, AgreeInside, by_pair, IsPairOf, IsBriefOf, AreBriefs, at_place, bound_at, Language, PairBounds, Brief}
 use Rattle.propagators.specs.declared.briefs.Brief.TheVariants.{Two, Other}
 use Rattle.propagators.proofs.Pruned.{consistent, supporting}
 use Rattle.propagators.proofs.Replacing.{supported_through, through_supported, member_place}

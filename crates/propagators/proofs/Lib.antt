@@ -1,3 +1,4 @@
+mod Prelude
 pub mod Pruned
 pub mod Living
 pub mod Ones

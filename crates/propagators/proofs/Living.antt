@@ -1,14 +1,5 @@
 -- A prefix is alive where no set of the largest consistent subfamily of its values is empty.
-use Rattle.std.proofs.Common.{◌≡◌, ℕ, zero, suc, ◌+◌, Bool, true, false, cond, ◌&&◌, ◌||◌, List, [], ◌∷◌, length, map, refl, sym, ◌∙◌, ap, subst, arith, inl, inr, ◌⊎◌}
-use Rattle.std.specs.Prelude.{◌==◌, All, slice_index_or}
-use Rattle.std.specs.List.{filter, list_any, list_all, flat_map}
-use Rattle.std.proofs.lemmas.List.Folds.{list_any-append, Any-from_list_any}
-use Rattle.std.proofs.lemmas.List.Elements.{All-head, All-tail, All-nil, All-cons, All-append, All-map, All-weaker, All-filter, filter_passes}
-use Rattle.std.proofs.lemmas.Bool.{and_parts, and_from, or_left, or_right, or_cases}
-use Rattle.assign.specs.Sets.{has}
-use Rattle.propagators.specs.Families.{Family, Arc, subsets, is_not_empty, left_by, families_within, arcs_of, is_arc_consistent, IsSubfamily, is_supported, prune_from, prune, size_of, pruned, largest}
-use Rattle.propagators.specs.Laws.{LargestTells}
-use Rattle.language.proofs.Members.{any-filter, any-map, any-flat_map}
+use Rattle.propagators.proofs.Prelude.{◌≡◌, ℕ, zero, suc, ◌+◌, Bool, true, false, cond, ◌&&◌, ◌||◌, List, [], ◌∷◌, length, map, refl, sym, ◌∙◌, ap, subst, arith, inl, inr, ◌⊎◌, ◌==◌, All, slice_index_or, filter, list_any, list_all, flat_map, list_any-append, Any-from_list_any, All-head, All-tail, All-nil, All-cons, All-append, All-map, All-weaker, All-filter, filter_passes, and_parts, and_from, or_left, or_right, or_cases, has, Family, Arc, subsets, is_not_empty, left_by, families_within, arcs_of, is_arc_consistent, IsSubfamily, is_supported, prune_from, prune, size_of, pruned, largest, LargestTells, any-filter, any-map, any-flat_map}
 use Rattle.propagators.proofs.Pruned.{largest_is, has_head}
 
 -- ---- the families within another one lie within its sets, and no set is empty

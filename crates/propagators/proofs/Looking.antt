@@ -1,16 +1,5 @@
 -- A condition on two variables is entailed once one of them has one value, and the other only values that go with it.
-use Rattle.std.proofs.Common.{◌≡◌, ℕ, ◌<◌, Bool, true, List, [], length, subst, ◌⊎◌}
-use Rattle.std.specs.Prelude.{slice_index_or, All}
-use Rattle.rel_table.specs.Relation.{Relation}
-use Rattle.language.specs.Language.{Language}
-use Rattle.language.specs.Pairs.{ArePairTables}
-use Rattle.propagators.specs.Families.{Family, Arc}
-use Rattle.propagators.specs.Supports.{AreBelow, AreDifferent, IsFamilyOf, IsRevised}
-use Rattle.propagators.specs.Pairs.{IsBeside, IsNarrowed}
-use Rattle.propagators.specs.Briefs.{IsPairOf, arc_by}
-use Rattle.propagators.specs.Entailed.{IsEntailed, AreEntailed, is_noted_in}
-use Rattle.propagators.specs.declared.briefs.Pair.{Pair}
-use Rattle.propagators.specs.declared.entailed.Entailed.{Entailed}
+use Rattle.propagators.proofs.Prelude.{◌≡◌, ℕ, ◌<◌, Bool, true, List, [], length, subst, ◌⊎◌, slice_index_or, All, Relation, Language, ArePairTables, Family, Arc, AreBelow, AreDifferent, IsFamilyOf, IsRevised, IsBeside, IsNarrowed, IsPairOf, arc_by, IsEntailed, AreEntailed, is_noted_in, Pair, Entailed}
 use Rattle.propagators.proofs.Conditions.{family_within}
 use Rattle.propagators.proofs.Standing.{stood_entailed}
 use Rattle.propagators.proofs.Beside.{beside_revised, beside_entailed}

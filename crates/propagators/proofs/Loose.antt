@@ -1,22 +1,6 @@
 -- Conditions that take nothing away while their two variables have more values than they reject.
-use Rattle.std.proofs.Common.{◌≡◌, ℕ, zero, suc, ◌+◌, ◌<◌, ◌≤◌, Bool, true, false, cond, ◌&&◌, ◌||◌, not, List, [], ◌∷◌, length, take, refl, sym, ◌∙◌, ap, subst, arith, inl, inr, ◌⊎◌, lit≤}
-use Rattle.std.specs.Prelude.{◌==◌, ◌≢◌, slice_index_or, All}
-use Rattle.std.specs.List.{filter, range_with_len, list_any, list_all}
-use Rattle.std.specs.Int.{bit_at}
-use Rattle.std.proofs.lemmas.List.{take_more, take_all}
-use Rattle.std.proofs.lemmas.List.Elements.{All-head, All-tail, All-push}
-use Rattle.std.proofs.lemmas.Bool.{and_parts, and_from, or_right, or_cases, both_ways, not-true, cases_eq, eq-eqb, eqb-true}
-use Rattle.assign.specs.Sets.{numbers, has, set_where, minus, is_within, IsSet}
-use Rattle.assign.specs.SetLemmas.{has-set_where, filter_agree_from}
-use Rattle.propagators.specs.Values.{ones_of}
-use Rattle.propagators.specs.Families.{Family, Arc, is_wanted, sets_on, is_consistent}
-use Rattle.propagators.specs.Supports.{IsThrough, AreBelow}
-use Rattle.language.specs.Pairs.{rejected_of}
-use Rattle.language.specs.declared.masks.PairBounds.{PairBounds}
-use Rattle.propagators.specs.Loose.{HasTwo, HasMore, IsBounded}
-use Rattle.propagators.specs.ValueLemmas.{filter_front}
+use Rattle.propagators.proofs.Prelude.{◌≡◌, ℕ, zero, suc, ◌+◌, ◌<◌, ◌≤◌, Bool, true, false, cond, ◌&&◌, ◌||◌, not, List, [], ◌∷◌, length, take, refl, sym, ◌∙◌, ap, subst, arith, inl, inr, ◌⊎◌, lit≤, ◌==◌, ◌≢◌, slice_index_or, All, filter, range_with_len, list_any, list_all, bit_at, take_more, take_all, All-head, All-tail, All-push, and_parts, and_from, or_right, or_cases, both_ways, not-true, cases_eq, eq-eqb, eqb-true, numbers, has, set_where, minus, is_within, IsSet, has-set_where, filter_agree_from, ones_of, Family, Arc, is_wanted, sets_on, is_consistent, IsThrough, AreBelow, rejected_of, PairBounds, HasTwo, HasMore, IsBounded, filter_front, canonical, rises_filter}
 use Rattle.propagators.proofs.Ones.{has-ones_of, ones_of-passing}
-use Rattle.assign.proofs.Masks.{canonical, rises_filter}
 use Rattle.propagators.proofs.Pruned.{consistent, has_head}
 use Rattle.propagators.proofs.Replacing.{through_supported}
 

@@ -1,21 +1,7 @@
 -- The masks and the bounds of conditions on two variables, and the briefs that rest on them.
-use Rattle.std.proofs.Common.{◌≡◌, ℕ, ◌+◌, ◌*◌, ◌<◌, ◌≤◌, Bool, true, false, List, [], ◌∷◌, length, sym, ◌∙◌, ap, subst, arith, inl, inr, ◌⊎◌}
-use Rattle.std.specs.Prelude.{◌==◌, ◌≢◌, slice_index_or, slice_set}
-use Rattle.std.specs.Int.{bit_at}
-use Rattle.std.proofs.lemmas.List.{get_or-set_same, get_or-set_other}
-use Rattle.std.proofs.lemmas.Bool.{cases_eq, and_parts}
-use Rattle.rel_table.specs.Relation.{Relation}
-use Rattle.language.specs.Language.{Language}
-use Rattle.language.specs.Pairs.{go_together, rejected_of, first_bound, second_bound, is_running, is_chain, AreMasksOf}
-use Rattle.language.specs.declared.masks.PairBounds.{PairBounds}
+use Rattle.propagators.proofs.Prelude.{◌≡◌, ℕ, ◌+◌, ◌*◌, ◌<◌, ◌≤◌, Bool, true, false, List, [], ◌∷◌, length, sym, ◌∙◌, ap, subst, arith, inl, inr, ◌⊎◌, ◌==◌, ◌≢◌, slice_index_or, slice_set, bit_at, get_or-set_same, get_or-set_other, cases_eq, and_parts, Relation, Language, go_together, rejected_of, first_bound, second_bound, is_running, is_chain, AreMasksOf, PairBounds, Arc, is_wanted, IsChain, IsBounded, by_table, AreSides, IsBriefOf, Brief}
 use Rattle.language.proofs.PairMasking.{most_bound}
 use Rattle.language.proofs.Running.{running_between}
-use Rattle.propagators.specs.Families.{Arc, is_wanted}
-use Rattle.propagators.specs.Chains.{IsChain}
-use Rattle.propagators.specs.Loose.{IsBounded}
-use Rattle.propagators.specs.Pairs.{by_table, AreSides}
-use Rattle.propagators.specs.Briefs.{IsBriefOf}
-use Rattle.propagators.specs.declared.briefs.Brief.{Brief}
 use Rattle.propagators.proofs.Chains.{running_wanted}
 use Rattle.propagators.proofs.Loose.{rejected_same}
 

@@ -1,12 +1,6 @@
 -- The masks of a family, read and written.
-use Rattle.std.proofs.Common.{◌≡◌, ℕ, zero, suc, ◌+◌, ◌^◌, ◌<◌, ◌≤◌, true, not, nat_eq, List, [], ◌∷◌, length, map, take, ap, sym, ◌∙◌, subst, arith}
+use Rattle.propagators.proofs.Prelude.{◌≡◌, ℕ, zero, suc, ◌+◌, ◌^◌, ◌<◌, ◌≤◌, true, not, nat_eq, List, [], ◌∷◌, length, map, take, ap, sym, ◌∙◌, subst, arith, both_ways, not-true, eq-eqb, get_or-take, get_or-map, length-take, length-map, map-set, has, slice_index_or, slice_set, ones_of, Family, sets_on, size_of}
 use Rattle.std.proofs.Math.Seq.{take-set-lt}
-use Rattle.std.proofs.lemmas.Bool.{both_ways, not-true, eq-eqb}
-use Rattle.std.proofs.lemmas.List.{get_or-take, get_or-map, length-take, length-map, map-set}
-use Rattle.assign.specs.Sets.{has}
-use Rattle.std.specs.Prelude.{slice_index_or, slice_set}
-use Rattle.propagators.specs.Values.{ones_of}
-use Rattle.propagators.specs.Families.{Family, sets_on, size_of}
 use Rattle.propagators.proofs.Ones.{cut_length}
 
 next_one : (f : Family) (scope masks : List ℕ) (j m : ℕ) → j < length scope → j < length masks → take j (map ones_of masks) ≡ sets_on f (take j scope) → ones_of m ≡ slice_index_or f (slice_index_or scope j 0) [] →

@@ -1,22 +1,6 @@
 -- The values of a mask: of none, of the first ones, of those that pass a test.
-use Rattle.std.proofs.Common.{◌≡◌, ℕ, zero, suc, ◌+◌, ◌-◌, ◌*◌, ◌%◌, ◌<◌, ◌≤◌, ◌^◌, Bool, true, false, cond, ◌&&◌, ◌||◌, not, List, [], ◌∷◌, length, map, refl, sym, ◌∙◌, ap, subst, arith, inl, inr, ◌⊎◌, lit≤}
-use Rattle.std.specs.Prelude.{◌==◌, ◌≢◌, bit_and, bit_or, min, count_ones, All}
-use Rattle.std.specs.List.{filter, list_any, list_all}
-use Rattle.std.specs.Int.{bit_at, bit_not, w64}
+use Rattle.propagators.proofs.Prelude.{◌≡◌, ℕ, zero, suc, ◌+◌, ◌-◌, ◌*◌, ◌%◌, ◌<◌, ◌≤◌, ◌^◌, Bool, true, false, cond, ◌&&◌, ◌||◌, not, List, [], ◌∷◌, length, map, refl, sym, ◌∙◌, ap, subst, arith, inl, inr, ◌⊎◌, lit≤, ◌==◌, ◌≢◌, bit_and, bit_or, min, count_ones, All, filter, list_any, list_all, bit_at, bit_not, w64, count_leading_zeros, cases_lt, cases_eq, eqb-true, eq-eqb, ne_eqb, both_ways, All-head, All-tail, pow-le-pow_right, pow-suc, zero_from_ones, or_lt, xor_lt, and_le_l, pow_below, leading_top, bit_at-lt, bit_at_and, bit_at_xor, bit_at_not, bit_at_above, bit_at_cat_high, numbers, has, members_of, mask_of, filter_agree_from, is_one, is_one-or, is_one-pow, has-members_of, has-set_where_above, members_of-ones, length-members_of, any_number, ones_of, is_not_empty, ones_of-members_of, mask_of-ones_of}
 use Rattle.std.specs.Int.Bits.{bit_xor}
-use Rattle.std.specs.Int.Count.{count_leading_zeros}
-use Rattle.std.proofs.lemmas.Bool.{cases_lt, cases_eq, eqb-true, eq-eqb, ne_eqb, both_ways}
-use Rattle.std.proofs.lemmas.List.Elements.{All-head, All-tail}
-use Rattle.std.proofs.Math.Nat.{pow-le-pow_right, pow-suc}
-use Rattle.std.proofs.lemmas.Nat.{zero_from_ones, or_lt, xor_lt, and_le_l, pow_below, leading_top}
-use Rattle.std.proofs.lemmas.Nat.Bits.{bit_at-lt, bit_at_and, bit_at_xor, bit_at_not, bit_at_above, bit_at_cat_high}
-use Rattle.assign.specs.Sets.{numbers, has, members_of, mask_of}
-use Rattle.assign.specs.SetLemmas.{filter_agree_from, is_one, is_one-or, is_one-pow, has-members_of, has-set_where_above}
-use Rattle.assign.proofs.Masks.{members_of-ones, length-members_of}
-use Rattle.language.proofs.Members.{any_number}
-use Rattle.propagators.specs.Values.{ones_of}
-use Rattle.propagators.specs.Families.{is_not_empty}
-use Rattle.propagators.specs.ValueLemmas.{ones_of-members_of, mask_of-ones_of}
 use Rattle.propagators.proofs.Pruned.{filter_less}
 
 pub ones_of-zero : ones_of 0 ≡ []

@@ -1,15 +1,5 @@
 -- Pruning a family comes to its largest arc-consistent subfamily.
-use Rattle.std.proofs.Common.{◌≡◌, ℕ, zero, suc, ◌+◌, ◌<◌, ◌≤◌, Bool, true, false, cond, ◌&&◌, ◌||◌, not, List, [], ◌∷◌, length, map, refl, sym, ◌∙◌, ap, arith, inl, inr, ◌⊎◌}
-use Rattle.std.specs.Prelude.{◌==◌, slice_index, slice_index_or}
-use Rattle.std.specs.List.{filter, list_any, list_all, range_with_len}
-use Rattle.std.proofs.lemmas.List.{get_or-map}
-use Rattle.std.proofs.lemmas.List.FromFn.{get_or-range_with_len}
-use Rattle.std.proofs.lemmas.List.Sums.{list_all-from_AllPass, AllPass-from_list_all}
-use Rattle.std.proofs.lemmas.Bool.{and_parts, and_from, or_left, or_right, or_cases, both_ways, eq-eqb, eqb-true}
-use Rattle.assign.specs.Sets.{numbers, has}
-use Rattle.propagators.specs.Families.{Family, Arc, selections, sets_on, has_support, is_consistent, is_arc_consistent, IsSubfamily, is_supported, prune_from, prune, size_of, pruned, largest}
-use Rattle.propagators.specs.Laws.{LargestIs, LargestIsOne, LargestAgain}
-use Rattle.language.proofs.Members.{any-map, any-flat_map}
+use Rattle.propagators.proofs.Prelude.{◌≡◌, ℕ, zero, suc, ◌+◌, ◌<◌, ◌≤◌, Bool, true, false, cond, ◌&&◌, ◌||◌, not, List, [], ◌∷◌, length, map, refl, sym, ◌∙◌, ap, arith, inl, inr, ◌⊎◌, ◌==◌, slice_index, slice_index_or, filter, list_any, list_all, range_with_len, get_or-map, get_or-range_with_len, list_all-from_AllPass, AllPass-from_list_all, and_parts, and_from, or_left, or_right, or_cases, both_ways, eq-eqb, eqb-true, numbers, has, Family, Arc, selections, sets_on, has_support, is_consistent, is_arc_consistent, IsSubfamily, is_supported, prune_from, prune, size_of, pruned, largest, LargestIs, LargestIsOne, LargestAgain, any-map, any-flat_map}
 use Rattle.language.proofs.Lists.{all_below}
 
 length-range : (a n : ℕ) → length (range_with_len a n) ≡ n

@@ -1,15 +1,5 @@
 -- A family in which the sets of a scope's variables are replaced by their supported values.
-use Rattle.std.proofs.Common.{◌≡◌, ℕ, zero, suc, ◌<◌, ◌≤◌, Bool, true, false, ◌&&◌, ◌||◌, List, [], ◌∷◌, length, map, refl, sym, ◌∙◌, ap, subst, arith, inl, inr, ◌⊎◌}
-use Rattle.std.specs.Prelude.{◌==◌, slice_index_or, slice_set, All}
-use Rattle.std.specs.List.{list_any, list_all}
-use Rattle.std.proofs.Math.ListN.{length-set}
-use Rattle.std.proofs.lemmas.List.{get_or-set_same, get_or-set_other, get_or-map}
-use Rattle.std.proofs.lemmas.List.Elements.{All-head, All-tail}
-use Rattle.std.proofs.lemmas.Bool.{and_parts, and_from, or_left, or_right, or_cases, both_ways, eq-eqb, eqb-true}
-use Rattle.assign.specs.Sets.{has}
-use Rattle.language.proofs.Members.{any-map, any-flat_map}
-use Rattle.propagators.specs.Families.{Family, Arc, selections, sets_on, has_support, is_consistent, is_not_empty, IsSubfamily}
-use Rattle.propagators.specs.Supports.{IsWithin, IsThrough, AreSupported, IsRevised, IsDead, AreDifferent, replaced}
+use Rattle.propagators.proofs.Prelude.{◌≡◌, ℕ, zero, suc, ◌<◌, ◌≤◌, Bool, true, false, ◌&&◌, ◌||◌, List, [], ◌∷◌, length, map, refl, sym, ◌∙◌, ap, subst, arith, inl, inr, ◌⊎◌, ◌==◌, slice_index_or, slice_set, All, list_any, list_all, length-set, get_or-set_same, get_or-set_other, get_or-map, All-head, All-tail, and_parts, and_from, or_left, or_right, or_cases, both_ways, eq-eqb, eqb-true, has, any-map, any-flat_map, Family, Arc, selections, sets_on, has_support, is_consistent, is_not_empty, IsSubfamily, IsWithin, IsThrough, AreSupported, IsRevised, IsDead, AreDifferent, replaced}
 use Rattle.propagators.proofs.Pruned.{supporting, consistent, has_head}
 
 -- ---- tuples within sets are their selections

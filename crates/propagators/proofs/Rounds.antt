@@ -1,13 +1,5 @@
 -- Going through all conditions until none takes a value away.
-use Rattle.std.proofs.Common.{◌≡◌, ℕ, suc, ◌+◌, ◌<◌, ◌≤◌, Bool, true, false, ◌||◌, List, [], ◌∷◌, length, refl, sym, ◌∙◌, ap, subst, arith, inl, inr, ◌⊎◌}
-use Rattle.std.specs.Prelude.{◌≢◌, slice_index_or, All, min}
-use Rattle.std.specs.List.{list_any, list_all}
-use Rattle.std.proofs.lemmas.List.Sums.{list_all-from_AllPass, AllPass-from_list_all}
-use Rattle.std.proofs.lemmas.Bool.{or_left, both_ways, cases_eq, cases_lt, eq-eqb}
-use Rattle.assign.specs.Sets.{numbers, has, union}
-use Rattle.assign.specs.SetLemmas.{has-set_where, has-set_where_above}
-use Rattle.propagators.specs.Families.{Family, Arc, sets_on, has_support, is_consistent, is_arc_consistent, is_not_empty, size_of, IsSubfamily, IsLargest, largest}
-use Rattle.propagators.specs.Supports.{IsRevised, IsDead, DifferAt, AreSettled, AreFewer, IsCut, IsUnderway}
+use Rattle.propagators.proofs.Prelude.{◌≡◌, ℕ, suc, ◌+◌, ◌<◌, ◌≤◌, Bool, true, false, ◌||◌, List, [], ◌∷◌, length, refl, sym, ◌∙◌, ap, subst, arith, inl, inr, ◌⊎◌, ◌≢◌, slice_index_or, All, min, list_any, list_all, list_all-from_AllPass, AllPass-from_list_all, or_left, both_ways, cases_eq, cases_lt, eq-eqb, numbers, has, union, has-set_where, has-set_where_above, Family, Arc, sets_on, has_support, is_consistent, is_arc_consistent, is_not_empty, size_of, IsSubfamily, IsLargest, largest, IsRevised, IsDead, DifferAt, AreSettled, AreFewer, IsCut, IsUnderway}
 use Rattle.propagators.proofs.Pruned.{largest_is}
 use Rattle.propagators.proofs.Living.{full_above, largest_long}
 use Rattle.propagators.proofs.Replacing.{all_full}

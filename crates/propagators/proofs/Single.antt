@@ -1,10 +1,5 @@
 -- A variable that has one value keeps it while no set becomes empty.
-use Rattle.std.proofs.Common.{◌≡◌, ℕ, ◌<◌, true, List, [], length, sym, ◌∙◌, ap, arith, Option, Some, None}
-use Rattle.std.specs.Prelude.{slice_index_or, IfSome}
-use Rattle.assign.specs.Sets.{has}
-use Rattle.propagators.specs.Families.{Family, Arc}
-use Rattle.propagators.specs.Supports.{IsUnderway}
-use Rattle.propagators.specs.Pairs.{IsOnly, IsValueOf}
+use Rattle.propagators.proofs.Prelude.{ℕ, ◌<◌, List, [], length, sym, ◌∙◌, ap, arith, Option, Some, None, slice_index_or, IfSome, has, Family, Arc, IsUnderway, IsValueOf}
 use Rattle.propagators.proofs.Replacing.{all_full, member_of_some}
 
 pub value_stays : (arcs : List Arc) (f g : Family) (v : ℕ) (value : Option ℕ) → IsUnderway arcs f g → IfSome value (IsValueOf f v) → IfSome value (IsValueOf g v)

@@ -1,15 +1,5 @@
 -- A table of two variables stands for its relation on a scope, since they say the same within the ranges.
-use Rattle.std.proofs.Common.{◌≡◌, ℕ, true, List, [], ◌∷◌, sym, ◌∙◌, subst, Bool}
-use Rattle.std.specs.Prelude.{slice_index_or}
-use Rattle.assign.specs.Sets.{has}
-use Rattle.language.specs.Ranges.{is_in}
-use Rattle.language.specs.Language.{Language, range_of}
-use Rattle.propagators.specs.Families.{Family, Arc, sets_on, is_consistent, IsSubfamily}
-use Rattle.propagators.specs.Supports.{IsThrough, IsFamilyOf, IsRevised, IsDead}
-use Rattle.propagators.specs.Pairs.{AgreeInside}
-use Rattle.propagators.specs.Entailed.{IsEntailed}
-use Rattle.propagators.specs.Briefs.{by_pair, arc_by, IsPairOf}
-use Rattle.propagators.specs.declared.briefs.Pair.{Pair}
+use Rattle.propagators.proofs.Prelude.{◌≡◌, ℕ, true, List, [], ◌∷◌, sym, ◌∙◌, subst, Bool, slice_index_or, has, is_in, Language, range_of, Family, Arc, sets_on, is_consistent, IsSubfamily, IsThrough, IsFamilyOf, IsRevised, IsDead, AgreeInside, IsEntailed, by_pair, arc_by, IsPairOf, Pair}
 use Rattle.propagators.proofs.Pruned.{consistent, supporting}
 use Rattle.propagators.proofs.Replacing.{supported_through, through_supported}
 use Rattle.propagators.proofs.Conditions.{tuple_in, family_within}

@@ -1,13 +1,5 @@
 -- Collecting supported values, one value of the first set after another.
-use Rattle.std.proofs.Common.{◌≡◌, ℕ, zero, suc, ◌<◌, Bool, true, false, ◌&&◌, ◌||◌, not, List, [], ◌∷◌, ◌+◌, ◌*◌, ◌^◌, ◌≤◌, refl, sym, ◌∙◌, ap, subst, arith, inl, inr, ◌⊎◌}
-use Rattle.std.specs.Prelude.{◌==◌, slice_index_or}
-use Rattle.std.specs.List.{filter}
-use Rattle.std.proofs.lemmas.Bool.{and_parts, and_from, or_left, or_right, or_cases, both_ways, eq-eqb, eqb-true, not-true}
-use Rattle.std.proofs.Math.Nat.{mul-le-mul_right, mul_assoc, pow-succ', pow-zero}
-use Rattle.assign.specs.Sets.{has}
-use Rattle.propagators.specs.Values.{ones_of}
-use Rattle.propagators.specs.Families.{is_not_empty}
-use Rattle.propagators.specs.Supports.{IsWithin, IsThrough, AreSupported}
+use Rattle.propagators.proofs.Prelude.{◌≡◌, ℕ, zero, suc, ◌<◌, Bool, true, false, ◌&&◌, ◌||◌, not, List, [], ◌∷◌, ◌+◌, ◌*◌, ◌^◌, ◌≤◌, refl, sym, ◌∙◌, ap, subst, arith, inl, inr, ◌⊎◌, ◌==◌, slice_index_or, filter, and_parts, and_from, or_left, or_right, or_cases, both_ways, eq-eqb, eqb-true, not-true, mul-le-mul_right, mul_assoc, pow-succ', pow-zero, has, ones_of, is_not_empty, IsWithin, IsThrough, AreSupported}
 use Rattle.propagators.proofs.Ones.{has-filter, ones_of-zero}
 use Rattle.propagators.proofs.Pruned.{has_head}
 

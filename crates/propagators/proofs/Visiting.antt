@@ -1,21 +1,5 @@
 -- Looking at the conditions of changed variables.
-use Rattle.std.proofs.Common.{◌≡◌, ℕ, ◌+◌, ◌-◌, ◌*◌, ◌/◌, ◌%◌, ◌<◌, ◌≤◌, Bool, true, false, ◌&&◌, ◌||◌, not, List, [], ◌∷◌, length, Some, refl, sym, ◌∙◌, ap, subst, arith, inl, inr, ◌⊎◌}
-use Rattle.std.specs.Prelude.{◌==◌, ◌≢◌, slice_index_or, slice_set, All, min}
-use Rattle.std.specs.List.{list_any, list_all}
-use Rattle.std.proofs.lemmas.List.Elements.{All-head, All-tail}
-use Rattle.std.proofs.lemmas.List.{get_or-set_same, get_or-set_other}
-use Rattle.std.proofs.lemmas.Bool.{or_left, or_right, both_ways, cases_eq, cases_lt, eq-eqb, eqb-true, ne_eqb}
-use Rattle.std.proofs.lemmas.Nat.{div-mul-add, mod-mul-add}
-use Rattle.assign.specs.Sets.{has, union, without, least_of, Rises, IsSet}
-use Rattle.assign.specs.SetLemmas.{has-set_where, set_where-same}
-use Rattle.assign.proofs.Masks.{canonical, rises_lower, lacks}
-use Rattle.propagators.specs.Values.{ones_of}
-use Rattle.std.specs.Int.{bit_at}
-use Rattle.propagators.specs.Families.{Family, Arc, is_consistent, is_not_empty, is_wanted, size_of}
-use Rattle.propagators.specs.Entailed.{AreEntailed}
-use Rattle.propagators.specs.declared.entailed.Entailed.{Entailed}
-use Rattle.propagators.specs.Supports.{IsRevised, AreSettled, AreFewer, IsCut, IsUnderway}
-use Rattle.propagators.specs.Plans.{AreNoted, AreLeft, IsLooked}
+use Rattle.propagators.proofs.Prelude.{◌≡◌, ℕ, ◌+◌, ◌-◌, ◌*◌, ◌/◌, ◌%◌, ◌<◌, ◌≤◌, Bool, true, false, ◌&&◌, ◌||◌, not, List, [], ◌∷◌, length, Some, refl, sym, ◌∙◌, ap, subst, arith, inl, inr, ◌⊎◌, ◌==◌, ◌≢◌, slice_index_or, slice_set, All, min, list_any, list_all, All-head, All-tail, get_or-set_same, get_or-set_other, or_left, or_right, both_ways, cases_eq, cases_lt, eq-eqb, eqb-true, ne_eqb, div-mul-add, mod-mul-add, has, union, without, least_of, Rises, IsSet, has-set_where, set_where-same, canonical, rises_lower, lacks, ones_of, bit_at, Family, Arc, is_consistent, is_not_empty, is_wanted, size_of, AreEntailed, Entailed, IsRevised, AreSettled, AreFewer, IsCut, IsUnderway, AreNoted, AreLeft, IsLooked}
 use Rattle.propagators.proofs.Ones.{ones_of-zero, has-ones_of}
 use Rattle.propagators.proofs.Entailing.{entailed_now}
 use Rattle.propagators.proofs.Replacing.{member_place}

@@ -1,15 +1,5 @@
 -- Candidates that are among others.
-use Rattle.std.proofs.Common.{◌≡◌, ℕ, ◌<◌, Bool, true, false, ◌&&◌, List, [], ◌∷◌, cond, length, refl, sym, ◌∙◌, ap, subst}
-use Rattle.std.specs.Prelude.{slice_index_or, ◌==◌, ◌↔◌, IsTrue, All, Contains}
-use Rattle.std.specs.List.{filter}
-use Rattle.std.proofs.lemmas.List.Elements.{All-contains, filter_passes, All-head, All-tail}
-use Rattle.std.proofs.lemmas.List.Folds.{Any-from_list_any, list_any_at}
-use Rattle.std.proofs.lemmas.Bool.{and_from, and_parts, eq-eqb, eqb-true, both_ways, false_from_ne_true}
-use Rattle.language.specs.declared.candidates.Candidate.{Candidate}
-use Rattle.language.specs.Language.{candidates}
-use Rattle.language.proofs.Members.{any-filter}
-use Rattle.query_gen.specs.Questions.{is_among}
-use Rattle.query_gen.specs.Laws.{PickedAreInOrder}
+use Rattle.query_gen.proofs.Prelude.{◌≡◌, ℕ, ◌<◌, Bool, true, false, ◌&&◌, List, [], ◌∷◌, cond, length, refl, sym, ◌∙◌, ap, subst, slice_index_or, ◌==◌, ◌↔◌, IsTrue, All, Contains, filter, All-contains, filter_passes, All-head, All-tail, Any-from_list_any, list_any_at, and_from, and_parts, eq-eqb, eqb-true, both_ways, false_from_ne_true, Candidate, candidates, any-filter, is_among, PickedAreInOrder}
 
 abbrev pub is_same : Candidate → Candidate → Bool
 is_same d c = (d.scope == c.scope) && (d.rel == c.rel)

@@ -1,13 +1,5 @@
 -- What outcomes say, one after another.
-use Rattle.std.proofs.Common.{◌≡◌, ℕ, Bool, true, false, ◌||◌, cond, List, [], ◌∷◌, map, refl, sym, ◌∙◌, ap}
-use Rattle.std.specs.List.{list_any, filter, filter_map}
-use Rattle.language.specs.declared.candidates.Candidate.{Candidate}
-use Rattle.language.specs.Language.{Language, candidates}
-use Rattle.fd_solver.specs.declared.outcome.Outcome.{Outcome}
-use Rattle.fd_solver.specs.declared.outcome.Outcome.TheVariants.{Found, Absent, Spent}
-use Rattle.fd_solver.specs.Outcomes.{outcome_of_candidate}
-use Rattle.query_gen.specs.declared.query.Query.{Query}
-use Rattle.query_gen.specs.Questions.{is_among, found_in, is_spent, query_from, next_query}
+use Rattle.query_gen.proofs.Prelude.{◌≡◌, ℕ, Bool, true, false, ◌||◌, cond, List, [], ◌∷◌, map, refl, sym, ◌∙◌, ap, list_any, filter, filter_map, Candidate, Language, candidates, Outcome, Found, Absent, Spent, outcome_of_candidate, Query, is_among, found_in, is_spent, query_from, next_query}
 
 -- what further outcomes say, where one before was spent or none was
 abbrev pub query_on : Bool → List Outcome → Query

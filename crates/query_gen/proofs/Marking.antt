@@ -1,18 +1,7 @@
 -- How marks change, and stay true.
-use Rattle.std.proofs.Common.{◌≡◌, ℕ, ◌+◌, ◌<◌, ◌≤◌, Bool, true, false, ◌&&◌, cond, List, [], ◌∷◌, ◌++◌, length, map, refl, sym, ◌∙◌, ap, arith, inl, inr, ◌⊎◌}
-use Rattle.std.specs.Prelude.{◌==◌}
-use Rattle.std.proofs.lemmas.List.{length-map, length-append, get_or-map, get_or_past, append-nil}
-use Rattle.std.proofs.lemmas.Bool.{cases_lt, eqb-true, and_parts}
-use Rattle.language.specs.declared.candidates.Candidate.{Candidate}
-use Rattle.language.specs.Language.{Language, IsCandidate, number_of}
+use Rattle.query_gen.proofs.Prelude.{◌≡◌, ℕ, ◌+◌, ◌<◌, ◌≤◌, Bool, true, false, ◌&&◌, cond, List, [], ◌∷◌, ◌++◌, length, map, refl, sym, ◌∙◌, ap, arith, inl, inr, ◌⊎◌, ◌==◌, length-map, length-append, get_or-map, get_or_past, append-nil, cases_lt, eqb-true, and_parts, Candidate, Language, IsCandidate, number_of, outcome_of_candidate, AbsentStays, Mark, Blank, Implied, Remembered, IsMadeFor, MarksHold, mark_of, begun, without_spent, IsBegun, NoMarksHold, MarksStay}
 use Rattle.fd_solver.specs.declared.outcome.Outcome.TheVariants as outcomes
-use Rattle.fd_solver.specs.Outcomes.{outcome_of_candidate}
-use Rattle.fd_solver.specs.Laws.{AbsentStays}
-use Rattle.query_gen.specs.declared.screen.Mark.{Mark}
-use Rattle.query_gen.specs.declared.screen.Mark.TheVariants.{Blank, Implied, Spent}
-use Rattle.query_gen.specs.Marks.{Remembered, IsMadeFor, MarksHold, mark_of}
-use Rattle.query_gen.specs.Inside.{begun, without_spent, IsBegun}
-use Rattle.query_gen.specs.Laws.{NoMarksHold, MarksStay}
+use Rattle.query_gen.specs.declared.screen.Mark.TheVariants.{Spent}
 use Rattle.query_gen.proofs.Numbers.{number_below}
 
 -- ---- What a mark says

@@ -1,12 +1,6 @@
 -- Candidates by their numbers.
-use Rattle.std.proofs.Common.{◌≡◌, ℕ, ◌+◌, ◌<◌, ◌≤◌, List, [], ◌∷◌, ◌++◌, length, map, take, get_or, sym, ◌∙◌, ap, arith}
-use Rattle.std.proofs.lemmas.List.{length-map, map_more, take_all, get_or_read}
+use Rattle.query_gen.proofs.Prelude.{◌≡◌, ℕ, ◌+◌, ◌<◌, ◌≤◌, List, [], ◌∷◌, ◌++◌, length, map, take, get_or, sym, ◌∙◌, ap, arith, length-map, map_more, take_all, get_or_read, numbers, Candidate, Language, IsCandidate, candidates, number_of, numbered, Remembered, IsMadeFor}
 use Rattle.std.proofs.lemmas.List.FromFn.{length-range_with_len, get_or-range_with_len, get_or-map-range_with_len}
-use Rattle.assign.specs.Sets.{numbers}
-use Rattle.language.specs.declared.candidates.Candidate.{Candidate}
-use Rattle.language.specs.Language.{Language, IsCandidate, candidates, number_of}
-use Rattle.language.proofs.Counting.{numbered}
-use Rattle.query_gen.specs.Marks.{Remembered, IsMadeFor}
 
 -- the first candidate on a scope
 abbrev pub first_on : ℕ → Candidate

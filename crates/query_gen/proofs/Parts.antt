@@ -1,29 +1,8 @@
 -- Parts of the candidates: what they say, and how their marks are found and taken over.
-use Rattle.std.proofs.Common.{◌≡◌, ℕ, ◌+◌, ◌-◌, ◌<◌, ◌≤◌, Bool, true, false, not, ◌&&◌, ◌||◌, cond, List, [], ◌∷◌, ◌++◌, length, map, take, drop, get_or, set, refl, sym, ◌∙◌, ap, subst, arith, inl, inr, ◌⊎◌, append_assoc, get_or-set_same, get_or-set_other}
-use Rattle.std.specs.Prelude.{◌==◌, ◌≢◌, slice_range}
-use Rattle.std.specs.List.{filter, filter_map, list_any}
-use Rattle.std.proofs.lemmas.List.{drop_more, take_all, map-append, append_cancel_right, length-set, length-map, get_or_read, get_or-take, get_or-drop}
-use Rattle.std.proofs.lemmas.List.Elements.{filter-append, filter_map-append}
-use Rattle.std.proofs.lemmas.List.Folds.{list_any-append, drop_split}
-use Rattle.std.proofs.lemmas.Bool.{cases_eq, cases_lt, and_from, eq-eqb, both_ways}
-use Rattle.assign.specs.Assignment.{Assignment}
-use Rattle.language.specs.declared.candidates.Candidate.{Candidate}
-use Rattle.language.specs.Language.{Language, IsCandidate, candidates, number_of}
-use Rattle.language.proofs.Counting.{numbered}
+use Rattle.query_gen.proofs.Prelude.{◌≡◌, ℕ, ◌+◌, ◌-◌, ◌<◌, ◌≤◌, Bool, true, false, not, ◌&&◌, ◌||◌, cond, List, [], ◌∷◌, ◌++◌, length, map, take, drop, get_or, set, refl, sym, ◌∙◌, ap, subst, arith, inl, inr, ◌⊎◌, append_assoc, get_or-set_same, get_or-set_other, ◌==◌, ◌≢◌, slice_range, filter, filter_map, list_any, drop_more, take_all, map-append, append_cancel_right, length-set, length-map, get_or_read, get_or-take, get_or-drop, filter-append, filter_map-append, list_any-append, drop_split, cases_eq, cases_lt, and_from, eq-eqb, both_ways, Assignment, Candidate, Language, IsCandidate, candidates, number_of, numbered, Outcome, outcome_of_candidate, Query, Ask, AllImplied, Undecided, Mark, Blank, Implied, is_among, is_spent, found_in, query_from, query_of, next_query, Remembered, IsMadeFor, MarksHold, mark_of, is_mark_spent, is_open, begun, without_spent, IsBegun, PartsAreJoined, WholeIsNext, query_in, query_then, is_ask, is_looked_at, byte_for, IsSearched, IsSearchedTo, AreTrue, mark_taken, AreTaken, HasTaken}
 use Rattle.propagators.specs.Indexes.{IsIndexOf}
-use Rattle.fd_solver.specs.declared.outcome.Outcome.{Outcome}
 use Rattle.fd_solver.specs.declared.outcome.Outcome.TheVariants as outcomes
-use Rattle.fd_solver.specs.Outcomes.{outcome_of_candidate}
-use Rattle.query_gen.specs.declared.query.Query.{Query}
-use Rattle.query_gen.specs.declared.query.Query.TheVariants.{Ask, AllImplied, Undecided}
-use Rattle.query_gen.specs.declared.screen.Mark.{Mark}
-use Rattle.query_gen.specs.declared.screen.Mark.TheVariants.{Blank, Implied}
 use Rattle.query_gen.specs.declared.screen.Mark.TheVariants as marks
-use Rattle.query_gen.specs.Questions.{is_among, is_spent, found_in, query_from, query_of, next_query}
-use Rattle.query_gen.specs.Marks.{Remembered, IsMadeFor, MarksHold, mark_of, is_mark_spent, is_open}
-use Rattle.query_gen.specs.Inside.{begun, without_spent, IsBegun}
-use Rattle.query_gen.specs.Laws.{PartsAreJoined, WholeIsNext}
-use Rattle.query_gen.specs.Parts.{query_in, query_then, is_ask, is_looked_at, byte_for, IsSearched, IsSearchedTo, AreTrue, mark_taken, AreTaken, HasTaken}
 use Rattle.query_gen.proofs.Numbers.{same_number, number_below}
 use Rattle.query_gen.proofs.Marking.{has_begun}
 

@@ -1,25 +1,7 @@
 -- A part's search, one scope after another.
-use Rattle.std.proofs.Common.{◌≡◌, ℕ, zero, suc, ◌+◌, ◌-◌, ◌<◌, ◌≤◌, Bool, true, false, cond, ◌||◌, List, [], ◌∷◌, length, get_or, replicate, refl, sym, ◌∙◌, ap, subst, arith, inl, inr, ◌⊎◌}
-use Rattle.std.specs.Prelude.{◌==◌, ◌≢◌}
-use Rattle.std.specs.List.{filter, range_with_len}
+use Rattle.query_gen.proofs.Prelude.{◌≡◌, ℕ, zero, suc, ◌+◌, ◌-◌, ◌<◌, ◌≤◌, Bool, true, false, cond, ◌||◌, List, [], ◌∷◌, length, get_or, replicate, refl, sym, ◌∙◌, ap, subst, arith, inl, inr, ◌⊎◌, ◌==◌, ◌≢◌, filter, range_with_len, cases_lt, cases_eq, ne_eqb, eq-eqb, false_from_ne_true, get_or-replicate, length-replicate, All-contains, has, Candidate, Language, IsCandidate, relations_on, number_of, IsNetwork, any-map, any-filter, count, count_more, count_rises, ones_of, kept_relations, candidate_at, Query, Ask, AllImplied, Undecided, is_among, is_ask, reach, start_of, IsScopeOf, IsSearchedTo, IsSearchedBefore}
 use Rattle.std.specs.Int.{bit_at}
-use Rattle.std.proofs.lemmas.Bool.{cases_lt, cases_eq, ne_eqb, eq-eqb, false_from_ne_true}
-use Rattle.std.proofs.lemmas.List.{get_or-replicate, length-replicate}
-use Rattle.std.proofs.lemmas.List.Elements.{All-contains}
 use Rattle.std.proofs.Math.ListN.{get_or-eq_default}
-use Rattle.assign.specs.Sets.{has}
-use Rattle.language.specs.declared.candidates.Candidate.{Candidate}
-use Rattle.language.specs.Language.{Language, IsCandidate, relations_on, number_of}
-use Rattle.language.specs.Answers.{IsNetwork}
-use Rattle.language.proofs.Members.{any-map, any-filter}
-use Rattle.language.proofs.Counting.{count, count_more, count_rises}
-use Rattle.bias_store.specs.Masks.{ones_of}
-use Rattle.bias_store.specs.KeptSet.{kept_relations}
-use Rattle.bias_store.proofs.Members.{candidate_at}
-use Rattle.query_gen.specs.declared.query.Query.{Query}
-use Rattle.query_gen.specs.declared.query.Query.TheVariants.{Ask, AllImplied, Undecided}
-use Rattle.query_gen.specs.Questions.{is_among}
-use Rattle.query_gen.specs.Parts.{is_ask, reach, start_of, IsScopeOf, IsSearchedTo, IsSearchedBefore}
 use Rattle.query_gen.proofs.Among.{among_contained}
 use Rattle.query_gen.proofs.Parts.{next_other}
 

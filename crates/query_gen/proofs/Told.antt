@@ -1,21 +1,5 @@
 -- What the next question says of the kept candidates.
-use Rattle.std.proofs.Common.{◌≡◌, ℕ, suc, ◌<◌, Bool, true, false, cond, List, [], ◌∷◌, length, map, get_or, refl, sym, ◌∙◌, ap, subst, arith, inl, inr, ◌⊎◌}
-use Rattle.std.specs.Prelude.{◌≢◌, All, Any, Contains}
-use Rattle.std.specs.List.{filter_map}
-use Rattle.std.proofs.lemmas.List.{get_or-map, length-map}
-use Rattle.std.proofs.lemmas.List.Elements.{All-nil, All-cons, Contains-get_or}
-use Rattle.assign.specs.Assignment.{Assignment}
-use Rattle.language.specs.declared.candidates.Candidate.{Candidate}
-use Rattle.language.specs.Language.{Language, IsCandidate, IsImplied, candidates, number_of}
-use Rattle.language.specs.Answers.{IsNetwork}
-use Rattle.language.proofs.Counting.{numbered}
-use Rattle.fd_solver.specs.declared.outcome.Outcome.{Outcome}
-use Rattle.fd_solver.specs.declared.outcome.Outcome.TheVariants.{Found, Absent, Spent}
-use Rattle.fd_solver.specs.Outcomes.{outcome_of_candidate}
-use Rattle.fd_solver.specs.Laws.{AbsentIsImplied, SpentIsLong, FoundIsLawful, IsQuestionAgainst}
-use Rattle.query_gen.specs.declared.query.Query.TheVariants.{Ask, AllImplied, Undecided}
-use Rattle.query_gen.specs.Questions.{is_among, found_in, query_from}
-use Rattle.query_gen.specs.Laws.{AllAreImplied, AskedIsLawful, UndecidedIsSpent}
+use Rattle.query_gen.proofs.Prelude.{◌≡◌, ℕ, suc, ◌<◌, Bool, true, false, cond, List, [], ◌∷◌, length, map, get_or, refl, sym, ◌∙◌, ap, subst, arith, inl, inr, ◌⊎◌, ◌≢◌, All, Any, Contains, filter_map, get_or-map, length-map, All-nil, All-cons, Contains-get_or, Assignment, Candidate, Language, IsCandidate, IsImplied, candidates, number_of, IsNetwork, numbered, Outcome, Found, Absent, Spent, outcome_of_candidate, AbsentIsImplied, SpentIsLong, FoundIsLawful, IsQuestionAgainst, Ask, AllImplied, Undecided, is_among, found_in, query_from, AllAreImplied, AskedIsLawful, UndecidedIsSpent}
 use Rattle.query_gen.proofs.Among.{among_contained, contained_among}
 use Rattle.query_gen.proofs.Asking.{query_on, query_spent, query_all, kept_outcome, all_outcomes}
 

@@ -1,12 +1,5 @@
 -- Which of two lists of words comes first.
-use Rattle.std.proofs.Common.{◌≡◌, ◌≢◌, ℕ, zero, suc, ◌+◌, ◌*◌, ◌/◌, ◌%◌, ◌^◌, ◌<◌, Bool, true, false, List, [], ◌∷◌, length, get_or, refl, sym, ◌∙◌, ap, arith, inl, inr, nat_eq}
-use Rattle.std.specs.Prelude.{bit_xor}
-use Rattle.std.specs.Int.{bit_at, trailing_zeros, w64}
-use Rattle.std.proofs.lemmas.Bool.{cases_eq, cases_lt}
-use Rattle.std.proofs.lemmas.Nat.{xor_lt}
-use Rattle.std.proofs.lemmas.Nat.Bits.{bit_at-lt, bit_at_xor, bit_at-zero, bit_at-trailing_zeros, same_from_bits}
-use Rattle.rel_table.specs.Relation.{is_above}
-use Rattle.rel_table.specs.Bits.{is_marked, values_of, IsPacked, DifferFirst, Compares}
+use Rattle.rel_table.proofs.Prelude.{◌≡◌, ◌≢◌, ℕ, zero, suc, ◌+◌, ◌*◌, ◌/◌, ◌%◌, ◌^◌, ◌<◌, Bool, true, false, List, [], ◌∷◌, length, get_or, refl, sym, ◌∙◌, ap, arith, inl, inr, nat_eq, bit_xor, bit_at, trailing_zeros, w64, cases_eq, cases_lt, xor_lt, bit_at-lt, bit_at_xor, bit_at-zero, bit_at-trailing_zeros, same_from_bits, is_above, is_marked, values_of, IsPacked, DifferFirst, Compares}
 use Rattle.rel_table.proofs.BitLemmas.{length-values_of, get_or-values_of, is_marked-bit, same_bit}
 use Rattle.rel_table.proofs.Tables.{not_above_itself}
 

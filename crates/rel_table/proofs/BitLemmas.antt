@@ -1,15 +1,5 @@
 -- What words make of the truth values that they stand for.
-use Rattle.std.proofs.Common.{◌≡◌, ◌≢◌, ℕ, zero, suc, ◌+◌, ◌-◌, ◌*◌, ◌/◌, ◌%◌, ◌^◌, ◌<◌, ◌≤◌, Bool, true, false, ◌&&◌, List, [], ◌∷◌, length, map, get_or, set, replicate, refl, sym, ◌∙◌, ap, subst, arith, ◌⊎◌, inl, inr, nat_eq, get_or-set_same, get_or-set_other, below_more}
-use Rattle.std.specs.Prelude.{bit_or, bit_and, min, if◌then◌else◌}
-use Rattle.std.specs.List.{list_all, zip}
-use Rattle.std.specs.Int.{bit_at, bit_not, div_ceil, w64}
-use Rattle.std.proofs.lemmas.Bool.{eq-eqb, eqb-true, cases_eq, cases_lt, cases_Bool, both_ways, false_from_ne_true}
-use Rattle.std.proofs.lemmas.Nat.{and_le_l, or_lt, div-mul-add, mod-mul-add, mod_below, div-add-mod'}
-use Rattle.std.proofs.lemmas.Nat.Bits.{bit_at-lt, bit_at_and, bit_at-zero, bit_at_not, bit_at_set_same, bit_at_set_other, same_from_bits_below, shr_and_one}
-use Rattle.std.proofs.lemmas.List.{ext_get_or, length-set, length-replicate, get_or-replicate}
-use Rattle.std.proofs.lemmas.List.FromFn.{length-map-range_with_len, get_or-map-range_with_len}
-use Rattle.rel_table.specs.Relation.{meet}
-use Rattle.rel_table.specs.Bits.{is_marked, values_of, IsPacked}
+use Rattle.rel_table.proofs.Prelude.{◌≡◌, ◌≢◌, ℕ, zero, suc, ◌+◌, ◌-◌, ◌*◌, ◌/◌, ◌%◌, ◌^◌, ◌<◌, ◌≤◌, Bool, true, false, ◌&&◌, List, [], ◌∷◌, length, map, get_or, set, replicate, refl, sym, ◌∙◌, ap, subst, arith, ◌⊎◌, inl, inr, nat_eq, get_or-set_same, get_or-set_other, below_more, bit_or, bit_and, min, if◌then◌else◌, list_all, zip, bit_at, bit_not, div_ceil, w64, eq-eqb, eqb-true, cases_eq, cases_lt, cases_Bool, both_ways, false_from_ne_true, and_le_l, or_lt, div-mul-add, mod-mul-add, mod_below, div-add-mod', bit_at-lt, bit_at_and, bit_at-zero, bit_at_not, bit_at_set_same, bit_at_set_other, same_from_bits_below, shr_and_one, ext_get_or, length-set, length-replicate, get_or-replicate, length-map-range_with_len, get_or-map-range_with_len, meet, is_marked, values_of, IsPacked}
 use Rattle.rel_table.proofs.Meets.{length-meet}
 
 -- ---- the truth values, place by place

@@ -1,5 +1,5 @@
 -- Copying truth values one by one: the first i are copied, and the others false.
-use Rattle.std.proofs.Common.{◌≡◌, ℕ, suc, zero, ◌+◌, ◌<◌, List, [], ◌∷◌, Bool, true, false, length, get_or, replicate, set, ap, sym, ◌∙◌, refl, arith}
+use Rattle.rel_table.proofs.Prelude.{◌≡◌, ℕ, suc, zero, ◌+◌, ◌<◌, List, [], ◌∷◌, Bool, true, false, length, get_or, replicate, set, ap, sym, ◌∙◌, refl, arith}
 
 abbrev pub copied : List Bool → ℕ → List Bool
 copied [] i = []

@@ -1,6 +1,5 @@
 -- The falling order of relations.
-use Rattle.std.proofs.Common.{◌≡◌, true, false, [], ◌∷◌, length, refl, ap, arith}
-use Rattle.rel_table.specs.Relation.{Relation, is_above}
+use Rattle.rel_table.proofs.Prelude.{◌≡◌, true, false, [], ◌∷◌, length, refl, ap, arith, Relation, is_above}
 
 pub above_above : (r q s : Relation) → is_above r q ≡ true → is_above q s ≡ true → is_above r s ≡ true
 above_above [] q s h k = absurd (let e : false ≡ true = h in cc)

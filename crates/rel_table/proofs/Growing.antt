@@ -1,14 +1,5 @@
 -- One more relation, and its intersections with all that stand, keep relations closed.
-use Rattle.std.proofs.Common.{◌≡◌, ◌≢◌, ℕ, zero, suc, ◌+◌, ◌-◌, ◌<◌, ◌≤◌, Bool, true, false, ◌&&◌, List, Vec, [], ◌∷◌, ◌++◌, length, map, take, drop, set, get_or, refl, sym, ◌∙◌, ap, subst, arith, ◌⊎◌, inl, inr}
-use Rattle.std.specs.Prelude.{All, AllPairs, Contains}
-use Rattle.std.proofs.lemmas.Bool.{both_ways, cases_eq}
-use Rattle.std.proofs.lemmas.List.{get_or-map, length-map, length_push, get_or_push, get_or_append_left, map-append, set-get_or, set_split, length-append, length-take, length-drop}
-use Rattle.std.specs.declared.alloc.Global.{Global}
-use Rattle.std.proofs.lemmas.List.Elements.{All-nil, All-head, All-tail, All-push, All-weaker, All-contains, Contains-append_left, Contains-append_right, Contains-append_cases, Contains-push, Contains-push_cases}
-use Rattle.rel_table.specs.Relation.{Relation, is_above, meet, meet_all, IsIntersection, IsClosing}
-use Rattle.rel_table.specs.InOrder.{IsInOrder, Overflows}
-use Rattle.rel_table.specs.Table.{TruthTable}
-use Rattle.rel_table.specs.Closing.{relations_in, relations_of, HasTooMany, HasFew, IsClosed, IsFirstTooMany, IsRefused}
+use Rattle.rel_table.proofs.Prelude.{◌≡◌, ◌≢◌, ℕ, zero, suc, ◌+◌, ◌-◌, ◌<◌, ◌≤◌, Bool, true, false, ◌&&◌, List, Vec, [], ◌∷◌, ◌++◌, length, map, take, drop, set, get_or, refl, sym, ◌∙◌, ap, subst, arith, ◌⊎◌, inl, inr, All, AllPairs, Contains, both_ways, cases_eq, get_or-map, length-map, length_push, get_or_push, get_or_append_left, map-append, set-get_or, set_split, length-append, length-take, length-drop, Global, All-nil, All-head, All-tail, All-push, All-weaker, All-contains, Contains-append_left, Contains-append_right, Contains-append_cases, Contains-push, Contains-push_cases, Relation, is_above, meet, meet_all, IsIntersection, IsClosing, IsInOrder, Overflows, TruthTable, relations_in, relations_of, HasTooMany, HasFew, IsClosed, IsFirstTooMany, IsRefused}
 use Rattle.rel_table.specs.declared.table.CloseFault.{CloseFault}
 use Rattle.rel_table.specs.declared.table.CloseFault.TheVariants.{TooMany, Memory}
 use Rattle.rel_table.proofs.Tables.{not_above_itself}

@@ -1,17 +1,5 @@
 -- A table's place among tables in falling order.
-use Rattle.std.proofs.Common.{◌≡◌, ℕ, zero, ◌+◌, ◌<◌, ◌≤◌, Bool, true, false, cond, nat_eq, List, [], ◌∷◌, ◌++◌, length, map, take, drop, sym, ◌∙◌, ap, subst, arith, refl, ◌⊎◌, inl, inr}
-use Rattle.std.specs.Prelude.{slice_index_or, All, AllPairs, Contains, IsTrue, insert}
-use Rattle.std.proofs.Math.Seq.{drop-cons}
-use Rattle.std.proofs.lemmas.Bool.{both_ways, eq-eqb, ne_eqb}
-use Rattle.std.proofs.lemmas.List.{get_or-map, length-map, map-append, take-append-drop, take_all, take_more, append_assoc, append-nil}
-use Rattle.std.specs.List.{filter, take-map, drop-map}
-use Rattle.std.proofs.lemmas.List.Edits.{length-insert}
-use Rattle.std.proofs.lemmas.List.Elements.{All-map, All-nil, All-cons, All-append, All-push, All-take, All-drop, All-weaker, All-more, All-contains_itself, filter_more, filter-append, Contains-append_left, Contains-append_right, Contains-append_cases, Contains-push}
-use Rattle.std.proofs.lemmas.List.Kept.{AllPairs-cons}
-use Rattle.rel_table.specs.Relation.{Relation, is_above, meet}
-use Rattle.rel_table.specs.Table.{TruthTable, IsTable}
-use Rattle.rel_table.specs.InOrder.{Above, IsBelow, IsInOrder, Overflows}
-use Rattle.rel_table.specs.Closing.{relations_in, relations_of, IsOfKind}
+use Rattle.rel_table.proofs.Prelude.{◌≡◌, ℕ, zero, ◌+◌, ◌<◌, ◌≤◌, Bool, true, false, cond, nat_eq, List, [], ◌∷◌, ◌++◌, length, map, take, drop, sym, ◌∙◌, ap, subst, arith, refl, ◌⊎◌, inl, inr, slice_index_or, All, AllPairs, Contains, IsTrue, insert, drop-cons, both_ways, eq-eqb, ne_eqb, get_or-map, length-map, map-append, take-append-drop, take_all, take_more, append_assoc, append-nil, filter, take-map, drop-map, length-insert, All-map, All-nil, All-cons, All-append, All-push, All-take, All-drop, All-weaker, All-more, All-contains_itself, filter_more, filter-append, Contains-append_left, Contains-append_right, Contains-append_cases, Contains-push, AllPairs-cons, Relation, is_above, meet, TruthTable, IsTable, Above, IsBelow, IsInOrder, Overflows, relations_in, relations_of, IsOfKind}
 use Rattle.rel_table.proofs.Same.{same_table_value}
 use Rattle.rel_table.proofs.Pairwise.{pairs_head, pairs_join, IsSplit, pairs_split}
 use Rattle.rel_table.proofs.Falling.{other_above, above_above}

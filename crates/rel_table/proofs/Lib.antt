@@ -1,3 +1,4 @@
+mod Prelude
 pub mod Powers
 pub mod PlaceLemmas
 pub mod Copying

@@ -1,14 +1,7 @@
-use Rattle.std.proofs.Common.{◌≡◌, ◌≢◌, ℕ, suc, ◌+◌, ◌<◌, List, [], ◌∷◌, Bool, true, false, ◌||◌, length, get_or, take, drop, set, ap, sym, ◌∙◌, refl, arith, ℤ, Option, Some, None, nat_eq, zero, Vec, get_or-set_same, inl, inr}
-use Rattle.std.proofs.lemmas.List.{length-set}
-use Rattle.std.proofs.lemmas.Grind.{common_steps}
+use Rattle.rel_table.proofs.Prelude.{◌≡◌, ◌≢◌, ℕ, suc, ◌+◌, ◌<◌, List, [], ◌∷◌, Bool, true, false, ◌||◌, length, get_or, take, drop, set, ap, sym, ◌∙◌, refl, arith, ℤ, Option, Some, None, nat_eq, zero, Vec, get_or-set_same, inl, inr, length-set, common_steps, cases_eq, drop-cons, list_any, Global, lists, first_fault, tuple_fault, Marks, place_of_shown}
 use Rattle.std.proofs.lemmas.List.Folds.{list_any_more}
-use Rattle.std.proofs.lemmas.Bool.{cases_eq}
-use Rattle.std.proofs.Math.Seq.{drop-cons}
-use Rattle.std.specs.List.{list_any}
 use Rattle.std.specs.Option.{option_or}
 use Rattle.rel_table.specs.declared.table.TableFault.{TableFault}
-use Rattle.std.specs.declared.alloc.Global.{Global}
-use Rattle.rel_table.specs.Made.{lists, first_fault, tuple_fault, Marks, place_of_shown}
 
 pub fault_more : (a : ℕ) (lo : ℤ) (d i : ℕ) (tuples : List (List ℤ)) → i < length tuples → first_fault a lo d i (drop i tuples) ≡ option_or (tuple_fault a lo d i (get_or tuples i [])) (first_fault a lo d (i + 1) (drop (i + 1) tuples))
 fault_more a lo d i tuples lt = rw (drop-cons tuples i [] lt) (let e : suc i ≡ i + 1 = omega arith in ap (λ k. option_or (tuple_fault a lo d i (get_or tuples i [])) (first_fault a lo d (i + 1) (drop k tuples))) e)

@@ -1,5 +1,4 @@
-use Rattle.std.proofs.Common.{◌≡◌, suc, List, [], ◌∷◌, Bool, length, arith, ap, refl}
-use Rattle.rel_table.specs.Relation.{meet}
+use Rattle.rel_table.proofs.Prelude.{◌≡◌, suc, List, [], ◌∷◌, Bool, length, arith, ap, refl, meet}
 
 pub length-meet : (xs ys : List Bool) → length xs ≡ length ys → length (meet xs ys) ≡ length xs
 length-meet [] ys e = refl

@@ -1,9 +1,5 @@
 -- Lists in which each element stands in a relation to each later one.
-use Rattle.std.proofs.Common.{ℕ, zero, suc, List, [], ◌∷◌, ◌++◌, take, drop, sym, subst, arith}
-use Rattle.std.specs.Prelude.{All, AllPairs}
-use Rattle.std.proofs.lemmas.List.{take-append-drop}
-use Rattle.std.proofs.lemmas.List.Elements.{All-nil, All-cons, All-head, All-tail, All-append}
-use Rattle.std.proofs.lemmas.List.Kept.{AllPairs-cons}
+use Rattle.rel_table.proofs.Prelude.{ℕ, zero, suc, List, [], ◌∷◌, ◌++◌, take, drop, sym, subst, arith, All, AllPairs, take-append-drop, All-nil, All-cons, All-head, All-tail, All-append, AllPairs-cons}
 
 all_left : {X : Type 0} (P : X → Type 0) (xs ys : List X) → All P (xs ++ ys) → All P xs
 all_left P [] ys h = All-nil P

@@ -1,12 +1,5 @@
 -- Places and tuples: each place below d^a has one tuple of a values below d, and each such tuple has one place.
-use Rattle.std.proofs.Common.{◌≡◌, ℕ, zero, suc, ◌+◌, ◌-◌, ◌*◌, ◌/◌, ◌%◌, ◌^◌, ◌<◌, ◌≤◌, List, [], ◌∷◌, ◌++◌, length, get_or, map, take, set, append_assoc, refl, sym, ◌∙◌, ap, arith, pow-suc}
-use Rattle.std.specs.Prelude.{All}
-use Rattle.std.specs.List.{fold, flat_map, range_with_len}
-use Rattle.std.proofs.Math.Nat.{pow-zero, mul-div_cancel, pow-le-pow_right, pow-le-pow_left}
-use Rattle.std.proofs.lemmas.Nat.{div-add-mod', div-mul-add, mod-mul-add, div_below, mod_below}
-use Rattle.std.proofs.lemmas.List.{length-append, length-map, get_or_append_left, get_or-append_right, get_or-map, take_more_set}
-use Rattle.std.proofs.lemmas.List.Elements.{All-nil, All-cons, All-head, All-tail}
-use Rattle.rel_table.specs.Relation.{place, tuples, tuple_at}
+use Rattle.rel_table.proofs.Prelude.{◌≡◌, ℕ, zero, suc, ◌+◌, ◌-◌, ◌*◌, ◌/◌, ◌%◌, ◌^◌, ◌<◌, ◌≤◌, List, [], ◌∷◌, ◌++◌, length, get_or, map, take, set, append_assoc, refl, sym, ◌∙◌, ap, arith, pow-suc, All, fold, flat_map, range_with_len, pow-zero, mul-div_cancel, pow-le-pow_right, pow-le-pow_left, div-add-mod', div-mul-add, mod-mul-add, div_below, mod_below, length-append, length-map, get_or_append_left, get_or-append_right, get_or-map, take_more_set, All-nil, All-cons, All-head, All-tail, place, tuples, tuple_at}
 
 -- ---- how many tuples there are
 

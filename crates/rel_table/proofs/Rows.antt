@@ -1,11 +1,5 @@
 -- A row of truth values, read from one word or from two.
-use Rattle.std.proofs.Common.{◌≡◌, ℕ, ◌+◌, ◌-◌, ◌*◌, ◌/◌, ◌%◌, ◌^◌, ◌<◌, ◌≤◌, List, get_or, sym, ◌∙◌, ap, arith, nat_eq, ◌⊎◌, inl, inr}
-use Rattle.std.specs.Prelude.{bit_or, max}
-use Rattle.std.specs.Int.{bit_at}
-use Rattle.std.proofs.lemmas.Bool.{cases_lt}
-use Rattle.std.proofs.lemmas.Nat.{shr-shr, shr_split}
-use Rattle.std.proofs.lemmas.Nat.Bits.{bit_at_or, bit_at-zero, bit_at_above, bit_at_cat_low, bit_at_cat_high}
-use Rattle.rel_table.specs.Bits.{is_marked}
+use Rattle.rel_table.proofs.Prelude.{◌≡◌, ℕ, ◌+◌, ◌-◌, ◌*◌, ◌/◌, ◌%◌, ◌^◌, ◌<◌, ◌≤◌, List, get_or, sym, ◌∙◌, ap, arith, nat_eq, ◌⊎◌, inl, inr, bit_or, max, bit_at, cases_lt, shr-shr, shr_split, bit_at_or, bit_at-zero, bit_at_above, bit_at_cat_low, bit_at_cat_high, is_marked}
 
 max_none : (x y : ℕ) → y ≡ 0 → max x y ≡ x
 max_none x y h = omega arith

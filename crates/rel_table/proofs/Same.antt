@@ -1,5 +1,4 @@
-use Rattle.std.proofs.Common.{◌≡◌, ℕ, List, Bool, ap, ◌∙◌}
-use Rattle.rel_table.specs.Table.{TruthTable}
+use Rattle.rel_table.proofs.Prelude.{◌≡◌, ℕ, List, Bool, ap, ◌∙◌, TruthTable}
 
 pub same_table_value : (r s : TruthTable) → r.arity ≡ s.arity → r.value_count ≡ s.value_count → r.truth ≡ s.truth → r ≡ s
 same_table_value r s a d t =

@@ -1,9 +1,5 @@
 -- What is known of a shown value.
-use Rattle.std.proofs.Common.{◌≡◌, ℕ, ℤ, pos, ◌+ℤ◌, ◌<ℤ◌, ◌≤ℤ◌, true, arith}
-use Rattle.std.proofs.lemmas.Bool.{and_parts}
-use Rattle.std.proofs.lemmas.Int.{ints}
-use Rattle.std.specs.Prelude.{int_le, int_lt}
-use Rattle.rel_table.specs.Made.{is_shown}
+use Rattle.rel_table.proofs.Prelude.{◌≡◌, ℕ, ℤ, pos, ◌+ℤ◌, ◌<ℤ◌, ◌≤ℤ◌, true, arith, and_parts, ints, int_le, int_lt, is_shown}
 
 -- it is one of d values from lo on
 pub record IsShown (lo : ℤ) (d : ℕ) (x : ℤ) : Type 0 where

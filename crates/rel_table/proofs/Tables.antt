@@ -1,12 +1,5 @@
 -- Relations that agree on every tuple are the same.
-use Rattle.std.proofs.Common.{◌≡◌, ℕ, zero, suc, ◌+◌, ◌*◌, ◌^◌, ◌<◌, Bool, true, false, List, [], ◌∷◌, ◌++◌, length, map, refl, sym, ◌∙◌, ap, arith, inl, inr, ◌⊎◌, pow-suc}
-use Rattle.std.specs.Prelude.{AllPairs, slice_index_or, IsTrue}
-use Rattle.std.specs.List.{fold, flat_map, range_with_len, list_any}
-use Rattle.std.proofs.Math.Nat.{pow-zero}
-use Rattle.std.proofs.lemmas.List.{map-append}
-use Rattle.std.proofs.lemmas.List.FromFn.{fill_by_all}
-use Rattle.std.proofs.lemmas.Bool.{cases_order, or_parts, both_ways}
-use Rattle.rel_table.specs.Relation.{Relation, place, holds, tuples, is_above}
+use Rattle.rel_table.proofs.Prelude.{◌≡◌, ℕ, zero, suc, ◌+◌, ◌*◌, ◌^◌, ◌<◌, Bool, true, false, List, [], ◌∷◌, ◌++◌, length, map, refl, sym, ◌∙◌, ap, arith, inl, inr, ◌⊎◌, pow-suc, AllPairs, slice_index_or, IsTrue, fold, flat_map, range_with_len, list_any, pow-zero, map-append, fill_by_all, cases_order, or_parts, both_ways, Relation, place, holds, tuples, is_above}
 
 range_append : (a m k : ℕ) → range_with_len a m ++ range_with_len (a + m) k ≡ range_with_len a (m + k)
 range_append a zero k = λ i. range_with_len ((let e : a + 0 ≡ a = omega arith in e) i) ((let e : k ≡ 0 + k = omega arith in e) i)

@@ -1,30 +1,8 @@
 -- The first question of plan Scopes tells its scope and its tuple.
-use Rattle.std.proofs.Common.{◌≡◌, ℕ, zero, suc, ◌+◌, ◌<◌, ◌≤◌, ◌^◌, Bool, true, false, cond, not, List, [], length, get_or, Option, Some, None, refl, sym, ◌∙◌, ap, subst, arith, inl, inr, ◌⊎◌}
-use Rattle.std.specs.Prelude.{◌≢◌, IsTrue, find, slice_index_or}
-use Rattle.std.specs.List.{range_with_len}
-use Rattle.std.specs.Option.{option_map}
-use Rattle.std.proofs.lemmas.Bool.{and_parts, cases_eq}
-use Rattle.assign.specs.Sets.{numbers}
-use Rattle.assign.specs.Assignment.{Assignment, covers, tuple_on}
-use Rattle.assign.specs.declared.events.Plan.TheVariants.{Scopes}
-use Rattle.rel_table.specs.Relation.{place, tuple_at, tuples}
+use Rattle.session_core.proofs.Prelude.{◌≡◌, ℕ, zero, suc, ◌+◌, ◌<◌, ◌≤◌, ◌^◌, Bool, true, false, cond, not, List, [], length, get_or, Option, Some, None, refl, sym, ◌∙◌, ap, subst, arith, inl, inr, ◌⊎◌, ◌≢◌, IsTrue, find, slice_index_or, range_with_len, option_map, and_parts, cases_eq, numbers, Assignment, covers, tuple_on, Scopes, place, tuple_at, tuples, Candidate, Language, IsLanguage, IsQuestion, scope_at, variable_count, place_on, IsNetwork, has_scope, scene_of, free_choices, on_scope, splitting_tuple, find_all, all_below, find_some, split_is_question, Run, IsRun, run_tuple, is_just, is_lawful, is_undecided, next_scope, same_assignment, tuple_on_assigned, FirstRun}
 use Rattle.rel_table.proofs.PlaceLemmas.{get_or-tuples, tuple_at-place, place-below}
-use Rattle.language.specs.declared.candidates.Candidate.{Candidate}
-use Rattle.language.specs.Language.{Language, IsLanguage, IsQuestion, scope_at, variable_count, place_on}
-use Rattle.language.specs.Answers.{IsNetwork, has_scope}
-use Rattle.language.specs.Scenes.{scene_of, free_choices, on_scope}
-use Rattle.language.specs.TellingApart.{splitting_tuple}
-use Rattle.language.proofs.Lists.{find_all, all_below}
-use Rattle.language.proofs.Members.{find_some}
-use Rattle.language.proofs.Ranged.{split_is_question}
 use Rattle.language.proofs.Fields.{scope_is_set}
-use Rattle.find_c.specs.Run.{Run, IsRun}
-use Rattle.find_c.proofs.Replies.{run_tuple}
 use Rattle.find_c.proofs.Starting.{free_known}
-use Rattle.session_laws.specs.Session.{is_just, is_lawful, is_undecided, next_scope}
-use Rattle.session_laws.proofs.Folds.{same_assignment}
-use Rattle.session_laws.proofs.OnScope.{tuple_on_assigned}
-use Rattle.session_core.specs.Sound.{FirstRun}
 use Rattle.session_core.proofs.Scoped.{about_tuple}
 use Rattle.session_core.proofs.Moving.{first_is}
 

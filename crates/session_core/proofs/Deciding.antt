@@ -1,18 +1,5 @@
 -- A scope that is decided stays so while candidates go and the network grows.
-use Rattle.std.proofs.Common.{◌≡◌, ℕ, Bool, true, false, ◌||◌, ◌&&◌, not, List, [], ◌∷◌, map, refl, sym, ◌∙◌, ap, Some, None, cond}
-use Rattle.std.specs.Prelude.{find, is_some, filter, ◌==◌}
-use Rattle.std.specs.List.{list_any}
-use Rattle.std.proofs.lemmas.List.Folds.{list_any-append}
-use Rattle.std.proofs.lemmas.Bool.{and_parts, and_from, or_left, or_right, both_ways}
-use Rattle.language.specs.declared.candidates.Candidate.{Candidate}
-use Rattle.language.specs.Language.{Language}
-use Rattle.language.specs.Answers.{has_scope}
-use Rattle.language.proofs.Members.{any-filter, any-map}
-use Rattle.rel_table.specs.Relation.{tuples}
-use Rattle.language.specs.TellingApart.{Choice, Scene, allows, tells_apart, splitting_tuple}
-use Rattle.language.specs.Scenes.{scene_of, free_choices}
-use Rattle.session_laws.specs.Session.{is_undecided}
-use Rattle.language.proofs.Lists.{any_weaker}
+use Rattle.session_core.proofs.Prelude.{◌≡◌, ℕ, Bool, true, false, ◌||◌, ◌&&◌, not, List, [], ◌∷◌, map, refl, sym, ◌∙◌, ap, Some, None, cond, find, is_some, filter, ◌==◌, list_any, list_any-append, and_parts, and_from, or_left, or_right, both_ways, Candidate, Language, has_scope, any-filter, any-map, tuples, Choice, Scene, allows, tells_apart, splitting_tuple, scene_of, free_choices, is_undecided, any_weaker}
 
 found_any : {X : Type 0} (p : X → Bool) (xs : List X) → is_some (find p xs) ≡ list_any p xs
 found_any p [] = refl

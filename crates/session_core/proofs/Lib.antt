@@ -1,3 +1,4 @@
+mod Prelude
 pub mod Deciding
 pub mod Walks
 pub mod Steps

@@ -1,34 +1,7 @@
 -- What a session knows after an answer.
-use Rattle.std.proofs.Common.{◌≡◌, ℕ, ◌+◌, ◌-◌, ◌^◌, ◌<◌, min, Bool, true, false, ◌||◌, ◌&&◌, not, cond, List, [], ◌∷◌, ◌++◌, map, length, refl, sym, ◌∙◌, ap, subst, arith, Option, Some, None, length-append}
-use Rattle.std.specs.Prelude.{filter, ◌==◌, ◌≢◌}
-use Rattle.std.proofs.lemmas.List.Elements.{All-nil, All-cons, All-head, All-tail, All-filter}
-use Rattle.std.proofs.lemmas.List.Folds.{list_any-append}
-use Rattle.std.proofs.lemmas.Bool.{and_parts, eqb-true, or_parts}
-use Rattle.assign.specs.Sets.{numbers}
-use Rattle.assign.specs.Assignment.{Assignment, restrict}
-use Rattle.assign.specs.Events.{Answer}
-use Rattle.assign.specs.declared.events.Plan.{Plan}
-use Rattle.assign.specs.declared.events.Plan.TheVariants.{Scopes, Quacq, Multi}
-use Rattle.language.specs.declared.candidates.Candidate.{Candidate}
-use Rattle.language.specs.Language.{Language, IsLanguage, variable_count, violates}
-use Rattle.language.specs.Answers.{has_scope, kept}
-use Rattle.find_scope.specs.Run.{Run as ScopeRun}
-use Rattle.find_scope.proofs.Moves.{standing_tells}
-use Rattle.find_c.specs.Run.{Run, IsRun}
-use Rattle.language.specs.TellingApart.{Choice, splitting_tuple, after_reply}
-use Rattle.language.specs.Scenes.{scene_of, free_choices, violated_choices}
-use Rattle.session_laws.specs.Session.{State, Idle, Choosing, At, begun, is_lawful, settle_choices, settle_halving, is_undecided, next_scope, read_on, state_after}
-use Rattle.session_laws.proofs.Folds.{one_answer_more}
-use Rattle.session_laws.proofs.Steps.{kept_steps}
+use Rattle.session_core.proofs.Prelude.{◌≡◌, ℕ, ◌+◌, ◌-◌, ◌^◌, ◌<◌, min, Bool, true, false, ◌||◌, ◌&&◌, not, cond, List, [], ◌∷◌, ◌++◌, map, length, refl, sym, ◌∙◌, ap, subst, arith, Option, Some, None, length-append, filter, ◌==◌, ◌≢◌, All-nil, All-cons, All-head, All-tail, All-filter, list_any-append, and_parts, eqb-true, or_parts, numbers, Assignment, restrict, Answer, Plan, Scopes, Quacq, Multi, Candidate, Language, IsLanguage, variable_count, violates, has_scope, kept, ScopeRun, standing_tells, Run, IsRun, Choice, splitting_tuple, after_reply, scene_of, free_choices, violated_choices, State, Idle, Choosing, At, begun, is_lawful, settle_choices, settle_halving, is_undecided, next_scope, read_on, state_after, one_answer_more, kept_steps, Knowledge, NoneBefore, AreUnlearned, IsNew, IsFirst, IsAnswered, IsFirstTuple, question_of, Knows, LeadsTo, IsNewAfter, WalksAfter, HalvesAfter, part_replied, IsLed, Stage, walk_in, first_asked}
 use Rattle.session_laws.proofs.Counted.{answers_are_at_most}
 use Rattle.session_laws.proofs.Limits.{answers_fit}
-use Rattle.session_core.specs.declared.knowledge.Knowledge.{Knowledge}
-use Rattle.session_core.specs.Sound.{NoneBefore, AreUnlearned, IsNew, IsFirst}
-use Rattle.session_core.specs.Known.{IsAnswered}
-use Rattle.session_core.specs.Putting.{IsFirstTuple}
-use Rattle.session_core.specs.Standing.{question_of, Knows, LeadsTo, IsNewAfter, WalksAfter, HalvesAfter}
-use Rattle.session_core.specs.Leading.{part_replied, IsLed}
-use Rattle.multi_tree.specs.Stage.{Stage, walk_in, first_asked}
 use Rattle.session_core.proofs.Deciding.{stays_decided}
 use Rattle.session_core.proofs.Steps.{said, open_step, new_step, example_step, begun_whole, begun_walk, walk_step, part_step, next_is}
 

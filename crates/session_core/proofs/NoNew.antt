@@ -1,17 +1,7 @@
 -- A session without a new question is settled.
-use Rattle.std.proofs.Common.{◌≡◌, ℕ, Bool, List, refl, sym, ◌∙◌, Option}
-use Rattle.assign.specs.Assignment.{Assignment}
-use Rattle.assign.specs.Events.{Answer}
-use Rattle.language.specs.declared.candidates.Candidate.{Candidate}
-use Rattle.session_laws.specs.Session.{Idle, Halving, Choosing, Walking, At}
-use Rattle.language.specs.TellingApart.{Choice}
-use Rattle.session_laws.specs.Walk.{Walk, WalkEnd}
-use Rattle.session_core.specs.declared.knowledge.Knowledge.{Knowledge}
-use Rattle.session_core.specs.declared.put.Put.{Put}
+use Rattle.session_core.proofs.Prelude.{◌≡◌, ℕ, Bool, List, refl, sym, ◌∙◌, Option, Assignment, Answer, Candidate, Idle, Halving, Choosing, Walking, At, Choice, Walk, WalkEnd, Knowledge, Put, Session, Stands, LeadsTo, PutAfter, knowledge_of, open_in}
 use Rattle.session_core.specs.declared.put.Put.TheVariants as puts
-use Rattle.session_core.specs.declared.session.Session.{Session}
 use Rattle.session_core.specs.declared.session.Session.TheVariants as sessions
-use Rattle.session_core.specs.Standing.{Stands, LeadsTo, PutAfter, knowledge_of, open_in}
 use Rattle.session_core.specs.Settled.{IsNoneNew, HasNoNew, IsSettled}
 
 never_idle : (k : Knowledge) (put : Put) (t : List Answer) (network : List Candidate) (end : Option WalkEnd) → IsNoneNew put → PutAfter k put t → LeadsTo k t (Idle network end) → ⊥

@@ -1,22 +1,7 @@
 -- The question that is open is the one that is asked.
-use Rattle.std.proofs.Common.{List, Option, Some, ap, subst}
-use Rattle.std.specs.Prelude.{IsTrue}
-use Rattle.std.specs.Option.{option_map}
-use Rattle.assign.specs.Assignment.{Assignment, restrict}
-use Rattle.assign.specs.Events.{Answer}
-use Rattle.language.specs.declared.candidates.Candidate.{Candidate}
-use Rattle.language.specs.Scenes.{on_scope}
-use Rattle.find_scope.specs.Halving.{Halved}
-use Rattle.find_scope.proofs.Moves.{standing_tells}
-use Rattle.session_laws.specs.Session.{Idle, Halving, Choosing, Walking, is_lawful, wanted_set}
-use Rattle.multi_tree.specs.Stage.{walk_in}
-use Rattle.session_core.specs.declared.knowledge.Knowledge.{Knowledge}
-use Rattle.session_core.specs.declared.put.Put.{Put}
+use Rattle.session_core.proofs.Prelude.{List, Option, Some, ap, subst, IsTrue, option_map, Assignment, restrict, Answer, Candidate, on_scope, Halved, standing_tells, Idle, Halving, Choosing, Walking, is_lawful, wanted_set, walk_in, Knowledge, Put, Asking, IsPut, IsAskedAfter, Knows, PutAfter, Stands, question_of, question_put}
 use Rattle.session_core.specs.declared.put.Put.TheVariants as puts
-use Rattle.session_core.specs.declared.session.Asking.{Asking}
 use Rattle.session_core.specs.declared.session.Session.TheVariants as sessions
-use Rattle.session_core.specs.Putting.{IsPut}
-use Rattle.session_core.specs.Standing.{IsAskedAfter, Knows, PutAfter, Stands, question_of, question_put}
 
 put_asked : (k : Knowledge) (put : Put) (t : List Answer) → IsPut k put → PutAfter k put t → Knows k t → IsAskedAfter k.lang k.plan t (question_put k.lang put)
 put_asked k (puts.Example e) t sound after knows =

@@ -1,18 +1,5 @@
 -- A question that may be put is the first of the next scope.
-use Rattle.std.proofs.Common.{◌≡◌, Bool, true, false, List, refl, sym, ◌∙◌, ap, subst, Some}
-use Rattle.std.specs.Prelude.{IsTrue}
-use Rattle.assign.specs.Assignment.{Assignment, is_same_assignment}
-use Rattle.assign.specs.declared.events.Plan.{Plan}
-use Rattle.assign.specs.declared.events.Plan.TheVariants.{Scopes}
-use Rattle.language.specs.declared.candidates.Candidate.{Candidate}
-use Rattle.language.specs.Language.{Language}
-use Rattle.find_c.specs.Run.{Run}
-use Rattle.language.specs.TellingApart.{splitting_tuple}
-use Rattle.language.specs.Scenes.{scene_of}
-use Rattle.session_laws.specs.Session.{is_just, is_lawful, scope_question}
-use Rattle.session_laws.proofs.Folds.{same_assignment, assignment_same}
-use Rattle.session_core.specs.Sound.{IsFirst}
-use Rattle.session_core.specs.Standing.{question_of}
+use Rattle.session_core.proofs.Prelude.{◌≡◌, Bool, true, false, List, refl, sym, ◌∙◌, ap, subst, Some, IsTrue, Assignment, is_same_assignment, Plan, Scopes, Candidate, Language, Run, splitting_tuple, scene_of, is_just, is_lawful, scope_question, same_assignment, assignment_same, IsFirst, question_of}
 use Rattle.session_core.proofs.Steps.{lawful_there}
 
 is_first : (l : Language) (live network : List Candidate) (run : Run) → IsFirst l live network run → scope_question l live network ≡ Some (question_of l run)

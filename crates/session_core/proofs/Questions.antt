@@ -1,16 +1,5 @@
 -- An example that may be put is a question.
-use Rattle.std.proofs.Common.{◌≡◌, Bool, true, ◌&&◌, List, refl, sym, subst}
-use Rattle.std.specs.Prelude.{◌≢◌, IsTrue}
-use Rattle.std.proofs.lemmas.Bool.{and_parts}
-use Rattle.assign.specs.Assignment.{Assignment}
-use Rattle.assign.specs.declared.events.Plan.{Plan}
-use Rattle.assign.specs.declared.events.Plan.TheVariants.{Scopes, Quacq, Multi}
-use Rattle.language.specs.declared.candidates.Candidate.{Candidate}
-use Rattle.language.specs.Language.{Language, IsLanguage, IsQuestion}
-use Rattle.language.proofs.Ranged.{question_is}
-use Rattle.session_laws.specs.Session.{is_lawful}
-use Rattle.session_core.specs.declared.knowledge.Knowledge.{Knowledge}
-use Rattle.session_core.specs.Putting.{IsExample}
+use Rattle.session_core.proofs.Prelude.{◌≡◌, Bool, true, ◌&&◌, List, refl, sym, subst, ◌≢◌, IsTrue, and_parts, Assignment, Plan, Scopes, Quacq, Multi, Candidate, Language, IsLanguage, IsQuestion, question_is, is_lawful, Knowledge, IsExample}
 
 first_of_four : (a b c d : Bool) → (a && b && c && d) ≡ true → a ≡ true
 first_of_four a b c d all = (and_parts a b (and_parts (a && b) c (and_parts (a && b && c) d all).0).0).0

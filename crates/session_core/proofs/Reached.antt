@@ -1,20 +1,7 @@
 -- What a session tells of the state to which its answers lead.
-use Rattle.std.proofs.Common.{◌≡◌, List, refl, sym, ◌∙◌, ap, subst, Some}
-use Rattle.assign.specs.Assignment.{Assignment}
-use Rattle.assign.specs.Events.{Answer}
-use Rattle.assign.specs.declared.events.Plan.TheVariants.{Multi}
-use Rattle.language.specs.Language.{IsLanguage}
-use Rattle.session_laws.specs.Walk.{Ended}
-use Rattle.session_laws.specs.Session.{State, Idle, Halving, Choosing, Walking, Over, state_after, walk_end}
-use Rattle.session_laws.specs.Laws.{IsWalked, network_in}
+use Rattle.session_core.proofs.Prelude.{◌≡◌, List, refl, sym, ◌∙◌, ap, subst, Some, Assignment, Answer, Multi, IsLanguage, Ended, State, Idle, Halving, Choosing, Walking, Over, state_after, walk_end, IsWalked, network_in, walk_in, Knowledge, Put, Example, OnWalk, Part, FirstTuple, Tuple, Session, knowledge_of, LeadsTo, PutAfter, Stands}
 use Rattle.session_laws.proofs.Pending.{ended_is_walked}
-use Rattle.multi_tree.specs.Stage.{walk_in}
-use Rattle.session_core.specs.declared.knowledge.Knowledge.{Knowledge}
-use Rattle.session_core.specs.declared.put.Put.{Put}
-use Rattle.session_core.specs.declared.put.Put.TheVariants.{Example, OnWalk, Part, FirstTuple, Tuple}
-use Rattle.session_core.specs.declared.session.Session.{Session}
 use Rattle.session_core.specs.declared.session.Session.TheVariants as sessions
-use Rattle.session_core.specs.Standing.{knowledge_of, LeadsTo, PutAfter, Stands}
 
 -- the answers lead to a state, and its network is what was learned
 pub record IsReached (k : Knowledge) (t : List Answer) : Type 0 where

@@ -1,29 +1,7 @@
 -- A scope by what is kept there, and a question that is about one scope alone.
-use Rattle.std.proofs.Common.{◌≡◌, ℕ, Bool, true, false, cond, ◌&&◌, not, List, [], ◌∷◌, ◌++◌, length, map, Some, None, refl, ◌∙◌, ap, sym, subst, arith}
-use Rattle.std.specs.Prelude.{◌==◌, find, is_some, filter}
-use Rattle.std.proofs.lemmas.Bool.{and_from, and_right, eqb-true}
-use Rattle.std.proofs.lemmas.List.Elements.{All-head, All-tail}
-use Rattle.assign.specs.Sets.{is_within}
-use Rattle.rel_table.specs.Relation.{tuples}
-use Rattle.language.specs.declared.candidates.Candidate.{Candidate}
-use Rattle.language.specs.Language.{Language, IsLanguage, scope_at}
-use Rattle.language.specs.Answers.{has_scope}
-use Rattle.language.specs.Scenes.{scene_of, free_choices}
-use Rattle.language.specs.TellingApart.{Choice, Scene, tells_apart, splitting_tuple}
+use Rattle.session_core.proofs.Prelude.{◌≡◌, ℕ, Bool, true, false, cond, ◌&&◌, not, List, [], ◌∷◌, ◌++◌, length, map, Some, None, refl, ◌∙◌, ap, sym, subst, arith, ◌==◌, find, is_some, filter, and_from, and_right, eqb-true, All-head, All-tail, is_within, tuples, Candidate, Language, IsLanguage, scope_at, has_scope, scene_of, free_choices, Choice, Scene, tells_apart, splitting_tuple, Run, IsRun, IsRunOn, run_tuple, is_undecided, exact_question, Knowledge, Put, FirstTuple, Tuple, IsAbout, IsFirstTuple, IsTelling, IsPut, AreUnlearned, IsNew, question_of, question_put}
 use Rattle.language.proofs.Covered.{covered_within, same_scope}
 use Rattle.bias_store.specs.KeptSet.{kept_relations}
-use Rattle.find_c.specs.Run.{Run, IsRun}
-use Rattle.find_c.specs.Standing.{IsRunOn}
-use Rattle.find_c.proofs.Replies.{run_tuple}
-use Rattle.session_laws.specs.Session.{is_undecided}
-use Rattle.session_laws.proofs.OnScope.{exact_question}
-use Rattle.session_core.specs.declared.knowledge.Knowledge.{Knowledge}
-use Rattle.session_core.specs.declared.put.Put.{Put}
-use Rattle.session_core.specs.declared.put.Put.TheVariants.{FirstTuple, Tuple}
-use Rattle.session_core.specs.Known.{IsAbout}
-use Rattle.session_core.specs.Putting.{IsFirstTuple, IsTelling, IsPut}
-use Rattle.session_core.specs.Sound.{AreUnlearned, IsNew}
-use Rattle.session_core.specs.Standing.{question_of, question_put}
 
 -- ---- what is kept on a scope
 

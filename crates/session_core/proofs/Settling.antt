@@ -1,20 +1,7 @@
 -- How a halving goes on by itself.
-use Rattle.std.proofs.Common.{◌≡◌, ℕ, zero, suc, ◌+◌, ◌-◌, ◌*◌, ◌<◌, ◌≤◌, Bool, true, false, cond, List, [], ◌∷◌, ◌++◌, length, refl, sym, ◌∙◌, ap, subst, arith, Option}
-use Rattle.assign.specs.Assignment.{Assignment}
-use Rattle.assign.specs.Events.{Answer}
-use Rattle.language.specs.declared.candidates.Candidate.{Candidate}
-use Rattle.language.specs.Language.{Language, scope_number}
-use Rattle.language.specs.Answers.{kept}
-use Rattle.find_scope.specs.Halving.{halve}
+use Rattle.session_core.proofs.Prelude.{◌≡◌, ℕ, zero, suc, ◌+◌, ◌-◌, ◌*◌, ◌<◌, ◌≤◌, Bool, true, false, cond, List, [], ◌∷◌, ◌++◌, length, refl, sym, ◌∙◌, ap, subst, arith, Option, Assignment, Answer, Candidate, Language, scope_number, kept, halve, StandsFor, ScopeNext, standing_tells, Walk, Halving, found, halved, is_quiet, settle_halving, with_quiet_replies, loud_step, is_quiet_at}
 use Rattle.find_scope.specs.Run.{Run}
-use Rattle.find_scope.specs.Standing.{StandsFor}
-use Rattle.find_scope.specs.declared.run.ScopeNext.{ScopeNext}
 use Rattle.find_scope.specs.declared.run.ScopeNext.TheVariants.{Wants, Found}
-use Rattle.find_scope.proofs.Moves.{standing_tells}
-use Rattle.session_laws.specs.Walk.{Walk}
-use Rattle.session_laws.specs.Session.{Halving, found, halved, is_quiet, settle_halving, with_quiet_replies}
-use Rattle.session_laws.proofs.Steps.{loud_step}
-use Rattle.session_core.specs.Sound.{is_quiet_at}
 
 -- whether a halving is quiet can be seen of its run
 pub quiet_is : (l : Language) (live : List Candidate) (e : Assignment) (set : List ℕ) (replies : List Bool) (next : ScopeNext) → StandsFor next set replies → is_quiet l live e (halve set replies) ≡ is_quiet_at l live e next

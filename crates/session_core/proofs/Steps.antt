@@ -1,29 +1,5 @@
 -- What an answer makes of a session.
-use Rattle.std.proofs.Common.{◌≡◌, ℕ, zero, suc, ◌+◌, ◌<◌, ◌≤◌, Bool, true, false, cond, List, [], ◌∷◌, ◌++◌, refl, sym, ◌∙◌, ap, arith, inl, inr, ◌⊎◌, Option, Some, None}
-use Rattle.std.specs.Prelude.{find}
-use Rattle.std.specs.List.{range_with_len}
-use Rattle.std.specs.Option.{option_map}
-use Rattle.std.proofs.lemmas.Bool.{cases_eq}
-use Rattle.assign.specs.Sets.{numbers}
-use Rattle.assign.specs.Assignment.{Assignment, restrict}
-use Rattle.assign.specs.Events.{Answer}
-use Rattle.assign.specs.declared.events.Plan.{Plan}
-use Rattle.assign.specs.declared.events.Plan.TheVariants.{Scopes, Quacq, Multi}
-use Rattle.language.specs.declared.candidates.Candidate.{Candidate}
-use Rattle.language.specs.Language.{Language, IsLanguage, scope_number, variable_count}
-use Rattle.language.specs.Answers.{kept}
-use Rattle.find_scope.specs.Halving.{Wants, halve}
-use Rattle.find_c.specs.Run.{Run}
-use Rattle.find_c.specs.Standing.{IsRunOn, IsFound, IsFree}
-use Rattle.language.specs.TellingApart.{Choice, splitting_tuple, after_reply}
-use Rattle.language.specs.Scenes.{scene_of, on_scope, free_choices, violated_choices}
-use Rattle.session_laws.specs.Walk.{Walk, WalkEnd}
-use Rattle.session_laws.specs.Session.{State, Idle, Halving, Choosing, Walking, At, at_turn, replied, begun, learn, chosen, go_on, if_passes, is_just, replied_tuple, settle_choices, settle_halving, found, begin_choosing, Over, wanted_set, on_scope_asked, scope_question, is_undecided, next_scope, is_lawful, state_after}
-use Rattle.session_laws.specs.Laws.{OneAnswerMore}
-use Rattle.session_laws.proofs.Folds.{assignment_same}
-use Rattle.multi_tree.specs.Stage.{Stage, Asked, walk_in, first_asked}
-use Rattle.session_core.specs.Sound.{NoneBefore}
-use Rattle.session_core.specs.Leading.{part_replied}
+use Rattle.session_core.proofs.Prelude.{◌≡◌, ℕ, zero, suc, ◌+◌, ◌<◌, ◌≤◌, Bool, true, false, cond, List, [], ◌∷◌, ◌++◌, refl, sym, ◌∙◌, ap, arith, inl, inr, ◌⊎◌, Option, Some, None, find, range_with_len, option_map, cases_eq, numbers, Assignment, restrict, Answer, Plan, Scopes, Quacq, Multi, Candidate, Language, IsLanguage, scope_number, variable_count, kept, Wants, halve, Run, IsRunOn, IsFound, IsFree, Choice, splitting_tuple, after_reply, scene_of, on_scope, free_choices, violated_choices, Walk, WalkEnd, State, Idle, Halving, Choosing, Walking, At, at_turn, replied, begun, learn, chosen, go_on, if_passes, is_just, replied_tuple, settle_choices, settle_halving, found, begin_choosing, Over, wanted_set, on_scope_asked, scope_question, is_undecided, next_scope, is_lawful, state_after, OneAnswerMore, assignment_same, Stage, Asked, walk_in, first_asked, NoneBefore, part_replied}
 use Rattle.session_core.proofs.Walks.{first_turns, again_rests}
 
 abbrev pub said : Assignment → Bool → Answer

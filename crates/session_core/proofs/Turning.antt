@@ -1,22 +1,6 @@
 -- The answer to what is put.
-use Rattle.std.proofs.Common.{◌≡◌, Bool, ℕ, List, [], ◌∷◌, ◌++◌, sym, ◌∙◌, subst, Some}
-use Rattle.assign.specs.Sets.{numbers}
-use Rattle.assign.specs.Assignment.{Assignment}
-use Rattle.assign.specs.Events.{Answer}
-use Rattle.language.specs.Language.{IsLanguage, variable_count}
-use Rattle.find_scope.specs.Run.{Run as ScopeRun}
-use Rattle.find_c.specs.Run.{Run}
-use Rattle.session_laws.specs.Session.{settle_choices, settle_halving}
-use Rattle.multi_tree.specs.Stage.{walk_in}
-use Rattle.session_core.specs.declared.knowledge.Knowledge.{Knowledge}
-use Rattle.session_core.specs.declared.put.Put.{Put}
-use Rattle.session_core.specs.declared.put.Put.TheVariants.{Example, OnWalk, Part, FirstTuple, Tuple}
-use Rattle.session_core.specs.declared.session.Asking.{Asking}
+use Rattle.session_core.proofs.Prelude.{◌≡◌, Bool, ℕ, List, [], ◌∷◌, ◌++◌, sym, subst, Some, numbers, Assignment, Answer, IsLanguage, variable_count, ScopeRun, Run, settle_choices, settle_halving, walk_in, Knowledge, Put, Example, OnWalk, Part, FirstTuple, Tuple, Asking, IsAnswered, IsExample, IsTelling, IsPut, question_put, open_in, PutAfter, HalvesAfter, Stands, part_replied, IsLed}
 use Rattle.session_core.specs.declared.session.Session.TheVariants as sessions
-use Rattle.session_core.specs.Known.{IsAnswered}
-use Rattle.session_core.specs.Putting.{IsExample, IsTelling, IsPut}
-use Rattle.session_core.specs.Standing.{question_put, open_in, PutAfter, HalvesAfter, Stands}
-use Rattle.session_core.specs.Leading.{part_replied, IsLed}
 use Rattle.session_core.proofs.Steps.{said}
 use Rattle.session_core.proofs.Moving.{example_led, walk_led, part_led, tuple_led, first_led, left_after}
 

@@ -1,21 +1,9 @@
 -- How a walk begins, and where there is none.
-use Rattle.std.proofs.Common.{◌≡◌, ◌⊎◌, inl, inr, true, ◌&&◌, List, [], ◌∷◌, ◌∙◌, refl, sym, ap, Option, Some, None}
-use Rattle.std.proofs.lemmas.Bool.{and_left}
-use Rattle.assign.specs.Sets.{numbers, is_within}
-use Rattle.assign.specs.Assignment.{Assignment}
-use Rattle.assign.specs.declared.events.Plan.TheVariants.{Multi}
-use Rattle.assign.specs.Events.{Answer}
-use Rattle.language.specs.declared.candidates.Candidate.{Candidate}
-use Rattle.language.specs.Language.{Language, IsLanguage, variable_count, scope_of, violates}
-use Rattle.language.specs.Answers.{kept}
+use Rattle.session_core.proofs.Prelude.{◌≡◌, ◌⊎◌, inl, inr, true, ◌&&◌, List, [], ◌∷◌, ◌∙◌, refl, sym, ap, Option, Some, None, and_left, numbers, is_within, Assignment, Multi, Answer, Candidate, Language, IsLanguage, variable_count, scope_of, violates, kept, Turn, Asks, Ends, WalkEnd, violates_some, next_turn, Idle, MOST_SETS, at_turn, go_on, is_lawful, restrict_all, Stage, Ready, Asked, Done, walk_in, turn_at, put_again}
 use Rattle.language.proofs.Accepts.{accepted_at}
-use Rattle.session_laws.specs.Walk.{Turn, Asks, Ends, WalkEnd, violates_some, next_turn}
-use Rattle.session_laws.specs.Session.{State, Idle, MOST_SETS, at_turn, go_on, is_lawful}
-use Rattle.session_laws.proofs.Restrict.{restrict_all}
 use Rattle.session_laws.proofs.States.{put_is, first_turn, find_nothing}
 use Rattle.multi_tree.specs.declared.tree.TreeNext.{TreeNext}
 use Rattle.multi_tree.specs.declared.tree.TreeNext.TheVariants.{Ask, End, Capped}
-use Rattle.multi_tree.specs.Stage.{Stage, Ready, Asked, Done, walk_in, turn_at, put_again}
 use Rattle.multi_tree.specs.Standing.{answer_to}
 
 -- ---- the first turn

@@ -1,16 +1,8 @@
 -- A question that is asked gives a value to some variable, so that a record can hold it.
-use Rattle.std.proofs.Common.{◌≡◌, ◌-◌, ◌≤◌, false, true, List, [], ◌∷◌, length, replicate, Some, None, ◌∙◌, arith}
-use Rattle.std.specs.Prelude.{is_some}
-use Rattle.std.proofs.lemmas.Bool.{or_left}
+use Rattle.session_store.proofs.Prelude.{◌≡◌, ◌-◌, ◌≤◌, false, true, List, [], ◌∷◌, length, replicate, Some, None, ◌∙◌, arith, is_some, or_left, Assignment, widened, Answer, Plan, Language, IsLanguage, IsQuestion, State, Idle, Halving, Choosing, Walking, Over, At, state_after, IsAskedAfter, IsAskedIn}
 use Rattle.std.proofs.lemmas.List.Folds.{list_any-append}
-use Rattle.assign.specs.Assignment.{Assignment, widened}
-use Rattle.assign.specs.Events.{Answer}
-use Rattle.assign.specs.declared.events.Plan.{Plan}
-use Rattle.language.specs.Language.{Language, IsLanguage, IsQuestion}
 use Rattle.session_laws.specs.Laws.{has_value, IsAskable}
-use Rattle.session_laws.specs.Session.{State, Idle, Halving, Choosing, Walking, Over, At, state_after}
 use Rattle.session_laws.proofs.Askable.{questions_have_values}
-use Rattle.session_core.specs.Standing.{IsAskedAfter, IsAskedIn}
 use Rattle.answer_journal.specs.Format.{valued_count}
 
 pub widened_has : (q : Assignment) → has_value q ≡ true → has_value (widened q) ≡ true

@@ -1,20 +1,9 @@
 -- Each list of bytes opens with a session, or is refused.
-use Rattle.std.proofs.Common.{◌≡◌, ℕ, false, List, Some, Result, Ok, Err, refl, ◌⊎◌, inl, inr}
-use Rattle.std.specs.Prelude.{IfErr}
+use Rattle.session_store.proofs.Prelude.{◌≡◌, ℕ, false, List, Some, Result, Ok, Err, refl, ◌⊎◌, inl, inr, IfErr, Reading, ReadsAs, NoSession, NotAJournal, TooManyRecords, Damaged, Event, Plan, Language, Led, At, Stray, IsVocabulary, refusal_of_vocabulary, VocFault, SaysSession, Opened, Opens, OpensAlways, wants_memory, replay, SFault}
 use Rattle.answer_journal.specs.declared.fault.JFault.TheVariants as journal
-use Rattle.answer_journal.specs.Journal.{Reading, ReadsAs, Session, NoSession, NotAJournal, TooManyRecords, Damaged}
-use Rattle.assign.specs.declared.events.Event.{Event}
-use Rattle.assign.specs.declared.events.Plan.{Plan}
-use Rattle.language.specs.Language.{Language}
-use Rattle.session_laws.specs.Session.{Reading as Led, At, Stray}
-use Rattle.voc_read.specs.Vocabulary.{IsVocabulary, refusal_of_vocabulary}
-use Rattle.voc_read.specs.declared.fault.VocFault.{VocFault}
+use Rattle.answer_journal.specs.Journal.{Session}
 use Rattle.voc_read.specs.Want.{wants_memory as voc_wants}
 use Rattle.voc_read.proofs.EachText.{each_text}
-use Rattle.session_store.specs.Left.{SaysSession}
-use Rattle.session_store.specs.Opened.{Opened, Opens, OpensAlways, wants_memory}
-use Rattle.session_store.specs.Replay.{replay}
-use Rattle.session_store.specs.declared.fault.SFault.{SFault}
 use Rattle.session_store.specs.declared.fault.SFault.TheVariants as store
 
 -- each list of bytes has a reading

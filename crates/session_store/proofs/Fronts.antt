@@ -1,13 +1,6 @@
 -- Where the first of some answers lead, and the first record that has no place.
-use Rattle.std.proofs.Common.{◌≡◌, ◌⊎◌, ℕ, ◌+◌, Bool, true, false, cond, List, [], ◌∷◌, ◌++◌, length, map, Option, Some, None, refl, sym, ◌∙◌, ap, subst, inl, inr}
-use Rattle.std.proofs.lemmas.List.{append-nil, append_assoc}
-use Rattle.assign.specs.Events.{Answer}
-use Rattle.assign.specs.declared.events.Event.{Event}
-use Rattle.assign.specs.declared.events.Plan.{Plan}
-use Rattle.language.specs.Language.{Language, variable_count}
-use Rattle.session_laws.specs.Session.{State, Idle, Reading, At, Stray, then_on, step, state_after, read_on}
-use Rattle.session_store.specs.Replay.{Recorded, recorded, empty_back, is_past, seen, all_seen, step_of, replay_on, unless_empty, AnswersHavePlaces, HavePlaces}
-use Rattle.session_store.specs.Laws.{ReplayIsState, FrontsHavePlaces, StrayIsFirst, IsEmptyBack, IsFirstStray}
+use Rattle.session_store.proofs.Prelude.{◌≡◌, ◌⊎◌, ℕ, ◌+◌, Bool, true, false, cond, List, [], ◌∷◌, ◌++◌, length, map, Option, Some, None, refl, sym, ◌∙◌, ap, subst, inl, inr, append-nil, append_assoc, Answer, Event, Plan, Language, variable_count, State, Idle, At, Stray, then_on, step, state_after, read_on, Recorded, recorded, empty_back, is_past, seen, all_seen, step_of, replay_on, unless_empty, AnswersHavePlaces, HavePlaces, ReplayIsState, FrontsHavePlaces, StrayIsFirst, IsEmptyBack, IsFirstStray}
+use Rattle.session_laws.specs.Session.{Reading}
 use Rattle.session_store.proofs.Replaying.{replay_end, replay_step}
 use Rattle.session_store.proofs.Recording.{recorded_stand, recorded_seen, empty_back_is}
 

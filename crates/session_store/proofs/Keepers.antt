@@ -1,23 +1,8 @@
 -- Calls of a keeper, one after another.
-use Rattle.std.proofs.Common.{◌≡◌, ◌≤◌, ◌⊎◌, ⊎_elim, ◌+◌, ◌*◌, ℕ, length, IsTrue, Bool, true, false, List, [], ◌∷◌, ◌++◌, Option, Some, is_some, Result, Ok, Err, refl, sym, ◌∙◌, ap, subst, inl, inr, arith, append_assoc, length-append}
-use Rattle.std.specs.Option.{ForSome}
-use Rattle.std.specs.Prelude.{IfErr, IsErrOf, OnOk}
-use Rattle.std.proofs.lemmas.Result.{IfErr-at_err}
-use Rattle.std.proofs.lemmas.List.{append-nil}
-use Rattle.std.proofs.lemmas.List.Elements.{All-nil, All-cons, All-append}
-use Rattle.assign.specs.Assignment.{Assignment}
-use Rattle.assign.specs.declared.events.Event.{Event}
+use Rattle.session_store.proofs.Prelude.{◌≡◌, ◌≤◌, ◌⊎◌, ⊎_elim, ◌+◌, ◌*◌, ℕ, length, IsTrue, Bool, true, false, List, [], ◌∷◌, ◌++◌, Option, Some, is_some, Result, Ok, Err, refl, sym, ◌∙◌, ap, subst, inl, inr, arith, append_assoc, ForSome, IfErr, IsErrOf, OnOk, IfErr-at_err, append-nil, All-nil, All-cons, All-append, Assignment, Event, Plan, DiskOf, Rose, GoesOn, IsOnDisk, LeavesOnly, started, joined, weaker, IsAddable, IsTried, OpensWith, OpensWithOrWithout, OpensWithin, HoldsAtLeast, LeavesNow, bytes_told, IsGrown, IsNotKept, LeavesEvent, Persists, FailsWith, calls_for, calls_of, SFault}
 use Rattle.assign.specs.declared.events.Event.TheVariants as variant
-use Rattle.assign.specs.declared.events.Plan.{Plan}
 use Rattle.answer_journal.specs.declared.fault.JFault.TheVariants as journal
-use Rattle.disk_model.specs.declared.disk.Disk.{Ghosts as DiskOf}
-use Rattle.disk_model.specs.Disk.{Rose}
-use Rattle.disk_model.specs.Moments.{GoesOn, IsOnDisk, LeavesOnly, started, joined, weaker}
-use Rattle.session_store.specs.Kept.{IsAddable, IsTried}
-use Rattle.session_store.specs.Left.{OpensWith, OpensWithOrWithout, OpensWithin, HoldsAtLeast, LeavesNow, bytes_told}
-use Rattle.session_store.specs.Keeping.{IsGrown, IsNotKept, LeavesEvent, Persists, FailsWith, calls_for, calls_of}
 use Rattle.session_store.specs.Keeps.{Keeps, LosesNone, OnlyPuts}
-use Rattle.session_store.specs.declared.fault.SFault.{SFault}
 use Rattle.session_store.specs.declared.fault.SFault.TheVariants as store
 use Rattle.session_store.specs.declared.keep.Keep.{Ghosts as KeepOf}
 

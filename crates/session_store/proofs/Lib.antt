@@ -1,3 +1,4 @@
+mod Prelude
 pub mod Asked
 pub mod Storables
 pub mod Replaying

@@ -1,22 +1,10 @@
 -- No bytes open in two ways.
-use Rattle.std.proofs.Common.{◌≡◌, ◌∙◌, ℕ, true, List, Option, Some, None, Result, Ok, Err, refl, sym, ap, subst}
-use Rattle.answer_journal.specs.declared.fault.JFault.{JFault}
+use Rattle.session_store.proofs.Prelude.{◌≡◌, ◌∙◌, ℕ, List, Some, None, Result, Ok, Err, refl, sym, ap, subst, JFault, Reading, ReadsAs, NoSession, NotAJournal, TooManyRecords, Damaged, Event, Plan, Language, State, At, Stray, IsVocabulary, refusal_of_vocabulary, VocFault, SaysSession, Opened, opened_as, Holds, OpensOnce, RefusesOpening, JournalNotOpened, replay, SFault}
 use Rattle.answer_journal.specs.declared.fault.JFault.TheVariants as journal
-use Rattle.answer_journal.specs.Journal.{Reading, ReadsAs, Session, NoSession, NotAJournal, TooManyRecords, Damaged}
+use Rattle.answer_journal.specs.Journal.{Session}
 use Rattle.answer_journal.specs.Unique.{spells_once}
-use Rattle.assign.specs.declared.events.Event.{Event}
-use Rattle.assign.specs.declared.events.Plan.{Plan}
-use Rattle.language.specs.Language.{Language}
-use Rattle.session_laws.specs.Session.{State, At, Stray}
-use Rattle.voc_read.specs.Vocabulary.{IsVocabulary, refusal_of_vocabulary}
-use Rattle.voc_read.specs.declared.fault.VocFault.{VocFault}
 use Rattle.voc_read.proofs.OneReading.{one_language}
 use Rattle.voc_read.proofs.Refused.{not_refused}
-use Rattle.session_store.specs.Left.{SaysSession}
-use Rattle.session_store.specs.Opened.{Opened, opened_as, Holds, Opens, OpensOnce, RefusesOpening, is_of_bytes}
-use Rattle.session_store.specs.Opening.{JournalNotOpened}
-use Rattle.session_store.specs.Replay.{replay}
-use Rattle.session_store.specs.declared.fault.SFault.{SFault}
 use Rattle.session_store.specs.declared.fault.SFault.TheVariants as store
 
 -- ---- what a file that isn't opened is read as

@@ -1,24 +1,9 @@
 -- Events that are added have places.
-use Rattle.std.proofs.Common.{◌≡◌, ◌⊎◌, ℕ, ◌-◌, ◌<◌, ◌≤◌, Bool, true, false, ◌&&◌, ◌||◌, nat_le, List, [], ◌∷◌, ◌++◌, length, get_or, drop, replicate, Option, Some, None, refl, sym, ◌∙◌, ap, subst, inl, inr, arith}
-use Rattle.std.specs.Prelude.{is_some}
+use Rattle.session_store.proofs.Prelude.{◌≡◌, ◌⊎◌, ℕ, ◌-◌, ◌<◌, ◌≤◌, Bool, true, false, ◌&&◌, ◌||◌, nat_le, List, [], ◌∷◌, ◌++◌, length, get_or, drop, replicate, Option, Some, None, refl, sym, ◌∙◌, ap, subst, inl, inr, arith, is_some, cases_lt, append-nil, append_assoc, get_or-replicate, get_or-append_right, get_or_past, length-replicate, take-append-drop, Assignment, value_of, widened, Answer, standing, Event, Plan, take-widened, standing-back, Language, variable_count, standing_on, State, Idle, Halving, Choosing, Walking, Over, At, Stray, then_on, step, questions_have_places, IsAskedAfter, IsAskedIn, answer_event, Recorded, recorded, empty_back, is_past, seen, all_seen, answer_to, step_of, replay_on, IsStrayIn, HavePlaces}
 use Rattle.std.specs.List.{list_any}
-use Rattle.std.proofs.lemmas.Bool.{cases_lt}
 use Rattle.std.proofs.lemmas.Bool.Decides.{nat_tests}
-use Rattle.std.proofs.lemmas.List.{append-nil, append_assoc, get_or-replicate, get_or-append_right, get_or_past, length-replicate, take-append-drop}
 use Rattle.assign.specs.Sets.{numbers}
-use Rattle.assign.specs.Assignment.{Assignment, value_of, widened}
-use Rattle.assign.specs.Events.{Answer, standing}
-use Rattle.assign.specs.declared.events.Event.{Event}
 use Rattle.assign.specs.declared.events.Event.TheVariants as variant
-use Rattle.assign.specs.declared.events.Plan.{Plan}
-use Rattle.assign.proofs.EventLemmas.{take-widened, standing-back}
-use Rattle.language.specs.Language.{Language, variable_count}
-use Rattle.language.specs.Answers.{standing_on}
-use Rattle.session_laws.specs.Session.{State, Idle, Halving, Choosing, Walking, Over, At, Stray, then_on, step}
-use Rattle.session_laws.proofs.Places.{questions_have_places}
-use Rattle.session_core.specs.Standing.{IsAskedAfter, IsAskedIn}
-use Rattle.session_store.specs.Kept.{answer_event}
-use Rattle.session_store.specs.Replay.{Recorded, recorded, empty_back, is_past, seen, all_seen, answer_to, step_of, replay_on, IsStrayIn, HavePlaces}
 use Rattle.session_store.proofs.Replaying.{step_within}
 use Rattle.session_store.proofs.Recording.{recorded_from-append, recorded_seen, answers_find, back_finds}
 use Rattle.session_store.proofs.Fronts.{found_and_led, placed, replay_is_state, fronts_have_places}

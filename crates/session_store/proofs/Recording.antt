@@ -1,17 +1,6 @@
 -- The records of the answers that stand.
-use Rattle.std.proofs.Common.{◌≡◌, ℕ, true, false, ◌+◌, ◌-◌, ◌<◌, ◌≤◌, List, [], ◌∷◌, ◌++◌, length, map, get_or, take, drop, Option, Some, None, refl, sym, ◌∙◌, ap, arith, length-append, append_assoc}
-use Rattle.std.specs.Prelude.{All, is_some}
-use Rattle.std.specs.Option.{option_to_list}
-use Rattle.std.proofs.lemmas.List.{map-append, length-map, take-map, get_or-map, drop_all}
-use Rattle.std.proofs.Math.Seq.{take-append_seam, get_or-append_seam}
-use Rattle.std.proofs.lemmas.List.Elements.{All-nil, All-cons, All-append, All-take, All-get_or}
-use Rattle.assign.specs.Events.{Answer, without_last, standing_from, standing, cut_to}
-use Rattle.assign.specs.declared.events.Event.{Event}
+use Rattle.session_store.proofs.Prelude.{◌≡◌, ℕ, true, false, ◌+◌, ◌-◌, ◌<◌, ◌≤◌, List, [], ◌∷◌, ◌++◌, length, map, get_or, take, drop, Option, Some, None, refl, sym, ◌∙◌, ap, arith, length-append, append_assoc, All, is_some, option_to_list, map-append, length-map, take-map, get_or-map, drop_all, take-append_seam, get_or-append_seam, All-nil, All-cons, All-append, All-take, All-get_or, Answer, without_last, standing_from, standing, cut_to, Event, Language, variable_count, standing_on, Recorded, recorded_from, recorded, empty_back_from, empty_back, seen, all_seen, standing_numbers, IsCounted, HoldsAnswer, RecordsAreAnswers, IsEmptyBack}
 use Rattle.assign.specs.declared.events.Event.TheVariants as variant
-use Rattle.language.specs.Language.{Language, variable_count}
-use Rattle.language.specs.Answers.{standing_on}
-use Rattle.session_store.specs.Replay.{Recorded, recorded_from, recorded, empty_back_from, empty_back, seen, all_seen, standing_numbers, IsCounted}
-use Rattle.session_store.specs.Laws.{HoldsAnswer, RecordsAreAnswers, IsEmptyBack}
 use Rattle.session_store.proofs.Replaying.{drop_next}
 
 -- the parts of a record of an answer

@@ -1,26 +1,8 @@
 -- How a session is led through answers.
-use Rattle.std.proofs.Common.{◌≡◌, ℕ, suc, ◌+◌, ◌-◌, ◌<◌, ◌≤◌, Bool, true, false, cond, List, [], ◌∷◌, ◌++◌, length, get_or, take, drop, Option, Some, None, refl, sym, ◌∙◌, ap, subst, arith, length-append, length-take-le}
-use Rattle.std.proofs.lemmas.List.{drop_all, take_all, map-append, length-map}
-use Rattle.std.proofs.Math.Seq.{take-suc, drop-cons}
-use Rattle.assign.specs.Assignment.{Assignment}
-use Rattle.assign.specs.Events.{Answer, without_last, standing_from, standing}
-use Rattle.assign.specs.declared.events.Event.{Event}
+use Rattle.session_store.proofs.Prelude.{◌≡◌, ℕ, suc, ◌+◌, ◌-◌, ◌<◌, ◌≤◌, Bool, true, false, cond, List, [], ◌∷◌, ◌++◌, length, get_or, take, drop, Option, Some, None, refl, sym, ◌∙◌, ap, subst, arith, length-append, length-take-le, drop_all, take_all, map-append, length-map, take-suc, drop-cons, Assignment, Answer, without_last, standing_from, standing, Event, Plan, Language, variable_count, standing_on, IfSome, IfNone, false_from_ne_true, is_same_assignment, State, Idle, Halving, Choosing, Walking, Over, At, Stray, then_on, step, state_after, read_on, open_question, is_just, if_passes, replied, begun, is_lawful, questions_have_places, kept, Session, Stands, IsAskedIn, knowledge_of, open_in, IsSettled, Recorded, is_past, seen, all_seen, answer_to, step_of, replay_on, IsMoved, IsAt, MovesTo, StaysAt, MovesBy, HasNoPlace, IsReplayed}
 use Rattle.assign.specs.declared.events.Event.TheVariants as events
-use Rattle.assign.specs.declared.events.Plan.{Plan}
-use Rattle.language.specs.Language.{Language, variable_count}
-use Rattle.language.specs.Answers.{standing_on}
-use Rattle.std.specs.Prelude.{IfSome, IfNone}
-use Rattle.std.proofs.lemmas.Bool.{false_from_ne_true}
-use Rattle.assign.specs.Assignment.{is_same_assignment}
 use Rattle.session_laws.specs.Walk.{WalkEnd}
-use Rattle.session_laws.specs.Session.{State, Idle, Halving, Choosing, Walking, Over, At, Stray, then_on, step, state_after, read_on, open_question, is_just, if_passes, replied, begun, is_lawful}
 use Rattle.session_laws.proofs.Folds.{same_assignment, one_answer_more}
-use Rattle.session_laws.proofs.Places.{questions_have_places}
-use Rattle.language.specs.Answers.{kept}
-use Rattle.session_core.specs.declared.session.Session.{Session}
-use Rattle.session_core.specs.Standing.{Stands, IsAskedIn, knowledge_of, open_in}
-use Rattle.session_core.specs.Settled.{IsSettled}
-use Rattle.session_store.specs.Replay.{Recorded, is_past, seen, all_seen, answer_to, step_of, replay_on, IsMoved, IsAt, MovesTo, StaysAt, MovesBy, HasNoPlace, IsReplayed}
 
 -- ---- the answers that stand
 

@@ -1,20 +1,7 @@
 -- A question that is asked is one that a record can hold.
-use Rattle.std.proofs.Common.{◌≡◌, Bool, IsSome, refl, sym, subst, ℕ, zero, suc, ◌+◌, ◌-◌, ◌<◌, ◌≤◌, List, length, replicate, Option, Some, None, ◌∙◌, ap, arith, length-append}
-use Rattle.std.specs.Prelude.{All}
-use Rattle.std.specs.Option.{ForSome}
-use Rattle.std.proofs.lemmas.List.{length-replicate}
-use Rattle.std.proofs.lemmas.List.Elements.{All-nil, All-cons, All-append, All-weaker}
-use Rattle.assign.specs.Assignment.{Assignment, widened}
-use Rattle.assign.specs.Events.{Answer}
-use Rattle.assign.specs.declared.events.Plan.{Plan}
-use Rattle.language.specs.Language.{Language, IsLanguage, IsQuestion}
-use Rattle.session_core.specs.Standing.{IsAskedAfter}
-use Rattle.assign.specs.declared.events.Event.{Event}
+use Rattle.session_store.proofs.Prelude.{◌≡◌, Bool, IsSome, refl, sym, subst, ℕ, zero, suc, ◌+◌, ◌-◌, ◌<◌, ◌≤◌, List, length, replicate, Option, Some, None, ◌∙◌, ap, arith, length-append, All, ForSome, length-replicate, All-nil, All-cons, All-append, All-weaker, Assignment, widened, Answer, Plan, Language, IsLanguage, IsQuestion, IsAskedAfter, Event, IsWide, IsStorable, IsStorableEvent, answer_event}
 use Rattle.assign.specs.declared.events.Event.TheVariants as events
-use Rattle.session_store.specs.Held.{IsWide}
-use Rattle.answer_journal.specs.Storable.{IsStorable, IsStorableEvent}
 use Rattle.answer_journal.specs.Records.{HasPlace}
-use Rattle.session_store.specs.Kept.{answer_event}
 use Rattle.session_store.proofs.Asked.{asked_has, widened_has, value_counts}
 
 -- the values that a record can hold

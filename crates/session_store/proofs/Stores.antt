@@ -1,35 +1,10 @@
 -- A store beside its disk.
-use Rattle.std.proofs.Common.{◌≡◌, ◌<◌, ◌⊎◌, ℕ, length, List, [], ◌∷◌, ◌++◌, Option, Some, None, Result, Ok, Err, IfErr, IsTrue, refl, sym, ◌∙◌, ap, subst, inl, inr}
-use Rattle.std.specs.Option.{ForNone, ForSome}
-use Rattle.assign.specs.declared.events.Event.{Event}
-use Rattle.assign.specs.declared.events.Plan.{Plan}
-use Rattle.disk_model.specs.Disk.{Only}
-use Rattle.disk_model.specs.Moments.{IsOnDisk, LeavesBehind}
-use Rattle.disk_model.proofs.Behind.{none_done, behind_as, nothing_behind}
-use Rattle.answer_journal.specs.End.{End, IsInPlace, Sits, HasNew, IsOldOrNew, IsSame}
-use Rattle.answer_journal.specs.Making.{StartsWith, CreateRefused}
+use Rattle.session_store.proofs.Prelude.{◌≡◌, ◌<◌, ◌⊎◌, ℕ, length, List, [], ◌∷◌, ◌++◌, Option, Some, None, Result, Ok, Err, IfErr, IsTrue, refl, sym, ◌∙◌, ap, subst, inl, inr, ForNone, ForSome, Event, Plan, Only, IsOnDisk, LeavesBehind, none_done, behind_as, nothing_behind, End, IsInPlace, Sits, HasNew, IsOldOrNew, IsSame, StartsWith, CreateRefused, JFault, Language, Session, Stray, IsVocabulary, refusal_of_vocabulary, VocFault, of_journal, ◌≤◌, All, true, IsErr, IsErrAnd, IsErrOf, IsFalse, OnOk, on_ok_weaker, DiskOf, lang_in, plan_in, StandsIn, events_held, IsHeld, IsWide, NoLanguage, NotLed, NotMade, NotOpened, replay, HavePlaces, NamesStray, SFault, SaysSession, OpensWith, OpensWithOrWithout, IsNotKept, LeavesEvent, calls_for, IsThere, SitsOn, plan_of, voc_of, events_of, opens_there}
 use Rattle.answer_journal.specs.Found.{Refused}
-use Rattle.answer_journal.specs.declared.fault.JFault.{JFault}
 use Rattle.answer_journal.specs.declared.fault.JFault.TheVariants as journal
-use Rattle.language.specs.Language.{Language}
-use Rattle.session_core.specs.declared.session.Session.{Session}
-use Rattle.session_laws.specs.Session.{Stray}
-use Rattle.voc_read.specs.Vocabulary.{IsVocabulary, refusal_of_vocabulary}
-use Rattle.voc_read.specs.declared.fault.VocFault.{VocFault}
-use Rattle.session_store.specs.Faults.{of_journal}
-use Rattle.std.specs.Prelude.{◌≤◌, All, Bool, true, IsErr, IsErrAnd, IsErrOf, IsFalse, OnOk}
-use Rattle.std.proofs.lemmas.Result.{on_ok_weaker}
-use Rattle.disk_model.specs.declared.disk.Disk.{Ghosts as DiskOf}
-use Rattle.session_store.specs.Held.{lang_in, plan_in, StandsIn, events_held, IsHeld, IsWide}
-use Rattle.session_store.specs.Opening.{NoLanguage, NotLed, NotMade, NotOpened}
-use Rattle.session_store.specs.Replay.{replay, HavePlaces, NamesStray}
-use Rattle.session_store.specs.declared.fault.SFault.{SFault}
 use Rattle.session_store.specs.declared.fault.SFault.TheVariants as store
 use Rattle.session_store.specs.declared.held.Held.{Held}
 use Rattle.session_store.proofs.Replaying.{both_same}
-use Rattle.session_store.specs.Left.{SaysSession, OpensWith, OpensWithOrWithout}
-use Rattle.session_store.specs.Keeping.{IsNotKept, LeavesEvent, calls_for}
-use Rattle.session_store.specs.Store.{IsThere, SitsOn, plan_of, voc_of, events_of, opens_there}
 use Rattle.session_store.specs.declared.store.Store.{Store}
 
 -- where a call went well, what follows of that

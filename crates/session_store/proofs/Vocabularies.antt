@@ -1,7 +1,5 @@
 -- What a vocabulary is that isn't refused.
-use Rattle.std.proofs.Common.{◌≡◌, ℕ, ◌≤◌, List, length, None, ⊎_elim}
-use Rattle.std.proofs.lemmas.Bool.{cases_lt, lt-ltb}
-use Rattle.voc_read.specs.Vocabulary.{parts_of, refusal_of_vocabulary}
+use Rattle.session_store.proofs.Prelude.{◌≡◌, ℕ, ◌≤◌, List, length, None, ⊎_elim, cases_lt, lt-ltb, parts_of, refusal_of_vocabulary}
 
 pub taken_is_short : (voc : List ℕ) → refusal_of_vocabulary voc ≡ None → length voc ≤ 4194304
 unfolding refusal_of_vocabulary parts_of

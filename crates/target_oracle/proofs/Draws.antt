@@ -1,29 +1,14 @@
 -- Draws, hidden values, and what follows of them.
-use Rattle.std.proofs.Common.{◌≡◌, ◌≢◌, ℕ, zero, suc, ◌+◌, ◌/◌, ◌%◌, ◌^◌, ◌<◌, ◌≤◌, ◌++◌, ◌==◌, ◌&&◌, ◌||◌, Bool, true, false, not, cond, List, [], ◌∷◌, length, map, get_or, Option, Some, None, refl, sym, ◌∙◌, ap, subst, arith, inl, inr, ◌⊎◌}
-use Rattle.std.specs.Prelude.{All, AllPairs, slice_set, pos, replicate, String, string_bytes}
+use Rattle.target_oracle.proofs.Prelude.{◌≡◌, ◌≢◌, ℕ, zero, suc, ◌+◌, ◌/◌, ◌%◌, ◌^◌, ◌<◌, ◌≤◌, ◌++◌, ◌==◌, ◌&&◌, ◌||◌, Bool, true, false, not, cond, List, [], ◌∷◌, length, map, get_or, Option, Some, None, refl, sym, ◌∙◌, ap, subst, arith, inl, inr, ◌⊎◌, All, AllPairs, slice_set, pos, replicate, String, string_bytes, map-append, same_Some, list_all, filter, ForSome, option_map_or, get_or-eq_default, ext_get_or, get_or-set_same, get_or-set_other, get_or-replicate, length-map, All-head, All-tail, All-weaker, has_scope, numbers, Candidate, is_in, range_in, whole_range, Language, Given, AreNames, IsQuestion, accepts, violates, scope_of, relations_on, Frame, build_refusal, pair_after, after, state_at, draw, names, name_of, given, frame, hidden, drawn_on, target_of, IsGenerated}
 use Rattle.std.specs.declared.alloc.Global.{Global}
-use Rattle.std.proofs.lemmas.List.{map-append}
-use Rattle.std.proofs.lemmas.Option.{same_Some}
 use Rattle.language.specs.declared.parts.LangFault.{LangFault}
-use Rattle.std.specs.List.{list_all, filter}
-use Rattle.std.specs.Option.{ForSome, option_map_or}
 use Rattle.std.specs.Fmt.{decimal, digits}
 use Rattle.std.proofs.lemmas.Fmt.{decimal_injective}
-use Rattle.std.proofs.Math.ListN.{get_or-eq_default}
 use Rattle.std.proofs.lemmas.Bool.{and_from, ne_eqb, cases_eq, le-leb}
-use Rattle.std.proofs.lemmas.List.{ext_get_or, get_or-set_same, get_or-set_other, get_or-replicate, length-map}
-use Rattle.std.proofs.lemmas.List.Elements.{All-head, All-tail, All-weaker}
-use Rattle.language.specs.Answers.{has_scope}
 use Rattle.rel_table.specs.Relation.{holds, place}
 use Rattle.std.proofs.lemmas.List.FromFn.{length-map-range_with_len, get_or-map-range_with_len, map-range_with_len_more, filter_of_map_range_with_len_more}
-use Rattle.assign.specs.Sets.{numbers}
 use Rattle.assign.specs.Assignment.{Assignment, covers, tuple_on}
-use Rattle.language.specs.declared.candidates.Candidate.{Candidate}
-use Rattle.language.specs.Ranges.{is_in, range_in, whole_range}
-use Rattle.language.specs.Language.{Language, Given, AreNames, IsQuestion, accepts, violates, scope_of, relations_on}
-use Rattle.language.specs.Building.{Frame, build_refusal, pair_after}
 use Rattle.language.specs.Search.{satisfies}
-use Rattle.target_oracle.specs.Generator.{after, state_at, draw, names, name_of, given, frame, hidden, drawn_on, target_of, IsGenerated}
 
 -- ---- the names
 

@@ -1,7 +1,5 @@
 -- Fronts of a text that are added.
-use Rattle.std.proofs.Common.{◌≡◌, ◌∙◌, ℕ, List, [], ◌++◌, Option, ap, sym, subst, refl, append_assoc, append-nil}
-use Rattle.acq_io.specs.Streams.{Adds, AddsFront}
-use Rattle.acq_io.proofs.TakenLemmas.{adds_none, adds_then}
+use Rattle.target_oracle.proofs.Prelude.{◌≡◌, ◌∙◌, ℕ, List, [], ◌++◌, Option, ap, sym, subst, refl, append_assoc, append-nil, Adds, AddsFront, adds_none, adds_then}
 
 -- nothing of it
 pub front_none : (old new : Option (List ℕ)) (text : List ℕ) → new ≡ old → AddsFront old new text

@@ -1,18 +1,10 @@
 -- What was heard of lines, and what was written meanwhile.
-use Rattle.std.proofs.Common.{◌≡◌, ℕ, zero, suc, ◌+◌, List, [], ◌++◌, true, false, ap, sym, subst, ◌∙◌, refl, arith, append_assoc, Option, Some, None}
-use Rattle.std.specs.Prelude.{IfSome}
-use Rattle.std.specs.Option.{option_map}
-use Rattle.acq_io.specs.Streams.{Adds, AddsFront}
-use Rattle.acq_io.proofs.TakenLemmas.{adds_none, adds_then}
+use Rattle.target_oracle.proofs.Prelude.{◌≡◌, ℕ, zero, suc, ◌+◌, List, [], ◌++◌, true, false, ap, sym, subst, ◌∙◌, refl, arith, append_assoc, Option, Some, None, IfSome, option_map, Adds, AddsFront, adds_none, adds_then, Spoken, spoken, spoken_in, line_reply, no_answer_text, replied, hear_line, hear, told_of, Speaks, Hears, HearsLine, CutsOff, Passes, TellsOf, PassedBy, Told, Yes, No, Back, Stop, End, TooLong, Unreadable, ReadFault, WriteFault, Memory}
 use Rattle.acq_io.specs.Lines.{Lined, lined, line_of}
 use Rattle.acq_io.specs.declared.lines.LineGot.{LineGot}
 use Rattle.target_oracle.specs.Turns.{Turned, turned_after, Reply, Said, TakenBack, Stopped, Ended, Overlong, Unread}
-use Rattle.target_oracle.specs.Lines.{Spoken, spoken, spoken_in, line_reply, no_answer_text, replied, hear_line, hear}
-use Rattle.target_oracle.specs.Hearing.{told_of, Speaks, Hears, HearsLine, CutsOff, Passes, TellsOf, PassedBy}
 use Rattle.target_oracle.specs.Tells.{Turn, Tells}
 use Rattle.target_oracle.proofs.Fronts.{front_longer, front_none, front_then}
-use Rattle.target_oracle.specs.declared.teacher.Told.{Told}
-use Rattle.target_oracle.specs.declared.teacher.Told.TheVariants.{Yes, No, Back, Stop, End, TooLong, Unreadable, ReadFault, WriteFault, Memory}
 
 some_text : (x y : List ℕ) → x ≡ y → (let a : Option (List ℕ) = Some x in a) ≡ Some y
 some_text x y e = ap (λ (t : List ℕ). let a : Option (List ℕ) = Some t in a) e

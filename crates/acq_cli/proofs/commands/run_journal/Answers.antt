@@ -1,11 +1,6 @@
-use Rattle.std.proofs.Common.{refl, ap, inl, inr, Result, Err}
-use Rattle.session_store.proofs.Keepers.{rose_later}
-use Rattle.session_store.specs.Store.{lang_of, plan_of, voc_of, events_of, question_of}
-use Rattle.session_store.specs.declared.fault.SFault.{SFault}
+use Rattle.acq_cli.proofs.Prelude.{refl, ap, inl, inr, Result, Err, rose_later, voc_of, question_of, SFault, line_turn, any_answer, goes_on}
+use Rattle.session_store.specs.Store.{lang_of, plan_of, events_of}
 use Rattle.session_store.specs.declared.store.Store.{Store}
-use Rattle.target_oracle.specs.Lines.{line_turn}
-use Rattle.acq_said.specs.Running.{any_answer}
-use Rattle.acq_said.proofs.Journals.{goes_on}
 use Rattle.acq_cli.proofs.commands.run_journal.Goals as goal
 
 abbrev not_opened : SFault → Result Store SFault

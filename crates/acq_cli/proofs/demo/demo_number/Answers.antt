@@ -1,21 +1,8 @@
-use Rattle.std.proofs.Common.{◌≡◌, ◌∙◌, ℕ, List, Option, IsTrue, length, subst, sym}
-use Rattle.std.specs.Prelude.{Err}
+use Rattle.acq_cli.proofs.Prelude.{◌≡◌, ◌∙◌, ℕ, List, Option, IsTrue, length, subst, sym, Err, Plan, Quacq, Candidate, Language, IsNetwork, agrees, standing_on, both_as, lang_of, plan_of, events_of, target_of, HasDriven, demo_text, terms_with, learned_after, ends_part}
 use Rattle.std.proofs.lemmas.Result.{err_from_is_err_and}
 use Rattle.acq_io.specs.declared.streams.Put.TheVariants as put
-use Rattle.assign.specs.declared.events.Plan.{Plan}
-use Rattle.assign.specs.declared.events.Plan.TheVariants.{Quacq}
-use Rattle.language.specs.declared.candidates.Candidate.{Candidate}
-use Rattle.language.specs.Language.{Language}
-use Rattle.language.specs.Answers.{IsNetwork, agrees, standing_on}
-use Rattle.session_store.proofs.Keepers.{both_as}
-use Rattle.session_store.specs.Loose.{lang_of, plan_of, events_of}
-use Rattle.target_oracle.specs.Generator.{target_of}
-use Rattle.acq_cli.specs.Demoing.{HasDriven, demo_text}
 use Rattle.acq_loop.specs.declared.ending.Ending.TheVariants as ending
-use Rattle.acq_loop.specs.Points.{terms_with}
-use Rattle.acq_loop.specs.Texts.{learned_after}
 use Rattle.acq_cli.proofs.Demoing.{demo_done, demo_stopped, front_of_first, front_of_line, line_put, sums_up}
-use Rattle.acq_said.proofs.Parts.{ends_part}
 use Rattle.acq_cli.proofs.demo.demo_number.Goals as goal
 
 pub drive_quietly-drove-requires-clause-target : goal.drive_quietly-drove-requires-clause-target

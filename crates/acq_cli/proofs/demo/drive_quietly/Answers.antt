@@ -1,13 +1,4 @@
-use Rattle.std.proofs.Common.{◌∙◌, ℕ, List, Option, Some, ap, subst, arith}
-use Rattle.language.specs.declared.candidates.Candidate.{Candidate}
-use Rattle.language.specs.Language.{Language, IsLanguage}
-use Rattle.language.specs.Answers.{standing_on}
-use Rattle.session_store.specs.Left.{false_is_not_true}
-use Rattle.session_store.specs.Loose.{lang_of, plan_of, events_of}
-use Rattle.target_oracle.specs.NetTurns.{net_may_say}
-use Rattle.acq_loop.specs.Added.{IsAdded, MayEnd}
-use Rattle.acq_loop.specs.Closings.{ending_of}
-use Rattle.acq_loop.specs.Points.{terms_with}
+use Rattle.acq_cli.proofs.Prelude.{◌∙◌, ℕ, List, Option, Some, ap, subst, arith, Candidate, Language, IsLanguage, standing_on, false_is_not_true, lang_of, plan_of, events_of, net_may_say, IsAdded, MayEnd, ending_of, terms_with}
 use Rattle.acq_cli.proofs.Demoing.{driven_by, driven_from, not_collapsed}
 use Rattle.acq_cli.proofs.Targets.{agreeing_added, not_filled}
 use Rattle.acq_cli.proofs.demo.drive_quietly.Goals as goal

@@ -1,7 +1,5 @@
-use Rattle.std.proofs.Common.{◌∙◌, ◌∷◌, [], ◌++◌, ap, List, ℕ}
-use Rattle.std.specs.Prelude.{codes}
+use Rattle.acq_cli.proofs.Prelude.{◌∙◌, ◌∷◌, [], ◌++◌, ap, List, ℕ, codes, saying}
 use Rattle.std.specs.Fmt.{decimal}
-use Rattle.acq_said.specs.Saying.{saying}
 use Rattle.acq_loop.specs.declared.ending.Ending.TheVariants as ending
 use Rattle.acq_cli.proofs.demo.made.Goals as goal
 

@@ -1,28 +1,12 @@
-use Rattle.std.proofs.Common.{◌≡◌, Bool, false, List, [], refl, sym, subst, arith, inl, inr, ◌∙◌, ap, Result, Err}
-use Rattle.std.specs.Prelude.{IfOk, OnErr}
-use Rattle.assign.specs.declared.events.Event.{Event}
-use Rattle.assign.specs.declared.events.Plan.{Plan}
-use Rattle.language.specs.Language.{Language}
-use Rattle.language.specs.declared.candidates.Candidate.{Candidate}
-use Rattle.language.specs.Answers.{standing_on}
+use Rattle.acq_cli.proofs.Prelude.{◌≡◌, Bool, false, List, [], refl, sym, subst, arith, inl, inr, ◌∙◌, ap, Result, Err, IfOk, OnErr, Event, Plan, Language, Candidate, standing_on, voc_of, question_of, net_turn, net_may_say, Loses, Tries, IsAnsweredBy, MayLack, ReadsTarget, SaysWithout, stale_said, point_of, terms_with, goes_on_with, opened_now, IsDisk, said_as, silent_not, NoTarget, called_as, takes_then}
 use Rattle.session_store.specs.Keeping.{FailsWith}
-use Rattle.session_store.specs.Store.{lang_of, plan_of, voc_of, events_of, question_of}
-use Rattle.target_oracle.specs.NetTurns.{net_turn, net_may_say}
+use Rattle.session_store.specs.Store.{lang_of, plan_of, events_of}
 use Rattle.acq_said.specs.Breaks.{BreaksRun}
-use Rattle.acq_loop.specs.Driven.{Loses}
-use Rattle.acq_said.specs.Endings.{Tries}
-use Rattle.acq_cli.specs.Playing.{IsAnsweredBy, MayLack, ReadsTarget, SaysWithout, stale_said}
-use Rattle.acq_loop.specs.Points.{point_of, terms_with}
-use Rattle.acq_said.proofs.Journals.{goes_on_with, opened_now, IsDisk}
 use Rattle.acq_cli.proofs.Targets.{answered, none_at_all}
 use Rattle.acq_cli.proofs.Causes.{called_unless, ends_read}
-use Rattle.acq_said.proofs.Spoken.{said_as, silent_not}
-use Rattle.acq_cli.specs.declared.playing.NoTarget.{NoTarget}
 use Rattle.acq_cli.specs.declared.playing.NoTarget.TheVariants as without
 use Rattle.acq_said.specs.declared.said.Unsaid.TheVariants as unsaid
-use Rattle.acq_io.proofs.CallLemmas.{called_as}
 use Rattle.network.specs.Learned.{Learned}
-use Rattle.acq_loop.proofs.Taking.{takes_then}
 use Rattle.acq_cli.proofs.playing.play_journal.Goals as goal
 
 abbrev untaken : NoTarget → Result Learned NoTarget

@@ -1,8 +1,5 @@
-use Rattle.std.proofs.Common.{◌≡◌, refl, sym, subst}
-use Rattle.acq_cli.specs.Playing.{SaysWithout, target_refused}
-use Rattle.acq_cli.specs.declared.playing.NoTarget.{NoTarget}
+use Rattle.acq_cli.proofs.Prelude.{refl, sym, subst, SaysWithout, target_refused, NoTarget, said_as, silent_not}
 use Rattle.acq_said.specs.declared.said.Unsaid.TheVariants as unsaid
-use Rattle.acq_said.proofs.Spoken.{said_as, silent_not}
 use Rattle.acq_cli.proofs.playing.untargeted.Goals as goal
 
 pub returns-in-Refused-clause-says : goal.returns-in-Refused-clause-says

@@ -1,6 +1,4 @@
-use Rattle.std.proofs.Common.{sym, subst}
-use Rattle.acq_words.specs.declared.request.Command.{Command}
-use Rattle.acq_cli.specs.Doing.{Spoke}
+use Rattle.acq_cli.proofs.Prelude.{sym, subst, Command, Spoke}
 use Rattle.acq_cli.proofs.saying.speak.Goals as goal
 
 pub returns-in-Show-clause-spoke : goal.returns-in-Show-clause-spoke

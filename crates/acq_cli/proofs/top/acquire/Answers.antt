@@ -1,15 +1,7 @@
-use Rattle.std.proofs.Common.{◌≡◌, map, refl, ap, subst, inl, inr, Result}
-use Rattle.std.specs.String.{string_bytes}
-use Rattle.acq_io.specs.declared.streams.Put.{Put}
+use Rattle.acq_cli.proofs.Prelude.{◌≡◌, map, refl, ap, subst, inl, inr, Result, string_bytes, Put, Command, UsageFault, Does, command_asked, Ending, failed, okay}
 use Rattle.acq_io.specs.declared.streams.Put.TheVariants as put
-use Rattle.acq_words.specs.declared.request.Command.{Command}
-use Rattle.acq_words.specs.declared.request.UsageFault.{UsageFault}
-use Rattle.acq_cli.specs.Doing.{Does}
-use Rattle.acq_cli.specs.Words.{command_asked}
-use Rattle.acq_loop.specs.declared.ending.Ending.{Ending}
 use Rattle.acq_loop.specs.declared.ending.Ending.TheVariants as ending
 use Rattle.acq_cli.proofs.Asked.{usage_is}
-use Rattle.acq_said.proofs.Closings.{failed, okay}
 use Rattle.acq_cli.proofs.Completing.{completes, memory_completes}
 use Rattle.acq_cli.proofs.Headline.{finds_network, finds_none}
 use Rattle.acq_cli.proofs.Targets.{ends_exactly, broken_exactly}

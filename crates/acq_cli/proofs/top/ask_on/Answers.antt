@@ -1,23 +1,9 @@
-use Rattle.std.proofs.Common.{◌≡◌, ◌∙◌, List, Result, Ok, Err, sym, subst, refl}
-use Rattle.acq_io.specs.declared.streams.Put.{Put}
+use Rattle.acq_cli.proofs.Prelude.{◌≡◌, ◌∙◌, Result, Ok, Err, sym, subst, refl, Put, Language, IsLanguage, standing_on, knowledge_of, keeps_still, keeps_as, terms_with, Ending, called_as, okay, begun_part, at_turn, said_of}
 use Rattle.acq_io.specs.declared.streams.Put.TheVariants as puts
-use Rattle.assign.specs.declared.events.Event.{Event}
-use Rattle.language.specs.Language.{Language, IsLanguage}
-use Rattle.language.specs.Answers.{standing_on}
 use Rattle.query_gen.specs.Marks.{IsMadeFor}
-use Rattle.session_core.specs.Standing.{Stands, knowledge_of}
-use Rattle.session_store.proofs.Keepers.{keeps_still, keeps_as}
-use Rattle.acq_loop.specs.Driven.{Loses}
-use Rattle.acq_loop.specs.Points.{point_of, terms_with}
 use Rattle.acq_loop.specs.declared.driving.Drove.TheVariants as drove
-use Rattle.acq_loop.specs.declared.ending.Ending.{Ending}
 use Rattle.acq_loop.specs.declared.ending.Ending.TheVariants as ending
-use Rattle.acq_io.proofs.CallLemmas.{called_as}
 use Rattle.acq_loop.proofs.Added.{taught_none}
-use Rattle.acq_said.proofs.Closings.{okay}
-use Rattle.acq_said.proofs.Parts.{begun_part}
-use Rattle.acq_loop.proofs.Standings.{at_turn}
-use Rattle.acq_said.proofs.Tries.{said_of}
 use Rattle.acq_cli.proofs.top.ask_on.Goals as goal
 
 pub returns-clause-asked : goal.returns-clause-asked

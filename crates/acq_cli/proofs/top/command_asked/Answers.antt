@@ -1,5 +1,4 @@
-use Rattle.std.proofs.Common.{map}
-use Rattle.std.specs.String.{string_bytes}
+use Rattle.acq_cli.proofs.Prelude.{map, string_bytes}
 use Rattle.acq_cli.proofs.Asked.{is_asked, is_refused}
 use Rattle.acq_cli.proofs.top.command_asked.Goals as goal
 

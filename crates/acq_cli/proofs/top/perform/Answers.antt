@@ -1,11 +1,4 @@
-use Rattle.std.proofs.Common.{◌∙◌, Result, Ok, ap, map, subst, sym}
-use Rattle.std.specs.String.{string_bytes}
-use Rattle.acq_words.specs.declared.request.Command.{Command}
-use Rattle.acq_words.specs.declared.request.UsageFault.{UsageFault}
-use Rattle.acq_cli.specs.Doing.{Does}
-use Rattle.acq_loop.specs.Points.{terms_with}
-use Rattle.acq_cli.specs.Words.{Spares, command_asked}
-use Rattle.acq_said.proofs.Parts.{acquires_as}
+use Rattle.acq_cli.proofs.Prelude.{◌∙◌, Result, Ok, ap, map, subst, sym, string_bytes, Command, UsageFault, Does, terms_with, Spares, command_asked, acquires_as}
 use Rattle.acq_cli.proofs.Asked.{does_nothing, does_speak}
 use Rattle.acq_cli.proofs.Causes.{called_put, ok_causes}
 use Rattle.acq_cli.proofs.top.perform.Goals as goal

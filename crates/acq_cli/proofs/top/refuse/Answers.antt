@@ -1,7 +1,4 @@
-use Rattle.std.proofs.Common.{refl}
-use Rattle.acq_said.specs.Making.{voc_refused}
-use Rattle.acq_said.proofs.Parts.{ends_ok, ends_part}
-use Rattle.acq_said.proofs.Spoken.{ends_as, said_as}
+use Rattle.acq_cli.proofs.Prelude.{refl, voc_refused, ends_ok, ends_part, ends_as, said_as}
 use Rattle.acq_cli.proofs.top.refuse.Goals as goal
 
 pub returns-clause-ok : goal.returns-clause-ok

@@ -1,8 +1,5 @@
-use Rattle.std.proofs.Common.{refl}
-use Rattle.acq_said.specs.Saying.{saying}
-use Rattle.acq_loop.specs.Texts.{usage_text}
+use Rattle.acq_cli.proofs.Prelude.{refl, saying, usage_text, ends_as, said_as}
 use Rattle.acq_loop.specs.declared.ending.Ending.TheVariants as ending
-use Rattle.acq_said.proofs.Spoken.{ends_as, said_as}
 use Rattle.acq_cli.proofs.top.refuse_words.Goals as goal
 
 pub returns-clause-tells : goal.returns-clause-tells

@@ -1,5 +1,4 @@
-use Rattle.session_core.specs.Standing.{knowledge_of}
-use Rattle.acq_loop.specs.Points.{terms_with}
+use Rattle.acq_cli.proofs.Prelude.{knowledge_of, terms_with}
 use Rattle.acq_said.proofs.Sayings.{part_so, says_so}
 use Rattle.acq_cli.proofs.top.say.Goals as goal
 

@@ -1,9 +1,5 @@
-use Rattle.std.proofs.Common.{rules, List, ℕ, Some, Result, refl, ap, sym, subst, ◌≡◌, ◌∙◌, Ok, Err, Vec, Global}
-use Rattle.acq_io.specs.declared.whole.AllFault.{AllFault}
+use Rattle.acq_cli.proofs.Prelude.{rules, List, ℕ, Some, Result, refl, ap, sym, subst, ◌≡◌, ◌∙◌, Ok, Err, Vec, Global, AllFault, IsVocabulary, refusal_of_vocabulary, acquires_in, breaks_in, breaks_refused, takes_then}
 use Rattle.acq_io.specs.declared.whole.AllFault.TheVariants.{TooLong}
-use Rattle.voc_read.specs.Vocabulary.{IsVocabulary, refusal_of_vocabulary}
-use Rattle.acq_said.proofs.Parts.{acquires_in, breaks_in, breaks_refused}
-use Rattle.acq_loop.proofs.Taking.{takes_then}
 use Rattle.acq_cli.proofs.top.try_input.Goals as goal
 
 abbrev fault_of : AllFault → Result (Vec ℕ Global) AllFault

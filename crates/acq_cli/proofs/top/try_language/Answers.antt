@@ -1,10 +1,5 @@
-use Rattle.session_store.specs.Loose.{lang_of, plan_of, events_of}
-use Rattle.std.proofs.Common.{[]}
-use Rattle.target_oracle.specs.Lines.{line_turn}
-use Rattle.session_store.specs.Left.{false_is_not_true}
+use Rattle.acq_cli.proofs.Prelude.{lang_of, plan_of, events_of, [], line_turn, false_is_not_true, begun, begun_part, fresh_tries, fresh_part}
 use Rattle.acq_cli.proofs.Causes.{no_disk_fault}
-use Rattle.acq_said.proofs.Parts.{begun, begun_part}
-use Rattle.acq_said.proofs.Tries.{fresh_tries, fresh_part}
 use Rattle.acq_cli.proofs.top.try_language.Goals as goal
 
 pub returns-in_default-clause-part : goal.returns-in_default-clause-part

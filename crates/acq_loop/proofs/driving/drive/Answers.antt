@@ -1,34 +1,11 @@
-use Rattle.std.proofs.Common.{ℕ, ◌∷◌, [], length-append, Option, Some, None, ◌≡◌, ◌∙◌, ◌+◌, List, length, ap, sym, subst, arith, refl}
-use Rattle.std.specs.Prelude.{IfSome}
-use Rattle.assign.specs.declared.events.Event.{Event}
-use Rattle.assign.specs.declared.events.Plan.{Plan}
-use Rattle.language.specs.Language.{Language, IsLanguage}
-use Rattle.language.specs.Answers.{standing_on}
-use Rattle.query_gen.specs.Marks.{IsMadeFor}
-use Rattle.par_screen.specs.Eighths.{AreMadeFor}
-use Rattle.session_laws.specs.Laws.{network_in}
-use Rattle.session_core.specs.Settled.{IsSettled}
-use Rattle.target_oracle.specs.Turns.{Turns}
-use Rattle.acq_loop.specs.Closings.{closing_of, ending_of}
-use Rattle.acq_loop.specs.Driven.{Point, Drives, Loses, Remembers, StepsTo}
-use Rattle.acq_loop.specs.Due.{IsOneMore}
-use Rattle.acq_loop.specs.Loop.{TellsCandidates}
-use Rattle.acq_loop.specs.declared.driving.Drove.{Drove}
+use Rattle.acq_loop.proofs.Prelude.{ℕ, ◌∷◌, [], length-append, Option, Some, None, ◌≡◌, ◌∙◌, ◌+◌, List, length, ap, sym, subst, arith, refl, IfSome, Event, Plan, Language, IsLanguage, standing_on, IsMadeFor, AreMadeFor, network_in, IsSettled, Turns, closing_of, ending_of, Point, Drives, Loses, Remembers, StepsTo, IsOneMore, TellsCandidates, Drove, keeps_still, keeps_then, keeps_as, rose_later, point_of, terms_with, no_marks_hold, called_none, called_on, called_as, IsAdded, MayEnd, DiskOf, KeepOf, Between, IsTurn, between}
 use Rattle.acq_loop.specs.declared.driving.Drove.TheVariants as drove
-use Rattle.session_store.proofs.Keepers.{keeps_still, keeps_then, keeps_as, rose_later}
-use Rattle.acq_loop.specs.Points.{point_of, terms_with}
-use Rattle.query_gen.proofs.Marking.{no_marks_hold}
 use Rattle.acq_loop.proofs.Standings.{carried}
-use Rattle.acq_io.proofs.CallLemmas.{called_none, called_on, called_as}
 use Rattle.acq_loop.proofs.Taking.{takes_same, takes_then}
-use Rattle.acq_loop.specs.Added.{IsAdded, MayEnd}
 use Rattle.acq_loop.proofs.Added.{added_none, added_then, added_more, ends_more}
 use Rattle.acq_loop.proofs.Owners.{owned}
 use Rattle.acq_loop.proofs.Walked.{leaves_nothing}
 use Rattle.acq_loop.proofs.Turning.{steps_on, steps_end, steps_loses, steps_none}
-use Rattle.disk_model.specs.declared.disk.Disk.{Ghosts as DiskOf}
-use Rattle.session_store.specs.declared.keep.Keep.{Ghosts as KeepOf}
-use Rattle.acq_loop.specs.Turn.{Between, IsTurn, between}
 use Rattle.acq_loop.proofs.driving.drive.Goals as goal
 
 more_by_one : (old new : List Event) → IsOneMore old new → length new ≡ length old + 1

@@ -1,18 +1,4 @@
-use Rattle.std.proofs.Common.{◌≡◌, ◌≤◌, length}
-use Rattle.std.specs.Prelude.{IsFalse}
-use Rattle.acq_io.specs.Streams.{HasCalled, TakesSome}
-use Rattle.assign.specs.Assignment.{Assignment}
-use Rattle.language.specs.Language.{Language}
-use Rattle.language.specs.Answers.{standing_on}
-use Rattle.target_oracle.specs.declared.teacher.Told.{Told}
-use Rattle.query_gen.specs.Marks.{IsMadeFor}
-use Rattle.par_screen.specs.Eighths.{AreMadeFor}
-use Rattle.session_core.specs.Settled.{IsSettled}
-use Rattle.session_store.specs.Keeps.{Keeps}
-use Rattle.acq_loop.specs.Added.{IsAdded}
-use Rattle.acq_loop.specs.Driven.{Remembers, StepsTo}
-use Rattle.acq_loop.specs.Points.{point_of, terms_with}
-use Rattle.acq_loop.specs.Turn.{ByTurns, between}
+use Rattle.acq_loop.proofs.Prelude.{◌≡◌, ◌≤◌, length, IsFalse, HasCalled, TakesSome, Assignment, Language, standing_on, Told, IsMadeFor, AreMadeFor, IsSettled, Keeps, IsAdded, Remembers, StepsTo, point_of, terms_with, ByTurns, between}
 use Rattle.acq_loop.proofs.driving.drive.Given as goal
 
 abbrev pub invariant-loop-turn : goal.invariant-loop-turn

@@ -1,8 +1,4 @@
-use Rattle.std.proofs.Common.{ℕ, ◌≡◌, ◌∙◌, ap, sym, subst, refl, arith, Some}
-use Rattle.assign.specs.Assignment.{Assignment}
-use Rattle.language.specs.Language.{Language}
-use Rattle.session_core.specs.Standing.{knowledge_of, open_in}
-use Rattle.acq_loop.specs.Heard.{Hears}
+use Rattle.acq_loop.proofs.Prelude.{ℕ, ◌≡◌, ◌∙◌, ap, sym, subst, refl, arith, Some, Assignment, Language, knowledge_of, open_in, Hears}
 use Rattle.acq_loop.proofs.Standings.{at_turn, next_fits}
 use Rattle.acq_loop.proofs.driving.hear.Goals as goal
 

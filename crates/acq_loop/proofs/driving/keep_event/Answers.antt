@@ -1,17 +1,7 @@
-use Rattle.std.proofs.Common.{◌≡◌, ◌∙◌, is_some, true, ap, sym, subst, refl, List, Option, Some, None, inl, inr, arith}
+use Rattle.acq_loop.proofs.Prelude.{◌≡◌, ◌∙◌, is_some, true, ap, sym, subst, refl, List, Option, Some, None, inl, inr, Assignment, Event, Keeps, answer_event, both_as, event_calls, event_goes_on, event_left, event_now, kept_failed, kept_faults, kept_memory, answer, EventKept, MayKeep, event_on, end_of, Drove, Entry}
 use Rattle.std.proofs.lemmas.Result.{on_ok_weaker, on_err_weaker}
-use Rattle.assign.specs.Assignment.{Assignment}
-use Rattle.assign.specs.declared.events.Event.{Event}
 use Rattle.assign.specs.declared.events.Event.TheVariants as event
-use Rattle.session_store.specs.Keeps.{Keeps}
-use Rattle.session_store.specs.Kept.{answer_event}
-use Rattle.session_store.proofs.Keepers.{both_as, event_calls, event_goes_on, event_left, event_now, kept_failed, kept_faults, kept_memory}
-use Rattle.acq_loop.specs.Run.{answer}
-use Rattle.acq_loop.specs.Due.{EventKept}
-use Rattle.acq_loop.specs.Heard.{MayKeep, event_on, end_of}
-use Rattle.acq_loop.specs.declared.driving.Drove.{Drove}
 use Rattle.acq_loop.specs.declared.driving.Drove.TheVariants as drove
-use Rattle.acq_loop.specs.declared.driving.Entry.{Entry}
 use Rattle.acq_loop.specs.declared.driving.Entry.TheVariants as entry
 use Rattle.acq_loop.proofs.Entries.{Answered, event_kept, settled_on, keeps_event}
 use Rattle.acq_loop.proofs.driving.keep_event.Goals as goal

@@ -1,6 +1,4 @@
-use Rattle.std.proofs.Common.{◌∙◌, refl}
-use Rattle.acq_loop.specs.Points.{terms_with}
-use Rattle.acq_loop.specs.Run.{Converged, Collapsed, Undecided}
+use Rattle.acq_loop.proofs.Prelude.{◌∙◌, refl, terms_with, Converged, Collapsed, Undecided}
 use Rattle.acq_loop.specs.declared.driving.Drove.TheVariants as drove
 use Rattle.acq_loop.proofs.Answered.{ends_here}
 use Rattle.acq_loop.proofs.driving.put_next.Goals as goal

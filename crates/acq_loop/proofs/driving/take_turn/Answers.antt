@@ -1,24 +1,5 @@
-use Rattle.std.proofs.Common.{◌≡◌, ◌∙◌, ◌+◌, ◌<◌, ℕ, true, false, arith, List, length, is_some, ap, sym, subst, refl, Option, Some, None}
-use Rattle.acq_io.proofs.CallLemmas.{called_as, called_not}
-use Rattle.assign.specs.Assignment.{Assignment}
-use Rattle.assign.specs.declared.events.Event.{Event}
-use Rattle.assign.specs.declared.events.Plan.{Plan}
-use Rattle.language.specs.Language.{Language}
-use Rattle.language.specs.Answers.{standing_on}
-use Rattle.session_core.specs.Settled.{IsSettled}
-use Rattle.session_core.specs.Standing.{knowledge_of}
-use Rattle.session_store.proofs.Keepers.{both_as, keeps_as, keeps_still, keeps_then, loses_none, loses_none_as, loses_nothing}
-use Rattle.target_oracle.specs.Turns.{Turns}
-use Rattle.acq_loop.specs.declared.terms.Terms.{Terms}
-use Rattle.acq_loop.specs.Driven.{Loses, MayFollow}
-use Rattle.acq_loop.specs.Due.{EventKept}
-use Rattle.acq_loop.specs.Heard.{heard_of, event_on}
-use Rattle.acq_loop.specs.Loop.{EndsAs, is_unasked}
-use Rattle.acq_loop.specs.Points.{point_of, terms_with}
-use Rattle.acq_loop.specs.Run.{JournalFull}
-use Rattle.acq_loop.specs.declared.driving.Drove.{Drove}
+use Rattle.acq_loop.proofs.Prelude.{◌≡◌, ◌∙◌, ◌+◌, ℕ, true, false, arith, List, length, is_some, ap, sym, subst, refl, Option, Some, called_as, called_not, Assignment, Event, Plan, Language, standing_on, IsSettled, knowledge_of, both_as, keeps_as, keeps_still, keeps_then, loses_none, loses_none_as, loses_nothing, Turns, Terms, Loses, MayFollow, EventKept, heard_of, event_on, EndsAs, is_unasked, point_of, terms_with, JournalFull, Drove, Entry}
 use Rattle.acq_loop.specs.declared.driving.Drove.TheVariants as drove
-use Rattle.acq_loop.specs.declared.driving.Entry.{Entry}
 use Rattle.acq_loop.specs.declared.driving.Heard.TheVariants as heard
 use Rattle.acq_loop.proofs.Added.{adds, taught_kept, taught_none}
 use Rattle.acq_loop.proofs.Answered.{ends, ends_closed, kept_on, loses, turned, unasked_may}

@@ -1,14 +1,4 @@
-use Rattle.std.proofs.Common.{◌≡◌, ◌⊎◌, ◌∙◌, ℕ, List, length, true, false, Some, ap, sym, subst, refl, inl, inr}
-use Rattle.assign.specs.Events.{Answer}
-use Rattle.assign.specs.declared.events.Event.{Event}
-use Rattle.language.specs.Language.{Language}
-use Rattle.language.specs.Answers.{standing_on}
-use Rattle.target_oracle.specs.Turns.{Turns}
-use Rattle.acq_loop.specs.Driven.{Point, Drives, IsFull, IsPending}
-use Rattle.acq_loop.specs.Loop.{is_unasked}
-use Rattle.acq_loop.specs.Run.{Closing, Converged, Collapsed, Undecided, Ends, Puts, next_after}
-use Rattle.acq_loop.specs.declared.terms.Terms.{Terms}
-use Rattle.acq_loop.specs.declared.driving.Drove.{Drove}
+use Rattle.acq_loop.proofs.Prelude.{◌≡◌, ◌⊎◌, ◌∙◌, ℕ, List, length, true, false, Some, ap, sym, subst, refl, inl, inr, Answer, Event, Language, standing_on, Turns, Point, Drives, IsFull, IsPending, is_unasked, Closing, Converged, Collapsed, Undecided, Ends, Puts, next_after, Terms, Drove}
 use Rattle.acq_loop.specs.declared.driving.Drove.TheVariants as drove
 use Rattle.acq_loop.proofs.laws.endings_exclude.Goals as goal
 

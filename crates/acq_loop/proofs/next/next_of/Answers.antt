@@ -1,16 +1,5 @@
-use Rattle.std.proofs.Common.{◌≡◌, ◌∙◌, List, Option, ap, sym, subst}
-use Rattle.assign.specs.Assignment.{Assignment}
-use Rattle.assign.specs.Events.{Answer}
-use Rattle.assign.specs.declared.events.Plan.{Plan}
-use Rattle.language.specs.Language.{Language, IsLanguage}
-use Rattle.language.specs.Answers.{standing_on}
-use Rattle.par_screen.specs.Eighths.{AreMadeFor}
-use Rattle.query_gen.specs.Marks.{IsMadeFor}
-use Rattle.session_core.specs.Standing.{knowledge_of}
-use Rattle.session_core.specs.declared.session.Session.{Session}
+use Rattle.acq_loop.proofs.Prelude.{List, sym, subst, Answer, Plan, Language, IsLanguage, standing_on, AreMadeFor, IsMadeFor, knowledge_of, Session, TellsOpen, terms_with}
 use Rattle.session_core.specs.declared.session.Session.TheVariants as sessions
-use Rattle.acq_loop.specs.Driven.{TellsOpen}
-use Rattle.acq_loop.specs.Points.{terms_with}
 use Rattle.acq_loop.proofs.Nexts.{IsSession, asking_next, next_there, over_next}
 use Rattle.acq_loop.proofs.Standings.{carried, marks_here, marks_there}
 use Rattle.acq_loop.proofs.next.next_of.Goals as goal

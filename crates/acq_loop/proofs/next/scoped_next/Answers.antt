@@ -1,5 +1,4 @@
-use Rattle.std.proofs.Common.{◌∙◌, sym, subst, refl}
-use Rattle.language.specs.Language.{IsLanguage}
+use Rattle.acq_loop.proofs.Prelude.{◌∙◌, sym, subst, refl, IsLanguage}
 use Rattle.acq_loop.proofs.Nexts.{scoped_new, scoped_done}
 use Rattle.acq_loop.proofs.next.scoped_next.Goals as goal
 

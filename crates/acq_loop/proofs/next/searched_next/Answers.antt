@@ -1,8 +1,5 @@
-use Rattle.std.proofs.Common.{◌≡◌, ◌∙◌, sym, subst, refl}
-use Rattle.language.specs.Language.{IsLanguage}
-use Rattle.query_gen.specs.declared.query.Query.TheVariants.{Ask, AllImplied, Undecided}
-use Rattle.query_gen.specs.Questions.{next_query}
-use Rattle.session_core.specs.declared.knowledge.Knowledge.{Knowledge}
+use Rattle.acq_loop.proofs.Prelude.{◌≡◌, ◌∙◌, sym, subst, refl, IsLanguage, Ask, AllImplied, next_query, Knowledge}
+use Rattle.query_gen.specs.declared.query.Query.TheVariants.{Undecided}
 use Rattle.acq_loop.proofs.Nexts.{searched_new, searched_done, searched_open}
 use Rattle.acq_loop.proofs.next.searched_next.Goals as goal
 

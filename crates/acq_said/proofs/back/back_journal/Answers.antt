@@ -1,23 +1,9 @@
-use Rattle.std.proofs.Common.{◌+◌, ◌≡◌, ◌∙◌, ℕ, length, refl, ap, subst, inl, inr, Result, Ok, Err, arith}
-use Rattle.std.proofs.lemmas.Bool.{eq-eqb}
-use Rattle.language.specs.Answers.{standing_on}
-use Rattle.session_store.proofs.Keepers.{rose_later}
-use Rattle.session_store.specs.Opened.{Opened, opened_as}
-use Rattle.session_store.specs.Store.{lang_of, plan_of, voc_of, events_of, question_of}
-use Rattle.session_store.specs.declared.fault.SFault.{SFault}
-use Rattle.session_store.specs.declared.store.Store.{Store}
+use Rattle.acq_said.proofs.Prelude.{◌+◌, ◌∙◌, ℕ, length, refl, ap, subst, inl, inr, Result, Ok, Err, arith, eq-eqb, standing_on, rose_later, Opened, opened_as, lang_of, plan_of, voc_of, events_of, question_of, SFault, Store, is_full, Saying, saying, EndsBack, back_said, nothing_text, taken_text, full_text, some_there, room_not_full, room_unless}
 use Rattle.session_store.proofs.Placing.{back_has_place}
-use Rattle.acq_loop.specs.Run.{is_full}
-use Rattle.acq_said.specs.Saying.{Saying, saying}
-use Rattle.acq_said.specs.TakingBack.{EndsBack, back_said, nothing_text, taken_text}
-use Rattle.acq_loop.specs.Texts.{full_text}
 use Rattle.acq_loop.specs.declared.ending.Ending.TheVariants as ending
 use Rattle.acq_said.specs.declared.said.Unsaid.TheVariants as unsaid
 use Rattle.acq_said.proofs.Journals.{opened_now}
-use Rattle.acq_loop.proofs.Reached.{some_there}
-use Rattle.acq_loop.proofs.Running.{room_not_full}
 use Rattle.acq_said.proofs.Spoken.{ok_any, said_as, silent_not}
-use Rattle.acq_loop.proofs.Standings.{room_unless}
 use Rattle.acq_said.proofs.TakenBack.{back_calls, back_reads, full_back, leaves_back, none_back, one_back}
 use Rattle.acq_said.proofs.back.back_journal.Goals as goal
 

@@ -1,10 +1,5 @@
-use Rattle.std.proofs.Common.{arith, ◌≡◌, ap, refl, Some, None, inl, ⊎_elim}
-use Rattle.assign.specs.declared.events.Event.{Event}
+use Rattle.acq_said.proofs.Prelude.{arith, ◌≡◌, ap, refl, Some, None, inl, ⊎_elim, Event, keeps_as, Saying, saying, taken_text, Drove}
 use Rattle.assign.specs.declared.events.Event.TheVariants as event
-use Rattle.session_store.proofs.Keepers.{keeps_as}
-use Rattle.acq_said.specs.Saying.{Saying, saying}
-use Rattle.acq_said.specs.TakingBack.{taken_text}
-use Rattle.acq_loop.specs.declared.driving.Drove.{Drove}
 use Rattle.acq_loop.specs.declared.driving.Drove.TheVariants as drove
 use Rattle.acq_loop.specs.declared.ending.Ending.TheVariants as ending
 use Rattle.acq_said.specs.declared.said.Unsaid.TheVariants as unsaid

@@ -1,13 +1,4 @@
-use Rattle.std.proofs.Common.{◌≡◌, ◌∙◌, ap, subst, inl, inr, length, List, ℕ}
-use Rattle.std.specs.Prelude.{IfOk}
-use Rattle.cert_check.specs.Making.{made}
-use Rattle.language.specs.Answers.{standing_on}
-use Rattle.acq_said.specs.Certifying.{MakesGood, certificate_said, unconverged_said}
-use Rattle.session_store.specs.Opened.{opened_as}
-use Rattle.acq_loop.specs.Points.{terms_with}
-use Rattle.acq_said.specs.Reducing.{network_after}
-use Rattle.acq_loop.specs.Run.{next_after}
-use Rattle.acq_said.specs.Saying.{Saying}
+use Rattle.acq_said.proofs.Prelude.{◌≡◌, ◌∙◌, ap, subst, inl, inr, length, List, ℕ, IfOk, made, standing_on, MakesGood, certificate_said, unconverged_said, opened_as, terms_with, network_after, next_after, Saying}
 use Rattle.acq_said.proofs.Certified.{end_said, more_said, ok_so, told_done, told_more}
 use Rattle.acq_said.proofs.Spoken.{ok_any}
 use Rattle.acq_said.proofs.certifying.certified.Goals as goal

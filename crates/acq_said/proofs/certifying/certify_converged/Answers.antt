@@ -1,11 +1,4 @@
-use Rattle.std.proofs.Common.{◌≡◌, ◌∙◌, sym, subst, ap, List}
-use Rattle.std.specs.Prelude.{IfOk}
-use Rattle.language.specs.declared.candidates.Candidate.{Candidate}
-use Rattle.language.specs.Language.{Language}
-use Rattle.language.specs.Answers.{IsNetwork, standing_on}
-use Rattle.network.specs.Learned.{Learned}
-use Rattle.voc_read.specs.Vocabulary.{IsVocabulary}
-use Rattle.acq_said.specs.Saying.{Saying}
+use Rattle.acq_said.proofs.Prelude.{◌≡◌, ◌∙◌, sym, subst, ap, List, IfOk, Candidate, Language, IsNetwork, standing_on, Learned, IsVocabulary, Saying}
 use Rattle.acq_said.proofs.Certified.{certificate_so, covered_so, few_so, good_so, questions_so, reached_so}
 use Rattle.acq_said.proofs.Reduced.{learned_as}
 use Rattle.acq_said.proofs.Spoken.{ok_any}

@@ -1,14 +1,5 @@
-use Rattle.std.proofs.Common.{◌≤◌, ◌∙◌, ◌++◌, ◌∷◌, [], sym, ap, subst, List, ℕ, take, length, arith}
-use Rattle.std.proofs.lemmas.List.{length-map, take_all}
-use Rattle.std.proofs.lemmas.List.Elements.{All-get_or}
-use Rattle.assign.specs.Events.{Answer}
-use Rattle.assign.specs.declared.events.Event.{Event}
+use Rattle.acq_said.proofs.Prelude.{◌≤◌, ◌∙◌, ◌++◌, ◌∷◌, [], sym, ap, subst, List, ℕ, take, length, arith, length-map, take_all, All-get_or, Answer, Event, variable_count, IsWide, Recorded, all_seen, recorded, seen, answer_in, record_at, recorded_seen, seen_next}
 use Rattle.assign.specs.declared.events.Event.TheVariants as event
-use Rattle.language.specs.Language.{variable_count}
-use Rattle.session_store.specs.Held.{IsWide}
-use Rattle.session_store.specs.Replay.{Recorded, all_seen, recorded, seen, answer_in}
-use Rattle.session_store.proofs.Recording.{record_at, recorded_seen}
-use Rattle.session_store.proofs.Replaying.{seen_next}
 use Rattle.acq_said.proofs.Showing.{is_answer, no_record}
 use Rattle.acq_said.proofs.certifying.entries_of.Goals as goal
 

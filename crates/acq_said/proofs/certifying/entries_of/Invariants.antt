@@ -1,6 +1,4 @@
-use Rattle.std.proofs.Common.{◌≡◌, take}
-use Rattle.language.specs.Language.{variable_count}
-use Rattle.session_store.specs.Replay.{all_seen, recorded}
+use Rattle.acq_said.proofs.Prelude.{◌≡◌, take, variable_count, all_seen, recorded}
 use Rattle.acq_said.proofs.certifying.entries_of.Given as goal
 
 abbrev pub invariant-loop-record : goal.invariant-loop-record

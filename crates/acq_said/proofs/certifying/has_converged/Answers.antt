@@ -1,9 +1,6 @@
-use Rattle.std.proofs.Common.{◌∙◌, subst}
-use Rattle.language.specs.Language.{Language}
-use Rattle.query_gen.specs.Marks.{IsMadeFor}
+use Rattle.acq_said.proofs.Prelude.{◌∙◌, subst, Language, IsMadeFor, network_in}
 use Rattle.query_gen.proofs.Marking.{no_marks_hold}
 use Rattle.par_screen.specs.Eighths.{AreMadeFor}
-use Rattle.session_laws.specs.Laws.{network_in}
 use Rattle.acq_said.proofs.certifying.has_converged.Goals as goal
 
 -- nothing was searched for yet

@@ -1,7 +1,4 @@
-use Rattle.std.proofs.Common.{◌≡◌, ◌∙◌, ap, subst, arith, length, IfOk, List}
-use Rattle.assign.specs.declared.events.Event.{Event}
-use Rattle.language.specs.Language.{Language}
-use Rattle.language.specs.Answers.{standing_on}
+use Rattle.acq_said.proofs.Prelude.{◌≡◌, ◌∙◌, ap, subst, arith, length, IfOk, List, Event, Language, standing_on}
 use Rattle.acq_said.proofs.certifying.standing_entries.Goals as goal
 
 pub standing_records-requires : goal.standing_records-requires

@@ -1,9 +1,6 @@
-use Rattle.std.proofs.Common.{refl, ◌≡◌, ◌∙◌, ap, sym, subst, List, ℕ, Result, Err, Vec, Global}
-use Rattle.acq_io.specs.declared.whole.AllFault.{AllFault}
+use Rattle.acq_said.proofs.Prelude.{refl, ◌≡◌, ◌∙◌, ap, sym, subst, List, ℕ, Result, Err, Vec, Global, AllFault, IsCheck, IsCheckOf, checked_said, SaidSo}
 use Rattle.acq_io.specs.declared.whole.AllFault.TheVariants as all
 use Rattle.cert_check.specs.declared.fault.CertFault.TheVariants as form
-use Rattle.acq_said.specs.Confirming.{IsCheck, IsCheckOf, checked_said}
-use Rattle.acq_said.specs.Said.{SaidSo}
 use Rattle.acq_said.proofs.Spoken.{fine, long_one, said_so}
 use Rattle.acq_said.proofs.confirming.check_input.Goals as goal
 

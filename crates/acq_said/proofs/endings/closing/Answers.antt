@@ -1,18 +1,6 @@
-use Rattle.std.proofs.Common.{◌≡◌, length, refl, sym, ap, subst, ℕ, List}
-use Rattle.std.specs.Prelude.{filter}
-use Rattle.language.specs.Language.{Language, candidates}
-use Rattle.query_gen.specs.Marks.{is_open}
-use Rattle.session_core.specs.Standing.{knowledge_of}
-use Rattle.acq_loop.specs.Driven.{HasEnded}
-use Rattle.acq_said.specs.Endings.{SaysEnd}
-use Rattle.acq_loop.specs.Points.{terms_with}
-use Rattle.acq_loop.specs.Run.{Converged, Undecided}
-use Rattle.acq_said.specs.Saying.{saying}
-use Rattle.acq_loop.specs.Texts.{closing_text, collapsed_text, converged_text, suspended_text, undecided_text, too_long_text, refused_text, full_text}
-use Rattle.acq_loop.specs.declared.driving.Drove.{Drove}
+use Rattle.acq_said.proofs.Prelude.{length, refl, sym, ap, subst, ℕ, List, filter, Language, candidates, is_open, knowledge_of, HasEnded, SaysEnd, terms_with, Converged, Undecided, saying, closing_text, collapsed_text, converged_text, suspended_text, undecided_text, too_long_text, refused_text, full_text, Drove, Terms}
 use Rattle.acq_loop.specs.declared.ending.Ending.TheVariants as ending
 use Rattle.acq_said.specs.declared.said.Unsaid.TheVariants as unsaid
-use Rattle.acq_loop.specs.declared.terms.Terms.{Terms}
 use Rattle.acq_said.proofs.Sayings.{converged_so, undecided_so}
 use Rattle.acq_said.proofs.Spoken.{said_as, silent}
 use Rattle.acq_said.proofs.endings.closing.Goals as goal

@@ -1,11 +1,4 @@
-use Rattle.std.proofs.Common.{◌≡◌, ◌∙◌, ap, ℕ, List, ◌∷◌, ◌++◌}
-use Rattle.std.specs.Prelude.{codes}
-use Rattle.std.specs.Fmt.{decimal}
-use Rattle.std.specs.String.{string_bytes}
-use Rattle.language.specs.Language.{Language}
-use Rattle.network.specs.Texts.{network_text}
-use Rattle.session_core.specs.Standing.{knowledge_of}
-use Rattle.acq_said.specs.Saying.{saying}
+use Rattle.acq_said.proofs.Prelude.{◌≡◌, ◌∙◌, ap, ℕ, List, ◌∷◌, ◌++◌, codes, decimal, string_bytes, Language, network_text, knowledge_of, saying}
 use Rattle.acq_loop.specs.declared.ending.Ending.TheVariants as ending
 use Rattle.acq_said.proofs.endings.converged.Goals as goal
 

@@ -1,14 +1,4 @@
-use Rattle.std.proofs.Common.{◌≡◌, ◌∙◌, ap, ℕ, List, ◌∷◌, ◌++◌}
-use Rattle.std.specs.Prelude.{filter, codes}
-use Rattle.std.specs.Fmt.{decimal}
-use Rattle.std.specs.List.{flat_map}
-use Rattle.std.specs.String.{string_bytes}
-use Rattle.language.specs.Language.{Language, candidates}
-use Rattle.network.specs.Texts.{network_text}
-use Rattle.query_gen.specs.Marks.{is_open}
-use Rattle.session_core.specs.Standing.{knowledge_of}
-use Rattle.acq_said.specs.Saying.{saying}
-use Rattle.acq_loop.specs.Texts.{open_line}
+use Rattle.acq_said.proofs.Prelude.{◌≡◌, ◌∙◌, ap, ℕ, List, ◌∷◌, ◌++◌, filter, codes, decimal, flat_map, string_bytes, Language, candidates, network_text, is_open, knowledge_of, saying, open_line}
 use Rattle.acq_loop.specs.declared.ending.Ending.TheVariants as ending
 use Rattle.acq_said.proofs.endings.undecided.Goals as goal
 

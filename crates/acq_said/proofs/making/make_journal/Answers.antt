@@ -1,12 +1,4 @@
-use Rattle.std.proofs.Common.{◌≡◌, refl, sym, ap, subst, ℕ, List, Result, Ok, Err, inl, inr}
-use Rattle.language.specs.Language.{Language}
-use Rattle.voc_read.specs.Vocabulary.{IsVocabulary}
-use Rattle.session_store.specs.Left.{bytes_told}
-use Rattle.session_store.specs.Store.{lang_of}
-use Rattle.session_store.specs.declared.fault.SFault.{SFault}
-use Rattle.session_store.specs.declared.store.Store.{Store}
-use Rattle.acq_said.specs.Making.{made_said}
-use Rattle.acq_said.specs.Saying.{Saying}
+use Rattle.acq_said.proofs.Prelude.{refl, sym, ap, subst, ℕ, List, Result, Ok, Err, inl, inr, Language, IsVocabulary, bytes_told, lang_of, SFault, Store, made_said, Saying}
 use Rattle.acq_said.specs.declared.said.Unsaid.TheVariants as unsaid
 use Rattle.acq_said.proofs.Journals.{made_now}
 use Rattle.acq_said.proofs.Spoken.{said_as, silent_not}

@@ -1,8 +1,6 @@
-use Rattle.std.proofs.Common.{◌≡◌, ◌∙◌, refl, ap, subst, ℕ, List, Result, Err, Vec, Global}
-use Rattle.acq_io.specs.declared.whole.AllFault.{AllFault}
+use Rattle.acq_said.proofs.Prelude.{◌∙◌, refl, ap, subst, ℕ, List, Result, Err, Vec, Global, AllFault, Makes, voc_refused}
 use Rattle.acq_io.specs.declared.whole.AllFault.TheVariants as all
 use Rattle.voc_read.specs.declared.fault.VocFault.TheVariants as vocs
-use Rattle.acq_said.specs.Making.{Makes, voc_refused}
 use Rattle.acq_said.proofs.Spoken.{fine, long_one, said_as}
 use Rattle.acq_said.proofs.making.new_journal.Goals as goal
 

@@ -1,7 +1,4 @@
-use Rattle.std.proofs.Common.{◌≡◌, refl, sym, subst}
-use Rattle.session_store.specs.declared.fault.SFault.{SFault}
-use Rattle.acq_said.specs.Journals.{Refuses}
-use Rattle.acq_said.specs.Making.{RefusesMaking, voc_refused}
+use Rattle.acq_said.proofs.Prelude.{refl, sym, subst, SFault, Refuses, RefusesMaking, voc_refused}
 use Rattle.acq_said.specs.declared.said.Unsaid.TheVariants as unsaid
 use Rattle.acq_said.proofs.Spoken.{said_as, silent_not}
 use Rattle.acq_said.proofs.making.unmade.Goals as goal

@@ -1,5 +1,4 @@
-use Rattle.std.proofs.Common.{◌∙◌, ◌++◌, ap, sym}
-use Rattle.language.specs.Language.{candidates_on}
+use Rattle.acq_said.proofs.Prelude.{◌∙◌, ◌++◌, ap, sym, candidates_on}
 use Rattle.acq_said.proofs.OpenLines.{lines_of, one_scope}
 use Rattle.acq_said.proofs.opens.open_lines.Goals as goal
 

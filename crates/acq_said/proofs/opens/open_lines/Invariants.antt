@@ -1,5 +1,4 @@
-use Rattle.std.proofs.Common.{◌≡◌}
-use Rattle.std.specs.String.{string_bytes}
+use Rattle.acq_said.proofs.Prelude.{◌≡◌, string_bytes}
 use Rattle.acq_said.proofs.OpenLines.{lines_to}
 use Rattle.acq_said.proofs.opens.open_lines.Given as goal
 

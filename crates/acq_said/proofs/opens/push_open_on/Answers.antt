@@ -1,9 +1,4 @@
-use Rattle.std.proofs.Common.{◌∙◌, ◌++◌, ap, sym, [], List, ℕ}
-use Rattle.std.specs.Prelude.{if◌then◌else◌}
-use Rattle.std.specs.String.{string_bytes}
-use Rattle.std.proofs.lemmas.List.{append_assoc}
-use Rattle.query_gen.specs.Marks.{is_open}
-use Rattle.acq_loop.specs.Texts.{open_line}
+use Rattle.acq_said.proofs.Prelude.{◌∙◌, ◌++◌, ap, sym, [], List, ℕ, if◌then◌else◌, string_bytes, append_assoc, is_open, open_line}
 use Rattle.acq_said.proofs.OpenLines.{at, lines_before, one_line}
 use Rattle.acq_said.proofs.opens.push_open_on.Goals as goal
 

@@ -1,5 +1,4 @@
-use Rattle.std.proofs.Common.{◌≡◌, ◌++◌}
-use Rattle.std.specs.String.{string_bytes}
+use Rattle.acq_said.proofs.Prelude.{◌≡◌, ◌++◌, string_bytes}
 use Rattle.acq_said.proofs.OpenLines.{lines_before}
 use Rattle.acq_said.proofs.opens.push_open_on.Given as goal
 

@@ -1,8 +1,5 @@
-use Rattle.std.proofs.Common.{◌≡◌, subst, sym}
-use Rattle.std.specs.Prelude.{IfOk}
-use Rattle.session_store.specs.Opened.{opened_as}
-use Rattle.acq_said.specs.Asks.{AsksTruly, IsAskable, asked_said}
-use Rattle.acq_said.specs.declared.ask.Ask.{Ask}
+use Rattle.acq_said.proofs.Prelude.{◌≡◌, subst, sym, IfOk, opened_as, AsksTruly, asked_said, Ask}
+use Rattle.acq_said.specs.Asks.{IsAskable}
 use Rattle.acq_said.proofs.Spoken.{ok_any}
 use Rattle.acq_said.proofs.over.asked.Goals as goal
 

@@ -1,13 +1,4 @@
-use Rattle.std.proofs.Common.{◌≡◌, ◌∙◌, ap, sym, inl, subst, Result, Ok, Err}
-use Rattle.std.specs.Prelude.{IfOk}
-use Rattle.session_store.specs.Opened.{Opened, opened_as}
-use Rattle.session_store.specs.Store.{lang_of, plan_of, voc_of, events_of}
-use Rattle.session_store.specs.declared.fault.SFault.{SFault}
-use Rattle.session_store.specs.declared.store.Store.{Store}
-use Rattle.acq_said.specs.Asks.{AsksTruly, asked_said}
-use Rattle.acq_said.specs.Said.{IsSaid}
-use Rattle.acq_said.specs.Saying.{Saying}
-use Rattle.acq_said.specs.declared.said.Unsaid.{Unsaid}
+use Rattle.acq_said.proofs.Prelude.{◌≡◌, ◌∙◌, ap, sym, inl, subst, Result, Ok, Err, IfOk, Opened, opened_as, lang_of, plan_of, voc_of, events_of, SFault, Store, AsksTruly, asked_said, IsSaid, Saying, Unsaid}
 use Rattle.acq_said.specs.declared.said.Unsaid.TheVariants as unsaid
 use Rattle.acq_said.proofs.Journals.{opened_now}
 use Rattle.acq_said.proofs.Spoken.{ok_any, said_so, silent_not, so_said}

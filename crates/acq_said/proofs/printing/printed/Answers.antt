@@ -1,11 +1,4 @@
-use Rattle.std.proofs.Common.{◌≡◌, ◌∙◌, Ok, ap, subst, sym}
-use Rattle.std.specs.Prelude.{IfOk}
-use Rattle.std.specs.String.{string_bytes}
-use Rattle.language.specs.Language.{Language}
-use Rattle.language.specs.Answers.{IsNetwork}
-use Rattle.network.specs.Learned.{Learned}
-use Rattle.acq_said.specs.Reducing.{network_after}
-use Rattle.acq_said.specs.Saying.{Saying}
+use Rattle.acq_said.proofs.Prelude.{◌≡◌, ◌∙◌, Ok, ap, subst, sym, IfOk, string_bytes, Language, IsNetwork, Learned, network_after, Saying}
 use Rattle.acq_said.proofs.Spoken.{ok_any}
 use Rattle.acq_said.proofs.Printed.{clauses_so, encoded_so, large_so}
 use Rattle.acq_said.proofs.Reduced.{learned_as}

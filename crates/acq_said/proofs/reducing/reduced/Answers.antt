@@ -1,10 +1,4 @@
-use Rattle.std.proofs.Common.{◌≡◌, ◌∙◌, sym, subst, ap, inl}
-use Rattle.std.specs.Prelude.{IfOk}
-use Rattle.language.specs.Language.{Language}
-use Rattle.language.specs.Answers.{IsNetwork}
-use Rattle.network.specs.Learned.{Learned}
-use Rattle.session_store.specs.Opened.{opened_as}
-use Rattle.acq_said.specs.Saying.{Saying}
+use Rattle.acq_said.proofs.Prelude.{◌≡◌, ◌∙◌, sym, subst, ap, inl, IfOk, Language, IsNetwork, Learned, opened_as, Saying}
 use Rattle.acq_said.proofs.Spoken.{ok_any}
 use Rattle.acq_said.proofs.Reduced.{learned_as, part_said, reduced_truly, unreduced_so, unreduced_truly}
 use Rattle.acq_said.proofs.reducing.reduced.Goals as goal

@@ -1,7 +1,4 @@
-use Rattle.std.proofs.Common.{◌≡◌, subst, sym}
-use Rattle.std.specs.Prelude.{IfOk}
-use Rattle.net_reduce.specs.declared.fault.ReduceFault.{ReduceFault}
-use Rattle.acq_said.specs.Reducing.{unreduced_said}
+use Rattle.acq_said.proofs.Prelude.{◌≡◌, subst, sym, IfOk, ReduceFault, unreduced_said}
 use Rattle.acq_said.proofs.reducing.said_unreduced.Goals as goal
 
 pub returns-in-Spent-clause-says : goal.returns-in-Spent-clause-says

@@ -1,7 +1,4 @@
-use Rattle.std.proofs.Common.{◌≡◌, ◌∙◌, refl, sym, subst, Option}
-use Rattle.acq_said.specs.Journals.{RefusesBy, refused_said, untold}
-use Rattle.acq_said.specs.Said.{IsSaid}
-use Rattle.acq_said.specs.declared.said.Unsaid.{Unsaid}
+use Rattle.acq_said.proofs.Prelude.{◌≡◌, ◌∙◌, refl, sym, subst, Option, RefusesBy, refused_said, untold, IsSaid, Unsaid}
 use Rattle.acq_said.specs.declared.said.Unsaid.TheVariants as unsaid
 use Rattle.acq_said.proofs.Journals.{untold_disk, untold_read}
 use Rattle.acq_said.proofs.Spoken.{same_why, said_so, silent, silent_not}

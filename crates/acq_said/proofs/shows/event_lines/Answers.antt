@@ -1,13 +1,5 @@
-use Rattle.std.proofs.Common.{◌≡◌, ◌≤◌, ◌<◌, ◌∙◌, ◌+◌, ◌++◌, [], sym, ap, subst, List, ℕ, take, length, arith}
-use Rattle.std.proofs.lemmas.List.{length-map, take_all}
-use Rattle.std.proofs.lemmas.List.Elements.{All-get_or}
-use Rattle.assign.specs.declared.events.Event.{Event}
+use Rattle.acq_said.proofs.Prelude.{◌≡◌, ◌≤◌, ◌<◌, ◌∙◌, ◌+◌, ◌++◌, [], sym, ap, subst, List, ℕ, take, length, arith, length-map, take_all, All-get_or, Event, variable_count, IsWide, Recorded, all_seen, recorded, seen, answer_in, standing_numbers, record_at, recorded_seen, answer_line, answer_lines}
 use Rattle.assign.specs.declared.events.Event.TheVariants as event
-use Rattle.language.specs.Language.{variable_count}
-use Rattle.session_store.specs.Held.{IsWide}
-use Rattle.session_store.specs.Replay.{Recorded, all_seen, recorded, seen, answer_in, standing_numbers}
-use Rattle.session_store.proofs.Recording.{record_at, recorded_seen}
-use Rattle.acq_said.specs.Shows.{answer_line, answer_lines}
 use Rattle.acq_said.proofs.Showing.{few_recorded, is_answer, lines_next, no_record}
 use Rattle.acq_said.proofs.shows.event_lines.Goals as goal
 

@@ -1,8 +1,4 @@
-use Rattle.std.proofs.Common.{◌≡◌, take}
-use Rattle.std.specs.String.{string_bytes}
-use Rattle.language.specs.Language.{variable_count}
-use Rattle.session_store.specs.Replay.{all_seen, recorded}
-use Rattle.acq_said.specs.Shows.{answer_lines}
+use Rattle.acq_said.proofs.Prelude.{◌≡◌, take, string_bytes, variable_count, all_seen, recorded, answer_lines}
 use Rattle.acq_said.proofs.shows.event_lines.Given as goal
 
 abbrev pub invariant-loop-i : goal.invariant-loop-i

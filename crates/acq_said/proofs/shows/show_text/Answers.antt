@@ -1,12 +1,4 @@
-use Rattle.std.proofs.Common.{◌≡◌, ◌∙◌, ap, [], ◌∷◌, ◌++◌, length}
-use Rattle.std.specs.Prelude.{codes}
-use Rattle.std.specs.Fmt.{decimal}
-use Rattle.std.specs.String.{string_bytes}
-use Rattle.language.specs.Answers.{standing_on}
-use Rattle.network.specs.Texts.{network_text}
-use Rattle.session_core.specs.Standing.{knowledge_of}
-use Rattle.session_laws.specs.Session.{state_after}
-use Rattle.acq_said.specs.Shows.{plan_text, answer_lines, back_line, take_backs, reading_text, said_part, known_part}
+use Rattle.acq_said.proofs.Prelude.{◌≡◌, ◌∙◌, ap, [], ◌∷◌, ◌++◌, length, codes, decimal, string_bytes, standing_on, network_text, knowledge_of, state_after, plan_text, answer_lines, back_line, take_backs, reading_text, said_part, known_part}
 use Rattle.acq_said.proofs.shows.show_text.Goals as goal
 
 pub returns : goal.returns

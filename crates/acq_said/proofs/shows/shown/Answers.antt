@@ -1,6 +1,4 @@
-use Rattle.std.proofs.Common.{◌∙◌, ap, arith, length, List, ℕ}
-use Rattle.assign.specs.declared.events.Event.{Event}
-use Rattle.acq_said.specs.Saying.{saying}
+use Rattle.acq_said.proofs.Prelude.{◌∙◌, ap, arith, length, List, ℕ, Event, saying}
 use Rattle.acq_loop.specs.declared.ending.Ending.TheVariants as ending
 use Rattle.acq_said.proofs.Showing.{shown_as}
 use Rattle.acq_said.proofs.shows.shown.Goals as goal

@@ -1,11 +1,5 @@
-use Rattle.std.proofs.Common.{◌≡◌, ◌∙◌, sym, ap, subst}
-use Rattle.std.specs.Prelude.{codes}
-use Rattle.session_core.specs.Standing.{Stands, knowledge_of, open_in}
+use Rattle.acq_said.proofs.Prelude.{◌≡◌, ◌∙◌, sym, ap, subst, codes, Stands, knowledge_of, open_in, Session, state_after, reading_text, busy_from}
 use Rattle.session_core.specs.Settled.{IsSettled}
-use Rattle.session_core.specs.declared.session.Session.{Session}
-use Rattle.session_laws.specs.Session.{state_after}
-use Rattle.acq_said.specs.Shows.{reading_text}
-use Rattle.session_store.proofs.Replaying.{busy_from}
 use Rattle.acq_said.proofs.Showing.{asking_text}
 use Rattle.acq_said.proofs.shows.state_word.Goals as goal
 

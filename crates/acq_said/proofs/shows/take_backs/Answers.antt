@@ -1,8 +1,6 @@
-use Rattle.std.proofs.Common.{List, rules, tests}
+use Rattle.acq_said.proofs.Prelude.{List, rules, tests, Event, is_back}
 use Rattle.std.proofs.lemmas.Iterator.{YieldsList-from_slice}
 use Rattle.std.proofs.lemmas.Iterator.Consumers.{YieldsList-from_filter, count_from_yields_List}
-use Rattle.assign.specs.declared.events.Event.{Event}
-use Rattle.acq_said.specs.Shows.{is_back}
 use Rattle.acq_said.proofs.shows.take_backs.Goals as goal
 
 pub returns : goal.returns

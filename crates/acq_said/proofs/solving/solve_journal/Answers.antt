@@ -1,8 +1,4 @@
-use Rattle.std.proofs.Common.{◌∙◌, refl, ap, inl, Result, Ok, Err}
-use Rattle.session_store.specs.Opened.{opened_as}
-use Rattle.session_store.specs.Store.{lang_of, plan_of, voc_of, events_of}
-use Rattle.session_store.specs.declared.fault.SFault.{SFault}
-use Rattle.session_store.specs.declared.store.Store.{Store}
+use Rattle.acq_said.proofs.Prelude.{◌∙◌, refl, ap, inl, Result, Ok, Err, opened_as, lang_of, plan_of, voc_of, events_of, SFault, Store}
 use Rattle.acq_said.proofs.Journals.{opened_now}
 use Rattle.acq_said.proofs.Spoken.{ok_any}
 use Rattle.acq_said.proofs.solving.solve_journal.Goals as goal

@@ -1,13 +1,5 @@
-use Rattle.std.proofs.Common.{refl, ◌≡◌, ◌∙◌, ap, sym, subst, List, ℕ, Result, Err, Vec, Global}
-use Rattle.acq_io.specs.declared.whole.AllFault.{AllFault}
+use Rattle.acq_said.proofs.Prelude.{refl, ◌≡◌, ◌∙◌, ap, sym, subst, List, ℕ, Result, Err, Vec, Global, AllFault, model_of, Learned, Opened, opened_as, network_of, IsSaid, Saying, solution_said, solved_said}
 use Rattle.acq_io.specs.declared.whole.AllFault.TheVariants as all
-use Rattle.net_cnf.specs.Models.{model_of}
-use Rattle.network.specs.Learned.{Learned}
-use Rattle.session_store.specs.Opened.{Opened, opened_as}
-use Rattle.acq_said.specs.Reducing.{network_of}
-use Rattle.acq_said.specs.Said.{IsSaid}
-use Rattle.acq_said.specs.Saying.{Saying}
-use Rattle.acq_said.specs.Solving.{solution_said, solved_said}
 use Rattle.acq_said.proofs.Reduced.{learned_as}
 use Rattle.acq_said.proofs.Solved.{solution_so}
 use Rattle.acq_said.proofs.Spoken.{fine, long_one, said_so}

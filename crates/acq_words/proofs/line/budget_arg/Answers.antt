@@ -1,4 +1,4 @@
-use Rattle.std.proofs.Common.{rules}
+use Rattle.acq_words.proofs.Prelude.{rules}
 use Rattle.acq_words.proofs.line.budget_arg.Goals as goal
 
 pub returns-clause-rule : goal.returns-clause-rule

@@ -1,12 +1,4 @@
-use Rattle.std.proofs.Common.{◌≡◌, ◌+◌, ◌∷◌, ◌++◌, ◌∙◌, [], ℕ, Some, length, take, ap, subst, List, inl, inr, arith, length-append}
-use Rattle.disk_model.specs.Disk.{Only}
-use Rattle.disk_model.specs.Moments.{LeavesBehind}
-use Rattle.disk_model.proofs.Behind.{none_done, then_behind}
-use Rattle.answer_journal.specs.Format.{MAGIC, session_tail}
-use Rattle.answer_journal.specs.Journal.{IsClosedAfter, HasNoSession}
-use Rattle.answer_journal.specs.Steps.{HasRecord, IsWithOrWithout}
-use Rattle.answer_journal.specs.Making.{StartsWith, IsCreating}
-use Rattle.answer_journal.specs.End.{Sits}
+use Rattle.answer_journal.proofs.Prelude.{◌≡◌, ◌+◌, ◌∷◌, ◌++◌, ◌∙◌, [], ℕ, Some, length, take, ap, subst, List, inl, inr, arith, length-append, Only, LeavesBehind, none_done, then_behind, MAGIC, session_tail, IsClosedAfter, HasNoSession, HasRecord, IsWithOrWithout, StartsWith, IsCreating, Sits}
 use Rattle.answer_journal.proofs.Gate.{told_before, told_same}
 use Rattle.answer_journal.proofs.Emptied.{head_free, starts, creating, sits}
 use Rattle.answer_journal.proofs.OnlyRead.{read_behind, then_written}

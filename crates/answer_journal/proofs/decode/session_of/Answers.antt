@@ -1,5 +1,4 @@
-use Rattle.std.proofs.Common.{◌≡◌, ◌∷◌, get_or, length, List, ℕ, ap, arith}
-use Rattle.answer_journal.specs.Format.{plan_byte}
+use Rattle.answer_journal.proofs.Prelude.{◌≡◌, ◌∷◌, get_or, length, List, ℕ, ap, arith, plan_byte}
 use Rattle.answer_journal.proofs.Payloads.{session_no_payload, session_kind, session_other, session_payload, session_found, rest_long}
 use Rattle.answer_journal.proofs.decode.session_of.Goals as goal
 

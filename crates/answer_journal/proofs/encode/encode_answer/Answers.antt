@@ -1,9 +1,5 @@
-use Rattle.std.proofs.Common.{◌≡◌, ◌+◌, ◌*◌, ℕ, List, [], ◌∷◌, ◌++◌, length, get_or, Option, Bool, true, false, refl, ◌∙◌, ap, arith}
+use Rattle.answer_journal.proofs.Prelude.{◌≡◌, ◌+◌, ◌*◌, ℕ, List, [], ◌∷◌, ◌++◌, length, get_or, Option, Bool, true, false, refl, ◌∙◌, ap, arith, w32, to_be_bytes, valued_count, pairs_from, said_byte, tail_bytes, answer_payload, pairs_size}
 use mir.Val.{bool_byte}
-use Rattle.std.specs.Int.{w32, to_be_bytes}
-use Rattle.answer_journal.specs.Format.{valued_count}
-use Rattle.answer_journal.specs.Format.{pairs_from, said_byte, tail_bytes, answer_payload}
-use Rattle.answer_journal.specs.Unique.{pairs_size}
 use Rattle.answer_journal.proofs.encode.encode_answer.Goals as goal
 
 header : (q : List (Option ℕ)) (said : Bool) (count byte : ℕ) (size : List ℕ) → size ≡ to_be_bytes w32 (2 + 2 * count) → count ≡ valued_count q → byte ≡ said_byte said

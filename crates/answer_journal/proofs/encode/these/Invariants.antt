@@ -1,5 +1,4 @@
-use Rattle.std.proofs.Common.{◌≡◌, ◌++◌, drop}
-use Rattle.arrayvec.specs.ArrayVec.{array_vec_len}
+use Rattle.answer_journal.proofs.Prelude.{◌≡◌, ◌++◌, drop, array_vec_len}
 use Rattle.answer_journal.proofs.encode.these.Given as goal
 
 abbrev pub invariant-loop-byte : goal.invariant-loop-byte

@@ -1,5 +1,4 @@
-use Rattle.std.proofs.Common.{◌≡◌, ◌≤◌, ◌+◌, drop}
-use Rattle.answer_journal.specs.Format.{valued_count}
+use Rattle.answer_journal.proofs.Prelude.{◌≡◌, ◌≤◌, ◌+◌, drop, valued_count}
 use Rattle.answer_journal.proofs.encode.valued_count.Given as goal
 
 abbrev pub invariant-loop-v : goal.invariant-loop-v

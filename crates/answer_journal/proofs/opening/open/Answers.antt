@@ -1,10 +1,4 @@
-use Rattle.std.proofs.Common.{◌≡◌, ◌<◌, ◌≤◌, ◌⊎◌, ◌+◌, ◌-◌, ◌++◌, ◌∙◌, ℕ, List, false, All, length, drop, inl, inr, ⊎_elim, ap, sym, subst, arith, take_at}
-use Rattle.std.proofs.lemmas.Result.{err_from_is_err_and}
-use Rattle.answer_journal.specs.Storable.{IsStorableEvent}
-use Rattle.answer_journal.specs.Format.{session_tail}
-use Rattle.answer_journal.specs.Heads.{IsHead}
-use Rattle.answer_journal.specs.Journal.{Spells, ReadsAs, Session}
-use Rattle.answer_journal.specs.Found.{EventsRefused, HasEvents}
+use Rattle.answer_journal.proofs.Prelude.{◌≡◌, ◌<◌, ◌≤◌, ◌⊎◌, ◌+◌, ◌-◌, ◌++◌, ◌∙◌, ℕ, List, false, All, length, drop, inl, inr, ⊎_elim, ap, sym, subst, arith, take_at, err_from_is_err_and, IsStorableEvent, session_tail, IsHead, Spells, ReadsAs, Session, EventsRefused, HasEvents}
 use Rattle.answer_journal.proofs.Sizes.{read_size}
 use Rattle.answer_journal.proofs.RecordLists.{all_storable}
 use Rattle.answer_journal.proofs.OnlyRead.{read_more, then_read}

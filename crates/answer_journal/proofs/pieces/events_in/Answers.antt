@@ -1,7 +1,4 @@
-use Rattle.std.proofs.Common.{◌≡◌, ◌≤◌, ◌+◌, [], length, inl, inr, ap, arith, length-append}
-use Rattle.std.proofs.lemmas.Result.{err_from_is_err_and}
-use Rattle.answer_journal.specs.Format.{MOST_RECORDS, record_tail}
-use Rattle.answer_journal.specs.Records.{with_record}
+use Rattle.answer_journal.proofs.Prelude.{◌≡◌, ◌≤◌, ◌+◌, [], length, inl, inr, ap, arith, length-append, err_from_is_err_and, MOST_RECORDS, record_tail, with_record}
 use Rattle.answer_journal.proofs.RecordLoop.{behind_first, one_gate, IsWide, closes, breaks_off, one_read, one_more, overflows, not_noted, not_noted_somewhere}
 use Rattle.answer_journal.proofs.pieces.events_in.Goals.{then-is_last, else-is_last+then-rest-gt-LONGEST}
 use Rattle.answer_journal.proofs.SomeBytes.{breaks_off_somewhere, overflows_somewhere}

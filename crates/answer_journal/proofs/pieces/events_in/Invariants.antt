@@ -1,7 +1,4 @@
-use Rattle.std.proofs.Common.{◌≤◌, ◌<◌, ◌+◌, ◌-◌, ℕ, List, length}
-use Rattle.answer_journal.specs.declared.record.Record.{Record}
-use Rattle.answer_journal.specs.Format.{MOST_RECORDS}
-use Rattle.answer_journal.specs.Found.{IsRead}
+use Rattle.answer_journal.proofs.Prelude.{◌≤◌, ◌<◌, ◌+◌, ◌-◌, ℕ, List, length, Record, MOST_RECORDS, IsRead}
 use Rattle.answer_journal.proofs.RecordLoop.{Went}
 use Rattle.answer_journal.proofs.pieces.events_in.Given as goal
 

@@ -1,10 +1,7 @@
-use Rattle.std.proofs.Common.{ltb, ◌<◌, ◌∙◌, ℕ, List, drop, take, length, inr, sym, subst, arith, length-drop, length-take-le}
-use Rattle.std.proofs.lemmas.Bool.{ltb-false}
+use Rattle.answer_journal.proofs.Prelude.{ltb, ◌<◌, ◌∙◌, ℕ, List, drop, take, length, inr, sym, subst, arith, length-drop, length-take-le, ltb-false, err_from_is_err_and, WereRead, BeginsWith, gate_reached, IsReached, IsProgress, IsFar}
 use borrow.Author.Tests.{ltb-true}
-use Rattle.std.proofs.lemmas.Result.{err_from_is_err_and}
 use Rattle.answer_journal.specs.declared.pieces.Reached.{Reached}
 use Rattle.answer_journal.specs.declared.pieces.Reached.TheVariants.{Further}
-use Rattle.answer_journal.specs.Found.{WereRead, BeginsWith, gate_reached, IsReached, IsProgress, IsFar}
 use Rattle.answer_journal.proofs.Sizes.{read_size}
 use Rattle.answer_journal.proofs.RecordLoop.{has_read}
 use Rattle.answer_journal.proofs.FewCalls.{few_read, few_further}

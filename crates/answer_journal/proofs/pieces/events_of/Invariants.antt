@@ -1,7 +1,4 @@
-use Rattle.std.proofs.Common.{◌≡◌, ◌≤◌, ◌+◌, ◌-◌, ◌*◌, ℕ, List, Some, length}
-use Rattle.answer_journal.specs.Calls.{TakesPieces}
-use Rattle.answer_journal.specs.Format.{MOST_RECORDS}
-use Rattle.disk_model.specs.Moments.{IsOnlyRead}
+use Rattle.answer_journal.proofs.Prelude.{◌≡◌, ◌≤◌, ◌+◌, ◌-◌, ◌*◌, ℕ, List, Some, length, TakesPieces, MOST_RECORDS, IsOnlyRead}
 use Rattle.answer_journal.proofs.RecordLoop.{HasRead}
 use Rattle.answer_journal.proofs.pieces.events_of.Given as goal
 

@@ -1,7 +1,5 @@
-use Rattle.std.proofs.Common.{rules, ◌≡◌}
-use Rattle.cert_check.specs.declared.verdict.Verdict.TheVariants.{Yes, No}
+use Rattle.cert_check.proofs.Prelude.{rules, ◌≡◌, Yes, No, verdict}
 use Rattle.cert_check.specs.declared.verdict.Flaw.TheVariants.{Refutation}
-use Rattle.cert_check.specs.Checking.{verdict}
 use Rattle.cert_check.proofs.Goodness.{good_is_converged}
 use Rattle.cert_check.proofs.Verdicts.{good_at}
 use Rattle.cert_check.proofs.checking.check.Goals as goal

@@ -1,5 +1,4 @@
-use Rattle.std.proofs.Common.{sym, ◌∙◌, ap, not}
-use Rattle.cert_check.specs.Checking.{is_unearned}
+use Rattle.cert_check.proofs.Prelude.{sym, ◌∙◌, ap, not, is_unearned}
 use Rattle.cert_check.proofs.Finding.{fails_more, found_read, none_through}
 use Rattle.cert_check.proofs.checking.first_unearned.Goals as goal
 

@@ -1,6 +1,4 @@
-use Rattle.std.proofs.Common.{◌≡◌, take, false}
-use Rattle.std.specs.Prelude.{All}
-use Rattle.cert_check.specs.Checking.{is_unearned}
+use Rattle.cert_check.proofs.Prelude.{◌≡◌, take, false, All, is_unearned}
 use Rattle.cert_check.proofs.checking.first_unearned.Given as goal
 
 abbrev pub invariant-loop-i : goal.invariant-loop-i

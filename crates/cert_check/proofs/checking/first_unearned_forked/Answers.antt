@@ -1,6 +1,4 @@
-use Rattle.std.proofs.Common.{◌≡◌, ◌+◌, ◌*◌, ◌/◌, ◌<◌, ◌≤◌, length, take, get_or, false, Some, None, sym, ◌∙◌, ap, subst, arith}
-use Rattle.std.specs.Prelude.{All, position}
-use Rattle.cert_check.specs.Checking.{is_unearned}
+use Rattle.cert_check.proofs.Prelude.{◌≡◌, ◌+◌, ◌*◌, ◌/◌, ◌<◌, ◌≤◌, length, take, get_or, false, Some, None, sym, ◌∙◌, ap, subst, arith, All, position, is_unearned}
 use Rattle.cert_check.proofs.Finding.{within, chunk_none, chunk_some, chunk_begins, chunks_reach, none_through}
 use Rattle.cert_check.proofs.checking.first_unearned_forked.Goals as goal
 

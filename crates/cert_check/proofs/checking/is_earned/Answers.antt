@@ -1,6 +1,4 @@
-use Rattle.std.proofs.Common.{sym, ◌∙◌, ap}
-use Rattle.language.specs.declared.candidates.Candidate.{Candidate}
-use Rattle.cert_check.specs.Refuting.{refutes}
+use Rattle.cert_check.proofs.Prelude.{sym, ◌∙◌, ap, Candidate, refutes}
 use Rattle.cert_check.proofs.Finding.{candidate_is}
 use Rattle.cert_check.proofs.checking.is_earned.Goals as goal
 

@@ -1,6 +1,4 @@
-use Rattle.std.proofs.Common.{length, codes}
-use Rattle.std.specs.List.{flat_map}
-use Rattle.cert_check.specs.Written.{count_line, entry_line}
+use Rattle.cert_check.proofs.Prelude.{length, codes, flat_map, count_line, entry_line}
 use Rattle.cert_check.proofs.Sheets.{adds_more, adds_next, adds_all}
 use Rattle.cert_check.proofs.making.add_answers.Goals as goal
 

@@ -1,12 +1,5 @@
-use Rattle.std.proofs.Common.{◌≡◌, false, length, get_or, codes, Some, sym, ◌∙◌, ap, subst}
-use Rattle.std.specs.Prelude.{All, option_map}
-use Rattle.std.specs.List.{flat_map}
-use Rattle.std.proofs.lemmas.List.{take_all}
-use Rattle.language.specs.declared.candidates.Candidate.{Candidate}
-use Rattle.language.specs.Language.{number_of}
-use Rattle.cert_check.specs.declared.fault.MakeFault.TheVariants.{Long}
-use Rattle.cert_check.specs.Making.{is_long, refutation_of}
-use Rattle.cert_check.specs.Written.{count_line, listed_line}
+use Rattle.cert_check.proofs.Prelude.{◌≡◌, false, length, get_or, codes, Some, sym, ◌∙◌, ap, subst, All, flat_map, take_all, Candidate, number_of, Long, is_long, refutation_of, count_line, listed_line}
+use Rattle.std.specs.Prelude.{option_map}
 use Rattle.cert_check.proofs.Finding.{within, fails_more}
 use Rattle.cert_check.proofs.Listing.{find_none, find_at, section_added}
 use Rattle.cert_check.proofs.Sheets.{adds_more, adds_next, adds_all}

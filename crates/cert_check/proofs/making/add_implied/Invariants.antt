@@ -1,9 +1,4 @@
-use Rattle.std.proofs.Common.{◌≡◌, false, take}
-use Rattle.std.specs.Prelude.{All}
-use Rattle.std.specs.List.{flat_map}
-use Rattle.cert_check.specs.Making.{is_long, refutation_of}
-use Rattle.cert_check.specs.Sheets.{Adds}
-use Rattle.cert_check.specs.Written.{listed_line}
+use Rattle.cert_check.proofs.Prelude.{◌≡◌, false, take, All, flat_map, is_long, refutation_of, Adds, listed_line}
 use Rattle.cert_check.proofs.making.add_implied.Given as goal
 
 abbrev pub invariant-loop-c : goal.invariant-loop-c

@@ -1,7 +1,4 @@
-use Rattle.std.proofs.Common.{length, get_or, codes}
-use Rattle.std.specs.List.{flat_map}
-use Rattle.language.specs.declared.candidates.Candidate.{Candidate}
-use Rattle.cert_check.specs.Written.{count_line, item_line}
+use Rattle.cert_check.proofs.Prelude.{length, get_or, codes, flat_map, Candidate, count_line, item_line}
 use Rattle.cert_check.proofs.Finding.{within}
 use Rattle.cert_check.proofs.Sheets.{adds_more, adds_next, adds_all}
 use Rattle.cert_check.proofs.making.add_network.Goals as goal

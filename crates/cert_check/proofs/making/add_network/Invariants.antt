@@ -1,7 +1,4 @@
-use Rattle.std.proofs.Common.{take}
-use Rattle.std.specs.List.{flat_map}
-use Rattle.cert_check.specs.Sheets.{Adds}
-use Rattle.cert_check.specs.Written.{item_line}
+use Rattle.cert_check.proofs.Prelude.{take, flat_map, Adds, item_line}
 use Rattle.cert_check.proofs.making.add_network.Given as goal
 
 abbrev pub invariant-loop-c : goal.invariant-loop-c

@@ -1,8 +1,4 @@
-use Rattle.std.proofs.Common.{length, arith}
-use Rattle.std.proofs.lemmas.List.FromFn.{length-range_with_len}
-use Rattle.assign.specs.Sets.{numbers}
-use Rattle.assign.specs.Assignment.{value_of}
-use Rattle.cert_check.specs.Written.{numbered_value}
+use Rattle.cert_check.proofs.Prelude.{length, arith, length-range_with_len, numbers, value_of, numbered_value}
 use Rattle.cert_check.proofs.Sheets.{adds_none, adds_next_number, adds_all}
 use Rattle.cert_check.proofs.making.add_values.Goals as goal
 

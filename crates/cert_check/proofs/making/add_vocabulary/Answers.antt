@@ -1,6 +1,4 @@
-use Rattle.std.proofs.Common.{ℕ, List, [], ◌∷◌, ◌++◌, length, subst, codes}
-use Rattle.cert_check.specs.Sheets.{Adds}
-use Rattle.cert_check.specs.Written.{count_line, vocabulary_section}
+use Rattle.cert_check.proofs.Prelude.{ℕ, List, [], ◌∷◌, ◌++◌, length, subst, codes, Adds, count_line, vocabulary_section}
 use Rattle.cert_check.proofs.Sheets.{adds_more, on_ok}
 use Rattle.cert_check.proofs.making.add_vocabulary.Goals as goal
 

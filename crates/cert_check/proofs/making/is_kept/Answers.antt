@@ -1,5 +1,4 @@
-use Rattle.std.proofs.Common.{sym, ◌∙◌, ap, ◌&&◌, not}
-use Rattle.language.specs.Answers.{has_scope, is_struck}
+use Rattle.cert_check.proofs.Prelude.{sym, ◌∙◌, ap, ◌&&◌, not, has_scope, is_struck}
 use Rattle.cert_check.proofs.ByScope.{kept_is}
 use Rattle.cert_check.proofs.making.is_kept.Goals as goal
 

@@ -1,8 +1,4 @@
-use Rattle.std.proofs.Common.{◌≡◌, ◌<◌, ◌++◌, [], ◌∷◌, Vec, Global, true, false, length, sym, ◌∙◌, ap, subst, arith}
-use Rattle.std.specs.Prelude.{All}
-use Rattle.std.proofs.lemmas.List.Elements.{All-push}
-use Rattle.language.specs.declared.candidates.Candidate.{Candidate}
-use Rattle.language.specs.Language.{IsCandidate, IsImplied, candidates}
+use Rattle.cert_check.proofs.Prelude.{◌≡◌, ◌<◌, ◌++◌, [], ◌∷◌, Vec, Global, true, false, length, sym, ◌∙◌, ap, subst, arith, All, All-push, Candidate, IsCandidate, IsImplied, candidates}
 use Rattle.cert_check.proofs.Finding.{candidate_read}
 use Rattle.cert_check.proofs.Listing.{is_kept, implied_if_kept, kept_more, kept_all}
 use Rattle.cert_check.proofs.making.kept.Goals as goal

@@ -1,7 +1,4 @@
-use Rattle.std.proofs.Common.{◌≡◌, take}
-use Rattle.std.specs.Prelude.{All}
-use Rattle.std.specs.List.{filter}
-use Rattle.language.specs.Language.{IsCandidate, IsImplied, candidates}
+use Rattle.cert_check.proofs.Prelude.{◌≡◌, take, All, filter, IsCandidate, IsImplied, candidates}
 use Rattle.cert_check.proofs.Listing.{is_kept}
 use Rattle.cert_check.proofs.making.kept.Given as goal
 

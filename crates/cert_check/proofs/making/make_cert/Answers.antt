@@ -1,11 +1,4 @@
-use Rattle.std.proofs.Common.{◌≡◌, ◌++◌, ℕ, List, [], Result, sym, ◌∙◌, subst}
-use Rattle.std.specs.Prelude.{find, None, map, string_bytes}
-use Rattle.language.specs.declared.candidates.Candidate.{Candidate}
-use Rattle.language.specs.Answers.{kept}
-use Rattle.cert_check.specs.declared.fault.MakeFault.{MakeFault}
-use Rattle.cert_check.specs.Making.{Makes, certificate_of, is_long, refutation_of}
-use Rattle.cert_check.specs.Sheets.{Adds}
-use Rattle.cert_check.specs.Written.{answers_section, certificate_text, end_line, implied_section, network_section, vocabulary_section}
+use Rattle.cert_check.proofs.Prelude.{◌≡◌, ◌++◌, ℕ, List, [], Result, sym, ◌∙◌, subst, find, None, map, string_bytes, Candidate, kept, MakeFault, Makes, certificate_of, is_long, refutation_of, Adds, answers_section, certificate_text, end_line, implied_section, network_section, vocabulary_section}
 use Rattle.cert_check.proofs.Listing.{text_is_made}
 use Rattle.cert_check.proofs.Scopes.{few_items}
 use Rattle.cert_check.proofs.Sheets.{adds_more}

@@ -1,5 +1,4 @@
-use Rattle.std.proofs.lemmas.Result.{err_from_is_err_and}
-use Rattle.cert_check.specs.Read.{unread}
+use Rattle.cert_check.proofs.Prelude.{err_from_is_err_and, unread}
 use Rattle.cert_check.proofs.Faults.{unread_before, result_read, result_refused}
 use Rattle.cert_check.proofs.reading.read_short.Goals as goal
 

@@ -1,12 +1,4 @@
-use Rattle.std.proofs.Common.{◌≡◌, ◌+◌, ◌-◌, List, sym, ◌∙◌, ap, subst}
-use Rattle.std.specs.Prelude.{All, IfSome}
-use Rattle.std.proofs.lemmas.List.Elements.{All-push}
-use Rattle.std.proofs.lemmas.Result.{err_from_is_err_and}
-use Rattle.assign.specs.Events.{Answer}
-use Rattle.language.specs.Language.{IsQuestion}
-use Rattle.cert_check.specs.declared.fault.CertFault.TheVariants.{BadLine}
-use Rattle.cert_check.specs.Reading.{answer_in, answer_lines}
-use Rattle.cert_check.specs.Read.{unread}
+use Rattle.cert_check.proofs.Prelude.{◌≡◌, ◌+◌, ◌-◌, List, sym, ◌∙◌, ap, subst, All, IfSome, All-push, err_from_is_err_and, Answer, IsQuestion, BadLine, answer_in, answer_lines, unread}
 use Rattle.cert_check.proofs.InTurn.{or_value, or_fault, next_read, next_missing, next_wrong, with_front, lines_go_on, lines_end, lines_done}
 use Rattle.cert_check.proofs.sections.answer_lines.Goals as goal
 

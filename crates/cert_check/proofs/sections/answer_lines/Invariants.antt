@@ -1,8 +1,4 @@
-use Rattle.std.proofs.Common.{◌≡◌, ◌-◌, vec_len}
-use Rattle.std.specs.Prelude.{All}
-use Rattle.language.specs.Language.{IsQuestion}
-use Rattle.cert_check.specs.Reading.{answer_lines}
-use Rattle.cert_check.specs.Read.{AreFew, unread}
+use Rattle.cert_check.proofs.Prelude.{◌≡◌, ◌-◌, vec_len, All, IsQuestion, answer_lines, AreFew, unread}
 use Rattle.cert_check.proofs.InTurn.{with_front}
 use Rattle.cert_check.proofs.sections.answer_lines.Given as goal
 

@@ -1,10 +1,4 @@
-use Rattle.std.proofs.Common.{◌≡◌, ◌+◌, ◌-◌, sym, ◌∙◌, ap, subst}
-use Rattle.std.proofs.lemmas.List.Elements.{All-push}
-use Rattle.std.proofs.lemmas.Result.{err_from_is_err_and}
-use Rattle.language.specs.Answers.{IsNetwork}
-use Rattle.language.specs.Language.{IsCandidate}
-use Rattle.cert_check.specs.Reading.{item_in, item_lines}
-use Rattle.cert_check.specs.Read.{unread}
+use Rattle.cert_check.proofs.Prelude.{◌≡◌, ◌+◌, ◌-◌, sym, ◌∙◌, ap, subst, All-push, err_from_is_err_and, IsNetwork, IsCandidate, item_in, item_lines, unread}
 use Rattle.cert_check.proofs.InTurn.{with_front, lines_go_on, lines_end, lines_done}
 use Rattle.cert_check.proofs.sections.item_lines.Goals as goal
 

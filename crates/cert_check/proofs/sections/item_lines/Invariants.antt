@@ -1,7 +1,4 @@
-use Rattle.std.proofs.Common.{◌≡◌, ◌-◌, vec_len}
-use Rattle.language.specs.Answers.{IsNetwork}
-use Rattle.cert_check.specs.Reading.{item_lines}
-use Rattle.cert_check.specs.Read.{AreFew, unread}
+use Rattle.cert_check.proofs.Prelude.{◌≡◌, ◌-◌, vec_len, IsNetwork, item_lines, AreFew, unread}
 use Rattle.cert_check.proofs.InTurn.{with_front}
 use Rattle.cert_check.proofs.sections.item_lines.Given as goal
 

@@ -1,11 +1,4 @@
-use Rattle.std.proofs.Common.{ℕ, ◌+◌, ◌-◌, ◌<◌, List, length, sym, ◌∙◌, ap, subst}
-use Rattle.std.specs.Prelude.{All}
-use Rattle.std.proofs.lemmas.List.Elements.{All-push}
-use Rattle.std.proofs.lemmas.Result.{err_from_is_err_and}
-use Rattle.language.specs.Language.{candidates}
-use Rattle.cert_check.specs.Certificate.{Refutation}
-use Rattle.cert_check.specs.Reading.{listed_in, lines_in, listed_lines}
-use Rattle.cert_check.specs.Read.{unread}
+use Rattle.cert_check.proofs.Prelude.{ℕ, ◌+◌, ◌-◌, ◌<◌, List, length, sym, ◌∙◌, ap, subst, All, All-push, err_from_is_err_and, candidates, Refutation, listed_in, lines_in, listed_lines, unread}
 use Rattle.cert_check.proofs.InTurn.{with_front, lines_go_on, lines_end, lines_done}
 use Rattle.cert_check.proofs.sections.listed_lines.Goals as goal
 

@@ -1,9 +1,4 @@
-use Rattle.std.proofs.Common.{◌≡◌, ◌+◌, ◌-◌, ◌<◌, length, vec_len}
-use Rattle.std.specs.Prelude.{All}
-use Rattle.language.specs.Language.{candidates}
-use Rattle.cert_check.specs.Certificate.{Refutation}
-use Rattle.cert_check.specs.Reading.{listed_in, lines_in, listed_lines}
-use Rattle.cert_check.specs.Read.{AreFew, unread}
+use Rattle.cert_check.proofs.Prelude.{◌≡◌, ◌+◌, ◌-◌, ◌<◌, length, vec_len, All, candidates, Refutation, listed_in, lines_in, listed_lines, AreFew, unread}
 use Rattle.cert_check.proofs.InTurn.{with_front}
 use Rattle.cert_check.proofs.sections.listed_lines.Given as goal
 

@@ -1,7 +1,4 @@
-use Rattle.std.proofs.Common.{◌≡◌, ◌∷◌, ◌+◌, sym, ◌∙◌, ap, subst}
-use Rattle.language.specs.Language.{IsQuestion}
-use Rattle.cert_check.specs.Reading.{pair_in, with_pairs, question_in}
-use Rattle.line_text.specs.Left.{words_left}
+use Rattle.cert_check.proofs.Prelude.{◌≡◌, ◌∷◌, ◌+◌, sym, ◌∙◌, ap, subst, IsQuestion, pair_in, with_pairs, question_in, words_left}
 use Rattle.cert_check.proofs.InTurn.{pairs_go_on, pairs_bad, pairs_done, question_set}
 use Rattle.cert_check.proofs.sections.question_in.Goals as goal
 use Rattle.cert_check.proofs.sections.question_in.Goals.{In-Some}

@@ -1,7 +1,4 @@
-use Rattle.std.proofs.Common.{◌≡◌}
-use Rattle.language.specs.Language.{IsQuestion}
-use Rattle.cert_check.specs.Reading.{with_pairs, question_in}
-use Rattle.line_text.specs.Left.{words_left}
+use Rattle.cert_check.proofs.Prelude.{◌≡◌, IsQuestion, with_pairs, question_in, words_left}
 use Rattle.cert_check.proofs.sections.question_in.Given as goal
 
 abbrev pub invariant-loop-word : goal.invariant-loop-word

@@ -1,9 +1,4 @@
-use Rattle.std.proofs.Common.{◌≡◌, ◌∷◌, sym, ◌∙◌, ap, subst}
-use Rattle.std.specs.Option.{ok_or}
-use Rattle.std.proofs.lemmas.Result.{err_from_is_err_and}
-use Rattle.cert_check.specs.declared.fault.CertFault.TheVariants.{BadLine}
-use Rattle.cert_check.specs.Reading.{tokens_in}
-use Rattle.line_text.specs.Left.{words_left}
+use Rattle.cert_check.proofs.Prelude.{◌≡◌, ◌∷◌, sym, ◌∙◌, ap, subst, ok_or, err_from_is_err_and, BadLine, tokens_in, words_left}
 use Rattle.cert_check.proofs.InTurn.{or_value, or_fault, or_missing, with_tokens, tokens_go_on, tokens_bad, tokens_done}
 use Rattle.cert_check.proofs.sections.tokens_in.Goals as goal
 use Rattle.cert_check.proofs.sections.tokens_in.Goals.{In-Some}

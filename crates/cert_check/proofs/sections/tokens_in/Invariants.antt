@@ -1,6 +1,4 @@
-use Rattle.std.proofs.Common.{◌≡◌}
-use Rattle.cert_check.specs.Reading.{tokens_in}
-use Rattle.line_text.specs.Left.{words_left}
+use Rattle.cert_check.proofs.Prelude.{◌≡◌, tokens_in, words_left}
 use Rattle.cert_check.proofs.InTurn.{with_tokens}
 use Rattle.cert_check.proofs.sections.tokens_in.Given as goal
 

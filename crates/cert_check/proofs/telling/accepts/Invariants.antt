@@ -1,6 +1,4 @@
-use Rattle.std.proofs.Common.{◌≡◌, take, true, not}
-use Rattle.std.specs.List.{list_all}
-use Rattle.language.specs.Language.{violates}
+use Rattle.cert_check.proofs.Prelude.{◌≡◌, take, true, not, list_all, violates}
 use Rattle.cert_check.proofs.telling.accepts.Given as goal
 
 abbrev pub invariant-loop-i : goal.invariant-loop-i

@@ -1,5 +1,4 @@
-use Rattle.std.proofs.Common.{sym, ◌∙◌}
-use Rattle.cert_check.specs.Checking.{is_other}
+use Rattle.cert_check.proofs.Prelude.{sym, ◌∙◌, is_other}
 use Rattle.cert_check.proofs.Finding.{fails_more, found_read, none_through}
 use Rattle.cert_check.proofs.telling.first_other.Goals as goal
 

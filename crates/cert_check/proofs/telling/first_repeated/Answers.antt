@@ -1,5 +1,4 @@
-use Rattle.std.proofs.Common.{sym, ◌∙◌, below_more, arith}
-use Rattle.cert_check.specs.Checking.{repeats_scope}
+use Rattle.cert_check.proofs.Prelude.{sym, ◌∙◌, below_more, arith, repeats_scope}
 use Rattle.cert_check.proofs.Finding.{number_found, no_number}
 use Rattle.cert_check.proofs.telling.first_repeated.Goals as goal
 

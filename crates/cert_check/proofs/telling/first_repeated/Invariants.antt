@@ -1,5 +1,4 @@
-use Rattle.std.proofs.Common.{◌≡◌, ℕ, ◌<◌, false}
-use Rattle.cert_check.specs.Checking.{repeats_scope}
+use Rattle.cert_check.proofs.Prelude.{◌≡◌, ℕ, ◌<◌, false, repeats_scope}
 use Rattle.cert_check.proofs.telling.first_repeated.Given as goal
 
 abbrev pub invariant-loop-i : goal.invariant-loop-i

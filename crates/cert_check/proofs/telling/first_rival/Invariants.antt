@@ -1,9 +1,4 @@
-use Rattle.std.proofs.Common.{◌≡◌, List, take, false}
-use Rattle.std.specs.Prelude.{All}
-use Rattle.assign.specs.Events.{Answer}
-use Rattle.language.specs.Language.{candidates}
-use Rattle.cert_check.specs.Checking.{is_rival}
-use Rattle.cert_check.specs.Told.{IsTold}
+use Rattle.cert_check.proofs.Prelude.{◌≡◌, List, take, false, All, Answer, candidates, is_rival, IsTold}
 use Rattle.cert_check.proofs.telling.first_rival.Given as goal
 
 abbrev pub invariant-loop-number : goal.invariant-loop-number

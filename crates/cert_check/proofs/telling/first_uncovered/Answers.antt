@@ -1,6 +1,4 @@
-use Rattle.std.proofs.Common.{◌<◌, ◌≤◌, length, sym, ◌∙◌, arith}
-use Rattle.language.specs.Language.{candidates}
-use Rattle.cert_check.specs.Checking.{is_uncovered}
+use Rattle.cert_check.proofs.Prelude.{◌<◌, ◌≤◌, length, sym, ◌∙◌, arith, candidates, is_uncovered}
 use Rattle.cert_check.proofs.Finding.{candidate_read, fails_more, found_read, none_through}
 use Rattle.cert_check.proofs.telling.first_uncovered.Goals as goal
 

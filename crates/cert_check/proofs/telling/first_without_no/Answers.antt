@@ -1,6 +1,4 @@
-use Rattle.std.proofs.Common.{sym, ◌∙◌, ap, not, get_or}
-use Rattle.language.specs.declared.candidates.Candidate.{Candidate}
-use Rattle.cert_check.specs.Checking.{has_own_no}
+use Rattle.cert_check.proofs.Prelude.{sym, ◌∙◌, ap, not, get_or, Candidate, has_own_no}
 use Rattle.cert_check.proofs.Finding.{within, fails_more, found_read, none_through}
 use Rattle.cert_check.proofs.telling.first_without_no.Goals as goal
 

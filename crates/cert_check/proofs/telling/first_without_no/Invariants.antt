@@ -1,8 +1,4 @@
-use Rattle.std.proofs.Common.{◌≡◌, List, take, false, not}
-use Rattle.std.specs.Prelude.{All}
-use Rattle.assign.specs.Events.{Answer}
-use Rattle.cert_check.specs.Checking.{has_own_no}
-use Rattle.cert_check.specs.Told.{IsTold}
+use Rattle.cert_check.proofs.Prelude.{◌≡◌, List, take, false, not, All, Answer, has_own_no, IsTold}
 use Rattle.cert_check.proofs.telling.first_without_no.Given as goal
 
 abbrev pub invariant-loop-i : goal.invariant-loop-i

@@ -1,7 +1,4 @@
-use Rattle.std.proofs.Common.{◌≡◌, take, false}
-use Rattle.std.specs.Prelude.{◌==◌}
-use Rattle.std.specs.List.{list_any}
-use Rattle.cert_check.specs.Certificate.{Refutation}
+use Rattle.cert_check.proofs.Prelude.{◌≡◌, take, false, ◌==◌, list_any, Refutation}
 use Rattle.cert_check.proofs.telling.has_refutation.Given as goal
 
 abbrev pub invariant-loop-item : goal.invariant-loop-item

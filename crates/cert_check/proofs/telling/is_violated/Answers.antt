@@ -1,5 +1,4 @@
-use Rattle.std.proofs.Common.{sym, ◌∙◌}
-use Rattle.assign.specs.Sets.{is_within}
+use Rattle.cert_check.proofs.Prelude.{sym, ◌∙◌, is_within}
 use Rattle.cert_check.proofs.ByScope.{open_holds}
 use Rattle.cert_check.proofs.telling.is_violated.Goals as goal
 

@@ -1,5 +1,4 @@
-use Rattle.std.proofs.Common.{◌≡◌, map, take}
-use Rattle.language.specs.Language.{scope_of}
+use Rattle.cert_check.proofs.Prelude.{◌≡◌, map, take, scope_of}
 use Rattle.cert_check.proofs.telling.scopes_of.Given as goal
 
 abbrev pub invariant-loop-c : goal.invariant-loop-c

@@ -1,5 +1,4 @@
-use Rattle.std.proofs.Common.{◌≡◌, ◌++◌, length, take}
-use Rattle.std.specs.Prelude.{string_bytes}
+use Rattle.cert_check.proofs.Prelude.{◌≡◌, ◌++◌, length, take, string_bytes}
 use Rattle.cert_check.specs.Texts.{confirmed_line, items_text}
 use Rattle.cert_check.proofs.text.confirmed_text.Given as goal
 

@@ -1,8 +1,4 @@
-use Rattle.std.proofs.Common.{◌≡◌, length, None, sym, ◌∙◌, ap, subst, arith}
-use Rattle.std.specs.Prelude.{IfSome}
-use Rattle.assign.specs.Assignment.{variables_of}
-use Rattle.assign.specs.Events.{Answer}
-use Rattle.language.specs.Language.{scope_at, scope_number}
+use Rattle.cert_check.proofs.Prelude.{◌≡◌, length, None, sym, ◌∙◌, ap, subst, arith, IfSome, variables_of, Answer, scope_at, scope_number}
 use Rattle.cert_check.proofs.ByScope.{about_found, only_scope, too_many}
 use Rattle.cert_check.proofs.told.own_scope.Goals as goal
 

@@ -1,10 +1,4 @@
-use Rattle.std.proofs.Common.{◌≡◌, ℕ, ◌+◌, ◌<◌, not, Vec, Global, Option, Some, None, List, length, slice_set, bit_or, sym, ◌∙◌, ap, subst, take, arith}
-use Rattle.std.specs.Prelude.{slice_index_or, unwrap_or}
-use Rattle.std.proofs.lemmas.Bool.{false_from_ne_true}
-use Rattle.assign.specs.SetLemmas.{is_one}
-use Rattle.assign.specs.Events.{Answer}
-use Rattle.language.specs.Language.{relations_on, violates}
-use Rattle.cert_check.specs.Told.{AreSpared}
+use Rattle.cert_check.proofs.Prelude.{◌≡◌, ℕ, ◌+◌, ◌<◌, not, Vec, Global, Option, Some, None, List, length, slice_set, bit_or, sym, ◌∙◌, ap, subst, take, arith, slice_index_or, unwrap_or, false_from_ne_true, is_one, Answer, relations_on, violates, AreSpared}
 use Rattle.cert_check.proofs.ByScope.{spared_same, spared_more}
 use Rattle.cert_check.proofs.Finding.{within}
 use Rattle.cert_check.proofs.told.spared.Goals as goal

@@ -1,5 +1,4 @@
-use Rattle.std.proofs.Common.{take}
-use Rattle.cert_check.specs.Told.{AreSpared}
+use Rattle.cert_check.proofs.Prelude.{take, AreSpared}
 use Rattle.cert_check.proofs.told.spared.Given as goal
 
 abbrev pub invariant-loop-entry : goal.invariant-loop-entry

@@ -1,8 +1,4 @@
-use Rattle.std.proofs.Common.{not, sym, ◌∙◌, ap, subst}
-use Rattle.std.specs.List.{filter}
-use Rattle.assign.specs.Events.{Answer}
-use Rattle.bias_store.specs.KeptSet.{IsMadeFor, KeptSet}
-use Rattle.language.specs.Language.{violates}
+use Rattle.cert_check.proofs.Prelude.{not, sym, ◌∙◌, ap, subst, filter, Answer, IsMadeFor, KeptSet, violates}
 use Rattle.cert_check.proofs.ByScope.{none_struck, yes_strikes, no_strikes}
 use Rattle.cert_check.proofs.told.unstruck.Goals as goal
 use Rattle.cert_check.proofs.told.unstruck.Goals.{then-entry, else-entry}

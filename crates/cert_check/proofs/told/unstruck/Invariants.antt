@@ -1,6 +1,4 @@
-use Rattle.std.proofs.Common.{◌≡◌, take}
-use Rattle.bias_store.specs.KeptSet.{IsMadeFor}
-use Rattle.cert_check.specs.Told.{unstruck}
+use Rattle.cert_check.proofs.Prelude.{◌≡◌, take, IsMadeFor, unstruck}
 use Rattle.cert_check.proofs.told.unstruck.Given as goal
 
 abbrev pub invariant-loop-entry : goal.invariant-loop-entry

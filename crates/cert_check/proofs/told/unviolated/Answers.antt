@@ -1,4 +1,4 @@
-use Rattle.std.proofs.Common.{refl, sym, ◌∙◌}
+use Rattle.cert_check.proofs.Prelude.{refl, sym, ◌∙◌}
 use Rattle.cert_check.proofs.ByScope.{unviolated_bare, unviolated_at}
 use Rattle.cert_check.proofs.told.unviolated.Goals as goal
 

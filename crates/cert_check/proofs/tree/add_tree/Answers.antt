@@ -1,9 +1,4 @@
-use Rattle.std.proofs.Common.{ℕ, ◌+◌, ◌<◌, length, sym, ◌∙◌, ap, subst, arith}
-use Rattle.std.specs.Prelude.{IfSome}
-use Rattle.language.specs.Language.{variable_count}
-use Rattle.language.specs.Search.{IsOrder}
-use Rattle.cert_check.specs.ByVariable.{AreOnLast}
-use Rattle.cert_check.specs.Walking.{ahead}
+use Rattle.cert_check.proofs.Prelude.{ℕ, ◌+◌, ◌<◌, length, sym, ◌∙◌, ap, subst, arith, IfSome, variable_count, IsOrder, AreOnLast, ahead}
 use Rattle.cert_check.proofs.Walking.{at_blank, at_question}
 use Rattle.cert_check.proofs.Growing.{IsWritten, node_is, has_room, writing_begins, next_counts, goes_on, fewer_left, too_long, not_long, whole_added}
 use Rattle.cert_check.proofs.OnLast.{clean_begins, clean_here, clean_next, are_on_last, last_known}

@@ -1,6 +1,4 @@
-use Rattle.std.proofs.Common.{◌≤◌, length}
-use Rattle.std.specs.Prelude.{All}
-use Rattle.cert_check.specs.Walking.{IsAt, ahead}
+use Rattle.cert_check.proofs.Prelude.{◌≤◌, length, All, IsAt, ahead}
 use Rattle.cert_check.proofs.Growing.{IsWritten}
 use Rattle.cert_check.proofs.OnLast.{IsClean}
 use Rattle.cert_check.proofs.Trees.{forest}

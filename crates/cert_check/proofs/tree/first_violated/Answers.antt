@@ -1,7 +1,4 @@
-use Rattle.std.proofs.Common.{◌<◌, Some, ◌∙◌, subst}
-use Rattle.std.specs.Prelude.{IfSome}
-use Rattle.language.specs.Language.{variable_count}
-use Rattle.cert_check.specs.ByVariable.{AreOnLast}
+use Rattle.cert_check.proofs.Prelude.{◌<◌, Some, ◌∙◌, subst, IfSome, variable_count, AreOnLast}
 use Rattle.cert_check.proofs.Firsts.{first_in_row, first_of_none, row_of, row_there}
 use Rattle.cert_check.proofs.tree.first_violated.Goals as goal
 

@@ -1,4 +1,4 @@
-use Rattle.std.proofs.Common.{arith}
+use Rattle.cert_check.proofs.Prelude.{arith}
 use Rattle.cert_check.proofs.OnLast.{last_some}
 use Rattle.cert_check.proofs.tree.last_variable.Goals as goal
 

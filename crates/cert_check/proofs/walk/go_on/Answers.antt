@@ -1,7 +1,4 @@
-use Rattle.std.proofs.Common.{rules, ◌≡◌, ◌<◌, ◌+◌, ℕ, List, length, true, lit<, sym, ◌∙◌, ap, subst, arith}
-use Rattle.std.proofs.lemmas.List.{append-nil}
-use Rattle.language.specs.Language.{variable_count, range_of}
-use Rattle.cert_check.specs.Walking.{ahead, later, last_behind, IsAt}
+use Rattle.cert_check.proofs.Prelude.{rules, ◌≡◌, ◌<◌, ◌+◌, ℕ, List, length, true, lit<, sym, ◌∙◌, ap, subst, arith, append-nil, variable_count, range_of, ahead, later, last_behind, IsAt}
 use Rattle.cert_check.proofs.Within.{next_known_at}
 use Rattle.cert_check.proofs.Walking.{place_in, next_in, pushed, popped, last_fits, last_from, may_follow, at_next, later_next, later_last, later_none, no_items}
 use Rattle.cert_check.proofs.walk.go_on.Goals as goal

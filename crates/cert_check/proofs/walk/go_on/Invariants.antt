@@ -1,6 +1,4 @@
-use Rattle.std.proofs.Common.{◌≡◌}
-use Rattle.arrayvec.specs.ArrayVec.{array_vec_len}
-use Rattle.cert_check.specs.Walking.{later, IsAt}
+use Rattle.cert_check.proofs.Prelude.{◌≡◌, array_vec_len, later, IsAt}
 use Rattle.cert_check.proofs.walk.go_on.Given as goal
 
 abbrev pub invariant-loop-x : goal.invariant-loop-x

@@ -1,13 +1,4 @@
-use Rattle.std.proofs.Common.{◌≡◌, ℕ, ◌+◌, List, ◌∷◌, [], ◌++◌, length, take, not, cond, Bool, true, false, subst, sym, ◌∙◌, ap, arith}
-use Rattle.std.proofs.lemmas.List.{take_all}
-use Rattle.std.proofs.lemmas.List.FromFn.{length-range_with_len}
-use Rattle.std.specs.List.{filter}
-use Rattle.assign.specs.Sets.{numbers, has}
-use Rattle.language.specs.Language.{variable_count}
-use Rattle.language.specs.Search.{order_of}
-use Rattle.language.specs.Search.{IsOrder}
-use Rattle.language.proofs.Orders.{orders_are_known, next_variable}
-use Rattle.arrayvec.specs.ArrayVec.{ArrayVec, array_vec_len}
+use Rattle.cert_check.proofs.Prelude.{◌≡◌, ℕ, ◌+◌, List, ◌∷◌, [], ◌++◌, length, take, not, cond, Bool, true, false, subst, sym, ◌∙◌, ap, arith, take_all, length-range_with_len, filter, numbers, has, variable_count, order_of, IsOrder, orders_are_known, next_variable, ArrayVec, array_vec_len}
 use Rattle.cert_check.proofs.walk.order_of.Goals as goal
 use Rattle.cert_check.proofs.walk.order_of.Goals.{then-not-contains, else-not-contains}
 

@@ -1,9 +1,4 @@
-use Rattle.std.proofs.Common.{ℕ, suc, List, drop, get_or, sym, ◌∙◌, ap, add-one}
-use Rattle.std.proofs.Math.Seq.{drop-cons}
-use Rattle.std.proofs.lemmas.List.{drop_all}
-use Rattle.cert_check.specs.declared.token.Token.TheVariants.{Branch}
-use Rattle.cert_check.specs.Refuting.{are_trees, is_lawful}
-use Rattle.cert_check.specs.Walking.{ahead}
+use Rattle.cert_check.proofs.Prelude.{ℕ, suc, List, drop, get_or, sym, ◌∙◌, ap, add-one, drop-cons, drop_all, Branch, are_trees, is_lawful, ahead}
 use Rattle.cert_check.proofs.Walking.{at_blank, tree_begins, tree_ends, tree_shut, tree_unlawful, tree_step}
 use Rattle.cert_check.proofs.walk.refutes.Goals as goal
 use Rattle.cert_check.proofs.walk.refutes.Goals.{then-not-is_open-via-then-not-is_open, then-not-is_open-via-else-not-is_open+then-not-is_lawful}

@@ -1,6 +1,4 @@
-use Rattle.std.proofs.Common.{◌≡◌, drop}
-use Rattle.cert_check.specs.Refuting.{are_trees, refutes}
-use Rattle.cert_check.specs.Walking.{ahead, IsAt}
+use Rattle.cert_check.proofs.Prelude.{◌≡◌, drop, are_trees, refutes, ahead, IsAt}
 use Rattle.cert_check.proofs.walk.refutes.Given as goal
 
 abbrev pub invariant-loop-token : goal.invariant-loop-token

@@ -1,7 +1,4 @@
-use Rattle.std.proofs.Common.{◌≡◌, ◌<◌, length, true, ◌++◌, lit<, sym, ◌∙◌, ap, arith, ◌∷◌, [], ℕ}
-use Rattle.language.specs.Language.{range_of}
-use Rattle.cert_check.specs.Walking.{ahead, later}
-use Rattle.cert_check.specs.Refuting.{children}
+use Rattle.cert_check.proofs.Prelude.{◌≡◌, ◌<◌, length, true, ◌++◌, lit<, sym, ◌∙◌, ap, arith, ◌∷◌, [], ℕ, range_of, ahead, later, children}
 use Rattle.cert_check.proofs.Within.{next_of, next_known_at, next_range}
 use Rattle.cert_check.proofs.Walking.{next_in, pushed, may_follow, at_next, branch_next}
 use Rattle.cert_check.proofs.walk.step.Goals as goal

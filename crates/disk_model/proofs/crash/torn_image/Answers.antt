@@ -1,9 +1,4 @@
-use Rattle.std.proofs.Common.{List, ℕ, Vec, Global, ◌≡◌, ◌<◌, ◌+◌, ◌++◌, ◌∷◌, [], ◌∙◌, ap, length, take, subst, sym, arith}
-use Rattle.std.proofs.lemmas.List.Elements.{All-push}
-use Rattle.std.specs.Prelude.{All, Contains}
-use Rattle.disk_model.specs.Disk.{Torn}
-use Rattle.disk_model.specs.Record.{put}
-use Rattle.disk_model.specs.Crash.{HaveCutsOf, contents}
+use Rattle.disk_model.proofs.Prelude.{List, ℕ, Vec, Global, ◌≡◌, ◌<◌, ◌+◌, ◌++◌, ◌∷◌, [], ◌∙◌, ap, length, take, subst, sym, arith, All-push, All, Contains, Torn, put, HaveCutsOf, contents}
 use Rattle.disk_model.proofs.Replays.{cut_later, cut_whole}
 use Rattle.disk_model.proofs.crash.torn_image.Goals as goal
 

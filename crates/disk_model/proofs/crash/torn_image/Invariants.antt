@@ -1,7 +1,4 @@
-use Rattle.std.proofs.Common.{◌<◌, ℕ, take, length}
-use Rattle.std.specs.Prelude.{Contains}
-use Rattle.disk_model.specs.Record.{put}
-use Rattle.disk_model.specs.Crash.{AreTorn, contents}
+use Rattle.disk_model.proofs.Prelude.{◌<◌, ℕ, take, length, Contains, put, AreTorn, contents}
 use Rattle.disk_model.proofs.crash.torn_image.Given as goal
 
 abbrev pub invariant-loop-cut : goal.invariant-loop-cut

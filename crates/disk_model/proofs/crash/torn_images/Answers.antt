@@ -1,6 +1,4 @@
-use Rattle.std.proofs.Common.{List, ℕ, Vec, Global, length, subst, sym, arith}
-use Rattle.std.specs.Prelude.{All, slice_index_or, ◌<◌, ◌+◌}
-use Rattle.disk_model.specs.Crash.{AreTorn, HaveCutsOf, IsTornOf}
+use Rattle.disk_model.proofs.Prelude.{List, ℕ, Vec, Global, length, subst, sym, arith, All, slice_index_or, ◌<◌, ◌+◌, AreTorn, HaveCutsOf, IsTornOf}
 use Rattle.disk_model.proofs.Replays.{torn_more, cuts_more, cuts_all}
 use Rattle.disk_model.proofs.crash.torn_images.Goals as goal
 

@@ -1,7 +1,5 @@
-use Rattle.std.proofs.Common.{◌<◌, ℕ, length}
-use Rattle.std.specs.Prelude.{All, slice_index_or, Vec}
+use Rattle.disk_model.proofs.Prelude.{◌<◌, ℕ, length, All, slice_index_or, Vec, HaveCutsOf, IsTornOf}
 use Rattle.std.specs.declared.alloc.Global.{Global}
-use Rattle.disk_model.specs.Crash.{HaveCutsOf, IsTornOf}
 use Rattle.disk_model.proofs.crash.torn_images.Given as goal
 
 abbrev pub invariant-loop-image : goal.invariant-loop-image

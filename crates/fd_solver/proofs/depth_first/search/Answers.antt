@@ -1,11 +1,4 @@
-use Rattle.std.proofs.Common.{◌∙◌, [], ap, sym, subst}
-use Rattle.std.specs.Prelude.{slice_index_or}
-use Rattle.language.specs.Language.{variable_count}
-use Rattle.assign.specs.Assignment.{assigned}
-use Rattle.propagators.specs.Families.{arcs_of, has_family}
-use Rattle.fd_solver.specs.Outcomes.{is_alive_in}
-use Rattle.fd_solver.specs.Ready.{IsReady}
-use Rattle.language.proofs.Filling.{assigned_blank}
+use Rattle.fd_solver.proofs.Prelude.{◌∙◌, [], ap, sym, subst, slice_index_or, variable_count, assigned, arcs_of, has_family, is_alive_in, IsReady, assigned_blank}
 use Rattle.fd_solver.proofs.Alive.{alive_fronts}
 use Rattle.fd_solver.proofs.Narrowing.{ready_first}
 use Rattle.fd_solver.proofs.Knowing.{known_first}

@@ -1,12 +1,7 @@
-use Rattle.std.proofs.Common.{◌≡◌, ℕ, length, [], ◌∷◌, Some, None, replicate, sym, ap, refl, ◌∙◌, subst, arith, length-append, List}
-use Rattle.std.specs.Prelude.{slice_index_or, slice_set}
-use Rattle.language.specs.Language.{variable_count}
-use Rattle.fd_solver.specs.declared.outcome.Outcome.TheVariants.{Found}
-use Rattle.fd_solver.specs.Ready.{IsArranged}
+use Rattle.fd_solver.proofs.Prelude.{◌≡◌, ℕ, length, [], ◌∷◌, Some, None, replicate, sym, ap, refl, ◌∙◌, subst, arith, length-append, List, slice_index_or, slice_set, variable_count, Found, IsArranged, arcs_of}
 use Rattle.fd_solver.proofs.Turning.{work_down, work_next, work_up}
 use Rattle.fd_solver.proofs.Walking.{begins, size_is, spent, found, down, next_value, over, up}
 use Rattle.fd_solver.proofs.Narrowing.{ready_alive, ready_up}
-use Rattle.propagators.specs.Families.{arcs_of}
 use Rattle.fd_solver.proofs.Knowing.{known_up}
 use Rattle.fd_solver.proofs.depth_first.walk.Goals as goal
 

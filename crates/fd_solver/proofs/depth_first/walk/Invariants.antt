@@ -1,5 +1,4 @@
-use Rattle.language.specs.Language.{variable_count}
-use Rattle.fd_solver.specs.Ready.{IsArranged}
+use Rattle.fd_solver.proofs.Prelude.{variable_count, IsArranged}
 use Rattle.fd_solver.proofs.Turning.{work_left}
 use Rattle.fd_solver.proofs.Walking.{IsOn}
 use Rattle.fd_solver.proofs.depth_first.walk.Given as goal

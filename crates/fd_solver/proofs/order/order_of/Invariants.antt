@@ -1,8 +1,4 @@
-use Rattle.std.proofs.Common.{◌≡◌, ◌+◌, ◌≤◌, ◌++◌, length, take}
-use Rattle.std.specs.Prelude.{not}
-use Rattle.std.specs.List.{filter}
-use Rattle.assign.specs.Sets.{numbers, has}
-use Rattle.arrayvec.specs.ArrayVec.{array_vec_len}
+use Rattle.fd_solver.proofs.Prelude.{◌≡◌, ◌+◌, ◌≤◌, ◌++◌, length, take, not, filter, numbers, has, array_vec_len}
 use Rattle.fd_solver.proofs.order.order_of.Given as goal
 
 abbrev pub invariant-loop-v : goal.invariant-loop-v

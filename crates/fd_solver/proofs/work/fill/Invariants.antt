@@ -1,5 +1,4 @@
-use Rattle.std.proofs.Common.{◌≡◌, vec_len}
-use Rattle.std.specs.Prelude.{vec_capacity}
+use Rattle.fd_solver.proofs.Prelude.{◌≡◌, vec_len, vec_capacity}
 use Rattle.fd_solver.proofs.work.fill.Given as goal
 
 abbrev pub invariant-loop-depth : goal.invariant-loop-depth

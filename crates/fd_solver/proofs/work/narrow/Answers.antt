@@ -1,9 +1,4 @@
-use Rattle.std.proofs.Common.{◌<◌, ◌∙◌, ℕ, List, length, ap, sym, subst, arith}
-use Rattle.std.specs.List.{list_all}
-use Rattle.assign.specs.Sets.{with_member}
-use Rattle.propagators.specs.Families.{Family, arcs_of, is_not_empty}
-use Rattle.propagators.specs.Supports.{AreSettled}
-use Rattle.fd_solver.specs.Ready.{fixed}
+use Rattle.fd_solver.proofs.Prelude.{◌<◌, ◌∙◌, ℕ, List, length, ap, sym, subst, arith, list_all, with_member, Family, arcs_of, is_not_empty, AreSettled, fixed}
 use Rattle.fd_solver.proofs.Narrowing.{alone_propagated, fixed_full, fixed_settled}
 use Rattle.fd_solver.proofs.Knowing.{entailed_fixed}
 use Rattle.fd_solver.proofs.work.narrow.Goals as goal

@@ -1,7 +1,4 @@
-use Rattle.std.proofs.Common.{List, map, sym, subst}
-use Rattle.std.specs.Prelude.{String, string_bytes}
-use Rattle.std.specs.declared.alloc.Global.{Global}
-use Rattle.language.specs.Language.{AreNames}
+use Rattle.language_trials.proofs.Prelude.{List, map, sym, subst, String, string_bytes, Global, AreNames}
 use Rattle.language_trials.proofs.Naming.{none_named}
 use Rattle.language_trials.proofs.frames.names.Goals as goal
 

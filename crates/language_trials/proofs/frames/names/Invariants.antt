@@ -1,7 +1,4 @@
-use Rattle.std.proofs.Common.{map}
-use Rattle.std.specs.Prelude.{String, string_bytes}
-use Rattle.std.specs.declared.alloc.Global.{Global}
-use Rattle.language.specs.Language.{AreNames}
+use Rattle.language_trials.proofs.Prelude.{map, String, string_bytes, Global, AreNames}
 use Rattle.language_trials.proofs.frames.names.Given as goal
 
 abbrev pub invariant-loop-v : goal.invariant-loop-v

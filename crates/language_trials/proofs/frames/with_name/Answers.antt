@@ -1,9 +1,4 @@
-use Rattle.std.proofs.Common.{◌≡◌, ◌≢◌, true, false, [], ◌∷◌, ◌++◌, subst, sym, ◌∙◌, ap, rules}
-use Rattle.std.specs.Prelude.{All, String, string_bytes}
-use Rattle.std.specs.declared.alloc.Global.{Global}
-use Rattle.std.proofs.lemmas.List.{take_all}
-use Rattle.std.proofs.lemmas.List.Elements.{All-more}
-use Rattle.language.specs.Language.{is_name}
+use Rattle.language_trials.proofs.Prelude.{◌≡◌, ◌≢◌, true, false, [], ◌∷◌, ◌++◌, subst, sym, ◌∙◌, ap, rules, All, String, string_bytes, Global, take_all, All-more, is_name}
 use Rattle.language_trials.proofs.Naming.{name_more, apart_from}
 use Rattle.language_trials.proofs.frames.with_name.Goals as goal
 

@@ -1,6 +1,4 @@
-use Rattle.std.proofs.Common.{◌≢◌, take}
-use Rattle.std.specs.Prelude.{All, String, string_bytes}
-use Rattle.std.specs.declared.alloc.Global.{Global}
+use Rattle.language_trials.proofs.Prelude.{◌≢◌, take, All, String, string_bytes, Global}
 use Rattle.language_trials.proofs.frames.with_name.Given as goal
 
 abbrev pub invariant-loop-other : goal.invariant-loop-other

@@ -1,7 +1,4 @@
-use Rattle.std.proofs.Common.{◌++◌, ◌∷◌, [], sym, subst}
-use Rattle.std.proofs.lemmas.List.Elements.{All-push}
-use Rattle.language.specs.Language.{IsCandidate}
-use Rattle.language.specs.Answers.{IsNetwork}
+use Rattle.language_trials.proofs.Prelude.{sym, subst, All-push, IsCandidate, IsNetwork}
 use Rattle.language_trials.proofs.networks.learn.Goals as goal
 
 pub returns-clause-network : goal.returns-clause-network

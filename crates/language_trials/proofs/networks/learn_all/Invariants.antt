@@ -1,5 +1,4 @@
-use Rattle.std.proofs.Common.{◌≡◌, length}
-use Rattle.language.specs.Answers.{IsNetwork}
+use Rattle.language_trials.proofs.Prelude.{◌≡◌, length, IsNetwork}
 use Rattle.language_trials.proofs.networks.learn_all.Given as goal
 
 abbrev pub invariant-loop-word : goal.invariant-loop-word

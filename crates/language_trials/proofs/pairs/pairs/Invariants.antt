@@ -1,6 +1,4 @@
-use Rattle.std.proofs.Common.{◌≡◌}
-use Rattle.std.specs.Prelude.{All}
-use Rattle.rel_table.specs.Table.{TruthTable}
+use Rattle.language_trials.proofs.Prelude.{◌≡◌, All, TruthTable}
 use Rattle.language_trials.proofs.pairs.pairs.Given as goal
 
 abbrev pub invariant-loop-word : goal.invariant-loop-word

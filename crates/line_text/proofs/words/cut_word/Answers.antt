@@ -1,4 +1,4 @@
-use Rattle.std.proofs.Common.{sym}
+use Rattle.line_text.proofs.Prelude.{sym}
 use Rattle.line_text.proofs.Cutting.{word_alone, word_cut}
 use Rattle.line_text.proofs.words.cut_word.Goals as goal
 

@@ -1,10 +1,4 @@
-use Rattle.std.proofs.Common.{rules, ◌≡◌, ◌+◌, ◌*◌, ◌<◌, ◌&&◌, subst, drop, get_or, sym, ◌∙◌, ap}
-use Rattle.std.specs.Char.{digit_value, is_digit}
-use Rattle.std.specs.List.{list_all}
-use Rattle.std.specs.Str.Parse.{digits_value_after}
-use Rattle.std.proofs.lemmas.Bool.{lt-ltb}
-use Rattle.std.proofs.lemmas.List.{at_drop_more}
-use Rattle.line_text.specs.Words.{capped}
+use Rattle.line_text.proofs.Prelude.{rules, ◌≡◌, ◌+◌, ◌*◌, ◌<◌, ◌&&◌, subst, drop, get_or, sym, ◌∙◌, ap, digit_value, is_digit, list_all, digits_value_after, lt-ltb, at_drop_more, capped}
 use Rattle.line_text.proofs.Numerals.{capped_after, digits_read}
 use Rattle.line_text.proofs.words.decimal_in.Goals as goal
 

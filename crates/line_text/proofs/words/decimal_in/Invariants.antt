@@ -1,8 +1,4 @@
-use Rattle.std.proofs.Common.{◌≡◌, ◌<◌, drop}
-use Rattle.std.specs.Char.{is_digit}
-use Rattle.std.specs.List.{list_all}
-use Rattle.std.specs.Str.Parse.{digits_value, digits_value_after}
-use Rattle.line_text.specs.Words.{capped}
+use Rattle.line_text.proofs.Prelude.{◌≡◌, ◌<◌, drop, is_digit, list_all, digits_value, digits_value_after, capped}
 use Rattle.line_text.proofs.words.decimal_in.Given as goal
 
 abbrev pub invariant-loop-byte : goal.invariant-loop-byte

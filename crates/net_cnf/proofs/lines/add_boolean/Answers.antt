@@ -1,8 +1,4 @@
-use Rattle.std.proofs.Common.{◌≡◌, ℕ, List, [], ◌∷◌, ◌++◌, get_or, set, replicate, Some, None, ◌∙◌, ap, subst}
-use Rattle.std.specs.Prelude.{string_bytes}
-use Rattle.std.specs.Fmt.{decimal}
-use Rattle.language.specs.Texts.{value_text, values_text}
-use Rattle.net_cnf.specs.Answers.{Adds}
+use Rattle.net_cnf.proofs.Prelude.{◌≡◌, ℕ, List, [], ◌∷◌, ◌++◌, get_or, set, replicate, Some, None, ◌∙◌, ap, subst, string_bytes, decimal, value_text, values_text, Adds}
 use Rattle.net_cnf.proofs.Pieces.{alone_shown}
 use Rattle.net_cnf.proofs.lines.add_boolean.Goals as goal
 

@@ -1,11 +1,4 @@
-use Rattle.std.proofs.Common.{◌≡◌, ◌<◌, ◌+◌, ◌-◌, [], ◌∙◌, ap, arith}
-use Rattle.std.specs.Prelude.{string_bytes}
-use Rattle.std.specs.List.{flat_map, range_with_len}
-use Rattle.std.proofs.lemmas.List.{append-nil}
-use Rattle.std.proofs.lemmas.Result.{err_from_is_err_and}
-use Rattle.language.specs.Language.{range_of}
-use Rattle.net_cnf.specs.Clauses.{no_two_values}
-use Rattle.net_cnf.specs.Texts.{clause_text}
+use Rattle.net_cnf.proofs.Prelude.{◌≡◌, ◌<◌, ◌+◌, ◌-◌, [], ◌∙◌, ap, arith, string_bytes, flat_map, range_with_len, append-nil, err_from_is_err_and, range_of, no_two_values, clause_text}
 use Rattle.net_cnf.proofs.Adding.{grown_next_from, too_long_from, grown_as}
 use Rattle.net_cnf.proofs.Pieces.{row_piece, no_two_pieces}
 use Rattle.net_cnf.proofs.Runs.{first_of, size_of, is_range}

@@ -1,8 +1,4 @@
-use Rattle.std.proofs.Common.{◌-◌}
-use Rattle.std.specs.Prelude.{string_bytes}
-use Rattle.std.specs.List.{flat_map, range_with_len}
-use Rattle.language.specs.Language.{range_of}
-use Rattle.net_cnf.specs.Answers.{Grown}
+use Rattle.net_cnf.proofs.Prelude.{◌-◌, string_bytes, flat_map, range_with_len, range_of, Grown}
 use Rattle.net_cnf.proofs.Pieces.{row_piece}
 use Rattle.net_cnf.proofs.Runs.{first_of}
 use Rattle.net_cnf.proofs.lines.add_no_two_values.Given as goal

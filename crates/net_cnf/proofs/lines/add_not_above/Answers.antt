@@ -1,9 +1,4 @@
-use Rattle.std.proofs.Common.{◌≡◌, ℕ, ◌<◌, ◌+◌, ◌-◌, [], ap, arith}
-use Rattle.std.specs.Prelude.{string_bytes}
-use Rattle.std.specs.List.{flat_map, range_with_len}
-use Rattle.std.proofs.lemmas.List.{append-nil}
-use Rattle.std.proofs.lemmas.Result.{err_from_is_err_and}
-use Rattle.language.specs.Language.{range_of}
+use Rattle.net_cnf.proofs.Prelude.{◌≡◌, ℕ, ◌<◌, ◌+◌, ◌-◌, [], ap, arith, string_bytes, flat_map, range_with_len, append-nil, err_from_is_err_and, range_of}
 use Rattle.net_cnf.proofs.Adding.{grown_next_from, too_long_from, grown_as}
 use Rattle.net_cnf.proofs.Pieces.{pair_piece, row_piece}
 use Rattle.net_cnf.proofs.lines.add_not_above.Goals as goal

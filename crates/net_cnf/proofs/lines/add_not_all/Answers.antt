@@ -1,10 +1,4 @@
-use Rattle.std.proofs.Common.{◌≡◌, false, [], ◌∷◌, ◌++◌, length, map, ◌∙◌, ap, arith}
-use Rattle.std.specs.Prelude.{string_bytes}
-use Rattle.std.specs.List.{flat_map, range_with_len}
-use Rattle.std.proofs.lemmas.Result.{err_from_is_err_and}
-use Rattle.net_cnf.specs.Clauses.{literal}
-use Rattle.net_cnf.specs.Paired.{paired}
-use Rattle.net_cnf.specs.Texts.{clause_text}
+use Rattle.net_cnf.proofs.Prelude.{◌≡◌, false, [], ◌∷◌, ◌++◌, length, map, ◌∙◌, ap, arith, string_bytes, flat_map, range_with_len, err_from_is_err_and, literal, paired, clause_text}
 use Rattle.net_cnf.proofs.Adding.{grown_next, too_long_at, adds_last}
 use Rattle.net_cnf.proofs.Outside.{within_at}
 use Rattle.net_cnf.proofs.Pieces.{not_all_piece, not_all_pieces}

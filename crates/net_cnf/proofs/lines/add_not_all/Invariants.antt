@@ -1,6 +1,4 @@
-use Rattle.std.specs.Prelude.{string_bytes}
-use Rattle.std.specs.List.{flat_map, range_with_len}
-use Rattle.net_cnf.specs.Answers.{Grown}
+use Rattle.net_cnf.proofs.Prelude.{string_bytes, flat_map, range_with_len, Grown}
 use Rattle.net_cnf.proofs.Pieces.{not_all_piece}
 use Rattle.net_cnf.proofs.lines.add_not_all.Given as goal
 

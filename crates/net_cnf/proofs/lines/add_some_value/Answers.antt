@@ -1,10 +1,4 @@
-use Rattle.std.proofs.Common.{◌≡◌, ℕ, ◌+◌, ◌-◌, ◌<◌, true, [], ◌∷◌, ◌++◌, ◌∙◌, ap, arith}
-use Rattle.std.specs.Prelude.{string_bytes}
-use Rattle.std.specs.List.{flat_map, range_with_len}
-use Rattle.std.proofs.lemmas.Result.{err_from_is_err_and}
-use Rattle.net_cnf.specs.Booleans.{boolean}
-use Rattle.net_cnf.specs.Clauses.{some_value}
-use Rattle.net_cnf.specs.Texts.{clause_text}
+use Rattle.net_cnf.proofs.Prelude.{◌≡◌, ℕ, ◌+◌, ◌-◌, ◌<◌, true, [], ◌∷◌, ◌++◌, ◌∙◌, ap, arith, string_bytes, flat_map, range_with_len, err_from_is_err_and, boolean, some_value, clause_text}
 use Rattle.net_cnf.proofs.Adding.{grown_next_from, too_long_from, adds_last}
 use Rattle.net_cnf.proofs.Pieces.{literal_piece, some_value_pieces}
 use Rattle.net_cnf.proofs.Runs.{first_of, size_of}

@@ -1,8 +1,4 @@
-use Rattle.std.proofs.Common.{true, ◌-◌}
-use Rattle.std.specs.Prelude.{string_bytes}
-use Rattle.std.specs.List.{flat_map, range_with_len}
-use Rattle.net_cnf.specs.Answers.{Grown}
-use Rattle.net_cnf.specs.Booleans.{boolean}
+use Rattle.net_cnf.proofs.Prelude.{true, ◌-◌, string_bytes, flat_map, range_with_len, Grown, boolean}
 use Rattle.net_cnf.proofs.Pieces.{literal_piece}
 use Rattle.net_cnf.proofs.Runs.{first_of}
 use Rattle.net_cnf.proofs.lines.add_some_value.Given as goal

@@ -1,8 +1,4 @@
-use Rattle.std.proofs.Common.{◌*◌, ◌≤◌, length, ap, ◌∙◌, arith}
-use Rattle.std.specs.List.{flat_map}
-use Rattle.std.proofs.Math.Nat.{mul-le-mul}
-use Rattle.assign.specs.Sets.{numbers}
-use Rattle.net_cnf.specs.Booleans.{booleans_of}
+use Rattle.net_cnf.proofs.Prelude.{◌*◌, ◌≤◌, length, ap, ◌∙◌, arith, flat_map, mul-le-mul, numbers, booleans_of}
 use Rattle.net_cnf.proofs.lines.boolean_count.Goals as goal
 
 pub returns-clause-count : goal.returns-clause-count

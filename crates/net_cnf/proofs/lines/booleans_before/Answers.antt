@@ -1,4 +1,4 @@
-use Rattle.std.proofs.Common.{arith}
+use Rattle.net_cnf.proofs.Prelude.{arith}
 use Rattle.net_cnf.proofs.Numbers.{offset_more}
 use Rattle.net_cnf.proofs.lines.booleans_before.Goals as goal
 

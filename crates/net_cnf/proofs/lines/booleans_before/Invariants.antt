@@ -1,7 +1,4 @@
-use Rattle.std.proofs.Common.{◌≡◌, ◌*◌, ◌≤◌, length}
-use Rattle.std.specs.List.{flat_map}
-use Rattle.assign.specs.Sets.{numbers}
-use Rattle.net_cnf.specs.Booleans.{booleans_of}
+use Rattle.net_cnf.proofs.Prelude.{◌≡◌, ◌*◌, ◌≤◌, length, flat_map, numbers, booleans_of}
 use Rattle.net_cnf.proofs.lines.booleans_before.Given as goal
 
 abbrev pub invariant-loop-w : goal.invariant-loop-w

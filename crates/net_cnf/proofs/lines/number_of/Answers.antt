@@ -1,4 +1,4 @@
-use Rattle.std.proofs.Common.{arith}
+use Rattle.net_cnf.proofs.Prelude.{arith}
 use Rattle.net_cnf.proofs.Numbers.{number-is}
 use Rattle.net_cnf.proofs.lines.number_of.Goals as goal
 

@@ -1,6 +1,4 @@
-use Rattle.std.proofs.Common.{List, ℕ, ◌∷◌, ◌++◌, ◌∙◌, ap, lit<}
-use Rattle.std.proofs.lemmas.Fmt.{decimal_digit}
-use Rattle.language.specs.Texts.{values_text}
+use Rattle.net_cnf.proofs.Prelude.{List, ℕ, ◌∷◌, ◌++◌, ◌∙◌, ap, lit<, decimal_digit, values_text}
 use Rattle.net_cnf.proofs.lines.shown_values.Goals as goal
 
 pub returns : goal.returns

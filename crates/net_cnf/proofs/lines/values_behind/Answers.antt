@@ -1,5 +1,4 @@
-use Rattle.std.proofs.Common.{◌≡◌, ◌≢◌, ℕ, List, ◌∷◌, lit<}
-use Rattle.std.proofs.lemmas.Option.{MatchOption-at_some, MatchOption-at_none}
+use Rattle.net_cnf.proofs.Prelude.{◌≡◌, ◌≢◌, ℕ, List, ◌∷◌, lit<, MatchOption-at_some, MatchOption-at_none}
 use Rattle.std.proofs.lemmas.Str.Pattern.{strip_prefix_char}
 use Rattle.net_cnf.proofs.lines.values_behind.Goals as goal
 

@@ -1,4 +1,4 @@
-use Rattle.std.proofs.Common.{arith}
+use Rattle.net_cnf.proofs.Prelude.{arith}
 use Rattle.net_cnf.proofs.Numbers.{length-values}
 use Rattle.net_cnf.proofs.lines.width.Goals as goal
 

@@ -1,6 +1,4 @@
-use Rattle.std.proofs.Common.{◌≡◌, Some, true, false, sym, ◌∙◌, ap, arith}
-use Rattle.std.specs.Option.{option_map}
-use Rattle.net_cnf.specs.Tokens.{number_in, signed, literal_in}
+use Rattle.net_cnf.proofs.Prelude.{◌≡◌, Some, true, false, sym, ◌∙◌, ap, arith, option_map, number_in, signed, literal_in}
 use Rattle.net_cnf.proofs.Literals.{literal_negated, literal_plain, literal_is}
 use Rattle.net_cnf.proofs.literal.literal_in.Goals as goal
 use Rattle.net_cnf.proofs.literal.literal_in.Goals.{In_ok-number-in-None, In_ok-number-in-Some}

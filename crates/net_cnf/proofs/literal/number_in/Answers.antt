@@ -1,7 +1,4 @@
-use Rattle.std.proofs.Common.{◌*◌, ◌+◌, drop, get_or, sym, ◌∙◌, ap, arith}
-use Rattle.std.specs.Char.{digit_value}
-use Rattle.std.specs.Str.Parse.{digits_value_after}
-use Rattle.std.proofs.lemmas.List.{at_drop_more}
+use Rattle.net_cnf.proofs.Prelude.{◌*◌, ◌+◌, drop, get_or, sym, ◌∙◌, ap, arith, digit_value, digits_value_after, at_drop_more}
 use Rattle.net_cnf.proofs.Numerals.{value_grows, number_past}
 use Rattle.net_cnf.proofs.literal.number_in.Goals as goal
 

@@ -1,14 +1,4 @@
-use Rattle.std.proofs.Common.{◌≡◌, ◌⊎◌, inl, inr, ℕ, ◌+◌, ◌<◌, ◌≤◌, Option, Some, None, length, get_or, set, subst, sym, ◌∙◌, ap, arith}
-use Rattle.std.specs.Option.{option_map}
-use Rattle.std.proofs.lemmas.Bool.{cases_lt}
-use Rattle.std.proofs.lemmas.List.{get_or-set_same, get_or-set_other}
-use Rattle.std.proofs.lemmas.List.FromFn.{fill_by_all}
-use Rattle.std.proofs.lemmas.Result.{err_from_is_err_and}
-use Rattle.language.specs.Language.{IsQuestion, variable_count}
-use Rattle.net_cnf.specs.Marked.{truths}
-use Rattle.net_cnf.specs.Models.{true_values, only_of}
-use Rattle.net_cnf.specs.declared.model_fault.ModelFault.{ModelFault}
-use Rattle.net_cnf.specs.declared.model_fault.ModelFault.TheVariants.{NotOne}
+use Rattle.net_cnf.proofs.Prelude.{◌≡◌, ◌⊎◌, inl, inr, ℕ, ◌+◌, ◌<◌, ◌≤◌, Option, Some, None, length, get_or, set, subst, sym, ◌∙◌, ap, arith, option_map, cases_lt, get_or-set_same, get_or-set_other, fill_by_all, err_from_is_err_and, IsQuestion, variable_count, truths, true_values, only_of, ModelFault, NotOne}
 use Rattle.net_cnf.proofs.Taking.{or_value, or_fault}
 use Rattle.net_cnf.proofs.Runs.{IsValue}
 use Rattle.net_cnf.proofs.Valuing.{one_missing, ones_all, one_long, question_set, true_of}

@@ -1,7 +1,4 @@
-use Rattle.std.proofs.Common.{◌≡◌, ℕ, ◌<◌, length, get_or, None}
-use Rattle.language.specs.Language.{IsQuestion}
-use Rattle.net_cnf.specs.Marked.{truths}
-use Rattle.net_cnf.specs.Models.{true_values, only_of}
+use Rattle.net_cnf.proofs.Prelude.{◌≡◌, ℕ, ◌<◌, length, get_or, None, IsQuestion, truths, true_values, only_of}
 use Rattle.net_cnf.proofs.reading.assignment_of.Given as goal
 
 abbrev pub invariant-loop-v : goal.invariant-loop-v

@@ -1,5 +1,4 @@
-use Rattle.std.proofs.Common.{ℕ, ◌-◌, ◌<◌, ◌≤◌, true, false, length, get_or, refl, arith}
-use Rattle.std.proofs.lemmas.List.{get_or_default}
+use Rattle.net_cnf.proofs.Prelude.{ℕ, ◌-◌, ◌<◌, ◌≤◌, true, false, length, get_or, refl, arith, get_or_default}
 use Rattle.net_cnf.proofs.Marking.{marked_more}
 use Rattle.net_cnf.proofs.reading.mark.Goals as goal
 

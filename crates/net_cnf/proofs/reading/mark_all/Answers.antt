@@ -1,12 +1,4 @@
-use Rattle.std.proofs.Common.{◌≡◌, ◌∷◌, Some, length, refl, sym, ◌∙◌, ap, subst, arith}
-use Rattle.std.specs.Option.{option_map}
-use Rattle.std.specs.Str.{bytes_eq}
-use Rattle.std.proofs.lemmas.Result.{err_from_is_err_and}
-use Rattle.net_cnf.specs.Left.{tokens_left}
-use Rattle.net_cnf.specs.Marked.{AreNamed}
-use Rattle.net_cnf.specs.Tokens.{all_tokens, is_end, bad_token, tokens}
-use Rattle.net_cnf.specs.declared.model_fault.ModelFault.{ModelFault}
-use Rattle.net_cnf.specs.declared.model_fault.ModelFault.TheVariants.{BadToken}
+use Rattle.net_cnf.proofs.Prelude.{◌≡◌, ◌∷◌, Some, length, refl, sym, ◌∙◌, ap, subst, arith, option_map, bytes_eq, err_from_is_err_and, tokens_left, AreNamed, all_tokens, is_end, bad_token, tokens, ModelFault, BadToken}
 use Rattle.net_cnf.proofs.Cutting.{tokens_fit}
 use Rattle.net_cnf.proofs.Taking.{IsTaken, or_value, or_fault, read_of, taken_none, taken_more, taken_bad, taken_to_end, taken_all}
 use Rattle.net_cnf.proofs.reading.mark_all.Goals as goal

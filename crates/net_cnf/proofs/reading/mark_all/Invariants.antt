@@ -1,6 +1,4 @@
-use Rattle.std.proofs.Common.{length}
-use Rattle.net_cnf.specs.Left.{tokens_left}
-use Rattle.net_cnf.specs.Tokens.{all_tokens}
+use Rattle.net_cnf.proofs.Prelude.{length, tokens_left, all_tokens}
 use Rattle.net_cnf.proofs.Taking.{IsTaken}
 use Rattle.net_cnf.proofs.reading.mark_all.Given as goal
 

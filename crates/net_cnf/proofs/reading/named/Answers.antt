@@ -1,6 +1,4 @@
-use Rattle.std.proofs.Common.{sym, ◌∙◌, subst, take_at}
-use Rattle.net_cnf.specs.Marked.{AreNamed}
-use Rattle.net_cnf.specs.Tokens.{tokens}
+use Rattle.net_cnf.proofs.Prelude.{sym, ◌∙◌, subst, take_at, AreNamed, tokens}
 use Rattle.net_cnf.proofs.Marking.{marked_none}
 use Rattle.net_cnf.proofs.reading.named.Goals as goal
 

@@ -1,12 +1,4 @@
-use Rattle.std.proofs.Common.{◌≡◌, List, Some, None, length, sym, ◌∙◌, ap, subst, arith}
-use Rattle.std.specs.Option.{option_map}
-use Rattle.std.proofs.lemmas.Result.{err_from_is_err_and}
-use Rattle.assign.specs.Assignment.{Assignment}
-use Rattle.net_cnf.specs.Marked.{AreNamed, AreOnes, truths}
-use Rattle.net_cnf.specs.Models.{boolean_count, both_named, literals_of, not_one}
-use Rattle.net_cnf.specs.Tokens.{bad_token, tokens}
-use Rattle.net_cnf.specs.declared.model_fault.ModelFault.TheVariants.{BadToken, NotOne}
-use Rattle.net_cnf.specs.declared.reading.Signs.{Signs}
+use Rattle.net_cnf.proofs.Prelude.{◌≡◌, List, Some, None, length, sym, ◌∙◌, ap, subst, arith, option_map, err_from_is_err_and, Assignment, AreNamed, AreOnes, truths, boolean_count, both_named, literals_of, not_one, bad_token, tokens, BadToken, NotOne, Signs}
 use Rattle.net_cnf.proofs.Modelled.{bad_model, long_model, named_long, named_marked, not_one_model, read_model, reads_models, twice_model, violating_model}
 use Rattle.net_cnf.proofs.reading.read_model.Goals as goal
 use Rattle.net_cnf.proofs.reading.read_model.Goals.{After-deref, In_default, After-deref-2, After-branch-e}

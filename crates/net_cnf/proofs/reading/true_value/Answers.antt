@@ -1,11 +1,5 @@
-use Rattle.std.proofs.Common.{◌≡◌, ℕ, ◌+◌, ◌-◌, ◌<◌, ◌≤◌, Bool, true, false, List, Option, get_or, sym, ◌∙◌, ap, arith}
+use Rattle.net_cnf.proofs.Prelude.{◌≡◌, ℕ, ◌+◌, ◌-◌, ◌<◌, ◌≤◌, Bool, true, false, List, Option, get_or, sym, ◌∙◌, ap, arith, range_with_len, option_to_list, Language, boolean, number_of, truths, true_values, only_of}
 use Rattle.std.specs.Prelude.{filter}
-use Rattle.std.specs.List.{range_with_len}
-use Rattle.std.specs.Option.{option_to_list}
-use Rattle.language.specs.Language.{Language}
-use Rattle.net_cnf.specs.Booleans.{boolean, number_of}
-use Rattle.net_cnf.specs.Marked.{truths}
-use Rattle.net_cnf.specs.Models.{true_values, only_of}
 use Rattle.net_cnf.proofs.Numbers.{number_fits}
 use Rattle.net_cnf.proofs.Runs.{IsValue, first_of, size_of, values-run}
 use Rattle.net_cnf.proofs.Valuing.{truth_there, two_leave_none_of, first_listed, none_listed, only_listed, value_below}

@@ -1,9 +1,5 @@
-use Rattle.std.proofs.Common.{◌≡◌, ◌-◌, false, get_or}
+use Rattle.net_cnf.proofs.Prelude.{◌≡◌, ◌-◌, false, get_or, range_with_len, option_to_list, boolean, number_of, truths}
 use Rattle.std.specs.Prelude.{filter}
-use Rattle.std.specs.List.{range_with_len}
-use Rattle.std.specs.Option.{option_to_list}
-use Rattle.net_cnf.specs.Booleans.{boolean, number_of}
-use Rattle.net_cnf.specs.Marked.{truths}
 use Rattle.net_cnf.proofs.Runs.{first_of}
 use Rattle.net_cnf.proofs.reading.true_value.Given as goal
 

@@ -1,6 +1,4 @@
-use Rattle.std.proofs.Common.{◌≡◌, ◌+◌, false, Some, sym, ◌∙◌, ap, arith}
-use Rattle.std.proofs.lemmas.Bool.{and_from}
-use Rattle.net_cnf.specs.declared.reading.Signs.{Signs}
+use Rattle.net_cnf.proofs.Prelude.{◌≡◌, ◌+◌, false, Some, sym, ◌∙◌, ap, arith, and_from, Signs}
 use Rattle.net_cnf.proofs.Marking.{both_at, both_nowhere}
 use Rattle.net_cnf.proofs.reading.twice.Goals as goal
 

@@ -1,5 +1,4 @@
-use Rattle.std.proofs.Common.{◌≡◌, ℕ, ◌<◌, false, get_or}
-use Rattle.net_cnf.specs.declared.reading.Signs.{Signs}
+use Rattle.net_cnf.proofs.Prelude.{◌≡◌, ℕ, ◌<◌, false, get_or, Signs}
 use Rattle.net_cnf.proofs.Marking.{is_both}
 use Rattle.net_cnf.proofs.reading.twice.Given as goal
 

@@ -1,9 +1,4 @@
-use Rattle.std.proofs.Common.{◌≡◌, ◌⊎◌, inl, inr, ℕ, ◌+◌, ◌<◌, ◌≤◌, false, get_or, sym, ◌∙◌, ap, arith}
-use Rattle.std.proofs.lemmas.Bool.{cases_lt}
-use Rattle.std.proofs.lemmas.Option.{get_or_from_slice_get}
-use Rattle.language.specs.declared.candidates.Candidate.{Candidate}
-use Rattle.language.specs.Language.{violates}
-use Rattle.language.proofs.ByNames.{position_here, position_nowhere}
+use Rattle.net_cnf.proofs.Prelude.{◌≡◌, ◌⊎◌, inl, inr, ℕ, ◌+◌, ◌<◌, ◌≤◌, false, get_or, sym, ◌∙◌, ap, arith, cases_lt, get_or_from_slice_get, Candidate, violates, position_here, position_nowhere}
 use Rattle.net_cnf.proofs.reading.violated.Goals as goal
 use Rattle.net_cnf.proofs.reading.violated.Goals.{After-candidate_violated}
 

@@ -1,6 +1,4 @@
-use Rattle.std.proofs.Common.{◌≡◌, ℕ, ◌<◌, false, get_or}
-use Rattle.language.specs.declared.candidates.Candidate.{Candidate}
-use Rattle.language.specs.Language.{violates}
+use Rattle.net_cnf.proofs.Prelude.{◌≡◌, ℕ, ◌<◌, false, get_or, Candidate, violates}
 use Rattle.net_cnf.proofs.reading.violated.Given as goal
 
 abbrev pub invariant-loop-i : goal.invariant-loop-i

@@ -1,12 +1,4 @@
-use Rattle.std.proofs.Common.{◌≡◌, ℕ, ◌+◌, ◌≤◌, List, ◌++◌, length, arith, append_assoc, subst}
-use Rattle.std.specs.Prelude.{string_bytes}
-use Rattle.std.specs.List.{flat_map}
-use Rattle.std.proofs.lemmas.List.{length-append}
-use Rattle.std.proofs.lemmas.Result.{err_from_is_err_and}
-use Rattle.net_cnf.specs.Answers.{Grown, IsTooLong}
-use Rattle.net_cnf.specs.Booleans.{booleans}
-use Rattle.net_cnf.specs.Clauses.{clauses}
-use Rattle.net_cnf.specs.Texts.{boolean_text, head_text, clause_text, cnf_text}
+use Rattle.net_cnf.proofs.Prelude.{◌≡◌, ℕ, ◌+◌, ◌≤◌, List, ◌++◌, length, arith, append_assoc, subst, string_bytes, flat_map, length-append, err_from_is_err_and, Grown, IsTooLong, booleans, clauses, boolean_text, head_text, clause_text, cnf_text}
 use Rattle.net_cnf.proofs.Adding.{grown_more, adds_last, too_long}
 use Rattle.net_cnf.proofs.text.add_all.Goals as goal
 

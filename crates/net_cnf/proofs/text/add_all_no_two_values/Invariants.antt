@@ -1,8 +1,4 @@
-use Rattle.std.specs.Prelude.{string_bytes}
-use Rattle.std.specs.List.{flat_map, range_with_len}
-use Rattle.net_cnf.specs.Answers.{Grown}
-use Rattle.net_cnf.specs.Texts.{clause_text}
-use Rattle.net_cnf.specs.Clauses.{no_two_values}
+use Rattle.net_cnf.proofs.Prelude.{string_bytes, flat_map, range_with_len, Grown, clause_text, no_two_values}
 use Rattle.net_cnf.proofs.text.add_all_no_two_values.Given as goal
 
 abbrev pub invariant-loop-v : goal.invariant-loop-v

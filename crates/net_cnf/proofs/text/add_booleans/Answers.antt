@@ -1,12 +1,5 @@
-use Rattle.std.proofs.Common.{◌≡◌, ℕ, ◌<◌, List, [], ◌∙◌, ap, arith}
-use Rattle.std.specs.Prelude.{string_bytes}
-use Rattle.std.specs.List.{flat_map, range_with_len}
-use Rattle.std.proofs.lemmas.List.{append-nil}
-use Rattle.std.proofs.lemmas.Result.{err_from_is_err_and}
+use Rattle.net_cnf.proofs.Prelude.{◌≡◌, ℕ, ◌<◌, List, [], ◌∙◌, ap, arith, string_bytes, flat_map, range_with_len, append-nil, err_from_is_err_and, booleans, booleans_of, boolean_text, variable_count}
 use Rattle.net_cnf.proofs.Adding.{grown_next, too_long_at, grown_as}
-use Rattle.net_cnf.specs.Booleans.{booleans, booleans_of}
-use Rattle.net_cnf.specs.Texts.{boolean_text}
-use Rattle.language.specs.Language.{variable_count}
 use Rattle.net_cnf.proofs.Pieces.{booleans_pieces}
 use Rattle.net_cnf.proofs.text.add_booleans.Goals as goal
 

@@ -1,8 +1,4 @@
-use Rattle.std.specs.Prelude.{string_bytes}
-use Rattle.std.specs.List.{flat_map, range_with_len}
-use Rattle.net_cnf.specs.Answers.{Grown}
-use Rattle.net_cnf.specs.Booleans.{booleans_of}
-use Rattle.net_cnf.specs.Texts.{boolean_text}
+use Rattle.net_cnf.proofs.Prelude.{string_bytes, flat_map, range_with_len, Grown, booleans_of, boolean_text}
 use Rattle.net_cnf.proofs.text.add_booleans.Given as goal
 
 abbrev pub invariant-loop-v : goal.invariant-loop-v

@@ -1,9 +1,4 @@
-use Rattle.std.proofs.Common.{◌-◌}
-use Rattle.std.specs.Prelude.{string_bytes}
-use Rattle.std.specs.List.{flat_map, range_with_len}
-use Rattle.net_cnf.specs.Answers.{Grown}
-use Rattle.net_cnf.specs.Booleans.{boolean}
-use Rattle.net_cnf.specs.Texts.{boolean_text}
+use Rattle.net_cnf.proofs.Prelude.{◌-◌, string_bytes, flat_map, range_with_len, Grown, boolean, boolean_text}
 use Rattle.net_cnf.proofs.Runs.{first_of}
 use Rattle.net_cnf.proofs.text.add_booleans_of.Given as goal
 

@@ -1,16 +1,6 @@
-use Rattle.std.proofs.Common.{◌≡◌, ℕ, ◌<◌, List, [], length, sym, ◌∙◌, ap, arith, subst}
-use Rattle.std.specs.Prelude.{string_bytes}
-use Rattle.std.specs.List.{flat_map, range_with_len}
-use Rattle.std.proofs.lemmas.List.{append-nil}
-use Rattle.std.proofs.lemmas.Option.{get_or_from_slice_get}
-use Rattle.std.proofs.lemmas.Result.{err_from_is_err_and}
-use Rattle.net_cnf.specs.Answers.{IsTooLong, Grown}
+use Rattle.net_cnf.proofs.Prelude.{◌≡◌, ℕ, ◌<◌, List, [], length, sym, ◌∙◌, ap, arith, subst, string_bytes, flat_map, range_with_len, append-nil, get_or_from_slice_get, err_from_is_err_and, IsTooLong, Grown, clause_text, none_rejected, Candidate, item_piece}
 use Rattle.net_cnf.proofs.Adding.{grown_next, too_long_at, grown_as}
-use Rattle.net_cnf.specs.Texts.{clause_text}
-use Rattle.net_cnf.specs.Clauses.{none_rejected}
-use Rattle.language.specs.declared.candidates.Candidate.{Candidate}
 use Rattle.net_cnf.proofs.Pieces.{item_pieces}
-use Rattle.net_cnf.specs.Paired.{item_piece}
 use Rattle.net_cnf.proofs.text.add_items.Goals as goal
 
 pub returns-in_err-add_none_rejected : goal.returns-in_err-add_none_rejected

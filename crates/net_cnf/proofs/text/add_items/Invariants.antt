@@ -1,7 +1,4 @@
-use Rattle.std.specs.Prelude.{string_bytes}
-use Rattle.std.specs.List.{flat_map, range_with_len}
-use Rattle.net_cnf.specs.Answers.{Grown}
-use Rattle.net_cnf.specs.Paired.{item_piece}
+use Rattle.net_cnf.proofs.Prelude.{string_bytes, flat_map, range_with_len, Grown, item_piece}
 use Rattle.net_cnf.proofs.text.add_items.Given as goal
 
 abbrev pub invariant-loop-i : goal.invariant-loop-i

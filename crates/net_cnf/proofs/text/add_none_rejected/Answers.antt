@@ -1,14 +1,6 @@
-use Rattle.std.proofs.Common.{◌≡◌, ℕ, ◌<◌, ◌^◌, List, [], length, ◌∙◌, ap, arith}
-use Rattle.std.specs.Prelude.{string_bytes}
-use Rattle.std.specs.List.{flat_map, range_with_len}
-use Rattle.std.proofs.lemmas.List.{append-nil}
-use Rattle.std.proofs.lemmas.Result.{err_from_is_err_and}
+use Rattle.net_cnf.proofs.Prelude.{◌≡◌, ℕ, ◌<◌, ◌^◌, List, [], length, ◌∙◌, ap, arith, string_bytes, flat_map, range_with_len, append-nil, err_from_is_err_and, clause_text, none_rejected, scope_of, place_piece}
 use Rattle.net_cnf.proofs.Adding.{grown_next, too_long_at, grown_as}
-use Rattle.net_cnf.specs.Texts.{clause_text}
-use Rattle.net_cnf.specs.Clauses.{none_rejected}
-use Rattle.language.specs.Language.{scope_of}
 use Rattle.net_cnf.proofs.Pieces.{place_pieces}
-use Rattle.net_cnf.specs.Paired.{place_piece}
 use Rattle.net_cnf.proofs.text.add_none_rejected.Goals as goal
 
 pub returns-in_err-add_place : goal.returns-in_err-add_place

@@ -1,6 +1,4 @@
-use Rattle.std.proofs.Common.{length, sym, ◌∙◌, ap}
-use Rattle.rel_table.specs.Relation.{tuple_at}
-use Rattle.language.specs.Ranges.{are_in}
+use Rattle.net_cnf.proofs.Prelude.{length, sym, ◌∙◌, ap, tuple_at, are_in}
 use Rattle.net_cnf.proofs.Outside.{rejected_within}
 use Rattle.net_cnf.proofs.text.add_place.Goals as goal
 

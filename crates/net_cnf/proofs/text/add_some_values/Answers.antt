@@ -1,13 +1,5 @@
-use Rattle.std.proofs.Common.{◌≡◌, ℕ, ◌<◌, List, [], map, ◌∙◌, ap, arith}
-use Rattle.std.specs.Prelude.{string_bytes}
-use Rattle.std.specs.List.{flat_map, range_with_len}
-use Rattle.std.proofs.lemmas.List.{append-nil}
-use Rattle.std.proofs.lemmas.Result.{err_from_is_err_and}
+use Rattle.net_cnf.proofs.Prelude.{◌≡◌, ℕ, ◌<◌, List, [], map, ◌∙◌, ap, arith, string_bytes, flat_map, range_with_len, append-nil, err_from_is_err_and, clause_text, some_value, numbers, variable_count}
 use Rattle.net_cnf.proofs.Adding.{grown_next, too_long_at, grown_as}
-use Rattle.net_cnf.specs.Texts.{clause_text}
-use Rattle.net_cnf.specs.Clauses.{some_value}
-use Rattle.assign.specs.Sets.{numbers}
-use Rattle.language.specs.Language.{variable_count}
 use Rattle.net_cnf.proofs.Pieces.{some_pieces}
 use Rattle.net_cnf.proofs.text.add_some_values.Goals as goal
 

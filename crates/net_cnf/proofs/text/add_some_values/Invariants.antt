@@ -1,8 +1,4 @@
-use Rattle.std.specs.Prelude.{string_bytes}
-use Rattle.std.specs.List.{flat_map, range_with_len}
-use Rattle.net_cnf.specs.Answers.{Grown}
-use Rattle.net_cnf.specs.Texts.{clause_text}
-use Rattle.net_cnf.specs.Clauses.{some_value}
+use Rattle.net_cnf.proofs.Prelude.{string_bytes, flat_map, range_with_len, Grown, clause_text, some_value}
 use Rattle.net_cnf.proofs.text.add_some_values.Given as goal
 
 abbrev pub invariant-loop-v : goal.invariant-loop-v

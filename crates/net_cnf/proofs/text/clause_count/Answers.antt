@@ -1,4 +1,4 @@
-use Rattle.std.proofs.Common.{◌+◌, ◌∙◌}
+use Rattle.net_cnf.proofs.Prelude.{◌+◌, ◌∙◌}
 use Rattle.net_cnf.proofs.Pieces.{length-clauses}
 use Rattle.net_cnf.proofs.text.clause_count.Goals as goal
 

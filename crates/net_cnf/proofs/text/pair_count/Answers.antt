@@ -1,4 +1,4 @@
-use Rattle.std.proofs.Common.{arith}
+use Rattle.net_cnf.proofs.Prelude.{arith}
 use Rattle.net_cnf.proofs.Pieces.{few_products, pairs_more}
 use Rattle.net_cnf.proofs.text.pair_count.Goals as goal
 

@@ -1,7 +1,4 @@
-use Rattle.std.proofs.Common.{◌≡◌, ◌≤◌, ◌*◌, length}
-use Rattle.std.specs.List.{flat_map}
-use Rattle.assign.specs.Sets.{numbers}
-use Rattle.net_cnf.specs.Clauses.{no_two_values}
+use Rattle.net_cnf.proofs.Prelude.{◌≡◌, ◌≤◌, ◌*◌, length, flat_map, numbers, no_two_values}
 use Rattle.net_cnf.proofs.text.pair_count.Given as goal
 
 abbrev pub invariant-loop-v : goal.invariant-loop-v

@@ -1,7 +1,4 @@
-use Rattle.std.proofs.Common.{◌≡◌, ◌+◌, ◌^◌, not, cond, Bool, length, sym, ◌∙◌, ap, arith}
-use Rattle.std.specs.List.{filter, range_with_len}
-use Rattle.language.specs.Language.{scope_of}
-use Rattle.net_cnf.specs.Paired.{accepts_there}
+use Rattle.net_cnf.proofs.Prelude.{◌≡◌, ◌+◌, ◌^◌, not, cond, Bool, length, sym, ◌∙◌, ap, arith, filter, range_with_len, scope_of, accepts_there}
 use Rattle.net_cnf.proofs.Pieces.{failing_more, length-rejected}
 use Rattle.net_cnf.proofs.text.rejected_by.Goals as goal
 use Rattle.net_cnf.proofs.text.rejected_by.Goals.{then-not-holds, else-not-holds}

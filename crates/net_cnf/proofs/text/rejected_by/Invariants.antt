@@ -1,6 +1,4 @@
-use Rattle.std.proofs.Common.{◌≡◌, ◌≤◌, not, length}
-use Rattle.std.specs.List.{filter, range_with_len}
-use Rattle.net_cnf.specs.Paired.{accepts_there}
+use Rattle.net_cnf.proofs.Prelude.{◌≡◌, ◌≤◌, not, length, filter, range_with_len, accepts_there}
 use Rattle.net_cnf.proofs.text.rejected_by.Given as goal
 
 abbrev pub invariant-loop-place : goal.invariant-loop-place

@@ -1,4 +1,4 @@
-use Rattle.std.proofs.Common.{◌<◌, length, arith}
+use Rattle.net_cnf.proofs.Prelude.{◌<◌, length, arith}
 use Rattle.net_cnf.proofs.Pieces.{counted_more}
 use Rattle.net_cnf.proofs.text.rejected_count.Goals as goal
 

@@ -1,6 +1,4 @@
-use Rattle.std.proofs.Common.{◌≡◌, ◌≤◌, ◌*◌, length, take}
-use Rattle.std.specs.List.{flat_map}
-use Rattle.net_cnf.specs.Clauses.{none_rejected}
+use Rattle.net_cnf.proofs.Prelude.{◌≡◌, ◌≤◌, ◌*◌, length, take, flat_map, none_rejected}
 use Rattle.net_cnf.proofs.text.rejected_count.Given as goal
 
 abbrev pub invariant-loop-i : goal.invariant-loop-i

@@ -1,4 +1,4 @@
-use Rattle.std.proofs.Common.{sym, ◌∙◌}
+use Rattle.net_cnf.proofs.Prelude.{sym, ◌∙◌}
 use Rattle.net_cnf.proofs.Cutting.{words_alone, words_cut}
 use Rattle.net_cnf.proofs.tokens.cut_word.Goals as goal
 

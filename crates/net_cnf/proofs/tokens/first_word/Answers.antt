@@ -1,6 +1,4 @@
-use Rattle.std.proofs.Common.{◌≡◌, ℕ, List, [], ◌∷◌, Option, Bor, sym, ◌∙◌, subst}
-use Rattle.std.specs.Prelude.{MatchOption}
-use Rattle.net_cnf.specs.Tokens.{words}
+use Rattle.net_cnf.proofs.Prelude.{◌≡◌, ℕ, List, [], ◌∷◌, Option, Bor, sym, ◌∙◌, subst, MatchOption, words}
 use Rattle.net_cnf.proofs.Cutting.{words_none, word_begins, words_from}
 use Rattle.net_cnf.proofs.tokens.first_word.Goals as goal
 

@@ -1,6 +1,4 @@
-use Rattle.std.proofs.Common.{sym, ◌∙◌, ap, subst, Some}
-use Rattle.language.specs.Language.{variable_count}
-use Rattle.fd_solver.specs.Outcomes.{IsOrder, search_outcome}
+use Rattle.net_reduce.proofs.Prelude.{sym, ◌∙◌, ap, subst, Some, variable_count, IsOrder, search_outcome}
 use Rattle.net_reduce.proofs.reducing.outcome_of.Goals as goal
 
 pub search-requires-clause-order : goal.search-requires-clause-order

@@ -1,8 +1,4 @@
-use Rattle.std.proofs.Common.{◌≡◌, ◌<◌, ◌≤◌, ◌+◌, Vec, Global, List, length, sym, ◌∙◌, ap, subst, arith}
-use Rattle.std.specs.List.{insert, remove}
-use Rattle.language.specs.declared.candidates.Candidate.{Candidate}
-use Rattle.language.specs.Answers.{IsNetwork}
-use Rattle.fd_solver.specs.declared.outcome.Outcome.TheVariants.{Spent}
+use Rattle.net_reduce.proofs.Prelude.{◌≡◌, ◌<◌, ◌≤◌, ◌+◌, Vec, Global, List, length, sym, ◌∙◌, ap, subst, arith, insert, remove, Candidate, IsNetwork, Spent}
 use Rattle.net_reduce.proofs.Sifting.{sifted_is_reduction, sublist_known}
 use Rattle.net_reduce.proofs.Searching.{IsUnderway, taken_is, others_are, others_known, outcome_is, underway_absent, underway_found, spent_at, sifted}
 use Rattle.net_reduce.proofs.reducing.reduce.Goals as goal

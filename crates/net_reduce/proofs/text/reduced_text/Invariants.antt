@@ -1,5 +1,4 @@
-use Rattle.std.proofs.Common.{◌≡◌, ◌++◌, length, take}
-use Rattle.std.specs.Prelude.{string_bytes}
+use Rattle.net_reduce.proofs.Prelude.{◌≡◌, ◌++◌, length, take, string_bytes}
 use Rattle.network.specs.Texts.{network_text}
 use Rattle.net_reduce.specs.Texts.{size_line}
 use Rattle.net_reduce.proofs.text.reduced_text.Given as goal

@@ -1,8 +1,5 @@
-use Rattle.std.proofs.Common.{sym, ◌∙◌, ap, arith}
+use Rattle.par_screen.proofs.Prelude.{sym, ◌∙◌, ap, arith, Place, Query, query_then}
 use Rattle.std.specs.Prelude.{slice_index_or}
-use Rattle.query_gen.specs.declared.place.Place.{Place}
-use Rattle.query_gen.specs.declared.query.Query.{Query}
-use Rattle.query_gen.specs.Parts.{query_then}
 use Rattle.par_screen.proofs.Eighths.{says, says_all, says_more}
 use Rattle.par_screen.proofs.forked.answer_of.Goals as goal
 

@@ -1,4 +1,4 @@
-use Rattle.std.proofs.Common.{◌≡◌}
+use Rattle.par_screen.proofs.Prelude.{◌≡◌}
 use Rattle.par_screen.proofs.Eighths.{says}
 use Rattle.par_screen.proofs.forked.answer_of.Given as goal
 

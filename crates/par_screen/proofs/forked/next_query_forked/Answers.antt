@@ -1,5 +1,4 @@
-use Rattle.std.proofs.Common.{sym, ◌∙◌, ap}
-use Rattle.query_gen.specs.Parts.{is_ask}
+use Rattle.par_screen.proofs.Prelude.{sym, ◌∙◌, ap, is_ask}
 use Rattle.par_screen.proofs.forked.next_query_forked.Goals as goal
 
 pub returns-clause-open : goal.returns-clause-open

@@ -1,11 +1,5 @@
-use Rattle.std.proofs.Common.{◌≡◌, ℕ, ◌+◌, ◌<◌, length, subst, sym, ◌∙◌, ap, arith}
-use Rattle.language.specs.Language.{number_of}
-use Rattle.query_gen.specs.declared.place.Place.{Place}
-use Rattle.query_gen.specs.Inside.{begun}
-use Rattle.query_gen.specs.Parts.{is_ask, IsSearched, HasTaken}
+use Rattle.par_screen.proofs.Prelude.{◌≡◌, ℕ, ◌+◌, ◌<◌, length, subst, sym, ◌∙◌, ap, arith, number_of, Place, begun, is_ask, IsSearched, HasTaken, IsTakenTo, part_start}
 use Rattle.query_gen.proofs.Numbers.{number_below}
-use Rattle.query_gen.proofs.Parts.{IsTakenTo}
-use Rattle.par_screen.specs.Eighths.{part_start}
 use Rattle.par_screen.proofs.Eighths.{start_whole, says_all, taken_part}
 use Rattle.par_screen.proofs.forked.take_parts.Goals as goal
 

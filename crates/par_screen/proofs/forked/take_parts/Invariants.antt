@@ -1,5 +1,4 @@
-use Rattle.query_gen.proofs.Parts.{IsTakenTo}
-use Rattle.par_screen.specs.Eighths.{part_start}
+use Rattle.par_screen.proofs.Prelude.{IsTakenTo, part_start}
 use Rattle.par_screen.proofs.forked.take_parts.Given as goal
 
 abbrev pub invariant-loop-part : goal.invariant-loop-part

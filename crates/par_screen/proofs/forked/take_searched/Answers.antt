@@ -1,7 +1,4 @@
-use Rattle.std.proofs.Common.{ℕ, ◌+◌, subst, sym}
-use Rattle.query_gen.specs.declared.place.Place.{Place}
-use Rattle.query_gen.specs.Parts.{IsSearched}
-use Rattle.par_screen.specs.Eighths.{part_start}
+use Rattle.par_screen.proofs.Prelude.{ℕ, ◌+◌, subst, sym, Place, IsSearched, part_start}
 use Rattle.par_screen.proofs.forked.take_searched.Goals as goal
 
 pub loop-part-preserved : goal.loop-part-preserved

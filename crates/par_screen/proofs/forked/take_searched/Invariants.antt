@@ -1,4 +1,4 @@
-use Rattle.query_gen.specs.Marks.{IsMadeFor, MarksHold}
+use Rattle.par_screen.proofs.Prelude.{IsMadeFor, MarksHold}
 use Rattle.par_screen.proofs.forked.take_searched.Given as goal
 
 abbrev pub invariant-loop-part : goal.invariant-loop-part

@@ -1,8 +1,4 @@
-use Rattle.std.proofs.Common.{◌≡◌, ◌∷◌, [], replicate, vec_len}
-use Rattle.std.proofs.lemmas.List.Elements.{All-append}
-use Rattle.query_gen.specs.declared.place.Place.{Place}
-use Rattle.query_gen.specs.declared.query.Query.TheVariants.{AllImplied}
-use Rattle.query_gen.specs.Parts.{part_size}
+use Rattle.par_screen.proofs.Prelude.{◌≡◌, ◌∷◌, [], replicate, vec_len, All-append, Place, AllImplied, part_size}
 use Rattle.par_screen.proofs.places.four_places.Goals as goal
 
 pub returns-clause-made : goal.returns-clause-made

@@ -1,6 +1,4 @@
-use Rattle.std.proofs.Common.{◌≡◌, ◌∙◌, ℕ, List, [], ◌∷◌, ap, sym, refl, length, arith}
-use Rattle.std.specs.Prelude.{slice_index_or}
-use Rattle.propagators.specs.Families.{is_wanted}
+use Rattle.propagators.proofs.Prelude.{◌≡◌, ◌∙◌, ℕ, List, [], ◌∷◌, ap, sym, refl, length, arith, slice_index_or, is_wanted}
 use Rattle.propagators.proofs.briefs.brief_of.Goals as goal
 
 two_of : (xs : List ℕ) → length xs ≡ 2 → xs ≡ slice_index_or xs 0 0 ∷ slice_index_or xs 1 0 ∷ []

@@ -1,5 +1,4 @@
-use Rattle.std.proofs.Common.{◌<◌, ◌≤◌, ℕ}
-use Rattle.std.specs.Prelude.{slice_index_or}
+use Rattle.propagators.proofs.Prelude.{◌<◌, ◌≤◌, ℕ, slice_index_or}
 use Rattle.propagators.proofs.briefs.raise_all.Given as goal
 
 abbrev pub invariant-loop-v : goal.invariant-loop-v

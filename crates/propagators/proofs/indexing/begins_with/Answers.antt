@@ -1,5 +1,4 @@
-use Rattle.std.proofs.Common.{length, take, ◌∙◌, arith}
-use Rattle.std.proofs.lemmas.List.{same_lists, length-take-le, get_or-take}
+use Rattle.propagators.proofs.Prelude.{length, take, ◌∙◌, arith, same_lists, length-take-le, get_or-take}
 use Rattle.propagators.proofs.indexing.begins_with.Goals as goal
 
 pub returns : goal.returns

@@ -1,6 +1,4 @@
-use Rattle.std.proofs.Common.{◌≡◌, ◌<◌, ℕ}
-use Rattle.std.specs.Prelude.{slice_index_or}
-use Rattle.language.specs.declared.candidates.Candidate.{Candidate}
+use Rattle.propagators.proofs.Prelude.{◌≡◌, ◌<◌, ℕ, slice_index_or, Candidate}
 use Rattle.propagators.proofs.indexing.begins_with.Given as goal
 
 abbrev pub invariant-loop-i : goal.invariant-loop-i

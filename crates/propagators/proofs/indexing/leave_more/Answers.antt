@@ -1,4 +1,4 @@
-use Rattle.propagators.specs.Families.{arcs_of}
+use Rattle.propagators.proofs.Prelude.{arcs_of}
 use Rattle.propagators.proofs.Indexed.{settled_more, root_dead, root_more}
 use Rattle.propagators.proofs.indexing.leave_more.Goals as goal
 

@@ -1,10 +1,4 @@
-use Rattle.std.proofs.Common.{◌≤◌, ◌<◌, ℕ, Bool, false, sym, subst}
-use Rattle.std.specs.Prelude.{◌==◌, slice_index_or}
-use Rattle.std.specs.Int.{bit_at}
-use Rattle.language.specs.Pairs.{rejected_of}
-use Rattle.propagators.specs.Families.{is_wanted}
-use Rattle.propagators.specs.Loose.{IsBounded}
-use Rattle.propagators.specs.Pairs.{by_table}
+use Rattle.propagators.proofs.Prelude.{◌≤◌, ◌<◌, ℕ, Bool, false, sym, subst, ◌==◌, slice_index_or, bit_at, rejected_of, is_wanted, IsBounded, by_table}
 use Rattle.propagators.proofs.Masking.{sides, bounded_by, bounded_held}
 use Rattle.propagators.proofs.pairs.bounds_of.Goals as goal
 

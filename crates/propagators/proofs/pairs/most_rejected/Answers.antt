@@ -1,5 +1,4 @@
-use Rattle.std.proofs.Common.{◌≤◌, rules, arith}
-use Rattle.std.specs.Prelude.{slice_index_or}
+use Rattle.propagators.proofs.Prelude.{◌≤◌, rules, arith, slice_index_or}
 use Rattle.propagators.proofs.Loose.{rejects_next, row_rejects}
 use Rattle.propagators.proofs.pairs.most_rejected.Goals as goal
 

@@ -1,8 +1,4 @@
-use Rattle.std.proofs.Common.{◌<◌, ◌≤◌, ℕ}
-use Rattle.std.specs.Prelude.{◌==◌, slice_index_or}
-use Rattle.std.specs.Int.{bit_at}
-use Rattle.language.specs.Pairs.{rejected_of}
-use Rattle.propagators.specs.Families.{is_wanted}
+use Rattle.propagators.proofs.Prelude.{◌<◌, ◌≤◌, ℕ, ◌==◌, slice_index_or, bit_at, rejected_of, is_wanted}
 use Rattle.propagators.proofs.pairs.most_rejected.Given as goal
 
 abbrev pub invariant-loop-x : goal.invariant-loop-x

@@ -1,4 +1,4 @@
-use Rattle.std.proofs.Common.{◌<◌, ◌+◌, ◌∙◌, sym, subst, arith, length}
+use Rattle.propagators.proofs.Prelude.{◌<◌, ◌+◌, ◌∙◌, sym, subst, arith, length}
 use Rattle.propagators.proofs.Cutting.{IsCutting, cut_changed, cut_same}
 use Rattle.propagators.proofs.revising.cut_all.Goals.{then-cut, else-cut}
 use Rattle.propagators.proofs.revising.cut_all.Goals as goal

@@ -1,8 +1,4 @@
-use Rattle.std.proofs.Common.{◌<◌, ◌+◌, ◌∙◌, ℕ, List, [], true, ap, length, refl, sym, subst, arith}
-use Rattle.std.specs.List.{list_any}
-use Rattle.assign.specs.Sets.{has, union}
-use Rattle.propagators.specs.Families.{Family, Arc, arcs_of}
-use Rattle.propagators.specs.Supports.{IsRevised, IsDead}
+use Rattle.propagators.proofs.Prelude.{◌<◌, ◌+◌, ◌∙◌, ℕ, List, [], true, ap, length, refl, sym, subst, arith, list_any, has, union, Family, Arc, arcs_of, IsRevised, IsDead}
 use Rattle.propagators.proofs.Rounds.{IsPassing, pass_on, pass_over, dead_before, dead_here}
 use Rattle.propagators.proofs.Conditions.{arcs_small}
 use Rattle.propagators.proofs.revising.pass.Goals.{then-touches+in-Some, else-touches}

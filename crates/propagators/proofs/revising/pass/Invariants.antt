@@ -1,4 +1,4 @@
-use Rattle.propagators.specs.Families.{arcs_of}
+use Rattle.propagators.proofs.Prelude.{arcs_of}
 use Rattle.propagators.proofs.Rounds.{IsPassing}
 use Rattle.propagators.proofs.revising.pass.Given as goal
 

@@ -1,9 +1,4 @@
-use Rattle.std.proofs.Common.{◌∙◌, ap, sym, subst, ℕ, List}
-use Rattle.std.proofs.lemmas.Bool.{not-true}
-use Rattle.assign.specs.Sets.{numbers}
-use Rattle.language.specs.Language.{variable_count}
-use Rattle.propagators.specs.Families.{arcs_of}
-use Rattle.propagators.specs.Supports.{AreSettled}
+use Rattle.propagators.proofs.Prelude.{◌∙◌, ap, sym, subst, ℕ, List, not-true, numbers, variable_count, arcs_of, AreSettled}
 use Rattle.propagators.proofs.Ones.{not_false}
 use Rattle.propagators.proofs.Rounds.{empty_stays}
 use Rattle.propagators.proofs.Conditions.{all_settled, arcs_over}

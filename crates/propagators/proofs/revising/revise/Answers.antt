@@ -1,8 +1,6 @@
-use Rattle.std.proofs.Common.{◌∙◌, sym, ap, arith, length}
-use Rattle.std.proofs.lemmas.Bool.{not-true}
+use Rattle.propagators.proofs.Prelude.{◌∙◌, sym, ap, arith, length, not-true, variable_count}
 use Rattle.propagators.proofs.Ones.{not_false}
 use Rattle.propagators.proofs.Conditions.{supported_here, sets_below, found_within, revised_here, dead_here, scope_different}
-use Rattle.language.specs.Language.{variable_count}
 use Rattle.propagators.proofs.revising.revise.Goals as goal
 
 pub supported-found-requires : goal.supported-found-requires

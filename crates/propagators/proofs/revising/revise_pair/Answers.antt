@@ -1,7 +1,4 @@
-use Rattle.std.proofs.Common.{◌∙◌, [], ◌∷◌, refl, sym, arith}
-use Rattle.std.proofs.lemmas.Bool.{not-true}
-use Rattle.propagators.specs.Values.{ones_of}
-use Rattle.propagators.specs.Briefs.{by_pair, arc_by}
+use Rattle.propagators.proofs.Prelude.{◌∙◌, [], ◌∷◌, refl, sym, arith, not-true, ones_of, by_pair, arc_by}
 use Rattle.propagators.proofs.Ones.{not_false}
 use Rattle.propagators.proofs.ByMasks.{on_two, two_below, two_within, pair_revised, pair_dead}
 use Rattle.propagators.proofs.revising.revise_pair.Goals as goal

@@ -1,5 +1,4 @@
-use Rattle.std.proofs.Common.{◌≡◌, ℕ, List, [], ◌∷◌, length, refl, arith}
-use Rattle.propagators.specs.Families.{arcs_of}
+use Rattle.propagators.proofs.Prelude.{◌≡◌, ℕ, List, [], ◌∷◌, length, refl, arith, arcs_of}
 use Rattle.propagators.proofs.Rounds.{dead_before, turn_falls, settled_largest}
 use Rattle.propagators.proofs.Conditions.{family_under}
 use Rattle.propagators.proofs.revising.settle.Goals as goal

@@ -1,5 +1,4 @@
-use Rattle.propagators.specs.Families.{arcs_of}
-use Rattle.propagators.specs.Supports.{IsUnderway, AreSettled}
+use Rattle.propagators.proofs.Prelude.{arcs_of, IsUnderway, AreSettled}
 use Rattle.propagators.proofs.Rounds.{turns_left}
 use Rattle.propagators.proofs.revising.settle.Given as goal
 

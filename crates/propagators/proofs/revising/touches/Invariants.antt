@@ -1,6 +1,4 @@
-use Rattle.std.proofs.Common.{◌≡◌, take, false}
-use Rattle.std.specs.List.{list_any}
-use Rattle.assign.specs.Sets.{has}
+use Rattle.propagators.proofs.Prelude.{◌≡◌, take, false, list_any, has}
 use Rattle.propagators.proofs.revising.touches.Given as goal
 
 abbrev pub invariant-loop-v : goal.invariant-loop-v

@@ -1,10 +1,4 @@
-use Rattle.std.proofs.Common.{◌∙◌, ◌&&◌, ◌||◌, ap, inl, inr}
-use Rattle.std.specs.Prelude.{◌==◌, slice_index_or}
-use Rattle.std.specs.Int.{bit_at}
-use Rattle.std.proofs.lemmas.Bool.{both_ways}
-use Rattle.assign.specs.Sets.{has}
-use Rattle.propagators.specs.Values.{ones_of}
-use Rattle.propagators.specs.Families.{is_wanted}
+use Rattle.propagators.proofs.Prelude.{◌∙◌, ◌&&◌, ◌||◌, ap, inl, inr, ◌==◌, slice_index_or, bit_at, both_ways, has, ones_of, is_wanted}
 use Rattle.propagators.proofs.Ones.{ones_of-zero}
 use Rattle.propagators.proofs.Chains.{chain_supported, none_supported, passing_part}
 use Rattle.propagators.proofs.supports.in_chain.Goals as goal

@@ -1,8 +1,4 @@
-use Rattle.std.proofs.Common.{◌+◌, ◌*◌, ◌∙◌, ap, sym}
-use Rattle.propagators.specs.Values.{ones_of}
-use Rattle.rel_table.specs.Table.{truth_at}
-use Rattle.propagators.specs.Families.{is_wanted}
-use Rattle.propagators.specs.Supports.{continues}
+use Rattle.propagators.proofs.Prelude.{◌+◌, ◌*◌, ◌∙◌, ap, sym, ones_of, truth_at, is_wanted, continues}
 use Rattle.propagators.proofs.Sweeping.{one_supported, both_true, part_true}
 use Rattle.propagators.proofs.supports.in_one.Goals as goal
 

@@ -1,7 +1,4 @@
-use Rattle.std.proofs.Common.{[], ◌∷◌}
-use Rattle.propagators.specs.Values.{ones_of}
-use Rattle.propagators.specs.Pairs.{goes_by}
-use Rattle.propagators.specs.Briefs.{by_pair}
+use Rattle.propagators.proofs.Prelude.{[], ◌∷◌, ones_of, goes_by, by_pair}
 use Rattle.propagators.proofs.Masking.{sides, by_rows}
 use Rattle.propagators.proofs.ByMasks.{pair_part, rows_supported}
 use Rattle.propagators.proofs.supports.in_pair.Goals as goal

@@ -1,10 +1,4 @@
-use Rattle.std.proofs.Common.{◌∙◌, ◌∷◌, ℕ, List, [], ap, sym}
-use Rattle.std.specs.Prelude.{◌==◌, slice_index_or}
-use Rattle.std.specs.Int.{bit_at}
-use Rattle.assign.specs.Sets.{has}
-use Rattle.propagators.specs.Values.{ones_of}
-use Rattle.propagators.specs.Families.{is_wanted}
-use Rattle.propagators.specs.Pairs.{goes_by}
+use Rattle.propagators.proofs.Prelude.{◌∙◌, ◌∷◌, ℕ, List, [], ap, sym, ◌==◌, slice_index_or, bit_at, has, ones_of, is_wanted, goes_by}
 use Rattle.propagators.proofs.Ones.{ones_of-zero}
 use Rattle.propagators.proofs.Sweeping.{sweep_begin, sweep_step, sweep_end, one_supported, both_true, part_true}
 use Rattle.propagators.proofs.supports.in_rows.Goals as goal

@@ -1,6 +1,4 @@
-use Rattle.std.proofs.Common.{◌≡◌, ◌≤◌, ◌+◌, ◌*◌, ◌∙◌, ℕ, [], ◌∷◌, length, sym, subst}
-use Rattle.propagators.specs.Values.{ones_of}
-use Rattle.propagators.specs.Supports.{AreSupported, continues}
+use Rattle.propagators.proofs.Prelude.{◌≡◌, ◌≤◌, ◌+◌, ◌*◌, ◌∙◌, ℕ, [], ◌∷◌, length, sym, subst, ones_of, AreSupported, continues}
 use Rattle.propagators.proofs.Ones.{ones_of-zero}
 use Rattle.propagators.proofs.Sweeping.{sweep_begin, sweep_step, sweep_end, place_fits}
 use Rattle.propagators.proofs.supports.in_three.Goals as goal

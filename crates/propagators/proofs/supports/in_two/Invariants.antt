@@ -1,6 +1,4 @@
-use Rattle.std.proofs.Common.{[], ◌∷◌}
-use Rattle.propagators.specs.Values.{ones_of}
-use Rattle.propagators.specs.Supports.{continues}
+use Rattle.propagators.proofs.Prelude.{[], ◌∷◌, ones_of, continues}
 use Rattle.propagators.proofs.Sweeping.{IsSweeping}
 use Rattle.propagators.proofs.supports.in_two.Given as goal
 

@@ -1,7 +1,4 @@
-use Rattle.std.proofs.Common.{◌≡◌, ◌<◌, ◌*◌, ◌^◌, ◌∙◌, ℕ, ap, sym, length, arith}
-use Rattle.std.proofs.lemmas.List.{get_or-take, length-take}
-use Rattle.assign.specs.Sets.{has}
-use Rattle.propagators.specs.Values.{ones_of}
+use Rattle.propagators.proofs.Prelude.{◌≡◌, ◌<◌, ◌*◌, ◌^◌, ◌∙◌, ℕ, ap, sym, length, arith, get_or-take, length-take, has, ones_of}
 use Rattle.propagators.proofs.Sweeping.{power_one, power_three, power_four}
 use Rattle.propagators.proofs.supports.supported.Goals as goal
 

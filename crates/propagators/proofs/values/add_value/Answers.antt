@@ -1,8 +1,4 @@
-use Rattle.std.proofs.Common.{◌∙◌, ap, ◌||◌, ◌^◌}
-use Rattle.std.specs.Prelude.{bit_or}
-use Rattle.std.proofs.lemmas.Nat.{one_shl, pow_below}
-use Rattle.assign.specs.Sets.{has}
-use Rattle.propagators.specs.Values.{ones_of}
+use Rattle.propagators.proofs.Prelude.{◌∙◌, ap, ◌||◌, ◌^◌, bit_or, one_shl, pow_below, has, ones_of}
 use Rattle.propagators.proofs.Ones.{has-either, has-one}
 use Rattle.propagators.proofs.values.add_value.Goals as goal
 

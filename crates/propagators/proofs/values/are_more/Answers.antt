@@ -1,8 +1,4 @@
-use Rattle.std.proofs.Common.{◌≡◌, ℕ, ◌^◌, ◌<◌, ◌∙◌, ◌⊎◌, true, not, ◌&&◌, inl, inr, ap, sym, length, arith}
-use Rattle.std.specs.Prelude.{◌==◌, ◌≢◌, nat_lt}
-use Rattle.std.proofs.lemmas.Bool.{cases_eq, eq-eqb, ne_eqb, le-ltb, lt-ltb}
-use Rattle.assign.specs.Sets.{has, IsSet}
-use Rattle.propagators.specs.Values.{ones_of}
+use Rattle.propagators.proofs.Prelude.{◌≡◌, ℕ, ◌^◌, ◌<◌, ◌∙◌, ◌⊎◌, true, not, ◌&&◌, inl, inr, ap, sym, length, arith, ◌==◌, ◌≢◌, nat_lt, cases_eq, eq-eqb, ne_eqb, le-ltb, lt-ltb, has, IsSet, ones_of}
 use Rattle.propagators.proofs.Ones.{ones_of-zero, no_ones}
 use Rattle.propagators.proofs.Loose.{one_member, two_members, one_long, two_long, ones_of-set}
 use Rattle.propagators.proofs.values.are_more.Goals as goal

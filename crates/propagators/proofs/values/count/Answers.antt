@@ -1,4 +1,4 @@
-use Rattle.std.proofs.Common.{sym}
+use Rattle.propagators.proofs.Prelude.{sym}
 use Rattle.propagators.proofs.Ones.{length-ones_of}
 use Rattle.propagators.proofs.values.count.Goals as goal
 

@@ -1,7 +1,4 @@
-use Rattle.std.proofs.Common.{◌<◌, ◌-◌, ◌∙◌, ap, sym, arith, lit≤}
-use Rattle.std.proofs.lemmas.Nat.{one_shl}
-use Rattle.assign.specs.Sets.{numbers}
-use Rattle.propagators.specs.Values.{ones_of}
+use Rattle.propagators.proofs.Prelude.{◌<◌, ◌-◌, ◌∙◌, ap, sym, arith, lit≤, one_shl, numbers, ones_of}
 use Rattle.propagators.proofs.Ones.{ones_of-first}
 use Rattle.propagators.proofs.values.first_values.Goals as goal
 

@@ -1,7 +1,4 @@
-use Rattle.std.proofs.Common.{◌≡◌, ◌-◌, ◌∙◌, ap, arith}
-use Rattle.std.specs.Int.Count.{count_leading_zeros}
-use Rattle.assign.specs.Sets.{has}
-use Rattle.propagators.specs.Values.{ones_of}
+use Rattle.propagators.proofs.Prelude.{◌≡◌, ◌-◌, ◌∙◌, ap, arith, count_leading_zeros, has, ones_of}
 use Rattle.propagators.proofs.Ones.{highest}
 use Rattle.propagators.proofs.values.greatest_value.Goals as goal
 

@@ -1,7 +1,4 @@
-use Rattle.std.proofs.Common.{◌∙◌, ap, sym}
-use Rattle.std.specs.Prelude.{◌==◌}
-use Rattle.std.proofs.lemmas.Bool.{le-ltb}
-use Rattle.std.proofs.lemmas.Nat.Bits.{shr_and_one}
+use Rattle.propagators.proofs.Prelude.{◌∙◌, ap, sym, ◌==◌, le-ltb, shr_and_one}
 use Rattle.propagators.proofs.Ones.{has-ones_of, has_above}
 use Rattle.propagators.proofs.values.has_value.Goals as goal
 

@@ -1,7 +1,4 @@
-use Rattle.std.proofs.Common.{◌<◌, ◌∙◌, ap, arith}
-use Rattle.std.specs.Prelude.{◌==◌}
-use Rattle.std.specs.Int.{w64}
-use Rattle.std.proofs.lemmas.Nat.Bits.{bit_at-trailing_zeros}
+use Rattle.propagators.proofs.Prelude.{◌<◌, ◌∙◌, ap, arith, ◌==◌, w64, bit_at-trailing_zeros}
 use Rattle.propagators.proofs.Ones.{has-ones_of, none_lower}
 use Rattle.propagators.proofs.values.least_value.Goals as goal
 

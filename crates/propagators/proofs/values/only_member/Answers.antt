@@ -1,6 +1,4 @@
-use Rattle.std.proofs.Common.{◌∙◌, ap}
-use Rattle.std.proofs.lemmas.Bool.{both_ways}
-use Rattle.propagators.specs.Values.{ones_of}
+use Rattle.propagators.proofs.Prelude.{◌∙◌, ap, both_ways, ones_of}
 use Rattle.propagators.proofs.Ones.{ones_of-zero, none_in, no_ones}
 use Rattle.propagators.proofs.Loose.{one_member, two_members}
 use Rattle.propagators.proofs.values.only_member.Goals as goal

@@ -1,8 +1,4 @@
-use Rattle.std.proofs.Common.{◌∙◌, ap, ◌&&◌}
-use Rattle.std.specs.Prelude.{◌==◌, bit_and}
-use Rattle.std.proofs.lemmas.Nat.{one_shl}
-use Rattle.assign.specs.SetLemmas.{is_one, is_one-pow}
-use Rattle.propagators.specs.Values.{ones_of}
+use Rattle.propagators.proofs.Prelude.{◌∙◌, ap, ◌&&◌, ◌==◌, bit_and, one_shl, is_one, is_one-pow, ones_of}
 use Rattle.propagators.proofs.Ones.{ones_of-passing, is_one-and}
 use Rattle.propagators.proofs.values.only_value.Goals as goal
 

@@ -1,9 +1,4 @@
-use Rattle.std.proofs.Common.{◌∙◌, ap, sym, ◌&&◌}
-use Rattle.std.specs.Prelude.{◌==◌}
-use Rattle.std.specs.Int.{bit_at}
-use Rattle.assign.specs.Sets.{has}
-use Rattle.propagators.specs.Values.{ones_of}
-use Rattle.propagators.specs.Families.{is_wanted}
+use Rattle.propagators.proofs.Prelude.{◌∙◌, ap, sym, ◌&&◌, ◌==◌, bit_at, has, ones_of, is_wanted}
 use Rattle.propagators.proofs.Ones.{has-and, has-and_not}
 use Rattle.propagators.proofs.values.passing.Goals as goal
 

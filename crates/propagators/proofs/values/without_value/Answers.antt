@@ -1,9 +1,4 @@
-use Rattle.std.proofs.Common.{◌<◌, ◌∙◌, ap, subst, sym, ℕ}
-use Rattle.std.specs.Prelude.{bit_and}
-use Rattle.std.specs.Int.{bit_not, w64}
-use Rattle.std.proofs.lemmas.Nat.{one_shl}
-use Rattle.assign.specs.Sets.{has}
-use Rattle.propagators.specs.Values.{ones_of}
+use Rattle.propagators.proofs.Prelude.{◌<◌, ◌∙◌, ap, subst, sym, ℕ, bit_and, bit_not, w64, one_shl, has, ones_of}
 use Rattle.propagators.proofs.Ones.{has-without, less-without}
 use Rattle.propagators.proofs.values.without_value.Goals as goal
 

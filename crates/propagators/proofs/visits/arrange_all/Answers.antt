@@ -1,5 +1,4 @@
-use Rattle.std.proofs.Common.{arith}
-use Rattle.propagators.specs.Families.{arcs_of}
+use Rattle.propagators.proofs.Prelude.{arith, arcs_of}
 use Rattle.propagators.proofs.Indexed.{taken_none}
 use Rattle.propagators.proofs.visits.arrange_all.Goals as goal
 

@@ -1,6 +1,4 @@
-use Rattle.std.proofs.Common.{refl, subst}
-use Rattle.std.specs.Prelude.{Option, ℕ, IfSome}
-use Rattle.propagators.specs.Pairs.{IsValueOf}
+use Rattle.propagators.proofs.Prelude.{refl, subst, Option, ℕ, IfSome, IsValueOf}
 use Rattle.propagators.proofs.Replacing.{all_full}
 use Rattle.propagators.proofs.visits.beside.Goals as goal
 

@@ -1,5 +1,4 @@
-use Rattle.std.proofs.Common.{◌≡◌, ◌<◌, ◌+◌, ◌*◌, ◌/◌, ℕ, length}
-use Rattle.std.specs.Prelude.{slice_index_or}
+use Rattle.propagators.proofs.Prelude.{◌≡◌, ◌<◌, ◌+◌, ◌*◌, ◌/◌, ℕ, length, slice_index_or}
 use Rattle.propagators.proofs.visits.clear_sets.Given as goal
 
 abbrev pub invariant-loop-w : goal.invariant-loop-w

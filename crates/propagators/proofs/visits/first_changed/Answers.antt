@@ -1,11 +1,4 @@
-use Rattle.std.proofs.Common.{◌≡◌, ◌∙◌, ℕ, List, [], ap, subst, sym, arith}
-use Rattle.std.specs.Prelude.{slice_index_or}
-use Rattle.std.proofs.lemmas.List.{get_or_read}
-use Rattle.assign.specs.Sets.{numbers}
-use Rattle.propagators.specs.Loose.{HasMore}
-use Rattle.language.specs.Language.{variable_count}
-use Rattle.propagators.specs.Families.{arcs_of}
-use Rattle.propagators.specs.Supports.{AreSettled}
+use Rattle.propagators.proofs.Prelude.{◌≡◌, ◌∙◌, ℕ, List, [], ap, subst, sym, arith, slice_index_or, get_or_read, numbers, HasMore, variable_count, arcs_of, AreSettled}
 use Rattle.propagators.proofs.Conditions.{all_settled, arcs_over}
 use Rattle.propagators.proofs.Lazy.{settled_first, more_next}
 use Rattle.propagators.proofs.visits.first_changed.Goals as goal

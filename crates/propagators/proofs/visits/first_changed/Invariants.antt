@@ -1,7 +1,4 @@
-use Rattle.std.proofs.Common.{◌≡◌, ◌<◌, ℕ, [], false}
-use Rattle.std.specs.Prelude.{slice_index_or}
-use Rattle.assign.specs.Sets.{has}
-use Rattle.propagators.specs.Loose.{HasMore}
+use Rattle.propagators.proofs.Prelude.{◌≡◌, ◌<◌, ℕ, [], false, slice_index_or, has, HasMore}
 use Rattle.propagators.proofs.visits.first_changed.Given as goal
 
 abbrev pub invariant-loop-v : goal.invariant-loop-v

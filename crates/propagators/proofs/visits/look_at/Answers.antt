@@ -1,9 +1,4 @@
-use Rattle.std.proofs.Common.{◌∙◌, sym, subst, arith}
-use Rattle.std.specs.Prelude.{slice_index_or}
-use Rattle.std.proofs.lemmas.List.{get_or_read}
-use Rattle.propagators.specs.declared.briefs.Brief.{Brief}
-use Rattle.propagators.specs.Families.{arcs_of}
-use Rattle.propagators.specs.Briefs.{IsBriefOf}
+use Rattle.propagators.proofs.Prelude.{◌∙◌, sym, subst, arith, slice_index_or, get_or_read, Brief, arcs_of, IsBriefOf}
 use Rattle.propagators.proofs.Entailing.{entailed_under}
 use Rattle.propagators.proofs.visits.look_at.Goals as goal
 

@@ -1,9 +1,5 @@
-use Rattle.std.proofs.Common.{List, [], ◌<◌, length, ℕ, true, sym, subst, refl, arith}
-use Rattle.propagators.specs.Families.{Arc, arcs_of}
-use Rattle.propagators.specs.Supports.{AreDifferent}
-use Rattle.propagators.specs.Plans.{IsLooked}
+use Rattle.propagators.proofs.Prelude.{List, [], ◌<◌, length, ℕ, true, sym, subst, refl, arith, Arc, arcs_of, AreDifferent, IsLooked, slice_index_or, All}
 use Rattle.propagators.proofs.Rounds.{dead_here}
-use Rattle.std.specs.Prelude.{slice_index_or, All}
 use Rattle.propagators.proofs.Conditions.{arcs_small, arcs_within, arcs_different}
 use Rattle.propagators.proofs.Visiting.{looked_same, looked_changed}
 use Rattle.propagators.proofs.Standing.{stood_revised, stood_dead}

@@ -1,7 +1,4 @@
-use Rattle.std.proofs.Common.{List, [], ℕ, true, sym, subst, refl, arith}
-use Rattle.propagators.specs.Families.{Arc, arcs_of}
-use Rattle.propagators.specs.Supports.{IsRevised, IsDead}
-use Rattle.propagators.specs.Plans.{IsLooked}
+use Rattle.propagators.proofs.Prelude.{List, [], ℕ, true, sym, subst, refl, arith, Arc, arcs_of, IsRevised, IsDead, IsLooked}
 use Rattle.propagators.proofs.Rounds.{dead_here}
 use Rattle.propagators.proofs.Conditions.{arcs_small}
 use Rattle.propagators.proofs.Visiting.{looked_same, looked_changed}

@@ -1,15 +1,5 @@
-use Rattle.std.proofs.Common.{◌≡◌, ◌<◌, ◌∙◌, ◌∷◌, ℕ, List, [], true, length, sym, ap, subst, refl, arith}
-use Rattle.std.specs.Prelude.{slice_index_or, All, ◌==◌}
-use Rattle.std.specs.Int.{bit_at}
-use Rattle.std.proofs.lemmas.List.{get_or_read}
-use Rattle.language.specs.Language.{Language}
-use Rattle.propagators.specs.Families.{Family, Arc, arcs_of, is_wanted}
-use Rattle.propagators.specs.Supports.{AreDifferent}
-use Rattle.propagators.specs.Briefs.{arc_by, IsPairOf}
-use Rattle.propagators.specs.declared.briefs.Pair.{Pair}
+use Rattle.propagators.proofs.Prelude.{◌≡◌, ◌<◌, ◌∙◌, ◌∷◌, ℕ, List, [], true, length, sym, ap, subst, refl, arith, slice_index_or, All, ◌==◌, bit_at, get_or_read, Language, Family, Arc, arcs_of, is_wanted, AreDifferent, arc_by, IsPairOf, Pair, HasMore, IsLooked}
 use Rattle.propagators.proofs.Standing.{stood_consistent, stood_revised, stood_dead}
-use Rattle.propagators.specs.Loose.{HasMore}
-use Rattle.propagators.specs.Plans.{IsLooked}
 use Rattle.propagators.proofs.Loose.{bounded_consistent}
 use Rattle.propagators.proofs.Rounds.{dead_here}
 use Rattle.propagators.proofs.Conditions.{arcs_small, arcs_within, arcs_different}

@@ -1,6 +1,4 @@
-use Rattle.std.proofs.Common.{◌≡◌, ◌<◌, ◌+◌, ◌*◌, ◌/◌, ◌%◌, ◌∙◌, length, arith}
-use Rattle.std.proofs.Math.ListN.{length-set}
-use Rattle.std.proofs.lemmas.Nat.{mul-add-lt, div_below}
+use Rattle.propagators.proofs.Prelude.{◌≡◌, ◌<◌, ◌+◌, ◌*◌, ◌/◌, ◌%◌, ◌∙◌, length, arith, length-set, mul-add-lt, div_below}
 use Rattle.propagators.proofs.Visiting.{set_grows, noted_more}
 use Rattle.propagators.proofs.visits.note.Goals as goal
 

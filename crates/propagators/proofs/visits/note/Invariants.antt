@@ -1,7 +1,4 @@
-use Rattle.std.proofs.Common.{◌≡◌, ◌<◌, ◌+◌, ◌*◌, ◌/◌, ◌%◌, ℕ, true, length}
-use Rattle.std.specs.Prelude.{slice_index_or}
-use Rattle.assign.specs.Sets.{has}
-use Rattle.propagators.specs.Values.{ones_of}
+use Rattle.propagators.proofs.Prelude.{◌≡◌, ◌<◌, ◌+◌, ◌*◌, ◌/◌, ◌%◌, ℕ, true, length, slice_index_or, has, ones_of}
 use Rattle.propagators.proofs.visits.note.Given as goal
 
 abbrev pub invariant-loop-v : goal.invariant-loop-v

@@ -1,5 +1,4 @@
-use Rattle.std.proofs.Common.{◌∙◌, ap, sym, arith}
-use Rattle.propagators.specs.Families.{Arc, arcs_of}
+use Rattle.propagators.proofs.Prelude.{◌∙◌, ap, sym, arith, Arc, arcs_of}
 use Rattle.propagators.proofs.Visiting.{noted_next}
 use Rattle.propagators.proofs.visits.note_rest.Goals as goal
 

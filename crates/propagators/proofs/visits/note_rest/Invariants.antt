@@ -1,8 +1,4 @@
-use Rattle.std.proofs.Common.{◌≡◌, ◌<◌, ◌+◌, ◌*◌, ◌/◌, ◌%◌, ℕ, true, length}
-use Rattle.std.specs.Prelude.{slice_index_or}
-use Rattle.assign.specs.Sets.{has}
-use Rattle.propagators.specs.Values.{ones_of}
-use Rattle.propagators.specs.Families.{Arc, arcs_of}
+use Rattle.propagators.proofs.Prelude.{◌≡◌, ◌<◌, ◌+◌, ◌*◌, ◌/◌, ◌%◌, ℕ, true, length, slice_index_or, has, ones_of, Arc, arcs_of}
 use Rattle.propagators.proofs.visits.note_rest.Given as goal
 
 abbrev pub invariant-loop-i : goal.invariant-loop-i

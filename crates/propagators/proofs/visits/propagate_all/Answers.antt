@@ -1,6 +1,4 @@
-use Rattle.std.proofs.Common.{◌∙◌, sym}
-use Rattle.std.proofs.lemmas.Bool.{not-true}
-use Rattle.propagators.specs.Families.{arcs_of}
+use Rattle.propagators.proofs.Prelude.{◌∙◌, sym, not-true, arcs_of}
 use Rattle.propagators.proofs.Ones.{not_false}
 use Rattle.propagators.proofs.Rounds.{empty_stays}
 use Rattle.propagators.proofs.visits.propagate_all.Goals as goal

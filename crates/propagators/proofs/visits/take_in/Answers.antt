@@ -1,6 +1,4 @@
-use Rattle.std.proofs.Common.{◌∙◌, ap, sym, arith, length}
-use Rattle.std.specs.Prelude.{min}
-use Rattle.propagators.specs.Families.{Arc, arc_of, arcs_of}
+use Rattle.propagators.proofs.Prelude.{◌∙◌, ap, sym, arith, length, min, Arc, arc_of, arcs_of}
 use Rattle.propagators.proofs.Masking.{briefs_next}
 use Rattle.propagators.proofs.Lazy.{limits_next}
 use Rattle.propagators.proofs.Visiting.{noted_next}

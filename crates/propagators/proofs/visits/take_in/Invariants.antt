@@ -1,6 +1,4 @@
-use Rattle.std.proofs.Common.{◌≡◌, ◌*◌, length}
-use Rattle.propagators.specs.Families.{arcs_of}
-use Rattle.propagators.specs.Plans.{AreTakenIn}
+use Rattle.propagators.proofs.Prelude.{◌≡◌, ◌*◌, length, arcs_of, AreTakenIn}
 use Rattle.propagators.proofs.visits.take_in.Given as goal
 
 abbrev pub invariant-loop-i : goal.invariant-loop-i

@@ -1,8 +1,4 @@
-use Rattle.std.proofs.Common.{◌<◌, ◌+◌, ◌*◌, ◌∙◌, ℕ, List, length, slice_index_or, sym, ap, subst, refl, arith}
-use Rattle.std.proofs.lemmas.List.{get_or_read}
-use Rattle.std.proofs.lemmas.Nat.{mul-add-lt}
-use Rattle.assign.specs.Sets.{without}
-use Rattle.propagators.specs.Families.{arcs_of}
+use Rattle.propagators.proofs.Prelude.{◌<◌, ◌+◌, ◌*◌, ◌∙◌, ℕ, List, length, slice_index_or, sym, ap, subst, refl, arith, get_or_read, mul-add-lt, without, arcs_of}
 use Rattle.propagators.proofs.Rounds.{dead_before}
 use Rattle.propagators.proofs.Conditions.{arcs_small}
 use Rattle.propagators.proofs.Single.{value_stays}

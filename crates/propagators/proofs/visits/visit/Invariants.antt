@@ -1,8 +1,4 @@
-use Rattle.std.specs.Prelude.{IfSome}
-use Rattle.assign.specs.Sets.{without}
-use Rattle.propagators.specs.Families.{arcs_of}
-use Rattle.propagators.specs.Pairs.{IsValueOf}
-use Rattle.propagators.specs.Entailed.{AreEntailed}
+use Rattle.propagators.proofs.Prelude.{IfSome, without, arcs_of, IsValueOf, AreEntailed}
 use Rattle.propagators.proofs.Visiting.{IsVisiting, IsBefore, IsWithout}
 use Rattle.propagators.proofs.visits.visit.Given as goal
 

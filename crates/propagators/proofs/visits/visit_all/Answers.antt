@@ -1,5 +1,4 @@
-use Rattle.std.proofs.Common.{◌≡◌, ℕ, List, [], ◌∷◌, length, sym, refl, arith}
-use Rattle.propagators.specs.Families.{arcs_of}
+use Rattle.propagators.proofs.Prelude.{◌≡◌, ℕ, List, [], ◌∷◌, length, sym, refl, arith, arcs_of}
 use Rattle.propagators.proofs.Rounds.{dead_before, settled_largest}
 use Rattle.propagators.proofs.Conditions.{family_under}
 use Rattle.propagators.proofs.Visiting.{visits_fall}

@@ -1,6 +1,4 @@
-use Rattle.propagators.specs.Families.{arcs_of}
-use Rattle.propagators.specs.Supports.{IsUnderway, AreSettled}
-use Rattle.propagators.specs.Entailed.{AreEntailed}
+use Rattle.propagators.proofs.Prelude.{arcs_of, IsUnderway, AreSettled, AreEntailed}
 use Rattle.propagators.proofs.Visiting.{visits_left}
 use Rattle.propagators.proofs.visits.visit_all.Given as goal
 

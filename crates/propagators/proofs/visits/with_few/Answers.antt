@@ -1,5 +1,4 @@
-use Rattle.std.proofs.Common.{◌∙◌, ap, sym, refl}
-use Rattle.assign.specs.Sets.{has}
+use Rattle.propagators.proofs.Prelude.{◌∙◌, ap, sym, refl, has}
 use Rattle.propagators.proofs.Cutting.{not_with}
 use Rattle.propagators.proofs.visits.with_few.Goals as goal
 

@@ -1,4 +1,4 @@
-use Rattle.fd_solver.proofs.Outcomes.{absent_is_implied}
+use Rattle.query_gen.proofs.Prelude.{absent_is_implied}
 use Rattle.query_gen.proofs.Told.{all_are_implied}
 use Rattle.query_gen.proofs.laws.all_are_implied.Goals as goal
 

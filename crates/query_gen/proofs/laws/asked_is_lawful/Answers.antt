@@ -1,4 +1,4 @@
-use Rattle.fd_solver.proofs.Outcomes.{found_is_lawful}
+use Rattle.query_gen.proofs.Prelude.{found_is_lawful}
 use Rattle.query_gen.proofs.Told.{asked_is_lawful}
 use Rattle.query_gen.proofs.laws.asked_is_lawful.Goals as goal
 

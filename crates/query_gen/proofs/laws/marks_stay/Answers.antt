@@ -1,4 +1,4 @@
-use Rattle.fd_solver.proofs.Outcomes.{absent_stays}
+use Rattle.query_gen.proofs.Prelude.{absent_stays}
 use Rattle.query_gen.proofs.Marking.{marks_stay}
 use Rattle.query_gen.proofs.laws.marks_stay.Goals as goal
 

@@ -1,6 +1,4 @@
-use Rattle.std.proofs.Common.{sym, ap}
-use Rattle.fd_solver.specs.Outcomes.{outcome_of_candidate}
-use Rattle.query_gen.specs.Parts.{byte_for}
+use Rattle.query_gen.proofs.Prelude.{sym, ap, outcome_of_candidate, byte_for}
 use Rattle.query_gen.proofs.Parts.{absent_next, spent_next}
 use Rattle.query_gen.proofs.part.byte_of.Goals as goal
 

@@ -1,6 +1,4 @@
-use Rattle.std.proofs.Common.{sym, ◌∙◌, ap}
-use Rattle.bias_store.specs.Masks.{ones_of}
-use Rattle.bias_store.proofs.Ones.{ones_of-zero}
+use Rattle.query_gen.proofs.Prelude.{sym, ◌∙◌, ap, ones_of, ones_of-zero}
 use Rattle.query_gen.proofs.Scopes.{none_so_far}
 use Rattle.query_gen.proofs.part.kept_from.Goals as goal
 

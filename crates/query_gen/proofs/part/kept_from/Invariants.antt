@@ -1,5 +1,4 @@
-use Rattle.std.proofs.Common.{◌≡◌, ℕ, ◌<◌, ◌≤◌, []}
-use Rattle.bias_store.specs.KeptSet.{kept_relations}
+use Rattle.query_gen.proofs.Prelude.{◌≡◌, ℕ, ◌<◌, ◌≤◌, [], kept_relations}
 use Rattle.query_gen.proofs.part.kept_from.Given as goal
 
 abbrev pub invariant-loop-scope : goal.invariant-loop-scope

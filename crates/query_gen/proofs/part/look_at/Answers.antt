@@ -1,4 +1,4 @@
-use Rattle.std.proofs.Common.{◌∙◌, arith}
+use Rattle.query_gen.proofs.Prelude.{◌∙◌, arith}
 use Rattle.query_gen.proofs.Among.{among_is}
 use Rattle.query_gen.proofs.Numbers.{number_below}
 use Rattle.query_gen.proofs.Parts.{next_other, next_kept, under_implied, under_spent}

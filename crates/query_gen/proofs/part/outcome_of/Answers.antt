@@ -1,6 +1,4 @@
-use Rattle.std.proofs.Common.{sym, ◌∙◌, ap, subst, Some}
-use Rattle.language.specs.Language.{variable_count}
-use Rattle.fd_solver.specs.Outcomes.{IsOrder, search_outcome}
+use Rattle.query_gen.proofs.Prelude.{sym, ◌∙◌, ap, subst, Some, variable_count, IsOrder, search_outcome}
 use Rattle.query_gen.proofs.part.outcome_of.Goals as goal
 
 pub search_with-requires-clause-order : goal.search_with-requires-clause-order

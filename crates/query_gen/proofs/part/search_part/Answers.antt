@@ -1,5 +1,4 @@
-use Rattle.std.proofs.Common.{◌+◌, refl, ap, arith}
-use Rattle.query_gen.specs.Parts.{reach, start_of}
+use Rattle.query_gen.proofs.Prelude.{◌+◌, refl, ap, arith, reach, start_of}
 use Rattle.query_gen.proofs.Parts.{searched_none}
 use Rattle.query_gen.proofs.Scopes.{from_start, start_next, start_rises, no_ask, rising_scopes, scope_inside, scopes_passed, moved, blank}
 use Rattle.query_gen.proofs.part.search_part.Goals as goal

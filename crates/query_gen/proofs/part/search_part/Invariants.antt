@@ -1,5 +1,4 @@
-use Rattle.std.proofs.Common.{◌≡◌, ◌+◌, ◌-◌, ◌≤◌, false, length}
-use Rattle.query_gen.specs.Parts.{is_ask, IsSearchedBefore}
+use Rattle.query_gen.proofs.Prelude.{◌≡◌, ◌+◌, ◌-◌, ◌≤◌, false, length, is_ask, IsSearchedBefore}
 use Rattle.query_gen.proofs.part.search_part.Given as goal
 
 abbrev pub invariant-loop-scope : goal.invariant-loop-scope

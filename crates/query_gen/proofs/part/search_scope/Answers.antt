@@ -1,9 +1,4 @@
-use Rattle.std.proofs.Common.{◌+◌, length, refl, ◌∙◌, ap, arith}
-use Rattle.bias_store.specs.Masks.{ones_of}
-use Rattle.bias_store.proofs.Ones.{ones_of-zero}
-use Rattle.language.specs.Language.{IsCandidate}
-use Rattle.bias_store.proofs.Members.{candidate_at}
-use Rattle.query_gen.specs.Parts.{reach, start_of}
+use Rattle.query_gen.proofs.Prelude.{◌+◌, length, refl, ◌∙◌, ap, arith, ones_of, ones_of-zero, IsCandidate, candidate_at, reach, start_of}
 use Rattle.query_gen.proofs.Parts.{searched_found}
 use Rattle.query_gen.proofs.Scopes.{from_start, start_next, moved, passed_to, all_left, left_after, none_between, none_left, first_known, no_ask}
 use Rattle.query_gen.proofs.part.search_scope.Goals as goal

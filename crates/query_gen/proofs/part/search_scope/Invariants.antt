@@ -1,6 +1,4 @@
-use Rattle.std.proofs.Common.{◌≡◌, ◌+◌, ◌≤◌, false, length}
-use Rattle.bias_store.specs.Masks.{ones_of}
-use Rattle.query_gen.specs.Parts.{is_ask, reach, start_of, IsSearchedTo}
+use Rattle.query_gen.proofs.Prelude.{◌≡◌, ◌+◌, ◌≤◌, false, length, ones_of, is_ask, reach, start_of, IsSearchedTo}
 use Rattle.query_gen.proofs.Scopes.{AreLeft}
 use Rattle.query_gen.proofs.part.search_scope.Given as goal
 

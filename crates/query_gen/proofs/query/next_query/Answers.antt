@@ -1,6 +1,4 @@
-use Rattle.std.proofs.Common.{◌+◌, ◌<◌, ◌≤◌, length, sym, ◌∙◌, ap, ap₂, arith}
-use Rattle.language.specs.Language.{candidates, number_of}
-use Rattle.query_gen.specs.Parts.{query_then, is_ask}
+use Rattle.query_gen.proofs.Prelude.{◌+◌, ◌<◌, ◌≤◌, length, sym, ◌∙◌, ap, ap₂, arith, candidates, number_of, query_then, is_ask}
 use Rattle.query_gen.proofs.Numbers.{number_below}
 use Rattle.query_gen.proofs.Parts.{parts_are_joined, says_early, searched_true, taken_further}
 use Rattle.query_gen.proofs.Scopes.{no_ask}

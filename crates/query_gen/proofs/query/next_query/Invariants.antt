@@ -1,5 +1,4 @@
-use Rattle.std.proofs.Common.{◌≡◌, ◌-◌, ◌≤◌, false, length}
-use Rattle.query_gen.specs.Parts.{query_in, is_ask}
+use Rattle.query_gen.proofs.Prelude.{◌≡◌, ◌-◌, ◌≤◌, false, length, query_in, is_ask}
 use Rattle.query_gen.proofs.Parts.{IsTakenTo}
 use Rattle.query_gen.proofs.query.next_query.Given as goal
 

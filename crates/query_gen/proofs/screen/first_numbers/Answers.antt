@@ -1,5 +1,4 @@
-use Rattle.std.proofs.Common.{length, arith}
-use Rattle.language.specs.Language.{number_of}
+use Rattle.query_gen.proofs.Prelude.{length, arith, number_of}
 use Rattle.query_gen.proofs.Numbers.{first_on, one_more, all_numbers}
 use Rattle.query_gen.proofs.screen.first_numbers.Goals as goal
 

@@ -1,6 +1,4 @@
-use Rattle.std.proofs.Common.{◌≡◌, map, take, length}
-use Rattle.language.specs.Language.{number_of}
-use Rattle.assign.specs.Sets.{numbers}
+use Rattle.query_gen.proofs.Prelude.{◌≡◌, map, take, length, number_of, numbers}
 use Rattle.query_gen.proofs.screen.first_numbers.Given as goal
 
 abbrev pub invariant-loop-scope : goal.invariant-loop-scope

@@ -1,9 +1,5 @@
-use Rattle.std.proofs.Common.{◌<◌, length, get_or, set, ◌∙◌, ap, arith}
-use Rattle.std.proofs.lemmas.List.{get_or_default}
+use Rattle.query_gen.proofs.Prelude.{◌<◌, length, get_or, set, ◌∙◌, ap, arith, get_or_default, Mark, Blank, without_spent}
 use Rattle.std.proofs.lemmas.List.Edits.{map_over_more}
-use Rattle.query_gen.specs.declared.screen.Mark.{Mark}
-use Rattle.query_gen.specs.declared.screen.Mark.TheVariants.{Blank}
-use Rattle.query_gen.specs.Inside.{without_spent}
 use Rattle.query_gen.proofs.screen.forget_spent.Goals as goal
 
 pub loop-mark-preserved : goal.loop-mark-preserved

@@ -1,5 +1,4 @@
-use Rattle.std.proofs.Common.{◌≡◌, ◌++◌, map, take, drop}
-use Rattle.query_gen.specs.Inside.{without_spent}
+use Rattle.query_gen.proofs.Prelude.{◌≡◌, ◌++◌, map, take, drop, without_spent}
 use Rattle.query_gen.proofs.screen.forget_spent.Given as goal
 
 abbrev pub invariant-loop-mark : goal.invariant-loop-mark

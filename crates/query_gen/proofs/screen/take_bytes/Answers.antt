@@ -1,7 +1,4 @@
-use Rattle.std.proofs.Common.{◌+◌, ◌<◌, length, ◌∙◌, ap₂, arith}
-use Rattle.std.proofs.lemmas.List.{get_or_default}
-use Rattle.query_gen.specs.declared.screen.Mark.TheVariants.{Blank}
-use Rattle.query_gen.specs.Parts.{mark_taken}
+use Rattle.query_gen.proofs.Prelude.{◌+◌, ◌<◌, length, ◌∙◌, ap₂, arith, get_or_default, Blank, mark_taken}
 use Rattle.query_gen.proofs.Parts.{taken_none, taken_more}
 use Rattle.query_gen.proofs.screen.take_bytes.Goals as goal
 

@@ -1,5 +1,4 @@
-use Rattle.std.proofs.Common.{◌+◌}
-use Rattle.query_gen.specs.Parts.{AreTaken}
+use Rattle.query_gen.proofs.Prelude.{◌+◌, AreTaken}
 use Rattle.query_gen.proofs.screen.take_bytes.Given as goal
 
 abbrev pub invariant-loop-i : goal.invariant-loop-i

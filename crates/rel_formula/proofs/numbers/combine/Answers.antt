@@ -1,4 +1,4 @@
-use Rattle.std.proofs.Common.{rules}
+use Rattle.rel_formula.proofs.Prelude.{rules}
 use Rattle.rel_formula.proofs.numbers.combine.Goals as goal
 
 pub returns-in-Sum : goal.returns-in-Sum

@@ -1,4 +1,4 @@
-use Rattle.std.proofs.Common.{rules}
+use Rattle.rel_formula.proofs.Prelude.{rules}
 use Rattle.rel_formula.proofs.tables.shown_value.Goals as goal
 
 pub returns : goal.returns

@@ -1,4 +1,4 @@
-use Rattle.std.proofs.Common.{◌≡◌, ℕ, ◌<◌, get_or}
+use Rattle.rel_table.proofs.Prelude.{◌≡◌, ℕ, ◌<◌, get_or}
 use Rattle.rel_table.proofs.bits.has_first_other.Given as goal
 
 abbrev pub invariant-loop-i : goal.invariant-loop-i

@@ -1,7 +1,4 @@
-use Rattle.std.proofs.Common.{ap, nat_eq}
-use Rattle.std.specs.Prelude.{bit_xor}
-use Rattle.std.specs.Int.{trailing_zeros, w64}
-use Rattle.std.proofs.lemmas.Nat.Bits.{shr_and_one}
+use Rattle.rel_table.proofs.Prelude.{ap, nat_eq, bit_xor, trailing_zeros, w64, shr_and_one}
 use Rattle.rel_table.proofs.AboveLemmas.{first_other_low, first_other_is}
 use Rattle.rel_table.proofs.bits.has_first_other_bit.Goals as goal
 

@@ -1,6 +1,4 @@
-use Rattle.std.proofs.Common.{length, ap, arith}
-use Rattle.std.proofs.lemmas.Result.{err_from_is_err_and}
-use Rattle.rel_table.specs.Closing.{relations_of}
+use Rattle.rel_table.proofs.Prelude.{length, ap, arith, err_from_is_err_and, relations_of}
 use Rattle.rel_table.proofs.Growing.{few_of, refused, lists_more, length_more, not_too_many}
 use Rattle.rel_table.proofs.closing.close.Goals as goal
 

@@ -1,8 +1,4 @@
-use Rattle.std.proofs.Common.{◌≡◌, ℕ, ◌+◌, ◌-◌, ◌<◌, ◌≤◌, [], length, map}
-use Rattle.std.specs.Prelude.{slice_index_or, Vec}
-use Rattle.std.specs.declared.alloc.Global.{Global}
-use Rattle.rel_table.specs.Table.{TruthTable}
-use Rattle.rel_table.specs.Closing.{IsClosed}
+use Rattle.rel_table.proofs.Prelude.{◌≡◌, ℕ, ◌+◌, ◌-◌, ◌<◌, ◌≤◌, [], length, map, slice_index_or, Vec, Global, TruthTable, IsClosed}
 use Rattle.rel_table.proofs.closing.close.Given as goal
 
 abbrev pub ghost-close_arity : goal.ghost-close_arity

@@ -1,11 +1,4 @@
-use Rattle.std.proofs.Common.{◌≡◌, ℕ, List, ◌+◌, ◌∷◌, [], ◌++◌, Vec, take, sym, subst, ◌∙◌, ap}
-use Rattle.std.proofs.lemmas.List.{take_all}
-use Rattle.std.specs.Prelude.{All}
-use Rattle.std.specs.declared.alloc.Global.{Global}
-use Rattle.std.proofs.lemmas.Result.{err_from_is_err_and}
-use Rattle.rel_table.specs.Relation.{IsClosing}
-use Rattle.rel_table.specs.Table.{TruthTable}
-use Rattle.rel_table.specs.Closing.{relations_in, relations_of, IsOfKind, IsClosed, HasTooMany}
+use Rattle.rel_table.proofs.Prelude.{◌≡◌, ℕ, List, ◌+◌, ◌∷◌, [], ◌++◌, Vec, take, sym, subst, ◌∙◌, ap, take_all, All, Global, err_from_is_err_and, IsClosing, TruthTable, relations_in, relations_of, IsOfKind, IsClosed, HasTooMany}
 use Rattle.rel_table.proofs.Inserting.{of_more, of_no_more, of_taken}
 use Rattle.rel_table.proofs.Growing.{too_many_wider}
 use Rattle.rel_table.proofs.closing.close_arity.Goals as goal

@@ -1,5 +1,4 @@
-use Rattle.std.proofs.Common.{take}
-use Rattle.rel_table.specs.Closing.{IsClosed}
+use Rattle.rel_table.proofs.Prelude.{take, IsClosed}
 use Rattle.rel_table.proofs.closing.close_arity.Given as goal
 
 abbrev pub invariant-loop-table : goal.invariant-loop-table

@@ -1,12 +1,4 @@
-use Rattle.std.proofs.Common.{◌≡◌, ℕ, List, [], ◌∷◌, ◌++◌, get_or, map, take, sym, subst, ◌∙◌, ap, length, Vec}
-use Rattle.std.specs.Prelude.{All}
-use Rattle.std.specs.declared.alloc.Global.{Global}
-use Rattle.std.proofs.lemmas.List.{map_more, map_push}
-use Rattle.std.proofs.lemmas.Result.{IfOk-weaker}
-use Rattle.std.proofs.lemmas.List.Elements.{All-push}
-use Rattle.rel_table.specs.Table.{TruthTable}
-use Rattle.rel_table.specs.Relation.{Relation, meet}
-use Rattle.rel_table.specs.Closing.{relations_in, IsOfKind}
+use Rattle.rel_table.proofs.Prelude.{◌≡◌, ℕ, List, [], ◌∷◌, ◌++◌, get_or, map, take, sym, subst, ◌∙◌, ap, length, Vec, All, Global, map_more, map_push, IfOk-weaker, All-push, TruthTable, Relation, meet, relations_in, IsOfKind}
 use Rattle.rel_table.proofs.Meets.{length-meet}
 use Rattle.rel_table.proofs.Inserting.{meets_done, meet_itself}
 use Rattle.rel_table.proofs.closing.meets_with.Goals as goal

@@ -1,7 +1,4 @@
-use Rattle.std.proofs.Common.{◌≡◌, take, map}
-use Rattle.std.specs.Prelude.{All}
-use Rattle.rel_table.specs.Relation.{meet}
-use Rattle.rel_table.specs.Closing.{relations_in, IsOfKind}
+use Rattle.rel_table.proofs.Prelude.{◌≡◌, take, map, All, meet, relations_in, IsOfKind}
 use Rattle.rel_table.proofs.closing.meets_with.Given as goal
 
 abbrev pub invariant-loop-other : goal.invariant-loop-other

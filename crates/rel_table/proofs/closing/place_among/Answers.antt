@@ -1,4 +1,4 @@
-use Rattle.std.proofs.Common.{sym, ◌∙◌}
+use Rattle.rel_table.proofs.Prelude.{sym, ◌∙◌}
 use Rattle.rel_table.proofs.Inserting.{one_above, below_here}
 use Rattle.rel_table.proofs.closing.place_among.Goals as goal
 

@@ -1,7 +1,4 @@
-use Rattle.std.proofs.Common.{take}
-use Rattle.std.specs.Prelude.{All}
-use Rattle.rel_table.specs.InOrder.{Above}
-use Rattle.rel_table.specs.Table.{TruthTable}
+use Rattle.rel_table.proofs.Prelude.{take, All, Above, TruthTable}
 use Rattle.rel_table.proofs.closing.place_among.Given as goal
 
 abbrev pub invariant-loop-at : goal.invariant-loop-at

@@ -1,10 +1,4 @@
-use Rattle.std.proofs.Common.{◌≡◌, ℕ, ◌∷◌, [], ◌++◌, map, take, sym, subst, ◌∙◌, ap}
-use Rattle.std.specs.Prelude.{All}
-use Rattle.std.proofs.lemmas.List.{take_all}
-use Rattle.std.proofs.lemmas.Result.{err_from_is_err_and}
-use Rattle.rel_table.specs.Relation.{meet}
-use Rattle.rel_table.specs.InOrder.{IsInOrder}
-use Rattle.rel_table.specs.Closing.{relations_in, IsOfKind}
+use Rattle.rel_table.proofs.Prelude.{◌≡◌, ℕ, ◌∷◌, [], ◌++◌, map, take, sym, subst, ◌∙◌, ap, All, take_all, err_from_is_err_and, meet, IsInOrder, relations_in, IsOfKind}
 use Rattle.rel_table.proofs.Inserting.{relations_more, in_order_alone}
 use Rattle.rel_table.proofs.Growing.{closing_more, overflowed}
 use Rattle.rel_table.proofs.closing.with_meets.Goals as goal

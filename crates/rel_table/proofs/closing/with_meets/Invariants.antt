@@ -1,8 +1,4 @@
-use Rattle.std.proofs.Common.{◌≤◌, ◌++◌, take, length, List}
-use Rattle.std.specs.Prelude.{All}
-use Rattle.rel_table.specs.Relation.{Relation}
-use Rattle.rel_table.specs.InOrder.{IsInOrder}
-use Rattle.rel_table.specs.Closing.{relations_in, IsOfKind}
+use Rattle.rel_table.proofs.Prelude.{◌≤◌, ◌++◌, take, length, List, All, Relation, IsInOrder, relations_in, IsOfKind}
 use Rattle.rel_table.proofs.closing.with_meets.Given as goal
 
 abbrev pub invariant-loop-meet : goal.invariant-loop-meet

@@ -1,9 +1,4 @@
-use Rattle.std.proofs.Common.{◌≡◌, ◌≤◌, ◌∷◌, ◌∙◌, ap, subst, sym, take, drop, length, arith}
-use Rattle.std.specs.Prelude.{All, Contains}
-use Rattle.std.proofs.lemmas.List.Edits.{length-insert}
-use Rattle.std.proofs.lemmas.List.Elements.{All-append, All-cons, All-drop, All-take}
-use Rattle.rel_table.specs.Table.{TruthTable}
-use Rattle.rel_table.specs.Closing.{relations_in, IsOfKind}
+use Rattle.rel_table.proofs.Prelude.{◌≡◌, ◌≤◌, ◌∷◌, ◌∙◌, ap, subst, sym, take, drop, length, arith, All, Contains, length-insert, All-append, All-cons, All-drop, All-take, TruthTable, relations_in, IsOfKind}
 use Rattle.rel_table.proofs.Inserting.{meet_itself, stays, put_in, one_too_many}
 use Rattle.rel_table.proofs.closing.with_relation.Goals as goal
 

@@ -1,9 +1,4 @@
-use Rattle.std.proofs.Common.{◌≡◌, ℕ, ◌+◌, ◌-◌, ◌<◌, List, take, drop, replicate, ap, subst, sym, ◌∙◌, arith, rules}
-use Rattle.std.specs.Prelude.{All}
-use Rattle.std.proofs.lemmas.Grind.{common_steps}
-use Rattle.std.proofs.lemmas.Nat.{mod_below}
-use Rattle.std.proofs.lemmas.List.{drop-set-lt, drop-drop, drop-replicate}
-use Rattle.rel_table.specs.Relation.{tuple_at}
+use Rattle.rel_table.proofs.Prelude.{◌≡◌, ℕ, ◌+◌, ◌-◌, ◌<◌, List, take, drop, replicate, ap, subst, sym, ◌∙◌, arith, rules, All, common_steps, mod_below, drop-set-lt, drop-drop, drop-replicate, tuple_at}
 use Rattle.rel_table.proofs.PlaceLemmas.{small_power, next_size, some_size, value_below, taken_more, tuple_at-below}
 use Rattle.rel_table.proofs.places.tuple_of.Goals as goal
 

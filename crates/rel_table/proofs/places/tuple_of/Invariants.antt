@@ -1,5 +1,4 @@
-use Rattle.std.proofs.Common.{◌≡◌, ◌-◌, ◌^◌, ◌<◌, ◌++◌, take, drop, replicate}
-use Rattle.rel_table.specs.Relation.{tuple_at}
+use Rattle.rel_table.proofs.Prelude.{◌≡◌, ◌-◌, ◌^◌, ◌<◌, ◌++◌, take, drop, replicate, tuple_at}
 use Rattle.rel_table.proofs.places.tuple_of.Given as goal
 
 abbrev pub invariant-loop-i : goal.invariant-loop-i

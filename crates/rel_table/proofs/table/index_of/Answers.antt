@@ -1,5 +1,4 @@
-use Rattle.std.proofs.Common.{arith}
-use Rattle.std.proofs.lemmas.Int.{ints}
+use Rattle.rel_table.proofs.Prelude.{arith, ints}
 use Rattle.rel_table.proofs.Shown.{shown_is}
 use Rattle.rel_table.proofs.table.index_of.Goals as goal
 

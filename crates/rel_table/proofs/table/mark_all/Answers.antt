@@ -1,8 +1,5 @@
-use Rattle.std.proofs.Common.{sym, ◌∙◌, ap, ◌≡◌, ◌<◌, ◌^◌, arith, length, subst, ℤ, w64, Some, true, List, Bool, take, ◌+◌, set}
-use mir.Val.{to_z, of_z}
-use Rattle.std.proofs.lemmas.Int.{to_z-of_z}
-use Rattle.std.proofs.lemmas.List.{length-set}
-use Rattle.rel_table.specs.Made.{lists, place_of_shown, first_fault, Marks}
+use Rattle.rel_table.proofs.Prelude.{sym, ◌∙◌, ap, ◌≡◌, ◌<◌, ◌^◌, arith, length, subst, ℤ, Some, true, List, Bool, take, ◌+◌, set, to_z, of_z, to_z-of_z, length-set, lists, place_of_shown, first_fault, Marks}
+use Rattle.std.proofs.Common.{w64}
 use Rattle.rel_table.proofs.Marking.{fault_here, fault_next, long_tuple, mark_more, lists_at, length-lists}
 use Rattle.rel_table.proofs.table.mark_all.Goals as goal
 

@@ -1,5 +1,4 @@
-use Rattle.std.proofs.Common.{◌≡◌, take, drop, length, ◌^◌}
-use Rattle.rel_table.specs.Made.{first_fault, Marks, lists}
+use Rattle.rel_table.proofs.Prelude.{◌≡◌, take, drop, length, ◌^◌, first_fault, Marks, lists}
 use Rattle.rel_table.proofs.table.mark_all.Given as goal
 
 abbrev pub invariant-loop-i : goal.invariant-loop-i

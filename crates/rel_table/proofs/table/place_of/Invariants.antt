@@ -1,5 +1,4 @@
-use Rattle.std.proofs.Common.{◌≡◌, ◌+◌, ◌^◌, ◌≤◌, take}
-use Rattle.rel_table.specs.Relation.{place}
+use Rattle.rel_table.proofs.Prelude.{◌≡◌, ◌+◌, ◌^◌, ◌≤◌, take, place}
 use Rattle.rel_table.proofs.table.place_of.Given as goal
 
 abbrev pub invariant-loop-x : goal.invariant-loop-x

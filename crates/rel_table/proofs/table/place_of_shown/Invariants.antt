@@ -1,5 +1,4 @@
-use Rattle.std.proofs.Common.{◌≡◌, ◌+◌, ◌^◌, ◌≤◌, take}
-use Rattle.rel_table.specs.Made.{place_of_shown}
+use Rattle.rel_table.proofs.Prelude.{◌≡◌, ◌+◌, ◌^◌, ◌≤◌, take, place_of_shown}
 use Rattle.rel_table.proofs.table.place_of_shown.Given as goal
 
 abbrev pub invariant-loop-x : goal.invariant-loop-x

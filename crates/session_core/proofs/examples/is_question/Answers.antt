@@ -1,6 +1,4 @@
-use Rattle.std.proofs.Common.{sym, ◌∙◌}
-use Rattle.std.proofs.lemmas.Bool.{and_from, eq-eqb}
-use Rattle.language.proofs.Ranged.{question_is}
+use Rattle.session_core.proofs.Prelude.{sym, ◌∙◌, and_from, eq-eqb, question_is}
 use Rattle.session_core.proofs.examples.is_question.Goals as goal
 
 pub returns-then-len-n-clause-question : goal.returns-then-len-n-clause-question

@@ -1,9 +1,4 @@
-use Rattle.std.proofs.Common.{◌≡◌, ◌∙◌, List, ℕ, sym, ap, subst}
-use Rattle.find_scope.specs.Standing.{StandsFor}
-use Rattle.find_scope.specs.declared.run.ScopeNext.{ScopeNext}
-use Rattle.session_laws.specs.Session.{At}
-use Rattle.multi_tree.specs.Stage.{walk_in}
-use Rattle.session_core.specs.declared.knowledge.Knowledge.{Knowledge}
+use Rattle.session_core.proofs.Prelude.{◌∙◌, List, ℕ, sym, ap, subst, StandsFor, ScopeNext, At, walk_in, Knowledge}
 use Rattle.session_core.proofs.Moving.{led_as}
 use Rattle.session_core.proofs.Settling.{all_replies, settled_part, settled_found}
 use Rattle.session_core.proofs.going.halve_on.Goals as goal

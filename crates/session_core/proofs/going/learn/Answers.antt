@@ -1,13 +1,4 @@
-use Rattle.std.proofs.Common.{◌≡◌, ◌∙◌, ◌++◌, ◌∷◌, [], Bool, List, not, sym, ap, subst}
-use Rattle.std.specs.Prelude.{filter, ◌==◌, All}
-use Rattle.std.proofs.lemmas.List.Elements.{All-push}
-use Rattle.language.specs.declared.candidates.Candidate.{Candidate}
-use Rattle.language.specs.Language.{IsCandidate}
-use Rattle.language.specs.Answers.{kept}
-use Rattle.session_laws.specs.Session.{At, go_on}
-use Rattle.multi_tree.specs.Stage.{walk_in}
-use Rattle.session_core.specs.declared.knowledge.Knowledge.{Knowledge}
-use Rattle.session_core.specs.Sound.{AreUnlearned}
+use Rattle.session_core.proofs.Prelude.{◌∙◌, ◌++◌, ◌∷◌, [], Bool, List, not, sym, ap, subst, filter, ◌==◌, All, All-push, Candidate, IsCandidate, kept, At, go_on, walk_in, Knowledge, AreUnlearned}
 use Rattle.session_core.proofs.Moving.{decided_learned, kept_learned, led_from, unlearned_after}
 use Rattle.session_core.proofs.going.learn.Goals as goal
 

@@ -1,10 +1,4 @@
-use Rattle.std.proofs.Common.{◌≡◌, [], sym, ◌∙◌, ap, subst}
-use Rattle.language.specs.Language.{scope_number}
-use Rattle.language.specs.Scenes.{violated_choices}
-use Rattle.find_c.specs.Standing.{LeavesChoices}
-use Rattle.multi_tree.specs.Stage.{walk_in}
-use Rattle.session_core.specs.declared.knowledge.Knowledge.{Knowledge}
-use Rattle.session_core.specs.Sound.{AreChoices}
+use Rattle.session_core.proofs.Prelude.{◌≡◌, [], sym, ◌∙◌, ap, subst, scope_number, violated_choices, LeavesChoices, walk_in, Knowledge, AreChoices}
 use Rattle.session_core.proofs.Steps.{found_choices}
 use Rattle.session_core.proofs.Moving.{led_as, unlearned_scope}
 use Rattle.session_core.proofs.going.take_found.Goals as goal

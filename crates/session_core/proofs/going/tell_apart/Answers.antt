@@ -1,7 +1,4 @@
-use Rattle.std.proofs.Common.{subst}
-use Rattle.find_c.specs.Standing.{LeavesChoices}
-use Rattle.multi_tree.specs.Stage.{walk_in}
-use Rattle.session_core.specs.declared.knowledge.Knowledge.{Knowledge}
+use Rattle.session_core.proofs.Prelude.{subst, LeavesChoices, walk_in, Knowledge}
 use Rattle.session_core.proofs.Steps.{has_learned}
 use Rattle.session_core.proofs.Moving.{led_as}
 use Rattle.session_core.proofs.going.tell_apart.Goals as goal

@@ -1,8 +1,4 @@
-use Rattle.std.proofs.Common.{subst}
-use Rattle.language.specs.TellingApart.{after_reply}
-use Rattle.language.specs.Scenes.{scene_of}
-use Rattle.find_c.specs.Standing.{LeavesChoices}
-use Rattle.session_core.specs.declared.knowledge.Knowledge.{Knowledge}
+use Rattle.session_core.proofs.Prelude.{subst, after_reply, scene_of, LeavesChoices, Knowledge}
 use Rattle.session_core.proofs.going.tuple_answered.Goals as goal
 
 pub tell_apart-requires-clause-choices : goal.tell_apart-requires-clause-choices

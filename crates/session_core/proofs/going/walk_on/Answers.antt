@@ -1,7 +1,4 @@
-use Rattle.std.proofs.Common.{◌≡◌, ◌∙◌, ap}
-use Rattle.session_laws.specs.Session.{At, go_on}
-use Rattle.multi_tree.specs.Stage.{walk_in}
-use Rattle.session_core.specs.declared.knowledge.Knowledge.{Knowledge}
+use Rattle.session_core.proofs.Prelude.{◌≡◌, ◌∙◌, ap, At, go_on, walk_in, Knowledge}
 use Rattle.session_core.proofs.Moving.{led_from}
 use Rattle.session_core.proofs.Walks.{walk_ends}
 use Rattle.session_core.proofs.going.walk_on.Goals as goal

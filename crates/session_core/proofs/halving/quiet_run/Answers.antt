@@ -1,9 +1,4 @@
-use Rattle.std.proofs.Common.{◌≡◌, not, sym, ◌∙◌, ap, subst}
-use Rattle.assign.specs.Assignment.{restrict}
-use Rattle.language.specs.Language.{IsQuestion}
-use Rattle.session_laws.specs.Walk.{violates_some}
-use Rattle.session_laws.proofs.Restrict.{part_is_question}
-use Rattle.session_core.specs.Sound.{is_quiet_at}
+use Rattle.session_core.proofs.Prelude.{◌≡◌, not, sym, ◌∙◌, ap, subst, restrict, IsQuestion, violates_some, part_is_question, is_quiet_at}
 use Rattle.session_core.proofs.halving.quiet_run.Goals as goal
 use Rattle.session_core.proofs.halving.quiet_run.Goals.{After-strikes_any}
 

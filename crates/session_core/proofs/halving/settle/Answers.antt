@@ -1,4 +1,4 @@
-use Rattle.std.proofs.Common.{arith}
+use Rattle.session_core.proofs.Prelude.{arith}
 use Rattle.session_core.proofs.Settling.{goes_first, goes_next, goes_loud, goes_last}
 use Rattle.session_core.proofs.halving.settle.Goals as goal
 

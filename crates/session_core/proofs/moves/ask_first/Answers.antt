@@ -1,11 +1,4 @@
-use Rattle.std.proofs.Common.{◌≡◌, sym, ◌∙◌, ap, subst, Some, Option}
-use Rattle.std.specs.Prelude.{IsTrue}
-use Rattle.assign.specs.Assignment.{Assignment}
-use Rattle.assign.specs.declared.events.Plan.TheVariants.{Scopes}
-use Rattle.session_laws.specs.Session.{Idle, is_lawful}
-use Rattle.session_core.specs.declared.knowledge.Knowledge.{Knowledge}
-use Rattle.session_core.specs.Sound.{IsFirst}
-use Rattle.session_core.specs.Standing.{question_of}
+use Rattle.session_core.proofs.Prelude.{◌≡◌, sym, ◌∙◌, ap, subst, Some, Option, IsTrue, Assignment, Scopes, Idle, is_lawful, Knowledge, IsFirst, question_of}
 use Rattle.session_core.proofs.Moving.{led_from}
 use Rattle.session_core.proofs.Putting.{first_asks}
 use Rattle.session_core.proofs.moves.ask_first.Goals as goal

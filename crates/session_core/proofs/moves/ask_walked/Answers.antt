@@ -1,10 +1,4 @@
-use Rattle.std.proofs.Common.{◌≡◌, ◌∙◌, true, sym, ap, subst}
-use Rattle.std.specs.Prelude.{IsTrue}
-use Rattle.assign.specs.declared.events.Plan.{Plan}
-use Rattle.assign.specs.declared.events.Plan.TheVariants.{Scopes, Multi}
-use Rattle.session_laws.specs.Session.{Idle, is_lawful}
-use Rattle.multi_tree.specs.Stage.{Stage, IsWalkOn, turn_at, stage_after}
-use Rattle.session_core.specs.declared.knowledge.Knowledge.{Knowledge}
+use Rattle.session_core.proofs.Prelude.{◌≡◌, ◌∙◌, true, sym, ap, subst, IsTrue, Plan, Scopes, Multi, Idle, is_lawful, Stage, IsWalkOn, turn_at, stage_after, Knowledge}
 use Rattle.session_core.proofs.Questions.{by_plan}
 use Rattle.session_core.proofs.Moving.{led_from}
 use Rattle.session_core.proofs.Walks.{first_turns}

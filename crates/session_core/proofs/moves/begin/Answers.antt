@@ -1,10 +1,4 @@
-use Rattle.std.proofs.Common.{◌≡◌, sym, ◌∙◌, ap, [], None, List}
-use Rattle.language.specs.declared.candidates.Candidate.{Candidate}
-use Rattle.language.specs.Language.{Language, candidates}
-use Rattle.language.specs.Answers.{kept}
-use Rattle.session_laws.specs.Session.{At, Idle}
-use Rattle.multi_tree.specs.Stage.{Stage, Ready, Asked, Done, IsWalkOn, walk_in}
-use Rattle.session_core.specs.declared.knowledge.Knowledge.{Knowledge}
+use Rattle.session_core.proofs.Prelude.{◌≡◌, sym, ◌∙◌, ap, [], None, List, Candidate, Language, candidates, kept, At, Idle, Stage, Ready, Asked, Done, IsWalkOn, walk_in, Knowledge}
 use Rattle.session_core.proofs.Moving.{filter_all, state_nil}
 use Rattle.session_core.proofs.moves.begin.Goals as goal
 

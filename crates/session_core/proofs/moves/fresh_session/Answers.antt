@@ -1,8 +1,4 @@
-use Rattle.std.proofs.Common.{refl, sym, ◌∙◌, ap, [], None, List}
-use Rattle.language.specs.declared.candidates.Candidate.{Candidate}
-use Rattle.language.specs.Language.{candidates}
-use Rattle.language.specs.Answers.{kept}
-use Rattle.session_laws.specs.Session.{At, Idle}
+use Rattle.session_core.proofs.Prelude.{refl, sym, ◌∙◌, ap, [], None, List, Candidate, candidates, kept, At, Idle}
 use Rattle.session_core.proofs.Moving.{filter_all, state_nil}
 use Rattle.session_core.proofs.moves.fresh_session.Goals as goal
 

@@ -1,4 +1,4 @@
-use Rattle.std.proofs.Common.{arith, length, ◌<◌}
+use Rattle.session_core.proofs.Prelude.{arith, length, ◌<◌}
 use Rattle.session_core.proofs.Steps.{none_is}
 use Rattle.session_core.proofs.Moving.{first_is}
 use Rattle.session_core.proofs.scopes.first_run.Goals as goal

@@ -1,6 +1,4 @@
-use Rattle.std.specs.Prelude.{List}
-use Rattle.language.specs.declared.candidates.Candidate.{Candidate}
-use Rattle.session_core.specs.Sound.{AreUnlearned, NoneBefore}
+use Rattle.session_core.proofs.Prelude.{List, Candidate, AreUnlearned, NoneBefore}
 use Rattle.session_core.proofs.scopes.first_run.Given as goal
 
 abbrev pub invariant-loop-s : goal.invariant-loop-s

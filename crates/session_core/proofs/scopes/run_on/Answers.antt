@@ -1,4 +1,4 @@
-use Rattle.std.proofs.Common.{sym, ◌∙◌, ap}
+use Rattle.session_core.proofs.Prelude.{sym, ◌∙◌, ap}
 use Rattle.bias_store.specs.Masks.{ones_of}
 use Rattle.bias_store.proofs.Ones.{ones_of-zero, no_ones}
 use Rattle.session_core.proofs.Scoped.{none_undecided, new_run}

@@ -1,10 +1,4 @@
-use Rattle.std.proofs.Common.{◌≡◌, ◌∙◌, sym, ap, subst, Some}
-use Rattle.std.proofs.lemmas.Bool.{both_ways}
-use Rattle.assign.specs.Assignment.{Assignment}
-use Rattle.session_laws.specs.Session.{State, At}
-use Rattle.session_core.specs.Standing.{IsAskedIn}
-use Rattle.session_store.specs.Replay.{answer_to}
-use Rattle.session_laws.proofs.Places.{questions_have_places}
+use Rattle.session_store.proofs.Prelude.{◌≡◌, ◌∙◌, sym, ap, subst, Some, both_ways, Assignment, State, At, IsAskedIn, answer_to, questions_have_places}
 use Rattle.session_store.proofs.Replaying.{opened, other_stays, busy_from, moved_to}
 use Rattle.session_store.proofs.replay.asking_answered.Goals as goal
 

@@ -1,5 +1,4 @@
-use Rattle.std.proofs.Common.{◌∙◌, sym}
-use Rattle.session_store.specs.Replay.{answer_to}
+use Rattle.session_store.proofs.Prelude.{◌∙◌, sym, answer_to}
 use Rattle.session_store.proofs.Replaying.{idle_is, lawful_steps, moved_to}
 use Rattle.session_store.proofs.replay.idle_answered.Goals as goal
 

@@ -1,15 +1,5 @@
-use Rattle.std.proofs.Common.{◌≡◌, ◌≤◌, ℕ, false, [], List, length, ◌∙◌, sym, ap, subst, arith}
-use Rattle.std.proofs.lemmas.List.{length-map}
-use Rattle.std.proofs.lemmas.List.Elements.{All-get_or}
-use Rattle.assign.specs.Events.{Answer}
-use Rattle.assign.specs.declared.events.Event.{Event}
+use Rattle.session_store.proofs.Prelude.{◌≡◌, ◌≤◌, ℕ, false, [], List, length, ◌∙◌, sym, ap, subst, arith, length-map, All-get_or, Answer, Event, variable_count, Stray, IsSettled, Stands, knowledge_of, open_in, IsWide, Recorded, recorded, standing_numbers, answer_to, IsAnswer, answer_in, MovesBy, HasNoPlace}
 use Rattle.assign.specs.declared.events.Event.TheVariants as variant
-use Rattle.language.specs.Language.{variable_count}
-use Rattle.session_laws.specs.Session.{Stray}
-use Rattle.session_core.specs.Settled.{IsSettled}
-use Rattle.session_core.specs.Standing.{Stands, knowledge_of, open_in}
-use Rattle.session_store.specs.Held.{IsWide}
-use Rattle.session_store.specs.Replay.{Recorded, recorded, standing_numbers, answer_to, IsAnswer, answer_in, MovesBy, HasNoPlace}
 use Rattle.session_store.proofs.Replaying.{replay_none, replay_more, replay_strays, replay_ends, seen_whole}
 use Rattle.session_store.proofs.Recording.{record_at, recorded_seen}
 use Rattle.session_store.proofs.replay.replay_records.Goals as goal

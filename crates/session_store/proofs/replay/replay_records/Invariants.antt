@@ -1,5 +1,4 @@
-use Rattle.session_core.specs.Standing.{knowledge_of}
-use Rattle.session_store.specs.Replay.{recorded, IsReplayed}
+use Rattle.session_store.proofs.Prelude.{knowledge_of, recorded, IsReplayed}
 use Rattle.session_store.proofs.replay.replay_records.Given as goal
 
 abbrev pub invariant-loop-record : goal.invariant-loop-record

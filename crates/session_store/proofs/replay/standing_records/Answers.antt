@@ -1,5 +1,4 @@
-use Rattle.std.proofs.Common.{◌+◌, ℕ, List, ◌∙◌, sym, subst}
-use Rattle.session_store.specs.Replay.{IsCounted}
+use Rattle.session_store.proofs.Prelude.{◌+◌, ℕ, List, ◌∙◌, sym, subst, IsCounted}
 use Rattle.session_store.proofs.Recording.{popped_one, answer_counted, back_counted, all_counted}
 use Rattle.session_store.proofs.replay.standing_records.Goals.{in-Answer+in_ok-push-in-Answer, in-Back+else-is_none}
 use Rattle.session_store.proofs.replay.standing_records.Goals as goal

@@ -1,4 +1,4 @@
-use Rattle.session_store.specs.Replay.{IsCounted}
+use Rattle.session_store.proofs.Prelude.{IsCounted}
 use Rattle.session_store.proofs.replay.standing_records.Given as goal
 
 abbrev pub invariant-loop-i : goal.invariant-loop-i

@@ -1,8 +1,4 @@
-use Rattle.std.proofs.Common.{◌∙◌, sym, ap, subst}
-use Rattle.assign.specs.Assignment.{Assignment}
-use Rattle.language.specs.Language.{variable_count}
-use Rattle.session_core.specs.declared.session.Session.{Session}
-use Rattle.session_store.specs.Replay.{answer_to, MovesTo, StaysAt, MovesBy, HasNoPlace}
+use Rattle.session_store.proofs.Prelude.{◌∙◌, sym, ap, subst, Assignment, variable_count, Session, answer_to, MovesTo, StaysAt, MovesBy, HasNoPlace}
 use Rattle.session_store.proofs.Replaying.{some_map, none_map, moves_by, stays_by}
 use Rattle.session_store.proofs.replay.with_answer.Goals as goal
 

@@ -1,8 +1,4 @@
-use Rattle.std.proofs.Common.{inl, arith}
-use Rattle.std.proofs.lemmas.Result.{on_ok_weaker}
-use Rattle.assign.specs.declared.events.Event.TheVariants.{Back}
-use Rattle.disk_model.proofs.Behind.{none_done, behind_as, then_behind}
-use Rattle.answer_journal.specs.End.{HasNew, IsOldOrNew, IsSame}
+use Rattle.session_store.proofs.Prelude.{inl, arith, on_ok_weaker, Back, none_done, behind_as, then_behind, HasNew, IsOldOrNew, IsSame}
 use Rattle.session_store.proofs.Keepers.{rose_later}
 use Rattle.session_store.proofs.Stores.{append_failed}
 use Rattle.session_store.proofs.store.append_back.Goals as goal

@@ -1,7 +1,4 @@
-use Rattle.std.proofs.lemmas.Result.{err_from_is_err_and, IfErr-weaker}
-use Rattle.session_core.specs.Standing.{knowledge_of}
-use Rattle.session_store.specs.Opening.{NotLed}
-use Rattle.session_store.specs.Replay.{NamesStray}
+use Rattle.session_store.proofs.Prelude.{err_from_is_err_and, IfErr-weaker, knowledge_of, NotLed, NamesStray}
 use Rattle.session_store.proofs.Stores.{no_language, strays}
 use Rattle.session_store.proofs.store.led_session.Goals as goal
 

@@ -1,7 +1,4 @@
-use Rattle.std.proofs.Common.{◌≡◌, true, List, sym, subst}
-use Rattle.language.specs.declared.candidates.Candidate.{Candidate}
-use Rattle.language.specs.Language.{accepts}
-use Rattle.target_oracle.specs.Generator.{hidden}
+use Rattle.target_oracle.proofs.Prelude.{◌≡◌, true, List, sym, subst, Candidate, accepts, hidden}
 use Rattle.target_oracle.proofs.Draws.{is_question, is_solution}
 use Rattle.target_oracle.proofs.generator.generate.Goals as goal
 

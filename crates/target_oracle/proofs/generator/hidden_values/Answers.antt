@@ -1,5 +1,4 @@
-use Rattle.std.proofs.Common.{arith, ap, length, ◌∙◌}
-use Rattle.std.proofs.Math.ListN.{length-set}
+use Rattle.target_oracle.proofs.Prelude.{arith, ap, length, ◌∙◌, length-set}
 use Rattle.target_oracle.proofs.Draws.{first_state, next_state, drawn_more, all_drawn}
 use Rattle.target_oracle.proofs.generator.hidden_values.Goals as goal
 

@@ -1,5 +1,4 @@
-use Rattle.std.proofs.Common.{◌≡◌, ◌+◌, ◌<◌, ℕ, length, get_or, Some, None}
-use Rattle.target_oracle.specs.Generator.{state_at, draw}
+use Rattle.target_oracle.proofs.Prelude.{◌≡◌, ◌+◌, ◌<◌, ℕ, length, get_or, Some, None, state_at, draw}
 use Rattle.target_oracle.proofs.generator.hidden_values.Given as goal
 
 abbrev pub invariant-loop-v : goal.invariant-loop-v

@@ -1,9 +1,4 @@
-use Rattle.std.proofs.Common.{None, List, ap, sym, subst, ◌∙◌, true≢false}
-use Rattle.std.specs.Prelude.{replicate}
-use Rattle.language.specs.Ranges.{whole_range}
-use Rattle.language.specs.Language.{AreNames, Given}
-use Rattle.language.specs.Building.{Frame, IsBuilt}
-use Rattle.target_oracle.specs.Generator.{given}
+use Rattle.target_oracle.proofs.Prelude.{None, List, ap, sym, subst, ◌∙◌, true≢false, replicate, whole_range, AreNames, Given, Frame, IsBuilt, given}
 use Rattle.target_oracle.proofs.Draws.{are_names, frame_is, how_many, how_many_strings, no_refusal}
 use Rattle.target_oracle.proofs.generator.language.Goals as goal
 

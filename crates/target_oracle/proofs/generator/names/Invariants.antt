@@ -1,7 +1,4 @@
-use Rattle.std.proofs.Common.{◌≡◌, map}
-use Rattle.std.specs.Prelude.{string_bytes}
-use Rattle.assign.specs.Sets.{numbers}
-use Rattle.target_oracle.specs.Generator.{name_of}
+use Rattle.target_oracle.proofs.Prelude.{◌≡◌, map, string_bytes, numbers, name_of}
 use Rattle.target_oracle.proofs.generator.names.Given as goal
 
 abbrev pub invariant-loop-v : goal.invariant-loop-v

@@ -1,11 +1,5 @@
-use Rattle.std.proofs.Common.{◌≡◌, ◌+◌, ◌<◌, ◌++◌, ◌∷◌, [], cond, arith, ap, sym, subst, ◌∙◌, append-nil}
-use Rattle.std.specs.Prelude.{All}
-use Rattle.std.proofs.lemmas.List.Elements.{All-push}
-use Rattle.language.specs.declared.candidates.Candidate.{Candidate}
-use Rattle.language.specs.Language.{IsQuestion, IsCandidate}
-use Rattle.language.specs.Answers.{IsNetwork}
+use Rattle.target_oracle.proofs.Prelude.{◌≡◌, ◌+◌, ◌<◌, ◌++◌, ◌∷◌, [], cond, arith, ap, sym, subst, ◌∙◌, append-nil, All, All-push, Candidate, IsQuestion, IsCandidate, IsNetwork, state_at}
 use Rattle.network.specs.Learned.{Learned}
-use Rattle.target_oracle.specs.Generator.{state_at}
 use Rattle.target_oracle.proofs.Draws.{next_state, drawn_by, target_more, later, nothing_on}
 use Rattle.target_oracle.proofs.generator.target.Goals as goal
 use Rattle.target_oracle.proofs.generator.target.Goals.{then-is_satisfied, else-is_satisfied}

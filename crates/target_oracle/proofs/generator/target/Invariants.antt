@@ -1,8 +1,4 @@
-use Rattle.std.proofs.Common.{◌≡◌, ◌+◌, ◌<◌, length}
-use Rattle.std.specs.Prelude.{All}
-use Rattle.language.specs.declared.candidates.Candidate.{Candidate}
-use Rattle.language.specs.Answers.{IsNetwork}
-use Rattle.target_oracle.specs.Generator.{state_at}
+use Rattle.target_oracle.proofs.Prelude.{◌≡◌, ◌+◌, ◌<◌, length, All, Candidate, IsNetwork, state_at}
 use Rattle.target_oracle.proofs.Draws.{drawn_below}
 use Rattle.target_oracle.proofs.generator.target.Given as goal
 

@@ -1,5 +1,4 @@
-use Rattle.std.proofs.Common.{refl}
-use Rattle.target_oracle.specs.Generator.{state_at}
+use Rattle.target_oracle.proofs.Prelude.{refl, state_at}
 use Rattle.target_oracle.proofs.laws.first_draws.Goals as goal
 
 pub returns : goal.returns

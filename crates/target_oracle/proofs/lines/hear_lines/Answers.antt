@@ -1,9 +1,5 @@
-use Rattle.std.proofs.Common.{◌≡◌, suc, ◌-◌, ◌∙◌, [], Some, ap, sym, arith}
-use Rattle.std.proofs.lemmas.Option.{none-some}
+use Rattle.target_oracle.proofs.Prelude.{◌≡◌, suc, ◌-◌, ◌∙◌, [], Some, ap, sym, arith, none-some, Told, ReadFault, takes_none, takes_some_on, adds_none, adds_on}
 use Rattle.acq_io.proofs.CallLemmas.{called_none, called_on, called_as}
-use Rattle.target_oracle.specs.declared.teacher.Told.{Told}
-use Rattle.target_oracle.specs.declared.teacher.Told.TheVariants.{ReadFault}
-use Rattle.acq_io.proofs.TakenLemmas.{takes_none, takes_some_on, adds_none, adds_on}
 use Rattle.target_oracle.proofs.Hearings.{passed_none, passed_more, passed_tells}
 use Rattle.target_oracle.proofs.lines.hear_lines.Goals as goal
 

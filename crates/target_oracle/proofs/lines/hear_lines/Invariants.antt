@@ -1,6 +1,4 @@
-use Rattle.std.proofs.Common.{◌≤◌, []}
-use Rattle.acq_io.specs.Streams.{AddsOn, HasCalled, TakesSome}
-use Rattle.target_oracle.specs.Hearing.{PassedBy}
+use Rattle.target_oracle.proofs.Prelude.{◌≤◌, [], AddsOn, HasCalled, TakesSome, PassedBy}
 use Rattle.target_oracle.proofs.lines.hear_lines.Given as goal
 
 abbrev pub invariant-loop-passed : goal.invariant-loop-passed

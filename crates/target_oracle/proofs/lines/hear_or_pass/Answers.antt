@@ -1,4 +1,4 @@
-use Rattle.std.proofs.Common.{suc}
+use Rattle.target_oracle.proofs.Prelude.{suc}
 use Rattle.target_oracle.proofs.Hearings.{line_tells, maybe_tells}
 use Rattle.target_oracle.proofs.lines.hear_or_pass.Goals as goal
 

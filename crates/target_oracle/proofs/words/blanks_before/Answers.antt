@@ -1,11 +1,8 @@
-use Rattle.std.proofs.Common.{◌≡◌, List, ℕ, ◌∙◌, arith, rules, tests}
+use Rattle.target_oracle.proofs.Prelude.{◌≡◌, List, ℕ, ◌∙◌, arith, rules, tests, prefix_len-le-length, prefix_len, is_blank}
 use Rattle.std.proofs.lemmas.Iterator.{YieldsList-from_slice}
 use Rattle.std.proofs.lemmas.Iterator.Consumers.{count_from_yields_List}
 use Rattle.std.proofs.lemmas.Iterator.Search.{YieldsList-from_take_while}
 use Rattle.std.proofs.lemmas.List.Folds.{length-prefix_len}
-use Rattle.std.proofs.lemmas.List.Sums.{prefix_len-le-length}
-use Rattle.std.specs.List.{prefix_len}
-use Rattle.target_oracle.specs.Words.{is_blank}
 use Rattle.target_oracle.proofs.words.blanks_before.Goals as goal
 
 pub returns : goal.returns

@@ -1,6 +1,4 @@
-use Rattle.std.proofs.Common.{arith, rules}
-use Rattle.std.proofs.lemmas.List.{take_all}
-use Rattle.std.proofs.lemmas.List.Sums.{suffix_len-take_yes}
+use Rattle.target_oracle.proofs.Prelude.{arith, rules, take_all, suffix_len-take_yes}
 use Rattle.target_oracle.proofs.words.len_before_blanks.Goals as goal
 
 pub loop-len-init : goal.loop-len-init

@@ -1,6 +1,4 @@
-use Rattle.std.proofs.Common.{◌≡◌, ◌+◌, ◌≤◌, length, take}
-use Rattle.std.specs.List.{suffix_len}
-use Rattle.target_oracle.specs.Words.{is_blank}
+use Rattle.target_oracle.proofs.Prelude.{◌≡◌, ◌+◌, ◌≤◌, length, take, suffix_len, is_blank}
 use Rattle.target_oracle.proofs.words.len_before_blanks.Given as goal
 
 abbrev pub invariant-loop-len : goal.invariant-loop-len

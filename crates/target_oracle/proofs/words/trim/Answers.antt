@@ -1,7 +1,4 @@
-use Rattle.std.proofs.Common.{◌≡◌, ℕ, ◌+◌, ◌-◌, List, take, drop, length, ap, ◌∙◌, arith}
-use Rattle.std.proofs.lemmas.List.{take_all, length-drop}
-use Rattle.std.specs.List.{prefix_len, suffix_len}
-use Rattle.target_oracle.specs.Words.{is_blank, trimmed, trimmed_after}
+use Rattle.target_oracle.proofs.Prelude.{◌≡◌, ℕ, ◌+◌, ◌-◌, List, take, drop, length, ap, ◌∙◌, arith, take_all, length-drop, prefix_len, suffix_len, is_blank, trimmed, trimmed_after}
 use Rattle.target_oracle.proofs.words.trim.Goals as goal
 
 -- the part that the code takes is the trimmed line

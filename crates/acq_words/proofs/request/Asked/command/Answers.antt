@@ -1,4 +1,4 @@
-use Rattle.std.proofs.Common.{rules}
+use Rattle.acq_words.proofs.Prelude.{rules}
 use Rattle.acq_words.proofs.request.Asked.command.Goals as goal
 
 pub returns-in-Demo-clause-is : goal.returns-in-Demo-clause-is

@@ -1,4 +1,4 @@
-use Rattle.std.proofs.Common.{rules}
+use Rattle.acq_words.proofs.Prelude.{rules}
 use Rattle.acq_words.proofs.request.CommandName.takes_budget.Goals as goal
 
 pub returns-in-Run : goal.returns-in-Run

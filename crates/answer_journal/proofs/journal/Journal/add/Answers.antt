@@ -1,10 +1,4 @@
-use Rattle.std.proofs.Common.{◌≡◌, ◌∷◌, ◌++◌, [], List, ℕ, Bool, length, take, sym, subst, ap, refl, ◌∙◌, arith, length-append}
-use Rattle.disk_model.specs.Disk.{Only}
-use Rattle.disk_model.proofs.Behind.{behind_as}
-use Rattle.answer_journal.specs.Format.{record_tail}
-use Rattle.answer_journal.specs.Steps.{HasRecord, IsWithOrWithout}
-use Rattle.answer_journal.specs.Records.{is_raised_by, MayFollow}
-use Rattle.answer_journal.specs.End.{End, Sits, HasRoom, counted_with, room_to_raise, HasAdded, IsOldOrAdded}
+use Rattle.answer_journal.proofs.Prelude.{◌≡◌, ◌∷◌, ◌++◌, [], List, ℕ, Bool, length, take, sym, subst, ap, ◌∙◌, arith, length-append, Only, behind_as, record_tail, HasRecord, IsWithOrWithout, is_raised_by, MayFollow, End, Sits, HasRoom, counted_with, room_to_raise, HasAdded, IsOldOrAdded}
 use Rattle.answer_journal.proofs.Sizes.{counted_fits, room_left}
 use Rattle.answer_journal.proofs.Append.{closed_here, has_added, old_or_added, sits_on}
 use Rattle.answer_journal.proofs.Gate.{told_before, told_same}

@@ -1,7 +1,4 @@
-use Rattle.std.proofs.Common.{⊎_elim, arith}
-use Rattle.disk_model.proofs.Behind.{none_done, behind_as}
-use Rattle.answer_journal.specs.declared.record.Record.TheVariants.{Raising}
-use Rattle.answer_journal.specs.End.{HasAdded, IsOldOrAdded, IsSame}
+use Rattle.answer_journal.proofs.Prelude.{⊎_elim, arith, none_done, behind_as, Raising, HasAdded, IsOldOrAdded, IsSame}
 use Rattle.answer_journal.proofs.journal.Journal.raise.Goals as goal
 
 pub returns-in_err-add-clause-leaves : goal.returns-in_err-add-clause-leaves

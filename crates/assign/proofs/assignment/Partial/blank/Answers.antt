@@ -1,4 +1,4 @@
-use Rattle.std.proofs.Common.{refl}
+use Rattle.assign.proofs.Prelude.{refl}
 use Rattle.assign.proofs.CellLemmas.{blank_cells, blank_seen}
 use Rattle.assign.proofs.assignment.Partial.blank.Goals as goal
 

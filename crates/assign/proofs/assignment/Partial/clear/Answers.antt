@@ -1,6 +1,4 @@
-use Rattle.std.proofs.Common.{ap, sym, ◌∙◌, ◌<◌, length, arith, set, Option, None, ℕ, List}
-use Rattle.std.proofs.lemmas.List.{length-take}
-use Rattle.std.proofs.Math.Seq.{take-set-lt}
+use Rattle.assign.proofs.Prelude.{ap, sym, ◌∙◌, ◌<◌, length, arith, set, Option, None, ℕ, List, length-take, take-set-lt}
 use Rattle.assign.proofs.assignment.Partial.clear.Goals as goal
 
 pub returns : goal.returns

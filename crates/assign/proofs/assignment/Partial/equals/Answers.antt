@@ -1,6 +1,4 @@
-use Rattle.std.proofs.Common.{ap, sym, ◌∙◌, arith}
-use Rattle.assign.specs.Cells.{seen}
-use Rattle.assign.specs.declared.assignment.Partial.TheInside.{Inside}
+use Rattle.assign.proofs.Prelude.{ap, sym, ◌∙◌, arith, seen, Inside}
 use Rattle.assign.proofs.CellLemmas.{same_inside, same_cells, one_inside}
 use Rattle.assign.proofs.assignment.Partial.equals.Goals as goal
 

@@ -1,5 +1,4 @@
-use Rattle.std.proofs.Common.{length, ap, sym, arith}
-use Rattle.std.proofs.lemmas.List.{length-take}
+use Rattle.assign.proofs.Prelude.{length, ap, sym, arith, length-take}
 use Rattle.assign.proofs.Valued.{kept_all}
 use Rattle.assign.proofs.assignment.Partial.restrict.Goals as goal
 

@@ -1,6 +1,4 @@
-use Rattle.std.proofs.Common.{◌∙◌, ap, sym}
-use Rattle.std.specs.Prelude.{is_some}
-use Rattle.assign.specs.Sets.{with_member}
+use Rattle.assign.proofs.Prelude.{◌∙◌, ap, sym, is_some, with_member}
 use Rattle.assign.proofs.Valued.{variables_more, variables_same}
 use Rattle.assign.proofs.assignment.Partial.vars.Goals.{then-is_some, else-is_some}
 use Rattle.assign.proofs.assignment.Partial.vars.Goals as goal

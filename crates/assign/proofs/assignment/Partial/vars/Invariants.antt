@@ -1,5 +1,4 @@
-use Rattle.std.proofs.Common.{◌≡◌, take}
-use Rattle.assign.specs.Assignment.{variables_of}
+use Rattle.assign.proofs.Prelude.{◌≡◌, take, variables_of}
 use Rattle.assign.proofs.assignment.Partial.vars.Given as goal
 
 abbrev pub invariant-loop-v : goal.invariant-loop-v

@@ -1,5 +1,4 @@
-use Rattle.std.proofs.Common.{◌∙◌, ap}
-use Rattle.assign.specs.Assignment.{widened}
+use Rattle.assign.proofs.Prelude.{◌∙◌, ap, widened}
 use Rattle.assign.proofs.CellLemmas.{wide_cells, wide_seen}
 use Rattle.assign.proofs.assignment.Partial.widened.Goals as goal
 

@@ -1,6 +1,4 @@
-use Rattle.std.proofs.Common.{◌∙◌, ◌<◌, ◌-◌, ap, sym, arith}
-use Rattle.std.proofs.lemmas.Nat.{one_shl}
-use Rattle.assign.specs.Sets.{members_of, numbers}
+use Rattle.assign.proofs.Prelude.{◌∙◌, ◌<◌, ◌-◌, ap, sym, arith, one_shl, members_of, numbers}
 use Rattle.assign.proofs.Masks.{members_of-ones}
 use Rattle.assign.proofs.sets.VarSet.all.Goals.{then-n-eq128, else-n-eq128}
 use Rattle.assign.proofs.sets.VarSet.all.Goals as goal

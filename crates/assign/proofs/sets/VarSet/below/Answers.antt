@@ -1,4 +1,4 @@
-use Rattle.std.proofs.Common.{◌∙◌, ap}
+use Rattle.assign.proofs.Prelude.{◌∙◌, ap}
 use Rattle.assign.proofs.Fronts.{below, members_of-below}
 use Rattle.assign.proofs.sets.VarSet.below.Goals as goal
 

@@ -1,4 +1,4 @@
-use Rattle.std.proofs.Common.{◌∙◌, ◌≡◌, ◌+◌, ◌/◌, length, ap, arith, ℕ}
+use Rattle.assign.proofs.Prelude.{◌∙◌, ◌≡◌, ◌+◌, ◌/◌, length, ap, arith, ℕ}
 use Rattle.assign.proofs.Fronts.{below, at_first, from_above, half_below}
 use Rattle.assign.proofs.sets.VarSet.first_half.Goals as goal
 

@@ -1,4 +1,4 @@
-use Rattle.std.proofs.Common.{◌-◌}
+use Rattle.assign.proofs.Prelude.{◌-◌}
 use Rattle.assign.proofs.Fronts.{IsBetween}
 use Rattle.assign.proofs.sets.VarSet.first_half.Given as goal
 

@@ -1,8 +1,4 @@
-use Rattle.std.proofs.Common.{sym, ◌∙◌, ap}
-use Rattle.std.specs.Prelude.{◌==◌}
-use Rattle.std.proofs.lemmas.Nat.Bits.{shr_and_one}
-use Rattle.assign.specs.Sets.{has}
-use Rattle.assign.specs.SetLemmas.{has-members_of}
+use Rattle.assign.proofs.Prelude.{sym, ◌∙◌, ap, ◌==◌, shr_and_one, has, has-members_of}
 use Rattle.assign.proofs.sets.VarSet.has.Goals as goal
 
 pub returns : goal.returns

@@ -1,7 +1,4 @@
-use Rattle.std.proofs.Common.{◌∙◌, ◌<◌, ap, sym, arith}
-use Rattle.std.specs.Int.{w128}
-use Rattle.std.proofs.lemmas.Nat.Bits.{bit_at-trailing_zeros}
-use Rattle.assign.specs.Sets.{least_of, members_of}
+use Rattle.assign.proofs.Prelude.{◌∙◌, ◌<◌, ap, sym, arith, w128, bit_at-trailing_zeros, least_of, members_of}
 use Rattle.assign.proofs.Masks.{members_of-zero, least_of-members_of}
 use Rattle.assign.proofs.sets.VarSet.least.Goals as goal
 

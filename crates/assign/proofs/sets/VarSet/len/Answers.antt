@@ -1,5 +1,4 @@
-use Rattle.std.proofs.Common.{length, ◌∙◌, ap, sym, subst, arith, lit≤}
-use Rattle.assign.specs.Sets.{Rises}
+use Rattle.assign.proofs.Prelude.{length, ◌∙◌, ap, sym, subst, arith, lit≤, Rises}
 use Rattle.assign.proofs.Masks.{length-members_of, rises_members, rises_few}
 use Rattle.assign.proofs.sets.VarSet.len.Goals as goal
 

@@ -1,5 +1,4 @@
-use Rattle.std.proofs.Common.{◌∙◌}
-use Rattle.assign.specs.Sets.{minus}
+use Rattle.assign.proofs.Prelude.{◌∙◌, minus}
 use Rattle.assign.proofs.Masks.{members_of-and_not}
 use Rattle.assign.proofs.sets.VarSet.minus.Goals as goal
 

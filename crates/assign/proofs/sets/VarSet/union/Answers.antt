@@ -1,7 +1,4 @@
-use Rattle.std.proofs.Common.{◌∙◌}
-use Rattle.std.proofs.lemmas.Nat.{or_lt}
-use Rattle.assign.specs.Sets.{union}
-use Rattle.assign.specs.SetLemmas.{members_of-or}
+use Rattle.assign.proofs.Prelude.{◌∙◌, or_lt, union, members_of-or}
 use Rattle.assign.proofs.sets.VarSet.union.Goals as goal
 
 pub invariant_of-result : goal.invariant_of-result

@@ -1,7 +1,4 @@
-use Rattle.std.proofs.Common.{◌∙◌, ◌*◌, ◌%◌, ◌^◌, ◌<◌, ap, subst, sym, ℕ}
-use Rattle.std.specs.Prelude.{bit_or}
-use Rattle.std.proofs.lemmas.Nat.{or_lt, one_shl, pow_below}
-use Rattle.assign.specs.Sets.{with_member, members_of}
+use Rattle.assign.proofs.Prelude.{◌∙◌, ◌*◌, ◌%◌, ◌^◌, ◌<◌, ap, subst, sym, ℕ, bit_or, or_lt, one_shl, pow_below, with_member, members_of}
 use Rattle.assign.proofs.Masks.{members_of-with}
 use Rattle.assign.proofs.sets.VarSet.with.Goals as goal
 

@@ -1,5 +1,4 @@
-use Rattle.std.proofs.Common.{◌∙◌}
-use Rattle.assign.specs.Sets.{is_within}
+use Rattle.assign.proofs.Prelude.{◌∙◌, is_within}
 use Rattle.assign.proofs.Masks.{within_is}
 use Rattle.assign.proofs.sets.VarSet.within.Goals as goal
 

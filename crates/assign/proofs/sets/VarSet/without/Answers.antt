@@ -1,8 +1,4 @@
-use Rattle.std.proofs.Common.{◌∙◌, ap}
-use Rattle.std.specs.Prelude.{bit_and}
-use Rattle.std.specs.Int.{bit_not, w128}
-use Rattle.std.proofs.lemmas.Nat.{one_shl, pow_below}
-use Rattle.assign.specs.Sets.{without, members_of}
+use Rattle.assign.proofs.Prelude.{◌∙◌, ap, bit_and, bit_not, w128, one_shl, pow_below, without, members_of}
 use Rattle.assign.proofs.Masks.{members_of-without}
 use Rattle.assign.proofs.sets.VarSet.without.Goals as goal
 

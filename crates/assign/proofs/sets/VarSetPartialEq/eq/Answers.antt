@@ -1,5 +1,4 @@
-use Rattle.std.proofs.Common.{◌∙◌, nat_eq}
-use Rattle.std.specs.Cmp.Lexicographic.{pointwise}
+use Rattle.assign.proofs.Prelude.{◌∙◌, nat_eq, pointwise}
 use Rattle.assign.proofs.Masks.{same_mask_is}
 use Rattle.assign.proofs.sets.VarSetPartialEq.eq.Goals as goal
 

@@ -1,4 +1,4 @@
-use Rattle.cert_check.specs.ByVariable.{items_on}
+use Rattle.cert_check.proofs.Prelude.{items_on}
 use Rattle.cert_check.proofs.Firsts.{rows_more}
 use Rattle.cert_check.proofs.by_variable.ByVariable.of.Goals as goal
 

@@ -1,6 +1,4 @@
-use Rattle.std.proofs.Common.{◌≡◌, ℕ, map, Vec, Global}
-use Rattle.assign.specs.Sets.{numbers}
-use Rattle.cert_check.specs.ByVariable.{items_on}
+use Rattle.cert_check.proofs.Prelude.{◌≡◌, ℕ, map, Vec, Global, numbers, items_on}
 use Rattle.cert_check.proofs.by_variable.ByVariable.of.Given as goal
 
 abbrev pub invariant-loop-v : goal.invariant-loop-v

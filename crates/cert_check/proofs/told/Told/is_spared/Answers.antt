@@ -1,6 +1,4 @@
-use Rattle.std.proofs.Common.{rules, ◌≡◌, Some, None, ◌∙◌, ap}
-use Rattle.std.specs.Prelude.{◌==◌, slice_index_or}
-use Rattle.std.proofs.lemmas.Nat.Bits.{shr_and_one}
+use Rattle.cert_check.proofs.Prelude.{rules, ◌≡◌, Some, None, ◌∙◌, ap, ◌==◌, slice_index_or, shr_and_one}
 use Rattle.cert_check.proofs.ByScope.{mask_tells, none_tells}
 use Rattle.cert_check.proofs.told.Told.is_spared.Goals as goal
 

@@ -1,7 +1,4 @@
-use Rattle.std.proofs.Common.{◌∷◌, ◌++◌, [], ◌∙◌, ◌≡◌, ℕ, List, Vec, Global, length, ap, subst, sym}
-use Rattle.std.specs.Prelude.{All, Contains}
-use Rattle.disk_model.specs.Record.{put}
-use Rattle.disk_model.specs.Crash.{HaveAllCuts, IsTornOf, IsReplay, contents, step_of}
+use Rattle.disk_model.proofs.Prelude.{◌∷◌, ◌++◌, [], ◌∙◌, ◌≡◌, ℕ, List, Vec, Global, length, ap, subst, sym, All, Contains, put, HaveAllCuts, IsTornOf, IsReplay, contents, step_of}
 use Rattle.disk_model.proofs.Replays.{after_write, after_sync}
 use Rattle.disk_model.proofs.crash.Replay.after.Goals as goal
 

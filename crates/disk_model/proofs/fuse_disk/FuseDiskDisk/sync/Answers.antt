@@ -1,5 +1,4 @@
-use Rattle.std.proofs.Common.{Some, ap, ◌∙◌}
-use Rattle.disk_model.specs.MemDisk.{content_of}
+use Rattle.disk_model.proofs.Prelude.{Some, ap, ◌∙◌, content_of}
 use Rattle.disk_model.proofs.fuse_disk.FuseDiskDisk.sync.Goals as goal
 
 pub returns-clause-durable : goal.returns-clause-durable

@@ -1,8 +1,4 @@
-use Rattle.std.proofs.Common.{◌≡◌, [], ◌∷◌, ◌++◌, ap, sym, subst, refl, ◌∙◌}
-use Rattle.disk_model.specs.Record.{Leaves, Synced}
-use Rattle.disk_model.specs.Images.{elapses-to, leaves-sync, image-content}
-use Rattle.disk_model.specs.MemDisk.{content_of, start_of, steps_in}
-use Rattle.disk_model.specs.Tape.{tape_steps}
+use Rattle.disk_model.proofs.Prelude.{◌≡◌, [], ◌∷◌, ◌++◌, ap, sym, subst, refl, ◌∙◌, Leaves, Synced, elapses-to, leaves-sync, image-content, content_of, start_of, steps_in, tape_steps}
 use Rattle.disk_model.proofs.mem_disk.MemDiskDisk.sync.Goals as goal
 
 pub returns-clause-durable : goal.returns-clause-durable

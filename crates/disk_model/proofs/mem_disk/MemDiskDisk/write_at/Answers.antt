@@ -1,9 +1,4 @@
-use Rattle.std.proofs.Common.{◌≡◌, [], ◌∷◌, ◌++◌, ◌∙◌, ℕ, List, length, ap, sym, subst, refl}
-use Rattle.disk_model.specs.Disk.{Torn}
-use Rattle.disk_model.specs.Record.{put, Wrote}
-use Rattle.disk_model.specs.Images.{elapses-to, leaves-write, torn-put}
-use Rattle.disk_model.specs.MemDisk.{content_of, start_of, steps_in}
-use Rattle.disk_model.specs.Tape.{tape_steps}
+use Rattle.disk_model.proofs.Prelude.{◌≡◌, [], ◌∷◌, ◌++◌, ◌∙◌, ℕ, List, length, ap, sym, subst, refl, Torn, put, Wrote, elapses-to, leaves-write, torn-put, content_of, start_of, steps_in, tape_steps}
 use Rattle.disk_model.proofs.mem_disk.MemDiskDisk.write_at.Goals as goal
 
 pub returns-clause-written : goal.returns-clause-written

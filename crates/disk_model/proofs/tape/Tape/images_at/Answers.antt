@@ -1,8 +1,4 @@
-use Rattle.std.proofs.Common.{◌≡◌, ◌+◌, ◌∷◌, ◌++◌, ◌∙◌, [], ℕ, List, get_or, take, drop, ap, sym, subst}
-use Rattle.disk_model.specs.declared.tape.Mark.TheVariants.{Write}
-use Rattle.disk_model.specs.Record.{Step}
-use Rattle.disk_model.specs.Tape.{tape_steps}
-use Rattle.disk_model.specs.Crash.{IsReplay, step_of, size_of}
+use Rattle.disk_model.proofs.Prelude.{◌≡◌, ◌+◌, ◌∷◌, ◌++◌, ◌∙◌, [], ℕ, List, get_or, take, drop, ap, sym, subst, Write, Step, tape_steps, IsReplay, step_of, size_of}
 use Rattle.disk_model.proofs.Replays.{next_fits, next_step, next_rest}
 use Rattle.disk_model.proofs.tape.Tape.images_at.Goals as goal
 

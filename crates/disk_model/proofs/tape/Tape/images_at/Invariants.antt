@@ -1,7 +1,4 @@
-use Rattle.std.proofs.Common.{◌≡◌, take, drop}
-use Rattle.disk_model.specs.Record.{bytes_in}
-use Rattle.disk_model.specs.Tape.{tape_steps}
-use Rattle.disk_model.specs.Crash.{IsReplay}
+use Rattle.disk_model.proofs.Prelude.{◌≡◌, take, drop, bytes_in, tape_steps, IsReplay}
 use Rattle.disk_model.proofs.tape.Tape.images_at.Given as goal
 
 abbrev pub invariant-loop-mark : goal.invariant-loop-mark

@@ -1,10 +1,5 @@
-use Rattle.std.proofs.Common.{◌≡◌, [], ◌∷◌, ◌++◌, List, length, ap, sym, ◌∙◌, arith, length-append}
-use Rattle.std.proofs.lemmas.Bool.{cond-true}
-use Rattle.disk_model.specs.declared.tape.Mark.{Mark}
-use Rattle.disk_model.specs.declared.tape.Mark.TheVariants.{Sync}
-use Rattle.disk_model.specs.Record.{content_after, are_within, steps_of, bytes_in, Synced, Step}
+use Rattle.disk_model.proofs.Prelude.{◌≡◌, [], ◌∷◌, ◌++◌, List, length, ap, sym, ◌∙◌, arith, length-append, cond-true, Mark, Sync, content_after, are_within, steps_of, bytes_in, Synced, Step, steps_of-sync, bytes_in-sync, content-sync, within-sync}
 use Rattle.disk_model.proofs.Replays.{steps_count}
-use Rattle.disk_model.specs.Images.{steps_of-sync, bytes_in-sync, content-sync, within-sync}
 use Rattle.disk_model.proofs.tape.Tape.sync.Goals as goal
 
 pub invariant_of-self : goal.invariant_of-self

@@ -1,10 +1,5 @@
-use Rattle.std.proofs.Common.{◌≡◌, ℕ, [], ◌∷◌, ◌++◌, List, length, ap, ap₂, sym, ◌∙◌, arith, length-append}
-use Rattle.std.proofs.lemmas.Bool.{cond-true}
-use Rattle.disk_model.specs.declared.tape.Mark.{Mark}
-use Rattle.disk_model.specs.declared.tape.Mark.TheVariants.{Write}
-use Rattle.disk_model.specs.Record.{put, content_after, are_within, steps_of, bytes_in, Wrote, Step}
+use Rattle.disk_model.proofs.Prelude.{◌≡◌, ℕ, [], ◌∷◌, ◌++◌, List, length, ap, ap₂, sym, ◌∙◌, arith, length-append, cond-true, Mark, Write, put, content_after, are_within, steps_of, bytes_in, Wrote, Step, steps_of-write, bytes_in-write, content-write, within-write, torn-put}
 use Rattle.disk_model.proofs.Replays.{steps_count}
-use Rattle.disk_model.specs.Images.{steps_of-write, bytes_in-write, content-write, within-write, torn-put}
 use Rattle.disk_model.proofs.tape.Tape.write.Goals as goal
 
 pub invariant_of-self : goal.invariant_of-self

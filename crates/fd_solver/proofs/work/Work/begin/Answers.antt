@@ -1,7 +1,4 @@
-use Rattle.std.proofs.Common.{refl, arith, ap, length}
-use Rattle.std.proofs.Math.ListN.{length-set}
-use Rattle.fd_solver.specs.Ready.{Room}
-use Rattle.propagators.specs.Families.{arcs_of}
+use Rattle.fd_solver.proofs.Prelude.{refl, arith, ap, length, length-set, Room, arcs_of}
 use Rattle.fd_solver.proofs.Knowing.{begun_known}
 use Rattle.fd_solver.proofs.Narrowing.{begun_ready, begun_dead}
 use Rattle.fd_solver.proofs.work.Work.begin.Goals as goal

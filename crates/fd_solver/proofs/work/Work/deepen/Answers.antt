@@ -1,5 +1,4 @@
-use Rattle.std.proofs.Common.{length, ap, arith}
-use Rattle.fd_solver.specs.Ready.{Room}
+use Rattle.fd_solver.proofs.Prelude.{length, ap, arith, Room}
 use Rattle.fd_solver.proofs.work.Work.deepen.Goals as goal
 
 pub fill-requires-clause-few : goal.fill-requires-clause-few

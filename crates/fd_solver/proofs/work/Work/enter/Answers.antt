@@ -1,13 +1,5 @@
-use Rattle.std.proofs.Common.{◌≡◌, ◌<◌, ◌+◌, ◌∙◌, [], ap, sym, subst, length, arith}
-use Rattle.std.specs.Prelude.{slice_index_or, slice_set}
-use Rattle.std.proofs.lemmas.List.{get_or_read, get_or-set_same}
-use Rattle.std.proofs.Math.ListN.{length-set}
-use Rattle.assign.specs.Sets.{has}
-use Rattle.propagators.specs.Families.{Family, arcs_of}
-use Rattle.propagators.specs.Entailed.{AreEntailed}
-use Rattle.propagators.specs.declared.entailed.Entailed.{Entailed}
+use Rattle.fd_solver.proofs.Prelude.{◌≡◌, ◌<◌, ◌+◌, ◌∙◌, [], ap, sym, subst, length, arith, slice_index_or, slice_set, get_or_read, get_or-set_same, length-set, has, Family, arcs_of, AreEntailed, Entailed, AreReady, AreKnown, Room}
 use Rattle.propagators.specs.Plans.{IsPlanOf}
-use Rattle.fd_solver.specs.Ready.{AreReady, AreKnown, Room}
 use Rattle.fd_solver.proofs.Narrowing.{deepest, below_lacking, entered, entered_ready, ready_written, deeper_written}
 use Rattle.fd_solver.proofs.Knowing.{known_written, known_deeper}
 use Rattle.fd_solver.proofs.work.Work.enter.Goals as goal

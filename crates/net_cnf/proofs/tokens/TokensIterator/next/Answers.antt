@@ -1,6 +1,4 @@
-use Rattle.std.proofs.Common.{◌≡◌, [], ◌++◌, sym, ◌∙◌, ap}
-use Rattle.std.specs.List.{after_first}
-use Rattle.net_cnf.specs.Tokens.{is_newline, tokens_of_line, words, all_tokens}
+use Rattle.net_cnf.proofs.Prelude.{◌≡◌, [], ◌++◌, sym, ◌∙◌, ap, after_first, is_newline, tokens_of_line, words, all_tokens}
 use Rattle.net_cnf.proofs.Cutting.{lines_step}
 use Rattle.net_cnf.proofs.tokens.TokensIterator.next.Goals as goal
 

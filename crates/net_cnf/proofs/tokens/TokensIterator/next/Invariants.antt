@@ -1,5 +1,4 @@
-use Rattle.std.proofs.Common.{◌≡◌, length}
-use Rattle.net_cnf.specs.Left.{tokens_left}
+use Rattle.net_cnf.proofs.Prelude.{◌≡◌, length, tokens_left}
 use Rattle.net_cnf.proofs.tokens.TokensIterator.next.Given as goal
 
 abbrev pub invariant-loop-token : goal.invariant-loop-token

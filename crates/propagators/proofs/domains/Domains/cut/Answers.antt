@@ -1,6 +1,4 @@
-use Rattle.std.proofs.Common.{◌<◌, sym, subst, arith}
-use Rattle.std.specs.Prelude.{slice_index_or}
-use Rattle.propagators.specs.Families.{size_of}
+use Rattle.propagators.proofs.Prelude.{◌<◌, sym, subst, arith, slice_index_or, size_of}
 use Rattle.propagators.proofs.OnScope.{read_set, seen_set, size_falls, within_masks}
 use Rattle.propagators.proofs.domains.Domains.cut.Goals as goal
 

@@ -1,7 +1,4 @@
-use Rattle.std.proofs.Common.{[], ◌∙◌, ap, sym, subst}
-use Rattle.std.specs.Prelude.{◌==◌, slice_index_or, slice_set}
-use Rattle.std.specs.List.{filter}
-use Rattle.propagators.specs.Supports.{IsFamilyOf}
+use Rattle.propagators.proofs.Prelude.{[], ◌∙◌, ap, sym, subst, ◌==◌, slice_index_or, slice_set, filter, IsFamilyOf}
 use Rattle.propagators.proofs.OnScope.{read_set, seen_set}
 use Rattle.propagators.proofs.Pruned.{filter_has}
 use Rattle.propagators.proofs.Filled.{family_set}

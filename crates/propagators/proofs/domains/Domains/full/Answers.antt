@@ -1,7 +1,5 @@
-use Rattle.std.proofs.Common.{◌∙◌, ◌&&◌, sym, subst, arith}
-use Rattle.std.specs.Prelude.{nat_le}
+use Rattle.propagators.proofs.Prelude.{◌∙◌, ◌&&◌, sym, subst, arith, nat_le, IsFamilyOf}
 use Rattle.propagators.proofs.Filled.{fill_begin, fill_next, values_mask, full_masks, full_seen, full_family}
-use Rattle.propagators.specs.Supports.{IsFamilyOf}
 use Rattle.propagators.proofs.domains.Domains.full.Goals as goal
 
 pub loop-v-init : goal.loop-v-init

@@ -1,7 +1,4 @@
-use Rattle.std.proofs.Common.{◌∙◌, ◌<◌, ◌^◌, ap, take, not}
-use Rattle.std.specs.List.{list_all}
-use Rattle.std.proofs.lemmas.List.Elements.{All-take}
-use Rattle.propagators.specs.Families.{Family, is_not_empty}
+use Rattle.propagators.proofs.Prelude.{◌∙◌, ◌<◌, ◌^◌, ap, take, not, list_all, All-take, Family, is_not_empty}
 use Rattle.propagators.proofs.Ones.{some_zero}
 use Rattle.propagators.proofs.domains.Domains.has_empty.Goals as goal
 

@@ -1,7 +1,4 @@
-use Rattle.std.proofs.Common.{◌∙◌, [], length, ap, subst, sym}
-use Rattle.std.specs.Prelude.{nat_lt, slice_index_or}
-use Rattle.std.proofs.lemmas.Bool.{ltb-true}
-use Rattle.assign.specs.Sets.{IsSet}
+use Rattle.propagators.proofs.Prelude.{◌∙◌, [], length, ap, subst, sym, nat_lt, slice_index_or, ltb-true, IsSet}
 use Rattle.propagators.proofs.Loose.{ones_of-set}
 use Rattle.propagators.proofs.OnScope.{read_set}
 use Rattle.propagators.proofs.domains.Domains.has_more.Goals as goal

@@ -1,6 +1,4 @@
-use Rattle.std.proofs.Common.{◌∙◌, arith}
-use Rattle.std.specs.Prelude.{slice_index_or}
-use Rattle.std.proofs.Math.ListN.{length-set}
+use Rattle.propagators.proofs.Prelude.{◌∙◌, arith, slice_index_or, length-set}
 use Rattle.propagators.proofs.OnScope.{on_next, read_set}
 use Rattle.propagators.proofs.domains.Domains.on.Goals as goal
 

@@ -1,6 +1,4 @@
-use Rattle.std.proofs.Common.{◌≡◌, length, map, take}
-use Rattle.propagators.specs.Values.{ones_of}
-use Rattle.propagators.specs.Families.{sets_on}
+use Rattle.propagators.proofs.Prelude.{◌≡◌, length, map, take, ones_of, sets_on}
 use Rattle.propagators.proofs.domains.Domains.on.Given as goal
 
 abbrev pub invariant-loop-j : goal.invariant-loop-j

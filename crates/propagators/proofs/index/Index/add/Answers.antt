@@ -1,11 +1,4 @@
-use Rattle.std.proofs.Common.{◌≡◌, ◌∙◌, ◌+◌, List, length, take, None, ap, sym, subst, arith}
-use Rattle.std.specs.Vec.{with_items}
-use Rattle.std.proofs.lemmas.List.{with_items_is}
-use Rattle.language.specs.declared.candidates.Candidate.{Candidate}
-use Rattle.language.specs.Answers.{IsNetwork}
-use Rattle.propagators.specs.Families.{arcs_of}
-use Rattle.propagators.specs.Plans.{IsPlanOf}
-use Rattle.propagators.specs.Indexes.{IsRoot}
+use Rattle.propagators.proofs.Prelude.{◌≡◌, ◌∙◌, ◌+◌, List, length, take, None, ap, sym, subst, arith, with_items, with_items_is, Candidate, IsNetwork, arcs_of, IsPlanOf, IsRoot}
 use Rattle.propagators.proofs.Indexed.{listed}
 use Rattle.propagators.proofs.index.Index.add.Goals as goal
 use Rattle.propagators.proofs.index.Index.add.Goals.{After-copy_front}

@@ -1,5 +1,4 @@
-use Rattle.std.proofs.Common.{◌≡◌, ◌≤◌, length, take}
-use Rattle.propagators.specs.Indexes.{list_in, IsIndexOf}
+use Rattle.propagators.proofs.Prelude.{◌≡◌, ◌≤◌, length, take, list_in, IsIndexOf}
 use Rattle.propagators.proofs.index.Index.follow.Given as goal
 
 abbrev pub invariant-loop-end : goal.invariant-loop-end

@@ -1,7 +1,4 @@
-use Rattle.std.proofs.Common.{List, Some, None, Option, sym, subst}
-use Rattle.language.specs.declared.candidates.Candidate.{Candidate}
-use Rattle.propagators.specs.Families.{Family, arcs_of}
-use Rattle.propagators.specs.Indexes.{IsRoot, IsRootBefore}
+use Rattle.propagators.proofs.Prelude.{List, Some, None, Option, sym, subst, Candidate, Family, arcs_of, IsRoot, IsRootBefore}
 use Rattle.propagators.proofs.Indexed.{root_before_against}
 use Rattle.propagators.proofs.index.Index.narrow.Goals as goal
 

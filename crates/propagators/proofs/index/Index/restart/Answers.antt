@@ -1,12 +1,4 @@
-use Rattle.std.proofs.Common.{◌≡◌, ◌∙◌, List, length, take, None, refl, ap, sym, subst, arith}
-use Rattle.std.specs.Vec.{with_items}
-use Rattle.std.proofs.lemmas.List.{with_items_is}
-use Rattle.language.specs.declared.candidates.Candidate.{Candidate}
-use Rattle.language.specs.Answers.{IsNetwork}
-use Rattle.propagators.specs.Families.{Family, arcs_of}
-use Rattle.propagators.specs.Plans.{IsPlanOf}
-use Rattle.propagators.specs.Propagated.{IsPropagated, RunsEmpty}
-use Rattle.propagators.specs.Indexes.{IsRoot}
+use Rattle.propagators.proofs.Prelude.{◌≡◌, ◌∙◌, List, length, take, None, refl, ap, sym, subst, arith, with_items, with_items_is, Candidate, IsNetwork, Family, arcs_of, IsPlanOf, IsPropagated, RunsEmpty, IsRoot}
 use Rattle.propagators.proofs.Indexed.{listed}
 use Rattle.propagators.proofs.index.Index.restart.Goals as goal
 

@@ -1,10 +1,4 @@
-use Rattle.std.proofs.Common.{◌≡◌, ◌∙◌, ap, sym, subst, ℕ, List, length}
-use Rattle.std.specs.Vec.{with_items}
-use Rattle.std.proofs.lemmas.List.{with_items_is}
-use Rattle.propagators.specs.declared.briefs.Brief.{Brief}
-use Rattle.propagators.specs.Families.{arcs_of}
-use Rattle.propagators.specs.Briefs.{AreBriefs}
-use Rattle.propagators.specs.Plans.{AreNoted, AreLimits}
+use Rattle.propagators.proofs.Prelude.{◌≡◌, ◌∙◌, ap, sym, subst, ℕ, List, length, with_items, with_items_is, Brief, arcs_of, AreBriefs, AreNoted, AreLimits}
 use Rattle.propagators.proofs.plan.Plan.arrange.Goals as goal
 
 pub returns : goal.returns

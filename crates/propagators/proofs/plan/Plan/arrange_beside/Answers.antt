@@ -1,6 +1,4 @@
-use Rattle.std.proofs.Common.{List, None, sym, subst, arith}
-use Rattle.propagators.specs.Families.{Arc, arcs_of}
-use Rattle.propagators.specs.Plans.{IsPlanOf}
+use Rattle.propagators.proofs.Prelude.{List, None, sym, subst, arith, Arc, arcs_of, IsPlanOf}
 use Rattle.propagators.proofs.Indexed.{take_beside, length_alone, arcs_narrow, list_alone}
 use Rattle.propagators.proofs.plan.Plan.arrange_beside.Goals as goal
 

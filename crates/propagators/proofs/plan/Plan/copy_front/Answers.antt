@@ -1,8 +1,4 @@
-use Rattle.std.proofs.Common.{◌≡◌, ◌∙◌, ℕ, List, length, ap, sym, arith}
-use Rattle.std.specs.Prelude.{slice_index_or}
-use Rattle.std.specs.Vec.{with_items}
-use Rattle.std.proofs.lemmas.List.{with_items_is}
-use Rattle.propagators.specs.declared.briefs.Brief.{Brief}
+use Rattle.propagators.proofs.Prelude.{◌≡◌, ◌∙◌, ℕ, List, length, ap, sym, arith, slice_index_or, with_items, with_items_is, Brief}
 use Rattle.propagators.proofs.Indexed.{plan_copied}
 use Rattle.propagators.proofs.plan.Plan.copy_front.Goals as goal
 

@@ -1,9 +1,4 @@
-use Rattle.std.proofs.Common.{◌≡◌, ◌+◌, ◌*◌, ◌/◌, ◌∙◌, ℕ, List, length, ap, sym, arith}
-use Rattle.std.specs.Prelude.{min, slice_index_or}
-use Rattle.std.specs.Vec.{with_items}
-use Rattle.std.proofs.lemmas.List.{with_items_is}
-use Rattle.propagators.specs.Families.{arcs_of}
-use Rattle.propagators.specs.Plans.{AreTakenIn}
+use Rattle.propagators.proofs.Prelude.{◌≡◌, ◌+◌, ◌*◌, ◌/◌, ◌∙◌, ℕ, List, length, ap, sym, arith, min, slice_index_or, with_items, with_items_is, arcs_of, AreTakenIn}
 use Rattle.propagators.proofs.Indexed.{arcs_narrow, taken_front, taken_cleared, taken_as}
 use Rattle.propagators.proofs.plan.Plan.extend.Goals as goal
 

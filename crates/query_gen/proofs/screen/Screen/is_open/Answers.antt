@@ -1,9 +1,4 @@
-use Rattle.std.proofs.Common.{◌≡◌, ◌+◌, length, get_or, subst, sym, ◌∙◌, ap, arith}
-use Rattle.std.proofs.lemmas.List.{get_or_read}
-use Rattle.language.specs.Language.{number_of}
-use Rattle.query_gen.specs.declared.screen.Mark.TheVariants.{Blank}
-use Rattle.query_gen.specs.Marks.{Remembered, IsMadeFor, is_mark_spent}
-use Rattle.query_gen.specs.Inside.{seen}
+use Rattle.query_gen.proofs.Prelude.{◌≡◌, ◌+◌, length, get_or, subst, sym, ◌∙◌, ap, arith, get_or_read, number_of, Blank, Remembered, IsMadeFor, is_mark_spent, seen}
 use Rattle.query_gen.proofs.Numbers.{length-first, read_number, number_below}
 use Rattle.query_gen.proofs.screen.Screen.is_open.Goals as goal
 

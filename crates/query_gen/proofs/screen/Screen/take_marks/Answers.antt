@@ -1,5 +1,4 @@
-use Rattle.std.proofs.Common.{sym, subst}
-use Rattle.query_gen.specs.Parts.{AreTrue}
+use Rattle.query_gen.proofs.Prelude.{sym, subst, AreTrue}
 use Rattle.query_gen.proofs.Parts.{searched_true}
 use Rattle.query_gen.proofs.screen.Screen.take_marks.Goals as goal
 

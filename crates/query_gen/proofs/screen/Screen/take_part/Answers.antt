@@ -1,10 +1,5 @@
-use Rattle.std.proofs.Common.{◌≡◌, ℕ, ◌+◌, ◌-◌, List, length, refl, subst, sym, ◌∙◌, ap, arith}
+use Rattle.query_gen.proofs.Prelude.{◌≡◌, ℕ, ◌+◌, ◌-◌, List, length, refl, subst, sym, ◌∙◌, ap, arith, with_items_is, Mark, Remembered, begun, seen, AreTaken, HasTaken}
 use Rattle.std.specs.Vec.{with_items}
-use Rattle.std.proofs.lemmas.List.{with_items_is}
-use Rattle.query_gen.specs.declared.screen.Mark.{Mark}
-use Rattle.query_gen.specs.Marks.{Remembered}
-use Rattle.query_gen.specs.Inside.{begun, seen}
-use Rattle.query_gen.specs.Parts.{AreTaken, HasTaken}
 use Rattle.query_gen.proofs.Parts.{has_taken, holds_over}
 use Rattle.query_gen.proofs.screen.Screen.take_part.Goals as goal
 

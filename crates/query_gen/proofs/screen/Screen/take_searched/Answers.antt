@@ -1,6 +1,4 @@
-use Rattle.std.proofs.Common.{ℕ, List, ◌-◌, arith, subst, sym}
-use Rattle.std.specs.Prelude.{slice_range}
-use Rattle.query_gen.specs.Parts.{AreTrue}
+use Rattle.query_gen.proofs.Prelude.{ℕ, List, ◌-◌, arith, subst, sym, slice_range, AreTrue}
 use Rattle.query_gen.proofs.Parts.{part_range_true}
 use Rattle.query_gen.proofs.screen.Screen.take_searched.Goals as goal
 

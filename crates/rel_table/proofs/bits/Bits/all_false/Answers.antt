@@ -1,5 +1,4 @@
-use Rattle.std.proofs.Common.{sym, subst, ◌∙◌, ap, List, ℕ}
-use Rattle.rel_table.specs.Bits.{values_of, IsPacked}
+use Rattle.rel_table.proofs.Prelude.{sym, subst, ◌∙◌, ap, List, ℕ, values_of, IsPacked}
 use Rattle.rel_table.proofs.BitLemmas.{zeros_packed, zeros_are}
 use Rattle.rel_table.proofs.bits.Bits.all_false.Goals as goal
 

@@ -1,6 +1,4 @@
-use Rattle.std.proofs.Common.{◌≡◌, ℕ, List, sym, ◌∙◌, ap, subst}
-use Rattle.std.proofs.lemmas.Bool.{eqb-true, eq-eqb}
-use Rattle.rel_table.specs.Bits.{values_of, IsPacked}
+use Rattle.rel_table.proofs.Prelude.{◌≡◌, ℕ, List, sym, ◌∙◌, ap, subst, eqb-true, eq-eqb, values_of, IsPacked}
 use Rattle.rel_table.proofs.BitLemmas.{count_of, same_words}
 use Rattle.rel_table.proofs.bits.Bits.equals.Goals as goal
 

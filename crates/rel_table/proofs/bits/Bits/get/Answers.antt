@@ -1,5 +1,4 @@
-use Rattle.std.proofs.Common.{sym, ◌∙◌, ap, subst, ◌<◌, ◌/◌, ◌%◌, ◌^◌, nat_eq, bit_and, false, slice_index_or, arith}
-use Rattle.std.proofs.lemmas.List.{get_or_read}
+use Rattle.rel_table.proofs.Prelude.{sym, ◌∙◌, ap, subst, ◌<◌, ◌/◌, ◌%◌, ◌^◌, nat_eq, bit_and, false, slice_index_or, arith, get_or_read}
 use Rattle.rel_table.proofs.BitLemmas.{count_of, get_or-values_of, word_within, is_marked-get}
 use Rattle.rel_table.proofs.bits.Bits.get.Goals as goal
 

@@ -1,7 +1,4 @@
-use Rattle.std.proofs.Common.{◌≡◌, ◌∙◌, ap, sym, subst, length}
-use Rattle.std.specs.Int.{div_ceil}
-use Rattle.rel_table.specs.Relation.{is_above}
-use Rattle.rel_table.specs.Bits.{values_of, IsPacked, Compares}
+use Rattle.rel_table.proofs.Prelude.{◌≡◌, ◌∙◌, ap, sym, subst, length, div_ceil, is_above, values_of, IsPacked, Compares}
 use Rattle.rel_table.proofs.BitLemmas.{count_of}
 use Rattle.rel_table.proofs.AboveLemmas.{compared}
 use Rattle.rel_table.proofs.bits.Bits.is_above.Goals as goal

@@ -1,4 +1,4 @@
-use Rattle.std.proofs.Common.{sym, ◌∙◌, ap, length}
+use Rattle.rel_table.proofs.Prelude.{sym, ◌∙◌, ap, length}
 use Rattle.rel_table.proofs.BitLemmas.{length-values_of}
 use Rattle.rel_table.proofs.bits.Bits.len.Goals as goal
 

@@ -1,7 +1,4 @@
-use Rattle.std.proofs.Common.{ℕ, sym, ◌∙◌, ap, subst, ◌*◌, ◌<◌, ◌/◌, ◌%◌, ◌^◌, set, true, arith}
-use Rattle.std.specs.Prelude.{bit_or}
-use Rattle.std.proofs.lemmas.List.{get_or_read}
-use Rattle.rel_table.specs.Bits.{values_of, IsPacked}
+use Rattle.rel_table.proofs.Prelude.{ℕ, sym, ◌∙◌, ap, subst, ◌*◌, ◌<◌, ◌/◌, ◌%◌, ◌^◌, set, true, arith, bit_or, get_or_read, values_of, IsPacked}
 use Rattle.rel_table.proofs.BitLemmas.{count_of, word_within, marked_packed, marked_are}
 use Rattle.rel_table.proofs.bits.Bits.mark.Goals as goal
 

@@ -1,6 +1,4 @@
-use Rattle.std.proofs.Common.{◌≡◌, ℕ, List, sym, ◌∙◌, ap, subst}
-use Rattle.rel_table.specs.Relation.{meet}
-use Rattle.rel_table.specs.Bits.{values_of, IsPacked}
+use Rattle.rel_table.proofs.Prelude.{◌≡◌, ℕ, List, sym, ◌∙◌, ap, subst, meet, values_of, IsPacked}
 use Rattle.rel_table.proofs.BitLemmas.{both, length-values_of, count_of, both_packed, both_are}
 use Rattle.rel_table.proofs.bits.Bits.meet.Goals as goal
 

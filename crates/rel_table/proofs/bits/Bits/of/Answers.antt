@@ -1,5 +1,4 @@
-use Rattle.std.proofs.Common.{◌≡◌, length, ap, sym, ◌∙◌, set, true, false, arith}
-use Rattle.std.proofs.lemmas.List.{length-set, length-replicate}
+use Rattle.rel_table.proofs.Prelude.{◌≡◌, length, ap, sym, ◌∙◌, set, true, false, arith, length-set, length-replicate}
 use Rattle.rel_table.proofs.Copying.{copied, none_copied, mark_one, skip_one, all_copied}
 use Rattle.rel_table.proofs.bits.Bits.of.Goals as goal
 use Rattle.rel_table.proofs.bits.Bits.of.Goals.{then-truth-i, else-truth-i}

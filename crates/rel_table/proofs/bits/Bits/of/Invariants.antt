@@ -1,4 +1,4 @@
-use Rattle.std.proofs.Common.{◌≡◌, length}
+use Rattle.rel_table.proofs.Prelude.{◌≡◌, length}
 use Rattle.rel_table.proofs.Copying.{copied}
 use Rattle.rel_table.proofs.bits.Bits.of.Given as goal
 

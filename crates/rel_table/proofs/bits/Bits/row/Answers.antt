@@ -1,8 +1,4 @@
-use Rattle.std.proofs.Common.{sym, ◌∙◌, ap, ◌<◌, ◌/◌, ◌%◌, ◌^◌, ◌*◌, ◌+◌, ◌-◌, nat_eq, length, false, slice_index_or, arith}
-use Rattle.std.specs.Prelude.{bit_or}
-use Rattle.std.specs.Int.{bit_at}
-use Rattle.std.proofs.lemmas.Nat.{pow_pos}
-use Rattle.std.proofs.lemmas.List.{get_or_read}
+use Rattle.rel_table.proofs.Prelude.{sym, ◌∙◌, ap, ◌<◌, ◌/◌, ◌%◌, ◌^◌, ◌*◌, ◌+◌, ◌-◌, nat_eq, length, false, slice_index_or, arith, bit_or, bit_at, pow_pos, get_or_read}
 use Rattle.rel_table.proofs.BitLemmas.{count_of, get_or-values_of, word_within}
 use Rattle.rel_table.proofs.Rows.{row_in_one, row_in_two}
 use Rattle.rel_table.proofs.bits.Bits.row.Goals as goal

@@ -1,4 +1,4 @@
-use Rattle.std.proofs.Common.{◌≡◌, arith, get_or, true, false}
+use Rattle.rel_table.proofs.Prelude.{◌≡◌, arith, get_or, true, false}
 use Rattle.rel_table.proofs.BitLemmas.{follows_all, follows_not}
 use Rattle.rel_table.proofs.bits.Bits.values_within.Goals as goal
 

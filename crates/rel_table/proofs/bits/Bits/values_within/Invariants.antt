@@ -1,4 +1,4 @@
-use Rattle.std.proofs.Common.{◌≡◌, ℕ, ◌<◌, get_or, true, false}
+use Rattle.rel_table.proofs.Prelude.{◌≡◌, ℕ, ◌<◌, get_or, true, false}
 use Rattle.rel_table.proofs.BitLemmas.{follows}
 use Rattle.rel_table.proofs.bits.Bits.values_within.Given as goal
 

@@ -1,6 +1,4 @@
-use Rattle.std.proofs.Common.{◌≡◌, ◌∙◌, ap, sym, subst}
-use Rattle.std.specs.List.{list_all, zip}
-use Rattle.rel_table.specs.Bits.{values_of, IsPacked}
+use Rattle.rel_table.proofs.Prelude.{◌≡◌, ◌∙◌, ap, sym, subst, list_all, zip, values_of, IsPacked}
 use Rattle.rel_table.proofs.BitLemmas.{follows, lacks_none, words_within}
 use Rattle.rel_table.proofs.bits.Bits.within.Goals as goal
 

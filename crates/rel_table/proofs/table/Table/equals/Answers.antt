@@ -1,5 +1,4 @@
-use Rattle.std.proofs.Common.{sym, ◌∙◌, ap}
-use Rattle.rel_table.specs.Table.{TruthTable}
+use Rattle.rel_table.proofs.Prelude.{sym, ◌∙◌, ap, TruthTable}
 use Rattle.rel_table.proofs.Same.{same_table_value}
 use Rattle.rel_table.proofs.table.Table.equals.Goals as goal
 

@@ -1,6 +1,4 @@
-use Rattle.std.proofs.Common.{refl, false}
-use Rattle.language.specs.Language.{violates}
-use Rattle.session_core.specs.declared.knowledge.Knowledge.{Knowledge}
+use Rattle.session_core.proofs.Prelude.{refl, false, violates, Knowledge}
 use Rattle.session_core.proofs.Moving.{none_struck}
 use Rattle.session_core.proofs.knowledge.Knowledge.hear_no.Goals as goal
 

@@ -1,7 +1,4 @@
-use Rattle.std.proofs.Common.{Bool, not}
-use Rattle.language.specs.declared.candidates.Candidate.{Candidate}
-use Rattle.language.specs.Language.{violates}
-use Rattle.session_core.specs.declared.knowledge.Knowledge.{Knowledge}
+use Rattle.session_core.proofs.Prelude.{Bool, not, Candidate, violates, Knowledge}
 use Rattle.session_core.proofs.Moving.{decided_on, unlearned_struck}
 use Rattle.session_core.proofs.knowledge.Knowledge.hear_yes.Goals as goal
 

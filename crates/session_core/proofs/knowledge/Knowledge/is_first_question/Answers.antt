@@ -1,6 +1,4 @@
-use Rattle.std.proofs.Common.{sym, ◌∙◌, refl}
-use Rattle.assign.specs.declared.events.Plan.TheVariants.{Scopes}
-use Rattle.session_core.specs.declared.knowledge.Knowledge.{Knowledge}
+use Rattle.session_core.proofs.Prelude.{sym, ◌∙◌, refl, Scopes, Knowledge}
 use Rattle.session_core.proofs.Putting.{lawful_is}
 use Rattle.session_core.proofs.knowledge.Knowledge.is_first_question.Goals as goal
 

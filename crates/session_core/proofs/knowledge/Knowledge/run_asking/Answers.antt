@@ -1,5 +1,4 @@
-use Rattle.std.proofs.Common.{sym, ◌∙◌, arith}
-use Rattle.session_core.specs.declared.knowledge.Knowledge.{Knowledge}
+use Rattle.session_core.proofs.Prelude.{sym, ◌∙◌, arith, Knowledge}
 use Rattle.session_core.proofs.Asked.{asked_question, run_asked}
 use Rattle.session_core.proofs.knowledge.Knowledge.run_asking.Goals as goal
 

@@ -1,11 +1,5 @@
-use Rattle.std.proofs.Common.{◌≡◌, ◌∙◌, [], ◌∷◌, ◌++◌, length, sym, ap, arith}
+use Rattle.session_core.proofs.Prelude.{◌≡◌, ◌∙◌, [], ◌∷◌, ◌++◌, length, sym, ap, arith, numbers, Assignment, variable_count, Knowledge, Example, OnWalk, Part, FirstTuple, Tuple, part_replied}
 use Rattle.std.proofs.lemmas.List.FromFn.{length-range_with_len}
-use Rattle.assign.specs.Sets.{numbers}
-use Rattle.assign.specs.Assignment.{Assignment}
-use Rattle.language.specs.Language.{variable_count}
-use Rattle.session_core.specs.declared.knowledge.Knowledge.{Knowledge}
-use Rattle.session_core.specs.declared.put.Put.TheVariants.{Example, OnWalk, Part, FirstTuple, Tuple}
-use Rattle.session_core.specs.Leading.{part_replied}
 use Rattle.session_core.proofs.Steps.{said}
 use Rattle.session_core.proofs.Moving.{led_as}
 use Rattle.session_core.proofs.Questions.{example_fits}

@@ -1,8 +1,4 @@
-use Rattle.std.proofs.Common.{◌≡◌, Bool, true, false, sym, subst}
-use Rattle.assign.specs.Assignment.{Assignment}
-use Rattle.session_core.specs.declared.knowledge.Knowledge.{Knowledge}
-use Rattle.session_core.specs.Known.{IsAnswered}
-use Rattle.session_core.specs.Standing.{question_put}
+use Rattle.session_core.proofs.Prelude.{Bool, true, false, sym, subst, Assignment, Knowledge, IsAnswered, question_put}
 use Rattle.session_core.proofs.Turning.{same_some}
 use Rattle.session_core.proofs.session.Asking.known_after.Goals as goal
 

@@ -1,7 +1,4 @@
-use Rattle.std.proofs.Common.{refl, sym, ◌∙◌, subst}
-use Rattle.language.specs.Language.{IsLanguage, IsQuestion}
-use Rattle.session_laws.proofs.Restrict.{part_is_question}
-use Rattle.session_core.specs.declared.knowledge.Knowledge.{Knowledge}
+use Rattle.session_core.proofs.Prelude.{refl, sym, ◌∙◌, subst, IsLanguage, IsQuestion, part_is_question, Knowledge}
 use Rattle.session_core.proofs.Questions.{example_fits}
 use Rattle.session_core.proofs.Turning.{sound_of}
 use Rattle.session_core.proofs.session.Asking.question.Goals as goal

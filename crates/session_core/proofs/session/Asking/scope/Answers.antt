@@ -1,6 +1,4 @@
-use Rattle.std.proofs.Common.{sym, ◌∙◌, subst}
-use Rattle.language.specs.Language.{IsLanguage}
-use Rattle.session_core.specs.declared.knowledge.Knowledge.{Knowledge}
+use Rattle.session_core.proofs.Prelude.{sym, ◌∙◌, subst, IsLanguage, Knowledge}
 use Rattle.session_core.proofs.Scoped.{about_put_first, about_put}
 use Rattle.session_core.proofs.session.Asking.scope.Goals as goal
 

@@ -1,25 +1,10 @@
-use Rattle.std.proofs.Common.{◌≡◌, ◌++◌, ◌∷◌, [], ◌∙◌, refl, sym, ap, subst, arith, length, length-append, List, Option, Some}
-use Rattle.std.proofs.lemmas.Bool.{cond-true}
-use Rattle.assign.specs.Assignment.{Assignment}
-use Rattle.assign.specs.Events.{Answer}
-use Rattle.assign.specs.declared.events.Event.{Event}
-use Rattle.language.specs.Language.{Language, IsLanguage, variable_count}
-use Rattle.language.specs.Answers.{standing_on}
-use Rattle.assign.specs.declared.events.Plan.{Plan}
-use Rattle.session_core.specs.Standing.{IsAskedAfter, Stands, knowledge_of, question_put}
-use Rattle.session_core.specs.declared.session.Session.{Session}
+use Rattle.session_store.proofs.Prelude.{◌≡◌, ◌++◌, ◌∷◌, [], ◌∙◌, refl, sym, ap, subst, arith, length, length-append, List, Option, Some, cond-true, Assignment, Answer, Event, Language, IsLanguage, variable_count, standing_on, Plan, IsAskedAfter, Stands, knowledge_of, question_put, Session, answer_event, All, All-nil, All-cons, All-append, IsWide, StandsIn, lang_in, plan_in, question_in, HavePlaces, cut_to-standing-push}
 use Rattle.session_core.specs.declared.session.Session.TheVariants as sessions
 use Rattle.session_core.proofs.Opened.{open_asked}
-use Rattle.session_store.specs.Kept.{answer_event}
-use Rattle.std.specs.Prelude.{All}
-use Rattle.std.proofs.lemmas.List.Elements.{All-nil, All-cons, All-append}
-use Rattle.session_store.specs.Held.{IsWide, StandsIn, lang_in, plan_in, question_in}
-use Rattle.session_store.specs.Replay.{HavePlaces}
 use Rattle.session_store.proofs.Asked.{asked_fits}
 use Rattle.session_store.proofs.Placing.{answer_has_place}
 use Rattle.session_store.proofs.Replaying.{both_same}
 use Rattle.session_store.proofs.Storables.{storable_wide}
-use Rattle.assign.proofs.EventLemmas.{cut_to-standing-push}
 use Rattle.session_store.proofs.held.Held.add.Goals as goal
 
 pub returns-clause-sound : goal.returns-clause-sound

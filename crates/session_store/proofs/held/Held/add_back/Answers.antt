@@ -1,15 +1,5 @@
-use Rattle.std.proofs.Common.{◌≡◌, ◌++◌, ◌∷◌, [], ◌∙◌, sym, ap, subst, arith, length, length-append, List, Some}
-use Rattle.std.specs.Prelude.{All}
-use Rattle.std.proofs.lemmas.Bool.{cond-true}
-use Rattle.std.proofs.lemmas.List.Elements.{All-nil, All-cons, All-append}
-use Rattle.assign.specs.declared.events.Event.{Event}
+use Rattle.session_store.proofs.Prelude.{◌≡◌, ◌++◌, ◌∷◌, [], ◌∙◌, sym, ap, subst, arith, length, length-append, List, Some, All, cond-true, All-nil, All-cons, All-append, Event, Plan, Language, standing_on, Stands, knowledge_of, IsWide, lang_in, plan_in, lang_held, plan_held, IsStrayIn, HavePlaces}
 use Rattle.assign.specs.declared.events.Event.TheVariants as variant
-use Rattle.assign.specs.declared.events.Plan.{Plan}
-use Rattle.language.specs.Language.{Language}
-use Rattle.language.specs.Answers.{standing_on}
-use Rattle.session_core.specs.Standing.{Stands, knowledge_of}
-use Rattle.session_store.specs.Held.{IsWide, lang_in, plan_in, lang_held, plan_held}
-use Rattle.session_store.specs.Replay.{IsStrayIn, HavePlaces}
 use Rattle.session_store.proofs.Placing.{back_has_place, never_stray}
 use Rattle.session_store.proofs.Replaying.{both_same}
 use Rattle.session_store.proofs.held.Held.add_back.Goals as goal

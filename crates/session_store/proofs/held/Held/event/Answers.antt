@@ -1,11 +1,4 @@
-use Rattle.std.proofs.Common.{sym, subst, List}
-use Rattle.assign.specs.Events.{Answer}
-use Rattle.language.specs.Language.{Language, IsLanguage}
-use Rattle.language.specs.Answers.{standing_on}
-use Rattle.session_core.specs.Standing.{Stands}
-use Rattle.session_core.specs.declared.session.Session.{Session}
-use Rattle.answer_journal.specs.Storable.{IsStorable}
-use Rattle.session_store.specs.Held.{lang_held, events_held}
+use Rattle.session_store.proofs.Prelude.{sym, subst, List, Answer, Language, IsLanguage, standing_on, Stands, Session, IsStorable, lang_held, events_held}
 use Rattle.session_store.proofs.Storables.{storable}
 use Rattle.session_store.proofs.held.Held.event.Goals as goal
 

@@ -1,6 +1,4 @@
-use Rattle.std.proofs.lemmas.List.Elements.{All-weaker}
-use Rattle.answer_journal.specs.Storable.{IsStorableEvent}
-use Rattle.session_store.specs.Held.{IsWide}
+use Rattle.session_store.proofs.Prelude.{All-weaker, IsStorableEvent, IsWide}
 use Rattle.session_store.proofs.Storables.{storable_wide}
 use Rattle.session_store.proofs.held.Held.new.Goals as goal
 

@@ -1,6 +1,4 @@
-use Rattle.std.proofs.Common.{◌≡◌, ◌-◌, ◌∙◌, ap, length, take, ℕ}
-use Rattle.session_store.specs.Replay.{standing_numbers}
-use Rattle.session_store.specs.Held.{events_held}
+use Rattle.session_store.proofs.Prelude.{◌≡◌, ◌-◌, ◌∙◌, ap, length, take, ℕ, standing_numbers, events_held}
 use Rattle.session_store.proofs.Recording.{numbers_back}
 use Rattle.session_store.proofs.held.Held.ready_back.Goals as goal
 

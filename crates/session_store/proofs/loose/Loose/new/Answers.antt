@@ -1,6 +1,4 @@
-use Rattle.std.proofs.Common.{sym, subst}
-use Rattle.session_core.specs.Standing.{knowledge_of}
-use Rattle.session_store.specs.Replay.{HavePlaces}
+use Rattle.session_store.proofs.Prelude.{sym, subst, knowledge_of, HavePlaces}
 use Rattle.session_store.proofs.Placing.{none_placed}
 use Rattle.session_store.proofs.loose.Loose.new.Goals as goal
 

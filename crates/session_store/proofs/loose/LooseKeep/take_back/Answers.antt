@@ -1,5 +1,4 @@
-use Rattle.std.proofs.Common.{refl}
-use Rattle.session_store.specs.Left.{false_is_not_true}
+use Rattle.session_store.proofs.Prelude.{refl, false_is_not_true}
 use Rattle.session_store.proofs.Stores.{want_of_memory}
 use Rattle.session_store.proofs.loose.LooseKeep.take_back.Goals as goal
 

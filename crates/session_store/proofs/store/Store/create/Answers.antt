@@ -1,9 +1,5 @@
-use Rattle.std.proofs.Common.{◌∙◌, List, ℕ, sym, inl, inr, arith}
-use Rattle.std.proofs.lemmas.Result.{err_from_is_err_and}
-use Rattle.disk_model.proofs.Behind.{none_done, behind_as, nothing_behind}
-use Rattle.answer_journal.specs.Making.{IsCreating, StartsWith}
+use Rattle.session_store.proofs.Prelude.{◌∙◌, List, ℕ, sym, inl, inr, arith, err_from_is_err_and, none_done, behind_as, nothing_behind, IsCreating, StartsWith, plan_held, events_held}
 use Rattle.answer_journal.proofs.OnlyRead.{unread}
-use Rattle.session_store.specs.Held.{plan_held, events_held}
 use Rattle.session_store.proofs.Stores.{not_made, no_voc, one_fault, unless_failed, of_each_error, there_made, told_before}
 use Rattle.session_store.proofs.store.Store.create.Goals as goal
 

@@ -1,11 +1,4 @@
-use Rattle.std.proofs.Common.{◌∙◌, sym, ap, List, ℕ, inl, inr, ⊎_elim}
-use Rattle.std.proofs.lemmas.Result.{err_from_is_err_and}
-use Rattle.assign.specs.declared.events.Event.{Event}
-use Rattle.assign.specs.declared.events.Plan.{Plan}
-use Rattle.session_store.specs.Faults.{of_journal}
-use Rattle.session_store.specs.Held.{plan_in, plan_held, events_held}
-use Rattle.session_store.specs.Left.{SaysSession}
-use Rattle.session_store.specs.Opening.{NotLed}
+use Rattle.session_store.proofs.Prelude.{◌∙◌, sym, ap, List, ℕ, inl, inr, ⊎_elim, err_from_is_err_and, Event, Plan, of_journal, plan_in, plan_held, events_held, SaysSession, NotLed}
 use Rattle.session_store.proofs.Replaying.{both_same}
 use Rattle.session_store.proofs.Stores.{not_led, some_not_opened, there_as}
 use Rattle.session_store.proofs.store.Store.open.Goals as goal

@@ -1,16 +1,4 @@
-use Rattle.std.proofs.Common.{◌≡◌, ◌++◌, ◌∷◌, [], ◌∙◌, List, refl, sym, ap, subst, arith, ⊎_elim, Result, Err}
-use Rattle.std.proofs.lemmas.Bool.{both_ways}
-use Rattle.std.proofs.lemmas.Result.{IfOk-at_ok}
-use Rattle.answer_journal.specs.declared.fault.JFault.{JFault}
-use Rattle.assign.specs.declared.events.Event.{Event}
-use Rattle.language.specs.Language.{Language}
-use Rattle.voc_read.specs.Vocabulary.{IsVocabulary}
-use Rattle.session_store.specs.Held.{lang_in, plan_in, events_held}
-use Rattle.disk_model.specs.Moments.{LeavesBehind}
-use Rattle.answer_journal.specs.End.{HasNew, IsOldOrNew}
-use Rattle.session_store.specs.Left.{OpensWith}
-use Rattle.session_store.specs.Store.{plan_of, voc_of, events_of, question_of}
-use Rattle.session_store.specs.Kept.{answer_event}
+use Rattle.session_store.proofs.Prelude.{◌≡◌, ◌++◌, ◌∷◌, [], ◌∙◌, List, refl, sym, ap, subst, arith, ⊎_elim, Result, Err, both_ways, IfOk-at_ok, JFault, Event, Language, IsVocabulary, lang_in, plan_in, events_held, LeavesBehind, HasNew, IsOldOrNew, OpensWith, plan_of, voc_of, events_of, question_of, answer_event}
 use Rattle.session_store.proofs.Stores.{in_place, sits_as, held_as, event_left_out, event_written, want_of_memory, told_before, some_once, there_as}
 use Rattle.session_store.proofs.Storables.{answer_has_room}
 use Rattle.session_store.proofs.store.StoreKeep.answer.Goals as goal

@@ -1,4 +1,4 @@
-use Rattle.std.proofs.Common.{refl, sym}
+use Rattle.session_store.proofs.Prelude.{refl, sym}
 use Rattle.session_store.proofs.Stores.{sits_as}
 use Rattle.session_store.proofs.store.StoreKeep.ask.Goals as goal
 

@@ -1,9 +1,4 @@
-use Rattle.std.proofs.Common.{◌≡◌, ◌++◌, ◌∷◌, [], ◌∙◌, List, refl, sym, ap, subst, arith}
-use Rattle.assign.specs.declared.events.Event.{Event}
-use Rattle.assign.specs.declared.events.Event.TheVariants.{Back}
-use Rattle.session_store.specs.Held.{plan_in}
-use Rattle.session_store.specs.Left.{OpensWith}
-use Rattle.session_store.specs.Store.{plan_of, voc_of, events_of}
+use Rattle.session_store.proofs.Prelude.{◌≡◌, ◌++◌, ◌∷◌, [], ◌∙◌, List, refl, sym, ap, subst, arith, Event, Back, plan_in, OpensWith, plan_of, voc_of, events_of}
 use Rattle.session_store.proofs.Stores.{in_place, sits_as, event_left_out, event_written, want_of_memory, told_before, some_once, there_as}
 use Rattle.session_store.proofs.store.StoreKeep.take_back.Goals as goal
 

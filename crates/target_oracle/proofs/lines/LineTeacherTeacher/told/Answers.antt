@@ -1,10 +1,6 @@
-use Rattle.std.proofs.Common.{◌≡◌, ℕ, List, [], ◌∷◌, ◌++◌, ◌∙◌, ap, sym, subst, inr, Result, Err}
-use Rattle.std.proofs.lemmas.List.{append-nil}
-use Rattle.acq_io.specs.Streams.{Adds, AddsFront}
-use Rattle.acq_io.proofs.TakenLemmas.{adds_then}
+use Rattle.target_oracle.proofs.Prelude.{◌≡◌, ℕ, List, [], ◌∷◌, ◌++◌, ◌∙◌, ap, sym, subst, inr, Result, Err, append-nil, Adds, AddsFront, adds_then, hear, line_turn}
 use Rattle.acq_io.specs.declared.streams.Put.{Put}
 use Rattle.language.specs.Texts.{question_text}
-use Rattle.target_oracle.specs.Lines.{hear, line_turn}
 use Rattle.target_oracle.proofs.Fronts.{front_longer}
 use Rattle.target_oracle.proofs.Hearings.{tells_after, silent}
 use Rattle.target_oracle.proofs.lines.LineTeacherTeacher.told.Goals as goal

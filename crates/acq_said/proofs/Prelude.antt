@@ -1,0 +1,91 @@
+-- The names from outside that these proofs cite, passed on from one place. Declares nothing.
+pub use Rattle.std.proofs.Common.{Bool, Err, Global, List, None, Ok, Option, Result, Some, Vec, [], ap, append_assoc, arith, cond, drop, false, get_or, inl, inr, is_some, length, length-append, length-take-le, map, refl, rules, subst, suc, sym, take, tests, true, zero, ℕ, ⊎_elim, ◌++◌, ◌+◌, ◌-◌, ◌<◌, ◌∙◌, ◌∷◌, ◌≡◌, ◌≤◌, ◌⊎◌}
+pub use Rattle.std.proofs.lemmas.Bool.{cases_lt, eq-eqb, leb-false}
+pub use Rattle.std.proofs.lemmas.List.{append-nil, length-map, take_all}
+pub use Rattle.std.proofs.lemmas.List.Elements.{All-cons, All-get_or, All-nil, All-weaker, filter-append}
+pub use Rattle.std.specs.Fmt.{decimal}
+pub use Rattle.std.specs.List.{flat_map, list_any}
+pub use Rattle.std.specs.Option.{ForSome, option_map}
+pub use Rattle.std.specs.Prelude.{All, IfOk, IfSome, IsErr, IsSome, OnErr, codes, filter, if◌then◌else◌, nat_le, ◌≢◌}
+pub use Rattle.std.specs.String.{string_bytes}
+pub use Rattle.acq_io.specs.Whole.{Gathered, Gives, TakesOfLine, first_line_of, gathered}
+unfoldable pub use Rattle.acq_io.specs.Whole.{all_of}
+pub use Rattle.acq_io.specs.declared.streams.Put.{Put}
+pub use Rattle.acq_io.specs.declared.streams.Put.TheVariants.{Failed, Memory}
+pub use Rattle.acq_io.specs.declared.whole.AllFault.{AllFault}
+pub use Rattle.acq_loop.proofs.Nexts.{learned_is, some_of}
+pub use Rattle.acq_loop.proofs.Reached.{IsReached, some_there}
+pub use Rattle.acq_loop.proofs.Running.{IsWithin, room_not_full, run_exists}
+pub use Rattle.acq_loop.proofs.Standings.{carried, few_answers, reached, room_unless, run_laws, stands_at}
+pub use Rattle.acq_loop.specs.Added.{IsAdded, MayEnd}
+pub use Rattle.acq_loop.specs.Closings.{closing_of, ending_of}
+pub use Rattle.acq_loop.specs.Driven.{CutOff, Drives, HasEnded, IsDone, LeavesNothing, Loses, Point, RanTo, TellsOpen, next_lines}
+pub use Rattle.acq_loop.specs.Points.{point_of, terms_with}
+pub use Rattle.acq_loop.specs.Program.{ended_as}
+pub use Rattle.acq_loop.specs.Run.{Closing, Collapsed, Converged, Ends, JournalFull, LineTooLong, Next, Puts, Ran, Runs, Suspended, Undecided, Unreadable, is_full, next_after, next_on}
+pub use Rattle.acq_loop.specs.Texts.{closing_text, collapsed_text, converged_text, full_text, learned_after, learned_in, open_candidates, open_line, refusal_text, refused_text, suspended_text, too_long_text, undecided_text, whole_text}
+pub use Rattle.acq_loop.specs.declared.driving.Drove.{Drove}
+pub use Rattle.acq_loop.specs.declared.ending.Ending.{Ending}
+pub use Rattle.acq_loop.specs.declared.terms.Terms.{Terms}
+pub use Rattle.answer_journal.specs.Calls.{AreReadingCalls}
+pub use Rattle.assign.specs.Assignment.{Assignment}
+pub use Rattle.assign.specs.Events.{Answer}
+pub use Rattle.assign.specs.declared.events.Event.{Event}
+pub use Rattle.assign.specs.declared.events.Plan.{Plan}
+pub use Rattle.cert_check.specs.Certificate.{Certificate}
+pub use Rattle.cert_check.specs.Checking.{verdict}
+pub use Rattle.cert_check.specs.Making.{certificate_of, made}
+pub use Rattle.cert_check.specs.WritingLaws.{HaveValues, IsConfirmed}
+pub use Rattle.cert_check.specs.declared.fault.CertFault.{CertFault}
+pub use Rattle.disk_model.specs.Moments.{LeavesOnly, joined, weaker}
+pub use Rattle.disk_model.specs.declared.disk.Disk.{Ghosts as DiskOf}
+pub use Rattle.language.specs.Answers.{IsCovered, IsNetwork, standing_on}
+pub use Rattle.language.specs.Language.{IsLanguage, IsQuestion, Language, candidates, candidates_on, variable_count}
+pub use Rattle.language.specs.declared.candidates.Candidate.{Candidate}
+pub use Rattle.net_cnf.specs.Models.{model_of}
+pub use Rattle.net_cnf.specs.Texts.{cnf_of}
+pub use Rattle.net_cnf.specs.declared.fault.CnfFault.{CnfFault}
+pub use Rattle.net_reduce.specs.declared.fault.ReduceFault.{ReduceFault}
+pub use Rattle.network.specs.Learned.{Learned}
+pub use Rattle.network.specs.Texts.{network_text}
+pub use Rattle.query_gen.specs.Marks.{IsMadeFor, Remembered, is_open}
+pub use Rattle.session_core.specs.Standing.{IsAskedIn, Stands, knowledge_of, open_in}
+pub use Rattle.session_core.specs.declared.session.Session.{Session}
+pub use Rattle.session_laws.specs.Laws.{IsAskable, network_in}
+pub use Rattle.session_laws.specs.Session.{At, Choosing, Halving, Idle, Over, State, Walking, is_just, open_question, state_after, step, then_on}
+unfoldable pub use Rattle.session_laws.specs.Session.{read_on}
+pub use Rattle.session_store.proofs.Keepers.{both_as, few_of, keeps_as, rose_later, within_more}
+pub use Rattle.session_store.proofs.Recording.{record_at, recorded_seen}
+pub use Rattle.session_store.proofs.Replaying.{IsBusy, busy_from, seen_next}
+pub use Rattle.session_store.specs.Held.{IsWide}
+pub use Rattle.session_store.specs.Keeping.{AreEventCalls, FailsWith, IsGrown, Persists}
+pub use Rattle.session_store.specs.Left.{LeavesNow, OpensWith, OpensWithOrWithout, OpensWithin, SaysSession, bytes_told}
+pub use Rattle.session_store.specs.Opened.{Holds, Opened, OpensOnce, RefusesOpening as RefusesBytes, RefusesOpening, is_of_bytes, opened_as}
+pub use Rattle.session_store.specs.Replay.{HavePlaces, IsAnswer, Recorded, all_seen, answer_in, answer_to, recorded, recorded_from, seen, standing_numbers}
+pub use Rattle.session_store.specs.Store.{IsThere, events_of, lang_of, opens_there, plan_of, question_of, voc_of}
+pub use Rattle.session_store.specs.declared.fault.SFault.{SFault}
+pub use Rattle.session_store.specs.declared.store.Store.{Store}
+pub use Rattle.target_oracle.specs.Lines.{line_turn}
+pub use Rattle.target_oracle.specs.Turns.{Turns}
+pub use Rattle.target_oracle.specs.declared.teacher.Told.{Told}
+pub use Rattle.voc_read.specs.Vocabulary.{IsVocabulary}
+pub use Rattle.acq_said.specs.Asks.{AsksTruly, asked_said}
+pub use Rattle.acq_said.specs.Breaks.{BreaksRun, ClosesInPart}
+pub use Rattle.acq_said.specs.Certifying.{ChecksOut, IsAtEnd, MakesGood, TellsEnd, certificate_said, if_at_end, unconverged_said}
+pub use Rattle.acq_said.specs.Confirming.{IsCheck, IsCheckOf, IsReading, checked_said, verdict_said}
+pub use Rattle.acq_said.specs.Endings.{AddsLast, AddsLastFront, HasAsked, Says, SaysEnd, SaysEndBy, SaysPart, Tries}
+pub use Rattle.acq_said.specs.Exactly.{HoldsSession, IsBrokenOff, OpensExactly, RunEnds}
+pub use Rattle.acq_said.specs.Inputs.{SaysOfInput, SaysOfRead}
+pub use Rattle.acq_said.specs.Journals.{Refuses, RefusesBy, refused_said, untold}
+pub use Rattle.acq_said.specs.Making.{Makes, RefusesMaking, made_said, voc_refused}
+pub use Rattle.acq_said.specs.Over.{EndsAsOpened, OpensAs, SaidEnds, SaysOpening, SaysOver}
+pub use Rattle.acq_said.specs.Printing.{clauses_said, too_large_text}
+pub use Rattle.acq_said.specs.Reducing.{IsReduced, IsSpent, ReducesTruly, first_spent, network_after, network_of, network_said, sifted_said, spent_first, unreduced_said}
+pub use Rattle.acq_said.specs.Running.{GoesOn, RunsOn}
+pub use Rattle.acq_said.specs.Said.{EndsWith, HasWritten, IsSaid, SaidSo, SaysSo, or_silent, silent_end}
+pub use Rattle.acq_said.specs.Saying.{Saying, saying}
+pub use Rattle.acq_said.specs.Shows.{answer_line, answer_lines, back_line, is_back, known_part, plan_text, reading_text, said_part, show_text, state_text, take_backs}
+pub use Rattle.acq_said.specs.Solving.{SolveEnds, Solves, solution_said, solved_said}
+pub use Rattle.acq_said.specs.TakingBack.{EndsBack, LeavesBack, TakesBack, TakesNone, back_on, back_said, nothing_text, taken_text, takes_on}
+pub use Rattle.acq_said.specs.declared.ask.Ask.{Ask}
+pub use Rattle.acq_said.specs.declared.said.Unsaid.{Unsaid}
