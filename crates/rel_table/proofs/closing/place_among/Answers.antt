@@ -1,4 +1,4 @@
-use Rattle.rel_table.proofs.Prelude.{sym, ◌∙◌}
+use Rattle.rel_table.proofs.Prelude.{rules, sym, ◌∙◌}
 use Rattle.rel_table.proofs.Inserting.{one_above, below_here}
 use Rattle.rel_table.proofs.closing.place_among.Goals as goal
 
@@ -11,3 +11,6 @@ pub returns-then-is_above-clause-after : goal.returns-then-is_above-clause-after
 returns-then-is_above-clause-after c =
     below_here c.args.ordered.now c.args.table.now.truth c.index-ordered-at.result c.loop-at.at c.loop-at-test.true c.index-ordered-at.is
     (sym c.is_above.ensures ∙ c.if-is_above.true)
+
+pub returns-then-equals-clause-after : goal.returns-then-equals-clause-after
+returns-then-equals-clause-after c = search rules
