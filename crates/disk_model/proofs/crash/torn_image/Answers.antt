@@ -1,3 +1,4 @@
+use Rattle.std.proofs.Common.{rules}
 use Rattle.disk_model.proofs.Prelude.{List, ℕ, Vec, Global, ◌≡◌, ◌<◌, ◌+◌, ◌++◌, ◌∷◌, [], ◌∙◌, ap, length, take, subst, sym, arith, All-push, All, Contains, Torn, put, HaveCutsOf, contents}
 use Rattle.disk_model.proofs.Replays.{cut_later, cut_whole}
 use Rattle.disk_model.proofs.crash.torn_image.Goals as goal
@@ -22,3 +23,6 @@ returns-clause-cuts c =
     let whole = c.in_ok-part_copy-3.field-0 in
     subst (HaveCutsOf c.args.at c.args.bytes.now c.args.image.now) (sym {A = List (Vec ℕ Global)} c.in_ok-push-3.ensures.items)
     (cut_whole c.args.at c.args.image.now c.args.bytes.now c.loop-cut.torn.items whole c.in_ok-part_copy-3.ensures.is (λ k less. c.loop-cut.invariant.cuts k (omega (arith, c.loop-cut-test.false))))
+
+pub loop-cut-init : goal.loop-cut-init
+loop-cut-init c = search rules
