@@ -22,3 +22,12 @@ returns-in-Ok-Some-eq10-clause-takes g c = let got = c.in-Ok-Some-eq10 in
 pub returns-then-is_full-clause-takes : goal.returns-then-is_full-clause-takes
 returns-then-is_full-clause-takes g c = let got = c.in-Ok-Some in
     (c.loop-byte.line ++ option_to_list got.field-0, takes_on _ _ _ _ (option_to_list got.field-0) c.loop-byte.invariant.taken got.ensures.bytes)
+
+pub returns-in-Err-clause-line : goal.returns-in-Err-clause-line
+returns-in-Err-clause-line g c = search rules
+
+pub returns-in-Err-clause-takes : goal.returns-in-Err-clause-takes
+returns-in-Err-clause-takes g c = search rules
+
+pub returns-in-Err-clause-called : goal.returns-in-Err-clause-called
+returns-in-Err-clause-called g c = search rules

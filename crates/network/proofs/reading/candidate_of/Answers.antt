@@ -1,3 +1,4 @@
+use Rattle.std.proofs.Common.{rules}
 use Rattle.network.proofs.Prelude.{◌≡◌, List, ℕ, Bor, length, ap, arith, ◌==◌, length-map, texts_of}
 use Rattle.std.proofs.lemmas.List.Splits.{length-slice_split}
 use Rattle.network.proofs.reading.candidate_of.Goals as goal
@@ -9,3 +10,9 @@ relation_by-requires-clause-some c =
     let same = ap length c.in_ok-names.ensures in
     let here = ap length c.deref.ensures.value in
     omega (arith, count, long, same, here)
+
+pub returns-in-Some-clause-is : goal.returns-in-Some-clause-is
+returns-in-Some-clause-is c = search rules
+
+pub returns-in-Some-clause-fresh : goal.returns-in-Some-clause-fresh
+returns-in-Some-clause-fresh c = search rules

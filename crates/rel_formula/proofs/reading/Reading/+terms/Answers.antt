@@ -32,3 +32,6 @@ term_call-returns-in-Absolute t c =
     (term_call_is c.args.arity c.args.depth c.args.node c.args.self.now.next c.args.items.now Absolute
     (sym c.term_operator_in.ensures ∙ c.in_ok-operator.was ∙ ap (λ o. Ok o) c.in-Absolute.is) c.requires.begun)
     (omega (arith, c.requires.begun)) c.absolute.ensures
+
+pub term-returns-in-None : goal.term-returns-in-None
+term-returns-in-None t c = search rules
