@@ -1,3 +1,4 @@
+use Rattle.std.proofs.Common.{rules}
 use Rattle.answer_journal.proofs.Prelude.{◌≡◌, ◌+◌, ◌∷◌, ◌++◌, ◌∙◌, [], ℕ, Some, length, take, ap, subst, List, inl, inr, arith, length-append, Only, LeavesBehind, none_done, then_behind, MAGIC, session_tail, IsClosedAfter, HasNoSession, HasRecord, IsWithOrWithout, StartsWith, IsCreating, Sits}
 use Rattle.answer_journal.proofs.Gate.{told_before, told_same}
 use Rattle.answer_journal.proofs.Emptied.{head_free, starts, creating, sits}
@@ -106,3 +107,6 @@ returns-in_err-add_record-clause-spared g c old told = inl (head_free old c.in_o
 
 pub returns-clause-spared : goal.returns-clause-spared
 returns-clause-spared g c old told = inl (head_free old c.in_ok-head.head (c.in_ok-head.ensures.head old told) c.in-Short.is)
+
+pub empty-requires-clause-free : goal.empty-requires-clause-free
+empty-requires-clause-free g c = search rules

@@ -1,3 +1,4 @@
+use Rattle.std.proofs.Common.{rules}
 use Rattle.answer_journal.proofs.Prelude.{◌≡◌, ◌∷◌, ◌++◌, [], List, ℕ, Bool, length, take, sym, subst, ap, ◌∙◌, arith, length-append, Only, behind_as, record_tail, HasRecord, IsWithOrWithout, is_raised_by, MayFollow, End, Sits, HasRoom, counted_with, room_to_raise, HasAdded, IsOldOrAdded}
 use Rattle.answer_journal.proofs.Sizes.{counted_fits, room_left}
 use Rattle.answer_journal.proofs.Append.{closed_here, has_added, old_or_added, sits_on}
@@ -75,3 +76,6 @@ returns-in-Ok-clause-there g c = record {
       let s = c.in-Ok.ensures.leaves.now was.0 was.1 in
       subst (λ (f : List ℕ). Only f (g.D.Disk.may_leave c.add_record.new.disk)) (told_same _ s.now x s.tells told_new) s.durable;
 }
+
+pub returns-in-Err-clause-stays : goal.returns-in-Err-clause-stays
+returns-in-Err-clause-stays g c = search rules
