@@ -1,8 +1,10 @@
 -- Tables of two variables in falling order within the ranges.
-use Rattle.language.proofs.Prelude.{◌≡◌, ◌≢◌, ℕ, zero, suc, ◌+◌, ◌*◌, ◌%◌, ◌^◌, ◌<◌, ◌≤◌, Bool, true, false, ◌&&◌, ◌||◌, not, List, [], ◌∷◌, ◌++◌, length, map, take, drop, get_or, Option, Some, None, refl, sym, ◌∙◌, ap, subst, arith, ◌⊎◌, inl, inr, All, Contains, ◌==◌, cases_eq, cases_lt, both_ways, and_from, le-leb, lt-leb, nat_le, is_some, bit_at, bit_xor, bit_at-lt, bit_at_xor, same_lists, get_or_default, get_or-map, length-map, map-append, take_more, drop-cons, All-append, All-cons, All-more, All-nil, All-contains, Relation, place, tuple_at, meet, IsIntersection, is_above, TruthTable, place-below, place-tuple_at, tuple_at-below, tuple_at-place, contains_map, image_of, ValueRange, Given, range_in, is_in, are_in, widened, truths, chosen_on, relations_of_arity, IsClosedOf, AreChosen}
+use Rattle.language.proofs.Prelude.{bit_at-zero, ◌-◌, eqb-true, is_part, w64, ◌≡◌, ◌≢◌, ℕ, zero, suc, ◌+◌, ◌*◌, ◌%◌, ◌^◌, ◌<◌, ◌≤◌, Bool, true, false, ◌&&◌, ◌||◌, not, List, [], ◌∷◌, ◌++◌, length, map, take, drop, get_or, Option, Some, None, refl, sym, ◌∙◌, ap, subst, arith, ◌⊎◌, inl, inr, All, Contains, ◌==◌, cases_eq, cases_lt, both_ways, and_from, le-leb, lt-leb, nat_le, is_some, bit_at, bit_xor, bit_at-lt, bit_at_xor, same_lists, get_or_default, get_or-map, length-map, map-append, take_more, drop-cons, All-append, All-cons, All-more, All-nil, All-contains, Relation, place, tuple_at, meet, IsIntersection, is_above, TruthTable, place-below, place-tuple_at, tuple_at-below, tuple_at-place, contains_map, image_of, ValueRange, Given, range_in, is_in, are_in, widened, truths, chosen_on, relations_of_arity, IsClosedOf, AreChosen}
 use Rattle.std.proofs.Common.{bit_and, min}
 use Rattle.std.proofs.Math.Nat.{mul-le-mul_right}
-use Rattle.std.proofs.lemmas.Nat.Bits.{bit_at_and}
+use Rattle.std.proofs.lemmas.Nat.{and_le_r}
+use Rattle.std.proofs.lemmas.Nat.Bits.{bit_at-trailing_zeros, bit_at_and, bit_at_not}
+use Rattle.std.specs.Int.{bit_not, trailing_zeros}
 use Rattle.std.specs.List.{take-map, drop-map}
 use Rattle.std.specs.Prelude.{insert}
 use Rattle.rel_table.specs.InOrder.{Above, IsBelow, IsInOrder}
@@ -10,7 +12,7 @@ use Rattle.std.proofs.lemmas.List.Elements.{All-take, All-drop}
 use Rattle.rel_table.proofs.AboveLemmas.{is_above-at}
 use Rattle.rel_table.proofs.Inserting.{stays, goes_in}
 use Rattle.language.specs.PairOrder.{IsRangeMask, IsFirstBit, TellsFirstBit, TellsOrder}
-use Rattle.language.proofs.Within.{widened-at, length-widened}
+use Rattle.language.proofs.Within.{widened-at, length-widened, part_from, not_part, kept_at}
 use Rattle.language.proofs.Widening.{over-meet, widened-over, image_is, intersection_of}
 
 -- ---- bits
@@ -270,6 +272,90 @@ past_range range x past = ap (λ b. nat_le range.first x && b) (lt-leb x range.l
 
 pub within_range : (range : ValueRange) (x : ℕ) → range.first ≤ x → x < range.last + 1 → is_in range x ≡ true
 within_range range x low high = and_from _ _ (le-leb range.first x low) (le-leb x range.last (omega arith))
+
+-- ---- which of two relations lies within the other, row by row
+
+bits_clash : (x z m : ℕ) → z < 2 → min (min x (1 - z)) m ≡ 0 → (m == 1) ≡ true → (x == 1) ≡ true → (z == 1) ≡ false → ⊥
+bits_clash x zero m low none inside here there =
+    let e : x ≡ 1 = eqb-true x 1 here in
+    let f : m ≡ 1 = eqb-true m 1 inside in
+    let g : 1 ≡ 0 = (λ i. min (min (sym e i) 1) (sym f i)) ∙ none in
+    omega (arith, g)
+bits_clash x (suc zero) m low none inside here there = let e : true ≡ false = there in let no : ⊥ = cc in no
+bits_clash x (suc (suc z)) m low none inside here there = omega arith
+
+bits_some : (x z m : ℕ) → x < 2 → z < 2 → m < 2 → min (min x (1 - z)) m ≡ 1 → ((m == 1) ≡ true) × ((x == 1) ≡ true) × ((z == 1) ≡ false)
+bits_some zero z m h k l one = absurd (let e : min (min 0 (1 - z)) m ≡ 1 = one in omega (arith, e))
+bits_some (suc zero) (suc zero) m h k l one = absurd (let e : min (min 1 0) m ≡ 1 = one in omega (arith, e))
+bits_some (suc zero) zero zero h k l one = absurd (let e : min (min 1 1) 0 ≡ 1 = one in omega (arith, e))
+bits_some (suc zero) zero (suc zero) h k l one = (refl, refl, refl)
+bits_some (suc zero) zero (suc (suc m)) h k l one = absurd (omega arith)
+bits_some (suc zero) (suc (suc z)) m h k l one = absurd (omega arith)
+bits_some (suc (suc x)) z m h k l one = absurd (omega arith)
+
+-- the bits of the first mask that the second lacks, among some
+abbrev pub lacking : ℕ → ℕ → ℕ → ℕ
+lacking row other among = bit_and (bit_and row (bit_not w64 other)) among
+
+lacking_bit : (row other among y : ℕ) → other < 2 ^ 64 → y < 64 → bit_at (lacking row other among) y ≡ min (min (bit_at row y) (1 - bit_at other y)) (bit_at among y)
+lacking_bit row other among y fits low =
+    bit_at_and (bit_and row (bit_not w64 other)) among y ∙ ap (λ n. min n (bit_at among y)) (bit_at_and row (bit_not w64 other) y ∙ ap (min (bit_at row y)) (bit_at_not w64 other y fits low))
+
+-- the first rows of the one lie within the other
+abbrev pub IsPartBelow : ℕ → Relation → Relation → ℕ → Type 0
+IsPartBelow d r q x = (a b : ℕ) → a < x → a < d → b < d → (not (get_or r (a * d + b) false) || get_or q (a * d + b) false) ≡ true
+
+module _ (ranges : List ValueRange) (d : ℕ) (scope : List ℕ) (two : length scope ≡ 2) (r q : Relation) (long : length r ≡ d ^ 2) (other_long : length q ≡ d ^ 2) where
+  outside : (b c : Bool) → (b ≡ true → c ≡ true → ⊥) → (b && c) ≡ false
+  outside true true never = absurd (never refl refl)
+  outside true false never = refl
+  outside false c never = refl
+
+  part_at : (x y : ℕ) → x < d → y < d → (is_value ranges scope 0 x ≡ true → is_value ranges scope 1 y ≡ true → get_or r (x * d + y) false ≡ true → get_or q (x * d + y) false ≡ false → ⊥) →
+      (not (get_or (widened ranges d scope r) (x * d + y) false) || get_or (widened ranges d scope q) (x * d + y) false) ≡ true
+  part_at x y h k never =
+      (λ i. not (wide_at ranges d scope two r x y long h k i) || wide_at ranges d scope two q x y other_long h k i)
+      ∙ kept_at (is_value ranges scope 0 x && is_value ranges scope 1 y) (get_or r (x * d + y) false) (get_or q (x * d + y) false) (λ on off. outside _ _ (λ first second. never first second on off))
+
+  pub part_more : (x : ℕ) → ((y : ℕ) → y < d → is_value ranges scope 0 x ≡ true → is_value ranges scope 1 y ≡ true → get_or r (x * d + y) false ≡ true → get_or q (x * d + y) false ≡ false → ⊥) →
+      IsPartBelow d (widened ranges d scope r) (widened ranges d scope q) x → IsPartBelow d (widened ranges d scope r) (widened ranges d scope q) (x + 1)
+  part_more x row before a b less h k = go (cases_eq a x)
+    where
+      go : (a ≡ x) ⊎ (a ≢ x) → (not (get_or (widened ranges d scope r) (a * d + b) false) || get_or (widened ranges d scope q) (a * d + b) false) ≡ true
+      go (inl same) =
+          subst (λ (c : ℕ). (not (get_or (widened ranges d scope r) (c * d + b) false) || get_or (widened ranges d scope q) (c * d + b) false) ≡ true) (sym same)
+          (part_at x b (omega (arith, same)) k (row b k))
+      go (inr other) = before a b (omega arith) h k
+
+  pub part_all : IsPartBelow d (widened ranges d scope r) (widened ranges d scope q) d → is_part (widened ranges d scope r) (widened ranges d scope q) ≡ true
+  part_all all = part_from _ _ (wide_long ranges d scope two r long ∙ sym (wide_long ranges d scope two q other_long)) (λ p low.
+      let at = pair_at d p (omega (arith, low, wide_long ranges d scope two r long)) in
+      subst (λ n. (not (get_or (widened ranges d scope r) n false) || get_or (widened ranges d scope q) n false) ≡ true) (sym at.is) (all at.x at.y at.first at.first at.second))
+
+  pub part_fails : (x y : ℕ) → x < d → y < d → is_value ranges scope 0 x ≡ true → is_value ranges scope 1 y ≡ true → get_or r (x * d + y) false ≡ true → get_or q (x * d + y) false ≡ false →
+      is_part (widened ranges d scope r) (widened ranges d scope q) ≡ false
+  part_fails x y h k first second on off =
+      let below = pair_below d x y h k in
+      not_part _ _ (x * d + y) (wide_long ranges d scope two r long ∙ sym (wide_long ranges d scope two q other_long)) (omega (arith, below, wide_long ranges d scope two r long))
+      (wide_at ranges d scope two r x y long h k ∙ (λ i. not (first i && second i) || on i)) (wide_at ranges d scope two q x y other_long h k ∙ (λ i. not (first i && second i) || off i))
+
+-- a row of each
+module _ (ranges : List ValueRange) (d : ℕ) (scope : List ℕ) (among : ℕ) (few : d ≤ 64) (mask : IsRangeMask d (range_in ranges (get_or scope 1 0)) among) (r q : Relation) (x row other : ℕ)
+    (fits : other < 2 ^ 64) (among_fits : among < 2 ^ 64)
+    (row_is : (y : ℕ) → y < d → (bit_at row y == 1) ≡ get_or r (x * d + y) false) (other_is : (y : ℕ) → y < d → (bit_at other y == 1) ≡ get_or q (x * d + y) false) where
+  pub row_within : lacking row other among ≡ 0 → (y : ℕ) → y < d → is_value ranges scope 1 y ≡ true → get_or r (x * d + y) false ≡ true → get_or q (x * d + y) false ≡ false → ⊥
+  row_within none y low second on off =
+      bits_clash (bit_at row y) (bit_at other y) (bit_at among y) (bit_at-lt other y)
+      (sym (lacking_bit row other among y fits (omega arith)) ∙ ap (λ n. bit_at n y) none ∙ bit_at-zero y) (mask.low y low ∙ second) (row_is y low ∙ on) (other_is y low ∙ off)
+
+  pub row_fails : lacking row other among ≢ 0 → (two : length scope ≡ 2) → length r ≡ d ^ 2 → length q ≡ d ^ 2 → x < d → is_value ranges scope 0 x ≡ true → is_part (widened ranges d scope r) (widened ranges d scope q) ≡ false
+  row_fails some two long other_long h first =
+      let less = and_le_r (bit_and row (bit_not w64 other)) among in
+      let found = bit_at-trailing_zeros w64 (lacking row other among) (omega arith) (omega arith) in
+      let y = trailing_zeros w64 (lacking row other among) in
+      let bits = bits_some (bit_at row y) (bit_at other y) (bit_at among y) (bit_at-lt row y) (bit_at-lt other y) (bit_at-lt among y) (sym (lacking_bit row other among y fits found.0) ∙ found.1) in
+      let low = inside_low ranges d scope among mask y bits.0 in
+      part_fails ranges d scope two r q long other_long x y h low first (sym (mask.low y low) ∙ bits.0) (sym (row_is y low) ∙ bits.1) (sym (other_is y low) ∙ bits.2)
 
 -- ---- one table more
 

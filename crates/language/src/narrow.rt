@@ -91,6 +91,39 @@ pub(crate) fn are_all(ranges: &[ValueRange], d: u8) -> bool
     true
 }
 
+/// The values of a range: bit y is 1 where y is one of them.
+fn range_mask(range: ValueRange, d: u8) -> u64
+    requires { d ≤ 64 }
+    ensures { IsRangeMask d range result }
+{
+    let mut mask = 0;
+    for y in 0..d {
+        mask |= u64::from(is_in(range, y)) << y;
+    }
+    mask
+}
+
+/// Whether each pair of the first relation within the ranges is one of the second, row by row.
+fn is_pair_part(ranges: &[ValueRange], scope: &[u8], table: &Table, other: &Table) -> bool
+    requires scope { IsScope (length ranges.now) scope.now }
+    requires two { length scope.now ≡ 2 }
+    requires size { length table.now.truth ≡ table.now.value_count ^ 2 }
+    requires other { length other.now.truth ≡ table.now.value_count ^ 2 }
+    requires values { other.now.value_count ≡ table.now.value_count }
+    ensures { let d = table.now.value_count in result ≡ is_part (widened ranges.now d scope.now table.now.truth) (widened ranges.now d scope.now other.now.truth) }
+{
+    let d = table.value_count();
+    let range = ranges[scope[0] as usize];
+    let among = range_mask(ranges[scope[1] as usize], d);
+    for x in 0..d {
+        let place = u32::from(x) * u32::from(d);
+        if is_in(range, x) && table.row(place) & !other.row(place) & among != 0 {
+            return false;
+        }
+    }
+    true
+}
+
 /// Whether each tuple of the first relation is one of the second on a scope, where both hold outside the ranges.
 pub(crate) fn is_part_on(ranges: &[ValueRange], scope: &[u8], table: &Table, other: &Table) -> bool
     requires scope { IsScope (length ranges.now) scope.now }
@@ -101,6 +134,9 @@ pub(crate) fn is_part_on(ranges: &[ValueRange], scope: &[u8], table: &Table, oth
     let value_count = table.value_count();
     if are_whole(ranges, value_count, scope) {
         return table.within(other);
+    }
+    if scope.len() == 2 && other.value_count() == value_count {
+        return is_pair_part(ranges, scope, table, other);
     }
     for place in 0..table.size() {
         if table.at(place) && !other.at(place) && lies_within(ranges, value_count, scope, place) {
@@ -239,18 +275,6 @@ fn all_numbers(alloc: Global, count: u8) -> Result<Vec<u8>, AllocError>
         numbers.push(k)?;
     }
     Ok(numbers)
-}
-
-/// The values of a range: bit y is 1 where y is one of them.
-fn range_mask(range: ValueRange, d: u8) -> u64
-    requires { d ≤ 64 }
-    ensures { IsRangeMask d range result }
-{
-    let mut mask = 0;
-    for y in 0..d {
-        mask |= u64::from(is_in(range, y)) << y;
-    }
-    mask
 }
 
 /// Whether the first of two masks has the least bit among these that is in one of them alone. Nothing where there is none.
