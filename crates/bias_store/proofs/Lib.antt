@@ -6,6 +6,7 @@ pub mod Struck
 pub mod Filled
 pub mod Contained
 pub mod Bits
+pub mod PairPlaces
 pub mod Likeness
 pub mod Tabled
 pub mod Runs

@@ -22,7 +22,7 @@ pub use Rattle.language.specs.Language.{IsCandidate, IsLanguage, IsQuestion, IsS
 pub use Rattle.language.specs.Pairs.{IsPairTableOn}
 pub use Rattle.language.specs.declared.candidates.Candidate.{Candidate}
 pub use Rattle.rel_table.specs.Relation.{Relation, holds, place}
-pub use Rattle.bias_store.specs.Accepting.{Accepting, AreRowsFrom, AreRunsFrom, HaveSameTables, IsAcceptingOf, IsLikePair, IsRow, IsTableOf, IsTabled, IsWholePair, accepting_on, first_of, mask_in, places_on, second_of}
+pub use Rattle.bias_store.specs.Accepting.{Accepting, Accepts, AreAdded, AreRowsFrom, AreRunsFrom, IsAcceptingOf, IsRow, IsTableOf, accepting_on, first_of, mask_in, places_on, second_of}
 pub use Rattle.bias_store.specs.Inside.{candidates_at, members_from}
 pub use Rattle.bias_store.specs.KeptSet.{CoversOnly, IsMadeFor, KeptSet, is_struck_within, kept_relations}
 unfoldable pub use Rattle.bias_store.specs.Masks.{ones_of}

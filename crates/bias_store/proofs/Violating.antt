@@ -5,6 +5,7 @@ use Rattle.bias_store.proofs.Placed.{pair_place, pair_below}
 use Rattle.bias_store.proofs.Runs.{open_violates}
 use Rattle.bias_store.proofs.Rows.{row_here}
 use Rattle.bias_store.proofs.Members.{read_at}
+use Rattle.bias_store.proofs.Likeness.{table_asked}
 
 -- a part of a list
 pub get_or-slice_range : (xs : List ℕ) (from to i d : ℕ) → i < to - from → get_or (slice_range xs from to) i d ≡ get_or xs (from + i) d
@@ -58,7 +59,7 @@ module _ (l : Language) (q : Assignment) (a : Accepting) (masks : List ℕ) (s e
       get_or-slice_range a.masks begin (begin + l.value_count) y 0 (omega arith) ∙ ap (λ i. get_or a.masks i 0) (let e : begin + y ≡ get_or a.first (s + j) 0 + (value * l.value_count + y) = omega (arith, same, at) in e) in
       (λ i. filter (λ r. not (has (ones_of (read i)) r)) (ones_of (get_or-slice_range masks s end j 0 (omega arith) i)))
       ∙ without_those l (s + j) q (value * l.value_count + y) (get_or masks (s + j) 0) (mask_in a.masks (get_or a.first (s + j) 0) (value * l.value_count + y))
-      (pair_place l (s + j) q (first_of l s) (second_of l s + j) value y two is.first second) (table.each q (value * l.value_count + y) is.question place
+      (pair_place l (s + j) q (first_of l s) (second_of l s + j) value y two is.first second) (table_asked l is.lawful (s + j) (get_or a.first (s + j) 0) a.masks (let inside = is.inside in omega arith) table q (value * l.value_count + y) is.question place
       (pair_place l (s + j) q (first_of l s) (second_of l s + j) value y two is.first second))
 
   -- and on one whose second one has none

@@ -1,10 +1,10 @@
 -- Which relations on a scope accept a tuple.
-use Rattle.std.specs.Prelude.{ℕ, ◌≡◌, ◌≢◌, ◌+◌, ◌<◌, ◌≤◌, ◌^◌, true, false, Some, List, [], ◌∷◌, length, slice_index_or}
+use Rattle.std.specs.Prelude.{ℕ, ◌≡◌, ◌≢◌, ◌+◌, ◌<◌, ◌≤◌, ◌^◌, true, false, List, [], ◌∷◌, length, slice_index_or}
 use Rattle.std.specs.List.{filter}
 use Rattle.assign.specs.Sets.{numbers}
-use Rattle.assign.specs.Assignment.{Assignment}
-use Rattle.language.specs.Language.{Language, IsQuestion, scope_at, relations_on, place_on, is_whole}
-use Rattle.language.specs.Pairs.{IsPairTableOn}
+use Rattle.rel_table.specs.Relation.{tuple_at}
+use Rattle.language.specs.Language.{Language, scope_at, relations_on}
+use Rattle.language.specs.Ranges.{are_in}
 use Rattle.bias_store.specs.Masks.{ones_of}
 use Rattle.bias_store.specs.declared.tables.TheConstants.{NO_TABLE}
 
@@ -15,6 +15,10 @@ accepting_on l s place = filter (λ r. slice_index_or (slice_index_or (relations
 -- how many places a scope's table has
 abbrev pub places_on : Language → ℕ → ℕ
 places_on l s = l.value_count ^ length (scope_at l s)
+
+-- the mask is that of the relations that accept the tuple at a place
+abbrev pub Accepts : Language → ℕ → ℕ → ℕ → Type 0
+Accepts l s place mask = ones_of mask ≡ accepting_on l s place
 
 -- for each scope where its table begins, or that it has none, and the tables: a mask for each place; for each scope a later one, or their number; and
 -- for each scope where its row ends
@@ -54,31 +58,10 @@ pub record AreRowsFrom (l : Language) (tables rows : List ℕ) (low : ℕ) : Typ
   pub within : (s : ℕ) → low ≤ s → s < length l.scopes → slice_index_or rows s 0 ≤ length l.scopes
   pub row : (s : ℕ) → low ≤ s → s < length l.scopes → IsRow l tables s (slice_index_or rows s 0)
 
--- the scope's table begins here: for the place of each question's tuple, and for each place where the variables have all values, the relations that
--- accept the tuple there
+-- the scope's table begins here: for each place within the ranges the relations that accept the tuple there
 pub record IsTableOf (l : Language) (s : ℕ) (masks : List ℕ) (begin : ℕ) : Type 0 where
   pub inside : begin + places_on l s ≤ length masks
-  pub each : (q : Assignment) (place : ℕ) → IsQuestion l q → place < places_on l s → Some place ≡ place_on l s q → ones_of (mask_in masks begin place) ≡ accepting_on l s place
-  pub whole : is_whole l s ≡ true → (place : ℕ) → place < places_on l s → ones_of (mask_in masks begin place) ≡ accepting_on l s place
-
--- a scope of two variables that have all values
-pub record IsWholePair (l : Language) (t : ℕ) : Type 0 where
-  pub low : t < length l.scopes
-  pub two : length (scope_at l t) ≡ 2
-  pub whole : is_whole l t ≡ true
-
--- as many relations on one scope as on another one, and one after the other the same tables
-pub record HaveSameTables (l : Language) (s t : ℕ) : Type 0 where
-  pub count : length (relations_on l s) ≡ length (relations_on l t)
-  pub tables : (r : ℕ) → r < length (relations_on l s) → (n : ℕ) × IsPairTableOn l s r n × IsPairTableOn l t r n
-
--- the scope's table begins where that of scopes of two variables does, with whose relations its own have the same tables
-pub record IsLikePair (l : Language) (s pair_begin begin : ℕ) : Type 0 where
-  pub pair : ℕ
-  pub is : IsWholePair l pair
-  pub two : length (scope_at l s) ≡ 2
-  pub same : HaveSameTables l s pair
-  pub begins : begin ≡ pair_begin
+  pub within : (place : ℕ) → place < places_on l s → are_in l.ranges (scope_at l s) (tuple_at l.value_count (length (scope_at l s)) place) ≡ true → Accepts l s place (mask_in masks begin place)
 
 -- each scope of the language has such a table, or none
 pub record IsAcceptingOf (l : Language) (a : Accepting) : Type 0 where
@@ -88,8 +71,8 @@ pub record IsAcceptingOf (l : Language) (a : Accepting) : Type 0 where
   pub runs : AreRunsFrom l a.next 0
   pub rows : AreRowsFrom l a.first a.rows 0
 
--- the masks of the first places of a scope's table, behind other ones
-pub record IsTabled (l : Language) (s : ℕ) (before masks : List ℕ) (place : ℕ) : Type 0 where
-  pub long : length masks ≡ length before + place
+-- there are as many masks more, behind other ones, and each is right of its place
+pub record AreAdded (IsRight : ℕ → ℕ → Type 0) (before masks : List ℕ) (count : ℕ) : Type 0 where
+  pub long : length masks ≡ length before + count
   pub same : (i : ℕ) → i < length before → slice_index_or masks i 0 ≡ slice_index_or before i 0
-  pub here : (p : ℕ) → p < place → ones_of (mask_in masks (length before) p) ≡ accepting_on l s p
+  pub here : (p : ℕ) → p < count → IsRight p (mask_in masks (length before) p)

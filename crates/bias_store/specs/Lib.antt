@@ -1,5 +1,6 @@
 pub mod Masks
 pub mod Accepting
+pub mod Made
 pub mod Shown
 pub mod Violated
 pub mod KeptSet

@@ -1,11 +1,15 @@
 //! Which relations on a scope accept which tuples.
 
-ghost use Rattle.std.specs.Prelude.{◌≡◌, ◌≢◌, ◌+◌, ◌<◌, ◌≤◌, true, Some, length, slice_index_or, IfOk, IfSome, IfNone};
+ghost use Rattle.std.specs.Prelude.{ℕ, ◌≡◌, ◌≢◌, ◌+◌, ◌*◌, ◌^◌, ◌<◌, ◌≤◌, true, List, Some, All, length, slice_index_or, IfOk, OnOk, IfSome, IfNone};
 ghost use Rattle.std.specs.Option.{ForSome};
 ghost use Rattle.assign.specs.Assignment.{Assignment, value_of};
-ghost use Rattle.language.specs.Language.{scope_at, place_on, IsQuestion};
+ghost use Rattle.rel_table.specs.Relation.{tuple_at};
+ghost use Rattle.language.specs.Language.{variable_count, range_of, scope_at, place_on, IsLanguage, IsQuestion};
+ghost use Rattle.language.specs.Ranges.{is_in, are_in};
+ghost use Rattle.language.specs.Pairs.{IsPairTable};
 ghost use Rattle.bias_store.specs.Masks.{ones_of};
-ghost use Rattle.bias_store.specs.Accepting.{accepting_on, places_on, AreRunsFrom, IsRow, AreRowsFrom, IsAcceptingOf, IsTabled, IsWholePair, HaveSameTables, IsLikePair, first_of};
+ghost use Rattle.bias_store.specs.Accepting.{accepting_on, places_on, first_of, Accepts, AreRunsFrom, IsRow, AreRowsFrom, IsTableOf, IsAcceptingOf, AreAdded};
+ghost use Rattle.bias_store.specs.Made.{HasTables, AcceptBy, AreClasses, IsMade, AreWider};
 ghost use Rattle.bias_store.specs.Shown.{IsShown};
 ghost use Rattle.bias_store.specs.Violated.{violated_on, AreNoneViolated, IsViolated, AreHitsListed};
 
@@ -27,11 +31,14 @@ pub(crate) struct Violated {
 /// In place of where a scope's table begins: it has none.
 const NO_TABLE: u32 = u32::MAX;
 
+/// How many classes of scopes of two variables have a table at most, beside that of scopes whose variables have all values.
+const MOST_CLASSES: usize = 16;
+
 /// For each scope and each place of its tuples the relations that accept the tuple there, and an index by variables.
 ///
 /// The scopes whose variables have all values share a table with those that have as many variables: 8 bytes for each tuple, at
-/// most 512 KB. A scope of two variables whose ranges leave its relations the same tables shares theirs, and goes by it within the
-/// ranges. The other ones have no table: there the language is asked. Each scope takes 8 bytes beside it.
+/// most 512 KB. Scopes of two variables share one wherever their relations have the same tables, and go by it within the ranges: 17
+/// such tables at most. The other scopes have none: there the language is asked. Each scope takes 8 bytes beside it.
 #[derive(Drop)]
 pub(crate) struct Tables {
     /// For each scope where its table begins, or `NO_TABLE`.
@@ -63,17 +70,15 @@ fn accepting_at(lang: &Language, s: ScopeId, place: u32) -> u64
 }
 
 /// The table of a scope, behind other ones.
-fn with_table(mut masks: Vec<u64>, lang: &Language, s: ScopeId) -> Result<Vec<u64>, Memory>
+fn add_masks(masks: &mut Vec<u64>, lang: &Language, s: ScopeId) -> Result<(), AllocError>
     requires scope { s < length lang.now.scopes }
-    ensures { IfOk result (λ v. IsTabled lang.now s masks.items v.items (places_on lang.now s)) }
+    ensures { OnOk result (AreAdded (Accepts lang.now s) masks.old.items masks.new.items (places_on lang.now s)) }
 {
     let size = lang.scope(s).len() as u32;
     for place in 0..u32::from(lang.d()).pow(size) {
-        if masks.push(accepting_at(lang, s, place)).is_err() {
-            return Err(Memory);
-        }
+        masks.push(accepting_at(lang, s, place))?;
     }
-    Ok(masks)
+    Ok(())
 }
 
 /// For each scope the next one with another first variable, and past the last such one how many scopes there are.
@@ -136,6 +141,31 @@ fn rows_of(alloc: Global, lang: &Language, first: &[u32]) -> Result<Vec<ScopeId>
     Ok(rows)
 }
 
+/// Whether a variable may have a value.
+fn is_value(lang: &Language, v: u8, value: u32) -> bool
+    requires { v < variable_count lang.now }
+    ensures { result ≡ is_in (range_of lang.now v) value }
+{
+    let (first, last) = lang.range(v);
+    u32::from(first) <= value && value <= u32::from(last)
+}
+
+/// Whether the tuple at a place is within the ranges. Looked at where a scope has two variables, or these have all values.
+fn is_inside(lang: &Language, s: ScopeId, place: u32) -> bool
+    requires scope { s < length lang.now.scopes }
+    requires place { place < places_on lang.now s }
+    ensures { result ≡ true → are_in lang.now.ranges (scope_at lang.now s) (tuple_at lang.now.value_count (length (scope_at lang.now s)) place) ≡ true }
+{
+    let d = u32::from(lang.d());
+    if lang.is_whole(s) {
+        return true;
+    }
+    let [v, w] = *lang.scope(s) else {
+        return false;
+    };
+    is_value(lang, v, place / d) && is_value(lang, w, place % d)
+}
+
 /// Of these relations on a scope, those that a question violates whose tuple there has this place: none where it has none, since
 /// it leaves a variable open.
 #[inline]
@@ -149,11 +179,11 @@ fn violated_at(
     requires tables { IsAcceptingOf lang.now tables.now }
     requires scope { s < length lang.now.scopes }
     requires place { ForSome place (λ at. at < places_on lang.now s) }
-    ensures { (q : Assignment) → place ≡ place_on lang.now s q → ones_of result ≡ violated_on lang.now q s relations }
+    ensures { (q : Assignment) → IsQuestion lang.now q → place ≡ place_on lang.now s q → ones_of result ≡ violated_on lang.now q s relations }
 {
     match place {
         None => 0,
-        Some(place) => relations & !tables.accepting(lang, s, place),
+        Some(place) => relations & !tables.accepting_asked(lang, s, place),
     }
 }
 
@@ -176,48 +206,169 @@ pub(crate) fn violated_on(
     violated_at(tables, lang, s, lang.place_on(s, q), relations)
 }
 
-/// The first scope of two variables that have all values, if there is one.
-fn first_pair(lang: &Language) -> Option<ScopeId>
-    ensures { IfSome result (IsWholePair lang.now) }
-{
-    for s in 0..lang.scopes() as ScopeId {
-        if lang.scope(s).len() == 2 && lang.is_whole(s) {
-            return Some(s);
-        }
-    }
-    None
+/// Scopes of two variables whose relations have the same tables, one after another: they share a table of masks.
+#[derive(Drop)]
+struct Class {
+    /// For each relation the number of its table.
+    tables: Vec<u8>,
+    /// Where the masks begin.
+    begin: u32,
 }
 
-/// Whether the relations on two scopes of two variables have the same tables.
-fn have_same_tables(lang: &Language, s: ScopeId, t: ScopeId) -> bool
+/// Of relations with these tables of two variables those that accept the pair at a place: bit r is one where the table at r has it.
+fn pair_mask(lang: &Language, tables: &[u8], place: u32) -> u64
+    requires known { All (IsPairTable lang.now) tables.now }
+    requires few { length tables.now ≤ 64 }
+    requires place { place < lang.now.value_count ^ 2 }
+    ensures { AcceptBy lang.now tables.now place result }
+{
+    let d = u32::from(lang.d());
+    let (x, y) = (place / d, place % d);
+    let mut relations = 0;
+    for r in 0..tables.len() {
+        let row = lang.pair_rows(tables[r])[x as usize];
+        relations |= ((row >> y) & 1) << r;
+    }
+    relations
+}
+
+/// The masks of relations with these tables of two variables, behind other ones.
+fn add_pair_masks(masks: &mut Vec<u64>, lang: &Language, tables: &[u8]) -> Result<(), AllocError>
+    requires known { All (IsPairTable lang.now) tables.now }
+    requires few { length tables.now ≤ 64 }
+    ensures { OnOk result (AreAdded (AcceptBy lang.now tables.now) masks.old.items masks.new.items (lang.now.value_count ^ 2)) }
+{
+    for place in 0..u32::from(lang.d()).pow(2) {
+        masks.push(pair_mask(lang, tables, place))?;
+    }
+    Ok(())
+}
+
+/// Whether the relations on a scope of two variables have these tables.
+fn has_tables(lang: &Language, s: ScopeId, tables: &[u8]) -> bool
     requires scope { s < length lang.now.scopes }
-    requires other { t < length lang.now.scopes }
     requires two { length (scope_at lang.now s) ≡ 2 }
-    requires other_two { length (scope_at lang.now t) ≡ 2 }
-    ensures { result ≡ true → HaveSameTables lang.now s t }
+    ensures { result ≡ true → HasTables lang.now s tables.now }
 {
     let count = lang.relations_on(s);
-    if count != lang.relations_on(t) {
+    if usize::from(count) != tables.len() {
         return false;
     }
     for r in 0..count {
-        if lang.pair_table(s, r) != lang.pair_table(t, r) {
+        if lang.pair_table(s, r) != tables[usize::from(r)] {
             return false;
         }
     }
     true
 }
 
-/// Where the table begins of a scope whose variables haven't all values: where that of scopes of two variables does, if the
-/// relations have the same tables as on such a scope.
-fn narrow_begin(lang: &Language, s: ScopeId, pair: Option<ScopeId>, begin: u32) -> u32
+/// The tables of the relations on a scope of two variables.
+fn tables_on(alloc: Global, lang: &Language, s: ScopeId) -> Result<Vec<u8>, AllocError>
     requires scope { s < length lang.now.scopes }
-    requires pair { IfSome pair (IsWholePair lang.now) }
-    ensures { result ≢ NO_TABLE → IsLikePair lang.now s begin result }
+    requires two { length (scope_at lang.now s) ≡ 2 }
+    ensures has { IfOk result (λ v. HasTables lang.now s v.items) }
+    ensures known { IfOk result (λ v. All (IsPairTable lang.now) v.items) }
+    ensures few { IfOk result (λ v. length v.items ≤ 64) }
 {
-    match pair {
-        Some(t) if lang.scope(s).len() == 2 && have_same_tables(lang, s, t) => begin,
-        _ => NO_TABLE,
+    let mut tables = Vec::new(alloc);
+    for r in 0..lang.relations_on(s) {
+        tables.push(lang.pair_table(s, r))?;
+    }
+    Ok(tables)
+}
+
+/// Where the masks begin of a scope of two variables that is of one of these classes.
+fn begin_among(lang: &Language, s: ScopeId, classes: &[Class]) -> u32
+    requires lawful { IsLanguage lang.now }
+    requires scope { s < length lang.now.scopes }
+    requires two { length (scope_at lang.now s) ≡ 2 }
+    ensures { (masks : List ℕ) → AreClasses lang.now classes.now masks → result ≢ NO_TABLE → IsTableOf lang.now s masks result }
+{
+    for class in classes {
+        if has_tables(lang, s, &class.tables) {
+            return class.begin;
+        }
+    }
+    NO_TABLE
+}
+
+/// The tables that were made for some scopes.
+#[derive(Drop)]
+struct Made {
+    /// The masks, one table behind the other.
+    masks: Vec<u64>,
+    /// The classes of scopes of two variables that have a table.
+    classes: Vec<Class>,
+    /// For each number of variables where the table begins of the scopes with so many whose variables have all values, once it was made.
+    begins: [u32; 5],
+}
+
+impl Made {
+    /// Where the table of a scope of two variables begins, if it has one. The first of a class has it made, unless there are many.
+    fn pair_begin(&mut self, alloc: Global, lang: &Language, s: ScopeId) -> Result<u32, Memory>
+        requires lawful { IsLanguage lang.now }
+        requires made { IsMade lang.now self.old }
+        requires scope { s < length lang.now.scopes }
+        requires two { length (scope_at lang.now s) ≡ 2 }
+        requires room { length self.old.masks.items ≤ 65536 * s }
+        ensures made { OnOk result (IsMade lang.now self.new) }
+        ensures wider { OnOk result (AreWider self.old.masks.items self.new.masks.items) }
+        ensures room { OnOk result (length self.new.masks.items ≤ 65536 * (s + 1)) }
+        ensures table { IfOk result (λ begin. begin ≢ NO_TABLE → IsTableOf lang.now s self.new.masks.items begin) }
+    {
+        let known = begin_among(lang, s, &self.classes);
+        let is_full = self.classes.len() >= MOST_CLASSES && !lang.is_whole(s);
+        if known != NO_TABLE || is_full {
+            return Ok(known);
+        }
+        let begin = self.masks.len() as u32;
+        let tables = tables_on(alloc, lang, s)?;
+        add_pair_masks(&mut self.masks, lang, &tables)?;
+        self.classes.push(Class { tables, begin })?;
+        Ok(begin)
+    }
+
+    /// Where the table of a scope begins, if it has one: of its own, unless it has two variables.
+    fn new_begin(&mut self, alloc: Global, lang: &Language, s: ScopeId) -> Result<u32, Memory>
+        requires lawful { IsLanguage lang.now }
+        requires made { IsMade lang.now self.old }
+        requires scope { s < length lang.now.scopes }
+        requires room { length self.old.masks.items ≤ 65536 * s }
+        ensures made { OnOk result (IsMade lang.now self.new) }
+        ensures wider { OnOk result (AreWider self.old.masks.items self.new.masks.items) }
+        ensures room { OnOk result (length self.new.masks.items ≤ 65536 * (s + 1)) }
+        ensures table { IfOk result (λ begin. begin ≢ NO_TABLE → IsTableOf lang.now s self.new.masks.items begin) }
+    {
+        if lang.scope(s).len() == 2 {
+            return self.pair_begin(alloc, lang, s);
+        }
+        if !lang.is_whole(s) {
+            return Ok(NO_TABLE);
+        }
+        let begin = self.masks.len() as u32;
+        add_masks(&mut self.masks, lang, s)?;
+        Ok(begin)
+    }
+
+    /// Where the table of a scope begins, if it has one.
+    fn begin(&mut self, alloc: Global, lang: &Language, s: ScopeId) -> Result<u32, Memory>
+        requires lawful { IsLanguage lang.now }
+        requires made { IsMade lang.now self.old }
+        requires scope { s < length lang.now.scopes }
+        requires room { length self.old.masks.items ≤ 65536 * s }
+        ensures made { OnOk result (IsMade lang.now self.new) }
+        ensures wider { OnOk result (AreWider self.old.masks.items self.new.masks.items) }
+        ensures room { OnOk result (length self.new.masks.items ≤ 65536 * (s + 1)) }
+        ensures table { IfOk result (λ begin. begin ≢ NO_TABLE → IsTableOf lang.now s self.new.masks.items begin) }
+    {
+        if !lang.is_whole(s) {
+            return self.new_begin(alloc, lang, s);
+        }
+        let size = lang.scope(s).len();
+        if self.begins[size] == NO_TABLE {
+            self.begins[size] = self.new_begin(alloc, lang, s)?;
+        }
+        Ok(self.begins[size])
     }
 }
 
@@ -227,22 +378,13 @@ impl Tables {
         ensures { IfOk result (IsAcceptingOf lang.now) }
     {
         let mut first = Vec::new(alloc);
-        let mut masks = Vec::new(alloc);
-        // For each number of variables where the table of the scopes with so many begins, once it was made.
-        let mut begins = [NO_TABLE; 5];
-        let pair = first_pair(lang);
+        let mut made = Made {
+            masks: Vec::new(alloc),
+            classes: Vec::new(alloc),
+            begins: [NO_TABLE; 5],
+        };
         for s in 0..lang.scopes() as ScopeId {
-            let mut begin = NO_TABLE;
-            if lang.is_whole(s) {
-                let size = lang.scope(s).len();
-                if begins[size] == NO_TABLE {
-                    begins[size] = masks.len() as u32;
-                    masks = with_table(masks, lang, s)?;
-                }
-                begin = begins[size];
-            } else {
-                begin = narrow_begin(lang, s, pair, begins[2]);
-            }
+            let begin = made.begin(alloc, lang, s)?;
             let Ok(()) = first.push(begin) else {
                 return Err(Memory);
             };
@@ -252,7 +394,7 @@ impl Tables {
         };
         Ok(Tables {
             first,
-            masks,
+            masks: made.masks,
             next,
             rows,
         })
@@ -295,8 +437,8 @@ impl Tables {
     /// From a scope on the first one with relations, of these, that the question violates.
     ///
     /// Scopes whose first variable the question leaves open are passed over in runs, and in a row of scopes those whose second
-    /// one it leaves open. Each other one costs the reading of a value, and one AND; or one look at each relation, where a variable
-    /// there hasn't all values.
+    /// one it leaves open. Each other one costs the reading of a value, and one AND; or one look at each relation, where the scope
+    /// has no table.
     pub(crate) fn next_violated(
         &self,
         lang: &Language,
@@ -368,6 +510,22 @@ impl Tables {
         (count, true)
     }
 
+    /// The relations on a scope that accept a question's tuple there, which has this place.
+    #[inline]
+    fn accepting_asked(&self, lang: &Language, s: ScopeId, place: u32) -> u64
+        requires made { IsAcceptingOf lang.now self.now }
+        requires scope { s < length lang.now.scopes }
+        requires place { place < places_on lang.now s }
+        ensures { (q : Assignment) → IsQuestion lang.now q → Some place ≡ place_on lang.now s q → Accepts lang.now s place result }
+    {
+        let _d = lang.d();
+        let first = self.first[usize::from(s)];
+        if first == NO_TABLE {
+            return accepting_at(lang, s, place);
+        }
+        self.masks[first as usize + place as usize]
+    }
+
     /// The relations on a scope that accept the tuple at a place: bit r is one exactly where relation r does.
     pub(crate) fn accepting(&self, lang: &Language, s: ScopeId, place: u32) -> u64
         requires made { IsAcceptingOf lang.now self.now }
@@ -376,7 +534,7 @@ impl Tables {
         ensures { ones_of result ≡ accepting_on lang.now s place }
     {
         let first = self.first[usize::from(s)];
-        if first == NO_TABLE || !lang.is_whole(s) {
+        if first == NO_TABLE || !is_inside(lang, s, place) {
             return accepting_at(lang, s, place);
         }
         self.masks[first as usize + place as usize]

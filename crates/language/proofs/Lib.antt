@@ -43,3 +43,4 @@ pub mod PairMasking
 pub mod Running
 pub mod Domains
 pub mod Filled
+pub mod PairOrders

@@ -15,3 +15,4 @@ pub mod TellingApart
 pub mod Scenes
 pub mod Pairs
 pub mod PairMasks
+pub mod PairOrder

@@ -1,17 +1,19 @@
 //! The relations on a scope whose variables have ranges.
 
-ghost use Rattle.std.specs.Prelude.{◌≡◌, ℕ, ◌^◌, ◌<◌, ◌≤◌, [], length, map, slice_index_or, ◌&&◌, All, Contains, IfOk};
+ghost use Rattle.std.specs.Prelude.{◌≡◌, ℕ, ◌^◌, ◌<◌, ◌≤◌, [], length, map, take, drop, slice_index_or, ◌&&◌, All, Contains, IfOk, IfSome, None};
 ghost use Rattle.std.specs.List.{flat_map, range_with_len, list_all};
 ghost use Rattle.assign.specs.Sets.{numbers};
 ghost use Rattle.rel_table.specs.Relation.{Relation, meet, tuple_at};
 ghost use Rattle.rel_table.specs.Table.{TruthTable};
 ghost use Rattle.rel_table.specs.Closing.{IsOfKind};
-ghost use Rattle.language.specs.Ranges.{is_in, is_whole_range, have_same_ranges, are_in, are_whole, inside, widened};
+ghost use Rattle.rel_table.specs.InOrder.{Above, IsBelow, IsInOrder};
+ghost use Rattle.language.specs.Ranges.{is_in, range_in, is_whole_range, have_same_ranges, are_in, are_whole, inside, widened};
 ghost use Rattle.language.specs.Texts.{is_part};
 ghost use Rattle.language.specs.Language.{IsScope};
 ghost use Rattle.language.specs.Building.{relations_of_arity, IsOver};
-ghost use Rattle.language.specs.Inside.{given_by, truths};
+ghost use Rattle.language.specs.Inside.{given_by, truths, chosen_on};
 ghost use Rattle.language.specs.Built.{AreRanges, AreChosen, IsClosedOf};
+ghost use Rattle.language.specs.PairOrder.{IsRangeMask, TellsFirstBit, TellsOrder};
 
 use crate::parts::RelPart;
 use crate::ranges::ValueRange;
@@ -89,6 +91,39 @@ pub(crate) fn are_all(ranges: &[ValueRange], d: u8) -> bool
     true
 }
 
+/// The values of a range: bit y is 1 where y is one of them.
+fn range_mask(range: ValueRange, d: u8) -> u64
+    requires { d ≤ 64 }
+    ensures { IsRangeMask d range result }
+{
+    let mut mask = 0;
+    for y in 0..d {
+        mask |= u64::from(is_in(range, y)) << y;
+    }
+    mask
+}
+
+/// Whether each pair of the first relation within the ranges is one of the second, row by row.
+fn is_pair_part(ranges: &[ValueRange], scope: &[u8], table: &Table, other: &Table) -> bool
+    requires scope { IsScope (length ranges.now) scope.now }
+    requires two { length scope.now ≡ 2 }
+    requires size { length table.now.truth ≡ table.now.value_count ^ 2 }
+    requires other { length other.now.truth ≡ table.now.value_count ^ 2 }
+    requires values { other.now.value_count ≡ table.now.value_count }
+    ensures { let d = table.now.value_count in result ≡ is_part (widened ranges.now d scope.now table.now.truth) (widened ranges.now d scope.now other.now.truth) }
+{
+    let d = table.value_count();
+    let range = ranges[scope[0] as usize];
+    let among = range_mask(ranges[scope[1] as usize], d);
+    for x in 0..d {
+        let place = u32::from(x) * u32::from(d);
+        if is_in(range, x) && table.row(place) & !other.row(place) & among != 0 {
+            return false;
+        }
+    }
+    true
+}
+
 /// Whether each tuple of the first relation is one of the second on a scope, where both hold outside the ranges.
 pub(crate) fn is_part_on(ranges: &[ValueRange], scope: &[u8], table: &Table, other: &Table) -> bool
     requires scope { IsScope (length ranges.now) scope.now }
@@ -99,6 +134,9 @@ pub(crate) fn is_part_on(ranges: &[ValueRange], scope: &[u8], table: &Table, oth
     let value_count = table.value_count();
     if are_whole(ranges, value_count, scope) {
         return table.within(other);
+    }
+    if scope.len() == 2 && other.value_count() == value_count {
+        return is_pair_part(ranges, scope, table, other);
     }
     for place in 0..table.size() {
         if table.at(place) && !other.at(place) && lies_within(ranges, value_count, scope, place) {
@@ -239,6 +277,108 @@ fn all_numbers(alloc: Global, count: u8) -> Result<Vec<u8>, AllocError>
     Ok(numbers)
 }
 
+/// Whether the first of two masks has the least bit among these that is in one of them alone. Nothing where there is none.
+fn first_bit(one: u64, other: u64, among: u64) -> Option<bool>
+    ensures { TellsFirstBit one other among result }
+{
+    let differ = (one ^ other) & among;
+    if differ == 0 {
+        return None;
+    }
+    Some((one >> differ.trailing_zeros()) & 1 == 1)
+}
+
+/// Whether the first of two tables of two variables comes before the other on a scope. Nothing where they are the same within the
+/// ranges. It goes by rows, of which the values of the second variable's range count.
+fn comes_before(
+    ranges: &[ValueRange],
+    d: u8,
+    scope: &[u8],
+    among: u64,
+    one: &Table,
+    other: &Table,
+) -> Option<bool>
+    requires ranges { AreRanges d ranges.now }
+    requires scope { IsScope (length ranges.now) scope.now }
+    requires two { length scope.now ≡ 2 }
+    requires among { IsRangeMask d (range_in ranges.now (slice_index_or scope.now 1 0)) among }
+    requires one { IsOfKind 2 d one.now }
+    requires other { IsOfKind 2 d other.now }
+    ensures { TellsOrder (widened ranges.now d scope.now one.now.truth) (widened ranges.now d scope.now other.now.truth) result }
+{
+    let range = ranges[scope[0] as usize];
+    for x in range.first..range.last + 1 {
+        let place = u32::from(x) * u32::from(d);
+        let found = first_bit(one.row(place), other.row(place), among);
+        if found.is_some() {
+            return found;
+        }
+    }
+    None
+}
+
+/// How many of the chosen tables, which stand in falling order on a scope of two variables, come before another one; None where one
+/// of them is the same within the ranges.
+fn place_within(
+    ranges: &[ValueRange],
+    d: u8,
+    scope: &[u8],
+    among: u64,
+    tables: &[Table],
+    chosen: &[u8],
+    table: &Table,
+) -> Option<usize>
+    requires ranges { AreRanges d ranges.now }
+    requires scope { IsScope (length ranges.now) scope.now }
+    requires two { length scope.now ≡ 2 }
+    requires among { IsRangeMask d (range_in ranges.now (slice_index_or scope.now 1 0)) among }
+    requires kinds { All (IsOfKind 2 d) tables.now }
+    requires known { All (λ k. k < length tables.now) chosen.now }
+    requires table { IsOfKind 2 d table.now }
+    ensures there { result ≡ None → Contains (chosen_on ranges.now d tables.now scope.now chosen.now) (widened ranges.now d scope.now table.now.truth) }
+    ensures within { IfSome result (λ at. at ≤ length chosen.now) }
+    ensures before { IfSome result (λ at. All (λ q. Above q (widened ranges.now d scope.now table.now.truth)) (take at (chosen_on ranges.now d tables.now scope.now chosen.now))) }
+    ensures after { IfSome result (λ at. IsBelow (widened ranges.now d scope.now table.now.truth) (drop at (chosen_on ranges.now d tables.now scope.now chosen.now))) }
+{
+    for at in 0..chosen.len() {
+        let here = &tables[chosen[at] as usize];
+        match comes_before(ranges, d, scope, among, table, here) {
+            None => return None,
+            Some(true) => return Some(at),
+            Some(false) => {}
+        }
+    }
+    Some(chosen.len())
+}
+
+/// The numbers of the tables of two variables whose relations differ within the ranges, one for each relation, in falling order: with
+/// no table made, unlike `narrow_numbers`.
+fn pair_numbers(
+    alloc: Global,
+    ranges: &[ValueRange],
+    d: u8,
+    tables: &[Table],
+    scope: &[u8],
+) -> Result<Vec<u8>, AllocError>
+    requires ranges { AreRanges d ranges.now }
+    requires scope { IsScope (length ranges.now) scope.now }
+    requires two { length scope.now ≡ 2 }
+    requires kinds { All (IsOfKind 2 d) tables.now }
+    requires few { length tables.now ≤ 64 }
+    ensures order { IfOk result (λ v. IsInOrder (map (widened ranges.now d scope.now) (truths tables.now)) (chosen_on ranges.now d tables.now scope.now v.items)) }
+    ensures known { IfOk result (λ v. All (λ k. k < length tables.now) v.items) }
+    ensures few { IfOk result (λ v. length v.items ≤ length tables.now) }
+{
+    let among = range_mask(ranges[scope[1] as usize], d);
+    let mut chosen = Vec::with_capacity(alloc, tables.len())?;
+    for k in 0..tables.len() {
+        if let Some(at) = place_within(ranges, d, scope, among, tables, &chosen, &tables[k]) {
+            chosen.insert(at, k as u8)?;
+        }
+    }
+    Ok(chosen)
+}
+
 /// The numbers of the tables of the relations on a scope, in falling order.
 pub(crate) fn numbers_on(
     alloc: Global,
@@ -257,6 +397,9 @@ pub(crate) fn numbers_on(
 {
     if are_whole(ranges, d, scope) {
         return Ok(all_numbers(alloc, tables.len() as u8)?);
+    }
+    if scope.len() == 2 {
+        return Ok(pair_numbers(alloc, ranges, d, tables, scope)?);
     }
     narrow_numbers(alloc, ranges, d, rels, tables, scope)
 }

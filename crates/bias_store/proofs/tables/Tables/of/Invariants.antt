@@ -1,9 +1,11 @@
 use Rattle.bias_store.proofs.Prelude.{◌≤◌, ◌*◌, length}
-use Rattle.bias_store.proofs.Tabled.{AreMade}
+use Rattle.bias_store.specs.Made.{IsMade}
+use Rattle.bias_store.proofs.Tabled.{AreTabled}
 use Rattle.bias_store.proofs.tables.Tables.of.Given as goal
 
 abbrev pub invariant-loop-s : goal.invariant-loop-s
 invariant-loop-s l = record {
-  made : AreMade l.lang l.first.items l.begins l.masks.items l.s;
-  few : length l.masks.items ≤ 65536 * l.s;
+  made : IsMade l.lang l.made;
+  tabled : AreTabled l.lang l.first.items l.made.masks.items l.s;
+  room : length l.made.masks.items ≤ 65536 * l.s;
 }
