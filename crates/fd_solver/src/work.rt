@@ -1,4 +1,4 @@
-ghost use Rattle.std.specs.Prelude.{◌≡◌, ◌<◌, ◌≤◌, ◌+◌, ◌++◌, IfOk, ◌∷◌, [], true, false, None, length, replicate, slice_index_or, vec_len, vec_capacity};
+ghost use Rattle.std.specs.Prelude.{◌≡◌, ◌<◌, ◌≤◌, ◌+◌, ◌++◌, IfOk, ◌∷◌, [], true, false, None, length, replicate, slice_index_or, slice_set, vec_len, vec_capacity};
 ghost use Rattle.assign.specs.Sets.{has};
 ghost use Rattle.language.specs.Language.{IsLanguage, variable_count};
 ghost use Rattle.propagators.specs.Allowed.{AreConstraints};
@@ -91,6 +91,15 @@ fn fill<T: Copy>(depths: &mut Vec<T>, item: T, deepest: usize)
     for _depth in depths.len()..deepest + 1 {
         depths.push_reserved(item);
     }
+}
+
+/// Takes over what is left at a depth at the next one.
+fn copy_down(depths: &mut [Domains], at: usize)
+    requires { at + 1 < length depths.old }
+    ensures { depths.new ≡ slice_set depths.old (at + 1) (slice_index_or depths.old at []) }
+{
+    let (front, rest) = depths.split_at_mut(at + 1);
+    rest[0].take(&front[at]);
 }
 
 impl Work {
@@ -196,7 +205,7 @@ impl Work {
         if !self.depths[at].has(v, x) {
             return false;
         }
-        self.depths[at + 1] = self.depths[at];
+        copy_down(&mut self.depths, at);
         self.entailed[at + 1] = self.entailed[at];
         narrow(
             cons,
