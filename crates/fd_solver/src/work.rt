@@ -94,9 +94,10 @@ fn fill<T: Copy>(depths: &mut Vec<T>, item: T, deepest: usize)
 }
 
 /// Takes over what is left at a depth at the next one.
-fn copy_down(depths: &mut [Domains], at: usize)
-    requires { at + 1 < length depths.old }
-    ensures { depths.new ≡ slice_set depths.old (at + 1) (slice_index_or depths.old at []) }
+fn copy_down(depths: &mut Vec<Domains>, at: usize)
+    requires { at + 1 < vec_len depths.old }
+    ensures is { depths.new.items ≡ slice_set depths.old.items (at + 1) (slice_index_or depths.old.items at []) }
+    ensures room { vec_capacity depths.new ≡ vec_capacity depths.old }
 {
     let (front, rest) = depths.split_at_mut(at + 1);
     rest[0].take(&front[at]);
