@@ -41,10 +41,10 @@ returns-clause-deeper c = λ alive. record {
       let at = c.len-at.ensures in
       let room : c.len-at.result + 1 < length depths = omega arith in
       let copied = c.copy_down.ensures.is in
-    let read : slice_index_or depths c.len-at.result [] ≡ slice_index_or c.args.self.now.depths (length c.args.prefix.now) [] = (λ i. slice_index_or (c.self.view_is i).depths (c.len-at.ensures i) []) in
+      let read : slice_index_or depths c.len-at.result [] ≡ slice_index_or c.args.self.now.depths (length c.args.prefix.now) [] = (λ i. slice_index_or (c.self.view_is i).depths (c.len-at.ensures i) []) in
       let same : c.index_mut-2.result.now ≡ (slice_index_or c.args.self.now.depths (length c.args.prefix.now) []) =
       get_or_read c.copy_down.new.depths.items (c.len-at.result + 1) c.index_mut-2.result.now (let size = length-set depths (c.len-at.result + 1) (slice_index_or depths c.len-at.result []) in let long = ap length c.copy_down.ensures.is in omega arith) c.index_mut-2.ensures.value []
-    ∙ ap (λ (ds : List Family). slice_index_or ds (c.len-at.result + 1) []) copied
+      ∙ ap (λ (ds : List Family). slice_index_or ds (c.len-at.result + 1) []) copied
       ∙ get_or-set_same depths (c.len-at.result + 1) (slice_index_or c.self.inside.depths.items c.len-at.result []) [] room ∙ read in
       subst (λ (ds : List Family). AreReady c.args.cons.now.lang.now c.args.cons.now.list.now c.args.cons.now.against c.args.order.now (c.args.prefix.now ++ c.args.x ∷ []) (slice_set ds (c.len-at.result + 1) c.narrow.new.doms)) (sym copied)
       (deeper_written c.args.cons.now.lang.now c.args.cons.now.list.now c.args.cons.now.against c.args.order.now c.args.prefix.now c.args.x c.len-at.result depths (slice_index_or c.self.inside.depths.items c.len-at.result []) c.narrow.new.doms at room
