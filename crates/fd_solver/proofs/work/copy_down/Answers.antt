@@ -1,6 +1,5 @@
-use Rattle.fd_solver.proofs.Prelude.{◌≡◌, ℕ, ◌+◌, ◌-◌, ◌++◌, List, [], ap, sym, ◌∙◌, arith, length, length-append, length-set, slice_index_or, slice_set, get_or_read, Family}
+use Rattle.fd_solver.proofs.Prelude.{◌≡◌, ◌+◌, ◌-◌, ◌++◌, List, [], ap, sym, ◌∙◌, arith, length, length-append, length-set, slice_index_or, slice_set, get_or_read, Family}
 use Rattle.std.proofs.lemmas.List.{set-append_right, get_or_append_left, with_items_is}
-use Rattle.std.specs.Vec.{with_items}
 use Rattle.fd_solver.proofs.work.copy_down.Goals as goal
 
 pub returns-clause-is : goal.returns-clause-is

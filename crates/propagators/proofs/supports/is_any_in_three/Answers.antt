@@ -1,5 +1,5 @@
-use Rattle.propagators.proofs.Prelude.{◌≡◌, ◌≤◌, ◌+◌, ◌*◌, ◌∙◌, ℕ, Bool, true, false, not, [], ◌∷◌, length, refl, sym, subst, ap, ones_of, AreSupported, HasTuple, HasNoTuple, continues, is_not_empty}
-use Rattle.propagators.proofs.Sweeping.{barren_begin, barren_step, barren_end, tuple_there, some_supported, none_supported, place_fits}
+use Rattle.propagators.proofs.Prelude.{◌≡◌, ◌≤◌, ◌+◌, ◌*◌, ◌∙◌, ℕ, [], ◌∷◌, length, refl, sym, subst, ones_of, HasTuple, HasNoTuple, continues}
+use Rattle.propagators.proofs.Sweeping.{barren_begin, barren_step, barren_end, tuple_there, place_fits}
 use Rattle.propagators.proofs.supports.is_any_in_three.Goals as goal
 
 pub loop-rest-init : goal.loop-rest-init

@@ -1,4 +1,4 @@
-use Rattle.propagators.proofs.Prelude.{◌≡◌, ◌≤◌, ◌+◌, ◌*◌, ◌∙◌, ℕ, Bool, true, false, not, [], ◌∷◌, length, refl, sym, subst, ap, ones_of, AreSupported, HasTuple, HasNoTuple, continues, is_not_empty}
+use Rattle.propagators.proofs.Prelude.{◌≡◌, ◌≤◌, ◌+◌, ◌*◌, ◌∙◌, ℕ, Bool, true, false, not, [], ◌∷◌, length, refl, sym, subst, ones_of, AreSupported, continues, is_not_empty}
 use Rattle.propagators.proofs.Sweeping.{barren_begin, barren_step, barren_end, tuple_there, some_supported, none_supported, place_fits}
 use Rattle.propagators.proofs.supports.is_any_in_two.Goals as goal
 
