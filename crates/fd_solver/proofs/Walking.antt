@@ -1,7 +1,7 @@
 -- What holds at each turn of the search, and what each turn makes of it.
-use Rattle.fd_solver.proofs.Prelude.{◌≡◌, ℕ, suc, ◌+◌, ◌-◌, ◌<◌, ◌≤◌, true, false, List, [], ◌∷◌, ◌++◌, length, replicate, Option, Some, None, sym, ◌∙◌, ap, subst, arith, length-append, slice_index_or, slice_set, All, All-nil, All-cons, All-head, All-tail, All-push, Candidate, Assignment, assigned, Language, IsLanguage, variable_count, Found, Absent, Spent, IsOrder, is_alive_in, search_outcome, assigned_blank, assigned_push, assigned_pop, size_of}
+use Rattle.fd_solver.proofs.Prelude.{◌≡◌, ℕ, zero, suc, ◌+◌, ◌-◌, ◌<◌, ◌≤◌, true, false, List, [], ◌∷◌, ◌++◌, length, replicate, Option, Some, None, sym, ◌∙◌, ap, subst, arith, length-append, slice_index_or, slice_set, All, All-nil, All-cons, All-head, All-tail, All-push, Candidate, Assignment, assigned, Language, IsLanguage, variable_count, Found, Absent, Spent, IsOrder, is_alive_in, search_outcome, assigned_blank, assigned_push, assigned_pop, size_of}
 use Rattle.fd_solver.proofs.Alive.{alive_fronts}
-use Rattle.fd_solver.proofs.Turning.{left_at, turn_spent, turn_found, turn_down, turn_next, turn_up, turn_end, turn_first}
+use Rattle.fd_solver.proofs.Turning.{left_at, turn_spent, turn_found, turn_down, turn_next, turn_up, turn_end, turn_first, work_left, work_next}
 
 all_before : (P : ℕ → Type 0) (xs : List ℕ) (y : ℕ) → All P (xs ++ y ∷ []) → All P xs
 all_before P [] y h = All-nil P
@@ -97,3 +97,20 @@ module _ (l : Language) (list : List Candidate) (against : Option Candidate) (or
           rest = sym (turn_up l.value_count (variable_count l) (assigned (variable_count l) order) (is_alive_in l list against order) q y left shorter)
               ∙ (λ i. left_at l.value_count (variable_count l) (assigned (variable_count l) order) (is_alive_in l list against order) (sym popped i) (sym last i) left) ∙ on.rest;
         }
+
+-- values at which no prefix is alive are passed over
+pub moved : (l : Language) (list : List Candidate) (against : Option Candidate) (order : List ℕ) (is : IsOrder (variable_count l) order) (budget : ℕ) (e : Assignment) (p : List ℕ) (x left : ℕ) → IsOn l list against order budget e p x left → (y : ℕ) → x ≤ y → y ≤ l.value_count →
+    ((z : ℕ) → x ≤ z → z < y → is_alive_in l list against order (p ++ z ∷ []) ≡ false) → IsOn l list against order budget e p y left
+moved l list against order is budget e p x left on y from within dead = go (y - x) x on (omega arith) dead
+  where
+    go : (k x : ℕ) → IsOn l list against order budget e p x left → x + k ≡ y → ((z : ℕ) → x ≤ z → z < y → is_alive_in l list against order (p ++ z ∷ []) ≡ false) → IsOn l list against order budget e p y left
+    go zero x on at dead = subst (λ (z : ℕ). IsOn l list against order budget e p z left) (let same : x ≡ y = omega arith in same) on
+    go (suc k) x on at dead = go k (x + 1) (next_value l list against order is budget e p x left on (omega arith) (dead x (omega arith) (omega arith))) (omega arith) (λ z above low. dead z (omega arith) low)
+
+-- and leave no more work
+pub work_passed : (d n : ℕ) (p : List ℕ) (x y : ℕ) → length p < n → x ≤ y → y ≤ d → work_left d n p y ≤ work_left d n p x
+work_passed d n p x y short from within = go (y - x) x (omega arith)
+  where
+    go : (k x : ℕ) → x + k ≡ y → work_left d n p y ≤ work_left d n p x
+    go zero x at = subst (λ (z : ℕ). work_left d n p y ≤ work_left d n p z) (let same : y ≡ x = omega arith in same) (let most : work_left d n p y ≤ work_left d n p y = omega arith in most)
+    go (suc k) x at = (let more = go k (x + 1) (omega arith) in let step = work_next d n p x short (omega arith) in omega arith)

@@ -67,6 +67,7 @@ fn walk(work: &mut Work, cons: &Constraints, order: &[u8], n: u8, budget: u32) -
     let mut stack = Stack::new();
     let mut x = 0;
     loop {
+        x = work.next_value(cons, order, &stack, x);
         if x < d {
             if work.enter(cons, order, &stack, x) {
                 if left == 0 {

@@ -1,4 +1,4 @@
-ghost use Rattle.std.specs.Prelude.{◌≡◌, ◌<◌, ◌≤◌, ◌+◌, ◌++◌, IfOk, ◌∷◌, [], true, false, None, length, replicate, slice_index_or, vec_len, vec_capacity};
+ghost use Rattle.std.specs.Prelude.{◌≡◌, ◌<◌, ◌≤◌, ◌+◌, ◌++◌, ℕ, IfOk, ◌∷◌, [], true, false, None, length, replicate, slice_index_or, slice_set, vec_len, vec_capacity};
 ghost use Rattle.assign.specs.Sets.{has};
 ghost use Rattle.language.specs.Language.{IsLanguage, variable_count};
 ghost use Rattle.propagators.specs.Allowed.{AreConstraints};
@@ -93,6 +93,16 @@ fn fill<T: Copy>(depths: &mut Vec<T>, item: T, deepest: usize)
     }
 }
 
+/// Takes over what is left at a depth at the next one.
+fn copy_down(depths: &mut Vec<Domains>, at: usize)
+    requires { at + 1 < vec_len depths.old }
+    ensures is { depths.new.items ≡ slice_set depths.old.items (at + 1) (slice_index_or depths.old.items at []) }
+    ensures room { vec_capacity depths.new ≡ vec_capacity depths.old }
+{
+    let (front, rest) = depths.split_at_mut(at + 1);
+    rest[0].take(&front[at]);
+}
+
 impl Work {
     /// Room for a search: some 150 KB for what is known at each depth, and some 23 bytes for each of as many conditions as there are
     /// scopes, and one more. `Memory` where there is none.
@@ -179,6 +189,31 @@ impl Work {
         }
     }
 
+    /// The first value from x on that a prefix leaves to the next variable, or how many values there are.
+    pub(crate) fn next_value(&self, cons: &Constraints, order: &[u8], prefix: &Stack, x: u8) -> u8
+        requires lawful { IsLanguage cons.now.lang.now }
+        requires constraints { AreConstraints cons.now.lang.now cons.now.list.now cons.now.against }
+        requires order { IsOrder (variable_count cons.now.lang.now) order.now }
+        requires short { length prefix.now < variable_count cons.now.lang.now }
+        requires value { x ≤ cons.now.lang.now.value_count }
+        requires ready { IsArranged cons.now.lang.now cons.now.list.now cons.now.against order.now prefix.now self.now }
+        ensures from { x ≤ result }
+        ensures within { result ≤ cons.now.lang.now.value_count }
+        ensures dead { (y : ℕ) → x ≤ y → y < result → is_alive_in cons.now.lang.now cons.now.list.now cons.now.against order.now (prefix.now ++ y ∷ []) ≡ false }
+    {
+        let d = cons.lang.d();
+        let at = prefix.len();
+        let v = order[at];
+        let mut next = x;
+        while next < d {
+            if self.depths[at].has(v, next) {
+                return next;
+            }
+            next += 1;
+        }
+        d
+    }
+
     /// Whether a prefix with one value more is alive; if so, the values that it leaves are those of its depth.
     pub(crate) fn enter(&mut self, cons: &Constraints, order: &[u8], prefix: &Stack, x: u8) -> bool
         requires lawful { IsLanguage cons.now.lang.now }
@@ -196,7 +231,7 @@ impl Work {
         if !self.depths[at].has(v, x) {
             return false;
         }
-        self.depths[at + 1] = self.depths[at];
+        copy_down(&mut self.depths, at);
         self.entailed[at + 1] = self.entailed[at];
         narrow(
             cons,

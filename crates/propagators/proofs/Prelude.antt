@@ -40,7 +40,7 @@ pub use Rattle.propagators.specs.Loose.{HasMore, HasTwo, IsBounded}
 pub use Rattle.propagators.specs.Pairs.{AgreeInside, AreSides, IsBeside, IsNarrowed, IsOnly, IsValueOf, by_table, goes_by}
 pub use Rattle.propagators.specs.Plans.{AreLeft, AreLimits, AreNarrow, AreNoted, AreTakenIn, IsLooked, IsPlanOf}
 pub use Rattle.propagators.specs.Propagated.{IsPropagated, IsSettledBut, RunsEmpty}
-pub use Rattle.propagators.specs.Supports.{AreBelow, AreDifferent, AreFewer, AreSettled, AreSupported, DifferAt, IsCut, IsDead, IsFamilyOf, IsRevised, IsThrough, IsUnderway, IsWithin, continues, replaced}
+pub use Rattle.propagators.specs.Supports.{AreBelow, AreDifferent, AreFewer, AreSettled, AreSupported, AreSupportedBeside, DifferAt, HasNoTuple, HasTuple, IsCut, IsDead, IsFamilyOf, IsRevised, IsThrough, IsUnderway, IsWithin, continues, replaced}
 pub use Rattle.propagators.specs.ValueLemmas.{filter_front, mask_of-ones_of, ones_of-members_of}
 unfoldable pub use Rattle.propagators.specs.Values.{ones_of}
 pub use Rattle.propagators.specs.declared.briefs.Brief.{Brief}

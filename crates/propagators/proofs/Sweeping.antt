@@ -1,5 +1,5 @@
 -- Collecting supported values, one value of the first set after another.
-use Rattle.propagators.proofs.Prelude.{◌≡◌, ℕ, zero, suc, ◌<◌, Bool, true, false, ◌&&◌, ◌||◌, not, List, [], ◌∷◌, ◌+◌, ◌*◌, ◌^◌, ◌≤◌, refl, sym, ◌∙◌, ap, subst, arith, inl, inr, ◌⊎◌, ◌==◌, slice_index_or, filter, and_parts, and_from, or_left, or_right, or_cases, both_ways, eq-eqb, eqb-true, not-true, mul-le-mul_right, mul_assoc, pow-succ', pow-zero, has, ones_of, is_not_empty, IsWithin, IsThrough, AreSupported}
+use Rattle.propagators.proofs.Prelude.{◌≡◌, ℕ, zero, suc, ◌<◌, Bool, true, false, ◌&&◌, ◌||◌, not, List, [], ◌∷◌, ◌+◌, ◌*◌, ◌^◌, ◌≤◌, refl, sym, ◌∙◌, ap, subst, arith, inl, inr, ◌⊎◌, ◌==◌, slice_index_or, filter, and_parts, and_from, or_left, or_right, or_cases, both_ways, eq-eqb, eqb-true, not-true, mul-le-mul_right, mul_assoc, pow-succ', pow-zero, has, ones_of, is_not_empty, IsWithin, IsThrough, AreSupported, AreSupportedBeside, HasTuple, HasNoTuple}
 use Rattle.propagators.proofs.Ones.{has-filter, ones_of-zero}
 use Rattle.propagators.proofs.Pruned.{has_head}
 
@@ -132,7 +132,7 @@ sweep_end first rest sets accepted a found over is = record { all = all; only = 
 pub sweep_step : (first rest : ℕ) (s : List ℕ) (sets : List (List ℕ)) (accepted : List ℕ → Bool) (a : ℕ) (found : List (List ℕ)) (x later b c : ℕ) (below next : List (List ℕ)) →
     IsSweeping first rest (s ∷ sets) accepted a found →
     has (ones_of rest) x ≡ true → ((y : ℕ) → has (ones_of later) y ≡ (has (ones_of rest) y && not (x == y))) →
-    AreSupported (s ∷ sets) (λ tuple. accepted (x ∷ tuple)) (ones_of b ∷ below) →
+    AreSupportedBeside (s ∷ sets) (λ tuple. accepted (x ∷ tuple)) found (ones_of b ∷ below) →
     ((y : ℕ) → has (ones_of c) y ≡ (has (ones_of a) y || (is_not_empty (ones_of b) && (x == y)))) →
     AreEither found (ones_of b ∷ below) next →
     IsSweeping first later (s ∷ sets) accepted c next
@@ -165,7 +165,7 @@ sweep_step first rest s sets accepted a found x later b c below next is there go
     through_first : (y : ℕ) → (x == y) ≡ true → is_not_empty (ones_of b) ≡ true → IsThrough (gone first later ∷ s ∷ sets) accepted 0 y
     through_first y same some =
         let z = some_member (ones_of b) some in
-        let t = under.only 0 z.0 z.1 in
+        let t = under.some z.0 z.1 in
         record { tuple = x ∷ t.tuple; within = (now, t.within); at = eqb-true x y same; is = t.is }
 
     only : (i y : ℕ) → has (slice_index_or (ones_of c ∷ next) i []) y ≡ true → IsThrough (gone first later ∷ s ∷ sets) accepted i y
@@ -178,7 +178,11 @@ sweep_step first rest s sets accepted a found x later b c below next is there go
       where
         go : (has (slice_index_or found i []) y ≡ true) ⊎ (has (slice_index_or (ones_of b ∷ below) i []) y ≡ true) → IsThrough (gone first later ∷ s ∷ sets) accepted (suc i) y
         go (inl old) = through_old (suc i) y (is.supported.only (suc i) y old)
-        go (inr new) = through_new i y (under.only i y new)
+        go (inr new) = below_or (under.only i y new)
+          where
+            below_or : (has (slice_index_or found i []) y ≡ true) ⊎ IsThrough (s ∷ sets) (λ tuple. accepted (x ∷ tuple)) i y → IsThrough (gone first later ∷ s ∷ sets) accepted (suc i) y
+            below_or (inl known) = through_old (suc i) y (is.supported.only (suc i) y known)
+            below_or (inr t) = through_new i y t
 
     begins : (tuple : List ℕ) → IsWithin (ones_of b ∷ below) tuple → is_not_empty (ones_of b) ≡ true
     begins [] h = absurd h
@@ -208,6 +212,85 @@ sweep_step first rest s sets accepted a found x later b c below next is there go
         go false other =
             let old = is.supported.all (y ∷ tuple) (is_gone first rest y was.0 (kept (has (ones_of rest) y) (x == y) other (sym (goes y) ∙ was.1)), h.1) at in
             (adds y ∙ or_left _ _ old.0, within_more found next tuple (either_left found (ones_of b ∷ below) next joins) old.1)
+
+-- what is supported is so whatever was found before
+pub supported_beside : (sets : List (List ℕ)) (accepted : List ℕ → Bool) (before found : List (List ℕ)) → AreSupported sets accepted found → AreSupportedBeside sets accepted before found
+supported_beside sets accepted before found is = record {
+  all = is.all;
+  only = λ i x h. inr (is.only i x h);
+  some = λ x h. (let t = is.only 0 x h in record { tuple = t.tuple; within = t.within; is = t.is });
+}
+
+-- where each value was found before
+pub all_beside : (sets : List (List ℕ)) (accepted : List ℕ → Bool) → HasTuple sets accepted → AreSupportedBeside sets accepted sets sets
+all_beside sets accepted one = record { all = λ tuple h at. h; only = λ i x h. inl h; some = λ x h. one }
+
+-- and where there is no tuple
+pub none_beside : (sets : List (List ℕ)) (accepted : List ℕ → Bool) (before found : List (List ℕ)) → AreEmpty found → HasNoTuple sets accepted → AreSupportedBeside sets accepted before found
+none_beside sets accepted before found empty none = record {
+  all = λ tuple h at. absurd (none tuple h at);
+  only = λ i x h. absurd (none_there found i x empty h);
+  some = λ x h. absurd (none_there found 0 x empty h);
+}
+
+-- ---- whether there is a tuple, one value of the first set after another
+
+-- no gone value of the first set is in one
+pub record IsBarren (first rest : ℕ) (sets : List (List ℕ)) (accepted : List ℕ → Bool) : Type 0 where
+  pub part : (y : ℕ) → has (ones_of rest) y ≡ true → has (ones_of first) y ≡ true
+  pub none : HasNoTuple (gone first rest ∷ sets) accepted
+
+pub barren_begin : (first : ℕ) (sets : List (List ℕ)) (accepted : List ℕ → Bool) → IsBarren first first sets accepted
+barren_begin first sets accepted = record { part = λ y h. h; none = none }
+  where
+    none : HasNoTuple (gone first first ∷ sets) accepted
+    none [] h at = h
+    none (x ∷ tuple) h at = (let was = was_gone first first x h.0 in both_ways _ was.1 was.0)
+
+pub barren_step : (first rest : ℕ) (sets : List (List ℕ)) (accepted : List ℕ → Bool) (x later : ℕ) → IsBarren first rest sets accepted → ((y : ℕ) → has (ones_of later) y ≡ (has (ones_of rest) y && not (x == y))) →
+    HasNoTuple sets (λ tuple. accepted (x ∷ tuple)) → IsBarren first later sets accepted
+barren_step first rest sets accepted x later is goes below = record {
+  part = λ y h. is.part y (and_parts (has (ones_of rest) y) (not (x == y)) (sym (goes y) ∙ h)).0;
+  none = none;
+}
+  where
+    none : HasNoTuple (gone first later ∷ sets) accepted
+    none [] h at = h
+    none (y ∷ tuple) h at = go (x == y) refl
+      where
+        was : (has (ones_of first) y ≡ true) × (has (ones_of later) y ≡ false)
+        was = was_gone first later y h.0
+
+        kept : (p q : Bool) → q ≡ false → (p && not q) ≡ false → p ≡ false
+        kept true true e k = cc
+        kept true false e k = k
+        kept false q e k = refl
+
+        go : (e : Bool) → (x == y) ≡ e → ⊥
+        go true same = below tuple h.1 (ap (λ z. accepted (z ∷ tuple)) (eqb-true x y same) ∙ at)
+        go false other = is.none (y ∷ tuple) (is_gone first rest y was.0 (kept (has (ones_of rest) y) (x == y) other (sym (goes y) ∙ was.1)), h.1) at
+
+pub barren_end : (first rest : ℕ) (sets : List (List ℕ)) (accepted : List ℕ → Bool) → rest ≡ 0 → IsBarren first rest sets accepted → HasNoTuple (ones_of first ∷ sets) accepted
+barren_end first rest sets accepted over is = none
+  where
+    none : HasNoTuple (ones_of first ∷ sets) accepted
+    none [] h at = h
+    none (x ∷ tuple) h at = is.none (x ∷ tuple) (is_gone first rest x h.0 (ap (λ m. has (ones_of m) x) over ∙ ap (λ ys. has ys x) ones_of-zero), h.1) at
+
+-- a tuple below the value x
+pub tuple_there : (first rest : ℕ) (sets : List (List ℕ)) (accepted : List ℕ → Bool) (x : ℕ) → IsBarren first rest sets accepted → has (ones_of rest) x ≡ true → HasTuple sets (λ tuple. accepted (x ∷ tuple)) → HasTuple (ones_of first ∷ sets) accepted
+tuple_there first rest sets accepted x is there t = record { tuple = x ∷ t.tuple; within = (is.part x there, t.within); is = t.is }
+
+-- whether there is one is told by what is supported
+pub some_supported : (sets : List (List ℕ)) (accepted : List ℕ → Bool) (m : ℕ) → AreSupported sets accepted (ones_of m ∷ []) → is_not_empty (ones_of m) ≡ true → HasTuple sets accepted
+some_supported sets accepted m is some = (let z = some_member (ones_of m) some in let t = is.only 0 z.0 z.1 in record { tuple = t.tuple; within = t.within; is = t.is })
+
+pub none_supported : (sets : List (List ℕ)) (accepted : List ℕ → Bool) (m : ℕ) → AreSupported sets accepted (ones_of m ∷ []) → is_not_empty (ones_of m) ≡ false → HasNoTuple sets accepted
+none_supported sets accepted m is none = λ tuple h at. begins tuple (is.all tuple h at)
+  where
+    begins : (tuple : List ℕ) → IsWithin (ones_of m ∷ []) tuple → ⊥
+    begins [] h = h
+    begins (z ∷ tuple) h = both_ways _ none (not_empty (ones_of m) z h.0)
 
 pub both_true : (a b : Bool) → a ≡ true → (a && b) ≡ b
 both_true true b h = refl

@@ -26,6 +26,23 @@ pub record AreSupported (sets : List (List ℕ)) (accepted : List ℕ → Bool) 
   pub all : (tuple : List ℕ) → IsWithin sets tuple → accepted tuple ≡ true → IsWithin found tuple
   pub only : (i x : ℕ) → has (slice_index_or found i []) x ≡ true → IsThrough sets accepted i x
 
+-- an accepted tuple within the sets
+pub record HasTuple (sets : List (List ℕ)) (accepted : List ℕ → Bool) : Type 0 where
+  pub tuple : List ℕ
+  pub within : IsWithin sets tuple
+  pub is : accepted tuple ≡ true
+
+-- there is none
+abbrev pub HasNoTuple : List (List ℕ) → (List ℕ → Bool) → Type 0
+HasNoTuple sets accepted = (tuple : List ℕ) → IsWithin sets tuple → accepted tuple ≡ true → ⊥
+
+-- The values that accepted tuples within the sets go through, and some that were found before. There are none of the first set where
+-- there is no such tuple.
+pub record AreSupportedBeside (sets : List (List ℕ)) (accepted : List ℕ → Bool) (before found : List (List ℕ)) : Type 0 where
+  pub all : (tuple : List ℕ) → IsWithin sets tuple → accepted tuple ≡ true → IsWithin found tuple
+  pub only : (i x : ℕ) → has (slice_index_or found i []) x ≡ true → (has (slice_index_or before i []) x ≡ true) ⊎ IsThrough sets accepted i x
+  pub some : (x : ℕ) → has (slice_index_or found 0 []) x ≡ true → HasTuple sets accepted
+
 -- what a table says of a tuple that goes on from a place
 abbrev pub continues : TruthTable → Bool → ℕ → List ℕ → Bool
 continues table holding at tuple = is_wanted holding (truth_at table (fold (λ at x. at * table.value_count + x) at tuple))

@@ -69,6 +69,18 @@ impl Domains {
         Domains { sets, size: n }
     }
 
+    /// Becomes the same as another one. Where both have as many variables, only the sets of these are written.
+    pub fn take(&mut self, other: &Domains)
+        ensures { self.new ≡ other.now }
+    {
+        if self.size != other.size {
+            *self = *other;
+            return;
+        }
+        let n = self.size as usize;
+        self.sets[..n].copy_from_slice(&other.sets[..n]);
+    }
+
     /// Takes all other values out of the variable's set, and leaves the other sets.
     pub fn fix(&mut self, v: u8, value: u8)
         requires known { v < length self.old }

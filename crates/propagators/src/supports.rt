@@ -1,10 +1,10 @@
 //! Which values of some sets an accepted tuple goes through.
 
-ghost use Rattle.std.specs.Prelude.{◌≡◌, ◌+◌, ◌*◌, ◌^◌, ◌<◌, ◌≤◌, ◌==◌, ◌&&◌, ◌||◌, ℕ, Bool, true, List, [], ◌∷◌, length, map, take, All};
+ghost use Rattle.std.specs.Prelude.{◌≡◌, ◌+◌, ◌*◌, ◌^◌, ◌<◌, ◌≤◌, ◌==◌, ◌&&◌, ◌||◌, ℕ, Bool, true, false, List, [], ◌∷◌, length, map, take, All};
 ghost use Rattle.std.specs.Int.{bit_at};
 ghost use Rattle.assign.specs.Sets.{has};
 ghost use Rattle.propagators.specs.Values.{ones_of};
-ghost use Rattle.propagators.specs.Supports.{AreSupported, AreBelow, continues};
+ghost use Rattle.propagators.specs.Supports.{AreSupported, AreBelow, AreSupportedBeside, HasTuple, HasNoTuple, continues};
 ghost use Rattle.propagators.specs.Families.{is_wanted};
 ghost use Rattle.propagators.specs.Loose.{IsBounded};
 ghost use Rattle.propagators.specs.Chains.{IsChain};
@@ -14,7 +14,9 @@ ghost use Rattle.rel_table.specs.Relation.{Relation};
 ghost use Rattle.language.specs.Pairs.{ArePairTables, IsPairTable};
 
 use crate::briefs::Pair;
-use crate::values::{either, greatest_value, least_value, passing, with_value, without_value};
+use crate::values::{
+    either, greatest_value, is_empty, least_value, passing, with_value, without_value,
+};
 use language::Language;
 use rel_table::Table;
 
@@ -51,6 +53,54 @@ fn in_two(table: &Table, holding: bool, at: u32, first: u64, last: u64) -> (u64,
         b = either(b, below);
     }
     (a, b)
+}
+
+/// Whether an accepted tuple takes its values from two sets.
+#[inline]
+fn is_any_in_two(table: &Table, holding: bool, at: u32, first: u64, last: u64) -> bool
+    requires fits { (at + 1) * (table.now.value_count * table.now.value_count) ≤ length table.now.truth }
+    requires first { AreBelow table.now.value_count (ones_of first) }
+    requires last { AreBelow table.now.value_count (ones_of last) }
+    ensures some { result ≡ true → HasTuple (ones_of first ∷ ones_of last ∷ []) (continues table.now holding at) }
+    ensures none { result ≡ false → HasNoTuple (ones_of first ∷ ones_of last ∷ []) (continues table.now holding at) }
+{
+    let d = u32::from(table.value_count());
+    let mut rest = first;
+    while rest != 0 {
+        let x = least_value(rest);
+        rest = without_value(rest, x);
+        let below = in_one(table, holding, at * d + u32::from(x), last);
+        if !is_empty(below) {
+            return true;
+        }
+    }
+    false
+}
+
+/// The supported values of two sets. Where each of them was found before, it matters alone whether there are any: then all are
+/// told, or none.
+#[inline]
+fn in_two_beside(
+    table: &Table,
+    holding: bool,
+    at: u32,
+    first: u64,
+    last: u64,
+    found: (u64, u64),
+) -> (u64, u64)
+    requires fits { (at + 1) * (table.now.value_count * table.now.value_count) ≤ length table.now.truth }
+    requires first { AreBelow table.now.value_count (ones_of first) }
+    requires last { AreBelow table.now.value_count (ones_of last) }
+    ensures { AreSupportedBeside (ones_of first ∷ ones_of last ∷ []) (continues table.now holding at) (ones_of found.0 ∷ ones_of found.1 ∷ []) (ones_of result.0 ∷ ones_of result.1 ∷ []) }
+{
+    if found.0 != first || found.1 != last {
+        return in_two(table, holding, at, first, last);
+    }
+    if is_any_in_two(table, holding, at, first, last) {
+        found
+    } else {
+        (0, 0)
+    }
 }
 
 /// The supported values of two sets, by the rows of a relation.
@@ -148,12 +198,69 @@ fn in_three(
     while rest != 0 {
         let x = least_value(rest);
         rest = without_value(rest, x);
-        let below = in_two(table, holding, at * d + u32::from(x), second, last);
+        let at = at * d + u32::from(x);
+        let below = in_two_beside(table, holding, at, second, last, (b, c));
         a = with_value(a, x, below.0);
         b = either(b, below.0);
         c = either(c, below.1);
     }
     (a, b, c)
+}
+
+/// Whether an accepted tuple takes its values from three sets.
+#[inline]
+fn is_any_in_three(
+    table: &Table,
+    holding: bool,
+    at: u32,
+    first: u64,
+    second: u64,
+    last: u64,
+) -> bool
+    requires fits { (at + 1) * (table.now.value_count * (table.now.value_count * table.now.value_count)) ≤ length table.now.truth }
+    requires first { AreBelow table.now.value_count (ones_of first) }
+    requires second { AreBelow table.now.value_count (ones_of second) }
+    requires last { AreBelow table.now.value_count (ones_of last) }
+    ensures some { result ≡ true → HasTuple (ones_of first ∷ ones_of second ∷ ones_of last ∷ []) (continues table.now holding at) }
+    ensures none { result ≡ false → HasNoTuple (ones_of first ∷ ones_of second ∷ ones_of last ∷ []) (continues table.now holding at) }
+{
+    let d = u32::from(table.value_count());
+    let mut rest = first;
+    while rest != 0 {
+        let x = least_value(rest);
+        rest = without_value(rest, x);
+        if is_any_in_two(table, holding, at * d + u32::from(x), second, last) {
+            return true;
+        }
+    }
+    false
+}
+
+/// `in_two_beside` for three sets.
+#[inline]
+fn in_three_beside(
+    table: &Table,
+    holding: bool,
+    at: u32,
+    first: u64,
+    second: u64,
+    last: u64,
+    found: (u64, u64, u64),
+) -> (u64, u64, u64)
+    requires fits { (at + 1) * (table.now.value_count * (table.now.value_count * table.now.value_count)) ≤ length table.now.truth }
+    requires first { AreBelow table.now.value_count (ones_of first) }
+    requires second { AreBelow table.now.value_count (ones_of second) }
+    requires last { AreBelow table.now.value_count (ones_of last) }
+    ensures { AreSupportedBeside (ones_of first ∷ ones_of second ∷ ones_of last ∷ []) (continues table.now holding at) (ones_of found.0 ∷ ones_of found.1 ∷ ones_of found.2 ∷ []) (ones_of result.0 ∷ ones_of result.1 ∷ ones_of result.2 ∷ []) }
+{
+    if found.0 != first || found.1 != second || found.2 != last {
+        return in_three(table, holding, at, first, second, last);
+    }
+    if is_any_in_three(table, holding, at, first, second, last) {
+        found
+    } else {
+        (0, 0, 0)
+    }
 }
 
 /// The supported values of four sets.
@@ -177,7 +284,8 @@ fn in_four(
     while rest != 0 {
         let x = least_value(rest);
         rest = without_value(rest, x);
-        let below = in_three(table, holding, u32::from(x), second, third, last);
+        let at = u32::from(x);
+        let below = in_three_beside(table, holding, at, second, third, last, (b, c, e));
         a = with_value(a, x, below.0);
         b = either(b, below.0);
         c = either(c, below.1);

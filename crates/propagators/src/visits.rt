@@ -336,7 +336,7 @@ fn look_at_both(
 fn look_at_pair(
     cons: &Constraints,
     plan: &Plan,
-    pair: Pair,
+    pair: &Pair,
     i: usize,
     v: u8,
     value: Option<u8>,
@@ -348,21 +348,21 @@ fn look_at_pair(
     requires constraints { AreConstraints cons.now.lang.now cons.now.list.now cons.now.against }
     requires value { IfSome value (IsValueOf doms.old v) }
     requires plan { IsWholePlanOf cons.now.lang.now (arcs_of cons.now.lang.now cons.now.list.now cons.now.against) plan.now }
-    requires pair { (a : Arc) → IsPairOf cons.now.lang.now (slice_index_or (arcs_of cons.now.lang.now cons.now.list.now cons.now.against) i a) pair }
+    requires pair { (a : Arc) → IsPairOf cons.now.lang.now (slice_index_or (arcs_of cons.now.lang.now cons.now.list.now cons.now.against) i a) pair.now }
     requires low { i < length (arcs_of cons.now.lang.now cons.now.list.now cons.now.against) }
     requires doms { AreSome cons.now.lang.now doms.old }
     ensures looked { result ≡ Alive.Yes → IsLooked (arcs_of cons.now.lang.now cons.now.list.now cons.now.against) i waiting.old waiting.new doms.old doms.new }
     ensures entailed { result ≡ Alive.Yes → AreEntailed (arcs_of cons.now.lang.now cons.now.list.now cons.now.against) entailed.old doms.old → AreEntailed (arcs_of cons.now.lang.now cons.now.list.now cons.now.against) entailed.new doms.new }
     ensures dead { result ≡ Alive.No → RunsEmpty (arcs_of cons.now.lang.now cons.now.list.now cons.now.against) doms.old }
 {
-    let Some((u, row)) = beside(cons.lang, pair, doms, v, value) else {
+    let Some((u, row)) = beside(cons.lang, *pair, doms, v, value) else {
         // More values of each are left than one of the other rejects.
         if doms.has_more(pair.first, pair.bounds.first)
             && doms.has_more(pair.second, pair.bounds.second)
         {
             return Alive::Yes;
         }
-        return look_at_both(cons, pair, i, doms, waiting);
+        return look_at_both(cons, *pair, i, doms, waiting);
     };
     match doms.keep(u, row, pair.holding) {
         Left::Nothing => Alive::No,
@@ -408,7 +408,7 @@ fn look_at(
     if i >= count {
         return Alive::Yes;
     }
-    match plan.briefs[i] {
+    match &plan.briefs[i] {
         Brief::Two(pair) => look_at_pair(cons, plan, pair, i, v, value, doms, entailed, waiting),
         Brief::Other => look_at_other(cons, i, doms, waiting),
     }

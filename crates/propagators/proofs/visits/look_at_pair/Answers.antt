@@ -34,8 +34,8 @@ returns-then-has_more-2-clause-looked c = λ e.
     looked_over (arcs_of c.args.cons.now.lang.now c.args.cons.now.list.now c.args.cons.now.against) c.args.i c.args.waiting.now c.args.doms.now c.requires.doms.full (λ a low.
     (let pair = c.requires.pair a in
     let few = c.requires.lawful.few_values in
-    stood_consistent c.args.cons.now.lang.now (slice_index_or (arcs_of c.args.cons.now.lang.now c.args.cons.now.list.now c.args.cons.now.against) c.args.i a) c.args.pair c.args.doms.now pair c.requires.doms.family
-    (bounded_consistent c.args.cons.now.lang.now.value_count (arc_by c.args.cons.now.lang.now pair.pairs c.args.pair) c.args.doms.now c.args.pair.bounds (omega arith)
+    stood_consistent c.args.cons.now.lang.now (slice_index_or (arcs_of c.args.cons.now.lang.now c.args.cons.now.list.now c.args.cons.now.against) c.args.i a) c.args.pair.now c.args.doms.now pair c.requires.doms.family
+    (bounded_consistent c.args.cons.now.lang.now.value_count (arc_by c.args.cons.now.lang.now pair.pairs c.args.pair.now) c.args.doms.now c.args.pair.now.bounds (omega arith)
     pair.bounds refl c.requires.doms.family.values (c.if-has_more.ensures.more refl) (c.if-has_more-2.ensures.more refl))))
 
 -- the pair's variables are different ones of the language
@@ -48,21 +48,21 @@ known_in l a p f is below = subst (λ (scope : List ℕ). All (λ v. v < length 
 pub returns-in-Nothing-clause-dead : goal.returns-in-Nothing-clause-dead
 returns-in-Nothing-clause-dead c = λ e.
     dead_here (arcs_of c.args.cons.now.lang.now c.args.cons.now.list.now c.args.cons.now.against) c.args.doms.now c.args.i none c.requires.low
-    (stood_dead c.args.cons.now.lang.now (slice_index_or (arcs_of c.args.cons.now.lang.now c.args.cons.now.list.now c.args.cons.now.against) c.args.i none) c.args.pair c.args.doms.now (c.requires.pair none) c.requires.doms.family
-    (beside_dead c.args.cons.now.lang.now.value_count (arc_by c.args.cons.now.lang.now (c.requires.pair none).pairs c.args.pair) c.args.doms.now c.in-Some.u (λ x. is_wanted c.args.pair.holding (bit_at c.in-Some.row x == 1))
-    (different_in c.args.cons.now.lang.now (slice_index_or (arcs_of c.args.cons.now.lang.now c.args.cons.now.list.now c.args.cons.now.against) c.args.i none) c.args.pair (c.requires.pair none) (arcs_different c.args.cons.now.lang.now c.args.cons.now.list.now c.args.cons.now.against c.requires.lawful c.requires.constraints c.args.i none c.requires.low))
-    (known_in c.args.cons.now.lang.now (slice_index_or (arcs_of c.args.cons.now.lang.now c.args.cons.now.list.now c.args.cons.now.against) c.args.i none) c.args.pair c.args.doms.now (c.requires.pair none) (arcs_within c.args.cons.now.lang.now c.args.cons.now.list.now c.args.cons.now.against c.requires.lawful c.requires.constraints c.args.doms.now c.requires.doms.family c.args.i none c.requires.low))
+    (stood_dead c.args.cons.now.lang.now (slice_index_or (arcs_of c.args.cons.now.lang.now c.args.cons.now.list.now c.args.cons.now.against) c.args.i none) c.args.pair.now c.args.doms.now (c.requires.pair none) c.requires.doms.family
+    (beside_dead c.args.cons.now.lang.now.value_count (arc_by c.args.cons.now.lang.now (c.requires.pair none).pairs c.args.pair.now) c.args.doms.now c.in-Some.u (λ x. is_wanted c.args.pair.now.holding (bit_at c.in-Some.row x == 1))
+    (different_in c.args.cons.now.lang.now (slice_index_or (arcs_of c.args.cons.now.lang.now c.args.cons.now.list.now c.args.cons.now.against) c.args.i none) c.args.pair.now (c.requires.pair none) (arcs_different c.args.cons.now.lang.now c.args.cons.now.list.now c.args.cons.now.against c.requires.lawful c.requires.constraints c.args.i none c.requires.low))
+    (known_in c.args.cons.now.lang.now (slice_index_or (arcs_of c.args.cons.now.lang.now c.args.cons.now.list.now c.args.cons.now.against) c.args.i none) c.args.pair.now c.args.doms.now (c.requires.pair none) (arcs_within c.args.cons.now.lang.now c.args.cons.now.list.now c.args.cons.now.against c.requires.lawful c.requires.constraints c.args.doms.now c.requires.doms.family c.args.i none c.requires.low))
     c.requires.doms.family.values (c.in-Some.ensures.beside (c.requires.pair none).pairs (c.requires.pair none).are c.requires.doms.family.values) c.in-Nothing.ensures))
 
 pub returns-else-has_more-3-clause-looked : goal.returns-else-has_more-3-clause-looked
 returns-else-has_more-3-clause-looked c = λ e.
     subst (λ (next : List ℕ). IsLooked (arcs_of c.args.cons.now.lang.now c.args.cons.now.list.now c.args.cons.now.against) c.args.i c.args.waiting.now next c.args.doms.now c.keep.new.self) (sym c.with.ensures)
-    (beside_fewer (arcs_of c.args.cons.now.lang.now c.args.cons.now.list.now c.args.cons.now.against) c.args.i c.args.waiting.now c.args.doms.now c.keep.new.self c.in-Some.u (λ x. is_wanted c.args.pair.holding (bit_at c.in-Some.row x == 1))
+    (beside_fewer (arcs_of c.args.cons.now.lang.now c.args.cons.now.list.now c.args.cons.now.against) c.args.i c.args.waiting.now c.args.doms.now c.keep.new.self c.in-Some.u (λ x. is_wanted c.args.pair.now.holding (bit_at c.in-Some.row x == 1))
     (arcs_small c.args.cons.now.lang.now c.args.cons.now.list.now c.args.cons.now.against c.requires.lawful c.requires.constraints) c.requires.low c.requires.doms.full
-    (λ a. stood_revised c.args.cons.now.lang.now (slice_index_or (arcs_of c.args.cons.now.lang.now c.args.cons.now.list.now c.args.cons.now.against) c.args.i a) c.args.pair c.args.doms.now (c.requires.pair a) c.requires.doms.family c.keep.new.self
-    (beside_revised c.args.cons.now.lang.now.value_count (arc_by c.args.cons.now.lang.now (c.requires.pair a).pairs c.args.pair) c.args.doms.now c.in-Some.u (λ x. is_wanted c.args.pair.holding (bit_at c.in-Some.row x == 1))
-    (different_in c.args.cons.now.lang.now (slice_index_or (arcs_of c.args.cons.now.lang.now c.args.cons.now.list.now c.args.cons.now.against) c.args.i a) c.args.pair (c.requires.pair a) (arcs_different c.args.cons.now.lang.now c.args.cons.now.list.now c.args.cons.now.against c.requires.lawful c.requires.constraints c.args.i a c.requires.low))
-    (known_in c.args.cons.now.lang.now (slice_index_or (arcs_of c.args.cons.now.lang.now c.args.cons.now.list.now c.args.cons.now.against) c.args.i a) c.args.pair c.args.doms.now (c.requires.pair a) (arcs_within c.args.cons.now.lang.now c.args.cons.now.list.now c.args.cons.now.against c.requires.lawful c.requires.constraints c.args.doms.now c.requires.doms.family c.args.i a c.requires.low))
+    (λ a. stood_revised c.args.cons.now.lang.now (slice_index_or (arcs_of c.args.cons.now.lang.now c.args.cons.now.list.now c.args.cons.now.against) c.args.i a) c.args.pair.now c.args.doms.now (c.requires.pair a) c.requires.doms.family c.keep.new.self
+    (beside_revised c.args.cons.now.lang.now.value_count (arc_by c.args.cons.now.lang.now (c.requires.pair a).pairs c.args.pair.now) c.args.doms.now c.in-Some.u (λ x. is_wanted c.args.pair.now.holding (bit_at c.in-Some.row x == 1))
+    (different_in c.args.cons.now.lang.now (slice_index_or (arcs_of c.args.cons.now.lang.now c.args.cons.now.list.now c.args.cons.now.against) c.args.i a) c.args.pair.now (c.requires.pair a) (arcs_different c.args.cons.now.lang.now c.args.cons.now.list.now c.args.cons.now.against c.requires.lawful c.requires.constraints c.args.i a c.requires.low))
+    (known_in c.args.cons.now.lang.now (slice_index_or (arcs_of c.args.cons.now.lang.now c.args.cons.now.list.now c.args.cons.now.against) c.args.i a) c.args.pair.now c.args.doms.now (c.requires.pair a) (arcs_within c.args.cons.now.lang.now c.args.cons.now.list.now c.args.cons.now.against c.requires.lawful c.requires.constraints c.args.doms.now c.requires.doms.family c.args.i a c.requires.low))
     c.requires.doms.family.values (c.in-Some.ensures.beside (c.requires.pair a).pairs (c.requires.pair a).are c.requires.doms.family.values) c.keep.new.self c.in-Fewer.ensures.0))
     c.in-Fewer.ensures.0 c.in-Fewer.ensures.1)
 
@@ -77,13 +77,13 @@ returns-then-has_more-3-clause-looked c = λ e.
     get_or_read c.args.plan.now.limits.items c.from.result c.index.result.now (omega arith) c.index.ensures 0 ∙ ap (λ (v : ℕ). slice_index_or c.args.plan.now.limits.items v 0) c.from.ensures in
     let more : HasMore (slice_index_or c.args.plan.now.limits.items c.in-Some.u 0) (slice_index_or c.keep.new.self c.in-Some.u []) =
     subst (λ (most : ℕ). HasMore most (slice_index_or c.keep.new.self c.in-Some.u [])) limit (c.if-has_more-3.ensures.more refl) in
-    beside_lazy c.args.cons.now.lang.now (arcs_of c.args.cons.now.lang.now c.args.cons.now.list.now c.args.cons.now.against) c.args.i c.args.waiting.now c.args.doms.now c.keep.new.self c.in-Some.u (λ x. is_wanted c.args.pair.holding (bit_at c.in-Some.row x == 1)) c.args.plan.now.limits.items (let few = c.requires.lawful.few_values in omega arith)
+    beside_lazy c.args.cons.now.lang.now (arcs_of c.args.cons.now.lang.now c.args.cons.now.list.now c.args.cons.now.against) c.args.i c.args.waiting.now c.args.doms.now c.keep.new.self c.in-Some.u (λ x. is_wanted c.args.pair.now.holding (bit_at c.in-Some.row x == 1)) c.args.plan.now.limits.items (let few = c.requires.lawful.few_values in omega arith)
     (arcs_small c.args.cons.now.lang.now c.args.cons.now.list.now c.args.cons.now.against c.requires.lawful c.requires.constraints)
     (arcs_different c.args.cons.now.lang.now c.args.cons.now.list.now c.args.cons.now.against c.requires.lawful c.requires.constraints) c.requires.low c.requires.doms.full
-    (λ a. stood_revised c.args.cons.now.lang.now (slice_index_or (arcs_of c.args.cons.now.lang.now c.args.cons.now.list.now c.args.cons.now.against) c.args.i a) c.args.pair c.args.doms.now (c.requires.pair a) c.requires.doms.family c.keep.new.self
-    (beside_revised c.args.cons.now.lang.now.value_count (arc_by c.args.cons.now.lang.now (c.requires.pair a).pairs c.args.pair) c.args.doms.now c.in-Some.u (λ x. is_wanted c.args.pair.holding (bit_at c.in-Some.row x == 1))
-    (different_in c.args.cons.now.lang.now (slice_index_or (arcs_of c.args.cons.now.lang.now c.args.cons.now.list.now c.args.cons.now.against) c.args.i a) c.args.pair (c.requires.pair a) (arcs_different c.args.cons.now.lang.now c.args.cons.now.list.now c.args.cons.now.against c.requires.lawful c.requires.constraints c.args.i a c.requires.low))
-    (known_in c.args.cons.now.lang.now (slice_index_or (arcs_of c.args.cons.now.lang.now c.args.cons.now.list.now c.args.cons.now.against) c.args.i a) c.args.pair c.args.doms.now (c.requires.pair a) (arcs_within c.args.cons.now.lang.now c.args.cons.now.list.now c.args.cons.now.against c.requires.lawful c.requires.constraints c.args.doms.now c.requires.doms.family c.args.i a c.requires.low))
+    (λ a. stood_revised c.args.cons.now.lang.now (slice_index_or (arcs_of c.args.cons.now.lang.now c.args.cons.now.list.now c.args.cons.now.against) c.args.i a) c.args.pair.now c.args.doms.now (c.requires.pair a) c.requires.doms.family c.keep.new.self
+    (beside_revised c.args.cons.now.lang.now.value_count (arc_by c.args.cons.now.lang.now (c.requires.pair a).pairs c.args.pair.now) c.args.doms.now c.in-Some.u (λ x. is_wanted c.args.pair.now.holding (bit_at c.in-Some.row x == 1))
+    (different_in c.args.cons.now.lang.now (slice_index_or (arcs_of c.args.cons.now.lang.now c.args.cons.now.list.now c.args.cons.now.against) c.args.i a) c.args.pair.now (c.requires.pair a) (arcs_different c.args.cons.now.lang.now c.args.cons.now.list.now c.args.cons.now.against c.requires.lawful c.requires.constraints c.args.i a c.requires.low))
+    (known_in c.args.cons.now.lang.now (slice_index_or (arcs_of c.args.cons.now.lang.now c.args.cons.now.list.now c.args.cons.now.against) c.args.i a) c.args.pair.now c.args.doms.now (c.requires.pair a) (arcs_within c.args.cons.now.lang.now c.args.cons.now.list.now c.args.cons.now.against c.requires.lawful c.requires.constraints c.args.doms.now c.requires.doms.family c.args.i a c.requires.low))
     c.requires.doms.family.values (c.in-Some.ensures.beside (c.requires.pair a).pairs (c.requires.pair a).are c.requires.doms.family.values) c.keep.new.self c.in-Fewer.ensures.0))
     c.in-Fewer.ensures.0 c.in-Fewer.ensures.1 c.requires.doms.family more
     (λ k a low there. capped c.args.cons.now.lang.now (arcs_of c.args.cons.now.lang.now c.args.cons.now.list.now c.args.cons.now.against) c.args.plan.now.briefs.items c.args.plan.now.limits.items c.requires.plan.plan.briefs c.requires.plan.plan.limits k c.in-Some.u a low (let room = c.requires.plan.room in omega arith) there more.low)
@@ -92,10 +92,10 @@ pub returns-in-Same-clause-looked : goal.returns-in-Same-clause-looked
 returns-in-Same-clause-looked c = λ e.
     beside_same (arcs_of c.args.cons.now.lang.now c.args.cons.now.list.now c.args.cons.now.against) c.args.i c.args.waiting.now c.args.doms.now c.keep.new.self
     (arcs_small c.args.cons.now.lang.now c.args.cons.now.list.now c.args.cons.now.against c.requires.lawful c.requires.constraints) c.requires.low c.requires.doms.full
-    (λ a. stood_revised c.args.cons.now.lang.now (slice_index_or (arcs_of c.args.cons.now.lang.now c.args.cons.now.list.now c.args.cons.now.against) c.args.i a) c.args.pair c.args.doms.now (c.requires.pair a) c.requires.doms.family c.keep.new.self
-    (beside_revised c.args.cons.now.lang.now.value_count (arc_by c.args.cons.now.lang.now (c.requires.pair a).pairs c.args.pair) c.args.doms.now c.in-Some.u (λ x. is_wanted c.args.pair.holding (bit_at c.in-Some.row x == 1))
-    (different_in c.args.cons.now.lang.now (slice_index_or (arcs_of c.args.cons.now.lang.now c.args.cons.now.list.now c.args.cons.now.against) c.args.i a) c.args.pair (c.requires.pair a) (arcs_different c.args.cons.now.lang.now c.args.cons.now.list.now c.args.cons.now.against c.requires.lawful c.requires.constraints c.args.i a c.requires.low))
-    (known_in c.args.cons.now.lang.now (slice_index_or (arcs_of c.args.cons.now.lang.now c.args.cons.now.list.now c.args.cons.now.against) c.args.i a) c.args.pair c.args.doms.now (c.requires.pair a) (arcs_within c.args.cons.now.lang.now c.args.cons.now.list.now c.args.cons.now.against c.requires.lawful c.requires.constraints c.args.doms.now c.requires.doms.family c.args.i a c.requires.low))
+    (λ a. stood_revised c.args.cons.now.lang.now (slice_index_or (arcs_of c.args.cons.now.lang.now c.args.cons.now.list.now c.args.cons.now.against) c.args.i a) c.args.pair.now c.args.doms.now (c.requires.pair a) c.requires.doms.family c.keep.new.self
+    (beside_revised c.args.cons.now.lang.now.value_count (arc_by c.args.cons.now.lang.now (c.requires.pair a).pairs c.args.pair.now) c.args.doms.now c.in-Some.u (λ x. is_wanted c.args.pair.now.holding (bit_at c.in-Some.row x == 1))
+    (different_in c.args.cons.now.lang.now (slice_index_or (arcs_of c.args.cons.now.lang.now c.args.cons.now.list.now c.args.cons.now.against) c.args.i a) c.args.pair.now (c.requires.pair a) (arcs_different c.args.cons.now.lang.now c.args.cons.now.list.now c.args.cons.now.against c.requires.lawful c.requires.constraints c.args.i a c.requires.low))
+    (known_in c.args.cons.now.lang.now (slice_index_or (arcs_of c.args.cons.now.lang.now c.args.cons.now.list.now c.args.cons.now.against) c.args.i a) c.args.pair.now c.args.doms.now (c.requires.pair a) (arcs_within c.args.cons.now.lang.now c.args.cons.now.list.now c.args.cons.now.against c.requires.lawful c.requires.constraints c.args.doms.now c.requires.doms.family c.args.i a c.requires.low))
     c.requires.doms.family.values (c.in-Some.ensures.beside (c.requires.pair a).pairs (c.requires.pair a).are c.requires.doms.family.values) c.keep.new.self c.in-Same.ensures.0)) c.in-Same.ensures.1
 
 pub returns-in_default-clause-entailed : goal.returns-in_default-clause-entailed
@@ -103,21 +103,21 @@ returns-in_default-clause-entailed c = λ e are. entailed_under (arcs_of c.args.
 
 pub returns-else-has_more-3-clause-entailed : goal.returns-else-has_more-3-clause-entailed
 returns-else-has_more-3-clause-entailed c = λ e are.
-    pair_taken_in c.args.cons.now.lang.now (arcs_of c.args.cons.now.lang.now c.args.cons.now.list.now c.args.cons.now.against) c.args.entailed.now c.add.new.self c.args.i c.args.pair c.args.doms.now c.keep.new.self c.in-Some.u (λ x. is_wanted c.args.pair.holding (bit_at c.in-Some.row x == 1))
+    pair_taken_in c.args.cons.now.lang.now (arcs_of c.args.cons.now.lang.now c.args.cons.now.list.now c.args.cons.now.against) c.args.entailed.now c.add.new.self c.args.i c.args.pair.now c.args.doms.now c.keep.new.self c.in-Some.u (λ x. is_wanted c.args.pair.now.holding (bit_at c.in-Some.row x == 1))
     c.requires.pair (λ a. arcs_different c.args.cons.now.lang.now c.args.cons.now.list.now c.args.cons.now.against c.requires.lawful c.requires.constraints c.args.i a c.requires.low)
     (λ a. arcs_within c.args.cons.now.lang.now c.args.cons.now.list.now c.args.cons.now.against c.requires.lawful c.requires.constraints c.args.doms.now c.requires.doms.family c.args.i a c.requires.low)
     c.requires.doms.family c.in-Some.ensures.beside c.in-Fewer.ensures.0 c.add.ensures are
 
 pub returns-then-has_more-3-clause-entailed : goal.returns-then-has_more-3-clause-entailed
 returns-then-has_more-3-clause-entailed c = λ e are.
-    pair_taken_in c.args.cons.now.lang.now (arcs_of c.args.cons.now.lang.now c.args.cons.now.list.now c.args.cons.now.against) c.args.entailed.now c.add.new.self c.args.i c.args.pair c.args.doms.now c.keep.new.self c.in-Some.u (λ x. is_wanted c.args.pair.holding (bit_at c.in-Some.row x == 1))
+    pair_taken_in c.args.cons.now.lang.now (arcs_of c.args.cons.now.lang.now c.args.cons.now.list.now c.args.cons.now.against) c.args.entailed.now c.add.new.self c.args.i c.args.pair.now c.args.doms.now c.keep.new.self c.in-Some.u (λ x. is_wanted c.args.pair.now.holding (bit_at c.in-Some.row x == 1))
     c.requires.pair (λ a. arcs_different c.args.cons.now.lang.now c.args.cons.now.list.now c.args.cons.now.against c.requires.lawful c.requires.constraints c.args.i a c.requires.low)
     (λ a. arcs_within c.args.cons.now.lang.now c.args.cons.now.list.now c.args.cons.now.against c.requires.lawful c.requires.constraints c.args.doms.now c.requires.doms.family c.args.i a c.requires.low)
     c.requires.doms.family c.in-Some.ensures.beside c.in-Fewer.ensures.0 c.add.ensures are
 
 pub returns-in-Same-clause-entailed : goal.returns-in-Same-clause-entailed
 returns-in-Same-clause-entailed c = λ e are.
-    pair_taken_in c.args.cons.now.lang.now (arcs_of c.args.cons.now.lang.now c.args.cons.now.list.now c.args.cons.now.against) c.args.entailed.now c.add-in-Same.new.self c.args.i c.args.pair c.args.doms.now c.keep.new.self c.in-Some.u (λ x. is_wanted c.args.pair.holding (bit_at c.in-Some.row x == 1))
+    pair_taken_in c.args.cons.now.lang.now (arcs_of c.args.cons.now.lang.now c.args.cons.now.list.now c.args.cons.now.against) c.args.entailed.now c.add-in-Same.new.self c.args.i c.args.pair.now c.args.doms.now c.keep.new.self c.in-Some.u (λ x. is_wanted c.args.pair.now.holding (bit_at c.in-Some.row x == 1))
     c.requires.pair (λ a. arcs_different c.args.cons.now.lang.now c.args.cons.now.list.now c.args.cons.now.against c.requires.lawful c.requires.constraints c.args.i a c.requires.low)
     (λ a. arcs_within c.args.cons.now.lang.now c.args.cons.now.list.now c.args.cons.now.against c.requires.lawful c.requires.constraints c.args.doms.now c.requires.doms.family c.args.i a c.requires.low)
     c.requires.doms.family c.in-Some.ensures.beside c.in-Same.ensures.0 c.add-in-Same.ensures are
