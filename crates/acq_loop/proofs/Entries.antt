@@ -79,8 +79,8 @@ module _ {K D : Type 0} (keep : KeepOf K D) (disk : DiskOf D)
       let all = memory (ap lost is) in
       let Failed : Type 0 = end_of (lost f) ≡ Some drove.DiskFault in
       let As : D → Type 0 = λ d. Keeps keep disk Failed (λ lost. lost ≡ e) old new x d in
-      subst As (sym all.1.1)
-      (keeps_still disk counts_now only_now keep Failed (λ lost. lost ≡ e) old new x (not_memory f is) same.same_plan same.same_voc left.events same.same_writes all.1.0 all.0 keeper.live (subst (keep.sits new) all.1.1 sits) lasts)
+      subst As (sym all.2)
+      (keeps_still disk counts_now only_now keep Failed (λ lost. lost ≡ e) old new x (not_memory f is) same.same_plan same.same_voc left.events same.same_writes all.1 all.0 keeper.live (subst (keep.sits new) all.2 sits) lasts)
   keeps_event (Err f) keeper addable tried lasts added left same sits (inr is) memory failed on few raises unwritten written any =
       let why = failed (ap lost is) in
       let bad : end_of (lost f) ≡ Some drove.DiskFault = ap (λ (x : SFault). end_of (lost x)) is in

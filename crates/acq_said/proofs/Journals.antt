@@ -55,7 +55,7 @@ module _ {D : Type 0} (disk : DiskOf D) where
       OnErr got (BreaksRun turns lang (terms_with plan budget) events later left written left' written') →
       P lang plan events later →
       (on : GoesOn disk turns may budget left written left' written' first new got) × P on.lang on.plan on.events on.later
-  goes_on_with P turns may budget left written left' written' first old new got plan voc events later open_then lang was is says some read places still opening few raised grown calls lawful added on persists fails tries part has =
+  goes_on_with P turns may budget left written left' written' first old new got plan voc events later open_then lang was is says some read places still opening few knows grown calls lawful added on persists fails tries part has =
       ⊎_elim
       (λ is.
       let f = fails is in
@@ -82,7 +82,7 @@ module _ {D : Type 0} (disk : DiskOf D) where
               (λ c was. inl was) (λ c opens. inr opens);
           now = λ bytes told. let t = bytes_told (disk.content new) (on bytes (still ∙ told)) in record { bytes = t.0; tells = t.1; each = f.now bytes (still ∙ told) };
           raised = was;
-          was_raised = raised;
+          was_raised = knows;
           calls = λ bytes told.
               let more : grown.more ≡ added.more = append_cancel_left events grown.more added.more (sym grown.is ∙ added.is) in
               let Calls : List Event → Type 0 = λ l. disk.calls new ≤ disk.calls old + calls_of was (l ++ last) in
@@ -116,7 +116,7 @@ module _ {D : Type 0} (disk : DiskOf D) where
               (subst Within (sym same) (p bytes (still ∙ told)).any_moment) (λ c was. inl was) (λ c opens. inr opens);
           now = λ bytes told. let n = (p bytes (still ∙ told)).now in record { bytes = n.bytes; tells = n.tells; each = λ c left. inl (n.each c left) };
           raised = was;
-          was_raised = raised;
+          was_raised = knows;
           calls = λ bytes told.
               let more : grown.more ≡ added.more ++ [] = append_cancel_left events grown.more added.more (sym grown.is ∙ added.is) ∙ sym (append-nil added.more) in
               let Calls : List Event → Type 0 = λ l. disk.calls new ≤ disk.calls old + calls_of was l in
@@ -135,8 +135,8 @@ module _ {D : Type 0} (disk : DiskOf D) where
       IfOk got (Tries turns lang (terms_with plan budget) events later left written left' written') →
       OnErr got (BreaksRun turns lang (terms_with plan budget) events later left written left' written') →
       GoesOn disk turns may budget left written left' written' first new got
-  goes_on turns may budget left written left' written' first old new got plan voc events later open_then lang was is says some read places still opening few raised grown calls lawful added on persists fails tries part =
-      (goes_on_with (λ l p es fs. Unit {0}) turns may budget left written left' written' first old new got plan voc events later open_then lang was is says some read places still opening few raised grown calls lawful added on persists fails tries part tt).0
+  goes_on turns may budget left written left' written' first old new got plan voc events later open_then lang was is says some read places still opening few knows grown calls lawful added on persists fails tries part =
+      (goes_on_with (λ l p es fs. Unit {0}) turns may budget left written left' written' first old new got plan voc events later open_then lang was is says some read places still opening few knows grown calls lawful added on persists fails tries part tt).0
 
 -- ---- faults that aren't told
 
