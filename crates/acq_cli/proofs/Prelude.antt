@@ -29,7 +29,7 @@ pub use Rattle.acq_loop.specs.declared.driving.Drove.{Drove}
 pub use Rattle.acq_loop.specs.declared.ending.Ending.{Ending}
 pub use Rattle.acq_loop.specs.declared.terms.Terms.{Terms}
 pub use Rattle.acq_said.proofs.Closings.{err_ok, failed, loops_by, not_loops, okay, same_ok}
-pub use Rattle.acq_said.proofs.Journals.{IsDisk, goes_on, goes_on_with, opened_now}
+pub use Rattle.acq_said.proofs.Journals.{IsDisk, goes_on, goes_on_with, opened_now, opened_raised}
 pub use Rattle.acq_said.proofs.Parts.{acquires_as, acquires_in, begun, begun_part, breaks_in, breaks_refused, ends_ok, ends_part, unbegun}
 pub use Rattle.acq_said.proofs.SaidOver.{asked_own, broken_own, check_own, is_own, not_own, opening_own, over_ends, own_said, read_own, refuses_own, so_own, solve_ends, solves_own}
 pub use Rattle.acq_said.proofs.Spoken.{closed_end, ends_as, ends_said, fine, fine_long, gives_got, input_end, long_one, only_long, said_as, same_fine, silent_ends, silent_not, silently, too_many, whole_of}

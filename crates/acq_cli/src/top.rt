@@ -13,7 +13,7 @@ ghost use Rattle.target_oracle.specs.Lines.{line_turn};
 ghost use Rattle.acq_loop.specs.Driven.{HasEnded, Loses, TellsOpen};
 ghost use Rattle.acq_loop.specs.Added.{IsTaught, MayEnd};
 ghost use Rattle.acq_loop.specs.Points.{point_of, terms_with};
-ghost use Rattle.acq_loop.specs.Loop.{CountsFaults};
+ghost use Rattle.acq_loop.specs.Loop.{HasReadAndWritten};
 ghost use Rattle.acq_said.specs.Breaks.{BreaksRun};
 ghost use Rattle.acq_said.specs.Trying.{Acquires, BreaksOff};
 ghost use Rattle.acq_said.specs.Endings.{HasAsked, Says, SaysPart, Tries};
@@ -100,10 +100,8 @@ pub(crate) fn ask_on<
     requires budget { IsBudget budget }
     ensures asked { HasAsked (T.turn teacher.old) (P.lang keep.old) (terms_with (P.plan keep.old) budget) (P.record_of keep.old) (P.record_of keep.new)
         (S.left input.old) (K.written out.old) (S.left input.new) (K.written out.new) result }
-    ensures takes { TakesSome (S.left input.old) (S.left input.new) }
-    ensures read { HasCalled (S.faults input.old) (S.faults input.new) (S.late input.old) (S.late input.new) (result ≡ Ok Ending.ReadFault) }
+    ensures faults { HasReadAndWritten (S.left input.old) (S.left input.new) (S.faults input.old) (S.faults input.new) (S.late input.old) (S.late input.new) (K.faults out.old) (K.faults out.new) (result ≡ Ok Ending.ReadFault) (result ≡ Err Put.Failed) }
     ensures no_fault { IfOk result (λ ending. ending ≢ Ending.WriteFault) }
-    ensures failed { CountsFaults (K.faults out.old) (K.faults out.new) (result ≡ Err Put.Failed) }
     ensures taught { IsTaught (P.lang keep.old) (P.plan keep.old) (T.may_say teacher.old (P.lang keep.old)) (P.record_of keep.old) (P.record_of keep.new)
         (MayEnd (T.may_say teacher.old (P.lang keep.old)) result) }
     // where the teacher doesn't read, nothing does

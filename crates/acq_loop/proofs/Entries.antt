@@ -1,11 +1,11 @@
 -- An entry that a keeper was asked to keep.
-use Rattle.acq_loop.proofs.Prelude.{◌≡◌, ◌∙◌, ◌≤◌, ◌⊎◌, ◌++◌, ◌∷◌, [], ℕ, IsTrue, IsFalse, List, Option, Some, None, Result, Ok, Err, OnOk, OnErr, IfErr, IsErrOf, ap, sym, subst, refl, inl, inr, ◌+◌, arith, ForSome, Assignment, Event, Plan, DiskOf, Language, standing_on, IsSettled, KeepOf, Keeps, IsKeeping, IsAddable, IsTried, calls_one, few_for, grown_none, grown_one, keeps_still, persists_one, fails_one, EventKept, ended_by, end_of}
+use Rattle.acq_loop.proofs.Prelude.{◌≡◌, ◌∙◌, ◌≤◌, ◌⊎◌, ◌++◌, ◌∷◌, [], ℕ, IsTrue, IsFalse, List, Option, Some, None, Result, Ok, Err, OnOk, OnErr, IfErr, IsErrOf, ap, sym, subst, refl, inl, inr, ◌+◌, arith, ForSome, Assignment, Event, Plan, DiskOf, Language, standing_on, IsSettled, KeepOf, Keeps, IsKeeping, IsAddable, IsTried, calls_one, grown_none, grown_one, keeps_still, persists_one, fails_one, EventKept, ended_by, end_of}
 use Rattle.answer_journal.specs.declared.fault.JFault.TheVariants as journal
 use Rattle.disk_model.specs.Disk.{Rose}
 use Rattle.disk_model.specs.Moments.{GoesOn, LeavesOnly}
 use Rattle.session_store.specs.declared.fault.SFault.{SFault}
 use Rattle.session_store.specs.declared.fault.SFault.TheVariants as store
-use Rattle.session_store.specs.Keeping.{HasKept, IsUnmoved, HasSameTerms, calls_for}
+use Rattle.session_store.specs.Keeping.{HasKept, IsUnmoved, HasSameTerms, calls_for, raised_by}
 use Rattle.session_store.specs.Left.{OpensWith, OpensWithOrWithout, LeavesNow}
 use Rattle.acq_loop.specs.declared.driving.Drove.TheVariants as drove
 use Rattle.acq_loop.proofs.Standings.{carried}
@@ -54,12 +54,12 @@ module _ {K D : Type 0} (keep : KeepOf K D) (disk : DiskOf D)
   pub keeps_event : (r : Answered) → IsKeeping keep old x → IsAddable e → IsTried (keep.question old) e →
       (IsTrue (keep.writes old) → ForSome (disk.content x) (λ _. (c : List ℕ) → disk.may_leave x c → OpensWith (keep.plan old) (keep.voc old) (keep.record_of old) c)) →
       OnOk r HasAdded → OnErr r IsLeft → HasSameTerms keep.lang keep.plan keep.voc keep.writes old new → keep.sits new y → GivesUp r →
-      (IsErrOf r store.Memory → (keep.live new ≡ keep.live old) × (y ≡ x)) →
-      (IsErrOf r (store.Journal journal.DiskFault) → IsTrue (keep.writes old) × IsFalse (keep.live new) × Rose (disk.faults x) (disk.faults y)) → GoesOn disk x y → disk.calls y ≤ disk.calls x + calls_for e → (IsFalse (keep.writes old) → y ≡ x) →
+      (IsErrOf r store.Memory → (keep.live new ≡ keep.live old) × (keep.raised new ≡ keep.raised old) × (y ≡ x)) →
+      (IsErrOf r (store.Journal journal.DiskFault) → IsTrue (keep.writes old) × IsFalse (keep.live new) × Rose (disk.faults x) (disk.faults y)) → GoesOn disk x y → disk.calls y ≤ disk.calls x + calls_for (keep.raised old) e → OnOk r (keep.raised new ≡ raised_by (keep.raised old) e) → (IsFalse (keep.writes old) → y ≡ x) →
       (IsTrue (keep.writes old) → ForSome (disk.content x) (λ _. OnOk r (LeavesNow disk (OpensWith (keep.plan old) (keep.voc old) (keep.record_of new)) y))) →
       (IsTrue (keep.writes old) → ForSome (disk.content x) (λ _. LeavesOnly disk x y (OpensWithOrWithout (keep.plan old) (keep.voc old) (keep.record_of old) e))) →
       Keeps keep disk (end_of r ≡ Some drove.DiskFault) (λ lost. lost ≡ e) old new x y
-  keeps_event (Ok done) keeper addable tried lasts added left same sits why memory failed on few unwritten written any = record {
+  keeps_event (Ok done) keeper addable tried lasts added left same sits why memory failed on few raises unwritten written any = record {
     same_voc = same.same_voc;
     same_writes = same.same_writes;
     belongs = sits;
@@ -69,19 +69,19 @@ module _ {K D : Type 0} (keep : KeepOf K D) (disk : DiskOf D)
     told = on.told;
     cause = λ bad. absurd (not_failed bad);
     grown = grown_one (keep.record_of old) (keep.record_of new) e addable added.added;
-    calls = let one = calls_one (keep.record_of old) (keep.record_of new) e addable added.added in record { each_kept = λ no. omega (arith, few, one); at_most = omega (arith, few, one) };
+    calls = λ no. calls_one disk counts_now only_now (keep.raised old) (keep.raised new) (keep.record_of old) (keep.record_of new) e addable added.added x y raises few;
     unwritten = unwritten;
     persists = λ w bytes told no.
         persists_one disk counts_now only_now (keep.plan old) (keep.voc old) (keep.record_of old) (keep.record_of new) e x y added.added (written w bytes told) (any w bytes told);
     fails = λ bad. absurd (not_failed bad);
   }
-  keeps_event (Err f) keeper addable tried lasts added left same sits (inl is) memory failed on few unwritten written any =
+  keeps_event (Err f) keeper addable tried lasts added left same sits (inl is) memory failed on few raises unwritten written any =
       let all = memory (ap lost is) in
       let Failed : Type 0 = end_of (lost f) ≡ Some drove.DiskFault in
       let As : D → Type 0 = λ d. Keeps keep disk Failed (λ lost. lost ≡ e) old new x d in
-      subst As (sym all.1)
-      (keeps_still disk counts_now only_now keep Failed (λ lost. lost ≡ e) old new x (not_memory f is) same.same_plan same.same_voc left.events same.same_writes all.0 keeper.live (subst (keep.sits new) all.1 sits) lasts)
-  keeps_event (Err f) keeper addable tried lasts added left same sits (inr is) memory failed on few unwritten written any =
+      subst As (sym all.2)
+      (keeps_still disk counts_now only_now keep Failed (λ lost. lost ≡ e) old new x (not_memory f is) same.same_plan same.same_voc left.events same.same_writes all.1 all.0 keeper.live (subst (keep.sits new) all.2 sits) lasts)
+  keeps_event (Err f) keeper addable tried lasts added left same sits (inr is) memory failed on few raises unwritten written any =
       let why = failed (ap lost is) in
       let bad : end_of (lost f) ≡ Some drove.DiskFault = ap (λ (x : SFault). end_of (lost x)) is in
       let Tried : Option Assignment → Type 0 = λ put. IsTried put e in
@@ -95,10 +95,10 @@ module _ {K D : Type 0} (keep : KeepOf K D) (disk : DiskOf D)
         told = on.told;
         cause = λ so. (why.0, why.2);
         grown = grown_none (keep.record_of old) (keep.record_of new) left.events;
-        calls = record { each_kept = λ no. absurd (no bad); at_most = omega (arith, few, few_for e) };
+        calls = λ no. absurd (no bad);
         unwritten = unwritten;
         persists = λ w bytes told no. absurd (no bad);
         fails = λ so.
-            fails_one disk counts_now only_now (keep.plan old) (keep.voc old) (keep.record_of old) (keep.record_of new) e (keep.question new) (λ lost. lost ≡ e) x y
-            left.events (subst Tried (sym left.question) tried) refl (λ bytes told. any why.0 bytes told);
+            fails_one disk counts_now only_now (keep.raised old) (keep.plan old) (keep.voc old) (keep.record_of old) (keep.record_of new) e (keep.question new) (λ lost. lost ≡ e) x y
+            left.events (subst Tried (sym left.question) tried) refl few (λ bytes told. any why.0 bytes told);
       }

@@ -41,7 +41,7 @@ pub use Rattle.session_laws.specs.Laws.{Extends, OneAnswerMore, QuestionsHavePla
 pub use Rattle.session_laws.specs.Session.{At, Choosing, Halving, Idle, Over, Reading, State, Stray, Walking, is_just, is_lawful, is_undecided, next_scope, open_question, scope_question, state_after, step, then_on}
 unfoldable pub use Rattle.session_laws.specs.Session.{read_on}
 pub use Rattle.session_laws.specs.Walk.{WalkEnd, violates_some}
-pub use Rattle.session_store.proofs.Keepers.{both_as, calls_one, event_calls, event_goes_on, event_left, event_now, fails_one, few_for, grown_none, grown_one, keeps_as, keeps_still, keeps_then, kept_failed, kept_faults, kept_memory, loses_none, loses_none_as, loses_nothing, persists_one, rose_later}
+pub use Rattle.session_store.proofs.Keepers.{both_as, calls_one, event_calls, event_goes_on, event_left, event_now, fails_one, grown_none, grown_one, keeps_as, keeps_still, keeps_then, kept_failed, kept_faults, kept_memory, loses_none, loses_none_as, loses_nothing, persists_one, rose_later}
 pub use Rattle.session_store.specs.Keeps.{IsKeeping, Keeps, OnlyPuts}
 pub use Rattle.session_store.specs.Kept.{IsAddable, IsLawfulAfter, IsTried, answer_event}
 pub use Rattle.session_store.specs.declared.keep.Keep.{Ghosts as KeepOf}

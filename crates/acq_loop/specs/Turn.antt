@@ -1,5 +1,5 @@
 -- One turn of the loop, and turns one after another.
-use Rattle.std.specs.Prelude.{◌≡◌, List, [], ◌∷◌, ℕ, Bool, Option}
+use Rattle.std.specs.Prelude.{◌≡◌, List, [], ◌∷◌, ℕ, Bool, IsFalse, Option}
 use Rattle.std.specs.Option.{ForSome}
 use Rattle.acq_io.specs.Streams.{AddsFront}
 use Rattle.assign.specs.Assignment.{Assignment}
@@ -53,7 +53,8 @@ module _ {K D : Type 0} (keep : KeepOf K D) (disk : DiskOf D) where
 
 -- the meanings of a teacher
 module _ {T : Type 0} (turns_of : T → Turns) (fits_of : T → Language → Type 0) (may_of : T → Language → Assignment → Told → Type 0) (reads_of : T → Bool) where
-  -- The teacher teaches as before, and the places are made for the language.
-  pub record ServesOn (l : Language) (old new : T) (places : List Place) : Type 0 where
+  -- The teacher teaches as before, and where it doesn't read, the source was left alone. The places are made for the language.
+  pub record ServesOn {S : Type 0} (l : Language) (old new : T) (source source' : S) (places : List Place) : Type 0 where
     pub teaches : TeachesOn turns_of fits_of may_of reads_of old new
+    pub unread : IsFalse (reads_of old) → source' ≡ source
     pub equipped : AreMadeFor l places

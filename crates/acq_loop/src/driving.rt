@@ -234,8 +234,7 @@ pub fn take_turn<
         keep.old keep.new disk.old disk.new }
     ensures faults { HasReadAndWritten (S.left source.old) (S.left source.new) (S.faults source.old) (S.faults source.new) (S.late source.old) (S.late source.new) (K.faults sink.old) (K.faults sink.new) (result ≡ Some Drove.ReadFault) (result ≡ Some Drove.WriteFault) }
     // a teacher that doesn't read leaves the source alone
-    ensures unread { IsFalse (T.reads teacher.old) → source.new ≡ source.old }
-    ensures serves { ServesOn T.turn T.fits T.may_say T.reads (P.lang keep.old) teacher.old teacher.new places.new }
+    ensures serves { ServesOn T.turn T.fits T.may_say T.reads (P.lang keep.old) teacher.old teacher.new source.old source.new places.new }
     // whatever comes of it
     ensures turn { IsTurn P.Keep D.Disk (T.turn teacher.old) (P.lang keep.old) (terms_with (P.plan keep.old) budget)
         (between keep.old disk.old (S.left source.old) (K.written sink.old)) (between keep.new disk.new (S.left source.new) (K.written sink.new)) }
@@ -297,10 +296,8 @@ pub fn drive<R: Threads + Sync, S: Source, K: Sink, D: Disk, T: Teacher<S, K>, P
         keep.old keep.new disk.old disk.new }
     // whatever the ending, the input has an end of what it had
     ensures faults { HasReadAndWritten (S.left source.old) (S.left source.new) (S.faults source.old) (S.faults source.new) (S.late source.old) (S.late source.new) (K.faults sink.old) (K.faults sink.new) (result ≡ Drove.ReadFault) (result ≡ Drove.WriteFault) }
-    // where the teacher doesn't read, nothing does
-    ensures unread { IsFalse (T.reads teacher.old) → source.new ≡ source.old }
-    // however it ends, places and teacher serve another call
-    ensures serves { ServesOn T.turn T.fits T.may_say T.reads (P.lang keep.old) teacher.old teacher.new places.new }
+    // however it ends, places and teacher serve another call; where the teacher doesn't read, nothing does
+    ensures serves { ServesOn T.turn T.fits T.may_say T.reads (P.lang keep.old) teacher.old teacher.new source.old source.new places.new }
     // no turn loses an event that was there when it began, or writes more than the lines of the question that came then
     ensures by_turns { ByTurns P.Keep D.Disk (T.turn teacher.old) (P.lang keep.old) (terms_with (P.plan keep.old) budget)
         (between keep.old disk.old (S.left source.old) (K.written sink.old)) (between keep.new disk.new (S.left source.new) (K.written sink.new)) }

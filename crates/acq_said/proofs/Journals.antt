@@ -1,5 +1,5 @@
 -- What a run over a journal has done, of its opening and its loop.
-use Rattle.acq_said.proofs.Prelude.{◌≡◌, ◌⊎◌, ℕ, List, [], ◌∷◌, ◌++◌, Option, Some, Result, Ok, Err, refl, sym, ◌∙◌, ap, subst, inl, inr, ⊎_elim, length, arith, length-append, IfOk, OnErr, IsSome, ForSome, append-nil, DiskOf, Put, AreReadingCalls, Assignment, Event, Plan, LeavesOnly, joined, Language, IsLanguage, OpensWith, OpensWithin, SaysSession, LeavesNow, bytes_told, few_of, AreEventCalls, IsGrown, Persists, FailsWith, HavePlaces, plan_of, voc_of, events_of, IsThere, opens_there, Store, SFault, IsVocabulary, BreaksRun, Turns, Told, IsAdded, run_laws, Loses, point_of, terms_with, Tries, GoesOn, Ending, untold, Unsaid}
+use Rattle.acq_said.proofs.Prelude.{◌≡◌, ◌⊎◌, ◌+◌, ◌≤◌, ℕ, Bool, List, [], ◌∷◌, ◌++◌, Option, Some, Result, Ok, Err, refl, sym, ◌∙◌, ap, subst, inl, inr, ⊎_elim, arith, append_cancel_left, IfOk, OnErr, IsSome, ForSome, append-nil, DiskOf, Put, AreReadingCalls, Assignment, Event, Plan, LeavesOnly, joined, Language, IsLanguage, OpensWith, OpensWithin, SaysSession, LeavesNow, bytes_told, calls_of, IsRaisedOn, AreEventCalls, IsGrown, Persists, FailsWith, HavePlaces, plan_of, voc_of, events_of, IsThere, is_raised_in, opens_there, Store, SFault, IsVocabulary, BreaksRun, Turns, Told, IsAdded, run_laws, Loses, point_of, terms_with, Tries, GoesOn, Ending, untold, Unsaid}
 use Rattle.acq_io.specs.declared.streams.Put.TheVariants as put
 use Rattle.answer_journal.specs.declared.fault.JFault.TheVariants as journal
 use Rattle.session_store.specs.declared.fault.SFault.TheVariants as store
@@ -45,17 +45,17 @@ disk_failed (Ok end) = ⊎_elim (λ is. inl (ap okay is)) (λ other. inr (λ h. 
 
 module _ {D : Type 0} (disk : DiskOf D) where
   -- what holds of its language, plan and events holds of what it is about
-  pub goes_on_with : (P : Language → Plan → List Event → List Event → Type 0) (turns : Turns) (may : Language → Assignment → Told → Type 0) (budget : ℕ) (left written left' written' : Option (List ℕ)) (first old new : D) (got : Result Ending Put) (plan : Plan) (voc : List ℕ) (events later : List Event) (open_then : Option Assignment) (lang : Language) →
+  pub goes_on_with : (P : Language → Plan → List Event → List Event → Type 0) (turns : Turns) (may : Language → Assignment → Told → Type 0) (budget : ℕ) (left written left' written' : Option (List ℕ)) (first old new : D) (got : Result Ending Put) (plan : Plan) (voc : List ℕ) (events later : List Event) (open_then : Option Assignment) (lang : Language) (was is : Bool) →
       ForSome (disk.content first) (λ bytes. SaysSession bytes plan voc events) → ((bytes : List ℕ) × SaysSession bytes plan voc events) → IsVocabulary voc lang → HavePlaces lang plan events → disk.content old ≡ disk.content first → LeavesOnly disk first old (disk.may_leave first) → ForSome (disk.content first) (AreReadingCalls 5 (disk.calls first) (disk.calls old)) →
-      (grown : IsGrown events later) → AreEventCalls disk (IsDisk got) grown.more old new →
+      ForSome (disk.content first) (λ bytes. IsRaisedOn bytes was) → (grown : IsGrown events later) → ((IsDisk got → ⊥) → AreEventCalls disk was is grown.more old new) →
       IsLanguage lang → IsAdded lang plan (may lang) events later → ForSome (disk.content old) (λ _. IsSome (disk.content new)) → ((IsDisk got → ⊥) → ForSome (disk.content old) (λ _. Persists disk plan voc events later old new)) →
-      (IsDisk got → FailsWith disk plan voc events later open_then
+      (IsDisk got → FailsWith disk was grown.more plan voc events later open_then
       (Loses turns lang (terms_with plan budget) (point_of events left written) (point_of later left' written')) old new) →
       IfOk got (Tries turns lang (terms_with plan budget) events later left written left' written') →
       OnErr got (BreaksRun turns lang (terms_with plan budget) events later left written left' written') →
       P lang plan events later →
       (on : GoesOn disk turns may budget left written left' written' first new got) × P on.lang on.plan on.events on.later
-  goes_on_with P turns may budget left written left' written' first old new got plan voc events later open_then lang says some read places still opening few grown calls lawful added on persists fails tries part has =
+  goes_on_with P turns may budget left written left' written' first old new got plan voc events later open_then lang was is says some read places still opening few knows grown calls lawful added on persists fails tries part has =
       ⊎_elim
       (λ is.
       let f = fails is in
@@ -81,7 +81,12 @@ module _ {D : Type 0} (disk : DiskOf D) where
               joined disk first old new (disk.may_leave first) (OpensWithin plan voc events (later ++ last)) (λ c. disk.may_leave first c ⊎ OpensWithin plan voc events (later ++ last) c) opening (f.any_moment bytes (still ∙ told))
               (λ c was. inl was) (λ c opens. inr opens);
           now = λ bytes told. let t = bytes_told (disk.content new) (on bytes (still ∙ told)) in record { bytes = t.0; tells = t.1; each = f.now bytes (still ∙ told) };
-          calls = λ bytes told. omega (arith, few bytes told, calls.at_most, few_of grown.more, ap length grown.is, length-append events grown.more, length-append later last);
+          raised = was;
+          was_raised = knows;
+          calls = λ bytes told.
+              let more : grown.more ≡ added.more = append_cancel_left events grown.more added.more (sym grown.is ∙ added.is) in
+              let Calls : List Event → Type 0 = λ l. disk.calls new ≤ disk.calls old + calls_of was (l ++ last) in
+              let made : Calls added.more = subst Calls more f.few in omega (arith, few bytes told, made);
         },
         has,
       ))
@@ -110,23 +115,28 @@ module _ {D : Type 0} (disk : DiskOf D) where
               joined disk first old new (disk.may_leave first) (OpensWithin plan voc events (later ++ [])) (λ c. disk.may_leave first c ⊎ OpensWithin plan voc events (later ++ []) c) opening
               (subst Within (sym same) (p bytes (still ∙ told)).any_moment) (λ c was. inl was) (λ c opens. inr opens);
           now = λ bytes told. let n = (p bytes (still ∙ told)).now in record { bytes = n.bytes; tells = n.tells; each = λ c left. inl (n.each c left) };
-          calls = λ bytes told. omega (arith, few bytes told, calls.each_kept no, few_of grown.more, ap length grown.is, length-append events grown.more, ap length same);
+          raised = was;
+          was_raised = knows;
+          calls = λ bytes told.
+              let more : grown.more ≡ added.more ++ [] = append_cancel_left events grown.more added.more (sym grown.is ∙ added.is) ∙ sym (append-nil added.more) in
+              let Calls : List Event → Type 0 = λ l. disk.calls new ≤ disk.calls old + calls_of was l in
+              let made : Calls (added.more ++ []) = subst Calls more (calls no).few in omega (arith, few bytes told, made);
         },
         has,
       ))
       (disk_failed got)
 
-  pub goes_on : (turns : Turns) (may : Language → Assignment → Told → Type 0) (budget : ℕ) (left written left' written' : Option (List ℕ)) (first old new : D) (got : Result Ending Put) (plan : Plan) (voc : List ℕ) (events later : List Event) (open_then : Option Assignment) (lang : Language) →
+  pub goes_on : (turns : Turns) (may : Language → Assignment → Told → Type 0) (budget : ℕ) (left written left' written' : Option (List ℕ)) (first old new : D) (got : Result Ending Put) (plan : Plan) (voc : List ℕ) (events later : List Event) (open_then : Option Assignment) (lang : Language) (was is : Bool) →
       ForSome (disk.content first) (λ bytes. SaysSession bytes plan voc events) → ((bytes : List ℕ) × SaysSession bytes plan voc events) → IsVocabulary voc lang → HavePlaces lang plan events → disk.content old ≡ disk.content first → LeavesOnly disk first old (disk.may_leave first) → ForSome (disk.content first) (AreReadingCalls 5 (disk.calls first) (disk.calls old)) →
-      (grown : IsGrown events later) → AreEventCalls disk (IsDisk got) grown.more old new →
+      ForSome (disk.content first) (λ bytes. IsRaisedOn bytes was) → (grown : IsGrown events later) → ((IsDisk got → ⊥) → AreEventCalls disk was is grown.more old new) →
       IsLanguage lang → IsAdded lang plan (may lang) events later → ForSome (disk.content old) (λ _. IsSome (disk.content new)) → ((IsDisk got → ⊥) → ForSome (disk.content old) (λ _. Persists disk plan voc events later old new)) →
-      (IsDisk got → FailsWith disk plan voc events later open_then
+      (IsDisk got → FailsWith disk was grown.more plan voc events later open_then
       (Loses turns lang (terms_with plan budget) (point_of events left written) (point_of later left' written')) old new) →
       IfOk got (Tries turns lang (terms_with plan budget) events later left written left' written') →
       OnErr got (BreaksRun turns lang (terms_with plan budget) events later left written left' written') →
       GoesOn disk turns may budget left written left' written' first new got
-  goes_on turns may budget left written left' written' first old new got plan voc events later open_then lang says some read places still opening few grown calls lawful added on persists fails tries part =
-      (goes_on_with (λ l p es fs. Unit {0}) turns may budget left written left' written' first old new got plan voc events later open_then lang says some read places still opening few grown calls lawful added on persists fails tries part tt).0
+  goes_on turns may budget left written left' written' first old new got plan voc events later open_then lang was is says some read places still opening few knows grown calls lawful added on persists fails tries part =
+      (goes_on_with (λ l p es fs. Unit {0}) turns may budget left written left' written' first old new got plan voc events later open_then lang was is says some read places still opening few knows grown calls lawful added on persists fails tries part tt).0
 
 -- ---- faults that aren't told
 
@@ -169,6 +179,10 @@ made_now disk new made plan voc bytes told planned same none there = record {
 }
 
 -- ---- opening a journal
+
+-- whether its journal is raised
+pub opened_raised : (opened : Store) (may_leave : List ℕ → Type 0) (bytes : List ℕ) → IsThere opened.journal (plan_of opened) (voc_of opened) (events_of opened) may_leave bytes → IsRaisedOn bytes (is_raised_in opened)
+opened_raised opened may_leave bytes there = record { place = opened.journal; behind = there.behind; is = refl }
 
 -- what is left of a store that was just opened
 pub opened_now : {D : Type 0} (disk : DiskOf D) (new : D) (opened : Store) (bytes : List ℕ) → disk.content new ≡ Some bytes →

@@ -1,7 +1,7 @@
 -- The names from outside that these proofs cite, passed on from one place. Declares nothing.
 pub use Rattle.std.proofs.Common.{Bool, Err, Global, List, None, Ok, Option, Result, Some, Vec, [], ap, append_assoc, arith, cond, drop, false, get_or, inl, inr, is_some, length, length-append, length-take-le, map, refl, rules, subst, suc, sym, take, tests, true, zero, ℕ, ⊎_elim, ◌++◌, ◌+◌, ◌-◌, ◌<◌, ◌∙◌, ◌∷◌, ◌≡◌, ◌≤◌, ◌⊎◌}
 pub use Rattle.std.proofs.lemmas.Bool.{cases_lt, eq-eqb, leb-false}
-pub use Rattle.std.proofs.lemmas.List.{append-nil, length-map, take_all}
+pub use Rattle.std.proofs.lemmas.List.{append-nil, append_cancel_left, length-map, take_all}
 pub use Rattle.std.proofs.lemmas.List.Elements.{All-cons, All-get_or, All-nil, All-weaker, filter-append}
 pub use Rattle.std.specs.Fmt.{decimal}
 pub use Rattle.std.specs.List.{flat_map, list_any}
@@ -54,15 +54,15 @@ pub use Rattle.session_core.specs.declared.session.Session.{Session}
 pub use Rattle.session_laws.specs.Laws.{IsAskable, network_in}
 pub use Rattle.session_laws.specs.Session.{At, Choosing, Halving, Idle, Over, State, Walking, is_just, open_question, state_after, step, then_on}
 unfoldable pub use Rattle.session_laws.specs.Session.{read_on}
-pub use Rattle.session_store.proofs.Keepers.{both_as, few_of, keeps_as, rose_later, within_more}
+pub use Rattle.session_store.proofs.Keepers.{both_as, keeps_as, rose_later, within_more}
 pub use Rattle.session_store.proofs.Recording.{record_at, recorded_seen}
 pub use Rattle.session_store.proofs.Replaying.{IsBusy, busy_from, seen_next}
 pub use Rattle.session_store.specs.Held.{IsWide}
-pub use Rattle.session_store.specs.Keeping.{AreEventCalls, FailsWith, IsGrown, Persists}
-pub use Rattle.session_store.specs.Left.{LeavesNow, OpensWith, OpensWithOrWithout, OpensWithin, SaysSession, bytes_told}
+pub use Rattle.session_store.specs.Keeping.{AreEventCalls, FailsWith, IsGrown, Persists, calls_for, calls_of}
+pub use Rattle.session_store.specs.Left.{IsRaisedOn, LeavesNow, OpensWith, OpensWithOrWithout, OpensWithin, SaysSession, bytes_told}
 pub use Rattle.session_store.specs.Opened.{Holds, Opened, OpensOnce, RefusesOpening as RefusesBytes, RefusesOpening, is_of_bytes, opened_as}
 pub use Rattle.session_store.specs.Replay.{HavePlaces, IsAnswer, Recorded, all_seen, answer_in, answer_to, recorded, recorded_from, seen, standing_numbers}
-pub use Rattle.session_store.specs.Store.{IsThere, events_of, lang_of, opens_there, plan_of, question_of, voc_of}
+pub use Rattle.session_store.specs.Store.{IsThere, events_of, is_raised_in, lang_of, opens_there, plan_of, question_of, voc_of}
 pub use Rattle.session_store.specs.declared.fault.SFault.{SFault}
 pub use Rattle.session_store.specs.declared.store.Store.{Store}
 pub use Rattle.target_oracle.specs.Lines.{line_turn}

@@ -1,5 +1,5 @@
 -- What `back` says of a session, and leaves of it.
-use Rattle.acq_said.proofs.Prelude.{◌≡◌, ◌⊎◌, ◌∙◌, ℕ, zero, suc, ◌≤◌, Bool, true, false, List, [], ◌∷◌, ◌++◌, Option, Some, Result, Ok, Err, refl, sym, ap, subst, inl, inr, ⊎_elim, length, arith, length-append, IsSome, ForSome, DiskOf, AreReadingCalls, Put, Assignment, Event, Plan, LeavesOnly, joined, weaker, AreEventCalls, IsGrown, Persists, FailsWith, both_as, few_of, within_more, OpensWithin, OpensWithOrWithout, bytes_told, Opened, OpensOnce, SFault, IsBrokenOff, EndsAsOpened, SaidEnds, SaysOpening, ended_as, HasWritten, SaysSo, Saying, saying, EndsBack, LeavesBack, TakesBack, TakesNone, back_on, back_said, nothing_text, taken_text, takes_on, full_text, Ending, Unsaid}
+use Rattle.acq_said.proofs.Prelude.{◌≡◌, ◌⊎◌, ◌∙◌, ℕ, zero, suc, ◌≤◌, ◌+◌, Bool, true, false, List, [], ◌∷◌, ◌++◌, Option, Some, Result, Ok, Err, refl, sym, ap, subst, inl, inr, ⊎_elim, arith, append-nil, append_cancel_left, IsSome, ForSome, DiskOf, AreReadingCalls, Put, Assignment, Event, Plan, LeavesOnly, joined, weaker, AreEventCalls, IsGrown, Persists, FailsWith, both_as, calls_for, calls_of, within_more, OpensWithin, OpensWithOrWithout, bytes_told, Opened, OpensOnce, SFault, IsBrokenOff, EndsAsOpened, SaidEnds, SaysOpening, ended_as, HasWritten, SaysSo, Saying, saying, EndsBack, LeavesBack, TakesBack, TakesNone, back_on, back_said, nothing_text, taken_text, takes_on, full_text, Ending, Unsaid}
 use Rattle.acq_io.specs.declared.streams.Put.TheVariants as put
 use Rattle.assign.specs.declared.events.Event.TheVariants as event
 use Rattle.acq_loop.specs.declared.ending.Ending.TheVariants as ending
@@ -53,12 +53,12 @@ back_reads what events later said (inr (same, inr failed)) so = let no : unsaid.
 
 module _ {D : Type 0} (disk : DiskOf D) where
   -- what a crash leaves of a take-back, of what the keeper's call left
-  pub leaves_back : (plan : Plan) (voc : List ℕ) (what : Saying) (events later : List Event) (put : Option Assignment) (first old new : D) (said : Result Saying Unsaid) →
+  pub leaves_back : (was : Bool) (added : List Event) (plan : Plan) (voc : List ℕ) (what : Saying) (events later : List Event) (put : Option Assignment) (first old new : D) (said : Result Saying Unsaid) →
       disk.content old ≡ disk.content first → LeavesOnly disk first old (disk.may_leave first) → EndsBack what events later said → ForSome (disk.content old) (λ _. IsSome (disk.content new)) →
       ((IsLost said → ⊥) → ForSome (disk.content old) (λ _. Persists disk plan voc events later old new)) →
-      (IsLost said → FailsWith disk plan voc events later put (λ lost. lost ≡ event.Back) old new) →
+      (IsLost said → FailsWith disk was added plan voc events later put (λ lost. lost ≡ event.Back) old new) →
       LeavesBack disk plan voc events later first new said
-  leaves_back plan voc what events later put first old new said still opening ends on persists fails =
+  leaves_back was added plan voc what events later put first old new said still opening ends on persists fails =
       let more : List Event = events ++ event.Back ∷ [] in
       let Within : List ℕ → Type 0 = OpensWithin plan voc events more in
       let joins : (bytes : List ℕ) → disk.content first ≡ Some bytes → LeavesOnly disk old new Within → LeavesOnly disk first new (λ c. disk.may_leave first c ⊎ Within c) =
@@ -86,18 +86,31 @@ module _ {D : Type 0} (disk : DiskOf D) where
 
 -- ---- how often the disk was called
 
--- at most one event was added, and none where the disk failed
-back_grown : (what : Saying) (events later : List Event) (said : Result Saying Unsaid) → EndsBack what events later said → (grown : IsGrown events later) → length grown.more ≤ 1
-back_grown what events later said (inl (is, told)) grown = omega (arith, ap length is, ap length grown.is, length-append events grown.more, length-append events (event.Back ∷ []))
-back_grown what events later said (inr (same, rest)) grown = omega (arith, ap length same, ap length grown.is, length-append events grown.more)
+-- the take-back alone was added, or nothing
+calls_back : (what : Saying) (events later : List Event) (said : Result Saying Unsaid) (was : Bool) → EndsBack what events later said → (grown : IsGrown events later) → calls_of was grown.more ≤ calls_for was event.Back
+calls_back what events later said was (inl (is, told)) grown =
+    let Calls : List Event → Type 0 = λ l. calls_of was l ≤ calls_for was event.Back in
+    subst Calls (sym (append_cancel_left events grown.more (event.Back ∷ []) (sym grown.is ∙ is))) (omega arith)
+calls_back what events later said was (inr (same, rest)) grown =
+    let Calls : List Event → Type 0 = λ l. calls_of was l ≤ calls_for was event.Back in
+    subst Calls (sym (append_cancel_left events grown.more [] (sym grown.is ∙ same ∙ sym (append-nil events)))) (omega arith)
 
 module _ {D : Type 0} (disk : DiskOf D) where
-  pub back_calls : (events later : List Event) (what : Saying) (old new : D) (said : Result Saying Unsaid) → EndsBack what events later said → (grown : IsGrown events later) → AreEventCalls disk (IsLost said) grown.more old new →
-      (before : ℕ) (bytes : List ℕ) → AreReadingCalls 5 before (disk.calls old) bytes → AreReadingCalls 13 before (disk.calls new) bytes
-  back_calls events later what old new said ends grown calls before bytes few =
+  -- where the disk failed nothing was added but what was lost
+  lost_back : (plan : Plan) (voc : List ℕ) (events later : List Event) (put : Option Assignment) (was : Bool) (old new : D) (grown : IsGrown events later) → later ≡ events →
+      FailsWith disk was grown.more plan voc events later put (λ lost. lost ≡ event.Back) old new → disk.calls new ≤ disk.calls old + calls_for was event.Back
+  lost_back plan voc events later put was old new grown same f =
+      let Calls : List Event → Event → Type 0 = λ l e. disk.calls new ≤ disk.calls old + calls_of was (l ++ e ∷ []) in
+      let none : grown.more ≡ [] = append_cancel_left events grown.more [] (sym grown.is ∙ same ∙ sym (append-nil events)) in
+      let few : Calls [] event.Back = both_as Calls grown.more [] f.event event.Back none f.lost f.few in omega (arith, few)
+
+  pub back_calls : (plan : Plan) (voc : List ℕ) (events later : List Event) (what : Saying) (put : Option Assignment) (was is : Bool) (old new : D) (said : Result Saying Unsaid) → EndsBack what events later said → (grown : IsGrown events later) →
+      ((IsLost said → ⊥) → AreEventCalls disk was is grown.more old new) → (IsLost said → FailsWith disk was grown.more plan voc events later put (λ lost. lost ≡ event.Back) old new) →
+      (before : ℕ) (bytes : List ℕ) → AreReadingCalls 5 before (disk.calls old) bytes → AreReadingCalls (5 + calls_for was event.Back) before (disk.calls new) bytes
+  back_calls plan voc events later what put was is old new said ends grown calls fails before bytes few =
       ⊎_elim
-      (λ is. omega (arith, few, calls.at_most, few_of grown.more, ap length (back_same what events later said ends is), ap length grown.is, length-append events grown.more))
-      (λ no. omega (arith, few, calls.each_kept no, few_of grown.more, back_grown what events later said ends grown))
+      (λ lost. let made = lost_back plan voc events later put was old new grown (back_same what events later said ends lost) (fails lost) in omega (arith, few, made))
+      (λ no. let made = calls_back what events later said was ends grown in let all = (calls no).few in omega (arith, few, made, all))
       (disk_lost said)
 
 -- ---- how it ends

@@ -1,5 +1,5 @@
 -- What a run over a journal has done, and `run`.
-use Rattle.std.specs.Prelude.{◌≡◌, ◌⊎◌, ◌+◌, ◌-◌, ◌*◌, length, ℕ, List, [], ◌∷◌, ◌++◌, Option, Result, Ok, IfOk, OnErr}
+use Rattle.std.specs.Prelude.{◌≡◌, ◌⊎◌, ◌+◌, ℕ, Bool, List, [], ◌∷◌, ◌++◌, Option, Result, Ok, IfOk, OnErr}
 use Rattle.std.specs.Option.{ForSome}
 use Rattle.answer_journal.specs.Calls.{AreReadingCalls}
 use Rattle.disk_model.specs.declared.disk.Disk.{Ghosts as DiskOf}
@@ -9,7 +9,8 @@ use Rattle.assign.specs.declared.events.Event.{Event}
 use Rattle.assign.specs.declared.events.Plan.{Plan}
 use Rattle.disk_model.specs.Moments.{LeavesOnly}
 use Rattle.language.specs.Language.{Language}
-use Rattle.session_store.specs.Left.{OpensWith, OpensWithin, SaysSession, LeavesNow}
+use Rattle.session_store.specs.Keeping.{calls_of}
+use Rattle.session_store.specs.Left.{IsRaisedOn, OpensWith, OpensWithin, SaysSession, LeavesNow}
 use Rattle.session_store.specs.Replay.{HavePlaces}
 use Rattle.voc_read.specs.Vocabulary.{IsVocabulary}
 use Rattle.target_oracle.specs.Lines.{line_turn}
@@ -56,8 +57,11 @@ module _ {D : Type 0} (disk : DiskOf D) where
     pub all_places : HavePlaces lang plan (later ++ last)
     pub any_moment : ForSome (disk.content old) (λ _. LeavesOnly disk old new (λ c. disk.may_leave old c ⊎ OpensWithin plan voc events (later ++ last) c))
     pub now : ForSome (disk.content old) (λ _. LeavesNow disk (λ c. OpensWith plan voc later c ⊎ OpensWith plan voc (later ++ last) c) new)
+    -- whether the journal was raised
+    pub raised : Bool
+    pub was_raised : ForSome (disk.content old) (λ bytes. IsRaisedOn bytes raised)
     -- the disk is called to open the journal and to add an event, and not between two of them
-    pub calls : ForSome (disk.content old) (AreReadingCalls (5 + 8 * (length (later ++ last) - length events)) (disk.calls old) (disk.calls new))
+    pub calls : ForSome (disk.content old) (AreReadingCalls (5 + calls_of raised (added.more ++ last)) (disk.calls old) (disk.calls new))
 
   abbrev pub RunsOn : ℕ → (left written left' written' : Option (List ℕ)) → D → D → Result Ending Put → Type 0
   RunsOn budget left written left' written' old new got = StaysClosed disk left written left' written' old new got ⊎ GoesOn line_turn any_answer budget left written left' written' old new got

@@ -9,7 +9,8 @@ use Rattle.assign.specs.declared.events.Event.TheVariants as event
 use Rattle.assign.specs.declared.events.Plan.{Plan}
 use Rattle.disk_model.specs.Moments.{LeavesOnly}
 use Rattle.language.specs.Answers.{standing_on}
-use Rattle.session_store.specs.Left.{LeavesNow, OpensWith, OpensWithin, OpensWithOrWithout}
+use Rattle.session_store.specs.Keeping.{calls_for}
+use Rattle.session_store.specs.Left.{IsRaisedOn, LeavesNow, OpensWith, OpensWithin, OpensWithOrWithout}
 use Rattle.session_store.specs.Opened.{Opened, Holds, IsSession}
 use Rattle.session_store.specs.Replay.{HavePlaces}
 use Rattle.session_store.specs.declared.fault.SFault.{SFault}
@@ -88,8 +89,11 @@ module _ {D : Type 0} (disk : DiskOf D) where
     pub ends : EndsBack (back_said of) of.events later said
     pub all_places : HavePlaces of.lang of.plan (of.events ++ event.Back ∷ [])
     pub leaves : LeavesBack disk of.plan of.voc of.events later old new said
-    -- those of the opening, and at most eight
-    pub calls : ForSome (disk.content old) (AreReadingCalls 13 (disk.calls old) (disk.calls new))
+    -- whether the journal was raised
+    pub raised : Bool
+    pub was_raised : ForSome (disk.content old) (λ bytes. IsRaisedOn bytes raised)
+    -- those of the opening, and those that the take-back may take
+    pub calls : ForSome (disk.content old) (AreReadingCalls (5 + calls_for raised event.Back) (disk.calls old) (disk.calls new))
 
   -- that, or nothing was taken back
   abbrev pub TakesBack : D → D → Result Saying Unsaid → Type 0

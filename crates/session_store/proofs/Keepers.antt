@@ -1,6 +1,5 @@
 -- Calls of a keeper, one after another.
-use Rattle.session_store.proofs.Prelude.{◌≡◌, ◌≤◌, ◌⊎◌, ⊎_elim, ◌+◌, ◌*◌, ℕ, length, IsTrue, Bool, true, false, List, [], ◌∷◌, ◌++◌, Option, Some, is_some, Result, Ok, Err, refl, sym, ◌∙◌, ap, subst, inl, inr, arith, append_assoc, ForSome, IfErr, IsErrOf, OnOk, IfErr-at_err, append-nil, All-nil, All-cons, All-append, Assignment, Event, Plan, DiskOf, Rose, GoesOn, IsOnDisk, LeavesOnly, started, joined, weaker, IsAddable, IsTried, OpensWith, OpensWithOrWithout, OpensWithin, HoldsAtLeast, LeavesNow, bytes_told, IsGrown, IsNotKept, LeavesEvent, Persists, FailsWith, calls_for, calls_of, SFault}
-use Rattle.assign.specs.declared.events.Event.TheVariants as variant
+use Rattle.session_store.proofs.Prelude.{◌≡◌, ◌≤◌, ◌⊎◌, ⊎_elim, ◌+◌, ℕ, IsTrue, Bool, true, false, List, [], ◌∷◌, ◌++◌, Option, Some, is_some, Result, Ok, Err, refl, sym, ◌∙◌, ap, subst, inl, inr, arith, append_assoc, ForSome, IfErr, IsErrOf, OnOk, IfErr-at_err, append-nil, All-nil, All-cons, All-append, Assignment, Event, Plan, DiskOf, Rose, GoesOn, IsOnDisk, LeavesOnly, started, joined, weaker, IsAddable, IsTried, OpensWith, OpensWithOrWithout, OpensWithin, HoldsAtLeast, LeavesNow, bytes_told, IsGrown, IsNotKept, LeavesEvent, Persists, AreEventCalls, FailsWith, calls_for, calls_of, raised_after, raised_by, SFault}
 use Rattle.answer_journal.specs.declared.fault.JFault.TheVariants as journal
 use Rattle.session_store.specs.Keeps.{Keeps, LosesNone, OnlyPuts}
 use Rattle.session_store.specs.declared.fault.SFault.TheVariants as store
@@ -21,27 +20,18 @@ grown_then one two three first second = record {
   each = All-append IsAddable first.more second.more first.each second.each;
 }
 
--- how many calls they take
-pub calls_of-append : (one two : List Event) → calls_of (one ++ two) ≡ calls_of one + calls_of two
-calls_of-append [] two = omega arith
-calls_of-append (e ∷ one) two = omega (arith, calls_of-append one two)
+-- whether they leave the journal raised, and how many calls they take
+raised_after-append : (raised : Bool) (one two : List Event) → raised_after raised (one ++ two) ≡ raised_after (raised_after raised one) two
+raised_after-append raised [] two = refl
+raised_after-append raised (e ∷ one) two = raised_after-append (raised_by raised e) one two
 
-pub calls_one : (before after : List Event) (e : Event) (addable : IsAddable e) (is : after ≡ before ++ e ∷ []) → calls_of (grown_one before after e addable is).more ≡ calls_for e
-unfolding grown_one
-calls_one before after e addable is = omega arith
+calls_of-append : (raised : Bool) (one two : List Event) → calls_of raised (one ++ two) ≡ calls_of raised one + calls_of (raised_after raised one) two
+calls_of-append raised [] two = omega arith
+calls_of-append raised (e ∷ one) two = omega (arith, calls_of-append (raised_by raised e) one two)
 
-calls_then : (one two three : List Event) (first : IsGrown one two) (second : IsGrown two three) → calls_of (grown_then one two three first second).more ≡ calls_of first.more + calls_of second.more
-unfolding grown_then
-calls_then one two three first second = calls_of-append first.more second.more
-
--- at most eight each
-pub few_for : (e : Event) → calls_for e ≤ 8
-few_for (variant.Answer q said) = omega arith
-few_for variant.Back = omega arith
-
-pub few_of : (events : List Event) → calls_of events ≤ 8 * length events
-few_of [] = omega arith
-few_of (e ∷ events) = omega (arith, few_for e, few_of events)
+-- after the first ones it is raised or not as they leave it
+calls_after : (was is : Bool) (one two : List Event) → is ≡ raised_after was one → calls_of was (one ++ two) ≡ calls_of was one + calls_of is two
+calls_after was is one two after = let Calls : Bool → Type 0 = λ b. calls_of was (one ++ two) ≡ calls_of was one + calls_of b two in subst Calls (sym after) (calls_of-append was one two)
 
 -- ---- contents
 
@@ -107,14 +97,14 @@ kept_failed r unchanged lost so is = IfErr-at_err (IsNotKept unchanged lost) is 
 
 -- what it leaves of the disk
 module _ {D T E : Type 0} (disk : DiskOf D) where
-  pub event_goes_on : (writes : Bool) (plan : Plan) (voc : List ℕ) (before : List Event) (e : Event) (old new : D) (r : Result T E) → LeavesEvent disk writes plan voc before e old new r → GoesOn disk old new
-  event_goes_on true plan voc before e old new r left = (left.written refl).goes_on
-  event_goes_on false plan voc before e old new r left =
+  pub event_goes_on : (writes was is : Bool) (plan : Plan) (voc : List ℕ) (before : List Event) (e : Event) (old new : D) (r : Result T E) → LeavesEvent disk writes was is plan voc before e old new r → GoesOn disk old new
+  event_goes_on true was is plan voc before e old new r left = (left.written refl).goes_on
+  event_goes_on false was is plan voc before e old new r left =
       subst (GoesOn disk old) (sym (left.unwritten refl)) (record { later = omega arith; silent = λ none. none; told = λ bytes is. ap is_some is })
 
-  pub event_calls : (writes : Bool) (plan : Plan) (voc : List ℕ) (before : List Event) (e : Event) (old new : D) (r : Result T E) → LeavesEvent disk writes plan voc before e old new r → disk.calls new ≤ disk.calls old + calls_for e
-  event_calls true plan voc before e old new r left = (left.written refl).few_calls
-  event_calls false plan voc before e old new r left = let same : disk.calls new ≡ disk.calls old = ap (λ (d : D). disk.calls d) (left.unwritten refl) in omega (arith, same)
+  pub event_calls : (writes was is : Bool) (plan : Plan) (voc : List ℕ) (before : List Event) (e : Event) (old new : D) (r : Result T E) → LeavesEvent disk writes was is plan voc before e old new r → disk.calls new ≤ disk.calls old + calls_for was e
+  event_calls true was is plan voc before e old new r left = (left.written refl).few_calls
+  event_calls false was is plan voc before e old new r left = let same : disk.calls new ≡ disk.calls old = ap (λ (d : D). disk.calls d) (left.unwritten refl) in omega (arith, same)
 
   event_opens : (r : Result T E) (plan : Plan) (voc : List ℕ) (before after : List Event) (e : Event) (new : D) → OnOk r (after ≡ before ++ e ∷ []) → OnOk r (IsOnDisk disk new (OpensWith plan voc (before ++ e ∷ []))) →
       OnOk r (LeavesNow disk (OpensWith plan voc after) new)
@@ -125,13 +115,13 @@ module _ {D T E : Type 0} (disk : DiskOf D) where
   }
   event_opens (Err f) plan voc before after e new added there = tt
 
-  pub event_now : (writes : Bool) (plan : Plan) (voc : List ℕ) (before after : List Event) (e : Event) (old new : D) (r : Result T E) → LeavesEvent disk writes plan voc before e old new r → OnOk r (after ≡ before ++ e ∷ []) →
+  pub event_now : (writes was is : Bool) (plan : Plan) (voc : List ℕ) (before after : List Event) (e : Event) (old new : D) (r : Result T E) → LeavesEvent disk writes was is plan voc before e old new r → OnOk r (after ≡ before ++ e ∷ []) →
       IsTrue writes → ForSome (disk.content old) (λ _. OnOk r (LeavesNow disk (OpensWith plan voc after) new))
-  event_now writes plan voc before after e old new r left added w bytes told = event_opens r plan voc before after e new added ((left.written w).now bytes told)
+  event_now writes was is plan voc before after e old new r left added w bytes told = event_opens r plan voc before after e new added ((left.written w).now bytes told)
 
-  pub event_left : (writes : Bool) (plan : Plan) (voc : List ℕ) (before : List Event) (e : Event) (old new : D) (r : Result T E) → LeavesEvent disk writes plan voc before e old new r →
+  pub event_left : (writes was is : Bool) (plan : Plan) (voc : List ℕ) (before : List Event) (e : Event) (old new : D) (r : Result T E) → LeavesEvent disk writes was is plan voc before e old new r →
       IsTrue writes → ForSome (disk.content old) (λ _. LeavesOnly disk old new (OpensWithOrWithout plan voc before e))
-  event_left writes plan voc before e old new r left w = (left.written w).any_moment
+  event_left writes was is plan voc before e old new r left w = (left.written w).any_moment
 
 -- ---- calls
 
@@ -155,17 +145,41 @@ module _ {D : Type 0} (disk : DiskOf D)
         (λ c w. within_more plan voc one two three longer.more c longer.is w) (λ c w. within_from plan voc one two three grown.more c grown.is w);
   }
 
-  pub fails_then : (plan : Plan) (voc : List ℕ) (one two three : List Event) (put : Option Assignment) (is_lost is_then : Event → Type 0) (old mid new : D) → IsGrown one two → IsGrown two three →
-      ((e : Event) → is_lost e → is_then e) →
-      ForSome (disk.content old) (λ _. Persists disk plan voc one two old mid) → FailsWith disk plan voc two three put is_lost mid new →
-      FailsWith disk plan voc one three put is_then old new
-  fails_then plan voc one two three put is_lost is_then old mid new grown longer known first second =
+  -- no call was made but for the events
+  calls_none : (was is : Bool) (before after : List Event) (same : after ≡ before) (d : D) → is ≡ was → AreEventCalls disk was is (grown_none before after same).more d d
+  unfolding grown_none
+  calls_none was is before after same d still = record { raised = still; few = omega arith }
+
+  pub calls_one : (was is : Bool) (before after : List Event) (e : Event) (addable : IsAddable e) (added : after ≡ before ++ e ∷ []) (old new : D) → is ≡ raised_by was e → disk.calls new ≤ disk.calls old + calls_for was e →
+      AreEventCalls disk was is (grown_one before after e addable added).more old new
+  unfolding grown_one
+  calls_one was is before after e addable added old new raises few = record { raised = raises; few = omega (arith, few) }
+
+  calls_then : (was mid is : Bool) (one two three : List Event) (grown : IsGrown one two) (longer : IsGrown two three) (x y z : D) → AreEventCalls disk was mid grown.more x y → AreEventCalls disk mid is longer.more y z →
+      AreEventCalls disk was is (grown_then one two three grown longer).more x z
+  unfolding grown_then
+  calls_then was mid is one two three grown longer x y z first second = record {
+    raised = second.raised ∙ ap (λ (b : Bool). raised_after b longer.more) first.raised ∙ sym (raised_after-append was grown.more longer.more);
+    few = let both = calls_after was mid grown.more longer.more first.raised in omega (arith, both, first.few, second.few);
+  }
+
+  pub fails_then : (was mid_is : Bool) (plan : Plan) (voc : List ℕ) (one two three : List Event) (put : Option Assignment) (is_lost is_then : Event → Type 0) (old mid new : D) (grown : IsGrown one two) (longer : IsGrown two three) →
+      ((e : Event) → is_lost e → is_then e) → AreEventCalls disk was mid_is grown.more old mid →
+      ForSome (disk.content old) (λ _. Persists disk plan voc one two old mid) → FailsWith disk mid_is longer.more plan voc two three put is_lost mid new →
+      FailsWith disk was (grown_then one two three grown longer).more plan voc one three put is_then old new
+  unfolding grown_then
+  fails_then was mid_is plan voc one two three put is_lost is_then old mid new grown longer known calls first second =
       let last : List Event = second.event ∷ [] in
       let added : three ++ last ≡ two ++ (longer.more ++ last) = ap (λ (l : List Event). l ++ last) longer.is ∙ append_assoc two longer.more last in
       record {
         event = second.event;
         tried = second.tried;
         lost = known second.event second.lost;
+        few =
+            let both = calls_after was mid_is grown.more (longer.more ++ last) calls.raised in
+            let Few : List Event → Type 0 = λ l. disk.calls new ≤ disk.calls old + calls_of was l in
+            let all : Few (grown.more ++ (longer.more ++ last)) = omega (arith, both, calls.few, second.few) in
+            subst Few (sym (append_assoc grown.more longer.more last)) all;
         now = λ bytes told. let f = first bytes told in second.now f.now.bytes f.now.tells;
         any_moment = λ bytes told.
             let f = first bytes told in
@@ -184,16 +198,18 @@ module _ {D : Type 0} (disk : DiskOf D)
   }
 
   -- an event whose adding failed
-  pub fails_one : (plan : Plan) (voc : List ℕ) (events after : List Event) (e : Event) (put : Option Assignment) (is_lost : Event → Type 0) (old new : D) → after ≡ events → IsTried put e → is_lost e →
-      ForSome (disk.content old) (λ _. LeavesOnly disk old new (OpensWithOrWithout plan voc events e)) →
-      FailsWith disk plan voc events after put is_lost old new
-  fails_one plan voc events after e put is_lost old new same tried lost any =
+  pub fails_one : (was : Bool) (plan : Plan) (voc : List ℕ) (events after : List Event) (e : Event) (put : Option Assignment) (is_lost : Event → Type 0) (old new : D) (same : after ≡ events) → IsTried put e → is_lost e →
+      disk.calls new ≤ disk.calls old + calls_for was e → ForSome (disk.content old) (λ _. LeavesOnly disk old new (OpensWithOrWithout plan voc events e)) →
+      FailsWith disk was (grown_none events after same).more plan voc events after put is_lost old new
+  unfolding grown_none
+  fails_one was plan voc events after e put is_lost old new same tried lost few any =
       let as_after : List Event → Type 0 = λ l. (c : List ℕ) → disk.may_leave new c → OpensWithOrWithout plan voc l e c in
       let within_after : List Event → Type 0 = λ l. LeavesOnly disk old new (OpensWithin plan voc events (l ++ e ∷ [])) in
       record {
         event = e;
         tried = tried;
         lost = lost;
+        few = omega (arith, few);
         now = λ bytes told. let run = any bytes told in subst as_after (sym same) (λ c left. run.each c (counts_now new (disk.moment old) c run.later left));
         any_moment = λ bytes told.
             subst within_after (sym same) (weaker disk old new (OpensWithOrWithout plan voc events e) (OpensWithin plan voc events (events ++ e ∷ [])) (any bytes told)
@@ -202,10 +218,10 @@ module _ {D : Type 0} (disk : DiskOf D)
 
   module _ {K : Type 0} (keep : KeepOf K D) where
     -- A keeper that was asked to put a question, or wasn't called, and a disk that wasn't touched.
-    pub keeps_still : (has_failed : Type 0) (is_lost : Event → Type 0) (old new : K) (d : D) → (has_failed → ⊥) → keep.plan new ≡ keep.plan old → keep.voc new ≡ keep.voc old → keep.record_of new ≡ keep.record_of old → keep.writes new ≡ keep.writes old → keep.live new ≡ keep.live old →
+    pub keeps_still : (has_failed : Type 0) (is_lost : Event → Type 0) (old new : K) (d : D) → (has_failed → ⊥) → keep.plan new ≡ keep.plan old → keep.voc new ≡ keep.voc old → keep.record_of new ≡ keep.record_of old → keep.writes new ≡ keep.writes old → keep.raised new ≡ keep.raised old → keep.live new ≡ keep.live old →
         IsTrue (keep.live old) → keep.sits new d → (IsTrue (keep.writes old) → ForSome (disk.content d) (λ _. (c : List ℕ) → disk.may_leave d c → OpensWith (keep.plan old) (keep.voc old) (keep.record_of old) c)) →
         Keeps keep disk has_failed is_lost old new d d
-    keeps_still has_failed is_lost old new d well same_plan same_voc same_record same_writes same_live is_live belongs lasts = record {
+    keeps_still has_failed is_lost old new d well same_plan same_voc same_record same_writes same_raised same_live is_live belongs lasts = record {
       same_voc = same_voc;
       same_writes = same_writes;
       belongs = belongs;
@@ -215,7 +231,7 @@ module _ {D : Type 0} (disk : DiskOf D)
       told = λ bytes is. ap is_some is;
       cause = λ failed. absurd (well failed);
       grown = grown_none (keep.record_of old) (keep.record_of new) same_record;
-      calls = record { each_kept = λ no. omega arith; at_most = omega arith };
+      calls = λ no. calls_none (keep.raised old) (keep.raised new) (keep.record_of old) (keep.record_of new) same_record d same_raised;
       unwritten = λ no. refl;
       persists = λ w bytes told no.
           let As : List Event → Type 0 = λ l. Persists disk (keep.plan old) (keep.voc old) (keep.record_of old) l d d in
@@ -239,12 +255,8 @@ module _ {D : Type 0} (disk : DiskOf D)
       told = λ bytes is. let mid = bytes_told (disk.content y) (first.told bytes is) in second.told mid.0 mid.1;
       cause = λ failed. (sym first.same_writes ∙ (second.cause failed).0, rose_later (disk.faults x) (disk.faults y) (disk.faults z) first.later (second.cause failed).1);
       grown = grown_then (keep.record_of one) (keep.record_of two) (keep.record_of three) first.grown second.grown;
-      calls =
-          let both = calls_then (keep.record_of one) (keep.record_of two) (keep.record_of three) first.grown second.grown in
-          record {
-            each_kept = λ no. omega (arith, both, first.calls.each_kept (λ bad. bad), second.calls.each_kept no);
-            at_most = omega (arith, both, first.calls.each_kept (λ bad. bad), second.calls.at_most);
-          };
+      calls = λ no.
+          calls_then (keep.raised one) (keep.raised two) (keep.raised three) (keep.record_of one) (keep.record_of two) (keep.record_of three) first.grown second.grown x y z (first.calls (λ bad. bad)) (second.calls no);
       unwritten = λ no. second.unwritten (first.same_writes ∙ no) ∙ first.unwritten no;
       persists = λ w bytes told no.
           let f = first.persists w bytes told (λ bad. bad) in
@@ -253,9 +265,9 @@ module _ {D : Type 0} (disk : DiskOf D)
           persists_then (keep.plan one) (keep.voc one) (keep.record_of one) (keep.record_of two) (keep.record_of three) x y z first.grown second.grown f (both_as As (keep.plan two) (keep.plan one) (keep.voc two) (keep.voc one) same_plan first.same_voc s);
       fails = λ failed.
           let w : IsTrue (keep.writes one) = sym first.same_writes ∙ (second.cause failed).0 in
-          let As : Plan → List ℕ → Type 0 = λ p v. FailsWith disk p v (keep.record_of two) (keep.record_of three) (keep.question three) is_lost y z in
-          fails_then (keep.plan one) (keep.voc one) (keep.record_of one) (keep.record_of two) (keep.record_of three) (keep.question three) is_lost is_then x y z first.grown second.grown known
-          (λ bytes told. first.persists w bytes told (λ bad. bad)) (both_as As (keep.plan two) (keep.plan one) (keep.voc two) (keep.voc one) same_plan first.same_voc (second.fails failed));
+          let As : Plan → List ℕ → Type 0 = λ p v. FailsWith disk (keep.raised two) second.grown.more p v (keep.record_of two) (keep.record_of three) (keep.question three) is_lost y z in
+          fails_then (keep.raised one) (keep.raised two) (keep.plan one) (keep.voc one) (keep.record_of one) (keep.record_of two) (keep.record_of three) (keep.question three) is_lost is_then x y z first.grown second.grown known
+          (first.calls (λ bad. bad)) (λ bytes told. first.persists w bytes told (λ bad. bad)) (both_as As (keep.plan two) (keep.plan one) (keep.voc two) (keep.voc one) same_plan first.same_voc (second.fails failed));
     }
 
     -- by another word for the failure
@@ -273,12 +285,12 @@ module _ {D : Type 0} (disk : DiskOf D)
       told = keeps.told;
       cause = λ failed. keeps.cause (to failed);
       grown = keeps.grown;
-      calls = record { each_kept = λ no. keeps.calls.each_kept (λ b. no (fro b)); at_most = keeps.calls.at_most };
+      calls = λ no. keeps.calls (λ b. no (fro b));
       unwritten = keeps.unwritten;
       persists = λ w bytes told no. keeps.persists w bytes told (λ b. no (fro b));
       fails = λ failed.
           let f = keeps.fails (to failed) in
-          record { event = f.event; tried = f.tried; lost = known failed f.event f.lost; now = f.now; any_moment = f.any_moment };
+          record { event = f.event; tried = f.tried; lost = known failed f.event f.lost; few = f.few; now = f.now; any_moment = f.any_moment };
     }
 
     -- calls of which the last has failed or hasn't

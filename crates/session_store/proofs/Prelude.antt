@@ -35,7 +35,7 @@ unfoldable pub use Rattle.voc_read.specs.Vocabulary.{parts_of, refusal_of_vocabu
 pub use Rattle.voc_read.specs.declared.fault.VocFault.{VocFault}
 pub use Rattle.session_store.specs.Faults.{of_journal}
 pub use Rattle.session_store.specs.Held.{IsHeld, IsWide, StandsIn, events_held, lang_held, lang_in, plan_held, plan_in, question_in}
-pub use Rattle.session_store.specs.Keeping.{FailsWith, IsGrown, IsNotKept, LeavesEvent, Persists, calls_for, calls_of}
+pub use Rattle.session_store.specs.Keeping.{AreEventCalls, FailsWith, IsGrown, IsNotKept, LeavesEvent, Persists, calls_for, calls_of, calls_to_raise, raised_after, raised_by}
 pub use Rattle.session_store.specs.Kept.{IsAddable, IsTried, answer_event}
 pub use Rattle.session_store.specs.Laws.{FrontsHavePlaces, HoldsAnswer, IsEmptyBack, IsFirstStray, RecordsAreAnswers, ReplayIsState, StrayIsFirst}
 pub use Rattle.session_store.specs.Left.{HoldsAtLeast, LeavesNow, OpensWith, OpensWithOrWithout, OpensWithin, SaysSession, bytes_told, false_is_not_true}

@@ -1,5 +1,5 @@
 -- A store beside its disk.
-use Rattle.session_store.proofs.Prelude.{◌≡◌, ◌<◌, ◌⊎◌, ℕ, length, List, [], ◌∷◌, ◌++◌, Option, Some, None, Result, Ok, Err, IfErr, IsTrue, refl, sym, ◌∙◌, ap, subst, inl, inr, ForNone, ForSome, Event, Plan, Only, IsOnDisk, LeavesBehind, none_done, behind_as, nothing_behind, End, IsInPlace, Sits, HasNew, IsOldOrNew, IsSame, StartsWith, CreateRefused, JFault, Language, Session, Stray, IsVocabulary, refusal_of_vocabulary, VocFault, of_journal, ◌≤◌, All, true, IsErr, IsErrAnd, IsErrOf, IsFalse, OnOk, on_ok_weaker, DiskOf, lang_in, plan_in, StandsIn, events_held, IsHeld, IsWide, NoLanguage, NotLed, NotMade, NotOpened, replay, HavePlaces, NamesStray, SFault, SaysSession, OpensWith, OpensWithOrWithout, IsNotKept, LeavesEvent, calls_for, IsThere, SitsOn, plan_of, voc_of, events_of, opens_there}
+use Rattle.session_store.proofs.Prelude.{◌≡◌, ◌<◌, ◌⊎◌, ℕ, Bool, length, List, [], ◌∷◌, ◌++◌, Option, Some, None, Result, Ok, Err, IfErr, IsTrue, refl, sym, ◌∙◌, ap, subst, inl, inr, ForNone, ForSome, Event, Plan, Only, IsOnDisk, LeavesBehind, none_done, behind_as, nothing_behind, End, IsInPlace, Sits, HasNew, IsOldOrNew, IsSame, StartsWith, CreateRefused, JFault, Language, Session, Stray, IsVocabulary, refusal_of_vocabulary, VocFault, of_journal, ◌≤◌, All, true, IsErr, IsErrAnd, IsErrOf, IsFalse, OnOk, on_ok_weaker, DiskOf, lang_in, plan_in, StandsIn, events_held, IsHeld, IsWide, NoLanguage, NotLed, NotMade, NotOpened, replay, HavePlaces, NamesStray, SFault, SaysSession, OpensWith, OpensWithOrWithout, IsNotKept, LeavesEvent, calls_for, raised_by, IsThere, SitsOn, plan_of, voc_of, events_of, opens_there}
 use Rattle.answer_journal.specs.Found.{Refused}
 use Rattle.answer_journal.specs.declared.fault.JFault.TheVariants as journal
 use Rattle.session_store.specs.declared.fault.SFault.TheVariants as store
@@ -48,27 +48,31 @@ in_place disk keep d live sits = record { live = live; sits = λ bytes told. (si
 module _ {D : Type 0} (disk : DiskOf D)
     (only_now : (d : D) (c : List ℕ) → disk.left_since d (disk.moment d) c → disk.may_leave d c) where
   -- nothing was done to a disk where the journal is in its place
-  pub same_behind : (place : End) (d : D) → IsInPlace disk place d → LeavesBehind {D = D} {T = Unit {0}} {E = JFault} disk 4 d d (Ok tt) IsSame IsSame
-  same_behind place d there = nothing_behind disk 4 d (Ok tt) IsSame IsSame (only_now d)
+  pub same_behind : (n : ℕ) (place : End) (d : D) → IsInPlace disk place d → LeavesBehind {D = D} {T = Unit {0}} {E = JFault} disk n d d (Ok tt) IsSame IsSame
+  same_behind n place d there = nothing_behind disk n d (Ok tt) IsSame IsSame (only_now d)
       (λ b told. record { now = b; tells = told; durable = there.durable b told; holds = λ plan voc events spelled. spelled })
       (λ b c told left. subst (IsSame b) (sym (there.durable b told c left)) (λ plan voc events spelled. spelled))
 
   -- an event that wasn't added, and one that a journal was asked to add
-  pub event_left_out : {T E : Type 0} (Q : E → Type 0) (place : End) (plan : Plan) (voc : List ℕ) (events : List Event) (e : Event) (d : D) (r : Result T E) → ForSome (disk.content d) (IsThere place plan voc events (disk.may_leave d)) →
-      IsErrAnd r Q → LeavesEvent disk true plan voc events e d d r
-  event_left_out Q place plan voc events e d r there failed = record {
+  pub event_left_out : {T E : Type 0} (Q : E → Type 0) (was : Bool) (place : End) (plan : Plan) (voc : List ℕ) (events : List Event) (e : Event) (d : D) (r : Result T E) → ForSome (disk.content d) (IsThere place plan voc events (disk.may_leave d)) →
+      IsErrAnd r Q → LeavesEvent disk true was was plan voc events e d d r
+  event_left_out Q was place plan voc events e d r there failed = record {
+    raised = none_done _ _ r failed;
+    stays_raised = inl refl;
     unwritten = λ no. refl;
     written = λ w.
-        nothing_behind disk (calls_for e) d r (λ _. OpensWith plan voc (events ++ e ∷ [])) (λ _. OpensWithOrWithout plan voc events e) (only_now d)
+        nothing_behind disk (calls_for was e) d r (λ _. OpensWith plan voc (events ++ e ∷ [])) (λ _. OpensWithOrWithout plan voc events e) (only_now d)
         (λ b told. none_done _ _ r failed) (λ b c told left. inl (opens_there place plan voc events (disk.may_leave d) b c (there b told) left));
   }
 
-  pub event_written : {T E U F : Type 0} (n : ℕ) (place : End) (plan : Plan) (voc : List ℕ) (events : List Event) (e : Event) (old new : D) (r : Result T E) (s : Result U F) → ForSome (disk.content old) (IsThere place plan voc events (disk.may_leave old)) →
-      LeavesBehind disk n old new r (λ b. HasNew b e) (λ b. IsOldOrNew b e) → n ≤ calls_for e → ((P : Type 0) → OnOk r P → OnOk s P) → LeavesEvent disk true plan voc events e old new s
-  event_written n place plan voc events e old new r s there left few gives = record {
+  pub event_written : {T E U F : Type 0} (n : ℕ) (was is : Bool) (place : End) (plan : Plan) (voc : List ℕ) (events : List Event) (e : Event) (old new : D) (r : Result T E) (s : Result U F) → ForSome (disk.content old) (IsThere place plan voc events (disk.may_leave old)) →
+      LeavesBehind disk n old new r (λ b. HasNew b e) (λ b. IsOldOrNew b e) → n ≤ calls_for was e → OnOk s (is ≡ raised_by was e) → (is ≡ was) ⊎ (is ≡ raised_by was e) → ((P : Type 0) → OnOk r P → OnOk s P) → LeavesEvent disk true was is plan voc events e old new s
+  event_written n was is place plan voc events e old new r s there left few raises stays gives = record {
+    raised = raises;
+    stays_raised = stays;
     unwritten = λ no. absurd (true_is_not_false no);
     written = λ w.
-        behind_as disk n (calls_for e) old new r s (λ b. HasNew b e) (λ b. IsOldOrNew b e) (λ _. OpensWith plan voc (events ++ e ∷ [])) (λ _. OpensWithOrWithout plan voc events e) left few
+        behind_as disk n (calls_for was e) old new r s (λ b. HasNew b e) (λ b. IsOldOrNew b e) (λ _. OpensWith plan voc (events ++ e ∷ [])) (λ _. OpensWithOrWithout plan voc events e) left few
         (λ b told. gives _ (on_ok_weaker r (λ t. record { now = t.now; tells = t.tells; durable = t.durable; holds = t.holds plan voc events (there b told).opens }) (left.now b told)))
         (λ b c told either. either plan voc events (there b told).opens);
   }

@@ -1,5 +1,5 @@
 -- What the calls of a keeper, one after another, have done to it and to its disk.
-use Rattle.std.specs.Prelude.{◌≡◌, ◌≤◌, ◌+◌, ℕ, Bool, IsTrue, IsFalse, List, ◌∷◌, [], ◌++◌, Option, All, Result}
+use Rattle.std.specs.Prelude.{◌≡◌, ◌⊎◌, ◌≤◌, ◌+◌, ℕ, Bool, true, false, IsTrue, IsFalse, List, ◌∷◌, [], ◌++◌, Option, All, Result, OnOk}
 use Rattle.std.specs.Option.{ForSome}
 use Rattle.assign.specs.Assignment.{Assignment}
 use Rattle.assign.specs.declared.events.Event.{Event}
@@ -35,14 +35,28 @@ IsNotKept unchanged lost store.Memory = unchanged
 IsNotKept unchanged lost (store.Journal journal.DiskFault) = lost
 IsNotKept unchanged lost other = ⊥
 
--- how many calls of a disk an event takes at most: before a take-back a journal may have to be raised
-abbrev pub calls_for : Event → ℕ
-calls_for (variant.Answer question said) = 4
-calls_for variant.Back = 8
+-- whether a journal is raised after an event, and after all of these: for a take-back it is raised
+abbrev pub raised_by : Bool → Event → Bool
+raised_by raised (variant.Answer question said) = raised
+raised_by raised variant.Back = true
 
-abbrev pub calls_of : List Event → ℕ
-calls_of [] = 0
-calls_of (e ∷ events) = calls_for e + calls_of events
+abbrev pub raised_after : Bool → List Event → Bool
+raised_after raised [] = raised
+raised_after raised (e ∷ events) = raised_after (raised_by raised e) events
+
+-- how many calls of a disk the raising of a journal takes at most, and an event, where it is raised already or isn't
+abbrev pub calls_to_raise : Bool → ℕ
+calls_to_raise true = 0
+calls_to_raise false = 4
+
+abbrev pub calls_for : Bool → Event → ℕ
+calls_for raised (variant.Answer question said) = 4
+calls_for raised variant.Back = 4 + calls_to_raise raised
+
+-- and all of these: four for each, and four once where the first take-back has to raise it
+abbrev pub calls_of : Bool → List Event → ℕ
+calls_of raised [] = 0
+calls_of raised (e ∷ events) = calls_for raised e + calls_of (raised_by raised e) events
 
 -- What no call changes.
 pub record HasSameTerms {K : Type 0} (lang : K → Language) (plan : K → Plan) (voc : K → List ℕ) (writes : K → Bool) (old new : K) : Type 0 where
@@ -62,10 +76,13 @@ pub record IsGrown (before after : List Event) : Type 0 where
 -- the meanings of a disk
 module _ {D : Type 0} (disk : DiskOf D) where
   -- What a call that adds an event leaves of the disk. Where nothing is written, the disk isn't touched. Else after `Ok` the
-  -- file opens with the event as its last, and a crash at any moment leaves the events from before, with it or without.
-  pub record LeavesEvent {T E : Type 0} (writes : Bool) (plan : Plan) (voc : List ℕ) (before : List Event) (event : Event) (old new : D) (result : Result T E) : Type 0 where
+  -- file opens with the event as its last, and a crash at any moment leaves the events from before, with it or without. An event
+  -- that was added leaves the journal raised or not as it does, and one that wasn't may have left it so or hasn't changed it.
+  pub record LeavesEvent {T E : Type 0} (writes was_raised is_raised : Bool) (plan : Plan) (voc : List ℕ) (before : List Event) (event : Event) (old new : D) (result : Result T E) : Type 0 where
+    pub raised : OnOk result (is_raised ≡ raised_by was_raised event)
+    pub stays_raised : (is_raised ≡ was_raised) ⊎ (is_raised ≡ raised_by was_raised event)
     pub unwritten : IsFalse writes → new ≡ old
-    pub written : IsTrue writes → LeavesBehind disk (calls_for event) old new result (λ _. OpensWith plan voc (before ++ event ∷ [])) (λ _. OpensWithOrWithout plan voc before event)
+    pub written : IsTrue writes → LeavesBehind disk (calls_for was_raised event) old new result (λ _. OpensWith plan voc (before ++ event ∷ [])) (λ _. OpensWithOrWithout plan voc before event)
 
   -- Since the disk was the old one, some events were added. A crash at any moment since then leaves those from before and a
   -- front of the new ones, and a crash now leaves all of them.
@@ -73,16 +90,18 @@ module _ {D : Type 0} (disk : DiskOf D) where
     pub now : LeavesNow disk (OpensWith plan voc after) new
     pub any_moment : LeavesOnly disk old new (OpensWithin plan voc before after)
 
-  -- No more calls were made than these events take, which were added, and eight for one whose adding failed.
-  pub record AreEventCalls (has_failed : Type 0) (added : List Event) (old new : D) : Type 0 where
-    pub each_kept : (has_failed → ⊥) → disk.calls new ≤ disk.calls old + calls_of added
-    pub at_most : disk.calls new ≤ disk.calls old + calls_of added + 8
+  -- No more calls were made than these events take, which were added, and the journal is raised or not as they leave it.
+  pub record AreEventCalls (was_raised is_raised : Bool) (added : List Event) (old new : D) : Type 0 where
+    pub raised : is_raised ≡ raised_after was_raised added
+    pub few : disk.calls new ≤ disk.calls old + calls_of was_raised added
 
-  -- The disk failed while an event was added, of which this is known: that of an answer to the question that is put, or a
-  -- take-back. Where the disk told what it held, a crash leaves it as the last event, or leaves it out.
-  pub record FailsWith (plan : Plan) (voc : List ℕ) (before after : List Event) (put : Option Assignment) (is_lost : Event → Type 0) (old new : D) : Type 0 where
+  -- These events were added, and then the disk failed while one more was, of which this is known: that of an answer to the question
+  -- that is put, or a take-back. No more calls were made than they take with it. Where the disk told what it held, a crash leaves
+  -- it as the last event, or leaves it out.
+  pub record FailsWith (was_raised : Bool) (added : List Event) (plan : Plan) (voc : List ℕ) (before after : List Event) (put : Option Assignment) (is_lost : Event → Type 0) (old new : D) : Type 0 where
     pub event : Event
     pub tried : IsTried put event
     pub lost : is_lost event
+    pub few : disk.calls new ≤ disk.calls old + calls_of was_raised (added ++ event ∷ [])
     pub now : ForSome (disk.content old) (λ _. (c : List ℕ) → disk.may_leave new c → OpensWithOrWithout plan voc after event c)
     pub any_moment : ForSome (disk.content old) (λ _. LeavesOnly disk old new (OpensWithin plan voc before (after ++ event ∷ [])))

@@ -23,12 +23,12 @@ pub record Keeps {K D : Type 0} (keep : KeepOf K D) (disk : DiskOf D) (has_faile
   pub cause : has_failed → IsTrue (keep.writes old) × Rose (disk.faults disk_old) (disk.faults disk_new)
   pub grown : IsGrown (keep.record_of old) (keep.record_of new)
   -- no more calls of the disk than its events may take
-  pub calls : AreEventCalls disk has_failed grown.more disk_old disk_new
+  pub calls : (has_failed → ⊥) → AreEventCalls disk (keep.raised old) (keep.raised new) grown.more disk_old disk_new
   -- where nothing is written, the disk isn't touched
   pub unwritten : IsFalse (keep.writes old) → disk_new ≡ disk_old
   -- else events are added one after the other, where the disk tells
   pub persists : IsTrue (keep.writes old) → ForSome (disk.content disk_old) (λ _. (has_failed → ⊥) → Persists disk (keep.plan old) (keep.voc old) (keep.record_of old) (keep.record_of new) disk_old disk_new)
-  pub fails : has_failed → FailsWith disk (keep.plan old) (keep.voc old) (keep.record_of old) (keep.record_of new) (keep.question new) is_lost disk_old disk_new
+  pub fails : has_failed → FailsWith disk (keep.raised old) grown.more (keep.plan old) (keep.voc old) (keep.record_of old) (keep.record_of new) (keep.question new) is_lost disk_old disk_new
 
 -- nothing of a keeper has changed but the question that is put
 pub record OnlyPuts {K D : Type 0} (keep : KeepOf K D) (old new : K) : Type 0 where
@@ -37,6 +37,7 @@ pub record OnlyPuts {K D : Type 0} (keep : KeepOf K D) (old new : K) : Type 0 wh
   pub voc : keep.voc new ≡ keep.voc old
   pub events : keep.record_of new ≡ keep.record_of old
   pub writes : keep.writes new ≡ keep.writes old
+  pub raised : keep.raised new ≡ keep.raised old
   pub live : keep.live new ≡ keep.live old
   pub sound : keep.sound new
   pub sits : (disk : D) → keep.sits old disk → keep.sits new disk

@@ -1,8 +1,9 @@
 -- What a crash may leave of a disk on which a session is kept.
-use Rattle.std.specs.Prelude.{ℕ, ◌≡◌, ◌⊎◌, List, [], ◌∷◌, ◌++◌, Option, Some, None, IsSome, IsTrue, false, refl}
+use Rattle.std.specs.Prelude.{ℕ, ◌≡◌, ◌⊎◌, Bool, List, [], ◌∷◌, ◌++◌, Option, Some, None, IsSome, IsTrue, false, refl}
 use Rattle.assign.specs.declared.events.Plan.{Plan}
 use Rattle.assign.specs.declared.events.Event.{Event}
 use Rattle.disk_model.specs.declared.disk.Disk.{Ghosts as DiskOf}
+use Rattle.answer_journal.specs.End.{End, Sits}
 use Rattle.answer_journal.specs.Journal.{Spells, ReadsAs, Session}
 
 -- the content opens with this plan, these bytes of a vocabulary and these events
@@ -28,6 +29,12 @@ pub record OpensWithin (plan : Plan) (voc : List ℕ) (before after : List Event
 pub record HoldsAtLeast (plan : Plan) (voc : List ℕ) (events : List Event) (content : List ℕ) : Type 0 where
   pub more : List Event
   pub opens : OpensWith plan voc (events ++ more) content
+
+-- whether the journal of these bytes is raised
+pub record IsRaisedOn (bytes : List ℕ) (raised : Bool) : Type 0 where
+  pub place : End
+  pub behind : Sits place bytes
+  pub is : raised ≡ place.raised
 
 -- The disk tells what a read gives, and each content that a crash may leave now has P.
 pub record LeavesNow {D : Type 0} (disk : DiskOf D) (P : List ℕ → Type 0) (new : D) : Type 0 where

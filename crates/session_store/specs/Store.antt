@@ -32,6 +32,9 @@ voc_of store = store.voc.items
 abbrev pub is_live_in : Store → Bool
 is_live_in store = store.journal.live
 
+abbrev pub is_raised_in : Store → Bool
+is_raised_in store = store.journal.raised
+
 -- The session stands where the events lead, its language is the reading of the vocabulary, and while the store is live each event is a record.
 pub record IsSound (store : Store) : Type 0 where
   pub held : IsHeld store.held

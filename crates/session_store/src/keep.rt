@@ -44,6 +44,9 @@ pub trait Keep<D: Disk> {
     /// Whether events are written to the disk. No call changes that.
     ghost writes: { Self → Bool };
 
+    /// Whether a take-back needs no raising of the journal any more. Only a take-back changes that.
+    ghost raised: { Self → Bool };
+
     /// Whether an event may be added.
     ghost live: { Self → Bool };
 
@@ -78,6 +81,7 @@ pub trait Keep<D: Disk> {
         ensures put { question self.new ≡ Some q }
         ensures events { record_of self.new ≡ record_of self.old }
         ensures same { HasSameTerms lang plan voc writes self.old self.new }
+        ensures raised { raised self.new ≡ raised self.old }
         ensures live { live self.new ≡ live self.old }
         ensures sound { sound self.new }
         ensures sits { (disk : D) → sits self.old disk → sits self.new disk };
@@ -97,11 +101,11 @@ pub trait Keep<D: Disk> {
         ensures sits { sits self.new disk.new }
 
         // It doesn't give up by itself, but for want of memory.
-        ensures refused { IfErr result (IsNotKept ((live self.new ≡ live self.old) × (disk.new ≡ disk.old)) (IsTrue (writes self.old) × IsFalse (live self.new) × Rose (D.faults disk.old) (D.faults disk.new))) }
+        ensures refused { IfErr result (IsNotKept ((live self.new ≡ live self.old) × (raised self.new ≡ raised self.old) × (disk.new ≡ disk.old)) (IsTrue (writes self.old) × IsFalse (live self.new) × Rose (D.faults disk.old) (D.faults disk.new))) }
 
         // Where nothing is written, the disk isn't touched. Else a crash at any moment leaves the events from before the call,
         // with the new one or without, and after `Ok` with it.
-        ensures leaves { ForSome (question self.old) (λ q. LeavesEvent D.Disk (writes self.old) (plan self.old) (voc self.old) (record_of self.old) (answer_event q «yes») disk.old disk.new result) };
+        ensures leaves { ForSome (question self.old) (λ q. LeavesEvent D.Disk (writes self.old) (raised self.old) (raised self.new) (plan self.old) (voc self.old) (record_of self.old) (answer_event q «yes») disk.old disk.new result) };
 
     /// Keeps that the last answer that stands is taken back, and then leads the session from its beginning through those that
     /// are left. A question that was put is dropped: what is open then is what these answers lead to. All memory is taken
@@ -119,11 +123,11 @@ pub trait Keep<D: Disk> {
         ensures sits { sits self.new disk.new }
 
         // It doesn't give up by itself, but for want of memory.
-        ensures refused { IfErr result (IsNotKept ((live self.new ≡ live self.old) × (disk.new ≡ disk.old)) (IsTrue (writes self.old) × IsFalse (live self.new) × Rose (D.faults disk.old) (D.faults disk.new))) }
+        ensures refused { IfErr result (IsNotKept ((live self.new ≡ live self.old) × (raised self.new ≡ raised self.old) × (disk.new ≡ disk.old)) (IsTrue (writes self.old) × IsFalse (live self.new) × Rose (D.faults disk.old) (D.faults disk.new))) }
 
         // Where nothing is written, the disk isn't touched. Else a crash at any moment leaves the events from before the call,
         // with the take-back or without, and after `Ok` with it.
-        ensures leaves { LeavesEvent D.Disk (writes self.old) (plan self.old) (voc self.old) (record_of self.old) Event.Back disk.old disk.new result };
+        ensures leaves { LeavesEvent D.Disk (writes self.old) (raised self.old) (raised self.new) (plan self.old) (voc self.old) (record_of self.old) Event.Back disk.old disk.new result };
 
     /// There are never more records than a journal takes.
     ghost few: { (keep : Self) → sound keep → length (record_of keep) < 1000000 };

@@ -48,6 +48,8 @@ impl<D: Disk> Keep<D> for Loose {
 
     ghost writes = { λ _. false };
 
+    ghost raised = { λ _. true };
+
     ghost live = { λ _. true };
 
     ghost sits = { λ _ _. ⊤ };

@@ -13,10 +13,11 @@ ghost use Rattle.voc_read.specs.Vocabulary.{IsVocabulary, refusal_of_vocabulary}
 ghost use Rattle.session_core.specs.Settled.{IsSettled};
 ghost use Rattle.session_core.specs.Standing.{Stands, knowledge_of, open_in};
 ghost use Rattle.session_store.specs.Held.{lang_held, plan_held, question_held, events_held, IsHeld};
+ghost use Rattle.session_store.specs.Keeping.{calls_to_raise};
 ghost use Rattle.session_store.specs.Left.{SaysSession};
 ghost use Rattle.session_store.specs.Replay.{HavePlaces};
 ghost use Rattle.session_store.specs.Opening.{NoLanguage, NotLed, NotMade, NotOpened};
-ghost use Rattle.session_store.specs.Store.{lang_of, plan_of, question_of, events_of, voc_of, is_live_in, IsMadeOf, IsSound, SitsOn};
+ghost use Rattle.session_store.specs.Store.{lang_of, plan_of, question_of, events_of, voc_of, is_live_in, is_raised_in, IsMadeOf, IsSound, SitsOn};
 
 use crate::SFault;
 use crate::held::Held;
@@ -181,10 +182,11 @@ impl Store {
 /// Raises a journal where it isn't raised, so that a take-back may be added.
 fn raised<D: Disk>(journal: &mut Journal, disk: &mut D) -> Result<(), JFault>
     requires { IsInPlace D.Disk journal.old disk.old }
-    ensures leaves { LeavesBehind D.Disk 4 disk.old disk.new result IsSame IsSame }
+    ensures leaves { LeavesBehind D.Disk (calls_to_raise journal.old.raised) disk.old disk.new result IsSame IsSame }
     ensures there { OnOk result (IsInPlace D.Disk journal.new disk.new) }
     ensures counted { journal.new.records ≡ journal.old.records }
     ensures raised { OnOk result (IsTrue journal.new.raised) }
+    ensures stays { (journal.new.raised ≡ journal.old.raised) ⊎ IsTrue journal.new.raised }
     // the disk alone makes it give up
     ensures failed { IfErr result (λ _. Rose (D.faults disk.old) (D.faults disk.new) × IsFalse journal.new.live) }
 {
@@ -198,9 +200,11 @@ fn raised<D: Disk>(journal: &mut Journal, disk: &mut D) -> Result<(), JFault>
 fn append_back<D: Disk>(journal: &mut Journal, disk: &mut D) -> Result<(), JFault>
     requires there { IsInPlace D.Disk journal.old disk.old }
     requires room { journal.old.records < 1000000 }
-    ensures leaves { LeavesBehind D.Disk 8 disk.old disk.new result (λ old. HasNew old Event.Back) (λ old. IsOldOrNew old Event.Back) }
+    ensures leaves { LeavesBehind D.Disk (4 + calls_to_raise journal.old.raised) disk.old disk.new result (λ old. HasNew old Event.Back) (λ old. IsOldOrNew old Event.Back) }
     ensures there { OnOk result (IsInPlace D.Disk journal.new disk.new) }
     ensures counted { OnOk result (journal.new.records ≡ journal.old.records + 1) }
+    ensures raised { OnOk result (IsTrue journal.new.raised) }
+    ensures stays { (journal.new.raised ≡ journal.old.raised) ⊎ IsTrue journal.new.raised }
     // the disk alone makes it give up
     ensures failed { IfErr result (λ _. Rose (D.faults disk.old) (D.faults disk.new) × IsFalse journal.new.live) }
 {
@@ -224,6 +228,8 @@ impl<D: Disk> Keep<D> for Store {
     ghost sound = { IsSound };
 
     ghost writes = { λ _. true };
+
+    ghost raised = { is_raised_in };
 
     ghost live = { is_live_in };
 

@@ -1,4 +1,4 @@
-use Rattle.acq_cli.proofs.Prelude.{refl, ap, inl, inr, Result, Err, rose_later, voc_of, question_of, SFault, line_turn, any_answer, goes_on}
+use Rattle.acq_cli.proofs.Prelude.{refl, ◌∙◌, ap, inl, inr, Result, Err, rose_later, voc_of, question_of, SFault, line_turn, any_answer, goes_on, opened_raised}
 use Rattle.session_store.specs.Store.{lang_of, plan_of, events_of}
 use Rattle.session_store.specs.declared.store.Store.{Store}
 use Rattle.acq_cli.proofs.commands.run_journal.Goals as goal
@@ -12,8 +12,10 @@ returns-in-Ok-clause-runs g c =
     let store = c.in-Ok.store in
     let after = c.ask_on.new.keep in
     inr (goes_on D line_turn any_answer c.args.budget (g.S.Source.left c.args.input.now) (g.K.Sink.written c.args.out.now) (g.S.Source.left c.ask_on.new.input) (g.K.Sink.written c.ask_on.new.out)
-    c.args.disk.now c.open.new.disk c.ask_on.new.disk c.ask_on.result (plan_of store) (voc_of store) (events_of store) (events_of after) (question_of after) (lang_of store)
-    c.in-Ok.ensures.opened c.in-Ok.ensures.some c.in-Ok.ensures.sound.read c.in-Ok.ensures.places c.open.ensures.only_read.same c.open.ensures.only_read.any_moment c.open.ensures.few_calls c.ask_on.ensures.keeps.grown c.ask_on.ensures.keeps.calls c.ask_on.ensures.lawful c.ask_on.ensures.taught.added c.ask_on.ensures.keeps.told
+    c.args.disk.now c.open.new.disk c.ask_on.new.disk c.ask_on.result (plan_of store) (voc_of store) (events_of store) (events_of after) (question_of after) (lang_of store) store.journal.raised after.journal.raised
+    c.in-Ok.ensures.opened c.in-Ok.ensures.some c.in-Ok.ensures.sound.read c.in-Ok.ensures.places c.open.ensures.only_read.same c.open.ensures.only_read.any_moment c.open.ensures.few_calls
+    (λ bytes told. let was = c.open.ensures.only_read.same ∙ told in opened_raised store (D.may_leave c.open.new.disk) bytes (c.in-Ok.ensures.sits c.in-Ok.ensures.live bytes was)) c.ask_on.ensures.keeps.grown
+    (λ no. c.ask_on.ensures.keeps.calls no) c.ask_on.ensures.lawful c.ask_on.ensures.taught.added c.ask_on.ensures.keeps.told
     (λ no bytes told. c.ask_on.ensures.keeps.persists refl bytes told no) (λ is. c.ask_on.ensures.keeps.fails is)
     c.ask_on.ensures.asked.tries c.ask_on.ensures.asked.part)
 

@@ -1,4 +1,4 @@
-use Rattle.acq_cli.proofs.Prelude.{◌≡◌, Bool, false, List, [], refl, sym, subst, arith, inl, inr, ◌∙◌, ap, Result, Err, IfOk, OnErr, Event, Plan, Language, Candidate, standing_on, voc_of, question_of, net_turn, net_may_say, Loses, Tries, IsAnsweredBy, MayLack, ReadsTarget, SaysWithout, stale_said, point_of, terms_with, goes_on_with, opened_now, IsDisk, said_as, silent_not, NoTarget, called_as, takes_then}
+use Rattle.acq_cli.proofs.Prelude.{◌≡◌, Bool, false, List, [], refl, sym, subst, arith, inl, inr, ◌∙◌, ap, Result, Err, IfOk, OnErr, Event, Plan, Language, Candidate, standing_on, voc_of, question_of, net_turn, net_may_say, Loses, Tries, IsAnsweredBy, MayLack, ReadsTarget, SaysWithout, stale_said, point_of, terms_with, goes_on_with, opened_now, opened_raised, IsDisk, said_as, silent_not, NoTarget, called_as, takes_then}
 use Rattle.session_store.specs.Keeping.{FailsWith}
 use Rattle.session_store.specs.Store.{lang_of, plan_of, events_of}
 use Rattle.acq_said.specs.Breaks.{BreaksRun}
@@ -85,21 +85,23 @@ returns-in-Ok-read_target-clause-plays g c =
     let Tried : Bool → Type 0 = λ quiet. IfOk c.ask_on.result (Tries (net_turn target quiet) l terms (events_of store) (events_of after) rest written left' written') in
     let Part : Bool → Type 0 = λ quiet. OnErr c.ask_on.result (BreaksRun (net_turn target quiet) l terms (events_of store) (events_of after) rest written left' written') in
     let Lost : Bool → Type 0 = λ quiet.
-    IsDisk c.ask_on.result → FailsWith D (plan_of store) (voc_of store) (events_of store) (events_of after) (question_of after)
+    IsDisk c.ask_on.result → FailsWith D store.journal.raised c.ask_on.ensures.keeps.grown.more (plan_of store) (voc_of store) (events_of store) (events_of after) (question_of after)
     (Loses (net_turn target quiet) l terms (point_of (events_of store) rest written) (point_of (events_of after) left' written')) c.open.new.disk c.ask_on.new.disk in
     let tries = subst Tried c.new-teacher.ensures.quiet c.ask_on.ensures.asked.tries in
     let Holds : Language → Plan → List Event → List Event → Type 0 = λ m plan before later.
     (standing_on m before ≡ []) × ReadsTarget m left rest target × IsAnsweredBy target m (terms_with plan c.args.budget) (standing_on m later) c.ask_on.result in
     let on = goes_on_with D Holds (net_turn target false) (net_may_say target) c.args.budget rest written left' written'
-    c.args.disk.now c.open.new.disk c.ask_on.new.disk c.ask_on.result (plan_of store) (voc_of store) (events_of store) (events_of after) (question_of after) l
-    c.in-Ok.ensures.opened c.in-Ok.ensures.some c.in-Ok.ensures.sound.read c.in-Ok.ensures.places c.open.ensures.only_read.same c.open.ensures.only_read.any_moment c.open.ensures.few_calls c.ask_on.ensures.keeps.grown c.ask_on.ensures.keeps.calls c.ask_on.ensures.lawful c.ask_on.ensures.taught.added c.ask_on.ensures.keeps.told
+    c.args.disk.now c.open.new.disk c.ask_on.new.disk c.ask_on.result (plan_of store) (voc_of store) (events_of store) (events_of after) (question_of after) l store.journal.raised after.journal.raised
+    c.in-Ok.ensures.opened c.in-Ok.ensures.some c.in-Ok.ensures.sound.read c.in-Ok.ensures.places c.open.ensures.only_read.same c.open.ensures.only_read.any_moment c.open.ensures.few_calls
+    (λ bytes told. let was = c.open.ensures.only_read.same ∙ told in opened_raised store (D.may_leave c.open.new.disk) bytes (c.in-Ok.ensures.sits c.in-Ok.ensures.live bytes was)) c.ask_on.ensures.keeps.grown
+    (λ no. c.ask_on.ensures.keeps.calls no) c.ask_on.ensures.lawful c.ask_on.ensures.taught.added c.ask_on.ensures.keeps.told
     (λ no bytes told. c.ask_on.ensures.keeps.persists refl bytes told no) (subst Lost c.new-teacher.ensures.quiet (λ is. c.ask_on.ensures.keeps.fails is))
     tries (subst Part c.new-teacher.ensures.quiet c.ask_on.ensures.asked.part)
     (fresh, reads, answered (net_turn target false) l terms target (events_of store) (events_of after) rest written left' written' c.ask_on.result reads.lawful fresh c.ask_on.ensures.taught.added c.ask_on.ensures.taught.said tries) in
     inr (inr (inr (record { target = target; rest = rest; on = on.0; fresh = on.1.0; reads = on.1.1; alone = ap g.S.Source.left (c.ask_on.ensures.unread refl); answered = on.1.2 })))
 
 pub returns-in-Ok-read_target-clause-takes : goal.returns-in-Ok-read_target-clause-takes
-returns-in-Ok-read_target-clause-takes g c = takes_then _ _ _ c.read_target.ensures.takes c.ask_on.ensures.takes
+returns-in-Ok-read_target-clause-takes g c = takes_then _ _ _ c.read_target.ensures.takes c.ask_on.ensures.faults.read.takes
 
 pub returns-then-count-ge1-clause-read : goal.returns-then-count-ge1-clause-read
 returns-then-count-ge1-clause-read g c = called_unless _ _ _ (λ is. silent_not c.stale.result c.or_silent.result unsaid.ReadFault (λ e. cc) c.or_silent.ensures (c.put.ensures.read is))

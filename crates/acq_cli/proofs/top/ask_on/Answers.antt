@@ -1,10 +1,15 @@
-use Rattle.acq_cli.proofs.Prelude.{◌≡◌, ◌∙◌, Result, Ok, Err, sym, subst, refl, Put, Language, IsLanguage, standing_on, knowledge_of, keeps_still, keeps_as, terms_with, Ending, called_as, okay, begun_part, at_turn, said_of}
+use Rattle.acq_cli.proofs.Prelude.{◌≡◌, ◌∙◌, Result, Ok, Err, sym, subst, refl, arith, Put, Language, IsLanguage, standing_on, knowledge_of, keeps_still, keeps_as, terms_with, Ending, called_as, okay, begun_part, at_turn, said_of}
 use Rattle.acq_io.specs.declared.streams.Put.TheVariants as puts
 use Rattle.query_gen.specs.Marks.{IsMadeFor}
 use Rattle.acq_loop.specs.declared.driving.Drove.TheVariants as drove
 use Rattle.acq_loop.specs.declared.ending.Ending.TheVariants as ending
 use Rattle.acq_loop.proofs.Added.{taught_none}
+use Rattle.acq_loop.proofs.Taking.{takes_same}
+use Rattle.acq_cli.proofs.Causes.{called_idle}
 use Rattle.acq_cli.proofs.top.ask_on.Goals as goal
+
+not_failed : (let r : Result Ending Put = Err puts.Memory in r) ≡ Err puts.Failed → ⊥
+not_failed e = cc
 
 pub returns-clause-asked : goal.returns-clause-asked
 returns-clause-asked g c =
@@ -17,8 +22,8 @@ returns-clause-asked g c =
     (c.say.ensures.says c.args.budget) (c.say.ensures.part c.args.budget) in
     on.asked
 
-pub returns-clause-read : goal.returns-clause-read
-returns-clause-read g c =
+pub returns-clause-faults : goal.returns-clause-faults
+returns-clause-faults g c =
     let P = g.P.Keep in
     let old = c.args.keep.now in
     let new = c.drive-drove.new.keep in
@@ -26,10 +31,25 @@ returns-clause-read g c =
     let on = said_of P (g.T.Teacher.turn c.args.teacher.now) old new c.args.budget (g.S.Source.left c.args.input.now) (g.K.Sink.written c.args.out.now) (g.S.Source.left c.drive-drove.new.source) (g.K.Sink.written c.drive-drove.new.sink)
     (g.K.Sink.written c.say.new.out) c.session-session.result.now c.drive-drove.new.screen c.drive-drove.result c.say.result (g.T.Teacher.may_say c.args.teacher.now (P.lang old)) c.drive-drove.ensures.same there.stands there.lang there.plan c.drive-drove.ensures.walked c.drive-drove.ensures.ends
     (c.say.ensures.says c.args.budget) (c.say.ensures.part c.args.budget) in
-    called_as _ _ _ _ (c.drive-drove.result ≡ drove.ReadFault) (c.say.result ≡ okay ending.ReadFault) on.read_told on.read_of c.drive-drove.ensures.faults.read.called
+    record {
+      read = record {
+        takes = c.drive-drove.ensures.faults.read.takes;
+        called = called_as _ _ _ _ (c.drive-drove.result ≡ drove.ReadFault) (c.say.result ≡ okay ending.ReadFault) on.read_told on.read_of c.drive-drove.ensures.faults.read.called;
+      };
+      write = record { later = omega (arith, c.drive-drove.ensures.faults.write.later, c.say.ensures.later_sink); rose = ? };
+    }
 
-pub returns-clause-takes : goal.returns-clause-takes
-returns-clause-takes g c = c.drive-drove.ensures.faults.read.takes
+pub returns-in_default-clause-faults : goal.returns-in_default-clause-faults
+returns-in_default-clause-faults g c = record {
+  read = record { takes = takes_same (g.S.Source.left c.args.input.now); called = called_idle _ _ _ tt };
+  write = record { later = omega arith; rose = λ failed. absurd (not_failed failed) };
+}
+
+pub returns-in_default-new-clause-faults : goal.returns-in_default-new-clause-faults
+returns-in_default-new-clause-faults g c = record {
+  read = record { takes = takes_same (g.S.Source.left c.args.input.now); called = called_idle _ _ _ tt };
+  write = record { later = omega arith; rose = λ failed. absurd (not_failed failed) };
+}
 
 pub returns-clause-taught : goal.returns-clause-taught
 returns-clause-taught g c =
@@ -106,7 +126,7 @@ returns-in_default-clause-asked g c =
 pub returns-in_default-clause-keeps : goal.returns-in_default-clause-keeps
 returns-in_default-clause-keeps g c =
     let D = g.D.Disk in let P = g.P.Keep in
-    keeps_still D g.met.D.Disk.counts_now g.met.D.Disk.only_now P _ _ c.args.keep.now c.args.keep.now c.args.disk.now not_okay refl refl refl refl refl c.requires.keeper.live c.requires.keeper.sits
+    keeps_still D g.met.D.Disk.counts_now g.met.D.Disk.only_now P _ _ c.args.keep.now c.args.keep.now c.args.disk.now not_okay refl refl refl refl refl refl c.requires.keeper.live c.requires.keeper.sits
     (λ w bytes told f left. g.met.P.Keep.lasts c.args.keep.now c.args.disk.now w c.requires.keeper.live c.requires.keeper.sits bytes told f left)
 
 pub returns-in_default-new-clause-asked : goal.returns-in_default-new-clause-asked
@@ -126,5 +146,5 @@ returns-in_default-new-clause-asked g c =
 pub returns-in_default-new-clause-keeps : goal.returns-in_default-new-clause-keeps
 returns-in_default-new-clause-keeps g c =
     let D = g.D.Disk in let P = g.P.Keep in
-    keeps_still D g.met.D.Disk.counts_now g.met.D.Disk.only_now P _ _ c.args.keep.now c.args.keep.now c.args.disk.now not_okay refl refl refl refl refl c.requires.keeper.live c.requires.keeper.sits
+    keeps_still D g.met.D.Disk.counts_now g.met.D.Disk.only_now P _ _ c.args.keep.now c.args.keep.now c.args.disk.now not_okay refl refl refl refl refl refl c.requires.keeper.live c.requires.keeper.sits
     (λ w bytes told f left. g.met.P.Keep.lasts c.args.keep.now c.args.disk.now w c.requires.keeper.live c.requires.keeper.sits bytes told f left)

@@ -25,7 +25,7 @@ returns-clause-part g c =
     c.in-Ok-new.ensures.lang c.in-Ok-new.ensures.plan c.in-Ok-new.ensures.events c.ask_on.ensures.asked.part
 
 pub returns-clause-takes : goal.returns-clause-takes
-returns-clause-takes g c = c.ask_on.ensures.takes
+returns-clause-takes g c = c.ask_on.ensures.faults.read.takes
 
 pub returns-clause-no_disk : goal.returns-clause-no_disk
 returns-clause-no_disk g c = no_disk_fault c.ask_on.result (λ is. false_is_not_true (c.ask_on.ensures.keeps.cause is).0)

@@ -57,7 +57,7 @@ loop-turn-init g c =
       added = added_none l (g.P.Keep.plan c.args.keep.now) (g.T.Teacher.may_say c.args.teacher.now l) (g.P.Keep.record_of c.args.keep.now) (g.P.Keep.record_of c.args.keep.now) refl;
       keeps =
           let D = g.D.Disk in let P = g.P.Keep in
-          keeps_still D g.met.D.Disk.counts_now g.met.D.Disk.only_now P ⊥ (λ e. ⊥) c.args.keep.now c.args.keep.now c.args.disk.now (λ e. e) refl refl refl refl refl c.requires.keeper.live c.requires.keeper.sits
+          keeps_still D g.met.D.Disk.counts_now g.met.D.Disk.only_now P ⊥ (λ e. ⊥) c.args.keep.now c.args.keep.now c.args.disk.now (λ e. e) refl refl refl refl refl refl c.requires.keeper.live c.requires.keeper.sits
           (λ w bytes told f left. g.met.P.Keep.lasts c.args.keep.now c.args.disk.now w c.requires.keeper.live c.requires.keeper.sits bytes told f left);
       by_turns = ([], refl);
       more = omega arith;
@@ -119,7 +119,6 @@ returns-in-Some g c =
         read = record { takes = takes_then _ _ _ before.takes turn.faults.read.takes; called = called_on _ _ _ _ _ _ _ before.called (called_as _ _ _ _ _ _ (λ is. some_read how (sym c.in-Some.is ∙ is)) (λ is. c.in-Some.is ∙ ap (λ (x : Drove). Some x) is) turn.faults.read.called) };
         write = record { later = omega (arith, turn.faults.write.later, before.later_sink); rose = λ is. rose_later _ _ _ before.later_sink (turn.faults.write.rose (c.in-Some.is ∙ ap (λ (x : Drove). Some x) is)) };
       };
-      unread = λ no. turn.unread (before.reads ∙ no) ∙ before.unread no;
       serves = record {
         teaches = record {
           turn = turn.serves.teaches.turn ∙ before.turn;
@@ -128,6 +127,7 @@ returns-in-Some g c =
           no_more = λ m q told may. before.no_more m q told (turn.serves.teaches.no_more m q told may);
           reads = turn.serves.teaches.reads ∙ before.reads;
         };
+        unread = λ no. turn.serves.unread (before.reads ∙ no) ∙ before.unread no;
         equipped = subst Equipped before.lang turn.serves.equipped;
       };
       by_turns =
@@ -175,7 +175,7 @@ loop-turn-preserved g c =
       later_sink = omega (arith, c.take_turn.ensures.faults.write.later, c.loop-turn.invariant.later_sink);
       no_more = λ m q told may. c.loop-turn.invariant.no_more m q told (c.take_turn.ensures.serves.teaches.no_more m q told may);
       reads = c.take_turn.ensures.serves.teaches.reads ∙ c.loop-turn.invariant.reads;
-      unread = λ no. c.take_turn.ensures.unread (c.loop-turn.invariant.reads ∙ no) ∙ c.loop-turn.invariant.unread no;
+      unread = λ no. c.take_turn.ensures.serves.unread (c.loop-turn.invariant.reads ∙ no) ∙ c.loop-turn.invariant.unread no;
       added = added_then l p (g.T.Teacher.may_say c.args.teacher.now l) (g.P.Keep.record_of c.args.keep.now) (g.P.Keep.record_of c.loop-turn.keep) (g.P.Keep.record_of c.take_turn.new.keep) c.loop-turn.invariant.added
           (let Added : Language → Plan → Type 0 = λ m q. IsAdded m q (g.T.Teacher.may_say c.loop-turn.teacher m) (g.P.Keep.record_of c.loop-turn.keep) (g.P.Keep.record_of c.take_turn.new.keep) in
           added_more l p (g.T.Teacher.may_say c.loop-turn.teacher l) (g.T.Teacher.may_say c.args.teacher.now l) (g.P.Keep.record_of c.loop-turn.keep) (g.P.Keep.record_of c.take_turn.new.keep) (c.loop-turn.invariant.no_more l)

@@ -44,8 +44,8 @@ returns-in-Answer g c =
           both_as Done (end_of r) c.end_of.result e (event_on c.args.entry (P.question old)) (sym c.end_of.ensures) is
           (keeps_event P D g.met.D.Disk.counts_now g.met.D.Disk.only_now old new x y e r keeper (inl (answer q yes, refl)) (inl (q, yes, asked.1, refl))
           (λ w bytes told f left. g.met.P.Keep.lasts old x w keeper.live keeper.sits bytes told f left) ok c.answer.ensures.err same c.answer.ensures.sits (kept_faults r _ _ c.answer.ensures.refused) (kept_memory r _ _ c.answer.ensures.refused) (kept_failed r _ _ c.answer.ensures.refused)
-          (event_goes_on D (P.writes old) (P.plan old) (P.voc old) before e x y r left) (event_calls D (P.writes old) (P.plan old) (P.voc old) before e x y r left) left.unwritten
-          (event_now D (P.writes old) (P.plan old) (P.voc old) before after e x y r left (on_ok_weaker r (λ k. k.added) ok)) (event_left D (P.writes old) (P.plan old) (P.voc old) before e x y r left));
+          (event_goes_on D (P.writes old) (P.raised old) (P.raised new) (P.plan old) (P.voc old) before e x y r left) (event_calls D (P.writes old) (P.raised old) (P.raised new) (P.plan old) (P.voc old) before e x y r left) left.raised left.unwritten
+          (event_now D (P.writes old) (P.raised old) (P.raised new) (P.plan old) (P.voc old) before after e x y r left (on_ok_weaker r (λ k. k.added) ok)) (event_left D (P.writes old) (P.raised old) (P.raised new) (P.plan old) (P.voc old) before e x y r left));
     }
 
 pub returns-in-Back : goal.returns-in-Back
@@ -77,6 +77,6 @@ returns-in-Back g c =
           both_as Done (end_of r) c.end_of-in-Back.result e (event_on c.args.entry (P.question old)) (sym c.end_of-in-Back.ensures) is
           (keeps_event P D g.met.D.Disk.counts_now g.met.D.Disk.only_now old new x y e r keeper (inr refl) (inr refl)
           (λ w bytes told f left. g.met.P.Keep.lasts old x w keeper.live keeper.sits bytes told f left) ok c.take_back.ensures.err same c.take_back.ensures.sits (kept_faults r _ _ c.take_back.ensures.refused) (kept_memory r _ _ c.take_back.ensures.refused) (kept_failed r _ _ c.take_back.ensures.refused)
-          (event_goes_on D (P.writes old) (P.plan old) (P.voc old) before e x y r left) (event_calls D (P.writes old) (P.plan old) (P.voc old) before e x y r left) left.unwritten
-          (event_now D (P.writes old) (P.plan old) (P.voc old) before after e x y r left (on_ok_weaker r (λ k. k.added) ok)) (event_left D (P.writes old) (P.plan old) (P.voc old) before e x y r left));
+          (event_goes_on D (P.writes old) (P.raised old) (P.raised new) (P.plan old) (P.voc old) before e x y r left) (event_calls D (P.writes old) (P.raised old) (P.raised new) (P.plan old) (P.voc old) before e x y r left) left.raised left.unwritten
+          (event_now D (P.writes old) (P.raised old) (P.raised new) (P.plan old) (P.voc old) before after e x y r left (on_ok_weaker r (λ k. k.added) ok)) (event_left D (P.writes old) (P.raised old) (P.raised new) (P.plan old) (P.voc old) before e x y r left));
     }

@@ -44,14 +44,13 @@ returns-in-Some g c =
       same = record { lang = only.lang; plan = only.plan; sound = only.sound };
       taught = taught_none l (P.plan one) (g.T.Teacher.may_say c.args.teacher.now l) (P.record_of one) (P.record_of two) only.events (unasked_may (g.T.Teacher.may_say c.args.teacher.now l) how unasked.unasked);
       keeps =
-          keeps_still D g.met.D.Disk.counts_now g.met.D.Disk.only_now P _ _ one two c.args.disk.now (no_fault how drove.DiskFault unasked.unasked refl) only.plan only.voc only.events only.writes only.live c.requires.keeper.live (only.sits c.args.disk.now c.requires.keeper.sits)
+          keeps_still D g.met.D.Disk.counts_now g.met.D.Disk.only_now P _ _ one two c.args.disk.now (no_fault how drove.DiskFault unasked.unasked refl) only.plan only.voc only.events only.writes only.raised only.live c.requires.keeper.live (only.sits c.args.disk.now c.requires.keeper.sits)
           (λ w bytes told f gone. g.met.P.Keep.lasts one c.args.disk.now w c.requires.keeper.live c.requires.keeper.sits bytes told f gone);
       faults = record {
         read = record { takes = takes_same left; called = called_not _ _ _ (no_fault how drove.ReadFault unasked.unasked refl) };
         write = record { later = omega arith; rose = λ so. absurd (no_fault how drove.WriteFault unasked.unasked refl so) };
       };
-      unread = λ no. refl;
-      serves = record { teaches = record { turn = refl; fits = λ m fits. fits; fitted = λ m fits. fits; no_more = λ m q told may. may; reads = refl }; equipped = c.put_next.ensures.places };
+      serves = record { teaches = record { turn = refl; fits = λ m fits. fits; fitted = λ m fits. fits; no_more = λ m q told may. may; reads = refl }; unread = λ no. refl; equipped = c.put_next.ensures.places };
       turn = record {
         acknowledged = loses_nothing D g.met.D.Disk.counts_now g.met.D.Disk.only_now P one c.args.disk.now (λ w bytes told f gone. g.met.P.Keep.lasts one c.args.disk.now w c.requires.keeper.live c.requires.keeper.sits bytes told f gone);
         says_next = says_nothing turns l terms (P.record_of one) left written;
@@ -86,14 +85,13 @@ returns-then-is_full g c =
       same = record { lang = only.lang; plan = only.plan; sound = only.sound };
       taught = taught_none l (P.plan one) (g.T.Teacher.may_say c.args.teacher.now l) events (P.record_of two) only.events tt;
       keeps =
-          keeps_still D g.met.D.Disk.counts_now g.met.D.Disk.only_now P _ _ one two c.args.disk.now (λ (e : _). cc) only.plan only.voc only.events only.writes only.live c.requires.keeper.live (only.sits c.args.disk.now c.requires.keeper.sits)
+          keeps_still D g.met.D.Disk.counts_now g.met.D.Disk.only_now P _ _ one two c.args.disk.now (λ (e : _). cc) only.plan only.voc only.events only.writes only.raised only.live c.requires.keeper.live (only.sits c.args.disk.now c.requires.keeper.sits)
           (λ w bytes told f gone. g.met.P.Keep.lasts one c.args.disk.now w c.requires.keeper.live c.requires.keeper.sits bytes told f gone);
       faults = record {
         read = record { takes = takes_same left; called = called_not _ _ _ (λ so. cc) };
         write = record { later = omega arith; rose = λ so. absurd (let no : ⊥ = cc in no) };
       };
-      unread = λ no. refl;
-      serves = record { teaches = record { turn = refl; fits = λ m fits. fits; fitted = λ m fits. fits; no_more = λ m q told may. may; reads = refl }; equipped = c.put_next.ensures.places };
+      serves = record { teaches = record { turn = refl; fits = λ m fits. fits; fitted = λ m fits. fits; no_more = λ m q told may. may; reads = refl }; unread = λ no. refl; equipped = c.put_next.ensures.places };
       turn = record {
         acknowledged = loses_nothing D g.met.D.Disk.counts_now g.met.D.Disk.only_now P one c.args.disk.now (λ w bytes told f gone. g.met.P.Keep.lasts one c.args.disk.now w c.requires.keeper.live c.requires.keeper.sits bytes told f gone);
         says_next = says_nothing turns l terms events left written;
@@ -201,7 +199,7 @@ returns-in-Keep g c =
       };
       keeps =
           keeps_then D g.met.D.Disk.counts_now g.met.D.Disk.only_now P Failed Lost Lost one two three c.args.disk.now c.args.disk.now c.keep_event.new.disk only.plan (λ x lost. lost)
-          (keeps_still D g.met.D.Disk.counts_now g.met.D.Disk.only_now P ⊥ (λ x. ⊥) one two c.args.disk.now (λ x. x) only.plan only.voc only.events only.writes only.live c.requires.keeper.live (only.sits c.args.disk.now c.requires.keeper.sits)
+          (keeps_still D g.met.D.Disk.counts_now g.met.D.Disk.only_now P ⊥ (λ x. ⊥) one two c.args.disk.now (λ x. x) only.plan only.voc only.events only.writes only.raised only.live c.requires.keeper.live (only.sits c.args.disk.now c.requires.keeper.sits)
           (λ w bytes told f gone. g.met.P.Keep.lasts one c.args.disk.now w c.requires.keeper.live c.requires.keeper.sits bytes told f gone))
           (keeps_as D g.met.D.Disk.counts_now g.met.D.Disk.only_now P Failed Failed Was Lost two three c.args.disk.now c.keep_event.new.disk (λ so. so) (λ so. so)
           (λ failed lost was. loses l k.lang terms events k.answers q at turns after (reply_of entry) e (entry_gives q entry) left written left' written' end drove.DiskFault follows kept failed told lost
@@ -214,8 +212,7 @@ returns-in-Keep g c =
         };
         write = record { later = c.hear.ensures.faults.write.later; rose = λ so. absurd (kept_calm e events after end drove.WriteFault kept (λ x. cc) (λ x. cc) so) };
       };
-      unread = c.hear.ensures.unread;
-      serves = record { teaches = c.hear.ensures.teacher; equipped = c.put_next.ensures.places };
+      serves = record { teaches = c.hear.ensures.teacher; unread = c.hear.ensures.unread; equipped = c.put_next.ensures.places };
       turn = record {
         acknowledged = loses_none_as D g.met.D.Disk.counts_now g.met.D.Disk.only_now P one two c.args.disk.now c.keep_event.new.disk only
             (loses_none D g.met.D.Disk.counts_now g.met.D.Disk.only_now P Failed Was two three c.args.disk.now c.keep_event.new.disk (disk_failed e events after end kept) c.keep_event.ensures.keeps);
@@ -259,14 +256,13 @@ returns-in-End g c =
       same = record { lang = only.lang; plan = only.plan; sound = only.sound };
       taught = taught_none l plan may events (P.record_of two) only.events (word_may_end word k.answers end may q is (subst May at.at.language hears.says));
       keeps =
-          keeps_still D g.met.D.Disk.counts_now g.met.D.Disk.only_now P _ _ one two c.args.disk.now (word_not_disk word k.answers end is) only.plan only.voc only.events only.writes only.live c.requires.keeper.live (only.sits c.args.disk.now c.requires.keeper.sits)
+          keeps_still D g.met.D.Disk.counts_now g.met.D.Disk.only_now P _ _ one two c.args.disk.now (word_not_disk word k.answers end is) only.plan only.voc only.events only.writes only.raised only.live c.requires.keeper.live (only.sits c.args.disk.now c.requires.keeper.sits)
           (λ w bytes told f gone. g.met.P.Keep.lasts one c.args.disk.now w c.requires.keeper.live c.requires.keeper.sits bytes told f gone);
       faults = record {
         read = record { takes = c.hear.ensures.faults.read.takes; called = called_as _ _ _ _ _ _ (some_end end drove.ReadFault) (end_heard end drove.ReadFault) c.in-End.ensures.faults.read.called };
         write = record { later = c.hear.ensures.faults.write.later; rose = λ so. c.in-End.ensures.faults.write.rose (end_heard end drove.WriteFault so) };
       };
-      unread = c.hear.ensures.unread;
-      serves = record { teaches = c.hear.ensures.teacher; equipped = c.put_next.ensures.places };
+      serves = record { teaches = c.hear.ensures.teacher; unread = c.hear.ensures.unread; equipped = c.put_next.ensures.places };
       turn = record {
         acknowledged = loses_nothing D g.met.D.Disk.counts_now g.met.D.Disk.only_now P one c.args.disk.now (λ w bytes told f gone. g.met.P.Keep.lasts one c.args.disk.now w c.requires.keeper.live c.requires.keeper.sits bytes told f gone);
         says_next = word_says_next l k.lang terms events k.answers q at turns left written left' written' word hears.tells;

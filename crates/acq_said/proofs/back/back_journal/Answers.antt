@@ -2,7 +2,7 @@ use Rattle.acq_said.proofs.Prelude.{◌+◌, ◌∙◌, ℕ, length, refl, ap, s
 use Rattle.session_store.proofs.Placing.{back_has_place}
 use Rattle.acq_loop.specs.declared.ending.Ending.TheVariants as ending
 use Rattle.acq_said.specs.declared.said.Unsaid.TheVariants as unsaid
-use Rattle.acq_said.proofs.Journals.{opened_now}
+use Rattle.acq_said.proofs.Journals.{opened_now, opened_raised}
 use Rattle.acq_said.proofs.Spoken.{ok_any, said_as, silent_not}
 use Rattle.acq_said.proofs.TakenBack.{back_calls, back_reads, full_back, leaves_back, none_back, one_back}
 use Rattle.acq_said.proofs.back.back_journal.Goals as goal
@@ -87,11 +87,13 @@ returns-clause-backs g c =
       later = events_of after;
       ends = subst Ends (ap (λ (m : ℕ). saying (taken_text m) ending.Done) number.0 ∙ one.1) c.take_last.ensures.ends;
       all_places = back_has_place o.lang o.plan o.events c.in-Ok.ensures.places (some_there o.lang o.events c.in-Some.m number.0 number.1);
-      leaves = leaves_back D o.plan o.voc taken o.events (events_of after) (question_of after)
+      leaves = leaves_back D store.journal.raised c.take_last.ensures.keeps.grown.more o.plan o.voc taken o.events (events_of after) (question_of after)
           c.args.disk.now c.open.new.disk c.take_last.new.disk c.take_last.result c.open.ensures.only_read.same c.open.ensures.only_read.any_moment c.take_last.ensures.ends c.take_last.ensures.keeps.told
           (λ no bytes told. c.take_last.ensures.keeps.persists refl bytes told no) (λ is. c.take_last.ensures.keeps.fails is);
-      calls = λ bytes told. back_calls D o.events (events_of after) taken c.open.new.disk c.take_last.new.disk c.take_last.result c.take_last.ensures.ends
-          c.take_last.ensures.keeps.grown c.take_last.ensures.keeps.calls (D.calls c.args.disk.now) bytes (c.open.ensures.few_calls bytes told);
+      raised = store.journal.raised;
+      was_raised = λ bytes told. let was = c.open.ensures.only_read.same ∙ told in opened_raised store (D.may_leave c.open.new.disk) bytes (c.in-Ok.ensures.sits c.in-Ok.ensures.live bytes was);
+      calls = λ bytes told. back_calls D o.plan o.voc o.events (events_of after) taken (question_of after) store.journal.raised after.journal.raised c.open.new.disk c.take_last.new.disk c.take_last.result c.take_last.ensures.ends
+          c.take_last.ensures.keeps.grown (λ no. c.take_last.ensures.keeps.calls no) (λ is. c.take_last.ensures.keeps.fails is) (D.calls c.args.disk.now) bytes (c.open.ensures.few_calls bytes told);
     })
 
 pub take_last-requires-clause-room : goal.take_last-requires-clause-room

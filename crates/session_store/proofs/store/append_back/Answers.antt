@@ -1,16 +1,18 @@
-use Rattle.session_store.proofs.Prelude.{inl, arith, on_ok_weaker, Back, none_done, behind_as, then_behind, HasNew, IsOldOrNew, IsSame}
+use Rattle.session_store.proofs.Prelude.{◌+◌, ℕ, inl, arith, on_ok_weaker, Back, none_done, behind_as, then_behind, HasNew, IsOldOrNew, IsSame, calls_to_raise}
 use Rattle.session_store.proofs.Keepers.{rose_later}
 use Rattle.session_store.proofs.Stores.{append_failed}
 use Rattle.session_store.proofs.store.append_back.Goals as goal
 
 pub returns-in_err-raised-clause-leaves : goal.returns-in_err-raised-clause-leaves
 returns-in_err-raised-clause-leaves g c =
-    behind_as g.D.Disk 4 8 c.args.disk.now c.raised.new.disk c.raised.result _ IsSame IsSame (λ old. HasNew old Back) (λ old. IsOldOrNew old Back) c.raised.ensures.leaves (omega arith)
+    let raising : ℕ = calls_to_raise c.args.journal.now.raised in
+    behind_as g.D.Disk raising (4 + raising) c.args.disk.now c.raised.new.disk c.raised.result _ IsSame IsSame (λ old. HasNew old Back) (λ old. IsOldOrNew old Back) c.raised.ensures.leaves (omega arith)
     (λ old told. none_done _ _ c.from_residual.result c.from_residual.ensures.1) (λ old f told same plan voc events spelled. inl (same plan voc events spelled))
 
 pub returns-clause-leaves : goal.returns-clause-leaves
 returns-clause-leaves g c =
-    then_behind g.D.Disk 4 4 8 c.args.disk.now c.raised.new.disk c.append.new.disk c.append.result IsSame IsSame (λ old. HasNew old Back) (λ old. IsOldOrNew old Back) (λ old. HasNew old Back) (λ old. IsOldOrNew old Back)
+    let raising : ℕ = calls_to_raise c.args.journal.now.raised in
+    then_behind g.D.Disk raising 4 (4 + raising) c.args.disk.now c.raised.new.disk c.append.new.disk c.append.result IsSame IsSame (λ old. HasNew old Back) (λ old. IsOldOrNew old Back) (λ old. HasNew old Back) (λ old. IsOldOrNew old Back)
     c.in_ok-raised.ensures.leaves c.append.ensures.leaves (omega arith)
     (λ old mid new told same added plan voc events spelled. added plan voc events (same plan voc events spelled))
     (λ old f told same plan voc events spelled. inl (same plan voc events spelled))

@@ -1,12 +1,12 @@
-use Rattle.session_store.proofs.Prelude.{refl, false_is_not_true}
+use Rattle.session_store.proofs.Prelude.{refl, inl, none_done, false_is_not_true}
 use Rattle.session_store.proofs.Stores.{want_of_memory}
 use Rattle.session_store.proofs.loose.LooseKeep.answer.Goals as goal
 
 pub returns-in_err-make_room-clause-refused : goal.returns-in_err-make_room-clause-refused
-returns-in_err-make_room-clause-refused g c = want_of_memory _ _ c.from_residual.result c.from_residual.ensures.1 (refl, refl)
+returns-in_err-make_room-clause-refused g c = want_of_memory _ _ c.from_residual.result c.from_residual.ensures.1 (refl, refl, refl)
 
 pub returns-in_err-make_room-clause-leaves : goal.returns-in_err-make_room-clause-leaves
-returns-in_err-make_room-clause-leaves g c q put = record { unwritten = λ no. refl; written = λ w. absurd (false_is_not_true w) }
+returns-in_err-make_room-clause-leaves g c q put = record { raised = none_done _ _ c.from_residual.result c.from_residual.ensures.1; stays_raised = inl refl; unwritten = λ no. refl; written = λ w. absurd (false_is_not_true w) }
 
 pub returns-clause-leaves : goal.returns-clause-leaves
-returns-clause-leaves g c q put = record { unwritten = λ no. refl; written = λ w. absurd (false_is_not_true w) }
+returns-clause-leaves g c q put = record { raised = refl; stays_raised = inl refl; unwritten = λ no. refl; written = λ w. absurd (false_is_not_true w) }

@@ -1,4 +1,4 @@
-use Rattle.session_store.proofs.Prelude.{◌≡◌, ◌++◌, ◌∷◌, [], ◌∙◌, List, refl, sym, ap, subst, arith, ⊎_elim, Result, Err, both_ways, IfOk-at_ok, JFault, Event, Language, IsVocabulary, lang_in, plan_in, events_held, LeavesBehind, HasNew, IsOldOrNew, OpensWith, plan_of, voc_of, events_of, question_of, answer_event}
+use Rattle.session_store.proofs.Prelude.{◌≡◌, ◌++◌, ◌∷◌, [], ◌∙◌, List, refl, sym, ap, subst, inl, arith, ⊎_elim, Result, Err, both_ways, IfOk-at_ok, JFault, Event, Language, IsVocabulary, lang_in, plan_in, events_held, LeavesBehind, HasNew, IsOldOrNew, OpensWith, plan_of, voc_of, events_of, question_of, answer_event}
 use Rattle.session_store.proofs.Stores.{in_place, sits_as, held_as, event_left_out, event_written, want_of_memory, told_before, some_once, there_as}
 use Rattle.session_store.proofs.Storables.{answer_has_room}
 use Rattle.session_store.proofs.store.StoreKeep.answer.Goals as goal
@@ -12,12 +12,12 @@ returns-in_err-make_room-clause-sits g c =
     (ap plan_in (sym c.make_room.ensures.session)) (sym c.make_room.ensures.events) c.requires.sits
 
 pub returns-in_err-make_room-clause-refused : goal.returns-in_err-make_room-clause-refused
-returns-in_err-make_room-clause-refused g c = want_of_memory _ _ c.from_residual.result c.from_residual.ensures.1 (refl, refl)
+returns-in_err-make_room-clause-refused g c = want_of_memory _ _ c.from_residual.result c.from_residual.ensures.1 (refl, refl, refl)
 
 pub returns-in_err-make_room-clause-leaves : goal.returns-in_err-make_room-clause-leaves
 returns-in_err-make_room-clause-leaves g c q put =
     let s = c.args.self.now in
-    event_left_out g.D.Disk g.met.D.Disk.only_now _ s.journal (plan_of s) (voc_of s) (events_of s) (answer_event q c.args.yes) c.args.disk.now c.from_residual.result (c.requires.sits c.requires.live) c.from_residual.ensures.1
+    event_left_out g.D.Disk g.met.D.Disk.only_now _ s.journal.raised s.journal (plan_of s) (voc_of s) (events_of s) (answer_event q c.args.yes) c.args.disk.now c.from_residual.result (c.requires.sits c.requires.live) c.from_residual.ensures.1
 
 pub append-requires-clause-there : goal.append-requires-clause-there
 append-requires-clause-there g c = in_place g.D.Disk c.args.self.now c.args.disk.now c.requires.live c.requires.sits
@@ -54,8 +54,8 @@ pub returns-in-Ok-clause-leaves : goal.returns-in-Ok-clause-leaves
 returns-in-Ok-clause-leaves g c q put =
     let s = c.args.self.now in
     let Added : Event → Type 0 = λ e. LeavesBehind g.D.Disk 4 c.args.disk.now c.append.new.disk c.append.result (λ b. HasNew b e) (λ b. IsOldOrNew b e) in
-    event_written g.D.Disk g.met.D.Disk.only_now 4 s.journal (plan_of s) (voc_of s) (events_of s) (answer_event q c.args.yes) c.args.disk.now c.append.new.disk c.append.result _ (c.requires.sits c.requires.live)
-    (subst Added (c.event-event.ensures.is q put) c.append.ensures.leaves) (omega arith) (λ P p. IfOk-at_ok (λ _. P) c.in-Ok.is p)
+    event_written g.D.Disk g.met.D.Disk.only_now 4 s.journal.raised c.append.new.self.raised s.journal (plan_of s) (voc_of s) (events_of s) (answer_event q c.args.yes) c.args.disk.now c.append.new.disk c.append.result _ (c.requires.sits c.requires.live)
+    (subst Added (c.event-event.ensures.is q put) c.append.ensures.leaves) (omega arith) c.append.ensures.raised (inl c.append.ensures.raised) (λ P p. IfOk-at_ok (λ _. P) c.in-Ok.is p)
 
 pub returns-in-Ok-clause-ok : goal.returns-in-Ok-clause-ok
 returns-in-Ok-clause-ok g c q put =
@@ -70,8 +70,8 @@ pub returns-in-Err-clause-leaves : goal.returns-in-Err-clause-leaves
 returns-in-Err-clause-leaves g c q put =
     let s = c.args.self.now in
     let Added : Event → Type 0 = λ e. LeavesBehind g.D.Disk 4 c.args.disk.now c.append.new.disk c.append.result (λ b. HasNew b e) (λ b. IsOldOrNew b e) in
-    event_written g.D.Disk g.met.D.Disk.only_now 4 s.journal (plan_of s) (voc_of s) (events_of s) (answer_event q c.args.yes) c.args.disk.now c.append.new.disk c.append.result _ (c.requires.sits c.requires.live)
-    (subst Added (c.event-event.ensures.is q put) c.append.ensures.leaves) (omega arith) (λ P p. tt)
+    event_written g.D.Disk g.met.D.Disk.only_now 4 s.journal.raised c.append.new.self.raised s.journal (plan_of s) (voc_of s) (events_of s) (answer_event q c.args.yes) c.args.disk.now c.append.new.disk c.append.result _ (c.requires.sits c.requires.live)
+    (subst Added (c.event-event.ensures.is q put) c.append.ensures.leaves) (omega arith) tt (inl c.append.ensures.raised) (λ P p. tt)
 
 pub returns-in-Err-clause-refused : goal.returns-in-Err-clause-refused
 returns-in-Err-clause-refused g c =

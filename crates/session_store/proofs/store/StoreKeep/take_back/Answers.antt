@@ -1,4 +1,4 @@
-use Rattle.session_store.proofs.Prelude.{◌≡◌, ◌++◌, ◌∷◌, [], ◌∙◌, List, refl, sym, ap, subst, arith, Event, Back, plan_in, OpensWith, plan_of, voc_of, events_of}
+use Rattle.session_store.proofs.Prelude.{◌≡◌, ◌+◌, ◌++◌, ◌∷◌, [], ◌∙◌, List, refl, sym, ap, subst, arith, Event, Back, plan_in, OpensWith, calls_to_raise, plan_of, voc_of, events_of}
 use Rattle.session_store.proofs.Stores.{in_place, sits_as, event_left_out, event_written, want_of_memory, told_before, some_once, there_as}
 use Rattle.session_store.proofs.store.StoreKeep.take_back.Goals as goal
 
@@ -8,12 +8,12 @@ returns-in_err-records-clause-sits g c =
     (ap plan_in (sym c.ready_back.ensures.session)) (sym c.ready_back.ensures.events) c.requires.sits
 
 pub returns-in_err-records-clause-refused : goal.returns-in_err-records-clause-refused
-returns-in_err-records-clause-refused g c = want_of_memory _ _ c.from_residual.result c.from_residual.ensures.1 (refl, refl)
+returns-in_err-records-clause-refused g c = want_of_memory _ _ c.from_residual.result c.from_residual.ensures.1 (refl, refl, refl)
 
 pub returns-in_err-records-clause-leaves : goal.returns-in_err-records-clause-leaves
 returns-in_err-records-clause-leaves g c =
     let s = c.args.self.now in
-    event_left_out g.D.Disk g.met.D.Disk.only_now _ s.journal (plan_of s) (voc_of s) (events_of s) Back c.args.disk.now c.from_residual.result (c.requires.sits c.requires.live) c.from_residual.ensures.1
+    event_left_out g.D.Disk g.met.D.Disk.only_now _ s.journal.raised s.journal (plan_of s) (voc_of s) (events_of s) Back c.args.disk.now c.from_residual.result (c.requires.sits c.requires.live) c.from_residual.ensures.1
 
 pub append_back-requires-clause-there : goal.append_back-requires-clause-there
 append_back-requires-clause-there g c = in_place g.D.Disk c.args.self.now c.args.disk.now c.requires.live c.requires.sits
@@ -34,12 +34,12 @@ returns-in-Ok-clause-sits g c live bytes told =
 pub returns-in-Ok-clause-leaves : goal.returns-in-Ok-clause-leaves
 returns-in-Ok-clause-leaves g c =
     let s = c.args.self.now in
-    event_written g.D.Disk g.met.D.Disk.only_now 8 s.journal (plan_of s) (voc_of s) (events_of s) Back c.args.disk.now c.append_back.new.disk _ _ (c.requires.sits c.requires.live) c.in-Ok.ensures.leaves (omega arith) (λ P p. p)
+    event_written g.D.Disk g.met.D.Disk.only_now (4 + calls_to_raise s.journal.raised) s.journal.raised c.append_back.new.journal.raised s.journal (plan_of s) (voc_of s) (events_of s) Back c.args.disk.now c.append_back.new.disk _ _ (c.requires.sits c.requires.live) c.in-Ok.ensures.leaves (omega arith) c.in-Ok.ensures.raised c.append_back.ensures.stays (λ P p. p)
 
 pub returns-clause-leaves : goal.returns-clause-leaves
 returns-clause-leaves g c =
     let s = c.args.self.now in
-    event_written g.D.Disk g.met.D.Disk.only_now 8 s.journal (plan_of s) (voc_of s) (events_of s) Back c.args.disk.now c.append_back.new.disk c.append_back.result _ (c.requires.sits c.requires.live) c.append_back.ensures.leaves (omega arith) (λ P p. tt)
+    event_written g.D.Disk g.met.D.Disk.only_now (4 + calls_to_raise s.journal.raised) s.journal.raised c.append_back.new.journal.raised s.journal (plan_of s) (voc_of s) (events_of s) Back c.args.disk.now c.append_back.new.disk c.append_back.result _ (c.requires.sits c.requires.live) c.append_back.ensures.leaves (omega arith) tt c.append_back.ensures.stays (λ P p. tt)
 
 pub returns-clause-refused : goal.returns-clause-refused
 returns-clause-refused g c = (refl, c.in-Err.ensures.failed.1, c.in-Err.ensures.failed.0)
