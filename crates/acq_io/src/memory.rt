@@ -104,8 +104,7 @@ impl Source for MemSource {
         ensures err { OnErr result (self.new.bytes ≡ self.old.bytes) }
         ensures unread { OnErr result (buf.new ≡ buf.old) }
 
-        ensures calls { self.new.calls ≡ raised self.old.calls }
-        ensures fails { self.new.fails ≡ self.old.fails }
+        ensures script { (self.new.calls ≡ raised self.old.calls) × (self.new.fails ≡ self.old.fails) }
         ensures raised { OnErr result (self.new.faults ≡ raised self.old.faults) }
         ensures kept { OnOk result (self.new.faults ≡ self.old.faults) }
         ensures later { self.old.faults ≤ self.new.faults }
