@@ -1,4 +1,3 @@
-use Rattle.std.proofs.Common.{rules}
 use Rattle.target_oracle.proofs.Prelude.{◌≡◌, ℕ, List, [], ◌∷◌, ◌++◌, ◌∙◌, ap, sym, subst, inr, Result, Err, append-nil, Adds, AddsFront, adds_then, hear, line_turn}
 use Rattle.acq_io.specs.declared.streams.Put.{Put}
 use Rattle.language.specs.Texts.{question_text}
@@ -37,24 +36,3 @@ returns-in-Ok-write-clause-asks g c =
       takes = c.hear_lines.ensures.takes;
       first = inr (more, subst Put is (adds_then old (g.K.Sink.written c.write.new.self) new c.as_bytes.result.now more c.in-Ok-write.ensures.ok c.hear_lines.ensures.adds.1));
     }
-
-pub returns-in_default-clause-asks : goal.returns-in_default-clause-asks
-returns-in_default-clause-asks g c = search rules
-
-pub returns-in_default-clause-called : goal.returns-in_default-clause-called
-returns-in_default-clause-called g c = search rules
-
-pub returns-in-Ok-write-clause-called : goal.returns-in-Ok-write-clause-called
-returns-in-Ok-write-clause-called g c = search rules
-
-pub returns-in-Err-Failed-clause-asks : goal.returns-in-Err-Failed-clause-asks
-returns-in-Err-Failed-clause-asks g c = search rules
-
-pub returns-in-Err-Failed-clause-called : goal.returns-in-Err-Failed-clause-called
-returns-in-Err-Failed-clause-called g c = search rules
-
-pub returns-clause-asks : goal.returns-clause-asks
-returns-clause-asks g c = search rules
-
-pub returns-clause-called : goal.returns-clause-called
-returns-clause-called g c = search rules
