@@ -58,8 +58,8 @@ returns-clause-faults g c =
       write = record {
         later = omega (arith, c.drive-drove.ensures.faults.write.later, c.say.ensures.later_sink);
         rose = λ failed.
-          ⊎_elim (λ is. rose_still _ _ _ (c.drive-drove.ensures.faults.write.rose is) c.say.ensures.later_sink)
-          (λ other. rose_later _ _ _ c.drive-drove.ensures.faults.write.later (c.say.ensures.failed failed other)) (write_failed c.drive-drove.result);
+            ⊎_elim (λ is. rose_still _ _ _ (c.drive-drove.ensures.faults.write.rose is) c.say.ensures.later_sink)
+            (λ other. rose_later _ _ _ c.drive-drove.ensures.faults.write.later (c.say.ensures.failed failed other)) (write_failed c.drive-drove.result);
       };
     }
 
