@@ -1,12 +1,31 @@
-use Rattle.acq_cli.proofs.Prelude.{◌≡◌, ◌∙◌, Result, Ok, Err, sym, subst, refl, arith, Put, Language, IsLanguage, standing_on, knowledge_of, keeps_still, keeps_as, terms_with, Ending, called_as, okay, begun_part, at_turn, said_of}
+use Rattle.acq_cli.proofs.Prelude.{◌≡◌, ◌⊎◌, ◌≤◌, ◌∙◌, ℕ, inl, inr, ⊎_elim, Result, Ok, Err, sym, subst, refl, arith, Put, Language, IsLanguage, standing_on, knowledge_of, keeps_still, keeps_as, rose_later, terms_with, Ending, called_as, okay, begun_part, at_turn, said_of}
+use Rattle.acq_io.specs.Streams.{Rose}
 use Rattle.acq_io.specs.declared.streams.Put.TheVariants as puts
 use Rattle.query_gen.specs.Marks.{IsMadeFor}
+use Rattle.acq_loop.specs.declared.driving.Drove.{Drove}
 use Rattle.acq_loop.specs.declared.driving.Drove.TheVariants as drove
 use Rattle.acq_loop.specs.declared.ending.Ending.TheVariants as ending
 use Rattle.acq_loop.proofs.Added.{taught_none}
 use Rattle.acq_loop.proofs.Taking.{takes_same}
 use Rattle.acq_cli.proofs.Causes.{called_idle}
 use Rattle.acq_cli.proofs.top.ask_on.Goals as goal
+
+-- whether the output failed in the loop
+write_failed : (how : Drove) → (how ≡ drove.WriteFault) ⊎ (how ≡ drove.WriteFault → ⊥)
+write_failed (drove.Converged m) = inr (λ e. cc)
+write_failed (drove.Collapsed m) = inr (λ e. cc)
+write_failed (drove.Undecided m) = inr (λ e. cc)
+write_failed (drove.Suspended m) = inr (λ e. cc)
+write_failed drove.LineTooLong = inr (λ e. cc)
+write_failed drove.Unreadable = inr (λ e. cc)
+write_failed drove.ReadFault = inr (λ e. cc)
+write_failed drove.WriteFault = inl refl
+write_failed drove.DiskFault = inr (λ e. cc)
+write_failed drove.JournalFull = inr (λ e. cc)
+write_failed drove.Memory = inr (λ e. cc)
+
+rose_still : (a b c : ℕ) → Rose a b → b ≤ c → Rose a c
+rose_still a b c rose le = omega arith
 
 not_failed : (let r : Result Ending Put = Err puts.Memory in r) ≡ Err puts.Failed → ⊥
 not_failed e = cc
@@ -36,7 +55,12 @@ returns-clause-faults g c =
         takes = c.drive-drove.ensures.faults.read.takes;
         called = called_as _ _ _ _ (c.drive-drove.result ≡ drove.ReadFault) (c.say.result ≡ okay ending.ReadFault) on.read_told on.read_of c.drive-drove.ensures.faults.read.called;
       };
-      write = record { later = omega (arith, c.drive-drove.ensures.faults.write.later, c.say.ensures.later_sink); rose = ? };
+      write = record {
+        later = omega (arith, c.drive-drove.ensures.faults.write.later, c.say.ensures.later_sink);
+        rose = λ failed.
+            ⊎_elim (λ is. rose_still _ _ _ (c.drive-drove.ensures.faults.write.rose is) c.say.ensures.later_sink)
+            (λ other. rose_later _ _ _ c.drive-drove.ensures.faults.write.later (c.say.ensures.failed failed other)) (write_failed c.drive-drove.result);
+      };
     }
 
 pub returns-in_default-clause-faults : goal.returns-in_default-clause-faults
