@@ -1,6 +1,6 @@
 -- The members below a place are a front of a set; a place is looked for below which so many stand.
-use Rattle.assign.proofs.Prelude.{◌≡◌, ℕ, zero, suc, ◌+◌, ◌/◌, ◌<◌, ◌≤◌, Bool, true, false, cond, ◌&&◌, List, [], ◌∷◌, length, take, refl, sym, ◌∙◌, ap, subst, arith, inl, inr, nat_lt, lit≤, ◌==◌, bit_and, min, filter, range_with_len, bit_at, cases_lt, lt-ltb, le-ltb, bit_at-lt, bit_at_and, numbers, has, set_where, members_of, first_half, Rises, filter_agree_from, has-set_where, has-members_of, is_one}
-use Rattle.assign.proofs.Masks.{filter_lt}
+use Rattle.assign.proofs.Prelude.{◌≡◌, ℕ, zero, suc, ◌+◌, ◌/◌, ◌<◌, ◌≤◌, Bool, true, false, cond, ◌&&◌, List, [], ◌∷◌, length, take, refl, sym, ◌∙◌, ap, subst, arith, inl, inr, nat_lt, lit≤, bit_and, filter, range_with_len, cases_lt, lt-ltb, le-ltb, numbers, has, set_where, members_of, first_half, Rises, filter_agree_from, has-set_where, has-members_of, is_one}
+use Rattle.assign.proofs.Masks.{filter_lt, is_one-and}
 
 -- the members below a place
 abbrev pub below : ℕ → List ℕ → List ℕ
@@ -103,23 +103,11 @@ filter-filter p q (x ∷ xs) = go (p x) (filter-filter p q xs)
     go true e = ap (λ ys. cond (q x) (x ∷ ys) ys) e
     go false e = e
 
-both_bits : (x y : ℕ) → x < 2 → y < 2 → (min x y == 1) ≡ ((x == 1) && (y == 1))
-both_bits zero zero h k = refl
-both_bits zero (suc zero) h k = refl
-both_bits (suc zero) zero h k = refl
-both_bits (suc zero) (suc zero) h k = refl
-both_bits zero (suc (suc y)) h k = absurd (omega arith)
-both_bits (suc zero) (suc (suc y)) h k = absurd (omega arith)
-both_bits (suc (suc x)) y h k = absurd (omega arith)
-
-is_one-and : (a b v : ℕ) → is_one (bit_and a b) v ≡ (is_one a v && is_one b v)
-is_one-and a b v = ap (λ x. x == 1) (bit_at_and a b v) ∙ both_bits (bit_at a v) (bit_at b v) (bit_at-lt a v) (bit_at-lt b v)
-
 numbers_where : (n : ℕ) → n ≤ 128 → numbers n ≡ set_where (λ v. nat_lt v n)
 unfolding set_where
 numbers_where n h = sym (filter_lt n 0 128 n (omega arith) h)
 
-has-numbers : (n v : ℕ) → n ≤ 128 → v < 128 → has (numbers n) v ≡ nat_lt v n
+pub has-numbers : (n v : ℕ) → n ≤ 128 → v < 128 → has (numbers n) v ≡ nat_lt v n
 has-numbers n v h low = ap (λ xs. has xs v) (numbers_where n h) ∙ has-set_where (λ w. nat_lt w n) v low
 
 -- what a mask and the mask of the numbers below a place have in common

@@ -1,6 +1,5 @@
 mod Prelude
 pub mod Masks
 pub mod Fronts
-pub mod Valued
 pub mod CellLemmas
 pub mod EventLemmas

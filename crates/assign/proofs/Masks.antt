@@ -1,5 +1,5 @@
 -- What the operations on a mask make of its members.
-use Rattle.assign.proofs.Prelude.{◌≡◌, ℕ, zero, suc, ◌+◌, ◌-◌, ◌/◌, ◌<◌, ◌≤◌, ◌^◌, Bool, true, false, cond, ◌||◌, ◌&&◌, not, List, [], ◌∷◌, length, take, drop, refl, sym, ◌∙◌, ap, arith, inl, inr, ◌⊎◌, Some, nat_eq, nat_lt, add-one, pow-suc, lit≤, ◌==◌, ◌≢◌, bit_or, bit_and, min, list_all, filter, range_with_len, bit_at, bit_not, w128, ne_eqb, eq-eqb, cases_eq, cases_lt, cases_Bool, lt-ltb, le-ltb, and_parts, both_ways, eqb-true, or_from, or_left, bit_at-lt, bit_at_and, bit_at-zero, bit_at_not, bit_at_ones, bit_at_ones_above, bit_at-suc, bit_at_lowest, bit_at_above, and_le_l, numbers, has, set_where, minus, with_member, without, is_within, least_of, members_of, mask_of, Rises, filter_agree_from, set_where-same, is_one, is_one-or, is_one-pow, has-members_of, same_masks, mask_of-members_of, pointwise}
+use Rattle.assign.proofs.Prelude.{◌≡◌, ℕ, zero, suc, ◌+◌, ◌-◌, ◌/◌, ◌%◌, ◌<◌, ◌≤◌, ◌^◌, Bool, true, false, cond, ◌||◌, ◌&&◌, not, List, [], ◌∷◌, length, take, drop, refl, sym, ◌∙◌, ap, arith, inl, inr, ◌⊎◌, Some, nat_eq, nat_lt, add-one, pow-suc, lit≤, ◌==◌, ◌≢◌, bit_or, bit_and, min, list_all, filter, range_with_len, bit_at, bit_not, w128, ne_eqb, eq-eqb, cases_eq, cases_lt, cases_Bool, lt-ltb, le-ltb, and_parts, both_ways, eqb-true, or_from, or_left, bit_at-lt, bit_at_and, bit_at-zero, bit_at_not, bit_at_ones, bit_at_ones_above, bit_at-suc, bit_at_lowest, bit_at_above, and_le_l, numbers, has, set_where, common, minus, with_member, without, is_within, least_of, members_of, mask_of, Rises, filter_agree_from, set_where-same, is_one, is_one-or, is_one-pow, has-members_of, same_masks, mask_of-members_of, pointwise}
 use lib.Count.{ones, ones_step}
 use Rattle.std.proofs.lemmas.Slice.Eq.{bytes_eq-Decides}
 
@@ -46,6 +46,21 @@ is_one-and_not a b v h low =
 
 pub members_of-and_not : (a b : ℕ) → b < 2 ^ 128 → members_of (bit_and a (bit_not w128 b)) ≡ minus (members_of a) (members_of b)
 members_of-and_not a b h = set_where-same _ _ (λ v low. is_one-and_not a b v h low ∙ sym (λ i. has-members_of a v low i && not (has-members_of b v low i)))
+
+both_bits : (x y : ℕ) → x < 2 → y < 2 → (min x y == 1) ≡ ((x == 1) && (y == 1))
+both_bits zero zero h k = refl
+both_bits zero (suc zero) h k = refl
+both_bits (suc zero) zero h k = refl
+both_bits (suc zero) (suc zero) h k = refl
+both_bits zero (suc (suc y)) h k = absurd (omega arith)
+both_bits (suc zero) (suc (suc y)) h k = absurd (omega arith)
+both_bits (suc (suc x)) y h k = absurd (omega arith)
+
+pub is_one-and : (a b v : ℕ) → is_one (bit_and a b) v ≡ (is_one a v && is_one b v)
+is_one-and a b v = ap (λ x. x == 1) (bit_at_and a b v) ∙ both_bits (bit_at a v) (bit_at b v) (bit_at-lt a v) (bit_at-lt b v)
+
+pub members_of-and : (a b : ℕ) → members_of (bit_and a b) ≡ common (members_of a) (members_of b)
+members_of-and a b = set_where-same _ _ (λ v low. is_one-and a b v ∙ sym (λ i. has-members_of a v low i && has-members_of b v low i))
 
 or_none : (b : Bool) → b ≡ (b || false)
 or_none true = refl
@@ -102,6 +117,55 @@ pub least_of-members_of : (mask v : ℕ) → v < 128 → bit_at mask v ≡ 1 →
 unfolding set_where
 least_of-members_of mask v low at none = first_of (is_one mask) 0 128 v (omega arith) (omega arith) (ap (λ x. x == 1) at) (λ w l h. ap (λ x. x == 1) (none w h))
 
+-- ---- the rest, without the least
+
+-- a number less one has a 0 in place of its lowest 1
+less_one_at : (m v : ℕ) → bit_at m v ≡ 1 → ((u : ℕ) → u < v → bit_at m u ≡ 0) → bit_at (m - 1) v ≡ 0
+less_one_at m zero at none = let odd : m % 2 ≡ 1 = sym (bit_at_lowest m) ∙ at in bit_at_lowest (m - 1) ∙ omega arith
+less_one_at m (suc v) at none =
+    let even : m % 2 ≡ 0 = sym (bit_at_lowest m) ∙ none 0 (omega arith) in
+    let half : (m - 1) / 2 ≡ m / 2 - 1 = omega arith in
+    bit_at-suc (m - 1) v ∙ ap (λ x. bit_at x v) half
+    ∙ less_one_at (m / 2) v (sym (bit_at-suc m v) ∙ at) (λ u low. sym (bit_at-suc m u) ∙ none (suc u) (omega arith))
+
+-- and the same digits above it
+less_one_above : (m v w : ℕ) → bit_at m v ≡ 1 → ((u : ℕ) → u < v → bit_at m u ≡ 0) → v < w → bit_at (m - 1) w ≡ bit_at m w
+less_one_above m v zero at none above = absurd (omega arith)
+less_one_above m zero (suc w) at none above =
+    let odd : m % 2 ≡ 1 = sym (bit_at_lowest m) ∙ at in
+    let half : (m - 1) / 2 ≡ m / 2 = omega arith in
+    bit_at-suc (m - 1) w ∙ ap (λ x. bit_at x w) half ∙ sym (bit_at-suc m w)
+less_one_above m (suc v) (suc w) at none above =
+    let even : m % 2 ≡ 0 = sym (bit_at_lowest m) ∙ none 0 (omega arith) in
+    let half : (m - 1) / 2 ≡ m / 2 - 1 = omega arith in
+    bit_at-suc (m - 1) w ∙ ap (λ x. bit_at x w) half
+    ∙ less_one_above (m / 2) v w (sym (bit_at-suc m v) ∙ at) (λ u low. sym (bit_at-suc m u) ∙ none (suc u) (omega arith)) (omega arith)
+    ∙ sym (bit_at-suc m w)
+
+rest_of : (p q : ℕ → Bool) (a n v : ℕ) → a ≤ v → v < a + n → p v ≡ true → q v ≡ false → ((w : ℕ) → w < v → p w ≡ false) → ((w : ℕ) → w < v → q w ≡ false) →
+    ((w : ℕ) → v < w → q w ≡ p w) → filter q (range_with_len a n) ≡ drop 1 (filter p (range_with_len a n))
+rest_of p q a zero v low high at gone none none_left same_above = absurd (omega arith)
+rest_of p q a (suc n) v low high at gone none none_left same_above =
+    elim (cases_eq a v) as (λ _. filter q (range_with_len a (suc n)) ≡ drop 1 (filter p (range_with_len a (suc n)))) [
+      | inl same ↦ rw (ap p same ∙ at, ap q same ∙ gone) (filter_agree_from q p (a + 1) n (λ w l h. same_above w (omega arith)))
+      | inr other ↦
+          rw (none a (omega arith), none_left a (omega arith))
+          (rest_of p q (a + 1) n v (omega arith) (omega arith) at gone none none_left same_above)
+    ]
+
+and_same : (b : Bool) → (b && b) ≡ b
+and_same true = refl
+and_same false = refl
+
+pub members_of-rest : (m v : ℕ) → v < 128 → bit_at m v ≡ 1 → ((u : ℕ) → u < v → bit_at m u ≡ 0) → members_of (bit_and m (m - 1)) ≡ drop 1 (members_of m)
+unfolding set_where
+members_of-rest m v low at none =
+    rest_of (is_one m) (is_one (bit_and m (m - 1))) 0 128 v (omega arith) (omega arith) (ap (λ x. x == 1) at)
+    (is_one-and m (m - 1) v ∙ (λ i. (at i == 1) && (less_one_at m v at none i == 1)))
+    (λ w h. ap (λ x. x == 1) (none w h))
+    (λ w h. is_one-and m (m - 1) w ∙ ap (λ x. (x == 1) && is_one (m - 1) w) (none w h))
+    (λ w h. is_one-and m (m - 1) w ∙ ap (λ x. is_one m w && (x == 1)) (less_one_above m v w at none h) ∙ and_same (is_one m w))
+
 -- ---- within
 
 all_filter : (t p : ℕ → Bool) (a n : ℕ) → ((v : ℕ) → a ≤ v → v < a + n → p v ≡ true → t v ≡ true) → list_all t (filter p (range_with_len a n)) ≡ true
@@ -132,7 +196,7 @@ not_alone false y h = refl
 not_alone true true h = refl
 not_alone true false h = sym (h refl)
 
-both_true : (a b : Bool) → (a ≡ true → b ≡ true) → (b ≡ true → a ≡ true) → a ≡ b
+pub both_true : (a b : Bool) → (a ≡ true → b ≡ true) → (b ≡ true → a ≡ true) → a ≡ b
 both_true true b f g = sym (f refl)
 both_true false true f g = g refl
 both_true false false f g = refl

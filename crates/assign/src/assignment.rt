@@ -1,4 +1,7 @@
-ghost use Rattle.std.specs.Prelude.{◌≡◌, ℕ, ◌-◌, ◌<◌, ◌≤◌, ◌↔◌, IsTrue, Option, Some, None, length, replicate, slice_set, take};
+ghost use Rattle.std.specs.Prelude.{◌≡◌, ℕ, ◌-◌, ◌<◌, ◌≤◌, ◌↔◌, IsTrue, Option, Some, None, length, nat_eq, replicate, slice_set, take};
+ghost use Rattle.std.specs.Cmp.{nat_eq_equiv, partial_equiv_from_equiv};
+ghost use Rattle.std.specs.Cmp.Lexicographic.{lists_equiv, options_equiv, pointwise};
+ghost use Rattle.std.specs.Option.{option_eq};
 ghost use Rattle.assign.specs.Assignment.{value_of, variables_of, restrict, is_complete, widened};
 
 use crate::sets::VarSet;
@@ -9,13 +12,16 @@ pub const MOST_VARIABLES: u8 = 128;
 
 /// Values for some of the variables: an option of a value for each, in vocabulary order.
 ///
-/// There are 1 to 128 variables. A value is an index, from 0.
-#[derive(Clone, Copy, Debug, PartialEq, Eq)]
+/// There are 1 to 128 variables. A value is an index, from 0. Equal assignments have equal fields, since what stands
+/// where no variable has a value is 0.
+#[derive(Clone, Copy, Debug)]
 pub struct Partial {
     /// How many variables there are.
     n: u8,
-    /// Their options, and then empty ones.
-    cells: [Option<u8>; 128],
+    /// Those that have a value.
+    valued: VarSet,
+    /// The value of each, and 0 for every other.
+    values: [u8; 128],
 }
 
 impl Model for Partial {
@@ -43,7 +49,8 @@ impl Partial {
     {
         Partial {
             n,
-            cells: [None; 128],
+            valued: VarSet::empty(),
+            values: [0; 128],
         }
     }
 
@@ -60,8 +67,8 @@ impl Partial {
     pub fn get(&self, v: u8) -> Option<u8>
         ensures { result ≡ value_of self.now v }
     {
-        if v < self.n {
-            self.cells[v as usize]
+        if v < self.n && self.valued.has(v) {
+            Some(self.values[v as usize])
         } else {
             None
         }
@@ -72,7 +79,8 @@ impl Partial {
         requires { v < length self.old }
         ensures { self.new ≡ slice_set self.old v (Some value) }
     {
-        self.cells[v as usize] = Some(value);
+        self.valued = self.valued.with(v);
+        self.values[v as usize] = value;
     }
 
     /// Takes a variable's value away, if it has one.
@@ -80,51 +88,46 @@ impl Partial {
         requires { v < length self.old }
         ensures { self.new ≡ slice_set self.old v None }
     {
-        self.cells[v as usize] = None;
+        self.valued = self.valued.without(v);
+        self.values[v as usize] = 0;
     }
 
     /// The variables that have a value.
     pub fn vars(&self) -> VarSet
         ensures { result ≡ variables_of self.now }
     {
-        let mut valued = VarSet::empty();
-        for v in 0..self.n {
-            if self.get(v).is_some() {
-                valued = valued.with(v);
-            }
-        }
-        valued
+        self.valued
     }
 
     /// The values on the set w alone: the other variables have none.
     pub fn restrict(&self, w: VarSet) -> Partial
         ensures { result ≡ restrict self.now w }
     {
-        let mut kept = Partial::blank(self.n);
-        for v in 0..self.n {
-            if w.has(v)
-                && let Some(value) = self.get(v)
-            {
-                kept.set(v, value);
-            }
+        let kept = self.valued.common(w);
+        let mut gone = self.valued.minus(w);
+        let mut values = self.values;
+        while let Some(v) = gone.pop_first() {
+            values[v as usize] = 0;
         }
-        kept
+        Partial {
+            n: self.n,
+            valued: kept,
+            values,
+        }
     }
 
     /// Whether each variable has a value.
     pub fn is_complete(&self) -> bool
         ensures { result ≡ is_complete self.now }
     {
-        self.cells[..self.n as usize]
-            .iter()
-            .all(|value| value.is_some())
+        VarSet::all(self.n).within(self.valued)
     }
 
     /// Whether both have the same variables with the same values.
     pub fn equals(&self, other: &Partial) -> bool
         ensures { IsTrue result ↔ (self.now ≡ other.now) }
     {
-        self.n == other.n && self.cells == other.cells
+        self.n == other.n && self.valued == other.valued && self.values == other.values
     }
 
     /// The same with 128 variables, as an event holds it: the further ones have no value.
@@ -133,7 +136,7 @@ impl Partial {
     {
         Partial {
             n: MOST_VARIABLES,
-            cells: self.cells,
+            ..*self
         }
     }
 
@@ -143,8 +146,24 @@ impl Partial {
         requires within { n ≤ length self.now }
         ensures { result ≡ take n self.now }
     {
-        let mut cells = self.cells;
-        cells[n as usize..].fill(None);
-        Partial { n, cells }
+        let first = self.valued.common(VarSet::all(n));
+        Partial {
+            n,
+            ..self.restrict(first)
+        }
     }
+}
+
+impl PartialEq for Partial {
+    ghost eq = { pointwise (option_eq nat_eq) };
+
+    ghost laws = { partial_equiv_from_equiv (lists_equiv (options_equiv nat_eq_equiv)) };
+
+    fn eq(&self, other: &Partial) -> bool {
+        self.equals(other)
+    }
+}
+
+impl Eq for Partial {
+    ghost laws = { lists_equiv (options_equiv nat_eq_equiv) };
 }

@@ -10,8 +10,8 @@
 //! | make one | `empty`, `all` | `blank` |
 //! | ask about one variable, or change it | `has`, `with`, `without` | `get`, `set`, `clear` |
 //! | ask about the whole | `len`, `least` | `len`, `vars`, `is_complete` |
-//! | take a part | `first_half` | `restrict` |
-//! | go by two | `union`, `minus`, `within`, `==` | `equals` |
+//! | take a part | `first_half`, `pop_first` | `restrict` |
+//! | go by two | `union`, `common`, `minus`, `within`, `==` | `equals`, `==` |
 //! | write an event, and read it | | `widened`, `cut_to` |
 #![tactic(auto)]
 

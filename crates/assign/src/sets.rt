@@ -1,7 +1,7 @@
-ghost use Rattle.std.specs.Prelude.{◌≡◌, ◌<◌, ◌≤◌, ◌+◌, ◌/◌, ℕ, List, [], length, IfSome, filter, nat_eq, nat_lt};
+ghost use Rattle.std.specs.Prelude.{◌≡◌, ◌<◌, ◌≤◌, ◌+◌, ◌/◌, ℕ, List, [], length, drop, IfSome, filter, nat_eq, nat_lt};
 ghost use Rattle.std.specs.Cmp.{partial_equiv_from_equiv};
 ghost use Rattle.std.specs.Cmp.Lexicographic.{pointwise, nat_list_eq_equiv};
-ghost use Rattle.assign.specs.Sets.{numbers, has, union, minus, with_member, without, is_within, first_half, least_of, IsSet};
+ghost use Rattle.assign.specs.Sets.{numbers, has, union, common, minus, with_member, without, is_within, first_half, least_of, IsSet};
 
 use std::marker::Model;
 
@@ -88,6 +88,15 @@ impl VarSet {
         }
     }
 
+    /// The members of both.
+    pub fn common(self, other: VarSet) -> VarSet
+        ensures { result ≡ common self other }
+    {
+        VarSet {
+            mask: self.mask & other.mask,
+        }
+    }
+
     /// The members that the other set lacks.
     pub fn minus(self, other: VarSet) -> VarSet
         ensures { result ≡ minus self other }
@@ -123,6 +132,20 @@ impl VarSet {
         } else {
             Some(self.mask.trailing_zeros() as u8)
         }
+    }
+
+    /// Takes the least member out of the set, and gives it.
+    pub fn pop_first(&mut self) -> Option<u8>
+        ensures first { result ≡ least_of self.old }
+        ensures within { IfSome result (λ v. v < 128) }
+        ensures rest { self.new ≡ drop 1 self.old }
+    {
+        if self.mask == 0 {
+            return None;
+        }
+        let first = self.mask.trailing_zeros() as u8;
+        self.mask &= self.mask - 1;
+        Some(first)
     }
 
     /// The least half of the members, rounded up: the least ceil(len / 2) of them.

@@ -1,0 +1,8 @@
+use Rattle.assign.proofs.CellLemmas.{same_options}
+use Rattle.assign.proofs.Masks.{both_true}
+use Rattle.assign.proofs.assignment.PartialPartialEq.eq.Goals as goal
+
+pub returns : goal.returns
+returns c =
+    let same = same_options c.args.self.now c.args.other.now in
+    both_true _ _ (λ h. same.1 (c.equals.ensures.0 h)) (λ h. c.equals.ensures.1 (same.0 h))
