@@ -1,6 +1,11 @@
 -- A formula's truth, place by place.
-use Rattle.rel_formula.proofs.Prelude.{◌≡◌, ℕ, ◌+◌, ◌^◌, ◌<◌, ◌≤◌, ℤ, Bool, true, false, List, [], ◌∷◌, ◌++◌, length, take, set, get_or, pos, ◌+ℤ◌, Option, Some, None, if◌then◌else◌, refl, sym, ◌∙◌, ap, arith, add-one, lt-ltb, le-ltb, position_or_len, take-suc, length-map, get_or-map, take_all, take_more_set, map_more, tuples, tuple_at, length-tuples, get_or-tuples, Truth, is_true, is_too_big, shown_tuple, relation_of, first_too_big}
+use Rattle.rel_formula.proofs.Prelude.{◌≡◌, ℕ, zero, suc, ◌+◌, ◌*◌, ◌/◌, ◌%◌, ◌^◌, ◌<◌, ◌≤◌, ℤ, Bool, true, false, List, [], ◌∷◌, ◌++◌, length, take, set, get_or, pos, ◌+ℤ◌, Option, Some, None, if◌then◌else◌, refl, sym, subst, ◌∙◌, ap, arith, add-one, lt-ltb, le-ltb, position_or_len, take-suc, length-map, get_or-map, take_all, take_more_set, map_more, tuples, tuple_at, length-tuples, get_or-tuples, Truth, is_true, is_too_big, shown_tuple, relation_of, first_too_big}
+use Rattle.std.proofs.Common.{div-one, div-add-mod', pow-suc}
+use Rattle.std.proofs.Math.Nat.{pow-zero}
+use Rattle.std.proofs.lemmas.List.{map-append}
+use Rattle.std.proofs.lemmas.Nat.{div-mul-add, mod-mul-add, mod_below, mul-add-lt}
 use Rattle.std.proofs.lemmas.List.Sums.{position_or_len_is}
+use Rattle.rel_formula.specs.Places.{AreTruthsTo}
 
 pub length-relation_of : (f : Truth) (a : ℕ) (lo : ℤ) (d : ℕ) → length (relation_of f a lo d) ≡ d ^ a
 length-relation_of f a lo d = length-map (tuples d a) (λ tuple. is_true (shown_tuple lo tuple) f) ∙ length-tuples d a
@@ -64,3 +69,57 @@ pub shown_more : (lo : ℤ) (shown : List ℤ) (tuple : List ℕ) (i : ℕ) (v :
     v ≡ lo +ℤ pos (get_or tuple i 0) → take (i + 1) (set shown i v) ≡ shown_tuple lo (take (i + 1) tuple)
 shown_more lo shown tuple i v h low e is =
     take_more_set shown i v h ∙ ap (λ xs. xs ++ v ∷ []) e ∙ ap (λ x. shown_tuple lo (take i tuple) ++ x ∷ []) is ∙ sym (map_more (λ x. lo +ℤ pos x) tuple i 0 low)
+
+-- one place more, where no part leaves 64 bits
+pub truths_more : (f : Truth) (a : ℕ) (lo : ℤ) (d at next : ℕ) (truths new : List Bool) (b : Bool) (o : Option Bool) → at < d ^ a → next ≡ at + 1 → AreTruthsTo f a lo d at truths →
+    new ≡ truths ++ b ∷ [] → o ≡ (if is_too_big (shown_tuple lo (tuple_at d a at)) f then None else Some (is_true (shown_tuple lo (tuple_at d a at)) f)) → o ≡ Some b → AreTruthsTo f a lo d next new
+truths_more f a lo d at next truths new b o h more so_far put e some =
+    let here = some_is _ _ b o e some in
+    subst (λ k. AreTruthsTo f a lo d k new) (sym more) (record {
+      truth = put ∙ relation_of-more f a lo d at truths b h so_far.truth here.1;
+      fits = passed_more (λ k. is_too_big (shown_tuple lo (tuple_at d a k)) f) at so_far.fits here.0;
+    })
+
+some_left : (row p d : ℕ) → row < p * d → 0 < p
+some_left row zero d h = absurd (omega arith)
+some_left row (suc p) d h = omega arith
+
+regrouped_row : (q p d r x : ℕ) → (q * p + r) * d + x ≡ q * (p * d) + (r * d + x)
+regrouped_row q p d r x = omega arith
+
+-- the tuple of a place: that of its row, and a last value
+pub tuple_at-row : (d a row x : ℕ) → x < d → row < d ^ a → tuple_at d (suc a) (row * d + x) ≡ tuple_at d a row ++ x ∷ []
+tuple_at-row d zero row x low h =
+    let none : row ≡ 0 = omega (arith, pow-zero d) in
+    let one : d ^ 0 ≡ 1 = pow-zero d in
+    let at : row * d + x ≡ x = ap (λ r. r * d + x) none ∙ (let e : 0 * d + x ≡ x = omega arith in e) in
+    ap (λ y. y ∷ []) (ap (λ p. (row * d + x) / p) one ∙ div-one (row * d + x) ∙ at)
+tuple_at-row d (suc a) row x low h =
+    let size : d ^ suc a ≡ d ^ a * d = pow-suc d a in
+    let some : 0 < d ^ a = some_left row (d ^ a) d (subst (λ p. row < p) size h) in
+    let q : ℕ = row / d ^ a in
+    let r : ℕ = row % d ^ a in
+    let offset : r < d ^ a = mod_below row (d ^ a) some in
+    let below : r * d + x < d ^ a * d = omega (arith, mul-add-lt r d x (d ^ a) offset low) in
+    let split : row * d + x ≡ q * (d ^ a * d) + (r * d + x) = ap (λ k. k * d + x) (sym (div-add-mod' row (d ^ a))) ∙ regrouped_row q (d ^ a) d r x in
+    ap (λ p. ((row * d + x) / p) ∷ tuple_at d (suc a) ((row * d + x) % p)) size
+    ∙ ap (λ k. (k / (d ^ a * d)) ∷ tuple_at d (suc a) (k % (d ^ a * d))) split
+    ∙ (λ i. div-mul-add q (d ^ a * d) (r * d + x) below i ∷ tuple_at d (suc a) (mod-mul-add q (d ^ a * d) (r * d + x) below i))
+    ∙ ap (λ t. q ∷ t) (tuple_at-row d a r x low offset)
+
+-- the shown values of a row, and a last one
+pub shown_row : (lo : ℤ) (shown : List ℤ) (d a b row x : ℕ) (v : ℤ) → b ≡ suc a → a < length shown → x < d → row < d ^ a → take a shown ≡ shown_tuple lo (tuple_at d a row) →
+    v ≡ lo +ℤ pos x → take b (set shown a v) ≡ shown_tuple lo (tuple_at d b (row * d + x))
+shown_row lo shown d a b row x v size h low within e is =
+    let more : b ≡ a + 1 = omega arith in
+    ap (λ k. take k (set shown a v)) more ∙ take_more_set shown a v h ∙ ap (λ xs. xs ++ v ∷ []) e ∙ ap (λ y. shown_tuple lo (tuple_at d a row) ++ y ∷ []) is
+    ∙ sym (map-append (λ y. lo +ℤ pos y) (tuple_at d a row) (x ∷ []))
+    ∙ ap (shown_tuple lo) (sym (tuple_at-row d a row x low within) ∙ ap (λ k. tuple_at d k (row * d + x)) (sym size))
+
+pub row_within : (d a b row x : ℕ) → b ≡ suc a → x < d → row < d ^ a → row * d + x < d ^ b
+row_within d a b row x size low h =
+    let e : d ^ b ≡ d ^ a * d = ap (λ k. d ^ k) size ∙ pow-suc d a in
+    omega (arith, e, mul-add-lt row d x (d ^ a) h low)
+
+pub all_rows : (d a b row : ℕ) → b ≡ suc a → row ≡ d ^ a → row * d ≡ d ^ b
+all_rows d a b row size e = ap (λ k. k * d) e ∙ sym (ap (λ k. d ^ k) size ∙ pow-suc d a)

@@ -1,5 +1,5 @@
 -- The names from outside that these proofs cite, passed on from one place. Declares nothing.
-pub use Rattle.std.proofs.Common.{Bool, Err, IfErr, IsSome, List, None, Ok, OnOk, Option, Result, SFits, Some, [], add-one, ap, append_assoc, arith, drop, eqb-true, false, get_or, if◌then◌else◌, is_some, le-ltb, length, length-append, lt-ltb, not, of_z, pos, refl, reverse, rules, set, subst, suc, sym, take, to_z, true, w64, ℕ, ℤ, ◌*◌, ◌++◌, ◌+ℤ◌, ◌+◌, ◌-◌, ◌<◌, ◌^◌, ◌||◌, ◌∙◌, ◌∷◌, ◌≡◌, ◌≤◌}
+pub use Rattle.std.proofs.Common.{Bool, Err, IfErr, IsSome, List, None, Ok, OnOk, Option, Result, SFits, Some, [], add-one, ap, append_assoc, arith, drop, eqb-true, false, get_or, if◌then◌else◌, is_some, le-ltb, length, length-append, lt-ltb, not, of_z, pos, refl, reverse, rules, set, subst, suc, sym, take, to_z, true, w64, zero, ℕ, ℤ, ◌%◌, ◌*◌, ◌/◌, ◌++◌, ◌+ℤ◌, ◌+◌, ◌-◌, ◌<◌, ◌^◌, ◌||◌, ◌∙◌, ◌∷◌, ◌≡◌, ◌≤◌}
 pub use Rattle.std.proofs.Math.Seq.{drop-cons, take-suc}
 pub use Rattle.std.proofs.lemmas.Int.{to_z-of_z}
 pub use Rattle.std.proofs.lemmas.List.{append-nil, get_or-map, length-map, length-set, length-take, map_more, take_all, take_more_set}

@@ -8,3 +8,4 @@ pub mod Answers
 pub mod Names
 pub mod Reading
 pub mod Adding
+pub mod Places

@@ -1,8 +1,9 @@
 // A formula's table.
-ghost use Rattle.std.specs.Prelude.{◌≡◌, ◌≢◌, ◌^◌, ◌<◌, ◌≤◌, ◌≤ℤ◌, ◌+ℤ◌, Some, None, pos, negsuc, take, IfOk, IfErr, OnOk, if◌then◌else◌};
+ghost use Rattle.std.specs.Prelude.{◌≡◌, ◌≢◌, ◌+◌, ◌-◌, ◌*◌, ◌^◌, ◌<◌, ◌≤◌, ◌≤ℤ◌, ◌+ℤ◌, Some, None, pos, negsuc, take, IfOk, IfErr, OnOk};
 ghost use Rattle.std.specs.Option.{option_map};
 ghost use Rattle.rel_table.specs.Relation.{tuple_at};
-ghost use Rattle.rel_formula.specs.Formula.{is_true, is_too_big, shown_tuple, relation_of, first_too_big};
+ghost use Rattle.rel_formula.specs.Formula.{shown_tuple, relation_of, first_too_big};
+ghost use Rattle.rel_formula.specs.Places.{AreTruthsTo};
 
 use crate::fault::TableOfFault;
 use crate::formula::Formula;
@@ -43,23 +44,36 @@ fn shown_at(arity: u8, lo: i64, d: u8, place: u32) -> [i64; 4]
     shown
 }
 
-/// The formula's truth at the tuple of a place, or none where some part leaves 64 bits there.
-fn truth_at_place(
+/// Adds the formula's truths in one row: at the places whose tuples begin with the tuple of this number, and differ in their last value alone.
+fn add_row(
     f: &Formula,
     arity: u8,
     lo: i64,
     d: u8,
-    place: u32,
+    row: u32,
     stacks: &mut Stacks,
-) -> Option<bool>
+    truths: &mut Vec<bool>,
+) -> Result<(), TableOfFault>
+    requires some { 1 ≤ arity }
     requires short { arity ≤ 4 }
-    requires within { place < d ^ arity }
+    requires fits { d ^ arity ≤ 65536 }
+    requires within { row < d ^ (arity - 1) }
     requires low { negsuc 999999 ≤ℤ lo }
     requires high { lo ≤ℤ pos 1000000 }
-    ensures { result ≡ if is_too_big (shown_tuple lo (tuple_at d arity place)) f.now then None else Some (is_true (shown_tuple lo (tuple_at d arity place)) f.now) }
+    requires so_far { AreTruthsTo f.now arity lo d (row * d) truths.old.items }
+    ensures so_far { OnOk result (AreTruthsTo f.now arity lo d (row * d + d) truths.new.items) }
+    ensures refused { IfErr result (λ e. e ≢ TableOfFault.Memory → option_map TableOfFault.TooBig (first_too_big f.now arity lo d) ≡ Some e) }
 {
-    let shown = shown_at(arity, lo, d, place);
-    f.truth_at(&shown[..usize::from(arity)], stacks)
+    let last = usize::from(arity - 1);
+    let mut shown = shown_at(arity - 1, lo, d, row);
+    for x in 0..d {
+        shown[last] = shown_value(lo, x);
+        match f.truth_at(&shown[..last + 1], stacks) {
+            Some(is_true) => truths.push(is_true)?,
+            None => return Err(TableOfFault::TooBig(row * u32::from(d) + u32::from(x))),
+        }
+    }
+    Ok(())
 }
 
 /// The formula's truth at the tuple of each place, in order.
@@ -70,7 +84,9 @@ fn truths_of(
     lo: i64,
     d: u8,
 ) -> Result<Vec<bool>, TableOfFault>
+    requires some { 1 ≤ arity }
     requires short { arity ≤ 4 }
+    requires values { 1 ≤ d }
     requires fits { d ^ arity ≤ 65536 }
     requires low { negsuc 999999 ≤ℤ lo }
     requires high { lo ≤ℤ pos 1000000 }
@@ -78,14 +94,11 @@ fn truths_of(
     ensures fits { OnOk result (first_too_big f.now arity lo d ≡ None) }
     ensures refused { IfErr result (λ e. e ≢ TableOfFault.Memory → option_map TableOfFault.TooBig (first_too_big f.now arity lo d) ≡ Some e) }
 {
-    let size = tuple_count(arity, d);
-    let mut truths = Vec::with_capacity(alloc, size as usize)?;
+    let rows = tuple_count(arity - 1, d);
+    let mut truths = Vec::with_capacity(alloc, rows as usize * usize::from(d))?;
     let mut stacks = Stacks::empty();
-    for place in 0..size {
-        match truth_at_place(f, arity, lo, d, place, &mut stacks) {
-            Some(is_true) => truths.push(is_true)?,
-            None => return Err(TableOfFault::TooBig(place)),
-        }
+    for row in 0..rows {
+        add_row(f, arity, lo, d, row, &mut stacks, &mut truths)?;
     }
     Ok(truths)
 }
