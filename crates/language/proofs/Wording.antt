@@ -1,5 +1,8 @@
 -- Texts that grow by one piece after another.
-use Rattle.language.proofs.Prelude.{◌≡◌, ℕ, zero, suc, ◌+◌, ◌<◌, ◌≤◌, ◌++◌, ◌==◌, ◌&&◌, Bool, true, false, cond, List, [], ◌∷◌, length, map, drop, Option, ℤ, negsuc, pos, ◌≤ℤ◌, ◌+ℤ◌, w64, refl, sym, ◌∙◌, ap, arith, rules, append_assoc, append-nil, length-append, slice_index_or, All, string_bytes, filter, drop-cons, ints, ne_eqb, All-head, All-map, All-filter, Assignment, value_of, Relation, Given, of_arity, RelPart, given_by, value_text, values_text, is_part, joined, names_containing}
+use Rattle.language.proofs.Prelude.{◌≡◌, ℕ, zero, suc, ◌+◌, ◌<◌, ◌≤◌, ◌++◌, ◌==◌, ◌&&◌, Bool, true, false, cond, List, [], ◌∷◌, length, map, drop, Option, ℤ, negsuc, pos, ◌≤ℤ◌, ◌+ℤ◌, w64, refl, sym, ◌∙◌, ap, arith, rules, append_assoc, append-nil, length-append, slice_index_or, All, string_bytes, filter, drop-cons, ints, ne_eqb, nat_lt, range_with_len, Some, None, is_some, true≢false, inl, inr, ◌⊎◌, cases_lt, le-ltb, lt-ltb, Rises, IsSet, least_of, without, variables_of, All-head, All-map, All-filter, Assignment, value_of, Relation, Given, of_arity, RelPart, given_by, value_text, values_text, is_part, joined, names_containing}
+use Rattle.assign.proofs.Masks.{rises_filter}
+use Rattle.assign.specs.Sets.{set_where}
+use Rattle.language.proofs.InOrder.{rest_is}
 use mir.Val.{SFits}
 
 -- one more piece is written
@@ -14,13 +17,13 @@ no_values : (least : ℤ) (names : List (List ℕ)) → values_text least names 
 no_values least [] = refl
 no_values least (name ∷ names) = refl
 
-pub no_names : (least : ℤ) (names : List (List ℕ)) (v : ℕ) (q : Assignment) → length names ≤ v → values_text least (drop v names) q ≡ []
+no_names : (least : ℤ) (names : List (List ℕ)) (v : ℕ) (q : Assignment) → length names ≤ v → values_text least (drop v names) q ≡ []
 no_names least [] zero q h = refl
 no_names least [] (suc v) q h = refl
 no_names least (name ∷ names) zero q h = absurd (omega arith)
 no_names least (name ∷ names) (suc v) q h = no_names least names v q (omega arith)
 
-pub next_value : (least : ℤ) (names : List (List ℕ)) (q : Assignment) (v : ℕ) → v < length names →
+next_value : (least : ℤ) (names : List (List ℕ)) (q : Assignment) (v : ℕ) → v < length names →
     values_text least (drop v names) (drop v q) ≡ value_text least (slice_index_or names v []) (value_of q v) ++ values_text least (drop (suc v) names) (drop (suc v) q)
 next_value least [] q v low = absurd (omega arith)
 next_value least (name ∷ names) [] zero low = sym (no_values least names)
@@ -28,13 +31,74 @@ next_value least (name ∷ names) [] (suc v) low = no_values least (drop v names
 next_value least (name ∷ names) (value ∷ q) zero low = refl
 next_value least (name ∷ names) (value ∷ q) (suc v) low = next_value least names q v (omega arith)
 
--- the name and the value of one more variable are written
-pub value_written : (least : ℤ) (names : List (List ℕ)) (q : Assignment) (v : ℕ) (whole before after name : List ℕ) (value : Option ℕ) → v < length names →
-    name ≡ slice_index_or names v [] → value ≡ value_of q v → after ≡ before ++ value_text least name value →
-    whole ≡ before ++ values_text least (drop v names) (drop v q) → whole ≡ after ++ values_text least (drop (v + 1) names) (drop (v + 1) q)
-value_written least names q v whole before after name value low name_is value_is more is =
-    one_more whole before after _ _ _ is (more ∙ (λ i. before ++ value_text least (name_is i) (value_is i)))
-    (next_value least names q v low ∙ ap (λ k. value_text least (slice_index_or names v []) (value_of q v) ++ values_text least (drop k names) (drop k q)) (let n : suc v ≡ v + 1 = omega arith in n))
+-- the names and values of the variables of a list, as far as there are names
+abbrev pub pieces : ℤ → List (List ℕ) → Assignment → List ℕ → List ℕ
+pieces least names q [] = []
+pieces least names q (v ∷ vs) = cond (nat_lt v (length names)) (value_text least (slice_index_or names v []) (value_of q v)) [] ++ pieces least names q vs
+
+-- past the names there are none
+pieces_past : (least : ℤ) (names : List (List ℕ)) (q : Assignment) (a : ℕ) (vs : List ℕ) → length names ≤ a → Rises a vs → pieces least names q vs ≡ []
+pieces_past least names q a [] h r = refl
+pieces_past least names q a (v ∷ vs) h r =
+    let low = r.0 in
+    ap (λ b. cond b (value_text least (slice_index_or names v []) (value_of q v)) [] ++ pieces least names q vs) (le-ltb v (length names) (omega (arith, low)))
+    ∙ pieces_past least names q (v + 1) vs (omega (arith, low)) r.2
+
+-- those of the variables from one on that have a value are the text of all from there on
+pieces_from : (least : ℤ) (names : List (List ℕ)) (q : Assignment) (a n : ℕ) → length names ≤ 128 → a + n ≡ 128 →
+    values_text least (drop a names) (drop a q) ≡ pieces least names q (filter (λ v. is_some (value_of q v)) (range_with_len a n))
+pieces_from least names q a zero few end = no_names least names a (drop a q) (omega arith)
+pieces_from least names q a (suc n) few end =
+    go (cases_lt a (length names)) (value_of q a) refl
+    (ap (λ k. values_text least (drop k names) (drop k q)) (let e : suc a ≡ a + 1 = omega arith in e) ∙ pieces_from least names q (a + 1) n few (omega arith))
+  where
+    others : List ℕ
+    others = filter (λ v. is_some (value_of q v)) (range_with_len (a + 1) n)
+
+    here : (o : Option ℕ) → value_of q a ≡ o → a < length names → value_text least (slice_index_or names a []) o ++ pieces least names q others ≡ pieces least names q (cond (is_some o) (a ∷ others) others)
+    here None is low = refl
+    here (Some x) is low =
+        ap (λ o. value_text least (slice_index_or names a []) o ++ pieces least names q others) (sym is)
+        ∙ ap (λ b. cond b (value_text least (slice_index_or names a []) (value_of q a)) [] ++ pieces least names q others) (sym (lt-ltb a (length names) low))
+
+    go : ((a < length names) ⊎ (length names ≤ a)) → (o : Option ℕ) → value_of q a ≡ o → values_text least (drop (suc a) names) (drop (suc a) q) ≡ pieces least names q others →
+        values_text least (drop a names) (drop a q) ≡ pieces least names q (filter (λ v. is_some (value_of q v)) (range_with_len a (suc n)))
+    go (inr past) o is rest = no_names least names a (drop a q) past ∙ sym (pieces_past least names q a _ past (rises_filter (λ v. is_some (value_of q v)) a (suc n) (omega arith)))
+    go (inl low) o is rest =
+        next_value least names q a low
+        ∙ ap (λ t. value_text least (slice_index_or names a []) (value_of q a) ++ t) rest
+        ∙ ap (λ p. value_text least (slice_index_or names a []) p ++ pieces least names q others) is
+        ∙ here o is low
+        ∙ ap (λ p. pieces least names q (cond (is_some p) (a ∷ others) others)) (sym is)
+
+-- the values of all variables are those of the variables that have one
+pub values_are_pieces : (least : ℤ) (names : List (List ℕ)) (q : Assignment) → length names ≤ 128 → values_text least names q ≡ pieces least names q (variables_of q)
+unfolding set_where
+values_are_pieces least names q few = pieces_from least names q 0 128 few refl
+
+-- the name and the value of the least of the variables are written
+pub piece_written : (least : ℤ) (names : List (List ℕ)) (q : Assignment) (v : ℕ) (left others whole before after name : List ℕ) (value : Option ℕ) → v < length names →
+    IsSet left → least_of left ≡ Some v → others ≡ without left v → name ≡ slice_index_or names v [] → value ≡ value_of q v → after ≡ before ++ value_text least name value →
+    whole ≡ before ++ pieces least names q left → whole ≡ after ++ pieces least names q others
+piece_written least names q v [] others whole before after name value low set is less name_is value_is more so_far = absurd (true≢false (ap (λ o. is_some o) (sym is)))
+piece_written least names q v (w ∷ left) others whole before after name value low set is less name_is value_is more so_far =
+    let one : w ≡ v = cc in
+    let rest : others ≡ left = less ∙ ap (without (w ∷ left)) (sym one) ∙ rest_is w left set in
+    one_more whole before after _ _ _ so_far (more ∙ (λ i. before ++ value_text least (name_is i) (value_is i)))
+    (ap (λ u. cond (nat_lt u (length names)) (value_text least (slice_index_or names u []) (value_of q u)) [] ++ pieces least names q left) one
+    ∙ ap (λ b. cond b (value_text least (slice_index_or names v []) (value_of q v)) [] ++ pieces least names q left) (lt-ltb v (length names) low)
+    ∙ ap (λ vs. value_text least (slice_index_or names v []) (value_of q v) ++ pieces least names q vs) (sym rest))
+
+-- nothing is left to write where no variable is left, or the least one has no name
+pub no_pieces : (least : ℤ) (names : List (List ℕ)) (q : Assignment) (left : List ℕ) → least_of left ≡ None → pieces least names q left ≡ []
+no_pieces least names q [] is = refl
+no_pieces least names q (v ∷ left) is = absurd (true≢false (ap (λ o. is_some o) is))
+
+pub nameless_pieces : (least : ℤ) (names : List (List ℕ)) (q : Assignment) (v : ℕ) (left : List ℕ) → IsSet left → least_of left ≡ Some v → length names ≤ v → pieces least names q left ≡ []
+nameless_pieces least names q v [] set is past = refl
+nameless_pieces least names q v (w ∷ left) set is past =
+    let one : w ≡ v = cc in
+    pieces_past least names q w (w ∷ left) (omega arith) (omega arith, set.1, set.2)
 
 -- a value within the limit fits 64 bits
 pub small_fits : (z : ℤ) → negsuc 999999 ≤ℤ z → z ≤ℤ pos 1000000 → SFits w64 z

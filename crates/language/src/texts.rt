@@ -10,7 +10,7 @@ ghost use Rattle.language.specs.Texts.{value_text, values_text, is_part, joined,
 use crate::narrow::is_part_on;
 use crate::parts::RelPart;
 use crate::ranges::ValueRange;
-use assign::Partial;
+use assign::{Partial, VarSet};
 use rel_table::Table;
 use std::alloc::{AllocError, Global};
 
@@ -44,6 +44,12 @@ fn add_value(
     add_number(text, least_value + i64::from(value))
 }
 
+/// How many bytes a question's text takes that gives values to these variables, unless names or numbers are long. With so many
+/// at hand it needn't grow.
+fn room_for(valued: VarSet) -> usize {
+    16 + 8 * usize::from(valued.len())
+}
+
 /// `q1 a=1 b=2`
 pub(crate) fn text_of_question(
     alloc: Global,
@@ -57,9 +63,16 @@ pub(crate) fn text_of_question(
     requires few { length names.now ≤ 128 }
     ensures { IfOk result (λ t. string_bytes t ≡ 113 ∷ (decimal k ++ values_text least_value (map string_bytes names.now) q.now)) }
 {
-    let mut text = format!(in alloc; "q{k}")?;
-    for v in 0..names.len() {
-        add_value(&mut text, least_value, names[v].as_str(), q.get(v as u8))?;
+    let mut left = q.vars();
+    let mut text = String::with_capacity(alloc, room_for(left))?;
+    write!(text, "q{k}")?;
+    while let Some(v) = left.least() {
+        let at = usize::from(v);
+        if at >= names.len() {
+            return Ok(text);
+        }
+        add_value(&mut text, least_value, names[at].as_str(), q.get(v))?;
+        left = left.without(v);
     }
     Ok(text)
 }
