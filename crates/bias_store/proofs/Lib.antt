@@ -17,3 +17,4 @@ pub mod Showing
 pub mod Violating
 pub mod Striking
 pub mod Within
+pub mod RowMasks

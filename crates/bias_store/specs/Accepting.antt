@@ -1,5 +1,6 @@
 -- Which relations on a scope accept a tuple.
-use Rattle.std.specs.Prelude.{ℕ, ◌≡◌, ◌≢◌, ◌+◌, ◌<◌, ◌≤◌, ◌^◌, true, false, List, [], ◌∷◌, length, slice_index_or}
+use Rattle.std.specs.Prelude.{ℕ, ◌==◌, ◌≡◌, ◌≢◌, ◌+◌, ◌<◌, ◌≤◌, ◌^◌, true, false, List, [], ◌∷◌, length, slice_index_or}
+use Rattle.std.specs.Int.{bit_at}
 use Rattle.std.specs.List.{filter}
 use Rattle.assign.specs.Sets.{numbers}
 use Rattle.rel_table.specs.Relation.{tuple_at}
@@ -70,6 +71,10 @@ pub record IsAcceptingOf (l : Language) (a : Accepting) : Type 0 where
   pub tables : (s : ℕ) → s < length l.scopes → slice_index_or a.first s 0 ≢ NO_TABLE → IsTableOf l s a.masks (slice_index_or a.first s 0)
   pub runs : AreRunsFrom l a.next 0
   pub rows : AreRowsFrom l a.first a.rows 0
+
+-- the truth values of the relations on a scope from a place on, a word for each relation: bit y is one where it accepts the tuple y places further
+abbrev pub AreRowsAt : Language → ℕ → ℕ → List ℕ → Type 0
+AreRowsAt l s place rows = (r y : ℕ) → r < length (relations_on l s) → y < l.value_count → (bit_at (slice_index_or rows r 0) y == 1) ≡ slice_index_or (slice_index_or (relations_on l s) r []) (place + y) false
 
 -- there are as many masks more, behind other ones, and each is right of its place
 pub record AreAdded (IsRight : ℕ → ℕ → Type 0) (before masks : List ℕ) (count : ℕ) : Type 0 where

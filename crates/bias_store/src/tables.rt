@@ -1,14 +1,17 @@
 //! Which relations on a scope accept which tuples.
 
-ghost use Rattle.std.specs.Prelude.{ℕ, ◌≡◌, ◌≢◌, ◌+◌, ◌*◌, ◌^◌, ◌<◌, ◌≤◌, true, List, Some, All, length, slice_index_or, IfOk, OnOk, IfSome, IfNone};
+ghost use Rattle.std.specs.Prelude.{ℕ, ◌==◌, ◌≡◌, ◌≢◌, ◌+◌, ◌*◌, ◌^◌, ◌<◌, ◌≤◌, true, List, Some, All, length, slice_index_or, IfOk, OnOk, IfSome, IfNone};
+ghost use Rattle.std.specs.Int.{bit_at};
+ghost use Rattle.std.specs.List.{filter};
 ghost use Rattle.std.specs.Option.{ForSome};
+ghost use Rattle.assign.specs.Sets.{numbers};
 ghost use Rattle.assign.specs.Assignment.{Assignment, value_of};
 ghost use Rattle.rel_table.specs.Relation.{tuple_at};
 ghost use Rattle.language.specs.Language.{variable_count, range_of, scope_at, place_on, IsLanguage, IsQuestion};
 ghost use Rattle.language.specs.Ranges.{is_in, are_in};
 ghost use Rattle.language.specs.Pairs.{IsPairTable};
 ghost use Rattle.bias_store.specs.Masks.{ones_of};
-ghost use Rattle.bias_store.specs.Accepting.{accepting_on, places_on, first_of, Accepts, AreRunsFrom, IsRow, AreRowsFrom, IsTableOf, IsAcceptingOf, AreAdded};
+ghost use Rattle.bias_store.specs.Accepting.{accepting_on, places_on, first_of, Accepts, AreRunsFrom, IsRow, AreRowsFrom, IsTableOf, IsAcceptingOf, AreAdded, AreRowsAt};
 ghost use Rattle.bias_store.specs.Made.{HasTables, AcceptBy, AreClasses, IsMade, AreWider};
 ghost use Rattle.bias_store.specs.Shown.{IsShown};
 ghost use Rattle.bias_store.specs.Violated.{violated_on, AreNoneViolated, IsViolated, AreHitsListed};
@@ -69,14 +72,58 @@ fn accepting_at(lang: &Language, s: ScopeId, place: u32) -> u64
     lang.accepting(s, place)
 }
 
+/// The truth values of the relations on a scope from a place on: bit y of the word at r is one where relation r accepts the tuple
+/// y places further.
+fn rows_at(lang: &Language, s: ScopeId, place: u32) -> [u64; 64]
+    requires scope { s < length lang.now.scopes }
+    requires row { place + lang.now.value_count ≤ places_on lang.now s }
+    ensures long { length result ≡ 64 }
+    ensures rows { AreRowsAt lang.now s place result }
+{
+    let mut rows = [0; 64];
+    for r in 0..lang.relations_on(s) {
+        rows[usize::from(r)] = lang.row_on(s, r, place);
+    }
+    rows
+}
+
+/// The bits y of some words: bit r is that of the word at r.
+#[inline]
+fn column(words: &[u64], y: u8) -> u64
+    requires few { length words.now ≤ 64 }
+    requires bit { y < 64 }
+    ensures { ones_of result ≡ filter (λ r. bit_at (slice_index_or words.now r 0) y == 1) (numbers (length words.now)) }
+{
+    let mut bits = 0;
+    for r in 0..words.len() {
+        bits |= ((words[r] >> y) & 1) << r;
+    }
+    bits
+}
+
+/// The masks of a scope's places from one on, one for each value of the last variable, behind those of the places before.
+fn add_row(masks: &mut Vec<u64>, lang: &Language, s: ScopeId, place: u32) -> Result<(), AllocError>
+    requires scope { s < length lang.now.scopes }
+    requires row { place + lang.now.value_count ≤ places_on lang.now s }
+    ensures { (before : List ℕ) → AreAdded (Accepts lang.now s) before masks.old.items place → OnOk result (AreAdded (Accepts lang.now s) before masks.new.items (place + lang.now.value_count)) }
+{
+    let rows = rows_at(lang, s, place);
+    let relations = usize::from(lang.relations_on(s));
+    for y in 0..lang.d() {
+        masks.push(column(&rows[..relations], y))?;
+    }
+    Ok(())
+}
+
 /// The table of a scope, behind other ones.
 fn add_masks(masks: &mut Vec<u64>, lang: &Language, s: ScopeId) -> Result<(), AllocError>
     requires scope { s < length lang.now.scopes }
     ensures { OnOk result (AreAdded (Accepts lang.now s) masks.old.items masks.new.items (places_on lang.now s)) }
 {
-    let size = lang.scope(s).len() as u32;
-    for place in 0..u32::from(lang.d()).pow(size) {
-        masks.push(accepting_at(lang, s, place))?;
+    let d = u32::from(lang.d());
+    let others = lang.scope(s).len() as u32 - 1;
+    for row in 0..d.pow(others) {
+        add_row(masks, lang, s, row * d)?;
     }
     Ok(())
 }
