@@ -280,18 +280,26 @@ fn beside(
 
 /// Revises condition i. To the variables that are waiting are added those that lost values; `No` where some variable has
 /// none left in an arc-consistent subfamily.
-fn look_at_other(cons: &Constraints, i: usize, doms: &mut Domains, waiting: &mut VarSet) -> Alive
+fn look_at_other(
+    cons: &Constraints,
+    i: usize,
+    doms: &mut Domains,
+    entailed: &mut Entailed,
+    waiting: &mut VarSet,
+) -> Alive
     requires lawful { IsLanguage cons.now.lang.now }
     requires constraints { AreConstraints cons.now.lang.now cons.now.list.now cons.now.against }
     requires low { i < length (arcs_of cons.now.lang.now cons.now.list.now cons.now.against) }
     requires doms { AreSome cons.now.lang.now doms.old }
     ensures looked { result ≡ Alive.Yes → IsLooked (arcs_of cons.now.lang.now cons.now.list.now cons.now.against) i waiting.old waiting.new doms.old doms.new }
+    ensures entailed { result ≡ Alive.Yes → AreEntailed (arcs_of cons.now.lang.now cons.now.list.now cons.now.against) entailed.old doms.old → AreEntailed (arcs_of cons.now.lang.now cons.now.list.now cons.now.against) entailed.new doms.new }
     ensures dead { result ≡ Alive.No → RunsEmpty (arcs_of cons.now.lang.now cons.now.list.now cons.now.against) doms.old }
 {
     let (c, holding) = cons.condition(i);
     match revise(cons.lang, c, holding, doms) {
         None => Alive::No,
         Some(lost) => {
+            entailed.add_fixed(i, doms, cons.lang.scope(c.scope));
             if lost.len() == 0 {
                 return Alive::Yes;
             }
@@ -409,7 +417,7 @@ fn look_at(
     }
     match &plan.briefs[i] {
         Brief::Two(pair) => look_at_pair(cons, plan, pair, i, v, value, doms, entailed, waiting),
-        Brief::Other => look_at_other(cons, i, doms, waiting),
+        Brief::Other => look_at_other(cons, i, doms, entailed, waiting),
     }
 }
 
