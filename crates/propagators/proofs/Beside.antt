@@ -1,5 +1,5 @@
 -- A condition on two variables, one of which has one value.
-use Rattle.propagators.proofs.Prelude.{◌≡◌, ℕ, zero, suc, ◌<◌, Bool, true, List, [], ◌∷◌, length, refl, sym, ◌∙◌, ap, subst, arith, inl, inr, ◌⊎◌, ◌≢◌, slice_index_or, slice_set, All, list_all, set-get_or, get_or-set_other, both_ways, eq-eqb, or_left, has, union, Family, Arc, sets_on, is_not_empty, size_of, IsSubfamily, AreBelow, AreDifferent, IsWithin, IsThrough, AreSupported, IsRevised, IsDead, replaced, IsOnly, IsBeside, IsNarrowed, IsEntailed, IsLooked}
+use Rattle.propagators.proofs.Prelude.{◌≡◌, ℕ, zero, suc, ◌<◌, Bool, true, false, not, ◌&&◌, List, [], ◌∷◌, length, refl, sym, ◌∙◌, ap, subst, arith, inl, inr, ◌⊎◌, ◌≢◌, slice_index_or, slice_set, ones_of, All, list_all, set-get_or, get_or-set_other, get_or-set_same, and_from, and_parts, both_ways, eq-eqb, or_left, has, union, Family, Arc, sets_on, is_not_empty, size_of, IsSubfamily, AreBelow, AreDifferent, IsWithin, IsThrough, AreSupported, IsRevised, IsDead, replaced, IsOnly, IsBeside, IsNarrowed, IsEntailed, IsLooked}
 use Rattle.propagators.proofs.Replacing.{is_revised, is_dead, member_of_some, all_full}
 use Rattle.propagators.proofs.Rounds.{AreSmall}
 use Rattle.propagators.proofs.Visiting.{looked_same, looked_changed}
@@ -141,6 +141,27 @@ module _ (d : ℕ) (a : Arc) (f g : Family) (v : ℕ) (pass : ℕ → Bool) (dif
         some = all_full h full v (let low = two.1 in omega arith);
         is = sym (set-get_or h v []);
       }
+
+-- the values that pass are written, where there are some
+pub narrowed_to : (f g : Family) (v values : ℕ) (pass : ℕ → Bool) → v < length f → ((y : ℕ) → has (ones_of values) y ≡ (has (slice_index_or f v []) y && pass y)) → false ≡ not (is_not_empty (ones_of values)) → g ≡ slice_set f v (ones_of values) → IsNarrowed v pass f g
+narrowed_to f g v values pass low passing some to = record {
+  values = λ y at. (let parts = and_parts _ _ (sym (passing y) ∙ ap (λ xs. has xs y) (sym written) ∙ at) in (parts.0, parts.1));
+  kept = λ y at p. ap (λ xs. has xs y) written ∙ passing y ∙ and_from _ _ at p;
+  some = ap is_not_empty written ∙ turned (is_not_empty (ones_of values)) some;
+  is = to ∙ ap (slice_set f v) (sym written);
+}
+  where
+    written : slice_index_or g v [] ≡ ones_of values
+    written = ap (λ (h : Family). slice_index_or h v []) to ∙ get_or-set_same f v (ones_of values) [] low
+
+    turned : (b : Bool) → false ≡ not b → b ≡ true
+    turned true h = refl
+    turned false h = cc
+
+-- where no value that passes is left, none passes
+pub none_passes : (xs zs : List ℕ) (pass : ℕ → Bool) → ((y : ℕ) → has zs y ≡ (has xs y && pass y)) → true ≡ not (is_not_empty zs) → (y : ℕ) → has xs y ≡ true → pass y ≡ true → ⊥
+none_passes xs [] pass passing none y there passes = both_ways _ (sym (passing y)) (and_from _ _ there passes)
+none_passes xs (z ∷ zs) pass passing none y there passes = cc
 
 -- the others have the same values
 pub narrowed_others : (f g : Family) (v : ℕ) (pass : ℕ → Bool) → IsNarrowed v pass f g → (u : ℕ) → u ≢ v → slice_index_or g u [] ≡ slice_index_or f u []

@@ -21,3 +21,4 @@ pub mod Indexed
 pub mod Single
 pub mod Entailing
 pub mod Looking
+pub mod Fixed

@@ -1,7 +1,7 @@
 -- A condition on two variables is entailed once one of them has one value, and the other only values that go with it.
 use Rattle.propagators.proofs.Prelude.{◌≡◌, ℕ, ◌<◌, Bool, true, List, [], length, subst, ◌⊎◌, slice_index_or, All, Relation, Language, ArePairTables, Family, Arc, AreBelow, AreDifferent, IsFamilyOf, IsRevised, IsBeside, IsNarrowed, IsPairOf, arc_by, IsEntailed, AreEntailed, is_noted_in, Pair, Entailed}
 use Rattle.propagators.proofs.Conditions.{family_within}
-use Rattle.propagators.proofs.Standing.{stood_entailed}
+use Rattle.propagators.proofs.Standing.{stood_revised, stood_entailed}
 use Rattle.propagators.proofs.Beside.{beside_revised, beside_entailed}
 use Rattle.propagators.proofs.Entailing.{entailed_less, entailed_more}
 
@@ -17,6 +17,9 @@ module _ (l : Language) (a : Arc) (p : Pair) (f g : Family) (v : ℕ) (pass : �
 
   pub pair_revised : IsRevised (arc_by l is.pairs p) f g
   pair_revised = beside_revised l.value_count (arc_by l is.pairs p) f v pass apart there family.values beside g narrowed
+
+  pub pair_revised_at : IsRevised a f g
+  pair_revised_at = stood_revised l a p f is family g pair_revised
 
   pub pair_entailed : IsEntailed a g
   pair_entailed =

@@ -32,7 +32,7 @@ pub use Rattle.rel_table.specs.Table.{TruthTable, truth_at}
 pub use Rattle.propagators.specs.Allowed.{AreConstraints}
 pub use Rattle.propagators.specs.Briefs.{AreBriefs, IsBriefOf, IsPairOf, arc_by, at_place, bound_at, by_pair}
 pub use Rattle.propagators.specs.Chains.{AreEnds, IsChain, IsRunning}
-pub use Rattle.propagators.specs.Entailed.{AreEntailed, IsEntailed, is_noted_in}
+pub use Rattle.propagators.specs.Entailed.{AreEntailed, HasOne, IsAlmostFixed, IsEntailed, is_noted_in}
 pub use Rattle.propagators.specs.Families.{Arc, Family, IsLargest, IsSubfamily, arc_of, arcs_of, families_within, has_support, is_arc_consistent, is_consistent, is_not_empty, is_supported, is_wanted, largest, left_by, prune, prune_from, pruned, selections, sets_on, size_of, subsets}
 pub use Rattle.propagators.specs.Indexes.{IsIndexOf, IsRoot, IsRootBefore, all_values, list_in}
 pub use Rattle.propagators.specs.Laws.{LargestAgain, LargestIs, LargestIsOne, LargestTells}

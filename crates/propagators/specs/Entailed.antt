@@ -1,9 +1,10 @@
 -- Conditions that stay consistent.
-use Rattle.std.specs.Prelude.{ℕ, ◌/◌, ◌%◌, ◌≡◌, ◌<◌, Bool, true, List, length, slice_index_or}
+use Rattle.std.specs.Prelude.{ℕ, ◌/◌, ◌%◌, ◌≡◌, ◌≢◌, ◌<◌, Bool, true, List, [], length, slice_index_or}
 use Rattle.std.specs.List.{list_all}
 use Rattle.assign.specs.Sets.{has}
 use Rattle.propagators.specs.Values.{ones_of}
 use Rattle.propagators.specs.Families.{Family, Arc, is_consistent, is_not_empty, IsSubfamily}
+use Rattle.propagators.specs.Pairs.{IsOnly}
 use Rattle.propagators.specs.declared.entailed.Entailed.{Entailed}
 
 -- it is consistent whatever values of theirs the variables lose, where each keeps one
@@ -17,3 +18,14 @@ is_noted_in e k = has (ones_of (slice_index_or e.words (k / 64) 0)) (k % 64)
 -- each that is among them is entailed
 abbrev pub AreEntailed : List Arc → Entailed → Family → Type 0
 AreEntailed arcs e f = (k : ℕ) (a : Arc) → k < length arcs → is_noted_in e k ≡ true → IsEntailed (slice_index_or arcs k a) f
+
+-- one member alone
+pub record HasOne (xs : List ℕ) : Type 0 where
+  pub value : ℕ
+  pub only : IsOnly xs value
+
+-- the variables of a scope have one value each, but for that at one place
+pub record IsAlmostFixed (f : Family) (scope : List ℕ) : Type 0 where
+  pub place : ℕ
+  pub low : place < length scope
+  pub others : (j : ℕ) → j < length scope → j ≢ place → HasOne (slice_index_or f (slice_index_or scope j 0) [])

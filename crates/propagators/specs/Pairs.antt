@@ -6,10 +6,8 @@ use Rattle.rel_table.specs.Relation.{Relation}
 use Rattle.rel_table.specs.Table.{TruthTable}
 use Rattle.language.specs.Language.{Language}
 use Rattle.language.specs.Ranges.{are_in}
-use Rattle.propagators.specs.Families.{Family, Arc, is_wanted, is_not_empty, size_of}
+use Rattle.propagators.specs.Families.{Family, Arc, is_wanted, is_not_empty}
 use Rattle.propagators.specs.Supports.{continues}
-use Rattle.propagators.specs.declared.domains.Left.{Left}
-use Rattle.propagators.specs.declared.domains.Left.TheVariants.{Nothing, Fewer, Same}
 
 -- a table of two variables, by its number
 abbrev pub pair_at : Language → List Relation → ℕ → TruthTable
@@ -57,9 +55,3 @@ pub record IsNarrowed (v : ℕ) (pass : ℕ → Bool) (f g : Family) : Type 0 wh
   pub kept : (y : ℕ) → has (slice_index_or f v []) y ≡ true → pass y ≡ true → has (slice_index_or g v []) y ≡ true
   pub some : is_not_empty (slice_index_or g v []) ≡ true
   pub is : g ≡ slice_set f v (slice_index_or g v [])
-
--- what is left to the variable of the values that pass
-abbrev pub IsLeft : ℕ → (ℕ → Bool) → Family → Family → Left → Type 0
-IsLeft v pass f g Nothing = (y : ℕ) → has (slice_index_or f v []) y ≡ true → pass y ≡ true → ⊥
-IsLeft v pass f g Fewer = IsNarrowed v pass f g × (size_of g < size_of f)
-IsLeft v pass f g Same = IsNarrowed v pass f g × (g ≡ f)

@@ -1,4 +1,4 @@
-ghost use Rattle.std.specs.Prelude.{◌≡◌, ◌<◌, ◌≤◌, ◌==◌, ℕ, [], true, false, not, nat_lt, length, map, take, slice_index_or, slice_set, All, IfSome, None};
+ghost use Rattle.std.specs.Prelude.{◌≡◌, ◌<◌, ◌≤◌, ◌==◌, ◌&&◌, ℕ, [], true, false, not, nat_lt, length, map, take, slice_index_or, slice_set, All, IfSome, None};
 ghost use Rattle.std.specs.List.{filter, list_all, list_any};
 ghost use Rattle.std.specs.Int.{bit_at};
 ghost use Rattle.assign.specs.Sets.{numbers, has, IsSet};
@@ -7,11 +7,9 @@ ghost use Rattle.propagators.specs.Values.{ones_of};
 ghost use Rattle.propagators.specs.Families.{is_not_empty, is_wanted, sets_on, size_of};
 ghost use Rattle.propagators.specs.Supports.{IsFamilyOf};
 ghost use Rattle.propagators.specs.Loose.{HasTwo, HasMore};
-ghost use Rattle.propagators.specs.Pairs.{IsOnly, IsLeft};
+ghost use Rattle.propagators.specs.Pairs.{IsOnly};
 
-use crate::values::{
-    are_more, has_value, is_empty, only_member, only_value, passing, values_between,
-};
+use crate::values::{are_more, has_value, only_member, only_value, passing, values_between};
 use language::Language;
 use std::marker::Model;
 
@@ -22,13 +20,6 @@ pub struct Domains {
     sets: [u64; 128],
     /// How many variables there are.
     size: u8,
-}
-
-/// What is left to a variable of its values.
-pub enum Left {
-    Nothing,
-    Fewer,
-    Same,
 }
 
 impl Model for Domains {
@@ -126,23 +117,13 @@ impl Domains {
         are_more(self.sets[v as usize], most)
     }
 
-    /// Leaves the variable those of its values that pass: whose bit in the row is 1, or is 0 where the row isn't to hold.
-    /// Where none passes, all are left.
+    /// Those of the variable's values that pass: whose bit in the row is 1, or is 0 where the row isn't to hold.
     #[inline]
-    pub(crate) fn keep(&mut self, v: u8, row: u64, holding: bool) -> Left
-        requires { v < length self.old }
-        ensures { IsLeft v (λ x. is_wanted holding (bit_at row x == 1)) self.old self.new result }
+    pub(crate) fn passing(&self, v: u8, row: u64, holding: bool) -> u64
+        requires { v < length self.now }
+        ensures { (x : ℕ) → has (ones_of result) x ≡ (has (slice_index_or self.now v []) x && is_wanted holding (bit_at row x == 1)) }
     {
-        let had = self.sets[v as usize];
-        let values = passing(had, row, holding);
-        if is_empty(values) {
-            return Left::Nothing;
-        }
-        if self.cut(v, values) {
-            Left::Fewer
-        } else {
-            Left::Same
-        }
+        passing(self.sets[v as usize], row, holding)
     }
 
     /// The sets of a scope's variables.

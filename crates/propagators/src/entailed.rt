@@ -1,9 +1,10 @@
 //! Conditions that needn't be looked at again.
 
-ghost use Rattle.std.specs.Prelude.{◌≡◌, ◌⊎◌, ℕ, List, true, slice_index_or};
+ghost use Rattle.std.specs.Prelude.{◌≡◌, ◌<◌, ◌⊎◌, ℕ, List, [], true, All, length, slice_index_or};
 ghost use Rattle.propagators.specs.Families.{Family, Arc};
-ghost use Rattle.propagators.specs.Entailed.{is_noted_in, AreEntailed};
+ghost use Rattle.propagators.specs.Entailed.{is_noted_in, AreEntailed, HasOne, IsAlmostFixed};
 
+use crate::domains::Domains;
 use crate::values::add_value;
 
 /// How many words a set of entailed conditions has.
@@ -15,6 +16,33 @@ const WORDS: usize = 16;
 pub struct Entailed {
     /// Condition i is bit i % 64 of word i / 64.
     pub(crate) words: [u64; WORDS],
+}
+
+/// Whether each variable of a scope has one value alone.
+fn are_fixed(doms: &Domains, scope: &[u8]) -> bool
+    requires { All (λ v. v < length doms.now) scope.now }
+    ensures { result ≡ true → (j : ℕ) → j < length scope.now → HasOne (slice_index_or doms.now (slice_index_or scope.now j 0) []) }
+{
+    for j in 0..scope.len() {
+        let Some(_x) = doms.only(scope[j]) else {
+            return false;
+        };
+    }
+    true
+}
+
+/// Whether each variable of a scope, but one at most, has one value alone.
+fn is_almost_fixed(doms: &Domains, scope: &[u8]) -> bool
+    requires known { All (λ v. v < length doms.now) scope.now }
+    requires some { 0 < length scope.now }
+    ensures { result ≡ true → IsAlmostFixed doms.now scope.now }
+{
+    for j in 0..scope.len() {
+        let Some(_x) = doms.only(scope[j]) else {
+            return are_fixed(doms, &scope[j + 1..]);
+        };
+    }
+    true
 }
 
 impl Entailed {
@@ -41,6 +69,17 @@ impl Entailed {
         let w = i / 64;
         if w < WORDS {
             self.words[w] = add_value(self.words[w], (i % 64) as u8);
+        }
+    }
+
+    /// Takes in a condition on a scope, where at most one variable of the scope has more than one value.
+    pub(crate) fn add_fixed(&mut self, i: usize, doms: &Domains, scope: &[u8])
+        requires known { All (λ v. v < length doms.now) scope.now }
+        requires some { 0 < length scope.now }
+        ensures { (k : ℕ) → is_noted_in self.new k ≡ true → (is_noted_in self.old k ≡ true) ⊎ ((k ≡ i) × IsAlmostFixed doms.now scope.now) }
+    {
+        if is_almost_fixed(doms, scope) {
+            self.add(i);
         }
     }
 }

@@ -20,11 +20,11 @@ ghost use Rattle.propagators.specs.Propagated.{AreSome, IsSettledBut, IsPropagat
 
 use crate::briefs::{Brief, Pair, brief_of, raise_all};
 use crate::constraints::Constraints;
-use crate::domains::{Domains, Left};
+use crate::domains::Domains;
 use crate::entailed::Entailed;
 use crate::plan::Plan;
 use crate::revising::{Alive, revise, revise_pair, settle};
-use crate::values::{add_value, least_value, passing, without_value};
+use crate::values::{add_value, is_empty, least_value, passing, without_value};
 use assign::VarSet;
 use language::Language;
 use std::alloc::{AllocError, Global};
@@ -280,18 +280,26 @@ fn beside(
 
 /// Revises condition i. To the variables that are waiting are added those that lost values; `No` where some variable has
 /// none left in an arc-consistent subfamily.
-fn look_at_other(cons: &Constraints, i: usize, doms: &mut Domains, waiting: &mut VarSet) -> Alive
+fn look_at_other(
+    cons: &Constraints,
+    i: usize,
+    doms: &mut Domains,
+    entailed: &mut Entailed,
+    waiting: &mut VarSet,
+) -> Alive
     requires lawful { IsLanguage cons.now.lang.now }
     requires constraints { AreConstraints cons.now.lang.now cons.now.list.now cons.now.against }
     requires low { i < length (arcs_of cons.now.lang.now cons.now.list.now cons.now.against) }
     requires doms { AreSome cons.now.lang.now doms.old }
     ensures looked { result ≡ Alive.Yes → IsLooked (arcs_of cons.now.lang.now cons.now.list.now cons.now.against) i waiting.old waiting.new doms.old doms.new }
+    ensures entailed { result ≡ Alive.Yes → AreEntailed (arcs_of cons.now.lang.now cons.now.list.now cons.now.against) entailed.old doms.old → AreEntailed (arcs_of cons.now.lang.now cons.now.list.now cons.now.against) entailed.new doms.new }
     ensures dead { result ≡ Alive.No → RunsEmpty (arcs_of cons.now.lang.now cons.now.list.now cons.now.against) doms.old }
 {
     let (c, holding) = cons.condition(i);
     match revise(cons.lang, c, holding, doms) {
         None => Alive::No,
         Some(lost) => {
+            entailed.add_fixed(i, doms, cons.lang.scope(c.scope));
             if lost.len() == 0 {
                 return Alive::Yes;
             }
@@ -355,31 +363,30 @@ fn look_at_pair(
     ensures entailed { result ≡ Alive.Yes → AreEntailed (arcs_of cons.now.lang.now cons.now.list.now cons.now.against) entailed.old doms.old → AreEntailed (arcs_of cons.now.lang.now cons.now.list.now cons.now.against) entailed.new doms.new }
     ensures dead { result ≡ Alive.No → RunsEmpty (arcs_of cons.now.lang.now cons.now.list.now cons.now.against) doms.old }
 {
+    // More values of each are left than one of the other rejects.
+    if value.is_none()
+        && doms.has_more(pair.first, pair.bounds.first)
+        && doms.has_more(pair.second, pair.bounds.second)
+    {
+        return Alive::Yes;
+    }
     let Some((u, row)) = beside(cons.lang, *pair, doms, v, value) else {
-        // More values of each are left than one of the other rejects.
-        if doms.has_more(pair.first, pair.bounds.first)
-            && doms.has_more(pair.second, pair.bounds.second)
-        {
-            return Alive::Yes;
-        }
         return look_at_both(cons, *pair, i, doms, waiting);
     };
-    match doms.keep(u, row, pair.holding) {
-        Left::Nothing => Alive::No,
-        Left::Fewer => {
-            entailed.add(i);
-            // Its conditions stay consistent while it has more values than its limit.
-            if doms.has_more(u, plan.limits[usize::from(u)]) {
-                return Alive::Yes;
-            }
-            *waiting = waiting.with(u);
-            Alive::Yes
-        }
-        Left::Same => {
-            entailed.add(i);
-            Alive::Yes
-        }
+    let values = doms.passing(u, row, pair.holding);
+    if is_empty(values) {
+        return Alive::No;
     }
+    entailed.add(i);
+    if !doms.cut(u, values) {
+        return Alive::Yes;
+    }
+    // Its conditions stay consistent while it has more values than its limit.
+    if doms.has_more(u, plan.limits[usize::from(u)]) {
+        return Alive::Yes;
+    }
+    *waiting = waiting.with(u);
+    Alive::Yes
 }
 
 /// Looks at condition i, if there is one among so many. To the variables that are waiting are added those that lost values; `No`
@@ -410,7 +417,7 @@ fn look_at(
     }
     match &plan.briefs[i] {
         Brief::Two(pair) => look_at_pair(cons, plan, pair, i, v, value, doms, entailed, waiting),
-        Brief::Other => look_at_other(cons, i, doms, waiting),
+        Brief::Other => look_at_other(cons, i, doms, entailed, waiting),
     }
 }
 
@@ -427,6 +434,7 @@ fn value_of(lang: &Language, doms: &Domains, v: u8) -> Option<u8>
 fn visit(
     cons: &Constraints,
     plan: &Plan,
+    count: usize,
     doms: &mut Domains,
     entailed: &mut Entailed,
     changed: VarSet,
@@ -437,13 +445,13 @@ fn visit(
     requires plan { IsWholePlanOf cons.now.lang.now (arcs_of cons.now.lang.now cons.now.list.now cons.now.against) plan.now }
     requires doms { IsSettledBut cons.now.lang.now (arcs_of cons.now.lang.now cons.now.list.now cons.now.against) changed doms.old }
     requires entailed { AreEntailed (arcs_of cons.now.lang.now cons.now.list.now cons.now.against) entailed.old doms.old }
+    requires count { count ≡ length (arcs_of cons.now.lang.now cons.now.list.now cons.now.against) }
     requires known { v < 128 }
     ensures visited { IfSome result (λ next. IsVisited (arcs_of cons.now.lang.now cons.now.list.now cons.now.against) (without changed v) next doms.old doms.new) }
     ensures entailed { IfSome result (λ next. AreEntailed (arcs_of cons.now.lang.now cons.now.list.now cons.now.against) entailed.new doms.new) }
     ensures dead { result ≡ None → RunsEmpty (arcs_of cons.now.lang.now cons.now.list.now cons.now.against) doms.old }
 {
     let mut waiting = changed.without(v);
-    let count = cons.count();
     let value = value_of(cons.lang, doms, v);
     for w in 0..count.div_ceil(64) {
         let noted = plan.sets[w * 128 + usize::from(v)];
@@ -487,12 +495,13 @@ fn visit_all(
     ensures entailed { result ≡ Alive.Yes → AreEntailed (arcs_of cons.now.lang.now cons.now.list.now cons.now.against) entailed.new doms.new }
     ensures dead { result ≡ Alive.No → RunsEmpty (arcs_of cons.now.lang.now cons.now.list.now cons.now.against) doms.old }
 {
+    let count = cons.count();
     let mut changed = changed;
     while changed.len() != 0 {
         let Some(v) = changed.least() else {
             unreachable!()
         };
-        match visit(cons, plan, doms, entailed, changed, v) {
+        match visit(cons, plan, count, doms, entailed, changed, v) {
             None => return Alive::No,
             Some(next) => changed = next,
         }

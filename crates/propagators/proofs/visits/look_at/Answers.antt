@@ -1,5 +1,4 @@
 use Rattle.propagators.proofs.Prelude.{◌∙◌, sym, subst, arith, slice_index_or, get_or_read, Brief, arcs_of, IsBriefOf}
-use Rattle.propagators.proofs.Entailing.{entailed_under}
 use Rattle.propagators.proofs.visits.look_at.Goals as goal
 
 pub look_at_pair-requires-clause-pair : goal.look_at_pair-requires-clause-pair
@@ -10,6 +9,3 @@ look_at_pair-requires-clause-pair c = λ a.
     subst (λ (b : Brief). IsBriefOf c.args.cons.now.lang.now (slice_index_or (arcs_of c.args.cons.now.lang.now c.args.cons.now.list.now c.args.cons.now.against) c.args.i a) b)
     (sym (get_or_read c.args.plan.now.briefs.items c.args.i c.index.result.now (omega arith) c.index.ensures c.index.result.now) ∙ c.in-Two.is)
     (c.requires.plan.plan.briefs c.args.i a c.index.result.now (omega arith) (omega arith)))
-
-pub returns-in-Other-clause-entailed : goal.returns-in-Other-clause-entailed
-returns-in-Other-clause-entailed c = λ e are. entailed_under (arcs_of c.args.cons.now.lang.now c.args.cons.now.list.now c.args.cons.now.against) c.args.entailed.now c.args.doms.now c.look_at_other.new.doms (c.look_at_other.ensures.looked e).underway are

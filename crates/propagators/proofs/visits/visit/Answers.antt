@@ -19,7 +19,7 @@ loop-rest-init c = record {
   visiting = (let words = c.args.plan.now.room in
       let long = c.args.plan.now.long in
       let room = c.requires.plan.room in
-      let count = c.count-count.ensures in
+      let count = c.requires.count in
       let end = c.div_ceil-w-end.ensures in
       let is = c.from.ensures in
       let known = c.requires.known in
