@@ -20,9 +20,16 @@ impl<R: BufRead> Buffered<R> {
 impl<R: BufRead> Read for Buffered<R> {
     /// A piece of more than one byte is read as it is, since from a pipe it comes sooner whole.
     fn read(&mut self, buf: &mut [u8]) -> io::Result<usize> {
-        if buf.len() == 1 && self.inner.fill_buf()?.is_empty() {
-            return Ok(0);
+        let [place] = buf else {
+            return self.inner.read(buf);
+        };
+        match self.inner.fill_buf()?.first() {
+            None => Ok(0),
+            Some(byte) => {
+                *place = *byte;
+                self.inner.consume(1);
+                Ok(1)
+            }
         }
-        self.inner.read(buf)
     }
 }

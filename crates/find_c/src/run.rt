@@ -49,6 +49,15 @@ pub enum RelNext {
 }
 
 impl RelRun {
+    /// What stands in the place of a run that was taken out of it.
+    pub fn blank() -> RelRun {
+        RelRun {
+            scope: 0,
+            choices: Choices::new(0, false),
+            tuple: Tuple::blank(),
+        }
+    }
+
     /// Begins with the kept candidates on a scope that an assignment violates.
     pub fn start(lang: &Language, kept: &Kept, s: ScopeId, e: &Partial) -> RelNext
         requires made { IsMadeFor lang.now kept.now }

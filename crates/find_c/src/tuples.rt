@@ -25,6 +25,14 @@ impl Model for Tuple {
 }
 
 impl Tuple {
+    /// The tuple of no values.
+    pub fn blank() -> Tuple {
+        Tuple {
+            size: 0,
+            values: [0; 4],
+        }
+    }
+
     /// The tuple at a place of the table order.
     pub fn at(value_count: u8, size: u8, place: u32) -> Tuple
         requires short { size ≤ 4 }

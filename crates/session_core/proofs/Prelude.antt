@@ -39,7 +39,7 @@ unfoldable pub use Rattle.session_laws.specs.Session.{read_on, with_quiet_replie
 pub use Rattle.session_laws.specs.Walk.{Asks, Ended, Ends, Turn, Walk, WalkEnd, next_turn, violates_some}
 pub use Rattle.session_core.specs.Known.{IsAbout, IsAnswered}
 pub use Rattle.session_core.specs.Leading.{IsLed, part_replied}
-pub use Rattle.session_core.specs.Putting.{IsExample, IsFirstTuple, IsPut, IsTelling}
+pub use Rattle.session_core.specs.Putting.{IsExample, IsFirstTuple, IsPut, IsTelling, IsTupleOf}
 pub use Rattle.session_core.specs.Sound.{AreChoices, AreUnlearned, FirstRun, IsFirst, IsNew, NoneBefore, is_quiet_at}
 pub use Rattle.session_core.specs.Standing.{HalvesAfter, IsAskedAfter, IsNewAfter, Knows, LeadsTo, PutAfter, Stands, WalksAfter, knowledge_of, open_in, question_of, question_put}
 pub use Rattle.session_core.specs.declared.knowledge.Knowledge.{Knowledge}

@@ -1,5 +1,5 @@
 -- What a session relies on of the question that is put.
-use Rattle.std.specs.Prelude.{◌≡◌, ◌≢◌, ◌<◌, ℕ, List, length, Some, false, IsTrue}
+use Rattle.std.specs.Prelude.{◌≡◌, ◌≢◌, ◌⊎◌, ◌<◌, ℕ, List, length, Some, Bool, true, false, IsTrue}
 use Rattle.std.proofs.Props.{props}
 use Rattle.assign.specs.Assignment.{Assignment}
 use Rattle.assign.specs.declared.events.Plan.TheVariants.{Scopes, Multi}
@@ -34,6 +34,18 @@ pub record IsFirstTuple (k : Knowledge) (run : Run) : Type 0 where
 pub record IsTelling (k : Knowledge) (run : Run) : Type 0 where
   pub sound : IsRun k.lang run
   pub free : has_scope k.network.list run.scope ≡ false
+
+-- whether a tuple is put
+abbrev pub is_tuple : Put → Bool
+is_tuple (Example e) = false
+is_tuple (OnWalk e set) = false
+is_tuple (Part e set run) = false
+is_tuple (FirstTuple run) = true
+is_tuple (Tuple run) = true
+
+-- this run's tuple is put
+abbrev pub IsTupleOf : Run → Put → Type 0
+IsTupleOf run put = (put ≡ FirstTuple run) ⊎ (put ≡ Tuple run)
 
 abbrev pub IsPut : Knowledge → Put → Type 0
 IsPut k (Example e) = IsExample k e

@@ -77,7 +77,7 @@ pub(crate) fn tell_apart(knowledge: Box<Knowledge>, mut room: Box<Put>, next: Re
 {
     match next {
         RelNext::Wants(run) => {
-            *room = Put::Tuple(run);
+            room.put_tuple(run);
             Session::Asking(Asking {
                 knowledge,
                 put: room,

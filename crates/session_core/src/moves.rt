@@ -1,6 +1,6 @@
 //! How a session moves: a question is put, an answer is given.
 
-ghost use Rattle.std.specs.Prelude.{◌≡◌, ◌≢◌, ◌++◌, ◌∷◌, [], List, IfOk, IfSome, IsTrue, Some, None, length};
+ghost use Rattle.std.specs.Prelude.{◌≡◌, ◌≢◌, ◌++◌, ◌∷◌, [], List, IfOk, IfSome, IsTrue, Some, None, length, true, false};
 ghost use Rattle.assign.specs.Events.{Answer};
 ghost use Rattle.assign.specs.declared.events.Plan.{Plan};
 ghost use Rattle.language.specs.Language.{candidates, IsLanguage, IsQuestion};
@@ -14,6 +14,7 @@ ghost use Rattle.session_core.specs.Standing.{Stands, IsAskedAfter, knowledge_of
 ghost use Rattle.session_core.specs.Known.{IsAbout};
 ghost use Rattle.session_core.specs.Sound.{FirstRun};
 ghost use Rattle.session_core.specs.Leading.{StandsWhereIdle};
+ghost use Rattle.session_core.specs.Putting.{is_tuple};
 
 use crate::examples::is_example;
 use crate::going::{halve_on, part_answered, tuple_answered};
@@ -298,6 +299,37 @@ impl Asking {
         ensures stands { (t : List Answer) (q : _) → open_in (Session.Asking self) ≡ Some q → Stands (Session.Asking self) t
             → Stands result (t ++ record { question = q; yes = «yes» } ∷ []) }
     {
+        match &*self.put {
+            Put::FirstTuple(_) | Put::Tuple(_) => self.tuple_heard(yes),
+            Put::Example(_) | Put::OnWalk { .. } | Put::Part { .. } => self.example_heard(yes),
+        }
+    }
+
+    /// The same, where a tuple was put: it alone is moved.
+    fn tuple_heard(self, yes: bool) -> Session
+        requires { is_tuple self.put.value ≡ true }
+        ensures lang { (knowledge_of result).lang ≡ (knowledge_of (Session.Asking self)).lang }
+        ensures plan { (knowledge_of result).plan ≡ (knowledge_of (Session.Asking self)).plan }
+        ensures lawful { IsLanguage (knowledge_of result).lang }
+        ensures none_new { HasNoNew result }
+        ensures stands { (t : List Answer) (q : _) → open_in (Session.Asking self) ≡ Some q → Stands (Session.Asking self) t
+            → Stands result (t ++ record { question = q; yes = «yes» } ∷ []) }
+    {
+        let (knowledge, mut room) = self.known_after(yes);
+        let run = room.take_run();
+        tuple_answered(knowledge, room, run, yes)
+    }
+
+    /// The same, where an example or a part of one was put.
+    fn example_heard(self, yes: bool) -> Session
+        requires { is_tuple self.put.value ≡ false }
+        ensures lang { (knowledge_of result).lang ≡ (knowledge_of (Session.Asking self)).lang }
+        ensures plan { (knowledge_of result).plan ≡ (knowledge_of (Session.Asking self)).plan }
+        ensures lawful { IsLanguage (knowledge_of result).lang }
+        ensures none_new { HasNoNew result }
+        ensures stands { (t : List Answer) (q : _) → open_in (Session.Asking self) ≡ Some q → Stands (Session.Asking self) t
+            → Stands result (t ++ record { question = q; yes = «yes» } ∷ []) }
+    {
         let (knowledge, mut room) = self.known_after(yes);
         match Box::replace(&mut room, Put::blank()) {
             Put::Example(example) => {
@@ -308,8 +340,7 @@ impl Asking {
             Put::Part { example, set, run } => {
                 halve_on(knowledge, room, example, set, run.reply(yes))
             }
-            Put::FirstTuple(run) => tuple_answered(knowledge, room, run, yes),
-            Put::Tuple(run) => tuple_answered(knowledge, room, run, yes),
+            Put::FirstTuple(_) | Put::Tuple(_) => unreachable!(),
         }
     }
 }

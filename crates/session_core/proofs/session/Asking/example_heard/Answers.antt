@@ -1,10 +1,10 @@
-use Rattle.session_core.proofs.Prelude.{◌≡◌, ◌∙◌, [], ◌∷◌, ◌++◌, length, sym, ap, arith, numbers, Assignment, variable_count, Knowledge, Example, OnWalk, Part, FirstTuple, Tuple, part_replied}
+use Rattle.session_core.proofs.Prelude.{◌≡◌, ◌∙◌, [], ◌∷◌, ◌++◌, length, sym, ap, arith, numbers, Assignment, variable_count, Knowledge, Example, OnWalk, Part, part_replied}
 use Rattle.std.proofs.lemmas.List.FromFn.{length-range_with_len}
 use Rattle.session_core.proofs.Steps.{said}
 use Rattle.session_core.proofs.Moving.{led_as}
 use Rattle.session_core.proofs.Questions.{example_fits}
-use Rattle.session_core.proofs.Turning.{sound_of, heard, replies_of, example_heard, walk_heard, part_heard, first_heard, tuple_heard}
-use Rattle.session_core.proofs.session.Asking.heard.Goals as goal
+use Rattle.session_core.proofs.Turning.{sound_of, heard, replies_of, example_heard, walk_heard, part_heard}
+use Rattle.session_core.proofs.session.Asking.example_heard.Goals as goal
 
 pub part_answered-requires-clause-some : goal.part_answered-requires-clause-some
 part_answered-requires-clause-some c =
@@ -44,17 +44,3 @@ returns-in-Part-clause-stands c = λ t q asked stands.
     let now = replies_of c.args.self e q c.in-Part.set run c.args.yes t k' h in
     c.halve_on.ensures.stands (now.replies ++ c.args.yes ∷ []) (c.reply.ensures c.in-Part.set now.replies now.running)
     (t ++ said q c.args.yes ∷ []) (part_heard c.args.self e q c.in-Part.set run c.args.yes t k' h)
-
-pub returns-in-FirstTuple-clause-stands : goal.returns-in-FirstTuple-clause-stands
-returns-in-FirstTuple-clause-stands c = λ t q asked stands.
-    let k' : Knowledge = c.known_after-knowledge.result.0.value in
-    let run = c.in-FirstTuple.run' in
-    let h = heard c.args.self (FirstTuple run) q c.args.yes t k' (sym c.known_after-knowledge.ensures.put ∙ sym c.replace.ensures.value ∙ c.in-FirstTuple.is) asked stands c.known_after-knowledge.ensures.lawful c.known_after-knowledge.ensures.answered in
-    c.tuple_answered.ensures.stands (t ++ said q c.args.yes ∷ []) (first_heard c.args.self q run c.args.yes t k' h)
-
-pub returns-in-Tuple-clause-stands : goal.returns-in-Tuple-clause-stands
-returns-in-Tuple-clause-stands c = λ t q asked stands.
-    let k' : Knowledge = c.known_after-knowledge.result.0.value in
-    let run = c.in-Tuple.run' in
-    let h = heard c.args.self (Tuple run) q c.args.yes t k' (sym c.known_after-knowledge.ensures.put ∙ sym c.replace.ensures.value ∙ c.in-Tuple.is) asked stands c.known_after-knowledge.ensures.lawful c.known_after-knowledge.ensures.answered in
-    c.tuple_answered-in-Tuple.ensures.stands (t ++ said q c.args.yes ∷ []) (tuple_heard c.args.self q run c.args.yes t k' h)
