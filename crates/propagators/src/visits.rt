@@ -497,10 +497,9 @@ fn visit_all(
 {
     let count = cons.count();
     let mut changed = changed;
-    while changed.len() != 0 {
-        let Some(v) = changed.least() else {
-            unreachable!()
-        };
+    while let Some(v) = changed.least() {
+        // for its clauses alone: a set has 128 members at most
+        let _few = changed.len();
         match visit(cons, plan, count, doms, entailed, changed, v) {
             None => return Alive::No,
             Some(next) => changed = next,
