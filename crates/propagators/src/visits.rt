@@ -381,8 +381,14 @@ fn look_at_pair(
     if !doms.cut(u, values) {
         return Alive::Yes;
     }
-    // Its conditions stay consistent while it has more values than its limit.
-    if doms.has_more(u, plan.limits[usize::from(u)]) {
+    // Its conditions stay consistent while it has more values than its limit. That is seldom another than one, for which they
+    // needn't be counted.
+    let limit = plan.limits[usize::from(u)];
+    if limit == 1 {
+        if doms.has_more(u, 1) {
+            return Alive::Yes;
+        }
+    } else if doms.has_more(u, limit) {
         return Alive::Yes;
     }
     *waiting = waiting.with(u);

@@ -77,10 +77,30 @@ returns-then-has_more-3-clause-looked c = λ e.
     let few = c.requires.lawful.few_variables in
     let wide = c.args.plan.now.limits_long in
     let at = c.from.ensures in
-    let limit : c.index.result.now ≡ slice_index_or c.args.plan.now.limits.items c.in-Some.u 0 =
-    get_or_read c.args.plan.now.limits.items c.from.result c.index.result.now (omega arith) c.index.ensures 0 ∙ ap (λ (v : ℕ). slice_index_or c.args.plan.now.limits.items v 0) c.from.ensures in
+    let limit : c.index-limit.result.now ≡ slice_index_or c.args.plan.now.limits.items c.in-Some.u 0 =
+    get_or_read c.args.plan.now.limits.items c.from.result c.index-limit.result.now (omega arith) c.index-limit.ensures 0 ∙ ap (λ (v : ℕ). slice_index_or c.args.plan.now.limits.items v 0) c.from.ensures in
     let more : HasMore (slice_index_or c.args.plan.now.limits.items c.in-Some.u 0) (slice_index_or c.cut.new.self c.in-Some.u []) =
-    subst (λ (most : ℕ). HasMore most (slice_index_or c.cut.new.self c.in-Some.u [])) limit (c.if-has_more-3.ensures.more refl) in
+    subst (λ (most : ℕ). HasMore most (slice_index_or c.cut.new.self c.in-Some.u [])) (sym c.if-limit-eq1.true ∙ limit) (c.if-has_more-3.ensures.more refl) in
+    beside_lazy c.args.cons.now.lang.now (arcs_of c.args.cons.now.lang.now c.args.cons.now.list.now c.args.cons.now.against) c.args.i c.args.waiting.now c.args.doms.now c.cut.new.self c.in-Some.u (λ x. is_wanted c.args.pair.now.holding (bit_at c.in-Some.row x == 1)) c.args.plan.now.limits.items (let few = c.requires.lawful.few_values in omega arith)
+    (arcs_small c.args.cons.now.lang.now c.args.cons.now.list.now c.args.cons.now.against c.requires.lawful c.requires.constraints)
+    (arcs_different c.args.cons.now.lang.now c.args.cons.now.list.now c.args.cons.now.against c.requires.lawful c.requires.constraints) c.requires.low c.requires.doms.full
+    (λ a. pair_revised_at c.args.cons.now.lang.now (slice_index_or (arcs_of c.args.cons.now.lang.now c.args.cons.now.list.now c.args.cons.now.against) c.args.i a) c.args.pair.now c.args.doms.now c.cut.new.self c.in-Some.u (λ x. is_wanted c.args.pair.now.holding (bit_at c.in-Some.row x == 1)) (c.requires.pair a) (arcs_different c.args.cons.now.lang.now c.args.cons.now.list.now c.args.cons.now.against c.requires.lawful c.requires.constraints c.args.i a c.requires.low)
+    (arcs_within c.args.cons.now.lang.now c.args.cons.now.list.now c.args.cons.now.against c.requires.lawful c.requires.constraints c.args.doms.now c.requires.doms.family c.args.i a c.requires.low) c.requires.doms.family (c.in-Some.ensures.beside (c.requires.pair a).pairs (c.requires.pair a).are c.requires.doms.family.values)
+    (narrowed_to c.args.doms.now c.cut.new.self c.in-Some.u c.passing-values.result (λ x. is_wanted c.args.pair.now.holding (bit_at c.in-Some.row x == 1)) c.in-Some.ensures.known c.passing-values.ensures c.if-is_empty.ensures c.cut.ensures.is))
+    (narrowed_to c.args.doms.now c.cut.new.self c.in-Some.u c.passing-values.result (λ x. is_wanted c.args.pair.now.holding (bit_at c.in-Some.row x == 1)) c.in-Some.ensures.known c.passing-values.ensures c.if-is_empty.ensures c.cut.ensures.is) (c.if-not-cut.ensures.less refl) c.requires.doms.family more
+    (λ k a low there. capped c.args.cons.now.lang.now (arcs_of c.args.cons.now.lang.now c.args.cons.now.list.now c.args.cons.now.against) c.args.plan.now.briefs.items c.args.plan.now.limits.items c.requires.plan.plan.briefs c.requires.plan.plan.limits k c.in-Some.u a low (let room = c.requires.plan.room in omega arith) there more.low)
+
+pub returns-then-has_more-4-clause-looked : goal.returns-then-has_more-4-clause-looked
+returns-then-has_more-4-clause-looked c = λ e.
+    let known = c.in-Some.ensures.known in
+    let size = c.requires.doms.family.size in
+    let few = c.requires.lawful.few_variables in
+    let wide = c.args.plan.now.limits_long in
+    let at = c.from.ensures in
+    let limit : c.index-limit.result.now ≡ slice_index_or c.args.plan.now.limits.items c.in-Some.u 0 =
+    get_or_read c.args.plan.now.limits.items c.from.result c.index-limit.result.now (omega arith) c.index-limit.ensures 0 ∙ ap (λ (v : ℕ). slice_index_or c.args.plan.now.limits.items v 0) c.from.ensures in
+    let more : HasMore (slice_index_or c.args.plan.now.limits.items c.in-Some.u 0) (slice_index_or c.cut.new.self c.in-Some.u []) =
+    subst (λ (most : ℕ). HasMore most (slice_index_or c.cut.new.self c.in-Some.u [])) limit (c.if-has_more-4.ensures.more refl) in
     beside_lazy c.args.cons.now.lang.now (arcs_of c.args.cons.now.lang.now c.args.cons.now.list.now c.args.cons.now.against) c.args.i c.args.waiting.now c.args.doms.now c.cut.new.self c.in-Some.u (λ x. is_wanted c.args.pair.now.holding (bit_at c.in-Some.row x == 1)) c.args.plan.now.limits.items (let few = c.requires.lawful.few_values in omega arith)
     (arcs_small c.args.cons.now.lang.now c.args.cons.now.list.now c.args.cons.now.against c.requires.lawful c.requires.constraints)
     (arcs_different c.args.cons.now.lang.now c.args.cons.now.list.now c.args.cons.now.against c.requires.lawful c.requires.constraints) c.requires.low c.requires.doms.full
@@ -112,6 +132,13 @@ returns-then-not-cut-clause-entailed c = λ e are.
 
 pub returns-then-has_more-3-clause-entailed : goal.returns-then-has_more-3-clause-entailed
 returns-then-has_more-3-clause-entailed c = λ e are.
+    pair_taken_in c.args.cons.now.lang.now (arcs_of c.args.cons.now.lang.now c.args.cons.now.list.now c.args.cons.now.against) c.args.entailed.now c.add.new.self c.args.i c.args.pair.now c.args.doms.now c.cut.new.self c.in-Some.u (λ x. is_wanted c.args.pair.now.holding (bit_at c.in-Some.row x == 1))
+    c.requires.pair (λ a. arcs_different c.args.cons.now.lang.now c.args.cons.now.list.now c.args.cons.now.against c.requires.lawful c.requires.constraints c.args.i a c.requires.low)
+    (λ a. arcs_within c.args.cons.now.lang.now c.args.cons.now.list.now c.args.cons.now.against c.requires.lawful c.requires.constraints c.args.doms.now c.requires.doms.family c.args.i a c.requires.low)
+    c.requires.doms.family c.in-Some.ensures.beside (narrowed_to c.args.doms.now c.cut.new.self c.in-Some.u c.passing-values.result (λ x. is_wanted c.args.pair.now.holding (bit_at c.in-Some.row x == 1)) c.in-Some.ensures.known c.passing-values.ensures c.if-is_empty.ensures c.cut.ensures.is) c.add.ensures are
+
+pub returns-then-has_more-4-clause-entailed : goal.returns-then-has_more-4-clause-entailed
+returns-then-has_more-4-clause-entailed c = λ e are.
     pair_taken_in c.args.cons.now.lang.now (arcs_of c.args.cons.now.lang.now c.args.cons.now.list.now c.args.cons.now.against) c.args.entailed.now c.add.new.self c.args.i c.args.pair.now c.args.doms.now c.cut.new.self c.in-Some.u (λ x. is_wanted c.args.pair.now.holding (bit_at c.in-Some.row x == 1))
     c.requires.pair (λ a. arcs_different c.args.cons.now.lang.now c.args.cons.now.list.now c.args.cons.now.against c.requires.lawful c.requires.constraints c.args.i a c.requires.low)
     (λ a. arcs_within c.args.cons.now.lang.now c.args.cons.now.list.now c.args.cons.now.against c.requires.lawful c.requires.constraints c.args.doms.now c.requires.doms.family c.args.i a c.requires.low)
