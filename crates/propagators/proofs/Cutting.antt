@@ -1,5 +1,5 @@
 -- Writing the sets of a scope's variables, one after another.
-use Rattle.propagators.proofs.Prelude.{◌≡◌, ℕ, zero, suc, ◌+◌, ◌<◌, ◌≤◌, Bool, true, false, ◌||◌, List, [], ◌∷◌, length, map, take, drop, refl, sym, ◌∙◌, ap, subst, arith, inl, inr, ◌≢◌, slice_index_or, slice_set, length-set, get_or-set_other, get_or-take, get_or-map, length-take, length-map, drop_more, drop_all, or_left, or_right, both_ways, eq-eqb, has, with_member, has-set_where, ones_of, Family, size_of, AreFewer, IsCut, AreDifferent, replaced, sets_on, set-get_or}
+use Rattle.propagators.proofs.Prelude.{◌≡◌, ℕ, zero, suc, ◌+◌, ◌<◌, ◌≤◌, Bool, true, false, ◌||◌, List, [], ◌∷◌, length, map, take, drop, refl, sym, ◌∙◌, ap, subst, arith, inl, inr, ◌≢◌, slice_index_or, slice_set, length-set, get_or-set_other, get_or-take, get_or-map, length-take, length-map, drop_more, drop_all, or_left, or_right, both_ways, eq-eqb, has, with_member, has-set_where, ones_of, Family, size_of, AreFewer, IsCut, AreDifferent, replaced}
 
 -- the sets of masks for a scope
 abbrev pub sets_for : List ℕ → List ℕ → List (List ℕ)
@@ -91,11 +91,3 @@ module _ (scope masks : List ℕ) (from : Family) (j : ℕ) (g : Family) (change
 
 pub cut_end : (scope masks : List ℕ) (from : Family) (j : ℕ) (g : Family) (changed : List ℕ) → length scope ≤ j → IsCutting scope masks from j g changed → g ≡ replaced scope (sets_for scope masks) from
 cut_end scope masks from j g changed all on = ap (λ (s : List ℕ). replaced s (drop j (sets_for scope masks)) g) (sym (drop_all j scope all)) ∙ on.rest
-
--- where the sets are those of the variables, nothing is written
-pub written_again : (f : Family) (scope masks : List ℕ) → sets_for scope masks ≡ sets_on f scope → f ≡ replaced scope (sets_for scope masks) f
-written_again f scope masks same = sym (ap (λ (sets : List (List ℕ)). replaced scope sets f) same ∙ again scope)
-  where
-    again : (scope : List ℕ) → replaced scope (sets_on f scope) f ≡ f
-    again [] = refl
-    again (v ∷ scope) = ap (replaced scope (sets_on f scope)) (set-get_or f v []) ∙ again scope

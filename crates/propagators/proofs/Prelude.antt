@@ -10,7 +10,6 @@ pub use Rattle.std.proofs.lemmas.List.FromFn.{fill_by_all, get_or-map-range_with
 pub use Rattle.std.proofs.lemmas.List.Sums.{AllPass-from_list_all, list_all-from_AllPass}
 pub use Rattle.std.proofs.lemmas.Nat.{and_le_l, div-mul-add, div_below, leading_top, mod-mul-add, mul-add-lt, one_shl, or_lt, pow_below, xor_lt, zero_from_ones}
 pub use Rattle.std.proofs.lemmas.Nat.Bits.{bit_at-lt, bit_at-trailing_zeros, bit_at_above, bit_at_and, bit_at_cat_high, bit_at_not, bit_at_xor, shr_and_one}
-pub use Rattle.std.specs.Cmp.Lexicographic.{same_text}
 pub use Rattle.std.specs.Int.{bit_at, bit_not, w64}
 pub use Rattle.std.specs.Int.Count.{count_leading_zeros}
 pub use Rattle.std.specs.List.{filter, flat_map, fold, list_all, list_any, range_with_len}

@@ -77,14 +77,9 @@ pub(crate) fn revise(
     ensures dead { result ≡ None → IsDead (arc_of lang.now c holding) doms.old }
 {
     let scope = lang.scope(c.scope);
-    let sets = doms.on(scope);
-    let found = supported(lang.table_on(c.scope, c.rel), holding, &sets);
+    let found = supported(lang.table_on(c.scope, c.rel), holding, &doms.on(scope));
     if is_empty(found[0]) {
         return None;
-    }
-    // Mostly it takes nothing away.
-    if found == sets {
-        return Some(VarSet::empty());
     }
     Some(cut_all(doms, scope, &found))
 }

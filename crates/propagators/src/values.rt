@@ -130,8 +130,8 @@ pub(crate) fn only_member(values: u64) -> Option<u8>
     }
 }
 
-/// How many members there are. It takes some twenty steps, and stands apart so that they are never taken in vain.
-#[inline(never)]
+/// How many members there are.
+#[inline]
 pub(crate) fn count(values: u64) -> u8
     ensures is { result ≡ length (ones_of values) }
     ensures few { result ≤ 64 }
