@@ -1,4 +1,5 @@
-use Rattle.acq_cli.proofs.Prelude.{◌≡◌, Bool, false, List, [], refl, sym, subst, arith, inl, inr, ◌∙◌, ap, Result, Err, IfOk, OnErr, Event, Plan, Language, Candidate, standing_on, voc_of, question_of, net_turn, net_may_say, Loses, Tries, IsAnsweredBy, MayLack, ReadsTarget, SaysWithout, stale_said, point_of, terms_with, goes_on_with, opened_now, opened_raised, IsDisk, said_as, silent_not, NoTarget, called_as, takes_then}
+use Rattle.acq_cli.proofs.Prelude.{◌≡◌, Bool, false, List, [], refl, sym, subst, arith, inl, inr, ◌∙◌, ap, Result, Ok, Err, IfOk, OnErr, Event, Plan, Language, Candidate, standing_on, voc_of, question_of, net_turn, net_may_say, Loses, Tries, IsAnsweredBy, MayLack, ReadsTarget, SaysWithout, stale_said, point_of, terms_with, goes_on_with, opened_now, opened_raised, IsDisk, said_as, silent_not, NoTarget, called_as, takes_then}
+use Rattle.acq_io.proofs.CallLemmas.{called_on}
 use Rattle.session_store.specs.Keeping.{FailsWith}
 use Rattle.session_store.specs.Store.{lang_of, plan_of, events_of}
 use Rattle.acq_said.specs.Breaks.{BreaksRun}
@@ -14,6 +15,12 @@ untaken why = Err why
 
 same_why : (a b : NoTarget) → untaken a ≡ untaken b → a ≡ b
 same_why a b e = cc
+
+abbrev taken : Learned → Result Learned NoTarget
+taken target = Ok target
+
+lacks_none : (target : Learned) (why : NoTarget) → taken target ≡ untaken why → ⊥
+lacks_none target why e = cc
 
 pub returns-then-count-ge1-clause-plays : goal.returns-then-count-ge1-clause-plays
 returns-then-count-ge1-clause-plays g c =
@@ -102,6 +109,12 @@ returns-in-Ok-read_target-clause-plays g c =
 
 pub returns-in-Ok-read_target-clause-takes : goal.returns-in-Ok-read_target-clause-takes
 returns-in-Ok-read_target-clause-takes g c = takes_then _ _ _ c.read_target.ensures.takes c.ask_on.ensures.faults.read.takes
+
+pub returns-in-Ok-read_target-clause-read : goal.returns-in-Ok-read_target-clause-read
+returns-in-Ok-read_target-clause-read g c =
+    called_on _ _ _ _ _ _ _
+    (called_as _ _ _ _ _ _ (λ is. lacks_none c.in-Ok-read_target.target without.ReadFault (sym c.in-Ok-read_target.is ∙ is)) (λ never. absurd never) c.read_target.ensures.called)
+    c.ask_on.ensures.faults.read.called
 
 pub returns-then-count-ge1-clause-read : goal.returns-then-count-ge1-clause-read
 returns-then-count-ge1-clause-read g c = called_unless _ _ _ (λ is. silent_not c.stale.result c.or_silent.result unsaid.ReadFault (λ e. cc) c.or_silent.ensures (c.put.ensures.read is))

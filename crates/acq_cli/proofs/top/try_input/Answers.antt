@@ -1,4 +1,4 @@
-use Rattle.acq_cli.proofs.Prelude.{rules, List, ℕ, Some, Result, refl, ap, sym, subst, ◌≡◌, ◌∙◌, Ok, Err, Vec, Global, AllFault, IsVocabulary, refusal_of_vocabulary, acquires_in, breaks_in, breaks_refused, takes_then}
+use Rattle.acq_cli.proofs.Prelude.{rules, List, ℕ, Some, Result, refl, ap, sym, subst, ◌≡◌, ◌∙◌, Ok, Err, Vec, Global, AllFault, IsVocabulary, refusal_of_vocabulary, acquires_in, breaks_in, breaks_refused, called_as, takes_then}
 use Rattle.acq_io.specs.declared.whole.AllFault.TheVariants.{TooLong}
 use Rattle.acq_cli.proofs.top.try_input.Goals as goal
 
@@ -10,6 +10,12 @@ returns-in-Err-TooLong-clause-part g c =
     breaks_refused c.args.terms (g.S.Source.left c.args.input.now) (g.S.Source.left c.read_first_line.new.source) (g.K.Sink.written c.args.out.now)
     (g.K.Sink.written c.refuse.new.out) (Err TooLong) _ c.refuse.result
     (c.read_first_line.ensures.too_long (c.in-Err-TooLong.is ∙ ap fault_of c.in-Err-TooLong.field-0-is)) (refl, refl) c.refuse.ensures.part
+
+pub returns-in-Err-Fault-clause-part : goal.returns-in-Err-Fault-clause-part
+returns-in-Err-Fault-clause-part g c = tt
+
+pub returns-in-Err-Fault-clause-read : goal.returns-in-Err-Fault-clause-read
+returns-in-Err-Fault-clause-read g c = called_as _ _ _ _ _ _ (λ is. refl) (λ is. c.in-Err-Fault.is ∙ ap fault_of c.in-Err-Fault.field-0-is) c.read_first_line.ensures.called
 
 pub returns-in-Ok-read_vocabulary-clause-acquires : goal.returns-in-Ok-read_vocabulary-clause-acquires
 returns-in-Ok-read_vocabulary-clause-acquires g c =
