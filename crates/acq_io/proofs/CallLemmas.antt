@@ -1,5 +1,6 @@
 -- How an input stands after more calls.
-use Rattle.acq_io.proofs.Prelude.{ℕ, ◌∙◌, refl, arith, HasCalled, HasStopped}
+use Rattle.acq_io.specs.Streams.{raised, IsLate}
+use Rattle.acq_io.proofs.Prelude.{ℕ, ◌∙◌, refl, arith, ◌≡◌, ◌≤◌, HasCalled, HasStopped}
 
 -- before any call
 pub called_none : (f l : ℕ) → HasCalled f f l l ⊥
@@ -40,4 +41,13 @@ stopped_on f g h l m n told first then = record {
   later = omega (arith, first.later, then.later);
   rose = λ is. omega (arith, first.later, then.rose is);
   stopped = λ none. then.stopped (first.well none (λ is. is)) ∙ first.stopped none;
+}
+
+-- and then one call more, by what is known of it
+pub called_once : (f g h l m n : ℕ) (told : Type 0) → HasCalled f g l m ⊥ → g ≤ h → IsLate g m n → (told → h ≡ raised g) → ((told → ⊥) → h ≡ g) → HasCalled f h l n told
+called_once f g h l m n told first later late up same = record {
+  later = omega (arith, first.later, later);
+  rose = λ is. omega (arith, first.later, up is);
+  well = λ none fine. same fine ∙ first.well none (λ is. is);
+  stopped = λ none. late.on_time (first.well none (λ is. is)) ∙ first.stopped none;
 }

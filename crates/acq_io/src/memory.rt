@@ -43,12 +43,19 @@ impl Script {
         }
         let call = self.calls;
         self.calls = call.saturating_add(1);
-        let fails = self.fails.iter().any(|&number| number as u64 == call);
+        let fails = is_among(&self.fails, call);
         if fails {
             self.faults = self.faults.saturating_add(1);
         }
         fails
     }
+}
+
+/// Whether a call's number stands in a list.
+fn is_among(numbers: &[u32], call: u64) -> bool
+    ensures { IsTrue result ↔ Contains numbers.now call }
+{
+    numbers.iter().any(|&number| number as u64 == call)
 }
 
 /// Bytes in memory that are given in order. It fails at exactly the calls whose numbers stand in a list.

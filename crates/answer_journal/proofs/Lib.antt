@@ -11,6 +11,7 @@ mod Emptied
 pub mod OnlyRead
 mod PieceLemmas
 mod FewCalls
+mod Exits
 mod Readings
 mod FirstPiece
 pub mod SomeBytes

@@ -15,7 +15,7 @@ use samples::{push_question, question_in};
 use std::alloc::Global;
 
 /// Whether something is learned on a scope.
-fn is_taken(net: &Network, s: u16) -> bool
+pub(crate) fn is_taken(net: &Network, s: u16) -> bool
     ensures { result ≡ has_scope net.now.list s }
 {
     net.list().iter().any(|c| c.scope == s)

@@ -5,6 +5,7 @@ use Rattle.std.proofs.lemmas.List.FromFn.{fill_by_all, get_or-map-range_with_len
 use lib.Pointwise.{pointwise, pointwise_decides}
 use Rattle.std.specs.Option.{option_eq}
 use Rattle.assign.proofs.Fronts.{has-numbers}
+use Rattle.std.proofs.Math.Bool.{and-false, and-true, or-false, or-true}
 
 pub is_seen : (a : Inside) (e : Assignment) → length e ≡ a.n → ((v : ℕ) → v < a.n → value_of e v ≡ option_at a v) → seen a ≡ e
 is_seen a e size each = sym (fill_by_all (option_at a) e a.n None size each)
@@ -48,33 +49,17 @@ blank_seen n s e = ap (λ k. seen (blank_inside n k)) e ∙ is_seen (blank_insid
 
 -- ---- one variable changed
 
-or_none : (b : Bool) → (b || false) ≡ b
-or_none true = refl
-or_none false = refl
-
-or_some : (b : Bool) → (b || true) ≡ true
-or_some true = refl
-or_some false = refl
-
-and_all : (b : Bool) → (b && true) ≡ b
-and_all true = refl
-and_all false = refl
-
-and_no : (b : Bool) → (b && false) ≡ false
-and_no true = refl
-and_no false = refl
-
 pub has-with_same : (s xs : List ℕ) (v : ℕ) → s ≡ with_member xs v → v < 128 → has s v ≡ true
-has-with_same s xs v e low = has_where s _ v e low ∙ ap (λ b. has xs v || (b || false)) (eq-eqb v v refl) ∙ or_some (has xs v)
+has-with_same s xs v e low = has_where s _ v e low ∙ ap (λ b. has xs v || (b || false)) (eq-eqb v v refl) ∙ or-true (has xs v)
 
 pub has-with_other : (s xs : List ℕ) (v u : ℕ) → s ≡ with_member xs v → u < 128 → v ≢ u → has s u ≡ has xs u
-has-with_other s xs v u e low other = has_where s _ u e low ∙ ap (λ b. has xs u || (b || false)) (ne_eqb v u other) ∙ or_none (has xs u)
+has-with_other s xs v u e low other = has_where s _ u e low ∙ ap (λ b. has xs u || (b || false)) (ne_eqb v u other) ∙ or-false (has xs u)
 
 pub has-without_same : (s xs : List ℕ) (v : ℕ) → s ≡ without xs v → v < 128 → has s v ≡ false
-has-without_same s xs v e low = has_where s _ v e low ∙ ap (λ b. has xs v && not (b || false)) (eq-eqb v v refl) ∙ and_no (has xs v)
+has-without_same s xs v e low = has_where s _ v e low ∙ ap (λ b. has xs v && not (b || false)) (eq-eqb v v refl) ∙ and-false (has xs v)
 
 pub has-without_other : (s xs : List ℕ) (v u : ℕ) → s ≡ without xs v → u < 128 → v ≢ u → has s u ≡ has xs u
-has-without_other s xs v u e low other = has_where s _ u e low ∙ ap (λ b. has xs u && not (b || false)) (ne_eqb v u other) ∙ and_all (has xs u)
+has-without_other s xs v u e low other = has_where s _ u e low ∙ ap (λ b. has xs u && not (b || false)) (ne_eqb v u other) ∙ and-true (has xs u)
 
 -- The fields with another value x and membership at v, the others as before.
 pub record IsChanged (a : Inside) (v x : ℕ) (member : Bool) (s : List ℕ) : Type 0 where
@@ -293,7 +278,7 @@ cut_cells a k e w n h s g some fits =
           (elim (cases_lt v (length e)) as (λ _. has k.valued v ≡ false) [
             | inl here ↦
                 none_there _ (slice_index_or k.values v 0) (cut_option k e w v h s here low
-                ∙ ap (λ b. cond b (value_of e v) None) (has_where w _ v g low ∙ ap (λ b. has a.valued v && b) (has-numbers n v (omega arith) low ∙ le-ltb v n past) ∙ and_no _))
+                ∙ ap (λ b. cond b (value_of e v) None) (has_where w _ v g low ∙ ap (λ b. has a.valued v && b) (has-numbers n v (omega arith) low ∙ le-ltb v n past) ∙ and-false _))
             | inr beyond ↦ h.within v (omega arith) low
           ]);
       whole = h.whole;

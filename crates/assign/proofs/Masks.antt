@@ -2,6 +2,8 @@
 use Rattle.assign.proofs.Prelude.{◌≡◌, ℕ, zero, suc, ◌+◌, ◌-◌, ◌/◌, ◌%◌, ◌<◌, ◌≤◌, ◌^◌, Bool, true, false, cond, ◌||◌, ◌&&◌, not, List, [], ◌∷◌, length, take, drop, refl, sym, ◌∙◌, ap, arith, inl, inr, ◌⊎◌, Some, nat_eq, nat_lt, add-one, pow-suc, lit≤, ◌==◌, ◌≢◌, bit_or, bit_and, min, list_all, filter, range_with_len, bit_at, bit_not, w128, ne_eqb, eq-eqb, cases_eq, cases_lt, cases_Bool, lt-ltb, le-ltb, and_parts, both_ways, eqb-true, or_from, or_left, bit_at-lt, bit_at_and, bit_at-zero, bit_at_not, bit_at_ones, bit_at_ones_above, bit_at-suc, bit_at_lowest, bit_at_above, and_le_l, numbers, has, set_where, common, minus, with_member, without, is_within, least_of, members_of, mask_of, Rises, filter_agree_from, set_where-same, is_one, is_one-or, is_one-pow, has-members_of, same_masks, mask_of-members_of, pointwise}
 use lib.Count.{ones, ones_step}
 use Rattle.std.proofs.lemmas.Slice.Eq.{bytes_eq-Decides}
+use Rattle.shared_lemmas.proofs.Booleans.{both_true}
+use Rattle.std.proofs.Math.Bool.{and_self, or-false}
 
 -- ---- no member, the first n, one more, one less
 
@@ -62,15 +64,11 @@ is_one-and a b v = ap (λ x. x == 1) (bit_at_and a b v) ∙ both_bits (bit_at a 
 pub members_of-and : (a b : ℕ) → members_of (bit_and a b) ≡ common (members_of a) (members_of b)
 members_of-and a b = set_where-same _ _ (λ v low. is_one-and a b v ∙ sym (λ i. has-members_of a v low i && has-members_of b v low i))
 
-or_none : (b : Bool) → b ≡ (b || false)
-or_none true = refl
-or_none false = refl
-
 pub members_of-with : (a v : ℕ) → members_of (bit_or a (2 ^ v)) ≡ with_member (members_of a) v
-members_of-with a v = set_where-same _ _ (λ w low. is_one-or a (2 ^ v) w ∙ sym (λ i. has-members_of a w low i || (sym (or_none (v == w)) ∙ sym (is_one-pow v w)) i))
+members_of-with a v = set_where-same _ _ (λ w low. is_one-or a (2 ^ v) w ∙ sym (λ i. has-members_of a w low i || (or-false (v == w) ∙ sym (is_one-pow v w)) i))
 
 pub members_of-without : (a v : ℕ) → v < 128 → 2 ^ v < 2 ^ 128 → members_of (bit_and a (bit_not w128 (2 ^ v))) ≡ without (members_of a) v
-members_of-without a v small h = set_where-same _ _ (λ w low. is_one-and_not a (2 ^ v) w h low ∙ sym (λ i. has-members_of a w low i && not ((sym (or_none (v == w)) ∙ sym (is_one-pow v w)) i)))
+members_of-without a v small h = set_where-same _ _ (λ w low. is_one-and_not a (2 ^ v) w h low ∙ sym (λ i. has-members_of a w low i && not ((or-false (v == w) ∙ sym (is_one-pow v w)) i)))
 
 -- ---- how many, and the least
 
@@ -153,10 +151,6 @@ rest_of p q a (suc n) v low high at gone none none_left same_above =
           (rest_of p q (a + 1) n v (omega arith) (omega arith) at gone none none_left same_above)
     ]
 
-and_same : (b : Bool) → (b && b) ≡ b
-and_same true = refl
-and_same false = refl
-
 pub members_of-rest : (m v : ℕ) → v < 128 → bit_at m v ≡ 1 → ((u : ℕ) → u < v → bit_at m u ≡ 0) → members_of (bit_and m (m - 1)) ≡ drop 1 (members_of m)
 unfolding set_where
 members_of-rest m v low at none =
@@ -164,7 +158,7 @@ members_of-rest m v low at none =
     (is_one-and m (m - 1) v ∙ (λ i. (at i == 1) && (less_one_at m v at none i == 1)))
     (λ w h. ap (λ x. x == 1) (none w h))
     (λ w h. is_one-and m (m - 1) w ∙ ap (λ x. (x == 1) && is_one (m - 1) w) (none w h))
-    (λ w h. is_one-and m (m - 1) w ∙ ap (λ x. is_one m w && (x == 1)) (less_one_above m v w at none h) ∙ and_same (is_one m w))
+    (λ w h. is_one-and m (m - 1) w ∙ ap (λ x. is_one m w && (x == 1)) (less_one_above m v w at none h) ∙ and_self (is_one m w))
 
 -- ---- within
 
@@ -195,11 +189,6 @@ not_alone : (x y : Bool) → (x ≡ true → y ≡ true) → (x && not y) ≡ fa
 not_alone false y h = refl
 not_alone true true h = refl
 not_alone true false h = sym (h refl)
-
-pub both_true : (a b : Bool) → (a ≡ true → b ≡ true) → (b ≡ true → a ≡ true) → a ≡ b
-both_true true b f g = sym (f refl)
-both_true false true f g = g refl
-both_true false false f g = refl
 
 nothing_left : (a b : ℕ) → a < 2 ^ 128 → b < 2 ^ 128 → ((v : ℕ) → v < 128 → is_one a v ≡ true → is_one b v ≡ true) → bit_and a (bit_not w128 b) ≡ 0
 nothing_left a b h k each = same_masks _ 0 (λ v.

@@ -1,9 +1,10 @@
 -- The mask of the relations that accept the tuple at a place, and what a mask has without them.
-use Rattle.bias_store.proofs.Prelude.{◌≡◌, ℕ, ◌^◌, ◌<◌, ◌≤◌, Bool, true, false, ◌&&◌, not, List, [], length, get_or, Some, refl, sym, ◌∙◌, ap, arith, inl, inr, ◌⊎◌, ◌==◌, bit_and, bit_not, w64, filter, cases_lt, eq-eqb, bit_at_above, Assignment, numbers, has, is_one, Relation, Language, relations_on, place_on, violates, any_number, ones_of, accepting_on}
+use Rattle.bias_store.proofs.Prelude.{◌≡◌, ℕ, ◌^◌, ◌<◌, ◌≤◌, false, ◌&&◌, not, List, [], length, get_or, Some, refl, sym, ◌∙◌, ap, arith, inl, inr, ◌⊎◌, ◌==◌, bit_and, bit_not, w64, filter, cases_lt, eq-eqb, bit_at_above, Assignment, numbers, has, is_one, Relation, Language, relations_on, place_on, violates, any_number, ones_of, accepting_on}
 use Rattle.std.proofs.Math.ListN.{get_or-eq_default}
 use Rattle.bias_store.proofs.Ones.{ones_of-passing, ones_of-listed, has-ones_of, has-filter, is_one-and_not}
 use Rattle.bias_store.proofs.Members.{candidate_at}
 use Rattle.bias_store.proofs.Picked.{covered}
+use Rattle.std.proofs.Math.Bool.{and-false}
 
 -- the mask tells of the first r relations whether they accept, and has no other ones
 pub record IsMaskOf (relations : List Relation) (place r mask : ℕ) : Type 0 where
@@ -17,10 +18,6 @@ mask_all l s place r mask end few is =
     ∙ ap (λ n. filter (λ k. get_or (get_or (relations_on l s) k []) place false) (numbers n)) end
 
 -- ---- the bits of such a mask
-
-and_false : (b : Bool) → (b && false) ≡ false
-and_false true = refl
-and_false false = refl
 
 -- no relation past the last one accepts a tuple
 pub none_accepts : (relations : List Relation) (place r : ℕ) → length relations ≤ r → get_or (get_or relations r []) place false ≡ false
@@ -36,7 +33,7 @@ has_accepting l s place mask r is =
         (has (numbers (length (relations_on l s))) r && get_or (get_or (relations_on l s) r []) place false) ≡ get_or (get_or (relations_on l s) r []) place false
     go (inl below) = ap (λ b. b && get_or (get_or (relations_on l s) r []) place false) (any_number (λ x. x == r) (length (relations_on l s)) r below (eq-eqb r r refl))
     go (inr past) = ap (λ b. has (numbers (length (relations_on l s))) r && b) (none_accepts (relations_on l s) place r past)
-        ∙ and_false (has (numbers (length (relations_on l s))) r) ∙ sym (none_accepts (relations_on l s) place r past)
+        ∙ and-false (has (numbers (length (relations_on l s))) r) ∙ sym (none_accepts (relations_on l s) place r past)
 
 pub accepting_bit : (l : Language) (s place mask r : ℕ) → r < 64 → ones_of mask ≡ accepting_on l s place → is_one mask r ≡ get_or (get_or (relations_on l s) r []) place false
 accepting_bit l s place mask r low is = sym (has-ones_of mask r low) ∙ has_accepting l s place mask r is

@@ -18,3 +18,4 @@ pub mod Violating
 pub mod Striking
 pub mod Within
 pub mod RowMasks
+pub mod Exits

@@ -1,5 +1,7 @@
 -- The candidates of masks: filtered, counted, on one scope, all of a language.
-use Rattle.bias_store.proofs.Prelude.{◌≡◌, ℕ, zero, suc, ◌+◌, ◌<◌, ◌≤◌, Bool, true, false, cond, ◌||◌, List, [], ◌∷◌, ◌++◌, length, map, refl, sym, ◌∙◌, ap, subst, arith, length-append, ◌==◌, slice_index_or, slice_set, replicate, All, filter, list_any, flat_map, range_with_len, eq-eqb, ne_eqb, length-map, append-nil, get_or_read, All-head, All-tail, All-nil, All-cons, filter-append, list_any-append, Candidate, any-map, nothing_passes, ones_of, candidates_at, members_from}
+use Rattle.bias_store.proofs.Prelude.{◌≡◌, ℕ, zero, suc, ◌+◌, ◌<◌, ◌≤◌, Bool, true, false, cond, ◌||◌, List, [], ◌∷◌, ◌++◌, length, map, refl, sym, ◌∙◌, ap, subst, arith, length-append, ◌==◌, slice_index_or, slice_set, replicate, All, filter, list_any, flat_map, range_with_len, eq-eqb, ne_eqb, length-map, append-nil, get_or_read, filter-append, list_any-append, Candidate, any-map, nothing_passes, ones_of, candidates_at, members_from}
+use Rattle.shared_lemmas.proofs.Lists.{all_left, all_right, all_of_map}
+use Rattle.std.proofs.lemmas.Simd.{map-map}
 
 -- the candidate with a relation on a scope
 abbrev pub candidate_at : ℕ → ℕ → Candidate
@@ -75,18 +77,6 @@ members_from-all f s (m ∷ masks) each =
 
 -- ---- what holds of each, what is there
 
-all_left : {X : Type 0} (P : X → Type 0) (xs ys : List X) → All P (xs ++ ys) → All P xs
-all_left P [] ys h = All-nil P
-all_left P (x ∷ xs) ys h = All-cons P x xs (All-head P x (xs ++ ys) h) (all_left P xs ys (All-tail P x (xs ++ ys) h))
-
-all_right : {X : Type 0} (P : X → Type 0) (xs ys : List X) → All P (xs ++ ys) → All P ys
-all_right P [] ys h = h
-all_right P (x ∷ xs) ys h = all_right P xs ys (All-tail P x (xs ++ ys) h)
-
-all_of_map : {X Y : Type 0} (P : Y → Type 0) (f : X → Y) (xs : List X) → All P (map f xs) → All (λ x. P (f x)) xs
-all_of_map P f [] h = All-nil (λ x. P (f x))
-all_of_map P f (x ∷ xs) h = All-cons (λ x. P (f x)) x xs (All-head P (f x) (map f xs) h) (all_of_map P f xs (All-tail P (f x) (map f xs) h))
-
 known_from : (P : Candidate → Type 0) (s : ℕ) (masks : List ℕ) (i t : ℕ) → t ≡ s + i → i < length masks → All P (members_from s masks) → All (λ r. P (candidate_at t r)) (ones_of (slice_index_or masks i 0))
 known_from P s [] i t e low h = absurd (omega arith)
 known_from P s (m ∷ masks) zero t e low h = subst (λ (u : ℕ). All (λ r. P (candidate_at u r)) (ones_of m)) (let f : s ≡ t = omega arith in f)
@@ -130,10 +120,6 @@ one_passes p masks i low one = one_from p 0 masks i i (omega arith) low one
 pub all_pass : {X : Type 0} (p : X → Bool) (xs : List X) → ((x : X) → p x ≡ true) → filter p xs ≡ xs
 all_pass p [] h = refl
 all_pass p (x ∷ xs) h = rw (h x) (ap (λ ys. x ∷ ys) (all_pass p xs h))
-
-map-map : {X Y Z : Type 0} (g : Y → Z) (f : X → Y) (xs : List X) → map g (map f xs) ≡ map (λ x. g (f x)) xs
-map-map g f [] = refl
-map-map g f (x ∷ xs) = ap (λ ys. g (f x) ∷ ys) (map-map g f xs)
 
 map-same : (xs : List ℕ) → map (λ (r : ℕ). r) xs ≡ xs
 map-same [] = refl

@@ -1,5 +1,5 @@
 -- Tables of masks, made one place after another and one scope after another.
-use Rattle.bias_store.proofs.Prelude.{◌≡◌, ℕ, ◌+◌, ◌^◌, ◌<◌, ◌≤◌, ◌≢◌, true, false, List, [], ◌∷◌, ◌++◌, length, get_or, refl, sym, ◌∙◌, ap, subst, arith, inl, inr, ◌⊎◌, length-append, replicate, get_or-set_same, get_or-set_other, slice_set, filter, cases_eq, get_or_append_left, get_or_push, length-set, length-replicate, get_or-replicate, All-append, All-cons, All-nil, numbers, Language, IsLanguage, scope_at, is_whole, ones_of, Accepts, places_on, mask_in, AreRunsFrom, AreRowsFrom, IsAcceptingOf, AreAdded, IsTableOf, NO_TABLE}
+use Rattle.bias_store.proofs.Prelude.{◌≡◌, ℕ, ◌+◌, ◌*◌, ◌^◌, ◌<◌, ◌≤◌, ◌≢◌, true, false, List, [], ◌∷◌, ◌++◌, length, get_or, refl, sym, ◌∙◌, ap, subst, arith, inl, inr, ◌⊎◌, length-append, replicate, get_or-set_same, get_or-set_other, slice_set, filter, cases_eq, get_or_append_left, get_or_push, length-set, length-replicate, get_or-replicate, All-append, All-cons, All-nil, numbers, Language, IsLanguage, scope_at, is_whole, ones_of, Accepts, places_on, mask_in, AreRunsFrom, AreRowsFrom, IsAcceptingOf, AreAdded, IsTableOf, NO_TABLE}
 use Rattle.language.proofs.Alike.{whole_alike}
 use Rattle.bias_store.specs.Made.{AcceptBy, AreMasksOf, AreClasses, AreBegun, AreWider}
 use Rattle.bias_store.specs.declared.tables.Class.{Class}
@@ -29,6 +29,10 @@ module _ (IsRight : ℕ → ℕ → Type 0) where
 
 pub wider_same : (masks : List ℕ) → AreWider masks masks
 wider_same masks = record { longer = omega arith; same = λ i low. refl }
+
+-- the places of one row more
+pub row_more : (row d : ℕ) → (row + 1) * d ≡ row * d + d
+row_more row d = grind arith
 
 -- ---- what begins somewhere stays behind more masks
 
@@ -140,3 +144,12 @@ tabled_all l first masks next rows s lawful is end runs in_rows = record {
   runs = runs;
   rows = in_rows;
 }
+
+-- ---- the tables of a scope's relations, one relation after another
+
+pub each_more : (P : ℕ → ℕ → Type 0) (xs : List ℕ) (x n : ℕ) → length xs ≡ n → ((k : ℕ) → k < n → P k (get_or xs k 0)) → P n x → (k : ℕ) → k < n + 1 → P k (get_or (xs ++ x ∷ []) k 0)
+each_more P xs x n long each here k low = go (cases_eq k n)
+  where
+    go : (k ≡ n) ⊎ (k ≡ n → ⊥) → P k (get_or (xs ++ x ∷ []) k 0)
+    go (inl same) = subst (P k) (sym (get_or_push xs x 0 k (omega arith))) (subst (λ (t : ℕ). P t x) (sym same) here)
+    go (inr other) = subst (P k) (sym (get_or_append_left xs (x ∷ []) 0 k (omega arith))) (each k (omega arith))

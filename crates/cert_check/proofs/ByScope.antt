@@ -7,20 +7,10 @@ use Rattle.bias_store.proofs.Ones.{has-ones_of, ones_of-first}
 use Rattle.bias_store.proofs.Picked.{bare, covered}
 use Rattle.cert_check.proofs.Finding.{all_fail}
 use Rattle.cert_check.proofs.Verdicts.{same_itself, same_list}
+use Rattle.std.proofs.lemmas.List.Elements.{filter_agree}
+use Rattle.shared_lemmas.proofs.Lists.{filter_and}
 
 -- ---- what a filter keeps
-
-filter_same : {X : Type 0} (p q : X → Bool) (xs : List X) → ((x : X) → p x ≡ q x) → filter p xs ≡ filter q xs
-filter_same p q [] h = refl
-filter_same p q (x ∷ xs) h = λ i. cond (h x i) (x ∷ filter_same p q xs h i) (filter_same p q xs h i)
-
-filter_twice : {X : Type 0} (p q : X → Bool) (xs : List X) → filter q (filter p xs) ≡ filter (λ x. p x && q x) xs
-filter_twice p q [] = refl
-filter_twice p q (x ∷ xs) = go (p x) (filter_twice p q xs)
-  where
-    go : (b : Bool) → filter q (filter p xs) ≡ filter (λ x. p x && q x) xs → filter q (cond b (x ∷ filter p xs) (filter p xs)) ≡ cond (b && q x) (x ∷ filter (λ x. p x && q x) xs) (filter (λ x. p x && q x) xs)
-    go true rest = ap (λ ys. cond (q x) (x ∷ ys) ys) rest
-    go false rest = rest
 
 all_pass : {X : Type 0} (p : X → Bool) (xs : List X) → All (λ x. p x ≡ true) (filter p xs)
 all_pass p [] = λ k d low. absurd (omega arith)
@@ -61,8 +51,8 @@ module _ (l : Language) (t : List Answer) where
     pub yes_strikes : (before after : List Candidate) → a.yes ≡ true → before ≡ unstruck l (take i t) → after ≡ filter (λ c. not (violates l c a.question)) before → after ≡ unstruck l (take (i + 1) t)
     yes_strikes before after said was now =
         now ∙ ap (filter (λ c. not (violates l c a.question))) was
-        ∙ filter_twice (λ c. not (is_struck l (take i t) c)) (λ c. not (violates l c a.question)) (candidates l)
-        ∙ filter_same _ (λ c. not (is_struck l (take (i + 1) t) c)) (candidates l) (λ c. go (is_struck l (take i t) c) (violates l c a.question) ∙ ap (λ b. not (is_struck l (take i t) c || (b && violates l c a.question))) (sym said) ∙ ap not (sym (struck_more c)))
+        ∙ sym (filter_and (λ c. not (is_struck l (take i t) c)) (λ c. not (violates l c a.question)) (candidates l))
+        ∙ filter_agree _ (λ c. not (is_struck l (take (i + 1) t) c)) (λ c. go (is_struck l (take i t) c) (violates l c a.question) ∙ ap (λ b. not (is_struck l (take i t) c || (b && violates l c a.question))) (sym said) ∙ ap not (sym (struck_more c))) (candidates l)
       where
         go : (b v : Bool) → (not b && not v) ≡ not (b || (true && v))
         go true v = refl
@@ -70,7 +60,7 @@ module _ (l : Language) (t : List Answer) where
 
     pub no_strikes : (before : List Candidate) → a.yes ≡ false → before ≡ unstruck l (take i t) → before ≡ unstruck l (take (i + 1) t)
     no_strikes before denied was =
-        was ∙ filter_same _ (λ c. not (is_struck l (take (i + 1) t) c)) (candidates l) (λ c. go (is_struck l (take i t) c) ∙ ap (λ b. not (is_struck l (take i t) c || (b && violates l c a.question))) (sym denied) ∙ ap not (sym (struck_more c)))
+        was ∙ filter_agree _ (λ c. not (is_struck l (take (i + 1) t) c)) (λ c. go (is_struck l (take i t) c) ∙ ap (λ b. not (is_struck l (take i t) c || (b && violates l c a.question))) (sym denied) ∙ ap not (sym (struck_more c))) (candidates l)
       where
         go : (b : Bool) → not b ≡ not (b || false)
         go true = refl

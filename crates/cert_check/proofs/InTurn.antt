@@ -3,14 +3,6 @@ use Rattle.cert_check.proofs.Prelude.{◌≡◌, ℕ, suc, ◌+◌, ◌-◌, ◌
 
 -- ---- A value that is read, or the fault where there is none
 
-pub or_value : {A F : Type 0} (o : Option A) (fault : F) (x : A) → ◌≡◌ {A = Result A F} (Ok x) (ok_or o fault) → o ≡ Some x
-or_value None fault x h = absurd cc
-or_value (Some y) fault x h = cc
-
-pub or_fault : {A F : Type 0} (o : Option A) (fault said : F) → ◌≡◌ {A = Result A F} (Err said) (ok_or o fault) → (o ≡ None) × (said ≡ fault)
-or_fault None fault said h = (refl, cc)
-or_fault (Some y) fault said h = absurd cc
-
 pub or_missing : {A F : Type 0} (o : Option A) (fault said : F) → o ≡ None → said ≡ fault → ◌≡◌ {A = Result A F} (ok_or o fault) (Err said)
 or_missing {A} {F} o fault said h same =
     let E : F → Result A F = λ f. Err f in

@@ -1,5 +1,4 @@
 mod Prelude
-pub mod Lists
 pub mod Within
 pub mod Refuted
 pub mod Goodness

@@ -1,11 +1,12 @@
 -- The text that is made for a covered network is read as the certificate that was made, and a check confirms it.
-use Rattle.cert_check.proofs.Prelude.{◌≡◌, ℕ, zero, suc, ◌+◌, ◌<◌, ◌≤◌, Bool, true, false, cond, not, List, [], ◌∷◌, ◌++◌, length, map, Option, Some, None, Result, Ok, Err, refl, sym, subst, arith, All, nat_lt, position, filter, flat_map, range_with_len, ltb-false, length-map, All-nil, All-cons, All-map, length-filter_both, numbers, Candidate, Language, candidates, candidates_on, number_of, relations_on, violates, kept, assignment_of, satisfies, count, count_few, count_more, length-candidates_on, numbered, MakeFault, TooLarge, Token, Certificate, certificate_of, first_long, made_within, refutation_of, MOST_CERTIFICATE, IsRead, children, node_of, node_at, tree_from, certificate_text, IsNodeOver, MadeIsConfirmed}
-use Rattle.line_text.proofs.Cutting.{at_first}
+use Rattle.cert_check.proofs.Prelude.{◌≡◌, ℕ, zero, suc, ◌+◌, ◌<◌, ◌≤◌, Bool, true, false, cond, List, [], ◌∷◌, ◌++◌, length, map, Option, Some, None, Result, Ok, Err, refl, sym, subst, arith, All, nat_lt, position, filter, flat_map, range_with_len, ltb-false, length-map, All-nil, All-cons, All-map, numbers, Candidate, Language, candidates, candidates_on, number_of, relations_on, violates, kept, assignment_of, satisfies, count, count_few, count_more, length-candidates_on, numbered, MakeFault, TooLarge, Token, Certificate, certificate_of, first_long, made_within, refutation_of, MOST_CERTIFICATE, IsRead, children, node_of, node_at, tree_from, certificate_text, IsNodeOver, MadeIsConfirmed}
 use Rattle.cert_check.proofs.Listing.{is_kept}
 use Rattle.cert_check.proofs.Made.{all_flat, all_kept, made_is_good}
 use Rattle.cert_check.proofs.Scopes.{few_items}
 use Rattle.cert_check.proofs.Verdicts.{yes_is_good}
 use Rattle.cert_check.proofs.WrittenBack.{Rise, certificate_back, number}
+use Rattle.shared_lemmas.proofs.Read.{at_first}
+use Rattle.shared_lemmas.proofs.Lists.{fewer_kept}
 
 -- ---- The numbers of the listed candidates rise
 
@@ -79,9 +80,6 @@ made_so None whole text h = go (nat_lt MOST_CERTIFICATE (length whole)) refl h
     go true e h = absurd (let no : ⊥ = cc in no)
     go false e h = ((let same : whole ≡ text = cc in same), ltb-false MOST_CERTIFICATE (length whole) e)
 
-no_more : {X : Type 0} (p : X → Bool) (xs : List X) → length (filter p xs) ≤ length xs
-no_more p xs = omega (arith, length-filter_both p (λ x. not (p x)) (λ x. refl) xs)
-
 pub made_is_confirmed : MadeIsConfirmed
 made_is_confirmed voc l network t budget text lawful described legal covered asked valued few h =
     let cert : Certificate = certificate_of l network t in
@@ -89,7 +87,7 @@ made_is_confirmed voc l network t budget text lawful described legal covered ask
     let so = made_so (first_long l network t budget) (certificate_text voc cert) text h in
     let most = count_few l (length l.scopes) lawful.few_relations in
     let few_scopes = lawful.few_scopes in
-    let fewer = no_more (is_kept l t network) (candidates l) in
+    let fewer = fewer_kept (is_kept l t network) (candidates l) in
     let as_many = length-map listed (refutation_of l network) in
     record {
       read = subst (λ (bytes : List ℕ). IsRead bytes cert) so.0 (certificate_back voc cert (record {

@@ -1,7 +1,7 @@
 -- What trees of tokens say: no complete assignment that goes on from a prefix is accepted and violates the candidate.
 use Rattle.cert_check.proofs.Prelude.{◌≡◌, ℕ, ◌<◌, Bool, true, false, ◌&&◌, not, List, [], ◌∷◌, ◌++◌, length, Option, Some, None, refl, sym, ◌∙◌, ap, subst, arith, append_assoc, length-append, All, slice_get, option_map_or, All-head, All-nil, All-cons, get_or_from_slice_get, slice_get_within, and_parts, both_ways, ltb-true, false_from_ne_true, Assignment, tuple_on, covers, Candidate, is_in, Language, IsLanguage, IsCandidate, IsImplied, variable_count, range_of, scope_of, violates, accepts, order_of, assignment_of, are_ranged, accepted_at, tuple_fits, HasMore, assigned_more, violates_more, satisfies_more, ranged_from, order_small, whole_prefix, covers_all, length-tuple_on, scope_small, long_order, Token, Branch, Holds, Item, violates_item, is_lawful, children, are_trees, refutes}
-use Rattle.cert_check.proofs.Lists.{all_left, all_right}
 use Rattle.cert_check.proofs.Within.{IsRanged, next_of, ranged_front, ranged_last, all_among}
+use Rattle.shared_lemmas.proofs.Lists.{all_left, all_right}
 
 -- ---- what is closed
 

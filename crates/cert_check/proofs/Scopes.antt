@@ -1,12 +1,10 @@
 -- A network has no more candidates than there are scopes.
-use Rattle.cert_check.proofs.Prelude.{◌≡◌, ℕ, suc, ◌<◌, ◌≤◌, ◌^◌, Bool, true, false, cond, ◌||◌, ◌&&◌, not, List, [], ◌∷◌, length, refl, sym, ◌∙◌, arith, ◌==◌, All, AllPairs, slice_index_or, filter, length-range_with_len, length-filter_both, and_from, both_ways, not_from_false, eqb-true, eq-eqb, false_from_ne_true, numbers, has, Candidate, Language, IsLanguage, IsNetwork, any_weaker, any-filter, any_number}
-
-no_more : (p : ℕ → Bool) (xs : List ℕ) → length (filter p xs) ≤ length xs
-no_more p xs = omega (arith, length-filter_both p (λ x. not (p x)) (λ x. refl) xs)
+use Rattle.cert_check.proofs.Prelude.{◌≡◌, ℕ, suc, ◌<◌, ◌≤◌, ◌^◌, Bool, true, false, cond, ◌||◌, ◌&&◌, not, List, [], ◌∷◌, length, refl, sym, ◌∙◌, arith, ◌==◌, All, AllPairs, slice_index_or, filter, length-range_with_len, and_from, both_ways, not_from_false, eqb-true, eq-eqb, false_from_ne_true, numbers, has, Candidate, Language, IsLanguage, IsNetwork, any_weaker, any-filter, any_number}
+use Rattle.shared_lemmas.proofs.Lists.{fewer_kept}
 
 shrinks : (ys : List ℕ) (x : ℕ) → has ys x ≡ true → suc (length (filter (λ y. not (y == x)) ys)) ≤ length ys
 shrinks [] x h = absurd (both_ways _ refl h)
-shrinks (y ∷ ys) x h = go (y == x) h (shrinks ys x) (no_more (λ z. not (z == x)) ys)
+shrinks (y ∷ ys) x h = go (y == x) h (shrinks ys x) (fewer_kept (λ z. not (z == x)) ys)
   where
     go : (b : Bool) → (b || has ys x) ≡ true → (has ys x ≡ true → suc (length (filter (λ y. not (y == x)) ys)) ≤ length ys) → length (filter (λ y. not (y == x)) ys) ≤ length ys →
         suc (length (cond (not b) (y ∷ filter (λ y. not (y == x)) ys) (filter (λ y. not (y == x)) ys))) ≤ suc (length ys)

@@ -3,13 +3,10 @@ use Rattle.cert_check.proofs.Prelude.{◌≡◌, ℕ, zero, suc, ◌+◌, ◌-�
 use Rattle.language.proofs.Preorder.{filter_map_of, none_passes, prefixes_small}
 use Rattle.cert_check.proofs.Finding.{all_fail}
 use Rattle.cert_check.proofs.Within.{IsNext, IsRanged, all_next, next_of, ranged_none, ranged_front, ranged_longer, ranged_last}
+use Rattle.std.proofs.Math.Bool.{and-false}
 
 pub branches_both : (xs ys : List Token) → branches (xs ++ ys) ≡ branches xs + branches ys
 branches_both xs ys = ap length (filter-append is_branch xs ys) ∙ length-append (filter is_branch xs) (filter is_branch ys)
-
-and_false : (b : Bool) → (b && false) ≡ false
-and_false true = refl
-and_false false = refl
 
 module _ (l : Language) (network : List Candidate) (c : Candidate) where
   -- the nodes of the tree at a prefix, and of the trees at several
@@ -71,7 +68,7 @@ module _ (l : Language) (network : List Candidate) (c : Candidate) where
           both_ways _ (accepted_at l network (assignment_of l c prefix) h i (record { scope = 0; rel = 0 }) found.0) found.1)
 
       go : (o : Option ℕ) → position (λ d. violates l d (assignment_of l c prefix)) network ≡ o → (b : Bool) → is_branch (node_of o b) ≡ (accepts l network (assignment_of l c prefix) && not b)
-      go None e true = sym (and_false (accepts l network (assignment_of l c prefix)))
+      go None e true = sym (and-false (accepts l network (assignment_of l c prefix)))
       go None e false = sym (ap (λ a. a && true) (accepted e))
       go (Some i) e b = sym (ap (λ a. a && not b) (refused i e))
 

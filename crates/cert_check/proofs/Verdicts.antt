@@ -19,12 +19,6 @@ unmapped f (Some x) h = absurd (let no : ⊥ = cc in no)
 
 -- ---- tests and what they mean
 
-same_answer : (a b : Bool) → beq a b ≡ true → a ≡ b
-same_answer true true h = refl
-same_answer true false h = cc
-same_answer false true h = cc
-same_answer false false h = refl
-
 pub same_list : (xs ys : List ℕ) → is_same xs ys ≡ true → xs ≡ ys
 same_list [] [] h = refl
 same_list [] (y ∷ ys) h = absurd (let no : ⊥ = cc in no)

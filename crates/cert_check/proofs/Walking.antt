@@ -1,7 +1,8 @@
 -- How the prefixes at which nodes are still to stand go on.
 use Rattle.cert_check.proofs.Prelude.{◌≡◌, ℕ, suc, ◌+◌, ◌-◌, ◌<◌, ◌≤◌, Bool, true, false, not, ◌&&◌, List, [], ◌∷◌, ◌++◌, length, map, replicate, Some, None, refl, sym, ◌∙◌, ap, subst, arith, append_assoc, length-append, slice_index_or, slice_set, range_with_len, append-nil, All-push, Assignment, Candidate, Language, IsLanguage, IsCandidate, IsQuestion, variable_count, range_of, values_of, order_of, assignment_of, assigned_blank, assigned_push, assigned_pop, question_there, next_known, size_of, orders_are_known, Token, is_lawful, children, are_trees, refutes, last_behind, later_from, later, ahead, IsAt}
-use Rattle.cert_check.proofs.Lists.{all_left}
-use Rattle.cert_check.proofs.Within.{IsNext, IsRanged, in_between, bounds, next_of, next_range, next_values, ranged_none, ranged_front, ranged_longer, ranged_last}
+use Rattle.cert_check.proofs.Within.{IsNext, IsRanged, bounds, next_of, next_range, next_values, ranged_none, ranged_front, ranged_longer, ranged_last}
+use Rattle.shared_lemmas.proofs.Lists.{all_left}
+use Rattle.language.proofs.PairOrders.{within_range}
 
 -- ---- one value more, one value less
 
@@ -101,7 +102,7 @@ module _ (l : Language) (lawful : IsLanguage l) (c : Candidate) (is : IsCandidat
   pub may_follow : (p : List ℕ) (x : ℕ) → length p < variable_count l → (range_of l (next_of l c p)).first ≤ x → x ≤ (range_of l (next_of l c p)).last → IsNext l lawful c is p x
   may_follow p x room from to = record {
     fits = let known = (next_range l lawful c is p room).known in omega (arith, to, known);
-    within = in_between (range_of l (next_of l c p)) x from to;
+    within = within_range (range_of l (next_of l c p)) x from (omega (arith, to));
   }
 
   -- the variable at the place is the next one

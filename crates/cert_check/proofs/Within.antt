@@ -1,32 +1,9 @@
 -- Prefixes whose values are their variables', and the values of the next variable.
-use Rattle.cert_check.proofs.Prelude.{◌≡◌, ℕ, zero, suc, ◌+◌, ◌-◌, ◌<◌, ◌≤◌, Bool, true, false, cond, List, [], ◌∷◌, ◌++◌, length, map, refl, sym, ◌∙◌, ap, subst, arith, ◌⊎◌, inl, inr, All, nat_le, slice_index_or, filter, range_with_len, cases_eq, both_ways, and_from, and_parts, and_left, and_right, le-leb, leb-true, lt-leb, append-nil, All-head, All-tail, filter-append, numbers, Candidate, ValueRange, is_in, IsRange, Language, IsLanguage, IsCandidate, variable_count, range_of, values_of, order_of, assignment_of, are_ranged, next_known, ranged_blank, ranged_push, assigned_more, ranged_more, all_numbers, orders_are_known}
+use Rattle.cert_check.proofs.Prelude.{◌≡◌, ℕ, zero, suc, ◌+◌, ◌-◌, ◌<◌, ◌≤◌, Bool, true, false, cond, List, [], ◌∷◌, ◌++◌, length, map, refl, sym, ◌∙◌, ap, subst, arith, ◌⊎◌, inl, inr, All, nat_le, slice_index_or, filter, range_with_len, cases_eq, both_ways, and_from, and_parts, and_left, and_right, leb-true, lt-leb, append-nil, All-head, All-tail, filter-append, numbers, Candidate, ValueRange, is_in, IsRange, Language, IsLanguage, IsCandidate, variable_count, range_of, values_of, order_of, assignment_of, are_ranged, next_known, ranged_blank, ranged_push, assigned_more, ranged_more, all_numbers, orders_are_known}
+use Rattle.shared_lemmas.proofs.Runs.{all_pass, none_pass, run_parts}
+use Rattle.language.proofs.PairOrders.{within_range}
 
 -- ---- the values of a range are a run of numbers
-
-run_parts : (a k n : ℕ) → range_with_len a (k + n) ≡ range_with_len a k ++ range_with_len (a + k) n
-run_parts a zero n =
-    let none : 0 + n ≡ n = omega arith in
-    let here : a ≡ a + 0 = omega arith in
-    (λ i. range_with_len (here i) (none i))
-run_parts a (suc k) n =
-    ap (range_with_len a) (let e : suc k + n ≡ suc (k + n) = omega arith in e)
-    ∙ ap (λ xs. a ∷ xs) (run_parts (a + 1) k n)
-    ∙ ap (λ b. a ∷ (range_with_len (a + 1) k ++ range_with_len b n)) (let e : (a + 1) + k ≡ a + suc k = omega arith in e)
-
-none_pass : (p : ℕ → Bool) (a n : ℕ) → ((x : ℕ) → a ≤ x → x < a + n → p x ≡ false) → filter p (range_with_len a n) ≡ []
-none_pass p a zero h = refl
-none_pass p a (suc n) h =
-    ap (λ b. cond b (a ∷ filter p (range_with_len (a + 1) n)) (filter p (range_with_len (a + 1) n))) (h a (omega arith) (omega arith))
-    ∙ none_pass p (a + 1) n (λ x low high. h x (omega arith) (omega arith))
-
-all_pass : (p : ℕ → Bool) (a n : ℕ) → ((x : ℕ) → a ≤ x → x < a + n → p x ≡ true) → filter p (range_with_len a n) ≡ range_with_len a n
-all_pass p a zero h = refl
-all_pass p a (suc n) h =
-    ap (λ b. cond b (a ∷ filter p (range_with_len (a + 1) n)) (filter p (range_with_len (a + 1) n))) (h a (omega arith) (omega arith))
-    ∙ ap (λ xs. a ∷ xs) (all_pass p (a + 1) n (λ x low high. h x (omega arith) (omega arith)))
-
-pub in_between : (range : ValueRange) (x : ℕ) → range.first ≤ x → x ≤ range.last → is_in range x ≡ true
-in_between range x from to = and_from (nat_le range.first x) (nat_le x range.last) (le-leb range.first x from) (le-leb x range.last to)
 
 pub bounds : (range : ValueRange) (x : ℕ) → is_in range x ≡ true → (range.first ≤ x) × (x ≤ range.last)
 bounds range x h = let parts = and_parts (nat_le range.first x) (nat_le x range.last) h in (leb-true range.first x parts.0, leb-true x range.last parts.1)
@@ -42,7 +19,7 @@ run_in d range lawful =
     (none_pass (is_in range) 0 first (λ x from before. and_left (nat_le first x) (nat_le x range.last) (lt-leb first x (omega (arith, before)))))
     ∙ ap (filter (is_in range)) (run_parts first size over)
     ∙ filter-append (is_in range) (range_with_len first size) (range_with_len (first + size) over)
-    ∙ (λ i. all_pass (is_in range) first size (λ x from to. in_between range x from (omega (arith, to))) i
+    ∙ (λ i. all_pass (is_in range) first size (λ x from to. within_range range x from (omega (arith, to))) i
     ++ none_pass (is_in range) (first + size) over (λ x from to. and_right (nat_le first x) (nat_le x range.last) (lt-leb x range.last (omega (arith, from, some)))) i)
     ∙ append-nil (range_with_len first size)
   where
@@ -104,7 +81,7 @@ module _ (l : Language) (lawful : IsLanguage l) (c : Candidate) (is : IsCandidat
       subst (All (IsNext p)) (sym (next_values p room))
       (all_numbers (IsNext p) (range_of l (next_of l c p)).first ((range_of l (next_of l c p)).last + 1 - (range_of l (next_of l c p)).first) (λ x from below. record {
         fits = omega (arith, from, below, some, known);
-        within = in_between (range_of l (next_of l c p)) x from (omega (arith, from, below, some));
+        within = within_range (range_of l (next_of l c p)) x from (omega (arith, from, below, some));
       }))
 
 -- what holds of all that pass holds of each that passes

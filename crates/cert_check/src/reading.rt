@@ -1,15 +1,18 @@
 //! Reading the text of a certificate.
 
 ghost use Rattle.std.specs.Prelude.{◌≡◌, ◌≢◌, ◌≤◌, length, IfOk, IfErr};
+ghost use Rattle.language.specs.Language.{IsLanguage};
 ghost use Rattle.cert_check.specs.Reading.{IsRead, IsUnreadable, certificate_in, end_in, vocabulary_in};
 ghost use Rattle.cert_check.specs.Read.{AreFew, Reads, unread};
+ghost use Rattle.cert_check.specs.Sound.{IsSound};
 
-use crate::cert::Cert;
+use crate::cert::{Cert, Listed};
+use crate::entry::Entry;
 use crate::fault::CertFault;
 use crate::lines::{behind_line, block_in, next_count, next_count_up_to};
 use crate::sections::{answer_lines, item_lines, listed_lines};
 use crate::unread::Lines;
-use language::Language;
+use language::{Candidate, Language};
 use std::alloc::Global;
 use voc_read::{MOST_VOCABULARY, VocFault, read_vocabulary};
 
@@ -46,20 +49,43 @@ fn end_in(lines: Lines<'_>) -> Result<(), CertFault>
     }
 }
 
+/// The lists of a certificate.
+#[derive(Drop)]
+struct Lists {
+    answers: Vec<Entry>,
+    network: Vec<Candidate>,
+    items: Vec<Listed>,
+}
+
 #[tactic(auto, unfolding(crate::specs::Reading::certificate_in))]
 /// What the lines behind the vocabulary say, in its language.
+fn lists_in(alloc: Global, lang: &Language, lines: Lines<'_>) -> Result<Lists, CertFault>
+    requires lawful { IsLanguage lang.now }
+    requires few { AreFew lines }
+    ensures is { Reads (λ x. record { language = lang.now; answers = x.answers.items; network = x.network.items; refutations = x.items.items }) (certificate_in lang.now (unread lines.entry)) result }
+    ensures sound { IfOk result (λ x. IsSound (record { language = lang.now; answers = x.answers.items; network = x.network.items; refutations = x.items.items })) }
+{
+    let (m, rest) = next_count_up_to(MOST_ANSWERS, b"answers".as_slice(), lines)?;
+    let (answers, rest) = answer_lines(alloc, lang, m, rest)?;
+    let (k, rest) = next_count(b"network".as_slice(), rest)?;
+    let (network, rest) = item_lines(alloc, lang, k, rest)?;
+    let (j, rest) = next_count(b"implied".as_slice(), rest)?;
+    let (items, rest) = listed_lines(alloc, lang, network.len() as u32, j, rest)?;
+    end_in(rest)?;
+    Ok(Lists {
+        answers,
+        network,
+        items,
+    })
+}
+
+/// The certificate of the vocabulary's language and of the lines behind it.
 fn certificate_in(alloc: Global, lang: Language, lines: Lines<'_>) -> Result<Cert, CertFault>
     requires { AreFew lines }
     ensures { Reads (λ cert. cert) (certificate_in lang (unread lines.entry)) result }
 {
-    let (m, rest) = next_count_up_to(MOST_ANSWERS, b"answers".as_slice(), lines)?;
-    let (answers, rest) = answer_lines(alloc, &lang, m, rest)?;
-    let (k, rest) = next_count(b"network".as_slice(), rest)?;
-    let (network, rest) = item_lines(alloc, &lang, k, rest)?;
-    let (j, rest) = next_count(b"implied".as_slice(), rest)?;
-    let (items, rest) = listed_lines(alloc, &lang, network.len() as u32, j, rest)?;
-    end_in(rest)?;
-    Ok(Cert::new(lang, answers, network, items))
+    let lists = lists_in(alloc, &lang, lines)?;
+    Ok(Cert::new(lang, lists.answers, lists.network, lists.items))
 }
 
 /// What a text of few enough bytes is read as.

@@ -204,14 +204,10 @@ impl Work {
         let d = cons.lang.d();
         let at = prefix.len();
         let v = order[at];
-        let mut next = x;
-        while next < d {
-            if self.depths[at].has(v, next) {
-                return next;
-            }
-            next += 1;
-        }
-        d
+        let Some(next) = self.depths[at].least_from(v, x) else {
+            return d;
+        };
+        next
     }
 
     /// Whether a prefix with one value more is alive; if so, the values that it leaves are those of its depth.

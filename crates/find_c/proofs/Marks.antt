@@ -1,15 +1,9 @@
 -- The choices of a mask: those that agree with a reply, none of them, the one that remains.
-use Rattle.find_c.proofs.Prelude.{◌≡◌, ℕ, ◌<◌, ◌≤◌, ◌^◌, Bool, true, false, cond, ◌&&◌, ◌||◌, not, List, [], ◌∷◌, ◌++◌, map, length, Some, None, refl, sym, ◌∙◌, ap, subst, arith, ◌≢◌, bit_and, is_none, beq, filter, list_any, bit_not, w64, filter-append, is_one, ones_of, Choice, remaining, choices_of, beside_none, is_accepting, is_one-and, is_one-and_not, ones_of-passing, ones_of-zero, no_ones}
+use Rattle.find_c.proofs.Prelude.{◌≡◌, ℕ, ◌<◌, ◌≤◌, ◌^◌, Bool, true, false, cond, ◌&&◌, ◌||◌, List, [], ◌∷◌, ◌++◌, map, length, Some, None, refl, sym, ◌∙◌, ap, subst, arith, ◌≢◌, bit_and, is_none, beq, filter, list_any, bit_not, w64, filter-append, is_one, ones_of, Choice, remaining, choices_of, beside_none, is_accepting, is_one-and, is_one-and_not, ones_of-passing, ones_of-zero, no_ones}
+use Rattle.std.proofs.Math.Bool.{and-false, and-true}
+use Rattle.shared_lemmas.proofs.Booleans.{beq-false, beq-true}
 
 -- ---- truth values
-
-pub beq_true : (b : Bool) → beq b true ≡ b
-beq_true true = refl
-beq_true false = refl
-
-pub beq_false : (b : Bool) → beq b false ≡ not b
-beq_false true = refl
-beq_false false = refl
 
 -- ---- the choices that agree
 
@@ -34,19 +28,11 @@ agreeing_with a b m free reply each =
     ∙ ap (λ cs. cs ++ filter (λ c. beq (is_accepting m c) reply) (cond free (None ∷ []) [])) (sym (filter-some (λ c. beq (is_accepting m c) reply) (ones_of a)))
     ∙ sym (filter-append (λ c. beq (is_accepting m c) reply) (map (λ r. Some r) (ones_of a)) (cond free (None ∷ []) []))
 
-and_same : (b : Bool) → (b && true) ≡ b
-and_same true = refl
-and_same false = refl
-
-and_false : (b : Bool) → (b && false) ≡ false
-and_false true = refl
-and_false false = refl
-
 pub agreeing_yes : (a m : ℕ) (free : Bool) → choices_of (bit_and a m) free ≡ filter (λ c. beq (is_accepting m c) true) (choices_of a free)
-agreeing_yes a m free = ap (choices_of (bit_and a m)) (sym (and_same free)) ∙ agreeing_with a (bit_and a m) m free true (λ r low. is_one-and a m r ∙ ap (λ b. is_one a r && b) (sym (beq_true (is_one m r))))
+agreeing_yes a m free = ap (choices_of (bit_and a m)) (sym (and-true free)) ∙ agreeing_with a (bit_and a m) m free true (λ r low. is_one-and a m r ∙ ap (λ b. is_one a r && b) (sym (beq-true (is_one m r))))
 
 pub agreeing_no : (a m : ℕ) (free : Bool) → m < 2 ^ 64 → choices_of (bit_and a (bit_not w64 m)) false ≡ filter (λ c. beq (is_accepting m c) false) (choices_of a free)
-agreeing_no a m free h = ap (choices_of (bit_and a (bit_not w64 m))) (sym (and_false free)) ∙ agreeing_with a (bit_and a (bit_not w64 m)) m free false (λ r low. is_one-and_not a m r h low ∙ ap (λ b. is_one a r && b) (sym (beq_false (is_one m r))))
+agreeing_no a m free h = ap (choices_of (bit_and a (bit_not w64 m))) (sym (and-false free)) ∙ agreeing_with a (bit_and a (bit_not w64 m)) m free false (λ r low. is_one-and_not a m r h low ∙ ap (λ b. is_one a r && b) (sym (beq-false (is_one m r))))
 
 -- ---- none of them
 

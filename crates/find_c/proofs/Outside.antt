@@ -4,6 +4,7 @@ use Rattle.std.proofs.lemmas.Nat.{mod-mul-add}
 use Rattle.language.specs.declared.ranges.ValueRange.{ValueRange}
 use Rattle.language.proofs.Within.{widened-at, wholes_from, all_within}
 use Rattle.find_c.proofs.Splitting.{tells_there}
+use Rattle.std.proofs.Math.Bool.{and-true, and_assoc}
 
 -- ---- the tuples of a row
 
@@ -68,27 +69,19 @@ in_more ranges scope values i first last b all low long test at to so_far =
 pub in_all : (ranges : List ValueRange) (scope values : List ℕ) (i : ℕ) (all : Bool) → length scope ≤ i → all ≡ are_in ranges (drop i scope) (drop i values) → all ≡ true
 in_all ranges scope values i all past so_far = so_far ∙ ap (λ xs. are_in ranges xs (drop i values)) (drop_all i scope past)
 
-and_true : (b : Bool) → (b && true) ≡ b
-and_true true = refl
-and_true false = refl
-
-and_assoc : (a b c : Bool) → (a && (b && c)) ≡ ((a && b) && c)
-and_assoc true b c = refl
-and_assoc false b c = refl
-
 in_end : (ranges : List ValueRange) (scope xs : List ℕ) (y a : ℕ) → length xs ≡ a → length scope ≡ suc a →
     are_in ranges scope (xs ++ y ∷ []) ≡ (are_in ranges (take a scope) xs && is_in (range_in ranges (get_or scope a 0)) y)
 in_end ranges [] xs y a long wide = absurd (omega arith)
 in_end ranges (v ∷ scope) xs y zero long wide = go scope xs (omega arith) (omega arith)
   where
     go : (scope xs : List ℕ) → length xs ≡ 0 → length scope ≡ 0 → are_in ranges (v ∷ scope) (xs ++ y ∷ []) ≡ (are_in ranges [] xs && is_in (range_in ranges v) y)
-    go [] [] none short = and_true (is_in (range_in ranges v) y)
+    go [] [] none short = and-true (is_in (range_in ranges v) y)
     go (w ∷ scope) xs none short = absurd (omega arith)
     go [] (x ∷ xs) none short = absurd (omega arith)
 in_end ranges (v ∷ scope) [] y (suc a) long wide = absurd (omega arith)
 in_end ranges (v ∷ scope) (x ∷ xs) y (suc a) long wide =
     ap (λ b. is_in (range_in ranges v) x && b) (in_end ranges scope xs y a (omega arith) (omega arith))
-    ∙ and_assoc (is_in (range_in ranges v) x) (are_in ranges (take a scope) xs) (is_in (range_in ranges (get_or scope a 0)) y)
+    ∙ sym (and_assoc (is_in (range_in ranges v) x) (are_in ranges (take a scope) xs) (is_in (range_in ranges (get_or scope a 0)) y))
 
 -- a place of a row is within where the values before the last are, and its own is
 pub inside_row : (ranges : List ValueRange) (d : ℕ) (scope found : List ℕ) (p last y : ℕ) → IsAtRow d (d ^ length scope) p → p < d ^ length scope → y < d → length scope ≡ suc last →

@@ -2,7 +2,8 @@
 use Rattle.find_c.proofs.Prelude.{◌≡◌, ℕ, ◌^◌, ◌<◌, ◌≤◌, arith, Bool, true, false, List, [], ◌∷◌, ◌++◌, length, Some, None, sym, ◌∙◌, ap, subst, append_assoc, ◌≢◌, All, beq, list_any, and_parts, both_ways, All-filter, All-from_get_or, Language, IsLanguage, scope_at, tuples, length-tuples, get_or-tuples, length-tuple_at, tuple_at-below, find_all, Choice, Scene, Got, allows, tells_apart, splitting_tuple, after_reply, remaining, choose, WantsReply, scene_of, Run, IsRun, IsChoiceOn, StandsFor, RelNext, Wants}
 use Rattle.language.proofs.Members.{find_some}
 use Rattle.find_c.proofs.Lawful.{few_places}
-use Rattle.find_c.proofs.Marks.{none_pass, beq_true, beq_false}
+use Rattle.find_c.proofs.Marks.{none_pass}
+use Rattle.shared_lemmas.proofs.Booleans.{beq-false, beq-true}
 
 -- ---- the choice after replies
 
@@ -55,9 +56,9 @@ module _ (l : Language) (lawful : IsLanguage l) (run : Run) (is : IsRun l run) w
 -- a reply about a tuple that tells them apart leaves some
 pub some_after : (scene : Scene) (cs : List Choice) (u : List ℕ) → tells_apart scene cs u ≡ true → (reply : Bool) → after_reply scene u reply cs ≢ []
 some_after scene cs u splits true none =
-    both_ways _ (sym (λ i. list_any (λ c. beq_true (allows scene u c) i) cs) ∙ none_pass _ cs none) (and_parts (list_any (allows scene u) cs) _ splits).0
+    both_ways _ (sym (λ i. list_any (λ c. beq-true (allows scene u c) i) cs) ∙ none_pass _ cs none) (and_parts (list_any (allows scene u) cs) _ splits).0
 some_after scene cs u splits false none =
-    both_ways _ (sym (λ i. list_any (λ c. beq_false (allows scene u c) i) cs) ∙ none_pass _ cs none) (and_parts (list_any (allows scene u) cs) _ splits).1
+    both_ways _ (sym (λ i. list_any (λ c. beq-false (allows scene u c) i) cs) ∙ none_pass _ cs none) (and_parts (list_any (allows scene u) cs) _ splits).1
 
 pub run_leaves_some : (l : Language) (run : Run) → IsRun l run → (reply : Bool) → after_reply (scene_of l run.scope) run.tuple reply run.choices ≢ []
 run_leaves_some l run is reply = some_after (scene_of l run.scope) run.choices run.tuple

@@ -55,6 +55,10 @@ module _ (scene : Scene) (cs : List Choice) where
 pub found_nowhere : (scene : Scene) (cs : List Choice) (p : ℕ) → scene.value_count ^ scene.arity ≤ p → find (tells_apart scene cs) (drop p (tuples scene.value_count scene.arity)) ≡ None
 found_nowhere scene cs p past = ap (find (tells_apart scene cs)) (drop_all p (tuples scene.value_count scene.arity) (omega (arith, past, length-tuples scene.value_count scene.arity)))
 
+-- they differ at the first place of all
+pub found_first : (scene : Scene) (cs : List Choice) → 0 < scene.value_count ^ scene.arity → differ_at scene cs 0 ≡ true → Some (get_or (tuples scene.value_count scene.arity) 0 []) ≡ splitting_tuple scene cs
+found_first scene cs some here = sym (first_at scene cs 0 0 (omega arith) (λ k below. absurd (omega arith)) here)
+
 -- ---- a row of places at once
 
 -- the place of a mask's lowest one, or 64 where it has none

@@ -2,12 +2,9 @@
 use Rattle.find_c.proofs.Prelude.{◌≡◌, ℕ, zero, suc, ◌<◌, Bool, true, false, cond, ◌&&◌, not, List, [], ◌∷◌, ◌++◌, length, map, get_or, Some, None, refl, sym, ◌∙◌, ap, subst, arith, ◌==◌, ◌≢◌, All, Contains, find, is_none, beq, filter, list_any, eqb-true, and_parts, append-nil, All-head, All-tail, All-nil, All-cons, All-append, Assignment, covers, tuple_on, place, holds, tuples, Candidate, Language, IsCandidate, scope_at, relations_on, scope_of, relation_of, place_on, violates, ones_of, nothing_passes, Choice, Got, remaining, tells_apart, choose, scene_of, free_choices, violated_choices, choices_of, is_accepting, allows_at, IsChoiceOn, LeavesChoices, IsFree, RelNext, Free}
 use Rattle.language.specs.Answers.{IsNetwork}
 use Rattle.bias_store.specs.KeptSet.{kept_relations}
-use Rattle.find_c.proofs.Marks.{beq_false}
 use Rattle.find_c.proofs.Replies.{choose_ended}
-
-map-map : {X Y Z : Type 0} (g : Y → Z) (f : X → Y) (xs : List X) → map g (map f xs) ≡ map (λ x. g (f x)) xs
-map-map g f [] = refl
-map-map g f (x ∷ xs) = ap (λ ys. g (f x) ∷ ys) (map-map g f xs)
+use Rattle.shared_lemmas.proofs.Booleans.{beq-false}
+use Rattle.std.proofs.lemmas.Simd.{map-map}
 
 -- the choices of the mask of the kept relations on a scope are its kept candidates
 pub kept_marked : (live : List Candidate) (s mask : ℕ) → ones_of mask ≡ kept_relations live s →
@@ -91,7 +88,7 @@ module _ (l : Language) (live : List Candidate) (e : Assignment) (s : ℕ) where
 
       there : (c : Candidate) → (c.scope == s) ≡ true → beq (is_accepting accepting (Some c.rel)) false ≡ violates l c e
       there c on =
-          ap (λ b. beq b false) (each (Some c.rel)) ∙ beq_false (allows_at (scene_of l s) at (Some c.rel))
+          ap (λ b. beq b false) (each (Some c.rel)) ∙ beq-false (allows_at (scene_of l s) at (Some c.rel))
           ∙ (λ i. sym covered.0 i && not (get_or (get_or (relations_on l s) c.rel []) (sym covered.1 i) false))
           ∙ ap (λ k. covers e (scope_at l k) && not (holds l.value_count (get_or (relations_on l k) c.rel []) (tuple_on e (scope_at l k)))) (sym (eqb-true c.scope s on))
 

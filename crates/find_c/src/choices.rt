@@ -1,14 +1,15 @@
 //! The choices that are left on a scope.
 
-ghost use Rattle.std.specs.Prelude.{ℕ, ◌≡◌, ◌+◌, ◌^◌, ◌<◌, ◌≤◌, ◌==◌, ◌↔◌, [], false, length, slice_index_or, All, IsTrue};
-ghost use Rattle.std.specs.List.{filter};
+ghost use Rattle.std.specs.Prelude.{ℕ, ◌≡◌, ◌+◌, ◌^◌, ◌<◌, ◌≤◌, ◌==◌, ◌↔◌, [], false, true, not, length, slice_index_or, All, IsTrue};
+ghost use Rattle.std.specs.List.{filter, list_any};
 ghost use Rattle.std.specs.Bool.{beq};
 ghost use Rattle.std.specs.Int.{bit_at};
+ghost use Rattle.bias_store.specs.Masks.{ones_of};
 ghost use Rattle.language.specs.Language.{IsLanguage, variable_count, range_of, scope_at, relations_on};
 ghost use Rattle.language.specs.Ranges.{is_in, are_in};
 ghost use Rattle.language.specs.Scenes.{scene_of};
 ghost use Rattle.language.specs.TellingApart.{remaining};
-ghost use Rattle.find_c.specs.Choices.{choices_of, beside_none, is_accepting, differ_at};
+ghost use Rattle.find_c.specs.Choices.{allows_at, choices_of, beside_none, is_accepting, differ_at};
 ghost use Rattle.find_c.specs.Inside.{IsAtRow, is_outside};
 ghost use Rattle.find_c.specs.Run.{IsChoiceOn};
 
@@ -108,6 +109,25 @@ fn row_of(lang: &Language, s: ScopeId, r: u8, outside: u64, place: u32) -> u64
     lang.table_on(s, r).row(place) | outside
 }
 
+/// Whether one of these relations rejects the first tuple. They are looked at up to the first such one.
+fn some_rejects(lang: &Language, s: ScopeId, relations: u64) -> bool
+    requires lawful { IsLanguage lang.now }
+    requires scope { s < length lang.now.scopes }
+    requires known { All (λ r. r < length (relations_on lang.now s)) (ones_of relations) }
+    ensures { result ≡ true → list_any (λ c. not (allows_at (scene_of lang.now s) 0 c)) (choices_of relations false) ≡ true }
+{
+    let outside = outside_row(lang, s, 0);
+    let mut left = relations;
+    while left != 0 {
+        let (r, rest) = split_first(left);
+        if row_of(lang, s, r, outside, 0) & 1 == 0 {
+            return true;
+        }
+        left = rest;
+    }
+    false
+}
+
 impl Choices {
     /// The choices of a mask of relations, bit r for relation r, and that of none where `free`.
     pub fn new(relations: u64, free: bool) -> Choices
@@ -177,6 +197,20 @@ impl Choices {
             rejected
         } else {
             accepted & rejected
+        }
+    }
+
+    /// Whether none is a choice and some relation rejects the first tuple: then two choices differ there.
+    pub fn rejects_first(&self, lang: &Language, s: ScopeId) -> bool
+        requires lawful { IsLanguage lang.now }
+        requires scope { s < length lang.now.scopes }
+        requires known { All (IsChoiceOn lang.now s) self.now }
+        ensures { result ≡ true → differ_at (scene_of lang.now s) self.now 0 ≡ true }
+    {
+        if self.free {
+            some_rejects(lang, s, self.relations)
+        } else {
+            false
         }
     }
 

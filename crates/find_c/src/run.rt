@@ -212,8 +212,22 @@ fn settle(lang: &Language, scope: ScopeId, choices: Choices) -> RelNext
     }
 }
 
-/// The least tuple on which two choices differ. Looked for among all values of the last variable at once.
+/// The least tuple on which two choices differ. Mostly it is the first one where none of the relations is a choice too, which one
+/// relation tells.
 fn splitting_tuple(lang: &Language, s: ScopeId, choices: &Choices) -> Option<Tuple>
+    requires scope { s < length lang.now.scopes }
+    requires known { All (IsChoiceOn lang.now s) choices.now }
+    ensures { result ≡ splitting_tuple (scene_of lang.now s) choices.now }
+{
+    let value_count = lang.d();
+    if choices.rejects_first(lang, s) {
+        return Some(Tuple::at(value_count, lang.scope(s).len() as u8, 0));
+    }
+    tuple_searched(lang, s, choices)
+}
+
+/// The same, looked for among all values of the last variable at once.
+fn tuple_searched(lang: &Language, s: ScopeId, choices: &Choices) -> Option<Tuple>
     requires scope { s < length lang.now.scopes }
     requires known { All (IsChoiceOn lang.now s) choices.now }
     ensures { result ≡ splitting_tuple (scene_of lang.now s) choices.now }

@@ -7,6 +7,7 @@ use Rattle.find_scope.proofs.Halves.{depth_is_enough, first_shorter, second_shor
 use Rattle.find_scope.proofs.Runs.{has_halves}
 use Rattle.find_scope.proofs.Got.{some_right, got_rises}
 use Rattle.find_scope.proofs.Counts.{halves_apart}
+use Rattle.std.proofs.Math.Bool.{or-false}
 
 -- ---- sets
 
@@ -21,12 +22,8 @@ minus_first set r =
     left a false true e apart = ap (λ x. x && true) e
     left a false false e apart = ap (λ x. x && true) e
 
-or_none : (b : Bool) → (b || false) ≡ b
-or_none true = refl
-or_none false = refl
-
 pub union_none : (set : List ℕ) → IsSet set → union set [] ≡ set
-union_none set r = set_where-same _ _ (λ v low. or_none (has set v)) ∙ canonical set r
+union_none set r = set_where-same _ _ (λ v low. or-false (has set v)) ∙ canonical set r
 
 pub none_union : (set : List ℕ) → IsSet set → union [] set ≡ set
 none_union set r = set_where-same _ _ (λ v low. refl) ∙ canonical set r

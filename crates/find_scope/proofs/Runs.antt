@@ -2,6 +2,7 @@
 use Rattle.find_scope.proofs.Prelude.{◌≡◌, ℕ, zero, suc, ◌+◌, ◌/◌, ◌<◌, ◌≤◌, Bool, true, false, ◌||◌, not, List, [], ◌∷◌, ◌++◌, length, take, drop, refl, sym, ◌∙◌, ap, subst, arith, inl, inr, ◌⊎◌, or_cases, or_left, or_right, both_ways, eqb-true, true_from_ne_false, append_assoc, ◌==◌, has, union, first_half, second_half, Rises, has-set_where, rises_where, Halved, Wants, Got, then_got, ask, is_empty, halve_within}
 use Rattle.std.proofs.lemmas.List.Folds.{list_any-append}
 use Rattle.find_scope.proofs.Halves.{first_shorter, second_shorter}
+use Rattle.std.proofs.Math.Bool.{or_assoc, or-false}
 
 -- ---- inversions
 
@@ -275,10 +276,6 @@ or_swap false true false = refl
 or_swap false false true = refl
 or_swap false false false = refl
 
-or_assoc : (a b c : Bool) → ((a || b) || c) ≡ (a || (b || c))
-or_assoc true b c = refl
-or_assoc false b c = refl
-
 -- each member is one of the base or of the set
 abbrev pub IsOf : List ℕ → List ℕ → List ℕ → Type 0
 IsOf w base set = (v : ℕ) → v < 128 → has w v ≡ true → (has base v || has set v) ≡ true
@@ -333,19 +330,11 @@ IsKnown D base set = (w : List ℕ) × D w × ((v : ℕ) → v < 128 → has w v
 pub run_denied : (D : List ℕ → Type 0) (T : List ℕ → Bool → Type 0) → ((w : List ℕ) → T w false → D w) → (d : ℕ) (base set : List ℕ) (asks : Bool) (s : List ℕ) →
     RunTo T d base set asks s → IsKnown D base set → IsKnown D base s
 run_denied D T gives zero base set asks s run known = absurd run
-run_denied D T gives (suc d) base [] asks s run known = elim_asked T base asks s _ (IsKnown D base) (λ denied. (base, gives base denied, λ v low. or-false (has base v)))
+run_denied D T gives (suc d) base [] asks s run known = elim_asked T base asks s _ (IsKnown D base) (λ denied. (base, gives base denied, λ v low. sym (or-false (has base v))))
     (λ passed e. subst (λ (x : List ℕ). IsKnown D base x) (sym e) known) run
-  where
-    or-false : (b : Bool) → b ≡ (b || false)
-    or-false true = refl
-    or-false false = refl
-run_denied D T gives (suc d) base (v ∷ []) asks s run known = elim_asked T base asks s _ (IsKnown D base) (λ denied. (base, gives base denied, λ v low. or-false (has base v)))
+run_denied D T gives (suc d) base (v ∷ []) asks s run known = elim_asked T base asks s _ (IsKnown D base) (λ denied. (base, gives base denied, λ v low. sym (or-false (has base v))))
     (λ passed e. subst (λ (x : List ℕ). IsKnown D base x) (sym e) known) run
-  where
-    or-false : (b : Bool) → b ≡ (b || false)
-    or-false true = refl
-    or-false false = refl
-run_denied D T gives (suc d) base (v ∷ u ∷ set) asks s run known = elim_asked T base asks s _ (IsKnown D base) (λ denied. (base, gives base denied, λ v low. or-false (has base v)))
+run_denied D T gives (suc d) base (v ∷ u ∷ set) asks s run known = elim_asked T base asks s _ (IsKnown D base) (λ denied. (base, gives base denied, λ v low. sym (or-false (has base v))))
     (λ passed (s1, s2, r1, r2, e). subst (λ (x : List ℕ). IsKnown D base x) (sym e) (join s1 s2 (run_denied D T gives d (union base s1) first (not (is_empty s1)) s2 r2
     (swap s1 (run_denied D T gives d (union base first) second true s1 r1 (split known)))))) run
   where
@@ -354,10 +343,6 @@ run_denied D T gives (suc d) base (v ∷ u ∷ set) asks s run known = elim_aske
 
     second : List ℕ
     second = second_half (v ∷ u ∷ set)
-
-    or-false : (b : Bool) → b ≡ (b || false)
-    or-false true = refl
-    or-false false = refl
 
     split : IsKnown D base (v ∷ u ∷ set) → IsKnown D (union base first) second
     split (w, is, alike) = (w, is, λ z low. alike z low ∙ ap (λ x. has base z || x) (sym (has_halves (v ∷ u ∷ set) z)) ∙ sym (or_assoc (has base z) (has first z) (has second z)) ∙ (λ i. sym (has_union base first z low) i || has second z))

@@ -1,7 +1,8 @@
 -- A language that is built keeps what each language keeps.
-use Rattle.language.proofs.Prelude.{◌≡◌, ℕ, zero, ◌+◌, ◌-◌, ◌^◌, ◌<◌, ◌≤◌, ◌||◌, ◌⊎◌, inl, inr, Option, Some, Bool, true, false, cond, List, [], ◌∷◌, length, map, get_or, take, refl, sym, ◌∙◌, ap, subst, arith, All, string_bytes, ◌==◌, list_any, list_all, filter, option_or, cases_Bool, eqb-true, length-map, get_or-map, length-range_with_len, get_or-map-range_with_len, Any-from_list_any, All-head, All-map, Relation, IsClosing, IsTable, IsOfKind, one_given, RelPart, LangFault, Scope, Inside, Language, Given, of_arity, given_on, given_within, relations_on, scope_at, IsLanguage, AreNames, is_whole_range, widened, ValueRange, Frame, IsFrame, IsOver, IsBuilt, has_arity, relations_of_arity, relations_given, scopes_of, scopes_refusal, closing_refusal, build_refusal, AreScopes, IsClosedOf, AreAll, given_at, variables_in, seen, given_by, ranges_in, scope_in, relations_at, pairs_in, IsSound, ArePairMasks, numbers}
+use Rattle.language.proofs.Prelude.{◌≡◌, ℕ, zero, ◌+◌, ◌-◌, ◌^◌, ◌<◌, ◌≤◌, Option, Some, true, List, [], ◌∷◌, length, map, get_or, take, refl, sym, ◌∙◌, ap, subst, arith, All, string_bytes, ◌==◌, list_all, option_or, eqb-true, length-map, get_or-map, length-range_with_len, get_or-map-range_with_len, Any-from_list_any, All-head, All-map, Relation, IsClosing, IsTable, IsOfKind, one_given, RelPart, LangFault, Scope, Inside, Language, Given, of_arity, given_on, given_within, relations_on, scope_at, IsLanguage, AreNames, is_whole_range, widened, ValueRange, Frame, IsFrame, IsOver, IsBuilt, has_arity, relations_of_arity, relations_given, scopes_of, scopes_refusal, closing_refusal, build_refusal, AreScopes, IsClosedOf, AreAll, given_at, variables_in, seen, given_by, ranges_in, scope_in, relations_at, pairs_in, IsSound, ArePairMasks, numbers}
 use Rattle.language.proofs.Sizes.{closed_sized}
 use Rattle.language.proofs.Members.{any-map}
+use Rattle.shared_lemmas.proofs.Lists.{some_kept}
 
 -- how many values the first relation is over
 abbrev pub values_of : List RelPart → ℕ
@@ -14,15 +15,7 @@ values_of-over d (part ∷ parts) some over = All-head (IsOver d) part parts ove
 
 -- ---- The relations of an arity that is used
 
-some_kept : {X : Type 0} (p : X → Bool) (xs : List X) → list_any p xs ≡ true → 1 ≤ length (filter p xs)
-some_kept p [] h = absurd (let e : false ≡ true = h in cc)
-some_kept p (x ∷ xs) h = go (cases_Bool (p x)) (some_kept p xs)
-  where
-    go : (p x ≡ true) ⊎ (p x ≡ false) → (list_any p xs ≡ true → 1 ≤ length (filter p xs)) → 1 ≤ length (filter p (x ∷ xs))
-    go (inl on) rest = subst (λ (b : Bool). 1 ≤ length (cond b (x ∷ filter p xs) (filter p xs))) (sym on) (omega arith)
-    go (inr off) rest = subst (λ (b : Bool). 1 ≤ length (cond b (x ∷ filter p xs) (filter p xs))) (sym off) (rest (ap (λ b. b || list_any p xs) (sym off) ∙ h))
-
-some_closed : (file closed : List Relation) → 1 ≤ length file → IsClosing file closed → 1 ≤ length closed
+pub some_closed : (file closed : List Relation) → 1 ≤ length file → IsClosing file closed → 1 ≤ length closed
 some_closed [] closed some closing = absurd (omega arith)
 some_closed (r ∷ file) closed some closing = let has = closing.every r (one_given (r ∷ file) r (zero, omega arith, refl)) in let low = has.1 in omega arith
 

@@ -4,6 +4,7 @@ use Rattle.std.specs.List.{find}
 use Rattle.std.proofs.lemmas.Nat.{one_shl}
 use Rattle.language.proofs.Sizes.{of_arity_sized}
 use Rattle.language.proofs.Wording.{made}
+use Rattle.std.proofs.Math.Bool.{and-true}
 
 -- ---- a relation by its name
 
@@ -150,10 +151,6 @@ shifted_bit false r k h = ap (λ m. is_one m k) (let e : 0 * 2 ^ r % 2 ^ 64 ≡ 
 one_more : (mask r k : ℕ) (b : Bool) → r < 64 → is_one (bit_or mask (from_bool b * 2 ^ r % 2 ^ 64)) k ≡ (is_one mask k || (b && (r == k)))
 one_more mask r k b h = is_one-or mask (from_bool b * 2 ^ r % 2 ^ 64) k ∙ ap (λ c. is_one mask k || c) (shifted_bit b r k h)
 
-and_true : (b : Bool) → (b && true) ≡ b
-and_true true = refl
-and_true false = refl
-
 or_none : (a b : Bool) → (a || (b && false)) ≡ a
 or_none true b = refl
 or_none false true = refl
@@ -166,5 +163,5 @@ mask_more p r mask bit b small is_bit at is = subst (λ (x : ℕ). IsMaskOf p (r
 })
   where
     here : (k : ℕ) → k < r + 1 → (r ≡ k) ⊎ (r ≢ k) → (is_one mask k || (b && (r == k))) ≡ p k
-    here k h (inl same) = (λ i. is.high k (omega arith) i || (b && eq-eqb r k same i)) ∙ and_true b ∙ at ∙ ap p same
+    here k h (inl same) = (λ i. is.high k (omega arith) i || (b && eq-eqb r k same i)) ∙ and-true b ∙ at ∙ ap p same
     here k h (inr other) = ap (λ c. is_one mask k || (b && c)) (ne_eqb r k other) ∙ or_none (is_one mask k) b ∙ is.low k (omega arith)

@@ -3,6 +3,7 @@ use Rattle.language.proofs.Prelude.{◌≡◌, ℕ, ◌<◌, Bool, true, false, 
 use Rattle.assign.specs.Events.{Answer}
 use Rattle.language.specs.Answers.{IsNetwork, IsNoOn, IsCovered, has_scope, agrees, is_struck}
 use Rattle.language.proofs.Meets.{closed_candidates}
+use Rattle.shared_lemmas.proofs.Booleans.{both_true}
 
 -- ---- truth values
 
@@ -28,12 +29,6 @@ pub same_answer : (a b : Bool) → beq a b ≡ true → b ≡ false → a ≡ fa
 same_answer false b e h = refl
 same_answer true true e h = cc
 same_answer true false e h = cc
-
--- each from the other
-pub both_true : (a b : Bool) → (a ≡ true → b ≡ true) → (b ≡ true → a ≡ true) → a ≡ b
-both_true true b f g = sym (f refl)
-both_true false true f g = g refl
-both_true false false f g = refl
 
 -- ---- the candidates of a network that lie on one scope
 

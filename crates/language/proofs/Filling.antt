@@ -1,9 +1,10 @@
 -- The assignment of a prefix, as its values come and go.
-use Rattle.language.proofs.Prelude.{◌≡◌, ℕ, suc, ◌<◌, Bool, true, false, cond, ◌&&◌, List, [], ◌∷◌, ◌++◌, length, replicate, Some, None, refl, sym, ◌∙◌, ap, arith, inl, inr, ◌⊎◌, ◌==◌, ◌≢◌, slice_index_or, slice_set, All, AllPairs, ForSome, get_or-set_same, get_or-set_other, get_or-replicate, length-replicate, fill_by_all, length-map-range_with_len, All-map, cases_eq, eq-eqb, ne_eqb, and_parts, and_from, value_of, value_beside, assigned, IsAssignment, is_in, Language, IsQuestion, variable_count, range_of, is_ranged, IsOrder, are_ranged}
+use Rattle.language.proofs.Prelude.{◌≡◌, ℕ, suc, ◌<◌, true, false, cond, ◌&&◌, List, [], ◌∷◌, ◌++◌, length, replicate, Some, None, refl, sym, ◌∙◌, ap, arith, inl, inr, ◌⊎◌, ◌==◌, ◌≢◌, slice_index_or, slice_set, All, AllPairs, ForSome, get_or-set_same, get_or-set_other, get_or-replicate, length-replicate, fill_by_all, length-map-range_with_len, All-map, cases_eq, eq-eqb, ne_eqb, and_parts, and_from, value_of, value_beside, assigned, IsAssignment, is_in, Language, IsQuestion, variable_count, range_of, is_ranged, IsOrder, are_ranged}
 use Rattle.std.proofs.Math.ListN.{length-set}
 use Rattle.language.proofs.Beside.{value_of_assigned, beside_none, beside_fits}
 use Rattle.language.proofs.Lists.{all_below}
 use Rattle.language.proofs.Fronts.{assigned_more, ranged_at, ranged_from, ranged_more}
+use Rattle.shared_lemmas.proofs.Booleans.{both_true}
 
 -- ---- the value beside a variable, with one value more
 
@@ -96,7 +97,7 @@ ranged_blank l order = ranged_from l (assigned (variable_count l) order []) (λ 
 -- with one value more that has to be one of the next variable's
 pub ranged_push : (l : Language) (order : List ℕ) → IsOrder (variable_count l) order → (p : List ℕ) (x : ℕ) → length p < variable_count l →
     are_ranged l (assigned (variable_count l) order (p ++ x ∷ [])) ≡ (are_ranged l (assigned (variable_count l) order p) && is_in (range_of l (slice_index_or order (length p) 0)) x)
-ranged_push l order is p x short = both_are _ _ forth back
+ranged_push l order is p x short = both_true _ _ forth back
   where
     low : slice_index_or order (length p) 0 < variable_count l
     low = next_known (variable_count l) order is p short
@@ -122,8 +123,3 @@ ranged_push l order is p x short = both_are _ _ forth back
             is_ranged l w (cond (slice_index_or order (length p) 0 == w) (Some x) (value_of (assigned (variable_count l) order p) w)) ≡ true
         go w (inl same) here rest = rw (eq-eqb _ w same) (ap (λ v. is_in (range_of l v) x) (sym same) ∙ here)
         go w (inr differ) here rest = rw (ne_eqb _ w differ) rest
-
-    both_are : (a b : Bool) → (a ≡ true → b ≡ true) → (b ≡ true → a ≡ true) → a ≡ b
-    both_are true b f g = sym (f refl)
-    both_are false true f g = g refl
-    both_are false false f g = refl

@@ -4,6 +4,7 @@ use Rattle.language.proofs.Accepts.{accepted_at, accepted_from}
 use Rattle.language.proofs.Lists.{all_below}
 use Rattle.language.proofs.Beside.{value_of_assigned}
 use Rattle.language.proofs.Preorder.{PassesFronts}
+use Rattle.shared_lemmas.proofs.Read.{known_one}
 
 -- f has each value of e
 abbrev pub HasMore : Assignment → Assignment → Type 0
@@ -31,12 +32,8 @@ assigned_more n vars p q v x h = go (cases_lt v n)
         none_some : None ≡ Some x → ⊥
         none_some e = cc
 
-known_one : (o : Option ℕ) → is_some o ≡ true → o ≡ Some (unwrap_or o 0)
-known_one None h = cc
-known_one (Some x) h = refl
-
 value_same : (e f : Assignment) (v : ℕ) → HasMore e f → is_some (value_of e v) ≡ true → value_of f v ≡ value_of e v
-value_same e f v more h = more v _ (known_one (value_of e v) h) ∙ sym (known_one (value_of e v) h)
+value_same e f v more h = more v _ (known_one (value_of e v) 0 h) ∙ sym (known_one (value_of e v) 0 h)
 
 pub covers_more : (e f : Assignment) (scope : List ℕ) → HasMore e f → covers e scope ≡ true → (covers f scope ≡ true) × (tuple_on f scope ≡ tuple_on e scope)
 covers_more e f [] more h = (refl, refl)

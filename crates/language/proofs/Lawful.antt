@@ -1,5 +1,5 @@
 -- What lists of variables are that nothing refuses.
-use Rattle.language.proofs.Prelude.{◌≡◌, ℕ, zero, suc, ◌+◌, ◌<◌, ◌≤◌, Bool, true, false, cond, ◌&&◌, ◌||◌, true≢false, Option, Some, None, Result, Ok, Err, is_some, List, [], ◌∷◌, ◌++◌, length, map, refl, sym, ◌∙◌, ap, subst, arith, All, AllPairs, IsTrue, IfErr, OnOk, ◌≢◌, nat_lt, nat_le, not, position, option_map, slice_index, option_or, list_any, position_or_len, IsStrictlyIncreasing, and_parts, or_parts, ltb-true, leb-true, le-leb, lt-ltb, All-nil, All-cons, All-head, All-tail, All-append, All-weaker, AllPairs-cons, Rises, IsSet, is_within, is_same, Scope, variables_in, AreScopes, Given, IsScope, AreApart, LangFault, Memory, ScopeOrder, TooManyScopes, ScopeRepeated, Nested, NoRelationOfArity, is_rising, is_ordered, are_nested, pair_after, first_pair, has_arity, rising_lists, all_scopes, scopes_of, AreKnown, scope_list_refusal, scopes_refusal}
+use Rattle.language.proofs.Prelude.{no_pairs, ◌≡◌, ℕ, zero, suc, ◌+◌, ◌<◌, ◌≤◌, Bool, true, false, cond, ◌&&◌, ◌||◌, true≢false, Option, Some, None, Result, Ok, Err, is_some, List, [], ◌∷◌, ◌++◌, length, map, refl, sym, ◌∙◌, ap, subst, arith, All, AllPairs, IsTrue, IfErr, OnOk, ◌≢◌, nat_lt, nat_le, not, position, option_map, slice_index, option_or, list_any, position_or_len, IsStrictlyIncreasing, and_parts, or_parts, ltb-true, leb-true, le-leb, lt-ltb, All-nil, All-cons, All-head, All-tail, All-append, All-weaker, AllPairs-cons, Rises, IsSet, is_within, is_same, Scope, variables_in, AreScopes, Given, IsScope, AreApart, LangFault, Memory, ScopeOrder, TooManyScopes, ScopeRepeated, Nested, NoRelationOfArity, is_rising, is_ordered, are_nested, pair_after, first_pair, has_arity, rising_lists, all_scopes, scopes_of, AreKnown, scope_list_refusal, scopes_refusal}
 use Rattle.language.proofs.Pairs.{first_is, one_step}
 use Rattle.language.proofs.Used.{of_arity}
 use Rattle.language.proofs.Rising.{lists_long, lists_rise, lists_known}
@@ -164,9 +164,6 @@ record AreUnrelated (related : List ℕ → List ℕ → Bool) (before lists : L
 unpaired : (b : Bool) (at : ℕ × ℕ) (rest : Option (ℕ × ℕ)) → cond b (Some at) rest ≡ None → (b ≡ false) × (rest ≡ None)
 unpaired true at rest h = absurd (true≢false (ap (λ o. is_some o) h))
 unpaired false at rest h = (refl, h)
-
-no_pairs : {X : Type 0} (R : X → X → Type 0) → AllPairs R []
-no_pairs R i j d low high = absurd (omega arith)
 
 unrelated : (related : List ℕ → List ℕ → Bool) (before lists : List (List ℕ)) → pair_after related before lists ≡ None → AreUnrelated related before lists
 unrelated related before [] h = record {

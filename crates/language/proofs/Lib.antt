@@ -10,6 +10,7 @@ pub mod SameRanges
 pub mod Meets
 pub mod Covered
 pub mod Members
+pub mod FewScopes
 pub mod Fields
 pub mod Placing
 pub mod Wording
@@ -44,3 +45,4 @@ pub mod Running
 pub mod Domains
 pub mod Filled
 pub mod PairOrders
+pub mod RangeRuns

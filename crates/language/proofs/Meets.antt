@@ -1,18 +1,11 @@
 -- The intersection of two candidates on a scope is a candidate there.
 use Rattle.language.proofs.Prelude.{◌≡◌, ℕ, zero, suc, Bool, true, false, ◌||◌, ◌&&◌, not, List, [], ◌∷◌, ◌++◌, refl, sym, ◌∙◌, ap, subst, Contains, slice_index_or, All-append, All-cons, get_or_default, Candidate, covers, tuple_on, Relation, place, meet, meet_all, IsIntersection, meet_assoc, Language, IsLanguage, IsCandidate, relations_on, IsMeetOf, CandidatesAreClosed}
+use Rattle.std.proofs.Math.Bool.{and-false}
 
 pub meet_at : (r q : Relation) (k : ℕ) → slice_index_or (meet r q) k false ≡ (slice_index_or r k false && slice_index_or q k false)
 meet_at [] q k = refl
-meet_at (x ∷ r) [] zero = no x
-  where
-    no : (b : Bool) → false ≡ (b && false)
-    no true = refl
-    no false = refl
-meet_at (x ∷ r) [] (suc k) = no (slice_index_or r k false)
-  where
-    no : (b : Bool) → false ≡ (b && false)
-    no true = refl
-    no false = refl
+meet_at (x ∷ r) [] zero = sym (and-false x)
+meet_at (x ∷ r) [] (suc k) = sym (and-false (slice_index_or r k false))
 meet_at (x ∷ r) (y ∷ q) zero = refl
 meet_at (x ∷ r) (y ∷ q) (suc k) = meet_at r q k
 

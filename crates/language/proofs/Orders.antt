@@ -1,5 +1,5 @@
 -- The order of a candidate has each variable once, and a prefix of all its values gives a whole assignment.
-use Rattle.language.proofs.Prelude.{◌≡◌, ℕ, zero, suc, ◌+◌, ◌<◌, ◌≤◌, Bool, true, false, cond, ◌||◌, ◌&&◌, not, List, [], ◌∷◌, ◌++◌, length, map, take, Option, Some, None, refl, sym, ◌∙◌, ap, subst, arith, inl, inr, ◌⊎◌, length-append, append_assoc, ◌==◌, ◌≢◌, All, AllPairs, slice_index_or, is_some, unwrap_or, list_any, filter, range_with_len, append-nil, All-head, All-tail, All-nil, All-append, All-filter, All-push, filter_passes, filter_more, fill_by_all, length-range_with_len, get_or-range_with_len, AllPairs-cons, AllPairs-filter, AllPairs-from_increasing, list_all-from_AllPass, AllPass-from_list_all, list_any-append, list_any_at, cases_eq, and_from, or_left, or_cases, both_ways, not-true, not_from_false, true_from_ne_false, eq-eqb, ne_eqb, eqb-true, IsDistinct, eqb, numbers, has, Rises, Assignment, value_of, value_beside, covers, tuple_on, is_complete, filter_agree_from, rises_lower, lacks, Candidate, Language, IsLanguage, IsCandidate, variable_count, scope_of, IsOrder, order_of, assignment_of}
+use Rattle.language.proofs.Prelude.{length-range_with_len, ◌≡◌, ℕ, zero, suc, ◌+◌, ◌<◌, ◌≤◌, Bool, true, false, cond, ◌||◌, ◌&&◌, not, List, [], ◌∷◌, ◌++◌, length, map, take, Option, Some, None, refl, sym, ◌∙◌, ap, subst, arith, inl, inr, ◌⊎◌, length-append, append_assoc, ◌==◌, ◌≢◌, All, AllPairs, slice_index_or, is_some, unwrap_or, list_any, filter, range_with_len, append-nil, All-head, All-tail, All-nil, All-append, All-filter, All-push, filter_passes, filter_more, fill_by_all, length-range_with_len, get_or-range_with_len, AllPairs-cons, AllPairs-filter, AllPairs-from_increasing, list_all-from_AllPass, AllPass-from_list_all, list_any-append, list_any_at, cases_eq, and_from, or_left, or_cases, both_ways, not-true, not_from_false, true_from_ne_false, eq-eqb, ne_eqb, eqb-true, IsDistinct, eqb, numbers, has, Rises, Assignment, value_of, value_beside, covers, tuple_on, is_complete, filter_agree_from, rises_lower, lacks, Candidate, Language, IsLanguage, IsCandidate, variable_count, scope_of, IsOrder, order_of, assignment_of}
 use Rattle.std.proofs.lemmas.Map.Keys.{IsDistinct-from_apart, IsDistinct-push}
 use Rattle.std.proofs.lemmas.Map.Steps.{length-le_from_distinct_below}
 use Rattle.std.proofs.lemmas.Cmp.{nat_eq_equiv}
@@ -40,10 +40,6 @@ length-parted p (x ∷ xs) = go (p x) (length-parted p xs)
     go true rest = omega arith
     go false rest = omega arith
 
-pub length-range : (a n : ℕ) → length (range_with_len a n) ≡ n
-length-range a zero = refl
-length-range a (suc n) = ap suc (length-range (a + 1) n)
-
 -- what a list of variables beside their values gives
 beside_has : (f : ℕ → ℕ) (vars : List ℕ) (v : ℕ) → has vars v ≡ true → value_beside vars (map f vars) v ≡ Some (f v)
 beside_has f [] v h = cc
@@ -83,7 +79,7 @@ module _ (l : Language) (c : Candidate) (small : All (λ v. v < variable_count l
   length-order rises =
       let first : length (filter (has (scope_of l c)) (numbers (variable_count l))) ≡ length (scope_of l c) =
       ap length (canonical_below 0 (variable_count l) (scope_of l c) rises (λ k d low. (let at = small k d low in omega arith))) in
-      omega (arith, length-append (scope_of l c) (filter (λ v. not (has (scope_of l c) v)) (numbers (variable_count l))), length-parted (has (scope_of l c)) (numbers (variable_count l)), length-range 0 (variable_count l))
+      omega (arith, length-append (scope_of l c) (filter (λ v. not (has (scope_of l c) v)) (numbers (variable_count l))), length-parted (has (scope_of l c)) (numbers (variable_count l)), length-range_with_len 0 (variable_count l))
 
   -- the prefix of all values of a complete assignment gives that assignment
   pub whole_prefix : (e : Assignment) → length e ≡ variable_count l → is_complete e ≡ true → assignment_of l c (tuple_on e (order_of l c)) ≡ e

@@ -14,6 +14,7 @@ use Rattle.rel_table.proofs.Inserting.{stays, goes_in}
 use Rattle.language.specs.PairOrder.{IsRangeMask, IsFirstBit, TellsFirstBit, TellsOrder}
 use Rattle.language.proofs.Within.{widened-at, length-widened, part_from, not_part, kept_at}
 use Rattle.language.proofs.Widening.{over-meet, widened-over, image_is, intersection_of}
+use Rattle.std.proofs.Math.Bool.{and-false}
 
 -- ---- bits
 
@@ -264,11 +265,7 @@ pub below_range : (range : ValueRange) (x : ℕ) → x < range.first → is_in r
 below_range range x low = ap (λ b. b && nat_le x range.last) (lt-leb range.first x low)
 
 pub past_range : (range : ValueRange) (x : ℕ) → range.last + 1 ≤ x → is_in range x ≡ false
-past_range range x past = ap (λ b. nat_le range.first x && b) (lt-leb x range.last (omega arith)) ∙ none (nat_le range.first x)
-  where
-    none : (b : Bool) → (b && false) ≡ false
-    none true = refl
-    none false = refl
+past_range range x past = ap (λ b. nat_le range.first x && b) (lt-leb x range.last (omega arith)) ∙ and-false (nat_le range.first x)
 
 pub within_range : (range : ValueRange) (x : ℕ) → range.first ≤ x → x < range.last + 1 → is_in range x ≡ true
 within_range range x low high = and_from _ _ (le-leb range.first x low) (le-leb x range.last (omega arith))

@@ -1,5 +1,5 @@
 -- The first pair of scopes that is related.
-use Rattle.language.proofs.Prelude.{◌≡◌, ℕ, zero, suc, ◌+◌, ◌<◌, ◌≤◌, Bool, true, false, cond, ◌&&◌, ◌||◌, true≢false, Option, Some, None, List, [], ◌∷◌, ◌++◌, length, take, drop, is_some, refl, sym, ◌∙◌, ap, subst, arith, nat_eq, not, position, slice_index_or, ◌==◌, list_any, position_or_len, position_from, list_any_at, list_all-from_AllPass, and_parts, both_ways, eq-eqb, eqb-true, false_from_ne_true, or_left, pointwise, take_more, drop_more, has, is_same, is_within, are_nested, pair_after, first_pair}
+use Rattle.language.proofs.Prelude.{and_from, ◌≡◌, ℕ, zero, suc, ◌+◌, ◌<◌, ◌≤◌, Bool, true, false, cond, ◌&&◌, ◌||◌, true≢false, Option, Some, None, List, [], ◌∷◌, ◌++◌, length, take, drop, is_some, refl, sym, ◌∙◌, ap, subst, arith, nat_eq, not, position, slice_index_or, ◌==◌, list_any, position_or_len, position_from, list_any_at, list_all-from_AllPass, and_parts, both_ways, eq-eqb, eqb-true, false_from_ne_true, or_left, pointwise, take_more, drop_more, has, is_same, is_within, are_nested, pair_after, first_pair}
 use Rattle.std.proofs.lemmas.Iterator.Adapters.{position_from-zero}
 use Rattle.std.proofs.lemmas.List.Quantifiers.{position-Some}
 use Rattle.language.proofs.Lists.{any_weaker}
@@ -105,11 +105,15 @@ none_of_fewer p q more before (scope ∷ scopes) h =
     (false_from_ne_true _ (λ some. both_ways _ parts.0 (any_weaker (λ earlier. p earlier scope) (λ earlier. q earlier scope) before (λ earlier. more earlier scope) some)))
     (none_of_fewer p q more (before ++ scope ∷ []) scopes parts.1)
 
-same_list : (xs ys : List ℕ) → is_same xs ys ≡ true → xs ≡ ys
+pub same_list : (xs ys : List ℕ) → is_same xs ys ≡ true → xs ≡ ys
 same_list [] [] h = refl
 same_list [] (y ∷ ys) h = cc
 same_list (x ∷ xs) [] h = cc
 same_list (x ∷ xs) (y ∷ ys) h = let parts = and_parts (x == y) (is_same xs ys) h in λ i. eqb-true x y parts.0 i ∷ same_list xs ys parts.1 i
+
+pub list_same : (xs : List ℕ) → is_same xs xs ≡ true
+list_same [] = refl
+list_same (x ∷ xs) = and_from (x == x) (is_same xs xs) (eq-eqb x x refl) (list_same xs)
 
 within_itself : (xs : List ℕ) → is_within xs xs ≡ true
 within_itself xs = list_all-from_AllPass (has xs) xs (λ k d low. list_any_at (λ x. x == slice_index_or xs k d) xs k d low (eq-eqb _ _ refl))

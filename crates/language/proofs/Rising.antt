@@ -1,6 +1,7 @@
 -- The rising lists of a size, by least variable, and how many there are.
 use Rattle.language.proofs.Prelude.{◌≡◌, ℕ, zero, suc, ◌+◌, ◌-◌, ◌<◌, ◌≤◌, Bool, true, false, cond, ◌&&◌, List, [], ◌∷◌, ◌++◌, length, map, refl, sym, ◌∙◌, ap, arith, append_assoc, append-nil, length-append, subst, take, nat_le, All, slice_index_or, flat_map, range_with_len, le-leb, lt-leb, length-map, flat_map-append, flat_map-map, filter-append, filter_agree, filter_passes, All-nil, All-cons, All-append, All-map, All-weaker, tuples, Scope, variables_in, choices, past, longer_by, is_rising, rising_lists}
 use Rattle.std.specs.Prelude.{filter}
+use Rattle.std.proofs.lemmas.Simd.{map-map}
 
 -- the rising lists of a size of the m numbers from a on: first those with a
 abbrev pub rising_from : ℕ → ℕ → ℕ → List (List ℕ)
@@ -86,10 +87,6 @@ pub count_lists : (n size : ℕ) → length (rising_lists n size) ≡ choices n 
 count_lists n size = ap length (lists_are n size) ∙ count-rising_from 0 n size
 
 -- ---- Lists that have one variable more
-
-map-map : {X Y Z : Type 0} (g : Y → Z) (f : X → Y) (xs : List X) → map g (map f xs) ≡ map (λ x. g (f x)) xs
-map-map g f [] = refl
-map-map g f (x ∷ xs) = ap (λ ys. g (f x) ∷ ys) (map-map g f xs)
 
 map-join : {X Y : Type 0} (g : X → Y) (xs ys : List X) → map g (xs ++ ys) ≡ map g xs ++ map g ys
 map-join g [] ys = refl

@@ -1,12 +1,7 @@
 -- Tests that change once at most.
 use Rattle.language.proofs.Prelude.{◌≡◌, ℕ, zero, suc, ◌+◌, ◌<◌, ◌≤◌, Bool, true, false, cond, refl, sym, ◌∙◌, ap, subst, arith, inl, inr, ◌⊎◌, ◌≢◌, nat_le, beq, cases_eq, both_ways, leb-true, changes_of, is_running}
 use Rattle.language.proofs.PairMasking.{running_fails}
-
-beq_true : (a b : Bool) → beq a b ≡ true → a ≡ b
-beq_true true true h = refl
-beq_true true false h = cc
-beq_true false true h = cc
-beq_true false false h = refl
+use Rattle.shared_lemmas.proofs.Booleans.{beq_same}
 
 -- a test that never changes
 constant : (test : ℕ → Bool) (n x : ℕ) → changes_of test n ≤ 0 → x < n → test x ≡ test 0
@@ -16,7 +11,7 @@ constant test (suc (suc k)) x none low = go (cases_eq x (suc k)) (constant test 
   where
     go : (x ≡ suc k) ⊎ (x ≢ suc k) → ((y : ℕ) → changes_of test (suc k) ≤ 0 → y < suc k → test y ≡ test 0) → (b : Bool) → beq (test k) (test (suc k)) ≡ b → test x ≡ test 0
     go (inr other) rest b e = rest x (omega arith) (omega arith)
-    go (inl same) rest true e = ap test same ∙ sym (beq_true (test k) (test (suc k)) e) ∙ rest k (omega arith) (omega arith)
+    go (inl same) rest true e = ap test same ∙ sym (beq_same (test k) (test (suc k)) e) ∙ rest k (omega arith) (omega arith)
     go (inl same) rest false e = absurd (let more = subst (λ (b : Bool). changes_of test (suc k) + cond b 0 1 ≤ 0) e none in omega arith)
 
 -- between two numbers a test that changes once at most is as at one of them
@@ -33,7 +28,7 @@ between test (suc (suc k)) low x high once from to end = go (cases_eq high (suc 
       where
         ends : (test x ≡ test low) ⊎ (test x ≡ test k) → (test x ≡ test low) ⊎ (test x ≡ test high)
         ends (inl is) = inl is
-        ends (inr is) = inr (is ∙ beq_true (test k) (test (suc k)) e ∙ ap test (sym last))
+        ends (inr is) = inr (is ∙ beq_same (test k) (test (suc k)) e ∙ ap test (sym last))
     go (inl last) (inr before) rest false e =
         let one = subst (λ (b : Bool). changes_of test (suc k) + cond b 0 1 ≤ 1) e once in
         let none : changes_of test (suc k) ≤ 0 = omega arith in

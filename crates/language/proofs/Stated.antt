@@ -1,5 +1,5 @@
 -- Lists of numbers as scopes: their order, and their sets.
-use Rattle.language.proofs.Prelude.{◌≡◌, ℕ, ◌+◌, ◌<◌, ◌≤◌, true, ◌&&◌, List, [], ◌∷◌, length, take, map, refl, sym, ◌∙◌, ap, arith, All, nat_lt, slice_index_or, ◌==◌, take_more, All-nil, All-cons, All-head, All-tail, All-get_or, list_any-append, Rises, IsSet, has, with_member, set_where-same, canonical, rises_take, is_ordered}
+use Rattle.language.proofs.Prelude.{◌≡◌, ℕ, ◌+◌, ◌<◌, ◌≤◌, true, ◌&&◌, List, [], ◌∷◌, length, take, refl, sym, ◌∙◌, ap, arith, All, nat_lt, slice_index_or, ◌==◌, take_more, All-nil, All-cons, All-get_or, list_any-append, Rises, IsSet, has, with_member, set_where-same, canonical, rises_take, is_ordered}
 
 -- ---- Sets
 
@@ -29,7 +29,3 @@ two_ordered (a ∷ []) low high = absurd (omega arith)
 two_ordered (a ∷ b ∷ c ∷ xs) low high = absurd (omega arith)
 
 -- ---- All of what a list is made of
-
-pub all_of : {X Y : Type 0} (P : Y → Type 0) (f : X → Y) (xs : List X) → All P (map f xs) → All (λ x. P (f x)) xs
-all_of P f [] h = All-nil (λ x. P (f x))
-all_of P f (x ∷ xs) h = All-cons (λ x. P (f x)) x xs (All-head P (f x) (map f xs) h) (all_of P f xs (All-tail P (f x) (map f xs) h))

@@ -3,6 +3,7 @@ use Rattle.language.proofs.Prelude.{◌≡◌, ℕ, zero, suc, ◌+◌, ◌-◌,
 use Rattle.std.proofs.lemmas.Simd.{map-map}
 use Rattle.language.proofs.Counting.{numbers_more}
 use Rattle.language.proofs.Widening.{over, widened-over}
+use Rattle.std.proofs.Math.Bool.{and-false}
 
 -- ---- at a place
 
@@ -58,11 +59,7 @@ pub not_part : (r q : Relation) (k : ℕ) → length r ≡ length q → k < leng
 not_part [] q k same low on off = absurd (omega arith)
 not_part (x ∷ r) [] k same low on off = absurd (omega arith)
 not_part (x ∷ r) (y ∷ q) zero same low on off = λ i. (not (on i) || off i) && is_part r q
-not_part (x ∷ r) (y ∷ q) (suc k) same low on off = ap (λ b. (not x || y) && b) (not_part r q k (omega arith) (omega arith) on off) ∙ none (not x || y)
-  where
-    none : (b : Bool) → (b && false) ≡ false
-    none true = refl
-    none false = refl
+not_part (x ∷ r) (y ∷ q) (suc k) same low on off = ap (λ b. (not x || y) && b) (not_part r q k (omega arith) (omega arith) on off) ∙ and-false (not x || y)
 
 implied : (x y : Bool) → cond x y true ≡ (not x || y)
 implied true y = refl

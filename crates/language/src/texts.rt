@@ -11,6 +11,7 @@ use crate::narrow::is_part_on;
 use crate::parts::RelPart;
 use crate::ranges::ValueRange;
 use assign::{Partial, VarSet};
+use itoa::Buffer;
 use rel_table::Table;
 use std::alloc::{AllocError, Global};
 
@@ -20,8 +21,16 @@ fn add_number(text: &mut String, number: i64) -> Result<(), AllocError>
 {
     match u8::try_from(number) {
         Ok(digit) if digit < 10 => text.push(char::from(b'0' + digit)),
-        _ => write!(text, "{number}"),
+        _ => text.push_str(Buffer::new().format(number)),
     }
+}
+
+/// Adds the number of a question.
+fn add_mark(text: &mut String, k: u32) -> Result<(), AllocError>
+    ensures { OnOk result (string_bytes text.new ≡ string_bytes text.old ++ 113 ∷ decimal k) }
+{
+    text.push('q')?;
+    text.push_str(Buffer::new().format(k))
 }
 
 /// Adds a space, the name, `=` and the shown value, where the variable has a value.
@@ -65,7 +74,7 @@ pub(crate) fn text_of_question(
 {
     let mut left = q.vars();
     let mut text = String::with_capacity(alloc, room_for(left))?;
-    write!(text, "q{k}")?;
+    add_mark(&mut text, k)?;
     while let Some(v) = left.least() {
         let at = usize::from(v);
         if at >= names.len() {

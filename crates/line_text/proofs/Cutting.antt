@@ -1,19 +1,7 @@
 -- Lines and words, cut off at the front.
-use Rattle.line_text.proofs.Prelude.{◌≡◌, ℕ, ◌+◌, ◌<◌, ◌≤◌, Bool, cond, List, [], ◌∷◌, length, take, drop, Option, Some, None, refl, sym, ◌∙◌, ap, arith, ltb, ◌⊎◌, inl, inr, position, option_map, position_or_len, cases_lt, lt-ltb, ltb-true, fails_before_first, slice_split_none, slice_split_first, cut_at, is_space, words_in}
-use Rattle.std.proofs.lemmas.Option.{none-some, cond_some, same_Some}
-
-pub at_first : {X : Type 0} (p : X → Bool) (xs : List X) (n : ℕ) → position p xs ≡ Some n → (position_or_len p xs ≡ n) × (n < length xs)
-at_first p xs n h =
-    let c = cond_some (ltb (position_or_len p xs) (length xs)) (position_or_len p xs) n h in
-    let low = ltb-true (position_or_len p xs) (length xs) c.0 in
-    (c.1, (let same = c.1 in omega (arith, low, same)))
-
-pub nowhere : {X : Type 0} (p : X → Bool) (xs : List X) → position p xs ≡ None → length xs ≤ position_or_len p xs
-nowhere p xs h = go (cases_lt (position_or_len p xs) (length xs))
-  where
-    go : (position_or_len p xs < length xs) ⊎ (length xs ≤ position_or_len p xs) → length xs ≤ position_or_len p xs
-    go (inl low) = absurd (none-some (position_or_len p xs) (sym h ∙ ap (λ b. cond b (Some (position_or_len p xs)) None) (lt-ltb _ _ low)))
-    go (inr high) = high
+use Rattle.line_text.proofs.Prelude.{◌≡◌, ℕ, ◌+◌, List, [], ◌∷◌, take, drop, Option, Some, None, refl, sym, ◌∙◌, ap, arith, position, option_map, fails_before_first, slice_split_none, slice_split_first, cut_at, is_space, words_in}
+use Rattle.std.proofs.lemmas.Option.{none-some, same_Some}
+use Rattle.shared_lemmas.proofs.Read.{at_first, nowhere}
 
 -- a line without a space is a word
 pub word_alone : (line : List ℕ) → cut_at 32 line ≡ None → words_in line ≡ line ∷ []

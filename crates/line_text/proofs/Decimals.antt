@@ -1,10 +1,11 @@
 -- Decimal texts of numbers are read as the numbers.
-use Rattle.line_text.proofs.Prelude.{◌≡◌, ℕ, ◌<◌, ◌≤◌, ◌^◌, true, false, cond, List, [], ◌∷◌, length, get_or, Some, None, refl, ◌∙◌, ap, arith, ◌⊎◌, inl, inr, nat_le, nat_lt, ◌==◌, list_all, digit_value, is_digit, option_and_then, AllDigits, digits_value, and_from, cases_lt, le-leb, lt-ltb, ne_eqb, not_from_false, or_left, All-nil, begins_well, decimal_in, decimal_below, number_from}
+use Rattle.line_text.proofs.Prelude.{◌≡◌, ℕ, ◌<◌, ◌≤◌, ◌^◌, true, false, cond, List, [], ◌∷◌, length, get_or, Some, None, ◌∙◌, ap, arith, ◌⊎◌, inl, inr, nat_le, nat_lt, ◌==◌, list_all, is_digit, option_and_then, AllDigits, digits_value, and_from, cases_lt, le-leb, lt-ltb, ne_eqb, not_from_false, or_left, All-nil, begins_well, decimal_in, decimal_below, number_from}
 use Rattle.std.specs.Int.{IsInRange}
 use Rattle.std.specs.Fmt.{decimal}
 use Rattle.std.proofs.lemmas.Fmt.{decimal_digit, decimal_is_IsNumeral, first_decimal}
 use Rattle.std.proofs.lemmas.Str.Parse.{digit_from_value}
 use Rattle.line_text.proofs.Avoiding.{Lacks, lacks_first}
+use Rattle.shared_lemmas.proofs.Read.{all_digits}
 
 -- a byte that is no digit
 abbrev pub IsNoDigit : ℕ → Type 0
@@ -21,10 +22,6 @@ digits_lack byte (b ∷ digits) apart h = lacks_first byte b digits (digit_diffe
 -- it has digits alone
 pub decimal_lacks : (byte n : ℕ) → IsNoDigit byte → n < 2 ^ 64 → Lacks byte (decimal n)
 decimal_lacks byte n apart small = digits_lack byte (decimal n) apart (decimal_is_IsNumeral n small).0.1
-
-all_digits : (digits : List ℕ) → AllDigits 10 digits → list_all (λ b. is_digit b 10) digits ≡ true
-all_digits [] h = refl
-all_digits (b ∷ digits) h = and_from (is_digit b 10) (list_all (λ x. is_digit x 10) digits) (lt-ltb (digit_value b) 10 h.0) (all_digits digits h.1)
 
 begins : (n : ℕ) → n < 2 ^ 64 → begins_well (decimal n) ≡ true
 begins n small = go (cases_lt 0 n)

@@ -1,10 +1,6 @@
 -- Numbers of any length, where those above 32 bits are taken for one.
-use Rattle.line_text.proofs.Prelude.{◌≡◌, ℕ, ◌+◌, ◌*◌, ◌<◌, ◌≤◌, true, cond, List, [], ◌∷◌, length, drop, Some, None, sym, ◌∙◌, ap, arith, ◌⊎◌, inl, inr, list_all, option_map, digit_value, is_digit, digits_value, digits_value_after, cases_lt, lt-ltb, le-ltb, and_from, drop_all, begins_well, is_decimal, capped, decimal_in}
-
--- more digits make no smaller number
-pub value_grows : (n : ℕ) (digits : List ℕ) → n ≤ digits_value_after 10 n digits
-value_grows n [] = omega arith
-value_grows n (b ∷ digits) = let more = value_grows (n * 10 + digit_value b) digits in omega (arith, more)
+use Rattle.line_text.proofs.Prelude.{◌≡◌, ℕ, ◌<◌, ◌≤◌, true, cond, List, [], length, drop, Some, None, sym, ◌∙◌, ap, arith, ◌⊎◌, inl, inr, list_all, option_map, is_digit, digits_value, digits_value_after, cases_lt, lt-ltb, le-ltb, and_from, drop_all, begins_well, is_decimal, capped, decimal_in}
+use Rattle.shared_lemmas.proofs.Read.{value_grows}
 
 pub capped_low : (n : ℕ) → n < 4294967296 → capped n ≡ n
 capped_low n low = ap (λ b. cond b n 4294967295) (lt-ltb n 4294967296 low)

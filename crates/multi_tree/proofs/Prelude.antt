@@ -13,7 +13,7 @@ pub use Rattle.session_laws.proofs.Restrict.{part_is_question, violates_restrict
 pub use Rattle.session_laws.specs.Walk.{Asks, Capped, Ended, Ends, Walk, learned_within, parts_without, take_set, violates_some}
 unfoldable pub use Rattle.session_laws.specs.Walk.{next_turn}
 pub use Rattle.multi_tree.specs.Depth.{AreFit, Fits}
-pub use Rattle.multi_tree.specs.Listed.{AreListed, AreStruck, beside_scope, item_within}
+pub use Rattle.multi_tree.specs.Listed.{AreBarren, AreListed, AreStruck, IsListing, beside_scope, item_within}
 pub use Rattle.multi_tree.specs.Stage.{Ready, Stage, asked_in, begun, put_again}
 pub use Rattle.multi_tree.specs.Standing.{Move, PutsAgain, StandsFor, Turns, moved}
 unfoldable pub use Rattle.multi_tree.specs.Standing.{after_moves}

@@ -16,4 +16,4 @@
 mod stack;
 mod tree;
 
-pub use tree::{Tree, TreeNext};
+pub use tree::{Listing, Tree, TreeNext};

@@ -48,6 +48,14 @@ impl Stack {
         self.sets.is_empty()
     }
 
+    /// How many sets wait.
+    pub fn len(&self) -> usize
+        ensures count { result ≡ length self.now }
+        ensures few { length self.now ≤ 385 }
+    {
+        self.sets.len()
+    }
+
     /// Takes all sets away. The room stays.
     pub fn clear(&mut self)
         ensures { self.new ≡ [] }

@@ -1,6 +1,6 @@
 //! The walk of an example, a turn at a time.
 
-ghost use Rattle.std.specs.Prelude.{◌≡◌, ◌≢◌, ◌<◌, ◌≤◌, ◌++◌, ◌∷◌, ℕ, List, [], length, take, IfOk, IfSome, IsTrue, Some, None};
+ghost use Rattle.std.specs.Prelude.{◌≡◌, ◌≢◌, ◌<◌, ◌≤◌, ◌++◌, ◌∷◌, ℕ, List, [], false, if◌then◌else◌, length, min, not, take, true, IfOk, IfSome, IsTrue, Some, None};
 ghost use Rattle.std.specs.List.{list_any};
 ghost use Rattle.assign.specs.Sets.{is_within};
 ghost use Rattle.assign.specs.Assignment.{restrict};
@@ -9,7 +9,7 @@ ghost use Rattle.language.specs.Answers.{IsNetwork};
 ghost use Rattle.bias_store.specs.KeptSet.{IsMadeFor};
 ghost use Rattle.session_laws.specs.Walk.{learned_within, next_turn, parts_without, violates_some};
 ghost use Rattle.multi_tree.specs.Depth.{Fits};
-ghost use Rattle.multi_tree.specs.Listed.{AreListed, AreStruck, item_within};
+ghost use Rattle.multi_tree.specs.Listed.{AreBarren, AreListed, AreStruck, IsListing, item_within};
 ghost use Rattle.multi_tree.specs.Stage.{walk_in, asked_in, example_in, begun, turn_at, stage_after, put_again, IsWalkOn};
 ghost use Rattle.multi_tree.specs.Standing.{answer_to, turn_told, Move, Turns, PutsAgain, StandsFor};
 
@@ -54,8 +54,6 @@ pub struct Tree {
     /// The set that is asked about, while one is.
     asked: VarSet,
     phase: Phase,
-    /// Room for items that the example violates. What it holds means nothing between turns.
-    places: Vec<Violated>,
     /// Room for scopes that the example strikes. What it holds means nothing between turns.
     room: Vec<VarSet>,
 }
@@ -89,17 +87,12 @@ impl Tree {
     pub fn make(alloc: Global) -> Result<Tree, Memory>
         ensures { IfOk result (λ tree. walk_in tree ≡ None) }
     {
-        let nothing = Violated {
-            item: Candidate { scope: 0, rel: 0 },
-            variables: VarSet::empty(),
-        };
         Ok(Tree {
             example: Partial::blank(1),
             waiting: Stack::make(alloc)?,
             left: 0,
             asked: VarSet::empty(),
             phase: Phase::Ended,
-            places: vec![in alloc; nothing; MOST_LISTED]?,
             room: vec![in alloc; VarSet::empty(); MOST_STRUCK]?,
         })
     }
@@ -143,7 +136,36 @@ impl Tree {
         ensures stands { (e : _) (moves : List Move) → StandsFor self.old lang.now e moves
             → StandsFor self.new lang.now e (moves ++ Turns net.now.list kept.now.members ∷ []) }
     {
-        self.turn(lang, net, kept)
+        let mut places: [Violated; 0] = [];
+        let mut listed = Listed {
+            count: 0,
+            looked_at: 0,
+        };
+        self.turn(lang, net, kept, &mut places, &mut listed)
+    }
+
+    /// The same, beside a listing for the walk: items that it has looked at aren't looked at again.
+    pub fn next_beside(
+        &mut self,
+        lang: &Language,
+        net: &Network,
+        kept: &Kept,
+        listing: &mut Listing,
+    ) -> TreeNext
+        requires example { IsWalkOn lang.now self.old }
+        requires network { IsNetwork lang.now net.now.list }
+        requires made { IsMadeFor lang.now kept.now }
+        requires listed { IsListing lang.now net.now.list (example_in self.old) listing.old }
+        ensures answer { result ≡ answer_to (turn_at lang.now net.now.list kept.now.members self.old) }
+        ensures stage { self.new ≡ stage_after (turn_at lang.now net.now.list kept.now.members self.old) }
+        ensures asked { (set : List ℕ) → result ≡ TreeNext.Ask set → asked_in self.new ≡ Some set }
+        ensures some { (set : List ℕ) → result ≡ TreeNext.Ask set → 0 < length set }
+        ensures example { IsWalkOn lang.now self.new }
+        ensures listed { IsListing lang.now net.now.list (example_in self.new) listing.new }
+        ensures stands { (e : _) (moves : List Move) → StandsFor self.old lang.now e moves
+            → StandsFor self.new lang.now e (moves ++ Turns net.now.list kept.now.members ∷ []) }
+    {
+        self.turn(lang, net, kept, &mut listing.places, &mut listing.listed)
     }
 
     /// Puts the set that was asked about again, as after a no and a learned candidate.
@@ -156,21 +178,31 @@ impl Tree {
         self.phase = Phase::Ready;
     }
 
-    /// A turn of the walk.
-    fn turn(&mut self, lang: &Language, net: &Network, kept: &Kept) -> TreeNext
+    /// A turn of the walk, with the items that are listed before it and after it.
+    fn turn(
+        &mut self,
+        lang: &Language,
+        net: &Network,
+        kept: &Kept,
+        places: &mut [Violated],
+        listed: &mut Listed,
+    ) -> TreeNext
         requires example { IsWalkOn lang.now self.old }
         requires network { IsNetwork lang.now net.now.list }
         requires made { IsMadeFor lang.now kept.now }
+        requires listed { AreListed lang.now net.now.list (example_in self.old) places.old listed.old }
         ensures answer { result ≡ answer_to (turn_at lang.now net.now.list kept.now.members self.old) }
         ensures stage { self.new ≡ stage_after (turn_at lang.now net.now.list kept.now.members self.old) }
         ensures asked { (set : List ℕ) → result ≡ TreeNext.Ask set → asked_in self.new ≡ Some set }
         ensures some { (set : List ℕ) → result ≡ TreeNext.Ask set → 0 < length set }
         ensures example { IsWalkOn lang.now self.new }
+        ensures listed { AreListed lang.now net.now.list (example_in self.new) places.new listed.new }
     {
         match self.phase {
             Phase::Ended => TreeNext::End,
             Phase::Capped => TreeNext::Capped,
             Phase::Ready | Phase::Asked => {
+                look_on(lang, net.list(), &self.example, places, listed);
                 let next = take_sets(
                     lang,
                     net,
@@ -178,7 +210,8 @@ impl Tree {
                     &self.example,
                     &mut self.waiting,
                     &mut self.left,
-                    &mut self.places,
+                    places,
+                    listed,
                     &mut self.room,
                 );
                 match next {
@@ -195,6 +228,21 @@ impl Tree {
     }
 }
 
+/// The scopes with kept candidates that an example strikes, so far as they are listed in the first places of a room, and where
+/// none of these lies.
+#[derive(Clone, Copy)]
+struct Struck {
+    /// How many are listed. They stay the same while a walk takes sets.
+    count: usize,
+    /// Whether these are all.
+    are_all: bool,
+    /// Where so many sets or more wait below a set, none of the listed ones lies within it: it is part of a set that has none.
+    barren: usize,
+}
+
+/// No listed scope is within a set that has at least so many below it. No set has.
+const NOWHERE: usize = 1024;
+
 /// Takes sets from the top, until one is asked about or an end comes.
 fn take_sets(
     lang: &Language,
@@ -203,35 +251,39 @@ fn take_sets(
     example: &Partial,
     waiting: &mut Stack,
     left: &mut u16,
-    places: &mut [Violated],
+    places: &[Violated],
+    listed: &Listed,
     room: &mut [VarSet],
 ) -> TreeNext
     requires question { IsQuestion lang.now example.now }
     requires network { IsNetwork lang.now net.now.list }
     requires made { IsMadeFor lang.now kept.now }
+    requires listed { AreListed lang.now net.now.list example.now places.now listed.now }
     ensures turn { turn_told example.now result waiting.new left.new ≡ next_turn lang.now net.now.list kept.now.members example.now left.old waiting.old }
     ensures room { (set : List ℕ) → result ≡ TreeNext.Ask set → Fits set waiting.new }
     ensures some { (set : List ℕ) → result ≡ TreeNext.Ask set → 0 < length set }
 {
     let _variables = lang.n();
-    let listed = listed_of(lang, net.list(), example, places);
-    // So many scopes that the example strikes stand in the room, once a set was dropped.
-    let mut count = 0;
-    let mut are_all = false;
+    let mut struck = Struck {
+        count: 0,
+        are_all: false,
+        barren: NOWHERE,
+    };
     while *left > 0 {
         let Some(set) = waiting.pop() else {
             return TreeNext::End;
         };
         *left -= 1;
-        match listed_within(lang, net, places, &listed, example, set) {
+        let below = waiting.len();
+        let is_barren = is_barren(&room[..struck.count], struck.barren, below, set);
+        struck.barren = barren_from(struck.barren, below, is_barren);
+        match listed_within(lang, net, places, listed, example, set) {
             Some(c) => split(lang, waiting, set, c),
             None => {
-                if is_struck_within(lang, kept, &room[..count], are_all, example, set) {
+                if is_struck_within(lang, kept, is_barren, struck.are_all, example, set) {
                     return TreeNext::Ask(set);
                 }
-                let found = list_once(lang, kept, example, room, count, are_all);
-                count = found.0;
-                are_all = found.1;
+                struck = list_once(lang, kept, example, room, struck);
             }
         }
     }
@@ -239,6 +291,25 @@ fn take_sets(
         TreeNext::End
     } else {
         TreeNext::Capped
+    }
+}
+
+/// Whether none of the listed scopes lies within a set that has so many below it.
+fn is_barren(sets: &[VarSet], barren: usize, below: usize, set: VarSet) -> bool
+    requires { barren ≤ below → list_any (λ u. is_within u set) sets.now ≡ false }
+    ensures { result ≡ not (list_any (λ u. is_within u set) sets.now) }
+{
+    below >= barren || !some_within(sets, set)
+}
+
+/// From where on sets are barren, once one that has so many below it was taken: it and its parts, if it is.
+fn barren_from(barren: usize, below: usize, is_barren: bool) -> usize
+    ensures { result ≡ (if is_barren then min below barren else 1024) }
+{
+    if is_barren {
+        below.min(barren)
+    } else {
+        NOWHERE
     }
 }
 
@@ -254,27 +325,31 @@ fn split(lang: &Language, waiting: &mut Stack, set: VarSet, c: Candidate)
     waiting.push_parts(set, lang.scope(c.scope));
 }
 
-/// Lists the variables of the scopes with kept candidates that an example violates, where none is listed yet. Says how many
-/// are, and whether these are all. They stay the same too while a walk takes sets.
+/// Lists the variables of the scopes with kept candidates that an example violates, where none is listed yet.
 fn list_once(
     lang: &Language,
     kept: &Kept,
     example: &Partial,
     room: &mut [VarSet],
-    count: usize,
-    are_all: bool,
-) -> (usize, bool)
+    struck: Struck,
+) -> Struck
     requires question { IsQuestion lang.now example.now }
     requires made { IsMadeFor lang.now kept.now }
-    requires before { AreStruck lang.now kept.now.members example.now (take count room.old) are_all }
-    requires few { count ≤ length room.old }
-    ensures struck { AreStruck lang.now kept.now.members example.now (take result.0 room.new) result.1 }
-    ensures few { result.0 ≤ length room.new }
+    requires before { AreStruck lang.now kept.now.members example.now (take struck.count room.old) struck.are_all }
+    requires few { struck.count ≤ length room.old }
+    ensures struck { AreStruck lang.now kept.now.members example.now (take result.count room.new) result.are_all }
+    ensures few { result.count ≤ length room.new }
+    ensures barren { (waiting : List (List ℕ)) → length waiting ≤ 385 → AreBarren (take struck.count room.old) struck.barren waiting → AreBarren (take result.count room.new) result.barren waiting }
 {
-    if count > 0 || are_all {
-        return (count, are_all);
+    if struck.count > 0 || struck.are_all {
+        return struck;
     }
-    kept.list_struck(lang, example, room)
+    let (count, are_all) = kept.list_struck(lang, example, room);
+    Struck {
+        count,
+        are_all,
+        barren: NOWHERE,
+    }
 }
 
 /// Whether one of these sets lies within another one.
@@ -284,22 +359,23 @@ fn some_within(sets: &[VarSet], set: VarSet) -> bool
     sets.iter().any(|inner| inner.within(set))
 }
 
-/// Whether the example violates a kept candidate whose scope lies within the set: on a listed scope, or, where they aren't all
-/// listed, on any.
+/// Whether the example violates a kept candidate whose scope lies within the set: on a listed scope, unless the set is barren, or,
+/// where they aren't all listed, on any.
 fn is_struck_within(
     lang: &Language,
     kept: &Kept,
-    sets: &[VarSet],
+    is_barren: bool,
     are_all: bool,
     example: &Partial,
     set: VarSet,
 ) -> bool
     requires question { IsQuestion lang.now example.now }
     requires made { IsMadeFor lang.now kept.now }
-    requires struck { AreStruck lang.now kept.now.members example.now sets.now are_all }
+    requires struck { is_barren ≡ false → violates_some lang.now kept.now.members (restrict example.now set) ≡ true }
+    requires quiet { is_barren ≡ true → are_all ≡ true → violates_some lang.now kept.now.members (restrict example.now set) ≡ false }
     ensures { result ≡ violates_some lang.now kept.now.members (restrict example.now set) }
 {
-    if some_within(sets, set) {
+    if !is_barren {
         return true;
     }
     if are_all {
@@ -325,24 +401,59 @@ struct Listed {
     looked_at: usize,
 }
 
-/// Lists them, as far as there is room.
-fn listed_of(
+/// The items that the example of a walk violates, from one turn to the next: of a network that has grown only what is new is
+/// looked at.
+#[derive(Drop)]
+pub struct Listing {
+    places: Vec<Violated>,
+    listed: Listed,
+}
+
+impl Listing {
+    /// The room for a listing, with no item looked at. `Memory` where there is none for it.
+    pub fn make(alloc: Global) -> Result<Listing, Memory>
+        ensures { IfOk result (λ listing. (l : _) (network : List Candidate) (e : _) → IsListing l network e listing) }
+    {
+        let nothing = Violated {
+            item: Candidate { scope: 0, rel: 0 },
+            variables: VarSet::empty(),
+        };
+        Ok(Listing {
+            places: vec![in alloc; nothing; MOST_LISTED]?,
+            listed: Listed {
+                count: 0,
+                looked_at: 0,
+            },
+        })
+    }
+
+    /// Forgets what was looked at, as for another example. The room stays.
+    pub fn clear(&mut self)
+        ensures { (l : _) (network : List Candidate) (e : _) → IsListing l network e self.new }
+    {
+        self.listed = Listed {
+            count: 0,
+            looked_at: 0,
+        };
+    }
+}
+
+/// Lists those among the items that weren't looked at, as far as there is room.
+fn look_on(
     lang: &Language,
     net: &[Candidate],
     example: &Partial,
     places: &mut [Violated],
-) -> Listed
+    listed: &mut Listed,
+)
     requires question { IsQuestion lang.now example.now }
     requires network { IsNetwork lang.now net.now }
-    ensures { AreListed lang.now net.now example.now places.new result }
+    requires before { AreListed lang.now net.now example.now places.old listed.old }
+    ensures { AreListed lang.now net.now example.now places.new listed.new }
 {
-    let mut listed = Listed {
-        count: 0,
-        looked_at: 0,
-    };
-    for i in 0..net.len() {
+    for i in listed.looked_at..net.len() {
         if listed.count == places.len() {
-            return listed;
+            return;
         }
         if lang.candidate_violated(net[i], example) {
             places[listed.count] = Violated {
@@ -353,7 +464,6 @@ fn listed_of(
         }
         listed.looked_at = i + 1;
     }
-    listed
 }
 
 /// The first of some violated items whose scope lies within the set.

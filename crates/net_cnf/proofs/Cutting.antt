@@ -1,23 +1,11 @@
 -- Lines and words, cut off at the front.
-use Rattle.net_cnf.proofs.Prelude.{◌≡◌, ℕ, zero, suc, ◌+◌, ◌-◌, ◌<◌, ◌≤◌, not, Bool, true, false, cond, List, [], ◌∷◌, ◌++◌, length, take, drop, get_or, Some, None, refl, sym, ◌∙◌, ap, arith, ltb, ◌⊎◌, inl, inr, position, All, nat_lt, flat_map, slice_split, onto_first, position_or_len, before_first, after_first, bytes_eq, codes, cases_lt, lt-ltb, ltb-true, not-false, not-true, not_from_false, none-some, cond_some, take_all, drop_all, get_or-drop, length-append, length-drop, fails_before_first, is_blank, is_newline, is_remark, words, behind_v, tokens_of_line, all_tokens}
+use Rattle.net_cnf.proofs.Prelude.{◌≡◌, ℕ, zero, suc, ◌+◌, ◌-◌, ◌<◌, ◌≤◌, not, Bool, true, false, cond, List, [], ◌∷◌, ◌++◌, length, take, drop, get_or, Some, None, refl, sym, ◌∙◌, ap, arith, ◌⊎◌, inl, inr, position, All, nat_lt, flat_map, slice_split, onto_first, position_or_len, before_first, after_first, bytes_eq, codes, cases_lt, lt-ltb, not-false, not-true, not_from_false, take_all, drop_all, get_or-drop, length-append, length-drop, fails_before_first, is_blank, is_newline, is_remark, words, behind_v, tokens_of_line, all_tokens}
 use Rattle.std.specs.Prelude.{filter}
 use Rattle.std.proofs.lemmas.List.Quantifiers.{position-Some}
 use Rattle.std.proofs.lemmas.List.Splits.{slice_split-cons_yes, slice_split-cons_no, slice_split_none, slice_split_first}
+use Rattle.shared_lemmas.proofs.Read.{at_first, nowhere}
 
 -- ---- where a test first passes
-
-pub at_first : {X : Type 0} (p : X → Bool) (xs : List X) (n : ℕ) → position p xs ≡ Some n → (position_or_len p xs ≡ n) × (n < length xs)
-at_first p xs n h =
-    let c = cond_some (ltb (position_or_len p xs) (length xs)) (position_or_len p xs) n h in
-    let low = ltb-true (position_or_len p xs) (length xs) c.0 in
-    (c.1, (let same = c.1 in omega (arith, low, same)))
-
-pub nowhere : {X : Type 0} (p : X → Bool) (xs : List X) → position p xs ≡ None → length xs ≤ position_or_len p xs
-nowhere p xs h = go (cases_lt (position_or_len p xs) (length xs))
-  where
-    go : (position_or_len p xs < length xs) ⊎ (length xs ≤ position_or_len p xs) → length xs ≤ position_or_len p xs
-    go (inl low) = absurd (none-some (position_or_len p xs) (sym h ∙ ap (λ b. cond b (Some (position_or_len p xs)) None) (lt-ltb _ _ low)))
-    go (inr high) = high
 
 all_fail : {X : Type 0} (p : X → Bool) (xs : List X) → length xs ≤ position_or_len p xs → All (λ x. p x ≡ false) xs
 all_fail p xs high = λ k d low. fails_before_first p xs k d (omega arith)

@@ -4,6 +4,7 @@ use Rattle.language.specs.Answers.{IsNetwork}
 use Rattle.net_cnf.proofs.Numbers.{truth_of, same_truths}
 use Rattle.net_cnf.proofs.Runs.{IsValue, first_of, size_of, values-run, value_in, in_value, value_at, place_in, any_value, all_values}
 use Rattle.net_cnf.proofs.Tests.{all-flat_map, all_failing, all_range, at_range, all_same, only_one, all_two, at_two}
+use Rattle.shared_lemmas.proofs.Booleans.{beq-false, beq-true}
 
 -- ---- An assignment
 
@@ -31,23 +32,15 @@ given_is e v x y is = ap (λ (o : Option ℕ). is_same_value o (Some x)) is
 
 -- ---- Literals
 
-same_as_true : (b : Bool) → beq b true ≡ b
-same_as_true true = refl
-same_as_true false = refl
-
-same_as_false : (b : Bool) → beq b false ≡ not b
-same_as_false true = refl
-same_as_false false = refl
-
 -- the truth value of a Boolean
 abbrev pub truth : Language → List Bool → Boolean → Bool
 truth l truths b = get_or truths (number_of l b - 1) false
 
 yes_met : (l : Language) (e : Assignment) (v x : ℕ) → IsValue l v x → is_met (bits l e) (literal l true (boolean v x)) ≡ gives e (boolean v x)
-yes_met l e v x is = same_as_true (truth l (bits l e) (boolean v x)) ∙ truth_of l (gives e) v x is
+yes_met l e v x is = beq-true (truth l (bits l e) (boolean v x)) ∙ truth_of l (gives e) v x is
 
 no_met : (l : Language) (e : Assignment) (v x : ℕ) → IsValue l v x → is_met (bits l e) (literal l false (boolean v x)) ≡ not (gives e (boolean v x))
-no_met l e v x is = same_as_false (truth l (bits l e) (boolean v x)) ∙ ap not (truth_of l (gives e) v x is)
+no_met l e v x is = beq-false (truth l (bits l e) (boolean v x)) ∙ ap not (truth_of l (gives e) v x is)
 
 -- ---- The clauses hold of a complete assignment's Booleans
 
@@ -185,7 +178,7 @@ values_from l network truths h =
       some = λ v low.
           sym (any-map (is_met truths) (literal l true) (booleans_of l v)
           ∙ any-map (λ b. is_met truths (literal l true b)) (boolean v) (values_of l v)
-          ∙ (λ i. list_any (λ x. same_as_true (truth l truths (boolean v x)) i) (values_of l v)))
+          ∙ (λ i. list_any (λ x. beq-true (truth l truths (boolean v x)) i) (values_of l v)))
           ∙ at_range (λ w. list_any (is_met truths) (some_value l w)) 0 n v first.0 (omega arith) (omega arith);
       apart = λ v i j before one two.
           let low = one.variable in

@@ -1,15 +1,8 @@
 -- Marks of the literals that are read.
 use Rattle.net_cnf.proofs.Prelude.{◌≡◌, ℕ, zero, suc, ◌+◌, ◌<◌, ◌&&◌, ◌||◌, Bool, true, false, cond, List, [], ◌∷◌, ◌++◌, length, map, get_or, set, replicate, Some, None, refl, sym, ◌∙◌, ap, arith, eqb, ◌⊎◌, inl, inr, find, beq, range_with_len, cases_eq, eq-eqb, ne_eqb, length-set, get_or-set_same, get_or-set_other, ext_get_or, list_any-append, get_or-map-range_with_len, length-map-range_with_len, signs_of, marks, IsMarked, is_named, both_named, Literal, Signs}
+use Rattle.std.proofs.Math.Bool.{or-false, or-true}
 
 -- ---- a literal more
-
-plain : (b : Bool) → (b || false) ≡ b
-plain true = refl
-plain false = refl
-
-on : (b : Bool) → (b || true) ≡ true
-on true = refl
-on false = refl
 
 one_more : (literals : List Literal) (x : Literal) (positive : Bool) (number : ℕ) → is_named (literals ++ x ∷ []) positive number ≡ (is_named literals positive number || ((eqb x.number number && beq x.positive positive) || false))
 one_more literals x positive number = list_any-append (λ (y : Literal). eqb y.number number && beq y.positive positive) literals (x ∷ [])
@@ -18,7 +11,7 @@ named_other : (literals : List Literal) (x : Literal) (positive : Bool) (number 
 named_other literals x positive number apart =
     one_more literals x positive number
     ∙ ap (λ b. is_named literals positive number || ((b && beq x.positive positive) || false)) (ne_eqb x.number number apart)
-    ∙ plain (is_named literals positive number)
+    ∙ or-false (is_named literals positive number)
 
 -- the same number, and this sign
 named_here : (literals : List Literal) (x : Literal) (positive sign : Bool) (number : ℕ) → x.number ≡ number → x.positive ≡ sign → is_named (literals ++ x ∷ []) positive number ≡ (is_named literals positive number || (beq sign positive || false))
@@ -33,12 +26,12 @@ marked_by false s = record s { negative = true }
 
 more_here : (literals : List Literal) (x : Literal) (sign : Bool) (number : ℕ) → x.number ≡ number → x.positive ≡ sign → signs_of (literals ++ x ∷ []) number ≡ marked_by sign (signs_of literals number)
 more_here literals x true number same is = λ i. record {
-  positive = (named_here literals x true true number same is ∙ on (is_named literals true number)) i;
-  negative = (named_here literals x false true number same is ∙ plain (is_named literals false number)) i;
+  positive = (named_here literals x true true number same is ∙ or-true (is_named literals true number)) i;
+  negative = (named_here literals x false true number same is ∙ or-false (is_named literals false number)) i;
 }
 more_here literals x false number same is = λ i. record {
-  positive = (named_here literals x true false number same is ∙ plain (is_named literals true number)) i;
-  negative = (named_here literals x false false number same is ∙ on (is_named literals false number)) i;
+  positive = (named_here literals x true false number same is ∙ or-false (is_named literals true number)) i;
+  negative = (named_here literals x false false number same is ∙ or-true (is_named literals false number)) i;
 }
 
 more_other : (literals : List Literal) (x : Literal) (number : ℕ) → (x.number ≡ number → ⊥) → signs_of (literals ++ x ∷ []) number ≡ signs_of literals number

@@ -1,12 +1,12 @@
 -- The bytes from which a solution is read are those that are a model of it.
 use Rattle.net_cnf.proofs.Prelude.{◌≡◌, ℕ, ◌+◌, ◌-◌, ◌<◌, ◌≤◌, ◌&&◌, not, Bool, true, false, cond, List, [], ◌∷◌, length, map, get_or, Option, Some, None, Result, Ok, Err, zero, suc, refl, sym, ◌∙◌, ap, arith, subst, ◌⊎◌, inl, inr, find, position, is_some, is_none, nat_eq, nat_lt, range_with_len, option_map, cases_order, not-true, not-false, not_from_true, not_from_false, lt-ltb, le-ltb, ltb-false, both_ways, false_from_ne_true, and_from, and_parts, none-some, same_Some, length-map, get_or-map-range_with_len, length-map-range_with_len, fill_by_all, list_all-from_AllPass, AllPass-from_list_all, fails_before_first, numbers, Assignment, is_complete, Candidate, Language, variable_count, is_ranged, violates, IsQuestion, position_nowhere, boolean, booleans, number_of, gives, bits, ReadsModels, ReadIsNotRefused, signs_of, marks, IsMarked, truths, AreNamed, AreOnes, MOST_MODEL, boolean_count, literals_of, is_named, truths_of, both_named, true_values, not_one, only_of, assignment_of, violated, unless, solution_in, solution_of, model_of, IsModel, tokens, literal_in, bad_token, Literal, ModelFault, TooLong, BadToken, Twice, NotOne, Violates, Signs}
 use Rattle.std.specs.Prelude.{filter}
-use Rattle.net_cnf.proofs.Cutting.{nowhere}
 use Rattle.net_cnf.proofs.Encoding.{Valued, valued, given_is}
 use Rattle.net_cnf.proofs.Marking.{find_nowhere}
 use Rattle.net_cnf.proofs.Numbers.{truth_of, same_truths}
 use Rattle.net_cnf.proofs.Runs.{first_of, size_of, values-run, value_in, value_at, place_in}
 use Rattle.net_cnf.proofs.Valuing.{only_tells, only_some, one_passes, passes_one, true_of}
+use Rattle.shared_lemmas.proofs.Read.{nowhere}
 
 -- ---- nothing is found
 

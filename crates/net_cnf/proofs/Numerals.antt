@@ -1,6 +1,7 @@
 -- Digits and the numbers that they write.
-use Rattle.net_cnf.proofs.Prelude.{◌≡◌, ℕ, ◌+◌, ◌-◌, ◌*◌, ◌<◌, ◌≤◌, ◌^◌, ◌&&◌, not, Bool, true, false, cond, List, [], ◌∷◌, length, get_or, Some, None, refl, sym, ◌∙◌, ap, arith, eqb, ltb, ◌⊎◌, inl, inr, nat_le, nat_lt, nat_eq, list_all, digit_value, is_digit, decimal, AllDigits, digits_value, digits_value_after, cases_lt, cond_both, and_parts, and_from, leb-true, lt-ltb, le-leb, ltb-true, ltb-false, lt-leb, eqb-false, not-true, not_from_false, ne_eqb, cond_some, decimal_is_IsNumeral, decimal-digits_value, first_decimal, is_number, number_in}
+use Rattle.net_cnf.proofs.Prelude.{◌≡◌, ℕ, ◌+◌, ◌-◌, ◌*◌, ◌<◌, ◌≤◌, ◌^◌, ◌&&◌, not, Bool, true, false, cond, List, [], ◌∷◌, length, get_or, Some, None, refl, sym, ◌∙◌, ap, arith, eqb, ltb, ◌⊎◌, inl, inr, nat_le, nat_lt, nat_eq, list_all, digit_value, is_digit, decimal, AllDigits, digits_value, cases_lt, cond_both, and_parts, and_from, leb-true, lt-ltb, le-leb, ltb-true, ltb-false, lt-leb, eqb-false, not-true, not_from_false, ne_eqb, cond_some, decimal_is_IsNumeral, decimal-digits_value, first_decimal, is_number, number_in}
 use Rattle.std.proofs.lemmas.Str.Parse.{IsNumeralModel, numerals_by_value, tells_digits}
+use Rattle.shared_lemmas.proofs.Read.{value_grows, all_digits}
 
 not_first : (b : ℕ) → 48 ≤ b → (b ≡ 48 → ⊥) → 48 < b
 not_first b low apart = go (cases_lt 48 b)
@@ -21,11 +22,6 @@ digit_some b apart =
   where
     Above : ℕ → Type 0
     Above v = 0 < v
-
--- more digits make no smaller number
-pub value_grows : (n : ℕ) (digits : List ℕ) → n ≤ digits_value_after 10 n digits
-value_grows n [] = omega arith
-value_grows n (b ∷ digits) = let more = value_grows (n * 10 + digit_value b) digits in omega (arith, more)
 
 -- a number that is read is above 0
 pub number_some : (digits : List ℕ) → is_number digits ≡ true → 0 < digits_value 10 digits
@@ -60,10 +56,6 @@ number_past most digits past = go (is_number digits)
     go true = ap (λ b. cond b (Some (digits_value 10 digits)) None) (lt-leb (digits_value 10 digits) most past)
 
 -- ---- decimal texts
-
-all_digits : (digits : List ℕ) → AllDigits 10 digits → list_all (λ b. is_digit b 10) digits ≡ true
-all_digits [] h = refl
-all_digits (b ∷ digits) h = and_from (is_digit b 10) (list_all (λ x. is_digit x 10) digits) (lt-ltb (digit_value b) 10 h.0) (all_digits digits h.1)
 
 -- the decimal text of a number above 0 is read as the number
 pub decimal_read : (most n : ℕ) → 0 < n → n ≤ most → n < 2 ^ 64 → number_in most (decimal n) ≡ Some n

@@ -1,5 +1,5 @@
 -- Tokens that are read one by one.
-use Rattle.net_cnf.proofs.Prelude.{◌≡◌, ℕ, suc, ◌+◌, ◌<◌, ◌≤◌, Bool, true, false, cond, List, [], ◌∷◌, ◌++◌, length, take, Option, Some, None, Result, Ok, Err, refl, sym, ◌∙◌, ap, arith, append_assoc, ltb, ◌⊎◌, inl, inr, position, is_none, ok_or, option_map, cons_option, before_first, position_or_len, cases_lt, lt-ltb, le-ltb, not_from_false, not_from_true, append-nil, marks, IsMarked, AreNamed, is_end, bad_token, literal_in, literals_in, Literal, Signs}
+use Rattle.net_cnf.proofs.Prelude.{◌≡◌, ℕ, suc, ◌+◌, ◌<◌, ◌≤◌, Bool, true, false, cond, List, [], ◌∷◌, ◌++◌, length, take, Option, Some, None, refl, sym, ◌∙◌, ap, arith, append_assoc, ltb, ◌⊎◌, inl, inr, position, is_none, option_map, cons_option, before_first, position_or_len, cases_lt, lt-ltb, le-ltb, not_from_false, not_from_true, append-nil, marks, IsMarked, AreNamed, is_end, bad_token, literal_in, literals_in, Literal, Signs}
 
 -- those before the end
 abbrev pub read_of : List (List ℕ) → List (List ℕ)
@@ -111,11 +111,3 @@ pub taken_all : (count taken : ℕ) (all : List (List ℕ)) (signs : List Signs)
 taken_all count taken all signs t = taken_whole count taken all [] signs refl t
 
 -- ---- a value, or a fault in its place
-
-pub or_value : {A F : Type 0} (o : Option A) (fault : F) (x : A) → ◌≡◌ {A = Result A F} (Ok x) (ok_or o fault) → o ≡ Some x
-or_value None fault x h = absurd cc
-or_value (Some y) fault x h = cc
-
-pub or_fault : {A F : Type 0} (o : Option A) (fault said : F) → ◌≡◌ {A = Result A F} (Err said) (ok_or o fault) → (o ≡ None) × (said ≡ fault)
-or_fault None fault said h = (refl, cc)
-or_fault (Some y) fault said h = absurd cc

@@ -3,7 +3,9 @@ use Rattle.net_cnf.proofs.Prelude.{◌≡◌, ℕ, zero, suc, ◌+◌, ◌-◌, 
 use Rattle.std.specs.Prelude.{filter}
 use Rattle.net_cnf.proofs.Marking.{find_at, find_nowhere}
 use Rattle.net_cnf.proofs.Numbers.{number_fits}
-use Rattle.net_cnf.proofs.Runs.{IsValue, run_parts, none_pass, value_in, all_values}
+use Rattle.net_cnf.proofs.Runs.{IsValue, value_in, all_values}
+use Rattle.std.proofs.Math.Bool.{and-false, and-true, or-false}
+use Rattle.shared_lemmas.proofs.Runs.{run_parts, none_pass}
 
 -- ---- one element
 
@@ -60,23 +62,11 @@ any_filter q p (x ∷ xs) = go (p x) ∙ ap (λ b. (p x && q x) || b) (any_filte
     go true = refl
     go false = refl
 
-shut : (b : Bool) → (b && false) ≡ false
-shut true = refl
-shut false = refl
-
-open_ : (b : Bool) → (b && true) ≡ b
-open_ true = refl
-open_ false = refl
-
-left : (b : Bool) → (b || false) ≡ b
-left true = refl
-left false = refl
-
 any_none : (p : ℕ → Bool) (a n y : ℕ) → ((x : ℕ) → a ≤ x → x < a + n → (x ≡ y → ⊥)) → list_any (λ x. p x && eqb x y) (range_with_len a n) ≡ false
 any_none p a zero y h = refl
 any_none p a (suc n) y h =
     (λ i. (p a && ne_eqb a y (h a (omega arith) (omega arith)) i) || any_none p (a + 1) n y (λ x low high. h x (omega arith) (omega arith)) i)
-    ∙ left (p a && false) ∙ shut (p a)
+    ∙ or-false (p a && false) ∙ and-false (p a)
 
 any_at : (p : ℕ → Bool) (a n y : ℕ) → a ≤ y → y < a + n → list_any (λ x. p x && eqb x y) (range_with_len a n) ≡ p y
 any_at p a zero y low high = absurd (omega arith)
@@ -85,10 +75,10 @@ any_at p a (suc n) y low high = go (cases_order a y) (λ from. any_at p (a + 1) 
     go : (a ≡ y) ⊎ ((a < y) ⊎ (y < a)) → (a + 1 ≤ y → list_any (λ x. p x && eqb x y) (range_with_len (a + 1) n) ≡ p y) → list_any (λ x. p x && eqb x y) (range_with_len a (suc n)) ≡ p y
     go (inl same) next =
         (λ i. (p a && eq-eqb a y same i) || any_none p (a + 1) n y (λ x above under is. absurd (omega (arith, same, is, above))) i)
-        ∙ left (p a && true) ∙ open_ (p a) ∙ ap p same
+        ∙ or-false (p a && true) ∙ and-true (p a) ∙ ap p same
     go (inr (inl before)) next =
         (λ i. (p a && ne_eqb a y (λ is. absurd (omega (arith, is, before))) i) || next (omega arith) i)
-        ∙ ap (λ b. b || p y) (shut (p a))
+        ∙ ap (λ b. b || p y) (and-false (p a))
     go (inr (inr past)) next = absurd (omega arith)
 
 -- where one number alone passes, the test asks for it
@@ -97,7 +87,7 @@ one_passes p a n y x one from low =
     sym (any_at p a n x from low)
     ∙ sym (any_filter (λ z. eqb z x) p (range_with_len a n))
     ∙ ap (list_any (λ z. eqb z x)) one
-    ∙ left (eqb y x)
+    ∙ or-false (eqb y x)
 
 -- where the test asks for one number, it alone passes
 pub passes_one : (p : ℕ → Bool) (a n y : ℕ) → ((x : ℕ) → a ≤ x → x < a + n → p x ≡ eqb y x) → a ≤ y → y < a + n → filter p (range_with_len a n) ≡ y ∷ []

@@ -9,6 +9,7 @@ use Rattle.language.specs.Building.{is_same_relation, relations_given}
 use Rattle.language.proofs.Repeats.{same_is, same_itself}
 use Rattle.network.specs.Masks.{is_within_all, TellsWithinAll}
 use Rattle.network.proofs.Parts.{part_of_first, part_of_more, part_of_all}
+use Rattle.std.proofs.lemmas.Bool.{false_from_ne_true}
 
 -- what comes before a relation has a tuple that the relation lacks
 above_not_part : (x m : Relation) → is_above x m ≡ true → is_part x m ≡ true → ⊥
@@ -18,10 +19,6 @@ above_not_part (true ∷ r) (true ∷ m) h k = above_not_part r m h k
 above_not_part (true ∷ r) (false ∷ m) h k = cc
 above_not_part (false ∷ r) (true ∷ m) h k = cc
 above_not_part (false ∷ r) (false ∷ m) h k = above_not_part r m h k
-
-no_true : (b : Bool) → (b ≡ true → ⊥) → b ≡ false
-no_true true h = absurd (h refl)
-no_true false h = refl
 
 -- where a mask tells of each number whether the relation there lies within some relations, its lowest one is at their intersection
 pub record IsLowest (rels : List Relation) (first : Relation) (more : List Relation) (mask : ℕ) : Type 0 where
@@ -62,12 +59,12 @@ lowest n file rels first more mask sized closing few small given others tells =
     before k low = ap (is_above (slice_index_or rels k [])) (sym r_is) ∙ closing.falling k r [] low r_low
 
     not_within : (k : ℕ) → k < r → is_within_all (first ∷ more) (slice_index_or rels k []) ≡ false
-    not_within k low = no_true _ (λ e.
+    not_within k low = false_from_ne_true _ (λ e.
         let parts = and_parts (is_part (slice_index_or rels k []) first) (is_within_all more (slice_index_or rels k [])) e in
         above_not_part (slice_index_or rels k []) m (before k low) (part_of_all (slice_index_or rels k []) first more parts.0 (AllPass-from_list_all (is_part (slice_index_or rels k [])) more parts.1)))
 
     not_same : (k : ℕ) → k < r → is_same_relation m (slice_index_or rels k []) ≡ false
-    not_same k low = no_true _ (λ e. both_ways _ (not_above_itself m) (ap (λ x. is_above x m) (same_is m (slice_index_or rels k []) e) ∙ before k low))
+    not_same k low = false_from_ne_true _ (λ e. both_ways _ (not_above_itself m) (ap (λ x. is_above x m) (same_is m (slice_index_or rels k []) e) ∙ before k low))
 
     at : position (is_same_relation m) rels ≡ Some r
     at = position_here (is_same_relation m) rels r [] r_low not_same (ap (is_same_relation m) r_is ∙ same_itself m)

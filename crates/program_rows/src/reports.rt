@@ -1,5 +1,6 @@
 //! What is told of a row.
 
+use crate::families::answers;
 use crate::rows::{Row, Step};
 use crate::running::{Came, come_of, disk_of, edited, is_met, shows_of, told};
 use crate::texts::{Texts, shown};
@@ -191,6 +192,23 @@ fn tell_row(
     Ok(report)
 }
 
+/// Runs the program with every list of answers, and tells in a line what comes of that: `FAMILY: WANTED`.
+fn tell_family(
+    rt: &(impl Threads + Sync),
+    alloc: Global,
+    name: &str,
+    lines: &str,
+) -> Result<String, AllocError> {
+    let line = lines.lines().next().unwrap_or("");
+    let (family, wanted) = line.split_once(": ").unwrap_or((line, ""));
+    let found = answers(rt, alloc, family)?;
+    if found.as_str() == wanted {
+        format!(in alloc; "{name}; every list of answers: ok\n")
+    } else {
+        format!(in alloc; "{name}; every list of answers; {found}\n")
+    }
+}
+
 /// Reads a row and runs it, and tells of it in a line.
 fn tell_block(
     rt: &(impl Threads + Sync),
@@ -199,6 +217,9 @@ fn tell_block(
     block: &str,
 ) -> Result<String, AllocError> {
     let (name, lines) = block.split_once('\n').unwrap_or((block, ""));
+    if let Some(family) = lines.strip_prefix("answers ") {
+        return tell_family(rt, alloc, name, family);
+    }
     let mut row = Row::new(alloc);
     match read_row(alloc, texts, &mut row, lines)? {
         Some(line) => format!(in alloc; "{name}; no line of a row: {line}\n"),

@@ -1,5 +1,6 @@
 //! A row of the table, as it is read line by line.
 
+use crate::doors::Looks;
 use crate::texts::{Texts, add_written, words_of};
 use std::alloc::{AllocError, Global};
 
@@ -29,6 +30,8 @@ pub(crate) struct Step {
     pub(crate) reads: Vec<u32>,
     pub(crate) writes: Vec<u32>,
     pub(crate) calls: Vec<u32>,
+    /// How often two parts of a search wait for each other, where they do.
+    pub(crate) looks: Option<Looks>,
     /// What becomes of the journal before the command runs.
     pub(crate) journal: Option<Vec<u8>>,
     pub(crate) cut: Option<usize>,
@@ -55,6 +58,7 @@ impl Step {
             reads: Vec::new(alloc),
             writes: Vec::new(alloc),
             calls: Vec::new(alloc),
+            looks: None,
             journal: None,
             cut: None,
             set: None,
@@ -163,6 +167,7 @@ impl Step {
             "images" => add_text(alloc, texts, rest, &mut self.images),
             "set" => self.set(alloc, texts, rest),
             "fail" => self.fail(rest),
+            "meet" => Ok(self.meet(rest)),
             "?" => self.ask(alloc, rest),
             "options" => self.take_options(alloc, rest),
             _ => Ok(self.take_number(word, rest)),
@@ -215,6 +220,11 @@ impl Step {
         Ok(true)
     }
 
+    fn meet(&mut self, rest: &str) -> bool {
+        self.looks = looks_in(rest);
+        self.looks.is_some()
+    }
+
     fn fail(&mut self, rest: &str) -> Result<bool, AllocError> {
         let Some((kind, numbers)) = rest.split_once(' ') else {
             return Ok(false);
@@ -226,6 +236,15 @@ impl Step {
             _ => Ok(false),
         }
     }
+}
+
+/// How often a question is looked for, and in how many of these something is learned.
+fn looks_in(rest: &str) -> Option<Looks> {
+    let (questions, later) = rest.split_once(' ')?;
+    Some(Looks {
+        questions: questions.parse().ok()?,
+        later: later.parse().ok()?,
+    })
 }
 
 /// Adds a line: with its newline, without it where `-` stands before, or so often as the number says that stands before.

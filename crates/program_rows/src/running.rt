@@ -1,11 +1,11 @@
 //! Commands of a row, and what comes of them.
 
+use crate::doors::Door;
 use crate::rows::Step;
-use crate::texts::shown;
+use crate::texts::{shown, words_of};
 use acq_cli::acquire;
 use acq_io::{MemSink, MemSource};
 use disk_model::{Disk, MemDisk, Room};
-use par_screen::FreeGate;
 use std::alloc::{AllocError, Global};
 use std::thread::Threads;
 
@@ -21,6 +21,8 @@ pub(crate) struct Came {
     pub(crate) status: u8,
     pub(crate) text: Vec<u8>,
     pub(crate) left: Vec<u8>,
+    /// Whether the parts of its searches have met as they have to.
+    pub(crate) has_met: bool,
 }
 
 /// Runs the program.
@@ -31,13 +33,38 @@ fn run<R: Threads + Sync, D: Disk>(
     source: &mut MemSource,
     sink: &mut MemSink,
     disk: &mut D,
+    door: &Door,
 ) -> Result<Came, AllocError> {
-    let status = acquire(rt, alloc, words, source, sink, disk, &FreeGate).status();
+    let status = acquire(rt, alloc, words, source, sink, disk, door).status();
     Ok(Came {
         status,
         text: sink.bytes().to_vec(alloc)?,
         left: source.left().to_vec(alloc)?,
+        has_met: door.is_well(),
     })
+}
+
+/// What words and an input have the program print over a journal that has these bytes.
+pub(crate) fn printed(
+    rt: &(impl Threads + Sync),
+    alloc: Global,
+    words: &[String],
+    input: &str,
+    content: &[u8],
+) -> Result<Vec<u8>, AllocError> {
+    let mut source = source_of(alloc, input.as_bytes(), &[])?;
+    let mut disk = disk_of(alloc, content, &[])?;
+    let mut sink = MemSink::new(alloc, Vec::new(alloc));
+    let came = run(
+        rt,
+        alloc,
+        words,
+        &mut source,
+        &mut sink,
+        &mut disk,
+        &Door::Open,
+    )?;
+    Ok(came.text)
 }
 
 /// Runs a command over a disk, where these calls of the input and of the output fail.
@@ -51,7 +78,8 @@ pub(crate) fn come_of<R: Threads + Sync, D: Disk>(
 ) -> Result<Came, AllocError> {
     let mut source = source_of(alloc, &step.input, reads)?;
     let mut sink = MemSink::new(alloc, writes.to_vec(alloc)?);
-    run(rt, alloc, &step.words, &mut source, &mut sink, disk)
+    let door = Door::of(step.looks);
+    run(rt, alloc, &step.words, &mut source, &mut sink, disk, &door)
 }
 
 fn source_of(alloc: Global, input: &[u8], fails: &[u32]) -> Result<MemSource, AllocError> {
@@ -90,14 +118,22 @@ pub(crate) fn is_met(step: &Step, came: &Came) -> bool {
         Some(left) => left.as_slice() == came.left.as_slice(),
         None => true,
     };
-    is_left && step.status == Some(came.status) && is_text(step, &came.text)
+    is_left && came.has_met && step.status == Some(came.status) && is_text(step, &came.text)
 }
 
 /// What came, for a report.
 pub(crate) fn told(alloc: Global, came: &Came) -> Result<String, AllocError> {
     let text = shown(alloc, &came.text)?;
     let left = shown(alloc, &came.left)?;
-    format!(in alloc; "status {}, printed `{text}`, left `{left}`", came.status)
+    let odd = if came.has_met {
+        ""
+    } else {
+        ", and parts of a search haven't met as they have to"
+    };
+    format!(in alloc;
+        "status {}, printed `{text}`, left `{left}`{odd}",
+        came.status
+    )
 }
 
 /// The journal before the command, where it was this.
@@ -126,15 +162,8 @@ fn write_over(bytes: &mut [u8], at: usize, new: &[u8]) {
 
 /// What `show` prints over a journal.
 fn show(rt: &(impl Threads + Sync), alloc: Global, content: &[u8]) -> Result<Vec<u8>, AllocError> {
-    let words = [
-        String::from_str(alloc, "j")?,
-        String::from_str(alloc, "show")?,
-    ];
-    let mut disk = disk_of(alloc, content, &[])?;
-    let mut source = source_of(alloc, &[], &[])?;
-    let mut sink = MemSink::new(alloc, Vec::new(alloc));
-    let came = run(rt, alloc, &words, &mut source, &mut sink, &mut disk)?;
-    Ok(came.text)
+    let words = words_of(alloc, "j show")?;
+    printed(rt, alloc, &words, "", content)
 }
 
 /// What `show` prints over some contents.

@@ -22,3 +22,4 @@ pub mod Single
 pub mod Entailing
 pub mod Looking
 pub mod Fixed
+pub mod FromOn

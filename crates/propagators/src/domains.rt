@@ -9,7 +9,9 @@ ghost use Rattle.propagators.specs.Supports.{IsFamilyOf};
 ghost use Rattle.propagators.specs.Loose.{HasTwo, HasMore};
 ghost use Rattle.propagators.specs.Pairs.{IsOnly};
 
-use crate::values::{are_more, has_value, only_member, only_value, passing, values_between};
+use crate::values::{
+    are_more, has_value, least_from, only_member, only_value, passing, values_between,
+};
 use language::Language;
 use std::marker::Model;
 
@@ -88,6 +90,18 @@ impl Domains {
         ensures { result ≡ has (slice_index_or self.now v []) value }
     {
         has_value(self.sets[v as usize], value)
+    }
+
+    /// The variable's least value from x on, where there is one.
+    #[inline]
+    pub fn least_from(&self, v: u8, x: u8) -> Option<u8>
+        requires { v < length self.now }
+        ensures from { IfSome result (λ y. x ≤ y) }
+        ensures there { IfSome result (λ y. has (slice_index_or self.now v []) y ≡ true) }
+        ensures least { IfSome result (λ y. (z : ℕ) → x ≤ z → z < y → has (slice_index_or self.now v []) z ≡ false) }
+        ensures none { result ≡ None → (z : ℕ) → x ≤ z → has (slice_index_or self.now v []) z ≡ false }
+    {
+        least_from(self.sets[v as usize], x)
     }
 
     /// Whether some set is empty.

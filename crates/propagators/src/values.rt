@@ -1,6 +1,6 @@
 //! Sets of values, each a mask of 64 bits.
 
-ghost use Rattle.std.specs.Prelude.{◌≡◌, ◌≢◌, ◌<◌, ◌≤◌, ◌==◌, ℕ, true, not, nat_le, nat_lt, ◌&&◌, ◌||◌, IfSome, None, length};
+ghost use Rattle.std.specs.Prelude.{◌≡◌, ◌≢◌, ◌<◌, ◌≤◌, ◌==◌, ℕ, true, false, not, nat_le, nat_lt, ◌&&◌, ◌||◌, IfSome, None, length};
 ghost use Rattle.std.specs.List.{filter};
 ghost use Rattle.assign.specs.Sets.{numbers, has};
 ghost use Rattle.std.specs.Int.{bit_at};
@@ -43,6 +43,25 @@ pub(crate) fn least_value(values: u64) -> u8
     ensures low { result < 64 }
 {
     values.trailing_zeros() as u8
+}
+
+/// The least member from x on, where there is one.
+#[inline]
+pub(crate) fn least_from(values: u64, x: u8) -> Option<u8>
+    ensures from { IfSome result (λ y. x ≤ y) }
+    ensures there { IfSome result (λ y. has (ones_of values) y ≡ true) }
+    ensures least { IfSome result (λ y. (z : ℕ) → x ≤ z → z < y → has (ones_of values) z ≡ false) }
+    ensures none { result ≡ None → (z : ℕ) → x ≤ z → has (ones_of values) z ≡ false }
+{
+    if x >= 64 {
+        return None;
+    }
+    let rest = passing(values, values_between(x, 63), true);
+    if rest == 0 {
+        None
+    } else {
+        Some(least_value(rest))
+    }
 }
 
 /// The greatest member.

@@ -1,6 +1,7 @@
 -- What words make of the truth values that they stand for.
 use Rattle.rel_table.proofs.Prelude.{◌≡◌, ◌≢◌, ℕ, zero, suc, ◌+◌, ◌-◌, ◌*◌, ◌/◌, ◌%◌, ◌^◌, ◌<◌, ◌≤◌, Bool, true, false, ◌&&◌, List, [], ◌∷◌, length, map, get_or, set, replicate, refl, sym, ◌∙◌, ap, subst, arith, ◌⊎◌, inl, inr, nat_eq, get_or-set_same, get_or-set_other, below_more, bit_or, bit_and, min, if◌then◌else◌, list_all, zip, bit_at, bit_not, div_ceil, w64, eq-eqb, eqb-true, cases_eq, cases_lt, cases_Bool, both_ways, false_from_ne_true, and_le_l, or_lt, div-mul-add, mod-mul-add, mod_below, div-add-mod', bit_at-lt, bit_at_and, bit_at-zero, bit_at_not, bit_at_set_same, bit_at_set_other, same_from_bits_below, shr_and_one, ext_get_or, length-set, length-replicate, get_or-replicate, length-map-range_with_len, get_or-map-range_with_len, meet, is_marked, values_of, IsPacked}
 use Rattle.rel_table.proofs.Meets.{length-meet}
+use Rattle.shared_lemmas.proofs.Booleans.{both_true}
 
 -- ---- the truth values, place by place
 
@@ -261,11 +262,6 @@ word_follows x y h k each =
 
 bit_follows : (x y v : ℕ) → y < 2 ^ 64 → v < 64 → lacks_none (x, y) ≡ true → follows (nat_eq (bit_at x v) 1, nat_eq (bit_at y v) 1) ≡ true
 bit_follows x y v h low none = one_not_zero _ (sym (bit_left x y v h low) ∙ ap (λ w. bit_at w v) (eqb-true _ 0 none) ∙ bit_at-zero v)
-
-both_true : (a b : Bool) → (a ≡ true → b ≡ true) → (b ≡ true → a ≡ true) → a ≡ b
-both_true true b f g = sym (f refl)
-both_true false true f g = g refl
-both_true false false f g = refl
 
 -- lists of one length: word by word
 pub words_within : (xs ys : List ℕ) (count : ℕ) → IsPacked xs count → IsPacked ys count →

@@ -1,13 +1,6 @@
 -- Lists in which each element stands in a relation to each later one.
 use Rattle.rel_table.proofs.Prelude.{ℕ, zero, suc, List, [], ◌∷◌, ◌++◌, take, drop, sym, subst, arith, All, AllPairs, take-append-drop, All-nil, All-cons, All-head, All-tail, All-append, AllPairs-cons}
-
-all_left : {X : Type 0} (P : X → Type 0) (xs ys : List X) → All P (xs ++ ys) → All P xs
-all_left P [] ys h = All-nil P
-all_left P (x ∷ xs) ys h = All-cons P x xs (All-head P x (xs ++ ys) h) (all_left P xs ys (All-tail P x (xs ++ ys) h))
-
-all_right : {X : Type 0} (P : X → Type 0) (xs ys : List X) → All P (xs ++ ys) → All P ys
-all_right P [] ys h = h
-all_right P (x ∷ xs) ys h = all_right P xs ys (All-tail P x (xs ++ ys) h)
+use Rattle.shared_lemmas.proofs.Lists.{all_left, all_right}
 
 pub no_pairs : {X : Type 0} (R : X → X → Type 0) → AllPairs R []
 no_pairs R i j d low high = absurd (omega arith)

@@ -1,5 +1,6 @@
 -- Relations that agree on every tuple are the same.
 use Rattle.rel_table.proofs.Prelude.{◌≡◌, ℕ, zero, suc, ◌+◌, ◌*◌, ◌^◌, ◌<◌, Bool, true, false, List, [], ◌∷◌, ◌++◌, length, map, refl, sym, ◌∙◌, ap, arith, inl, inr, ◌⊎◌, pow-suc, AllPairs, slice_index_or, IsTrue, fold, flat_map, range_with_len, list_any, pow-zero, map-append, fill_by_all, cases_order, or_parts, both_ways, Relation, place, holds, tuples, is_above}
+use Rattle.std.proofs.lemmas.Simd.{map-map}
 
 range_append : (a m k : ℕ) → range_with_len a m ++ range_with_len (a + m) k ≡ range_with_len a (m + k)
 range_append a zero k = λ i. range_with_len ((let e : a + 0 ≡ a = omega arith in e) i) ((let e : k ≡ 0 + k = omega arith in e) i)
@@ -10,10 +11,6 @@ range_append a (suc m) k =
 map-flat_map : {X Y Z : Type 0} (g : Y → Z) (f : X → List Y) (xs : List X) → map g (flat_map f xs) ≡ flat_map (λ x. map g (f x)) xs
 map-flat_map g f [] = refl
 map-flat_map g f (x ∷ xs) = map-append g (f x) (flat_map f xs) ∙ ap (λ ys. map g (f x) ++ ys) (map-flat_map g f xs)
-
-map-map : {X Y Z : Type 0} (g : Y → Z) (f : X → Y) (xs : List X) → map g (map f xs) ≡ map (λ x. g (f x)) xs
-map-map g f [] = refl
-map-map g f (x ∷ xs) = ap (λ ys. g (f x) ∷ ys) (map-map g f xs)
 
 flat_map_same : {X Y : Type 0} (f g : X → List Y) (xs : List X) → ((x : X) → f x ≡ g x) → flat_map f xs ≡ flat_map g xs
 flat_map_same f g [] h = refl

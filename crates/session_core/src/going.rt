@@ -37,7 +37,7 @@ fn walk_on(mut knowledge: Box<Knowledge>, mut room: Box<Put>) -> Session
     ensures stands { let k = knowledge.value in StandsWhere k (λ t. go_on k.lang t k.network.list (walk_in k.tree)) result }
 {
     let known = knowledge.as_mut();
-    match known.tree.next(&known.lang, &known.network, &known.kept) {
+    match known.tree.next_beside(&known.lang, &known.network, &known.kept, &mut known.listing) {
         TreeNext::Ask(set) => {
             let example = known.tree.example();
             *room = Put::OnWalk { example, set };

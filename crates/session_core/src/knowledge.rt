@@ -2,13 +2,14 @@ ghost use Rattle.std.specs.Prelude.{◌≡◌, ◌≢◌, ◌≤◌, length, Non
 ghost use Rattle.assign.specs.declared.events.Plan.TheVariants.{Multi};
 ghost use Rattle.language.specs.Answers.{IsNetwork};
 ghost use Rattle.bias_store.specs.KeptSet.{IsMadeFor};
-ghost use Rattle.multi_tree.specs.Stage.{walk_in, IsWalkOn};
+ghost use Rattle.multi_tree.specs.Listed.{IsListing};
+ghost use Rattle.multi_tree.specs.Stage.{example_in, walk_in, IsWalkOn};
 ghost use Rattle.session_core.specs.Sound.{NoneBefore, AreUnlearned, IsWalkOn-prop};
 
 use assign::Plan;
 use bias_store::Kept;
 use language::Language;
-use multi_tree::Tree;
+use multi_tree::{Listing, Tree};
 use network::Network;
 
 /// What a session knows, whatever its kind.
@@ -26,7 +27,10 @@ pub struct Knowledge {
     pub(crate) next: u32,
     /// The walk of an example in plan Multi. In the others none is begun.
     pub(crate) tree: Tree,
+    /// The items that the example of the walk violates.
+    pub(crate) listing: Listing,
     ghost walks: { IsWalkOn lang tree } by { IsWalkOn-prop lang tree },
+    ghost listed: { IsListing lang network.list (example_in tree) listing },
     ghost resting: { plan ≢ Multi → walk_in tree ≡ None },
     ghost made: { IsMadeFor lang kept },
     ghost lawful: { IsNetwork lang network.list },

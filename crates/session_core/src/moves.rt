@@ -5,6 +5,8 @@ ghost use Rattle.assign.specs.Events.{Answer};
 ghost use Rattle.assign.specs.declared.events.Plan.{Plan};
 ghost use Rattle.language.specs.Language.{candidates, IsLanguage, IsQuestion};
 ghost use Rattle.bias_store.specs.KeptSet.{IsMadeFor};
+ghost use Rattle.language.specs.declared.candidates.Candidate.{Candidate};
+ghost use Rattle.multi_tree.specs.Listed.{IsListing};
 ghost use Rattle.multi_tree.specs.Stage.{walk_in};
 ghost use Rattle.session_laws.specs.Walk.{Ended};
 ghost use Rattle.session_laws.specs.Session.{is_lawful, scope_question, walk_end};
@@ -26,22 +28,24 @@ use assign::{Partial, Plan, VarSet};
 use bias_store::Kept;
 use find_c::RelRun;
 use language::{Language, Memory, ScopeId};
-use multi_tree::Tree;
+use multi_tree::{Listing, Tree};
 use network::Network;
 use std::alloc::Global;
 
 /// The candidates, the network and the walk of a session without answers.
-fn empty_parts(alloc: Global, lang: &Language) -> Result<(Kept, Network, Tree), Memory>
+fn empty_parts(alloc: Global, lang: &Language) -> Result<(Kept, Network, Tree, Listing), Memory>
     ensures all { IfOk result (λ parts. parts.0.members ≡ candidates lang.now) }
     ensures made { IfOk result (λ parts. IsMadeFor lang.now parts.0) }
     ensures empty { IfOk result (λ parts. parts.1.list ≡ []) }
     ensures scopes { IfOk result (λ parts. parts.1.scopes ≡ length lang.now.scopes) }
     ensures resting { IfOk result (λ parts. walk_in parts.2 ≡ None) }
+    ensures listed { IfOk result (λ parts. (l : _) (network : List Candidate) (e : _) → IsListing l network e parts.3) }
 {
     let kept = Kept::of(alloc, lang)?;
     let network = Network::new(alloc, lang)?;
     let tree = Tree::make(alloc)?;
-    Ok((kept, network, tree))
+    let listing = Listing::make(alloc)?;
+    Ok((kept, network, tree, listing))
 }
 
 /// A new session of this language and plan, without answers. `Memory` drops the language.
@@ -51,7 +55,7 @@ pub fn begin(alloc: Global, lang: Language, plan: Plan) -> Result<Session, Memor
     ensures lang { IfOk result (λ session. (knowledge_of session).lang ≡ lang) }
     ensures plan { IfOk result (λ session. (knowledge_of session).plan ≡ plan) }
 {
-    let (kept, network, tree) = empty_parts(alloc, &lang)?;
+    let (kept, network, tree, listing) = empty_parts(alloc, &lang)?;
     let knowledge = Knowledge {
         lang,
         plan,
@@ -60,6 +64,7 @@ pub fn begin(alloc: Global, lang: Language, plan: Plan) -> Result<Session, Memor
         answers: 0,
         next: 0,
         tree,
+        listing,
     };
     let Ok(knowledge) = Box::new(alloc, knowledge) else {
         return Err(Memory);
@@ -97,6 +102,7 @@ fn fresh_session(mut knowledge: Box<Knowledge>, room: Box<Put>) -> Session
     known.kept.reset(&known.lang);
     known.network.clear();
     known.tree.clear();
+    known.listing.clear();
     known.answers = 0;
     known.next = 0;
     Session::Idle(Idle { knowledge, room })
@@ -196,8 +202,9 @@ fn ask_walked(mut knowledge: Box<Knowledge>, mut room: Box<Put>, q: Partial) -> 
     let known = knowledge.as_mut();
     let _variables = known.lang.n();
     known.tree.start(&known.lang, q);
+    known.listing.clear();
     // All of it is asked about: the network accepts it, and it violates a kept candidate.
-    let _ = known.tree.next(&known.lang, &known.network, &known.kept);
+    let _ = known.tree.next_beside(&known.lang, &known.network, &known.kept, &mut known.listing);
     *room = Put::Example(q);
     Asking {
         knowledge,

@@ -3,6 +3,7 @@ use Rattle.session_laws.proofs.Prelude.{◌≡◌, ℕ, zero, suc, ◌<◌, ◌�
 use Rattle.session_laws.proofs.OnScope.{exact_question, violates_there, accepts_learned}
 use Rattle.rel_table.proofs.Tables.{same_table, one_number}
 use Rattle.session_laws.proofs.Lists.{any_more, some_left, all_flat_map, tuples_long, any_same}
+use Rattle.shared_lemmas.proofs.Booleans.{beq-false, beq-true}
 
 -- ---- the choices on a scope
 
@@ -100,14 +101,6 @@ beq_is a b c e h = ap (λ x. beq x c) e ∙ h
 
 pub beq_false : (a : Bool) → a ≡ false → beq a false ≡ true
 beq_false a h = ap (λ x. beq x false) h
-
-beq-true : (b : Bool) → beq b true ≡ b
-beq-true true = refl
-beq-true false = refl
-
-beq-false : (b : Bool) → beq b false ≡ not b
-beq-false true = refl
-beq-false false = refl
 
 -- of two kinds of choices, each reply leaves some
 reply_leaves : (p : Choice → Bool) (cs : List Choice) (b : Bool) → list_any p cs ≡ true → list_any (λ c. not (p c)) cs ≡ true → list_any (λ c. beq (p c) b) cs ≡ true

@@ -1,17 +1,20 @@
 -- How many answers there are: every state that is reached counts them, so they are few.
 use Rattle.session_laws.proofs.Prelude.{◌≡◌, ℕ, suc, ◌+◌, ◌*◌, ◌≤◌, Bool, true, false, cond, ◌||◌, ◌&&◌, not, List, [], ◌∷◌, ◌++◌, length, Option, Some, None, refl, sym, ◌∙◌, ap, subst, arith, inl, inr, ◌==◌, Any, slice_index_or, position, option_map, option_and_then, is_none, list_any, filter, All-nil, All-cons, Any-from_list_any, position-Some, and_parts, and_left, or_left, both_ways, not-true, eqb-true, eq-eqb, true_from_ne_false, Candidate, Plan, Scopes, Quacq, Multi, numbers, has, is_within, is_same, Rises, Assignment, restrict, Language, IsLanguage, IsCandidate, candidates, variable_count, scope_of, violates, Answer, IsNoOn, has_scope, kept, log_up, Halved, Wants, Got, halve, Choice, splitting_tuple, after_reply, sub_length, log_up_holds, noes_are_few, accepted_at, Walk, Turn, Asks, violates_some, next_turn, State, Idle, Halving, Choosing, Walking, Over, At, MOST_SETS, wanted_set, next_scope, at_turn, settle_choices, begin_choosing, found, with_quiet_replies, halved, settle_halving, is_just, replied, replied_tuple, on_scope_asked, begun, is_lawful, step, state_after, scene_of, on_scope, free_choices, violated_choices, AnswersAreFew, AnswersAreAtMost, LearnedAreFew, denied, any-map, length-range_with_len, noes, greatest_arity, most_answers}
 use Rattle.std.proofs.Math.Nat.{mul-le-mul_right}
-use Rattle.session_laws.proofs.Lists.{any_never, count_all}
+use Rattle.session_laws.proofs.Lists.{any_never}
 use Rattle.session_laws.proofs.Folds.{same_assignment, passed, asked_is, reached}
 use Rattle.session_laws.proofs.Choices.{IsSound, IsHalfway, is_number, begin_halfway, reply_halfway, kept_is_choice, nothing_yet}
-use Rattle.session_laws.proofs.Restrict.{restrict_all, rises_range, same_list}
+use Rattle.session_laws.proofs.Restrict.{restrict_all, rises_range}
 use Rattle.session_laws.proofs.Halving.{IsHalving, begin_halving, reply_halving, settled_halving, halve_within_set, got_rises}
 use Rattle.session_laws.proofs.FoundScope.{begin_found, free_there}
 use Rattle.session_laws.proofs.States.{IsWalking, Holds, IsPut, put_is, whole_accepted, asked_set, first_turn, find_nothing, step_holds, holds_always}
 use Rattle.session_laws.proofs.Gone.{count_le, is_gone, is_out, gone_count, out_count, yes_counts, no_counts, longer}
-use Rattle.session_laws.proofs.Lengths.{scope_length, arity_fits, as_many, few_scopes}
+use Rattle.session_laws.proofs.Lengths.{scope_length, arity_fits}
 use Rattle.session_laws.proofs.Noes.{IsLive, noes_yes, noes_no, quiet_counts, nothing_left}
 use Rattle.session_laws.proofs.Counts.{cost, IsShort, IsOnShort, Counts, go_on_counts, settle_counts, choose_counts}
+use Rattle.language.proofs.Pairs.{same_list}
+use Rattle.shared_lemmas.proofs.Lists.{fewer_kept}
+use Rattle.language.proofs.FewScopes.{as_many, few_scopes}
 
 -- ---- settling a halving
 
@@ -192,7 +195,7 @@ module _ (l : Language) (lawful : IsLanguage l) where
 pub answers_are_few : AnswersAreFew
 answers_are_few l plan t network end lawful h =
     let low : length t ≤ gone_count l t network + length network * cost l = counted l lawful plan t (Idle network end) h in
-    let all = count_all (is_gone l t network) (candidates l) in
+    let all = fewer_kept (is_gone l t network) (candidates l) in
     omega arith
 
 -- ---- at any time
@@ -207,21 +210,21 @@ module _ (l : Language) (lawful : IsLanguage l) where
 
   most_of : (t : List Answer) (state : State) → Holds l t state → Counts l t state → length t ≤ most_answers l
   most_of t (Idle network end) sound low =
-      let all = count_all (is_gone l t network) (candidates l) in
+      let all = fewer_kept (is_gone l t network) (candidates l) in
       let wide = mul-le-mul_right (cost l) (few_scopes l network sound.legal sound.apart) in
       omega arith
   most_of t (Walking set walk network) is counts =
       let low = counts.0 in
-      let all = count_all (is_gone l t network) (candidates l) in
+      let all = fewer_kept (is_gone l t network) (candidates l) in
       let wide = mul-le-mul_right (cost l) (few_scopes l network is.sound.legal is.sound.apart) in
       omega arith
   most_of t (Halving e set replies network walk) (half, on, asking) (low, short, on_short) =
-      let all = count_all (is_gone l t network) (candidates l) in
+      let all = fewer_kept (is_gone l t network) (candidates l) in
       let wide = mul-le-mul_right (cost l) (few_scopes l network half.legal half.apart) in
       let denied = open_noes set replies asking.wanted half.rises short asking.wants in
       omega arith
   most_of t (Choosing s choices network walk) (half, on) (low, told, on_short) =
-      let all = count_all (λ c. is_gone l t network c || is_out s choices c) (candidates l) in
+      let all = fewer_kept (λ c. is_gone l t network c || is_out s choices c) (candidates l) in
       let wide = mul-le-mul_right (cost l) (few_scopes l network half.legal half.apart) in
       let one = mul-le-mul_right (log_up (variable_count l)) (arity_fits l lawful) in
       let paid = spare_most (list_any is_none choices) in
@@ -231,7 +234,7 @@ module _ (l : Language) (lawful : IsLanguage l) where
       spare_most true = omega arith
       spare_most false = omega arith
   most_of t (Over network) none (low, few) =
-      let all = count_all (is_gone l t network) (candidates l) in
+      let all = fewer_kept (is_gone l t network) (candidates l) in
       let wide = mul-le-mul_right (cost l) few in
       omega arith
 

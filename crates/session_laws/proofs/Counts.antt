@@ -1,10 +1,11 @@
 -- How many answers a state may have taken. Each yes, and each no that tells choices apart, makes one more candidate gone, and each learned candidate pays for the noes of one halving.
 use Rattle.session_laws.proofs.Prelude.{◌≡◌, ℕ, zero, suc, ◌+◌, ◌*◌, ◌<◌, ◌≤◌, Bool, true, false, cond, ◌||◌, ◌&&◌, not, List, [], ◌∷◌, ◌++◌, length, Option, Some, None, refl, sym, ◌∙◌, ap, subst, arith, inl, inr, ◌⊎◌, length-append, ◌==◌, All, Any, slice_index_or, is_none, beq, list_any, filter, All-map, All-nil, All-append, list_any_at, list_all-append, Any-from_list_any, cases_Bool, and_parts, and_from, and_left, or_cases, or_left, or_right, or_from, both_ways, not_from_false, not-true, eqb-true, eq-eqb, false_from_ne_true, true_from_ne_false, Candidate, without, Rises, Assignment, restrict, tuples, Language, IsLanguage, IsCandidate, variable_count, scope_of, violates, accepts, Answer, agrees, is_struck, kept, log_up, Choice, allows, tells_apart, splitting_tuple, after_reply, remaining, find_all, Walk, Asks, violates_some, learned_within, parts_without, take_set, next_turn, State, Idle, Halving, Choosing, Walking, Over, learn, at_turn, go_on, settle_choices, chosen, scene_of, on_scope, not_struck, denied, rises_where, any-filter, any_candidate, find_some, noes, greatest_arity}
-use Rattle.session_laws.proofs.Lists.{tuples_long, any_imp, any_never}
+use Rattle.session_laws.proofs.Lists.{tuples_long, any_never}
 use Rattle.session_laws.proofs.OnScope.{violates_there}
 use Rattle.session_laws.proofs.Choices.{IsHalfway, is_number, struck_more, number_kept}
 use Rattle.session_laws.proofs.Gone.{count_le, count_up, is_gone, is_out, gone_count, out_count, gone_later, struck_now, longer, learned_gone, out_later}
 use Rattle.session_laws.proofs.Lengths.{length_without}
+use Rattle.language.proofs.Lists.{any_weaker}
 
 -- ---- what a state may have taken
 
@@ -159,7 +160,7 @@ module _ (l : Language) (lawful : IsLanguage l) (t : List Answer) (s : ℕ) (cho
 
   none_later : (test : Choice → Bool) → list_any is_none choices ≡ false → list_any is_none (filter test choices) ≡ false
   none_later test h = false_from_ne_true _ (λ there. both_ways _ h
-      (any_imp (λ x. test x && is_none x) is_none choices (λ x both. (and_parts (test x) _ both).1) (sym (any-filter is_none test choices) ∙ there)))
+      (any_weaker (λ x. test x && is_none x) is_none choices (λ x both. (and_parts (test x) _ both).1) (sym (any-filter is_none test choices) ∙ there)))
 
   -- yes
   yes_up : a.yes ≡ true → suc (out_count l t network s choices) ≤ out_count l (t ++ a ∷ []) network s (after_reply (scene_of l s) u true choices)

@@ -4,7 +4,7 @@ use Rattle.std.specs.List.Sorted.{IsStrictlyIncreasing}
 use Rattle.std.proofs.lemmas.List.Kept.{AllPairs-cons}
 use Rattle.std.proofs.lemmas.Int.{ints}
 use Rattle.language.specs.Ranges.{IsRange, whole_range}
-use Rattle.session_laws.proofs.Restrict.{list_same}
+use Rattle.language.proofs.Pairs.{list_same}
 
 -- ---- by cases
 

@@ -1,7 +1,8 @@
 -- Candidates that are gone: those that can't be learned any more. Each yes makes one more so.
 use Rattle.session_laws.proofs.Prelude.{◌≡◌, ℕ, suc, ◌+◌, ◌≤◌, Bool, true, false, ◌||◌, ◌&&◌, not, List, [], ◌∷◌, ◌++◌, length, Some, refl, sym, ◌∙◌, ap, arith, inl, inr, ◌⊎◌, length-append, ◌==◌, list_any, filter, list_any-append, and_parts, and_from, and_left, or_cases, or_left, or_right, or_from, both_ways, not_from_false, not-true, eqb-true, eq-eqb, false_from_ne_true, Candidate, Language, IsCandidate, candidates, violates, Answer, has_scope, is_struck, kept, Choice, violates_some, any-filter}
-use Rattle.session_laws.proofs.Lists.{any_imp, fewer_in, more_in}
+use Rattle.session_laws.proofs.Lists.{fewer_in, more_in}
 use Rattle.session_laws.proofs.Choices.{is_number, all_candidates, struck_more}
+use Rattle.language.proofs.Lists.{any_weaker}
 
 -- ---- counting
 
@@ -46,7 +47,7 @@ struck_now l t a c said bad = list_any-append (λ (b : Answer). b.yes && violate
 -- a yes to a question that violates a kept candidate
 pub yes_counts : (l : Language) (t : List Answer) (a : Answer) (network : List Candidate) → violates_some l (kept l t network) a.question ≡ true → a.yes ≡ true → suc (gone_count l t network) ≤ gone_count l (t ++ a ∷ []) network
 yes_counts l t a network bites said = count_up l (is_gone l t network) (is_gone l (t ++ a ∷ []) network) (λ c is h. gone_later l t a network c h)
-    (any_imp (λ c. (not (is_struck l t c) && not (has_scope network c.scope)) && violates l c a.question) (λ c. not (is_gone l t network c) && is_gone l (t ++ a ∷ []) network c) (candidates l) one
+    (any_weaker (λ c. (not (is_struck l t c) && not (has_scope network c.scope)) && violates l c a.question) (λ c. not (is_gone l t network c) && is_gone l (t ++ a ∷ []) network c) (candidates l) one
     (sym (any-filter (λ c. violates l c a.question) (λ c. not (is_struck l t c) && not (has_scope network c.scope)) (candidates l)) ∙ bites))
   where
     one : (c : Candidate) → ((not (is_struck l t c) && not (has_scope network c.scope)) && violates l c a.question) ≡ true → (not (is_gone l t network c) && is_gone l (t ++ a ∷ []) network c) ≡ true
@@ -64,7 +65,7 @@ longer t a = length-append t (a ∷ []) ∙ (let e : length t + 1 ≡ suc (lengt
 -- ---- with a candidate learned, and with fewer choices
 
 in_scope : (network : List Candidate) (c : Candidate) → is_in network c ≡ true → has_scope network c.scope ≡ true
-in_scope network c h = any_imp (λ d. (d.scope == c.scope) && (d.rel == c.rel)) (λ d. d.scope == c.scope) network (λ d both. (and_parts (d.scope == c.scope) _ both).0) h
+in_scope network c h = any_weaker (λ d. (d.scope == c.scope) && (d.rel == c.rel)) (λ d. d.scope == c.scope) network (λ d both. (and_parts (d.scope == c.scope) _ both).0) h
 
 pub learned_gone : (l : Language) (t : List Answer) (network : List Candidate) (s r : ℕ) (cs : List Choice) → has_scope network s ≡ false → (c : Candidate) →
     (is_gone l t network c || is_out s (Some r ∷ cs) c) ≡ true → is_gone l t (network ++ record { scope = s; rel = r } ∷ []) c ≡ true
@@ -100,4 +101,4 @@ pub out_later : (s : ℕ) (test : Choice → Bool) (choices : List Choice) (c : 
 out_later s test choices c h =
     let parts = and_parts (c.scope == s) (not (list_any (is_number c.rel) choices)) h in
     and_from _ _ parts.0 (not_from_false _ (false_from_ne_true _ (λ there. both_ways _ (not-true _ parts.1)
-    (any_imp (λ x. test x && is_number c.rel x) (is_number c.rel) choices (λ x both. (and_parts (test x) _ both).1) (sym (any-filter (is_number c.rel) test choices) ∙ there)))))
+    (any_weaker (λ x. test x && is_number c.rel x) (is_number c.rel) choices (λ x both. (and_parts (test x) _ both).1) (sym (any-filter (is_number c.rel) test choices) ∙ there)))))

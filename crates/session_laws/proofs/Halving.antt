@@ -4,6 +4,7 @@ use Rattle.language.proofs.Meets.{closed_candidates}
 use Rattle.session_laws.proofs.Restrict.{violates_restrict, rejecting, scope_small, rising_scope, accepts_narrower}
 use Rattle.session_laws.proofs.Lists.{any_more}
 use Rattle.session_laws.proofs.Choices.{IsSound, told_more, agrees_more}
+use Rattle.shared_lemmas.proofs.Booleans.{beq_same}
 
 -- ---- the halving of a whole set
 
@@ -206,12 +207,6 @@ pub settled_halving : (l : Language) (t : List Answer) (e : Assignment) (set : L
 settled_halving l t e set network replies half = quiet_halving l t e set network (2 * length set) replies half
 
 -- ---- a network that agrees has a kept candidate on the set that is got, and e violates it
-
-beq_same : (a b : Bool) → beq a b ≡ true → a ≡ b
-beq_same true true h = refl
-beq_same true false h = cc
-beq_same false true h = cc
-beq_same false false h = refl
 
 -- a network that agrees gives each reply
 reply_is : (l : Language) (t : List Answer) (other : List Candidate) → agrees l other t ≡ true → (e : Assignment) (w : List ℕ) (r : Bool) → Any (IsReply e w r) t → accepts l other (restrict e w) ≡ r

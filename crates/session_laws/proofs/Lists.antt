@@ -1,6 +1,5 @@
 -- Lists: what some or all of their members pass.
-use Rattle.session_laws.proofs.Prelude.{◌≡◌, ℕ, zero, suc, ◌≤◌, Bool, true, false, cond, ◌||◌, ◌&&◌, not, List, [], ◌∷◌, ◌++◌, length, map, Option, Some, None, refl, sym, ◌∙◌, ap, arith, inl, inr, ◌⊎◌, length-append, All, Any, is_some, list_any, filter, flat_map, get_or_append_left, All-head, All-tail, All-append, All-cons, All-nil, All-map, All-weaker, both_ways, or_cases, or_left, or_right, or_from, numbers, tuples}
-use Rattle.std.proofs.lemmas.List.Filters.{length-filter_both}
+use Rattle.session_laws.proofs.Prelude.{◌≡◌, ℕ, zero, suc, ◌≤◌, Bool, true, false, cond, ◌||◌, ◌&&◌, not, List, [], ◌∷◌, ◌++◌, length, map, Option, Some, None, refl, sym, ◌∙◌, ap, arith, length-append, All, Any, is_some, list_any, filter, flat_map, get_or_append_left, All-head, All-tail, All-append, All-cons, All-nil, All-map, All-weaker, both_ways, or_from, numbers, tuples}
 
 pub any_more : {X : Type 0} (P : X → Type 0) (xs : List X) (y : X) → Any P xs → Any P (xs ++ y ∷ [])
 any_more P xs y (k, x, low, at, p) = (k, x, omega (arith, length-append xs (y ∷ [])), get_or_append_left xs (y ∷ []) x k low ∙ at, p)
@@ -34,14 +33,6 @@ pub is_none_option : {X : Type 0} (o : Option X) → is_some o ≡ false → o �
 is_none_option None h = refl
 is_none_option (Some x) h = cc
 
-pub any_imp : {X : Type 0} (p q : X → Bool) (xs : List X) → ((x : X) → p x ≡ true → q x ≡ true) → list_any p xs ≡ true → list_any q xs ≡ true
-any_imp p q [] h at = absurd (both_ways _ refl at)
-any_imp p q (x ∷ xs) h at = go (or_cases (p x) (list_any p xs) at) (any_imp p q xs h)
-  where
-    go : (p x ≡ true) ⊎ (list_any p xs ≡ true) → (list_any p xs ≡ true → list_any q xs ≡ true) → (q x || list_any q xs) ≡ true
-    go (inl here) rest = or_left _ _ (h x here)
-    go (inr there) rest = or_right _ _ (rest there)
-
 pub any_never : {X : Type 0} (p : X → Bool) (xs : List X) → ((x : X) → p x ≡ false) → list_any p xs ≡ false
 any_never p [] h = refl
 any_never p (x ∷ xs) h = or_from _ _ (h x) (any_never p xs h)
@@ -69,6 +60,3 @@ more_in P g k (c ∷ cs) all h at = go (g c) (k c) (h c (All-head P c cs all)) a
     go true false h at rest low = absurd (both_ways _ refl (h refl))
     go false true h at rest low = omega arith
     go false false h at rest low = rest at
-
-pub count_all : {X : Type 0} (p : X → Bool) (xs : List X) → length (filter p xs) ≤ length xs
-count_all p xs = omega (arith, length-filter_both p (λ x. not (p x)) (λ x. refl) xs)

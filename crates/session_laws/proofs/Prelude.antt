@@ -11,6 +11,7 @@ pub use Rattle.std.proofs.lemmas.List.Sums.{AllPass-from_list_all, list_all-from
 pub use Rattle.std.specs.Bool.{beq}
 pub use Rattle.std.specs.List.{filter, flat_map, fold, list_any, position_or_len, range_with_len}
 pub use Rattle.std.specs.Prelude.{All, AllPairs, Any, Contains, IsTrue, codes, find, is_none, is_some, max, nat_lt, option_and_then, option_map, position, replicate, slice_index_or, unwrap_or, ◌==◌, ◌≢◌}
+pub use Rattle.shared_lemmas.proofs.Booleans.{both_true}
 pub use Rattle.assign.proofs.Masks.{canonical, rises_where}
 pub use Rattle.assign.specs.Assignment.{Assignment, assigned, covers, is_complete, is_same_assignment, is_same_value, restrict, tuple_on, value_beside, value_of, variables_of}
 pub use Rattle.assign.specs.Events.{Answer}
@@ -27,7 +28,7 @@ pub use Rattle.find_scope.specs.Halving.{Got, Halved, Wants, ask, halve, is_empt
 unfoldable pub use Rattle.find_scope.specs.Halving.{halve_within}
 pub use Rattle.language.proofs.Accepts.{accepted_at, accepted_from}
 pub use Rattle.language.proofs.Beside.{scope_rises, tuple_fits, value_of_assigned}
-pub use Rattle.language.proofs.Covered.{IsGathered, IsTold, both_true, covered_converged, denied, gather, learned_is, none_on, not_struck, only_there, rejected_on, same_scope}
+pub use Rattle.language.proofs.Covered.{IsGathered, IsTold, covered_converged, denied, gather, learned_is, none_on, not_struck, only_there, rejected_on, same_scope}
 pub use Rattle.language.proofs.Lists.{all_below, find_all}
 pub use Rattle.language.proofs.Members.{any-filter, any-map, any_candidate, any_number, any_tuple, find_none, find_some}
 pub use Rattle.language.specs.Answers.{IsNetwork, IsNoOn, NoneAgrees, agrees, has_scope, is_struck, kept}

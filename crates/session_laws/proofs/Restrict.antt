@@ -1,5 +1,5 @@
 -- An assignment on a set alone.
-use Rattle.session_laws.proofs.Prelude.{◌≡◌, ℕ, zero, suc, ◌+◌, ◌<◌, ◌≤◌, Bool, true, false, cond, ◌||◌, ◌&&◌, not, List, [], ◌∷◌, length, Option, Some, None, refl, sym, ◌∙◌, ap, subst, arith, inl, inr, ◌⊎◌, ◌==◌, All, Any, slice_index_or, is_some, unwrap_or, nat_lt, list_any, position_or_len, range_with_len, All-head, All-tail, All-map, get_or-map-range_with_len, length-map-range_with_len, fill_by_all, get_or-eq_default, AllPass-from_list_all, Any-from_list_any, cases_lt, and_parts, and_from, or_cases, both_ways, eq-eqb, eqb-true, lt-ltb, cond-true, Candidate, numbers, has, is_within, is_same, Rises, Assignment, value_of, restrict, covers, tuple_on, is_complete, variables_of, holds, Language, IsLanguage, IsCandidate, variable_count, scope_of, relation_of, violates, accepts, IsQuestion, is_ranged, IsNetwork, set_where-same, canonical, any_number, Sub, within_sub, sub_within, accepted_at, accepted_from, scope_rises}
+use Rattle.session_laws.proofs.Prelude.{◌≡◌, ℕ, zero, suc, ◌+◌, ◌<◌, ◌≤◌, Bool, true, false, cond, ◌||◌, ◌&&◌, not, List, [], ◌∷◌, length, Option, Some, None, refl, sym, ◌∙◌, ap, subst, arith, inl, inr, ◌⊎◌, ◌==◌, All, Any, slice_index_or, is_some, unwrap_or, nat_lt, list_any, position_or_len, range_with_len, All-head, All-tail, All-map, get_or-map-range_with_len, length-map-range_with_len, fill_by_all, get_or-eq_default, AllPass-from_list_all, Any-from_list_any, cases_lt, and_parts, and_from, or_cases, both_ways, eq-eqb, eqb-true, lt-ltb, cond-true, Candidate, numbers, has, is_within, Rises, Assignment, value_of, restrict, covers, tuple_on, is_complete, variables_of, holds, Language, IsLanguage, IsCandidate, variable_count, scope_of, relation_of, violates, accepts, IsQuestion, is_ranged, IsNetwork, set_where-same, canonical, any_number, Sub, within_sub, sub_within, accepted_at, accepted_from, scope_rises}
 use Rattle.std.specs.List.{position}
 use Rattle.std.specs.Option.{ForSome}
 
@@ -16,16 +16,6 @@ has_all P (x ∷ xs) v all h = go (or_cases (x == v) (has xs v) h) (has_all P xs
 pub rises_range : (a n : ℕ) → a + n ≤ 128 → Rises a (range_with_len a n)
 rises_range a zero h = tt
 rises_range a (suc n) h = (omega arith, omega arith, rises_range (a + 1) n (omega arith))
-
-pub same_list : (xs ys : List ℕ) → is_same xs ys ≡ true → xs ≡ ys
-same_list [] [] h = refl
-same_list [] (y ∷ ys) h = cc
-same_list (x ∷ xs) [] h = cc
-same_list (x ∷ xs) (y ∷ ys) h = let parts = and_parts (x == y) (is_same xs ys) h in λ i. eqb-true x y parts.0 i ∷ same_list xs ys parts.1 i
-
-pub list_same : (xs : List ℕ) → is_same xs xs ≡ true
-list_same [] = refl
-list_same (x ∷ xs) = and_from _ _ (eq-eqb x x refl) (list_same xs)
 
 position_below : {X : Type 0} (p : X → Bool) (xs : List X) → list_any p xs ≡ true → position_or_len p xs < length xs
 position_below p [] h = absurd (both_ways _ refl h)

@@ -1,8 +1,9 @@
 -- Plan Scopes: where no scope is next, the network is covered, and no session is over.
-use Rattle.session_laws.proofs.Prelude.{◌≡◌, ℕ, suc, ◌<◌, Bool, true, false, ◌&&◌, not, List, [], ◌∷◌, ◌++◌, length, Option, Some, None, refl, sym, ◌∙◌, ap, subst, inl, inr, ◌⊎◌, All, is_some, option_map, option_and_then, cases_Bool, and_from, both_ways, false_from_ne_true, true_from_ne_false, not_from_false, Candidate, numbers, Assignment, covers, tuple_on, holds, tuples, Language, IsLanguage, IsCandidate, IsImplied, scope_of, relation_of, Answer, has_scope, is_struck, kept, Choice, allows, tells_apart, splitting_tuple, after_reply, Scopes, tuple_fits, State, Idle, Halving, Choosing, Walking, Over, At, next_scope, settle_choices, chosen, is_just, replied, replied_tuple, on_scope_asked, step, state_after, scene_of, on_scope, free_choices, ScopesAreCovered, ScopesNeverOver, any_tuple, any_number, find_none}
+use Rattle.session_laws.proofs.Prelude.{◌≡◌, ℕ, ◌<◌, Bool, true, false, ◌&&◌, not, List, [], ◌∷◌, ◌++◌, length, Option, Some, None, refl, sym, ◌∙◌, ap, subst, inl, inr, ◌⊎◌, All, is_some, option_map, option_and_then, cases_Bool, and_from, both_ways, false_from_ne_true, true_from_ne_false, not_from_false, Candidate, numbers, covers, tuple_on, holds, tuples, Language, IsLanguage, IsCandidate, IsImplied, scope_of, relation_of, Answer, has_scope, is_struck, kept, Choice, allows, tells_apart, splitting_tuple, after_reply, Scopes, tuple_fits, State, Idle, Halving, Choosing, Walking, Over, At, next_scope, settle_choices, chosen, is_just, replied, replied_tuple, on_scope_asked, step, state_after, scene_of, on_scope, free_choices, ScopesAreCovered, ScopesNeverOver, any_tuple, any_number, find_none}
 use Rattle.session_laws.proofs.Lists.{is_none_option}
 use Rattle.session_laws.proofs.Choices.{kept_is_choice, none_is_choice, IsSound, IsHalfway, reply_halfway, settled, begin_halfway, nothing_yet}
 use Rattle.session_laws.proofs.Folds.{passed, asked_is, reached}
+use Rattle.language.proofs.Plain.{length-tuple_on}
 
 -- ---- the end: what is kept where nothing is learned accepts every tuple
 
@@ -22,10 +23,6 @@ none_next l t network none s low free = is_none_option _ (false_from_ne_true _ (
     both_ways _ (find_none (λ v. not (has_scope network v) && is_some (splitting_tuple (scene_of l v) (free_choices (kept l t network) v))) (numbers (length l.scopes)) none)
     (any_number (λ v. not (has_scope network v) && is_some (splitting_tuple (scene_of l v) (free_choices (kept l t network) v))) (length l.scopes) s low
     (and_from _ _ (not_from_false _ free) differ))))
-
-pub length-tuple_on : (e : Assignment) (scope : List ℕ) → length (tuple_on e scope) ≡ length scope
-length-tuple_on e [] = refl
-length-tuple_on e (v ∷ scope) = ap suc (length-tuple_on e scope)
 
 never_both : (g b : Bool) → (g ≡ true → b ≡ true) → (g && not b) ≡ false
 never_both false b h = refl

@@ -1,6 +1,7 @@
 -- What a step does to the kept candidates and to a halving, as equations for a program's loop.
 use Rattle.session_laws.proofs.Prelude.{◌≡◌, ℕ, zero, suc, ◌*◌, Bool, true, false, cond, ◌||◌, ◌&&◌, not, List, [], ◌∷◌, ◌++◌, length, refl, sym, ◌∙◌, ap, ◌==◌, filter, list_any-append, both_ways, Candidate, Assignment, Language, candidates, violates, Answer, has_scope, is_struck, kept, halve, is_quiet, with_quiet_replies, halved, KeptSteps, SettleSteps}
 use Rattle.session_laws.proofs.Fuel.{fuel_is_enough}
+use Rattle.std.proofs.lemmas.List.Elements.{filter_agree}
 
 -- ---- kept candidates
 
@@ -12,10 +13,6 @@ filter_twice p q r (x ∷ xs) h = go (q x) (p x) refl (h x) (filter_twice p q r 
     go true c at e rest = ap (λ d. cond d (x ∷ filter r xs) (filter r xs)) e ∙ (λ i. cond (sym at i) (x ∷ rest i) (rest i))
     go false c at e rest = ap (λ d. cond d (x ∷ filter r xs) (filter r xs)) e ∙ rest
 
-filter_same : {X : Type 0} (p q : X → Bool) (xs : List X) → ((x : X) → p x ≡ q x) → filter p xs ≡ filter q xs
-filter_same p q [] h = refl
-filter_same p q (x ∷ xs) h = λ i. cond (h x i) (x ∷ filter_same p q xs h i) (filter_same p q xs h i)
-
 struck_then : (l : Language) (t : List Answer) (a : Answer) (c : Candidate) → is_struck l (t ++ a ∷ []) c ≡ (is_struck l t c || ((a.yes && violates l c a.question) || false))
 struck_then l t a c = list_any-append (λ (b : Answer). b.yes && violates l c b.question) t (a ∷ [])
 
@@ -23,8 +20,9 @@ pub kept_steps : KeptSteps
 kept_steps = record {
   yes = λ l t network q. filter_twice (λ c. not (violates l c q)) (λ c. not (is_struck l t c) && not (has_scope network c.scope)) _ (candidates l)
       (λ c. ap (λ b. not b && not (has_scope network c.scope)) (struck_then l t (record { question = q; yes = true }) c) ∙ bit (is_struck l t c) (violates l c q) (not (has_scope network c.scope)));
-  no = λ l t network q. filter_same _ _ (candidates l)
-      (λ c. ap (λ b. not b && not (has_scope network c.scope)) (struck_then l t (record { question = q; yes = false }) c ∙ or_nothing (is_struck l t c)));
+  no = λ l t network q. filter_agree _ _
+      (λ c. ap (λ b. not b && not (has_scope network c.scope)) (struck_then l t (record { question = q; yes = false }) c ∙ or_nothing (is_struck l t c)))
+      (candidates l);
   learned = λ l t network s r. filter_twice (λ c. not (s == c.scope)) (λ c. not (is_struck l t c) && not (has_scope network c.scope)) _ (candidates l)
       (λ c. ap (λ b. not (is_struck l t c) && not b) (list_any-append (λ (d : Candidate). d.scope == c.scope) network (record { scope = s; rel = r } ∷ []))
       ∙ other (not (is_struck l t c)) (has_scope network c.scope) (s == c.scope));

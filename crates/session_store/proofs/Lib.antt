@@ -7,6 +7,7 @@ pub mod Fronts
 pub mod Placing
 pub mod Vocabularies
 pub mod Stores
+pub mod Exits
 pub mod Openings
 pub mod Keepers
 pub mod EachFile

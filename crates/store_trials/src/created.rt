@@ -6,11 +6,12 @@ ghost use Rattle.disk_model.specs.FuseDisk.{inner_of};
 ghost use Rattle.session_store.specs.Store.{IsSound, SitsOn};
 
 use crate::files::{disk_with, file_of, plan_in};
+use crate::leaving::{Told, left};
 use crate::opened::{fault_text, kept};
 use crate::steps::{add, is_live, keep_text};
 use assign::Plan;
 use disk_model::{FuseDisk, MemDisk};
-use rows::{Distinct, Runs, bytes_in};
+use rows::{Distinct, bytes_in};
 use session_store::{SFault, Store};
 use std::alloc::Global;
 
@@ -65,32 +66,6 @@ pub(crate) fn makes(alloc: Global, over: &str, arguments: &str) -> Option<String
     found.text(alloc)
 }
 
-/// What contents keep that a crash may leave at a moment.
-fn left_at(alloc: Global, disk: &MemDisk, voc: &str, moment: usize) -> Option<String> {
-    if moment > disk.moments() {
-        return None;
-    }
-    let mut found = Distinct::new(alloc);
-    for garbage in [0, 1] {
-        for image in &disk.images_at(alloc, moment, garbage).ok()? {
-            found.add(kept(alloc, &mut disk_with(alloc, image)?, voc)?)?;
-        }
-    }
-    found.text(alloc)
-}
-
-/// The same at each moment of a disk, and how many there are.
-fn left(alloc: Global, disk: &MemDisk, voc: &str) -> Option<String> {
-    let mut runs = Runs::new(alloc);
-    for moment in 0..=disk.moments() {
-        let said = left_at(alloc, disk, voc, moment)?;
-        runs.add(&format!(in alloc; "{moment}").ok()?, said)?;
-    }
-    let mut text = runs.text();
-    write!(text, "{} moments", disk.moments()).ok()?;
-    Some(text)
-}
-
 /// A plan: what a crash leaves while a store is made on an empty file.
 pub(crate) fn making_crashes(alloc: Global, over: &str, arguments: &str) -> Option<String> {
     let (plan, _) = plan_in(arguments)?;
@@ -98,7 +73,7 @@ pub(crate) fn making_crashes(alloc: Global, over: &str, arguments: &str) -> Opti
     let Ok(_) = Store::create(alloc, &mut disk, plan, over.as_bytes()) else {
         return None;
     };
-    left(alloc, &disk, over)
+    left(alloc, &disk, Told::Session(over))
 }
 
 /// `PLAN EVENT, EVENT, ..`: a disk that has all events but the last, and the last.
@@ -123,7 +98,7 @@ pub(crate) fn crashes(alloc: Global, over: &str, arguments: &str) -> Option<Stri
     let Ok(()) = added(alloc, &mut disk, last)? else {
         return None;
     };
-    left(alloc, &disk, over)
+    left(alloc, &disk, Told::Session(over))
 }
 
 /// Adds an event over a disk that passes so many calls: what comes of it, and the disk.
@@ -152,21 +127,9 @@ fn fused_text(alloc: Global, store: &mut Store, fuse: &mut FuseDisk, text: &str)
 }
 
 /// What comes of the last event over a disk that passes so many calls, and what the file then keeps.
-fn stopped(alloc: Global, voc: &str, arguments: &str, passes: u32) -> Option<String> {
+pub(crate) fn stopped(alloc: Global, voc: &str, arguments: &str, passes: u32) -> Option<String> {
     let (disk, last) = disk_before(alloc, voc, arguments)?;
     let (said, mut disk) = fused(alloc, disk, last, passes)?;
     let file = kept(alloc, &mut disk, voc)?;
     format!(in alloc; "{said}, file: {file}").ok()
-}
-
-/// The same for each number of calls, up to the one in front.
-pub(crate) fn stops(alloc: Global, over: &str, arguments: &str) -> Option<String> {
-    let (most, rest) = arguments.split_once(' ')?;
-    let most = most.parse::<u32>().ok()?;
-    let mut runs = Runs::new(alloc);
-    for passes in 0..=most {
-        let said = stopped(alloc, over, rest, passes)?;
-        runs.add(&format!(in alloc; "{passes}").ok()?, said)?;
-    }
-    Some(runs.text())
 }

@@ -1,10 +1,9 @@
-//! Files as they open.
+//! Stores as they open.
 
 ghost use Rattle.session_store.specs.Store.{IsSound};
 
 use crate::files::{disk_with, file_of, plan_in, plan_word};
-use crate::steps::{events_of, keep_text, push_question, session_of, standing_count};
-use assign::Event;
+use crate::steps::{events_of, keep_text, push_event, session_of, standing_count};
 use disk_model::MemDisk;
 use rows::bytes_in;
 use session_store::{SFault, Store};
@@ -44,16 +43,6 @@ pub(crate) fn opens(alloc: Global, over: &str, arguments: &str) -> Option<String
     read_of(alloc, &file_of(alloc, byte, over, events)?)
 }
 
-fn push_event(text: &mut String, event: &Event) -> Option<()> {
-    match event {
-        Event::Answer { question, yes } => {
-            text.push_str(if *yes { ", yes" } else { ", no" }).ok()?;
-            push_question(text, question)
-        }
-        Event::Back => text.push_str(", back").ok(),
-    }
-}
-
 /// The plan and all events, and how many answers stand.
 fn kept_text(alloc: Global, store: &Store) -> Option<String>
     requires { IsSound store.now }
@@ -63,7 +52,7 @@ fn kept_text(alloc: Global, store: &Store) -> Option<String>
         plan_word(session_of::<MemDisk, Store>(store).plan()),
     ).ok()?;
     for event in events_of::<MemDisk, Store>(store) {
-        push_event(&mut text, event)?;
+        push_event(&mut text, ", ", event)?;
     }
     let standing = standing_count::<MemDisk, Store>(store);
     write!(text, ", {standing} standing").ok()?;

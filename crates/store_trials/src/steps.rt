@@ -36,13 +36,25 @@ pub(crate) fn standing_count<D: Disk, P: Keep<D>>(keep: &P) -> u32
 }
 
 /// The pairs of a question.
-pub(crate) fn push_question(text: &mut String, question: &Partial) -> Option<()> {
+fn push_question(text: &mut String, question: &Partial) -> Option<()> {
     for v in 0..question.len() {
         if let Some(value) = question.get(v) {
             write!(text, " {v}={value}").ok()?;
         }
     }
     Some(())
+}
+
+/// An event, behind what parts it from the text before.
+pub(crate) fn push_event(text: &mut String, gap: &str, event: &Event) -> Option<()> {
+    text.push_str(gap).ok()?;
+    match event {
+        Event::Answer { question, yes } => {
+            text.push_str(if *yes { "yes" } else { "no" }).ok()?;
+            push_question(text, question)
+        }
+        Event::Back => text.push_str("back").ok(),
+    }
 }
 
 /// Where a session stands.

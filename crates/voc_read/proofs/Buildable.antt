@@ -1,11 +1,13 @@
 -- Of a frame, of relations and of scopes that nothing refuses a language is built.
-use Rattle.voc_read.proofs.Prelude.{◌≡◌, ℕ, zero, ◌^◌, ◌<◌, ◌≤◌, ◌||◌, Bool, true, false, cond, List, [], ◌∷◌, length, map, get_or, Option, refl, sym, ◌∙◌, ap, subst, arith, ◌⊎◌, inl, inr, All, AllPairs, ◌==◌, list_any, filter, cases_Bool, eqb-true, length-map, get_or-map, Any-from_list_any, All-map, All-weaker, Relation, meet, IsClosing, one_given, Language, Given, of_arity, given_on, given_within, relations_on, scope_at, IsLanguage, IsScope, AreNames, widened, inside, ValueRange, Frame, IsFrame, IsBuilt, has_arity, has_too_many, relations_given, relations_of_arity, over-meet, widened-over}
+use Rattle.voc_read.proofs.Prelude.{◌≡◌, ℕ, ◌^◌, ◌<◌, ◌≤◌, true, false, List, [], ◌∷◌, length, map, get_or, Option, refl, sym, ◌∙◌, subst, arith, All, AllPairs, ◌==◌, eqb-true, length-map, get_or-map, Any-from_list_any, All-map, All-weaker, Relation, meet, IsClosing, Language, Given, of_arity, given_on, given_within, relations_on, scope_at, IsLanguage, IsScope, AreNames, widened, inside, ValueRange, Frame, IsFrame, IsBuilt, has_arity, has_too_many, relations_given, relations_of_arity, over-meet, widened-over}
 use Rattle.language.specs.Language.{AreApart}
 use Rattle.language.specs.Building.{scopes_of}
 use Rattle.language.specs.Built.{given_at}
 use Rattle.language.proofs.Sizes.{of_arity_sized, closed_sized}
 use Rattle.language.proofs.Within.{length-widened}
 use Rattle.voc_read.proofs.ClosingsMade.{IsClosed, closing_of, few_closed, few_images}
+use Rattle.shared_lemmas.proofs.Lists.{some_kept}
+use Rattle.language.proofs.Built.{some_closed}
 
 -- a relation of d values has a truth value for each tuple, and not too many of them
 pub record IsRight (d : ℕ) (g : Given) : Type 0 where
@@ -22,18 +24,6 @@ pub record IsBuildable (frame : Frame) (given : List Given) (lists : List (List 
   pub apart : AllPairs AreApart lists
   pub used : All (λ scope. has_arity given (length scope) ≡ true) lists
   pub few : (arity : ℕ) → 1 ≤ arity → arity ≤ 4 → has_too_many given arity ≡ false
-
-some_kept : {X : Type 0} (p : X → Bool) (xs : List X) → list_any p xs ≡ true → 1 ≤ length (filter p xs)
-some_kept p [] h = absurd (let e : false ≡ true = h in cc)
-some_kept p (x ∷ xs) h = go (cases_Bool (p x)) (some_kept p xs)
-  where
-    go : (p x ≡ true) ⊎ (p x ≡ false) → (list_any p xs ≡ true → 1 ≤ length (filter p xs)) → 1 ≤ length (filter p (x ∷ xs))
-    go (inl on) rest = subst (λ (b : Bool). 1 ≤ length (cond b (x ∷ filter p xs) (filter p xs))) (sym on) (omega arith)
-    go (inr off) rest = subst (λ (b : Bool). 1 ≤ length (cond b (x ∷ filter p xs) (filter p xs))) (sym off) (rest (ap (λ b. b || list_any p xs) (sym off) ∙ h))
-
-some_closed : (file closed : List Relation) → 1 ≤ length file → IsClosing file closed → 1 ≤ length closed
-some_closed [] closed some closing = absurd (omega arith)
-some_closed (r ∷ file) closed some closing = let has = closing.every r (one_given (r ∷ file) r (zero, omega arith, refl)) in let low = has.1 in omega arith
 
 -- the vocabulary's relations on a scope, one by one
 given_relations : (ranges : List ValueRange) (d : ℕ) (scope : List ℕ) (given : List Given) →

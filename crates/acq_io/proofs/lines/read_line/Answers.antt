@@ -1,6 +1,7 @@
 use Rattle.acq_io.proofs.Prelude.{ap, rules, Ok, Option, Result, ℕ, ◌++◌, option_to_list, Failed}
 use Rattle.acq_io.proofs.TakenLemmas.{takes_on}
 use Rattle.acq_io.proofs.ReadLemmas.{reads_line, reads_end, reads_too_long}
+use Rattle.acq_io.proofs.CallLemmas.{called_on, called_as}
 use Rattle.acq_io.proofs.lines.read_line.Goals as goal
 
 pub returns-in-Ok-None-clause-line : goal.returns-in-Ok-None-clause-line
@@ -31,3 +32,12 @@ returns-in-Err-clause-takes g c = search rules
 
 pub returns-in-Err-clause-called : goal.returns-in-Err-clause-called
 returns-in-Err-clause-called g c = search rules
+
+pub returns-in-Ok-None-clause-called : goal.returns-in-Ok-None-clause-called
+returns-in-Ok-None-clause-called g c = called_on _ _ _ _ _ _ _ c.loop-byte.invariant.called (called_as _ _ _ _ _ _ (λ is. cc) (λ is. cc) c.in-Ok-None.ensures.called)
+
+pub returns-in-Ok-Some-eq10-clause-called : goal.returns-in-Ok-Some-eq10-clause-called
+returns-in-Ok-Some-eq10-clause-called g c = called_on _ _ _ _ _ _ _ c.loop-byte.invariant.called (called_as _ _ _ _ _ _ (λ is. cc) (λ is. cc) c.in-Ok-Some-eq10.ensures.called)
+
+pub returns-then-is_full-clause-called : goal.returns-then-is_full-clause-called
+returns-then-is_full-clause-called g c = called_on _ _ _ _ _ _ _ c.loop-byte.invariant.called (called_as _ _ _ _ _ _ (λ is. cc) (λ is. cc) c.in-Ok-Some.ensures.called)

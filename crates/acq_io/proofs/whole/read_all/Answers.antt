@@ -1,6 +1,8 @@
 use Rattle.acq_io.proofs.Prelude.{◌≡◌, ap, arith, Ok, Result, ℕ, List, ◌++◌, take, length, length-append, length-take, Failed}
 use Rattle.acq_io.proofs.TakenLemmas.{takes_on}
 use Rattle.acq_io.proofs.ReadLemmas.{gives_all, gives_too_many}
+use Rattle.std.proofs.Common.{refl}
+use Rattle.acq_io.proofs.CallLemmas.{called_once}
 use Rattle.acq_io.proofs.whole.read_all.Goals as goal
 
 pub returns-in-Ok-eq0-clause-all : goal.returns-in-Ok-eq0-clause-all
@@ -28,3 +30,15 @@ pub returns-then-is_err-clause-takes : goal.returns-then-is_err-clause-takes
 returns-then-is_err-clause-takes g c =
     let piece : List ℕ = take c.in-Ok.count c.read.new.buf in
     (c.loop-all.all.items ++ piece, takes_on _ _ _ _ piece c.loop-all.invariant.taken c.in-Ok.ensures.bytes)
+
+pub returns-in-Err-clause-called : goal.returns-in-Err-clause-called
+returns-in-Err-clause-called g c = called_once _ _ _ _ _ _ _ c.loop-all.invariant.called c.read.ensures.later c.read.ensures.late (λ _. c.in-Err.ensures.raised) (λ other. absurd (other refl))
+
+pub returns-in-Ok-eq0-clause-called : goal.returns-in-Ok-eq0-clause-called
+returns-in-Ok-eq0-clause-called g c = called_once _ _ _ _ _ _ _ c.loop-all.invariant.called c.read.ensures.later c.read.ensures.late (λ is. cc) (λ _. c.in-Ok-eq0.ensures.kept)
+
+pub returns-then-count-room-clause-called : goal.returns-then-count-room-clause-called
+returns-then-count-room-clause-called g c = called_once _ _ _ _ _ _ _ c.loop-all.invariant.called c.read.ensures.later c.read.ensures.late (λ is. cc) (λ _. c.in-Ok.ensures.kept)
+
+pub returns-then-is_err-clause-called : goal.returns-then-is_err-clause-called
+returns-then-is_err-clause-called g c = called_once _ _ _ _ _ _ _ c.loop-all.invariant.called c.read.ensures.later c.read.ensures.late (λ is. cc) (λ _. c.in-Ok.ensures.kept)

@@ -1,9 +1,12 @@
 use Rattle.std.proofs.Common.{rules}
-use Rattle.answer_journal.proofs.Prelude.{◌≡◌, ◌+◌, ◌∷◌, ◌++◌, ◌∙◌, [], ℕ, Some, length, take, ap, subst, List, inl, inr, arith, length-append, Only, LeavesBehind, none_done, then_behind, MAGIC, session_tail, IsClosedAfter, HasNoSession, HasRecord, IsWithOrWithout, StartsWith, IsCreating, Sits}
+use Rattle.answer_journal.proofs.Prelude.{◌≡◌, ◌+◌, ◌∷◌, ◌++◌, ◌∙◌, [], ℕ, Some, length, take, ap, subst, sym, List, inl, inr, arith, length-append, Only, LeavesBehind, none_done, then_behind, MAGIC, session_tail, IsClosedAfter, HasNoSession, HasRecord, IsWithOrWithout, StartsWith, IsCreating, Sits}
 use Rattle.answer_journal.proofs.Gate.{told_before, told_same}
 use Rattle.answer_journal.proofs.Emptied.{head_free, starts, creating, sits}
 use Rattle.answer_journal.proofs.OnlyRead.{read_behind, then_written}
 use Rattle.answer_journal.proofs.Sizes.{session_size}
+use Rattle.answer_journal.proofs.Exits.{none_given, refusal, ended_by}
+use Rattle.answer_journal.specs.Heads.{IsHead}
+use Rattle.answer_journal.specs.Making.{CreateRefused}
 use Rattle.answer_journal.proofs.SomeBytes.{session_there_somewhere, not_made_somewhere}
 use Rattle.answer_journal.proofs.creating.create.Goals as goal
 
@@ -110,3 +113,123 @@ returns-clause-spared g c old told = inl (head_free old c.in_ok-head.head (c.in_
 
 pub empty-requires-clause-free : goal.empty-requires-clause-free
 empty-requires-clause-free g c = search rules
+
+pub returns-in_err-head-clause-there : goal.returns-in_err-head-clause-there
+returns-in_err-head-clause-there g c = none_given _ _ c.from_residual.result c.from_residual.ensures.1
+
+pub returns-in_err-head-clause-records : goal.returns-in_err-head-clause-records
+returns-in_err-head-clause-records g c = none_given _ _ c.from_residual.result c.from_residual.ensures.1
+
+pub returns-in_err-head-clause-not_raised : goal.returns-in_err-head-clause-not_raised
+returns-in_err-head-clause-not_raised g c = none_given _ _ c.from_residual.result c.from_residual.ensures.1
+
+pub returns-in_err-head-clause-free : goal.returns-in_err-head-clause-free
+returns-in_err-head-clause-free g c = λ x told. none_given _ _ c.from_residual.result c.from_residual.ensures.1
+
+pub returns-in_err-head-clause-refused : goal.returns-in_err-head-clause-refused
+returns-in_err-head-clause-refused g c = λ x told. refusal _ _ c.from_residual.result c.from_residual.ensures.1 (λ e is. subst (CreateRefused x) (sym is) tt)
+
+pub returns-in_err-head-clause-some_refusal : goal.returns-in_err-head-clause-some_refusal
+returns-in_err-head-clause-some_refusal g c = refusal _ _ c.from_residual.result c.from_residual.ensures.1 (λ e is. ([], subst (CreateRefused []) (sym is) tt))
+
+pub returns-in_err-head-clause-untouched : goal.returns-in_err-head-clause-untouched
+returns-in_err-head-clause-untouched g c = refusal _ _ c.from_residual.result c.from_residual.ensures.1 (λ e is. inl is)
+
+pub returns-in_err-head-clause-spared : goal.returns-in_err-head-clause-spared
+returns-in_err-head-clause-spared g c = λ x told. inr c.head_of.ensures.only_read
+
+pub returns-in_err-rest-clause-there : goal.returns-in_err-rest-clause-there
+returns-in_err-rest-clause-there g c = none_given _ _ c.from_residual-in_err-rest.result c.from_residual-in_err-rest.ensures.1
+
+pub returns-in_err-rest-clause-records : goal.returns-in_err-rest-clause-records
+returns-in_err-rest-clause-records g c = none_given _ _ c.from_residual-in_err-rest.result c.from_residual-in_err-rest.ensures.1
+
+pub returns-in_err-rest-clause-not_raised : goal.returns-in_err-rest-clause-not_raised
+returns-in_err-rest-clause-not_raised g c = none_given _ _ c.from_residual-in_err-rest.result c.from_residual-in_err-rest.ensures.1
+
+pub returns-in_err-rest-clause-free : goal.returns-in_err-rest-clause-free
+returns-in_err-rest-clause-free g c = λ x told. none_given _ _ c.from_residual-in_err-rest.result c.from_residual-in_err-rest.ensures.1
+
+pub returns-in_err-rest-clause-refused : goal.returns-in_err-rest-clause-refused
+returns-in_err-rest-clause-refused g c = λ x told. refusal _ _ c.from_residual-in_err-rest.result c.from_residual-in_err-rest.ensures.1 (λ e is. subst (CreateRefused x) (sym is) (head_free x c.in_ok-head.head (c.in_ok-head.ensures.head x told) c.in-Short.is))
+
+pub returns-in_err-rest-clause-some_refusal : goal.returns-in_err-rest-clause-some_refusal
+returns-in_err-rest-clause-some_refusal g c = refusal _ _ c.from_residual-in_err-rest.result c.from_residual-in_err-rest.ensures.1 (λ e is. ([], subst (CreateRefused []) (sym is) (inl (omega arith))))
+
+pub returns-in_err-rest-clause-untouched : goal.returns-in_err-rest-clause-untouched
+returns-in_err-rest-clause-untouched g c = refusal _ _ c.from_residual-in_err-rest.result c.from_residual-in_err-rest.ensures.1 (λ e is. inr c.head_of.ensures.only_read)
+
+pub returns-in_err-rest-clause-failed : goal.returns-in_err-rest-clause-failed
+returns-in_err-rest-clause-failed g c = ended_by _ _ c.from_residual-in_err-rest.result _ c.from_residual-in_err-rest.ensures.1 (λ is. cc)
+
+pub returns-in_err-rest-clause-spared : goal.returns-in_err-rest-clause-spared
+returns-in_err-rest-clause-spared g c = λ x told. inr c.head_of.ensures.only_read
+
+pub returns-in_err-empty-clause-there : goal.returns-in_err-empty-clause-there
+returns-in_err-empty-clause-there g c = none_given _ _ c.from_residual-in_err-empty.result c.from_residual-in_err-empty.ensures.1
+
+pub returns-in_err-empty-clause-records : goal.returns-in_err-empty-clause-records
+returns-in_err-empty-clause-records g c = none_given _ _ c.from_residual-in_err-empty.result c.from_residual-in_err-empty.ensures.1
+
+pub returns-in_err-empty-clause-not_raised : goal.returns-in_err-empty-clause-not_raised
+returns-in_err-empty-clause-not_raised g c = none_given _ _ c.from_residual-in_err-empty.result c.from_residual-in_err-empty.ensures.1
+
+pub returns-in_err-empty-clause-free : goal.returns-in_err-empty-clause-free
+returns-in_err-empty-clause-free g c = λ x told. none_given _ _ c.from_residual-in_err-empty.result c.from_residual-in_err-empty.ensures.1
+
+pub returns-in_err-empty-clause-refused : goal.returns-in_err-empty-clause-refused
+returns-in_err-empty-clause-refused g c = λ x told. refusal _ _ c.from_residual-in_err-empty.result c.from_residual-in_err-empty.ensures.1 (λ e is. subst (CreateRefused x) (sym is) tt)
+
+pub returns-in_err-empty-clause-some_refusal : goal.returns-in_err-empty-clause-some_refusal
+returns-in_err-empty-clause-some_refusal g c = refusal _ _ c.from_residual-in_err-empty.result c.from_residual-in_err-empty.ensures.1 (λ e is. ([], subst (CreateRefused []) (sym is) tt))
+
+pub returns-in_err-empty-clause-untouched : goal.returns-in_err-empty-clause-untouched
+returns-in_err-empty-clause-untouched g c = refusal _ _ c.from_residual-in_err-empty.result c.from_residual-in_err-empty.ensures.1 (λ e is. inl is)
+
+pub returns-in_err-empty-clause-spared : goal.returns-in_err-empty-clause-spared
+returns-in_err-empty-clause-spared g c = λ x told. inl (head_free x c.in_ok-head.head (c.in_ok-head.ensures.head x told) c.in-Short.is)
+
+pub returns-in_err-add_record-clause-there : goal.returns-in_err-add_record-clause-there
+returns-in_err-add_record-clause-there g c = none_given _ _ c.from_residual-in_err-add_record.result c.from_residual-in_err-add_record.ensures.1
+
+pub returns-in_err-add_record-clause-records : goal.returns-in_err-add_record-clause-records
+returns-in_err-add_record-clause-records g c = none_given _ _ c.from_residual-in_err-add_record.result c.from_residual-in_err-add_record.ensures.1
+
+pub returns-in_err-add_record-clause-not_raised : goal.returns-in_err-add_record-clause-not_raised
+returns-in_err-add_record-clause-not_raised g c = none_given _ _ c.from_residual-in_err-add_record.result c.from_residual-in_err-add_record.ensures.1
+
+pub returns-in_err-add_record-clause-free : goal.returns-in_err-add_record-clause-free
+returns-in_err-add_record-clause-free g c = λ x told. none_given _ _ c.from_residual-in_err-add_record.result c.from_residual-in_err-add_record.ensures.1
+
+pub returns-in_err-add_record-clause-refused : goal.returns-in_err-add_record-clause-refused
+returns-in_err-add_record-clause-refused g c = λ x told. refusal _ _ c.from_residual-in_err-add_record.result c.from_residual-in_err-add_record.ensures.1 (λ e is. subst (CreateRefused x) (sym is) tt)
+
+pub returns-in_err-add_record-clause-some_refusal : goal.returns-in_err-add_record-clause-some_refusal
+returns-in_err-add_record-clause-some_refusal g c = refusal _ _ c.from_residual-in_err-add_record.result c.from_residual-in_err-add_record.ensures.1 (λ e is. ([], subst (CreateRefused []) (sym is) tt))
+
+pub returns-in_err-add_record-clause-untouched : goal.returns-in_err-add_record-clause-untouched
+returns-in_err-add_record-clause-untouched g c = refusal _ _ c.from_residual-in_err-add_record.result c.from_residual-in_err-add_record.ensures.1 (λ e is. inl is)
+
+pub returns-in-Foreign-clause-refused : goal.returns-in-Foreign-clause-refused
+returns-in-Foreign-clause-refused g c = λ x told. subst (IsHead x) c.in-Foreign.is (c.in_ok-head.ensures.head x told)
+
+pub returns-in-Foreign-clause-untouched : goal.returns-in-Foreign-clause-untouched
+returns-in-Foreign-clause-untouched g c = inr c.head_of.ensures.only_read
+
+pub returns-in-Foreign-clause-spared : goal.returns-in-Foreign-clause-spared
+returns-in-Foreign-clause-spared g c = λ x told. inr c.head_of.ensures.only_read
+
+pub returns-in-Foreign-clause-failed : goal.returns-in-Foreign-clause-failed
+returns-in-Foreign-clause-failed g c = λ is. cc
+
+pub returns-in-Open-clause-refused : goal.returns-in-Open-clause-refused
+returns-in-Open-clause-refused g c = λ x told. subst (IsHead x) c.in-Open.is (c.in_ok-head.ensures.head x told)
+
+pub returns-in-Open-clause-untouched : goal.returns-in-Open-clause-untouched
+returns-in-Open-clause-untouched g c = inr c.head_of.ensures.only_read
+
+pub returns-in-Open-clause-spared : goal.returns-in-Open-clause-spared
+returns-in-Open-clause-spared g c = λ x told. inr c.head_of.ensures.only_read
+
+pub returns-in-Open-clause-failed : goal.returns-in-Open-clause-failed
+returns-in-Open-clause-failed g c = λ is. cc

@@ -1,10 +1,13 @@
-use Rattle.answer_journal.proofs.Prelude.{◌≡◌, ◌<◌, ◌≤◌, ◌⊎◌, ◌+◌, ◌-◌, ◌++◌, ◌∙◌, ℕ, List, false, All, length, drop, inl, inr, ⊎_elim, ap, sym, subst, arith, take_at, err_from_is_err_and, IsStorableEvent, session_tail, IsHead, Spells, ReadsAs, Session, EventsRefused, HasEvents}
+use Rattle.answer_journal.proofs.Prelude.{◌≡◌, ◌<◌, ◌≤◌, ◌⊎◌, ◌+◌, ◌-◌, ◌++◌, ◌∙◌, ℕ, List, false, All, length, drop, [], inl, inr, ⊎_elim, ap, sym, subst, arith, take_at, err_from_is_err_and, IsStorableEvent, session_tail, IsHead, Spells, ReadsAs, Session, EventsRefused, HasEvents}
 use Rattle.answer_journal.proofs.Sizes.{read_size}
 use Rattle.answer_journal.proofs.RecordLists.{all_storable}
 use Rattle.answer_journal.proofs.OnlyRead.{read_more, then_read}
 use Rattle.answer_journal.proofs.WholeFile.{damaged_first, rest_is, spells, sits, refused}
 use Rattle.answer_journal.proofs.FirstPiece.{rest_within, none_first, start_is, spelled_first}
-use Rattle.answer_journal.proofs.SomeBytes.{foreign_somewhere, damaged_somewhere, begins_at, refused_somewhere, session_somewhere}
+use Rattle.answer_journal.proofs.Exits.{none_given, refusal, ended_by}
+use Rattle.answer_journal.proofs.Emptied.{head_free}
+use Rattle.answer_journal.specs.Found.{Refused}
+use Rattle.answer_journal.proofs.SomeBytes.{no_session_somewhere, foreign_somewhere, damaged_somewhere, begins_at, refused_somewhere, session_somewhere}
 use Rattle.answer_journal.proofs.opening.open.Goals as goal
 
 pub returns-in_default-clause-refused : goal.returns-in_default-clause-refused
@@ -147,3 +150,183 @@ returns-in_default-clause-only_read g c =
 pub returns-in_err-voc-clause-only_read : goal.returns-in_err-voc-clause-only_read
 returns-in_err-voc-clause-only_read g c =
     read_more g.D.Disk c.args.disk.now c.head_of.new.disk c.read.new.self c.head_of.ensures.only_read c.read.ensures.same c.read.ensures.crash c.read.ensures.time c.read.ensures.cause.later
+
+pub returns-in_err-head-clause-opened : goal.returns-in_err-head-clause-opened
+returns-in_err-head-clause-opened g c = λ x told. none_given _ _ c.from_residual.result c.from_residual.ensures.1
+
+pub returns-in_err-head-clause-there : goal.returns-in_err-head-clause-there
+returns-in_err-head-clause-there g c = none_given _ _ c.from_residual.result c.from_residual.ensures.1
+
+pub returns-in_err-head-clause-records : goal.returns-in_err-head-clause-records
+returns-in_err-head-clause-records g c = none_given _ _ c.from_residual.result c.from_residual.ensures.1
+
+pub returns-in_err-head-clause-storable : goal.returns-in_err-head-clause-storable
+returns-in_err-head-clause-storable g c = none_given _ _ c.from_residual.result c.from_residual.ensures.1
+
+pub returns-in_err-head-clause-some_session : goal.returns-in_err-head-clause-some_session
+returns-in_err-head-clause-some_session g c = none_given _ _ c.from_residual.result c.from_residual.ensures.1
+
+pub returns-in_err-head-clause-refused : goal.returns-in_err-head-clause-refused
+returns-in_err-head-clause-refused g c = λ x told. refusal _ _ c.from_residual.result c.from_residual.ensures.1 (λ e is. inl is)
+
+pub returns-in_err-head-clause-some_refusal : goal.returns-in_err-head-clause-some_refusal
+returns-in_err-head-clause-some_refusal g c = refusal _ _ c.from_residual.result c.from_residual.ensures.1 (λ e is. inl is)
+
+pub returns-in_err-head-clause-synced : goal.returns-in_err-head-clause-synced
+returns-in_err-head-clause-synced g c = λ x told. refusal _ _ c.from_residual.result c.from_residual.ensures.1 (λ e is. ⊎_elim (λ only. inl only) (λ failed. inr (is, failed.1)) (c.head_of.ensures.synced x told))
+
+pub returns-in_err-head-clause-few_calls : goal.returns-in_err-head-clause-few_calls
+returns-in_err-head-clause-few_calls g c = λ x told. omega (arith, c.head_of.ensures.few_calls)
+
+pub returns-in_err-head-clause-only_read : goal.returns-in_err-head-clause-only_read
+returns-in_err-head-clause-only_read g c = c.head_of.ensures.only_read
+
+pub returns-in_err-buffer-clause-opened : goal.returns-in_err-buffer-clause-opened
+returns-in_err-buffer-clause-opened g c = λ x told. none_given _ _ c.from_residual-in_err-buffer.result c.from_residual-in_err-buffer.ensures.1
+
+pub returns-in_err-buffer-clause-there : goal.returns-in_err-buffer-clause-there
+returns-in_err-buffer-clause-there g c = none_given _ _ c.from_residual-in_err-buffer.result c.from_residual-in_err-buffer.ensures.1
+
+pub returns-in_err-buffer-clause-records : goal.returns-in_err-buffer-clause-records
+returns-in_err-buffer-clause-records g c = none_given _ _ c.from_residual-in_err-buffer.result c.from_residual-in_err-buffer.ensures.1
+
+pub returns-in_err-buffer-clause-storable : goal.returns-in_err-buffer-clause-storable
+returns-in_err-buffer-clause-storable g c = none_given _ _ c.from_residual-in_err-buffer.result c.from_residual-in_err-buffer.ensures.1
+
+pub returns-in_err-buffer-clause-some_session : goal.returns-in_err-buffer-clause-some_session
+returns-in_err-buffer-clause-some_session g c = none_given _ _ c.from_residual-in_err-buffer.result c.from_residual-in_err-buffer.ensures.1
+
+pub returns-in_err-buffer-clause-refused : goal.returns-in_err-buffer-clause-refused
+returns-in_err-buffer-clause-refused g c = λ x told. refusal _ _ c.from_residual-in_err-buffer.result c.from_residual-in_err-buffer.ensures.1 (λ e is. inr (subst (Refused x) (sym is) tt))
+
+pub returns-in_err-buffer-clause-some_refusal : goal.returns-in_err-buffer-clause-some_refusal
+returns-in_err-buffer-clause-some_refusal g c = refusal _ _ c.from_residual-in_err-buffer.result c.from_residual-in_err-buffer.ensures.1 (λ e is. inr ([], subst (Refused []) (sym is) tt))
+
+pub returns-in_err-buffer-clause-failed : goal.returns-in_err-buffer-clause-failed
+returns-in_err-buffer-clause-failed g c = ended_by _ _ c.from_residual-in_err-buffer.result _ c.from_residual-in_err-buffer.ensures.1 (λ is. cc)
+
+pub returns-in_err-buffer-clause-synced : goal.returns-in_err-buffer-clause-synced
+returns-in_err-buffer-clause-synced g c = λ x told. refusal _ _ c.from_residual-in_err-buffer.result c.from_residual-in_err-buffer.ensures.1 (λ e is. inl (c.in_ok-head.ensures.durable x told))
+
+pub returns-in_err-buffer-clause-few_calls : goal.returns-in_err-buffer-clause-few_calls
+returns-in_err-buffer-clause-few_calls g c = λ x told. omega (arith, c.head_of.ensures.few_calls)
+
+pub returns-in_err-buffer-clause-only_read : goal.returns-in_err-buffer-clause-only_read
+returns-in_err-buffer-clause-only_read g c = c.head_of.ensures.only_read
+
+pub returns-in_err-count-clause-opened : goal.returns-in_err-count-clause-opened
+returns-in_err-count-clause-opened g c = λ x told. none_given _ _ c.from_residual-in_err-count.result c.from_residual-in_err-count.ensures.1
+
+pub returns-in_err-count-clause-there : goal.returns-in_err-count-clause-there
+returns-in_err-count-clause-there g c = none_given _ _ c.from_residual-in_err-count.result c.from_residual-in_err-count.ensures.1
+
+pub returns-in_err-count-clause-records : goal.returns-in_err-count-clause-records
+returns-in_err-count-clause-records g c = none_given _ _ c.from_residual-in_err-count.result c.from_residual-in_err-count.ensures.1
+
+pub returns-in_err-count-clause-storable : goal.returns-in_err-count-clause-storable
+returns-in_err-count-clause-storable g c = none_given _ _ c.from_residual-in_err-count.result c.from_residual-in_err-count.ensures.1
+
+pub returns-in_err-count-clause-some_session : goal.returns-in_err-count-clause-some_session
+returns-in_err-count-clause-some_session g c = none_given _ _ c.from_residual-in_err-count.result c.from_residual-in_err-count.ensures.1
+
+pub returns-in_err-count-clause-refused : goal.returns-in_err-count-clause-refused
+returns-in_err-count-clause-refused g c = λ x told. refusal _ _ c.from_residual-in_err-count.result c.from_residual-in_err-count.ensures.1 (λ e is. inl is)
+
+pub returns-in_err-count-clause-some_refusal : goal.returns-in_err-count-clause-some_refusal
+returns-in_err-count-clause-some_refusal g c = refusal _ _ c.from_residual-in_err-count.result c.from_residual-in_err-count.ensures.1 (λ e is. inl is)
+
+pub returns-in_err-count-clause-synced : goal.returns-in_err-count-clause-synced
+returns-in_err-count-clause-synced g c = λ x told. refusal _ _ c.from_residual-in_err-count.result c.from_residual-in_err-count.ensures.1 (λ e is. inl (λ f left. c.in_ok-head.ensures.durable x told f (c.read.ensures.crash f left)))
+
+pub returns-in_err-count-clause-few_calls : goal.returns-in_err-count-clause-few_calls
+returns-in_err-count-clause-few_calls g c = λ x told. omega (arith, c.head_of.ensures.few_calls, c.read.ensures.one_call.at_most)
+
+pub returns-in_err-voc-clause-opened : goal.returns-in_err-voc-clause-opened
+returns-in_err-voc-clause-opened g c = λ x told. none_given _ _ c.from_residual-in_err-voc.result c.from_residual-in_err-voc.ensures.1
+
+pub returns-in_err-voc-clause-there : goal.returns-in_err-voc-clause-there
+returns-in_err-voc-clause-there g c = none_given _ _ c.from_residual-in_err-voc.result c.from_residual-in_err-voc.ensures.1
+
+pub returns-in_err-voc-clause-records : goal.returns-in_err-voc-clause-records
+returns-in_err-voc-clause-records g c = none_given _ _ c.from_residual-in_err-voc.result c.from_residual-in_err-voc.ensures.1
+
+pub returns-in_err-voc-clause-storable : goal.returns-in_err-voc-clause-storable
+returns-in_err-voc-clause-storable g c = none_given _ _ c.from_residual-in_err-voc.result c.from_residual-in_err-voc.ensures.1
+
+pub returns-in_err-voc-clause-some_session : goal.returns-in_err-voc-clause-some_session
+returns-in_err-voc-clause-some_session g c = none_given _ _ c.from_residual-in_err-voc.result c.from_residual-in_err-voc.ensures.1
+
+pub returns-in_err-voc-clause-refused : goal.returns-in_err-voc-clause-refused
+returns-in_err-voc-clause-refused g c = λ x told. refusal _ _ c.from_residual-in_err-voc.result c.from_residual-in_err-voc.ensures.1 (λ e is. inr (subst (Refused x) (sym is) tt))
+
+pub returns-in_err-voc-clause-some_refusal : goal.returns-in_err-voc-clause-some_refusal
+returns-in_err-voc-clause-some_refusal g c = refusal _ _ c.from_residual-in_err-voc.result c.from_residual-in_err-voc.ensures.1 (λ e is. inr ([], subst (Refused []) (sym is) tt))
+
+pub returns-in_err-voc-clause-failed : goal.returns-in_err-voc-clause-failed
+returns-in_err-voc-clause-failed g c = ended_by _ _ c.from_residual-in_err-voc.result _ c.from_residual-in_err-voc.ensures.1 (λ is. cc)
+
+pub returns-in_err-voc-clause-synced : goal.returns-in_err-voc-clause-synced
+returns-in_err-voc-clause-synced g c = λ x told. refusal _ _ c.from_residual-in_err-voc.result c.from_residual-in_err-voc.ensures.1 (λ e is. inl (λ f left. c.in_ok-head.ensures.durable x told f (c.read.ensures.crash f left)))
+
+pub returns-in_err-voc-clause-few_calls : goal.returns-in_err-voc-clause-few_calls
+returns-in_err-voc-clause-few_calls g c = λ x told. omega (arith, c.head_of.ensures.few_calls, c.read.ensures.one_call.at_most)
+
+pub returns-in_err-events-clause-opened : goal.returns-in_err-events-clause-opened
+returns-in_err-events-clause-opened g c = λ x told. none_given _ _ c.from_residual-in_err-events.result c.from_residual-in_err-events.ensures.1
+
+pub returns-in_err-events-clause-there : goal.returns-in_err-events-clause-there
+returns-in_err-events-clause-there g c = none_given _ _ c.from_residual-in_err-events.result c.from_residual-in_err-events.ensures.1
+
+pub returns-in_err-events-clause-records : goal.returns-in_err-events-clause-records
+returns-in_err-events-clause-records g c = none_given _ _ c.from_residual-in_err-events.result c.from_residual-in_err-events.ensures.1
+
+pub returns-in_err-events-clause-storable : goal.returns-in_err-events-clause-storable
+returns-in_err-events-clause-storable g c = none_given _ _ c.from_residual-in_err-events.result c.from_residual-in_err-events.ensures.1
+
+pub returns-in_err-events-clause-some_session : goal.returns-in_err-events-clause-some_session
+returns-in_err-events-clause-some_session g c = none_given _ _ c.from_residual-in_err-events.result c.from_residual-in_err-events.ensures.1
+
+pub returns-in_err-events-clause-synced : goal.returns-in_err-events-clause-synced
+returns-in_err-events-clause-synced g c = λ x told. refusal _ _ c.from_residual-in_err-events.result c.from_residual-in_err-events.ensures.1 (λ e is. inl (λ f left. c.in_ok-head.ensures.durable x told f (c.read.ensures.crash f (c.events_of.ensures.only_read.nothing_new f left))))
+
+pub returns-in-Short-clause-synced : goal.returns-in-Short-clause-synced
+returns-in-Short-clause-synced g c = λ x told. inl (c.in_ok-head.ensures.durable x told)
+
+pub returns-in-Short-clause-few_calls : goal.returns-in-Short-clause-few_calls
+returns-in-Short-clause-few_calls g c = λ x told. omega (arith, c.head_of.ensures.few_calls)
+
+pub returns-in-Short-clause-only_read : goal.returns-in-Short-clause-only_read
+returns-in-Short-clause-only_read g c = c.head_of.ensures.only_read
+
+pub returns-in-Short-clause-failed : goal.returns-in-Short-clause-failed
+returns-in-Short-clause-failed g c = λ is. cc
+
+pub returns-in-Foreign-clause-synced : goal.returns-in-Foreign-clause-synced
+returns-in-Foreign-clause-synced g c = λ x told. inl (c.in_ok-head.ensures.durable x told)
+
+pub returns-in-Foreign-clause-few_calls : goal.returns-in-Foreign-clause-few_calls
+returns-in-Foreign-clause-few_calls g c = λ x told. omega (arith, c.head_of.ensures.few_calls)
+
+pub returns-in-Foreign-clause-only_read : goal.returns-in-Foreign-clause-only_read
+returns-in-Foreign-clause-only_read g c = c.head_of.ensures.only_read
+
+pub returns-in-Foreign-clause-failed : goal.returns-in-Foreign-clause-failed
+returns-in-Foreign-clause-failed g c = λ is. cc
+
+pub returns-in_default-clause-synced : goal.returns-in_default-clause-synced
+returns-in_default-clause-synced g c = λ x told. inl (λ f left. c.in_ok-head.ensures.durable x told f (c.read.ensures.crash f left))
+
+pub returns-in_default-clause-few_calls : goal.returns-in_default-clause-few_calls
+returns-in_default-clause-few_calls g c = λ x told. omega (arith, c.head_of.ensures.few_calls, c.read.ensures.one_call.at_most)
+
+pub returns-in_default-clause-failed : goal.returns-in_default-clause-failed
+returns-in_default-clause-failed g c = λ is. cc
+
+pub returns-in-Short-clause-some_refusal : goal.returns-in-Short-clause-some_refusal
+returns-in-Short-clause-some_refusal g c = inr no_session_somewhere
+
+pub returns-in-Short-clause-refused : goal.returns-in-Short-clause-refused
+returns-in-Short-clause-refused g c = λ x told. inr (head_free x c.in_ok-head.head (c.in_ok-head.ensures.head x told) c.in-Short.is)
+
+pub returns-in-Foreign-clause-refused : goal.returns-in-Foreign-clause-refused
+returns-in-Foreign-clause-refused g c = λ x told. inr (subst (IsHead x) c.in-Foreign.is (c.in_ok-head.ensures.head x told))

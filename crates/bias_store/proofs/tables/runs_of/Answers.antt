@@ -1,6 +1,7 @@
 use Rattle.bias_store.proofs.Prelude.{◌-◌, get_or, refl, sym, ◌∙◌, ap, arith}
 use Rattle.bias_store.proofs.Runs.{step_apart, step_on}
 use Rattle.bias_store.proofs.tables.runs_of.Goals.{then-scope, else-scope}
+use Rattle.bias_store.proofs.Exits.{none_given}
 use Rattle.bias_store.proofs.tables.runs_of.Goals as goal
 
 pub loop-back-preserved : goal.loop-back-preserved
@@ -22,3 +23,6 @@ loop-back-preserved c =
         some = omega arith;
       }
     ]
+
+pub returns-in_err-next : goal.returns-in_err-next
+returns-in_err-next c = none_given _ _ c.from_residual.result c.from_residual.ensures.1

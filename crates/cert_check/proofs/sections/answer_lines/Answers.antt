@@ -1,6 +1,7 @@
 use Rattle.cert_check.proofs.Prelude.{◌≡◌, ◌+◌, ◌-◌, List, sym, ◌∙◌, ap, subst, All, IfSome, All-push, err_from_is_err_and, Answer, IsQuestion, BadLine, answer_in, answer_lines, unread}
-use Rattle.cert_check.proofs.InTurn.{or_value, or_fault, next_read, next_missing, next_wrong, with_front, lines_go_on, lines_end, lines_done}
+use Rattle.cert_check.proofs.InTurn.{next_read, next_missing, next_wrong, with_front, lines_go_on, lines_end, lines_done}
 use Rattle.cert_check.proofs.sections.answer_lines.Goals as goal
+use Rattle.shared_lemmas.proofs.Read.{or_value, or_fault}
 
 pub returns-in_err-line-clause-is : goal.returns-in_err-line-clause-is
 returns-in_err-line-clause-is c =

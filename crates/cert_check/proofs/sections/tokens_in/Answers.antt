@@ -1,7 +1,8 @@
 use Rattle.cert_check.proofs.Prelude.{◌≡◌, ◌∷◌, sym, ◌∙◌, ap, subst, ok_or, err_from_is_err_and, BadLine, tokens_in, words_left}
-use Rattle.cert_check.proofs.InTurn.{or_value, or_fault, or_missing, with_tokens, tokens_go_on, tokens_bad, tokens_done}
+use Rattle.cert_check.proofs.InTurn.{or_missing, with_tokens, tokens_go_on, tokens_bad, tokens_done}
 use Rattle.cert_check.proofs.sections.tokens_in.Goals as goal
 use Rattle.cert_check.proofs.sections.tokens_in.Goals.{In-Some}
+use Rattle.shared_lemmas.proofs.Read.{or_value, or_fault}
 
 -- a word more is left
 at_word : (c : In-Some) → with_tokens c.loop-word.tokens.items (tokens_in c.args.items (c.in-Some.word.now ∷ words_left c.next.new.self)) ≡ tokens_in c.args.items (words_left c.args.words)

@@ -1,5 +1,7 @@
-use Rattle.language.proofs.Prelude.{◌≡◌, ◌+◌, ◌*◌, ◌<◌, false, true, sym, ap, ◌∙◌, arith, get_or, get_or_default, ValueRange, range_in, is_in}
-use Rattle.language.proofs.PairOrders.{same_none, same_more, same_all, row_same, row_found, none_found, below_range, past_range, within_range, is_value}
+use Rattle.language.proofs.Prelude.{◌≡◌, ◌+◌, ◌*◌, ◌<◌, false, true, sym, ap, ◌∙◌, arith, get_or, get_or_default, ValueRange, range_in, is_in, ◌≤◌}
+use Rattle.language.proofs.PairOrders.{same_none, same_more, same_all, row_same, row_found, none_found, below_range, past_range, within_range, is_value, pair_below}
+use Rattle.std.proofs.Math.Nat.{mul-le-mul_right}
+use Rattle.std.proofs.Common.{◌-◌}
 use Rattle.language.proofs.narrow.comes_before.Goals as goal
 
 pub loop-x-init : goal.loop-x-init
@@ -48,3 +50,37 @@ returns c =
       before = λ e. absurd (let no : ⊥ = cc in no);
       behind = λ e. absurd (let no : ⊥ = cc in no);
     }
+
+pub bounds-ranges-scope : goal.bounds-ranges-scope
+bounds-ranges-scope c = c.requires.scope.known 0 0 (omega (arith, c.requires.two))
+
+pub overflow_add-x-end : goal.overflow_add-x-end
+overflow_add-x-end c =
+    let known = c.requires.scope.known 0 0 (omega (arith, c.requires.two)) in
+    let last = (c.requires.ranges.some (get_or c.args.scope.now 0 0) (record { first = 0; last = 0 }) known).known in
+    omega (arith, last, c.requires.ranges.few_values)
+
+pub overflow_mul-place : goal.overflow_mul-place
+overflow_mul-place c =
+    let known = c.requires.scope.known 0 0 (omega (arith, c.requires.two)) in
+    let last = (c.requires.ranges.some (get_or c.args.scope.now 0 0) (record { first = 0; last = 0 }) known).known in
+    let wide : c.from.result * c.from-in-loop-x.result ≤ 64 * c.from-in-loop-x.result = mul-le-mul_right c.from-in-loop-x.result (omega (arith, last, c.requires.ranges.few_values, c.loop-x-test.true, c.from.ensures)) in
+    omega (arith, wide, c.from-in-loop-x.ensures, c.requires.ranges.few_values)
+
+pub row-requires : goal.row-requires
+row-requires c =
+    let known = c.requires.scope.known 0 0 (omega (arith, c.requires.two)) in
+    let last = (c.requires.ranges.some (get_or c.args.scope.now 0 0) (record { first = 0; last = 0 }) known).known in
+    let low : c.loop-x.x < c.args.d = omega (arith, last, c.loop-x-test.true) in
+    let within = pair_below c.args.d c.loop-x.x (c.args.d - 1) low (omega (arith, low)) in
+    let place : c.from.result * c.from-in-loop-x.result ≡ c.loop-x.x * c.args.d = λ i. c.from.ensures i * c.from-in-loop-x.ensures i in
+    omega (arith, within, place, low, c.requires.one.size, c.requires.one.values)
+
+pub row-requires-in-loop-x : goal.row-requires-in-loop-x
+row-requires-in-loop-x c =
+    let known = c.requires.scope.known 0 0 (omega (arith, c.requires.two)) in
+    let last = (c.requires.ranges.some (get_or c.args.scope.now 0 0) (record { first = 0; last = 0 }) known).known in
+    let low : c.loop-x.x < c.args.d = omega (arith, last, c.loop-x-test.true) in
+    let within = pair_below c.args.d c.loop-x.x (c.args.d - 1) low (omega (arith, low)) in
+    let place : c.from.result * c.from-in-loop-x.result ≡ c.loop-x.x * c.args.d = λ i. c.from.ensures i * c.from-in-loop-x.ensures i in
+    omega (arith, within, place, low, c.requires.other.size, c.requires.other.values)

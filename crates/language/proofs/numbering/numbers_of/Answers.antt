@@ -1,4 +1,4 @@
-use Rattle.language.proofs.Prelude.{◌≡◌, ℕ, ◌+◌, ◌-◌, ◌^◌, ◌≤◌, List, [], ◌∷◌, ◌++◌, length, map, take, get_or, sym, ◌∙◌, ap, subst, arith, All, length-map, length-append, length-take-le, get_or-map, get_or_push, take_more, take_all, All-more, TruthTable, Scope, variables_in, IsScope, given_by, scope_in, tables_for, AreChosen, AreAll}
+use Rattle.language.proofs.Prelude.{◌≡◌, ℕ, ◌+◌, ◌-◌, ◌^◌, ◌≤◌, List, [], ◌∷◌, ◌++◌, length, map, take, get_or, sym, ◌∙◌, ap, subst, arith, All, length-map, length-append, length-take-le, get_or-map, get_or_push, take_more, take_all, All-more, TruthTable, Scope, variables_in, IsScope, given_by, IsClosedOf, scope_in, tables_for, AreChosen, AreAll}
 use Rattle.language.proofs.ByScope.{all_more}
 use Rattle.language.proofs.SameRanges.{same_ranges, same_length, chosen_same}
 use Rattle.language.proofs.numbering.numbers_of.Goals as goal
@@ -79,3 +79,15 @@ returns-clause-all c =
 pub returns-clause-sized : goal.returns-clause-sized
 returns-clause-sized c =
     subst (All (λ (scope : Scope). length (variables_in scope) ≡ scope.size)) (take_all c.loop-scope.scope-index c.args.scopes.now c.loop-scope-test.false) c.loop-scope.invariant.sized
+
+pub list-tables-requires-clause-some : goal.list-tables-requires-clause-some
+list-tables-requires-clause-some c = omega (arith, c.as_slice-variables.ensures.size, (c.requires.sized c.loop-scope.scope-index (record { size = 0; variables = [] }) c.loop-scope-test.true).0)
+
+pub list-tables-requires-clause-short : goal.list-tables-requires-clause-short
+list-tables-requires-clause-short c = omega (arith, c.as_slice-variables.ensures.size, (c.requires.sized c.loop-scope.scope-index (record { size = 0; variables = [] }) c.loop-scope-test.true).1)
+
+pub numbers_on-requires-clause-closed : goal.numbers_on-requires-clause-closed
+numbers_on-requires-clause-closed c =
+    let sized = c.requires.sized c.loop-scope.scope-index (record { size = 0; variables = [] }) c.loop-scope-test.true in
+    subst (IsClosedOf c.args.d (length c.as_slice-variables.result.now) (map given_by c.args.rels.now)) (sym c.list-tables.ensures)
+    (c.requires.closed (length c.as_slice-variables.result.now) (omega (arith, c.as_slice-variables.ensures.size, sized.0)) (omega (arith, c.as_slice-variables.ensures.size, sized.1)))

@@ -1,5 +1,6 @@
-use Rattle.multi_tree.proofs.Prelude.{◌≡◌, ◌-◌, ◌<◌, true, false, List, length, refl, sym, ◌∙◌, ap, subst, arith, Candidate, next_turn, AreListed}
-use Rattle.multi_tree.proofs.Turning.{none_waits, cut_off, splits, asks, drops, taken, some_asked, nothing_struck}
+use Rattle.multi_tree.proofs.Prelude.{◌≡◌, ◌-◌, ◌<◌, true, false, [], length, take, refl, sym, ◌∙◌, ap, subst, arith, not-true, scope_of, next_turn}
+use Rattle.multi_tree.proofs.Turning.{none_waits, cut_off, splits, asks, drops, taken, some_asked, nothing_struck, none_struck, struck_is}
+use Rattle.multi_tree.proofs.Barren.{below_barren, nothing_barren, split_barren, un_not}
 use Rattle.multi_tree.proofs.tree.take_sets.Goals as goal
 
 pub returns-in_default-clause-turn : goal.returns-in_default-clause-turn
@@ -18,11 +19,12 @@ loop-left-preserved-in-Some-listed_within c = record {
       ∙ taken l network kept e c.loop-left.left c.in-Some.set c.pop.new.self c.loop-left.waiting c.loop-left-test.true c.in-Some.ensures.top
       ∙ c.loop-left.invariant.turn);
   struck = c.loop-left.invariant.struck;
+  barren = split_barren (take c.loop-left.struck.count c.loop-left.room) c.loop-left.struck.barren c.in-Some.set c.pop.new.self c.is_barren-is_barren.result c.barren_from.result c.len-below.result
+      c.loop-left.waiting c.split.new.waiting (scope_of c.args.lang.now c.in-Some-listed_within.c) c.len-below.ensures.count c.len-below.ensures.few c.barren_from.ensures c.in-Some.ensures.top c.loop-left.invariant.barren
+      (c.n-variables.ensures.lawful.scopes c.in-Some-listed_within.c.scope [] c.in-Some-listed_within.ensures.known.scope).short
+      (λ on. not-true _ (sym c.is_barren-is_barren.ensures ∙ on)) c.split.ensures;
   few = c.loop-left.invariant.few;
 }
-
-pub listed_within-requires-clause-listed : goal.listed_within-requires-clause-listed
-listed_within-requires-clause-listed c = subst (λ (network : List Candidate). AreListed c.args.lang.now network c.args.example.now c.listed_of-listed.new.places c.listed_of-listed.result) c.list.ensures c.listed_of-listed.ensures
 
 pub returns-then-is_struck_within-clause-turn : goal.returns-then-is_struck_within-clause-turn
 returns-then-is_struck_within-clause-turn c =
@@ -53,8 +55,11 @@ loop-left-preserved c = record {
       (sym c.is_struck_within.ensures ∙ c.if-is_struck_within.false))
       ∙ taken l network kept e c.loop-left.left c.in-Some.set c.pop.new.self c.loop-left.waiting c.loop-left-test.true c.in-Some.ensures.top
       ∙ c.loop-left.invariant.turn);
-  struck = c.list_once-found.ensures.struck;
-  few = c.list_once-found.ensures.few;
+  struck = c.list_once-struck.ensures.struck;
+  barren = c.list_once-struck.ensures.barren c.pop.new.self c.len-below.ensures.few
+      (below_barren (take c.loop-left.struck.count c.loop-left.room) c.loop-left.struck.barren c.in-Some.set c.pop.new.self c.is_barren-is_barren.result c.barren_from.result c.len-below.result
+      c.loop-left.waiting c.len-below.ensures.count c.len-below.ensures.few c.barren_from.ensures c.in-Some.ensures.top c.loop-left.invariant.barren);
+  few = c.list_once-struck.ensures.few;
 }
 
 pub returns-then-is_empty-clause-turn : goal.returns-then-is_empty-clause-turn
@@ -70,8 +75,15 @@ pub loop-left-init : goal.loop-left-init
 loop-left-init c = record {
   turn = refl;
   struck = nothing_struck c.args.lang.now c.args.kept.now.members c.args.example.now;
+  barren = nothing_barren 1024 c.args.waiting.now;
   few = omega arith;
 }
 
 pub is_struck_within-requires-clause-struck : goal.is_struck_within-requires-clause-struck
-is_struck_within-requires-clause-struck c = c.loop-left.invariant.struck
+is_struck_within-requires-clause-struck c = λ off.
+    sym (struck_is c.args.lang.now c.args.kept.now.members c.args.example.now c.in-Some.set) ∙ c.loop-left.invariant.struck.some c.in-Some.set (un_not _ (sym c.is_barren-is_barren.ensures ∙ off))
+
+pub is_struck_within-requires-clause-quiet : goal.is_struck_within-requires-clause-quiet
+is_struck_within-requires-clause-quiet c = λ on all.
+    none_struck c.args.lang.now c.args.kept.now.members c.args.example.now (take c.loop-left.struck.count c.loop-left.room) c.loop-left.struck.are_all c.in-Some.set c.loop-left.invariant.struck all
+    (not-true _ (sym c.is_barren-is_barren.ensures ∙ on))

@@ -1,6 +1,7 @@
 use Rattle.net_cnf.proofs.Prelude.{◌*◌, ◌+◌, drop, get_or, sym, ◌∙◌, ap, arith, digit_value, digits_value_after, at_drop_more}
-use Rattle.net_cnf.proofs.Numerals.{value_grows, number_past}
+use Rattle.net_cnf.proofs.Numerals.{number_past}
 use Rattle.net_cnf.proofs.literal.number_in.Goals as goal
+use Rattle.shared_lemmas.proofs.Read.{value_grows}
 
 pub returns-then-number-most : goal.returns-then-number-most
 returns-then-number-most c =

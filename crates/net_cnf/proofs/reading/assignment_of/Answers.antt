@@ -1,8 +1,8 @@
 use Rattle.net_cnf.proofs.Prelude.{◌≡◌, ◌⊎◌, inl, inr, ℕ, ◌+◌, ◌<◌, ◌≤◌, Option, Some, None, length, get_or, set, subst, sym, ◌∙◌, ap, arith, option_map, cases_lt, get_or-set_same, get_or-set_other, fill_by_all, err_from_is_err_and, IsQuestion, variable_count, truths, true_values, only_of, ModelFault, NotOne}
-use Rattle.net_cnf.proofs.Taking.{or_value, or_fault}
 use Rattle.net_cnf.proofs.Runs.{IsValue}
 use Rattle.net_cnf.proofs.Valuing.{one_missing, ones_all, one_long, question_set, true_of}
 use Rattle.net_cnf.proofs.reading.assignment_of.Goals as goal
+use Rattle.shared_lemmas.proofs.Read.{or_value, or_fault}
 
 pub returns-in_err-value-clause-is : goal.returns-in_err-value-clause-is
 returns-in_err-value-clause-is c =

@@ -1,8 +1,9 @@
 use Rattle.net_cnf.proofs.Prelude.{◌≡◌, ◌∷◌, Some, length, refl, sym, ◌∙◌, ap, subst, arith, option_map, bytes_eq, err_from_is_err_and, tokens_left, AreNamed, all_tokens, is_end, bad_token, tokens, ModelFault, BadToken}
 use Rattle.net_cnf.proofs.Cutting.{tokens_fit}
-use Rattle.net_cnf.proofs.Taking.{IsTaken, or_value, or_fault, read_of, taken_none, taken_more, taken_bad, taken_to_end, taken_all}
+use Rattle.net_cnf.proofs.Taking.{IsTaken, read_of, taken_none, taken_more, taken_bad, taken_to_end, taken_all}
 use Rattle.net_cnf.proofs.reading.mark_all.Goals as goal
 use Rattle.net_cnf.proofs.reading.mark_all.Goals.{In-Some, After-eq, In_ok-literal}
+use Rattle.shared_lemmas.proofs.Read.{or_value, or_fault}
 
 pub loop-token-init : goal.loop-token-init
 loop-token-init c =

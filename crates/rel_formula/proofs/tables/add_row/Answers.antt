@@ -1,6 +1,7 @@
 use Rattle.rel_formula.proofs.Prelude.{◌≡◌, ℕ, ◌+◌, ◌-◌, ◌*◌, ◌<◌, ℤ, Bool, Option, Some, None, List, length, take, set, w64, to_z, of_z, SFits, rules, arith, subst, suc, ap, sym, ◌∙◌, if◌then◌else◌, to_z-of_z, length-set, tuple_at, shown_tuple, is_true, is_too_big, first_too_big}
+use Rattle.std.proofs.Common.{negsuc, pos, ◌≤ℤ◌}
 use Rattle.std.specs.Option.{option_map}
-use Rattle.std.proofs.lemmas.List.{take-set-le}
+use Rattle.std.proofs.lemmas.List.{take-set-le, length-take-le}
 use Rattle.rel_formula.specs.Places.{AreTruthsTo}
 use Rattle.rel_formula.specs.declared.fault.TableOfFault.TheVariants.{TooBig}
 use Rattle.rel_formula.proofs.Places.{truths_more, shown_row, row_within, first_too_big-some, none_is}
@@ -66,3 +67,47 @@ returns-clause-so_far c =
     let all : c.loop-x.x ≡ c.args.d = omega (arith, c.loop-x-test.false, c.loop-x.auto.x-end) in
     subst (λ y. AreTruthsTo c.args.f.now c.args.arity y c.args.d (c.args.row * c.args.d + c.args.d) c.loop-x.truths.items) (to_z-of_z w64 c.args.lo c.ranges.lo)
     (subst (λ k. AreTruthsTo c.args.f.now c.args.arity (to_z w64 (of_z w64 c.args.lo)) c.args.d (c.args.row * c.args.d + k) c.loop-x.truths.items) all c.loop-x.invariant.so_far)
+
+pub loop-x-init : goal.loop-x-init
+loop-x-init c =
+    let lo = sym (to_z-of_z w64 c.args.lo c.ranges.lo) in
+    let start : c.args.row * c.args.d ≡ c.args.row * c.args.d + 0 = omega arith in
+    record {
+      len = search rules;
+      values = c.shown_at-shown.ensures;
+      so_far = subst (λ (y : ℤ). AreTruthsTo c.args.f.now c.args.arity y c.args.d (c.args.row * c.args.d + 0) c.args.truths.now.items) lo
+          (subst (λ k. AreTruthsTo c.args.f.now c.args.arity c.args.lo c.args.d k c.args.truths.now.items) start c.requires.so_far);
+    }
+
+pub shown_at-shown-requires-clause-low : goal.shown_at-shown-requires-clause-low
+shown_at-shown-requires-clause-low c = subst (λ (y : ℤ). negsuc 999999 ≤ℤ y) (sym (to_z-of_z w64 c.args.lo c.ranges.lo)) c.requires.low
+
+pub shown_at-shown-requires-clause-high : goal.shown_at-shown-requires-clause-high
+shown_at-shown-requires-clause-high c = subst (λ (y : ℤ). y ≤ℤ pos 1000000) (sym (to_z-of_z w64 c.args.lo c.ranges.lo)) c.requires.high
+
+pub shown_value-requires-clause-low : goal.shown_value-requires-clause-low
+shown_value-requires-clause-low c = subst (λ (y : ℤ). negsuc 999999 ≤ℤ y) (sym (to_z-of_z w64 c.args.lo c.ranges.lo)) c.requires.low
+
+pub shown_value-requires-clause-high : goal.shown_value-requires-clause-high
+shown_value-requires-clause-high c = subst (λ (y : ℤ). y ≤ℤ pos 1000000) (sym (to_z-of_z w64 c.args.lo c.ranges.lo)) c.requires.high
+
+pub slice_bounds-shown-end : goal.slice_bounds-shown-end
+slice_bounds-shown-end c =
+    omega (arith, length-set c.loop-x.shown c.from-last.result (to_z w64 (of_z w64 c.shown_value.result)), c.loop-x.invariant.len, c.from-last.ensures, c.requires.short)
+
+pub slice_bounds-truth_at-end : goal.slice_bounds-truth_at-end
+slice_bounds-truth_at-end c =
+    let shown = set c.loop-x.shown c.from-last.result (to_z w64 (of_z w64 c.shown_value.result)) in
+    sym (length-take-le (c.from-last.result + 1) shown (omega (arith, length-set c.loop-x.shown c.from-last.result (to_z w64 (of_z w64 c.shown_value.result)), c.loop-x.invariant.len, c.from-last.ensures, c.requires.short)))
+
+pub overflow_mul-result : goal.overflow_mul-result
+overflow_mul-result c =
+    let within = row_within c.args.d (c.args.arity - 1) c.args.arity c.args.row c.loop-x.x (omega (arith, c.requires.some)) c.loop-x-test.true c.requires.within in
+    let is = ap (λ k. c.args.row * k) c.from.ensures in
+    omega (arith, within, is, c.requires.fits)
+
+pub overflow_add-result : goal.overflow_add-result
+overflow_add-result c =
+    let within = row_within c.args.d (c.args.arity - 1) c.args.arity c.args.row c.loop-x.x (omega (arith, c.requires.some)) c.loop-x-test.true c.requires.within in
+    let is = ap (λ k. c.args.row * k) c.from.ensures in
+    omega (arith, within, is, c.from-in-None.ensures, c.requires.fits)

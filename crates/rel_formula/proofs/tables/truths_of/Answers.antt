@@ -1,4 +1,5 @@
 use Rattle.rel_formula.proofs.Prelude.{◌≡◌, ◌+◌, ◌-◌, ◌*◌, ◌^◌, ℤ, None, w64, to_z, of_z, arith, subst, suc, to_z-of_z, relation_of, first_too_big}
+use Rattle.std.proofs.Common.{negsuc, pos, ◌≤ℤ◌, ap, sym}
 use Rattle.rel_formula.specs.Places.{AreTruthsTo}
 use Rattle.rel_formula.proofs.Places.{relation_of-all, first_too_big-none, all_rows}
 use Rattle.rel_formula.proofs.tables.truths_of.Goals as goal
@@ -23,3 +24,16 @@ returns-clause-fits c =
     let all : c.loop-row.row * c.args.d ≡ c.args.d ^ c.args.arity = all_rows c.args.d (c.args.arity - 1) c.args.arity c.loop-row.row size rows in
     subst (λ (y : ℤ). first_too_big c.args.f.now c.args.arity y c.args.d ≡ None) (to_z-of_z w64 c.args.lo c.ranges.lo)
     (first_too_big-none c.args.f.now c.args.arity (to_z w64 (of_z w64 c.args.lo)) c.args.d (λ k h. c.loop-row.invariant.fits k (omega (arith, all))))
+
+pub overflow_mul-rows : goal.overflow_mul-rows
+overflow_mul-rows c =
+    let size : c.args.arity ≡ suc (c.args.arity - 1) = omega (arith, c.requires.some) in
+    let all = all_rows c.args.d (c.args.arity - 1) c.args.arity c.tuple_count-rows.result size c.tuple_count-rows.ensures in
+    let is = ap (λ k. c.tuple_count-rows.result * k) c.from.ensures in
+    omega (arith, all, is, c.requires.fits)
+
+pub add_row-requires-clause-low : goal.add_row-requires-clause-low
+add_row-requires-clause-low c = subst (λ (y : ℤ). negsuc 999999 ≤ℤ y) (sym (to_z-of_z w64 c.args.lo c.ranges.lo)) c.requires.low
+
+pub add_row-requires-clause-high : goal.add_row-requires-clause-high
+add_row-requires-clause-high c = subst (λ (y : ℤ). y ≤ℤ pos 1000000) (sym (to_z-of_z w64 c.args.lo c.ranges.lo)) c.requires.high

@@ -1,5 +1,7 @@
 use Rattle.session_core.proofs.Prelude.{◌∙◌, ◌++◌, ◌∷◌, [], Bool, List, not, sym, ap, subst, filter, ◌==◌, All, All-push, Candidate, IsCandidate, kept, At, go_on, walk_in, Knowledge, AreUnlearned}
 use Rattle.session_core.proofs.Moving.{decided_learned, kept_learned, led_from, unlearned_after}
+use Rattle.multi_tree.specs.Stage.{example_in}
+use Rattle.multi_tree.proofs.Growing.{listing_more}
 use Rattle.session_core.proofs.going.learn.Goals as goal
 
 pub invariant_of-known : goal.invariant_of-known
@@ -10,6 +12,7 @@ invariant_of-known c =
     let more : List Candidate = c.learn.new.self.list in
     record {
       walks = k.walks;
+      listed = listing_more k.lang k.network.list more (c.args.c ∷ []) (example_in k.tree) k.listing c.learn.ensures.list k.listed;
       resting = k.resting;
       made = c.drop_scope.ensures.made k.lang k.made;
       lawful = subst (All (IsCandidate k.lang)) (sym c.learn.ensures.list) (All-push (IsCandidate k.lang) k.network.list c.args.c k.lawful candidate);

@@ -13,6 +13,6 @@ returns-in-End c =
       none_new = tt;
       stands = λ t told.
           let led = led_from k c.args.knowledge.value t (λ (x : Knowledge). go_on x.lang t x.network.list (walk_in x.tree)) same told in
-          let last = walk_ends k.lang t k.kept.members k.network.list k.tree c.next.result led.knows.kept c.next.ensures.answer c.in-End.is in
+          let last = walk_ends k.lang t k.kept.members k.network.list k.tree c.next_beside.result led.knows.kept c.next_beside.ensures.answer c.in-End.is in
           record { after = record { end = last.0; idle = led.at ∙ ap At last.1 }; knows = record { kept = led.knows.kept; count = led.knows.count } };
     }

@@ -2,6 +2,7 @@ use Rattle.session_core.proofs.Prelude.{◌≡◌, ◌∙◌, true, sym, ap, sub
 use Rattle.session_core.proofs.Questions.{by_plan}
 use Rattle.session_core.proofs.Moving.{led_from}
 use Rattle.session_core.proofs.Walks.{first_turns}
+use Rattle.multi_tree.specs.Stage.{example_in}
 use Rattle.session_core.proofs.moves.ask_walked.Goals as goal
 
 pub invariant_of-result : goal.invariant_of-result
@@ -15,7 +16,7 @@ invariant_of-result c =
       sound = record {
         plan = λ scopes. (let no : Scopes ≡ Multi = sym scopes ∙ multi in absurd (let bad : ⊥ = cc in bad));
         lawful = lawful;
-        walk = λ multi. c.next.ensures.stage ∙ ap (λ (stage : Stage). stage_after (turn_at k.lang k.network.list k.kept.members stage)) c.start.ensures.stage
+        walk = λ multi. c.next_beside.ensures.stage ∙ ap (λ (stage : Stage). stage_after (turn_at k.lang k.network.list k.kept.members stage)) c.start.ensures.stage
             ∙ ap stage_after (first_turns k.lang c.n-variables.ensures.lawful k.kept.members k.network.list c.args.q may);
       };
     }
@@ -28,8 +29,13 @@ returns-clause-stands c = λ end t told.
     let lawful = subst (λ (x : Knowledge). IsTrue (is_lawful x.lang x.plan x.kept.members x.network.list c.args.q)) (sym same) c.requires.lawful in
     record { after = record { end = end; idle = led.at; lawful = lawful }; knows = record { kept = led.knows.kept; count = led.knows.count } }
 
-pub next-requires-clause-example : goal.next-requires-clause-example
-next-requires-clause-example c =
+pub next_beside-requires-clause-listed : goal.next_beside-requires-clause-listed
+next_beside-requires-clause-listed c =
+    let k : Knowledge = c.as_mut-known.result.now in
+    c.clear.ensures k.lang k.network.list (example_in c.start.new.self)
+
+pub next_beside-requires-clause-example : goal.next_beside-requires-clause-example
+next_beside-requires-clause-example c =
     let k : Knowledge = c.as_mut-known.result.now in
     let same : k ≡ c.args.knowledge.value = c.as_mut-known.ensures.value in
     let multi : k.plan ≡ Multi = ap (λ (x : Knowledge). x.plan) same ∙ c.requires.plan in

@@ -1,5 +1,6 @@
 use Rattle.session_core.proofs.Prelude.{◌≡◌, sym, ◌∙◌, ap, [], None, List, Candidate, Language, candidates, kept, At, Idle, Stage, Ready, Asked, Done, IsWalkOn, walk_in, Knowledge}
 use Rattle.session_core.proofs.Moving.{filter_all, state_nil}
+use Rattle.multi_tree.specs.Stage.{example_in}
 use Rattle.session_core.proofs.moves.begin.Goals as goal
 
 pub returns-clause-stands : goal.returns-clause-stands
@@ -20,6 +21,9 @@ at_rest : (l : Language) (stage : Stage) → walk_in stage ≡ None → IsWalkOn
 at_rest l (Ready walk) none = absurd (let bad : ⊥ = cc in bad)
 at_rest l (Asked set walk) none = absurd (let bad : ⊥ = cc in bad)
 at_rest l (Done end) none = tt
+
+pub invariant_of-knowledge-clause-listed : goal.invariant_of-knowledge-clause-listed
+invariant_of-knowledge-clause-listed c = c.in_ok-kept.ensures.listed c.args.lang c.in_ok-kept.network.list (example_in c.in_ok-kept.tree)
 
 pub invariant_of-knowledge-clause-walks : goal.invariant_of-knowledge-clause-walks
 invariant_of-knowledge-clause-walks c = at_rest c.args.lang c.in_ok-kept.tree c.in_ok-kept.ensures.resting

@@ -1,5 +1,6 @@
 use Rattle.session_core.proofs.Prelude.{refl, sym, ◌∙◌, ap, [], None, List, Candidate, candidates, kept, At, Idle}
 use Rattle.session_core.proofs.Moving.{filter_all, state_nil}
+use Rattle.multi_tree.specs.Stage.{example_in}
 use Rattle.session_core.proofs.moves.fresh_session.Goals as goal
 
 pub returns-clause-stands : goal.returns-clause-stands
@@ -12,3 +13,6 @@ returns-clause-stands c =
         count = refl;
       };
     }
+
+pub invariant_of-known-clause-listed : goal.invariant_of-known-clause-listed
+invariant_of-known-clause-listed c = c.clear-3.ensures c.as_mut-known.result.now.lang c.clear.new.self.list (example_in c.clear-2.new.self)

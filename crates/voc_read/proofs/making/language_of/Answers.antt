@@ -1,4 +1,4 @@
-use Rattle.voc_read.proofs.Prelude.{◌≡◌, ◌≢◌, None, Ok, Err, map, subst, sym, ap, ◌∙◌, Some, err_from_is_err_and, items_view, listed_in, names_refusal, listed_items, outline_data, named_range, ranges_of, with_ranges, AreApart, scopes_of, texts_of}
+use Rattle.voc_read.proofs.Prelude.{◌≡◌, ◌≢◌, None, Ok, Err, map, subst, sym, ap, ◌∙◌, Some, err_from_is_err_and, items_view, listed_in, names_refusal, listed_items, outline_data, named_range, ranges_of, with_ranges, AreApart, scopes_of, texts_of, Bor, List, ℕ, ◌≤◌, All, length, length-map, Frame, IsFrame, IsOver, AreKnown, first_repeat}
 use Rattle.language.specs.declared.parts.LangFault.TheVariants as lang
 use Rattle.voc_read.proofs.KnownRanges.{are_known, known_as}
 use Rattle.voc_read.proofs.LanguageMade.{is_language, is_refused, names_refused, outline_refused, ranges_refused, relations_refused, scopes_refused}
@@ -74,3 +74,42 @@ returns-in_err-scopes-clause-refused c =
     (subst (λ names. names_refusal (texts_of names) ≡ None) c.deref.ensures.value c.in_ok-check_names.ensures.refused) c.in_ok-frame.ensures.refused c.in_ok-frame.ensures.frame c.domain_of-domain.ensures.least c.domain_of-domain.ensures.count
     _ _ (subst (λ names. ranges_of c.domain_of-domain.result.least_value c.domain_of-domain.result.value_count (texts_of names) (items_view c.args.outline.now.ranges.now) ≡ Ok (map named_range c.in_ok-ranges.ranges.items)) c.deref-2.ensures.value c.in_ok-ranges.ensures) c.in_ok-given.ensures.is
     (subst (λ names. scopes_of (texts_of names) (listed_items c.args.outline.now.listed) ≡ Err c.in_err-scopes.field-0.0) c.deref-4.ensures.value (c.in_err-scopes.ensures.is real)))
+
+pub set_ranges-requires-clause-whole : goal.set_ranges-requires-clause-whole
+set_ranges-requires-clause-whole c = c.in_ok-frame.ensures.frame.whole
+
+pub ranges_of-requires-clause-apart : goal.ranges_of-requires-clause-apart
+ranges_of-requires-clause-apart c = subst (λ names. first_repeat (texts_of names) ≡ None) (c.deref.ensures.value ∙ sym c.deref-2.ensures.value) c.in_ok-check_names.ensures.apart
+
+pub ranges_of-requires-clause-variables : goal.ranges_of-requires-clause-variables
+ranges_of-requires-clause-variables c =
+    let frame : IsFrame c.in_ok-frame.frame = subst IsFrame c.frame.view_is c.frame.invariant in
+    let names = c.args.outline.now.names.items in
+    let long : length c.in_ok-frame.frame.names ≡ length c.deref-2.result.now =
+    ap length c.in_ok-frame.ensures.frame.names ∙ length-map names (λ (text : Bor (List ℕ)). text.now) ∙ ap length (sym c.deref-2.ensures.value) in
+    subst (λ n. n ≤ 128) long frame.few_variables
+
+pub scopes_of-requires-clause-apart : goal.scopes_of-requires-clause-apart
+scopes_of-requires-clause-apart c = subst (λ names. first_repeat (texts_of names) ≡ None) (c.deref.ensures.value ∙ sym c.deref-4.ensures.value) c.in_ok-check_names.ensures.apart
+
+pub scopes_of-requires-clause-variables : goal.scopes_of-requires-clause-variables
+scopes_of-requires-clause-variables c =
+    let frame : IsFrame c.in_ok-frame.frame = subst IsFrame c.frame.view_is c.frame.invariant in
+    let names = c.args.outline.now.names.items in
+    let long : length c.in_ok-frame.frame.names ≡ length c.deref-4.result.now =
+    ap length c.in_ok-frame.ensures.frame.names ∙ length-map names (λ (text : Bor (List ℕ)). text.now) ∙ ap length (sym c.deref-4.ensures.value) in
+    subst (λ n. n ≤ 128) long frame.few_variables
+
+pub build-requires-clause-known : goal.build-requires-clause-known
+build-requires-clause-known c =
+    let names = c.args.outline.now.names.items in
+    let long : length c.deref-4.result.now ≡ length c.set_ranges.new.frame.names =
+    ap length c.deref-4.ensures.value ∙ sym (length-map names (λ (text : Bor (List ℕ)). text.now)) ∙ ap length (sym c.in_ok-frame.ensures.frame.names) ∙ ap (λ (f : Frame). length f.names) (sym c.set_ranges.ensures) in
+    subst (λ n. AreKnown n (listed_in c.in_ok-scopes.scopes)) long c.in_ok-scopes.ensures.known
+
+pub build-requires-clause-tables : goal.build-requires-clause-tables
+build-requires-clause-tables c =
+    subst (λ d. All (IsOver d) c.in_ok-given.given.items) (c.domain_of-domain.ensures.count ∙ ap (λ (f : Frame). f.value_count) (sym c.set_ranges.ensures)) c.in_ok-given.ensures.kinds
+
+pub build-requires-clause-names : goal.build-requires-clause-names
+build-requires-clause-names c = c.in_ok-given.ensures.names

@@ -1,6 +1,6 @@
 use Rattle.assign.proofs.CellLemmas.{same_options}
-use Rattle.assign.proofs.Masks.{both_true}
 use Rattle.assign.proofs.assignment.PartialPartialEq.eq.Goals as goal
+use Rattle.shared_lemmas.proofs.Booleans.{both_true}
 
 pub returns : goal.returns
 returns c =

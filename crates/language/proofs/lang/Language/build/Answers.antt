@@ -1,4 +1,4 @@
-use Rattle.language.proofs.Prelude.{◌≡◌, ℕ, ◌-◌, ◌≤◌, List, [], get_or, take, length, map, ◌^◌, true, sym, ◌∙◌, ap, subst, arith, refl, to_z, of_z, w64, String, string_bytes, Some, All, Global, to_z-of_z, eqb-false, length-map, RelPart, TruthTable, IsTable, IsOfKind, Scope, Inside, AreScopes, IsClosedOf, AreAll, list_all, is_whole_range, variables_in, has_arity, Frame, IsFrame, listed_in, scopes_of, scopes_refusal, given_by, truths, ArePairMasks}
+use Rattle.language.proofs.Prelude.{◌≡◌, ℕ, ◌-◌, ◌≤◌, List, [], get_or, take, length, map, ◌^◌, true, sym, ◌∙◌, ap, subst, arith, refl, to_z, of_z, w64, String, string_bytes, Some, All, Global, to_z-of_z, eqb-false, length-map, RelPart, TruthTable, IsTable, IsOfKind, Scope, Inside, AreScopes, IsClosedOf, AreAll, list_all, is_whole_range, variables_in, has_arity, Frame, IsFrame, listed_in, scopes_of, scopes_refusal, closing_refusal, build_refusal, given_by, truths, ArePairMasks, ◌∷◌, Option, None, option_or, LangFault, Given, IsScope, IsRange, IsOver, AreKnown}
 use Rattle.std.proofs.lemmas.Result.{err_from_is_err_and}
 use Rattle.language.proofs.Wording.{least_fits}
 use Rattle.language.proofs.Built.{IsMadeOf, sound, built, scopes_fit, refused_scopes, values_of, values_of-over}
@@ -110,3 +110,70 @@ returns-in_err-scopes-clause-refused c =
     (subst (λ (n : ℕ). scopes_refusal (map given_by c.args.rels.items) (scopes_of n (map given_by c.args.rels.items) (listed_in c.args.scopes)) ≡ Some c.in_err-scopes.field-0.0) names
     (subst (λ (parts : List RelPart). scopes_refusal (map given_by parts) (scopes_of c.len.result (map given_by parts) (listed_in c.args.scopes)) ≡ Some c.in_err-scopes.field-0.0) c.deref.ensures.value
     (c.in_err-scopes.ensures.refused other))))
+
+-- where the scopes aren't refused, the relations decide
+closing_left : (n : ℕ) (given : List Given) (listed : Option (List (List ℕ))) (o : Option LangFault) → 1 ≤ length given → scopes_refusal given (scopes_of n given listed) ≡ None → closing_refusal given ≡ o → build_refusal n given listed ≡ o
+closing_left n [] listed o some made is = absurd (omega arith)
+closing_left n (g ∷ given) listed o some made is = ap (λ first. option_or first (closing_refusal (g ∷ given))) made ∙ is
+
+pub returns-clause-made : goal.returns-clause-made
+returns-clause-made c =
+    let some : 1 ≤ length c.args.rels.items = (let e = eqb-false _ _ (sym c.is_empty.ensures ∙ c.if-is_empty.false) in omega (arith, e)) in
+    closing_left (length c.args.frame.names) (map given_by c.args.rels.items) (listed_in c.args.scopes) None (omega (arith, some, length-map c.args.rels.items given_by))
+    (subst (λ (n : ℕ). scopes_refusal (map given_by c.args.rels.items) (scopes_of n (map given_by c.args.rels.items) (listed_in c.args.scopes)) ≡ None) (count c)
+    (subst (λ (parts : List RelPart). scopes_refusal (map given_by parts) (scopes_of c.len.result (map given_by parts) (listed_in c.args.scopes)) ≡ None) c.deref.ensures.value c.in_ok-scopes.ensures.made))
+    (subst (λ (parts : List RelPart). closing_refusal (map given_by parts) ≡ None) c.deref-2.ensures.value c.in_ok-relations.ensures.made)
+
+pub returns-in_err-relations-clause-refused : goal.returns-in_err-relations-clause-refused
+returns-in_err-relations-clause-refused c =
+    let some : 1 ≤ length c.args.rels.items = (let e = eqb-false _ _ (sym c.is_empty.ensures ∙ c.if-is_empty.false) in omega (arith, e)) in
+    let names : c.len.result ≡ length c.args.frame.names =
+    (let long : c.len.result ≡ length c.frame.inside.names.items = omega arith in long) ∙ sym (length-map c.frame.inside.names.items (λ (s : String Global). string_bytes s)) ∙ ap (λ (f : Frame). length f.names) c.frame.view_is in
+    let p = err_from_is_err_and c.from_residual-in_err-relations.result c.from_residual-in_err-relations.ensures.1 in
+    rw (p.1, p.2) (λ other.
+    closing_left (length c.args.frame.names) (map given_by c.args.rels.items) (listed_in c.args.scopes) (Some c.in_err-relations.field-0.0) (omega (arith, some, length-map c.args.rels.items given_by))
+    (subst (λ (n : ℕ). scopes_refusal (map given_by c.args.rels.items) (scopes_of n (map given_by c.args.rels.items) (listed_in c.args.scopes)) ≡ None) names
+    (subst (λ (parts : List RelPart). scopes_refusal (map given_by parts) (scopes_of c.len.result (map given_by parts) (listed_in c.args.scopes)) ≡ None) c.deref.ensures.value c.in_ok-scopes.ensures.made))
+    (subst (λ (parts : List RelPart). closing_refusal (map given_by parts) ≡ Some c.in_err-relations.field-0.0) c.deref-2.ensures.value (c.in_err-relations.ensures.refused other)))
+
+pub stated_scopes-requires-clause-known : goal.stated_scopes-requires-clause-known
+stated_scopes-requires-clause-known c =
+    let names : c.len.result ≡ length c.args.frame.names =
+    (let long : c.len.result ≡ length c.frame.inside.names.items = omega arith in long) ∙ sym (length-map c.frame.inside.names.items (λ (s : String Global). string_bytes s)) ∙ ap (λ (f : Frame). length f.names) c.frame.view_is in
+    subst (λ (n : ℕ). AreKnown n (listed_in c.args.scopes)) (sym names) c.requires.known
+
+pub stated_scopes-requires-clause-few : goal.stated_scopes-requires-clause-few
+stated_scopes-requires-clause-few c = omega (arith, length-map c.frame.inside.names.items (λ (s : String Global). string_bytes s), c.frame.invariant.few_variables)
+
+pub slice_bounds-own-end : goal.slice_bounds-own-end
+slice_bounds-own-end c =
+    let own : c.len-2.result ≡ length c.frame.inside.names.items = omega arith in
+    own ∙ sym (length-map c.frame.inside.names.items (λ (s : String Global). string_bytes s)) ∙ sym c.frame.invariant.ranged ∙ ap (λ (n : ℕ). length (take n c.frame.inside.ranges)) (sym own)
+
+pub numbers_of-requires-clause-ranges : goal.numbers_of-requires-clause-ranges
+numbers_of-requires-clause-ranges c =
+    let own : c.len-2.result ≡ length c.frame.inside.names.items = omega arith in
+    record {
+      some_value = c.frame.invariant.some_value;
+      few_values = c.frame.invariant.few_values;
+      some = subst (λ (n : ℕ). All (IsRange c.frame.inside.value_count) (take n c.frame.inside.ranges)) (sym own) c.frame.invariant.ranges;
+    }
+
+pub numbers_of-requires-clause-over : goal.numbers_of-requires-clause-over
+numbers_of-requires-clause-over c =
+    subst (All (IsOver c.frame.inside.value_count)) (sym c.deref-3.ensures.value) (subst (λ (d : ℕ). All (IsOver d) c.args.rels.items) (sym (ap (λ (f : Frame). f.value_count) c.frame.view_is)) c.requires.tables)
+
+pub numbers_of-requires-clause-sized : goal.numbers_of-requires-clause-sized
+numbers_of-requires-clause-sized c = subst (All (λ (scope : Scope). (1 ≤ scope.size) × (scope.size ≤ 4))) (sym c.deref-4.ensures.value) c.in_ok-scopes.ensures.sound.sized
+
+pub numbers_of-requires-clause-few : goal.numbers_of-requires-clause-few
+numbers_of-requires-clause-few c = subst (λ (scopes : List Scope). length scopes ≤ 8192) (sym c.deref-4.ensures.value) c.in_ok-scopes.ensures.sound.few
+
+pub numbers_of-requires-clause-lawful : goal.numbers_of-requires-clause-lawful
+numbers_of-requires-clause-lawful c =
+    let own : c.len-2.result ≡ length c.frame.inside.names.items = omega arith in
+    let long : c.len.result ≡ length c.frame.inside.names.items = omega arith in
+    let names : c.len.result ≡ length (take c.len-2.result c.frame.inside.ranges) =
+    long ∙ sym (length-map c.frame.inside.names.items (λ (s : String Global). string_bytes s)) ∙ sym c.frame.invariant.ranged ∙ ap (λ (n : ℕ). length (take n c.frame.inside.ranges)) (sym own) in
+    subst (λ (scopes : List Scope). All (IsScope (length (take c.len-2.result c.frame.inside.ranges))) (map variables_in scopes)) (sym c.deref-4.ensures.value)
+    (subst (λ (n : ℕ). All (IsScope n) (map variables_in c.in_ok-scopes.scopes.items)) names c.in_ok-scopes.ensures.sound.lawful)

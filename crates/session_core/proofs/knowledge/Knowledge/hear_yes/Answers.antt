@@ -8,6 +8,7 @@ invariant_of-self c =
     let left : Candidate → Bool = λ (d : Candidate). not (violates k.lang d c.args.q.now) in
     record {
       walks = k.walks;
+      listed = k.listed;
       resting = k.resting;
       made = c.strike.ensures.made;
       lawful = k.lawful;

@@ -1,6 +1,7 @@
 use Rattle.session_store.proofs.Prelude.{◌∙◌, List, ℕ, sym, inl, inr, arith, err_from_is_err_and, none_done, behind_as, nothing_behind, IsCreating, StartsWith, plan_held, events_held}
 use Rattle.answer_journal.proofs.OnlyRead.{unread}
 use Rattle.session_store.proofs.Stores.{not_made, no_voc, one_fault, unless_failed, of_each_error, there_made, told_before}
+use Rattle.session_store.proofs.Exits.{none_given}
 use Rattle.session_store.proofs.store.Store.create.Goals as goal
 
 pub returns-in_err-held-clause-untouched : goal.returns-in_err-held-clause-untouched
@@ -57,3 +58,45 @@ returns-clause-leaves g c =
 
 pub returns-clause-made : goal.returns-clause-made
 returns-clause-made g c = record { plan = c.in_ok-held.ensures.plan; voc = c.in_ok-held.ensures.voc; events = c.in_ok-held.ensures.events; idle = c.in_ok-held.ensures.idle; live = c.in_ok-journal.ensures.there.live }
+
+pub returns-in_err-held-clause-sound : goal.returns-in_err-held-clause-sound
+returns-in_err-held-clause-sound g c = none_given _ _ c.from_residual.result c.from_residual.ensures.1
+
+pub returns-in_err-held-clause-made : goal.returns-in_err-held-clause-made
+returns-in_err-held-clause-made g c = none_given _ _ c.from_residual.result c.from_residual.ensures.1
+
+pub returns-in_err-held-clause-sits : goal.returns-in_err-held-clause-sits
+returns-in_err-held-clause-sits g c = none_given _ _ c.from_residual.result c.from_residual.ensures.1
+
+pub returns-in_err-held-clause-taken : goal.returns-in_err-held-clause-taken
+returns-in_err-held-clause-taken g c = none_given _ _ c.from_residual.result c.from_residual.ensures.1
+
+pub returns-in_err-held-clause-free : goal.returns-in_err-held-clause-free
+returns-in_err-held-clause-free g c = λ bytes told. none_given _ _ c.from_residual.result c.from_residual.ensures.1
+
+pub returns-in_err-journal-clause-sound : goal.returns-in_err-journal-clause-sound
+returns-in_err-journal-clause-sound g c = none_given _ _ c.from_residual-in_err-journal.result c.from_residual-in_err-journal.ensures.1
+
+pub returns-in_err-journal-clause-made : goal.returns-in_err-journal-clause-made
+returns-in_err-journal-clause-made g c = none_given _ _ c.from_residual-in_err-journal.result c.from_residual-in_err-journal.ensures.1
+
+pub returns-in_err-journal-clause-sits : goal.returns-in_err-journal-clause-sits
+returns-in_err-journal-clause-sits g c = none_given _ _ c.from_residual-in_err-journal.result c.from_residual-in_err-journal.ensures.1
+
+pub returns-in_err-journal-clause-taken : goal.returns-in_err-journal-clause-taken
+returns-in_err-journal-clause-taken g c = none_given _ _ c.from_residual-in_err-journal.result c.from_residual-in_err-journal.ensures.1
+
+pub returns-in_err-journal-clause-free : goal.returns-in_err-journal-clause-free
+returns-in_err-journal-clause-free g c = λ bytes told. none_given _ _ c.from_residual-in_err-journal.result c.from_residual-in_err-journal.ensures.1
+
+pub returns-in_err-journal-clause-spared : goal.returns-in_err-journal-clause-spared
+returns-in_err-journal-clause-spared g c = c.create.ensures.spared
+
+pub returns-clause-spared : goal.returns-clause-spared
+returns-clause-spared g c = c.create.ensures.spared
+
+pub returns-clause-free : goal.returns-clause-free
+returns-clause-free g c = c.in_ok-journal.ensures.free
+
+pub returns-clause-taken : goal.returns-clause-taken
+returns-clause-taken g c = c.in_ok-held.ensures.taken
