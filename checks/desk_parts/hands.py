@@ -332,12 +332,13 @@ class Terminal:
         return place
 
     def answer(self, key: str, number: int) -> bool:
-        """Types a key once the guard is over, until question `number` is there."""
+        """Types a key once the guard is over, until question `number` is there. None is typed where an earlier one was taken late."""
+        time.sleep(0.2)
+        place = self.type(key)
         for _ in range(20):
-            time.sleep(0.2)
-            place = self.type(key)
-            if self.wait_for(f"question {number}", place, 3.0):
+            if self.wait_for(f"question {number}", place, 10.0):
                 return True
+            self.type(key)
         return False
 
     def ended(self) -> bool:
