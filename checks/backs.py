@@ -56,7 +56,7 @@ class Room:
             [self.program, journal, *words.split()],
             input=self.vocabulary if given is None else given,
             stdout=subprocess.PIPE,
-            timeout=120,
+            timeout=300,
             check=False,
         )
         return done.stdout.decode(), done.returncode

@@ -267,7 +267,7 @@ class Program:
         self.path, self.folder = path, folder
 
     def run(self, words, given=b""):
-        ran = subprocess.run([self.path, *words], input=given, stdout=subprocess.PIPE, timeout=120, check=False)
+        ran = subprocess.run([self.path, *words], input=given, stdout=subprocess.PIPE, timeout=300, check=False)
         return ran.stdout, ran.returncode
 
 

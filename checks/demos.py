@@ -117,12 +117,12 @@ def run_loop(target):
 
 
 def look(program, words, given=""):
-    run = subprocess.run([program, *words], input=given, stdout=subprocess.PIPE, text=True, timeout=120)
+    run = subprocess.run([program, *words], input=given, stdout=subprocess.PIPE, text=True, timeout=300)
     return run.stdout, run.returncode
 
 
 def look_unread(program, words):
-    run = subprocess.run([program, *words], stdin=None, stdout=subprocess.PIPE, text=True, timeout=120, preexec_fn=lambda: os.close(0))
+    run = subprocess.run([program, *words], stdin=None, stdout=subprocess.PIPE, text=True, timeout=300, preexec_fn=lambda: os.close(0))
     return run.stdout, run.returncode
 
 

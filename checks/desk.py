@@ -32,7 +32,7 @@ NEEDS_RICH = ("terminal", "captured", "pages", "sitting", "screens", "says", "pa
 GATE = (("bounds", 0), ("bounds", 1), ("suspects", 1), ("meanings", 0), ("meanings", 2), ("known", 0), ("runs", 0), ("faults", 0), ("screens", 0), ("pages", 0))
 # a command, and the Debian package that has it
 TOOLS = {"tmux": "tmux", "cadical": "cadical", "minisat": "minisat", "clasp": "clasp", "chromium": "chromium", "pdfinfo": "poppler-utils"}
-PATIENCE = 900      # seconds for a part
+PATIENCE = 1800     # seconds for a part
 
 
 def install() -> list[str]:

@@ -111,7 +111,7 @@ class Room:
             [self.program, journal, *words.split()],
             input=self.vocabulary if given is None else given,
             stdout=subprocess.PIPE,
-            timeout=20,
+            timeout=300,
             preexec_fn=begin,
             user=user,
             check=False,
@@ -330,7 +330,7 @@ def while_it_waits(room):
             room.report(f"{harm.__name__}, the question", b"q2 a=1 b=1\n", program.stdout.readline())
             harm(journal)
             left = content_of(journal)
-            text = program.communicate(b"no\n", timeout=20)[0]
+            text = program.communicate(b"no\n", timeout=300)[0]
         room.report(f"{harm.__name__}, then", (b"", 10), (text, program.returncode))
         room.report(f"{harm.__name__}, the file", left, content_of(journal))
         if harm is rename:
@@ -371,7 +371,7 @@ def what_is_left(room):
                 os.remove(journal)
             if row != "new":
                 room.look(journal, "new", None)
-            subprocess.run([room.program, *words.split()], stdin=source, stdout=subprocess.DEVNULL, timeout=20, check=False)
+            subprocess.run([room.program, *words.split()], stdin=source, stdout=subprocess.DEVNULL, timeout=300, check=False)
             room.report(f"{row}, what is left of {kind}", left, os.read(source, 1000))
             os.close(source)
 
@@ -403,8 +403,8 @@ class Terminal:
         os.write(self.end, keys)
 
     def read_until(self, text):
-        """What is shown up to this text, or after ten seconds without it all that was."""
-        limit = time.monotonic() + 10
+        """What is shown up to this text, or after a minute without it all that was."""
+        limit = time.monotonic() + 60
         while text not in self.seen and time.monotonic() < limit:
             if not select.select([self.end], [], [], 0.1)[0]:
                 continue
@@ -421,7 +421,7 @@ class Terminal:
     def wait(self):
         """The rest of what is shown, and the status, or the signal as a negative number."""
         rest = self.read_until("no such text")
-        limit = time.monotonic() + 10
+        limit = time.monotonic() + 60
         ended, status = os.waitpid(self.child, os.WNOHANG)
         while not ended and time.monotonic() < limit:
             time.sleep(0.01)

@@ -118,7 +118,7 @@ def zsh_faults(words):
     if told != {name for name, options in words.commands.items() if options}:
         yield f"options go with {sorted(told)}"
     try:
-        subprocess.run(["zsh", "-n", os.path.join(TOP, "completions/_acquire")], check=True, timeout=60)
+        subprocess.run(["zsh", "-n", os.path.join(TOP, "completions/_acquire")], check=True, timeout=300)
     except FileNotFoundError:
         print("manual: zsh isn't there, so its completion is only read")
     except subprocess.CalledProcessError:

@@ -112,7 +112,7 @@ has() { command -v "$1" >/dev/null || { echo "$what: $1 isn't there, so $2" && f
 lines_of() { if [ -e "$1" ]; then wc -l <"$1"; else echo 0; fi; }
 
 await() {
-    for _ in {1..300}; do
+    for _ in {1..1200}; do
         "$@" && return
         sleep 0.1
     done

@@ -150,7 +150,7 @@ class Room:
 
     def look(self, words, given=b""):
         done = subprocess.run(
-            [self.program, self.journal, *words.split()], input=given, stdout=subprocess.PIPE, timeout=20, check=False
+            [self.program, self.journal, *words.split()], input=given, stdout=subprocess.PIPE, timeout=300, check=False
         )
         return done.stdout.decode(), done.returncode
 

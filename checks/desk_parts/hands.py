@@ -27,7 +27,7 @@ DESK = os.environ.get("DESK_FOLDER", os.path.join(TOP, "desk"))
 if DESK not in sys.path:
     sys.path.insert(0, DESK)
 
-PATIENCE = 60.0         # seconds until something that has to come counts as lost; machines may be busy
+PATIENCE = 120.0        # seconds until something that has to come counts as lost; machines may be busy
 QUESTION = re.compile(r"question (\d+)")
 Named = dict[str, str]
 Owner = Callable[[Named], bool]
@@ -213,7 +213,7 @@ def processes(about: str) -> list[int]:
 
 def gone(about: str) -> bool:
     """Whether no process with this text among its words is left soon."""
-    return until(lambda: not processes(about), 10.0)
+    return until(lambda: not processes(about))
 
 
 def until(true: Callable[[], bool], patience: float = PATIENCE) -> bool:

@@ -263,7 +263,7 @@ def resized(program: str) -> list[str]:
             _, wanted = expected(program, path)
             for width, height in ((44, 14), (120, 30), (40, 12)):
                 tmux.resize(width, height)
-                hands.until(lambda: read_cells(tmux.capture(), wanted) != {} and all_pages(tmux, wanted)[0] == wanted, 10.0)
+                hands.until(lambda: read_cells(tmux.capture(), wanted) != {} and all_pages(tmux, wanted)[0] == wanted)
                 got, shown = all_pages(tmux, wanted)
                 if got != wanted:
                     return [f"after a change to {width}x{height}: {got}\n{shown}"]
